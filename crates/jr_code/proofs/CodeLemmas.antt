@@ -1,0 +1,474 @@
+-- The words of a code table: where they stand, what they are, and that none begins another.
+use Rattle.std.specs.Prelude.{◌==◌}
+use Rattle.std.specs.Bool.{Decides}
+use Rattle.std.specs.Cmp.Lexicographic.{bytes_decides, pointwise}
+use Rattle.std.proofs.lemmas.Bool.{and_parts, and_from}
+use Rattle.jr_code.specs.Code.{same_table}
+use Rattle.std.proofs.Common.{false, ◌≢◌, ◌≡◌, ℕ, zero, suc, ◌+◌, ◌-◌, ◌*◌, ◌/◌, ◌%◌, ◌^◌, ◌<◌, ◌≤◌, Bool, List, [], ◌∷◌, ◌++◌, length, drop, take, get_or, replicate, refl, sym, ◌∙◌, ap, arith, length-append, lit<, ⊎_elim, subst}
+use Rattle.std.specs.Prelude.{slice_get, Option, Some, None, IfSome, IfNone, sum, sum_by}
+use Rattle.std.proofs.lemmas.Bool.{cases_lt, cases_order}
+use Rattle.std.proofs.lemmas.Nat.{pow-add, pow_pos, mul-le}
+use Rattle.std.proofs.lemmas.List.{append_assoc, append-nil, take_more, take-take, length-take-le, length-replicate, take-append-drop, drop_more, take_at, take_all, take-append-le}
+use Rattle.std.proofs.lemmas.List.Sums.{sum_by-append, sum_by-cons, sum_by_more, sum_by_more_le, sum_by-take-le}
+use Rattle.std.proofs.lemmas.Option.{slice_get_within, get_or_from_slice_get, slice_get_read}
+use Rattle.std.proofs.Math.Nat.{mul_assoc, mul_comm, add-mul, pow-suc, lt_of_mul-lt-mul_right, le-mul_of_pos_right, mul-div_left, mul-lt-mul_of_pos_right, pow-le-pow_right, mod-eq_of_lt}
+use Rattle.jr_code.specs.Bits.{number, bits_of}
+use Rattle.jr_code.specs.Code.{IsShort, IsEntry, Reached, Table, IsWord, IsLawful, lengths_from, lengths, room, space}
+use Rattle.jr_code.proofs.BitLemmas.{number_below, number-take_zero, length-bits_of, number-bits_of, number-append, slice_get-append_left, slice_get-append_right}
+
+pub length-lengths : (l : ℕ) (cs : List ℕ) → length (lengths_from l cs) ≡ sum cs
+length-lengths l [] = refl
+length-lengths l (c ∷ cs) =
+    omega (arith, length-append (replicate c l) (lengths_from (l + 1) cs), length-replicate c l, length-lengths (l + 1) cs, sum_by-cons (λ x. x) c cs)
+
+lengths-append : (l : ℕ) (xs ys : List ℕ) → lengths_from l (xs ++ ys) ≡ lengths_from l xs ++ lengths_from (l + length xs) ys
+lengths-append l [] ys = ap (λ n. lengths_from n ys) (omega arith)
+lengths-append l (x ∷ xs) ys =
+    let e : l + 1 + length xs ≡ l + suc (length xs) = omega arith in
+    ap (λ t. replicate x l ++ t) (lengths-append (l + 1) xs ys ∙ ap (λ n. lengths_from (l + 1) xs ++ lengths_from n ys) e)
+    ∙ sym (append_assoc (replicate x l) (lengths_from (l + 1) xs) (lengths_from (l + suc (length xs)) ys))
+
+space-replicate : (c l : ℕ) → space (replicate c l) ≡ c * room l
+unfolding space
+space-replicate zero l = omega arith
+space-replicate (suc c) l =
+    let ih : space (replicate c l) ≡ c * room l = space-replicate c l in
+    sum_by-cons room l (replicate c l) ∙ omega (arith, add-mul 1 c (room l))
+
+pub space-append : (xs ys : List ℕ) → space (xs ++ ys) ≡ space xs + space ys
+unfolding space
+space-append xs ys = sum_by-append room xs ys
+
+-- the words of one length stand together, behind all shorter ones
+pub lengths_split : (cs : List ℕ) (i : ℕ) → i < length cs
+    → lengths cs ≡ lengths (take i cs) ++ (replicate (get_or cs i 0) (i + 1) ++ lengths_from (i + 2) (drop (i + 1) cs))
+lengths_split cs i h =
+    let whole : take i cs ++ (get_or cs i 0 ∷ drop (i + 1) cs) ≡ cs = ap (λ t. take i cs ++ t) (sym (drop_more cs i 0 h)) ∙ take-append-drop i cs in
+    let e : 1 + length (take i cs) ≡ i + 1 = omega (arith, length-take-le i cs) in
+    let f : i + 1 + 1 ≡ i + 2 = omega arith in
+    ap lengths (sym whole) ∙ lengths-append 1 (take i cs) (get_or cs i 0 ∷ drop (i + 1) cs) ∙ rw (e, f) refl
+
+pub space_more : (cs : List ℕ) (i : ℕ) → i < length cs
+    → space (lengths (take (i + 1) cs)) ≡ space (lengths (take i cs)) + get_or cs i 0 * room (i + 1)
+space_more cs i h =
+    let e : 1 + length (take i cs) ≡ i + 1 = omega (arith, length-take-le i cs) in
+    ap (λ t. space (lengths t)) (take_more cs i 0 h)
+    ∙ ap space (lengths-append 1 (take i cs) (get_or cs i 0 ∷ []))
+    ∙ space-append (lengths (take i cs)) (lengths_from (1 + length (take i cs)) (get_or cs i 0 ∷ []))
+    ∙ ap (λ n. space (lengths (take i cs)) + space (lengths_from n (get_or cs i 0 ∷ []))) e
+    ∙ ap (λ t. space (lengths (take i cs)) + space t) (append-nil (replicate (get_or cs i 0) (i + 1)))
+    ∙ ap (λ n. space (lengths (take i cs)) + n) (space-replicate (get_or cs i 0) (i + 1))
+
+-- the k-th word of i + 1 bits: where it stands, and the room before it
+pub record Stands (cs : List ℕ) (i k place : ℕ) : Type 0 where
+  pub long : slice_get (lengths cs) place ≡ Some (i + 1)
+  pub before : space (take place (lengths cs)) ≡ space (lengths (take i cs)) + k * room (i + 1)
+
+take-replicate_front : (k c l : ℕ) (ys : List ℕ) → k ≤ c → take k (replicate c l ++ ys) ≡ replicate k l
+take-replicate_front zero c l ys h = refl
+take-replicate_front (suc k) zero l ys h = absurd (omega (arith, h))
+take-replicate_front (suc k) (suc c) l ys h = ap (λ t. l ∷ t) (take-replicate_front k c l ys (omega (arith, h)))
+
+slice_get-replicate : (k c l : ℕ) → k < c → slice_get (replicate c l) k ≡ Some l
+slice_get-replicate k zero l h = absurd (omega (arith, h))
+slice_get-replicate zero (suc c) l h = refl
+slice_get-replicate (suc k) (suc c) l h = slice_get-replicate k c l (omega (arith, h))
+
+take-append_past : (xs ys : List ℕ) (n k : ℕ) → n ≡ length xs + k → take n (xs ++ ys) ≡ xs ++ take k ys
+take-append_past [] ys n k e = ap (λ m. take m ys) (omega (arith, e))
+take-append_past (x ∷ xs) ys zero k e = absurd (omega (arith, e))
+take-append_past (x ∷ xs) ys (suc n) k e = ap (λ t. x ∷ t) (take-append_past xs ys n k (omega (arith, e)))
+
+pub stands : (cs : List ℕ) (i k place : ℕ) → i < length cs → k < get_or cs i 0 → place ≡ sum (take i cs) + k → Stands cs i k place
+stands cs i k place h small e =
+    let front = lengths (take i cs) in
+    let mid = replicate (get_or cs i 0) (i + 1) in
+    let rest = lengths_from (i + 2) (drop (i + 1) cs) in
+    let at : place ≡ length (lengths (take i cs)) + k = omega (arith, length-lengths 1 (take i cs)) in
+    let inside : k < length (replicate (get_or cs i 0) (i + 1)) = omega (arith, length-replicate (get_or cs i 0) (i + 1)) in
+    record {
+      long = ap (λ t. slice_get t place) (lengths_split cs i h)
+          ∙ slice_get-append_right front (mid ++ rest) place k at
+          ∙ slice_get-append_left mid rest k inside
+          ∙ slice_get-replicate k (get_or cs i 0) (i + 1) small;
+      before = ap (λ t. space (take place t)) (lengths_split cs i h)
+          ∙ ap space (take-append_past front (mid ++ rest) place k at)
+          ∙ space-append front (take k (mid ++ rest))
+          ∙ ap (λ t. space front + space t) (take-replicate_front k (get_or cs i 0) (i + 1) rest (omega arith))
+          ∙ ap (λ n. space front + n) (space-replicate k (i + 1));
+    }
+
+-- each place is that of some word
+pub record Found (cs : List ℕ) (place : ℕ) : Type 0 where
+  pub i : ℕ
+  pub k : ℕ
+  pub within : i < length cs
+  pub small : k < get_or cs i 0
+  pub at : place ≡ sum (take i cs) + k
+
+pub found : (cs : List ℕ) (place : ℕ) → place < sum cs → Found cs place
+found [] place h = absurd (omega (arith, h))
+found (c ∷ cs) place h = ⊎_elim
+    (λ low. record { i = 0; k = place; within = omega arith; small = low; at = omega arith })
+    (λ high.
+    let f = found cs (place - c) (omega (arith, sum_by-cons (λ x. x) c cs)) in
+    record { i = suc f.i; k = f.k; within = omega (arith, f.within); small = f.small; at = omega (arith, f.at, sum_by-cons (λ x. x) c (take f.i cs)) })
+    (cases_lt place c)
+
+-- the room of all shorter words is whole rooms of the next length
+pub record Whole (cs : List ℕ) (i : ℕ) : Type 0 where
+  pub times : ℕ
+  pub is : space (lengths (take i cs)) ≡ times * room i
+
+pub room_halves : (i : ℕ) → i < 16 → room i ≡ 2 * room (i + 1)
+room_halves i h =
+    let e : 16 - i ≡ suc (16 - (i + 1)) = omega arith in
+    ap (λ n. 2 ^ n) e ∙ pow-suc 2 (16 - (i + 1)) ∙ mul_comm (2 ^ (16 - (i + 1))) 2
+
+doubled : (a b c : ℕ) → a * (2 * b) + c * b ≡ (2 * a + c) * b
+doubled a b c = omega (arith, mul_assoc a 2 b, add-mul (a * 2) c b, mul_comm a 2)
+
+pub space-nil : space [] ≡ 0
+unfolding space
+space-nil = refl
+
+pub whole : (cs : List ℕ) (i : ℕ) → i ≤ length cs → i ≤ 16 → Whole cs i
+whole cs zero h short = record { times = 0; is = space-nil ∙ omega arith }
+whole cs (suc i) h short =
+    let w = whole cs i (omega arith) (omega arith) in
+    let e : i + 1 ≡ suc i = omega arith in
+    record {
+      times = 2 * w.times + get_or cs i 0;
+      is = rw (← e) (space_more cs i (omega arith)
+          ∙ ap (λ n. n + get_or cs i 0 * room (i + 1)) (w.is ∙ ap (λ n. w.times * n) (room_halves i (omega arith)))
+          ∙ doubled w.times (room (i + 1)) (get_or cs i 0));
+    }
+
+-- ---- the words
+
+room_pos : (l : ℕ) → 0 < room l
+room_pos l = pow_pos (16 - l)
+
+-- a word of i + 1 bits, by its number among those
+pub record Spelled (t : Table) (word : List Bool) (i k place : ℕ) : Type 0 where
+  pub within : i < length t.counts
+  pub small : k < get_or t.counts i 0
+  pub at : place ≡ sum (take i t.counts) + k
+  pub long : length word ≡ i + 1
+  pub times : ℕ
+  pub before : space (lengths (take i t.counts)) ≡ times * room i
+  pub is : number word ≡ 2 * times + k
+  pub exact : number word * room (length word) ≡ space (take place (lengths t.counts))
+
+div_room : (n l : ℕ) → n * room l / room l ≡ n
+div_room n l = mul-div_left n (room_pos l)
+
+same_times : (a b r : ℕ) → 0 < r → a * r ≡ b * r → a ≡ b
+same_times a b r h e = sym (mul-div_left a h) ∙ ap (λ n. n / r) e ∙ mul-div_left b h
+
+same_some : (a b : ℕ) (o : Option ℕ) → o ≡ Some a → o ≡ Some b → a ≡ b
+same_some a b o p q = cc
+
+pub spelled : (t : Table) (word : List Bool) (s : ℕ) (w : IsWord t word s) → (i : ℕ) × (k : ℕ) × Spelled t word i k w.place
+spelled t word s w =
+    let inside : w.place < sum t.counts = omega (arith, slice_get_within (lengths t.counts) w.place (length word) w.long, length-lengths 1 t.counts) in
+    let f = found t.counts w.place inside in
+    let st = stands t.counts f.i f.k w.place f.within f.small f.at in
+    let long : length word ≡ f.i + 1 = same_some (length word) (f.i + 1) (slice_get (lengths t.counts) w.place) w.long st.long in
+    let wh = whole t.counts f.i (omega (arith, f.within)) (omega (arith, long, w.short)) in
+    let sum_is : space (take w.place (lengths t.counts)) ≡ (2 * wh.times + f.k) * room (f.i + 1) =
+    st.before ∙ ap (λ n. n + f.k * room (f.i + 1)) (wh.is ∙ ap (λ n. wh.times * n) (room_halves f.i (omega (arith, long, w.short))))
+    ∙ doubled wh.times (room (f.i + 1)) f.k in
+    let is : number word ≡ 2 * wh.times + f.k =
+    w.written ∙ ap (λ n. n / room (length word)) sum_is ∙ ap (λ l. (2 * wh.times + f.k) * room (f.i + 1) / room l) long
+    ∙ div_room (2 * wh.times + f.k) (f.i + 1) in (
+      f.i,
+      f.k,
+      record {
+        within = f.within;
+        small = f.small;
+        at = f.at;
+        long = long;
+        times = wh.times;
+        before = wh.is;
+        is = is;
+        exact = ap (λ l. number word * room l) long ∙ ap (λ n. n * room (f.i + 1)) is ∙ sym sum_is;
+      },
+    )
+
+-- a word's room lies before each later place
+space_later : (ls : List ℕ) (p q l : ℕ) → p < q → slice_get ls p ≡ Some l → space (take p ls) + room l ≤ space (take q ls)
+unfolding space
+space_later ls p q l h e =
+    let inside : p < length ls = slice_get_within ls p l e in
+    let more : sum_by room (take (p + 1) ls) ≡ sum_by room (take p ls) + room (get_or ls p 0) = sum_by_more room ls p 0 inside in
+    let here : room (get_or ls p 0) ≡ room l = ap room (get_or_from_slice_get ls p l 0 e) in
+    let front : take (p + 1) (take q ls) ≡ take (p + 1) ls = take-take (p + 1) q ls (omega arith) in
+    let le : sum_by room (take (p + 1) (take q ls)) ≤ sum_by room (take q ls) = sum_by-take-le room (take q ls) (p + 1) in
+    omega (arith, ap (λ t. sum_by room t) front)
+
+-- rooms of a word and of what it begins
+room_inside : (a z : ℕ) → a + z ≤ 16 → room a ≡ 2 ^ z * room (a + z)
+room_inside a z h =
+    let e : 16 - a ≡ z + (16 - (a + z)) = omega arith in
+    ap (λ n. 2 ^ n) e ∙ pow-add 2 z (16 - (a + z))
+
+room_all : (l : ℕ) → l ≤ 16 → 65536 ≡ 2 ^ l * room l
+room_all l h =
+    let e : 0 + l ≡ l = omega arith in
+    room_inside 0 l (omega arith) ∙ ap (λ n. 2 ^ l * room n) e
+
+-- where the room of the longer word begins
+number_inside : (a z : List Bool) → length a + length z ≤ 16
+    → (number (a ++ z) * room (length (a ++ z)) ≡ number a * room (length a) + number z * room (length a + length z))
+    × (number z * room (length a + length z) < room (length a))
+number_inside a z h =
+    let r = room (length a + length z) in
+    let e : length (a ++ z) ≡ length a + length z = length-append a z in
+    let whole_room : room (length a) ≡ 2 ^ length z * room (length a + length z) = room_inside (length a) (length z) h in
+    let small : number z * room (length a + length z) < 2 ^ length z * room (length a + length z) = mul-lt-mul_of_pos_right (number_below z) (room_pos (length a + length z)) in (
+      ap (λ l. number (a ++ z) * room l) e
+          ∙ ap (λ n. n * r) (number-append a z)
+          ∙ add-mul (number a * 2 ^ length z) (number z) r
+          ∙ ap (λ n. n + number z * r) (mul_assoc (number a) (2 ^ length z) r ∙ ap (λ n. number a * n) (sym whole_room)),
+      omega arith,
+    )
+
+-- a word that begins another stands at the same place
+same_place : (t : Table) (a z : List Bool) (s u : ℕ) (v : IsWord t a s) (w : IsWord t (a ++ z) u) → v.place ≡ w.place
+same_place t a z s u v w =
+    let long : length a + length z ≤ 16 = omega (arith, w.short, length-append a z) in
+    let n = number_inside a z long in
+    let first = (spelled t a s v).2 in
+    let second = (spelled t (a ++ z) u w).2 in
+    ⊎_elim (λ e. e) (λ o. ⊎_elim
+    (λ lt. absurd (omega (arith, n.0, n.1, first.exact, second.exact, space_later (lengths t.counts) v.place w.place (length a) lt v.long)))
+    (λ gt. absurd (omega (arith, n.0, n.1, first.exact, second.exact, room_pos (length (a ++ z)), space_later (lengths t.counts) w.place v.place (length (a ++ z)) gt w.long)))
+    o)
+    (cases_order v.place w.place)
+
+-- a list that goes on after another, where both begin one list, the first no longer than the second
+go_on : {X : Type 0} (a b x y : List X) → length a ≤ length b → a ++ x ≡ b ++ y → b ≡ a ++ drop (length a) b
+go_on [] b x y h e = refl
+go_on (p ∷ a) [] x y h e = absurd (omega (arith, h))
+go_on (p ∷ a) (q ∷ b) x y h e =
+    let heads : p ≡ q = cc in
+    let tails : a ++ x ≡ b ++ y = cc in
+    let ih : b ≡ a ++ drop (length a) b = go_on a b x y (omega (arith, h)) tails in
+    ap (λ t. q ∷ t) ih ∙ ap (λ t. t ∷ (a ++ drop (length a) b)) (sym heads)
+
+length_zero : {X : Type 0} (a z : List X) → length (a ++ z) ≡ length a → a ++ z ≡ a
+length_zero a [] e = append-nil a
+length_zero a (x ∷ z) e = absurd (omega (arith, e, length-append a (x ∷ z)))
+
+-- one place has one word and one symbol
+same_word : (t : Table) (a b : List Bool) (s u : ℕ) (v : IsWord t a s) (w : IsWord t b u) → v.place ≡ w.place → (length a ≡ length b) × (s ≡ u)
+same_word t a b s u v w e = (
+  same_some (length a) (length b) (slice_get (lengths t.counts) w.place) (ap (λ p. slice_get (lengths t.counts) p) (sym e) ∙ v.long) w.long,
+  same_some s u (slice_get t.symbols w.place) (ap (λ p. slice_get t.symbols p) (sym e) ∙ v.known) w.known,
+)
+
+-- no word is the front of another, where the first is no longer
+one_word_ordered : (t : Table) (a b x y : List Bool) (s u : ℕ) → IsWord t a s → IsWord t b u → length a ≤ length b → a ++ x ≡ b ++ y → (a ≡ b) × (s ≡ u)
+one_word_ordered t a b x y s u v w le e =
+    let on : b ≡ a ++ drop (length a) b = go_on a b x y le e in
+    let z = drop (length a) b in
+    let w' : IsWord t (a ++ drop (length a) b) u = subst (λ (d : List Bool). IsWord t d u) on w in
+    let place : v.place ≡ w'.place = same_place t a (drop (length a) b) s u v w' in
+    let same = same_word t a (a ++ drop (length a) b) s u v w' place in
+    (sym (on ∙ length_zero a (drop (length a) b) (sym same.0)), same.1)
+
+-- what begins with two words begins with one
+pub one_word : (t : Table) (a b x y : List Bool) (s u : ℕ) → IsWord t a s → IsWord t b u → a ++ x ≡ b ++ y → (a ≡ b) × (s ≡ u)
+one_word t a b x y s u v w e = ⊎_elim
+    (λ le. one_word_ordered t a b x y s u v w (omega (arith, le)) e)
+    (λ ge. let r = one_word_ordered t b a y x u s w v ge (sym e) in (sym r.0, sym r.1))
+    (cases_lt (length a) (length b))
+
+-- ---- reading a word, bit by bit
+
+-- code is the number of the first i + 1 bits; end is past the greatest word of i bits
+pub word_found : (t : Table) (bs : List Bool) (i code end k s : ℕ) → i < 16 → i < length t.counts → i < length bs
+    → end * room i ≡ space (lengths (take i t.counts)) → number (take (i + 1) bs) ≡ code → code ≡ 2 * end + k → k < get_or t.counts i 0
+    → slice_get t.symbols (sum (take i t.counts) + k) ≡ Some s → IsWord t (take (i + 1) bs) s
+word_found t bs i code end k s short within enough full is split small known =
+    let place = sum (take i t.counts) + k in
+    let st = stands t.counts i k place within small refl in
+    let long : length (take (i + 1) bs) ≡ i + 1 = length-take-le (i + 1) bs (omega arith) in
+    let sum_is : space (take place (lengths t.counts)) ≡ (2 * end + k) * room (i + 1) =
+    st.before ∙ ap (λ n. n + k * room (i + 1)) (sym full ∙ ap (λ n. end * n) (room_halves i short)) ∙ doubled end (room (i + 1)) k in
+    record {
+      place = place;
+      known = known;
+      long = st.long ∙ ap (λ n. Some n) (sym long);
+      short = omega arith;
+      written = is ∙ split ∙ sym (ap (λ n. n / room (length (take (i + 1) bs))) sum_is ∙ ap (λ l. (2 * end + k) * room (i + 1) / room l) long ∙ div_room (2 * end + k) (i + 1));
+    }
+
+-- no front of i + 1 bits is a word, where the code is past the greatest of them
+pub none_here : (t : Table) (bs word rest : List Bool) (i code end s : ℕ)
+    → end * room i ≡ space (lengths (take i t.counts)) → number (take (i + 1) bs) ≡ code → ((k : ℕ) → k < get_or t.counts i 0 → code ≡ 2 * end + k → ⊥)
+    → IsWord t word s → bs ≡ word ++ rest → i < length word → i + 1 < length word
+none_here t bs word rest i code end s full is past w begins longer =
+    ⊎_elim (λ e.
+    let sp = spelled t word s w in
+    let same : sp.0 ≡ i = omega (arith, sp.2.long, e) in
+    let front : take (i + 1) bs ≡ word = ap (λ b. take (i + 1) b) begins ∙ take_at word rest (i + 1) (sym e) in
+    let times : end ≡ sp.2.times = same_times end sp.2.times (room i) (room_pos i) (full ∙ ap (λ n. space (lengths (take n t.counts))) (sym same) ∙ sp.2.before ∙ ap (λ n. sp.2.times * room n) same) in
+    absurd (past sp.1 (omega (arith, sp.2.small, ap (λ n. get_or t.counts n 0) same)) (omega (arith, is, sp.2.is, ap number front, times))))
+    (λ o. ⊎_elim (λ lt. lt) (λ gt. absurd (omega (arith, gt, longer))) o)
+    (cases_order (i + 1) (length word))
+
+pub word_not_empty : (t : Table) (word : List Bool) (s : ℕ) → IsWord t word s → 0 < length word
+word_not_empty t word s w = omega (arith, (spelled t word s w).2.long)
+
+-- a word that begins what is left is no longer than that
+pub word_fits : (t : Table) (bs word rest : List Bool) (s : ℕ) → bs ≡ word ++ rest → length word ≤ length bs
+word_fits t bs word rest s e = omega (arith, ap length e, length-append word rest)
+
+-- the symbol at a word's place
+pub known_there : (t : Table) (symbols : List ℕ) (i k at s : ℕ) → symbols ≡ t.symbols → sum t.counts ≡ length t.symbols → i < length t.counts
+    → k < get_or t.counts i 0 → at ≡ sum (take i t.counts) + k → s ≡ get_or symbols at s → slice_get t.symbols (sum (take i t.counts) + k) ≡ Some s
+known_there t symbols i k at s same each within small place read =
+    let more : sum (take i t.counts) + get_or t.counts i 0 ≤ sum t.counts = sum_by_more_le (λ n. n) t.counts i 0 within in
+    let inside : at < length symbols = omega (arith, ap length same) in
+    rw (← place, ← same) (slice_get_read symbols (length symbols) at s refl inside read)
+
+pub full_more : (t : Table) (i end count after : ℕ) → i < 16 → i < length t.counts → end * room i ≡ space (lengths (take i t.counts)) → count ≡ get_or t.counts i 0
+    → after ≡ 2 * end + count → after * room (i + 1) ≡ space (lengths (take (i + 1) t.counts))
+full_more t i end count after short within full is e =
+    ap (λ n. n * room (i + 1)) e ∙ sym (doubled end (room (i + 1)) count)
+    ∙ ap (λ n. end * n + count * room (i + 1)) (sym (room_halves i short))
+    ∙ ap (λ n. n + count * room (i + 1)) full
+    ∙ ap (λ n. space (lengths (take i t.counts)) + n * room (i + 1)) is
+    ∙ sym (space_more t.counts i within)
+
+-- a count shifted is its words' room
+pub shifted : (count i : ℕ) → count ≤ 255 → i < 16 → (count * 2 ^ (15 - i) % 4294967296 ≡ count * room (i + 1)) × (count * room (i + 1) ≤ 8355840)
+shifted count i small h =
+    let e : 15 - i ≡ 16 - (i + 1) = omega arith in
+    let few : 15 - i ≤ 15 = omega arith in
+    let pow : 2 ^ (15 - i) ≤ 2 ^ 15 = pow-le-pow_right (lit< tt) few in
+    let same : count * 2 ^ (15 - i) ≡ count * room (i + 1) = ap (λ n. count * 2 ^ n) e in
+    let le : count * 2 ^ (15 - i) ≤ 255 * 2 ^ 15 = mul-le count (2 ^ (15 - i)) 255 (2 ^ 15) small pow in
+    (mod-eq_of_lt (omega arith) ∙ same, omega arith)
+
+-- each place of a lawful table has a word
+pub word_exists : (t : Table) (place s : ℕ) → IsLawful t.counts t.symbols → slice_get t.symbols place ≡ Some s
+    → (word : List Bool) × (w : IsWord t word s) × (w.place ≡ place)
+unfolding space
+word_exists t place s lawful known =
+    let inside : place < sum t.counts = omega (arith, slice_get_within t.symbols place s known, lawful.each) in
+    let f = found t.counts place inside in
+    let st = stands t.counts f.i f.k place f.within f.small f.at in
+    let short : f.i < 16 = omega (arith, f.within, lawful.sixteen) in
+    let wh = whole t.counts f.i (omega (arith, f.within)) (omega (arith, short)) in
+    let v = 2 * wh.times + f.k in
+    let r = room (f.i + 1) in
+    let sum_is : sum_by room (take place (lengths t.counts)) ≡ v * room (f.i + 1) =
+    st.before ∙ ap (λ n. n + f.k * room (f.i + 1)) (wh.is ∙ ap (λ n. wh.times * n) (room_halves f.i short))
+    ∙ doubled wh.times (room (f.i + 1)) f.k in
+    let there : place < length (lengths t.counts) = slice_get_within (lengths t.counts) place (f.i + 1) st.long in
+    let own : room (get_or (lengths t.counts) place 0) ≡ room (f.i + 1) = ap room (get_or_from_slice_get (lengths t.counts) place (f.i + 1) 0 st.long) in
+    let le : sum_by room (take place (lengths t.counts)) + room (get_or (lengths t.counts) place 0) ≤ sum_by room (lengths t.counts) = sum_by_more_le room (lengths t.counts) place 0 there in
+    let all : 65536 ≡ 2 ^ (f.i + 1) * room (f.i + 1) = room_all (f.i + 1) (omega (arith, short)) in
+    let below : v * room (f.i + 1) < 2 ^ (f.i + 1) * room (f.i + 1) = omega (arith, lawful.roomy, room_pos (f.i + 1)) in
+    let fits : v < 2 ^ (f.i + 1) = lt_of_mul-lt-mul_right (room (f.i + 1)) below in
+    let long : length (bits_of (f.i + 1) v) ≡ f.i + 1 = length-bits_of (f.i + 1) v in (
+      bits_of (f.i + 1) v,
+      record {
+        place = place;
+        known = known;
+        long = st.long ∙ ap (λ n. Some n) (sym long);
+        short = omega (arith, long, short);
+        written = number-bits_of (f.i + 1) v ∙ mod-eq_of_lt fits
+            ∙ sym (ap (λ n. n / room (length (bits_of (f.i + 1) v))) sum_is ∙ ap (λ l. v * room (f.i + 1) / room l) long ∙ div_room v (f.i + 1));
+      },
+      refl,
+    )
+
+pub reached_none : (t : Table) (bs : List Bool) → Reached t bs 0 0 0 0
+reached_none t bs = record {
+  code_is = number-take_zero bs;
+  full = sym space-nil;
+  index_is = refl;
+  enough = omega arith;
+  none = λ word rest s w e. word_not_empty t word s w;
+}
+
+-- ---- what a byte looks up
+
+-- eight bits of what is left, filled up with zeros
+abbrev pub filled : List Bool → List Bool
+filled bs = take 8 (bs ++ replicate 8 false)
+
+take-filled : (n : ℕ) (bs : List Bool) → n ≤ 8 → n ≤ length bs → take n (filled bs) ≡ take n bs
+take-filled n bs h k = take-take n 8 (bs ++ replicate 8 false) h ∙ take-append-le n bs (replicate 8 false) k
+
+-- a word that begins what is left, and is no longer than eight bits, begins these eight
+begins_filled : (bs word rest : List Bool) → bs ≡ word ++ rest → length word ≤ 8 → filled bs ≡ word ++ drop (length word) (filled bs)
+begins_filled bs word rest e h =
+    let fits : length word ≤ length bs = omega (arith, ap length e, length-append word rest) in
+    let front : take (length word) (filled bs) ≡ word = take-filled (length word) bs h fits ∙ ap (λ b. take (length word) b) e ∙ take_at word rest (length word) refl in
+    sym (take-append-drop (length word) (filled bs)) ∙ ap (λ f. f ++ drop (length word) (filled bs)) front
+
+-- an entry whose word is whole is what is in front
+pub entry_whole : (t : Table) (bs : List Bool) (byte s long : ℕ) → bits_of 8 byte ≡ filled bs → IsEntry t byte (Some (s, long)) → long ≤ length bs → IsWord t (take long bs) s
+entry_whole t bs byte s long e h fits = rw (← take-filled long bs h.0 fits, ← e) h.1
+
+-- an entry whose word is cut off says that there is none: no word is a front of another
+pub entry_cut : (t : Table) (bs : List Bool) (byte s long : ℕ) → bits_of 8 byte ≡ filled bs → IsEntry t byte (Some (s, long)) → length bs < long
+    → (word rest : List Bool) (u : ℕ) → IsWord t word u → bs ≢ word ++ rest
+entry_cut t bs byte s long e h cut word rest u w begins =
+    let fits : length word ≤ length bs = omega (arith, ap length begins, length-append word rest) in
+    let same = one_word t (take long (bits_of 8 byte)) word (drop long (bits_of 8 byte)) (drop (length word) (filled bs)) s u h.1 w
+    (take-append-drop long (bits_of 8 byte) ∙ e ∙ begins_filled bs word rest begins (omega (arith, h.0))) in
+    let full : length (take long (bits_of 8 byte)) ≡ long = length-take-le long (bits_of 8 byte) (omega (arith, h.0, length-bits_of 8 byte)) in
+    omega (arith, ap length same.0)
+
+-- no entry: a word in front has more than eight bits
+pub entry_none : (t : Table) (bs : List Bool) (byte : ℕ) → bits_of 8 byte ≡ filled bs → IsEntry t byte None
+    → (word rest : List Bool) (u : ℕ) → IsWord t word u → bs ≡ word ++ rest → 8 < length word
+entry_none t bs byte e h word rest u w begins = ⊎_elim
+    (λ lt. lt)
+    (λ le. absurd (h word (drop (length word) (filled bs)) u w (e ∙ begins_filled bs word rest begins le)))
+    (cases_lt 8 (length word))
+
+pub end_below : (t : Table) (i end : ℕ) → IsLawful t.counts t.symbols → end * room i ≡ space (lengths (take i t.counts)) → end ≤ 65536
+end_below t i end lawful full =
+    let split : space (lengths t.counts) ≡ space (lengths (take i t.counts)) + space (lengths_from (1 + length (take i t.counts)) (drop i t.counts)) =
+    ap (λ c. space (lengths c)) (sym (take-append-drop i t.counts)) ∙ ap space (lengths-append 1 (take i t.counts) (drop i t.counts))
+    ∙ space-append (lengths (take i t.counts)) (lengths_from (1 + length (take i t.counts)) (drop i t.counts)) in
+    omega (arith, lawful.roomy, le-mul_of_pos_right end (room_pos i))
+
+-- what the reader finds in a byte alone is its entry
+pub entry_read : (t : Table) (byte : ℕ) (bs : List Bool) (r : Option (ℕ × ℕ)) → bs ≡ bits_of 8 byte ++ []
+    → IfSome r (λ f. (f.1 ≤ length bs) × IsWord t (take f.1 bs) f.0)
+    → IfNone r ((word rest : List Bool) (s : ℕ) → IsWord t word s → bs ≢ word ++ rest) → IsEntry t byte r
+entry_read t byte bs None e found none = rw (e ∙ append-nil (bits_of 8 byte)) at none
+entry_read t byte bs (Some f) e found none =
+    let same : bs ≡ bits_of 8 byte = e ∙ append-nil (bits_of 8 byte) in
+    (omega (arith, found.0, ap length same, length-bits_of 8 byte), rw same at found.1)
+
+-- behind eight bits that are no entry the reader goes on
+pub reached_eight : (t : Table) (bs : List Bool) (byte end index : ℕ) → bits_of 8 byte ≡ filled bs → byte < 256 → IsEntry t byte None → 8 ≤ length bs → IsShort t end index
+    → Reached t bs 8 byte end index
+reached_eight t bs byte end index e small h enough short = record {
+  code_is = ap number (sym (take-filled 8 bs (omega arith) enough) ∙ ap (λ b. take 8 b) (sym e) ∙ take_all 8 (bits_of 8 byte) (omega (arith, length-bits_of 8 byte))) ∙ number-bits_of 8 byte ∙ mod-eq_of_lt small;
+  full = short.full;
+  index_is = short.index_is;
+  enough = enough;
+  none = entry_none t bs byte e h;
+}
+
+-- the test of two tables tells whether they are one
+pub tables_decide : (s t : Table) → Decides (same_table s t) (s ≡ t)
+tables_decide s t =
+    let c = bytes_decides s.counts t.counts in
+    let y = bytes_decides s.symbols t.symbols in (
+      λ e. let b = and_parts (pointwise ◌==◌ s.counts t.counts) (pointwise ◌==◌ s.symbols t.symbols) e in
+          let p : s.counts ≡ t.counts = c.0 b.0 in
+          let q : s.symbols ≡ t.symbols = y.0 b.1 in
+          λ i. record { counts = p i; symbols = q i },
+      λ e. and_from (pointwise ◌==◌ s.counts t.counts) (pointwise ◌==◌ s.symbols t.symbols) (c.1 (ap (λ (x : Table). x.counts) e)) (y.1 (ap (λ (x : Table). x.symbols) e)),
+    )

@@ -1,0 +1,15 @@
+//! Code tables of a JPEG file (T.81, Annex C) and the bits that they read (Annex F).
+#![tactic(auto)]
+
+mod bits;
+mod book;
+mod laws;
+mod memory;
+
+pub use bits::Bits;
+pub use book::{CodeBook, CodeFault};
+pub use laws::{each_place_has_a_word, one_word};
+pub use memory::Memory;
+
+#[cfg(test)]
+mod tests;

@@ -1,0 +1,33 @@
+-- The zigzag tables.
+use Rattle.std.proofs.Common.{◌≡◌, ℕ, ◌<◌, true, false, refl, arith, nat_lt, Bool, cond}
+use Rattle.std.proofs.lemmas.List.Folds.{list_all_at}
+use Rattle.std.proofs.lemmas.Bool.{cases_lt}
+use Rattle.std.proofs.Common.{inl, inr}
+use Rattle.std.proofs.lemmas.Bool.Decides.{nat_tests}
+use Rattle.jr_idct.specs.Transform.{places, place_of}
+use Rattle.std.specs.List.{list_all}
+use Rattle.std.specs.Prelude.{slice_index, length, ◌^◌, ℤ, pos, FitsSigned}
+use Rattle.std.proofs.Common.{w32, w64, to_z, of_z, lit<, ◌∙◌}
+use Rattle.std.proofs.Math.IntN.{◌*ℤ◌}
+use Rattle.std.proofs.lemmas.Int.{ints, to_z-of_z, fits_signed_mul}
+
+in_table : list_all (λ p. nat_lt p 64) places ≡ true
+in_table = refl
+
+pub place_below : (n : ℕ) → n < 64 → place_of n < 64
+unfolding place_of
+place_below n h =
+    elim (cases_lt (slice_index places n) 64) [
+      | inl a ↦ a
+      | inr b ↦ let e : nat_lt (slice_index places n) 64 ≡ false = grind (arith, nat_tests) in absurd (cc (list_all_at (λ p. nat_lt p 64) places n 0 h e, in_table))
+    ]
+
+-- what the code computes for the product of an `i32` and a `u16`
+pub product_stored : (x y a : ℤ) (b : ℕ) → FitsSigned w32 a → b < 65536 → x ≡ to_z w32 (of_z w32 a) → y ≡ pos b
+    → to_z w64 (of_z w64 (to_z w64 (of_z w64 x) *ℤ to_z w64 (of_z w64 y))) ≡ a *ℤ pos b
+product_stored x y a b fits below is_x is_y =
+    let e : x ≡ a = is_x ∙ to_z-of_z w32 a fits in
+    let f : FitsSigned w64 a = omega (arith, ints) in
+    let g : FitsSigned w64 (pos b) = omega (arith, ints) in
+    let h : FitsSigned w64 (a *ℤ pos b) = fits_signed_mul w64 a (pos b) (2 ^ 31) (2 ^ 16) (omega (arith, ints)) (omega arith) (lit< tt) in
+    rw (e, is_y) (simp to_z-of_z refl)
