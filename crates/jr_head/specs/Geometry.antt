@@ -1,5 +1,5 @@
 -- Components, the data units of an MCU, and the MCUs of a picture (T.81, A.1.1 and A.2).
-use Rattle.std.specs.Prelude.{◌≡◌, ℕ, suc, ◌*◌, ◌<◌, ◌≤◌, List, [], ◌∷◌, ◌++◌, length, replicate, take, sum_by, max, slice_index_or}
+use Rattle.std.specs.Prelude.{◌≡◌, ℕ, suc, ◌*◌, ◌%◌, ◌<◌, ◌≤◌, List, [], ◌∷◌, ◌++◌, length, replicate, take, sum_by, max, slice_index_or}
 use Rattle.std.specs.List.{fold, All}
 use Rattle.std.specs.Int.{div_ceil}
 use Rattle.jr_code.specs.Code.{Table}
@@ -41,11 +41,17 @@ abbrev pub ac_of : HeadValue → ℕ → Table
 ac_of h c = (component_at h c).ac
 
 -- the greatest sampling factors, Hmax and Vmax
+abbrev pub greatest_across : List Component → ℕ
+greatest_across components = fold (λ n c. max n c.horizontal) 0 components
+
+abbrev pub greatest_down : List Component → ℕ
+greatest_down components = fold (λ n c. max n c.vertical) 0 components
+
 abbrev pub horizontal_max : HeadValue → ℕ
-horizontal_max h = fold (λ n c. max n c.horizontal) 0 h.components
+horizontal_max h = greatest_across h.components
 
 abbrev pub vertical_max : HeadValue → ℕ
-vertical_max h = fold (λ n c. max n c.vertical) 0 h.components
+vertical_max h = greatest_down h.components
 
 -- how many data units of a component an MCU holds
 abbrev pub units_of : Component → ℕ
@@ -84,11 +90,23 @@ pub record IsSampled (c : Component) : Type 0 where
   pub low : c.vertical ≤ 4
   pub elements : length c.quantiser ≡ 64
 
+-- the component's factors divide the greatest ones
+pub record IsSubsampled (across down : ℕ) (c : Component) : Type 0 where
+  pub narrower : c.horizontal ≤ across
+  pub lower : c.vertical ≤ down
+  pub across_divides : across % c.horizontal ≡ 0
+  pub down_divides : down % c.vertical ≡ 0
+
 -- what holds of the components of every accepted file
 pub record AreLawful (kind : Kind) (components : List Component) : Type 0 where
   pub count : length components ≡ component_count kind
   pub sampled : All IsSampled components
   pub single : kind ≡ Grey → ((slice_index_or components 0 no_component).horizontal ≡ 1) × ((slice_index_or components 0 no_component).vertical ≡ 1)
+  pub subsampled : All (IsSubsampled (greatest_across components) (greatest_down components)) components
+  pub across : 0 < greatest_across components
+  pub narrow : greatest_across components ≤ 4
+  pub down : 0 < greatest_down components
+  pub low : greatest_down components ≤ 4
   pub blocks : sum_by units_of components ≤ 10
 
 -- what holds of the head of every accepted file

@@ -2,7 +2,7 @@
 
 ghost use Rattle.std.specs.Prelude.{◌≡◌, ◌<◌, ◌≤◌, ◌+◌, ◌*◌, ◌++◌, ◌↔◌, ℕ, max, length, replicate, IfOk, IsTrue, All, sum_by, slice_index_or};
 ghost use Rattle.std.specs.List.{fold};
-ghost use Rattle.jr_head.specs.Geometry.{order_from, IsSampled, units_of, no_component, component_count, AreLawful};
+ghost use Rattle.jr_head.specs.Geometry.{order_from, IsSampled, units_of, IsSubsampled, no_component, greatest_across, greatest_down, component_count, AreLawful};
 
 use crate::component::Component;
 use crate::mark::Kind;
@@ -34,13 +34,13 @@ pub(crate) fn block_order(alloc: Global, components: &[Component]) -> Result<Vec
 }
 
 pub(crate) fn greatest_horizontal(components: &[Component]) -> u8
-    ensures { result ≡ fold (λ n c. max n c.horizontal) 0 components.now }
+    ensures { result ≡ greatest_across components.now }
 {
     components.iter().fold(0, |most, c| c.horizontal.max(most))
 }
 
 pub(crate) fn greatest_vertical(components: &[Component]) -> u8
-    ensures { result ≡ fold (λ n c. max n c.vertical) 0 components.now }
+    ensures { result ≡ greatest_down components.now }
 {
     components.iter().fold(0, |most, c| c.vertical.max(most))
 }
@@ -69,6 +69,29 @@ fn are_sampled(components: &[Component]) -> bool
     true
 }
 
+fn is_subsampled(component: &Component, horizontal: u8, vertical: u8) -> bool
+    ensures { IsTrue result → IsSubsampled horizontal vertical component.now }
+{
+    if component.horizontal == 0 || component.vertical == 0 {
+        return false;
+    }
+    if component.horizontal > horizontal || component.vertical > vertical {
+        return false;
+    }
+    horizontal % component.horizontal == 0 && vertical % component.vertical == 0
+}
+
+fn are_subsampled(components: &[Component], horizontal: u8, vertical: u8) -> bool
+    ensures { IsTrue result → All (IsSubsampled horizontal vertical) components.now }
+{
+    for c in components {
+        if !is_subsampled(c, horizontal, vertical) {
+            return false;
+        }
+    }
+    true
+}
+
 /// How many data units an MCU has.
 fn units(components: &[Component]) -> u32
     requires few { length components.now ≤ 3 }
@@ -89,6 +112,14 @@ pub(crate) fn are_lawful(kind: Kind, components: &[Component]) -> bool
         Kind::Rgb | Kind::Ycc => 3,
     };
     if components.len() != count || !are_sampled(components) || units(components) > 10 {
+        return false;
+    }
+    let horizontal = greatest_horizontal(components);
+    let vertical = greatest_vertical(components);
+    if horizontal == 0 || horizontal > 4 || vertical == 0 || vertical > 4 {
+        return false;
+    }
+    if !are_subsampled(components, horizontal, vertical) {
         return false;
     }
     count == 3 || (components[0].horizontal == 1 && components[0].vertical == 1)
