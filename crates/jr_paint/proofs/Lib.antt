@@ -1,0 +1,5 @@
+pub mod Passed
+pub mod Places
+pub mod Factors
+pub mod Sent
+pub mod Pixels

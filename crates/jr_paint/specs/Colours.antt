@@ -1,0 +1,42 @@
+-- Colours in fixed point.
+use Rattle.std.specs.Prelude.{ℕ, min, ℤ, pos, negsuc, neg_ℤ, ◌+ℤ◌, ◌-ℤ◌, ◌≤ℤ◌, List, [], ◌∷◌}
+use Rattle.std.specs.Int.Signed.{shr_z}
+use Rattle.std.proofs.Math.IntN.{◌*ℤ◌}
+use Rattle.jr_head.specs.declared.mark.Kind.{Kind}
+use Rattle.jr_head.specs.declared.mark.Kind.TheVariants.{Grey, Rgb, Ycc}
+
+-- z lies from -n to n
+abbrev pub IsWithin : ℕ → ℤ → Type 0
+IsWithin n z = (neg_ℤ (pos n) ≤ℤ z) × (z ≤ℤ pos n)
+
+-- z divided by d, rounded towards the lesser number
+abbrev pub floor_div : ℤ → ℕ → ℤ
+floor_div z d = shr_z z d
+
+-- the nearest number from 0 to 255
+abbrev pub byte_of : ℤ → ℕ
+byte_of (pos n) = min n 255
+byte_of (negsuc n) = 0
+
+-- how far a chroma sample is from the middle
+abbrev pub off : ℕ → ℤ
+off c = pos c -ℤ pos 128
+
+-- y and the weighted sum over 65536, rounded
+abbrev pub shade : ℕ → ℤ → ℕ
+shade y weighted = byte_of (pos y +ℤ floor_div (weighted +ℤ pos 32768) 65536)
+
+abbrev pub red_of : ℕ → ℕ → ℕ → ℕ
+red_of y cb cr = shade y (pos 91881 *ℤ off cr)
+
+abbrev pub green_of : ℕ → ℕ → ℕ → ℕ
+green_of y cb cr = shade y (neg_ℤ (pos 22554) *ℤ off cb -ℤ pos 46802 *ℤ off cr)
+
+abbrev pub blue_of : ℕ → ℕ → ℕ → ℕ
+blue_of y cb cr = shade y (pos 116130 *ℤ off cb)
+
+-- red, green and blue
+abbrev pub colour_of : Kind → ℕ → ℕ → ℕ → List ℕ
+colour_of Grey a b c = a ∷ a ∷ a ∷ []
+colour_of Rgb a b c = a ∷ b ∷ c ∷ []
+colour_of Ycc a b c = red_of a b c ∷ green_of a b c ∷ blue_of a b c ∷ []

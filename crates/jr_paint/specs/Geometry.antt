@@ -1,0 +1,55 @@
+-- Where a sample lies among the blocks of a picture.
+use Rattle.std.specs.Prelude.{◌≡◌, ℕ, ◌+◌, ◌*◌, ◌/◌, ◌%◌, ◌<◌}
+use Rattle.std.specs.Int.{div_ceil}
+use Rattle.jr_head.specs.HeadValue.{HeadValue}
+use Rattle.jr_paint.specs.declared.geometry.Spot.{Spot}
+use Rattle.jr_head.specs.Geometry.{horizontal_of, vertical_of, horizontal_max, vertical_max, mcus_across, blocks_before}
+
+-- how many columns and lines of samples component c has (T.81, A.1.1)
+abbrev pub samples_across : HeadValue → ℕ → ℕ
+samples_across h c = div_ceil (h.width * horizontal_of h c) (horizontal_max h)
+
+abbrev pub samples_down : HeadValue → ℕ → ℕ
+samples_down h c = div_ceil (h.height * vertical_of h c) (vertical_max h)
+
+-- an MCU, a block of one component in it, and a sample in that block
+pub record Place : Type 0 where
+  pub mcu_column : ℕ
+  pub mcu_line : ℕ
+  pub block_column : ℕ
+  pub block_line : ℕ
+  pub row : ℕ
+  pub col : ℕ
+
+-- the sample in column x and line y of a component of these factors lies there
+pub record Where (across down x y : ℕ) (p : Place) : Type 0 where
+  pub column : x ≡ 8 * (across * p.mcu_column + p.block_column) + p.col
+  pub line : y ≡ 8 * (down * p.mcu_line + p.block_line) + p.row
+  pub block_across : p.block_column < across
+  pub block_down : p.block_line < down
+  pub row_in : p.row < 8
+  pub col_in : p.col < 8
+
+-- P holds of something, and of nothing else
+abbrev pub IsOnlyOne : {A : Type 0} → (A → Type 0) → Type 0
+IsOnlyOne {A} P = (a : A) × (P a × ((b : A) → P b → b ≡ a))
+
+-- the one place, by division
+abbrev pub place_of : ℕ → ℕ → ℕ → ℕ → Place
+place_of across down x y = record {
+  mcu_column = x / (8 * across);
+  mcu_line = y / (8 * down);
+  block_column = x % (8 * across) / 8;
+  block_line = y % (8 * down) / 8;
+  row = y % 8;
+  col = x % 8;
+}
+
+-- the number of that MCU, of that block in it, and the sample in the block
+abbrev pub spot_at : HeadValue → ℕ → Place → Spot
+spot_at h c p = record {
+  mcu = p.mcu_line * mcus_across h + p.mcu_column;
+  block = blocks_before h c + p.block_line * horizontal_of h c + p.block_column;
+  row = p.row;
+  col = p.col;
+}

@@ -1,0 +1,19 @@
+-- What a clause reads of a `Tally`.
+use Rattle.std.specs.Prelude.{ℕ, Bool, true, ◌&&◌, ◌==◌, nat_lt, List, length, Option, Result, Ok, Err}
+use Rattle.jr_paint.specs.declared.tally.Tally.{Tally}
+
+abbrev pub inner_of : {T : Type 0} → Tally T → T
+inner_of t = t.inner
+
+-- `t.failed()`
+abbrev pub has_failed : {T : Type 0} → Tally T → Bool
+has_failed t = t.has_failed
+
+-- the bytes that are known of what is inside
+abbrev pub known_in : {T : Type 0} → (T → Option (List ℕ)) → Tally T → Option (List ℕ)
+known_in known t = known t.inner
+
+-- a write answered an error, or took none of at least one byte
+abbrev pub took_none : {E : Type 0} → Result ℕ E → List ℕ → Bool
+took_none (Ok n) buf = (n == 0) && nat_lt 0 (length buf)
+took_none (Err e) buf = true

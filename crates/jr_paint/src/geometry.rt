@@ -1,0 +1,79 @@
+//! Where a sample lies among the data units of a picture (T.81, A.2).
+
+ghost use Rattle.std.specs.Prelude.{◌≡◌, ℕ, ◌+◌, ◌*◌, ◌<◌, ◌≤◌};
+ghost use Rattle.jr_head.specs.Geometry.{components_of, horizontal_of, vertical_of, mcus_across, mcus_of, blocks_before, blocks_of};
+ghost use Rattle.jr_paint.specs.Geometry.{Place, Where, IsOnlyOne, samples_across, samples_down, place_of, spot_at};
+
+use jr_head::Head;
+
+/// A sample's MCU, its data unit in that MCU, and its row and column in that data unit.
+#[derive(Clone, Copy, PartialEq, Eq, Debug)]
+pub struct Spot {
+    /// The MCU's number in reading order, from 0.
+    pub mcu: u32,
+    /// The data unit's number in the MCU, over all components in frame order.
+    pub block: u32,
+    /// 0 to 7, from the top.
+    pub row: u32,
+    /// 0 to 7, from the left.
+    pub col: u32,
+}
+
+/// There is exactly one place for each sample of a component with these sampling factors.
+pub fn exactly_one_place()
+    ensures { (across down x y : ℕ) → 0 < across → 0 < down → IsOnlyOne (Where across down x y) }
+{}
+
+fn mcu_columns(head: &Head) -> u32
+    ensures value { result ≡ mcus_across head.now }
+    ensures few { result ≤ 8195 }
+{
+    head.width().div_ceil(8 * head.horizontal_max())
+}
+
+/// The number of the MCU in this line and column, where so many stand in a line.
+fn mcu_number(line: u32, column: u32, columns: u32) -> u32
+    requires line { line < 65536 }
+    requires column { column < 65536 }
+    requires columns { columns ≤ 8195 }
+    ensures { result ≡ line * columns + column }
+{
+    line * columns + column
+}
+
+/// How many data units an MCU has before those of component c.
+fn earlier_blocks(head: &Head, c: u32) -> u32
+    requires { c < components_of head.now }
+    ensures value { result ≡ blocks_before head.now c }
+    ensures few { result ≤ 10 }
+{
+    head.be_lawful();
+    let mut sum = 0;
+    for j in 0..c {
+        sum += head.horizontal(j) * head.vertical(j);
+    }
+    sum
+}
+
+/// Where the sample in column x and line y of component c lies.
+pub fn place(head: &Head, c: u32, x: u32, y: u32) -> Spot
+    requires component { c < components_of head.now }
+    requires column { x < samples_across head.now c }
+    requires line { y < samples_down head.now c }
+    ensures closed { result ≡ spot_at head.now c (place_of (horizontal_of head.now c) (vertical_of head.now c) x y) }
+    ensures lies { Where (horizontal_of head.now c) (vertical_of head.now c) x y (place_of (horizontal_of head.now c) (vertical_of head.now c) x y) }
+    ensures mcu { result.mcu < mcus_of head.now }
+    ensures block { result.block < blocks_of head.now }
+{
+    head.be_lawful();
+    let across = head.horizontal(c);
+    let down = head.vertical(c);
+    let mcu = mcu_number(y / (8 * down), x / (8 * across), mcu_columns(head));
+    let block = earlier_blocks(head, c) + y % (8 * down) / 8 * across + x % (8 * across) / 8;
+    Spot {
+        mcu,
+        block,
+        row: y % 8,
+        col: x % 8,
+    }
+}

@@ -1,0 +1,43 @@
+//! Samples of a picture, as painting asks for them.
+
+ghost use Rattle.std.specs.Prelude.{◌≡◌, ℕ, ◌+◌, ◌<◌, ◌≤◌, length, slice_index};
+ghost use Rattle.jr_head.specs.Geometry.{components_of};
+ghost use Rattle.jr_head.specs.HeadValue.{HeadValue};
+ghost use Rattle.jr_paint.specs.Geometry.{samples_across, samples_down};
+
+use jr_head::Head;
+
+/// The decoded samples of a picture: for each component, columns from the left and lines from the top.
+pub trait Samples {
+    // the head of the picture's file
+    ghost head_of: { Self → HeadValue };
+
+    // the sample by component, column and line
+    ghost shown: { Self → ℕ → ℕ → ℕ → ℕ };
+
+    /// The head of the picture's file.
+    fn head(&self) -> &Head
+        ensures { result.now ≡ head_of self.now };
+
+    /// The sample in column x and line y of component c.
+    fn sample(&self, c: u32, x: u32, y: u32) -> u8
+        requires component { c < components_of (head_of self.now) }
+        requires column { x < samples_across (head_of self.now) c }
+        requires line { y < samples_down (head_of self.now) c }
+        ensures { result ≡ shown self.now c x y };
+
+    /// The samples of line y of component c from column x on, as many as `out` has room for.
+    fn line(&self, c: u32, x: u32, y: u32, out: &mut [u8])
+        requires component { c < components_of (head_of self.now) }
+        requires column { x + length out.old ≤ samples_across (head_of self.now) c }
+        requires line { y < samples_down (head_of self.now) c }
+        ensures { (k : ℕ) → k < length out.new → slice_index out.new k ≡ shown self.now c (x + k) y }
+    {
+        self.head().be_lawful();
+        let mut at = x;
+        for entry in out.iter_mut() {
+            *entry = self.sample(c, at, y);
+            at += 1;
+        }
+    }
+}

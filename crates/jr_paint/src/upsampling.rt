@@ -1,0 +1,160 @@
+//! Lines of samples brought to the picture's size: each sample stands for a rectangle of pixels.
+
+ghost use Rattle.std.specs.Prelude.{◌≡◌, ℕ, ◌+◌, ◌*◌, ◌/◌, ◌%◌, ◌<◌, ◌≤◌, length, slice_index};
+ghost use Rattle.jr_head.specs.Geometry.{components_of, horizontal_of, horizontal_max, vertical_of, vertical_max};
+ghost use Rattle.jr_paint.specs.Geometry.{samples_across, samples_down};
+ghost use Rattle.jr_paint.specs.Text.{value_at};
+
+use crate::samples::Samples;
+use jr_head::Head;
+
+/// As many pixels as are painted at once: a multiple of each factor by which samples are repeated.
+pub(crate) const STRIP: usize = 4092;
+
+/// Puts each of `near` into two entries.
+fn double(near: &[u8], out: &mut [u8])
+    requires { length out.old ≤ 2 * length near.now }
+    ensures { (k : ℕ) → k < length out.new → slice_index out.new k ≡ slice_index near.now (k / 2) }
+{
+    for k in 0..out.len() {
+        out[k] = near[k / 2];
+    }
+}
+
+/// Puts each of `near` into three entries.
+fn triple(near: &[u8], out: &mut [u8])
+    requires { length out.old ≤ 3 * length near.now }
+    ensures { (k : ℕ) → k < length out.new → slice_index out.new k ≡ slice_index near.now (k / 3) }
+{
+    for k in 0..out.len() {
+        out[k] = near[k / 3];
+    }
+}
+
+/// Puts each of `near` into four entries.
+fn quadruple(near: &[u8], out: &mut [u8])
+    requires { length out.old ≤ 4 * length near.now }
+    ensures { (k : ℕ) → k < length out.new → slice_index out.new k ≡ slice_index near.now (k / 4) }
+{
+    for k in 0..out.len() {
+        out[k] = near[k / 4];
+    }
+}
+
+/// Puts each of `near` into so many entries.
+fn repeat(near: &[u8], factor: u32, out: &mut [u8])
+    requires some { 0 < factor }
+    requires few { factor ≤ 4 }
+    requires enough { length out.old ≤ factor * length near.now }
+    ensures { (k : ℕ) → k < length out.new → slice_index out.new k ≡ slice_index near.now (k / factor) }
+{
+    match factor {
+        1 => out.copy_from_slice(&near[..out.len()]),
+        2 => double(near, out),
+        3 => triple(near, out),
+        _ => quadruple(near, out),
+    }
+}
+
+/// The line of component c that pixels of line y take their samples from.
+fn sample_line(head: &Head, c: u32, y: u32) -> u32
+    requires component { c < components_of head.now }
+    requires down { y < head.now.height }
+    ensures value { result ≡ y * vertical_of head.now c / vertical_max head.now }
+    ensures inside { result < samples_down head.now c }
+{
+    head.be_lawful();
+    y * head.vertical(c) / head.vertical_max()
+}
+
+/// How many pixels of a line each sample of component c stands for.
+fn pixels_per_sample(head: &Head, c: u32) -> u32
+    requires { c < components_of head.now }
+    ensures value { result ≡ horizontal_max head.now / horizontal_of head.now c }
+    ensures some { 0 < result }
+    ensures few { result ≤ 4 }
+    ensures whole { horizontal_max head.now ≡ horizontal_of head.now c * result }
+{
+    head.be_lawful();
+    head.horizontal_max() / head.horizontal(c)
+}
+
+/// Reads samples from number `first` on of a line of component c, and puts each into so many entries.
+fn read_repeated<S: Samples>(
+    samples: &S,
+    c: u32,
+    first: u32,
+    line: u32,
+    factor: u32,
+    near: &mut [u8],
+    out: &mut [u8],
+)
+    requires component { c < components_of (S.head_of samples.now) }
+    requires column { first + length near.old ≤ samples_across (S.head_of samples.now) c }
+    requires line { line < samples_down (S.head_of samples.now) c }
+    requires factor { 0 < factor }
+    requires few { factor ≤ 4 }
+    requires enough { length out.old ≤ factor * length near.old }
+    ensures { (k : ℕ) → k < length out.new → slice_index out.new k ≡ S.shown samples.now c (first + k / factor) line }
+{
+    samples.line(c, first, line, near);
+    repeat(near, factor, out);
+}
+
+/// The samples from number `x / factor` on of line `line` of component c, each into so many entries.
+fn stretch<S: Samples>(
+    samples: &S,
+    c: u32,
+    x: u32,
+    line: u32,
+    factor: u32,
+    near: &mut [u8],
+    out: &mut [u8],
+)
+    requires component { c < components_of (S.head_of samples.now) }
+    requires start { x % 12 ≡ 0 }
+    requires some { 0 < length out.old }
+    requires across { x + length out.old ≤ (S.head_of samples.now).width }
+    requires line { line < samples_down (S.head_of samples.now) c }
+    requires factor { 0 < factor }
+    requires few { factor ≤ 4 }
+    requires whole { horizontal_max (S.head_of samples.now) ≡ horizontal_of (S.head_of samples.now) c * factor }
+    requires room { length out.old ≤ length near.old }
+    ensures { (k : ℕ) → k < length out.new → slice_index out.new k ≡ S.shown samples.now c (x / factor + k / factor) line }
+{
+    samples.head().be_lawful();
+    let count = out.len().div_ceil(factor as usize);
+    read_repeated(
+        samples,
+        c,
+        x / factor,
+        line,
+        factor,
+        &mut near[..count],
+        out,
+    );
+}
+
+/// The samples of component c that pixels of line y take, from pixel x on.
+pub(crate) fn upsample<S: Samples>(
+    samples: &S,
+    c: u32,
+    x: u32,
+    y: u32,
+    near: &mut [u8],
+    out: &mut [u8],
+)
+    requires component { c < components_of (S.head_of samples.now) }
+    requires start { x % 12 ≡ 0 }
+    requires some { 0 < length out.old }
+    requires across { x + length out.old ≤ (S.head_of samples.now).width }
+    requires down { y < (S.head_of samples.now).height }
+    requires room { length out.old ≤ length near.old }
+    ensures { (k : ℕ) → k < length out.new → slice_index out.new k ≡ value_at (S.head_of samples.now) (S.shown samples.now) c (x + k) y }
+{
+    let head = samples.head();
+    head.be_lawful();
+    let line = sample_line(head, c, y);
+    let factor = pixels_per_sample(head, c);
+    stretch(samples, c, x, line, factor, near, out);
+}
