@@ -1,0 +1,3 @@
+pub mod Count
+pub mod Draws
+pub mod Values
