@@ -5,3 +5,8 @@ pub mod Steps
 pub mod Coded
 pub mod Values
 pub mod Options
+pub mod UnitsLaws
+pub mod Predicted
+pub mod Ranges
+pub mod Readers
+pub mod Fronts

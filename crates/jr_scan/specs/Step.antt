@@ -2,7 +2,7 @@
 use Rattle.std.specs.Prelude.{◌≡◌, ℕ, Bool, List, [], ◌∷◌, ◌++◌, length, replicate, ℤ, pos}
 use Rattle.jr_code.specs.Bits.{value}
 use Rattle.jr_code.specs.Code.{Table, IsWord}
-use Rattle.jr_scan.specs.Block.{Item, IsItem, item_bits, entries, OthersAt, DifferenceAt, CodedAt}
+use Rattle.jr_scan.specs.Block.{Item, IsItem, item_bits, entries, OthersAt, DifferenceAt, CodedAt, BlockAt}
 use Rattle.jr_scan.specs.declared.block.Step.{Step}
 use Rattle.jr_scan.specs.declared.block.Step.TheVariants.{End, Zeros, Coefficient}
 
@@ -64,3 +64,13 @@ pub record TakesCoded (dc ac : Table) (z : List ℤ) (old new : List Bool) : Typ
 -- no block begins these bits
 abbrev pub HasNoCoded : Table → Table → List Bool → Type 0
 HasNoCoded dc ac old = (difference : ℤ) (others : List ℤ) (bits rest : List Bool) → CodedAt dc ac difference others bits → old ≡ bits ++ rest → ⊥
+
+-- old is a block's bits, where its first coefficient is predicted to be p, and then new
+pub record TakesBlock (dc ac : Table) (p : ℤ) (z : List ℤ) (old new : List Bool) : Type 0 where
+  pub bits : List Bool
+  pub is : BlockAt dc ac p z bits
+  pub split : old ≡ bits ++ new
+
+-- no block with this prediction begins these bits
+abbrev pub HasNoBlock : Table → Table → ℤ → List Bool → Type 0
+HasNoBlock dc ac p old = (z : List ℤ) (bits rest : List Bool) → BlockAt dc ac p z bits → old ≡ bits ++ rest → ⊥

@@ -2,7 +2,15 @@
 #![tactic(auto)]
 
 mod block;
+mod front;
+mod interval;
+mod place;
+mod reader;
 mod scan_end;
 
 pub use block::Block;
+pub use front::FrontBlocks;
+pub use interval::Interval;
+pub use place::Place;
+pub use reader::BlockReader;
 pub use scan_end::ScanEnd;
