@@ -1,0 +1,12 @@
+pub mod Words
+pub mod Items
+pub mod Rest
+pub mod Steps
+pub mod Coded
+pub mod Values
+pub mod Options
+pub mod UnitsLaws
+pub mod Predicted
+pub mod Ranges
+pub mod Readers
+pub mod Fronts

@@ -1,0 +1,105 @@
+-- The coefficients of a block are in range.
+use Rattle.std.proofs.Common.{◌≡◌, ℕ, zero, suc, ◌+◌, ◌-◌, ◌*◌, ◌<◌, ◌≤◌, ◌^◌, Bool, List, [], ◌∷◌, ◌++◌, length, get_or, replicate, refl, sym, ap, subst, ◌∙◌, inl, inr, length-append, arith}
+use Rattle.std.specs.Prelude.{ℤ, pos, negsuc, ◌+ℤ◌, ◌-ℤ◌, ◌≤ℤ◌}
+use Rattle.std.specs.List.{flat_map, AllByRecursion}
+use Rattle.std.proofs.Math.ListN.{length-replicate}
+use Rattle.std.proofs.Math.Pow.{pow_mono}
+use Rattle.std.proofs.lemmas.Int.{ints}
+use Rattle.std.proofs.lemmas.Bool.{cases_lt}
+use Rattle.jr_code.specs.Bits.{number, extended, value}
+use Rattle.jr_code.specs.Code.{Table}
+use Rattle.jr_code.proofs.BitLemmas.{number_below}
+use Rattle.jr_scan.specs.Block.{Item, IsItem, item_bits, entries, IsEnd, DifferenceAt, OthersAt, CodedAt, BlockAt, IsInRange}
+use Rattle.jr_scan.specs.Block.Item.{Sixteen, Coef}
+use Rattle.jr_scan.specs.Step.{TakesCoded}
+use Rattle.jr_scan.proofs.Values.{extended_high, extended_low}
+use Rattle.jr_scan.proofs.Rest.{end_within}
+
+-- from -m to m
+abbrev pub Within : ℕ → ℤ → Type 0
+Within m x = (x ≤ℤ pos m) × (pos 0 ≤ℤ (x +ℤ pos m))
+
+within_zero : (m : ℕ) → Within m (pos 0)
+within_zero m = (omega (arith, ints), omega (arith, ints))
+
+extended_within : (size v m : ℕ) → v < 2 ^ size → 2 ^ size ≤ m + 1 → Within m (extended size v)
+extended_within zero v m lt fits = within_zero m
+extended_within (suc s) v m lt fits =
+    let e : suc s - 1 ≡ s = omega arith in
+    let twice : 2 ^ suc s ≡ 2 * 2 ^ s = omega arith in
+    elim (cases_lt v (2 ^ (suc s - 1))) [
+      | inl l ↦
+          let is = extended_low (suc s) v (λ z. omega arith) l in
+          let same : 2 ^ (suc s - 1) ≡ 2 ^ s = ap (λ (k : ℕ). 2 ^ k) e in
+          subst (Within m) (sym is) (omega (arith, ints, same, twice), omega (arith, ints, same, twice))
+      | inr g ↦
+          let is = extended_high (suc s) v (λ z. omega arith) g in
+          subst (Within m) (sym is) (omega (arith, ints), omega (arith, ints))
+    ]
+
+pub value_within : (w : List Bool) (k m : ℕ) → length w ≤ k → 2 ^ k ≤ m + 1 → Within m (value w)
+value_within w k m few fits =
+    let mono : 2 ^ length w ≤ 2 ^ k = pow_mono few in
+    extended_within (length w) (number w) m (number_below w) (omega arith)
+
+within_append : (m : ℕ) (xs ys : List ℤ) → ((k : ℕ) → Within m (get_or xs k (pos 0))) → ((k : ℕ) → Within m (get_or ys k (pos 0))) → (k : ℕ) → Within m (get_or (xs ++ ys) k (pos 0))
+within_append m [] ys hx hy k = hy k
+within_append m (x ∷ xs) ys hx hy zero = hx 0
+within_append m (x ∷ xs) ys hx hy (suc k) = within_append m xs ys (λ j. hx (suc j)) hy k
+
+within_replicate : (m n k : ℕ) → Within m (get_or (replicate n (pos 0)) k (pos 0))
+within_replicate m zero k = within_zero m
+within_replicate m (suc n) zero = within_zero m
+within_replicate m (suc n) (suc k) = within_replicate m n k
+
+within_one : (m : ℕ) (x : ℤ) → Within m x → (k : ℕ) → Within m (get_or (x ∷ []) k (pos 0))
+within_one m x h zero = h
+within_one m x h (suc k) = within_zero m
+
+entries_within : (ac : Table) (i : Item) → IsItem ac i → (k : ℕ) → Within 1023 (get_or (entries i) k (pos 0))
+entries_within ac (Sixteen w) h = within_replicate 1023 16
+entries_within ac (Coef r s w x) h = within_append 1023 (replicate r (pos 0)) (value x ∷ []) (within_replicate 1023 r) (within_one 1023 (value x) (value_within x 10 1023 (omega (arith, h.4, h.2)) (omega arith)))
+
+all_within : (ac : Table) (items : List Item) → AllByRecursion (IsItem ac) items → (k : ℕ) → Within 1023 (get_or (flat_map entries items) k (pos 0))
+all_within ac [] each k = within_zero 1023
+all_within ac (i ∷ is) each k = within_append 1023 (entries i) (flat_map entries is) (entries_within ac i each.0) (all_within ac is each.1) k
+
+others_within : (ac : Table) (others : List ℤ) (bits : List Bool) → OthersAt ac others bits → (k : ℕ) → Within 1023 (get_or others k (pos 0))
+others_within ac others bits o k =
+    subst (λ (zs : List ℤ). Within 1023 (get_or zs k (pos 0))) (sym o.values)
+    (within_append 1023 (flat_map entries o.items) _ (all_within ac o.items o.each) (within_replicate 1023 (63 - length (flat_map entries o.items))) k)
+
+others_count : (ac : Table) (others : List ℤ) (bits : List Bool) → OthersAt ac others bits → length others ≡ 63
+others_count ac others bits o =
+    let n = length (flat_map entries o.items) in
+    let few = end_within ac n o.tail o.end in
+    omega (arith, ap length o.values, length-append (flat_map entries o.items) (replicate (63 - n) (pos 0)), length-replicate (63 - n) (pos 0), few)
+
+pub difference_within : (dc : Table) (d : ℤ) (bits : List Bool) → DifferenceAt dc d bits → Within 2047 d
+difference_within dc d bits f = subst (Within 2047) (sym f.is) (value_within f.extra 11 2047 (omega (arith, f.count, f.small)) (omega arith))
+
+-- the other coefficients of a block as it is coded, and how many
+pub coded_count : (dc ac : Table) (d : ℤ) (others : List ℤ) (bits : List Bool) → CodedAt dc ac d others bits → length others ≡ 63
+coded_count dc ac d others bits c = others_count ac others c.others_bits c.are_others
+
+pub block_in_range : (dc ac : Table) (p : ℤ) (z : List ℤ) (bits : List Bool) → BlockAt dc ac p z bits → IsInRange z
+block_in_range dc ac p z bits b =
+    let others : (k : ℕ) → Within 1023 (get_or b.others k (pos 0)) = others_within ac b.others b.coded.others_bits b.coded.are_others in
+    let first : get_or z 0 (pos 0) ≡ p +ℤ b.difference = ap (λ (x : List ℤ). get_or x 0 (pos 0)) b.values in
+    let rest : (k : ℕ) → 0 < k → Within 1023 (get_or z k (pos 0)) = λ k some. subst (λ (x : List ℤ). Within 1023 (get_or x k (pos 0))) (sym b.values) (behind (p +ℤ b.difference) b.others others k some) in
+    record {
+      count = omega (arith, ap length b.values, coded_count dc ac b.difference b.others bits b.coded);
+      first_low = subst (λ (x : ℤ). negsuc 32767 ≤ℤ x) (sym first) b.low;
+      first_high = subst (λ (x : ℤ). x ≤ℤ pos 32767) (sym first) b.high;
+      low = λ k some lt. let w = rest k some in omega (arith, ints, w.1);
+      high = λ k some lt. (rest k some).0;
+    }
+  where
+    behind : (x : ℤ) (xs : List ℤ) → ((k : ℕ) → Within 1023 (get_or xs k (pos 0))) → (k : ℕ) → 0 < k → Within 1023 (get_or (x ∷ xs) k (pos 0))
+    behind x xs h zero some = absurd (omega arith)
+    behind x xs h (suc k) some = h k
+
+pub coded_first : (dc ac : Table) (z : List ℤ) (old new : List Bool) → TakesCoded dc ac z old new → Within 2047 (get_or z 0 (pos 0)) × (length z ≡ 64)
+coded_first dc ac z old new t =
+    let first : t.difference ≡ get_or z 0 (pos 0) = sym (ap (λ (x : List ℤ). get_or x 0 (pos 0)) t.values) in
+    (subst (Within 2047) first (difference_within dc t.difference t.is.first_bits t.is.is_first), omega (arith, ap length t.values, coded_count dc ac t.difference t.others t.bits t.is))

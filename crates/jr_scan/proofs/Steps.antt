@@ -1,0 +1,89 @@
+-- What the readers of a first coefficient and of an item take.
+use Rattle.std.proofs.Common.{◌≡◌, ◌≢◌, ℕ, ◌+◌, ◌*◌, ◌/◌, ◌%◌, ◌<◌, ◌≤◌, Bool, List, [], ◌∷◌, ◌++◌, length, replicate, refl, sym, ap, subst, ◌∙◌, append_assoc, length-append, arith}
+use Rattle.std.specs.Prelude.{ℤ, pos}
+use Rattle.std.proofs.lemmas.List.{append_cancel_left}
+use Rattle.jr_code.specs.Bits.{value}
+use Rattle.jr_code.specs.Code.{Table, IsWord}
+use Rattle.jr_scan.specs.Block.{Item, IsItem, item_bits, DifferenceAt}
+use Rattle.jr_scan.specs.Block.Item.{Sixteen, Coef}
+use Rattle.jr_scan.specs.Step.{TakesExtra, TakesItem, TakesEnd, TakesDifference, HasNoDifference, HasNoStep}
+use Rattle.jr_scan.proofs.Words.{IsPrefixFree, TakesWord}
+use Rattle.jr_scan.proofs.Items.{split_same}
+
+pub takes_difference : (dc : Table) (size : ℕ) (d : ℤ) (old mid new : List Bool) → TakesWord dc old mid size → size ≤ 11 → TakesExtra size d mid new → TakesDifference dc d old new
+takes_difference dc size d old mid new w small x = record {
+  bits = w.0 ++ x.bits;
+  is = record { size = size; word = w.0; extra = x.bits; is_word = w.1; small = small; count = x.count; spelled = refl; is = x.is };
+  split = w.2 ∙ ap (λ (b : List Bool). w.0 ++ b) x.split ∙ sym (append_assoc w.0 x.bits new);
+}
+
+-- the difference that begins the bits has the word that was read
+difference_only : (dc : Table) → IsPrefixFree dc → (d : ℤ) (size : ℕ) (old mid bits rest : List Bool) → TakesWord dc old mid size → (f : DifferenceAt dc d bits) → old ≡ bits ++ rest → (size ≡ f.size) × (mid ≡ f.extra ++ rest)
+difference_only dc free d size old mid bits rest w f e =
+    let whole : w.0 ++ mid ≡ f.word ++ (f.extra ++ rest) = sym w.2 ∙ e ∙ ap (λ (b : List Bool). b ++ rest) f.spelled ∙ append_assoc f.word f.extra rest in
+    let same = free w.0 f.word mid (f.extra ++ rest) size f.size w.1 f.is_word whole in
+    (same.1, append_cancel_left f.word mid (f.extra ++ rest) (subst (λ (u : List Bool). u ++ mid ≡ f.word ++ (f.extra ++ rest)) same.0 whole))
+
+pub no_difference_far : (dc : Table) → IsPrefixFree dc → (size : ℕ) (old mid : List Bool) → TakesWord dc old mid size → 11 < size → HasNoDifference dc old
+no_difference_far dc free size old mid w far d bits rest f e =
+    let o = difference_only dc free d size old mid bits rest w f e in
+    omega (arith, o.0, f.small)
+
+pub no_difference_short : (dc : Table) → IsPrefixFree dc → (size : ℕ) (old mid : List Bool) → TakesWord dc old mid size → length mid < size → HasNoDifference dc old
+no_difference_short dc free size old mid w short d bits rest f e =
+    let o = difference_only dc free d size old mid bits rest w f e in
+    omega (arith, o.0, ap length o.1, length-append f.extra rest, f.count)
+
+pub takes_end : (ac : Table) (s : ℕ) (old new : List Bool) → TakesWord ac old new s → s ≡ 0 → TakesEnd ac old new
+takes_end ac s old new w e = record { word = w.0; is = subst (IsWord ac w.0) e w.1; split = w.2 }
+
+pub takes_zeros : (ac : Table) (s : ℕ) (old new : List Bool) → TakesWord ac old new s → s ≡ 240 → TakesItem ac (replicate 16 (pos 0)) old new
+takes_zeros ac s old new w e = record { item = Sixteen w.0; is = subst (IsWord ac w.0) e w.1; gives = refl; split = w.2 }
+
+pub takes_coef : (ac : Table) (symbol size : ℕ) (v : ℤ) (old mid new : List Bool) → TakesWord ac old mid symbol → symbol < 256 → size ≡ symbol % 16 → (size ≡ 0 → ⊥) → size ≤ 10 → TakesExtra size v mid new
+    → TakesItem ac (replicate (symbol / 16) (pos 0) ++ v ∷ []) old new
+takes_coef ac symbol size v old mid new w byte is some small x =
+    let e : symbol ≡ 16 * (symbol / 16) + size = omega arith in
+    record {
+      item = Coef (symbol / 16) size w.0 x.bits;
+      is = (omega arith, omega arith, small, subst (IsWord ac w.0) e w.1, x.count);
+      gives = ap (λ (q : ℤ). replicate (symbol / 16) (pos 0) ++ q ∷ []) (sym x.is);
+      split = w.2 ∙ ap (λ (b : List Bool). w.0 ++ b) x.split ∙ sym (append_assoc w.0 x.bits new);
+    }
+
+pub no_step_at : (ac : Table) → IsPrefixFree ac → (symbol : ℕ) (old mid : List Bool) → TakesWord ac old mid symbol → (symbol ≡ 0 → ⊥) → (symbol ≡ 240 → ⊥)
+    → ((r s : ℕ) (extra rest : List Bool) → symbol ≡ 16 * r + s → 1 ≤ s → s ≤ 10 → length extra ≡ s → mid ≡ extra ++ rest → ⊥) → HasNoStep ac old
+no_step_at ac free symbol old mid w not_0 not_240 none =
+    let item : (i : Item) (rest : List Bool) → IsItem ac i → old ≡ item_bits i ++ rest → ⊥ = λ i rest. go i rest in
+    record {
+      no_end = λ word rest h e. not_0 (free w.0 word mid rest symbol 0 w.1 h (sym w.2 ∙ e)).1;
+      no_item = item;
+    }
+  where
+    go : (i : Item) (rest : List Bool) → IsItem ac i → old ≡ item_bits i ++ rest → ⊥
+    go (Sixteen u) rest h e = not_240 (free w.0 u mid rest symbol 240 w.1 h (sym w.2 ∙ e)).1
+    go (Coef r s u extra) rest h e =
+        let whole : w.0 ++ mid ≡ u ++ (extra ++ rest) = sym w.2 ∙ e ∙ append_assoc u extra rest in
+        let same = free w.0 u mid (extra ++ rest) symbol (16 * r + s) w.1 h.3 whole in
+        none r s extra rest same.1 h.1 h.2 h.4 (append_cancel_left u mid (extra ++ rest) (subst (λ (x : List Bool). x ++ mid ≡ u ++ (extra ++ rest)) same.0 whole))
+
+pub no_step_short : (ac : Table) → IsPrefixFree ac → (symbol size : ℕ) (old mid : List Bool) → TakesWord ac old mid symbol → size ≡ symbol % 16 → (symbol ≡ 0 → ⊥) → (symbol ≡ 240 → ⊥) → length mid < size → HasNoStep ac old
+no_step_short ac free symbol size old mid w is not_0 not_240 short =
+    no_step_at ac free symbol old mid w not_0 not_240 (λ r s extra rest e some small count left. omega (arith, e, small, ap length left, length-append extra rest, count, is, short))
+
+pub no_step_size : (ac : Table) → IsPrefixFree ac → (symbol size : ℕ) (old mid : List Bool) → TakesWord ac old mid symbol → size ≡ symbol % 16 → (symbol ≡ 0 → ⊥) → (symbol ≡ 240 → ⊥) → (1 ≤ size → size ≤ 10 → ⊥) → HasNoStep ac old
+no_step_size ac free symbol size old mid w is not_0 not_240 bad =
+    no_step_at ac free symbol old mid w not_0 not_240 (λ r s extra rest e some small count left. let same : size ≡ s = omega (arith, e, small, is) in bad (omega (arith, same, some)) (omega (arith, same, small)))
+
+-- where no word begins the bits, nothing does
+pub no_difference_word : (dc : Table) (old : List Bool) → ((word rest : List Bool) (s : ℕ) → IsWord dc word s → old ≢ word ++ rest) → HasNoDifference dc old
+no_difference_word dc old none d bits rest f e = none f.word (f.extra ++ rest) f.size f.is_word (e ∙ ap (λ (b : List Bool). b ++ rest) f.spelled ∙ append_assoc f.word f.extra rest)
+
+pub no_step_word : (ac : Table) (old : List Bool) → ((word rest : List Bool) (s : ℕ) → IsWord ac word s → old ≢ word ++ rest) → HasNoStep ac old
+no_step_word ac old none =
+    let item : (i : Item) (rest : List Bool) → IsItem ac i → old ≡ item_bits i ++ rest → ⊥ = λ i rest. go i rest in
+    record { no_end = λ word rest h e. none word rest 0 h e; no_item = item }
+  where
+    go : (i : Item) (rest : List Bool) → IsItem ac i → old ≡ item_bits i ++ rest → ⊥
+    go (Sixteen u) rest h e = none u rest 240 h e
+    go (Coef r s u extra) rest h e = none u (extra ++ rest) (16 * r + s) h.3 (e ∙ append_assoc u extra rest)

@@ -1,0 +1,31 @@
+use Rattle.std.proofs.Common.{◌≡◌, ℕ, ◌*◌, List, ℤ, true, false, Bool, IsTrue, length, take, refl, subst, sym, ap, ◌∙◌, rules}
+use Rattle.jr_head.specs.HeadValue.{HeadValue}
+use Rattle.jr_head.specs.Geometry.{order_of}
+use Rattle.jr_scan.specs.Units.{Decodes, LongestFront}
+use Rattle.jr_scan.specs.Reader.{HasRead, HasEnded, ReaderValue, RunOf, whole_run, per_mcu}
+use Rattle.jr_scan.specs.FrontValue.{FrontValue}
+use Rattle.jr_scan.proofs.Fronts.{FrontMade, made_front, made_sound, made_only}
+use Rattle.jr_scan.proofs.interval.Interval.read_front.Goals as goal
+
+made : (c : goal.After-of) → FrontMade c.args.self.now c.in_ok-blocks.reader c.in_ok-blocks.blocks.items c.of.result
+made c = record {
+  read = c.in_ok-blocks.ensures.read;
+  ended = c.in_ok-blocks.ensures.ended;
+  run = c.in_ok-blocks.ensures.run;
+  mcus = ap (λ (f : FrontValue). f.mcus) c.of.ensures ∙ c.mcus-mcus.ensures.value;
+  blocks = ap (λ (f : FrontValue). f.blocks) c.of.ensures ∙ c.truncate.ensures.items ∙ ap (λ (n : ℕ). take (n * length c.order.result.now) c.in_ok-blocks.blocks.items) c.mcus-mcus.ensures.value ∙ ap (λ (o : List ℕ). take (c.in_ok-blocks.reader.mcu * length o) c.in_ok-blocks.blocks.items) (c.order.ensures.value ∙ ap order_of c.head.ensures);
+  sound = ap (λ (f : FrontValue). f.is_sound) c.of.ensures;
+  longest = subst (λ (n : ℕ). LongestFront c.args.self.now n (take (n * per_mcu c.in_ok-blocks.reader) c.in_ok-blocks.blocks.items)) c.mcus-mcus.ensures.value (c.mcus-mcus.ensures.front c.args.self.now c.in_ok-blocks.blocks.items c.in_ok-blocks.ensures.run c.in_ok-blocks.ensures.read c.in_ok-blocks.ensures.ended);
+  is_sound = c.is_sound.result;
+  decodes = λ t. c.is_sound.ensures.sound t c.args.self.now c.in_ok-blocks.blocks.items c.in_ok-blocks.ensures.run c.in_ok-blocks.ensures.read;
+  none = λ f ys. c.is_sound.ensures.damaged f c.args.self.now c.in_ok-blocks.blocks.items ys c.in_ok-blocks.ensures.run c.in_ok-blocks.ensures.read c.in_ok-blocks.ensures.ended;
+}
+
+pub returns-clause-front : goal.returns-clause-front
+returns-clause-front c = made_front _ _ _ _ (made c)
+
+pub returns-clause-sound : goal.returns-clause-sound
+returns-clause-sound c = made_sound c.one_word.ensures _ _ _ _ (made c)
+
+pub returns-clause-damaged : goal.returns-clause-damaged
+returns-clause-damaged c = made_only c.one_word.ensures _ _ _ _ (made c)

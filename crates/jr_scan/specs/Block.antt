@@ -1,0 +1,74 @@
+-- One block: what its bits are, and which coefficients they give (T.81, F.1.2 and F.2.2).
+use Rattle.std.specs.Prelude.{◌≡◌, ℕ, ◌+◌, ◌-◌, ◌*◌, ◌<◌, ◌≤◌, Bool, List, [], ◌∷◌, ◌++◌, length, replicate, ◌⊎◌, ℤ, pos, negsuc, ◌+ℤ◌, ◌≤ℤ◌, slice_index_or}
+use Rattle.std.specs.List.{flat_map, AllByRecursion}
+use Rattle.jr_code.specs.Bits.{value}
+use Rattle.jr_code.specs.Code.{Table, IsWord}
+
+-- what follows the first coefficient: sixteen zeros by a word of F0, or a run of zeros and a value by the word of
+-- their numbers and as many extra bits as the size says
+pub data Item : Type 0 where
+  Sixteen : List Bool → Item
+  Coef : ℕ → ℕ → List Bool → List Bool → Item
+
+abbrev pub IsItem : Table → Item → Type 0
+IsItem ac (Sixteen word) = IsWord ac word 240
+IsItem ac (Coef run size word extra) = (run < 16) × (1 ≤ size) × (size ≤ 10) × IsWord ac word (16 * run + size) × (length extra ≡ size)
+
+abbrev pub item_bits : Item → List Bool
+item_bits (Sixteen word) = word
+item_bits (Coef run size word extra) = word ++ extra
+
+-- the coefficients that an item stands for: as many as its span
+abbrev pub entries : Item → List ℤ
+entries (Sixteen word) = replicate 16 (pos 0)
+entries (Coef run size word extra) = replicate run (pos 0) ++ value extra ∷ []
+
+-- behind items of so many places all 63 are there, or a word of 00 says that the rest is 0
+abbrev pub IsEnd : Table → ℕ → List Bool → Type 0
+IsEnd ac places tail = ((places ≡ 63) × (tail ≡ [])) ⊎ ((places ≤ 62) × IsWord ac tail 0)
+
+-- the bits behind the first coefficient, and the 63 other coefficients
+pub record OthersAt (ac : Table) (others : List ℤ) (bits : List Bool) : Type 0 where
+  pub items : List Item
+  pub tail : List Bool
+  pub each : AllByRecursion (IsItem ac) items
+  pub end : IsEnd ac (length (flat_map entries items)) tail
+  pub spelled : bits ≡ flat_map item_bits items ++ tail
+  pub values : others ≡ flat_map entries items ++ replicate (63 - length (flat_map entries items)) (pos 0)
+
+-- the bits of the first coefficient: a word of a size of at most 11, and so many extra bits for its difference to
+-- the prediction
+pub record DifferenceAt (dc : Table) (difference : ℤ) (bits : List Bool) : Type 0 where
+  pub size : ℕ
+  pub word : List Bool
+  pub extra : List Bool
+  pub is_word : IsWord dc word size
+  pub small : size ≤ 11
+  pub count : length extra ≡ size
+  pub spelled : bits ≡ word ++ extra
+  pub is : difference ≡ value extra
+
+-- a block as it is coded: the difference of its first coefficient, and the others
+pub record CodedAt (dc ac : Table) (difference : ℤ) (others : List ℤ) (bits : List Bool) : Type 0 where
+  pub first_bits : List Bool
+  pub others_bits : List Bool
+  pub is_first : DifferenceAt dc difference first_bits
+  pub are_others : OthersAt ac others others_bits
+  pub spelled : bits ≡ first_bits ++ others_bits
+
+-- the block z where the first coefficient is predicted to be p, in zigzag order
+pub record BlockAt (dc ac : Table) (p : ℤ) (z : List ℤ) (bits : List Bool) : Type 0 where
+  pub difference : ℤ
+  pub others : List ℤ
+  pub coded : CodedAt dc ac difference others bits
+  pub values : z ≡ (p +ℤ difference) ∷ others
+  pub low : negsuc 32767 ≤ℤ (p +ℤ difference)
+  pub high : (p +ℤ difference) ≤ℤ pos 32767
+
+-- coefficients in the ranges that the inverse transform asks for
+pub record IsInRange (z : List ℤ) : Type 0 where
+  pub count : length z ≡ 64
+  pub first_low : negsuc 32767 ≤ℤ slice_index_or z 0 (pos 0)
+  pub first_high : slice_index_or z 0 (pos 0) ≤ℤ pos 32767
+  pub low : (k : ℕ) → 0 < k → k < 64 → negsuc 1022 ≤ℤ slice_index_or z k (pos 0)
+  pub high : (k : ℕ) → 0 < k → k < 64 → slice_index_or z k (pos 0) ≤ℤ pos 1023

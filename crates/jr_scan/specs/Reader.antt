@@ -1,0 +1,74 @@
+-- How far a reader of blocks has come.
+use Rattle.std.specs.Prelude.{◌≡◌, ℕ, ◌+◌, ◌-◌, ◌*◌, ◌<◌, ◌≤◌, Bool, true, false, List, ◌++◌, length, drop, ◌⊎◌, ℤ, pos, negsuc, ◌≤ℤ◌, slice_index_or}
+use Rattle.jr_code.specs.Bits.{bits}
+use Rattle.jr_head.specs.HeadValue.{HeadValue}
+use Rattle.jr_head.specs.Geometry.{order_of, dc_of, ac_of}
+use Rattle.jr_scan.specs.declared.place.Place.{Place}
+use Rattle.jr_scan.specs.IntervalValue.{IntervalValue}
+use Rattle.jr_scan.specs.Step.{HasNoBlock}
+use Rattle.jr_scan.specs.Units.{component, prediction, no_predictions, Blocks}
+
+-- a run of MCUs of an interval: where it starts, and how many MCUs it has at most
+pub record RunOf : Type 0 where
+  pub interval : IntervalValue
+  pub from : Place
+  pub mcus : ℕ
+
+abbrev pub start : Place
+start = record { bit = 0; predictions = no_predictions }
+
+-- all MCUs of an interval
+abbrev pub whole_run : IntervalValue → RunOf
+whole_run i = record { interval = i; from = start; mcus = i.mcus }
+
+-- a reader: its run, the bits that are left, each component's prediction, how many whole MCUs and how many blocks
+-- of the next one it has read, and whether it has met no block
+pub record ReaderValue : Type 0 where
+  pub run : RunOf
+  pub left : List Bool
+  pub predictions : List ℤ
+  pub mcu : ℕ
+  pub place : ℕ
+  pub stuck : Bool
+
+-- the blocks of an MCU
+abbrev pub per_mcu : ReaderValue → ℕ
+per_mcu r = length (order_of r.run.interval.head)
+
+abbrev pub blocks_read : ReaderValue → ℕ
+blocks_read r = r.mcu * per_mcu r + r.place
+
+abbrev pub blocks_left : ReaderValue → ℕ
+blocks_left r = r.run.mcus * per_mcu r - blocks_read r
+
+-- all MCUs are read, or no block follows
+abbrev pub HasEnded : ReaderValue → Type 0
+HasEnded r = (r.stuck ≡ true) ⊎ (r.mcu ≡ r.run.mcus)
+
+-- the bits are those of these blocks, and then what is left
+pub record Reads (h : HeadValue) (start : List ℤ) (all left : List Bool) (zs : List (List ℤ)) : Type 0 where
+  pub taken : List Bool
+  pub blocks : Blocks h start zs taken
+  pub split : all ≡ taken ++ left
+
+-- no further block follows
+abbrev pub HasNoNext : HeadValue → List ℤ → List (List ℤ) → List Bool → Type 0
+HasNoNext h start zs left =
+    let c = component h (length zs) in HasNoBlock (dc_of h c) (ac_of h c) (prediction h start zs c (length zs)) left
+
+-- the blocks that a reader has read so far
+pub record HasRead (r : ReaderValue) (zs : List (List ℤ)) : Type 0 where
+  pub left : List Bool
+  pub reads : Reads r.run.interval.head r.run.from.predictions (drop r.run.from.bit (bits r.run.interval.bytes)) left zs
+  pub count : length zs ≡ blocks_read r
+  pub last : (c : ℕ) → c < 3 → slice_index_or r.predictions c (pos 0) ≡ prediction r.run.interval.head r.run.from.predictions zs c (length zs)
+  pub going : r.stuck ≡ false → left ≡ r.left
+  pub stuck : r.stuck ≡ true → HasNoNext r.run.interval.head r.run.from.predictions zs left
+
+-- what each reader keeps
+pub record IsKept (r : ReaderValue) : Type 0 where
+  pub within : r.place < per_mcu r
+  pub few : blocks_read r ≤ r.run.mcus * per_mcu r
+  pub missing : r.stuck ≡ true → r.mcu < r.run.mcus
+  pub low : (c : ℕ) → c < 3 → negsuc 32767 ≤ℤ slice_index_or r.predictions c (pos 0)
+  pub high : (c : ℕ) → c < 3 → slice_index_or r.predictions c (pos 0) ≤ℤ pos 32767

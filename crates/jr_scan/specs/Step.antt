@@ -1,0 +1,76 @@
+-- What the readers of parts of a block promise.
+use Rattle.std.specs.Prelude.{◌≡◌, ℕ, Bool, List, [], ◌∷◌, ◌++◌, length, replicate, ℤ, pos}
+use Rattle.jr_code.specs.Bits.{value}
+use Rattle.jr_code.specs.Code.{Table, IsWord}
+use Rattle.jr_scan.specs.Block.{Item, IsItem, item_bits, entries, OthersAt, DifferenceAt, CodedAt, BlockAt}
+use Rattle.jr_scan.specs.declared.block.Step.{Step}
+use Rattle.jr_scan.specs.declared.block.Step.TheVariants.{End, Zeros, Coefficient}
+
+-- old is so many extra bits of that value, and then new
+pub record TakesExtra (size : ℕ) (v : ℤ) (old new : List Bool) : Type 0 where
+  pub bits : List Bool
+  pub split : old ≡ bits ++ new
+  pub count : length bits ≡ size
+  pub is : v ≡ value bits
+
+-- old is an item that gives these coefficients, and then new
+pub record TakesItem (ac : Table) (made : List ℤ) (old new : List Bool) : Type 0 where
+  pub item : Item
+  pub is : IsItem ac item
+  pub gives : entries item ≡ made
+  pub split : old ≡ item_bits item ++ new
+
+-- old is a word of 00, and then new
+pub record TakesEnd (ac : Table) (old new : List Bool) : Type 0 where
+  pub word : List Bool
+  pub is : IsWord ac word 0
+  pub split : old ≡ word ++ new
+
+abbrev pub TakesStep : Table → Step → List Bool → List Bool → Type 0
+TakesStep ac End old new = TakesEnd ac old new
+TakesStep ac Zeros old new = TakesItem ac (replicate 16 (pos 0)) old new
+TakesStep ac (Coefficient run v) old new = TakesItem ac (replicate run (pos 0) ++ v ∷ []) old new
+
+-- no item and no end of a block begins these bits
+pub record HasNoStep (ac : Table) (bits : List Bool) : Type 0 where
+  pub no_end : (word rest : List Bool) → IsWord ac word 0 → bits ≡ word ++ rest → ⊥
+  pub no_item : (item : Item) (rest : List Bool) → IsItem ac item → bits ≡ item_bits item ++ rest → ⊥
+
+pub record TakesDifference (dc : Table) (difference : ℤ) (old new : List Bool) : Type 0 where
+  pub bits : List Bool
+  pub is : DifferenceAt dc difference bits
+  pub split : old ≡ bits ++ new
+
+abbrev pub HasNoDifference : Table → List Bool → Type 0
+HasNoDifference dc old = (difference : ℤ) (bits rest : List Bool) → DifferenceAt dc difference bits → old ≡ bits ++ rest → ⊥
+
+pub record TakesOthers (ac : Table) (others : List ℤ) (old new : List Bool) : Type 0 where
+  pub bits : List Bool
+  pub is : OthersAt ac others bits
+  pub split : old ≡ bits ++ new
+
+abbrev pub HasNoOthers : Table → List Bool → Type 0
+HasNoOthers ac old = (others : List ℤ) (bits rest : List Bool) → OthersAt ac others bits → old ≡ bits ++ rest → ⊥
+
+-- old is the bits of a block whose first place holds the difference, and then new
+pub record TakesCoded (dc ac : Table) (z : List ℤ) (old new : List Bool) : Type 0 where
+  pub difference : ℤ
+  pub others : List ℤ
+  pub bits : List Bool
+  pub is : CodedAt dc ac difference others bits
+  pub split : old ≡ bits ++ new
+  pub values : z ≡ difference ∷ others
+
+-- no block begins these bits
+abbrev pub HasNoCoded : Table → Table → List Bool → Type 0
+HasNoCoded dc ac old = (difference : ℤ) (others : List ℤ) (bits rest : List Bool) → CodedAt dc ac difference others bits → old ≡ bits ++ rest → ⊥
+
+-- old is a block's bits, where its first coefficient is predicted to be p, and then new
+pub record TakesBlock (dc ac : Table) (p : ℤ) (z : List ℤ) (old new : List Bool) : Type 0 where
+  pub bits : List Bool
+  pub is : BlockAt dc ac p z bits
+  pub split : old ≡ bits ++ new
+
+-- no block with this prediction begins these bits
+abbrev pub HasNoBlock : Table → Table → ℤ → List Bool → Type 0
+HasNoBlock dc ac p old = (z : List ℤ) (bits rest : List Bool) → BlockAt dc ac p z bits → old ≡ bits ++ rest → ⊥

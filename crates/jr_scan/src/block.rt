@@ -1,0 +1,133 @@
+//! The bits of one block.
+
+ghost use Rattle.std.specs.Prelude.{◌≡◌, ℕ, ◌<◌, ◌≤◌, ◌^◌, ℤ, pos, negsuc, ◌≤ℤ◌, ◌∷◌, List, length, IfSome, IfNone};
+ghost use Rattle.jr_code.specs.Bits.{extended};
+ghost use Rattle.jr_scan.specs.Step.{TakesExtra, TakesStep, HasNoStep, TakesDifference, HasNoDifference, TakesOthers, HasNoOthers, TakesCoded, HasNoCoded};
+
+use jr_code::{Bits, CodeBook, one_word};
+
+/// The coefficients of a block, in zigzag order.
+pub type Block = [i32; 64];
+
+/// What comes next behind the first coefficient of a block.
+#[derive(Clone, Copy, Debug, PartialEq, Eq)]
+enum Step {
+    /// The rest of the block is 0.
+    End,
+    /// Sixteen zeros.
+    Zeros,
+    /// A run of zeros and a coefficient.
+    Coefficient(u8, i32),
+}
+
+/// The value that so many extra bits of this number stand for (T.81, F.2.2.1, EXTEND).
+fn extend(size: u32, v: u16) -> i32
+    requires small { size ≤ 11 }
+    requires fits { v < 2 ^ size }
+    ensures is { result ≡ extended size v }
+    ensures low { negsuc 2047 ≤ℤ result }
+    ensures high { result ≤ℤ pos 2047 }
+{
+    if size == 0 {
+        return 0;
+    }
+    let half: i32 = 1 << (size - 1);
+    let v = v as i32;
+    if v >= half { v } else { v - 2 * half + 1 }
+}
+
+/// Takes so many extra bits and gives the value that they stand for.
+fn read_extra(bits: &mut Bits<'_>, size: u32) -> Option<i32>
+    requires { size ≤ 11 }
+    ensures some { IfSome result (λ v. TakesExtra size v bits.old bits.new) }
+    ensures low { IfSome result (λ v. negsuc 2047 ≤ℤ v) }
+    ensures high { IfSome result (λ v. v ≤ℤ pos 2047) }
+    ensures none { IfNone result (length bits.old < size) }
+{
+    let v = bits.take(size)?;
+    Some(extend(size, v))
+}
+
+fn read_step(ac: &CodeBook, bits: &mut Bits<'_>) -> Option<Step>
+    ensures some { IfSome result (λ step. TakesStep ac.now step bits.old bits.new) }
+    ensures none { IfNone result (HasNoStep ac.now bits.old) }
+{
+    one_word();
+    let symbol = ac.read(bits)?;
+    let run = symbol / 16;
+    let size = u32::from(symbol % 16);
+    if symbol == 0 {
+        return Some(Step::End);
+    }
+    if symbol == 0xF0 {
+        return Some(Step::Zeros);
+    }
+    if size == 0 || size > 10 {
+        return None;
+    }
+    let v = read_extra(bits, size)?;
+    Some(Step::Coefficient(run, v))
+}
+
+/// Takes the first coefficient's difference to its prediction.
+fn read_difference(dc: &CodeBook, bits: &mut Bits<'_>) -> Option<i32>
+    ensures some { IfSome result (λ d. TakesDifference dc.now d bits.old bits.new) }
+    ensures low { IfSome result (λ v. negsuc 2047 ≤ℤ v) }
+    ensures high { IfSome result (λ v. v ≤ℤ pos 2047) }
+    ensures none { IfNone result (HasNoDifference dc.now bits.old) }
+{
+    one_word();
+    let size = u32::from(dc.read(bits)?);
+    if size > 11 {
+        return None;
+    }
+    read_extra(bits, size)
+}
+
+/// Takes the coefficients behind the first into a block.
+fn read_others(ac: &CodeBook, bits: &mut Bits<'_>, first: i32, block: &mut Block) -> Option<()>
+    ensures some { IfSome result (λ _. (others : List ℤ) × (block.new ≡ first ∷ others) × TakesOthers ac.now others bits.old bits.new) }
+    ensures none { IfNone result (HasNoOthers ac.now bits.old) }
+{
+    one_word();
+    *block = [0; 64];
+    block[0] = first;
+    let mut place: usize = 1;
+    'steps: loop {
+        match read_step(ac, bits)? {
+            Step::End => return Some(()),
+            Step::Zeros => {
+                if place + 16 > 64 {
+                    return None;
+                }
+                place += 16;
+            }
+            Step::Coefficient(run, v) => {
+                let at = place + usize::from(run);
+                if at > 63 {
+                    return None;
+                }
+                block[at] = v;
+                place = at + 1;
+            }
+        }
+        if place == 64 {
+            return Some(());
+        }
+    }
+}
+
+/// Takes a block into the caller's array, the difference of its first coefficient in place 0.
+pub(crate) fn read_block(
+    dc: &CodeBook,
+    ac: &CodeBook,
+    bits: &mut Bits<'_>,
+    block: &mut Block,
+) -> Option<()>
+    ensures some { IfSome result (λ _. TakesCoded dc.now ac.now block.new bits.old bits.new) }
+    ensures none { IfNone result (HasNoCoded dc.now ac.now bits.old) }
+{
+    one_word();
+    let difference = read_difference(dc, bits)?;
+    read_others(ac, bits, difference, block)
+}

@@ -1,0 +1,55 @@
+//! The longest decodable front of an interval.
+
+ghost use Rattle.std.specs.Prelude.{◌≡◌};
+
+use crate::block::Block;
+use std::marker::Model;
+
+/// The blocks of the whole MCUs that an interval's bits begin with.
+#[derive(Drop)]
+pub struct FrontBlocks {
+    mcus: u32,
+    blocks: Vec<Block>,
+    is_sound: bool,
+}
+
+impl Model for FrontBlocks {
+    ghost use Rattle.jr_scan.specs.FrontValue.{FrontValue};
+
+    ghost Value = { FrontValue };
+
+    ghost view = { λ f. record { mcus = f.mcus; blocks = f.blocks.items; is_sound = f.is_sound } };
+}
+
+impl FrontBlocks {
+    pub(crate) fn of(mcus: u32, blocks: Vec<Block>, is_sound: bool) -> FrontBlocks
+        ensures { result ≡ record { mcus = mcus; blocks = blocks.items; is_sound = is_sound } }
+    {
+        FrontBlocks {
+            mcus,
+            blocks,
+            is_sound,
+        }
+    }
+
+    /// How many whole MCUs there are.
+    pub fn mcus(&self) -> u32
+        ensures { result ≡ self.now.mcus }
+    {
+        self.mcus
+    }
+
+    /// Their blocks, in order.
+    pub fn blocks(&self) -> &[Block]
+        ensures { result.now ≡ self.now.blocks }
+    {
+        self.blocks.as_slice()
+    }
+
+    /// Whether they are all of the interval, and fewer than eight bits are left behind them.
+    pub fn is_sound(&self) -> bool
+        ensures { result ≡ self.now.is_sound }
+    {
+        self.is_sound
+    }
+}

@@ -1,0 +1,115 @@
+//! An interval of a scan.
+
+ghost use Rattle.std.specs.Prelude.{◌≡◌, ◌↔◌, ◌<◌, ◌≤◌, ◌^◌, ℕ, ℤ, List, length, IsTrue, IfOk, IfSome, IfNone};
+
+use crate::block::Block;
+use crate::front::FrontBlocks;
+use crate::reader::BlockReader;
+use jr_code::{Memory, one_word};
+use jr_head::Head;
+use std::alloc::Global;
+use std::marker::Model;
+use std::sync::Arc;
+
+/// A restart interval of a scan: so many MCUs, and the bytes that code them without stuffing.
+#[derive(Drop)]
+pub struct Interval {
+    head: Arc<Head>,
+    unstuffed: Arc<Vec<u8>>,
+    start: usize,
+    end: usize,
+    number: u32,
+    mcus: u32,
+}
+
+impl Model for Interval {
+    ghost use Rattle.jr_scan.specs.IntervalValue.{IntervalValue};
+
+    ghost Value = { IntervalValue };
+
+    ghost use Rattle.std.specs.Prelude.{◌<◌, ◌≤◌, ◌^◌, length, slice_range};
+    ghost use Rattle.std.specs.Arc.{arc_value};
+
+    ghost view = { λ i. record { number = i.number; mcus = i.mcus; bytes = slice_range (arc_value i.unstuffed).items i.start i.end; head = arc_value i.head } };
+
+    ghost invariant = { λ i. (i.start ≤ i.end) × (i.end ≤ length (arc_value i.unstuffed).items) × (length (arc_value i.unstuffed).items < 2 ^ 61) };
+}
+
+impl Interval {
+    ghost use Rattle.jr_scan.specs.Units.{Decodes, LongestFront};
+    ghost use Rattle.jr_scan.specs.Reader.{HasRead, HasEnded, whole_run};
+
+    /// The interval's number in its scan, from 0 on.
+    pub fn number(&self) -> u32
+        ensures { result ≡ self.now.number }
+    {
+        self.number
+    }
+
+    /// How many MCUs the interval codes.
+    pub fn mcus(&self) -> u32
+        ensures { result ≡ self.now.mcus }
+    {
+        self.mcus
+    }
+
+    /// The interval's data, without stuffing.
+    pub fn bytes(&self) -> &[u8]
+        ensures bytes { result.now ≡ self.now.bytes }
+        ensures few { length result.now < 2 ^ 61 }
+    {
+        &self.unstuffed[self.start..self.end]
+    }
+
+    /// The head that the interval is read by.
+    pub fn head(&self) -> &Head
+        ensures { result.now ≡ self.now.head }
+    {
+        &self.head
+    }
+
+    /// The blocks of the interval's one decoding, or that it has none.
+    pub fn read(&self, alloc: Global) -> Result<Option<Vec<Block>>, Memory>
+        ensures some { IfOk result (λ answer. IfSome answer (λ v. Decodes self.now v.items)) }
+        ensures only { IfOk result (λ answer. IfSome answer (λ v. (ys : List (List ℤ)) → Decodes self.now ys → ys ≡ v.items)) }
+        ensures none { IfOk result (λ answer. IfNone answer ((ys : List (List ℤ)) → Decodes self.now ys → ⊥)) }
+    {
+        one_word();
+        let (blocks, reader) = self.read_blocks(alloc)?;
+        if reader.is_sound() {
+            Ok(Some(blocks))
+        } else {
+            Ok(None)
+        }
+    }
+
+    /// The blocks of the greatest number of whole MCUs that the interval's bits begin with.
+    pub fn read_front(&self, alloc: Global) -> Result<FrontBlocks, Memory>
+        ensures front { IfOk result (λ f. LongestFront self.now f.mcus f.blocks) }
+        ensures sound { IfOk result (λ f. IsTrue f.is_sound ↔ Decodes self.now f.blocks) }
+        ensures damaged { IfOk result (λ f. (ys : List (List ℤ)) → Decodes self.now ys → ys ≡ f.blocks) }
+    {
+        one_word();
+        let (mut blocks, reader) = self.read_blocks(alloc)?;
+        let mcus = reader.mcus();
+        blocks.truncate(mcus as usize * self.head().order().len());
+        Ok(FrontBlocks::of(mcus, blocks, reader.is_sound()))
+    }
+
+    /// All blocks up to the end, or up to where none follows.
+    fn read_blocks(&self, alloc: Global) -> Result<(Vec<Block>, BlockReader<'_>), Memory>
+        ensures run { IfOk result (λ r. r.1.run ≡ whole_run self.now) }
+        ensures read { IfOk result (λ r. HasRead r.1 r.0.items) }
+        ensures ended { IfOk result (λ r. HasEnded r.1) }
+    {
+        let mut reader = BlockReader::over(self);
+        let mut blocks = Vec::new(alloc);
+        let mut block = [0; 64];
+        'blocks: loop {
+            if reader.next(&mut block).is_none() {
+                return Ok((blocks, reader));
+            }
+            blocks.push(block)?;
+        }
+    }
+}

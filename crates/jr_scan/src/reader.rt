@@ -1,0 +1,162 @@
+//! The blocks of an interval, one at a time.
+
+ghost use Rattle.std.specs.Prelude.{◌≡◌, ◌<◌, ◌≤◌, ◌+◌, ℕ, length, ℤ, pos, negsuc, ◌≤ℤ◌, List, [], ◌∷◌, ◌++◌, take, ◌*◌, true, false, IsTrue, IfSome, IfNone, OnSome, slice_index_or};
+ghost use Rattle.jr_scan.specs.Block.{IsInRange};
+ghost use Rattle.jr_scan.specs.Step.{TakesBlock, HasNoBlock};
+
+use crate::block::{Block, read_block};
+use crate::interval::Interval;
+use crate::place::Place;
+use jr_code::{Bits, CodeBook, one_word};
+use std::marker::Model;
+
+/// Takes a block, the prediction added to its first coefficient, which it gives.
+fn read_predicted(
+    dc: &CodeBook,
+    ac: &CodeBook,
+    bits: &mut Bits<'_>,
+    prediction: i32,
+    block: &mut Block,
+) -> Option<i32>
+    requires low { negsuc 32767 ≤ℤ prediction }
+    requires high { prediction ≤ℤ pos 32767 }
+    ensures some { OnSome result (TakesBlock dc.now ac.now prediction block.new bits.old bits.new) }
+    ensures first { IfSome result (λ first. first ≡ slice_index_or block.new 0 (pos 0)) }
+    ensures none { IfNone result (HasNoBlock dc.now ac.now prediction bits.old) }
+{
+    one_word();
+    read_block(dc, ac, bits, block)?;
+    let first = prediction + block[0];
+    if first < -32768 || first > 32767 {
+        return None;
+    }
+    block[0] = first;
+    Some(first)
+}
+
+/// The number of whole MCUs and the place in the next one, behind one more block.
+fn following(mcu: u32, place: usize, blocks: usize, mcus: u32) -> (u32, usize)
+    requires within { place < blocks }
+    requires room { mcu < mcus }
+    ensures within { result.1 < blocks }
+    ensures next { result.0 * blocks + result.1 ≡ mcu * blocks + place + 1 }
+    ensures few { result.0 * blocks + result.1 ≤ mcus * blocks }
+{
+    if place + 1 == blocks {
+        (mcu + 1, 0)
+    } else {
+        (mcu, place + 1)
+    }
+}
+
+/// Reads the blocks of a run of MCUs one after the other.
+#[derive(Drop)]
+pub struct BlockReader<'a> {
+    interval: &'a Interval,
+    order: &'a [u8],
+    from: Place,
+    mcus: u32,
+    bits: Bits<'a>,
+    predictions: [i32; 3],
+    mcu: u32,
+    place: usize,
+    is_stuck: bool,
+}
+
+impl<'a> Model for BlockReader<'a> {
+    ghost use Rattle.std.specs.Prelude.{◌≡◌, ◌<◌};
+    ghost use Rattle.std.specs.List.{All};
+    ghost use Rattle.jr_head.specs.Geometry.{components_of, order_of};
+    ghost use Rattle.jr_scan.specs.Reader.{ReaderValue, IsKept};
+
+    ghost Value = { ReaderValue };
+
+    ghost view = { λ r. record { run = record { interval = r.interval.now; from = r.from; mcus = r.mcus }; left = r.bits; predictions = r.predictions; mcu = r.mcu; place = r.place; stuck = r.is_stuck } };
+
+    ghost invariant = { λ r. IsKept (record { run = record { interval = r.interval.now; from = r.from; mcus = r.mcus }; left = r.bits; predictions = r.predictions; mcu = r.mcu; place = r.place; stuck = r.is_stuck }) × (r.order.now ≡ order_of r.interval.now.head) × All (λ c. c < components_of r.interval.now.head) r.order.now };
+}
+
+impl<'a> BlockReader<'a> {
+    ghost use Rattle.jr_head.specs.Geometry.{components_of, order_of};
+    ghost use Rattle.jr_scan.specs.Units.{component, Decodes, LongestFront};
+    ghost use Rattle.jr_scan.specs.IntervalValue.{IntervalValue};
+    ghost use Rattle.jr_scan.specs.Reader.{HasRead, HasEnded, whole_run, blocks_left, blocks_read, per_mcu};
+
+    /// A reader of all blocks of an interval.
+    pub fn over(interval: &'a Interval) -> BlockReader<'a>
+        ensures run { result.run ≡ whole_run interval.now }
+        ensures read { HasRead result [] }
+    {
+        BlockReader {
+            interval,
+            order: interval.head().order(),
+            from: Place {
+                bit: 0,
+                predictions: [0; 3],
+            },
+            mcus: interval.mcus(),
+            bits: Bits::over(interval.bytes()),
+            predictions: [0; 3],
+            mcu: 0,
+            place: 0,
+            is_stuck: false,
+        }
+    }
+
+    /// Reads the next block and tells its component. None where all MCUs are read or no block follows; the array then
+    /// holds nothing of meaning.
+    pub fn next(&mut self, block: &mut Block) -> Option<u32>
+        ensures run { self.new.run ≡ self.old.run }
+        ensures read { OnSome result ((zs : List (List ℤ)) → HasRead self.old zs → HasRead self.new (zs ++ block.new ∷ [])) }
+        ensures component { IfSome result (λ c. c ≡ component self.old.run.interval.head (blocks_read self.old)) }
+        ensures within { IfSome result (λ c. c < components_of self.old.run.interval.head) }
+        ensures in_range { OnSome result (IsInRange block.new) }
+        ensures fewer { OnSome result (blocks_left self.new < blocks_left self.old) }
+        ensures ended { IfNone result (HasEnded self.new) }
+        ensures kept { IfNone result ((zs : List (List ℤ)) → HasRead self.old zs → HasRead self.new zs) }
+    {
+        if self.is_stuck || self.mcu == self.mcus {
+            return None;
+        }
+        let head = self.interval.head();
+        head.be_lawful();
+        let c = self.order[self.place];
+        let dc = head.dc_book(u32::from(c));
+        let ac = head.ac_book(u32::from(c));
+        let prediction = self.predictions[c as usize];
+        let Some(first) = read_predicted(dc, ac, &mut self.bits, prediction, block) else {
+            self.is_stuck = true;
+            return None;
+        };
+        let (mcu, place) = following(self.mcu, self.place, self.order.len(), self.mcus);
+        self.predictions[c as usize] = first;
+        self.mcu = mcu;
+        self.place = place;
+        Some(u32::from(c))
+    }
+
+    /// How many whole MCUs are read.
+    pub fn mcus(&self) -> u32
+        ensures value { result ≡ self.now.mcu }
+        ensures front { (i : IntervalValue) (zs : List (List ℤ)) → self.now.run ≡ whole_run i → HasRead self.now zs → HasEnded self.now → LongestFront i result (take (result * per_mcu self.now) zs) }
+    {
+        one_word();
+        self.mcu
+    }
+
+    /// How many bits are left behind the last block. Where no block followed it says nothing.
+    pub fn left(&self) -> u64
+        ensures { result ≡ length self.now.left }
+    {
+        self.bits.left()
+    }
+
+    /// Whether all blocks are read and fewer than eight bits are left.
+    pub fn is_sound(&self) -> bool
+        ensures sound { IsTrue result → (i : IntervalValue) (zs : List (List ℤ)) → self.now.run ≡ whole_run i → HasRead self.now zs → Decodes i zs }
+        ensures damaged { result ≡ false → (i : IntervalValue) (zs ys : List (List ℤ)) → self.now.run ≡ whole_run i → HasRead self.now zs → HasEnded self.now → Decodes i ys → ⊥ }
+    {
+        one_word();
+        self.mcu == self.mcus && self.bits.left() < 8
+    }
+}
