@@ -77,6 +77,6 @@ pub flat_is : (z : List ℤ) (q : List ℕ) → ((k : ℕ) → 0 < k → k < 64 
 flat_is z q zeros r c h g =
     let v : ℕ → ℤ = product_at z q in
     let zs : (k : ℕ) → 0 < k → k < 64 → v k ≡ pos 0 =
-        λ k p b. ap (λ x. x *ℤ pos (slice_index q (place_of k))) (zeros (place_of k) (place_positive k p b) (place_below k b)) ∙ nothing (slice_index q (place_of k)) in
+    λ k p b. ap (λ x. x *ℤ pos (slice_index q (place_of k))) (zeros (place_of k) (place_positive k p b) (place_below k b)) ∙ nothing (slice_index q (place_of k)) in
     let top : v 0 ≡ at z 0 *ℤ pos (slice_index q 0) = ap (λ n. at z n *ℤ pos (slice_index q n)) place_of_0 in
     sym (ap (λ x. byte_of (x +ℤ pos 128)) (flat v zs r c h g ∙ ap (λ x. shr_z (x +ℤ pos 4) 8) top))

@@ -11,11 +11,10 @@ mod laws;
 mod matrix;
 mod narrow;
 mod rounding;
-mod wide;
-mod zigzag;
-
 #[cfg(test)]
 mod tests;
+mod wide;
+mod zigzag;
 
 pub use block::transform;
 pub use butterfly::{even, odd};
