@@ -1,5 +1,5 @@
 -- What the numbers of the butterflies come to, and that each fits 64 bits.
-use Rattle.std.proofs.Common.{arith, ◌≡◌, ℕ, zero, suc, ◌^◌, ◌<◌, pos, neg_ℤ, ◌+ℤ◌, ◌≤ℤ◌, ℤ, ◌-ℤ◌, w64, FitsSigned, List, [], ◌∷◌}
+use Rattle.std.proofs.Common.{arith, ◌≡◌, ℕ, zero, suc, ◌^◌, ◌<◌, pos, ◌+ℤ◌, ℤ, ◌-ℤ◌, w64, FitsSigned, List, [], ◌∷◌}
 use Rattle.std.proofs.Math.IntN.{◌*ℤ◌}
 use Rattle.std.proofs.lemmas.Int.{ints}
 use Rattle.jr_idct.specs.Matrix.{IsWithin, at, even_sum, odd_sum}

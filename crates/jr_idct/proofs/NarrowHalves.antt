@@ -1,5 +1,5 @@
 -- The numbers of the butterflies fit 32 bits where those that come in are from -34971 to 34971.
-use Rattle.std.proofs.Common.{arith, ◌≡◌, ℕ, ◌*◌, ◌^◌, ◌<◌, pos, neg_ℤ, ◌+ℤ◌, ◌≤ℤ◌, ℤ, ◌-ℤ◌, w32, FitsSigned, List}
+use Rattle.std.proofs.Common.{arith, ℕ, ◌*◌, ◌<◌, pos, ◌+ℤ◌, ℤ, ◌-ℤ◌, w32, FitsSigned, List}
 use Rattle.std.proofs.Math.IntN.{◌*ℤ◌}
 use Rattle.std.proofs.lemmas.Int.{ints}
 use Rattle.jr_idct.specs.Matrix.{IsWithin, at, even_sum, odd_sum}

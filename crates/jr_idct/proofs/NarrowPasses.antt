@@ -1,6 +1,5 @@
 -- What the two passes come to in 32 bits, where the products are from -1170 to 1170.
 use Rattle.std.proofs.Common.{to_z, of_z, arith, ◌≡◌, ℕ, ◌+◌, ◌-◌, ◌*◌, ◌/◌, ◌%◌, ◌^◌, ◌<◌, lit<, pos, negsuc, neg_ℤ, ◌+ℤ◌, ◌≤ℤ◌, ℤ, ◌-ℤ◌, w32, FitsSigned, List, ap, ◌∙◌}
-use Rattle.std.proofs.Math.IntN.{◌*ℤ◌}
 use Rattle.std.proofs.lemmas.Int.{ints, to_z-of_z}
 use Rattle.std.proofs.Math.Nat.{div-le_self}
 use Rattle.std.specs.Int.Signed.{shr_z}

@@ -1,5 +1,5 @@
 -- The zigzag tables.
-use Rattle.std.proofs.Common.{◌≡◌, ℕ, ◌<◌, ◌-◌, get_or, true, false, refl, arith, nat_lt, Bool, cond}
+use Rattle.std.proofs.Common.{◌≡◌, ℕ, ◌<◌, ◌-◌, get_or, true, false, refl, arith, nat_lt}
 use Rattle.std.proofs.lemmas.List.Folds.{list_all_at}
 use Rattle.std.proofs.lemmas.Bool.{cases_lt}
 use Rattle.std.proofs.Common.{inl, inr}
@@ -8,7 +8,7 @@ use Rattle.jr_idct.specs.Matrix.{IsWithin}
 use Rattle.jr_idct.specs.Transform.{places, place_of}
 use Rattle.std.specs.List.{list_all, range_with_len}
 use Rattle.std.proofs.lemmas.List.FromFn.{get_or-range_with_len}
-use Rattle.std.specs.Prelude.{slice_index, length, ◌*◌, ◌^◌, ℤ, pos, FitsSigned}
+use Rattle.std.specs.Prelude.{slice_index, ◌^◌, ℤ, pos, FitsSigned}
 use Rattle.std.proofs.Common.{w32, w64, to_z, of_z, lit<, ◌∙◌}
 use Rattle.std.proofs.Math.IntN.{◌*ℤ◌}
 use Rattle.std.proofs.lemmas.Int.{ints, to_z-of_z, fits_signed_mul}

@@ -1,5 +1,5 @@
 -- The range of each entry of an array, for tests.
-use Rattle.std.proofs.Common.{arith, ◌≡◌, ℕ, zero, suc, ◌<◌, pos, ℤ, List, [], ◌∷◌, set, replicate}
+use Rattle.std.proofs.Common.{arith, ℕ, zero, suc, ℤ, List, [], ◌∷◌, set, replicate}
 use Rattle.std.proofs.lemmas.Int.{ints}
 use Rattle.jr_idct.specs.Matrix.{IsWithin, at}
 

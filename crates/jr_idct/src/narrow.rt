@@ -115,8 +115,8 @@ fn one_pass(v: &[i32; 8], bits: u32) -> [i32; 8]
 }
 
 // The pass over each column, whose results are the rows of the answer. Columns stand side by side and no
-// step depends on what they hold, so that it is done by vectors.
-#[inline]
+// step depends on what they hold, so that it is done by vectors, in each of its two places.
+#[inline(always)]
 fn passes(table: &[i32; 64], bits: u32) -> [i32; 64]
     requires positive { 0 < bits }
     requires few { bits < 19 }

@@ -1,6 +1,6 @@
-use Rattle.std.proofs.Common.{arith, ℕ, ◌≡◌, ◌+◌, ◌*◌, ◌<◌, ◌∙◌, ap, pos, ◌+ℤ◌, slice_index}
+use Rattle.std.proofs.Common.{arith, ℕ, ◌+◌, ◌*◌, ◌∙◌, ap, pos, ◌+ℤ◌, slice_index}
 use Rattle.jr_idct.specs.Matrix.{at, floor_div}
-use Rattle.jr_idct.specs.Transform.{byte_of, product_at, sample, place_of}
+use Rattle.jr_idct.specs.Transform.{byte_of, product_at, place_of}
 use Rattle.jr_idct.proofs.Flat.{flat_is}
 use Rattle.jr_idct.proofs.Tables.{narrow_product_stored, place_below}
 use Rattle.jr_idct.proofs.Whole.{sample_same, whole_from}

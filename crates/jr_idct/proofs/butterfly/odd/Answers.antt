@@ -1,6 +1,6 @@
-use Rattle.std.proofs.Common.{arith, ◌≡◌, ℕ, ◌<◌, ◌^◌, subst, sym, ℤ}
+use Rattle.std.proofs.Common.{arith}
 use Rattle.std.proofs.lemmas.Int.{to_z-of_z}
-use Rattle.jr_idct.specs.Matrix.{at, IsWithin}
+use Rattle.jr_idct.specs.Matrix.{at}
 use Rattle.jr_idct.proofs.Halves.{odd_small, odd_fits, below_four, odd_sum_0, odd_sum_1, odd_sum_2, odd_sum_3}
 use Rattle.jr_idct.proofs.butterfly.odd.Goals as goal
 

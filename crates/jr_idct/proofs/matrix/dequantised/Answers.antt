@@ -1,4 +1,4 @@
-use Rattle.std.proofs.Common.{arith, rules, ◌<◌, length, ◌≡◌, pos, w32, FitsSigned}
+use Rattle.std.proofs.Common.{arith, rules, ◌<◌, length, pos, w32, FitsSigned}
 use Rattle.std.proofs.Math.ListN.{length-set}
 use Rattle.std.proofs.lemmas.List.Edits.{fill_by_more}
 use Rattle.jr_idct.specs.Matrix.{at}

@@ -1,8 +1,8 @@
-use Rattle.std.proofs.Common.{arith, rules, ◌≡◌, ◌<◌, ◌^◌, length, pos, lit<, w64, FitsSigned, ◌∙◌, ap}
+use Rattle.std.proofs.Common.{arith, rules, ◌<◌, ◌^◌, length, pos, lit<, w64, FitsSigned, ◌∙◌, ap}
 use Rattle.std.proofs.Math.ListN.{length-set}
 use Rattle.std.proofs.lemmas.Int.{ints, to_z-of_z}
 use Rattle.std.proofs.lemmas.List.Edits.{fill_by_more}
-use Rattle.jr_idct.specs.Matrix.{at, pass, descale, row_sum}
+use Rattle.jr_idct.specs.Matrix.{at, pass, descale}
 use Rattle.jr_idct.proofs.Passes.{fits_within, pass_of}
 use Rattle.jr_idct.proofs.matrix.plain_pass.Goals as goal
 

@@ -1,4 +1,4 @@
-use Rattle.std.proofs.Common.{arith, ◌^◌, lit<, w64}
+use Rattle.std.proofs.Common.{◌^◌, lit<, w64}
 use Rattle.std.proofs.lemmas.Int.{to_z-of_z}
 use Rattle.jr_idct.specs.Matrix.{weight}
 use Rattle.jr_idct.proofs.Passes.{fits_within}

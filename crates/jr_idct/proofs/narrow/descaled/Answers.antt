@@ -1,4 +1,4 @@
-use Rattle.std.proofs.Common.{arith, rules, ◌≡◌, ◌-◌, ◌*◌, ◌%◌, ◌^◌, ◌≤◌, pos, ◌+ℤ◌, w32, FitsSigned, to_z, of_z}
+use Rattle.std.proofs.Common.{arith, ◌≡◌, ◌-◌, ◌*◌, ◌%◌, ◌^◌, ◌≤◌, pos, ◌+ℤ◌, w32, FitsSigned, to_z}
 use Rattle.std.proofs.lemmas.Int.{ints, to_z-of_z}
 use Rattle.std.proofs.Math.Pow.{pow_mono}
 use Rattle.jr_idct.proofs.NarrowPasses.{shr_fits}

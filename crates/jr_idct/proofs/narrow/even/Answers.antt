@@ -1,6 +1,6 @@
-use Rattle.std.proofs.Common.{arith, ◌≡◌, ℕ, ◌<◌, ◌^◌, subst, sym, ℤ}
-use Rattle.std.proofs.lemmas.Int.{ints, to_z-of_z}
-use Rattle.jr_idct.specs.Matrix.{at, IsWithin}
+use Rattle.std.proofs.Common.{arith}
+use Rattle.std.proofs.lemmas.Int.{to_z-of_z}
+use Rattle.jr_idct.specs.Matrix.{at}
 use Rattle.jr_idct.proofs.NarrowHalves.{narrow_even_small, narrow_even_fits}
 use Rattle.jr_idct.proofs.Halves.{below_four, even_sum_0, even_sum_1, even_sum_2, even_sum_3}
 use Rattle.jr_idct.proofs.narrow.even.Goals as goal

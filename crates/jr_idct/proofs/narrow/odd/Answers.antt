@@ -1,6 +1,6 @@
-use Rattle.std.proofs.Common.{arith, ◌≡◌, ℕ, ◌<◌, ◌^◌, subst, sym, ℤ}
+use Rattle.std.proofs.Common.{arith}
 use Rattle.std.proofs.lemmas.Int.{to_z-of_z}
-use Rattle.jr_idct.specs.Matrix.{at, IsWithin}
+use Rattle.jr_idct.specs.Matrix.{at}
 use Rattle.jr_idct.proofs.NarrowHalves.{narrow_odd_small, narrow_odd_fits}
 use Rattle.jr_idct.proofs.Halves.{below_four, odd_sum_0, odd_sum_1, odd_sum_2, odd_sum_3}
 use Rattle.jr_idct.proofs.narrow.odd.Goals as goal

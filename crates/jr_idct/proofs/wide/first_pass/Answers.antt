@@ -1,4 +1,4 @@
-use Rattle.std.proofs.Common.{arith, ◌^◌, lit<, pos, w64, FitsSigned, ◌∙◌, sym}
+use Rattle.std.proofs.Common.{arith, ◌^◌, lit<, pos, w64, FitsSigned, sym}
 use Rattle.std.proofs.Math.IntN.{◌*ℤ◌}
 use Rattle.std.proofs.lemmas.Int.{ints, to_z-of_z}
 use Rattle.jr_idct.specs.Matrix.{at}

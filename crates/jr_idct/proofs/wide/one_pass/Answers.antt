@@ -1,6 +1,6 @@
 use Rattle.std.proofs.Common.{arith, rules, ◌^◌, lit<, ◌+ℤ◌, ◌-ℤ◌, w64, FitsSigned}
-use Rattle.std.proofs.lemmas.Int.{ints, to_z-of_z}
-use Rattle.jr_idct.specs.Matrix.{at, row_sum}
+use Rattle.std.proofs.lemmas.Int.{to_z-of_z}
+use Rattle.jr_idct.specs.Matrix.{at}
 use Rattle.jr_idct.proofs.Passes.{fits_within, below_eight, pass_of, row_0, row_1, row_2, row_3, row_4, row_5, row_6, row_7}
 use Rattle.jr_idct.proofs.wide.one_pass.Goals as goal
 

@@ -1,6 +1,6 @@
-use Rattle.std.proofs.Common.{arith, rules, ℕ, ◌≡◌, ◌<◌, ◌+◌, ◌*◌, ◌^◌, lit<, ◌∙◌, w32, w64, FitsSigned, ℤ, List}
-use Rattle.std.proofs.lemmas.Int.{ints, to_z-of_z}
-use Rattle.jr_idct.specs.Matrix.{at, IsWithin, transposed}
+use Rattle.std.proofs.Common.{arith, ◌+◌, ◌*◌, ◌^◌, lit<, ◌∙◌, w64}
+use Rattle.std.proofs.lemmas.Int.{to_z-of_z}
+use Rattle.jr_idct.specs.Matrix.{at}
 use Rattle.jr_idct.proofs.Passes.{fits_within}
 use Rattle.jr_idct.proofs.Whole.{products_mid, table_small, columns_small, values_small, sample_at}
 use Rattle.jr_idct.proofs.wide.wide_samples.Goals as goal

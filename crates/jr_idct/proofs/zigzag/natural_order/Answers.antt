@@ -1,4 +1,4 @@
-use Rattle.std.proofs.Common.{◌*◌, ◌∙◌, lit<, pos, w32, FitsSigned, to_z, of_z}
+use Rattle.std.proofs.Common.{◌*◌, ◌∙◌, lit<, pos, w32, to_z, of_z}
 use Rattle.std.proofs.lemmas.Int.{to_z-of_z}
 use Rattle.std.proofs.lemmas.List.{get_or-map}
 use Rattle.jr_idct.specs.Matrix.{at}
