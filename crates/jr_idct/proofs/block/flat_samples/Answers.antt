@@ -1,0 +1,15 @@
+use Rattle.std.proofs.Common.{arith, ap, ◌≡◌, ◌∙◌, pos, ◌+ℤ◌, w32, FitsSigned, to_z, of_z}
+use Rattle.std.proofs.lemmas.Int.{ints, to_z-of_z}
+use Rattle.std.proofs.lemmas.Simd.{get_or-replicate}
+use Rattle.std.specs.Int.Signed.{shr_z}
+use Rattle.jr_idct.specs.Transform.{byte_of}
+use Rattle.jr_idct.proofs.NarrowPasses.{shr_fits}
+use Rattle.jr_idct.proofs.block.flat_samples.Goals as goal
+
+pub returns : goal.returns
+returns c = λ n h.
+    let p = c.args.product in
+    let f : FitsSigned w32 (p +ℤ pos 4) = omega (arith, ints) in
+    let g = shr_fits (p +ℤ pos 4) 8 f in
+    let e : to_z w32 (of_z w32 (shr_z (to_z w32 (of_z w32 (to_z w32 (of_z w32 p) +ℤ pos 4))) 8)) ≡ shr_z (p +ℤ pos 4) 8 = let s = c.ranges.product in simp to_z-of_z in
+    get_or-replicate 64 n c.clamped.result 0 h ∙ c.clamped.ensures ∙ ap (λ x. byte_of (x +ℤ pos 128)) e

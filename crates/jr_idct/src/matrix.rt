@@ -1,0 +1,122 @@
+ghost use Rattle.std.specs.Prelude.{◌≡◌, ℕ, ◌+◌, ◌*◌, ◌^◌, ◌<◌, slice_index};
+ghost use Rattle.jr_idct.specs.Matrix.{at, weight, row_sum, pass, transposed, IsWithin};
+ghost use Rattle.jr_idct.specs.Transform.{place_of, product_at, sample, samples};
+
+use crate::rounding::{clamped, descaled};
+
+// The zigzag place of each natural index, `8 row + column`.
+static PLACES: [u8; 64] = [
+    0, 1, 5, 6, 14, 15, 27, 28, 2, 4, 7, 13, 16, 26, 29, 42, 3, 8, 12, 17, 25, 30, 41, 43, 9, 11,
+    18, 24, 31, 40, 44, 53, 10, 19, 23, 32, 39, 45, 52, 54, 20, 22, 33, 38, 46, 51, 55, 60, 21, 34,
+    37, 47, 50, 56, 59, 61, 35, 36, 48, 49, 57, 58, 62, 63,
+];
+
+// Row i and column k: how much of number k is in entry i.
+static MATRIX: [[i64; 8]; 8] = [
+    [8192, 11363, 10703, 9633, 8192, 6437, 4433, 2260],
+    [8192, 9633, 4433, -2259, -8192, -11362, -10704, -6436],
+    [8192, 6437, -4433, -11362, -8192, 2261, 10704, 9633],
+    [8192, 2260, -10703, -6436, 8192, 9633, -4433, -11363],
+    [8192, -2260, -10703, 6436, 8192, -9633, -4433, 11363],
+    [8192, -6437, -4433, 11362, -8192, -2261, 10704, -9633],
+    [8192, -9633, 4433, 2259, -8192, 11362, -10704, 6436],
+    [8192, -11363, 10703, -9633, 8192, -6437, 4433, -2260],
+];
+
+fn place_at(n: usize) -> usize
+    requires { n < 64 }
+    ensures value { result ≡ place_of n }
+    ensures below { result < 64 }
+{
+    PLACES[n] as usize
+}
+
+fn weight_at(i: usize, k: usize) -> i64
+    requires row { i < 8 }
+    requires column { k < 8 }
+    ensures value { result ≡ weight i k }
+    ensures small { IsWithin (2 ^ 14) result }
+{
+    MATRIX[i][k]
+}
+
+// The products of a block in natural order.
+fn dequantised(coefficients: &[i32; 64], quantisers: &[u16; 64]) -> [i64; 64]
+    ensures { (n : ℕ) → n < 64 → at result n ≡ product_at coefficients.now quantisers.now n }
+{
+    let mut table = [0; 64];
+    for n in 0..64 {
+        let place = place_at(n);
+        table[n] = i64::from(coefficients[place]) * i64::from(quantisers[place]);
+    }
+    table
+}
+
+fn plain_row_sum(i: usize, v: &[i64; 8]) -> i64
+    requires row { i < 8 }
+    requires small { (k : ℕ) → k < 8 → IsWithin (2 ^ 40) (at v.now k) }
+    ensures value { result ≡ row_sum i (at v.now) }
+    ensures small { IsWithin (2 ^ 57) result }
+{
+    let mut sum = 0;
+    for k in 0..8 {
+        sum += weight_at(i, k) * v[k];
+    }
+    sum
+}
+
+fn plain_pass(v: &[i64; 8], bits: u32) -> [i64; 8]
+    requires positive { 0 < bits }
+    requires few { bits < 20 }
+    requires small { (k : ℕ) → k < 8 → IsWithin (2 ^ 40) (at v.now k) }
+    ensures { (i : ℕ) → i < 8 → at result i ≡ pass bits (at v.now) i }
+{
+    let mut entries = [0; 8];
+    for i in 0..8 {
+        entries[i] = descaled(plain_row_sum(i, v), bits);
+    }
+    entries
+}
+
+// The pass over each column, whose results are the rows of the answer.
+fn plain_passes(table: &[i64; 64], bits: u32) -> [i64; 64]
+    requires positive { 0 < bits }
+    requires few { bits < 20 }
+    requires small { (k : ℕ) → k < 64 → IsWithin (2 ^ 40) (at table.now k) }
+    ensures { (k : ℕ) → k < 64 → at result k ≡ transposed bits table.now k }
+{
+    let mut rows = [0; 64];
+    for c in 0..8 {
+        let column = [
+            table[c],
+            table[c + 8],
+            table[c + 16],
+            table[c + 24],
+            table[c + 32],
+            table[c + 40],
+            table[c + 48],
+            table[c + 56],
+        ];
+        let row = plain_pass(&column, bits);
+        for r in 0..8 {
+            rows[8 * c + r] = row[r];
+        }
+    }
+    rows
+}
+
+/// The samples of [`transform`](crate::transform), by the matrix as it stands: about ten times slower, and
+/// plain enough to be compared with.
+pub fn matrix_transform(coefficients: &[i32; 64], quantisers: &[u16; 64]) -> [u8; 64]
+    requires { (k : ℕ) → k < 64 → IsWithin 32768 (at coefficients.now k) }
+    ensures by_place { (r c : ℕ) → r < 8 → c < 8 → slice_index result (8 * r + c) ≡ sample coefficients.now quantisers.now r c }
+    ensures whole { result ≡ samples coefficients.now quantisers.now }
+{
+    let columns = plain_passes(&dequantised(coefficients, quantisers), 11);
+    let values = plain_passes(&columns, 18);
+    let mut samples = [0; 64];
+    for k in 0..64 {
+        samples[k] = clamped(values[k]);
+    }
+    samples
+}
