@@ -1,6 +1,6 @@
 //! Code tables of a JPEG file.
 
-ghost use Rattle.std.specs.Prelude.{◌≡◌, ◌≢◌, ◌<◌, ◌≤◌, ◌^◌, ◌↔◌, ◌++◌, ℕ, List, Bool, length, IfSome, IfNone, IfOk, OnOk, drop, take, sum};
+ghost use Rattle.std.specs.Prelude.{◌≡◌, ◌≢◌, ◌<◌, ◌≤◌, ◌^◌, ◌↔◌, ◌++◌, ℕ, List, Bool, IsTrue, length, IfSome, IfNone, IfOk, OnOk, drop, take, sum};
 ghost use Rattle.std.proofs.Common.{rules};
 ghost use Rattle.std.specs.Cmp.Rules.{comparing};
 ghost use Rattle.jr_code.specs.Code.{same_table, Table, IsWord, IsLawful, HasTooMany, IsOverfull, space, lengths, Reached, AreEntries, IsShort};
@@ -40,6 +40,12 @@ impl Model for Words {
 }
 
 impl Words {
+    fn are_same(&self, other: &Words) -> bool
+        ensures { IsTrue result ↔ (self.now ≡ other.now) }
+    {
+        self.counts == other.counts && self.symbols.as_slice() == other.symbols.as_slice()
+    }
+
     fn is_same(&self, other: &Words) -> bool
         ensures { result ≡ same_table self.now other.now }
     {
@@ -149,6 +155,13 @@ impl CodeBook {
             symbols,
         };
         Ok(CodeBook::of(words))
+    }
+
+    /// Whether both have the same counts and symbols.
+    pub fn is_same(&self, other: &CodeBook) -> bool
+        ensures { IsTrue result ↔ (self.now ≡ other.now) }
+    {
+        self.words.are_same(&other.words)
     }
 
     /// The same table once more.
