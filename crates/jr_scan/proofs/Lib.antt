@@ -10,3 +10,7 @@ pub mod Predicted
 pub mod Ranges
 pub mod Readers
 pub mod Fronts
+pub mod Cuts
+pub mod Unstuffing
+pub mod Scans
+pub mod CutLaw

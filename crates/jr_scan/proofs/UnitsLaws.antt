@@ -120,7 +120,6 @@ blocks_take h start zs u m b le =
           (λ k j. sym (get_or-take m zs k [] (omega (arith, lz)))) (sym (get_or-take m b.parts n [] (omega (arith, lz)))) (b.each n (omega (arith, lz)));
     }
 
-
 -- where no block follows, no list of blocks that the bits begin with is longer
 pub reads_stuck : (h : HeadValue) (start : List ℤ) (all left : List Bool) (zs : List (List ℤ)) → OneWord → Reads h start all left zs → HasNoNext h start zs left
     → (ys : List (List ℤ)) (v y : List Bool) → Blocks h start ys v → all ≡ v ++ y → length zs < length ys → ⊥

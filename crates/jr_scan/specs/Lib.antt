@@ -5,3 +5,5 @@ pub mod FrontValue
 pub mod Units
 pub mod Reader
 pub mod Cut
+pub mod Spans
+pub mod ScanValue

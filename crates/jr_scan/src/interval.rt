@@ -5,6 +5,7 @@ ghost use Rattle.std.specs.Prelude.{◌≡◌, ◌↔◌, ◌<◌, ◌≤◌, �
 use crate::block::Block;
 use crate::front::FrontBlocks;
 use crate::reader::BlockReader;
+use crate::span::Span;
 use jr_code::{Memory, one_word};
 use jr_head::Head;
 use std::alloc::Global;
@@ -36,8 +37,31 @@ impl Model for Interval {
 }
 
 impl Interval {
+    ghost use Rattle.std.specs.Arc.{arc_value};
+    ghost use Rattle.jr_scan.specs.Spans.{piece_of, IsWithin};
     ghost use Rattle.jr_scan.specs.Units.{Decodes, LongestFront};
     ghost use Rattle.jr_scan.specs.Reader.{HasRead, HasEnded, whole_run};
+
+    pub(crate) fn of(
+        head: Arc<Head>,
+        unstuffed: Arc<Vec<u8>>,
+        span: Span,
+        number: u32,
+        mcus: u32,
+    ) -> Interval
+        requires few { length (arc_value unstuffed).items < 2 ^ 61 }
+        requires within { IsWithin (arc_value unstuffed).items span }
+        ensures { result ≡ record { number = number; mcus = mcus; bytes = piece_of (arc_value unstuffed).items span; head = arc_value head } }
+    {
+        Interval {
+            head,
+            unstuffed,
+            start: span.start,
+            end: span.end,
+            number,
+            mcus,
+        }
+    }
 
     /// The interval's number in its scan, from 0 on.
     pub fn number(&self) -> u32

@@ -2,15 +2,22 @@
 #![tactic(auto)]
 
 mod block;
+mod cut;
 mod front;
 mod interval;
+mod laws;
 mod place;
 mod reader;
+mod scan;
 mod scan_end;
+mod span;
+mod unstuff;
 
 pub use block::Block;
 pub use front::FrontBlocks;
 pub use interval::Interval;
+pub use laws::{one_cut, one_decoding, one_front, shorter_front};
 pub use place::Place;
 pub use reader::BlockReader;
+pub use scan::Scan;
 pub use scan_end::ScanEnd;

@@ -1,0 +1,50 @@
+-- A scan's intervals, their number and their MCUs.
+use Rattle.std.proofs.Common.{◌≡◌, ◌≢◌, ℕ, suc, ◌+◌, ◌-◌, ◌*◌, ◌/◌, ◌%◌, ◌<◌, ◌≤◌, cond, List, [], ◌++◌, length, map, drop, replicate, refl, sym, ap, subst, ◌∙◌, inl, inr, min, arith}
+use Rattle.std.specs.Int.{div_ceil}
+use Rattle.std.proofs.lemmas.Grind.{div_ceil_times}
+use Rattle.std.proofs.lemmas.Bool.Decides.{eqb_tells}
+use Rattle.std.proofs.lemmas.List.{length-map}
+use Rattle.std.proofs.Math.Nat.{mul-le-mul_right}
+use Rattle.jr_head.specs.HeadValue.{HeadValue}
+use Rattle.jr_head.specs.Geometry.{mcus_of}
+use Rattle.jr_scan.specs.declared.scan_end.ScanEnd.{ScanEnd}
+use Rattle.jr_scan.specs.Cut.{Piece, IsCut}
+use Rattle.jr_scan.specs.declared.span.Span.{Span}
+use Rattle.jr_scan.specs.Spans.{piece_of}
+use Rattle.jr_scan.specs.ScanValue.{intervals_of, IsScanOf}
+
+-- an interval starts before the last MCU
+starts_before : (mcus r i : ℕ) → 0 < r → i < div_ceil mcus r → i * r < mcus
+starts_before mcus r i some lt =
+    let t = div_ceil_times mcus r some in
+    let more : suc i * r ≤ div_ceil mcus r * r = mul-le-mul_right r lt in
+    let e : suc i * r ≡ i * r + r = omega arith in
+    omega (arith, t.1, more, e)
+
+pub interval_starts : (h : HeadValue) (r m i : ℕ) → r ≡ h.restart → (r ≡ 0 → ⊥) → m ≡ mcus_of h → i < intervals_of h → i * r < m
+interval_starts h r m i e some same lt = elim (eqb_tells h.restart 0) [
+  | inl t ↦ absurd (some (e ∙ t.1))
+  | inr f ↦
+      let n : intervals_of h ≡ div_ceil (mcus_of h) h.restart = ap (λ b. cond b 1 (div_ceil (mcus_of h) h.restart)) f.0 in
+      let before = starts_before (mcus_of h) h.restart i (omega (arith, e, some)) (omega (arith, n)) in
+      subst (λ (k : ℕ). i * k < m) (sym e) (subst (λ (k : ℕ). i * h.restart < k) (sym same) before)
+]
+
+pub cut_few : (n at : ℕ) (bytes : List ℕ) (datas : List (List ℕ)) (end : ScanEnd) → IsCut n at bytes datas end → length datas ≤ n
+cut_few n at bytes datas end c = omega (arith, ap length c.means, length-map c.pieces (λ (p : Piece). p.bytes), c.few)
+
+-- a scan that is kept as spans of unstuffed bytes
+pub scan_of : (h h' : HeadValue) (file bytes unstuffed unstuffed' : List ℕ) (spans : List Span) (n at : ℕ) (end : ScanEnd) → h' ≡ h → unstuffed' ≡ unstuffed → n ≡ intervals_of h → at ≡ h.scan_at → bytes ≡ drop at file
+    → IsCut n at bytes (map (piece_of unstuffed) spans) end → IsScanOf file (record { head = h'; intervals = map (piece_of unstuffed') spans ++ replicate (n - length spans) []; ended = end })
+scan_of h h' file bytes unstuffed unstuffed' spans n at end eh eu en ea eb c =
+    let c1 = subst (λ (xs : List ℕ). IsCut n at bytes (map (piece_of xs) spans) end) (sym eu) c in
+    let c2 = subst (λ (xs : List ℕ). IsCut n at xs (map (piece_of unstuffed') spans) end) (eb ∙ ap (λ (k : ℕ). drop k file) ea) c1 in
+    let c3 = subst (λ (k : ℕ). IsCut n k (drop h.scan_at file) (map (piece_of unstuffed') spans) end) ea c2 in
+    let c4 = subst (λ (k : ℕ). IsCut k h.scan_at (drop h.scan_at file) (map (piece_of unstuffed') spans) end) en c3 in
+    let c5 = subst (λ (g : HeadValue). IsCut (intervals_of g) g.scan_at (drop g.scan_at file) (map (piece_of unstuffed') spans) end) (sym eh) c4 in
+    let count : length (map (piece_of unstuffed') spans) ≡ length spans = length-map spans (piece_of unstuffed') in
+    record {
+      pieces = map (piece_of unstuffed') spans;
+      cut = c5;
+      intervals = ap (λ (k : ℕ). map (piece_of unstuffed') spans ++ replicate (k - length spans) []) (en ∙ ap intervals_of (sym eh)) ∙ ap (λ (k : ℕ). map (piece_of unstuffed') spans ++ replicate (intervals_of h' - k) []) (sym count);
+    }

@@ -1,0 +1,117 @@
+-- Data bytes are unstuffed run by run.
+use Rattle.std.proofs.Common.{◌≡◌, ◌≢◌, ℕ, zero, suc, ◌+◌, ◌-◌, ◌<◌, ◌≤◌, List, [], ◌∷◌, ◌++◌, length, map, take, drop, get_or, replicate, refl, sym, ap, subst, ◌∙◌, append_assoc, length-append, length-drop, add-one, arith}
+use Rattle.std.specs.List.{flat_map, AllByRecursion, All, slice_range}
+use Rattle.std.proofs.lemmas.List.{append-nil, take_more, take-append-le, drop-append-le, get_or-drop, length-take-le, take_all, map_push, take-append-drop}
+use Rattle.std.proofs.Math.Seq.{drop-append_seam}
+use Rattle.std.proofs.lemmas.Bool.{cases_lt}
+use Rattle.jr_scan.specs.Cut.{Spelling, IsSpelling, spelling, byte_of, IsRaw, IsStop}
+use Rattle.jr_scan.specs.Cut.Spelling.{Plain, Stuffed}
+use Rattle.jr_scan.specs.declared.span.Span.{Span}
+use Rattle.jr_scan.specs.Spans.{piece_of, IsWithin, Unstuffs}
+use Rattle.jr_scan.proofs.Cuts.{raw_none, raw_plain, raw_stuffed, rest_is, PieceRead, piece_read}
+
+-- bytes other than FF spell themselves
+pub raw_run : (bytes found : List ℕ) (at n : ℕ) → at + n ≤ length bytes → ((k : ℕ) → k < n → get_or (drop at bytes) k 0 ≢ 255) → IsRaw (take at bytes) found → IsRaw (take (at + n) bytes) (found ++ take n (drop at bytes))
+raw_run bytes found at zero room plain r =
+    let e : at + 0 ≡ at = omega arith in
+    subst (λ (k : ℕ). IsRaw (take k bytes) (found ++ [])) (sym e) (subst (λ (x : List ℕ). IsRaw (take at bytes) x) (sym (append-nil found)) r)
+raw_run bytes found at (suc n) room plain r =
+    let before = raw_run bytes found at n (omega arith) (λ k lt. plain k (omega arith)) r in
+    let byte : get_or (drop at bytes) n 0 ≡ get_or bytes (at + n) 0 = get_or-drop at bytes n 0 in
+    let one = raw_plain bytes (found ++ take n (drop at bytes)) (at + n) (omega arith) (λ e. plain n (omega arith) (byte ∙ e)) before in
+    let at_end : at + n + 1 ≡ at + suc n = omega arith in
+    let grown : (found ++ take n (drop at bytes)) ++ get_or bytes (at + n) 0 ∷ [] ≡ found ++ take (suc n) (drop at bytes)
+    = append_assoc found (take n (drop at bytes)) (get_or bytes (at + n) 0 ∷ []) ∙ ap (λ (x : ℕ). found ++ (take n (drop at bytes) ++ x ∷ [])) (sym byte) ∙ ap (λ (x : List ℕ). found ++ x) (sym (take_more (drop at bytes) n 0 (omega (arith, length-drop at bytes)))) ∙ ap (λ (k : ℕ). found ++ take k (drop at bytes)) (add-one n) in
+    subst (λ (k : ℕ). IsRaw (take k bytes) (found ++ take (suc n) (drop at bytes))) at_end (subst (λ (x : List ℕ). IsRaw (take (at + n + 1) bytes) x) grown one)
+
+-- the bytes from a place on, as the slice that they are read from
+pub plain_each : (bytes : List ℕ) (at n : ℕ) → ((k : ℕ) → k < n → get_or (take (length bytes - at) (drop at bytes)) k 0 ≢ 255) → (k : ℕ) → k < n → get_or (drop at bytes) k 0 ≢ 255
+plain_each bytes at n plain = subst (λ (xs : List ℕ). (k : ℕ) → k < n → get_or xs k 0 ≢ 255) (rest_is bytes at) plain
+
+pub plain_next : (bytes : List ℕ) (at n : ℕ) → at + n < length bytes → (n < length (take (length bytes - at) (drop at bytes)) → get_or (take (length bytes - at) (drop at bytes)) n 0 ≡ 255) → get_or bytes (at + n) 0 ≡ 255
+plain_next bytes at n lt next =
+    let f = subst (λ (xs : List ℕ). n < length xs → get_or xs n 0 ≡ 255) (rest_is bytes at) next in
+    sym (get_or-drop at bytes n 0) ∙ f (omega (arith, length-drop at bytes))
+
+pub unstuffs_none : (bytes old : List ℕ) → Unstuffs (take 0 bytes) old old
+unstuffs_none bytes old = record { added = []; is = raw_none; joins = sym (append-nil old) }
+
+pub unstuffs_run : (bytes old new new' : List ℕ) (at n end : ℕ) → end ≡ at + n → end ≤ length bytes → ((k : ℕ) → k < n → get_or (drop at bytes) k 0 ≢ 255) → new' ≡ new ++ take (end - at) (drop at bytes) → Unstuffs (take at bytes) old new → Unstuffs (take end bytes) old new'
+unstuffs_run bytes old new new' at n end e room plain wrote u =
+    let k : end - at ≡ n = omega arith in
+    record {
+      added = u.added ++ take n (drop at bytes);
+      is = subst (λ (j : ℕ). IsRaw (take j bytes) (u.added ++ take n (drop at bytes))) (sym e) (raw_run bytes u.added at n (omega arith) plain u.is);
+      joins = wrote ∙ ap (λ (j : ℕ). new ++ take j (drop at bytes)) k ∙ ap (λ (x : List ℕ). x ++ take n (drop at bytes)) u.joins ∙ append_assoc old u.added (take n (drop at bytes));
+    }
+
+pub unstuffs_stuffed : (bytes old new new' : List ℕ) (at n : ℕ) → at + n < length bytes → take n (drop at bytes) ≡ replicate n 255 → 0 < n → get_or bytes (at + n) 0 ≡ 0 → new' ≡ new ++ 255 ∷ [] → Unstuffs (take at bytes) old new → Unstuffs (take (at + n + 1) bytes) old new'
+unstuffs_stuffed bytes old new new' at n room full some zero_byte wrote u =
+    record {
+      added = u.added ++ 255 ∷ [];
+      is = raw_stuffed bytes u.added at n room full some zero_byte u.is;
+      joins = wrote ∙ ap (λ (x : List ℕ). x ++ 255 ∷ []) u.joins ∙ append_assoc old u.added (255 ∷ []);
+    }
+
+spelled_long : (parts : List Spelling) → length (map byte_of parts) ≤ length (flat_map spelling parts)
+spelled_long [] = omega arith
+spelled_long (p ∷ ps) = omega (arith, length-append (spelling p) (flat_map spelling ps), spelled_long ps, some p)
+  where
+    some : (p : Spelling) → 1 ≤ length (spelling p)
+    some (Plain b) = omega arith
+    some (Stuffed n) = omega arith
+
+-- data are no longer than what spells them
+pub raw_long : (raw bytes : List ℕ) → IsRaw raw bytes → length bytes ≤ length raw
+raw_long raw bytes r = omega (arith, ap length r.spelled, ap length r.means, spelled_long r.parts)
+
+piece_kept : (old added : List ℕ) (s : Span) → IsWithin old s → piece_of (old ++ added) s ≡ piece_of old s
+piece_kept old added s w =
+    ap (take (s.end - s.start)) (drop-append-le s.start old added (omega (arith, w.0, w.1))) ∙ take-append-le (s.end - s.start) (drop s.start old) added (omega (arith, length-drop s.start old, w.1))
+
+-- the pieces stay where others are put behind them
+pub pieces_kept : (old added : List ℕ) (spans : List Span) → All (IsWithin old) spans → map (piece_of (old ++ added)) spans ≡ map (piece_of old) spans
+pieces_kept old added [] within = refl
+pieces_kept old added (s ∷ ss) within =
+    let first : piece_of (old ++ added) s ≡ piece_of old s = piece_kept old added s (within 0 s (omega arith)) in
+    let rest : map (piece_of (old ++ added)) ss ≡ map (piece_of old) ss = pieces_kept old added ss (λ k d lt. within (suc k) d (omega arith)) in
+    cc
+
+pub piece_added : (old added : List ℕ) (s : Span) → s.start ≡ length old → s.end ≡ length (old ++ added) → piece_of (old ++ added) s ≡ added
+piece_added old added s from to =
+    ap (λ (k : ℕ). take (s.end - s.start) (drop k (old ++ added))) from ∙ ap (take (s.end - s.start)) (drop-append_seam old added) ∙ take_all (s.end - s.start) added (omega (arith, from, to, length-append old added))
+
+pub pieces_more : (old added new : List ℕ) (spans spans' : List Span) (s : Span) → new ≡ old ++ added → All (IsWithin old) spans → s.start ≡ length old → s.end ≡ length new → spans' ≡ spans ++ s ∷ [] → map (piece_of new) spans' ≡ map (piece_of old) spans ++ added ∷ []
+pieces_more old added new spans spans' s e within from to pushed =
+    ap (λ (x : List ℕ). map (piece_of x) spans') e ∙ ap (map (piece_of (old ++ added))) pushed ∙ map_push (piece_of (old ++ added)) spans s ∙ ap (λ (x : List (List ℕ)). x ++ piece_of (old ++ added) s ∷ []) (pieces_kept old added spans within) ∙ ap (λ (x : List ℕ). map (piece_of old) spans ++ x ∷ []) (piece_added old added s from (to ∙ ap length e))
+
+pub within_more : (old added new : List ℕ) (spans spans' : List Span) (s : Span) → new ≡ old ++ added → All (IsWithin old) spans → s.start ≡ length old → s.end ≡ length new → spans' ≡ spans ++ s ∷ [] → All (IsWithin new) spans'
+within_more old added new spans spans' s e within from to pushed =
+    subst (All (IsWithin new)) (sym pushed) (push spans (λ k d lt. let w = within k d lt in (w.0, omega (arith, w.1, ap length e, length-append old added))))
+  where
+    push : (ss : List Span) → All (IsWithin new) ss → All (IsWithin new) (ss ++ s ∷ [])
+    push [] w zero d lt = (omega (arith, from, to, ap length e, length-append old added), omega (arith, to))
+    push [] w (suc k) d lt = absurd (omega arith)
+    push (t ∷ ss) w zero d lt = w 0 d (omega arith)
+    push (t ∷ ss) w (suc k) d lt = push ss (λ j d lt. w (suc j) d (omega arith)) k d (omega arith)
+
+-- a piece that was read at a place, and what is there with it
+pub record PieceMade (bytes old new : List ℕ) (spans spans' : List Span) (at count : ℕ) : Type 0 where
+  pub found : List ℕ
+  pub read : PieceRead bytes found at count
+  pub pieces : map (piece_of new) spans' ≡ map (piece_of old) spans ++ found ∷ []
+  pub within : All (IsWithin new) spans'
+  pub few : length new ≤ at + count
+
+pub piece_made : (bytes old new : List ℕ) (spans spans' : List Span) (at count : ℕ) (s : Span) → at ≤ length bytes → length old ≤ at
+    → count ≤ length (take (length bytes - at) (drop at bytes)) → Unstuffs (take count (take (length bytes - at) (drop at bytes))) old new → IsStop (drop count (take (length bytes - at) (drop at bytes)))
+    → All (IsWithin old) spans → s.start ≡ length old → s.end ≡ length new → spans' ≡ spans ++ s ∷ [] → PieceMade bytes old new spans spans' at count
+piece_made bytes old new spans spans' at count s h few room u stop within from to pushed =
+    let long = raw_long (take count (take (length bytes - at) (drop at bytes))) u.added u.is in
+    record {
+      found = u.added;
+      read = piece_read bytes u.added at count h room u.is stop;
+      pieces = pieces_more old u.added new spans spans' s u.joins within from to pushed;
+      within = within_more old u.added new spans spans' s u.joins within from to pushed;
+      few = omega (arith, long, length-take-le count (take (length bytes - at) (drop at bytes)) room, ap length u.joins, length-append old u.added, few);
+    }

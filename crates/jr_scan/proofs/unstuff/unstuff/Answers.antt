@@ -1,0 +1,44 @@
+use Rattle.std.proofs.Common.{◌≡◌, ◌+◌, ◌-◌, ◌<◌, ◌≤◌, length, take, drop, get_or, refl, subst, sym, ap, ◌∙◌, length-drop, arith}
+use Rattle.jr_scan.proofs.Cuts.{stop_end, stop_code, rest_is, fill_full, fill_next, fill_some}
+use Rattle.jr_scan.proofs.Unstuffing.{unstuffs_run, unstuffs_stuffed, plain_each, plain_next}
+use Rattle.jr_scan.proofs.unstuff.unstuff.Goals as goal
+use Rattle.jr_scan.proofs.unstuff.unstuff.Goals.{then-next-bytes-via-then-next-bytes, then-next-bytes-via-else-next-bytes+then-bytes-next-ne0}
+
+pub returns-then-next-bytes-clause-data : goal.returns-then-next-bytes-clause-data
+returns-then-next-bytes-clause-data c =
+    let bytes = c.args.bytes.now in
+    let at = c.bytes.at in
+    let n = c.plain.result in
+    let room : at + n ≤ length bytes = omega (arith, c.plain.ensures.within, ap length (rest_is bytes at), length-drop at bytes, c.bytes.invariant.0) in
+    unstuffs_run bytes _ _ _ at n (at + n) refl room (plain_each bytes at n c.plain.ensures.plain) c.in_ok-extend_from_slice.ensures.items c.bytes.invariant.1
+
+pub returns-then-next-bytes-clause-stop : goal.returns-then-next-bytes-clause-stop
+returns-then-next-bytes-clause-stop c =
+    let bytes = c.args.bytes.now in
+    let at = c.bytes.at in
+    let n = c.plain.result in
+    let end = at + n in
+    let f = c.fill.result in
+    let room : at + n ≤ length bytes = omega (arith, c.plain.ensures.within, ap length (rest_is bytes at), length-drop at bytes, c.bytes.invariant.0) in
+    let full = fill_full bytes end f c.fill.ensures.full in
+    elim c.then-next-bytes.branch [
+      | then-next-bytes-via-then-next-bytes w ↦ stop_end bytes end f room full w.if-next-bytes.true
+      | then-next-bytes-via-else-next-bytes+then-bytes-next-ne0 w ↦
+          let lt : end < length bytes = omega (arith, w.if-next-bytes.false) in
+          let some = fill_some bytes end f lt (plain_next bytes at n lt c.plain.ensures.next) (λ h. fill_next bytes end f h c.fill.ensures.next) in
+          stop_code bytes end f full w.if-next-bytes.false some (fill_next bytes end f w.if-next-bytes.false c.fill.ensures.next) w.if-bytes-next-ne0.true
+    ]
+
+pub bytes-preserved : goal.bytes-preserved
+bytes-preserved c =
+    let bytes = c.args.bytes.now in
+    let at = c.bytes.at in
+    let n = c.plain.result in
+    let end = at + n in
+    let f = c.fill.result in
+    let room : at + n ≤ length bytes = omega (arith, c.plain.ensures.within, ap length (rest_is bytes at), length-drop at bytes, c.bytes.invariant.0) in
+    let full = fill_full bytes end f c.fill.ensures.full in
+    let lt : end < length bytes = omega (arith, c.if-next-bytes.false) in
+    let some = fill_some bytes end f lt (plain_next bytes at n lt c.plain.ensures.next) (λ h. fill_next bytes end f h c.fill.ensures.next) in
+    let run = unstuffs_run bytes _ _ _ at n end refl room (plain_each bytes at n c.plain.ensures.plain) c.in_ok-extend_from_slice.ensures.items c.bytes.invariant.1 in
+    (omega arith, unstuffs_stuffed bytes _ _ _ end f c.if-next-bytes.false full some c.if-bytes-next-ne0.false c.in_ok-push.ensures.items run)

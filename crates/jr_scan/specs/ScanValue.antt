@@ -1,0 +1,43 @@
+-- A scan and its restart intervals (T.81, E.1.4 and E.2.4).
+use Rattle.std.specs.Prelude.{◌≡◌, ℕ, zero, suc, ◌-◌, ◌*◌, ◌==◌, Bool, ◌&&◌, List, [], ◌++◌, length, replicate, drop, min, if◌then◌else◌, slice_index_or}
+use Rattle.std.specs.Int.{div_ceil}
+use Rattle.std.specs.Cmp.Lexicographic.{pointwise}
+use Rattle.std.specs.Ordering.{eq_of_both, on}
+use Rattle.jr_head.specs.HeadValue.{HeadValue, same_head}
+use Rattle.jr_head.specs.Geometry.{mcus_of}
+use Rattle.jr_scan.specs.declared.scan_end.ScanEnd.{ScanEnd}
+use Rattle.jr_scan.specs.Cut.{IsCut}
+use Rattle.jr_scan.specs.IntervalValue.{IntervalValue}
+
+-- the head, the data bytes of each interval, and what ended the scan
+pub record ScanValue : Type 0 where
+  pub head : HeadValue
+  pub intervals : List (List ℕ)
+  pub ended : ScanEnd
+
+-- how many intervals there are: one where the restart interval is 0
+abbrev pub intervals_of : HeadValue → ℕ
+intervals_of h = if h.restart == 0 then 1 else div_ceil (mcus_of h) h.restart
+
+-- how many MCUs interval i has: the restart interval, or the rest
+abbrev pub mcus_in : HeadValue → ℕ → ℕ
+mcus_in h i = if h.restart == 0 then mcus_of h else min h.restart (mcus_of h - i * h.restart)
+
+abbrev pub interval_of : ScanValue → ℕ → IntervalValue
+interval_of s i = record { number = i; mcus = mcus_in s.head i; bytes = slice_index_or s.intervals i []; head = s.head }
+
+-- the intervals are the pieces that the file's bytes behind the scan header are cut into, and empty ones
+pub record IsScanOf (file : List ℕ) (s : ScanValue) : Type 0 where
+  pub pieces : List (List ℕ)
+  pub cut : IsCut (intervals_of s.head) s.head.scan_at (drop s.head.scan_at file) pieces s.ended
+  pub intervals : s.intervals ≡ pieces ++ replicate (intervals_of s.head - length pieces) []
+
+-- scans compare by head and by the data of all intervals
+abbrev pub same_scan : ScanValue → ScanValue → Bool
+same_scan = eq_of_both (on (λ (s : ScanValue). s.head) same_head) (on (λ (s : ScanValue). s.intervals) (pointwise (pointwise ◌==◌)))
+
+abbrev pub same_interval : IntervalValue → IntervalValue → Bool
+same_interval =
+    eq_of_both (on (λ (i : IntervalValue). i.number) ◌==◌)
+    (eq_of_both (on (λ (i : IntervalValue). i.mcus) ◌==◌)
+    (eq_of_both (on (λ (i : IntervalValue). i.bytes) (pointwise ◌==◌)) (on (λ (i : IntervalValue). i.head) same_head)))

@@ -1,0 +1,17 @@
+-- Where the data of each piece stand in all unstuffed bytes of a scan.
+use Rattle.std.specs.Prelude.{◌≡◌, ℕ, ◌≤◌, List, ◌++◌, length, map, slice_range}
+use Rattle.std.specs.List.{All}
+use Rattle.jr_scan.specs.declared.span.Span.{Span}
+use Rattle.jr_scan.specs.Cut.{IsRaw}
+
+abbrev pub piece_of : List ℕ → Span → List ℕ
+piece_of bytes s = slice_range bytes s.start s.end
+
+abbrev pub IsWithin : List ℕ → Span → Type 0
+IsWithin bytes s = (s.start ≤ s.end) × (s.end ≤ length bytes)
+
+-- what the raw bytes spell stands behind what was there
+pub record Unstuffs (raw old new : List ℕ) : Type 0 where
+  pub added : List ℕ
+  pub is : IsRaw raw added
+  pub joins : new ≡ old ++ added

@@ -1,0 +1,90 @@
+//! How the bytes of a scan fall into intervals.
+
+ghost use Rattle.std.specs.Prelude.{◌≡◌, ◌≢◌, ℕ, ◌+◌, ◌%◌, ◌<◌, ◌≤◌, ◌^◌, List, length, map, IfOk, IfSome, IfNone};
+ghost use Rattle.std.specs.List.{All};
+ghost use Rattle.jr_scan.specs.Cut.{HasMarker, IsEnding, IsCut};
+ghost use Rattle.jr_scan.specs.Spans.{piece_of, IsWithin};
+
+use crate::scan_end::ScanEnd;
+use crate::span::Span;
+use crate::unstuff::{fill, unstuff};
+use jr_code::Memory;
+use std::alloc::Global;
+
+/// The unstuffed bytes of a scan, where in them each piece between restart markers stands, and what ended the scan.
+#[derive(Drop)]
+pub(crate) struct Pieces {
+    pub unstuffed: Vec<u8>,
+    pub spans: Vec<Span>,
+    pub ended: ScanEnd,
+}
+
+/// What a marker behind piece k means: that the scan ends there, or that the next piece follows it.
+fn end_at(code: u8, at: u64, k: u32, intervals: u32) -> Option<ScanEnd>
+    requires few { k < intervals }
+    requires not_stuffing { code ≢ 0 }
+    requires not_fill { code ≢ 255 }
+    ensures ended { IfSome result (λ end. (tail : List ℕ) → HasMarker tail code → IsEnding intervals k at tail end) }
+    ensures number { IfNone result (code ≡ 208 + k % 8) }
+    ensures more { IfNone result (k + 1 < intervals) }
+{
+    if code == 0xD9 {
+        return Some(ScanEnd::EndOfImage);
+    }
+    if code < 0xD0 || code > 0xD7 {
+        return Some(ScanEnd::OtherMarker(code, at));
+    }
+    if k + 1 == intervals {
+        return Some(ScanEnd::ExtraRestart(at));
+    }
+    let found = code - 0xD0;
+    let expected = (k % 8) as u8;
+    if found != expected {
+        return Some(ScanEnd::OutOfStep {
+            found,
+            expected,
+            at,
+        });
+    }
+    None
+}
+
+/// Cuts the bytes of a scan, the first of which stands at an offset of the file.
+pub(crate) fn cut(alloc: Global, intervals: u32, start: u64, bytes: &[u8]) -> Result<Pieces, Memory>
+    requires some { 0 < intervals }
+    requires fits { start + length bytes.now < 2 ^ 64 }
+    ensures cut { IfOk result (λ p. IsCut intervals start bytes.now (map (piece_of p.unstuffed.items) p.spans.items) p.ended) }
+    ensures within { IfOk result (λ p. All (IsWithin p.unstuffed.items) p.spans.items) }
+    ensures few { IfOk result (λ p. length p.unstuffed.items ≤ length bytes.now) }
+{
+    let mut unstuffed = Vec::with_capacity(alloc, bytes.len())?;
+    let mut spans = Vec::new(alloc);
+    let mut at: usize = 0;
+    let mut k: u32 = 0;
+    'pieces: loop {
+        let begin = unstuffed.as_slice().len();
+        let count = unstuff(&bytes[at..], &mut unstuffed)?;
+        spans.push(Span {
+            start: begin,
+            end: unstuffed.as_slice().len(),
+        })?;
+        at += count;
+        let code_at = at + fill(&bytes[at..]);
+        if code_at >= bytes.len() {
+            return Ok(Pieces {
+                unstuffed,
+                spans,
+                ended: ScanEnd::EndOfFile,
+            });
+        }
+        if let Some(ended) = end_at(bytes[code_at], start + at as u64, k, intervals) {
+            return Ok(Pieces {
+                unstuffed,
+                spans,
+                ended,
+            });
+        }
+        at = code_at + 1;
+        k += 1;
+    }
+}

@@ -1,0 +1,134 @@
+//! A scan, cut into its restart intervals.
+
+ghost use Rattle.std.specs.Prelude.{◌≡◌, ◌↔◌, ◌<◌, ◌≤◌, ◌^◌, length, drop, IsTrue, IfOk};
+
+use crate::cut::cut;
+use crate::interval::Interval;
+use crate::scan_end::ScanEnd;
+use crate::span::Span;
+use jr_code::Memory;
+use jr_head::Head;
+use std::alloc::Global;
+use std::marker::Model;
+use std::sync::Arc;
+
+/// A scan: its head, and the data of its restart intervals.
+#[derive(Drop)]
+pub struct Scan {
+    head: Arc<Head>,
+    unstuffed: Arc<Vec<u8>>,
+    spans: Vec<Span>,
+    intervals: u32,
+    ended: ScanEnd,
+}
+
+impl Model for Scan {
+    ghost use Rattle.std.specs.Prelude.{◌≡◌, ◌<◌, ◌≤◌, ◌^◌, ◌-◌, ◌++◌, [], length, map, replicate};
+    ghost use Rattle.std.specs.List.{All};
+    ghost use Rattle.std.specs.Arc.{arc_value};
+    ghost use Rattle.jr_scan.specs.ScanValue.{ScanValue, intervals_of};
+    ghost use Rattle.jr_scan.specs.Spans.{piece_of, IsWithin};
+
+    ghost Value = { ScanValue };
+
+    ghost view = { λ s. record { head = arc_value s.head; intervals = map (piece_of (arc_value s.unstuffed).items) s.spans.items ++ replicate (s.intervals - length s.spans.items) []; ended = s.ended } };
+
+    ghost invariant = { λ s. All (IsWithin (arc_value s.unstuffed).items) s.spans.items × (length s.spans.items ≤ s.intervals) × (s.intervals ≡ intervals_of (arc_value s.head)) × (0 < s.intervals) × (length (arc_value s.unstuffed).items < 2 ^ 61) };
+}
+
+/// The bytes from an offset on, none where it is past the end.
+fn behind(bytes: &[u8], offset: u64) -> &[u8]
+    ensures { result.now ≡ drop offset bytes.now }
+{
+    if offset < bytes.len() as u64 {
+        &bytes[offset as usize..]
+    } else {
+        &bytes[bytes.len()..]
+    }
+}
+
+/// How many intervals a scan of this head has.
+fn count_of(head: &Head) -> u32
+    ensures value { result ≡ intervals_of head.now }
+    ensures some { 0 < result }
+{
+    let restart = u32::from(head.restart());
+    if restart == 0 {
+        return 1;
+    }
+    head.mcus().div_ceil(restart)
+}
+
+/// How many MCUs an interval has.
+fn mcus_of(head: &Head, i: u32) -> u32
+    requires { i < intervals_of head.now }
+    ensures { result ≡ mcus_in head.now i }
+{
+    let restart = u32::from(head.restart());
+    if restart == 0 {
+        return head.mcus();
+    }
+    restart.min(head.mcus() - i * restart)
+}
+
+ghost use Rattle.jr_scan.specs.ScanValue.{intervals_of, mcus_in};
+
+impl Scan {
+    ghost use Rattle.jr_scan.specs.ScanValue.{intervals_of, interval_of, IsScanOf, same_scan};
+
+    /// Cuts the scan of a file, of which this is the head. Where the scan starts past the end of the file it has no
+    /// bytes.
+    pub fn cut(alloc: Global, head: Head, bytes: &[u8]) -> Result<Scan, Memory>
+        requires { length bytes.now < 2 ^ 61 }
+        ensures head { IfOk result (λ s. s.head ≡ head) }
+        ensures cut { IfOk result (λ s. IsScanOf bytes.now s) }
+    {
+        let intervals = count_of(&head);
+        let start = head.scan_at();
+        let pieces = cut(alloc, intervals, start, behind(bytes, start))?;
+        Ok(Scan {
+            head: Arc::new(alloc, head)?,
+            unstuffed: Arc::new(alloc, pieces.unstuffed)?,
+            spans: pieces.spans,
+            intervals,
+            ended: pieces.ended,
+        })
+    }
+
+    /// The head of the file.
+    pub fn head(&self) -> &Head
+        ensures { result.now ≡ self.now.head }
+    {
+        &self.head
+    }
+
+    /// How many restart intervals there are.
+    pub fn intervals(&self) -> u32
+        ensures value { result ≡ length self.now.intervals }
+        ensures count { result ≡ intervals_of self.now.head }
+        ensures some { 0 < result }
+    {
+        self.intervals
+    }
+
+    /// What ended the scan.
+    pub fn ended(&self) -> ScanEnd
+        ensures { result ≡ self.now.ended }
+    {
+        self.ended
+    }
+
+    /// Interval i, which shares its data with the scan.
+    pub fn interval(&self, i: u32) -> Result<Interval, Memory>
+        requires { i < length self.now.intervals }
+        ensures { IfOk result (λ v. v ≡ interval_of self.now i) }
+    {
+        let mut span = Span { start: 0, end: 0 };
+        if (i as usize) < self.spans.len() {
+            span = self.spans[i as usize];
+        }
+        let head = Arc::try_clone(&self.head)?;
+        let unstuffed = Arc::try_clone(&self.unstuffed)?;
+        Ok(Interval::of(head, unstuffed, span, i, mcus_of(&self.head, i)))
+    }
+}
