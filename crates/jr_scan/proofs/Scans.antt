@@ -11,6 +11,7 @@ use Rattle.jr_scan.specs.declared.scan_end.ScanEnd.{ScanEnd}
 use Rattle.jr_scan.specs.Cut.{Piece, IsCut}
 use Rattle.jr_scan.specs.declared.span.Span.{Span}
 use Rattle.jr_scan.specs.Spans.{piece_of}
+use Rattle.jr_scan.specs.IntervalValue.{IntervalValue}
 use Rattle.jr_scan.specs.ScanValue.{intervals_of, IsScanOf}
 
 -- an interval starts before the last MCU
@@ -48,3 +49,7 @@ scan_of h h' file bytes unstuffed unstuffed' spans n at end eh eu en ea eb c =
       cut = c5;
       intervals = ap (λ (k : ℕ). map (piece_of unstuffed') spans ++ replicate (k - length spans) []) (en ∙ ap intervals_of (sym eh)) ∙ ap (λ (k : ℕ). map (piece_of unstuffed') spans ++ replicate (intervals_of h' - k) []) (sym count);
     }
+
+-- an interval is its four parts
+pub interval_is : (i : IntervalValue) (n m : ℕ) (b : List ℕ) (h : HeadValue) → i.number ≡ n → i.mcus ≡ m → i.bytes ≡ b → i.head ≡ h → i ≡ record { number = n; mcus = m; bytes = b; head = h }
+interval_is i n m b h p q r s = rw (← p, ← q, ← r, ← s) refl

@@ -1,5 +1,5 @@
 -- A scan and its restart intervals (T.81, E.1.4 and E.2.4).
-use Rattle.std.specs.Prelude.{◌≡◌, ℕ, zero, suc, ◌-◌, ◌*◌, ◌==◌, Bool, ◌&&◌, List, [], ◌++◌, length, replicate, drop, min, if◌then◌else◌, slice_index_or}
+use Rattle.std.specs.Prelude.{◌≡◌, ℕ, zero, suc, ◌-◌, ◌*◌, ◌==◌, ◌<◌, Bool, ◌&&◌, List, [], ◌++◌, length, replicate, drop, min, if◌then◌else◌, slice_index_or}
 use Rattle.std.specs.Int.{div_ceil}
 use Rattle.std.specs.Cmp.Lexicographic.{pointwise}
 use Rattle.std.specs.Ordering.{eq_of_both, on}
@@ -41,3 +41,11 @@ same_interval =
     eq_of_both (on (λ (i : IntervalValue). i.number) ◌==◌)
     (eq_of_both (on (λ (i : IntervalValue). i.mcus) ◌==◌)
     (eq_of_both (on (λ (i : IntervalValue). i.bytes) (pointwise ◌==◌)) (on (λ (i : IntervalValue). i.head) same_head)))
+
+-- equal heads, and the same data in each interval; what ended them may differ
+abbrev pub IsSameScan : ScanValue → ScanValue → Type 0
+IsSameScan s t = (s.head ≡ t.head) × (s.intervals ≡ t.intervals)
+
+-- the interval is the scan's interval of its number
+abbrev pub HasInterval : ScanValue → IntervalValue → Type 0
+HasInterval s i = (i.number < length s.intervals) × (i ≡ interval_of s i.number)

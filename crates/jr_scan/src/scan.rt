@@ -1,6 +1,6 @@
 //! A scan, cut into its restart intervals.
 
-ghost use Rattle.std.specs.Prelude.{◌≡◌, ◌↔◌, ◌<◌, ◌≤◌, ◌^◌, length, drop, IsTrue, IfOk};
+ghost use Rattle.std.specs.Prelude.{◌≡◌, ◌↔◌, ◌<◌, ◌≤◌, ◌^◌, length, drop, IsTrue, IfOk, slice_index_or, []};
 
 use crate::cut::cut;
 use crate::interval::Interval;
@@ -74,7 +74,7 @@ fn mcus_of(head: &Head, i: u32) -> u32
 ghost use Rattle.jr_scan.specs.ScanValue.{intervals_of, mcus_in};
 
 impl Scan {
-    ghost use Rattle.jr_scan.specs.ScanValue.{intervals_of, interval_of, IsScanOf, same_scan};
+    ghost use Rattle.jr_scan.specs.ScanValue.{intervals_of, interval_of, IsScanOf, IsSameScan, HasInterval};
 
     /// Cuts the scan of a file, of which this is the head. Where the scan starts past the end of the file it has no
     /// bytes.
@@ -130,5 +130,53 @@ impl Scan {
         let head = Arc::try_clone(&self.head)?;
         let unstuffed = Arc::try_clone(&self.unstuffed)?;
         Ok(Interval::of(head, unstuffed, span, i, mcus_of(&self.head, i)))
+    }
+
+    /// The data of interval i, without stuffing.
+    fn data(&self, i: u32) -> &[u8]
+        requires { i < length self.now.intervals }
+        ensures { result.now ≡ slice_index_or self.now.intervals i [] }
+    {
+        let mut span = Span { start: 0, end: 0 };
+        if (i as usize) < self.spans.len() {
+            span = self.spans[i as usize];
+        }
+        &self.unstuffed[span.start..span.end]
+    }
+
+    /// Whether both have equal heads, and the same data in each interval.
+    pub fn is_same(&self, other: &Scan) -> bool
+        ensures { IsTrue result ↔ IsSameScan self.now other.now }
+    {
+        self.head.is_same(&other.head)
+            && self.intervals == other.intervals
+            && self.has_same_data(other)
+    }
+
+    /// Whether as many intervals have the same data.
+    fn has_same_data(&self, other: &Scan) -> bool
+        requires { length self.now.intervals ≡ length other.now.intervals }
+        ensures { IsTrue result ↔ (self.now.intervals ≡ other.now.intervals) }
+    {
+        for i in 0..self.intervals() {
+            if self.data(i) != other.data(i) {
+                return false;
+            }
+        }
+        true
+    }
+
+    /// Whether an interval is this scan's interval of its number.
+    pub fn has(&self, interval: &Interval) -> bool
+        ensures { IsTrue result ↔ HasInterval self.now interval.now }
+    {
+        let number = interval.number();
+        if number >= self.intervals() || interval.mcus() != mcus_of(&self.head, number) {
+            return false;
+        }
+        if interval.bytes() != self.data(number) {
+            return false;
+        }
+        interval.head().is_same(&self.head)
     }
 }
