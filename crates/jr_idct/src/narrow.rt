@@ -1,9 +1,11 @@
+//! The transform in 32 bits, for blocks with small products, which are nearly all.
+
 ghost use Rattle.std.specs.Prelude.{◌≡◌, ℕ, ◌+◌, ◌-◌, ◌*◌, ◌^◌, ◌<◌, pos, ◌+ℤ◌, ◌-ℤ◌, slice_index, IsTrue, ◌↔◌};
 ghost use Rattle.jr_idct.specs.Matrix.{at, descale, even_sum, odd_sum, pass, transposed, IsWithin};
 ghost use Rattle.jr_idct.specs.Transform.{byte_of, sample_of};
 
-// Products that lie from -LIMIT to LIMIT keep both passes within 32 bits: the first one makes at most
-// 34971 of them, and the second one's sums of at most 61214 times that are below 2^31.
+// The weights of a row add up to at most 61214. So the first pass makes at most 34971 of such products,
+// and the sums of the second one, rounded, stay below 2^31.
 const LIMIT: i32 = 1170;
 
 #[inline]
@@ -114,8 +116,8 @@ fn one_pass(v: &[i32; 8], bits: u32) -> [i32; 8]
     [y0, y1, y2, y3, y4, y5, y6, y7]
 }
 
-// The pass over each column, whose results are the rows of the answer. Columns stand side by side and no
-// step depends on what they hold, so that it is done by vectors, in each of its two places.
+// The pass over each column, whose results are the rows of the answer. No step depends on what a column
+// holds, so that several are done at once, by vectors.
 #[inline(always)]
 fn passes(table: &[i32; 64], bits: u32) -> [i32; 64]
     requires positive { 0 < bits }

@@ -1,3 +1,5 @@
+//! The transform in 64 bits, for blocks with any products.
+
 ghost use Rattle.std.specs.Prelude.{◌≡◌, ℕ, ◌+◌, ◌*◌, ◌^◌, ◌<◌, ◌+ℤ◌, ◌-ℤ◌, slice_index};
 ghost use Rattle.jr_idct.specs.Matrix.{at, descale, pass, transposed, IsWithin};
 ghost use Rattle.jr_idct.specs.Transform.{sample_of};
