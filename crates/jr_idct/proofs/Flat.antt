@@ -4,7 +4,7 @@ use Rattle.std.proofs.Math.IntN.{◌*ℤ◌}
 use Rattle.std.proofs.lemmas.Int.{ints}
 use Rattle.std.specs.Int.Signed.{shr_z}
 use Rattle.std.specs.Prelude.{slice_index}
-use Rattle.jr_idct.specs.Matrix.{at, row_sum, descale, pass, floor_div}
+use Rattle.jr_idct.specs.Matrix.{at, descale, pass, floor_div}
 use Rattle.jr_idct.specs.Transform.{byte_of, product_at, column_pass, sample, place_of}
 use Rattle.jr_idct.proofs.Passes.{four_times, zero_pass}
 use Rattle.jr_idct.proofs.Tables.{place_below, place_positive, place_of_0}

@@ -1,8 +1,8 @@
-use Rattle.std.proofs.Common.{arith, rules, ℕ, ap, ◌≡◌, ◌+◌, ◌*◌, ◌^◌, ◌<◌, length, pos, ◌+ℤ◌, w32, FitsSigned, to_z, of_z, ◌∙◌}
+use Rattle.std.proofs.Common.{arith, rules, ℕ, ap, ◌+◌, ◌*◌, ◌<◌, length, pos, ◌+ℤ◌, w32, FitsSigned, ◌∙◌}
 use Rattle.std.proofs.Math.ListN.{length-set}
 use Rattle.std.proofs.lemmas.Int.{to_z-of_z}
 use Rattle.std.proofs.lemmas.List.Edits.{fill_by_more}
-use Rattle.jr_idct.specs.Matrix.{IsWithin, at, transposed}
+use Rattle.jr_idct.specs.Matrix.{at, transposed}
 use Rattle.jr_idct.specs.Transform.{byte_of}
 use Rattle.jr_idct.proofs.Passes.{below_eight}
 use Rattle.jr_idct.proofs.Whole.{transposed_from}
