@@ -7,14 +7,15 @@ use Rattle.jr_code.specs.Code.{same_table}
 use Rattle.std.proofs.Common.{false, ◌≢◌, ◌≡◌, ℕ, zero, suc, ◌+◌, ◌-◌, ◌*◌, ◌/◌, ◌%◌, ◌^◌, ◌<◌, ◌≤◌, Bool, List, [], ◌∷◌, ◌++◌, length, drop, take, get_or, replicate, refl, sym, ◌∙◌, ap, arith, length-append, lit<, ⊎_elim, subst}
 use Rattle.std.specs.Prelude.{slice_get, Option, Some, None, IfSome, IfNone, sum, sum_by}
 use Rattle.std.proofs.lemmas.Bool.{cases_lt, cases_order}
-use Rattle.std.proofs.lemmas.Nat.{pow-add, pow_pos, mul-le}
-use Rattle.std.proofs.lemmas.List.{append_assoc, append-nil, take_more, take-take, length-take-le, length-replicate, take-append-drop, drop_more, take_at, take_all, take-append-le}
+use Rattle.std.proofs.lemmas.Nat.{pow-add, pow_pos, mul-le, shr_below}
+use Rattle.std.proofs.lemmas.List.{append_assoc, append-nil, take_more, take-take, length-take-le, length-replicate, take-append-drop, drop_more, take_at, take-append-le}
 use Rattle.std.proofs.lemmas.List.Sums.{sum_by-append, sum_by-cons, sum_by_more, sum_by_more_le, sum_by-take-le}
 use Rattle.std.proofs.lemmas.Option.{slice_get_within, get_or_from_slice_get, slice_get_read}
 use Rattle.std.proofs.Math.Nat.{mul_assoc, mul_comm, add-mul, pow-suc, lt_of_mul-lt-mul_right, le-mul_of_pos_right, mul-div_left, mul-lt-mul_of_pos_right, pow-le-pow_right, mod-eq_of_lt}
-use Rattle.jr_code.specs.Bits.{number, bits_of}
-use Rattle.jr_code.specs.Code.{IsShort, IsEntry, Reached, Table, IsWord, IsLawful, lengths_from, lengths, room, space}
+use Rattle.jr_code.specs.Bits.{number, bits_of, filled}
+use Rattle.jr_code.specs.Code.{IsEntry, Table, HasNoFront, IsFrontWhereWhole, IsWord, IsLawful, lengths_from, lengths, room, space}
 use Rattle.jr_code.proofs.BitLemmas.{number_below, number-take_zero, length-bits_of, number-bits_of, number-append, slice_get-append_left, slice_get-append_right}
+use Rattle.jr_code.proofs.RegisterLemmas.{take-held}
 
 pub length-lengths : (l : ℕ) (cs : List ℕ) → length (lengths_from l cs) ≡ sum cs
 length-lengths l [] = refl
@@ -387,6 +388,15 @@ word_exists t place s lawful known =
       refl,
     )
 
+-- the reader has gone over i bits of code, and no word of them is in front; end is past the greatest word of i bits,
+-- index the number of words of at most i bits
+pub record Reached (t : Table) (bs : List Bool) (i code end index : ℕ) : Type 0 where
+  pub code_is : number (take i bs) ≡ code
+  pub full : end * room i ≡ space (lengths (take i t.counts))
+  pub index_is : index ≡ sum (take i t.counts)
+  pub enough : i ≤ length bs
+  pub none : (word rest : List Bool) (s : ℕ) → IsWord t word s → bs ≡ word ++ rest → i < length word
+
 pub reached_none : (t : Table) (bs : List Bool) → Reached t bs 0 0 0 0
 reached_none t bs = record {
   code_is = number-take_zero bs;
@@ -396,43 +406,114 @@ reached_none t bs = record {
   none = λ word rest s w e. word_not_empty t word s w;
 }
 
--- ---- what a byte looks up
+-- ---- windows: the next n bits, where zeros stand for those that are missing
 
--- eight bits of what is left, filled up with zeros
-abbrev pub filled : List Bool → List Bool
-filled bs = take 8 (bs ++ replicate 8 false)
+take-filled : (k n : ℕ) (bs : List Bool) → k ≤ n → k ≤ length bs → take k (filled n bs) ≡ take k bs
+take-filled k n bs h e = take-take k n (bs ++ replicate n false) h ∙ take-append-le k bs (replicate n false) e
 
-take-filled : (n : ℕ) (bs : List Bool) → n ≤ 8 → n ≤ length bs → take n (filled bs) ≡ take n bs
-take-filled n bs h k = take-take n 8 (bs ++ replicate 8 false) h ∙ take-append-le n bs (replicate 8 false) k
-
--- a word that begins what is left, and is no longer than eight bits, begins these eight
-begins_filled : (bs word rest : List Bool) → bs ≡ word ++ rest → length word ≤ 8 → filled bs ≡ word ++ drop (length word) (filled bs)
-begins_filled bs word rest e h =
+-- a word that begins what is left, and is no longer than the window, begins the window
+begins_filled : (n : ℕ) (bs word rest : List Bool) → bs ≡ word ++ rest → length word ≤ n → filled n bs ≡ word ++ drop (length word) (filled n bs)
+begins_filled n bs word rest e h =
     let fits : length word ≤ length bs = omega (arith, ap length e, length-append word rest) in
-    let front : take (length word) (filled bs) ≡ word = take-filled (length word) bs h fits ∙ ap (λ b. take (length word) b) e ∙ take_at word rest (length word) refl in
-    sym (take-append-drop (length word) (filled bs)) ∙ ap (λ f. f ++ drop (length word) (filled bs)) front
+    let front : take (length word) (filled n bs) ≡ word = take-filled (length word) n bs h fits ∙ ap (λ b. take (length word) b) e ∙ take_at word rest (length word) refl in
+    sym (take-append-drop (length word) (filled n bs)) ∙ ap (λ f. f ++ drop (length word) (filled n bs)) front
 
--- an entry whose word is whole is what is in front
-pub entry_whole : (t : Table) (bs : List Bool) (byte s long : ℕ) → bits_of 8 byte ≡ filled bs → IsEntry t byte (Some (s, long)) → long ≤ length bs → IsWord t (take long bs) s
-entry_whole t bs byte s long e h fits = rw (← take-filled long bs h.0 fits, ← e) h.1
+-- a window's word is in front where it is whole; where it is cut off there is none, for no word is a front of another
+pub window_word : (n : ℕ) (t : Table) (bs : List Bool) (w s long : ℕ) → bits_of n w ≡ filled n bs → long ≤ n → IsWord t (take long (bits_of n w)) s → IsFrontWhereWhole t bs s long
+window_word n t bs w s long e h is = (
+  λ fits. rw (← take-filled long n bs h fits, ← e) is,
+  λ cut word rest u v begins.
+      let fits : length word ≤ length bs = omega (arith, ap length begins, length-append word rest) in
+      let same = one_word t (take long (bits_of n w)) word (drop long (bits_of n w)) (drop (length word) (filled n bs)) s u is v
+      (take-append-drop long (bits_of n w) ∙ e ∙ begins_filled n bs word rest begins (omega arith)) in
+      let full : length (take long (bits_of n w)) ≡ long = length-take-le long (bits_of n w) (omega (arith, h, length-bits_of n w)) in
+      omega (arith, ap length same.0),
+)
 
--- an entry whose word is cut off says that there is none: no word is a front of another
-pub entry_cut : (t : Table) (bs : List Bool) (byte s long : ℕ) → bits_of 8 byte ≡ filled bs → IsEntry t byte (Some (s, long)) → length bs < long
-    → (word rest : List Bool) (u : ℕ) → IsWord t word u → bs ≢ word ++ rest
-entry_cut t bs byte s long e h cut word rest u w begins =
-    let fits : length word ≤ length bs = omega (arith, ap length begins, length-append word rest) in
-    let same = one_word t (take long (bits_of 8 byte)) word (drop long (bits_of 8 byte)) (drop (length word) (filled bs)) s u h.1 w
-    (take-append-drop long (bits_of 8 byte) ∙ e ∙ begins_filled bs word rest begins (omega (arith, h.0))) in
-    let full : length (take long (bits_of 8 byte)) ≡ long = length-take-le long (bits_of 8 byte) (omega (arith, h.0, length-bits_of 8 byte)) in
-    omega (arith, ap length same.0)
+-- no short word and no long one in front
+pub window_none : (t : Table) (bs : List Bool) (byte w : ℕ) → bits_of 8 byte ≡ filled 8 bs → IsEntry t byte None → bits_of 16 w ≡ filled 16 bs
+    → ((word rest : List Bool) (s : ℕ) → IsWord t word s → bits_of 16 w ≡ word ++ rest → length word ≤ 8) → HasNoFront t bs
+window_none t bs byte w e none f short = λ word rest s is begins.
+    let few : length word ≤ 8 = short word (drop (length word) (filled 16 bs)) s is (f ∙ begins_filled 16 bs word rest begins is.short) in
+    none word (drop (length word) (filled 8 bs)) s is (e ∙ begins_filled 8 bs word rest begins few)
 
--- no entry: a word in front has more than eight bits
-pub entry_none : (t : Table) (bs : List Bool) (byte : ℕ) → bits_of 8 byte ≡ filled bs → IsEntry t byte None
-    → (word rest : List Bool) (u : ℕ) → IsWord t word u → bs ≡ word ++ rest → 8 < length word
-entry_none t bs byte e h word rest u w begins = ⊎_elim
-    (λ lt. lt)
-    (λ le. absurd (h word (drop (length word) (filled bs)) u w (e ∙ begins_filled bs word rest begins le)))
-    (cases_lt 8 (length word))
+-- the number of a front of a window
+pub number_window : (n w : ℕ) → n ≤ 16 → w < 65536 → number (take n (bits_of 16 w)) ≡ w / 2 ^ (16 - n)
+number_window n w h small =
+    let e : n + (16 - n) ≡ 16 = omega arith in
+    ap number (ap (λ t. take n t) (sym (append-nil (bits_of 16 w))) ∙ take-held n 16 w [] h) ∙ number-bits_of n (w / 2 ^ (16 - n))
+    ∙ mod-eq_of_lt (shr_below w n (16 - n) (omega (arith, small, ap (λ k. 2 ^ k) e)))
+
+-- no word of nine bits or more, as far as they were looked at
+pub record Longer (t : Table) (window k : ℕ) : Type 0 where
+  pub none : (word rest : List Bool) (s : ℕ) → IsWord t word s → bits_of 16 window ≡ word ++ rest → 8 < length word → 8 + k < length word
+
+-- the least word of i + 1 bits is twice the end of those of i bits
+first_is : (t : Table) (i first : ℕ) → i < 16 → i < length t.counts → first * room (i + 1) ≡ space (lengths (take i t.counts))
+    → (end : ℕ) × (first ≡ 2 * end) × (end * room i ≡ space (lengths (take i t.counts)))
+first_is t i first short within e =
+    let wh = whole t.counts i (omega (arith, within)) (omega (arith, short)) in
+    let r = room (i + 1) in
+    let twice : first * room (i + 1) ≡ 2 * wh.times * room (i + 1) =
+    e ∙ wh.is ∙ ap (λ n. wh.times * n) (room_halves i short) ∙ sym (mul_assoc wh.times 2 (room (i + 1))) ∙ ap (λ n. n * room (i + 1)) (mul_comm wh.times 2) in
+    (wh.times, same_times first (2 * wh.times) (room (i + 1)) (room_pos (i + 1)) twice, sym wh.is)
+
+-- twice that end is the least word of the next length
+pub first_of : (t : Table) (k end : ℕ) → k < 8 → end * room (k + 8) ≡ space (lengths (take (k + 8) t.counts)) → 2 * end * room (k + 9) ≡ space (lengths (take (k + 8) t.counts))
+first_of t k end short e =
+    let nine : k + 8 + 1 ≡ k + 9 = omega arith in
+    ap (λ n. n * room (k + 9)) (mul_comm 2 end) ∙ mul_assoc end 2 (room (k + 9)) ∙ ap (λ l. end * (2 * room l)) (sym nine)
+    ∙ ap (λ n. end * n) (sym (room_halves (k + 8) (omega (arith, short)))) ∙ e
+
+pub long_found : (t : Table) (w k first m s : ℕ) → w < 65536 → k < 8 → k + 8 < length t.counts → first * room (k + 9) ≡ space (lengths (take (k + 8) t.counts))
+    → w / 2 ^ (7 - k) ≡ first + m → m < get_or t.counts (k + 8) 0 → slice_get t.symbols (sum (take (k + 8) t.counts) + m) ≡ Some s
+    → IsWord t (take (k + 9) (bits_of 16 w)) s
+long_found t w k first m s fits short within e code small known =
+    let nine : k + 8 + 1 ≡ k + 9 = omega arith in
+    let shift : 16 - (k + 9) ≡ 7 - k = omega arith in
+    let f = first_is t (k + 8) first (omega (arith, short)) within (ap (λ l. first * room l) nine ∙ e) in
+    let number_is : number (take (k + 8 + 1) (bits_of 16 w)) ≡ first + m =
+    ap (λ l. number (take l (bits_of 16 w))) nine ∙ number_window (k + 9) w (omega (arith, short)) fits ∙ ap (λ j. w / 2 ^ j) shift ∙ code in
+    subst (λ l. IsWord t (take l (bits_of 16 w)) s) nine
+    (word_found t (bits_of 16 w) (k + 8) (first + m) f.0 m s (omega (arith, short)) within (omega (arith, short, length-bits_of 16 w)) f.2 number_is (omega (arith, f.1)) small known)
+
+pub long_none : (t : Table) (w k first : ℕ) → w < 65536 → k < 8 → k + 8 < length t.counts → first * room (k + 9) ≡ space (lengths (take (k + 8) t.counts))
+    → ((m : ℕ) → m < get_or t.counts (k + 8) 0 → w / 2 ^ (7 - k) ≡ first + m → ⊥)
+    → (word rest : List Bool) (s : ℕ) → IsWord t word s → bits_of 16 w ≡ word ++ rest → 8 + k < length word → 8 + (k + 1) < length word
+long_none t w k first fits short within e past word rest s is begins longer =
+    let nine : k + 8 + 1 ≡ k + 9 = omega arith in
+    let shift : 16 - (k + 9) ≡ 7 - k = omega arith in
+    let f = first_is t (k + 8) first (omega (arith, short)) within (ap (λ l. first * room l) nine ∙ e) in
+    let number_is : number (take (k + 8 + 1) (bits_of 16 w)) ≡ w / 2 ^ (7 - k) =
+    ap (λ l. number (take l (bits_of 16 w))) nine ∙ number_window (k + 9) w (omega (arith, short)) fits ∙ ap (λ j. w / 2 ^ j) shift in
+    omega (
+      arith,
+      none_here t (bits_of 16 w) word rest (k + 8) (w / 2 ^ (7 - k)) f.0 s f.2 number_is
+          (λ m small same. past m small (omega (arith, same, f.1))) is begins (omega (arith, longer)),
+    )
+
+pub long_word : (t : Table) (bs : List Bool) (w : ℕ) (r : Option (ℕ × ℕ)) → bits_of 16 w ≡ filled 16 bs → IfSome r (λ f. (f.1 ≤ 16) × IsWord t (take f.1 (bits_of 16 w)) f.0)
+    → IfSome r (λ f. IsFrontWhereWhole t bs f.0 f.1)
+long_word t bs w None e is = is
+long_word t bs w (Some f) e is = window_word 16 t bs w f.0 f.1 e is.0 is.1
+
+pub long_short : (t : Table) (w : ℕ) (r : Option (ℕ × ℕ)) → IfSome r (λ f. (f.1 ≤ 16) × IsWord t (take f.1 (bits_of 16 w)) f.0) → IfSome r (λ f. f.1 ≤ 16)
+long_short t w None is = is
+long_short t w (Some f) is = is.0
+
+pub no_word : (t : Table) (bs : List Bool) (byte w : ℕ) (r : Option (ℕ × ℕ)) → bits_of 8 byte ≡ filled 8 bs → IsEntry t byte None → bits_of 16 w ≡ filled 16 bs
+    → IfNone r ((word rest : List Bool) (s : ℕ) → IsWord t word s → bits_of 16 w ≡ word ++ rest → length word ≤ 8) → IfNone r (HasNoFront t bs)
+no_word t bs byte w None e none f short = window_none t bs byte w e none f short
+no_word t bs byte w (Some g) e none f short = short
+
+pub if_none : {X : Type 0} (P : Type 0) (r : Option X) → P → IfNone r P
+if_none P None p = p
+if_none P (Some x) p = tt
+
+-- a word's place among the symbols
+pub place_within : (t : Table) (i shorter k : ℕ) → sum t.counts ≡ length t.symbols → i < length t.counts → shorter ≡ sum (take i t.counts) → k < get_or t.counts i 0
+    → shorter + k < length t.symbols
+place_within t i shorter k each within is small = omega (arith, each, is, small, sum_by_more_le (λ n. n) t.counts i 0 within)
 
 pub end_below : (t : Table) (i end : ℕ) → IsLawful t.counts t.symbols → end * room i ≡ space (lengths (take i t.counts)) → end ≤ 65536
 end_below t i end lawful full =
@@ -449,17 +530,6 @@ entry_read t byte bs None e found none = rw (e ∙ append-nil (bits_of 8 byte)) 
 entry_read t byte bs (Some f) e found none =
     let same : bs ≡ bits_of 8 byte = e ∙ append-nil (bits_of 8 byte) in
     (omega (arith, found.0, ap length same, length-bits_of 8 byte), rw same at found.1)
-
--- behind eight bits that are no entry the reader goes on
-pub reached_eight : (t : Table) (bs : List Bool) (byte end index : ℕ) → bits_of 8 byte ≡ filled bs → byte < 256 → IsEntry t byte None → 8 ≤ length bs → IsShort t end index
-    → Reached t bs 8 byte end index
-reached_eight t bs byte end index e small h enough short = record {
-  code_is = ap number (sym (take-filled 8 bs (omega arith) enough) ∙ ap (λ b. take 8 b) (sym e) ∙ take_all 8 (bits_of 8 byte) (omega (arith, length-bits_of 8 byte))) ∙ number-bits_of 8 byte ∙ mod-eq_of_lt small;
-  full = short.full;
-  index_is = short.index_is;
-  enough = enough;
-  none = entry_none t bs byte e h;
-}
 
 -- the test of two tables tells whether they are one
 pub tables_decide : (s t : Table) → Decides (same_table s t) (s ≡ t)

@@ -1,12 +1,15 @@
 //! Code tables of a JPEG file.
 
-ghost use Rattle.std.specs.Prelude.{◌≡◌, ◌≢◌, ◌<◌, ◌≤◌, ◌^◌, ◌↔◌, ◌++◌, ℕ, List, Bool, length, IfSome, IfNone, IfOk, OnOk, drop, take, sum};
+ghost use Rattle.std.specs.Prelude.{◌≡◌, ◌≢◌, ◌<◌, ◌≤◌, ◌^◌, ◌↔◌, ◌++◌, ◌⊎◌, ℕ, List, Bool, [], length, IfSome, IfNone, IfOk, OnOk, drop, take, sum, ◌*◌};
 ghost use Rattle.std.proofs.Common.{rules};
 ghost use Rattle.std.specs.Cmp.Rules.{comparing};
-ghost use Rattle.jr_code.specs.Code.{same_table, Table, IsWord, IsLawful, HasTooMany, IsOverfull, space, lengths, Reached, AreEntries, IsShort};
+ghost use Rattle.jr_code.specs.Code.{same_table, Table, IsWord, IsLawful, HasTooMany, IsOverfull, room, space, lengths, AreEntries, AreLong, IsFrontWhereWhole, HasNoFront, IsPrefixFree};
+ghost use Rattle.jr_code.specs.Bits.{bits_of};
+ghost use Rattle.jr_code.specs.Register.{bits_in};
 
 use crate::bits::Bits;
 use crate::memory::Memory;
+use crate::register::Register;
 use std::alloc::Global;
 use std::marker::Model;
 use thiserror::Error;
@@ -60,27 +63,10 @@ impl Words {
         ensures found { IfSome result (λ f. (f.1 ≤ length bits.now) × IsWord self.now (take f.1 bits.now) f.0) }
         ensures none { IfNone result ((word rest : List Bool) (s : ℕ) → IsWord self.now word s → bits.now ≢ word ++ rest) }
     {
-        self.front_from(bits, 0, 0, 0, 0)
-    }
-
-    /// The same, behind the first bits, which are no word.
-    fn front_from(
-        &self,
-        bits: &Bits,
-        start: u8,
-        code: u32,
-        end: u32,
-        index: u32,
-    ) -> Option<(u8, u8)>
-        requires start { start ≤ 16 }
-        requires reached { Reached self.now bits.now start code end index }
-        ensures found { IfSome result (λ f. (f.1 ≤ length bits.now) × IsWord self.now (take f.1 bits.now) f.0) }
-        ensures none { IfNone result ((word rest : List Bool) (s : ℕ) → IsWord self.now word s → bits.now ≢ word ++ rest) }
-    {
-        let mut code = code;
-        let mut end = end;
-        let mut index = index;
-        for i in start..16 {
+        let mut code: u32 = 0;
+        let mut end: u32 = 0;
+        let mut index: u32 = 0;
+        for i in 0..16u8 {
             let at = u64::from(i);
             if at >= bits.left() {
                 return None;
@@ -103,19 +89,20 @@ impl Words {
 #[derive(Drop)]
 pub struct CodeBook {
     words: Words,
+    /// By eight bits: the symbol and length of the word of at most eight bits in front.
     entries: [Option<(u8, u8)>; 256],
-    end: u32,
-    index: u32,
+    /// For each length from nine to sixteen bits: the least word, and how many words are shorter.
+    long: [(u32, u32); 8],
 }
 
 impl Model for CodeBook {
-    ghost use Rattle.jr_code.specs.Code.{Table, AreEntries, IsShort};
+    ghost use Rattle.jr_code.specs.Code.{Table, AreEntries, AreLong};
 
     ghost Value = { Table };
 
     ghost view = { λ b. b.words };
 
-    ghost invariant = { λ b. AreEntries b.words b.entries × IsShort b.words b.end b.index };
+    ghost invariant = { λ b. AreEntries b.words b.entries × AreLong b.words b.long };
 }
 
 impl PartialEq for CodeBook {
@@ -158,8 +145,7 @@ impl CodeBook {
         Ok(CodeBook {
             words: self.words.try_clone()?,
             entries: self.entries,
-            end: self.end,
-            index: self.index,
+            long: self.long,
         })
     }
 
@@ -167,12 +153,11 @@ impl CodeBook {
         ensures { result ≡ words }
     {
         let entries = words.entries();
-        let (end, index) = words.short();
+        let long = words.long();
         CodeBook {
             words,
             entries,
-            end,
-            index,
+            long,
         }
     }
 
@@ -184,38 +169,37 @@ impl CodeBook {
     }
 
     /// Reads a word from the bits and gives its symbol.
+    #[inline]
     pub fn read(&self, bits: &mut Bits) -> Option<u8>
         ensures found { IfSome result (λ s. (word : List Bool) × IsWord self.now word s × (bits.old ≡ word ++ bits.new)) }
         // No word is a front of what is left.
         ensures none { IfNone result ((word rest : List Bool) (s : ℕ) → IsWord self.now word s → bits.old ≢ word ++ rest) }
         ensures unmoved { IfNone result (bits.new ≡ bits.old) }
+        // Two words of this table that begin the same bits are one word with one symbol.
+        ensures one_word { IsPrefixFree self.now }
     {
-        let (symbol, long) = self.front(bits)?;
-        bits.skip(u64::from(long));
+        let register = bits.register.refilled();
+        let (symbol, long) = self.front(register)?;
+        if u32::from(long) > register.count {
+            return None;
+        }
+        bits.register = register.behind(u32::from(long));
         Some(symbol)
     }
 
-    /// The word that is in front of the bits: its symbol, and how many bits it has.
-    fn front(&self, bits: &Bits) -> Option<(u8, u8)>
-        ensures found { IfSome result (λ f. (f.1 ≤ length bits.now) × IsWord self.now (take f.1 bits.now) f.0) }
-        ensures none { IfNone result ((word rest : List Bool) (s : ℕ) → IsWord self.now word s → bits.now ≢ word ++ rest) }
+    /// The word that is in front of the bits where these are as many, and none where they are fewer.
+    #[inline]
+    fn front(&self, register: Register) -> Option<(u8, u8)>
+        requires { (32 ≤ register.count) ⊎ (register.rest.now ≡ []) }
+        ensures found { IfSome result (λ f. IsFrontWhereWhole self.now (bits_in register.entry) f.0 f.1) }
+        ensures short { IfSome result (λ f. f.1 ≤ 16) }
+        ensures none { IfNone result (HasNoFront self.now (bits_in register.entry)) }
     {
-        let window = bits.window();
-        match self.entries[window as usize] {
-            Some((symbol, long)) => {
-                if u64::from(long) <= bits.left() {
-                    Some((symbol, long))
-                } else {
-                    None
-                }
-            }
-            None => {
-                if bits.left() < 8 {
-                    return None;
-                }
-                self.words
-                    .front_from(bits, 8, u32::from(window), self.end, self.index)
-            }
+        match self.entries[register.window(8) as usize] {
+            Some(word) => Some(word),
+            None => self
+                .words
+                .long_front(&self.long, register.window(16) as u16),
         }
     }
 }
@@ -233,18 +217,51 @@ impl Words {
         entries
     }
 
-    /// What the reader knows behind eight bits.
-    fn short(&self) -> (u32, u32)
-        ensures { IsShort self.now result.0 result.1 }
+    /// The word of nine bits or more that is in front of sixteen bits.
+    #[inline(never)]
+    fn long_front(&self, long: &[(u32, u32); 8], window: u16) -> Option<(u8, u8)>
+        requires { AreLong self.now long.now }
+        ensures found { IfSome result (λ f. (f.1 ≤ 16) × IsWord self.now (take f.1 (bits_of 16 window)) f.0) }
+        ensures none { IfNone result ((word rest : List Bool) (s : ℕ) → IsWord self.now word s → bits_of 16 window ≡ word ++ rest → length word ≤ 8) }
+    {
+        for k in 0..8usize {
+            let code = u32::from(window) >> (7 - k);
+            let (first, shorter) = long[k];
+            if code >= first && code - first < u32::from(self.counts[k + 8]) {
+                let place = (shorter + (code - first)) as usize;
+                return Some((self.symbols[place], k as u8 + 9));
+            }
+        }
+        None
+    }
+
+    /// For each length from nine to sixteen bits: the least word, and how many words are shorter.
+    fn long(&self) -> [(u32, u32); 8]
+        ensures { AreLong self.now result }
+    {
+        let mut long = [(0, 0); 8];
+        for k in 0..8usize {
+            let (end, shorter) = self.up_to(k + 8);
+            long[k] = (2 * end, shorter);
+        }
+        long
+    }
+
+    /// Past the greatest word of that length, and how many words are no longer.
+    fn up_to(&self, length: usize) -> (u32, u32)
+        requires { length ≤ 16 }
+        ensures end { result.0 * room length ≡ space (lengths (take length self.now.counts)) }
+        ensures words { result.1 ≡ sum (take length self.now.counts) }
+        ensures small { result.0 ≤ 65536 }
     {
         let mut end: u32 = 0;
-        let mut index: u32 = 0;
-        for i in 0..8usize {
+        let mut words: u32 = 0;
+        for i in 0..length {
             let count = u32::from(self.counts[i]);
             end = 2 * end + count;
-            index += count;
+            words += count;
         }
-        (end, index)
+        (end, words)
     }
 }
 

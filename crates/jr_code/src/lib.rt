@@ -5,6 +5,7 @@ mod bits;
 mod book;
 mod laws;
 mod memory;
+mod register;
 
 pub use bits::Bits;
 pub use book::{CodeBook, CodeFault};
