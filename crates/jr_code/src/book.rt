@@ -10,85 +10,30 @@ ghost use Rattle.jr_code.specs.Register.{bits_in};
 use crate::bits::Bits;
 use crate::memory::Memory;
 use crate::register::Register;
+use crate::words::Words;
 use std::alloc::Global;
 use std::marker::Model;
 use thiserror::Error;
 
-/// Why counts and symbols are no code table.
+/// Why counts and symbols are no code table, or why there is no room for it.
 #[derive(Debug, Drop, PartialEq, Eq, Error)]
 pub enum CodeFault {
+    /// The counts add up to over 256, or not to the number of symbols.
     #[error("too many words, or not one symbol for each")]
     TooMany,
+    /// The sum of `2 ^ (16 - length)` over all words is over 65536.
     #[error("the words have no room")]
     Overfull,
+    /// A request for memory was refused.
     #[error("out of memory")]
     Memory,
 }
 
-/// Counts of words by length, and a symbol for each word: read bit by bit.
-#[derive(Drop)]
-struct Words {
-    counts: [u8; 16],
-    symbols: Vec<u8>,
-}
-
-impl Model for Words {
-    ghost use Rattle.jr_code.specs.Code.{Table, IsLawful};
-
-    ghost Value = { Table };
-
-    ghost view = { λ b. record { counts = b.counts; symbols = b.symbols.items } };
-
-    ghost invariant = { λ b. IsLawful b.counts b.symbols.items };
-}
-
-impl Words {
-    fn is_same(&self, other: &Words) -> bool
-        ensures { result ≡ same_table self.now other.now }
-    {
-        self.counts == other.counts && self.symbols.as_slice() == other.symbols.as_slice()
-    }
-
-    fn try_clone(&self) -> Result<Words, Memory>
-        ensures { IfOk result (λ w. w ≡ self.now) }
-    {
-        Ok(Words {
-            counts: self.counts,
-            symbols: self.symbols.clone()?,
-        })
-    }
-
-    /// The word that is in front of the bits, of which there is at most one: its symbol, and how many bits it has.
-    fn front(&self, bits: &Bits) -> Option<(u8, u8)>
-        ensures found { IfSome result (λ f. (f.1 ≤ length bits.now) × IsWord self.now (take f.1 bits.now) f.0) }
-        ensures none { IfNone result ((word rest : List Bool) (s : ℕ) → IsWord self.now word s → bits.now ≢ word ++ rest) }
-    {
-        let mut code: u32 = 0;
-        let mut end: u32 = 0;
-        let mut index: u32 = 0;
-        for i in 0..16u8 {
-            let at = u64::from(i);
-            if at >= bits.left() {
-                return None;
-            }
-            code = 2 * code + u32::from(bits.peek(at));
-            end = 2 * end;
-            let count = u32::from(self.counts[i as usize]);
-            if code >= end && code - end < count {
-                let place = (index + (code - end)) as usize;
-                return Some((self.symbols[place], i + 1));
-            }
-            end += count;
-            index += count;
-        }
-        None
-    }
-}
-
-/// A code table.
+/// A code table (T.81, Annex C), read by eight bits at once and, for longer words, by length. Two are equal where their
+/// counts and symbols are.
 #[derive(Drop)]
 pub struct CodeBook {
-    words: Words,
+    pub(crate) words: Words,
     /// By eight bits: the symbol and length of the word of at most eight bits in front.
     entries: [Option<(u8, u8)>; 256],
     /// For each length from nine to sixteen bits: the least word, and how many words are shorter.
@@ -116,7 +61,8 @@ impl PartialEq for CodeBook {
 }
 
 impl CodeBook {
-    /// The table of these counts and symbols.
+    /// The table of these counts, `counts[i]` of words of i + 1 bits, and of a symbol for each word in order (T.81, B.2.4.2
+    /// and Annex C). A symbol may stand twice, the word of all ones may be assigned, and a table may be empty.
     pub fn new(alloc: Global, counts: &[u8; 16], symbols: &[u8]) -> Result<CodeBook, CodeFault>
         ensures book { IfOk result (λ b. b ≡ record { counts = counts.now; symbols = symbols.now }) }
         ensures lawful { OnOk result (IsLawful counts.now symbols.now) }
@@ -161,15 +107,17 @@ impl CodeBook {
         }
     }
 
-    /// What each byte looks up.
+    /// For each eight bits the symbol and the length of the word of at most eight bits that begins them, None where there
+    /// is none.
     pub fn entries(&self) -> &[Option<(u8, u8)>; 256]
         ensures { AreEntries self.now result.now }
     {
         &self.entries
     }
 
-    /// Reads a word from the bits and gives its symbol.
-    #[inline]
+    /// Takes a word from the bits and gives its symbol (T.81, F.2.2.3, DECODE). Where no word is in front it gives None,
+    /// and nothing moves.
+    #[inline(always)]
     pub fn read(&self, bits: &mut Bits) -> Option<u8>
         ensures found { IfSome result (λ s. (word : List Bool) × IsWord self.now word s × (bits.old ≡ word ++ bits.new)) }
         // No word is a front of what is left.
@@ -179,20 +127,51 @@ impl CodeBook {
         ensures one_word { IsPrefixFree self.now }
     {
         let register = bits.register.refilled();
-        let (symbol, long) = self.front(register)?;
-        if u32::from(long) > register.count {
-            return None;
+        if register.count >= 32
+            && let Some((symbol, long)) = self.short_word(register)
+        {
+            bits.register = register.behind(u32::from(long));
+            return Some(symbol);
         }
+        let (symbol, long) = self.rare_word(register.held, register.count)?;
         bits.register = register.behind(u32::from(long));
         Some(symbol)
     }
 
-    /// The word that is in front of the bits where these are as many, and none where they are fewer.
-    #[inline]
+    /// The word of at most eight bits that is in front of the bits.
+    #[inline(always)]
+    fn short_word(&self, register: Register) -> Option<(u8, u8)>
+        requires { 32 ≤ register.count }
+        ensures { IfSome result (λ f. (f.1 ≤ register.entry.count) × IsWord self.now (take f.1 (bits_in register.entry)) f.0) }
+    {
+        self.entries[register.front(8) as usize]
+    }
+
+    /// The word that is in front of the last `count` bits of `held`, a long one or one near the end of all bits. By value,
+    /// so that no address of a reader leaves its loop.
+    #[cold]
+    #[inline(never)]
+    fn rare_word(&self, held: u64, count: u32) -> Option<(u8, u8)>
+        requires { count < 64 }
+        ensures found { IfSome result (λ f. (f.1 ≤ count) × IsWord self.now (take f.1 (bits_of count held)) f.0) }
+        ensures none { IfNone result (HasNoFront self.now (bits_of count held)) }
+    {
+        let register = Register {
+            rest: &[],
+            held,
+            count,
+        };
+        let (symbol, long) = self.front(register)?;
+        if u32::from(long) > count {
+            return None;
+        }
+        Some((symbol, long))
+    }
+
+    /// The word that is in front of the bits where these are as many; where they are fewer there is none.
     fn front(&self, register: Register) -> Option<(u8, u8)>
-        requires { (32 ≤ register.count) ⊎ (register.rest.now ≡ []) }
+        requires { register.rest.now ≡ [] }
         ensures found { IfSome result (λ f. IsFrontWhereWhole self.now (bits_in register.entry) f.0 f.1) }
-        ensures short { IfSome result (λ f. f.1 ≤ 16) }
         ensures none { IfNone result (HasNoFront self.now (bits_in register.entry)) }
     {
         match self.entries[register.window(8) as usize] {
@@ -201,67 +180,6 @@ impl CodeBook {
                 .words
                 .long_front(&self.long, register.window(16) as u16),
         }
-    }
-}
-
-impl Words {
-    /// What each byte looks up, by the reader itself.
-    fn entries(&self) -> [Option<(u8, u8)>; 256]
-        ensures { AreEntries self.now result }
-    {
-        let mut entries = [None; 256];
-        for byte in 0..256usize {
-            let one = [byte as u8];
-            entries[byte] = self.front(&Bits::over(&one));
-        }
-        entries
-    }
-
-    /// The word of nine bits or more that is in front of sixteen bits.
-    #[inline(never)]
-    fn long_front(&self, long: &[(u32, u32); 8], window: u16) -> Option<(u8, u8)>
-        requires { AreLong self.now long.now }
-        ensures found { IfSome result (λ f. (f.1 ≤ 16) × IsWord self.now (take f.1 (bits_of 16 window)) f.0) }
-        ensures none { IfNone result ((word rest : List Bool) (s : ℕ) → IsWord self.now word s → bits_of 16 window ≡ word ++ rest → length word ≤ 8) }
-    {
-        for k in 0..8usize {
-            let code = u32::from(window) >> (7 - k);
-            let (first, shorter) = long[k];
-            if code >= first && code - first < u32::from(self.counts[k + 8]) {
-                let place = (shorter + (code - first)) as usize;
-                return Some((self.symbols[place], k as u8 + 9));
-            }
-        }
-        None
-    }
-
-    /// For each length from nine to sixteen bits: the least word, and how many words are shorter.
-    fn long(&self) -> [(u32, u32); 8]
-        ensures { AreLong self.now result }
-    {
-        let mut long = [(0, 0); 8];
-        for k in 0..8usize {
-            let (end, shorter) = self.up_to(k + 8);
-            long[k] = (2 * end, shorter);
-        }
-        long
-    }
-
-    /// Past the greatest word of that length, and how many words are no longer.
-    fn up_to(&self, length: usize) -> (u32, u32)
-        requires { length ≤ 16 }
-        ensures end { result.0 * room length ≡ space (lengths (take length self.now.counts)) }
-        ensures words { result.1 ≡ sum (take length self.now.counts) }
-        ensures small { result.0 ≤ 65536 }
-    {
-        let mut end: u32 = 0;
-        let mut words: u32 = 0;
-        for i in 0..length {
-            let count = u32::from(self.counts[i]);
-            end = 2 * end + count;
-            words += count;
-        }
-        (end, words)
     }
 }
 

@@ -6,6 +6,7 @@ mod book;
 mod laws;
 mod memory;
 mod register;
+mod words;
 
 pub use bits::Bits;
 pub use book::{CodeBook, CodeFault};

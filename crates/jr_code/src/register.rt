@@ -1,6 +1,6 @@
 //! The bits of a byte slice, by way of a register that is refilled by whole words.
 
-ghost use Rattle.std.specs.Prelude.{◌≡◌, ◌<◌, ◌≤◌, ◌+◌, ◌*◌, ◌^◌, ◌⊎◌, ◌↔◌, length, IsSome, IfSome, drop, take, slice_get, Some, [], ◌∷◌};
+ghost use Rattle.std.specs.Prelude.{◌≡◌, ◌<◌, ◌≤◌, ◌+◌, ◌*◌, ◌^◌, ◌⊎◌, ◌↔◌, length, IsSome, IfSome, drop, take, slice_get, Some, [], ◌∷◌, ◌++◌, ℕ};
 ghost use Rattle.jr_code.specs.Bits.{bits, bits_of, number, filled};
 
 /// The last `count` bits of `held`, and behind them those of `rest`. Other bits of `held` mean nothing.
@@ -29,7 +29,7 @@ impl<'a> Register<'a> {
     }
 
     /// How many bits are left.
-    #[inline]
+    #[inline(always)]
     pub(crate) fn left(self) -> u64
         ensures { result ≡ length (bits_in self.entry) }
     {
@@ -37,7 +37,7 @@ impl<'a> Register<'a> {
     }
 
     /// The same bits, of which the register then holds at least 32, or all that are left.
-    #[inline]
+    #[inline(always)]
     pub(crate) fn refilled(self) -> Register<'a>
         ensures same { bits_in result ≡ bits_in self.entry }
         ensures full { (32 ≤ result.count) ⊎ (result.rest.now ≡ []) }
@@ -46,7 +46,11 @@ impl<'a> Register<'a> {
             return self;
         }
         let &[a, b, c, d, ref rest @ ..] = self.rest else {
-            return self.near_end();
+            return Register {
+                rest: &[],
+                held: followed(self.held, self.rest),
+                count: self.count + 8 * self.rest.len() as u32,
+            };
         };
         Register {
             rest,
@@ -55,30 +59,8 @@ impl<'a> Register<'a> {
         }
     }
 
-    /// The same bits, all of them in the register. By value, so that no address of a reader leaves its loop.
-    #[cold]
-    #[inline(never)]
-    fn near_end(self) -> Register<'a>
-        requires few { self.count < 32 }
-        requires short { length self.rest.now < 4 }
-        ensures same { bits_in result ≡ bits_in self.entry }
-        ensures all { result.rest.now ≡ [] }
-    {
-        let mut held = self.held;
-        let mut count = self.count;
-        for &byte in self.rest {
-            held = (held << 8) | u64::from(byte);
-            count += 8;
-        }
-        Register {
-            rest: &[],
-            held,
-            count,
-        }
-    }
-
     /// The same bits with the next n in the register, or None where fewer are left.
-    #[inline]
+    #[inline(always)]
     pub(crate) fn with(self, n: u32) -> Option<Register<'a>>
         requires { n ≤ 32 }
         ensures found { IsSome result ↔ (n ≤ length (bits_in self.entry)) }
@@ -97,7 +79,7 @@ impl<'a> Register<'a> {
     }
 
     /// The number of the next n bits.
-    #[inline]
+    #[inline(always)]
     pub(crate) fn front(self, n: u32) -> u64
         requires short { n ≤ 16 }
         requires held { n ≤ self.count }
@@ -108,10 +90,9 @@ impl<'a> Register<'a> {
     }
 
     /// The number of the next n bits, where zeros stand for those that are missing.
-    #[inline]
     pub(crate) fn window(self, n: u32) -> u64
         requires short { n ≤ 16 }
-        requires full { (32 ≤ self.count) ⊎ (self.rest.now ≡ []) }
+        requires all { self.rest.now ≡ [] }
         ensures front { bits_of n result ≡ filled n (bits_in self.entry) }
         ensures small { result < 2 ^ n }
     {
@@ -123,7 +104,7 @@ impl<'a> Register<'a> {
     }
 
     /// The bits behind the next n.
-    #[inline]
+    #[inline(always)]
     pub(crate) fn behind(self, n: u32) -> Register<'a>
         requires { n ≤ self.count }
         ensures { bits_in result ≡ drop n (bits_in self.entry) }
@@ -150,11 +131,25 @@ impl<'a> Register<'a> {
 }
 
 /// The number of four bytes, the first counting most.
-#[inline]
+#[inline(always)]
 fn word(a: u8, b: u8, c: u8, d: u8) -> u32
     ensures { bits_of 32 result ≡ bits (a ∷ b ∷ c ∷ d ∷ []) }
 {
     u32::from_be_bytes([a, b, c, d])
+}
+
+/// A number with the last bytes of a slice behind it. By value, so that no address of a reader leaves its loop.
+#[cold]
+#[inline(never)]
+fn followed(held: u64, bytes: &[u8]) -> u64
+    requires { length bytes.now < 4 }
+    ensures { (count : ℕ) → count ≤ 32 → bits_of (count + 8 * length bytes.now) result ≡ bits_of count held ++ bits bytes.now }
+{
+    let mut held = held;
+    for &byte in bytes {
+        held = (held << 8) | u64::from(byte);
+    }
+    held
 }
 
 /// The bit at a place of the bytes.

@@ -1,7 +1,7 @@
 use Rattle.std.proofs.Common.{◌≡◌, ◌+◌, ◌*◌, ◌<◌, ℕ, take, length}
 use Rattle.std.specs.Prelude.{slice_index_or, sum}
 use Rattle.jr_code.specs.Code.{room, space, lengths}
-use Rattle.jr_code.proofs.book.Words.long.Given as goal
+use Rattle.jr_code.proofs.words.Words.long.Given as goal
 
 abbrev pub invariant-loop-k : goal.invariant-loop-k
 invariant-loop-k l = record {

@@ -1,7 +1,7 @@
 use Rattle.std.proofs.Common.{◌<◌, ◌≢◌, ◌*◌, length, arith, below_more, get_or-set_other, get_or-set_same, ◌∙◌}
 use Rattle.std.proofs.lemmas.List.{length-set}
-use Rattle.jr_code.proofs.CodeLemmas.{first_of}
-use Rattle.jr_code.proofs.book.Words.long.Goals as goal
+use Rattle.jr_code.proofs.ReadLemmas.{first_of}
+use Rattle.jr_code.proofs.words.Words.long.Goals as goal
 
 pub loop-k-preserved : goal.loop-k-preserved
 loop-k-preserved c =
