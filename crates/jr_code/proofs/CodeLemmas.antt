@@ -4,18 +4,17 @@ use Rattle.std.specs.Bool.{Decides}
 use Rattle.std.specs.Cmp.Lexicographic.{bytes_decides, pointwise}
 use Rattle.std.proofs.lemmas.Bool.{and_parts, and_from}
 use Rattle.jr_code.specs.Code.{same_table}
-use Rattle.std.proofs.Common.{false, ◌≢◌, ◌≡◌, ℕ, zero, suc, ◌+◌, ◌-◌, ◌*◌, ◌/◌, ◌%◌, ◌^◌, ◌<◌, ◌≤◌, Bool, List, [], ◌∷◌, ◌++◌, length, drop, take, get_or, replicate, refl, sym, ◌∙◌, ap, arith, length-append, lit<, ⊎_elim, subst}
-use Rattle.std.specs.Prelude.{◌⊎◌, slice_get, Option, Some, None, IfSome, IfNone, sum, sum_by}
+use Rattle.std.proofs.Common.{◌≡◌, ℕ, zero, suc, ◌+◌, ◌-◌, ◌*◌, ◌/◌, ◌^◌, ◌<◌, ◌≤◌, Bool, List, [], ◌∷◌, ◌++◌, length, drop, take, get_or, replicate, refl, sym, ◌∙◌, ap, arith, length-append, ⊎_elim, subst}
+use Rattle.std.specs.Prelude.{slice_get, Option, Some, sum, sum_by}
 use Rattle.std.proofs.lemmas.Bool.{cases_lt, cases_order}
-use Rattle.std.proofs.lemmas.Nat.{pow-add, pow_pos, mul-le, shr_below}
-use Rattle.std.proofs.lemmas.List.{append_assoc, append-nil, take_more, take-take, length-take-le, length-replicate, take-append-drop, drop_more, take_at, take-append-le}
+use Rattle.std.proofs.lemmas.Nat.{pow-add, pow_pos}
+use Rattle.std.proofs.lemmas.List.{append_assoc, append-nil, take_more, take-take, length-take-le, length-replicate, take-append-drop, drop_more}
 use Rattle.std.proofs.lemmas.List.Sums.{sum_by-append, sum_by-cons, sum_by_more, sum_by_more_le, sum_by-take-le}
-use Rattle.std.proofs.lemmas.Option.{slice_get_within, get_or_from_slice_get, slice_get_read}
-use Rattle.std.proofs.Math.Nat.{mul_assoc, mul_comm, add-mul, pow-suc, lt_of_mul-lt-mul_right, le-mul_of_pos_right, mul-div_left, mul-lt-mul_of_pos_right, pow-le-pow_right, mod-eq_of_lt}
-use Rattle.jr_code.specs.Bits.{number, bits_of, filled}
-use Rattle.jr_code.specs.Code.{IsEntry, Table, HasNoFront, IsFrontWhereWhole, IsWord, IsLawful, lengths_from, lengths, room, space}
-use Rattle.jr_code.proofs.BitLemmas.{number_below, number-take_zero, length-bits_of, number-bits_of, number-append, slice_get-append_left, slice_get-append_right}
-use Rattle.jr_code.proofs.RegisterLemmas.{take-held}
+use Rattle.std.proofs.lemmas.Option.{slice_get_within, get_or_from_slice_get}
+use Rattle.std.proofs.Math.Nat.{mul_assoc, mul_comm, add-mul, pow-suc, lt_of_mul-lt-mul_right, mul-div_left, mul-lt-mul_of_pos_right, mod-eq_of_lt}
+use Rattle.jr_code.specs.Bits.{number, bits_of}
+use Rattle.jr_code.specs.Code.{Table, IsWord, IsLawful, lengths_from, lengths, room, space}
+use Rattle.jr_code.proofs.BitLemmas.{number_below, length-bits_of, number-bits_of, number-append, slice_get-append_left, slice_get-append_right}
 
 pub length-lengths : (l : ℕ) (cs : List ℕ) → length (lengths_from l cs) ≡ sum cs
 length-lengths l [] = refl

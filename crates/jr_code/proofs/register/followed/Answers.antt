@@ -1,6 +1,6 @@
-use Rattle.std.proofs.Common.{◌≡◌, ◌<◌, ◌≤◌, ◌*◌, ◌%◌, ◌∷◌, ◌++◌, ◌+◌, ◌∙◌, ap, arith, sym, drop, length}
+use Rattle.std.proofs.Common.{◌≡◌, ◌*◌, ◌%◌, ◌∷◌, ◌++◌, ◌+◌, ◌∙◌, ap, arith, sym, drop}
 use Rattle.std.specs.Prelude.{bit_or}
-use Rattle.std.proofs.lemmas.List.{drop_more, append-nil, drop_all}
+use Rattle.std.proofs.lemmas.List.{drop_more}
 use Rattle.jr_code.specs.Bits.{bits_of, bits}
 use Rattle.jr_code.proofs.RegisterLemmas.{push_byte}
 use Rattle.jr_code.proofs.register.followed.Goals as goal

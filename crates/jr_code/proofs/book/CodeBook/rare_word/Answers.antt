@@ -1,4 +1,4 @@
-use Rattle.std.proofs.Common.{◌≡◌, ◌<◌, ◌≤◌, length, arith}
+use Rattle.std.proofs.Common.{arith}
 use Rattle.jr_code.specs.Bits.{bits_of}
 use Rattle.jr_code.specs.Code.{HasNoFront, IsFrontWhereWhole}
 use Rattle.jr_code.proofs.BitLemmas.{length-bits_of}

@@ -1,4 +1,4 @@
-use Rattle.std.proofs.Common.{◌≡◌, ◌<◌, ◌≤◌, ap, length, arith, get_or}
+use Rattle.std.proofs.Common.{arith, get_or}
 use Rattle.std.specs.Prelude.{None}
 use Rattle.jr_code.specs.Register.{bits_in}
 use Rattle.jr_code.proofs.ReadLemmas.{entry_word}
