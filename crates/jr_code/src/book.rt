@@ -1,9 +1,9 @@
 //! Code tables of a JPEG file.
 
-ghost use Rattle.std.specs.Prelude.{◌≡◌, ◌≢◌, ◌<◌, ◌≤◌, ◌^◌, ◌↔◌, ◌++◌, ◌⊎◌, ℕ, List, Bool, [], length, IfSome, IfNone, IfOk, OnOk, drop, take, sum, ◌*◌};
+ghost use Rattle.std.specs.Prelude.{◌≡◌, ◌≢◌, ◌<◌, ◌≤◌, ◌↔◌, ◌++◌, ℕ, List, Bool, [], IfSome, IfNone, IfOk, OnOk, take, sum};
 ghost use Rattle.std.proofs.Common.{rules};
 ghost use Rattle.std.specs.Cmp.Rules.{comparing};
-ghost use Rattle.jr_code.specs.Code.{same_table, Table, IsWord, IsLawful, HasTooMany, IsOverfull, room, space, lengths, AreEntries, AreLong, IsFrontWhereWhole, HasNoFront, IsPrefixFree};
+ghost use Rattle.jr_code.specs.Code.{same_table, Table, IsWord, IsLawful, HasTooMany, IsOverfull, space, lengths, AreEntries, AreLong, IsFrontWhereWhole, HasNoFront, IsPrefixFree};
 ghost use Rattle.jr_code.specs.Bits.{bits_of};
 ghost use Rattle.jr_code.specs.Register.{bits_in};
 

@@ -10,7 +10,7 @@ mod words;
 
 pub use bits::Bits;
 pub use book::{CodeBook, CodeFault};
-pub use laws::{each_place_has_a_word, one_word};
+pub use laws::{each_place_has_a_word, one_word, same_table_tells};
 pub use memory::Memory;
 
 #[cfg(test)]
