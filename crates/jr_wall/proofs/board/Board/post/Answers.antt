@@ -1,0 +1,65 @@
+use Rattle.std.proofs.Common.{◌≡◌, ℕ, ◌+◌, Bool, not, Option, Some, None, List, get_or, set, map, sym, ap, ◌∙◌, subst, arith, rules}
+use Rattle.std.specs.declared.sync.Arc.{Arc}
+use Rattle.std.specs.declared.alloc.Global.{Global}
+use Rattle.std.specs.Arc.{arc_value}
+use Rattle.std.proofs.lemmas.List.{map-set}
+use Rattle.jr_scan.specs.ScanValue.{ScanValue}
+use Rattle.jr_wall.specs.PieceValue.{PieceValue}
+use Rattle.jr_wall.specs.BoardValue.{BoardValue}
+use Rattle.jr_wall.specs.Boards.{IsFor, IsKept, held, piece_at}
+use Rattle.jr_wall.proofs.Pieces.{Posted, posts, held_at}
+use mir.Val.{bool_byte}
+use Rattle.jr_wall.proofs.board.Board.post.Goals as goal
+
+-- posts, by the fields
+fields_post : (scan : ScanValue) (items : List (Option (Arc PieceValue Global))) (n : ℕ) (p : PieceValue) (q : PieceValue) (b : Bool) (sound damaged more less : ℕ)
+    → IsKept (record { scan = scan; pieces = map held items }) sound damaged → n ≡ p.interval.number → IsFor p.interval scan → get_or items n None ≡ None → q ≡ p → b ≡ q.is_sound
+    → more ≡ bool_byte b → less ≡ bool_byte (not b) → Posted (record { scan = scan; pieces = map held items }) n p (sound + more) (damaged + less)
+fields_post scan items n p q b sound damaged more less k is for none same sound_is m l =
+    let s : b ≡ p.is_sound = sound_is ∙ ap (λ (x : PieceValue). x.is_sound) same in
+    posts (record { scan = scan; pieces = map held items }) n p sound damaged more less k is for (held_at items n ∙ ap held none) (m ∙ ap bool_byte s) (l ∙ ap (λ x. bool_byte (not x)) s)
+
+abbrev made : ScanValue → List (Option PieceValue) → BoardValue
+made scan pieces = record { scan = scan; pieces = pieces }
+
+pub overflow_add-sound : goal.overflow_add-sound
+overflow_add-sound c =
+    let for : IsFor (arc_value c.args.piece).interval (arc_value c.self.inside.scan) = search rules in
+    let n : c.number-number.result ≡ (arc_value c.args.piece).interval.number = search rules in
+    let none : get_or c.self.inside.pieces.items c.number-number.result None ≡ None = search rules in
+    let p = fields_post (arc_value c.self.inside.scan) c.self.inside.pieces.items c.number-number.result (arc_value c.args.piece) c.deref-4.result.now c.is_sound-is_sound.result c.self.inside.sound c.self.inside.damaged c.from.result (bool_byte (not c.is_sound-is_sound.result))
+    c.self.invariant n for none c.deref-4.ensures c.is_sound-is_sound.ensures c.from.ensures (search rules) in
+    omega (arith, p.sound_fits)
+
+pub overflow_add-damaged : goal.overflow_add-damaged
+overflow_add-damaged c =
+    let for : IsFor (arc_value c.args.piece).interval (arc_value c.self.inside.scan) = search rules in
+    let n : c.number-number.result ≡ (arc_value c.args.piece).interval.number = search rules in
+    let none : get_or c.self.inside.pieces.items c.number-number.result None ≡ None = search rules in
+    let p = fields_post (arc_value c.self.inside.scan) c.self.inside.pieces.items c.number-number.result (arc_value c.args.piece) c.deref-4.result.now c.is_sound-is_sound.result c.self.inside.sound c.self.inside.damaged c.from.result c.from-2.result
+    c.self.invariant n for none c.deref-4.ensures c.is_sound-is_sound.ensures c.from.ensures c.from-2.ensures in
+    omega (arith, p.damaged_fits)
+
+pub invariant_of-self : goal.invariant_of-self
+invariant_of-self c =
+    let for : IsFor (arc_value c.args.piece).interval (arc_value c.self.inside.scan) = search rules in
+    let n : c.number-number.result ≡ (arc_value c.args.piece).interval.number = search rules in
+    let none : get_or c.self.inside.pieces.items c.number-number.result None ≡ None = search rules in
+    let p = fields_post (arc_value c.self.inside.scan) c.self.inside.pieces.items c.number-number.result (arc_value c.args.piece) c.deref-4.result.now c.is_sound-is_sound.result c.self.inside.sound c.self.inside.damaged c.from.result c.from-2.result
+    c.self.invariant n for none c.deref-4.ensures c.is_sound-is_sound.ensures c.from.ensures c.from-2.ensures in
+    subst (λ (ps : List (Option PieceValue)). IsKept (record { scan = arc_value c.self.inside.scan; pieces = ps }) (c.self.inside.sound + c.from.result) (c.self.inside.damaged + c.from-2.result))
+    (sym (map-set held c.self.inside.pieces.items c.number-number.result (Some c.args.piece))) p.kept
+
+pub returns-clause-ok : goal.returns-clause-ok
+returns-clause-ok c =
+    let for : IsFor (arc_value c.args.piece).interval (arc_value c.self.inside.scan) = search rules in
+    let n : c.number-number.result ≡ (arc_value c.args.piece).interval.number = search rules in
+    let none : get_or c.self.inside.pieces.items c.number-number.result None ≡ None = search rules in
+    let v = c.self.view_is in (
+      subst (λ (b : BoardValue). IsFor (arc_value c.args.piece).interval b.scan) v for,
+      ap (λ (b : BoardValue). piece_at b (arc_value c.args.piece).interval.number) (sym v) ∙ held_at c.self.inside.pieces.items (arc_value c.args.piece).interval.number
+          ∙ ap (λ k. held (get_or c.self.inside.pieces.items k None)) (sym n) ∙ ap held none,
+      ap (made (arc_value c.self.inside.scan)) (map-set held c.self.inside.pieces.items c.number-number.result (Some c.args.piece))
+          ∙ ap (λ k. made (arc_value c.self.inside.scan) (set (map held c.self.inside.pieces.items) k (Some (arc_value c.args.piece)))) n
+          ∙ ap (λ (b : BoardValue). made b.scan (set b.pieces (arc_value c.args.piece).interval.number (Some (arc_value c.args.piece)))) v,
+    )

@@ -1,0 +1,12 @@
+use Rattle.std.proofs.Common.{◌≡◌, ◌-◌, ◌++◌, ℕ, List, length}
+use Rattle.jr_wall.proofs.workers.work.Given as goal
+
+abbrev pub decreases-loop-number : goal.decreases-loop-number
+decreases-loop-number g l = l.desk.limit - length l.seat.drawn
+
+abbrev pub invariant-loop-number : goal.invariant-loop-number
+invariant-loop-number g l = record {
+  desk : l.seat.desk ≡ l.initial.seat.desk;
+  place : l.seat.place ≡ l.initial.seat.place;
+  drawn : (rest : List ℕ) × (l.seat.drawn ≡ l.initial.seat.drawn ++ rest);
+}

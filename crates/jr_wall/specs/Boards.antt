@@ -1,0 +1,51 @@
+-- The rules of a board.
+use Rattle.std.specs.Prelude.{◌≡◌, ℕ, ◌<◌, ◌^◌, Bool, true, false, cond, length, count_by, slice_index_or, Option, Some, None}
+use Rattle.std.specs.declared.sync.Arc.{Arc}
+use Rattle.std.specs.Arc.{arc_value}
+use Rattle.std.specs.declared.alloc.Global.{Global}
+use Rattle.jr_scan.specs.IntervalValue.{IntervalValue}
+use Rattle.jr_scan.specs.ScanValue.{ScanValue, HasInterval}
+use Rattle.jr_wall.specs.declared.mark.Mark.{Mark}
+use Rattle.jr_wall.specs.declared.mark.Mark.TheVariants.{Blank, Sound, Damaged}
+use Rattle.jr_wall.specs.PieceValue.{PieceValue}
+use Rattle.jr_wall.specs.BoardValue.{BoardValue}
+
+abbrev pub piece_at : BoardValue → ℕ → Option PieceValue
+piece_at b i = slice_index_or b.pieces i None
+
+-- the mark of a posted piece, or of none
+abbrev pub mark_of : Option PieceValue → Mark
+mark_of None = Blank
+mark_of (Some p) = cond p.is_sound Sound Damaged
+
+abbrev pub mark_at : BoardValue → ℕ → Mark
+mark_at b i = mark_of (piece_at b i)
+
+abbrev pub is_sound_piece : Option PieceValue → Bool
+is_sound_piece None = false
+is_sound_piece (Some p) = p.is_sound
+
+abbrev pub is_damaged_piece : Option PieceValue → Bool
+is_damaged_piece None = false
+is_damaged_piece (Some p) = cond p.is_sound false true
+
+-- the interval is the scan's interval of its number
+abbrev pub IsFor : IntervalValue → ScanValue → Type 0
+IsFor i scan = HasInterval scan i
+
+-- there is a place for each interval, and each piece is that of its place
+pub record IsLawful (b : BoardValue) : Type 0 where
+  pub places : length b.pieces ≡ length b.scan.intervals
+  pub each : (i : ℕ) (p : PieceValue) → piece_at b i ≡ Some p → (p.interval.number ≡ i) × IsFor p.interval b.scan
+
+-- the piece that an Arc holds
+abbrev pub held : Option (Arc PieceValue Global) → Option PieceValue
+held None = None
+held (Some p) = Some (arc_value p)
+
+-- what the fields of a board keep
+pub record IsKept (b : BoardValue) (sound damaged : ℕ) : Type 0 where
+  pub lawful : IsLawful b
+  pub few : length b.pieces < 2 ^ 32
+  pub sound_is : sound ≡ count_by is_sound_piece b.pieces
+  pub damaged_is : damaged ≡ count_by is_damaged_piece b.pieces

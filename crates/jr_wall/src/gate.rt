@@ -1,0 +1,21 @@
+//! Where a caller meets the workers.
+
+use crate::piece::Piece;
+
+/// What a worker calls between its steps, holding no lock.
+pub trait Gate {
+    /// Called between claiming interval `number` and decoding it.
+    fn pass(&self, number: u32);
+
+    /// Called with the piece of an interval once it is made, before it is posted.
+    fn made(&self, piece: &Piece);
+}
+
+/// A gate that does nothing.
+pub struct OpenGate;
+
+impl Gate for OpenGate {
+    fn pass(&self, _number: u32) {}
+
+    fn made(&self, _piece: &Piece) {}
+}

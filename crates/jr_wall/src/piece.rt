@@ -1,0 +1,128 @@
+//! The samples of one interval.
+
+ghost use Rattle.std.specs.Prelude.{◌≡◌, ◌↔◌, ◌<◌, ℕ, List, IsTrue, IfOk, IfErr, slice_get};
+ghost use Rattle.std.specs.Option.{option_copied};
+ghost use Rattle.jr_wall.specs.Boards.{IsFor};
+
+use jr_code::Memory;
+use jr_idct::transform;
+use jr_scan::{BlockReader, Interval, Scan};
+use std::alloc::Global;
+use std::marker::Model;
+
+/// A decoded interval: it, and the samples of its longest decodable front of whole MCUs.
+#[derive(Drop)]
+pub struct Piece {
+    interval: Interval,
+    is_sound: bool,
+    front: u32,
+    samples: Vec<[u8; 64]>,
+}
+
+impl Model for Piece {
+    ghost use Rattle.jr_wall.specs.PieceValue.{PieceValue};
+
+    ghost Value = { PieceValue };
+
+    ghost view = { λ p. record { interval = p.interval; is_sound = p.is_sound; front = p.front; samples = p.samples.items } };
+}
+
+/// The samples of an interval's front, and whether the front is its decoding.
+#[derive(Drop)]
+struct Decoded {
+    is_sound: bool,
+    front: u32,
+    samples: Vec<[u8; 64]>,
+}
+
+/// At most as many data units as the data can code: each takes two bits or more.
+fn most_units(interval: &Interval) -> usize {
+    let coded = interval.bytes().len() * 4;
+    let claimed = interval.mcus() as usize * interval.head().order().len();
+    coded.min(claimed)
+}
+
+/// Reads the blocks of an interval and transforms each as it comes.
+fn decode(alloc: Global, interval: &Interval) -> Result<Decoded, Memory> {
+    let head = interval.head();
+    let mut samples = Vec::with_capacity(alloc, most_units(interval))?;
+    let mut reader = BlockReader::over(interval);
+    let mut block = [0; 64];
+    while let Some(component) = reader.next(&mut block) {
+        samples.push(transform(&block, head.quantiser(component)))?;
+    }
+    let front = reader.mcus();
+    samples.truncate(front as usize * head.order().len());
+    Ok(Decoded {
+        is_sound: reader.is_sound(),
+        front,
+        samples,
+    })
+}
+
+impl Piece {
+    /// The piece of an interval. `Err` gives the interval back for want of memory.
+    pub fn make(alloc: Global, interval: Interval) -> Result<Piece, Interval>
+        ensures ok { IfOk result (λ p. p.interval ≡ interval) }
+        ensures err { IfErr result (λ back. back ≡ interval) }
+    {
+        match decode(alloc, &interval) {
+            Ok(decoded) => {
+                let Decoded {
+                    is_sound,
+                    front,
+                    samples,
+                } = decoded;
+                Ok(Piece {
+                    interval,
+                    is_sound,
+                    front,
+                    samples,
+                })
+            }
+            Err(_) => Err(interval),
+        }
+    }
+
+    /// The number of its interval.
+    pub fn number(&self) -> u32
+        ensures { result ≡ self.now.interval.number }
+    {
+        self.interval.number()
+    }
+
+    /// Whether its interval has a decoding.
+    pub fn is_sound(&self) -> bool
+        ensures { result ≡ self.now.is_sound }
+    {
+        self.is_sound
+    }
+
+    /// How many whole MCUs it shows.
+    pub fn front(&self) -> u32
+        ensures { result ≡ self.now.front }
+    {
+        self.front
+    }
+
+    /// The samples of data unit k of the interval, none past the front.
+    pub(crate) fn unit(&self, k: usize) -> Option<&[u8; 64]>
+        ensures { option_copied result ≡ slice_get self.now.samples k }
+    {
+        self.samples.get(k)
+    }
+
+    /// The samples of data unit k of the interval, `8 row + column`; none past the front.
+    pub fn block(&self, k: u32) -> Option<&[u8; 64]>
+        ensures { option_copied result ≡ slice_get self.now.samples k }
+    {
+        self.unit(k as usize)
+    }
+
+    /// Whether its interval is this scan's interval of its number.
+    pub fn is_for(&self, scan: &Scan) -> bool
+        ensures { IsTrue result ↔ IsFor self.now.interval scan.now }
+    {
+        scan.has(&self.interval)
+    }
+}

@@ -1,0 +1,99 @@
+//! The last lines on standard error, and the exit status.
+
+ghost use Rattle.std.specs.Prelude.{◌≡◌, MatchResult, false};
+ghost use Rattle.jr_paint.specs.Tally.{has_failed};
+ghost use Rattle.jri_engine.specs.Status.{fault_status, report_status};
+
+use crate::report::{Fault, Report};
+use jr_paint::Tally;
+use jr_scan::ScanEnd;
+use std::io::{Result as IoResult, Write};
+
+fn write_end<E: Write>(errors: &mut E, ended: ScanEnd) -> IoResult<()> {
+    match ended {
+        ScanEnd::EndOfImage => writeln!(errors, "scan ended at EOI"),
+        ScanEnd::OtherMarker(code, at) => writeln!(
+            errors,
+            "scan ended at marker {code:02X}, byte {at}"
+        ),
+        ScanEnd::OutOfStep {
+            found,
+            expected,
+            at,
+        } => writeln!(
+            errors,
+            "scan ended at RST{found} where RST{expected} was due, byte {at}"
+        ),
+        ScanEnd::ExtraRestart(at) => {
+            writeln!(
+                errors,
+                "scan ended at a restart marker past the last interval, byte {at}"
+            )
+        }
+        ScanEnd::EndOfFile => writeln!(errors, "scan ended at the end of the file"),
+    }
+}
+
+fn write_report<E: Write>(errors: &mut E, report: &Report) -> IoResult<()> {
+    let Report {
+        intervals,
+        sound,
+        damaged,
+        blank,
+        ended,
+    } = *report;
+    writeln!(
+        errors,
+        "intervals {intervals} sound {sound} damaged {damaged} blank {blank}"
+    )?;
+    write_end(errors, ended)
+}
+
+fn write_fault<E: Write>(errors: &mut E, fault: Fault) -> IoResult<()> {
+    match fault {
+        Fault::NoFile => writeln!(errors, "cannot open the file"),
+        Fault::Read => writeln!(errors, "cannot read the input"),
+        Fault::Write => writeln!(errors, "cannot write the picture"),
+        Fault::Memory => writeln!(errors, "out of memory"),
+        Fault::Refused(refusal) => {
+            let number = refusal.number();
+            writeln!(errors, "refused {number}: {refusal}")
+        }
+    }
+}
+
+fn status_of(fault: Fault) -> u8
+    ensures { result ≡ fault_status fault }
+{
+    match fault {
+        Fault::Refused(_) => 2,
+        Fault::Read | Fault::Memory | Fault::Write | Fault::NoFile => 1,
+    }
+}
+
+/// Flushes the picture where there is one, writes the report or the fault to `errors`, whose faults are passed over,
+/// and answers the exit status: 0 or, with a damaged interval, 3; 2 for a refused file; 1 for devices and memory. A
+/// flush that fails is a picture that could not be written.
+pub fn finish<W: Write, E: Write>(
+    outcome: Result<Report, Fault>,
+    out: &mut Tally<W>,
+    errors: &mut E,
+) -> u8
+    ensures { MatchResult outcome (λ report. has_failed out.old ≡ false → result ≡ report_status report (has_failed out.new)) (λ fault. result ≡ fault_status fault) }
+{
+    let outcome = match outcome {
+        Ok(report) if out.flush().is_ok() => Ok(report),
+        Ok(_) => Err(Fault::Write),
+        Err(fault) => Err(fault),
+    };
+    match outcome {
+        Ok(report) => {
+            let _ = write_report(errors, &report);
+            if report.damaged == 0 { 0 } else { 3 }
+        }
+        Err(fault) => {
+            let _ = write_fault(errors, fault);
+            status_of(fault)
+        }
+    }
+}

@@ -1,0 +1,15 @@
+//! Bytes of a JPEG file in, a picture's text and a report out; and what the program of that says and answers.
+#![tactic(auto)]
+
+mod answers;
+mod asking;
+mod engine;
+mod finishing;
+mod reading;
+mod report;
+
+pub use answers::{Asked, Unasked};
+pub use asking::asked;
+pub use engine::run;
+pub use finishing::finish;
+pub use report::{Fault, Report};

@@ -1,0 +1,158 @@
+//! Files in a short notation.
+//!
+//! Words are separated by spaces. Two hexadecimal digits are a byte. The other words are parts of files:
+//!
+//! | word | bytes |
+//! |---|---|
+//! | `S`, `E` | the markers SOI and EOI |
+//! | `Q` | table 0 of quantisers, each 16 |
+//! | `F:0008:0010` | a baseline frame of 8 lines and 16 columns of one component; `F1` for SOF1 |
+//! | `F3:0009:0011:22` | the same of three components, the first with these sampling factors |
+//! | `D:00:03:05` | DC table 0 with the words 00, 01 and 10 of these symbols; `D` alone is `D:00:03:05` |
+//! | `A` | AC table 0 with the word 0 for the end of a block |
+//! | `A2:00:01` | AC table 0 with the words 0 and 10 of these symbols |
+//! | `K` | the luminance DC table of T.81, Annex K |
+//! | `I` | a restart interval of one MCU |
+//! | `C`, `C3` | the header of a scan of one component, or of three |
+//! | `J`, `T` | a JFIF mark, and an Adobe mark with transform 0 |
+//! | `64*10` | 64 times the byte 10 |
+
+use std::alloc::Global;
+use std::test::Fail;
+
+/// Files up to their scans' data.
+const GROUPS: [(&str, &str); 4] = [
+    ("G", "S Q F:0008:0008 D A C"),
+    ("GI", "S Q F:0008:0010 D A I C"),
+    ("G1", "S Q F:0001:0001 D A C"),
+    ("GW", "S Q F:0008:0050 D A I C"),
+];
+
+const PARTS: [(&str, &str); 11] = [
+    ("S", "FF D8"),
+    ("E", "FF D9"),
+    ("Q", "FF DB 00 43 00 64*10"),
+    ("D", "FF C4 00 16 00 00 03 14*00 00 03 05"),
+    ("A", "FF C4 00 14 10 01 15*00 00"),
+    ("I", "FF DD 00 04 00 01"),
+    ("C", "FF DA 00 08 01 01 00 00 3F 00"),
+    ("C3", "FF DA 00 0C 03 01 00 02 00 03 00 00 3F 00"),
+    ("J", "FF E0 00 10 4A 46 49 46 00 01 02 00 00 01 00 01 00 00"),
+    ("T", "FF EE 00 0E 41 64 6F 62 65 00 64 00 00 00 00 00"),
+    ("K", "FF C4 00 1F 00 00 01 05 01 01 01 01 01 01 7*00 00 01 02 03 04 05 06 07 08 09 0A 0B"),
+];
+
+/// Parts with arguments: what stands before each argument, and behind the last.
+const FORMS: [(&str, [&str; 4]); 5] = [
+    ("F", ["FF C0 00 0B 08", "", "01 01 11 00", ""]),
+    ("F1", ["FF C1 00 0B 08", "", "01 01 11 00", ""]),
+    ("F3", ["FF C0 00 11 08", "", "03 01", "00 02 11 00 03 11 00"]),
+    ("D", ["FF C4 00 16 00 00 03 14*00", "", "", ""]),
+    ("A2", ["FF C4 00 15 10 01 01 14*00", "", "", ""]),
+];
+
+fn found<'a>(table: &[(&'a str, &'a str)], word: &str) -> Option<&'a str> {
+    for (name, text) in table {
+        if *name == word {
+            return Some(*text);
+        }
+    }
+    None
+}
+
+fn form_of(name: &str) -> Option<[&'static str; 4]> {
+    for (form, fragments) in FORMS {
+        if form == name {
+            return Some(fragments);
+        }
+    }
+    None
+}
+
+/// Puts the bytes that pairs of hexadecimal digits write.
+fn put_hex(bytes: &mut Vec<u8>, digits: &str) -> Result<(), Fail> {
+    let mut high = None;
+    for c in digits.chars() {
+        let digit = c.to_digit(16).ok_or("no hexadecimal digit")? as u8;
+        high = match high {
+            None => Some(digit),
+            Some(before) => {
+                bytes.push(u8::wrapping_mul(before, 16).wrapping_add(digit))?;
+                None
+            }
+        };
+    }
+    Ok(())
+}
+
+/// Puts pairs of digits, or so many times a pair.
+fn put_digits(bytes: &mut Vec<u8>, word: &str) -> Result<(), Fail> {
+    match word.split_once('*') {
+        None => put_hex(bytes, word),
+        Some((times, digits)) => {
+            for _ in 0..times.parse::<u32>()? {
+                put_hex(bytes, digits)?;
+            }
+            Ok(())
+        }
+    }
+}
+
+fn put_all_digits(bytes: &mut Vec<u8>, words: &str) -> Result<(), Fail> {
+    for word in words.split_whitespace() {
+        put_digits(bytes, word)?;
+    }
+    Ok(())
+}
+
+/// Puts a part with arguments: each fragment, and the argument behind it.
+fn put_form(bytes: &mut Vec<u8>, fragments: &[&str; 4], arguments: &str) -> Result<(), Fail> {
+    let mut values = arguments.split(':');
+    for fragment in fragments {
+        put_all_digits(bytes, fragment)?;
+        if let Some(value) = values.next() {
+            put_hex(bytes, value)?;
+        }
+    }
+    Ok(())
+}
+
+fn put_part(bytes: &mut Vec<u8>, word: &str) -> Result<(), Fail> {
+    if let Some(words) = found(&PARTS, word) {
+        return put_all_digits(bytes, words);
+    }
+    if let Some((name, arguments)) = word.split_once(':') {
+        if let Some(fragments) = form_of(name) {
+            return put_form(bytes, &fragments, arguments);
+        }
+    }
+    put_digits(bytes, word)
+}
+
+fn put_parts(bytes: &mut Vec<u8>, words: &str) -> Result<(), Fail> {
+    for word in words.split_whitespace() {
+        put_part(bytes, word)?;
+    }
+    Ok(())
+}
+
+/// The bytes of a file in the notation above.
+pub(crate) fn file(alloc: Global, words: &str) -> Result<Vec<u8>, Fail> {
+    let mut bytes = Vec::new(alloc);
+    for word in words.split_whitespace() {
+        match found(&GROUPS, word) {
+            Some(parts) => put_parts(&mut bytes, parts)?,
+            None => put_part(&mut bytes, word)?,
+        }
+    }
+    Ok(bytes)
+}
+
+#[test]
+fn parts_are_put_together(rt: HostRuntime) -> Result<(), Fail> {
+    assert_eq!(rt; file(rt.alloc(), "G 63 E")?.len(), 143);
+    assert_eq!(rt; file(rt.alloc(), "GI")?.len(), 146);
+    let bytes = file(rt.alloc(), "D:00:03:05")?;
+    assert_eq!(rt; bytes.as_slice(), file(rt.alloc(), "D")?.as_slice());
+    Ok(())
+}
