@@ -18,7 +18,7 @@ use Rattle.jr_head.specs.Frames.{components_in, components, is_factor, have_fact
 use Rattle.jr_head.specs.Frames.{horizontal_max as frame_across, vertical_max as frame_down}
 use Rattle.jr_head.specs.Geometry.{no_component, units_of, component_count, greatest_across, greatest_down, IsSampled, IsSubsampled, AreLawful}
 use Rattle.jr_head.specs.Marks.{kind_by}
-use Rattle.jr_head.specs.Parts.{HasFactors, HaveFactors}
+use Rattle.jr_head.specs.Definitions.{HasFactors, HaveFactors}
 use Rattle.jr_head.specs.Scans.{selectors_in, selectors}
 use Rattle.jr_head.proofs.SamplingLaws.{within_most, most_small, most_some}
 

@@ -9,21 +9,21 @@ pub block_order-requires-clause-few : goal.block_order-requires-clause-few
 block_order-requires-clause-few c =
     let accepted : IsAccepted c.in-Some.frame = rw c.in-Some.is at c.requires.frame in
     let l : AreLawful c.kind_from-kind.result c.in_ok-components.components.items =
-    rw (c.kind_from-kind.ensures, c.is_single.ensures) (lawful c.in-Some.frame c.in_ok-components.components.items c.args.parts.now.is_jfif c.args.parts.now.transform accepted c.in_ok-components.ensures.factors) in
+    rw (c.kind_from-kind.ensures, c.is_single.ensures) (lawful c.in-Some.frame c.in_ok-components.components.items c.args.definitions.now.is_jfif c.args.definitions.now.transform accepted c.in_ok-components.ensures.factors) in
     rw c.as_slice.ensures.value (few_there c.kind_from-kind.result c.in_ok-components.components.items l.count)
 
 pub block_order-requires-clause-sampled : goal.block_order-requires-clause-sampled
 block_order-requires-clause-sampled c =
     let accepted : IsAccepted c.in-Some.frame = rw c.in-Some.is at c.requires.frame in
     let l : AreLawful c.kind_from-kind.result c.in_ok-components.components.items =
-    rw (c.kind_from-kind.ensures, c.is_single.ensures) (lawful c.in-Some.frame c.in_ok-components.components.items c.args.parts.now.is_jfif c.args.parts.now.transform accepted c.in_ok-components.ensures.factors) in
+    rw (c.kind_from-kind.ensures, c.is_single.ensures) (lawful c.in-Some.frame c.in_ok-components.components.items c.args.definitions.now.is_jfif c.args.definitions.now.transform accepted c.in_ok-components.ensures.factors) in
     rw c.as_slice.ensures.value l.sampled
 
 pub invariant_of-result : goal.invariant_of-result
 invariant_of-result c =
     let accepted : IsAccepted c.in-Some.frame = rw c.in-Some.is at c.requires.frame in
     let l : AreLawful c.kind_from-kind.result c.in_ok-components.components.items =
-    rw (c.kind_from-kind.ensures, c.is_single.ensures) (lawful c.in-Some.frame c.in_ok-components.components.items c.args.parts.now.is_jfif c.args.parts.now.transform accepted c.in_ok-components.ensures.factors) in
+    rw (c.kind_from-kind.ensures, c.is_single.ensures) (lawful c.in-Some.frame c.in_ok-components.components.items c.args.definitions.now.is_jfif c.args.definitions.now.transform accepted c.in_ok-components.ensures.factors) in
     record {
       lawful = record {
         components = l;
