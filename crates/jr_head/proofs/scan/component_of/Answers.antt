@@ -1,0 +1,4 @@
+use Rattle.jr_head.proofs.scan.component_of.Goals as goal
+
+pub returns-clause-factors : goal.returns-clause-factors
+returns-clause-factors c = record { horizontal = c.factor.ensures; vertical = c.factor-2.ensures; elements = c.to_elements.ensures.count }
