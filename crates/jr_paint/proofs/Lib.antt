@@ -2,4 +2,4 @@ pub mod Passed
 pub mod Places
 pub mod Factors
 pub mod Sent
-pub mod Pixels
+pub mod PixelLaws

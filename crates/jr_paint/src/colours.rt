@@ -33,7 +33,7 @@ fn off_of(c: u8) -> i32
     i32::from(c) - 128
 }
 
-fn mixed(y: u8, cb: u8, cr: u8) -> [u8; 3]
+pub(crate) fn mixed(y: u8, cb: u8, cr: u8) -> [u8; 3]
     ensures { result ≡ colour_of Kind.Ycc y cb cr }
 {
     let b = off_of(cb);

@@ -4,6 +4,7 @@
 mod colours;
 mod geometry;
 mod netpbm;
+mod pixels;
 mod samples;
 mod sending;
 mod tally;

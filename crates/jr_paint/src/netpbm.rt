@@ -1,6 +1,6 @@
 //! A picture's Netpbm text: PGM for grey pictures, PPM for the others.
 
-ghost use Rattle.std.specs.Prelude.{◌≡◌, ℕ, ◌+◌, ◌-◌, ◌*◌, ◌%◌, ◌<◌, ◌≤◌, length, slice_index, is_err, false, OnOk, OnErr};
+ghost use Rattle.std.specs.Prelude.{◌≡◌, ℕ, ◌+◌, ◌-◌, ◌*◌, ◌%◌, ◌<◌, ◌≤◌, length, is_err, false, OnOk, OnErr};
 ghost use Rattle.std.specs.List.{flat_map, range_with_len};
 ghost use Rattle.std.specs.Io.KnownBytes.{Appends};
 ghost use Rattle.jr_head.specs.declared.mark.Kind.TheVariants.{Grey};
@@ -9,25 +9,13 @@ ghost use Rattle.jr_paint.specs.Colours.{colour_of};
 ghost use Rattle.jr_paint.specs.Tally.{has_failed, known_in};
 ghost use Rattle.jr_paint.specs.Text.{AppendsFront, pixel_size, pixels_of, lines_of, text_of};
 
-use crate::colours::colour;
+use crate::pixels::mix;
 use crate::samples::Samples;
 use crate::sending::{WriteFault, send, send_header};
 use crate::tally::Tally;
 use crate::upsampling::{STRIP, upsample};
 use jr_head::Kind;
 use std::io::Write;
-
-/// The colours of these values, one after the other.
-fn mix(kind: Kind, a: &[u8], b: &[u8], c: &[u8], out: &mut [u8])
-    requires second { length b.now ≡ length a.now }
-    requires third { length c.now ≡ length a.now }
-    requires room { length out.old ≡ 3 * length a.now }
-    ensures { out.new ≡ flat_map (λ k. colour_of kind (slice_index a.now k) (slice_index b.now k) (slice_index c.now k)) (range_with_len 0 (length a.now)) }
-{
-    for i in 0..a.len() {
-        out[3 * i..3 * i + 3].copy_from_slice(&colour(kind, a[i], b[i], c[i]));
-    }
-}
 
 /// The pixels of a part of line y, in colours, by way of three lines of samples.
 fn join_colours<S: Samples>(
@@ -59,7 +47,14 @@ fn join_colours<S: Samples>(
 }
 
 /// The pixels of a part of line y, in colours.
-fn fill_colours<S: Samples>(samples: &S, x: u32, y: u32, n: usize, pixels: &mut [u8])
+fn fill_colours<S: Samples>(
+    samples: &S,
+    x: u32,
+    y: u32,
+    n: usize,
+    room: &mut [u8; 4 * STRIP],
+    pixels: &mut [u8],
+)
     requires kind { component_count (S.head_of samples.now).kind ≡ 3 }
     requires start { x % 12 ≡ 0 }
     requires some { 0 < n }
@@ -69,10 +64,9 @@ fn fill_colours<S: Samples>(samples: &S, x: u32, y: u32, n: usize, pixels: &mut 
     requires room { length pixels.old ≡ 3 * n }
     ensures { pixels.new ≡ pixels_of (S.head_of samples.now) (S.shown samples.now) y x n }
 {
-    let mut a = [0; STRIP];
-    let mut b = [0; STRIP];
-    let mut c = [0; STRIP];
-    let mut near = [0; STRIP];
+    let (near, values) = room.split_at_mut(STRIP);
+    let (a, values) = values.split_at_mut(STRIP);
+    let (b, c) = values.split_at_mut(STRIP);
     join_colours(
         samples,
         x,
@@ -80,13 +74,20 @@ fn fill_colours<S: Samples>(samples: &S, x: u32, y: u32, n: usize, pixels: &mut 
         &mut a[..n],
         &mut b[..n],
         &mut c[..n],
-        &mut near,
+        near,
         pixels,
     );
 }
 
 /// The pixels of a part of line y of a grey picture.
-fn fill_grey<S: Samples>(samples: &S, x: u32, y: u32, n: usize, pixels: &mut [u8])
+fn fill_grey<S: Samples>(
+    samples: &S,
+    x: u32,
+    y: u32,
+    n: usize,
+    room: &mut [u8; 4 * STRIP],
+    pixels: &mut [u8],
+)
     requires kind { (S.head_of samples.now).kind ≡ Grey }
     requires start { x % 12 ≡ 0 }
     requires some { 0 < n }
@@ -96,13 +97,19 @@ fn fill_grey<S: Samples>(samples: &S, x: u32, y: u32, n: usize, pixels: &mut [u8
     requires room { length pixels.old ≡ n }
     ensures { pixels.new ≡ pixels_of (S.head_of samples.now) (S.shown samples.now) y x n }
 {
-    let mut near = [0; STRIP];
     samples.head().be_lawful();
-    upsample(samples, 0, x, y, &mut near, pixels);
+    upsample(samples, 0, x, y, room, pixels);
 }
 
 /// The pixels of a part of line y.
-fn fill<S: Samples>(samples: &S, x: u32, y: u32, n: usize, pixels: &mut [u8])
+fn fill<S: Samples>(
+    samples: &S,
+    x: u32,
+    y: u32,
+    n: usize,
+    room: &mut [u8; 4 * STRIP],
+    pixels: &mut [u8],
+)
     requires start { x % 12 ≡ 0 }
     requires some { 0 < n }
     requires few { n ≤ 4092 }
@@ -113,8 +120,8 @@ fn fill<S: Samples>(samples: &S, x: u32, y: u32, n: usize, pixels: &mut [u8])
 {
     samples.head().be_lawful();
     match samples.head().kind() {
-        Kind::Grey => fill_grey(samples, x, y, n, pixels),
-        Kind::Rgb | Kind::Ycc => fill_colours(samples, x, y, n, pixels),
+        Kind::Grey => fill_grey(samples, x, y, n, room, pixels),
+        Kind::Rgb | Kind::Ycc => fill_colours(samples, x, y, n, room, pixels),
     }
 }
 
@@ -134,6 +141,8 @@ fn bytes_of_pixel(kind: Kind) -> usize
 fn send_line<S: Samples, W: Write>(
     samples: &S,
     y: u32,
+    room: &mut [u8; 4 * STRIP],
+    pixels: &mut [u8; 3 * STRIP],
     out: &mut Tally<W>,
 ) -> Result<(), WriteFault>
     requires unfailed { has_failed out.old ≡ false }
@@ -144,13 +153,12 @@ fn send_line<S: Samples, W: Write>(
 {
     let width = samples.head().width();
     let size = bytes_of_pixel(samples.head().kind());
-    let mut pixels = [0; 3 * STRIP];
     let mut x = 0;
     'strips: while x < width {
         let n = (width - x).min(STRIP as u32);
-        let strip = &mut pixels[..size * n as usize];
-        fill(samples, x, y, n as usize, strip);
-        send(out, strip)?;
+        let part = &mut pixels[..size * n as usize];
+        fill(samples, x, y, n as usize, room, part);
+        send(out, part)?;
         x += n;
     }
     Ok(())
@@ -166,8 +174,10 @@ pub fn write_netpbm<S: Samples, W: Write>(samples: &S, out: &mut Tally<W>) -> Re
 {
     send_header(samples.head(), out)?;
     let height = samples.head().height();
+    let mut room = [0; 4 * STRIP];
+    let mut pixels = [0; 3 * STRIP];
     for y in 0..height {
-        send_line(samples, y, out)?;
+        send_line(samples, y, &mut room, &mut pixels, out)?;
     }
     Ok(())
 }

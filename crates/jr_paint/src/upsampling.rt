@@ -16,8 +16,13 @@ fn double(near: &[u8], out: &mut [u8])
     requires { length out.old ≤ 2 * length near.now }
     ensures { (k : ℕ) → k < length out.new → slice_index out.new k ≡ slice_index near.now (k / 2) }
 {
-    for k in 0..out.len() {
-        out[k] = near[k / 2];
+    let whole = out.len() / 2;
+    for i in 0..whole {
+        out[2 * i] = near[i];
+        out[2 * i + 1] = near[i];
+    }
+    for k in 2 * whole..out.len() {
+        out[k] = near[whole];
     }
 }
 
@@ -26,8 +31,14 @@ fn triple(near: &[u8], out: &mut [u8])
     requires { length out.old ≤ 3 * length near.now }
     ensures { (k : ℕ) → k < length out.new → slice_index out.new k ≡ slice_index near.now (k / 3) }
 {
-    for k in 0..out.len() {
-        out[k] = near[k / 3];
+    let whole = out.len() / 3;
+    for i in 0..whole {
+        out[3 * i] = near[i];
+        out[3 * i + 1] = near[i];
+        out[3 * i + 2] = near[i];
+    }
+    for k in 3 * whole..out.len() {
+        out[k] = near[whole];
     }
 }
 
@@ -36,20 +47,26 @@ fn quadruple(near: &[u8], out: &mut [u8])
     requires { length out.old ≤ 4 * length near.now }
     ensures { (k : ℕ) → k < length out.new → slice_index out.new k ≡ slice_index near.now (k / 4) }
 {
-    for k in 0..out.len() {
-        out[k] = near[k / 4];
+    let whole = out.len() / 4;
+    for i in 0..whole {
+        out[4 * i] = near[i];
+        out[4 * i + 1] = near[i];
+        out[4 * i + 2] = near[i];
+        out[4 * i + 3] = near[i];
+    }
+    for k in 4 * whole..out.len() {
+        out[k] = near[whole];
     }
 }
 
 /// Puts each of `near` into so many entries.
 fn repeat(near: &[u8], factor: u32, out: &mut [u8])
-    requires some { 0 < factor }
+    requires some { 1 < factor }
     requires few { factor ≤ 4 }
     requires enough { length out.old ≤ factor * length near.now }
     ensures { (k : ℕ) → k < length out.new → slice_index out.new k ≡ slice_index near.now (k / factor) }
 {
     match factor {
-        1 => out.copy_from_slice(&near[..out.len()]),
         2 => double(near, out),
         3 => triple(near, out),
         _ => quadruple(near, out),
@@ -97,8 +114,12 @@ fn read_repeated<S: Samples>(
     requires enough { length out.old ≤ factor * length near.old }
     ensures { (k : ℕ) → k < length out.new → slice_index out.new k ≡ S.shown samples.now c (first + k / factor) line }
 {
-    samples.line(c, first, line, near);
-    repeat(near, factor, out);
+    if factor == 1 {
+        samples.line(c, first, line, out);
+    } else {
+        samples.line(c, first, line, near);
+        repeat(near, factor, out);
+    }
 }
 
 /// The samples from number `x / factor` on of line `line` of component c, each into so many entries.

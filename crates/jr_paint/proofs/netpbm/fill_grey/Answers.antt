@@ -1,5 +1,5 @@
 use Rattle.std.proofs.Common.{◌∙◌}
-use Rattle.jr_paint.proofs.Pixels.{pixels_grey}
+use Rattle.jr_paint.proofs.PixelLaws.{pixels_grey}
 use Rattle.jr_paint.proofs.netpbm.fill_grey.Goals as goal
 
 pub returns : goal.returns

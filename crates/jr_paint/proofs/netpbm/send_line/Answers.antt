@@ -1,7 +1,7 @@
 use Rattle.std.proofs.Common.{◌≡◌, ◌≤◌, ◌+◌, ◌-◌, ◌++◌, ◌%◌, ◌<◌, ℕ, min, refl, arith, rules}
 use Rattle.jr_paint.specs.Text.{pixels_of}
 use Rattle.jr_paint.proofs.Sent.{then, none_yet, on_err, front_of}
-use Rattle.jr_paint.proofs.Pixels.{pixels_none, pixels-append, pixels_around}
+use Rattle.jr_paint.proofs.PixelLaws.{pixels_none, pixels-append, pixels_around}
 use Rattle.jr_paint.proofs.netpbm.send_line.Goals as goal
 
 -- only the last strip is shorter than 4092 pixels

@@ -1,7 +1,7 @@
 use Rattle.std.proofs.Common.{◌≡◌, ◌<◌, arith, rules, ap}
 use Rattle.jr_head.specs.HeadValue.{HeadValue}
 use Rattle.jr_paint.proofs.Sent.{then, none_yet, on_err, front_first, front_of}
-use Rattle.jr_paint.proofs.Pixels.{lines_none, lines_more, line_around, text_is}
+use Rattle.jr_paint.proofs.PixelLaws.{lines_none, lines_more, line_around, text_is}
 use Rattle.jr_paint.proofs.netpbm.write_netpbm.Goals as goal
 
 pub returns-in_err-send_header-clause-err : goal.returns-in_err-send_header-clause-err

@@ -1,8 +1,9 @@
 -- Pixels, one after the other.
-use Rattle.std.proofs.Common.{◌≡◌, ℕ, zero, suc, ◌+◌, ◌-◌, ◌*◌, ◌<◌, ◌≤◌, List, [], ◌∷◌, ◌++◌, length, take, arith, refl, sym, ap, ◌∙◌, get_or, add-zero, zero-add, ap₂, append_assoc, append-nil}
+use Rattle.std.proofs.Common.{◌≡◌, ℕ, zero, suc, ◌+◌, ◌-◌, ◌*◌, ◌<◌, ◌≤◌, List, [], ◌∷◌, ◌++◌, length, take, arith, refl, sym, ap, ◌∙◌, get_or, add-zero, zero-add, ap₂, append_assoc, append-nil, length-set}
 use Rattle.std.specs.List.{flat_map, range_with_len}
 use Rattle.std.proofs.lemmas.List.Concat.{flat_map-append}
-use Rattle.std.proofs.lemmas.Slice.{take-put_mid}
+use Rattle.std.proofs.Math.ListN.{set}
+use Rattle.std.proofs.lemmas.Grind.{take-set_at}
 use Rattle.jr_head.specs.declared.mark.Kind.{Kind}
 use Rattle.jr_head.specs.declared.mark.Kind.TheVariants.{Grey, Rgb, Ycc}
 use Rattle.jr_paint.specs.Colours.{colour_of}
@@ -10,7 +11,6 @@ use Rattle.std.specs.Prelude.{slice_index}
 use Rattle.jr_head.specs.HeadValue.{HeadValue}
 use Rattle.jr_head.specs.Geometry.{component_count}
 use Rattle.jr_paint.specs.Text.{header_of, value_at, bytes_of, pixel_of, pixels_of, lines_of, text_of}
-use borrow.Rule.Slice.PartMut.{put_mid}
 
 -- the numbers from a on, and then those from a + m on
 pub range-append : (a m n : ℕ) → range_with_len a (m + n) ≡ range_with_len a m ++ range_with_len (a + m) n
@@ -34,16 +34,21 @@ flat_map-moved f g a b (suc n) h =
 pub flat_map-range_more : (f : ℕ → List ℕ) (n : ℕ) → flat_map f (range_with_len 0 n) ++ f n ≡ flat_map f (range_with_len 0 (n + 1))
 flat_map-range_more f n = let e : 0 + n ≡ n = omega arith in sym (flat_map-range-append f 0 n 1 ∙ rw (e, append-nil) refl)
 
--- one more piece of three written
-pub three_more : (f : ℕ → List ℕ) (i : ℕ) (out ys : List ℕ) → 3 * i + 3 ≤ length out → ys ≡ f i → length ys ≡ 3 → take (3 * i) out ≡ flat_map f (range_with_len 0 i) → take (3 * (i + 1)) (put_mid (3 * i) (3 * i + 3 - 3 * i) out ys) ≡ flat_map f (range_with_len 0 (i + 1))
-three_more f i out ys room is long h =
-    take-put_mid (3 * i) (3 * i + 3 - 3 * i) out ys (3 * (i + 1)) (omega arith) (omega arith)
-    ∙ ap₂ (λ x y. x ++ y) h is ∙ flat_map-range_more f i
+joined_three : (xs : List ℕ) (p q r : ℕ) → ((xs ++ p ∷ []) ++ q ∷ []) ++ r ∷ [] ≡ xs ++ p ∷ q ∷ r ∷ []
+joined_three xs p q r = simp append_assoc
 
-pub colour_three : (kind : Kind) (a b c : ℕ) → length (colour_of kind a b c) ≡ 3
-colour_three Grey a b c = refl
-colour_three Rgb a b c = refl
-colour_three Ycc a b c = refl
+-- one more pixel of three bytes written
+pub three_more : (f : ℕ → List ℕ) (i : ℕ) (out : List ℕ) (p q r : ℕ) → 3 * i + 3 ≤ length out → f i ≡ p ∷ q ∷ r ∷ [] → take (3 * i) out ≡ flat_map f (range_with_len 0 i) → take (3 * (i + 1)) (set (set (set out (3 * i) p) (3 * i + 1) q) (3 * i + 2) r) ≡ flat_map f (range_with_len 0 (i + 1))
+three_more f i out p q r room is h =
+    let one = set out (3 * i) p in
+    let two = set one (3 * i + 1) q in
+    let long : length one ≡ length out = length-set out (3 * i) p in
+    let longer : length two ≡ length one = length-set one (3 * i + 1) q in
+    let third : take (3 * (i + 1)) (set two (3 * i + 2) r) ≡ take (3 * i + 2) two ++ r ∷ [] = take-set_at two (3 * i + 2) (3 * (i + 1)) r (omega arith) (omega arith) in
+    let second : take (3 * i + 2) two ≡ take (3 * i + 1) one ++ q ∷ [] = take-set_at one (3 * i + 1) (3 * i + 2) q (omega arith) (omega arith) in
+    let first : take (3 * i + 1) one ≡ take (3 * i) out ++ p ∷ [] = take-set_at out (3 * i) (3 * i + 1) p (omega arith) (omega arith) in
+    third ∙ ap (λ z. z ++ r ∷ []) (second ∙ ap (λ z. z ++ q ∷ []) first) ∙ joined_three (take (3 * i) out) p q r
+    ∙ ap₂ (λ x y. x ++ y) h (sym is) ∙ flat_map-range_more f i
 
 -- one element each
 grey_bytes : (f : ℕ → ℕ) (x : ℕ) (out : List ℕ) → ((k : ℕ) → k < length out → get_or out k 0 ≡ f (x + k)) → out ≡ flat_map (λ k. f k ∷ []) (range_with_len x (length out))
