@@ -1,6 +1,6 @@
 //! A scan, cut into its restart intervals.
 
-ghost use Rattle.std.specs.Prelude.{◌≡◌, ◌↔◌, ◌<◌, ◌≤◌, ◌^◌, length, drop, IsTrue, IfOk};
+ghost use Rattle.std.specs.Prelude.{◌≡◌, ◌↔◌, ◌<◌, ◌≤◌, ◌^◌, length, drop, slice_index_or, [], IsTrue, IfOk};
 
 use crate::cut::cut;
 use crate::interval::Interval;
@@ -74,7 +74,7 @@ fn mcus_of(head: &Head, i: u32) -> u32
 ghost use Rattle.jr_scan.specs.ScanValue.{intervals_of, mcus_in};
 
 impl Scan {
-    ghost use Rattle.jr_scan.specs.ScanValue.{intervals_of, interval_of, IsScanOf, same_scan};
+    ghost use Rattle.jr_scan.specs.ScanValue.{intervals_of, interval_of, IsScanOf, IsSameScan};
 
     /// Cuts the scan of a file, of which this is the head. Where the scan starts past the end of the file it has no
     /// bytes.
@@ -130,5 +130,53 @@ impl Scan {
         let head = Arc::try_clone(&self.head)?;
         let unstuffed = Arc::try_clone(&self.unstuffed)?;
         Ok(Interval::of(head, unstuffed, span, i, mcus_of(&self.head, i)))
+    }
+
+    /// The data of interval i, none where it has no piece.
+    fn piece(&self, i: usize) -> &[u8]
+        ensures { result.now ≡ slice_index_or self.now.intervals i [] }
+    {
+        if i < self.spans.len() {
+            let span = self.spans[i];
+            &self.unstuffed[span.start..span.end]
+        } else {
+            &self.unstuffed[0..0]
+        }
+    }
+
+    /// Whether both scans have the same head and the same data in all intervals.
+    pub fn is_same(&self, other: &Scan) -> bool
+        ensures { IsTrue result ↔ IsSameScan self.now other.now }
+    {
+        self.head.is_same(&other.head) && self.has_same_data(other)
+    }
+
+    /// Whether the pieces of both are the same.
+    fn has_same_data(&self, other: &Scan) -> bool
+        requires { self.now.head ≡ other.now.head }
+        ensures { IsTrue result ↔ (self.now.intervals ≡ other.now.intervals) }
+    {
+        let pieces = self
+            .spans
+            .as_slice()
+            .len()
+            .max(other.spans.as_slice().len());
+        for i in 0..pieces {
+            if self.piece(i) != other.piece(i) {
+                return false;
+            }
+        }
+        true
+    }
+
+    /// Whether this is the scan's interval of that number: with the same head, MCU count and data.
+    pub fn contains(&self, interval: &Interval) -> bool
+        ensures { IsTrue result ↔ ((interval.now.number < length self.now.intervals) × (interval.now ≡ interval_of self.now interval.now.number)) }
+    {
+        let i = interval.number();
+        if i >= self.intervals {
+            return false;
+        }
+        interval.is_made_of(&self.head, mcus_of(&self.head, i), self.piece(i as usize))
     }
 }

@@ -9,7 +9,7 @@ use Rattle.jr_scan.specs.Units.{component}
 use Rattle.jr_scan.specs.Reader.{HasRead, IsKept, ReaderValue, blocks_read}
 use Rattle.jr_scan.proofs.Predicted.{kept_fits}
 use Rattle.jr_scan.proofs.Ranges.{block_in_range}
-use Rattle.jr_scan.proofs.Readers.{component_at, read_more, read_stop, kept_low, kept_high, few_components}
+use Rattle.jr_scan.proofs.Readers.{component_at, read_more, read_stop, kept_low, kept_high, few_components, below_whole}
 use Rattle.jr_scan.proofs.reader.BlockReader.next.Goals as goal
 
 pub returns-in_default-clause-kept : goal.returns-in_default-clause-kept
@@ -85,3 +85,17 @@ returns-clause-component c =
 
 pub returns-clause-in_range : goal.returns-clause-in_range
 returns-clause-in_range c = block_in_range _ _ _ _ _ c.in-Some.ensures.some.is
+
+pub invariant_of-self : goal.invariant_of-self
+invariant_of-self c =
+    let k = c.self.invariant.0 in (
+      record {
+        within = k.within;
+        few = k.few;
+        missing = λ e. let most = below_whole _ _ _ _ k.within k.few in omega (arith, most, c.if-self-2.false);
+        low = k.low;
+        high = k.high;
+      },
+      c.self.invariant.1,
+      c.self.invariant.2,
+    )
