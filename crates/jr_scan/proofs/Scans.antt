@@ -1,11 +1,9 @@
 -- A scan's intervals, their number and their MCUs.
-use Rattle.std.proofs.Common.{◌≡◌, ◌≢◌, ℕ, zero, suc, get_or, length-append, ◌+◌, ◌-◌, ◌*◌, ◌/◌, ◌%◌, ◌<◌, ◌≤◌, cond, List, [], ◌++◌, length, map, drop, replicate, refl, sym, ap, subst, ◌∙◌, inl, inr, min, arith}
+use Rattle.std.proofs.Common.{◌≡◌, ◌≢◌, ℕ, suc, ◌+◌, ◌-◌, ◌*◌, ◌/◌, ◌%◌, ◌<◌, ◌≤◌, cond, List, [], ◌++◌, length, map, drop, replicate, refl, sym, ap, subst, ◌∙◌, inl, inr, min, arith}
 use Rattle.std.specs.Int.{div_ceil}
 use Rattle.std.proofs.lemmas.Grind.{div_ceil_times}
 use Rattle.std.proofs.lemmas.Bool.Decides.{eqb_tells}
-use Rattle.std.proofs.lemmas.List.{length-map, get_or-append_right, ext_get_or}
-use Rattle.std.proofs.lemmas.Bool.{cases_lt}
-use Rattle.std.proofs.Math.ListN.{length-replicate}
+use Rattle.std.proofs.lemmas.List.{length-map}
 use Rattle.std.proofs.Math.Nat.{mul-le-mul_right}
 use Rattle.jr_head.specs.HeadValue.{HeadValue}
 use Rattle.jr_head.specs.Geometry.{mcus_of}
@@ -13,6 +11,7 @@ use Rattle.jr_scan.specs.declared.scan_end.ScanEnd.{ScanEnd}
 use Rattle.jr_scan.specs.Cut.{Piece, IsCut}
 use Rattle.jr_scan.specs.declared.span.Span.{Span}
 use Rattle.jr_scan.specs.Spans.{piece_of}
+use Rattle.jr_scan.specs.IntervalValue.{IntervalValue}
 use Rattle.jr_scan.specs.ScanValue.{intervals_of, IsScanOf}
 
 -- an interval starts before the last MCU
@@ -51,17 +50,6 @@ scan_of h h' file bytes unstuffed unstuffed' spans n at end eh eu en ea eb c =
       intervals = ap (λ (k : ℕ). map (piece_of unstuffed') spans ++ replicate (k - length spans) []) (en ∙ ap intervals_of (sym eh)) ∙ ap (λ (k : ℕ). map (piece_of unstuffed') spans ++ replicate (intervals_of h' - k) []) (sym count);
     }
 
--- all intervals, of which the first have pieces
-pub kept_length : (unstuffed : List ℕ) (spans : List Span) (n : ℕ) → length spans ≤ n → length (map (piece_of unstuffed) spans ++ replicate (n - length spans) []) ≡ n
-kept_length unstuffed spans n few = omega (arith, few, length-append (map (piece_of unstuffed) spans) (replicate {A = List ℕ} (n - length spans) []), length-map spans (piece_of unstuffed), length-replicate {A = List ℕ} (n - length spans) [])
-
-none_in : (n k : ℕ) → get_or (replicate {A = List ℕ} n []) k [] ≡ []
-none_in zero k = refl
-none_in (suc n) zero = refl
-none_in (suc n) (suc k) = none_in n k
-
-pub kept_past : (unstuffed : List ℕ) (spans : List Span) (n k : ℕ) → length spans ≤ k → get_or (map (piece_of unstuffed) spans ++ replicate (n - length spans) []) k [] ≡ []
-kept_past unstuffed spans n k past = get_or-append_right (map (piece_of unstuffed) spans) (replicate (n - length spans) []) (length spans) k [] (length-map spans (piece_of unstuffed)) past ∙ none_in (n - length spans) (k - length spans)
-
-pub same_kept : (a b : List (List ℕ)) (n : ℕ) → length a ≡ length b → ((k : ℕ) → k < n → get_or a k [] ≡ get_or b k []) → ((k : ℕ) → n ≤ k → get_or a k [] ≡ get_or b k []) → a ≡ b
-same_kept a b n e below past = ext_get_or [] a b e (λ k lt. elim (cases_lt k n) [ inl l ↦ below k l | inr g ↦ past k g ])
+-- an interval is its four parts
+pub interval_is : (i : IntervalValue) (n m : ℕ) (b : List ℕ) (h : HeadValue) → i.number ≡ n → i.mcus ≡ m → i.bytes ≡ b → i.head ≡ h → i ≡ record { number = n; mcus = m; bytes = b; head = h }
+interval_is i n m b h p q r s = rw (← p, ← q, ← r, ← s) refl

@@ -1,7 +1,9 @@
 -- A scan and its restart intervals (T.81, E.1.4 and E.2.4).
-use Rattle.std.specs.Prelude.{◌≡◌, ℕ, ◌-◌, ◌*◌, ◌==◌, List, [], ◌++◌, length, replicate, drop, min, if◌then◌else◌, slice_index_or}
+use Rattle.std.specs.Prelude.{◌≡◌, ℕ, zero, suc, ◌-◌, ◌*◌, ◌==◌, ◌<◌, Bool, ◌&&◌, List, [], ◌++◌, length, replicate, drop, min, if◌then◌else◌, slice_index_or}
 use Rattle.std.specs.Int.{div_ceil}
-use Rattle.jr_head.specs.HeadValue.{HeadValue}
+use Rattle.std.specs.Cmp.Lexicographic.{pointwise}
+use Rattle.std.specs.Ordering.{eq_of_both, on}
+use Rattle.jr_head.specs.HeadValue.{HeadValue, same_head}
 use Rattle.jr_head.specs.Geometry.{mcus_of}
 use Rattle.jr_scan.specs.declared.scan_end.ScanEnd.{ScanEnd}
 use Rattle.jr_scan.specs.Cut.{IsCut}
@@ -31,5 +33,19 @@ pub record IsScanOf (file : List ℕ) (s : ScanValue) : Type 0 where
   pub intervals : s.intervals ≡ pieces ++ replicate (intervals_of s.head - length pieces) []
 
 -- scans compare by head and by the data of all intervals
+abbrev pub same_scan : ScanValue → ScanValue → Bool
+same_scan = eq_of_both (on (λ (s : ScanValue). s.head) same_head) (on (λ (s : ScanValue). s.intervals) (pointwise (pointwise ◌==◌)))
+
+abbrev pub same_interval : IntervalValue → IntervalValue → Bool
+same_interval =
+    eq_of_both (on (λ (i : IntervalValue). i.number) ◌==◌)
+    (eq_of_both (on (λ (i : IntervalValue). i.mcus) ◌==◌)
+    (eq_of_both (on (λ (i : IntervalValue). i.bytes) (pointwise ◌==◌)) (on (λ (i : IntervalValue). i.head) same_head)))
+
+-- equal heads, and the same data in each interval; what ended them may differ
 abbrev pub IsSameScan : ScanValue → ScanValue → Type 0
 IsSameScan s t = (s.head ≡ t.head) × (s.intervals ≡ t.intervals)
+
+-- the interval is the scan's interval of its number
+abbrev pub HasInterval : ScanValue → IntervalValue → Type 0
+HasInterval s i = (i.number < length s.intervals) × (i ≡ interval_of s i.number)

@@ -92,20 +92,6 @@ impl Interval {
         &self.head
     }
 
-    /// Whether both are the same interval: equal numbers, MCU counts, data and heads.
-    pub fn is_same(&self, other: &Interval) -> bool
-        ensures { IsTrue result ↔ (self.now ≡ other.now) }
-    {
-        self.number == other.number && self.is_made_of(&other.head, other.mcus, other.bytes())
-    }
-
-    /// Whether the interval has this head, so many MCUs and these data.
-    pub(crate) fn is_made_of(&self, head: &Head, mcus: u32, bytes: &[u8]) -> bool
-        ensures { IsTrue result ↔ (self.now ≡ record { number = self.now.number; mcus = mcus; bytes = bytes.now; head = head.now }) }
-    {
-        self.mcus == mcus && self.bytes() == bytes && self.head.is_same(head)
-    }
-
     /// The blocks of the interval's one decoding, or that it has none.
     pub fn read(&self, alloc: Global) -> Result<Option<Vec<Block>>, Memory>
         ensures some { IfOk result (λ answer. IfSome answer (λ v. Decodes self.now v.items)) }

@@ -1,6 +1,6 @@
 //! A scan, cut into its restart intervals.
 
-ghost use Rattle.std.specs.Prelude.{◌≡◌, ◌↔◌, ◌<◌, ◌≤◌, ◌^◌, length, drop, slice_index_or, [], IsTrue, IfOk};
+ghost use Rattle.std.specs.Prelude.{◌≡◌, ◌↔◌, ◌<◌, ◌≤◌, ◌^◌, length, drop, IsTrue, IfOk, slice_index_or, []};
 
 use crate::cut::cut;
 use crate::interval::Interval;
@@ -74,7 +74,7 @@ fn mcus_of(head: &Head, i: u32) -> u32
 ghost use Rattle.jr_scan.specs.ScanValue.{intervals_of, mcus_in};
 
 impl Scan {
-    ghost use Rattle.jr_scan.specs.ScanValue.{intervals_of, interval_of, IsScanOf, IsSameScan};
+    ghost use Rattle.jr_scan.specs.ScanValue.{intervals_of, interval_of, IsScanOf, IsSameScan, HasInterval};
 
     /// Cuts the scan of a file, of which this is the head. Where the scan starts past the end of the file it has no
     /// bytes.
@@ -132,51 +132,51 @@ impl Scan {
         Ok(Interval::of(head, unstuffed, span, i, mcus_of(&self.head, i)))
     }
 
-    /// The data of interval i, none where it has no piece.
-    fn piece(&self, i: usize) -> &[u8]
+    /// The data of interval i, without stuffing.
+    fn data(&self, i: u32) -> &[u8]
+        requires { i < length self.now.intervals }
         ensures { result.now ≡ slice_index_or self.now.intervals i [] }
     {
-        if i < self.spans.len() {
-            let span = self.spans[i];
-            &self.unstuffed[span.start..span.end]
-        } else {
-            &self.unstuffed[0..0]
+        let mut span = Span { start: 0, end: 0 };
+        if (i as usize) < self.spans.len() {
+            span = self.spans[i as usize];
         }
+        &self.unstuffed[span.start..span.end]
     }
 
-    /// Whether both scans have the same head and the same data in all intervals.
+    /// Whether both have equal heads, and the same data in each interval.
     pub fn is_same(&self, other: &Scan) -> bool
         ensures { IsTrue result ↔ IsSameScan self.now other.now }
     {
-        self.head.is_same(&other.head) && self.has_same_data(other)
+        self.head.is_same(&other.head)
+            && self.intervals == other.intervals
+            && self.has_same_data(other)
     }
 
-    /// Whether the pieces of both are the same.
+    /// Whether as many intervals have the same data.
     fn has_same_data(&self, other: &Scan) -> bool
-        requires { self.now.head ≡ other.now.head }
+        requires { length self.now.intervals ≡ length other.now.intervals }
         ensures { IsTrue result ↔ (self.now.intervals ≡ other.now.intervals) }
     {
-        let pieces = self
-            .spans
-            .as_slice()
-            .len()
-            .max(other.spans.as_slice().len());
-        for i in 0..pieces {
-            if self.piece(i) != other.piece(i) {
+        for i in 0..self.intervals() {
+            if self.data(i) != other.data(i) {
                 return false;
             }
         }
         true
     }
 
-    /// Whether this is the scan's interval of that number: with the same head, MCU count and data.
-    pub fn contains(&self, interval: &Interval) -> bool
-        ensures { IsTrue result ↔ ((interval.now.number < length self.now.intervals) × (interval.now ≡ interval_of self.now interval.now.number)) }
+    /// Whether an interval is this scan's interval of its number.
+    pub fn has(&self, interval: &Interval) -> bool
+        ensures { IsTrue result ↔ HasInterval self.now interval.now }
     {
-        let i = interval.number();
-        if i >= self.intervals {
+        let number = interval.number();
+        if number >= self.intervals() || interval.mcus() != mcus_of(&self.head, number) {
             return false;
         }
-        interval.is_made_of(&self.head, mcus_of(&self.head, i), self.piece(i as usize))
+        if interval.bytes() != self.data(number) {
+            return false;
+        }
+        interval.head().is_same(&self.head)
     }
 }

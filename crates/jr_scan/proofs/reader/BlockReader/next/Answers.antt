@@ -1,6 +1,7 @@
-use Rattle.std.proofs.Common.{◌≡◌, ℕ, ℤ, pos, negsuc, ◌+◌, ◌*◌, ◌<◌, ◌≤◌, ◌≤ℤ◌, Bool, true, false, List, [], ◌∷◌, ◌++◌, length, get_or, set, arith, rules, subst, refl, sym, ap, ◌∙◌, w32}
+use Rattle.std.proofs.Common.{◌≡◌, ℕ, ℤ, pos, negsuc, ◌+◌, ◌*◌, ◌<◌, ◌≤◌, ◌≤ℤ◌, ◌≢◌, Bool, true, false, List, [], ◌∷◌, ◌++◌, length, get_or, set, arith, rules, subst, refl, sym, ap, ◌∙◌, w32}
 use mir.Val.{SFits, to_z, of_z}
 use Rattle.std.proofs.lemmas.Int.{to_z-of_z}
+use Rattle.std.proofs.Math.Nat.{le_of_mul-le-mul_right}
 use Rattle.jr_code.specs.Code.{Table}
 use Rattle.jr_head.specs.HeadValue.{HeadValue}
 use Rattle.jr_head.specs.Geometry.{components_of, component_count, order_of, dc_of, ac_of}
@@ -9,7 +10,7 @@ use Rattle.jr_scan.specs.Units.{component}
 use Rattle.jr_scan.specs.Reader.{HasRead, IsKept, ReaderValue, blocks_read}
 use Rattle.jr_scan.proofs.Predicted.{kept_fits}
 use Rattle.jr_scan.proofs.Ranges.{block_in_range}
-use Rattle.jr_scan.proofs.Readers.{component_at, read_more, read_stop, kept_low, kept_high, few_components, below_whole}
+use Rattle.jr_scan.proofs.Readers.{component_at, read_more, read_stop, kept_low, kept_high, few_components}
 use Rattle.jr_scan.proofs.reader.BlockReader.next.Goals as goal
 
 pub returns-in_default-clause-kept : goal.returns-in_default-clause-kept
@@ -86,16 +87,21 @@ returns-clause-component c =
 pub returns-clause-in_range : goal.returns-clause-in_range
 returns-clause-in_range c = block_in_range _ _ _ _ _ c.in-Some.ensures.some.is
 
+-- as many MCUs at most, and not as many
+before : (m n w p : ℕ) → p < w → m * w + p ≤ n * w → m ≢ n → m < n
+before m n w p in' few apart =
+    let most : m ≤ n = le_of_mul-le-mul_right {m = m} {n = n} {k = w} (omega (arith, few)) (omega (arith, in')) in
+    omega (arith, most, apart)
+
 pub invariant_of-self : goal.invariant_of-self
-invariant_of-self c =
-    let k = c.self.invariant.0 in (
-      record {
-        within = k.within;
-        few = k.few;
-        missing = λ e. let most = below_whole _ _ _ _ k.within k.few in omega (arith, most, c.if-self-2.false);
-        low = k.low;
-        high = k.high;
-      },
-      c.self.invariant.1,
-      c.self.invariant.2,
-    )
+invariant_of-self c = (
+  record {
+    within = c.self.invariant.0.within;
+    few = c.self.invariant.0.few;
+    missing = λ _. before c.self.inside.mcu c.self.inside.mcus (length (order_of c.self.inside.interval.now.head)) c.self.inside.place c.self.invariant.0.within c.self.invariant.0.few c.if-self-2.false;
+    low = c.self.invariant.0.low;
+    high = c.self.invariant.0.high;
+  },
+  c.self.invariant.1,
+  c.self.invariant.2,
+)

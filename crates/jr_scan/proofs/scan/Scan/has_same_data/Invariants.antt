@@ -1,4 +1,4 @@
-use Rattle.std.proofs.Common.{◌≡◌, ℕ, ◌<◌, [], get_or}
+use Rattle.std.proofs.Common.{◌≡◌, ◌<◌, ℕ, [], get_or}
 use Rattle.jr_scan.proofs.scan.Scan.has_same_data.Given as goal
 
 abbrev pub invariant-loop-i : goal.invariant-loop-i
