@@ -21,3 +21,6 @@ pub use place::Place;
 pub use reader::BlockReader;
 pub use scan::Scan;
 pub use scan_end::ScanEnd;
+
+#[cfg(test)]
+mod tests;
