@@ -22,9 +22,11 @@ fn number(bytes: &[u8], at: usize, n: usize) -> Option<u32> {
 fn word(counts: &[u8], symbols: &[u8], bytes: &[u8], at: usize) -> Option<(u8, usize)> {
     let mut room: u32 = 0;
     let mut place: usize = 0;
-    for (i, count) in counts.iter().enumerate() {
-        let long = i.checked_add(1)?;
-        let own = 65536u32.checked_shr(long as u32)?.max(1);
+    let mut own: u32 = 65536;
+    let mut long: usize = 0;
+    for count in counts {
+        own = (own / 2).max(1);
+        long = long.checked_add(1)?;
         for _ in 0..*count {
             if number(bytes, at, long) == Some(room / own) {
                 return Some((*symbols.get(place)?, long));
@@ -38,7 +40,7 @@ fn word(counts: &[u8], symbols: &[u8], bytes: &[u8], at: usize) -> Option<(u8, u
 
 /// What extra bits stand for.
 fn value(size: usize, v: u32) -> i32 {
-    let v = v as i32 & 0xFFFF;
+    let v = (v % 65536) as i32;
     let full = 1i32 << (size % 16);
     if size == 0 || v >= full / 2 {
         v
@@ -47,9 +49,9 @@ fn value(size: usize, v: u32) -> i32 {
     }
 }
 
-/// The block at a bit, its first coefficient a difference, and the bit behind it.
-fn block(p: &Picture<'_>, bytes: &[u8], start: usize) -> Option<(Block, usize)> {
-    let mut z = [0; 64];
+/// Reads the block at a bit, its first coefficient a difference, and tells the bit behind it.
+fn block(p: &Picture<'_>, bytes: &[u8], start: usize, z: &mut Block) -> Option<usize> {
+    *z = [0; 64];
     let (size, long) = word(p.dc.0, p.dc.1, bytes, start)?;
     if size > 11 {
         return None;
@@ -61,14 +63,14 @@ fn block(p: &Picture<'_>, bytes: &[u8], start: usize) -> Option<(Block, usize)> 
     let mut place: usize = 1;
     for _ in 0..63u8 {
         if place == 64 {
-            return Some((z, at));
+            return Some(at);
         }
         let (symbol, long) = word(p.ac.0, p.ac.1, bytes, at)?;
         at = at.checked_add(long)?;
         let run = usize::from(symbol / 16);
         let size = usize::from(symbol % 16);
         if symbol == 0 {
-            return Some((z, at));
+            return Some(at);
         }
         if symbol == 0xF0 {
             place = place.checked_add(16)?;
@@ -85,7 +87,7 @@ fn block(p: &Picture<'_>, bytes: &[u8], start: usize) -> Option<(Block, usize)> 
             place = place.checked_add(1)?;
         }
     }
-    if place == 64 { Some((z, at)) } else { None }
+    if place == 64 { Some(at) } else { None }
 }
 
 /// The data of the pieces in front, how the scan ends and where.
@@ -128,9 +130,10 @@ fn front(
     let mut whole = Vec::new(alloc);
     let mut at: usize = 0;
     let mut last = [0i32; 3];
+    let mut z = [0; 64];
     for _ in 0..mcus {
         for c in order {
-            let Some((mut z, end)) = block(p, bytes, at) else {
+            let Some(end) = block(p, bytes, at, &mut z) else {
                 return Ok((whole, false));
             };
             let first = last[*c % 3].saturating_add(z[0]);
@@ -223,7 +226,10 @@ fn reads_as_the_definitions_say(rt: HostRuntime) -> Result<(), Fail> {
                 let read = interval.read_front(a)?;
                 assert_eq!(rt; read.blocks(), blocks.as_slice());
                 assert_eq!(rt; read.is_sound(), sound);
-                assert_eq!(rt; read.mcus() as usize * order.len(), blocks.as_slice().len());
+                assert_eq!(rt;
+                    (read.mcus() as usize).checked_mul(order.len()),
+                    Some(blocks.as_slice().len())
+                );
             }
         }
     }
