@@ -1,13 +1,14 @@
 -- Runs of MCUs: each start has one, and two that meet are one.
-use Rattle.std.proofs.Common.{◌≡◌, ◌≢◌, ℕ, zero, suc, ◌+◌, ◌-◌, ◌*◌, ◌%◌, ◌<◌, ◌≤◌, Bool, cond, eqb, List, [], ◌∷◌, ◌++◌, length, get_or, take, drop, replicate, length-drop, refl, sym, ap, subst, ◌∙◌, inl, inr, ◌⊎◌, append_assoc, length-append, arith}
+use Rattle.std.proofs.Common.{◌≡◌, ◌≢◌, ℕ, zero, suc, ◌+◌, ◌-◌, ◌*◌, ◌/◌, ◌%◌, ◌<◌, ◌≤◌, Bool, true, false, cond, eqb, List, [], ◌∷◌, ◌++◌, length, get_or, take, drop, replicate, length-drop, refl, sym, ap, subst, ◌∙◌, inl, inr, ◌⊎◌, append_assoc, length-append, arith}
 use Rattle.std.specs.Prelude.{ℤ, pos}
-use Rattle.std.proofs.lemmas.List.{get_or_append_left, get_or-append_right, append-nil, drop-drop, get_or-drop, get_or-replicate, length-take-le, take-append-drop}
+use Rattle.std.proofs.lemmas.List.{get_or_append_left, get_or-append_right, drop-drop, drop_all, get_or-drop, get_or-replicate, length-take-le, take-append-drop}
 use Rattle.std.proofs.Math.ListN.{length-replicate}
 use Rattle.std.proofs.lemmas.List.Concat.{flat_map-append}
 use Rattle.std.proofs.lemmas.Bool.{cases_lt}
 use Rattle.std.proofs.Math.Nat.{mul-add-mod_self_right, mul-le-mul_right}
 use Rattle.std.proofs.Math.Seq.{take-add, drop-append_seam}
-use Rattle.jr_code.specs.Bits.{bits}
+use Rattle.jr_code.specs.Bits.{bits, bits_of}
+use Rattle.jr_code.proofs.BitLemmas.{length-bits, length-bits_of}
 use Rattle.jr_head.specs.HeadValue.{HeadValue}
 use Rattle.jr_head.specs.declared.component.Component.{Component}
 use Rattle.jr_head.specs.declared.mark.Kind.{Kind}
@@ -19,7 +20,7 @@ use Rattle.jr_scan.specs.declared.place.RunEnd.TheVariants.{AllRead, NoMcu}
 use Rattle.jr_scan.specs.Block.{BlockAt}
 use Rattle.jr_scan.specs.IntervalValue.{IntervalValue}
 use Rattle.jr_scan.specs.Units.{component, block_of, prediction, IsBlock, joined, Blocks, Units, no_predictions, Decodes}
-use Rattle.jr_scan.specs.Reader.{RunOf, whole_run}
+use Rattle.jr_scan.specs.Reader.{RunOf, ReaderValue, whole_run, per_mcu, HasRead, IsKept}
 use Rattle.jr_scan.specs.Run.{left_at, predicted, HasNoMcu, EndsAs, IsRun}
 use Rattle.jr_scan.proofs.Words.{OneWord}
 use Rattle.jr_scan.proofs.UnitsLaws.{prediction_same, is_block_same, one_blocks, blocks_front, blocks_before}
@@ -234,3 +235,50 @@ run_is_decoding i zs to r short =
       short = short;
       spelled = r.spelled;
     }
+
+three_places : (ps : List ℤ) → length ps ≡ 3 → ps ≡ get_or ps 0 (pos 0) ∷ get_or ps 1 (pos 0) ∷ get_or ps 2 (pos 0) ∷ []
+three_places [] e = absurd (omega arith)
+three_places (a ∷ []) e = absurd (omega arith)
+three_places (a ∷ b ∷ []) e = absurd (omega arith)
+three_places (a ∷ b ∷ c ∷ []) e = refl
+three_places (a ∷ b ∷ c ∷ d ∷ es) e = absurd (omega arith)
+
+-- what a reader has read is the run of so many MCUs, where it stands between two of them
+pub read_is_run : (r : ReaderValue) (zs : List (List ℤ)) (bit : ℕ) → IsKept r → r.stuck ≡ false → r.place ≡ 0 → length r.predictions ≡ 3 → bit ≡ 8 * length r.run.interval.bytes - length r.left → HasRead r zs
+    → IsRun (record { interval = r.run.interval; from = r.run.from; mcus = r.mcu }) zs (record { bit = bit; predictions = r.predictions }) AllRead
+read_is_run r zs bit kept going place three at s =
+    let i = r.run.interval in
+    let h = i.head in
+    let start = r.run.from.predictions in
+    let left : s.left ≡ r.left = s.going going in
+    let total = length-bits i.bytes in
+    let count : length zs ≡ r.mcu * per_mcu r = omega (arith, s.count, place) in
+    let bits_there : length s.reads.taken + length s.left ≡ 8 * length i.bytes - r.run.from.bit = omega (arith, ap length s.reads.split, length-append s.reads.taken s.left, length-drop r.run.from.bit (bits i.bytes), total) in
+    let where' : bit ≡ r.run.from.bit + length s.reads.taken = omega (arith, bits_there, ap length left, at, kept.start) in
+    let behind : drop bit (bits i.bytes) ≡ s.left = ap (λ (k : ℕ). drop k (bits i.bytes)) where' ∙ sym (drop-drop (length s.reads.taken) r.run.from.bit (bits i.bytes)) ∙ ap (drop (length s.reads.taken)) s.reads.split ∙ drop-append_seam s.reads.taken s.left in
+    record {
+      count = r.mcu;
+      few = omega arith;
+      taken = s.reads.taken;
+      units = (count, s.reads.blocks);
+      spelled = s.reads.split ∙ ap (λ (w : List Bool). s.reads.taken ++ w) (sym behind);
+      bit = where';
+      predictions = three_places r.predictions three
+          ∙ ap (λ (x : ℤ). x ∷ get_or r.predictions 1 (pos 0) ∷ get_or r.predictions 2 (pos 0) ∷ []) (s.last 0 (omega arith))
+          ∙ ap (λ (x : ℤ). prediction h start zs 0 (length zs) ∷ x ∷ get_or r.predictions 2 (pos 0) ∷ []) (s.last 1 (omega arith))
+          ∙ ap (λ (x : ℤ). prediction h start zs 0 (length zs) ∷ prediction h start zs 1 (length zs) ∷ x ∷ []) (s.last 2 (omega arith));
+      ends = refl;
+    }
+
+-- the bits of bytes from a bit on
+drop_bytes : (n : ℕ) (bytes : List ℕ) → bits (drop n bytes) ≡ drop (8 * n) (bits bytes)
+drop_bytes zero bytes = refl
+drop_bytes (suc n) [] = sym (drop_all (8 * suc n) [] (omega arith))
+drop_bytes (suc n) (b ∷ bs) =
+    let e : 8 * suc n ≡ 8 * n + 8 = omega arith in
+    let first : drop 8 (bits_of 8 b ++ bits bs) ≡ bits bs = ap (λ (k : ℕ). drop k (bits_of 8 b ++ bits bs)) (sym (length-bits_of 8 b)) ∙ drop-append_seam (bits_of 8 b) (bits bs) in
+    drop_bytes n bs ∙ ap (drop (8 * n)) (sym first) ∙ drop-drop (8 * n) 8 (bits_of 8 b ++ bits bs) ∙ ap (λ (k : ℕ). drop k (bits_of 8 b ++ bits bs)) (omega (arith, e))
+
+pub bits_on : (bytes : List ℕ) (bit : ℕ) → drop (bit % 8) (bits (drop (bit / 8) bytes)) ≡ drop bit (bits bytes)
+bits_on bytes bit =
+    ap (drop (bit % 8)) (drop_bytes (bit / 8) bytes) ∙ drop-drop (bit % 8) (8 * (bit / 8)) (bits bytes) ∙ ap (λ (k : ℕ). drop k (bits bytes)) (omega arith)

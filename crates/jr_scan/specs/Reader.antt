@@ -67,6 +67,7 @@ pub record HasRead (r : ReaderValue) (zs : List (List ℤ)) : Type 0 where
 
 -- what each reader keeps
 pub record IsKept (r : ReaderValue) : Type 0 where
+  pub start : r.run.from.bit ≤ 8 * length r.run.interval.bytes
   pub within : r.place < per_mcu r
   pub few : blocks_read r ≤ r.run.mcus * per_mcu r
   pub missing : r.stuck ≡ true → r.mcu < r.run.mcus

@@ -45,7 +45,8 @@ invariant_of-self-2 c =
     let range = block_in_range _ _ _ _ _ c.in-Some.ensures.some.is in
     let size : length c.self.inside.predictions ≡ 3 = search rules in (
       record {
-        within = subst (λ (o : List ℕ). c.following-mcu.result.1 < length o) c.self.invariant.1 c.following-mcu.ensures.within;
+        start = c.self.invariant.0.start;
+    within = subst (λ (o : List ℕ). c.following-mcu.result.1 < length o) c.self.invariant.1 c.following-mcu.ensures.within;
         few = subst (λ (o : List ℕ). c.following-mcu.result.0 * length o + c.following-mcu.result.1 ≤ c.self.inside.mcus * length o) c.self.invariant.1 c.following-mcu.ensures.few;
         missing = λ e. let f = c.if-self.false in cc;
         low = kept_low c.self.inside.predictions _ k c.in-Some.first size wrote (subst (λ (x : ℤ). negsuc 32767 ≤ℤ x) (sym c.in-Some.ensures.first) range.first_low) c.self.invariant.0.low;
@@ -96,6 +97,7 @@ before m n w p in' few apart =
 pub invariant_of-self : goal.invariant_of-self
 invariant_of-self c = (
   record {
+    start = c.self.invariant.0.start;
     within = c.self.invariant.0.within;
     few = c.self.invariant.0.few;
     missing = λ _. before c.self.inside.mcu c.self.inside.mcus (length (order_of c.self.inside.interval.now.head)) c.self.inside.place c.self.invariant.0.within c.self.invariant.0.few c.if-self-2.false;
