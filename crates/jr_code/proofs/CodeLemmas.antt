@@ -4,24 +4,24 @@ use Rattle.std.specs.Bool.{Decides}
 use Rattle.std.specs.Cmp.Lexicographic.{bytes_decides, pointwise}
 use Rattle.std.proofs.lemmas.Bool.{and_parts, and_from}
 use Rattle.jr_code.specs.Code.{same_table}
-use Rattle.std.proofs.Common.{false, ◌≢◌, ◌≡◌, ℕ, zero, suc, ◌+◌, ◌-◌, ◌*◌, ◌/◌, ◌%◌, ◌^◌, ◌<◌, ◌≤◌, Bool, List, [], ◌∷◌, ◌++◌, length, drop, take, get_or, replicate, refl, sym, ◌∙◌, ap, arith, length-append, lit<, ⊎_elim, subst}
-use Rattle.std.specs.Prelude.{slice_get, Option, Some, None, IfSome, IfNone, sum, sum_by}
+use Rattle.std.proofs.Common.{◌≡◌, ℕ, zero, suc, ◌+◌, ◌-◌, ◌*◌, ◌/◌, ◌^◌, ◌<◌, ◌≤◌, Bool, List, [], ◌∷◌, ◌++◌, length, drop, take, get_or, replicate, refl, sym, ◌∙◌, ap, arith, length-append, ⊎_elim, subst}
+use Rattle.std.specs.Prelude.{slice_get, Option, Some, sum, sum_by}
 use Rattle.std.proofs.lemmas.Bool.{cases_lt, cases_order}
-use Rattle.std.proofs.lemmas.Nat.{pow-add, pow_pos, mul-le}
-use Rattle.std.proofs.lemmas.List.{append_assoc, append-nil, take_more, take-take, length-take-le, length-replicate, take-append-drop, drop_more, take_at, take_all, take-append-le}
+use Rattle.std.proofs.lemmas.Nat.{pow-add, pow_pos}
+use Rattle.std.proofs.lemmas.List.{append_assoc, append-nil, take_more, take-take, length-take-le, length-replicate, take-append-drop, drop_more}
 use Rattle.std.proofs.lemmas.List.Sums.{sum_by-append, sum_by-cons, sum_by_more, sum_by_more_le, sum_by-take-le}
-use Rattle.std.proofs.lemmas.Option.{slice_get_within, get_or_from_slice_get, slice_get_read}
-use Rattle.std.proofs.Math.Nat.{mul_assoc, mul_comm, add-mul, pow-suc, lt_of_mul-lt-mul_right, le-mul_of_pos_right, mul-div_left, mul-lt-mul_of_pos_right, pow-le-pow_right, mod-eq_of_lt}
+use Rattle.std.proofs.lemmas.Option.{slice_get_within, get_or_from_slice_get}
+use Rattle.std.proofs.Math.Nat.{mul_assoc, mul_comm, add-mul, pow-suc, lt_of_mul-lt-mul_right, mul-div_left, mul-lt-mul_of_pos_right, mod-eq_of_lt}
 use Rattle.jr_code.specs.Bits.{number, bits_of}
-use Rattle.jr_code.specs.Code.{IsShort, IsEntry, Reached, Table, IsWord, IsLawful, lengths_from, lengths, room, space}
-use Rattle.jr_code.proofs.BitLemmas.{number_below, number-take_zero, length-bits_of, number-bits_of, number-append, slice_get-append_left, slice_get-append_right}
+use Rattle.jr_code.specs.Code.{Table, IsWord, IsLawful, lengths_from, lengths, room, space}
+use Rattle.jr_code.proofs.BitLemmas.{number_below, length-bits_of, number-bits_of, number-append, slice_get-append_left, slice_get-append_right}
 
 pub length-lengths : (l : ℕ) (cs : List ℕ) → length (lengths_from l cs) ≡ sum cs
 length-lengths l [] = refl
 length-lengths l (c ∷ cs) =
     omega (arith, length-append (replicate c l) (lengths_from (l + 1) cs), length-replicate c l, length-lengths (l + 1) cs, sum_by-cons (λ x. x) c cs)
 
-lengths-append : (l : ℕ) (xs ys : List ℕ) → lengths_from l (xs ++ ys) ≡ lengths_from l xs ++ lengths_from (l + length xs) ys
+pub lengths-append : (l : ℕ) (xs ys : List ℕ) → lengths_from l (xs ++ ys) ≡ lengths_from l xs ++ lengths_from (l + length xs) ys
 lengths-append l [] ys = ap (λ n. lengths_from n ys) (omega arith)
 lengths-append l (x ∷ xs) ys =
     let e : l + 1 + length xs ≡ l + suc (length xs) = omega arith in
@@ -125,7 +125,7 @@ room_halves i h =
     let e : 16 - i ≡ suc (16 - (i + 1)) = omega arith in
     ap (λ n. 2 ^ n) e ∙ pow-suc 2 (16 - (i + 1)) ∙ mul_comm (2 ^ (16 - (i + 1))) 2
 
-doubled : (a b c : ℕ) → a * (2 * b) + c * b ≡ (2 * a + c) * b
+pub doubled : (a b c : ℕ) → a * (2 * b) + c * b ≡ (2 * a + c) * b
 doubled a b c = omega (arith, mul_assoc a 2 b, add-mul (a * 2) c b, mul_comm a 2)
 
 pub space-nil : space [] ≡ 0
@@ -146,7 +146,7 @@ whole cs (suc i) h short =
 
 -- ---- the words
 
-room_pos : (l : ℕ) → 0 < room l
+pub room_pos : (l : ℕ) → 0 < room l
 room_pos l = pow_pos (16 - l)
 
 -- a word of i + 1 bits, by its number among those
@@ -160,10 +160,10 @@ pub record Spelled (t : Table) (word : List Bool) (i k place : ℕ) : Type 0 whe
   pub is : number word ≡ 2 * times + k
   pub exact : number word * room (length word) ≡ space (take place (lengths t.counts))
 
-div_room : (n l : ℕ) → n * room l / room l ≡ n
+pub div_room : (n l : ℕ) → n * room l / room l ≡ n
 div_room n l = mul-div_left n (room_pos l)
 
-same_times : (a b r : ℕ) → 0 < r → a * r ≡ b * r → a ≡ b
+pub same_times : (a b r : ℕ) → 0 < r → a * r ≡ b * r → a ≡ b
 same_times a b r h e = sym (mul-div_left a h) ∙ ap (λ n. n / r) e ∙ mul-div_left b h
 
 same_some : (a b : ℕ) (o : Option ℕ) → o ≡ Some a → o ≡ Some b → a ≡ b
@@ -285,74 +285,6 @@ one_word t a b x y s u v w e = ⊎_elim
     (λ ge. let r = one_word_ordered t b a y x u s w v ge (sym e) in (sym r.0, sym r.1))
     (cases_lt (length a) (length b))
 
--- ---- reading a word, bit by bit
-
--- code is the number of the first i + 1 bits; end is past the greatest word of i bits
-pub word_found : (t : Table) (bs : List Bool) (i code end k s : ℕ) → i < 16 → i < length t.counts → i < length bs
-    → end * room i ≡ space (lengths (take i t.counts)) → number (take (i + 1) bs) ≡ code → code ≡ 2 * end + k → k < get_or t.counts i 0
-    → slice_get t.symbols (sum (take i t.counts) + k) ≡ Some s → IsWord t (take (i + 1) bs) s
-word_found t bs i code end k s short within enough full is split small known =
-    let place = sum (take i t.counts) + k in
-    let st = stands t.counts i k place within small refl in
-    let long : length (take (i + 1) bs) ≡ i + 1 = length-take-le (i + 1) bs (omega arith) in
-    let sum_is : space (take place (lengths t.counts)) ≡ (2 * end + k) * room (i + 1) =
-    st.before ∙ ap (λ n. n + k * room (i + 1)) (sym full ∙ ap (λ n. end * n) (room_halves i short)) ∙ doubled end (room (i + 1)) k in
-    record {
-      place = place;
-      known = known;
-      long = st.long ∙ ap (λ n. Some n) (sym long);
-      short = omega arith;
-      written = is ∙ split ∙ sym (ap (λ n. n / room (length (take (i + 1) bs))) sum_is ∙ ap (λ l. (2 * end + k) * room (i + 1) / room l) long ∙ div_room (2 * end + k) (i + 1));
-    }
-
--- no front of i + 1 bits is a word, where the code is past the greatest of them
-pub none_here : (t : Table) (bs word rest : List Bool) (i code end s : ℕ)
-    → end * room i ≡ space (lengths (take i t.counts)) → number (take (i + 1) bs) ≡ code → ((k : ℕ) → k < get_or t.counts i 0 → code ≡ 2 * end + k → ⊥)
-    → IsWord t word s → bs ≡ word ++ rest → i < length word → i + 1 < length word
-none_here t bs word rest i code end s full is past w begins longer =
-    ⊎_elim (λ e.
-    let sp = spelled t word s w in
-    let same : sp.0 ≡ i = omega (arith, sp.2.long, e) in
-    let front : take (i + 1) bs ≡ word = ap (λ b. take (i + 1) b) begins ∙ take_at word rest (i + 1) (sym e) in
-    let times : end ≡ sp.2.times = same_times end sp.2.times (room i) (room_pos i) (full ∙ ap (λ n. space (lengths (take n t.counts))) (sym same) ∙ sp.2.before ∙ ap (λ n. sp.2.times * room n) same) in
-    absurd (past sp.1 (omega (arith, sp.2.small, ap (λ n. get_or t.counts n 0) same)) (omega (arith, is, sp.2.is, ap number front, times))))
-    (λ o. ⊎_elim (λ lt. lt) (λ gt. absurd (omega (arith, gt, longer))) o)
-    (cases_order (i + 1) (length word))
-
-pub word_not_empty : (t : Table) (word : List Bool) (s : ℕ) → IsWord t word s → 0 < length word
-word_not_empty t word s w = omega (arith, (spelled t word s w).2.long)
-
--- a word that begins what is left is no longer than that
-pub word_fits : (t : Table) (bs word rest : List Bool) (s : ℕ) → bs ≡ word ++ rest → length word ≤ length bs
-word_fits t bs word rest s e = omega (arith, ap length e, length-append word rest)
-
--- the symbol at a word's place
-pub known_there : (t : Table) (symbols : List ℕ) (i k at s : ℕ) → symbols ≡ t.symbols → sum t.counts ≡ length t.symbols → i < length t.counts
-    → k < get_or t.counts i 0 → at ≡ sum (take i t.counts) + k → s ≡ get_or symbols at s → slice_get t.symbols (sum (take i t.counts) + k) ≡ Some s
-known_there t symbols i k at s same each within small place read =
-    let more : sum (take i t.counts) + get_or t.counts i 0 ≤ sum t.counts = sum_by_more_le (λ n. n) t.counts i 0 within in
-    let inside : at < length symbols = omega (arith, ap length same) in
-    rw (← place, ← same) (slice_get_read symbols (length symbols) at s refl inside read)
-
-pub full_more : (t : Table) (i end count after : ℕ) → i < 16 → i < length t.counts → end * room i ≡ space (lengths (take i t.counts)) → count ≡ get_or t.counts i 0
-    → after ≡ 2 * end + count → after * room (i + 1) ≡ space (lengths (take (i + 1) t.counts))
-full_more t i end count after short within full is e =
-    ap (λ n. n * room (i + 1)) e ∙ sym (doubled end (room (i + 1)) count)
-    ∙ ap (λ n. end * n + count * room (i + 1)) (sym (room_halves i short))
-    ∙ ap (λ n. n + count * room (i + 1)) full
-    ∙ ap (λ n. space (lengths (take i t.counts)) + n * room (i + 1)) is
-    ∙ sym (space_more t.counts i within)
-
--- a count shifted is its words' room
-pub shifted : (count i : ℕ) → count ≤ 255 → i < 16 → (count * 2 ^ (15 - i) % 4294967296 ≡ count * room (i + 1)) × (count * room (i + 1) ≤ 8355840)
-shifted count i small h =
-    let e : 15 - i ≡ 16 - (i + 1) = omega arith in
-    let few : 15 - i ≤ 15 = omega arith in
-    let pow : 2 ^ (15 - i) ≤ 2 ^ 15 = pow-le-pow_right (lit< tt) few in
-    let same : count * 2 ^ (15 - i) ≡ count * room (i + 1) = ap (λ n. count * 2 ^ n) e in
-    let le : count * 2 ^ (15 - i) ≤ 255 * 2 ^ 15 = mul-le count (2 ^ (15 - i)) 255 (2 ^ 15) small pow in
-    (mod-eq_of_lt (omega arith) ∙ same, omega arith)
-
 -- each place of a lawful table has a word
 pub word_exists : (t : Table) (place s : ℕ) → IsLawful t.counts t.symbols → slice_get t.symbols place ≡ Some s
     → (word : List Bool) × (w : IsWord t word s) × (w.place ≡ place)
@@ -386,80 +318,6 @@ word_exists t place s lawful known =
       },
       refl,
     )
-
-pub reached_none : (t : Table) (bs : List Bool) → Reached t bs 0 0 0 0
-reached_none t bs = record {
-  code_is = number-take_zero bs;
-  full = sym space-nil;
-  index_is = refl;
-  enough = omega arith;
-  none = λ word rest s w e. word_not_empty t word s w;
-}
-
--- ---- what a byte looks up
-
--- eight bits of what is left, filled up with zeros
-abbrev pub filled : List Bool → List Bool
-filled bs = take 8 (bs ++ replicate 8 false)
-
-take-filled : (n : ℕ) (bs : List Bool) → n ≤ 8 → n ≤ length bs → take n (filled bs) ≡ take n bs
-take-filled n bs h k = take-take n 8 (bs ++ replicate 8 false) h ∙ take-append-le n bs (replicate 8 false) k
-
--- a word that begins what is left, and is no longer than eight bits, begins these eight
-begins_filled : (bs word rest : List Bool) → bs ≡ word ++ rest → length word ≤ 8 → filled bs ≡ word ++ drop (length word) (filled bs)
-begins_filled bs word rest e h =
-    let fits : length word ≤ length bs = omega (arith, ap length e, length-append word rest) in
-    let front : take (length word) (filled bs) ≡ word = take-filled (length word) bs h fits ∙ ap (λ b. take (length word) b) e ∙ take_at word rest (length word) refl in
-    sym (take-append-drop (length word) (filled bs)) ∙ ap (λ f. f ++ drop (length word) (filled bs)) front
-
--- an entry whose word is whole is what is in front
-pub entry_whole : (t : Table) (bs : List Bool) (byte s long : ℕ) → bits_of 8 byte ≡ filled bs → IsEntry t byte (Some (s, long)) → long ≤ length bs → IsWord t (take long bs) s
-entry_whole t bs byte s long e h fits = rw (← take-filled long bs h.0 fits, ← e) h.1
-
--- an entry whose word is cut off says that there is none: no word is a front of another
-pub entry_cut : (t : Table) (bs : List Bool) (byte s long : ℕ) → bits_of 8 byte ≡ filled bs → IsEntry t byte (Some (s, long)) → length bs < long
-    → (word rest : List Bool) (u : ℕ) → IsWord t word u → bs ≢ word ++ rest
-entry_cut t bs byte s long e h cut word rest u w begins =
-    let fits : length word ≤ length bs = omega (arith, ap length begins, length-append word rest) in
-    let same = one_word t (take long (bits_of 8 byte)) word (drop long (bits_of 8 byte)) (drop (length word) (filled bs)) s u h.1 w
-    (take-append-drop long (bits_of 8 byte) ∙ e ∙ begins_filled bs word rest begins (omega (arith, h.0))) in
-    let full : length (take long (bits_of 8 byte)) ≡ long = length-take-le long (bits_of 8 byte) (omega (arith, h.0, length-bits_of 8 byte)) in
-    omega (arith, ap length same.0)
-
--- no entry: a word in front has more than eight bits
-pub entry_none : (t : Table) (bs : List Bool) (byte : ℕ) → bits_of 8 byte ≡ filled bs → IsEntry t byte None
-    → (word rest : List Bool) (u : ℕ) → IsWord t word u → bs ≡ word ++ rest → 8 < length word
-entry_none t bs byte e h word rest u w begins = ⊎_elim
-    (λ lt. lt)
-    (λ le. absurd (h word (drop (length word) (filled bs)) u w (e ∙ begins_filled bs word rest begins le)))
-    (cases_lt 8 (length word))
-
-pub end_below : (t : Table) (i end : ℕ) → IsLawful t.counts t.symbols → end * room i ≡ space (lengths (take i t.counts)) → end ≤ 65536
-end_below t i end lawful full =
-    let split : space (lengths t.counts) ≡ space (lengths (take i t.counts)) + space (lengths_from (1 + length (take i t.counts)) (drop i t.counts)) =
-    ap (λ c. space (lengths c)) (sym (take-append-drop i t.counts)) ∙ ap space (lengths-append 1 (take i t.counts) (drop i t.counts))
-    ∙ space-append (lengths (take i t.counts)) (lengths_from (1 + length (take i t.counts)) (drop i t.counts)) in
-    omega (arith, lawful.roomy, le-mul_of_pos_right end (room_pos i))
-
--- what the reader finds in a byte alone is its entry
-pub entry_read : (t : Table) (byte : ℕ) (bs : List Bool) (r : Option (ℕ × ℕ)) → bs ≡ bits_of 8 byte ++ []
-    → IfSome r (λ f. (f.1 ≤ length bs) × IsWord t (take f.1 bs) f.0)
-    → IfNone r ((word rest : List Bool) (s : ℕ) → IsWord t word s → bs ≢ word ++ rest) → IsEntry t byte r
-entry_read t byte bs None e found none = rw (e ∙ append-nil (bits_of 8 byte)) at none
-entry_read t byte bs (Some f) e found none =
-    let same : bs ≡ bits_of 8 byte = e ∙ append-nil (bits_of 8 byte) in
-    (omega (arith, found.0, ap length same, length-bits_of 8 byte), rw same at found.1)
-
--- behind eight bits that are no entry the reader goes on
-pub reached_eight : (t : Table) (bs : List Bool) (byte end index : ℕ) → bits_of 8 byte ≡ filled bs → byte < 256 → IsEntry t byte None → 8 ≤ length bs → IsShort t end index
-    → Reached t bs 8 byte end index
-reached_eight t bs byte end index e small h enough short = record {
-  code_is = ap number (sym (take-filled 8 bs (omega arith) enough) ∙ ap (λ b. take 8 b) (sym e) ∙ take_all 8 (bits_of 8 byte) (omega (arith, length-bits_of 8 byte))) ∙ number-bits_of 8 byte ∙ mod-eq_of_lt small;
-  full = short.full;
-  index_is = short.index_is;
-  enough = enough;
-  none = entry_none t bs byte e h;
-}
 
 -- the test of two tables tells whether they are one
 pub tables_decide : (s t : Table) → Decides (same_table s t) (s ≡ t)

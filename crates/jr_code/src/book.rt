@@ -1,127 +1,53 @@
 //! Code tables of a JPEG file.
 
-ghost use Rattle.std.specs.Prelude.{◌≡◌, ◌≢◌, ◌<◌, ◌≤◌, ◌^◌, ◌↔◌, ◌++◌, ℕ, List, Bool, IsTrue, length, IfSome, IfNone, IfOk, OnOk, drop, take, sum};
+ghost use Rattle.std.specs.Prelude.{◌≡◌, ◌≢◌, ◌<◌, ◌≤◌, ◌↔◌, ◌++◌, ℕ, List, Bool, IsTrue, [], IfSome, IfNone, IfOk, OnOk, take, sum};
 ghost use Rattle.std.proofs.Common.{rules};
 ghost use Rattle.std.specs.Cmp.Rules.{comparing};
-ghost use Rattle.jr_code.specs.Code.{same_table, Table, IsWord, IsLawful, HasTooMany, IsOverfull, space, lengths, Reached, AreEntries, IsShort};
+ghost use Rattle.jr_code.specs.Code.{same_table, Table, IsWord, IsLawful, HasTooMany, IsOverfull, space, lengths, AreEntries, AreLong, IsFrontWhereWhole, HasNoFront, IsPrefixFree};
+ghost use Rattle.jr_code.specs.Bits.{bits_of};
+ghost use Rattle.jr_code.specs.Register.{bits_in};
 
 use crate::bits::Bits;
 use crate::memory::Memory;
+use crate::register::Register;
+use crate::words::Words;
 use std::alloc::Global;
 use std::marker::Model;
 use thiserror::Error;
 
-/// Why counts and symbols are no code table.
+/// Why counts and symbols are no code table, or why there is no room for it.
 #[derive(Debug, Drop, PartialEq, Eq, Error)]
 pub enum CodeFault {
+    /// The counts add up to over 256, or not to the number of symbols.
     #[error("too many words, or not one symbol for each")]
     TooMany,
+    /// The sum of `2 ^ (16 - length)` over all words is over 65536.
     #[error("the words have no room")]
     Overfull,
+    /// A request for memory was refused.
     #[error("out of memory")]
     Memory,
 }
 
-/// Counts of words by length, and a symbol for each word: read bit by bit.
-#[derive(Drop)]
-struct Words {
-    counts: [u8; 16],
-    symbols: Vec<u8>,
-}
-
-impl Model for Words {
-    ghost use Rattle.jr_code.specs.Code.{Table, IsLawful};
-
-    ghost Value = { Table };
-
-    ghost view = { λ b. record { counts = b.counts; symbols = b.symbols.items } };
-
-    ghost invariant = { λ b. IsLawful b.counts b.symbols.items };
-}
-
-impl Words {
-    fn are_same(&self, other: &Words) -> bool
-        ensures { IsTrue result ↔ (self.now ≡ other.now) }
-    {
-        self.counts == other.counts && self.symbols.as_slice() == other.symbols.as_slice()
-    }
-
-    fn is_same(&self, other: &Words) -> bool
-        ensures { result ≡ same_table self.now other.now }
-    {
-        self.counts == other.counts && self.symbols.as_slice() == other.symbols.as_slice()
-    }
-
-    fn try_clone(&self) -> Result<Words, Memory>
-        ensures { IfOk result (λ w. w ≡ self.now) }
-    {
-        Ok(Words {
-            counts: self.counts,
-            symbols: self.symbols.clone()?,
-        })
-    }
-
-    /// The word that is in front of the bits, of which there is at most one: its symbol, and how many bits it has.
-    fn front(&self, bits: &Bits) -> Option<(u8, u8)>
-        ensures found { IfSome result (λ f. (f.1 ≤ length bits.now) × IsWord self.now (take f.1 bits.now) f.0) }
-        ensures none { IfNone result ((word rest : List Bool) (s : ℕ) → IsWord self.now word s → bits.now ≢ word ++ rest) }
-    {
-        self.front_from(bits, 0, 0, 0, 0)
-    }
-
-    /// The same, behind the first bits, which are no word.
-    fn front_from(
-        &self,
-        bits: &Bits,
-        start: u8,
-        code: u32,
-        end: u32,
-        index: u32,
-    ) -> Option<(u8, u8)>
-        requires start { start ≤ 16 }
-        requires reached { Reached self.now bits.now start code end index }
-        ensures found { IfSome result (λ f. (f.1 ≤ length bits.now) × IsWord self.now (take f.1 bits.now) f.0) }
-        ensures none { IfNone result ((word rest : List Bool) (s : ℕ) → IsWord self.now word s → bits.now ≢ word ++ rest) }
-    {
-        let mut code = code;
-        let mut end = end;
-        let mut index = index;
-        for i in start..16 {
-            let at = u64::from(i);
-            if at >= bits.left() {
-                return None;
-            }
-            code = 2 * code + u32::from(bits.peek(at));
-            end = 2 * end;
-            let count = u32::from(self.counts[i as usize]);
-            if code >= end && code - end < count {
-                let place = (index + (code - end)) as usize;
-                return Some((self.symbols[place], i + 1));
-            }
-            end += count;
-            index += count;
-        }
-        None
-    }
-}
-
-/// A code table.
+/// A code table (T.81, Annex C), read by eight bits at once and, for longer words, by length. Two are equal where their
+/// counts and symbols are.
 #[derive(Drop)]
 pub struct CodeBook {
-    words: Words,
+    pub(crate) words: Words,
+    /// By eight bits: the symbol and length of the word of at most eight bits in front.
     entries: [Option<(u8, u8)>; 256],
-    end: u32,
-    index: u32,
+    /// For each length from nine to sixteen bits: the least word, and how many words are shorter.
+    long: [(u32, u32); 8],
 }
 
 impl Model for CodeBook {
-    ghost use Rattle.jr_code.specs.Code.{Table, AreEntries, IsShort};
+    ghost use Rattle.jr_code.specs.Code.{Table, AreEntries, AreLong};
 
     ghost Value = { Table };
 
     ghost view = { λ b. b.words };
 
-    ghost invariant = { λ b. AreEntries b.words b.entries × IsShort b.words b.end b.index };
+    ghost invariant = { λ b. AreEntries b.words b.entries × AreLong b.words b.long };
 }
 
 impl PartialEq for CodeBook {
@@ -135,7 +61,15 @@ impl PartialEq for CodeBook {
 }
 
 impl CodeBook {
-    /// The table of these counts and symbols.
+    /// Whether both have the same counts and symbols.
+    pub fn is_same(&self, other: &CodeBook) -> bool
+        ensures { IsTrue result ↔ (self.now ≡ other.now) }
+    {
+        self.words.is_same(&other.words)
+    }
+
+    /// The table of these counts, `counts[i]` of words of i + 1 bits, and of a symbol for each word in order (T.81, B.2.4.2
+    /// and Annex C). A symbol may stand twice, the word of all ones may be assigned, and a table may be empty.
     pub fn new(alloc: Global, counts: &[u8; 16], symbols: &[u8]) -> Result<CodeBook, CodeFault>
         ensures book { IfOk result (λ b. b ≡ record { counts = counts.now; symbols = symbols.now }) }
         ensures lawful { OnOk result (IsLawful counts.now symbols.now) }
@@ -157,13 +91,6 @@ impl CodeBook {
         Ok(CodeBook::of(words))
     }
 
-    /// Whether both have the same counts and symbols.
-    pub fn is_same(&self, other: &CodeBook) -> bool
-        ensures { IsTrue result ↔ (self.now ≡ other.now) }
-    {
-        self.words.are_same(&other.words)
-    }
-
     /// The same table once more.
     pub fn try_clone(&self) -> Result<CodeBook, Memory>
         ensures { IfOk result (λ b. b ≡ self.now) }
@@ -171,8 +98,7 @@ impl CodeBook {
         Ok(CodeBook {
             words: self.words.try_clone()?,
             entries: self.entries,
-            end: self.end,
-            index: self.index,
+            long: self.long,
         })
     }
 
@@ -180,84 +106,87 @@ impl CodeBook {
         ensures { result ≡ words }
     {
         let entries = words.entries();
-        let (end, index) = words.short();
+        let long = words.long();
         CodeBook {
             words,
             entries,
-            end,
-            index,
+            long,
         }
     }
 
-    /// What each byte looks up.
+    /// For each eight bits the symbol and the length of the word of at most eight bits that begins them, None where there
+    /// is none.
     pub fn entries(&self) -> &[Option<(u8, u8)>; 256]
         ensures { AreEntries self.now result.now }
     {
         &self.entries
     }
 
-    /// Reads a word from the bits and gives its symbol.
+    /// Takes a word from the bits and gives its symbol (T.81, F.2.2.3, DECODE). Where no word is in front it gives None,
+    /// and nothing moves.
+    #[inline(always)]
     pub fn read(&self, bits: &mut Bits) -> Option<u8>
         ensures found { IfSome result (λ s. (word : List Bool) × IsWord self.now word s × (bits.old ≡ word ++ bits.new)) }
         // No word is a front of what is left.
         ensures none { IfNone result ((word rest : List Bool) (s : ℕ) → IsWord self.now word s → bits.old ≢ word ++ rest) }
         ensures unmoved { IfNone result (bits.new ≡ bits.old) }
+        // Two words of this table that begin the same bits are one word with one symbol.
+        ensures one_word { IsPrefixFree self.now }
     {
-        let (symbol, long) = self.front(bits)?;
-        bits.skip(u64::from(long));
+        let register = bits.register.refilled();
+        if register.count >= 32
+            && let Some((symbol, long)) = self.short_word(register)
+        {
+            bits.register = register.behind(u32::from(long));
+            return Some(symbol);
+        }
+        let (symbol, long) = self.rare_word(register.held, register.count)?;
+        bits.register = register.behind(u32::from(long));
         Some(symbol)
     }
 
-    /// The word that is in front of the bits: its symbol, and how many bits it has.
-    fn front(&self, bits: &Bits) -> Option<(u8, u8)>
-        ensures found { IfSome result (λ f. (f.1 ≤ length bits.now) × IsWord self.now (take f.1 bits.now) f.0) }
-        ensures none { IfNone result ((word rest : List Bool) (s : ℕ) → IsWord self.now word s → bits.now ≢ word ++ rest) }
+    /// The word of at most eight bits that is in front of the bits.
+    #[inline(always)]
+    fn short_word(&self, register: Register) -> Option<(u8, u8)>
+        requires { 32 ≤ register.count }
+        ensures { IfSome result (λ f. (f.1 ≤ register.entry.count) × IsWord self.now (take f.1 (bits_in register.entry)) f.0) }
     {
-        let window = bits.window();
-        match self.entries[window as usize] {
-            Some((symbol, long)) => {
-                if u64::from(long) <= bits.left() {
-                    Some((symbol, long))
-                } else {
-                    None
-                }
-            }
-            None => {
-                if bits.left() < 8 {
-                    return None;
-                }
-                self.words
-                    .front_from(bits, 8, u32::from(window), self.end, self.index)
-            }
-        }
-    }
-}
-
-impl Words {
-    /// What each byte looks up, by the reader itself.
-    fn entries(&self) -> [Option<(u8, u8)>; 256]
-        ensures { AreEntries self.now result }
-    {
-        let mut entries = [None; 256];
-        for byte in 0..256usize {
-            let one = [byte as u8];
-            entries[byte] = self.front(&Bits::over(&one));
-        }
-        entries
+        self.entries[register.front(8) as usize]
     }
 
-    /// What the reader knows behind eight bits.
-    fn short(&self) -> (u32, u32)
-        ensures { IsShort self.now result.0 result.1 }
+    /// The word that is in front of the last `count` bits of `held`, a long one or one near the end of all bits. By value,
+    /// so that no address of a reader leaves its loop.
+    #[cold]
+    #[inline(never)]
+    fn rare_word(&self, held: u64, count: u32) -> Option<(u8, u8)>
+        requires { count < 64 }
+        ensures found { IfSome result (λ f. (f.1 ≤ count) × IsWord self.now (take f.1 (bits_of count held)) f.0) }
+        ensures none { IfNone result (HasNoFront self.now (bits_of count held)) }
     {
-        let mut end: u32 = 0;
-        let mut index: u32 = 0;
-        for i in 0..8usize {
-            let count = u32::from(self.counts[i]);
-            end = 2 * end + count;
-            index += count;
+        let register = Register {
+            rest: &[],
+            held,
+            count,
+        };
+        let (symbol, long) = self.front(register)?;
+        if u32::from(long) > count {
+            return None;
         }
-        (end, index)
+        Some((symbol, long))
+    }
+
+    /// The word that is in front of the bits where these are as many; where they are fewer there is none.
+    fn front(&self, register: Register) -> Option<(u8, u8)>
+        requires { register.rest.now ≡ [] }
+        ensures found { IfSome result (λ f. IsFrontWhereWhole self.now (bits_in register.entry) f.0 f.1) }
+        ensures none { IfNone result (HasNoFront self.now (bits_in register.entry)) }
+    {
+        match self.entries[register.window(8) as usize] {
+            Some(word) => Some(word),
+            None => self
+                .words
+                .long_front(&self.long, register.window(16) as u16),
+        }
     }
 }
 

@@ -4,9 +4,9 @@ use Rattle.std.proofs.Math.IntN.{◌*ℤ◌}
 use Rattle.std.proofs.lemmas.Int.{ints}
 use Rattle.std.specs.Int.Signed.{shr_z}
 use Rattle.std.specs.Prelude.{slice_index}
-use Rattle.jr_idct.specs.Matrix.{at, row_sum, descale, pass, floor_div}
+use Rattle.jr_idct.specs.Matrix.{at, descale, pass, floor_div}
 use Rattle.jr_idct.specs.Transform.{byte_of, product_at, column_pass, sample, place_of}
-use Rattle.jr_idct.proofs.Passes.{below_eight, zero_pass}
+use Rattle.jr_idct.proofs.Passes.{four_times, zero_pass}
 use Rattle.jr_idct.proofs.Tables.{place_below, place_positive, place_of_0}
 
 floor_is_at : (z q : ℤ) → (pos 262144 *ℤ q) ≤ℤ z → z ≤ℤ (pos 262144 *ℤ q +ℤ pos 262143) → shr_z z 262144 ≡ q
@@ -29,18 +29,10 @@ eighth x =
     let h = floor_8_high (x +ℤ pos 4) in
     floor_is_at (pos 8192 *ℤ (pos 4 *ℤ x) +ℤ pos 131072) (shr_z (x +ℤ pos 4) 8) (omega (arith, ints, l)) (omega (arith, ints, h))
 
--- the second pass of a number and seven zeros
-flat_row : (v : ℕ → ℤ) → v 1 ≡ pos 0 → v 2 ≡ pos 0 → v 3 ≡ pos 0 → v 4 ≡ pos 0 → v 5 ≡ pos 0 → v 6 ≡ pos 0 → v 7 ≡ pos 0
-    → (i : ℕ) → i < 8 → pass 18 v i ≡ descale 18 (pos 8192 *ℤ v 0)
-unfolding pass
-flat_row v a b d e f g h =
-    let whole = λ (i : ℕ) (s : row_sum i v ≡ pos 8192 *ℤ v 0). ap (descale 18) s in
-    below_eight _ (whole 0 (omega (arith, ints))) (whole 1 (omega (arith, ints))) (whole 2 (omega (arith, ints))) (whole 3 (omega (arith, ints))) (whole 4 (omega (arith, ints))) (whole 5 (omega (arith, ints))) (whole 6 (omega (arith, ints))) (whole 7 (omega (arith, ints)))
-
 module _ (v : ℕ → ℤ) (zeros : (k : ℕ) → 0 < k → k < 64 → v k ≡ pos 0) where
   flat_column : (c r : ℕ) → c < 8 → r < 8 → column_pass v c r ≡ pos 4 *ℤ v c
   flat_column c r h g =
-      zero_pass (λ k. v (8 * k + c))
+      zero_pass 11 (λ k. v (8 * k + c))
       (zeros (8 * 1 + c) (omega arith) (omega arith))
       (zeros (8 * 2 + c) (omega arith) (omega arith))
       (zeros (8 * 3 + c) (omega arith) (omega arith))
@@ -49,6 +41,7 @@ module _ (v : ℕ → ℤ) (zeros : (k : ℕ) → 0 < k → k < 64 → v k ≡ p
       (zeros (8 * 6 + c) (omega arith) (omega arith))
       (zeros (8 * 7 + c) (omega arith) (omega arith))
       r g
+      ∙ four_times (v (8 * 0 + c))
       ∙ ap (λ k. pos 4 *ℤ v k) (omega arith)
 
   zero_column : (c r : ℕ) → 0 < c → c < 8 → r < 8 → column_pass v c r ≡ pos 0
@@ -56,7 +49,7 @@ module _ (v : ℕ → ℤ) (zeros : (k : ℕ) → 0 < k → k < 64 → v k ≡ p
 
   pub flat : (r c : ℕ) → r < 8 → c < 8 → pass 18 (λ k. column_pass v k r) c ≡ shr_z (v 0 +ℤ pos 4) 8
   flat r c h g =
-      flat_row (λ k. column_pass v k r)
+      zero_pass 18 (λ k. column_pass v k r)
       (zero_column 1 r (omega arith) (omega arith) h)
       (zero_column 2 r (omega arith) (omega arith) h)
       (zero_column 3 r (omega arith) (omega arith) h)

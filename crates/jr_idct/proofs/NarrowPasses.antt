@@ -25,6 +25,9 @@ narrow_difference_passed a b f g h = simp to_z-of_z
 pub narrow_moved : (t : List ℤ) (i j : ℕ) → ((k : ℕ) → k < 64 → IsWithin 34971 (at t k)) → i < 64 → i ≡ j → to_z w32 (of_z w32 (at t i)) ≡ at t j
 narrow_moved t i j small h e = to_z-of_z w32 (at t i) (fits_narrow 34971 (at t i) (lit< tt) (small i h)) ∙ ap (λ k. at t k) e
 
+pub narrow_read : (t : List ℤ) (i : ℕ) → ((k : ℕ) → k < 64 → IsWithin 34971 (at t k)) → i < 64 → IsWithin 34971 (to_z w32 (of_z w32 (at t i)))
+narrow_read t i small h = rw (to_z-of_z w32 (at t i) (fits_narrow 34971 (at t i) (lit< tt) (small i h))) (small i h)
+
 first_sum : (v : ℕ → ℤ) → ((k : ℕ) → k < 8 → IsWithin 1170 (v k)) → (i : ℕ) → i < 8 → IsWithin (61214 * 1170) (row_sum i v)
 first_sum v r =
     let b0 = r 0 (omega arith) in
@@ -70,21 +73,19 @@ second_pass_small v r i h =
     let s : IsWithin (61214 * 34971 + 131072) (row_sum i v +ℤ pos 131072) = (omega (arith, ints), omega (arith, ints)) in
     shr_second (row_sum i v +ℤ pos 131072) s
 
--- the two passes of a whole table
+-- what the first pass makes of a whole table, and the second of that
 module _ (t : List ℤ) (small : (k : ℕ) → k < 64 → IsWithin 1170 (at t k)) where
   pub products_narrow : (k : ℕ) → k < 64 → IsWithin 34971 (at t k)
   products_narrow k h = let a = small k h in (omega (arith, ints, a.0), omega (arith, ints, a.1))
 
-  module _ (columns : List ℤ) (is_columns : (k : ℕ) → k < 64 → at columns k ≡ transposed 11 t k) where
-    pub columns_narrow : (k : ℕ) → k < 64 → IsWithin 34971 (at columns k)
-    unfolding transposed
-    columns_narrow k h =
-        rw (is_columns k h)
-        (first_pass_small (λ j. at t (8 * j + k / 8)) (λ j b. small (8 * j + k / 8) (omega arith)) (k % 8) (omega arith))
+  pub columns_narrow : (columns : List ℤ) → ((k : ℕ) → k < 64 → at columns k ≡ transposed 11 t k) → (k : ℕ) → k < 64 → IsWithin 34971 (at columns k)
+  unfolding transposed
+  columns_narrow columns is_columns k h =
+      rw (is_columns k h)
+      (first_pass_small (λ j. at t (8 * j + k / 8)) (λ j b. small (8 * j + k / 8) (omega arith)) (k % 8) (omega arith))
 
-    module _ (values : List ℤ) (is_values : (k : ℕ) → k < 64 → at values k ≡ transposed 18 columns k) where
-      pub values_narrow : (k : ℕ) → k < 64 → IsWithin (2 ^ 14) (at values k)
-      unfolding transposed
-      values_narrow k h =
-          rw (is_values k h)
-          (second_pass_small (λ j. at columns (8 * j + k / 8)) (λ j b. columns_narrow (8 * j + k / 8) (omega arith)) (k % 8) (omega arith))
+pub rows_narrow : (columns : List ℤ) → ((k : ℕ) → k < 64 → IsWithin 34971 (at columns k)) → (k : ℕ) → k < 64 → IsWithin (2 ^ 30) (transposed 18 columns k)
+unfolding transposed
+rows_narrow columns small k h =
+    let s = second_pass_small (λ j. at columns (8 * j + k / 8)) (λ j b. small (8 * j + k / 8) (omega arith)) (k % 8) (omega arith) in
+    (omega (arith, ints, s.0), omega (arith, ints, s.1))

@@ -1,3 +1,5 @@
+//! The transform of a block: which of the paths it takes.
+
 ghost use Rattle.std.specs.Prelude.{◌≡◌, ℕ, ◌+◌, ◌*◌, ◌<◌, ◌≤◌, pos, ◌+ℤ◌, slice_index, IsTrue, ◌↔◌};
 ghost use Rattle.jr_idct.specs.Matrix.{at, floor_div, IsWithin};
 ghost use Rattle.jr_idct.specs.Transform.{byte_of, sample, samples};

@@ -1,3 +1,5 @@
+//! The two halves of a pass by butterflies, in place of the matrix (the IJG's slow-but-accurate integer method).
+
 ghost use Rattle.std.specs.Prelude.{◌≡◌, ℕ, ◌^◌, ◌<◌};
 ghost use Rattle.jr_idct.specs.Matrix.{at, even_sum, odd_sum, IsWithin};
 

@@ -1,3 +1,5 @@
+//! Laws of the definitions.
+
 ghost use Rattle.jr_idct.specs.Transform.{FloorsAgree, TablesAgree};
 
 /// A law of the definitions: the two zigzag tables undo each other.

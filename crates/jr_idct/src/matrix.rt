@@ -1,3 +1,5 @@
+//! The plain form of the transform: zigzag order undone through a table, and each pass by the whole matrix.
+
 ghost use Rattle.std.specs.Prelude.{◌≡◌, ℕ, ◌+◌, ◌*◌, ◌^◌, ◌<◌, slice_index};
 ghost use Rattle.jr_idct.specs.Matrix.{at, weight, row_sum, pass, transposed, IsWithin};
 ghost use Rattle.jr_idct.specs.Transform.{place_of, product_at, sample, samples};
@@ -105,8 +107,10 @@ fn plain_passes(table: &[i64; 64], bits: u32) -> [i64; 64]
     rows
 }
 
-/// The samples of [`transform`](crate::transform), by the matrix as it stands: about ten times slower, and
-/// plain enough to be compared with.
+/// The samples of [`transform`](crate::transform), by the matrix as it stands: slow, and plain enough to
+/// be compared with.
+///
+/// Shapes, order and conditions are those of `transform`.
 pub fn matrix_transform(coefficients: &[i32; 64], quantisers: &[u16; 64]) -> [u8; 64]
     requires { (k : ℕ) → k < 64 → IsWithin 32768 (at coefficients.now k) }
     ensures by_place { (r c : ℕ) → r < 8 → c < 8 → slice_index result (8 * r + c) ≡ sample coefficients.now quantisers.now r c }

@@ -1,9 +1,11 @@
+//! The transform in 32 bits, for blocks with small products, which are nearly all.
+
 ghost use Rattle.std.specs.Prelude.{◌≡◌, ℕ, ◌+◌, ◌-◌, ◌*◌, ◌^◌, ◌<◌, pos, ◌+ℤ◌, ◌-ℤ◌, slice_index, IsTrue, ◌↔◌};
 ghost use Rattle.jr_idct.specs.Matrix.{at, descale, even_sum, odd_sum, pass, transposed, IsWithin};
 ghost use Rattle.jr_idct.specs.Transform.{byte_of, sample_of};
 
-// Products that lie from -LIMIT to LIMIT keep both passes within 32 bits: the first one makes at most
-// 34971 of them, and the second one's sums of at most 61214 times that are below 2^31.
+// The weights of a row add up to at most 61214. So the first pass makes at most 34971 of such products,
+// and the sums of the second one, rounded, stay below 2^31.
 const LIMIT: i32 = 1170;
 
 #[inline]
@@ -98,7 +100,7 @@ fn both_descaled(e: i32, o: i32, bits: u32) -> (i32, i32)
     (descaled(e + o, bits), descaled(e - o, bits))
 }
 
-#[inline]
+#[inline(always)]
 fn one_pass(v: &[i32; 8], bits: u32) -> [i32; 8]
     requires positive { 0 < bits }
     requires few { bits < 19 }
@@ -114,14 +116,12 @@ fn one_pass(v: &[i32; 8], bits: u32) -> [i32; 8]
     [y0, y1, y2, y3, y4, y5, y6, y7]
 }
 
-// The pass over each column, whose results are the rows of the answer. Columns stand side by side and no
-// step depends on what they hold, so that it is done by vectors, in each of its two places.
-#[inline(always)]
-fn passes(table: &[i32; 64], bits: u32) -> [i32; 64]
-    requires positive { 0 < bits }
-    requires few { bits < 19 }
-    requires small { (k : ℕ) → k < 64 → IsWithin 34971 (at table.now k) }
-    ensures { (k : ℕ) → k < 64 → at result k ≡ transposed bits table.now k }
+// The first pass over each column, whose results are the rows of the answer. No step depends on what a column
+// holds, so that several are done at once, by vectors.
+#[inline]
+fn first_passes(table: &[i32; 64]) -> [i32; 64]
+    requires { (k : ℕ) → k < 64 → IsWithin 34971 (at table.now k) }
+    ensures { (k : ℕ) → k < 64 → at result k ≡ transposed 11 table.now k }
 {
     let mut rows = [0; 64];
     for c in 0..8 {
@@ -135,9 +135,36 @@ fn passes(table: &[i32; 64], bits: u32) -> [i32; 64]
             table[c + 48],
             table[c + 56],
         ];
-        let row = one_pass(&column, bits);
+        let row = one_pass(&column, 11);
         for r in 0..8 {
             rows[8 * c + r] = row[r];
+        }
+    }
+    rows
+}
+
+// The second pass over each column of what the first one made, whose results, clamped at once, are the rows
+// of the answer.
+#[inline]
+fn sample_rows(columns: &[i32; 64]) -> [u8; 64]
+    requires { (k : ℕ) → k < 64 → IsWithin 34971 (at columns.now k) }
+    ensures { (k : ℕ) → k < 64 → slice_index result k ≡ byte_of (transposed 18 columns.now k +ℤ pos 128) }
+{
+    let mut rows = [0; 64];
+    for c in 0..8 {
+        let column = [
+            columns[c],
+            columns[c + 8],
+            columns[c + 16],
+            columns[c + 24],
+            columns[c + 32],
+            columns[c + 40],
+            columns[c + 48],
+            columns[c + 56],
+        ];
+        let row = one_pass(&column, 18);
+        for r in 0..8 {
+            rows[8 * c + r] = clamped(row[r]);
         }
     }
     rows
@@ -149,11 +176,5 @@ pub(crate) fn narrow_samples(table: &[i32; 64]) -> [u8; 64]
     requires { (k : ℕ) → k < 64 → IsWithin 1170 (at table.now k) }
     ensures { (r c : ℕ) → r < 8 → c < 8 → slice_index result (8 * r + c) ≡ sample_of (at table.now) r c }
 {
-    let columns = passes(table, 11);
-    let values = passes(&columns, 18);
-    let mut samples = [0; 64];
-    for k in 0..64 {
-        samples[k] = clamped(values[k]);
-    }
-    samples
+    sample_rows(&first_passes(table))
 }

@@ -1,3 +1,5 @@
+//! Descaling and clamping in 64 bits.
+
 ghost use Rattle.std.specs.Prelude.{◌≡◌, ◌<◌, ◌^◌, pos, ◌+ℤ◌};
 ghost use Rattle.jr_idct.specs.Matrix.{descale, IsWithin};
 ghost use Rattle.jr_idct.specs.Transform.{byte_of};

@@ -1,3 +1,5 @@
+//! Samples known from outside, and the transform beside its plain form.
+
 ghost use Rattle.std.specs.Prelude.{ℕ, ◌<◌};
 ghost use Rattle.jr_idct.specs.Matrix.{at, IsWithin};
 

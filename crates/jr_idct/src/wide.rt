@@ -1,3 +1,5 @@
+//! The transform in 64 bits, for blocks with any products.
+
 ghost use Rattle.std.specs.Prelude.{◌≡◌, ℕ, ◌+◌, ◌*◌, ◌^◌, ◌<◌, ◌+ℤ◌, ◌-ℤ◌, slice_index};
 ghost use Rattle.jr_idct.specs.Matrix.{at, descale, pass, transposed, IsWithin};
 ghost use Rattle.jr_idct.specs.Transform.{sample_of};
@@ -34,24 +36,28 @@ fn one_pass(v: &[i64; 8], bits: u32) -> [i64; 8]
     [y0, y1, y2, y3, y4, y5, y6, y7]
 }
 
-// The first pass, which is short where only the top entry is not 0.
+// The pass, which is short where only the top number is not 0.
 #[inline]
-fn first_pass(v: &[i64; 8]) -> [i64; 8]
-    requires { (k : ℕ) → k < 8 → IsWithin (2 ^ 40) (at v.now k) }
-    ensures { (i : ℕ) → i < 8 → at result i ≡ pass 11 (at v.now) i }
+fn short_pass(v: &[i64; 8], bits: u32) -> [i64; 8]
+    requires positive { 0 < bits }
+    requires few { bits < 20 }
+    requires small { (k : ℕ) → k < 8 → IsWithin (2 ^ 40) (at v.now k) }
+    ensures { (i : ℕ) → i < 8 → at result i ≡ pass bits (at v.now) i }
 {
     if v[1] == 0 && v[2] == 0 && v[3] == 0 && v[4] == 0 && v[5] == 0 && v[6] == 0 && v[7] == 0 {
-        [4 * v[0]; 8]
+        [descaled(8192 * v[0], bits); 8]
     } else {
-        one_pass(v, 11)
+        one_pass(v, bits)
     }
 }
 
-// The first pass over each column, whose results are the rows of the answer.
+// The pass over each column, whose results are the rows of the answer.
 #[inline]
-fn first_passes(table: &[i64; 64]) -> [i64; 64]
-    requires { (k : ℕ) → k < 64 → IsWithin (2 ^ 40) (at table.now k) }
-    ensures { (k : ℕ) → k < 64 → at result k ≡ transposed 11 table.now k }
+fn passes(table: &[i64; 64], bits: u32) -> [i64; 64]
+    requires positive { 0 < bits }
+    requires few { bits < 20 }
+    requires small { (k : ℕ) → k < 64 → IsWithin (2 ^ 40) (at table.now k) }
+    ensures { (k : ℕ) → k < 64 → at result k ≡ transposed bits table.now k }
 {
     let mut rows = [0; 64];
     for c in 0..8 {
@@ -65,33 +71,7 @@ fn first_passes(table: &[i64; 64]) -> [i64; 64]
             table[c + 48],
             table[c + 56],
         ];
-        let row = first_pass(&column);
-        for r in 0..8 {
-            rows[8 * c + r] = row[r];
-        }
-    }
-    rows
-}
-
-// The second pass over each column of what the first one made, whose results are the rows of the answer.
-#[inline]
-fn second_passes(table: &[i64; 64]) -> [i64; 64]
-    requires { (k : ℕ) → k < 64 → IsWithin (2 ^ 40) (at table.now k) }
-    ensures { (k : ℕ) → k < 64 → at result k ≡ transposed 18 table.now k }
-{
-    let mut rows = [0; 64];
-    for c in 0..8 {
-        let column = [
-            table[c],
-            table[c + 8],
-            table[c + 16],
-            table[c + 24],
-            table[c + 32],
-            table[c + 40],
-            table[c + 48],
-            table[c + 56],
-        ];
-        let row = one_pass(&column, 18);
+        let row = short_pass(&column, bits);
         for r in 0..8 {
             rows[8 * c + r] = row[r];
         }
@@ -117,8 +97,8 @@ pub(crate) fn wide_samples(table: &[i32; 64]) -> [u8; 64]
     requires { (k : ℕ) → k < 64 → IsWithin (32768 * 65535) (at table.now k) }
     ensures { (r c : ℕ) → r < 8 → c < 8 → slice_index result (8 * r + c) ≡ sample_of (at table.now) r c }
 {
-    let columns = first_passes(&widened(table));
-    let values = second_passes(&columns);
+    let columns = passes(&widened(table), 11);
+    let values = passes(&columns, 18);
     let mut samples = [0; 64];
     for k in 0..64 {
         samples[k] = clamped(values[k]);

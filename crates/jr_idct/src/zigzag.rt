@@ -1,3 +1,5 @@
+//! From coefficients and quantisers in zigzag order to products in natural order.
+
 ghost use Rattle.std.specs.Prelude.{◌≡◌, ℕ, ◌*◌, ◌<◌, pos, slice_index};
 ghost use Rattle.std.proofs.Math.IntN.{◌*ℤ◌};
 ghost use Rattle.jr_idct.specs.Matrix.{at, IsWithin};

@@ -1,0 +1,8 @@
+-- What a register of a bit reader stands for.
+use Rattle.std.specs.Prelude.{Bool, List, ◌++◌}
+use Rattle.jr_code.specs.Bits.{bits_of, bits}
+use Rattle.jr_code.specs.declared.register.Register.{Register}
+
+-- the last count bits of the number held, and then those of the bytes
+abbrev pub bits_in : Register → List Bool
+bits_in r = bits_of r.count r.held ++ bits r.rest.now
