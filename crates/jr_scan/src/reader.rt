@@ -114,13 +114,14 @@ impl<'a> BlockReader<'a> {
         ensures run { result.run ≡ record { interval = interval.now; from = from; mcus = mcus } }
         ensures read { HasRead result [] }
     {
+        let predictions = from.predictions;
         BlockReader {
             interval,
             order: interval.head().order(),
             from,
             mcus,
             bits: bits_from(interval.bytes(), from.bit),
-            predictions: from.predictions,
+            predictions,
             mcu: 0,
             place: 0,
             is_stuck: false,
