@@ -13,4 +13,5 @@ pub mod Fronts
 pub mod Cuts
 pub mod Unstuffing
 pub mod Scans
+pub mod Runs
 pub mod CutLaw

@@ -4,7 +4,7 @@ use Rattle.std.specs.Prelude.{ℤ, pos}
 use Rattle.std.proofs.lemmas.List.{append_cancel_left, append-nil, drop_all, get_or_append_left, take-append-drop, length-take-le, get_or-take, take_all}
 use Rattle.std.proofs.lemmas.Bool.{cases_lt}
 use Rattle.std.proofs.lemmas.List.Concat.{flat_map-append}
-use Rattle.std.proofs.Math.Seq.{drop-cons}
+use Rattle.std.proofs.Math.Seq.{drop-cons, take-append_seam}
 use Rattle.std.proofs.Math.Seq.{get_or-append_seam}
 use Rattle.std.proofs.Math.Nat.{mul-le-mul_right}
 use Rattle.jr_code.specs.Bits.{bits}
@@ -183,3 +183,9 @@ decoded_front i k zs f d =
     let least = f.longest i.mcus zs whole in
     let e : k ≡ i.mcus = omega (arith, least, f.front.at_most) in
     take_all (k * length (order_of i.head)) zs (omega (arith, d.units.0, ap (λ (n : ℕ). n * length (order_of i.head)) e))
+
+-- the first of a list of blocks, by themselves
+pub blocks_before : (h : HeadValue) (start : List ℤ) (zs ys : List (List ℤ)) (w : List Bool) → (b : Blocks h start (zs ++ ys) w) → Blocks h start zs (joined (take (length zs) b.parts))
+blocks_before h start zs ys w b =
+    let t = blocks_take h start (zs ++ ys) w (length zs) b (omega (arith, length-append zs ys)) in
+    subst (λ (x : List (List ℤ)). Blocks h start x (joined (take (length zs) b.parts))) (take-append_seam zs ys) t

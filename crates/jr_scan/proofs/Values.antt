@@ -24,15 +24,11 @@ extended_low (suc s) v some h =
     let twice : 2 ^ suc s ≡ 2 * 2 ^ (suc s - 1) = ap (λ (k : ℕ). 2 ^ suc k) (sym e) ∙ omega arith in
     ap (λ (b : Bool). cond b (pos v) ((pos v -ℤ pos (2 ^ suc s)) +ℤ pos 1)) f ∙ ap (λ (k : ℕ). (pos v -ℤ pos k) +ℤ pos 1) twice
 
-pub takes_extra : (size v : ℕ) (old new : List Bool) → size ≤ length old → v ≡ number (take size old) → new ≡ drop size old → TakesExtra size (extended size v) old new
+pub takes_extra : (size : ℕ) (v : ℤ) (old new : List Bool) → size ≤ length old → v ≡ value (take size old) → new ≡ drop size old → TakesExtra size v old new
 takes_extra size v old new h is next =
-    let count : length (take size old) ≡ size = length-take-le size old h in
     record {
       bits = take size old;
       split = sym (take-append-drop size old) ∙ ap (λ (b : List Bool). take size old ++ b) (sym next);
-      count = count;
-      is = ap (extended size) is ∙ ap (λ (k : ℕ). extended k (number (take size old))) (sym count);
+      count = length-take-le size old h;
+      is = is;
     }
-
-pub taken_below : (size : ℕ) (old : List Bool) → size ≤ length old → number (take size old) < 2 ^ size
-taken_below size old h = subst (λ (k : ℕ). number (take size old) < 2 ^ k) (length-take-le size old h) (number_below (take size old))

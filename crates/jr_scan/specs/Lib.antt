@@ -7,3 +7,4 @@ pub mod Reader
 pub mod Cut
 pub mod Spans
 pub mod ScanValue
+pub mod Run

@@ -67,8 +67,10 @@ pub record HasRead (r : ReaderValue) (zs : List (List ℤ)) : Type 0 where
 
 -- what each reader keeps
 pub record IsKept (r : ReaderValue) : Type 0 where
+  pub start : r.run.from.bit ≤ 8 * length r.run.interval.bytes
   pub within : r.place < per_mcu r
   pub few : blocks_read r ≤ r.run.mcus * per_mcu r
   pub missing : r.stuck ≡ true → r.mcu < r.run.mcus
+  pub three : length r.predictions ≡ 3
   pub low : (c : ℕ) → c < 3 → negsuc 32767 ≤ℤ slice_index_or r.predictions c (pos 0)
   pub high : (c : ℕ) → c < 3 → slice_index_or r.predictions c (pos 0) ≤ℤ pos 32767

@@ -1,7 +1,6 @@
 //! The bits of one block.
 
 ghost use Rattle.std.specs.Prelude.{◌≡◌, ℕ, ◌<◌, ◌≤◌, ◌^◌, ℤ, pos, negsuc, ◌≤ℤ◌, ◌∷◌, List, length, IfSome, IfNone};
-ghost use Rattle.jr_code.specs.Bits.{extended};
 ghost use Rattle.jr_scan.specs.Step.{TakesExtra, TakesStep, HasNoStep, TakesDifference, HasNoDifference, TakesOthers, HasNoOthers, TakesCoded, HasNoCoded};
 
 use jr_code::{Bits, CodeBook, one_word};
@@ -20,32 +19,14 @@ enum Step {
     Coefficient(u8, i32),
 }
 
-/// The value that so many extra bits of this number stand for (T.81, F.2.2.1, EXTEND).
-fn extend(size: u32, v: u16) -> i32
-    requires small { size ≤ 11 }
-    requires fits { v < 2 ^ size }
-    ensures is { result ≡ extended size v }
-    ensures low { negsuc 2047 ≤ℤ result }
-    ensures high { result ≤ℤ pos 2047 }
-{
-    if size == 0 {
-        return 0;
-    }
-    let half: i32 = 1 << (size - 1);
-    let v = v as i32;
-    if v >= half { v } else { v - 2 * half + 1 }
-}
-
-/// Takes so many extra bits and gives the value that they stand for.
+/// Takes so many extra bits and gives the value that they stand for (T.81, F.2.2.1, EXTEND).
+#[inline(always)]
 fn read_extra(bits: &mut Bits<'_>, size: u32) -> Option<i32>
-    requires { size ≤ 11 }
+    requires { size ≤ 15 }
     ensures some { IfSome result (λ v. TakesExtra size v bits.old bits.new) }
-    ensures low { IfSome result (λ v. negsuc 2047 ≤ℤ v) }
-    ensures high { IfSome result (λ v. v ≤ℤ pos 2047) }
     ensures none { IfNone result (length bits.old < size) }
 {
-    let v = bits.take(size)?;
-    Some(extend(size, v))
+    bits.extra(size)
 }
 
 fn read_step(ac: &CodeBook, bits: &mut Bits<'_>) -> Option<Step>
@@ -72,8 +53,6 @@ fn read_step(ac: &CodeBook, bits: &mut Bits<'_>) -> Option<Step>
 /// Takes the first coefficient's difference to its prediction.
 fn read_difference(dc: &CodeBook, bits: &mut Bits<'_>) -> Option<i32>
     ensures some { IfSome result (λ d. TakesDifference dc.now d bits.old bits.new) }
-    ensures low { IfSome result (λ v. negsuc 2047 ≤ℤ v) }
-    ensures high { IfSome result (λ v. v ≤ℤ pos 2047) }
     ensures none { IfNone result (HasNoDifference dc.now bits.old) }
 {
     one_word();

@@ -16,8 +16,14 @@ mod unstuff;
 pub use block::Block;
 pub use front::FrontBlocks;
 pub use interval::Interval;
-pub use laws::{one_cut, one_decoding, one_front, shorter_front};
-pub use place::Place;
+pub use laws::{
+    decoding_is_whole_run, no_front, one_cut, one_decoding, one_front, one_run, runs_meet,
+    shorter_front,
+};
+pub use place::{Place, RunEnd};
 pub use reader::BlockReader;
 pub use scan::Scan;
 pub use scan_end::ScanEnd;
+
+#[cfg(test)]
+mod tests;

@@ -1,4 +1,7 @@
-//! Where a run of MCUs starts.
+//! Where a run of MCUs starts, and how it ends.
+
+ghost use Rattle.std.specs.Prelude.{◌≡◌};
+ghost use Rattle.jr_scan.specs.Reader.{start};
 
 /// A place between two MCUs of an interval: how many bits of its data stand before it, and what the first coefficient
 /// of each component is predicted to be there.
@@ -6,4 +9,25 @@
 pub struct Place {
     pub bit: u64,
     pub predictions: [i32; 3],
+}
+
+impl Place {
+    /// The start of an interval, where each component is predicted to be 0 (T.81, F.1.1.5.1).
+    pub fn start() -> Place
+        ensures { result ≡ start }
+    {
+        Place {
+            bit: 0,
+            predictions: [0; 3],
+        }
+    }
+}
+
+/// Why a run of MCUs ends.
+#[derive(Clone, Copy, Debug, PartialEq, Eq)]
+pub enum RunEnd {
+    /// It has as many MCUs as it may have.
+    AllRead,
+    /// No further MCU follows.
+    NoMcu,
 }

@@ -1,6 +1,8 @@
 //! The blocks of an interval, one at a time.
 
-ghost use Rattle.std.specs.Prelude.{◌≡◌, ◌<◌, ◌≤◌, ◌+◌, ℕ, length, ℤ, pos, negsuc, ◌≤ℤ◌, List, [], ◌∷◌, ◌++◌, take, ◌*◌, true, false, IsTrue, IfSome, IfNone, OnSome, slice_index_or};
+ghost use Rattle.std.specs.Prelude.{◌≡◌, ◌<◌, ◌≤◌, ◌+◌, ℕ, length, drop, ◌^◌, ℤ, pos, negsuc, ◌≤ℤ◌, List, [], ◌∷◌, ◌++◌, take, ◌*◌, true, false, IsTrue, IfSome, IfNone, OnSome, slice_index_or};
+ghost use Rattle.std.specs.List.{All};
+ghost use Rattle.jr_code.specs.Bits.{bits};
 ghost use Rattle.jr_scan.specs.Block.{IsInRange};
 ghost use Rattle.jr_scan.specs.Step.{TakesBlock, HasNoBlock};
 
@@ -49,6 +51,17 @@ fn following(mcu: u32, place: usize, blocks: usize, mcus: u32) -> (u32, usize)
     }
 }
 
+/// The bits of the bytes from a place on.
+fn bits_from(bytes: &[u8], bit: u64) -> Bits<'_>
+    requires within { bit ≤ 8 * length bytes.now }
+    requires few { length bytes.now < 2 ^ 61 }
+    ensures { result ≡ drop bit (bits bytes.now) }
+{
+    let mut bits = Bits::over(&bytes[(bit / 8) as usize..]);
+    let _ = bits.take((bit % 8) as u32);
+    bits
+}
+
 /// Reads the blocks of a run of MCUs one after the other.
 #[derive(Drop)]
 pub struct BlockReader<'a> {
@@ -80,6 +93,9 @@ impl<'a> BlockReader<'a> {
     ghost use Rattle.jr_head.specs.Geometry.{components_of, order_of};
     ghost use Rattle.jr_scan.specs.Units.{component, Decodes, LongestFront};
     ghost use Rattle.jr_scan.specs.IntervalValue.{IntervalValue};
+    ghost use Rattle.std.specs.Prelude.{◌⊎◌};
+    ghost use Rattle.jr_scan.specs.declared.place.RunEnd.TheVariants.{AllRead};
+    ghost use Rattle.jr_scan.specs.Run.{IsRun};
     ghost use Rattle.jr_scan.specs.Reader.{HasRead, HasEnded, whole_run, blocks_left, blocks_read, per_mcu};
 
     /// A reader of all blocks of an interval.
@@ -87,16 +103,25 @@ impl<'a> BlockReader<'a> {
         ensures run { result.run ≡ whole_run interval.now }
         ensures read { HasRead result [] }
     {
+        BlockReader::at(interval, Place::start(), interval.mcus())
+    }
+
+    /// A reader of so many MCUs from a place of an interval on.
+    pub fn at(interval: &'a Interval, from: Place, mcus: u32) -> BlockReader<'a>
+        requires within { from.bit ≤ 8 * length interval.now.bytes }
+        requires low { All (λ p. negsuc 32767 ≤ℤ p) from.predictions }
+        requires high { All (λ p. p ≤ℤ pos 32767) from.predictions }
+        ensures run { result.run ≡ record { interval = interval.now; from = from; mcus = mcus } }
+        ensures read { HasRead result [] }
+    {
+        let predictions = from.predictions;
         BlockReader {
             interval,
             order: interval.head().order(),
-            from: Place {
-                bit: 0,
-                predictions: [0; 3],
-            },
-            mcus: interval.mcus(),
-            bits: Bits::over(interval.bytes()),
-            predictions: [0; 3],
+            from,
+            mcus,
+            bits: bits_from(interval.bytes(), from.bit),
+            predictions,
             mcu: 0,
             place: 0,
             is_stuck: false,
@@ -142,6 +167,21 @@ impl<'a> BlockReader<'a> {
     {
         one_word();
         self.mcu
+    }
+
+    /// Where the next MCU starts. None inside an MCU, and where no block followed.
+    pub fn place(&self) -> Option<Place>
+        ensures some { IfSome result (λ p. (zs : List (List ℤ)) → HasRead self.now zs → IsRun (record { interval = self.now.run.interval; from = self.now.run.from; mcus = self.now.mcu }) zs p AllRead) }
+        ensures none { IfNone result ((self.now.stuck ≡ true) ⊎ (0 < self.now.place)) }
+    {
+        if self.is_stuck || self.place > 0 {
+            return None;
+        }
+        let bits = 8 * self.interval.bytes().len() as u64;
+        Some(Place {
+            bit: bits.saturating_sub(self.bits.left()),
+            predictions: self.predictions,
+        })
     }
 
     /// How many bits are left behind the last block. Where no block followed it says nothing.

@@ -1,6 +1,7 @@
 use Rattle.std.proofs.Common.{◌≡◌, ℕ, ℤ, pos, negsuc, ◌+◌, ◌*◌, ◌<◌, ◌≤◌, ◌≤ℤ◌, ◌≢◌, Bool, true, false, List, [], ◌∷◌, ◌++◌, length, get_or, set, arith, rules, subst, refl, sym, ap, ◌∙◌, w32}
 use mir.Val.{SFits, to_z, of_z}
 use Rattle.std.proofs.lemmas.Int.{to_z-of_z}
+use Rattle.std.proofs.lemmas.List.{length-set}
 use Rattle.std.proofs.Math.Nat.{le_of_mul-le-mul_right}
 use Rattle.jr_code.specs.Code.{Table}
 use Rattle.jr_head.specs.HeadValue.{HeadValue}
@@ -43,11 +44,13 @@ invariant_of-self-2 c =
     let fits : SFits w32 c.in-Some.first = search rules in
     let wrote = ap (set c.self.inside.predictions k) (to_z-of_z w32 c.in-Some.first fits) in
     let range = block_in_range _ _ _ _ _ c.in-Some.ensures.some.is in
-    let size : length c.self.inside.predictions ≡ 3 = search rules in (
+    let size = c.self.invariant.0.three in (
       record {
+        start = c.self.invariant.0.start;
         within = subst (λ (o : List ℕ). c.following-mcu.result.1 < length o) c.self.invariant.1 c.following-mcu.ensures.within;
         few = subst (λ (o : List ℕ). c.following-mcu.result.0 * length o + c.following-mcu.result.1 ≤ c.self.inside.mcus * length o) c.self.invariant.1 c.following-mcu.ensures.few;
         missing = λ e. let f = c.if-self.false in cc;
+        three = length-set c.self.inside.predictions k _ ∙ size;
         low = kept_low c.self.inside.predictions _ k c.in-Some.first size wrote (subst (λ (x : ℤ). negsuc 32767 ≤ℤ x) (sym c.in-Some.ensures.first) range.first_low) c.self.invariant.0.low;
         high = kept_high c.self.inside.predictions _ k c.in-Some.first size wrote (subst (λ (x : ℤ). x ≤ℤ pos 32767) (sym c.in-Some.ensures.first) range.first_high) c.self.invariant.0.high;
       },
@@ -67,7 +70,7 @@ returns-clause-read c = λ zs r.
     let ac : c.ac_book-ac.result.now ≡ ac_of h k = c.ac_book-ac.ensures ∙ ap (λ (x : HeadValue). ac_of x c.from-2.result) c.head-head.ensures ∙ ap (ac_of h) c.from-2.ensures in
     let fits : SFits w32 c.in-Some.first = search rules in
     let wrote = ap (set c.self.inside.predictions k) (to_z-of_z w32 c.in-Some.first fits) in
-    let size : length c.self.inside.predictions ≡ 3 = search rules in
+    let size = c.self.invariant.0.three in
     let p = get_or c.self.inside.predictions k (pos 0) in
     let same = to_z-of_z w32 p (kept_fits p (c.self.invariant.0.low k three) (c.self.invariant.0.high k three)) in
     let t0 = subst (λ (q : ℤ). TakesBlock c.dc_book-dc.result.now c.ac_book-ac.result.now q c.read_predicted.new.block c.self.inside.bits c.read_predicted.new.bits) same c.in-Some.ensures.some in
@@ -96,9 +99,11 @@ before m n w p in' few apart =
 pub invariant_of-self : goal.invariant_of-self
 invariant_of-self c = (
   record {
+    start = c.self.invariant.0.start;
     within = c.self.invariant.0.within;
     few = c.self.invariant.0.few;
     missing = λ _. before c.self.inside.mcu c.self.inside.mcus (length (order_of c.self.inside.interval.now.head)) c.self.inside.place c.self.invariant.0.within c.self.invariant.0.few c.if-self-2.false;
+    three = c.self.invariant.0.three;
     low = c.self.invariant.0.low;
     high = c.self.invariant.0.high;
   },

@@ -1,0 +1,37 @@
+-- A run of MCUs: from a place of an interval on, as many whole MCUs as there are, at most so many.
+use Rattle.std.specs.Prelude.{◌≡◌, ◌≢◌, ℕ, ◌+◌, ◌<◌, ◌≤◌, Bool, List, [], ◌∷◌, ◌++◌, length, drop, ℤ}
+use Rattle.jr_code.specs.Bits.{bits}
+use Rattle.jr_head.specs.HeadValue.{HeadValue}
+use Rattle.jr_scan.specs.declared.place.Place.{Place}
+use Rattle.jr_scan.specs.declared.place.RunEnd.{RunEnd}
+use Rattle.jr_scan.specs.declared.place.RunEnd.TheVariants.{AllRead, NoMcu}
+use Rattle.jr_scan.specs.IntervalValue.{IntervalValue}
+use Rattle.jr_scan.specs.Units.{prediction, Units}
+use Rattle.jr_scan.specs.Reader.{RunOf}
+
+abbrev pub left_at : IntervalValue → Place → List Bool
+left_at i p = drop p.bit (bits i.bytes)
+
+-- what each component is predicted to be behind these blocks
+abbrev pub predicted : HeadValue → List ℤ → List (List ℤ) → List ℤ
+predicted h start zs = prediction h start zs 0 (length zs) ∷ prediction h start zs 1 (length zs) ∷ prediction h start zs 2 (length zs) ∷ []
+
+-- no whole MCU follows
+abbrev pub HasNoMcu : IntervalValue → Place → Type 0
+HasNoMcu i p = (ys : List (List ℤ)) (taken rest : List Bool) → Units i.head p.predictions 1 ys taken → left_at i p ≢ taken ++ rest
+
+-- all MCUs that were asked for are there, or no further one follows
+abbrev pub EndsAs : RunOf → ℕ → Place → RunEnd → Type 0
+EndsAs r count to AllRead = count ≡ r.mcus
+EndsAs r count to NoMcu = (count < r.mcus) × HasNoMcu r.interval to
+
+-- the run has these blocks, ends at that place, and for this reason
+pub record IsRun (r : RunOf) (zs : List (List ℤ)) (to : Place) (end : RunEnd) : Type 0 where
+  pub count : ℕ
+  pub few : count ≤ r.mcus
+  pub taken : List Bool
+  pub units : Units r.interval.head r.from.predictions count zs taken
+  pub spelled : left_at r.interval r.from ≡ taken ++ left_at r.interval to
+  pub bit : to.bit ≡ r.from.bit + length taken
+  pub predictions : to.predictions ≡ predicted r.interval.head r.from.predictions zs
+  pub ends : EndsAs r count to end
