@@ -1,9 +1,7 @@
 -- A scan and its restart intervals (T.81, E.1.4 and E.2.4).
 use Rattle.std.specs.Prelude.{◌≡◌, ℕ, zero, suc, ◌-◌, ◌*◌, ◌==◌, ◌<◌, Bool, ◌&&◌, List, [], ◌++◌, length, replicate, drop, min, if◌then◌else◌, slice_index_or}
 use Rattle.std.specs.Int.{div_ceil}
-use Rattle.std.specs.Cmp.Lexicographic.{pointwise}
-use Rattle.std.specs.Ordering.{eq_of_both, on}
-use Rattle.jr_head.specs.HeadValue.{HeadValue, same_head}
+use Rattle.jr_head.specs.HeadValue.{HeadValue}
 use Rattle.jr_head.specs.Geometry.{mcus_of}
 use Rattle.jr_scan.specs.declared.scan_end.ScanEnd.{ScanEnd}
 use Rattle.jr_scan.specs.Cut.{IsCut}
@@ -31,16 +29,6 @@ pub record IsScanOf (file : List ℕ) (s : ScanValue) : Type 0 where
   pub pieces : List (List ℕ)
   pub cut : IsCut (intervals_of s.head) s.head.scan_at (drop s.head.scan_at file) pieces s.ended
   pub intervals : s.intervals ≡ pieces ++ replicate (intervals_of s.head - length pieces) []
-
--- scans compare by head and by the data of all intervals
-abbrev pub same_scan : ScanValue → ScanValue → Bool
-same_scan = eq_of_both (on (λ (s : ScanValue). s.head) same_head) (on (λ (s : ScanValue). s.intervals) (pointwise (pointwise ◌==◌)))
-
-abbrev pub same_interval : IntervalValue → IntervalValue → Bool
-same_interval =
-    eq_of_both (on (λ (i : IntervalValue). i.number) ◌==◌)
-    (eq_of_both (on (λ (i : IntervalValue). i.mcus) ◌==◌)
-    (eq_of_both (on (λ (i : IntervalValue). i.bytes) (pointwise ◌==◌)) (on (λ (i : IntervalValue). i.head) same_head)))
 
 -- equal heads, and the same data in each interval; what ended them may differ
 abbrev pub IsSameScan : ScanValue → ScanValue → Type 0

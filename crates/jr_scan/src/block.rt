@@ -8,6 +8,9 @@ use jr_code::{Bits, CodeBook, one_word};
 /// The coefficients of a block, in zigzag order.
 pub type Block = [i32; 64];
 
+/// The most extra bits of a coefficient behind the first.
+const MOST_EXTRA: u32 = 10;
+
 /// What comes next behind the first coefficient of a block.
 #[derive(Clone, Copy, Debug, PartialEq, Eq)]
 enum Step {
@@ -43,7 +46,7 @@ fn read_step(ac: &CodeBook, bits: &mut Bits<'_>) -> Option<Step>
     if symbol == 0xF0 {
         return Some(Step::Zeros);
     }
-    if size == 0 || size > 10 {
+    if size == 0 || size > MOST_EXTRA {
         return None;
     }
     let v = read_extra(bits, size)?;
@@ -107,6 +110,9 @@ pub(crate) fn read_block(
     ensures none { IfNone result (HasNoCoded dc.now ac.now bits.old) }
 {
     one_word();
-    let difference = read_difference(dc, bits)?;
-    read_others(ac, bits, difference, block)
+    let mut left = bits.again();
+    let difference = read_difference(dc, &mut left)?;
+    read_others(ac, &mut left, difference, block)?;
+    *bits = left;
+    Some(())
 }

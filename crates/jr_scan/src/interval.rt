@@ -92,6 +92,16 @@ impl Interval {
         &self.head
     }
 
+    /// Whether both are the same interval: equal numbers, MCU counts, data and heads.
+    pub fn is_same(&self, other: &Interval) -> bool
+        ensures { IsTrue result ↔ (self.now ≡ other.now) }
+    {
+        self.number == other.number
+            && self.mcus == other.mcus
+            && self.bytes() == other.bytes()
+            && self.head.is_same(&other.head)
+    }
+
     /// The blocks of the interval's one decoding, or that it has none.
     pub fn read(&self, alloc: Global) -> Result<Option<Vec<Block>>, Memory>
         ensures some { IfOk result (λ answer. IfSome answer (λ v. Decodes self.now v.items)) }
