@@ -1,4 +1,4 @@
-pub mod Passed
+pub mod Floors
 pub mod Places
 pub mod Factors
 pub mod Sent

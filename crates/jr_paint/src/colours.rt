@@ -1,46 +1,83 @@
-// Colours in fixed point.
-ghost use Rattle.std.specs.Prelude.{◌≡◌, ℕ, ◌^◌, pos, ◌+ℤ◌, ℤ};
+//! Colours in fixed point (JFIF 1.02, "Conversion to and from RGB"), in sixteen-bit lanes: each product keeps
+//! its upper half only, which is the same number.
+
+ghost use Rattle.std.specs.Prelude.{◌≡◌, ℕ, ◌^◌, pos, neg_ℤ, ◌+ℤ◌, ◌-ℤ◌, ℤ};
+ghost use Rattle.std.proofs.Math.IntN.{◌*ℤ◌};
+ghost use Rattle.jr_head.specs.declared.mark.Kind.TheVariants.{Ycc};
 ghost use Rattle.jr_paint.specs.Colours.{colour_of, floor_div, byte_of, off, shade, IsWithin};
 
 use jr_head::Kind;
 
-fn rounded(weighted: i32) -> i32
-    requires { IsWithin (2 ^ 30) weighted }
-    ensures value { result ≡ floor_div (weighted +ℤ pos 32768) 65536 }
-    ensures small { IsWithin (2 ^ 15) result }
+/// A number over 65536, rounded down.
+fn upper_half(number: i32) -> i16
+    requires { IsWithin (2 ^ 23) number }
+    ensures value { result ≡ floor_div number 65536 }
+    ensures small { IsWithin 128 result }
 {
-    (weighted + 32768) >> 16
+    (number >> 16) as i16
 }
 
-fn shaded(value: i32) -> u8
-    requires { IsWithin (2 ^ 20) value }
-    ensures { result ≡ byte_of value }
+/// Half of a number, rounded.
+fn half(number: i16) -> i16
+    requires { IsWithin 128 number }
+    ensures value { result ≡ floor_div (number +ℤ pos 1) 2 }
+    ensures small { IsWithin 65 result }
 {
-    value.clamp(0, 255) as u8
+    (number + 1) >> 1
 }
 
-fn channel(y: u8, weighted: i32) -> u8
-    requires { IsWithin (2 ^ 30) weighted }
-    ensures { result ≡ shade y weighted }
+/// What red has over luminance: 1.402 times r. 91881 is 65536 + 26345.
+fn red_over(r: i16) -> i16
+    requires { IsWithin 128 r }
+    ensures value { result ≡ floor_div (pos 91881 *ℤ r +ℤ pos 32768) 65536 }
+    ensures small { IsWithin 512 result }
 {
-    shaded(i32::from(y) + rounded(weighted))
+    r + half(upper_half(26345 * i32::from(r + r)))
 }
 
-fn off_of(c: u8) -> i32
+/// What green has over luminance: -0.34414 times b and -0.71414 times r. 46802 is 65536 - 18734.
+fn green_over(b: i16, r: i16) -> i16
+    requires b { IsWithin 128 b }
+    requires r { IsWithin 128 r }
+    ensures value { result ≡ floor_div (neg_ℤ (pos 22554) *ℤ b -ℤ pos 46802 *ℤ r +ℤ pos 32768) 65536 }
+    ensures small { IsWithin 512 result }
+{
+    upper_half(18734 * i32::from(r) - 22554 * i32::from(b) + 32768) - r
+}
+
+/// What blue has over luminance: 1.772 times b. 116130 is twice 65536 - 14942 / 2.
+fn blue_over(b: i16) -> i16
+    requires { IsWithin 128 b }
+    ensures value { result ≡ floor_div (pos 116130 *ℤ b +ℤ pos 32768) 65536 }
+    ensures small { IsWithin 512 result }
+{
+    b + b + half(upper_half(-14942 * i32::from(b + b)))
+}
+
+/// The nearest number from 0 to 255 to luminance y and what is over it.
+fn shaded(y: u8, over: i16) -> u8
+    requires { IsWithin 512 over }
+    ensures { result ≡ byte_of (pos y +ℤ over) }
+{
+    (i16::from(y) + over).clamp(0, 255) as u8
+}
+
+fn off_of(c: u8) -> i16
     ensures value { result ≡ off c }
     ensures small { IsWithin 128 result }
 {
-    i32::from(c) - 128
+    i16::from(c) - 128
 }
 
+/// The colour of a pixel of luminance y and chrominance cb and cr.
 pub(crate) fn mixed(y: u8, cb: u8, cr: u8) -> [u8; 3]
-    ensures { result ≡ colour_of Kind.Ycc y cb cr }
+    ensures { result ≡ colour_of Ycc y cb cr }
 {
     let b = off_of(cb);
     let r = off_of(cr);
-    let red = channel(y, 91881 * r);
-    let green = channel(y, -22554 * b - 46802 * r);
-    let blue = channel(y, 116130 * b);
+    let red = shaded(y, red_over(r));
+    let green = shaded(y, green_over(b, r));
+    let blue = shaded(y, blue_over(b));
     [red, green, blue]
 }
 
