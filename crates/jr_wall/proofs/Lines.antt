@@ -1,5 +1,5 @@
 -- Lines of samples by runs of eight.
-use Rattle.std.proofs.Common.{◌≡◌, ℕ, inl, inr, ◌+◌, ◌-◌, ◌*◌, ◌/◌, ◌%◌, ◌<◌, ◌≤◌, List, length, take, get_or, refl, sym, ap, ◌∙◌, arith}
+use Rattle.std.proofs.Common.{◌≡◌, ℕ, inl, inr, ◌+◌, ◌-◌, ◌*◌, ◌/◌, ◌%◌, ◌<◌, ◌≤◌, List, length, take, get_or, refl, sym, ap, ◌∙◌, cond, arith}
 use borrow.Rule.Slice.PartMut.{put_mid}
 use Rattle.std.proofs.lemmas.Slice.{take-put_mid}
 use Rattle.std.proofs.lemmas.List.{length-take-le, get_or-take, get_or_append_left, get_or-append_right}
@@ -12,7 +12,8 @@ use Rattle.jr_head.specs.Geometry.{horizontal_of, vertical_of, mcus_across, bloc
 use Rattle.jr_paint.specs.Geometry.{place_of, spot_at}
 use Rattle.jr_paint.specs.declared.geometry.Spot.{Spot}
 use Rattle.jr_wall.specs.BoardValue.{BoardValue}
-use Rattle.jr_wall.specs.Shown.{shown, shown_at}
+use Rattle.std.proofs.lemmas.Bool.Decides.{eqb_tells}
+use Rattle.jr_wall.specs.Shown.{shown, shown_at, within_interval}
 
 -- the samples of eight columns lie in one data unit
 eight_div : (at j : ℕ) → at % 8 + j < 8 → (at + j) / 8 ≡ at / 8
@@ -82,3 +83,14 @@ filled_more f a k n xs ys e h before here i lt =
           let there : a + (i - a) ≡ i = omega (arith, beyond) in
           front ∙ get_or-append_right (take a xs) ys a i 0 long beyond ∙ here (i - a) (omega (arith, lt, e, beyond)) ∙ ap f there
     ]
+
+-- an MCU that lies in an interval, and its number there
+pub within_is : (h : HeadValue) (mcu near every : ℕ) → every ≡ h.restart → 0 < every → near * every ≤ mcu → mcu - near * every < every → mcu - near * every ≡ within_interval h mcu
+within_is h mcu near every e some low high = elim (eqb_tells h.restart 0) [
+  | inl t ↦ absurd (omega (arith, e, some, t.1))
+  | inr f ↦
+      let rest = mcu - near * every in
+      let whole : mcu ≡ near * every + rest = omega (arith, low) in
+      let is : mcu % every ≡ rest = ap (λ k. k % every) whole ∙ mod-mul-add near every rest high in
+      sym is ∙ ap (λ k. mcu % k) e ∙ sym (ap (λ b. cond b mcu (mcu % h.restart)) f.0)
+]

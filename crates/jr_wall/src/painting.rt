@@ -33,6 +33,20 @@ fn blank(kind: Kind, c: u32) -> u8
     }
 }
 
+/// Copies samples; a whole row of a data unit without a call.
+fn copy(from: &[u8], out: &mut [u8])
+    requires { length from.now ≡ length out.old }
+    ensures { out.new ≡ from.now }
+{
+    if out.len() != 8 {
+        out.copy_from_slice(from);
+        return;
+    }
+    for k in 0..8 {
+        out[k] = from[k];
+    }
+}
+
 /// Puts the samples of a data unit from a place on.
 fn put(unit: &Unit<'_>, from: usize, out: &mut [u8])
     requires { from + length out.old ≤ 64 }
@@ -43,7 +57,7 @@ fn put(unit: &Unit<'_>, from: usize, out: &mut [u8])
         Unit::Grey => out.fill(128),
         Unit::Decoded(samples) => {
             let samples = &samples[..];
-            out.copy_from_slice(&samples[from..from + out.len()]);
+            copy(&samples[from..from + out.len()], out);
         }
     }
 }
@@ -71,13 +85,49 @@ fn split(head: &Head, mcu: u32) -> (u32, u32)
     }
 }
 
+/// The same, where the MCU is likely to lie in the interval `near`: a division is slower than a test.
+fn split_near(head: &Head, mcu: u32, near: u32) -> (u32, u32)
+    ensures interval { result.0 ≡ interval_of head.now mcu }
+    ensures within { result.1 ≡ within_interval head.now mcu }
+{
+    let every = u64::from(head.restart());
+    let start = u64::from(near) * every;
+    let mcu_at = u64::from(mcu);
+    if every > 0 && start <= mcu_at && mcu_at - start < every {
+        return (near, (mcu_at - start) as u32);
+    }
+    split(head, mcu)
+}
+
+/// The MCU of a data unit of a line of a component, and the unit's column in it.
+fn in_mcu(number: u32, across: u32) -> (u32, u32)
+    requires some { 0 < across }
+    requires few { across ≤ 4 }
+    ensures mcu { result.0 ≡ number / across }
+    ensures column { result.1 ≡ number % across }
+{
+    match across {
+        1 => (number, 0),
+        2 => (number / 2, number % 2),
+        3 => (number / 3, number % 3),
+        _ => (number / 4, number % 4),
+    }
+}
+
 impl Board {
     /// What is shown of a data unit of component c.
     fn unit(&self, c: u32, mcu: u32, block: u32) -> Unit<'_>
         ensures { (at : ℕ) → value_in result at ≡ shown_in self.now.scan.head.kind c (piece_at self.now (interval_of self.now.scan.head mcu)) (within_interval self.now.scan.head mcu * blocks_of self.now.scan.head + block) at }
     {
+        let (interval, within) = split(self.scan().head(), mcu);
+        self.unit_in(c, interval, within, block)
+    }
+
+    /// What is shown of a data unit of component c, by its interval and its MCU there.
+    fn unit_in(&self, c: u32, interval: u32, within: u32, block: u32) -> Unit<'_>
+        ensures { (at : ℕ) → value_in result at ≡ shown_in self.now.scan.head.kind c (piece_at self.now interval) (within * blocks_of self.now.scan.head + block) at }
+    {
         let head = self.scan().head();
-        let (interval, within) = split(head, mcu);
         let Some(piece) = self.posted(interval) else {
             return Unit::Blank(blank(head.kind(), c));
         };
@@ -124,10 +174,13 @@ impl Samples for Board {
             col: _,
         } = place(head, c, 0, y);
         let mut done = 0;
+        let mut near = 0;
         'units: while done < out.len() {
             let at = x + done as u32;
-            let number = at / 8;
-            let unit = self.unit(c, mcu + number / across, block + number % across);
+            let (column, part) = in_mcu(at / 8, across);
+            let (interval, within) = split_near(head, mcu + column, near);
+            near = interval;
+            let unit = self.unit_in(c, interval, within, block + part);
             let count = (8 - at as usize % 8).min(out.len() - done);
             put(
                 &unit,

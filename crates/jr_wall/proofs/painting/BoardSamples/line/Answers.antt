@@ -34,28 +34,34 @@ pub overflow_add-mcu : goal.overflow_add-mcu
 overflow_add-mcu c =
     let few = few_columns c.args.self.now c.head-head.result.now c.args.c c.args.x (length c.args.out.now) (c.head-head.ensures ∙ ap (λ (s : ScanValue). s.head) c.scan.ensures) c.be_lawful.ensures c.requires.component c.requires.column in
     let at = c.args.x + c.units.done in
-    omega (arith, few, c.units-test.true, c.units.auto.out, div-le_self at 8, div-le_self (at / 8) c.horizontal-across.result, c.place-mcu.ensures.mcu, c.mcus-mcus.ensures.value, c.mcus-mcus.ensures.few)
+    omega (arith, few, c.units-test.true, c.units.auto.out, div-le_self at 8, div-le_self (at / 8) c.horizontal-across.result, c.in_mcu-column.ensures.mcu, c.place-mcu.ensures.mcu, c.mcus-mcus.ensures.value, c.mcus-mcus.ensures.few)
 
 pub overflow_add-block : goal.overflow_add-block
 overflow_add-block c =
     let at = c.args.x + c.units.done in
-    omega (arith, mod_below (at / 8) c.horizontal-across.result c.horizontal-across.ensures.some, c.horizontal-across.ensures.few, c.place-mcu.ensures.block, c.order.ensures.count, c.order.ensures.few)
+    omega (arith, mod_below (at / 8) c.horizontal-across.result c.horizontal-across.ensures.some, c.in_mcu-column.ensures.column, c.horizontal-across.ensures.few, c.place-mcu.ensures.block, c.order.ensures.count, c.order.ensures.few)
 
 -- the samples that are put from a data unit are those shown
 put_shown : (b : BoardValue) (c x y done count across : ℕ) (s : Spot) (u : Unit) (new : List ℕ) → 0 < across → across ≡ horizontal_of b.scan.head c
     → s ≡ spot_at b.scan.head c (place_of (horizontal_of b.scan.head c) (vertical_of b.scan.head c) 0 y)
     → count ≤ 8 - (x + done) % 8 → length new ≡ count
     → ((k : ℕ) → k < length new → slice_index new k ≡ value_in u (8 * s.row + (x + done) % 8 + k))
-    → ((at : ℕ) → value_in u at ≡ shown_in b.scan.head.kind c (piece_at b (interval_of b.scan.head (s.mcu + (x + done) / 8 / across))) (within_interval b.scan.head (s.mcu + (x + done) / 8 / across) * blocks_of b.scan.head + (s.block + (x + done) / 8 % across)) at)
+    → (column part interval within : ℕ) → column ≡ (x + done) / 8 / across → part ≡ (x + done) / 8 % across → interval ≡ interval_of b.scan.head (s.mcu + column) → within ≡ within_interval b.scan.head (s.mcu + column)
+    → ((at : ℕ) → value_in u at ≡ shown_in b.scan.head.kind c (piece_at b interval) (within * blocks_of b.scan.head + (s.block + part)) at)
     → (j : ℕ) → j < length new → get_or new j 0 ≡ shown b c (x + (done + j)) y
-put_shown b c x y done count across s u new some e spot few long put unit j lt =
+put_shown b c x y done count across s u new some e spot few long put column' part interval within d r i w unit j lt =
     let at = x + done in
     let mcu = s.mcu + at / 8 / across in
     let number = within_interval b.scan.head mcu * blocks_of b.scan.head + (s.block + at / 8 % across) in
     let place : 8 * s.row + at % 8 + j ≡ 8 * s.row + (at % 8 + j) = omega arith in
     let column : x + done + j ≡ x + (done + j) = omega arith in
     let here = shown_along b c at j y s (subst (λ k. 0 < k) e some) (omega (arith, few, long, lt)) spot in
+    let there : interval ≡ interval_of b.scan.head mcu = i ∙ ap (λ k. interval_of b.scan.head (s.mcu + k)) d in
+    let inside : within ≡ within_interval b.scan.head mcu = w ∙ ap (λ k. within_interval b.scan.head (s.mcu + k)) d in
     put j lt ∙ unit (8 * s.row + at % 8 + j)
+    ∙ ap (λ k. shown_in b.scan.head.kind c (piece_at b k) (within * blocks_of b.scan.head + (s.block + part)) (8 * s.row + at % 8 + j)) there
+    ∙ ap (λ k. shown_in b.scan.head.kind c (piece_at b (interval_of b.scan.head mcu)) (k * blocks_of b.scan.head + (s.block + part)) (8 * s.row + at % 8 + j)) inside
+    ∙ ap (λ k. shown_in b.scan.head.kind c (piece_at b (interval_of b.scan.head mcu)) (within_interval b.scan.head mcu * blocks_of b.scan.head + (s.block + k)) (8 * s.row + at % 8 + j)) r
     ∙ ap (λ k. shown_in b.scan.head.kind c (piece_at b (interval_of b.scan.head mcu)) number k) place
     ∙ subst (λ a. shown_in b.scan.head.kind c (piece_at b (interval_of b.scan.head (s.mcu + at / 8 / a))) (within_interval b.scan.head (s.mcu + at / 8 / a) * blocks_of b.scan.head + (s.block + at / 8 % a)) (8 * s.row + (at % 8 + j)) ≡ shown b c (at + j) y) (sym e) here
     ∙ ap (λ k. shown b c k y) column
@@ -71,5 +77,6 @@ units-preserved c =
     record {
       within = search rules;
       filled = filled_more (λ k. shown b c.args.c (c.args.x + k) c.args.y) c.units.done (c.units.done + c.min-count.result - c.units.done) (c.units.done + c.min-count.result) c.units.out c.put.new.out (omega (arith, long)) (omega arith) c.units.invariant.filled
-          (put_shown b c.args.c c.args.x c.args.y c.units.done c.min-count.result c.horizontal-across.result c.place-mcu.result c.unit-unit.result c.put.new.out c.horizontal-across.ensures.some across spot few long c.put.ensures c.unit-unit.ensures);
+          (put_shown b c.args.c c.args.x c.args.y c.units.done c.min-count.result c.horizontal-across.result c.place-mcu.result c.unit_in-unit.result c.put.new.out c.horizontal-across.ensures.some across spot few long c.put.ensures c.in_mcu-column.result.0 c.in_mcu-column.result.1 c.split_near-interval.result.0 c.split_near-interval.result.1 c.in_mcu-column.ensures.mcu c.in_mcu-column.ensures.column
+          (c.split_near-interval.ensures.interval ∙ ap (λ (h : HeadValue). interval_of h (c.place-mcu.result.mcu + c.in_mcu-column.result.0)) head) (c.split_near-interval.ensures.within ∙ ap (λ (h : HeadValue). within_interval h (c.place-mcu.result.mcu + c.in_mcu-column.result.0)) head) c.unit_in-unit.ensures);
     }
