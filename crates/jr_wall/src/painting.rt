@@ -38,12 +38,10 @@ fn copy(from: &[u8], out: &mut [u8])
     requires { length from.now ≡ length out.old }
     ensures { out.new ≡ from.now }
 {
-    if out.len() != 8 {
+    if out.len() == 8 {
+        out[..8].copy_from_slice(&from[..8]);
+    } else {
         out.copy_from_slice(from);
-        return;
-    }
-    for k in 0..8 {
-        out[k] = from[k];
     }
 }
 

@@ -30,7 +30,15 @@ pub(crate) fn decode<R: Threads + Wait + Sync + AllocGlobal>(
     let mut input = Tally::of(bytes);
     let mut output = Tally::of(Vec::new(rt.alloc()));
     let mut lines = Vec::new(rt.alloc());
-    let outcome = run(rt, rt.alloc(), &mut input, &mut output, workers, first, &OpenGate);
+    let outcome = run(
+        rt,
+        rt.alloc(),
+        &mut input,
+        &mut output,
+        workers,
+        first,
+        &OpenGate,
+    );
     let status = finish(outcome, &mut output, &mut lines);
     Ok(Outcome {
         picture: output.into_inner(),

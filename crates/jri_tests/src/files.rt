@@ -39,31 +39,25 @@ const PARTS: [(&str, &str); 11] = [
     ("C3", "FF DA 00 0C 03 01 00 02 00 03 00 00 3F 00"),
     ("J", "FF E0 00 10 4A 46 49 46 00 01 02 00 00 01 00 01 00 00"),
     ("T", "FF EE 00 0E 41 64 6F 62 65 00 64 00 00 00 00 00"),
-    ("K", "FF C4 00 1F 00 00 01 05 01 01 01 01 01 01 7*00 00 01 02 03 04 05 06 07 08 09 0A 0B"),
+    (
+        "K",
+        "FF C4 00 1F 00 00 01 05 01 01 01 01 01 01 7*00 00 01 02 03 04 05 06 07 08 09 0A 0B",
+    ),
 ];
 
 /// Parts with arguments: what stands before each argument, and behind the last.
-const FORMS: [(&str, [&str; 4]); 5] = [
-    ("F", ["FF C0 00 0B 08", "", "01 01 11 00", ""]),
-    ("F1", ["FF C1 00 0B 08", "", "01 01 11 00", ""]),
-    ("F3", ["FF C0 00 11 08", "", "03 01", "00 02 11 00 03 11 00"]),
-    ("D", ["FF C4 00 16 00 00 03 14*00", "", "", ""]),
-    ("A2", ["FF C4 00 15 10 01 01 14*00", "", "", ""]),
+const FORMS: [(&str, &str); 5] = [
+    ("F", "FF C0 00 0B 08 | | 01 01 11 00"),
+    ("F1", "FF C1 00 0B 08 | | 01 01 11 00"),
+    ("F3", "FF C0 00 11 08 | | 03 01 | 00 02 11 00 03 11 00"),
+    ("D", "FF C4 00 16 00 00 03 14*00 | | "),
+    ("A2", "FF C4 00 15 10 01 01 14*00 | "),
 ];
 
 fn found<'a>(table: &[(&'a str, &'a str)], word: &str) -> Option<&'a str> {
     for (name, text) in table {
         if *name == word {
             return Some(*text);
-        }
-    }
-    None
-}
-
-fn form_of(name: &str) -> Option<[&'static str; 4]> {
-    for (form, fragments) in FORMS {
-        if form == name {
-            return Some(fragments);
         }
     }
     None
@@ -106,9 +100,9 @@ fn put_all_digits(bytes: &mut Vec<u8>, words: &str) -> Result<(), Fail> {
 }
 
 /// Puts a part with arguments: each fragment, and the argument behind it.
-fn put_form(bytes: &mut Vec<u8>, fragments: &[&str; 4], arguments: &str) -> Result<(), Fail> {
+fn put_form(bytes: &mut Vec<u8>, fragments: &str, arguments: &str) -> Result<(), Fail> {
     let mut values = arguments.split(':');
-    for fragment in fragments {
+    for fragment in fragments.split('|') {
         put_all_digits(bytes, fragment)?;
         if let Some(value) = values.next() {
             put_hex(bytes, value)?;
@@ -122,8 +116,8 @@ fn put_part(bytes: &mut Vec<u8>, word: &str) -> Result<(), Fail> {
         return put_all_digits(bytes, words);
     }
     if let Some((name, arguments)) = word.split_once(':') {
-        if let Some(fragments) = form_of(name) {
-            return put_form(bytes, &fragments, arguments);
+        if let Some(fragments) = found(&FORMS, name) {
+            return put_form(bytes, fragments, arguments);
         }
     }
     put_digits(bytes, word)

@@ -48,6 +48,9 @@ pub(crate) fn picture(alloc: Global, words: &str) -> Result<Vec<u8>, Fail> {
 #[test]
 fn lines_are_put_together(rt: HostRuntime) -> Result<(), Fail> {
     let bytes = picture(rt.alloc(), "P5 2 2 : 2*7")?;
-    assert_eq!(rt; bytes.as_slice(), b"P5\n2 2\n255\n\x07\x07\x07\x07".as_slice());
+    assert_eq!(rt;
+        bytes.as_slice(),
+        b"P5\n2 2\n255\n\x07\x07\x07\x07".as_slice()
+    );
     Ok(())
 }

@@ -56,7 +56,10 @@ const fn two(file: &'static str, picture: &'static str, sound: bool, ended: &'st
     }
 }
 
-fn check<R: Threads + Wait + Sync + AllocGlobal + Abort>(rt: &R, cases: &[Case]) -> Result<(), Fail> {
+fn check<R: Threads + Wait + Sync + AllocGlobal + Abort>(
+    rt: &R,
+    cases: &[Case],
+) -> Result<(), Fail> {
     for case in cases {
         let bytes = file(rt.alloc(), case.file)?;
         let Outcome {
@@ -102,10 +105,19 @@ fn spellings_and_tables(rt: HostRuntime) -> Result<(), Fail> {
             "S Q F:0008:0008 FF FF FF C4 00 16 00 00 03 14*00 00 03 05 A C 63 E",
             "P5 8 8 : 8*136",
         ),
-        sound("S Q F:0008:0008 D A2:00:0A C 65 FF 00 BF E", "P5 8 8 : 4*255 4*0"),
-        sound("S Q F:0008:0008 D A2:00:0A C 65 FF FF 00 BF E", "P5 8 8 : 4*255 4*0"),
+        sound(
+            "S Q F:0008:0008 D A2:00:0A C 65 FF 00 BF E",
+            "P5 8 8 : 4*255 4*0",
+        ),
+        sound(
+            "S Q F:0008:0008 D A2:00:0A C 65 FF FF 00 BF E",
+            "P5 8 8 : 4*255 4*0",
+        ),
         sound("S J Q F:0008:0008 K A C 91 E", "P5 8 8 : 8*136"),
-        sound("S J Q F:0008:0008 FF C4 00 15 00 02 15*00 00 03 A C C7 E", "P5 8 8 : 8*136"),
+        sound(
+            "S J Q F:0008:0008 FF C4 00 15 00 02 15*00 00 03 A C C7 E",
+            "P5 8 8 : 8*136",
+        ),
     ];
     check(&rt, &cases)
 }
@@ -213,10 +225,22 @@ fn three_components(rt: HostRuntime) -> Result<(), Fail> {
             "S Q F3:0001:0010:22 D A2:00:01 C3 00 00 57 E",
             "P6 16 1 : 2*132,126,128 4*131,127,128 2*129,127,128 2*127,129,128 4*125,129,128 2*124,130,128",
         ),
-        sound("S T Q F3:0008:0008:11 D A C3 60 0F E", "P6 8 8 : 8*136,128,128"),
-        sound("S Q F3:0008:0008:11 D A C3 60 0F E", "P6 8 8 : 8*136,136,136"),
-        sound("S J T Q F3:0008:0008:11 D A C3 60 0F E", "P6 8 8 : 8*136,136,136"),
-        damaged("S Q F3:0010:0010:22 D A C3 60 00 3F E", "P6 16 16 : 16*128,128,128"),
+        sound(
+            "S T Q F3:0008:0008:11 D A C3 60 0F E",
+            "P6 8 8 : 8*136,128,128",
+        ),
+        sound(
+            "S Q F3:0008:0008:11 D A C3 60 0F E",
+            "P6 8 8 : 8*136,136,136",
+        ),
+        sound(
+            "S J T Q F3:0008:0008:11 D A C3 60 0F E",
+            "P6 8 8 : 8*136,136,136",
+        ),
+        damaged(
+            "S Q F3:0010:0010:22 D A C3 60 00 3F E",
+            "P6 16 16 : 16*128,128,128",
+        ),
     ];
     check(&rt, &cases)
 }
@@ -225,9 +249,18 @@ fn three_components(rt: HostRuntime) -> Result<(), Fail> {
 fn extended_sequential_frames(rt: HostRuntime) -> Result<(), Fail> {
     let cases = [
         sound("S Q F1:0008:0008 D A C 63 E", "P5 8 8 : 8*136"),
-        sound("S FF DB 00 83 10 64*0010 F1:0008:0008 D A C 63 E", "P5 8 8 : 8*136"),
-        sound("S FF DB 00 83 10 64*0100 F1:0008:0008 D:00:01:05 A C 6F E", "P5 8 8 : 8*160"),
-        sound("S FF DB 00 83 10 64*0100 F1:0008:0008 D:00:01:05 A C 4F E", "P5 8 8 : 8*96"),
+        sound(
+            "S FF DB 00 83 10 64*0010 F1:0008:0008 D A C 63 E",
+            "P5 8 8 : 8*136",
+        ),
+        sound(
+            "S FF DB 00 83 10 64*0100 F1:0008:0008 D:00:01:05 A C 6F E",
+            "P5 8 8 : 8*160",
+        ),
+        sound(
+            "S FF DB 00 83 10 64*0100 F1:0008:0008 D:00:01:05 A C 4F E",
+            "P5 8 8 : 8*96",
+        ),
         sound(
             "S Q F1:0008:0008 FF C4 00 16 03 00 03 14*00 00 03 05 FF C4 00 14 13 01 15*00 00 \
              FF DA 00 08 01 01 33 00 3F 00 63 E",
