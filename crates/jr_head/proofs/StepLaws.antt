@@ -1,5 +1,5 @@
 -- An item that passes its tests is read as it is spelled.
-use Rattle.std.proofs.Common.{◌≡◌, ◌≢◌, ℕ, zero, suc, ◌+◌, ◌-◌, ◌*◌, ◌/◌, ◌%◌, ◌<◌, ◌≤◌, Bool, true, false, eqb, ltb, List, [], ◌∷◌, ◌++◌, length, take, drop, replicate, None, refl, sym, ap, ◌∙◌, append_assoc, arith}
+use Rattle.std.proofs.Common.{◌≡◌, ◌≢◌, ℕ, zero, suc, ◌+◌, ◌-◌, ◌*◌, ◌/◌, ◌%◌, ◌<◌, ◌≤◌, Bool, true, false, eqb, ltb, List, [], ◌∷◌, ◌++◌, length, take, drop, replicate, None, refl, sym, ap, subst, ◌∙◌, append_assoc, arith}
 use Rattle.std.specs.Prelude.{not, ◌&&◌, ◌==◌}
 use Rattle.std.specs.List.{prefix_len}
 use Rattle.std.proofs.lemmas.Bool.{eqb-true, le-ltb}
@@ -26,7 +26,7 @@ behind_fill (suc k) t = behind_fill k t
 fill_is : (k c : ℕ) (s : List ℕ) → eqb c 255 ≡ false → fill (replicate k 255 ++ c ∷ s) ≡ k
 fill_is k c s e =
     ap (λ (n : ℕ). length (take n (replicate k 255 ++ c ∷ s))) (prefix_is k c s e)
-    ∙ length-take-le k (replicate k 255 ++ c ∷ s) (omega (arith, length-append (replicate k 255) (c ∷ s), length-replicate k 255))
+    ∙ length-take-le k (replicate k 255 ++ c ∷ s) (omega (arith, length-append (replicate k 255) (c ∷ s), length-replicate {A = ℕ} k 255))
 
 -- ---- the length and the payload
 
@@ -57,13 +57,13 @@ rest_is c p rest short =
 
 item_is : (f n c : ℕ) (t p rest : List ℕ) → length p + 2 < 65536 → f ≡ suc n → t ≡ tail_of c p rest
     → (let i : Item = record { fill = f - 1; code = byte 0 t; payload = take (word 1 t - 2) (drop 3 t) } in i) ≡ record { fill = n; code = c; payload = p }
-item_is f n c t p rest short e g = rw (e, g) (ap (λ (q : List ℕ). (let i : Item = record { fill = n; code = c; payload = q } in i)) (payload_is c p rest short))
+item_is f n c t p rest short e g = let m : suc n - 1 ≡ n = omega arith in rw (e, g, m) (ap (λ (q : List ℕ). (let i : Item = record { fill = n; code = c; payload = q } in i)) (payload_is c p rest short))
 
 -- ---- the code
 
 known_apart : (c other : ℕ) (b : Bool) → is_known other ≡ false → eqb c other ≡ b → is_known c ≡ true → b ≡ false
-known_apart c other false no e h = refl
-known_apart c other true no e h = absurd (let k = sym (rw (eqb-true c other e) at h) ∙ no in cc)
+known_apart c other false unknown e h = refl
+known_apart c other true unknown e h = absurd (let k = sym (rw (eqb-true c other e) at h) ∙ unknown in cc)
 
 last_of_four : (a b c d : Bool) (r s t u : Refusal) → first_fault ((r when a) ∷ (s when b) ∷ (t when c) ∷ (u when not d) ∷ []) ≡ None → d ≡ true
 last_of_four true b c d r s t u h = absurd cc
@@ -85,15 +85,18 @@ all_four a b c d r s t u ea eb ec ed = rw (ea, eb, ec, ed) refl
 all_three : (a b c : Bool) (r s t : Refusal) → a ≡ false → b ≡ false → c ≡ false → first_fault ((r when a) ∷ (s when b) ∷ (t when c) ∷ []) ≡ None
 all_three a b c r s t ea eb ec = rw (ea, eb, ec) refl
 
+zero_tells : (n : ℕ) (b : Bool) → eqb n 0 ≡ b → n ≢ 0 → b ≡ false
+zero_tells n false e h = refl
+zero_tells n true e h = absurd (h (eqb-true n 0 e))
+
 not_zero : (n : ℕ) → n ≢ 0 → (n == 0) ≡ false
-not_zero zero h = absurd (h refl)
-not_zero (suc n) h = refl
+not_zero n h = zero_tells n (n == 0) refl h
 
 marker_there : (at n c : ℕ) (bytes s : List ℕ) → fill bytes ≡ suc n → at_code bytes ≡ c ∷ s → eqb c 0 ≡ false → length bytes ≢ 0 → first_fault (marker_tests at bytes) ≡ None
 unfolding marker_tests
 marker_there at n c bytes s f t apart long =
     all_four (length bytes == 0) (fill bytes == 0) (length (at_code bytes) == 0) (byte 0 (at_code bytes) == 0) EndsEarly (ExpectedMarker at) EndsEarly (ExpectedMarker (at + fill bytes))
-    (not_zero (length bytes) long) (rw f refl) (rw t refl) (rw t apart)
+    (not_zero (length bytes) long) (not_zero (fill bytes) (λ z. omega (arith, z, f))) (not_zero (length (at_code bytes)) (λ z. omega (arith, z, ap length t))) (rw t apart)
 
 length_there : (code : ℕ) (c : ℕ) (p rest : List ℕ) → length p + 2 < 65536 → first_fault (length_tests code (drop 1 (tail_of c p rest))) ≡ None
 unfolding length_tests
@@ -133,7 +136,7 @@ next_item before i bytes rest ok f t long =
       after = rw t (rest_is i.code i.payload rest ok.short);
       passes = λ at. none_both (framing_tests (has_frame before) at bytes) (payload_tests before (item_at bytes).code (item_at bytes).payload)
           (framing_there (has_frame before) at i.fill i.code bytes i.payload rest ok.short f t long ok.code)
-          (rw same ok.payload);
+          (subst (λ (x : Item). first_fault (payload_tests before x.code x.payload) ≡ None) (sym same) ok.payload);
     }
 
 pub next_is : (before : List Item) (i : Item) (bytes rest : List ℕ) → Passes before i → bytes ≡ spelled i ++ rest → IsNext before bytes i rest
@@ -143,5 +146,5 @@ next_is before i bytes rest ok e =
     let w : bytes ≡ replicate (suc i.fill) 255 ++ tail_of i.code i.payload rest = e ∙ written i rest in
     let f : fill bytes ≡ suc i.fill = ap fill w ∙ fill_is (suc i.fill) i.code (drop 1 (tail_of i.code i.payload rest)) apart in
     let t : at_code bytes ≡ tail_of i.code i.payload rest = ap (λ (n : ℕ). drop n bytes) f ∙ ap (drop (suc i.fill)) w ∙ behind_fill (suc i.fill) (tail_of i.code i.payload rest) in
-    let long : length bytes ≢ 0 = λ z. omega (arith, z, ap length w, length-append (replicate (suc i.fill) 255) (tail_of i.code i.payload rest), length-replicate (suc i.fill) 255) in
+    let long : length bytes ≢ 0 = λ z. omega (arith, z, ap length w, length-append (replicate (suc i.fill) 255) (tail_of i.code i.payload rest), length-replicate {A = ℕ} (suc i.fill) 255) in
     next_item before i bytes rest ok f t long
