@@ -1,10 +1,10 @@
 -- A file has one head and no fault, or no head and one fault.
-use Rattle.std.proofs.Common.{◌≡◌, ◌≢◌, ◌⊎◌, inl, inr, ℕ, zero, suc, ◌+◌, ◌-◌, ◌<◌, ◌≤◌, Bool, true, false, eqb, List, [], ◌∷◌, ◌++◌, length, drop, refl, sym, ap, subst, ◌∙◌, append_assoc, arith}
-use Rattle.std.specs.Prelude.{Option, Some, None, Result, Ok, Err, is_none, not, ◌||◌, ◌&&◌, ◌==◌, if◌then◌else◌, nat_lt}
+use Rattle.std.proofs.Common.{◌≡◌, ◌≢◌, ◌⊎◌, inl, inr, ℕ, zero, suc, ◌+◌, ◌-◌, ◌<◌, ◌≤◌, Bool, true, false, eqb, List, [], ◌∷◌, ◌++◌, length, get_or, drop, refl, sym, ap, subst, ◌∙◌, append_assoc, arith}
+use Rattle.std.specs.Prelude.{All, Option, Some, None, Result, Ok, Err, is_none, not, ◌||◌, ◌&&◌, ◌==◌, if◌then◌else◌, nat_lt}
 use Rattle.std.specs.List.{AllZip, flat_map, list_any}
 use Rattle.std.specs.Option.{option_map}
-use Rattle.std.proofs.lemmas.Bool.{and_parts, eqb-true, eqb-false, ltb-false, le-ltb}
-use Rattle.std.proofs.lemmas.List.{append-nil, length-drop}
+use Rattle.std.proofs.lemmas.Bool.{and_parts, eqb-true, eqb-false, ltb-false, le-ltb, cases_lt}
+use Rattle.std.proofs.lemmas.List.{append-nil, length-drop, get_or_past}
 use Rattle.std.proofs.lemmas.List.Concat.{flat_map-cons}
 use Rattle.jr_code.specs.Code.{Table}
 use Rattle.jr_head.specs.declared.component.Component.{Component}
@@ -24,10 +24,10 @@ use Rattle.jr_head.specs.Items.{Item, spelled, item_at, after_item, has_frame, f
 use Rattle.jr_head.specs.Marks.{kind_of}
 use Rattle.jr_head.specs.Quantisers.{Quantisation, quantiser_for}
 use Rattle.jr_head.specs.Scans.{all_quantisations, all_codings, frame_item, used, is_missing, has_wide, header_tests, table_tests, scan_tests}
-use Rattle.jr_head.specs.Tests.{Test, ◌when◌, first_fault}
-use Rattle.jr_head.proofs.ItemLaws.{IsBytes, framed_is}
+use Rattle.jr_head.specs.Tests.{◌when◌, first_fault}
+use Rattle.jr_head.proofs.ItemLaws.{IsBytes, IsBytes-drop, framed_is}
 use Rattle.jr_head.proofs.ReadLaws.{rest_bytes}
-use Rattle.jr_head.proofs.StepLaws.{IsNext, next_is}
+use Rattle.jr_head.proofs.StepLaws.{next_is}
 use Rattle.jr_head.proofs.TestLaws.{passes_parts, passes_first}
 
 -- ---- the segments define one head
@@ -72,7 +72,7 @@ same_head items scan x y h k at =
     ∙ ap (λ n. head_by y.width n x.kind x.components x.restart x.scan_at) (h.height ∙ sym k.height)
     ∙ ap (λ (n : Kind). head_by y.width y.height n x.components x.restart x.scan_at) (h.kind ∙ sym k.kind)
     ∙ ap (λ (n : List Component). head_by y.width y.height y.kind n x.restart x.scan_at)
-        (same_components (all_quantisations items) (all_codings items) (is_single items) (used (components (frame_item items).payload) scan) x.components y.components h.components k.components)
+    (same_components (all_quantisations items) (all_codings items) (is_single items) (used (components (frame_item items).payload) scan) x.components y.components h.components k.components)
     ∙ ap (λ n. head_by y.width y.height y.kind y.components n x.scan_at) (h.restart ∙ sym k.restart)
     ∙ ap (λ n. head_by y.width y.height y.kind y.components y.restart n) at
 
@@ -216,16 +216,160 @@ ends_here : (size : ℕ) (before : List Item) (bytes : List ℕ) (r : Result Hea
 ends_here size before bytes r c = (r, record { items = []; rest = bytes; is = refl; chain = tt; comes = subst (λ (l : List Item). Comes size l bytes r) (sym (append-nil before)) c })
 
 goes_further : (size : ℕ) (before : List Item) (bytes : List ℕ) (i : Item) (after : List ℕ) → bytes ≡ spelled i ++ after → Passes before i → i.code ≢ 0xDA → SomeWalk size (before ++ i ∷ []) after → SomeWalk size before bytes
-goes_further size before bytes i after e ok other w = (w.0, record {
-  items = i ∷ w.1.items;
-  rest = w.1.rest;
-  is = e ∙ ap (λ (t : List ℕ). spelled i ++ t) w.1.is ∙ sym (append_assoc (spelled i) (flat_map spelled w.1.items) w.1.rest) ∙ ap (λ (t : List ℕ). t ++ w.1.rest) (sym (flat_map-cons spelled i w.1.items));
-  chain = (ok, other, w.1.chain);
-  comes = subst (λ (l : List Item). Comes size l w.1.rest w.0) (append_assoc before (i ∷ []) w.1.items) w.1.comes;
-})
+goes_further size before bytes i after e ok other w = (
+  w.0,
+  record {
+    items = i ∷ w.1.items;
+    rest = w.1.rest;
+    is = e ∙ ap (λ (t : List ℕ). spelled i ++ t) w.1.is ∙ sym (append_assoc (spelled i) (flat_map spelled w.1.items) w.1.rest) ∙ ap (λ (t : List ℕ). t ++ w.1.rest) (sym (flat_map-cons spelled i w.1.items));
+    chain = (ok, other, w.1.chain);
+    comes = subst (λ (l : List Item). Comes size l w.1.rest w.0) (append_assoc before (i ∷ []) w.1.items) w.1.comes;
+  },
+)
 
 scanned : (size : ℕ) (before : List Item) (bytes : List ℕ) (i : Item) (after : List ℕ) → bytes ≡ spelled i ++ after → Passes before i → i.code ≡ 0xDA → length after ≤ size → SomeWalk size before bytes
 scanned size before bytes i after e ok is_scan small =
     let made = made_head before i.payload (size - length after) (subst (λ (c : ℕ). first_fault (payload_tests before c i.payload) ≡ None) is_scan ok.payload) in
     let at : made.0.scan_at + length after ≡ size = omega (arith, made.2, small) in
     ends_here size before bytes (Ok made.0) (record { scan = i; rest = after; is = e; is_scan = is_scan; passes = ok; defines = made.1; scan_at = at })
+
+walk_step : (size : ℕ) (before : List Item) (bytes : List ℕ) (is_scan : Bool) (o : Option Refusal) → IsBytes bytes → length bytes ≤ size → eqb (item_at bytes).code 0xDA ≡ is_scan
+    → first_fault (item_tests before (size - length bytes) bytes) ≡ o
+    → ((i : Item) → length (after_item bytes) < length bytes → SomeWalk size (before ++ i ∷ []) (after_item bytes)) → SomeWalk size before bytes
+walk_step size before bytes is_scan (Some f) fits small which e go = ends_here size before bytes (Err f) e
+walk_step size before bytes true None fits small which e go =
+    let both = passes_parts (framing_tests (has_frame before) (size - length bytes) bytes) (payload_tests before (item_at bytes).code (item_at bytes).payload) e in
+    let f = framed_is (has_frame before) (size - length bytes) bytes fits both.0 in
+    scanned size before bytes (item_at bytes) (after_item bytes) f.is (record { code = f.code; short = f.short; payload = both.1 }) (eqb-true (item_at bytes).code 0xDA which) (omega (arith, f.shorter, small))
+walk_step size before bytes false None fits small which e go =
+    let both = passes_parts (framing_tests (has_frame before) (size - length bytes) bytes) (payload_tests before (item_at bytes).code (item_at bytes).payload) e in
+    let f = framed_is (has_frame before) (size - length bytes) bytes fits both.0 in
+    goes_further size before bytes (item_at bytes) (after_item bytes) f.is (record { code = f.code; short = f.short; payload = both.1 }) (eqb-false (item_at bytes).code 0xDA which) (go (item_at bytes) f.shorter)
+
+some_walk : (n size : ℕ) (before : List Item) (bytes : List ℕ) → length bytes < n → IsBytes bytes → length bytes ≤ size → SomeWalk size before bytes
+some_walk zero size before bytes few fits small = absurd (omega (arith, few))
+some_walk (suc n) size before bytes few fits small =
+    walk_step size before bytes (eqb (item_at bytes).code 0xDA) (first_fault (item_tests before (size - length bytes) bytes)) fits small refl refl
+    (λ i shorter. some_walk n size (before ++ i ∷ []) (after_item bytes) (omega (arith, few, shorter)) (rest_bytes bytes fits) (omega (arith, shorter, small)))
+
+-- ---- the whole file
+
+starts_so : (file rest : List ℕ) → length file ≤ limit → file ≡ start ++ rest → first_fault (start_tests file) ≡ None
+starts_so file rest small e =
+    let short : nat_lt limit (length file) ≡ false = le-ltb limit (length file) small in
+    let begins : (byte 0 file == 0xFF && byte 1 file == 0xD8) ≡ true = rw e refl in
+    rw (short, begins) refl
+
+two_tests : (a b : Bool) → first_fault ((TooLong when a) ∷ (NotJpeg when not b) ∷ []) ≡ None → (a ≡ false) × (b ≡ true)
+two_tests true b h = absurd cc
+two_tests false false h = absurd cc
+two_tests false true h = (refl, refl)
+
+begins_so : (file : List ℕ) → (byte 0 file == 0xFF && byte 1 file == 0xD8) ≡ true → file ≡ start ++ drop 2 file
+begins_so [] h = absurd cc
+begins_so (a ∷ []) h = absurd (let k = (and_parts (a == 0xFF) (byte 1 (a ∷ []) == 0xD8) h).1 in cc)
+begins_so (a ∷ b ∷ rest) h =
+    let both = and_parts (a == 0xFF) (b == 0xD8) h in
+    let first : a ≡ 0xFF = eqb-true a 0xFF both.0 in
+    let second : b ≡ 0xD8 = eqb-true b 0xD8 both.1 in
+    rw (first, second) refl
+
+-- heads and faults are walks from behind SOI
+head_walk : (file : List ℕ) (h : HeadValue) → HeadOf file h → Walk (length file) [] (drop 2 file) (Ok h)
+head_walk file h k = record {
+  items = k.items;
+  rest = spelled k.scan ++ k.rest;
+  is = ap (drop 2) k.is;
+  chain = k.chain;
+  comes = record { scan = k.scan; rest = k.rest; is = refl; is_scan = k.is_scan; passes = k.passes; defines = k.defines; scan_at = k.scan_at };
+}
+
+fault_walk : (file : List ℕ) (f : Refusal) → EndsWith file f → Walk (length file) [] (drop 2 file) (Err f)
+fault_walk file f k = record { items = k.items; rest = k.rest; is = ap (drop 2) k.is; chain = k.chain; comes = k.fails }
+
+walk_head : (file : List ℕ) (h : HeadValue) → length file ≤ limit → file ≡ start ++ drop 2 file → Walk (length file) [] (drop 2 file) (Ok h) → HeadOf file h
+walk_head file h small e w = record {
+  items = w.items;
+  scan = w.comes.scan;
+  rest = w.comes.rest;
+  small = small;
+  is = e ∙ ap (λ (t : List ℕ). start ++ t) (w.is ∙ ap (λ (t : List ℕ). flat_map spelled w.items ++ t) w.comes.is);
+  chain = w.chain;
+  is_scan = w.comes.is_scan;
+  passes = w.comes.passes;
+  defines = w.comes.defines;
+  scan_at = w.comes.scan_at;
+}
+
+walk_fault : (file : List ℕ) (f : Refusal) → first_fault (start_tests file) ≡ None → file ≡ start ++ drop 2 file → Walk (length file) [] (drop 2 file) (Err f) → EndsWith file f
+walk_fault file f starts e w = record { items = w.items; rest = w.rest; starts = starts; is = e ∙ ap (λ (t : List ℕ). start ++ t) w.is; chain = w.chain; fails = w.comes }
+
+abbrev OneOf : List ℕ → Type 0
+OneOf file = HasOneHead file ⊎ HasOneFault file
+
+same_ok : (x y : HeadValue) → (let r : Result HeadValue Refusal = Ok x in r) ≡ Ok y → x ≡ y
+same_ok x y e = cc
+
+same_err : (x y : Refusal) → (let r : Result HeadValue Refusal = Err x in r) ≡ Err y → x ≡ y
+same_err x y e = cc
+
+ok_err : (x : HeadValue) (y : Refusal) → (let r : Result HeadValue Refusal = Ok x in r) ≡ Err y → ⊥
+ok_err x y e = absurd cc
+
+only_start : (file : List ℕ) (f other : Refusal) → first_fault (start_tests file) ≡ Some f → RefusalOf file other → other ≡ f
+only_start file f other e (inl g) = same_some other f (sym g ∙ e)
+only_start file f other e (inr k) = absurd (none_some (first_fault (start_tests file)) f k.starts e)
+
+only_walk : (file : List ℕ) (f other : Refusal) → first_fault (start_tests file) ≡ None → Walk (length file) [] (drop 2 file) (Err f) → RefusalOf file other → other ≡ f
+only_walk file f other starts w (inl g) = absurd (none_some (first_fault (start_tests file)) other starts g)
+only_walk file f other starts w (inr k) = same_err other f (one_walk (length file) [] (drop 2 file) (Err other) (Err f) (fault_walk file other k) w)
+
+no_fault_beside : (file : List ℕ) (f : Refusal) (h : HeadValue) → first_fault (start_tests file) ≡ None → Walk (length file) [] (drop 2 file) (Ok h) → RefusalOf file f → ⊥
+no_fault_beside file f h starts w (inl g) = none_some (first_fault (start_tests file)) f starts g
+no_fault_beside file f h starts w (inr k) = ok_err h f (one_walk (length file) [] (drop 2 file) (Ok h) (Err f) w (fault_walk file f k))
+
+-- the file does not begin as it must
+at_start : (file : List ℕ) (f : Refusal) → first_fault (start_tests file) ≡ Some f → OneOf file
+at_start file f e = inr record {
+  fault = f;
+  is_fault = inl e;
+  only = λ other g. only_start file f other e g;
+  no_head = λ h k. none_some (first_fault (start_tests file)) f (starts_so file (flat_map spelled k.items ++ (spelled k.scan ++ k.rest)) k.small k.is) e;
+}
+
+by_walk : (file : List ℕ) (r : Result HeadValue Refusal) → first_fault (start_tests file) ≡ None → length file ≤ limit → file ≡ start ++ drop 2 file → Walk (length file) [] (drop 2 file) r → OneOf file
+by_walk file (Ok h) starts small e w = inl record {
+  head = h;
+  is_head = walk_head file h small e w;
+  only = λ other k. same_ok other h (one_walk (length file) [] (drop 2 file) (Ok other) (Ok h) (head_walk file other k) w);
+  no_fault = λ f k. no_fault_beside file f h starts w k;
+}
+by_walk file (Err f) starts small e w = inr record {
+  fault = f;
+  is_fault = inr (walk_fault file f starts e w);
+  only = λ other k. only_walk file f other starts w k;
+  no_head = λ h k. ok_err h f (one_walk (length file) [] (drop 2 file) (Ok h) (Err f) (head_walk file h k) w);
+}
+
+after_start : (file : List ℕ) → IsBytes file → first_fault (start_tests file) ≡ None → OneOf file
+after_start file fits starts =
+    let t = two_tests (nat_lt limit (length file)) (byte 0 file == 0xFF && byte 1 file == 0xD8) starts in
+    let small : length file ≤ limit = ltb-false limit (length file) t.0 in
+    let e : file ≡ start ++ drop 2 file = begins_so file t.1 in
+    let short : length (drop 2 file) ≤ length file = omega (arith, length-drop 2 file) in
+    let w = some_walk (suc (length (drop 2 file))) (length file) [] (drop 2 file) (omega arith) (IsBytes-drop 2 file fits) short in
+    by_walk file w.0 starts small e w.1
+
+by_start : (file : List ℕ) (o : Option Refusal) → IsBytes file → first_fault (start_tests file) ≡ o → OneOf file
+by_start file (Some f) fits e = at_start file f e
+by_start file None fits e = after_start file fits e
+
+byte_at : (file : List ℕ) (i : ℕ) → All (λ b. b < 256) file → (i < length file) ⊎ (length file ≤ i) → get_or file i 0 < 256
+byte_at file i a (inl lt) = a i 0 lt
+byte_at file i a (inr le) = rw (get_or_past file i 0 le) (omega arith)
+
+by_bytes : (file : List ℕ) → IsBytes file → HasOneHead file ⊎ HasOneFault file
+by_bytes file fits = by_start file (first_fault (start_tests file)) fits refl
+
+pub one_head_or_one_fault : (file : List ℕ) → All (λ b. b < 256) file → HasOneHead file ⊎ HasOneFault file
+one_head_or_one_fault file a = by_bytes file (λ i. byte_at file i a (cases_lt i (length file)))
