@@ -26,6 +26,7 @@ use Rattle.jr_head.specs.Quantisers.{Quantisation, quantiser_for}
 use Rattle.jr_head.specs.Scans.{all_quantisations, all_codings, frame_item, used, is_missing, has_wide, header_tests, table_tests, scan_tests}
 use Rattle.jr_head.specs.Tests.{◌when◌, first_fault}
 use Rattle.jr_head.proofs.ItemLaws.{IsBytes, IsBytes-drop, framed_is}
+use Rattle.jr_head.proofs.NumberLaws.{fault_number}
 use Rattle.jr_head.proofs.ReadLaws.{rest_bytes}
 use Rattle.jr_head.proofs.StepLaws.{next_is}
 use Rattle.jr_head.proofs.TestLaws.{passes_parts, passes_first}
@@ -333,6 +334,7 @@ at_start : (file : List ℕ) (f : Refusal) → first_fault (start_tests file) �
 at_start file f e = inr record {
   fault = f;
   is_fault = inl e;
+  number = fault_number file f (inl e);
   only = λ other g. only_start file f other e g;
   no_head = λ h k. none_some (first_fault (start_tests file)) f (starts_so file (flat_map spelled k.items ++ (spelled k.scan ++ k.rest)) k.small k.is) e;
 }
@@ -347,6 +349,7 @@ by_walk file (Ok h) starts small e w = inl record {
 by_walk file (Err f) starts small e w = inr record {
   fault = f;
   is_fault = inr (walk_fault file f starts e w);
+  number = fault_number file f (inr (walk_fault file f starts e w));
   only = λ other k. only_walk file f other starts w k;
   no_head = λ h k. ok_err h f (one_walk (length file) [] (drop 2 file) (Ok h) (Err f) (head_walk file h k) w);
 }
