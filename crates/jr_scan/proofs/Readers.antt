@@ -121,7 +121,7 @@ whole_below mcu mcus per place lt room =
     let e : suc mcu * per ≡ mcu * per + per = omega arith in
     omega (arith, more, e)
 
-below_whole : (mcu mcus per place : ℕ) → place < per → mcu * per + place ≤ mcus * per → mcu ≤ mcus
+pub below_whole : (mcu mcus per place : ℕ) → place < per → mcu * per + place ≤ mcus * per → mcu ≤ mcus
 below_whole mcu mcus per place lt few = elim (cases_lt mcus mcu) [
   | inl l ↦ let more : suc mcus * per ≤ mcu * per = mul-le-mul_right per l in let e : suc mcus * per ≡ mcus * per + per = omega arith in absurd (omega (arith, more, e, few, lt))
   | inr g ↦ g
