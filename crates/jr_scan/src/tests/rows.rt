@@ -321,10 +321,13 @@ fn reads_from_a_place(rt: HostRuntime) -> Result<(), Fail> {
     assert_eq!(rt; reader.next(&mut block), Some(0));
     assert_eq!(rt; (block[0], reader.left()), (4, 10));
     let place = reader.place().ok_or("between two MCUs")?;
-    assert_eq!(rt; (place.bit, place.predictions), (6, [4, 0, 0]));
+    let predictions = place.predictions;
+    assert_eq!(rt; place.bit, 6);
+    assert_eq!(rt; predictions[0], 4);
+    let predictions = [5, 0, 0];
     let other = Place {
         bit: 6,
-        predictions: [5, 0, 0],
+        predictions,
     };
     let mut reader = BlockReader::at(&interval, other, 1);
     assert_eq!(rt; reader.next(&mut block), Some(0));
