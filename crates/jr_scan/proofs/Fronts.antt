@@ -1,5 +1,5 @@
 -- The front that is made of what a reader has read.
-use Rattle.std.proofs.Common.{◌≡◌, ℕ, ◌*◌, Bool, true, false, IsTrue, List, length, take, refl, sym, ap, subst, ◌∙◌, rules}
+use Rattle.std.proofs.Common.{◌≡◌, ℕ, ◌*◌, Bool, true, false, IsTrue, List, length, take, refl, sym, ap, subst, ◌∙◌}
 use Rattle.std.specs.Prelude.{ℤ}
 use Rattle.jr_head.specs.Geometry.{order_of}
 use Rattle.jr_scan.specs.IntervalValue.{IntervalValue}

@@ -1,11 +1,10 @@
 -- A block with its prediction, from a block as it is coded.
-use Rattle.std.proofs.Common.{◌≡◌, ℕ, ◌<◌, Bool, List, [], ◌∷◌, ◌++◌, length, get_or, set, refl, sym, ap, subst, ◌∙◌, arith}
+use Rattle.std.proofs.Common.{◌≡◌, Bool, List, ◌∷◌, get_or, set, sym, ap, subst, ◌∙◌, arith}
 use Rattle.std.specs.Prelude.{ℤ, pos, negsuc, ◌+ℤ◌, ◌≤ℤ◌}
 use Rattle.std.proofs.Common.{w32}
 use mir.Val.{SFits, to_z, of_z}
 use Rattle.std.proofs.lemmas.Int.{ints, to_z-of_z}
 use Rattle.jr_code.specs.Code.{Table}
-use Rattle.jr_scan.specs.Block.{CodedAt, BlockAt}
 use Rattle.jr_scan.specs.Step.{TakesCoded, HasNoCoded, TakesBlock, HasNoBlock}
 use Rattle.jr_scan.proofs.Words.{IsPrefixFree}
 use Rattle.jr_scan.proofs.Coded.{same_coded}

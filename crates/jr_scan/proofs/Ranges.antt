@@ -1,6 +1,6 @@
 -- The coefficients of a block are in range.
-use Rattle.std.proofs.Common.{◌≡◌, ℕ, zero, suc, ◌+◌, ◌-◌, ◌*◌, ◌<◌, ◌≤◌, ◌^◌, Bool, List, [], ◌∷◌, ◌++◌, length, get_or, replicate, refl, sym, ap, subst, ◌∙◌, inl, inr, length-append, arith}
-use Rattle.std.specs.Prelude.{ℤ, pos, negsuc, ◌+ℤ◌, ◌-ℤ◌, ◌≤ℤ◌}
+use Rattle.std.proofs.Common.{◌≡◌, ℕ, zero, suc, ◌+◌, ◌-◌, ◌*◌, ◌<◌, ◌≤◌, ◌^◌, Bool, List, [], ◌∷◌, ◌++◌, length, get_or, replicate, sym, ap, subst, inl, inr, length-append, arith}
+use Rattle.std.specs.Prelude.{ℤ, pos, negsuc, ◌+ℤ◌, ◌≤ℤ◌}
 use Rattle.std.specs.List.{flat_map, AllByRecursion}
 use Rattle.std.proofs.Math.ListN.{length-replicate}
 use Rattle.std.proofs.Math.Pow.{pow_mono}
@@ -9,7 +9,7 @@ use Rattle.std.proofs.lemmas.Bool.{cases_lt}
 use Rattle.jr_code.specs.Bits.{number, extended, value}
 use Rattle.jr_code.specs.Code.{Table}
 use Rattle.jr_code.proofs.BitLemmas.{number_below}
-use Rattle.jr_scan.specs.Block.{Item, IsItem, item_bits, entries, IsEnd, DifferenceAt, OthersAt, CodedAt, BlockAt, IsInRange}
+use Rattle.jr_scan.specs.Block.{Item, IsItem, entries, DifferenceAt, OthersAt, CodedAt, BlockAt, IsInRange}
 use Rattle.jr_scan.specs.Block.Item.{Sixteen, Coef}
 use Rattle.jr_scan.specs.Step.{TakesCoded}
 use Rattle.jr_scan.proofs.Values.{extended_high, extended_low}

@@ -1,7 +1,7 @@
 -- A reader goes on by one block, and what its end says of the interval.
-use Rattle.std.proofs.Common.{◌≡◌, ◌≢◌, ℕ, zero, suc, ◌+◌, ◌-◌, ◌*◌, ◌%◌, ◌<◌, ◌≤◌, Bool, true, false, cond, eqb, List, [], ◌∷◌, ◌++◌, length, get_or, take, drop, set, replicate, refl, sym, ap, subst, ◌∙◌, inl, inr, ◌⊎◌, length-append, arith}
+use Rattle.std.proofs.Common.{◌≡◌, ◌≢◌, ℕ, suc, ◌+◌, ◌*◌, ◌<◌, ◌≤◌, Bool, true, false, cond, List, [], ◌∷◌, ◌++◌, length, get_or, take, drop, set, refl, sym, ap, subst, ◌∙◌, inl, inr, length-append, arith}
 use Rattle.std.specs.Prelude.{ℤ, pos, negsuc, ◌≤ℤ◌}
-use Rattle.std.proofs.lemmas.List.{get_or-replicate, get_or-set_same, get_or-set_other, get_or_append_left, length-set, length-take-le, take_all}
+use Rattle.std.proofs.lemmas.List.{get_or-set_same, get_or-set_other, get_or_append_left, length-take-le}
 use Rattle.std.proofs.lemmas.Bool.{cases_lt, cases_eq}
 use Rattle.std.proofs.lemmas.Bool.Decides.{eqb_tells}
 use Rattle.std.proofs.lemmas.Nat.{mod-mul-add}
@@ -13,10 +13,9 @@ use Rattle.jr_head.specs.Geometry.{component_count, order_of, dc_of, ac_of}
 use Rattle.jr_head.specs.declared.mark.Kind.{Kind}
 use Rattle.jr_head.specs.declared.mark.Kind.TheVariants.{Grey, Rgb, Ycc}
 use Rattle.jr_scan.specs.IntervalValue.{IntervalValue}
-use Rattle.jr_scan.specs.Block.{BlockAt}
 use Rattle.jr_scan.specs.Step.{TakesBlock, HasNoBlock}
-use Rattle.jr_scan.specs.Units.{component, block_of, prediction, Blocks, no_predictions, Decodes, Front, LongestFront}
-use Rattle.jr_scan.specs.Reader.{RunOf, ReaderValue, whole_run, per_mcu, blocks_read, HasEnded, Reads, HasNoNext, HasRead, IsKept}
+use Rattle.jr_scan.specs.Units.{component, block_of, prediction, no_predictions, Decodes, Front, LongestFront}
+use Rattle.jr_scan.specs.Reader.{RunOf, ReaderValue, whole_run, per_mcu, HasEnded, Reads, HasNoNext, HasRead, IsKept}
 use Rattle.jr_scan.proofs.Words.{OneWord}
 use Rattle.jr_scan.proofs.UnitsLaws.{prediction_same, reads_none, reads_more, reads_stuck, reads_all, blocks_front}
 
@@ -121,7 +120,7 @@ whole_below mcu mcus per place lt room =
     let e : suc mcu * per ≡ mcu * per + per = omega arith in
     omega (arith, more, e)
 
-below_whole : (mcu mcus per place : ℕ) → place < per → mcu * per + place ≤ mcus * per → mcu ≤ mcus
+pub below_whole : (mcu mcus per place : ℕ) → place < per → mcu * per + place ≤ mcus * per → mcu ≤ mcus
 below_whole mcu mcus per place lt few = elim (cases_lt mcus mcu) [
   | inl l ↦ let more : suc mcus * per ≤ mcu * per = mul-le-mul_right per l in let e : suc mcus * per ≡ mcus * per + per = omega arith in absurd (omega (arith, more, e, few, lt))
   | inr g ↦ g

@@ -1,5 +1,5 @@
 -- Runs of MCUs: each start has one, and two that meet are one.
-use Rattle.std.proofs.Common.{◌≡◌, ◌≢◌, ℕ, zero, suc, ◌+◌, ◌-◌, ◌*◌, ◌/◌, ◌%◌, ◌<◌, ◌≤◌, Bool, true, false, cond, eqb, List, [], ◌∷◌, ◌++◌, length, get_or, take, drop, replicate, length-drop, refl, sym, ap, subst, ◌∙◌, inl, inr, ◌⊎◌, append_assoc, length-append, arith}
+use Rattle.std.proofs.Common.{◌≡◌, ℕ, zero, suc, ◌+◌, ◌-◌, ◌*◌, ◌/◌, ◌%◌, ◌<◌, ◌≤◌, Bool, true, false, cond, eqb, List, [], ◌∷◌, ◌++◌, length, get_or, take, drop, replicate, length-drop, refl, sym, ap, subst, ◌∙◌, inl, inr, append_assoc, length-append, arith}
 use Rattle.std.specs.Prelude.{ℤ, pos}
 use Rattle.std.proofs.lemmas.List.{get_or_append_left, get_or-append_right, drop-drop, drop_all, get_or-drop, get_or-replicate, length-take-le, take-append-drop}
 use Rattle.std.proofs.Math.ListN.{length-replicate}
@@ -20,10 +20,11 @@ use Rattle.jr_scan.specs.declared.place.RunEnd.TheVariants.{AllRead, NoMcu}
 use Rattle.jr_scan.specs.Block.{BlockAt}
 use Rattle.jr_scan.specs.IntervalValue.{IntervalValue}
 use Rattle.jr_scan.specs.Units.{component, block_of, prediction, IsBlock, joined, Blocks, Units, no_predictions, Decodes}
-use Rattle.jr_scan.specs.Reader.{RunOf, ReaderValue, whole_run, per_mcu, HasRead, IsKept}
+use Rattle.jr_scan.specs.Reader.{RunOf, ReaderValue, whole_run, per_mcu, HasRead, HasEnded, IsKept}
 use Rattle.jr_scan.specs.Run.{left_at, predicted, HasNoMcu, EndsAs, IsRun}
 use Rattle.jr_scan.proofs.Words.{OneWord}
-use Rattle.jr_scan.proofs.UnitsLaws.{prediction_same, is_block_same, one_blocks, blocks_front, blocks_before}
+use Rattle.jr_scan.proofs.UnitsLaws.{prediction_same, is_block_same, one_blocks, blocks_front, blocks_before, reads_stuck}
+use Rattle.jr_scan.proofs.Readers.{below_whole}
 
 -- behind whole MCUs the components come as from the start on
 component_on : (h : HeadValue) (k n : ℕ) → component h (k * length (order_of h) + n) ≡ component h n
@@ -282,3 +283,56 @@ drop_bytes (suc n) (b ∷ bs) =
 pub bits_on : (bytes : List ℕ) (bit : ℕ) → drop (bit % 8) (bits (drop (bit / 8) bytes)) ≡ drop bit (bits bytes)
 bits_on bytes bit =
     ap (drop (bit % 8)) (drop_bytes (bit / 8) bytes) ∙ drop-drop (bit % 8) (8 * (bit / 8)) (bits bytes) ∙ ap (λ (k : ℕ). drop k (bits bytes)) (omega arith)
+
+-- what a reader has read when it ends has the whole MCUs of its run in front
+pub read_run : OneWord → (r : ReaderValue) (zs : List (List ℤ)) → IsKept r → ((n : ℕ) → component r.run.interval.head n < 3) → HasRead r zs → HasEnded r → (to : Place) × (end : RunEnd) × IsRun r.run (take (r.mcu * per_mcu r) zs) to end
+read_run one r zs kept three s ended = (to, (why ended).0, (why ended).1)
+  where
+    h : HeadValue
+    h = r.run.interval.head
+
+    start : List ℤ
+    start = r.run.from.predictions
+
+    m : ℕ
+    m = r.mcu * per_mcu r
+
+    all : List Bool
+    all = left_at r.run.interval r.run.from
+
+    room : m ≤ length zs
+    room = omega (arith, s.count)
+
+    front : (v y : List Bool) × Blocks h start (take m zs) v × (all ≡ v ++ y)
+    front = blocks_front h start zs all s.reads.taken s.left m s.reads.blocks s.reads.split room
+
+    to : Place
+    to = record { bit = r.run.from.bit + length front.0; predictions = predicted h start (take m zs) }
+
+    behind : left_at r.run.interval to ≡ front.1
+    behind = sym (drop-drop (length front.0) r.run.from.bit (bits r.run.interval.bytes)) ∙ ap (drop (length front.0)) front.3 ∙ drop-append_seam front.0 front.1
+
+    count : length (take m zs) ≡ m
+    count = length-take-le m zs room
+
+    made : (end : RunEnd) → EndsAs r.run r.mcu to end → IsRun r.run (take m zs) to end
+    made end e = record {
+      count = r.mcu;
+      few = below_whole r.mcu r.run.mcus (per_mcu r) r.place kept.within kept.few;
+      taken = front.0;
+      units = (count, front.2);
+      spelled = front.3 ∙ ap (λ (w : List Bool). front.0 ++ w) (sym behind);
+      bit = refl;
+      predictions = refl;
+      ends = e;
+    }
+
+    none : r.stuck ≡ true → HasNoMcu r.run.interval to
+    none stuck ys w rest u e =
+        let both = blocks_join h start r.mcu (take m zs) ys front.0 w three count front.2 u.1 in
+        let cut : all ≡ (front.0 ++ w) ++ rest = front.3 ∙ ap (λ (x : List Bool). front.0 ++ x) (sym behind ∙ e) ∙ sym (append_assoc front.0 w rest) in
+        reads_stuck h start all s.left zs one s.reads (s.stuck stuck) (take m zs ++ ys) (front.0 ++ w) rest both cut (omega (arith, length-append (take m zs) ys, count, u.0, s.count, kept.within))
+
+    why : HasEnded r → (end : RunEnd) × IsRun r.run (take m zs) to end
+    why (inr full) = (AllRead, made AllRead full)
+    why (inl stuck) = (NoMcu, made NoMcu (kept.missing stuck, none stuck))

@@ -2,13 +2,11 @@
 use Rattle.std.proofs.Common.{◌≡◌, ◌≢◌, ℕ, ◌+◌, ◌*◌, ◌/◌, ◌%◌, ◌<◌, ◌≤◌, Bool, List, [], ◌∷◌, ◌++◌, length, replicate, refl, sym, ap, subst, ◌∙◌, append_assoc, length-append, arith}
 use Rattle.std.specs.Prelude.{ℤ, pos}
 use Rattle.std.proofs.lemmas.List.{append_cancel_left}
-use Rattle.jr_code.specs.Bits.{value}
 use Rattle.jr_code.specs.Code.{Table, IsWord}
 use Rattle.jr_scan.specs.Block.{Item, IsItem, item_bits, DifferenceAt}
 use Rattle.jr_scan.specs.Block.Item.{Sixteen, Coef}
 use Rattle.jr_scan.specs.Step.{TakesExtra, TakesItem, TakesEnd, TakesDifference, HasNoDifference, HasNoStep}
 use Rattle.jr_scan.proofs.Words.{IsPrefixFree, TakesWord}
-use Rattle.jr_scan.proofs.Items.{split_same}
 
 pub takes_difference : (dc : Table) (size : ℕ) (d : ℤ) (old mid new : List Bool) → TakesWord dc old mid size → size ≤ 11 → TakesExtra size d mid new → TakesDifference dc d old new
 takes_difference dc size d old mid new w small x = record {

@@ -1,5 +1,5 @@
 -- At most one list of blocks for the bits; one more block.
-use Rattle.std.proofs.Common.{◌≡◌, ◌≢◌, ℕ, zero, suc, ◌+◌, ◌*◌, ◌<◌, ◌≤◌, Bool, cond, eqb, List, [], ◌∷◌, ◌++◌, length, get_or, take, drop, refl, sym, ap, subst, ◌∙◌, inl, inr, append_assoc, length-append, arith}
+use Rattle.std.proofs.Common.{◌≡◌, ℕ, zero, suc, ◌*◌, ◌<◌, ◌≤◌, Bool, cond, eqb, List, [], ◌∷◌, ◌++◌, length, get_or, take, drop, refl, sym, ap, subst, ◌∙◌, inl, inr, append_assoc, length-append, arith}
 use Rattle.std.specs.Prelude.{ℤ, pos}
 use Rattle.std.proofs.lemmas.List.{append_cancel_left, append-nil, drop_all, get_or_append_left, take-append-drop, length-take-le, get_or-take, take_all}
 use Rattle.std.proofs.lemmas.Bool.{cases_lt}
@@ -12,7 +12,7 @@ use Rattle.jr_head.specs.HeadValue.{HeadValue}
 use Rattle.jr_head.specs.Geometry.{order_of, dc_of, ac_of}
 use Rattle.jr_scan.specs.Block.{BlockAt}
 use Rattle.jr_scan.specs.IntervalValue.{IntervalValue}
-use Rattle.jr_scan.specs.Step.{TakesBlock, HasNoBlock}
+use Rattle.jr_scan.specs.Step.{TakesBlock}
 use Rattle.jr_scan.specs.Units.{component, block_of, prediction, IsBlock, joined, Blocks, no_predictions, Decodes, Front, LongestFront}
 use Rattle.jr_scan.specs.Reader.{Reads, HasNoNext}
 use Rattle.jr_scan.proofs.Words.{OneWord}

@@ -1,10 +1,9 @@
 -- Data bytes are unstuffed run by run.
 use Rattle.std.proofs.Common.{◌≡◌, ◌≢◌, ℕ, zero, suc, ◌+◌, ◌-◌, ◌<◌, ◌≤◌, List, [], ◌∷◌, ◌++◌, length, map, take, drop, get_or, replicate, refl, sym, ap, subst, ◌∙◌, append_assoc, length-append, length-drop, add-one, arith}
-use Rattle.std.specs.List.{flat_map, AllByRecursion, All, slice_range}
-use Rattle.std.proofs.lemmas.List.{append-nil, take_more, take-append-le, drop-append-le, get_or-drop, length-take-le, take_all, map_push, take-append-drop}
+use Rattle.std.specs.List.{flat_map, All}
+use Rattle.std.proofs.lemmas.List.{append-nil, take_more, take-append-le, drop-append-le, get_or-drop, length-take-le, take_all, map_push}
 use Rattle.std.proofs.Math.Seq.{drop-append_seam}
-use Rattle.std.proofs.lemmas.Bool.{cases_lt}
-use Rattle.jr_scan.specs.Cut.{Spelling, IsSpelling, spelling, byte_of, IsRaw, IsStop}
+use Rattle.jr_scan.specs.Cut.{Spelling, spelling, byte_of, IsRaw, IsStop}
 use Rattle.jr_scan.specs.Cut.Spelling.{Plain, Stuffed}
 use Rattle.jr_scan.specs.declared.span.Span.{Span}
 use Rattle.jr_scan.specs.Spans.{piece_of, IsWithin, Unstuffs}

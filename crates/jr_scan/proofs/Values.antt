@@ -1,10 +1,8 @@
 -- What extra bits stand for.
-use Rattle.std.proofs.Common.{◌≡◌, ℕ, zero, suc, ◌+◌, ◌-◌, ◌*◌, ◌<◌, ◌≤◌, ◌^◌, Bool, true, false, cond, List, ◌++◌, length, take, drop, refl, sym, ap, subst, ◌∙◌, arith}
-use Rattle.std.specs.Prelude.{ℤ, pos, negsuc, ◌+ℤ◌, ◌-ℤ◌, ◌≤ℤ◌, nat_le}
-use Rattle.std.proofs.lemmas.Int.{ints}
+use Rattle.std.proofs.Common.{◌≡◌, ℕ, zero, suc, ◌-◌, ◌*◌, ◌<◌, ◌≤◌, ◌^◌, Bool, true, false, cond, List, ◌++◌, length, take, drop, refl, sym, ap, subst, ◌∙◌, arith}
+use Rattle.std.specs.Prelude.{ℤ, pos, ◌+ℤ◌, ◌-ℤ◌, nat_le}
 use Rattle.std.proofs.lemmas.List.{take-append-drop, length-take-le}
-use Rattle.jr_code.specs.Bits.{number, extended, value}
-use Rattle.jr_code.proofs.BitLemmas.{number_below}
+use Rattle.jr_code.specs.Bits.{extended, value}
 use Rattle.jr_scan.specs.Step.{TakesExtra}
 
 pub extended_high : (size v : ℕ) → (size ≡ 0 → ⊥) → 2 ^ (size - 1) ≤ v → extended size v ≡ pos v

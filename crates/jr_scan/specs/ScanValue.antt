@@ -1,5 +1,5 @@
 -- A scan and its restart intervals (T.81, E.1.4 and E.2.4).
-use Rattle.std.specs.Prelude.{◌≡◌, ℕ, zero, suc, ◌-◌, ◌*◌, ◌==◌, ◌<◌, Bool, ◌&&◌, List, [], ◌++◌, length, replicate, drop, min, if◌then◌else◌, slice_index_or}
+use Rattle.std.specs.Prelude.{◌≡◌, ℕ, ◌-◌, ◌*◌, ◌==◌, ◌<◌, List, [], ◌++◌, length, replicate, drop, min, if◌then◌else◌, slice_index_or}
 use Rattle.std.specs.Int.{div_ceil}
 use Rattle.jr_head.specs.HeadValue.{HeadValue}
 use Rattle.jr_head.specs.Geometry.{mcus_of}

@@ -1,6 +1,5 @@
 -- Where the data of each piece stand in all unstuffed bytes of a scan.
-use Rattle.std.specs.Prelude.{◌≡◌, ℕ, ◌≤◌, List, ◌++◌, length, map, slice_range}
-use Rattle.std.specs.List.{All}
+use Rattle.std.specs.Prelude.{◌≡◌, ℕ, ◌≤◌, List, ◌++◌, length, slice_range}
 use Rattle.jr_scan.specs.declared.span.Span.{Span}
 use Rattle.jr_scan.specs.Cut.{IsRaw}
 

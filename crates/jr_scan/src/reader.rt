@@ -94,6 +94,8 @@ impl<'a> BlockReader<'a> {
     ghost use Rattle.jr_scan.specs.Units.{component, Decodes, LongestFront};
     ghost use Rattle.jr_scan.specs.IntervalValue.{IntervalValue};
     ghost use Rattle.std.specs.Prelude.{◌⊎◌};
+    ghost use Rattle.jr_scan.specs.declared.place.Place.{Place};
+    ghost use Rattle.jr_scan.specs.declared.place.RunEnd.{RunEnd};
     ghost use Rattle.jr_scan.specs.declared.place.RunEnd.TheVariants.{AllRead};
     ghost use Rattle.jr_scan.specs.Run.{IsRun};
     ghost use Rattle.jr_scan.specs.Reader.{HasRead, HasEnded, whole_run, blocks_left, blocks_read, per_mcu};
@@ -164,14 +166,20 @@ impl<'a> BlockReader<'a> {
     pub fn mcus(&self) -> u32
         ensures value { result ≡ self.now.mcu }
         ensures front { (i : IntervalValue) (zs : List (List ℤ)) → self.now.run ≡ whole_run i → HasRead self.now zs → HasEnded self.now → LongestFront i result (take (result * per_mcu self.now) zs) }
+        // Their blocks are those of the reader's run, which ends somewhere for some reason.
+        ensures run { (zs : List (List ℤ)) → HasRead self.now zs → HasEnded self.now → (to : Place) × (end : RunEnd) × IsRun self.now.run (take (result * per_mcu self.now) zs) to end }
     {
         one_word();
+        self.interval.head().be_lawful();
         self.mcu
     }
 
     /// Where the next MCU starts. None inside an MCU, and where no block followed.
     pub fn place(&self) -> Option<Place>
         ensures some { IfSome result (λ p. (zs : List (List ℤ)) → HasRead self.now zs → IsRun (record { interval = self.now.run.interval; from = self.now.run.from; mcus = self.now.mcu }) zs p AllRead) }
+        ensures within { IfSome result (λ p. p.bit ≤ 8 * length self.now.run.interval.bytes) }
+        ensures low { IfSome result (λ p. All (λ q. negsuc 32767 ≤ℤ q) p.predictions) }
+        ensures high { IfSome result (λ p. All (λ q. q ≤ℤ pos 32767) p.predictions) }
         ensures none { IfNone result ((self.now.stuck ≡ true) ⊎ (0 < self.now.place)) }
     {
         if self.is_stuck || self.place > 0 {

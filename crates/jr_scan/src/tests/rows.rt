@@ -1,7 +1,7 @@
 //! Scans worked out by hand.
 
 use super::{Picture, THREE, scan_of};
-use crate::{Block, ScanEnd};
+use crate::{Block, BlockReader, Place, ScanEnd};
 use std::alloc::Global;
 use std::process::Abort;
 use std::test::Fail;
@@ -293,5 +293,46 @@ fn reads_other_coefficients(rt: HostRuntime) -> Result<(), Fail> {
         block_of(a, &[0x00, 0x0B], &[0x65, 0xFF, 0x00, 0xBF])?,
         None
     );
+    Ok(())
+}
+
+#[test]
+fn reads_from_a_place(rt: HostRuntime) -> Result<(), Fail> {
+    let a = rt.alloc();
+    let two = Picture { width: 16, ..GREY };
+    let scan = scan_of(a, &two, &[0x61, 0x8F])?;
+    assert_eq!(rt; scan.head().width(), 16);
+    assert_eq!(rt; scan.intervals(), 1);
+    let interval = scan.interval(0)?;
+    assert_eq!(rt; interval.head().components(), 1);
+    assert_eq!(rt; (interval.number(), interval.mcus()), (0, 2));
+    assert_eq!(rt;
+        (
+            scan.is_same(&scan),
+            scan.has(&interval),
+            interval.is_same(&interval)
+        ),
+        (true, true, true)
+    );
+    let bytes = interval.bytes();
+    assert_eq!(rt; bytes.len(), 2);
+    let mut block = [0; 64];
+    let mut reader = BlockReader::over(&interval);
+    assert_eq!(rt; reader.next(&mut block), Some(0));
+    assert_eq!(rt; (block[0], reader.left()), (4, 10));
+    let place = reader.place().ok_or("between two MCUs")?;
+    let predictions = place.predictions;
+    assert_eq!(rt; place.bit, 6);
+    assert_eq!(rt; predictions[0], 4);
+    let predictions = [5, 0, 0];
+    let other = Place {
+        bit: 6,
+        predictions,
+    };
+    let mut reader = BlockReader::at(&interval, other, 1);
+    assert_eq!(rt; reader.next(&mut block), Some(0));
+    assert_eq!(rt; block[0], 9);
+    assert_eq!(rt; reader.next(&mut block), None);
+    assert_eq!(rt; reader.mcus(), 1);
     Ok(())
 }

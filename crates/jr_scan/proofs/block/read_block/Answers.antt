@@ -1,5 +1,5 @@
 use Rattle.std.proofs.Common.{◌≡◌, ◌∷◌, Bool, List, ℤ, rules, subst, w32}
-use mir.Val.{SFits, to_z, of_z}
+use mir.Val.{SFits}
 use Rattle.std.proofs.lemmas.Int.{to_z-of_z}
 use Rattle.jr_scan.specs.Step.{TakesOthers, TakesDifference, HasNoDifference}
 use Rattle.jr_scan.proofs.Coded.{no_coded_first, no_coded_others, takes_coded}

@@ -1,5 +1,4 @@
-use Rattle.std.proofs.Common.{◌≡◌, ℕ, arith, subst, sym, ap, ◌∙◌}
-use Rattle.std.specs.Prelude.{IfSome, IfNone}
+use Rattle.std.proofs.Common.{subst, sym}
 use Rattle.jr_scan.proofs.Words.{TakesWord}
 use Rattle.jr_scan.proofs.Options.{none_so, some_so}
 use Rattle.jr_scan.proofs.Steps.{takes_difference, no_difference_far, no_difference_short, no_difference_word}

@@ -1,8 +1,8 @@
-use Rattle.std.proofs.Common.{◌≡◌, List, ℤ, ◌/◌, ◌∷◌, ◌++◌, [], replicate, pos, rules, arith, subst, sym, w32}
-use mir.Val.{SFits, to_z, of_z}
-use Rattle.std.proofs.lemmas.Int.{ints, to_z-of_z}
+use Rattle.std.proofs.Common.{ℤ, ◌/◌, ◌∷◌, ◌++◌, [], replicate, pos, rules, arith, subst, sym, w32}
+use mir.Val.{SFits}
+use Rattle.std.proofs.lemmas.Int.{to_z-of_z}
 use Rattle.jr_scan.specs.Step.{TakesItem}
-use Rattle.jr_scan.proofs.Steps.{takes_end, takes_zeros, takes_coef, no_step_word, no_step_short, no_step_size}
+use Rattle.jr_scan.proofs.Steps.{takes_zeros, takes_coef, no_step_word, no_step_short, no_step_size}
 use Rattle.jr_scan.proofs.block.read_step.Goals as goal
 use Rattle.jr_scan.proofs.block.read_step.Goals.{then-size-eq0-via-then-size-eq0, then-size-eq0-via-else-size-eq0+then-size-gt-MOST_EXTRA}
 

@@ -1,5 +1,4 @@
-use Rattle.std.proofs.Common.{◌≡◌, ℕ, ◌+◌, ◌-◌, ◌<◌, ◌≤◌, length, get_or, refl, subst, sym, ap, ◌∙◌, arith, rules}
-use Rattle.jr_scan.specs.declared.span.Span.{Span}
+use Rattle.std.proofs.Common.{◌+◌, length, refl, ap, arith}
 use Rattle.jr_scan.proofs.Cuts.{fill_full, fill_next, marker_read, has_marker, cut_returns, cut_more, all_fill}
 use Rattle.jr_scan.proofs.Unstuffing.{piece_made}
 use Rattle.jr_scan.proofs.cut.cut.Goals as goal

@@ -1,4 +1,4 @@
-use Rattle.std.proofs.Common.{◌≡◌, ◌-◌, ◌+◌, ◌*◌, ◌/◌, ◌%◌, ◌≤◌, Bool, List, length, drop, subst, sym, ap, ◌∙◌, length-drop, arith}
+use Rattle.std.proofs.Common.{◌/◌, ◌%◌, ◌≤◌, length, drop, ap, ◌∙◌, length-drop, arith}
 use Rattle.jr_code.specs.Bits.{bits}
 use Rattle.jr_code.proofs.BitLemmas.{length-bits}
 use Rattle.jr_scan.proofs.Cuts.{rest_is}

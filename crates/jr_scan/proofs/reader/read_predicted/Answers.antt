@@ -1,7 +1,5 @@
-use Rattle.std.proofs.Common.{◌≡◌, ℕ, ℤ, pos, negsuc, ◌≤ℤ◌, ◌+ℤ◌, get_or, set, arith, rules, subst, refl, sym, ap, ◌∙◌, w32}
-use mir.Val.{SFits, to_z, of_z}
-use Rattle.std.proofs.lemmas.Int.{ints, to_z-of_z}
-use Rattle.jr_scan.specs.Step.{TakesBlock, HasNoBlock}
+use Rattle.std.proofs.Common.{pos, get_or, arith, refl}
+use Rattle.std.proofs.lemmas.Int.{ints}
 use Rattle.jr_scan.proofs.Ranges.{coded_first}
 use Rattle.jr_scan.proofs.Predicted.{takes_block, no_block_coded, no_block_far, sum_fits, sum_is}
 use Rattle.jr_scan.proofs.reader.read_predicted.Goals as goal

@@ -1,4 +1,4 @@
-use Rattle.std.proofs.Common.{◌≡◌, ◌+◌, ◌-◌, ◌<◌, ◌≤◌, length, take, drop, get_or, refl, subst, sym, ap, ◌∙◌, length-drop, arith}
+use Rattle.std.proofs.Common.{◌+◌, ◌<◌, ◌≤◌, length, refl, ap, length-drop, arith}
 use Rattle.jr_scan.proofs.Cuts.{stop_end, stop_code, rest_is, fill_full, fill_next, fill_some}
 use Rattle.jr_scan.proofs.Unstuffing.{unstuffs_run, unstuffs_stuffed, plain_each, plain_next}
 use Rattle.jr_scan.proofs.unstuff.unstuff.Goals as goal

@@ -1,4 +1,4 @@
-use Rattle.std.proofs.Common.{◌≡◌, false, sym, rules}
+use Rattle.std.proofs.Common.{rules}
 use Rattle.jr_scan.proofs.UnitsLaws.{one_decoding}
 use Rattle.jr_scan.proofs.interval.Interval.read.Goals as goal
 

@@ -1,8 +1,7 @@
-use Rattle.std.proofs.Common.{◌≡◌, ℕ, ◌*◌, List, ℤ, true, false, Bool, IsTrue, length, take, refl, subst, sym, ap, ◌∙◌, rules}
-use Rattle.jr_head.specs.HeadValue.{HeadValue}
+use Rattle.std.proofs.Common.{ℕ, ◌*◌, List, length, take, subst, ap, ◌∙◌}
 use Rattle.jr_head.specs.Geometry.{order_of}
-use Rattle.jr_scan.specs.Units.{Decodes, LongestFront}
-use Rattle.jr_scan.specs.Reader.{HasRead, HasEnded, ReaderValue, RunOf, whole_run, per_mcu}
+use Rattle.jr_scan.specs.Units.{LongestFront}
+use Rattle.jr_scan.specs.Reader.{per_mcu}
 use Rattle.jr_scan.specs.FrontValue.{FrontValue}
 use Rattle.jr_scan.proofs.Fronts.{FrontMade, made_front, made_sound, made_only}
 use Rattle.jr_scan.proofs.interval.Interval.read_front.Goals as goal

@@ -1,5 +1,5 @@
-use Rattle.std.proofs.Common.{◌≡◌, ◌<◌, false, ltb, eqb, subst, sym, ap, ◌∙◌, length, arith, rules}
-use Rattle.jr_scan.specs.Reader.{IsKept, ReaderValue, RunOf}
+use Rattle.std.proofs.Common.{◌<◌, subst, sym, ap, ◌∙◌, length, arith, rules}
+use Rattle.jr_scan.specs.Reader.{IsKept, ReaderValue}
 use Rattle.jr_scan.proofs.Readers.{sound, damaged}
 use Rattle.jr_scan.proofs.reader.BlockReader.is_sound.Goals as goal
 

@@ -1,4 +1,4 @@
-use Rattle.std.proofs.Common.{◌≡◌, ℕ, ℤ, pos, negsuc, ◌+◌, ◌*◌, ◌<◌, ◌≤◌, ◌≤ℤ◌, ◌≢◌, Bool, true, false, List, [], ◌∷◌, ◌++◌, length, get_or, set, arith, rules, subst, refl, sym, ap, ◌∙◌, w32}
+use Rattle.std.proofs.Common.{◌≡◌, ℕ, ℤ, pos, negsuc, ◌+◌, ◌*◌, ◌<◌, ◌≤◌, ◌≤ℤ◌, ◌≢◌, Bool, List, [], ◌∷◌, ◌++◌, length, get_or, set, arith, rules, subst, sym, ap, ◌∙◌, w32}
 use mir.Val.{SFits, to_z, of_z}
 use Rattle.std.proofs.lemmas.Int.{to_z-of_z}
 use Rattle.std.proofs.lemmas.List.{length-set}
@@ -8,7 +8,7 @@ use Rattle.jr_head.specs.HeadValue.{HeadValue}
 use Rattle.jr_head.specs.Geometry.{components_of, component_count, order_of, dc_of, ac_of}
 use Rattle.jr_scan.specs.Step.{TakesBlock, HasNoBlock}
 use Rattle.jr_scan.specs.Units.{component}
-use Rattle.jr_scan.specs.Reader.{HasRead, IsKept, ReaderValue, blocks_read}
+use Rattle.jr_scan.specs.Reader.{HasRead, ReaderValue, blocks_read}
 use Rattle.jr_scan.proofs.Predicted.{kept_fits}
 use Rattle.jr_scan.proofs.Ranges.{block_in_range}
 use Rattle.jr_scan.proofs.Readers.{component_at, read_more, read_stop, kept_low, kept_high, few_components}

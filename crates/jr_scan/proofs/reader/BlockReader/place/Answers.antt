@@ -1,6 +1,6 @@
-use Rattle.std.proofs.Common.{◌≡◌, ◌-◌, ◌*◌, List, length, false, refl, subst, sym, ap, ◌∙◌, arith, rules}
+use Rattle.std.proofs.Common.{◌≡◌, ◌-◌, ◌*◌, length, false, subst, sym, ap, ◌∙◌, arith}
 use Rattle.jr_scan.specs.declared.place.RunEnd.TheVariants.{AllRead}
-use Rattle.jr_scan.specs.Reader.{HasRead, ReaderValue, IsKept}
+use Rattle.jr_scan.specs.Reader.{ReaderValue, IsKept}
 use Rattle.jr_scan.specs.Run.{IsRun}
 use Rattle.jr_scan.proofs.Runs.{read_is_run}
 use Rattle.jr_scan.proofs.reader.BlockReader.place.Goals as goal

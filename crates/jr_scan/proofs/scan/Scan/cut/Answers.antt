@@ -1,9 +1,8 @@
-use Rattle.std.proofs.Common.{◌≡◌, ℕ, ◌≤◌, List, length, map, drop, refl, subst, sym, ap, ◌∙◌, arith, length-drop}
+use Rattle.std.proofs.Common.{◌≡◌, ℕ, List, length, subst, sym, ap, ◌∙◌, arith, length-drop}
 use Rattle.std.proofs.lemmas.List.{length-map}
 use Rattle.std.specs.Global.{Vec}
 use Rattle.std.specs.List.{All}
 use Rattle.std.specs.Arc.{arc_value}
-use Rattle.jr_scan.specs.Cut.{IsCut}
 use Rattle.jr_scan.specs.ScanValue.{intervals_of}
 use Rattle.jr_scan.specs.Spans.{piece_of, IsWithin}
 use Rattle.jr_scan.proofs.Scans.{cut_few, scan_of}
