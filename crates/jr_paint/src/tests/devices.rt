@@ -1,5 +1,7 @@
 //! A `Tally` over devices that fail.
 
+ghost use Rattle.std.specs.Prelude.{◌≤◌, IfOk};
+
 use crate::Tally;
 use std::io::{Error, ErrorKind, Read, Result, Write};
 use std::process::Abort;
@@ -12,7 +14,9 @@ struct Device {
 }
 
 impl Device {
-    fn answer(&mut self, most: usize) -> Result<usize> {
+    fn answer(&mut self, most: usize) -> Result<usize>
+        ensures { IfOk result (λ n. n ≤ most) }
+    {
         self.calls = self.calls.wrapping_add(1);
         let answer = if self.calls == 1 { self.first } else { Some(1) };
         match answer {

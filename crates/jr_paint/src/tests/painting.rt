@@ -102,7 +102,7 @@ fn painted(alloc: Global, shape: &Shape) -> Result<Vec<u8>, Fail> {
 struct Slow {
     bytes: Vec<u8>,
     most: usize,
-    left: u32,
+    left: usize,
     takes_none: bool,
 }
 
@@ -139,7 +139,7 @@ fn is_painted(alloc: Global, shape: &Shape, most: usize) -> Result<bool, Fail> {
     let mut out = Tally::of(Slow {
         bytes: Vec::new(alloc),
         most,
-        left: u32::MAX,
+        left: usize::MAX,
         takes_none: false,
     });
     let is_written = write_netpbm(&samples, &mut out) == Ok(()) && !out.failed();
@@ -217,7 +217,7 @@ fn writers_that_stop(rt: HostRuntime) -> Result<(), Fail> {
         };
         let samples = samples_of(alloc, &shape)?;
         let whole = painted(alloc, &shape)?;
-        for left in 0..whole.len() as u32 {
+        for left in 0..whole.len() {
             for takes_none in [false, true] {
                 let mut out = Tally::of(Slow {
                     bytes: Vec::new(alloc),
@@ -231,7 +231,7 @@ fn writers_that_stop(rt: HostRuntime) -> Result<(), Fail> {
                 );
                 assert!(rt; out.failed(), "{left}");
                 let bytes = out.into_inner().bytes;
-                assert!(rt; bytes.len() == left as usize, "{left}");
+                assert!(rt; bytes.len() == left, "{left}");
                 assert!(rt; whole.as_slice().starts_with(bytes.as_slice()), "{left}");
             }
         }
