@@ -1,5 +1,5 @@
 pub mod Floors
 pub mod Places
 pub mod Factors
-pub mod Sent
+pub mod Appending
 pub mod PixelLaws

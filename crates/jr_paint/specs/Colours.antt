@@ -1,4 +1,5 @@
--- Colours in fixed point.
+-- Colours in fixed point (JFIF 1.02, "Conversion to and from RGB"): R = Y + 1.402 (Cr - 128),
+-- G = Y - 0.34414 (Cb - 128) - 0.71414 (Cr - 128) and B = Y + 1.772 (Cb - 128), with factors over 65536.
 use Rattle.std.specs.Prelude.{ℕ, min, ℤ, pos, negsuc, neg_ℤ, ◌+ℤ◌, ◌-ℤ◌, ◌≤ℤ◌, List, [], ◌∷◌}
 use Rattle.std.specs.Int.Signed.{shr_z}
 use Rattle.std.proofs.Math.IntN.{◌*ℤ◌}

@@ -1,4 +1,4 @@
--- Where a sample lies among the blocks of a picture.
+-- Where a sample lies among the data units of a picture (T.81, A.1.1 and A.2).
 use Rattle.std.specs.Prelude.{◌≡◌, ℕ, ◌+◌, ◌*◌, ◌/◌, ◌%◌, ◌<◌}
 use Rattle.std.specs.Int.{div_ceil}
 use Rattle.jr_head.specs.HeadValue.{HeadValue}
@@ -12,7 +12,7 @@ samples_across h c = div_ceil (h.width * horizontal_of h c) (horizontal_max h)
 abbrev pub samples_down : HeadValue → ℕ → ℕ
 samples_down h c = div_ceil (h.height * vertical_of h c) (vertical_max h)
 
--- an MCU, a block of one component in it, and a sample in that block
+-- an MCU, a data unit of one component in it, and a sample in that data unit (A.2.1, A.2.3)
 pub record Place : Type 0 where
   pub mcu_column : ℕ
   pub mcu_line : ℕ
@@ -45,7 +45,7 @@ place_of across down x y = record {
   col = x % 8;
 }
 
--- the number of that MCU, of that block in it, and the sample in the block
+-- the number of that MCU in reading order (A.2.3), of that data unit in it, and the sample in the data unit
 abbrev pub spot_at : HeadValue → ℕ → Place → Spot
 spot_at h c p = record {
   mcu = p.mcu_line * mcus_across h + p.mcu_column;

@@ -1,18 +1,23 @@
-//! Places of samples, colours, and the text of a picture.
+//! Where samples lie (T.81, A.1 and A.2), colours (JFIF 1.02), and the Netpbm text of a picture.
 #![tactic(auto)]
 
 mod colours;
 mod geometry;
+mod header;
 mod netpbm;
 mod pixels;
 mod samples;
-mod sending;
+mod strips;
 mod tally;
 mod upsampling;
+mod writing;
 
 pub use colours::colour;
 pub use geometry::{Spot, exactly_one_place, place};
 pub use netpbm::write_netpbm;
 pub use samples::Samples;
-pub use sending::WriteFault;
 pub use tally::Tally;
+pub use writing::WriteFault;
+
+#[cfg(test)]
+mod tests;

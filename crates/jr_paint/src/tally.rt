@@ -1,4 +1,5 @@
-// A reader or a writer, and whether a call through it has failed.
+//! A reader or a writer, and whether a call through it has failed.
+
 ghost use Rattle.std.specs.Prelude.{◌≡◌, ◌||◌, is_err, false};
 ghost use Rattle.std.specs.Io.{ReadsAtMost, WritesAtMost};
 ghost use Rattle.std.specs.Io.KnownBytes.{Keeps, ReadConsumes, WriteAppends};
@@ -6,6 +7,8 @@ ghost use Rattle.jr_paint.specs.Tally.{inner_of, has_failed, took_none, known_in
 
 use std::io::{Read, Result, Write};
 
+/// Passes calls on to what it holds, and notes the first that fails: an error, or a write of at least one byte
+/// that takes none.
 #[derive(Drop)]
 pub struct Tally<T> {
     inner: T,
@@ -13,6 +16,7 @@ pub struct Tally<T> {
 }
 
 impl<T> Tally<T> {
+    /// Over this reader or writer, of which no call has failed yet.
     pub fn of(inner: T) -> Self
         ensures inner { inner_of result ≡ inner }
         ensures unfailed { has_failed result ≡ false }
@@ -23,12 +27,14 @@ impl<T> Tally<T> {
         }
     }
 
+    /// What it holds.
     pub fn into_inner(self) -> T
         ensures { result ≡ inner_of self }
     {
         self.inner
     }
 
+    /// Whether a call through it has answered an error, or a write of at least one byte has taken none.
     pub fn failed(&self) -> bool
         ensures { result ≡ has_failed self.now }
     {

@@ -1,6 +1,6 @@
 use Rattle.std.proofs.Common.{◌∙◌}
 use Rattle.jr_paint.proofs.PixelLaws.{pixels_grey}
-use Rattle.jr_paint.proofs.netpbm.fill_grey.Goals as goal
+use Rattle.jr_paint.proofs.strips.fill_grey.Goals as goal
 
 pub returns : goal.returns
 returns g c =

@@ -2,7 +2,7 @@ use Rattle.std.proofs.Common.{◌≡◌, ◌≤◌, ◌-◌, ◌%◌, ◌<◌, f
 use Rattle.std.specs.Io.KnownBytes.{Appends}
 use Rattle.jr_paint.specs.Tally.{has_failed, known_in}
 use Rattle.jr_paint.specs.Text.{pixels_of}
-use Rattle.jr_paint.proofs.netpbm.send_line.Given as goal
+use Rattle.jr_paint.proofs.netpbm.write_line.Given as goal
 
 abbrev pub invariant-strips : goal.invariant-strips
 invariant-strips g l = record {

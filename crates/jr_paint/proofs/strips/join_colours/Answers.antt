@@ -3,7 +3,7 @@ use Rattle.std.specs.List.{flat_map, range_with_len}
 use Rattle.jr_head.specs.declared.mark.Kind.{Kind}
 use Rattle.jr_paint.specs.Colours.{colour_of}
 use Rattle.jr_paint.proofs.PixelLaws.{pixels_colours}
-use Rattle.jr_paint.proofs.netpbm.join_colours.Goals as goal
+use Rattle.jr_paint.proofs.strips.join_colours.Goals as goal
 
 pub returns : goal.returns
 returns g c =

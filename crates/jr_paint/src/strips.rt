@@ -1,0 +1,119 @@
+//! The pixels of a part of a line.
+
+ghost use Rattle.std.specs.Prelude.{◌≡◌, ℕ, ◌+◌, ◌*◌, ◌%◌, ◌<◌, ◌≤◌, length};
+ghost use Rattle.jr_head.specs.declared.mark.Kind.TheVariants.{Grey};
+ghost use Rattle.jr_head.specs.Geometry.{component_count};
+ghost use Rattle.jr_paint.specs.Text.{pixel_size, pixels_of};
+
+use crate::pixels::mix;
+use crate::samples::Samples;
+use crate::upsampling::{STRIP, upsample};
+use jr_head::Kind;
+
+/// The pixels of a part of line y, in colours, by way of three lines of samples.
+fn join_colours<S: Samples>(
+    samples: &S,
+    x: u32,
+    y: u32,
+    a: &mut [u8],
+    b: &mut [u8],
+    c: &mut [u8],
+    near: &mut [u8],
+    pixels: &mut [u8],
+)
+    requires kind { component_count (S.head_of samples.now).kind ≡ 3 }
+    requires start { x % 12 ≡ 0 }
+    requires some { 0 < length a.old }
+    requires second { length b.old ≡ length a.old }
+    requires third { length c.old ≡ length a.old }
+    requires fourth { length a.old ≤ length near.old }
+    requires across { x + length a.old ≤ (S.head_of samples.now).width }
+    requires down { y < (S.head_of samples.now).height }
+    requires room { length pixels.old ≡ 3 * length a.old }
+    ensures { pixels.new ≡ pixels_of (S.head_of samples.now) (S.shown samples.now) y x (length a.old) }
+{
+    samples.head().be_lawful();
+    upsample(samples, 0, x, y, near, a);
+    upsample(samples, 1, x, y, near, b);
+    upsample(samples, 2, x, y, near, c);
+    mix(samples.head().kind(), a, b, c, pixels);
+}
+
+/// The pixels of a part of line y, in colours.
+fn fill_colours<S: Samples>(
+    samples: &S,
+    x: u32,
+    y: u32,
+    n: usize,
+    room: &mut [u8; 4 * STRIP],
+    pixels: &mut [u8],
+)
+    requires kind { component_count (S.head_of samples.now).kind ≡ 3 }
+    requires start { x % 12 ≡ 0 }
+    requires some { 0 < n }
+    requires few { n ≤ 4092 }
+    requires across { x + n ≤ (S.head_of samples.now).width }
+    requires down { y < (S.head_of samples.now).height }
+    requires room { length pixels.old ≡ 3 * n }
+    ensures { pixels.new ≡ pixels_of (S.head_of samples.now) (S.shown samples.now) y x n }
+{
+    let (near, values) = room.split_at_mut(STRIP);
+    let (a, values) = values.split_at_mut(STRIP);
+    let (b, c) = values.split_at_mut(STRIP);
+    join_colours(
+        samples,
+        x,
+        y,
+        &mut a[..n],
+        &mut b[..n],
+        &mut c[..n],
+        near,
+        pixels,
+    );
+}
+
+/// The pixels of a part of line y of a grey picture.
+fn fill_grey<S: Samples>(
+    samples: &S,
+    x: u32,
+    y: u32,
+    n: usize,
+    room: &mut [u8; 4 * STRIP],
+    pixels: &mut [u8],
+)
+    requires kind { (S.head_of samples.now).kind ≡ Grey }
+    requires start { x % 12 ≡ 0 }
+    requires some { 0 < n }
+    requires few { n ≤ 4092 }
+    requires across { x + n ≤ (S.head_of samples.now).width }
+    requires down { y < (S.head_of samples.now).height }
+    requires room { length pixels.old ≡ n }
+    ensures { pixels.new ≡ pixels_of (S.head_of samples.now) (S.shown samples.now) y x n }
+{
+    samples.head().be_lawful();
+    upsample(samples, 0, x, y, room, pixels);
+}
+
+/// The pixels of a part of line y.
+pub(crate) fn fill<S: Samples>(
+    samples: &S,
+    x: u32,
+    y: u32,
+    n: usize,
+    room: &mut [u8; 4 * STRIP],
+    pixels: &mut [u8],
+)
+    requires start { x % 12 ≡ 0 }
+    requires some { 0 < n }
+    requires few { n ≤ 4092 }
+    requires across { x + n ≤ (S.head_of samples.now).width }
+    requires down { y < (S.head_of samples.now).height }
+    requires room { length pixels.old ≡ pixel_size (S.head_of samples.now).kind * n }
+    ensures { pixels.new ≡ pixels_of (S.head_of samples.now) (S.shown samples.now) y x n }
+{
+    samples.head().be_lawful();
+    match samples.head().kind() {
+        Kind::Grey => fill_grey(samples, x, y, n, room, pixels),
+        Kind::Rgb | Kind::Ycc => fill_colours(samples, x, y, n, room, pixels),
+    }
+}
