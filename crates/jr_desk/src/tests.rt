@@ -1,24 +1,5 @@
-ghost use Rattle.std.specs.Prelude.{◌≡◌, ◌≤◌, ◌<◌, ℕ, true, All, IfOk, length};
-ghost use Rattle.jr_desk.specs.Values.{SeatValue};
-
-use crate::{Desk, Seat};
-use jr_code::Memory;
-use std::alloc::Global;
+use crate::Desk;
 use std::test::Fail;
-use std::thread;
-use std::thread::Threads;
-
-/// Claims until the seat has ended, and keeps the numbers.
-fn finished(alloc: Global, desk: &Desk, mut seat: Seat) -> (Seat, Vec<u32>)
-    requires { seat.desk ≡ desk.now }
-    ensures { (result.0.desk ≡ desk.now) × (result.0.ended ≡ true) }
-{
-    let mut numbers = Vec::new(alloc);
-    while let Some(number) = desk.claim(&mut seat) {
-        let _ = numbers.push(number);
-    }
-    (seat, numbers)
-}
 
 #[test]
 fn two_seats_in_turn(rt: HostRuntime) -> Result<(), Fail> {
