@@ -13,6 +13,10 @@ fn two_seats_in_turn(rt: HostRuntime) -> Result<(), Fail> {
     assert_eq!(rt; desk.claim(&mut a), None);
     assert_eq!(rt; desk.claim(&mut a), None);
     assert_eq!(rt; (a.drawn(), b.drawn()), (2, 1));
+    let mut ended = Vec::new(rt.alloc());
+    ended.push(a)?;
+    ended.push(b)?;
+    assert_eq!(rt; desk.gather(ended).total(), 3);
     Ok(())
 }
 
