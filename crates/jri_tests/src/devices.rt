@@ -1,0 +1,127 @@
+//! Devices that fail, through `run` and `finish`: what was written, the line, and the exit status.
+
+use crate::files::file;
+use crate::pictures::picture;
+use jr_paint::Tally;
+use jr_wall::OpenGate;
+use jri_engine::{Fault, Report, finish, run};
+use std::alloc::Global;
+use std::io::{Error, ErrorKind, Read, Result as IoResult, Write};
+use std::test::Fail;
+
+/// Takes so many bytes, three a call, and then fails; or fails only when it is flushed.
+#[derive(Drop)]
+struct Full {
+    bytes: Vec<u8>,
+    room: usize,
+    is_flushed: bool,
+}
+
+impl Full {
+    fn new(alloc: Global, room: usize, is_flushed: bool) -> Full {
+        Full {
+            bytes: Vec::new(alloc),
+            room,
+            is_flushed,
+        }
+    }
+}
+
+impl Write for Full {
+    fn write(&mut self, buf: &[u8]) -> IoResult<usize> {
+        let most = buf.len().min(3);
+        if self.room < most {
+            return Err(Error::from(ErrorKind::StorageFull));
+        }
+        self.room -= most;
+        self.bytes.extend_from_slice(&buf[..most])?;
+        Ok(most)
+    }
+
+    fn flush(&mut self) -> IoResult<()> {
+        if self.is_flushed {
+            Ok(())
+        } else {
+            Err(Error::from(ErrorKind::StorageFull))
+        }
+    }
+}
+
+/// An input that can't be read.
+#[derive(Drop)]
+struct Unreadable;
+
+impl Read for Unreadable {
+    fn read(&mut self, _buf: &mut [u8]) -> IoResult<usize> {
+        Err(Error::from(ErrorKind::Other))
+    }
+}
+
+/// The lines and the exit status of an outcome, over a writer that takes everything.
+fn told(alloc: Global, outcome: Result<Report, Fault>) -> (Vec<u8>, u8) {
+    let mut out = Tally::of(Vec::new(alloc));
+    let mut lines = Vec::new(alloc);
+    let status = finish(outcome, &mut out, &mut lines);
+    (lines, status)
+}
+
+#[test]
+fn an_input_that_cannot_be_read(rt: HostRuntime) -> Result<(), Fail> {
+    let mut input = Tally::of(Unreadable);
+    let mut out = Tally::of(Vec::new(rt.alloc()));
+    let outcome = run(&rt, rt.alloc(), &mut input, &mut out, 1, None, &OpenGate);
+    let mut lines = Vec::new(rt.alloc());
+    let status = finish(outcome, &mut out, &mut lines);
+    assert!(rt; out.into_inner().is_empty());
+    assert!(rt; lines.as_slice() == b"cannot read the input\n".as_slice());
+    assert_eq!(rt; status, 1);
+    Ok(())
+}
+
+#[test]
+fn a_full_device(rt: HostRuntime) -> Result<(), Fail> {
+    let bytes = file(rt.alloc(), "G 63 E")?;
+    let whole = picture(rt.alloc(), "P5 8 8 : 8*136")?;
+    for room in 0..whole.len() {
+        let mut input = Tally::of(bytes.as_slice());
+        let mut out = Tally::of(Full::new(rt.alloc(), room, true));
+        let outcome = run(&rt, rt.alloc(), &mut input, &mut out, 1, None, &OpenGate);
+        let mut lines = Vec::new(rt.alloc());
+        let status = finish(outcome, &mut out, &mut lines);
+        let written = out.into_inner().bytes;
+        assert!(rt;
+            whole.as_slice().starts_with(written.as_slice()),
+            "room for {room}"
+        );
+        assert!(rt;
+            lines.as_slice() == b"cannot write the picture\n".as_slice(),
+            "room for {room}"
+        );
+        assert!(rt; status == 1, "room for {room}");
+    }
+    Ok(())
+}
+
+#[test]
+fn a_failed_flush(rt: HostRuntime) -> Result<(), Fail> {
+    let bytes = file(rt.alloc(), "G 63 E")?;
+    let mut input = Tally::of(bytes.as_slice());
+    let mut out = Tally::of(Full::new(rt.alloc(), 1000, false));
+    let outcome = run(&rt, rt.alloc(), &mut input, &mut out, 1, None, &OpenGate);
+    let mut lines = Vec::new(rt.alloc());
+    let status = finish(outcome, &mut out, &mut lines);
+    assert!(rt; lines.as_slice() == b"cannot write the picture\n".as_slice());
+    assert_eq!(rt; status, 1);
+    Ok(())
+}
+
+#[test]
+fn faults_that_no_file_has(rt: HostRuntime) -> Result<(), Fail> {
+    let (lines, status) = told(rt.alloc(), Err(Fault::NoFile));
+    assert!(rt; lines.as_slice() == b"cannot open the file\n".as_slice());
+    assert_eq!(rt; status, 1);
+    let (lines, status) = told(rt.alloc(), Err(Fault::Memory));
+    assert!(rt; lines.as_slice() == b"out of memory\n".as_slice());
+    assert_eq!(rt; status, 1);
+    Ok(())
+}

@@ -1,0 +1,107 @@
+//! The first intervals alone, and other numbers of workers.
+
+ghost use Rattle.std.specs.Prelude.{◌≤◌};
+
+use crate::decoding::{Outcome, decode};
+use crate::files::file;
+use crate::pictures::picture;
+use std::process::Abort;
+use std::sync::Wait;
+use std::test::Fail;
+use std::thread::Threads;
+
+/// What a file gives.
+#[derive(Clone, Copy)]
+struct Case {
+    file: &'static str,
+    picture: &'static str,
+    intervals: &'static str,
+    status: u8,
+}
+
+fn check<R: Threads + Wait + Sync + AllocGlobal + Abort>(
+    rt: &R,
+    workers: u32,
+    first: Option<u32>,
+    case: Case,
+) -> Result<(), Fail>
+    requires some { 1 ≤ workers }
+    requires few { workers ≤ 64 }
+{
+    let bytes = file(rt.alloc(), case.file)?;
+    let found = decode(rt, bytes.as_slice(), workers, first)?;
+    let Outcome {
+        picture: painted,
+        lines,
+        status,
+    } = found;
+    let wanted = picture(rt.alloc(), case.picture)?;
+    assert!(rt;
+        painted.as_slice() == wanted.as_slice(),
+        "picture by {workers} workers"
+    );
+    let intervals = case.intervals;
+    let text = format!(in rt.alloc(); "{intervals}\nscan ended at EOI\n")?;
+    assert!(rt;
+        lines.as_slice() == text.as_bytes(),
+        "report by {workers} workers"
+    );
+    assert!(rt; status == case.status, "status by {workers} workers");
+    Ok(())
+}
+
+/// Two intervals that have a decoding.
+const SOUND: Case = Case {
+    file: "GI 63 FF D0 63 E",
+    picture: "P5 16 8 : 16*136",
+    intervals: "intervals 2 sound 2 damaged 0 blank 0",
+    status: 0,
+};
+
+/// The first of these two has a decoding.
+const DAMAGED: Case = Case {
+    file: "GI 63 FF D0 E0 E",
+    picture: "P5 16 8 : 8*136 8*128",
+    intervals: "intervals 2 sound 1 damaged 1 blank 0",
+    status: 3,
+};
+
+#[test]
+fn numbers_of_workers(rt: HostRuntime) -> Result<(), Fail> {
+    check(&rt, 1, None, SOUND)?;
+    check(&rt, 2, None, SOUND)?;
+    check(&rt, 64, None, SOUND)?;
+    check(&rt, 1, None, DAMAGED)?;
+    check(&rt, 2, None, DAMAGED)?;
+    check(&rt, 64, None, DAMAGED)
+}
+
+#[test]
+fn first_intervals(rt: HostRuntime) -> Result<(), Fail> {
+    let none = Case {
+        picture: "P5 16 8 : 16*0",
+        intervals: "intervals 2 sound 0 damaged 0 blank 2",
+        ..SOUND
+    };
+    let one = Case {
+        picture: "P5 16 8 : 8*136 8*0",
+        intervals: "intervals 2 sound 1 damaged 0 blank 1",
+        ..SOUND
+    };
+    check(&rt, 4, Some(0), none)?;
+    check(&rt, 4, Some(1), one)?;
+    check(&rt, 4, Some(2), SOUND)?;
+    check(&rt, 4, Some(4294967295), SOUND)
+}
+
+/// Damage behind the intervals that are decoded is not seen.
+#[test]
+fn damage_past_the_first(rt: HostRuntime) -> Result<(), Fail> {
+    let one = Case {
+        picture: "P5 16 8 : 8*136 8*0",
+        intervals: "intervals 2 sound 1 damaged 0 blank 1",
+        status: 0,
+        ..DAMAGED
+    };
+    check(&rt, 2, Some(1), one)
+}
