@@ -1,2 +1,4 @@
 pub mod Pieces
 pub mod Lines
+pub mod Seen
+pub mod Pictures

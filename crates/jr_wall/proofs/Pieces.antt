@@ -9,9 +9,10 @@ use mathlib.Core.Logic.{dite}
 use mir.Val.{bool_byte}
 use native.Mathlib.Decide.{ℕ_discrete}
 use Rattle.jr_scan.specs.ScanValue.{ScanValue}
-use Rattle.jr_wall.specs.PieceValue.{PieceValue}
+use Rattle.jr_piece.specs.PieceValue.{PieceValue}
 use Rattle.jr_wall.specs.BoardValue.{BoardValue}
-use Rattle.jr_wall.specs.Boards.{is_sound_piece, is_damaged_piece, IsFor, IsKept, held}
+use Rattle.jr_piece.specs.Outcome.{IsOutcome}
+use Rattle.jr_wall.specs.Boards.{is_sound_piece, is_damaged_piece, IsFor, IsPieceOf, IsKept, held}
 
 pub no_piece : (n i : ℕ) → get_or (replicate {A = Option PieceValue} n None) i None ≡ None
 no_piece zero i = refl
@@ -56,9 +57,9 @@ turned : (b : Bool) → let n : ℕ = cond (cond b false true) 1 0 in n ≡ bool
 turned true = refl
 turned false = refl
 
-pub posts : (b : BoardValue) (n : ℕ) (p : PieceValue) (sound damaged more less : ℕ) → IsKept b sound damaged → n ≡ p.interval.number → IsFor p.interval b.scan → get_or b.pieces n None ≡ None
+pub posts : (b : BoardValue) (n : ℕ) (p : PieceValue) (sound damaged more less : ℕ) → IsKept b sound damaged → n ≡ p.interval.number → IsFor p.interval b.scan → IsOutcome p → get_or b.pieces n None ≡ None
     → more ≡ bool_byte p.is_sound → less ≡ bool_byte (not p.is_sound) → Posted b n p (sound + more) (damaged + less)
-posts b n p sound damaged more less k is for none m l =
+posts b n p sound damaged more less k is for outcome none m l =
     let places = k.lawful.places in
     let within : n < length b.pieces = omega (arith, for.0) in
     let long = length-set b.pieces n (Some p) in
@@ -76,7 +77,9 @@ posts b n p sound damaged more less k is for none m l =
               let a : get_or (set b.pieces n (Some p)) n None ≡ Some q = ap (λ (m : ℕ). get_or (set b.pieces n (Some p)) m None) (sym same) ∙ e in
               let two : Some p ≡ Some q = sym (get_or-set_same b.pieces n (Some p) None within) ∙ a in
               let one : p ≡ q = cc in
-              (ap (λ (x : PieceValue). x.interval.number) (sym one) ∙ sym is ∙ sym same, subst (λ (x : PieceValue). IsFor x.interval b.scan) one for))
+              let number : p.interval.number ≡ i = sym is ∙ sym same in
+              let of : IsPieceOf b.scan i p = record { number = number; interval = for; outcome = outcome } in
+              subst (λ (x : PieceValue). IsPieceOf b.scan i x) one of)
               (λ apart. k.lawful.each i q (sym (get_or-set_other b.pieces n i (Some p) None apart) ∙ e));
         };
         few = rw long few;

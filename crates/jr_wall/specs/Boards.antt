@@ -5,9 +5,10 @@ use Rattle.std.specs.Arc.{arc_value}
 use Rattle.std.specs.declared.alloc.Global.{Global}
 use Rattle.jr_scan.specs.IntervalValue.{IntervalValue}
 use Rattle.jr_scan.specs.ScanValue.{ScanValue, HasInterval}
+use Rattle.jr_piece.specs.PieceValue.{PieceValue}
+use Rattle.jr_piece.specs.Outcome.{IsOutcome}
 use Rattle.jr_wall.specs.declared.mark.Mark.{Mark}
 use Rattle.jr_wall.specs.declared.mark.Mark.TheVariants.{Blank, Sound, Damaged}
-use Rattle.jr_wall.specs.PieceValue.{PieceValue}
 use Rattle.jr_wall.specs.BoardValue.{BoardValue}
 
 abbrev pub piece_at : BoardValue → ℕ → Option PieceValue
@@ -33,10 +34,16 @@ is_damaged_piece (Some p) = cond p.is_sound false true
 abbrev pub IsFor : IntervalValue → ScanValue → Type 0
 IsFor i scan = HasInterval scan i
 
+-- the piece is of interval i of the scan, and tells what T.81 gives for it
+pub record IsPieceOf (scan : ScanValue) (i : ℕ) (p : PieceValue) : Type 0 where
+  pub number : p.interval.number ≡ i
+  pub interval : IsFor p.interval scan
+  pub outcome : IsOutcome p
+
 -- there is a place for each interval, and each piece is that of its place
 pub record IsLawful (b : BoardValue) : Type 0 where
   pub places : length b.pieces ≡ length b.scan.intervals
-  pub each : (i : ℕ) (p : PieceValue) → piece_at b i ≡ Some p → (p.interval.number ≡ i) × IsFor p.interval b.scan
+  pub each : (i : ℕ) (p : PieceValue) → piece_at b i ≡ Some p → IsPieceOf b.scan i p
 
 -- the piece that an Arc holds
 abbrev pub held : Option (Arc PieceValue Global) → Option PieceValue

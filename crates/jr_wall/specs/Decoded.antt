@@ -7,7 +7,7 @@ use Rattle.jr_scan.specs.ScanValue.{ScanValue, IsSameScan}
 use Rattle.jr_wall.specs.declared.mark.Mark.TheVariants.{Blank}
 use Rattle.jr_wall.specs.declared.board.Unposted.{Unposted}
 use Rattle.jr_wall.specs.declared.board.Unposted.TheVariants.{Foreign, AlreadyMarked}
-use Rattle.jr_wall.specs.PieceValue.{PieceValue}
+use Rattle.jr_piece.specs.PieceValue.{PieceValue}
 use Rattle.jr_wall.specs.BoardValue.{BoardValue}
 use Rattle.jr_wall.specs.Boards.{mark_at, IsFor}
 

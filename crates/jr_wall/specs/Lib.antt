@@ -1,6 +1,6 @@
-pub mod PieceValue
 pub mod BoardValue
 pub mod Boards
 pub mod Shown
 pub mod Decoded
 pub mod Units
+pub mod Seen

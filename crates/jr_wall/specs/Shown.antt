@@ -6,7 +6,7 @@ use Rattle.jr_head.specs.HeadValue.{HeadValue}
 use Rattle.jr_head.specs.Geometry.{horizontal_of, vertical_of, blocks_of}
 use Rattle.jr_paint.specs.Geometry.{place_of, spot_at}
 use Rattle.jr_paint.specs.declared.geometry.Spot.{Spot}
-use Rattle.jr_wall.specs.PieceValue.{PieceValue}
+use Rattle.jr_piece.specs.PieceValue.{PieceValue}
 use Rattle.jr_wall.specs.BoardValue.{BoardValue}
 use Rattle.jr_wall.specs.Boards.{piece_at}
 

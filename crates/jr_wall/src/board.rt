@@ -4,14 +4,15 @@ ghost use Rattle.std.specs.Prelude.{◌≡◌, ◌≢◌, ◌↔◌, ◌<◌, �
 ghost use Rattle.std.specs.Option.{option_copied};
 ghost use Rattle.std.specs.Arc.{arc_value};
 ghost use Rattle.jr_scan.specs.ScanValue.{IsSameScan};
-ghost use Rattle.jr_wall.specs.PieceValue.{PieceValue};
+ghost use Rattle.jr_piece.specs.PieceValue.{PieceValue};
 ghost use Rattle.jr_wall.specs.BoardValue.{BoardValue};
 ghost use Rattle.jr_wall.specs.Boards.{piece_at, mark_at, mark_of, is_sound_piece, is_damaged_piece, IsFor, IsLawful};
 ghost use Rattle.jr_wall.specs.Decoded.{IsRefused};
 
 use crate::mark::Mark;
-use crate::piece::Piece;
+
 use jr_code::Memory;
+use jr_piece::Piece;
 use jr_scan::Scan;
 use std::alloc::Global;
 use std::marker::Model;
@@ -100,7 +101,14 @@ impl Board {
         requires { i < length self.now.pieces }
         ensures { result ≡ mark_at self.now i }
     {
-        match self.piece(i) {
+        self.mark_of(i)
+    }
+
+    /// What is known of interval i; blank past the last.
+    pub(crate) fn mark_of(&self, i: u32) -> Mark
+        ensures { result ≡ mark_at self.now i }
+    {
+        match self.posted(i) {
             None => Mark::Blank,
             Some(piece) => mark_with(piece.is_sound()),
         }
@@ -153,6 +161,7 @@ impl Board {
         ensures ok { IfOk result (λ _. IsFor (arc_value piece).interval self.old.scan × (piece_at self.old (arc_value piece).interval.number ≡ None) × (self.new ≡ record self.old { pieces = slice_set self.old.pieces (arc_value piece).interval.number (Some (arc_value piece)) })) }
         ensures err { IfErr result (λ e. (self.new ≡ self.old) × IsRefused self.old piece e) }
     {
+        piece.be_outcome();
         if !piece.is_for(&self.scan) {
             return Err(Unposted::Foreign(piece));
         }

@@ -1,6 +1,7 @@
 //! Where a caller meets the workers.
 
-use crate::piece::Piece;
+use jr_piece::Piece;
+
 
 /// What a worker calls between its steps, holding no lock.
 pub trait Gate {

@@ -73,7 +73,7 @@ fn sample_of(unit: &Unit<'_>, at: usize) -> u8
 }
 
 /// The interval that holds an MCU, and the MCU's number in it.
-fn split(head: &Head, mcu: u32) -> (u32, u32)
+pub(crate) fn split(head: &Head, mcu: u32) -> (u32, u32)
     ensures interval { result.0 ≡ interval_of head.now mcu }
     ensures within { result.1 ≡ within_interval head.now mcu }
 {

@@ -10,9 +10,10 @@ ghost use Rattle.jr_wall.specs.Decoded.{IsDecoded, least};
 use crate::board::Board;
 use crate::gate::Gate;
 use crate::mark::Mark;
-use crate::piece::Piece;
+
 use jr_code::Memory;
 use jr_desk::{Desk, Seat};
+use jr_piece::Piece;
 use jr_scan::Scan;
 use std::alloc::Global;
 use std::sync::{Arc, Mutex, Wait};

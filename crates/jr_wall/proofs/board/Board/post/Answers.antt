@@ -4,8 +4,9 @@ use Rattle.std.specs.declared.alloc.Global.{Global}
 use Rattle.std.specs.Arc.{arc_value}
 use Rattle.std.proofs.lemmas.List.{map-set}
 use Rattle.jr_scan.specs.ScanValue.{ScanValue}
-use Rattle.jr_wall.specs.PieceValue.{PieceValue}
+use Rattle.jr_piece.specs.PieceValue.{PieceValue}
 use Rattle.jr_wall.specs.BoardValue.{BoardValue}
+use Rattle.jr_piece.specs.Outcome.{IsOutcome}
 use Rattle.jr_wall.specs.Boards.{IsFor, IsKept, held, piece_at}
 use Rattle.jr_wall.proofs.Pieces.{Posted, posts, held_at}
 use mir.Val.{bool_byte}
@@ -13,11 +14,11 @@ use Rattle.jr_wall.proofs.board.Board.post.Goals as goal
 
 -- posts, by the fields
 fields_post : (scan : ScanValue) (items : List (Option (Arc PieceValue Global))) (n : ℕ) (p : PieceValue) (q : PieceValue) (b : Bool) (sound damaged more less : ℕ)
-    → IsKept (record { scan = scan; pieces = map held items }) sound damaged → n ≡ p.interval.number → IsFor p.interval scan → get_or items n None ≡ None → q ≡ p → b ≡ q.is_sound
+    → IsKept (record { scan = scan; pieces = map held items }) sound damaged → n ≡ p.interval.number → IsFor p.interval scan → IsOutcome p → get_or items n None ≡ None → q ≡ p → b ≡ q.is_sound
     → more ≡ bool_byte b → less ≡ bool_byte (not b) → Posted (record { scan = scan; pieces = map held items }) n p (sound + more) (damaged + less)
-fields_post scan items n p q b sound damaged more less k is for none same sound_is m l =
+fields_post scan items n p q b sound damaged more less k is for outcome none same sound_is m l =
     let s : b ≡ p.is_sound = sound_is ∙ ap (λ (x : PieceValue). x.is_sound) same in
-    posts (record { scan = scan; pieces = map held items }) n p sound damaged more less k is for (held_at items n ∙ ap held none) (m ∙ ap bool_byte s) (l ∙ ap (λ x. bool_byte (not x)) s)
+    posts (record { scan = scan; pieces = map held items }) n p sound damaged more less k is for outcome (held_at items n ∙ ap held none) (m ∙ ap bool_byte s) (l ∙ ap (λ x. bool_byte (not x)) s)
 
 abbrev made : ScanValue → List (Option PieceValue) → BoardValue
 made scan pieces = record { scan = scan; pieces = pieces }
@@ -28,7 +29,7 @@ overflow_add-sound c =
     let n : c.number-number.result ≡ (arc_value c.args.piece).interval.number = search rules in
     let none : get_or c.self.inside.pieces.items c.number-number.result None ≡ None = search rules in
     let p = fields_post (arc_value c.self.inside.scan) c.self.inside.pieces.items c.number-number.result (arc_value c.args.piece) c.deref-4.result.now c.is_sound-is_sound.result c.self.inside.sound c.self.inside.damaged c.from.result (bool_byte (not c.is_sound-is_sound.result))
-    c.self.invariant n for none c.deref-4.ensures c.is_sound-is_sound.ensures c.from.ensures (search rules) in
+    c.self.invariant n for (search rules) none c.deref-4.ensures c.is_sound-is_sound.ensures c.from.ensures (search rules) in
     omega (arith, p.sound_fits)
 
 pub overflow_add-damaged : goal.overflow_add-damaged
@@ -37,7 +38,7 @@ overflow_add-damaged c =
     let n : c.number-number.result ≡ (arc_value c.args.piece).interval.number = search rules in
     let none : get_or c.self.inside.pieces.items c.number-number.result None ≡ None = search rules in
     let p = fields_post (arc_value c.self.inside.scan) c.self.inside.pieces.items c.number-number.result (arc_value c.args.piece) c.deref-4.result.now c.is_sound-is_sound.result c.self.inside.sound c.self.inside.damaged c.from.result c.from-2.result
-    c.self.invariant n for none c.deref-4.ensures c.is_sound-is_sound.ensures c.from.ensures c.from-2.ensures in
+    c.self.invariant n for (search rules) none c.deref-4.ensures c.is_sound-is_sound.ensures c.from.ensures c.from-2.ensures in
     omega (arith, p.damaged_fits)
 
 pub invariant_of-self : goal.invariant_of-self
@@ -46,7 +47,7 @@ invariant_of-self c =
     let n : c.number-number.result ≡ (arc_value c.args.piece).interval.number = search rules in
     let none : get_or c.self.inside.pieces.items c.number-number.result None ≡ None = search rules in
     let p = fields_post (arc_value c.self.inside.scan) c.self.inside.pieces.items c.number-number.result (arc_value c.args.piece) c.deref-4.result.now c.is_sound-is_sound.result c.self.inside.sound c.self.inside.damaged c.from.result c.from-2.result
-    c.self.invariant n for none c.deref-4.ensures c.is_sound-is_sound.ensures c.from.ensures c.from-2.ensures in
+    c.self.invariant n for (search rules) none c.deref-4.ensures c.is_sound-is_sound.ensures c.from.ensures c.from-2.ensures in
     subst (λ (ps : List (Option PieceValue)). IsKept (record { scan = arc_value c.self.inside.scan; pieces = ps }) (c.self.inside.sound + c.from.result) (c.self.inside.damaged + c.from-2.result))
     (sym (map-set held c.self.inside.pieces.items c.number-number.result (Some c.args.piece))) p.kept
 

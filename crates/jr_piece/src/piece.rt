@@ -2,11 +2,11 @@
 
 ghost use Rattle.std.specs.Prelude.{◌≡◌, ◌↔◌, ◌<◌, ℕ, List, IsTrue, IfOk, IfErr, slice_get};
 ghost use Rattle.std.specs.Option.{option_copied};
-ghost use Rattle.jr_wall.specs.Boards.{IsFor};
+ghost use Rattle.jr_scan.specs.ScanValue.{HasInterval};
+ghost use Rattle.jr_piece.specs.Outcome.{IsOutcome};
 
-use jr_code::Memory;
-use jr_idct::transform;
-use jr_scan::{BlockReader, Interval, Scan};
+use crate::decoded::{Decoded, decode};
+use jr_scan::{Interval, Scan};
 use std::alloc::Global;
 use std::marker::Model;
 
@@ -20,50 +20,22 @@ pub struct Piece {
 }
 
 impl Model for Piece {
-    ghost use Rattle.jr_wall.specs.PieceValue.{PieceValue};
+    ghost use Rattle.jr_piece.specs.PieceValue.{PieceValue};
 
     ghost Value = { PieceValue };
 
     ghost view = { λ p. record { interval = p.interval; is_sound = p.is_sound; front = p.front; samples = p.samples.items } };
-}
 
-/// The samples of an interval's front, and whether the front is its decoding.
-#[derive(Drop)]
-struct Decoded {
-    is_sound: bool,
-    front: u32,
-    samples: Vec<[u8; 64]>,
-}
+    ghost use Rattle.jr_piece.specs.Outcome.{IsOutcome};
 
-/// At most as many data units as the data can code: each takes two bits or more.
-fn most_units(interval: &Interval) -> usize {
-    let coded = interval.bytes().len() * 4;
-    let claimed = interval.mcus() as usize * interval.head().order().len();
-    coded.min(claimed)
-}
-
-/// Reads the blocks of an interval and transforms each as it comes.
-fn decode(alloc: Global, interval: &Interval) -> Result<Decoded, Memory> {
-    let head = interval.head();
-    let mut samples = Vec::with_capacity(alloc, most_units(interval))?;
-    let mut reader = BlockReader::over(interval);
-    let mut block = [0; 64];
-    while let Some(component) = reader.next(&mut block) {
-        samples.push(transform(&block, head.quantiser(component)))?;
-    }
-    let front = reader.mcus();
-    samples.truncate(front as usize * head.order().len());
-    Ok(Decoded {
-        is_sound: reader.is_sound(),
-        front,
-        samples,
-    })
+    ghost invariant = { λ p. IsOutcome (record { interval = p.interval; is_sound = p.is_sound; front = p.front; samples = p.samples.items }) };
 }
 
 impl Piece {
     /// The piece of an interval. `Err` gives the interval back for want of memory.
     pub fn make(alloc: Global, interval: Interval) -> Result<Piece, Interval>
         ensures ok { IfOk result (λ p. p.interval ≡ interval) }
+        ensures outcome { IfOk result IsOutcome }
         ensures err { IfErr result (λ back. back ≡ interval) }
     {
         match decode(alloc, &interval) {
@@ -82,6 +54,13 @@ impl Piece {
             }
             Err(_) => Err(interval),
         }
+    }
+
+    /// What holds of every piece: it tells what T.81 gives for its interval.
+    pub fn be_outcome(&self)
+        ensures { IsOutcome self.now }
+    {
+        let _ = &self.samples;
     }
 
     /// The number of its interval.
@@ -106,7 +85,7 @@ impl Piece {
     }
 
     /// The samples of data unit k of the interval, none past the front.
-    pub(crate) fn unit(&self, k: usize) -> Option<&[u8; 64]>
+    pub fn unit(&self, k: usize) -> Option<&[u8; 64]>
         ensures { option_copied result ≡ slice_get self.now.samples k }
     {
         self.samples.get(k)
@@ -121,7 +100,7 @@ impl Piece {
 
     /// Whether its interval is this scan's interval of its number.
     pub fn is_for(&self, scan: &Scan) -> bool
-        ensures { IsTrue result ↔ IsFor self.now.interval scan.now }
+        ensures { IsTrue result ↔ HasInterval scan.now self.now.interval }
     {
         scan.has(&self.interval)
     }

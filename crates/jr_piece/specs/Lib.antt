@@ -1,0 +1,2 @@
+pub mod PieceValue
+pub mod Outcome
