@@ -10,7 +10,6 @@ ghost use Rattle.jr_wall.specs.Decoded.{IsDecoded, least};
 use crate::board::Board;
 use crate::gate::Gate;
 use crate::mark::Mark;
-
 use jr_code::Memory;
 use jr_desk::{Desk, Seat};
 use jr_piece::Piece;
