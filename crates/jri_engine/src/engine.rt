@@ -4,9 +4,10 @@ ghost use Rattle.std.specs.Prelude.{◌≡◌, ◌≤◌, ◌<◌, ◌^◌, leng
 ghost use Rattle.std.specs.Arc.{arc_value};
 ghost use Rattle.jr_head.specs.declared.refusal.Refusal.{Refusal};
 ghost use Rattle.jr_head.specs.Heads.{RefusalOf};
+ghost use Rattle.jr_scan.specs.ScanValue.{IsSameScan};
 ghost use Rattle.jr_paint.specs.Tally.{has_failed, known_in};
 ghost use Rattle.jr_wall.specs.Decoded.{IsDecoded, least};
-ghost use Rattle.jri_engine.specs.Files.{Paints, PaintsFront, IsScanOfFile, IsFaultOf, fault_by};
+ghost use Rattle.jri_engine.specs.Files.{Paints, PaintsFront, IsScanOfFile, IsReportOf, IsFaultOf, fault_by};
 
 use crate::reading::{Unread, read_input};
 use crate::report::{Fault, Report};
@@ -30,7 +31,12 @@ fn fault_of(refusal: Refusal) -> Fault
     }
 }
 
-fn report_of(scan: &Scan, board: &Board) -> Report {
+/// The report of a board of this scan.
+fn report_of(scan: &Scan, board: &Board) -> Report
+    requires { IsSameScan board.now.scan scan.now }
+    ensures { IsReportOf scan.now board.now result }
+{
+    board.be_lawful();
     Report {
         intervals: scan.intervals(),
         sound: board.sound(),
@@ -90,7 +96,7 @@ pub fn run<T: Threads + Wait + Sync, R: Read, W: Write, G: Gate + Sync>(
     requires output { has_failed out.old ≡ false }
     requires some { 1 ≤ workers }
     requires few { workers ≤ 64 }
-    ensures painted { OnOk result (IfSome (known_in R.remaining input.old) (λ bytes. Paints (take 1073741825 bytes) first (known_in W.contents out.old) (known_in W.contents out.new))) }
+    ensures painted { IfOk result (λ report. IfSome (known_in R.remaining input.old) (λ bytes. Paints (take 1073741825 bytes) first report (known_in W.contents out.old) (known_in W.contents out.new))) }
     ensures begun { result ≡ Err Fault.Write → IfSome (known_in R.remaining input.old) (λ bytes. PaintsFront (take 1073741825 bytes) first (known_in W.contents out.old) (known_in W.contents out.new)) }
     ensures refused { (f : Refusal) → result ≡ Err (Fault.Refused f) → IfSome (known_in R.remaining input.old) (λ bytes. RefusalOf (take 1073741825 bytes) f) }
     ensures read_all { OnOk result (has_failed input.new ≡ false) }
