@@ -6,3 +6,6 @@
 mod cells;
 
 pub use cells::{Cells, Sight};
+
+#[cfg(test)]
+mod tests;
