@@ -1,0 +1,2 @@
+pub mod SightValue
+pub mod Sights

@@ -1,0 +1,169 @@
+//! A cell for each interval's piece, and what a thread has seen of them.
+
+ghost use Rattle.std.specs.Prelude.{◌≡◌, ℕ, ◌<◌, length, replicate, None, Some, IfOk, IfErr, IfSome, IfNone};
+ghost use Rattle.std.specs.Arc.{arc_value};
+ghost use Rattle.once_cell.specs.Once.{cell_name};
+ghost use Rattle.jr_piece.specs.Outcome.{IsOutcome};
+ghost use Rattle.jr_cells.specs.Sights.{piece_at, Knows, KnowsNothing, KnowsAll, KnowsMore, Agree};
+
+use jr_code::Memory;
+use jr_piece::Piece;
+use once_cell::race::{Note, OnceBox};
+use std::alloc::Global;
+use std::marker::Model;
+use std::sync::Arc;
+
+/// A cell for the piece of each interval. Each is empty until a piece is hung into it, and holds that piece ever after.
+///
+/// Threads hang and look through a shared `&Cells`, and none ever waits for another.
+#[derive(Drop)]
+pub struct Cells {
+    cells: Vec<OnceBox<Arc<Piece>>>,
+    alloc: Global,
+}
+
+impl Model for Cells {
+    ghost use Rattle.std.specs.Prelude.{ℕ, List, map, length, ◌<◌, ◌^◌};
+    ghost use Rattle.once_cell.specs.Once.{cell_name};
+
+    ghost Value = { List ℕ };
+
+    ghost view = { λ c. map cell_name c.cells.items };
+
+    ghost invariant = { λ c. length c.cells.items < 2 ^ 32 };
+}
+
+/// What one thread has seen of some cells. It is no part of the running program's data: its notes take no bytes.
+#[derive(Drop)]
+pub struct Sight {
+    notes: Vec<Note<Arc<Piece>>>,
+}
+
+impl Model for Sight {
+    ghost use Rattle.jr_cells.specs.SightValue.{SightValue};
+    ghost use Rattle.jr_cells.specs.Sights.{cells_of, pieces_of};
+
+    ghost Value = { SightValue };
+
+    ghost view = { λ s. record { cells = cells_of s.notes.items; pieces = pieces_of 0 s.notes.items } };
+}
+
+impl Cells {
+    /// Cells for n intervals, all empty.
+    pub fn open(alloc: Global, n: u32) -> Result<Cells, Memory>
+        ensures { IfOk result (λ c. length c ≡ n) }
+    {
+        let mut cells = Vec::with_capacity(alloc, n as usize)?;
+        for _ in 0..n {
+            cells.push(OnceBox::new(alloc))?;
+        }
+        Ok(Cells { cells, alloc })
+    }
+
+    /// How many cells there are.
+    pub fn count(&self) -> u32
+        ensures { result ≡ length self.now }
+    {
+        self.cells.len() as u32
+    }
+
+    /// A sight of these cells that knows nothing.
+    pub fn sight(&self) -> Result<Sight, Memory>
+        ensures cells { IfOk result (λ s. s.cells ≡ self.now) }
+        ensures nothing { IfOk result (λ s. s.pieces ≡ replicate (length self.now) None) }
+    {
+        let mut notes = Vec::with_capacity(self.alloc, self.cells.len())?;
+        for cell in &self.cells {
+            notes.push(cell.note())?;
+        }
+        Ok(Sight { notes })
+    }
+
+    /// Hangs the piece of interval i into its cell. `Err` gives the piece back: the cell is full, or memory was refused.
+    pub fn hang(&self, i: u32, piece: Arc<Piece>, sight: &mut Sight) -> Result<(), Arc<Piece>>
+        requires cell { i < length self.now }
+        requires sight { sight.old.cells ≡ self.now }
+        requires number { (arc_value piece).interval.number ≡ i }
+        ensures cells { sight.new.cells ≡ sight.old.cells }
+        ensures later { KnowsAll sight.old sight.new }
+        ensures ok { IfOk result (λ _. Knows sight.new i (arc_value piece)) }
+        ensures err { IfErr result (λ back. back ≡ piece) }
+    {
+        let alloc = self.alloc;
+        let boxed = match Box::new(alloc, piece) {
+            Ok(boxed) => boxed,
+            Err(refused) => return Err(refused.value),
+        };
+        let at = i as usize;
+        set_cell(&self.cells[at], i, boxed, &mut sight.notes[at])
+    }
+
+    /// The piece in cell i; none where the cell is still empty. Whoever saw a piece in a cell finds it there ever after.
+    pub fn look<'a>(&'a self, i: u32, sight: &mut Sight) -> Option<&'a Piece>
+        requires cell { i < length self.now }
+        requires sight { sight.old.cells ≡ self.now }
+        ensures cells { sight.new.cells ≡ sight.old.cells }
+        ensures later { KnowsAll sight.old sight.new }
+        ensures some { IfSome result (λ p. (p.now.interval.number ≡ i) × Knows sight.new i p.now) }
+        ensures outcome { IfSome result (λ p. IsOutcome p.now) }
+        ensures none { IfNone result ((sight.new ≡ sight.old) × KnowsNothing sight.old i) }
+    {
+        let at = i as usize;
+        look_cell(&self.cells[at], i, &mut sight.notes[at])
+    }
+
+    /// Two sights agree on each cell of which both know the piece.
+    pub fn agree(&self, one: &mut Sight, two: &mut Sight)
+        requires { (one.old.cells ≡ self.now) × (two.old.cells ≡ self.now) }
+        ensures same { (one.new ≡ one.old) × (two.new ≡ two.old) }
+        ensures agree { Agree one.old two.old }
+    {
+        for i in 0..self.cells.len() {
+            let other = two.notes[i].again();
+            one.notes[i].compare(other);
+        }
+    }
+}
+
+/// Sets one cell. A refused piece comes back.
+fn set_cell(
+    cell: &OnceBox<Arc<Piece>>,
+    i: u32,
+    piece: Box<Arc<Piece>>,
+    note: &mut Note<Arc<Piece>>,
+) -> Result<(), Arc<Piece>>
+    requires cell { note.old.cell ≡ cell_name cell.now }
+    requires number { (arc_value piece.value).interval.number ≡ i }
+    ensures later { KnowsMore i note.old note.new }
+    ensures ok { IfOk result (λ _. piece_at i note.new.known ≡ Some (arc_value piece.value)) }
+    ensures err { IfErr result (λ back. back ≡ piece.value) }
+{
+    match cell.set_as(piece, note) {
+        Ok(()) => Ok(()),
+        Err(back) => Err(Box::into_inner(back)),
+    }
+}
+
+/// The piece in one cell, which counts only with the cell's number.
+fn look_cell<'a>(
+    cell: &'a OnceBox<Arc<Piece>>,
+    i: u32,
+    note: &mut Note<Arc<Piece>>,
+) -> Option<&'a Piece>
+    requires { note.old.cell ≡ cell_name cell.now }
+    ensures later { KnowsMore i note.old note.new }
+    ensures some { IfSome result (λ p. (p.now.interval.number ≡ i) × (piece_at i note.new.known ≡ Some p.now)) }
+    ensures outcome { IfSome result (λ p. IsOutcome p.now) }
+    ensures none { IfNone result ((piece_at i note.new.known ≡ None) × (piece_at i note.old.known ≡ None)) }
+{
+    let piece: &Piece = match cell.get_as(note) {
+        Some(piece) => piece,
+        None => return None,
+    };
+    piece.be_outcome();
+    if piece.number() == i {
+        Some(piece)
+    } else {
+        None
+    }
+}
