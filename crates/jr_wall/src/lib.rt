@@ -11,6 +11,7 @@ mod workers;
 
 pub use board::{Board, Unposted};
 pub use gate::{Gate, OpenGate};
+pub use jr_cells::{Cells, Sight};
 pub use jr_desk::{Desk, Drawn, Seat};
 pub use jr_piece::{Piece, one_outcome};
 pub use laws::one_picture;
