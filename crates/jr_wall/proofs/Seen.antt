@@ -110,7 +110,7 @@ shown_is b c x y = refl
 pub right : (b : BoardValue) (s : ScanValue) (c x y sample : ℕ) → IsLawful b → IsSameScan b.scan s → (spot_of s.head c x y).mcu < mcus_of s.head → (spot_of s.head c x y).block < blocks_of s.head → length (order_of s.head) ≡ blocks_of s.head
     → sample ≡ shown b c x y
     → IsRight (scans.interval_of s (interval_of s.head (spot_of s.head c x y).mcu)) (blank_of s.head.kind c) (unit_in s.head (spot_of s.head c x y)) (place_in (spot_of s.head c x y))
-      (mark_at b (interval_of s.head (spot_of s.head c x y).mcu)) sample
+    (mark_at b (interval_of s.head (spot_of s.head c x y).mcu)) sample
 right b s c x y sample lawful same mcu block e is =
     let h = s.head in
     let spot = spot_of h c x y in

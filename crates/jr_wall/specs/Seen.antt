@@ -11,7 +11,7 @@ use Rattle.jr_scan.specs.Units.{Decodes, LongestFront}
 use Rattle.jr_piece.specs.Outcome.{unit_of, HasNoDecoding}
 use Rattle.jr_wall.specs.declared.mark.Mark.{Mark}
 use Rattle.jr_wall.specs.declared.mark.Mark.TheVariants.{Blank, Sound, Damaged}
-use Rattle.jr_wall.specs.declared.glance.Glance.{Glance}
+use Rattle.jr_wall.specs.declared.viewing.Glimpse.{Glimpse}
 use Rattle.jr_wall.specs.BoardValue.{BoardValue}
 use Rattle.jr_wall.specs.Boards.{IsLawful, mark_at, is_sound_piece, is_damaged_piece}
 use Rattle.jr_wall.specs.Shown.{blank_of, interval_of, within_interval}
@@ -43,20 +43,20 @@ pub record ShowsFront (i : IntervalValue) (unit place sample : ℕ) : Type 0 whe
   pub behind : length blocks ≤ unit → sample ≡ 128
 
 -- what is seen in an interval with this mark is what T.81 gives for it
-pub record IsRight (i : IntervalValue) (blank unit place : ℕ) (mark : Mark) (sample : ℕ) : Type 0 where
+pub record IsRight (i : IntervalValue) (black unit place : ℕ) (mark : Mark) (sample : ℕ) : Type 0 where
   pub sound : mark ≡ Sound → ShowsDecoding i unit place sample
   pub damaged : mark ≡ Damaged → ShowsFront i unit place sample
-  pub blank : mark ≡ Blank → sample ≡ blank
+  pub blank : mark ≡ Blank → sample ≡ black
 
 -- THE HEADLINE: at one moment a board of this scan is lawful, the mark and the sample are right, and the counts equal
 -- the marks
-pub record IsGlance (scan : ScanValue) (c x y : ℕ) (g : Glance) : Type 0 where
+pub record IsGlimpse (scan : ScanValue) (c x y : ℕ) (g : Glimpse) : Type 0 where
   pub board : BoardValue
   pub same : IsSameScan board.scan scan
   pub lawful : IsLawful board
   pub mark : g.mark ≡ mark_at board (interval_of scan.head (spot_of scan.head c x y).mcu)
   pub right : IsRight (scans.interval_of scan (interval_of scan.head (spot_of scan.head c x y).mcu)) (blank_of scan.head.kind c)
-    (unit_in scan.head (spot_of scan.head c x y)) (place_in (spot_of scan.head c x y)) g.mark g.sample
+      (unit_in scan.head (spot_of scan.head c x y)) (place_in (spot_of scan.head c x y)) g.mark g.sample
   pub sound : g.sound ≡ count_by is_sound_piece board.pieces
   pub damaged : g.damaged ≡ count_by is_damaged_piece board.pieces
   pub blank : g.sound + g.damaged + g.blank ≡ length scan.intervals

@@ -10,7 +10,6 @@ ghost use Rattle.jr_wall.specs.Boards.{piece_at, mark_at, mark_of, is_sound_piec
 ghost use Rattle.jr_wall.specs.Decoded.{IsRefused};
 
 use crate::mark::Mark;
-
 use jr_code::Memory;
 use jr_piece::Piece;
 use jr_scan::Scan;

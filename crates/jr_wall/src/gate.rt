@@ -2,7 +2,6 @@
 
 use jr_piece::Piece;
 
-
 /// What a worker calls between its steps, holding no lock.
 pub trait Gate {
     /// Called between claiming interval `number` and decoding it.

@@ -3,17 +3,18 @@
 
 mod board;
 mod gate;
-mod glance;
 mod laws;
 mod mark;
 mod painting;
+mod viewing;
 mod workers;
 
 pub use board::{Board, Unposted};
 pub use gate::{Gate, OpenGate};
-pub use glance::{Glance, glance};
+pub use jr_cells::{Cells, Sight};
 pub use jr_desk::{Desk, Drawn, Seat};
 pub use jr_piece::{Piece, one_outcome};
 pub use laws::one_picture;
 pub use mark::Mark;
+pub use viewing::{Glimpse, glance};
 pub use workers::{decode_all, work};

@@ -1,6 +1,6 @@
 //! The threads that fill a board.
 
-ghost use Rattle.std.specs.Prelude.{◌≡◌, ◌≢◌, ◌<◌, ◌≤◌, ℕ, ◌++◌, List, length, true, All, IsTrue, IfOk, OnOk};
+ghost use Rattle.std.specs.Prelude.{◌≡◌, ◌≢◌, ◌<◌, ◌≤◌, ℕ, ◌++◌, List, length, true, All, IsTrue, IfOk, IfSome, OnOk};
 ghost use Rattle.std.specs.Arc.{arc_value};
 ghost use Rattle.jr_wall.specs.declared.mark.Mark.TheVariants.{Blank};
 ghost use Rattle.jr_scan.specs.ScanValue.{IsSameScan};
@@ -10,7 +10,7 @@ ghost use Rattle.jr_wall.specs.Decoded.{IsDecoded, least};
 use crate::board::Board;
 use crate::gate::Gate;
 use crate::mark::Mark;
-
+use jr_cells::{Cells, Sight};
 use jr_code::Memory;
 use jr_desk::{Desk, Seat};
 use jr_piece::Piece;
@@ -20,8 +20,9 @@ use std::sync::{Arc, Mutex, Wait};
 use std::thread;
 use std::thread::Threads;
 
-/// Claims intervals until the seat has ended: for each it passes the gate, makes the piece, shows it to the gate, and
-/// posts it under the lock. An interval whose piece can't be made for want of memory stays blank.
+/// Claims intervals until the seat has ended: for each it passes the gate, makes the piece, shows it to the gate, hangs
+/// it into its cell, and posts it under the lock. An interval whose piece can't be made for want of memory stays blank;
+/// a piece that can't be hung is posted all the same.
 pub fn work<R: Wait, G: Gate>(
     rt: &R,
     alloc: Global,
@@ -29,18 +30,22 @@ pub fn work<R: Wait, G: Gate>(
     desk: &Desk,
     seat: &mut Seat,
     board: &Mutex<Board>,
+    cells: &Cells,
     gate: &G,
 )
     requires seat { seat.old.desk ≡ desk.now }
     requires limit { desk.now.limit ≤ length scan.now.intervals }
+    requires cells { desk.now.limit ≤ length cells.now }
     ensures ended { seat.new.ended ≡ true }
     ensures desk { seat.new.desk ≡ seat.old.desk }
     ensures place { seat.new.place ≡ seat.old.place }
     ensures drawn { (rest : List ℕ) × (seat.new.drawn ≡ seat.old.drawn ++ rest) }
 {
+    let mut sight = cells.sight().ok();
     while let Some(number) = desk.claim(seat) {
         gate.pass(number);
         if let Some(piece) = made(alloc, scan, number, gate) {
+            hang(cells, number, &piece, &mut sight);
             let _ = board.lock(rt).post(piece);
         }
     }
@@ -49,11 +54,27 @@ pub fn work<R: Wait, G: Gate>(
 /// The piece of an interval, which the gate has seen; none for want of memory.
 fn made<G: Gate>(alloc: Global, scan: &Scan, number: u32, gate: &G) -> Option<Arc<Piece>>
     requires { number < length scan.now.intervals }
+    ensures { IfSome result (λ piece. (arc_value piece).interval.number ≡ number) }
 {
     let interval = scan.interval(number).ok()?;
     let piece = Piece::make(alloc, interval).ok()?;
     gate.made(&piece);
     Arc::new(alloc, piece).ok()
+}
+
+/// Hangs a piece into the cell of its number, where there is a sight to do it by.
+fn hang(cells: &Cells, number: u32, piece: &Arc<Piece>, sight: &mut Option<Sight>)
+    requires cell { number < length cells.now }
+    requires number { (arc_value piece.now).interval.number ≡ number }
+    requires sight { IfSome sight.old (λ s. s.cells ≡ cells.now) }
+    ensures { IfSome sight.new (λ s. s.cells ≡ cells.now) }
+{
+    let Some(sight) = sight else {
+        return;
+    };
+    if let Ok(piece) = Arc::try_clone(piece) {
+        let _ = cells.hang(number, piece, sight);
+    }
 }
 
 /// Starts a worker for each seat, and waits for all. A worker that can't be started is left out.
@@ -64,22 +85,24 @@ fn run_workers<R: Threads + Wait + Sync, G: Gate + Sync>(
     desk: &Desk,
     seats: Vec<Seat>,
     board: &Mutex<Board>,
+    cells: &Cells,
     gate: &G,
 )
     requires seats { All (λ s. s.desk ≡ desk.now) seats.items }
     requires limit { desk.now.limit ≤ length scan.now.intervals }
+    requires cells { desk.now.limit ≤ length cells.now }
 {
     thread::scope(
         thread::scope_env(),
         rt,
         |scope|
-            requires { All (λ s. s.desk ≡ desk.now) seats.items × (desk.now.limit ≤ length scan.now.intervals) }
+            requires { All (λ s. s.desk ≡ desk.now) seats.items × (desk.now.limit ≤ length scan.now.intervals) × (desk.now.limit ≤ length cells.now) }
         {
             for mut seat in seats {
                 let _ = scope.spawn(
                     move ||
-                        requires { (seat.desk ≡ desk.now) × (desk.now.limit ≤ length scan.now.intervals) }
-                    { work(rt, alloc, scan, desk, &mut seat, board, gate) },
+                        requires { (seat.desk ≡ desk.now) × (desk.now.limit ≤ length scan.now.intervals) × (desk.now.limit ≤ length cells.now) }
+                    { work(rt, alloc, scan, desk, &mut seat, board, cells, gate) },
                 );
             }
         },
@@ -171,8 +194,9 @@ pub fn decode_all<R: Threads + Wait + Sync, G: Gate + Sync>(
         None => all,
     };
     let (desk, seats) = Desk::open(alloc, n, workers)?;
+    let cells = Cells::open(alloc, n)?;
     let shared = Mutex::new(Board::new(alloc, Arc::try_clone(&scan)?)?);
-    run_workers(rt, alloc, &scan, &desk, seats, &shared, gate);
+    run_workers(rt, alloc, &scan, &desk, seats, &shared, &cells, gate);
     let board = usable(alloc, shared.into_inner(), &scan, n)?;
     sweep(alloc, &scan, board, n)
 }

@@ -1,4 +1,5 @@
 use Rattle.std.proofs.Common.{◌≡◌, ◌-◌, ◌++◌, ℕ, List, length}
+use Rattle.std.specs.Option.{IfSome}
 use Rattle.jr_wall.proofs.workers.work.Given as goal
 
 abbrev pub decreases-loop-number : goal.decreases-loop-number
@@ -9,4 +10,5 @@ invariant-loop-number g l = record {
   desk : l.seat.desk ≡ l.initial.seat.desk;
   place : l.seat.place ≡ l.initial.seat.place;
   drawn : (rest : List ℕ) × (l.seat.drawn ≡ l.initial.seat.drawn ++ rest);
+  sight : IfSome l.sight (λ s. s.cells ≡ l.cells);
 }

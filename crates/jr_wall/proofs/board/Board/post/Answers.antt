@@ -28,8 +28,8 @@ overflow_add-sound c =
     let for : IsFor (arc_value c.args.piece).interval (arc_value c.self.inside.scan) = search rules in
     let n : c.number-number.result ≡ (arc_value c.args.piece).interval.number = search rules in
     let none : get_or c.self.inside.pieces.items c.number-number.result None ≡ None = search rules in
-    let p = fields_post (arc_value c.self.inside.scan) c.self.inside.pieces.items c.number-number.result (arc_value c.args.piece) c.deref-4.result.now c.is_sound-is_sound.result c.self.inside.sound c.self.inside.damaged c.from.result (bool_byte (not c.is_sound-is_sound.result))
-    c.self.invariant n for (search rules) none c.deref-4.ensures c.is_sound-is_sound.ensures c.from.ensures (search rules) in
+    let p = fields_post (arc_value c.self.inside.scan) c.self.inside.pieces.items c.number-number.result (arc_value c.args.piece) c.deref-5.result.now c.is_sound-is_sound.result c.self.inside.sound c.self.inside.damaged c.from.result (bool_byte (not c.is_sound-is_sound.result))
+    c.self.invariant n for (search rules) none c.deref-5.ensures c.is_sound-is_sound.ensures c.from.ensures (search rules) in
     omega (arith, p.sound_fits)
 
 pub overflow_add-damaged : goal.overflow_add-damaged
@@ -37,8 +37,8 @@ overflow_add-damaged c =
     let for : IsFor (arc_value c.args.piece).interval (arc_value c.self.inside.scan) = search rules in
     let n : c.number-number.result ≡ (arc_value c.args.piece).interval.number = search rules in
     let none : get_or c.self.inside.pieces.items c.number-number.result None ≡ None = search rules in
-    let p = fields_post (arc_value c.self.inside.scan) c.self.inside.pieces.items c.number-number.result (arc_value c.args.piece) c.deref-4.result.now c.is_sound-is_sound.result c.self.inside.sound c.self.inside.damaged c.from.result c.from-2.result
-    c.self.invariant n for (search rules) none c.deref-4.ensures c.is_sound-is_sound.ensures c.from.ensures c.from-2.ensures in
+    let p = fields_post (arc_value c.self.inside.scan) c.self.inside.pieces.items c.number-number.result (arc_value c.args.piece) c.deref-5.result.now c.is_sound-is_sound.result c.self.inside.sound c.self.inside.damaged c.from.result c.from-2.result
+    c.self.invariant n for (search rules) none c.deref-5.ensures c.is_sound-is_sound.ensures c.from.ensures c.from-2.ensures in
     omega (arith, p.damaged_fits)
 
 pub invariant_of-self : goal.invariant_of-self
@@ -46,8 +46,8 @@ invariant_of-self c =
     let for : IsFor (arc_value c.args.piece).interval (arc_value c.self.inside.scan) = search rules in
     let n : c.number-number.result ≡ (arc_value c.args.piece).interval.number = search rules in
     let none : get_or c.self.inside.pieces.items c.number-number.result None ≡ None = search rules in
-    let p = fields_post (arc_value c.self.inside.scan) c.self.inside.pieces.items c.number-number.result (arc_value c.args.piece) c.deref-4.result.now c.is_sound-is_sound.result c.self.inside.sound c.self.inside.damaged c.from.result c.from-2.result
-    c.self.invariant n for (search rules) none c.deref-4.ensures c.is_sound-is_sound.ensures c.from.ensures c.from-2.ensures in
+    let p = fields_post (arc_value c.self.inside.scan) c.self.inside.pieces.items c.number-number.result (arc_value c.args.piece) c.deref-5.result.now c.is_sound-is_sound.result c.self.inside.sound c.self.inside.damaged c.from.result c.from-2.result
+    c.self.invariant n for (search rules) none c.deref-5.ensures c.is_sound-is_sound.ensures c.from.ensures c.from-2.ensures in
     subst (λ (ps : List (Option PieceValue)). IsKept (record { scan = arc_value c.self.inside.scan; pieces = ps }) (c.self.inside.sound + c.from.result) (c.self.inside.damaged + c.from-2.result))
     (sym (map-set held c.self.inside.pieces.items c.number-number.result (Some c.args.piece))) p.kept
 

@@ -3,7 +3,7 @@
 ghost use Rattle.std.specs.Prelude.{◌≡◌, ◌<◌, IfSome};
 ghost use Rattle.jr_head.specs.Geometry.{components_of};
 ghost use Rattle.jr_paint.specs.Geometry.{samples_across, samples_down};
-ghost use Rattle.jr_wall.specs.Seen.{IsGlance};
+ghost use Rattle.jr_wall.specs.Seen.{IsGlimpse};
 
 use crate::board::Board;
 use crate::mark::Mark;
@@ -14,7 +14,7 @@ use std::sync::{Mutex, Wait};
 
 /// One sample of a board, and the marks at the moment of the look.
 #[derive(Clone, Copy, Debug, PartialEq, Eq)]
-pub struct Glance {
+pub struct Glimpse {
     /// The mark of the interval that holds the sample.
     pub mark: Mark,
     /// The sample.
@@ -28,11 +28,11 @@ pub struct Glance {
 }
 
 /// Looks at the sample in column x and line y of component c. None where the board is of another scan.
-fn look(board: &Board, scan: &Scan, c: u32, x: u32, y: u32) -> Option<Glance>
+fn look(board: &Board, scan: &Scan, c: u32, x: u32, y: u32) -> Option<Glimpse>
     requires component { c < components_of scan.now.head }
     requires column { x < samples_across scan.now.head c }
     requires line { y < samples_down scan.now.head c }
-    ensures { IfSome result (IsGlance scan.now c x y) }
+    ensures { IfSome result (IsGlimpse scan.now c x y) }
 {
     if !board.is_of(scan) {
         return None;
@@ -43,7 +43,7 @@ fn look(board: &Board, scan: &Scan, c: u32, x: u32, y: u32) -> Option<Glance>
     let _ = head.order();
     let spot = place(head, c, x, y);
     let (interval, _) = split(head, spot.mcu);
-    Some(Glance {
+    Some(Glimpse {
         mark: board.mark_of(interval),
         sample: board.sample(c, x, y),
         sound: board.sound(),
@@ -65,11 +65,11 @@ pub fn glance<R: Wait>(
     c: u32,
     x: u32,
     y: u32,
-) -> Option<Glance>
+) -> Option<Glimpse>
     requires component { c < components_of scan.now.head }
     requires column { x < samples_across scan.now.head c }
     requires line { y < samples_down scan.now.head c }
-    ensures { IfSome result (IsGlance scan.now c x y) }
+    ensures { IfSome result (IsGlimpse scan.now c x y) }
 {
     let board = board.lock(rt);
     look(&board, scan, c, x, y)
