@@ -33,7 +33,7 @@ impl Model for Cells {
     ghost invariant = { λ c. length c.cells.items < 2 ^ 32 };
 }
 
-/// What one thread has seen of some cells. It is no part of the running program's data: its notes take no bytes.
+/// What one thread has seen of some cells. Its notes take no bytes: they are what a proof knows of each cell.
 #[derive(Drop)]
 pub struct Sight {
     notes: Vec<Note<Arc<Piece>>>,
@@ -49,7 +49,7 @@ impl Model for Sight {
 }
 
 impl Cells {
-    /// Cells for n intervals, all empty.
+    /// Cells for n intervals, all empty. `Err` where memory is refused.
     pub fn open(alloc: Global, n: u32) -> Result<Cells, Memory>
         ensures { IfOk result (λ c. length c ≡ n) }
     {
@@ -67,7 +67,7 @@ impl Cells {
         self.cells.len() as u32
     }
 
-    /// A sight of these cells that knows nothing.
+    /// A sight of these cells that knows nothing. `Err` where memory is refused.
     pub fn sight(&self) -> Result<Sight, Memory>
         ensures cells { IfOk result (λ s. s.cells ≡ self.now) }
         ensures nothing { IfOk result (λ s. s.pieces ≡ replicate (length self.now) None) }
@@ -112,7 +112,7 @@ impl Cells {
         look_cell(&self.cells[at], i, &mut sight.notes[at])
     }
 
-    /// Two sights agree on each cell of which both know the piece.
+    /// Two sights of these cells agree on each cell of which both know the piece. Neither is changed.
     pub fn agree(&self, one: &mut Sight, two: &mut Sight)
         requires { (one.old.cells ≡ self.now) × (two.old.cells ≡ self.now) }
         ensures same { (one.new ≡ one.old) × (two.new ≡ two.old) }

@@ -2,20 +2,20 @@
 
 mod pictures;
 
-ghost use Rattle.std.specs.Prelude.{◌≡◌, IfSome};
+ghost use Rattle.std.specs.Prelude.{◌≡◌, IfOk};
 
 use crate::{Cells, Sight};
+use jr_code::Memory;
 use jr_piece::Piece;
-use pictures::{FALLING, RISING, pieces};
+use pictures::{FALLING, RISING, Told, pieces};
+use std::alloc::Global;
 use std::process::Abort;
 use std::sync::Arc;
 use std::test::Fail;
 use std::thread;
 use std::thread::Threads;
 
-/// What a piece of one data unit tells: its number and samples.
-type Told = (u32, [u8; 64]);
-
+/// What a piece tells.
 fn told(piece: &Piece) -> Option<Told> {
     let samples = piece.unit(0)?;
     Some((piece.number(), *samples))
@@ -45,22 +45,51 @@ fn hang(cells: &Cells, piece: Arc<Piece>, sight: &mut Sight) -> Result<(), Arc<P
 }
 
 /// Hangs these pieces by a sight of its own, and says how many found their cells empty.
-fn hang_all(cells: &Cells, pieces: Vec<Arc<Piece>>) -> usize {
+fn hang_all(cells: &Cells, pieces: Vec<Arc<Piece>>) -> u32 {
     let Ok(mut sight) = cells.sight() else {
         return 0;
     };
-    pieces
-        .into_iter()
-        .filter_map(|piece| hang(cells, piece, &mut sight).ok())
-        .count()
+    let mut hung = 0u32;
+    for piece in pieces {
+        if hang(cells, piece, &mut sight).is_ok() {
+            hung = hung.saturating_add(1);
+        }
+    }
+    hung
 }
 
-/// What a viewer saw: its sight, what each cell told at last, and whether each told the same ever after.
+/// Two threads hang pieces, and this says how many found their cells empty.
+fn hang_twice<R: Threads + Sync>(
+    rt: &R,
+    cells: &Cells,
+    one: Vec<Arc<Piece>>,
+    two: Vec<Arc<Piece>>,
+) -> u32 {
+    let (first, second) = thread::join(
+        rt,
+        move || hang_all(cells, one),
+        move || hang_all(cells, two),
+    );
+    first.saturating_add(second)
+}
+
+/// What a viewer saw: what each cell told at its last look, and whether each told the same ever after.
 #[derive(Drop)]
 struct View {
     sight: Sight,
     told: [Option<Told>; 10],
     is_steady: bool,
+}
+
+/// The view of someone who has not looked.
+fn unseen(cells: &Cells) -> Result<View, Memory>
+    ensures { IfOk result (λ v. v.sight.cells ≡ cells.now) }
+{
+    Ok(View {
+        sight: cells.sight()?,
+        told: [None; 10],
+        is_steady: true,
+    })
 }
 
 /// Looks into each cell once.
@@ -78,39 +107,56 @@ fn look_over(cells: &Cells, view: &mut View)
     }
 }
 
-/// Looks into each cell a hundred times, by a sight of its own.
-fn watch(cells: &Cells) -> Option<View>
-    ensures { IfSome result (λ v. v.sight.cells ≡ cells.now) }
+/// Looks into each cell a hundred times.
+fn watch(cells: &Cells) -> Result<View, Memory>
+    ensures { IfOk result (λ v. v.sight.cells ≡ cells.now) }
 {
-    let mut view = View {
-        sight: cells.sight().ok()?,
-        told: [None; 10],
-        is_steady: true,
-    };
+    let mut view = unseen(cells)?;
     for _ in 0..100u32 {
         look_over(cells, &mut view);
     }
-    Some(view)
+    Ok(view)
 }
 
 /// Two viewers in threads of their own.
-fn watch_twice<R: Threads + Sync>(rt: &R, cells: &Cells) -> (Option<View>, Option<View>)
-    ensures { IfSome result.0 (λ v. v.sight.cells ≡ cells.now) × IfSome result.1 (λ v. v.sight.cells ≡ cells.now) }
+fn watch_twice<R: Threads + Sync>(
+    rt: &R,
+    cells: &Cells,
+) -> (Result<View, Memory>, Result<View, Memory>)
+    ensures { IfOk result.0 (λ v. v.sight.cells ≡ cells.now) × IfOk result.1 (λ v. v.sight.cells ≡ cells.now) }
 {
     thread::join(
         rt,
-        || -> Option<View>
-            ensures { IfSome result (λ v. v.sight.cells ≡ cells.entry.now) }
+        || -> Result<View, Memory>
+            ensures { IfOk result (λ v. v.sight.cells ≡ cells.entry.now) }
         { watch(cells) },
-        || -> Option<View>
-            ensures { IfSome result (λ v. v.sight.cells ≡ cells.entry.now) }
+        || -> Result<View, Memory>
+            ensures { IfOk result (λ v. v.sight.cells ≡ cells.entry.now) }
         { watch(cells) },
     )
 }
 
-/// Whether this is all that there is to see of interval i: samples of this value.
-fn is_grey(told: Option<Told>, i: u32, grey: u8) -> bool {
-    told == Some((i, [grey; 64]))
+/// What each cell tells to someone who has not looked before.
+fn told_afresh(cells: &Cells) -> Result<[Option<Told>; 10], Memory> {
+    let mut view = unseen(cells)?;
+    look_over(cells, &mut view);
+    Ok(view.told)
+}
+
+/// Whether each cell that told something before tells the same now.
+fn is_kept(before: &[Option<Told>; 10], now: &[Option<Told>; 10]) -> bool {
+    before
+        .iter()
+        .zip(now.iter())
+        .all(|(before, now)| before.is_none() || before == now)
+}
+
+/// Whether each cell tells of a piece of one of the two pictures.
+fn is_full(now: &[Option<Told>; 10]) -> bool {
+    let (rising, falling) = (RISING.told(), FALLING.told());
+    now.iter()
+        .zip(rising.iter().zip(falling.iter()))
+        .all(|(now, (rising, falling))| now == rising || now == falling)
 }
 
 #[test]
@@ -120,10 +166,7 @@ fn pieces_of_another_thread_are_found(rt: HostRuntime) -> Result<(), Fail> {
     let shared = &cells;
     let (hung, ()) = thread::join(&rt, move || hang_all(shared, pieces), || ());
     assert_eq!(rt; hung, 10);
-    let mut sight = cells.sight()?;
-    for (i, grey) in (0..10u32).zip(RISING.greys) {
-        assert!(rt; is_grey(look(&cells, i, &mut sight), i, grey), "cell {i}");
-    }
+    assert!(rt; told_afresh(&cells)? == RISING.told());
     Ok(())
 }
 
@@ -133,14 +176,13 @@ fn a_full_cell_gives_the_second_piece_back(rt: HostRuntime) -> Result<(), Fail> 
     let mut sight = cells.sight()?;
     let first = pieces(rt.alloc(), &RISING)?.pop().ok_or("ten pieces")?;
     let second = pieces(rt.alloc(), &FALLING)?.pop().ok_or("ten pieces")?;
+    let kept = Arc::try_clone(&second)?;
     assert!(rt; hang(&cells, first, &mut sight).is_ok());
-    for _ in 0..2u32 {
-        let back = hang(&cells, Arc::try_clone(&second)?, &mut sight);
-        let back = back.err().ok_or("the cell is full")?;
-        assert!(rt; Arc::as_ptr(&back) == Arc::as_ptr(&second));
-        assert!(rt; is_grey(told(&back), 9, 114));
-        assert!(rt; is_grey(look(&cells, 9, &mut sight), 9, 160));
-    }
+    let back = hang(&cells, second, &mut sight).err();
+    let back = back.ok_or("the cell is full")?;
+    assert_eq!(rt; Arc::strong_count(&kept), 2);
+    assert_eq!(rt; told(&back), Some((9, [114; 64])));
+    assert_eq!(rt; look(&cells, 9, &mut sight), Some((9, [160; 64])));
     Ok(())
 }
 
@@ -148,68 +190,45 @@ fn a_full_cell_gives_the_second_piece_back(rt: HostRuntime) -> Result<(), Fail> 
 fn an_empty_cell_is_empty_until_a_piece_is_hung(rt: HostRuntime) -> Result<(), Fail> {
     let cells = Cells::open(rt.alloc(), 10)?;
     assert_eq!(rt; cells.count(), 10);
-    let mut sight = cells.sight()?;
-    let mut other = cells.sight()?;
-    for (piece, grey) in pieces(rt.alloc(), &RISING)?.into_iter().zip(RISING.greys) {
-        let i = piece.number();
-        assert_eq!(rt; look(&cells, i, &mut sight), None);
-        assert_eq!(rt; look(&cells, i, &mut sight), None);
-        assert!(rt; hang(&cells, piece, &mut sight).is_ok());
-        assert!(rt; is_grey(look(&cells, i, &mut sight), i, grey), "cell {i}");
-        assert!(rt; is_grey(look(&cells, i, &mut other), i, grey), "cell {i}");
-    }
-    cells.agree(&mut sight, &mut other);
+    let mut one = cells.sight()?;
+    let mut two = cells.sight()?;
+    let last = pieces(rt.alloc(), &RISING)?.pop().ok_or("ten pieces")?;
+    assert_eq!(rt; look(&cells, 9, &mut one), None);
+    assert_eq!(rt; look(&cells, 9, &mut one), None);
+    assert!(rt; hang(&cells, last, &mut two).is_ok());
+    assert_eq!(rt; look(&cells, 9, &mut one), Some((9, [160; 64])));
+    assert_eq!(rt; look(&cells, 9, &mut two), Some((9, [160; 64])));
+    assert_eq!(rt; look(&cells, 8, &mut one), None);
+    cells.agree(&mut one, &mut two);
     assert_eq!(rt; Cells::open(rt.alloc(), 0)?.count(), 0);
     Ok(())
 }
 
-/// Whether two viewers saw the same in each cell in which both saw a piece.
-fn is_same_view(one: &View, two: &View) -> bool {
-    one.told
-        .iter()
-        .zip(two.told.iter())
-        .all(|(one, two)| one.is_none() || two.is_none() || one == two)
-}
-
-/// A look into each cell finds the piece of one picture or the other, as both viewers saw it.
-fn check_cells(rt: &impl Abort, cells: &Cells, one: &View, two: &View) -> Result<(), Fail> {
-    let mut sight = cells.sight()?;
-    for (i, (rising, falling)) in (0..10u32).zip(RISING.greys.iter().zip(FALLING.greys.iter())) {
-        let last = look(cells, i, &mut sight);
-        assert!(rt;
-            is_grey(last, i, *rising) || is_grey(last, i, *falling),
-            "cell {i}"
-        );
-        for told in [one.told[i as usize], two.told[i as usize]] {
-            assert!(rt; told.is_none() || told == last, "cell {i}");
-        }
-    }
+/// Two threads hang pieces of the same numbers, while two viewers look.
+fn hang_and_watch<R: Threads + Abort + Sync>(rt: &R, alloc: Global) -> Result<(), Fail> {
+    let cells = Cells::open(alloc, 10)?;
+    let (rising, mut falling) = (pieces(alloc, &RISING)?, pieces(alloc, &FALLING)?);
+    falling.reverse();
+    let shared = &cells;
+    let ((one, two), hung) = thread::join(
+        rt,
+        || watch_twice(rt, shared),
+        move || hang_twice(rt, shared, rising, falling),
+    );
+    assert_eq!(rt; hung, 10);
+    let (mut one, mut two) = (one?, two?);
+    let last = told_afresh(&cells)?;
+    assert!(rt; is_full(&last));
+    assert!(rt; one.is_steady && is_kept(&one.told, &last));
+    assert!(rt; two.is_steady && is_kept(&two.told, &last));
+    cells.agree(&mut one.sight, &mut two.sight);
     Ok(())
 }
 
 #[test]
 fn viewers_agree_while_two_threads_hang(rt: HostRuntime) -> Result<(), Fail> {
     for _ in 0..20u32 {
-        let cells = Cells::open(rt.alloc(), 10)?;
-        let mut falling = pieces(rt.alloc(), &FALLING)?;
-        falling.reverse();
-        let rising = pieces(rt.alloc(), &RISING)?;
-        let (shared, runtime) = (&cells, &rt);
-        let ((one, two), (first, second)) = thread::join(
-            &rt,
-            || watch_twice(runtime, shared),
-            move || thread::join(
-                runtime,
-                move || hang_all(shared, rising),
-                move || hang_all(shared, falling),
-            ),
-        );
-        assert_eq!(rt; first + second, 10);
-        let mut one = one.ok_or("memory for a sight")?;
-        let mut two = two.ok_or("memory for a sight")?;
-        assert!(rt; one.is_steady && two.is_steady && is_same_view(&one, &two));
-        cells.agree(&mut one.sight, &mut two.sight);
-        check_cells(&rt, &cells, &one, &two)?;
+        hang_and_watch(&rt, rt.alloc())?;
     }
     Ok(())
 }

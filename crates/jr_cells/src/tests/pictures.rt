@@ -7,10 +7,24 @@ use std::alloc::Global;
 use std::sync::Arc;
 use std::test::Fail;
 
+/// What a piece of one data unit tells: its number and samples.
+pub(super) type Told = (u32, [u8; 64]);
+
 /// The bytes of a scan of ten restart intervals, each of one grey data unit of one value, and those values by djpeg.
 pub(super) struct Picture {
     scan: [u8; 30],
-    pub(super) greys: [u8; 10],
+    greys: [u8; 10],
+}
+
+impl Picture {
+    /// What its pieces tell.
+    pub(super) fn told(&self) -> [Option<Told>; 10] {
+        let mut told = [None; 10];
+        for i in 0..10usize {
+            told[i] = Some((i as u32, [self.greys[i]; 64]));
+        }
+        told
+    }
 }
 
 pub(super) static RISING: Picture = Picture {
