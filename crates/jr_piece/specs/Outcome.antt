@@ -1,5 +1,5 @@
 -- What T.81 gives for an interval: the samples of its data units, or that it has no decoding and how far it goes.
-use Rattle.std.specs.Prelude.{◌≡◌, ℕ, ◌<◌, Bool, true, false, List, [], length, ℤ, slice_index_or}
+use Rattle.std.specs.Prelude.{◌≡◌, ℕ, ◌<◌, true, false, List, [], length, ℤ, slice_index_or}
 use Rattle.jr_head.specs.HeadValue.{HeadValue}
 use Rattle.jr_head.specs.Geometry.{quantiser_of}
 use Rattle.jr_scan.specs.IntervalValue.{IntervalValue}

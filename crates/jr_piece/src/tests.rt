@@ -71,10 +71,13 @@ fn piece_of(alloc: Global, scan: &Scan, i: u32) -> Result<Piece, Fail> {
 fn check(rt: &impl Abort, piece: &Piece, is_sound: bool, front: u32, values: &[u8]) {
     assert_eq!(rt; piece.is_sound(), is_sound);
     assert_eq!(rt; piece.front(), front);
-    for (k, value) in values.iter().enumerate() {
-        assert!(rt; piece.block(k as u32) == Some(&[*value; 64]));
+    let mut k = 0u32;
+    for value in values {
+        assert!(rt; piece.block(k) == Some(&[*value; 64]));
+        k = k.wrapping_add(1);
     }
-    assert!(rt; piece.block(values.len() as u32).is_none());
+    assert!(rt; piece.block(k).is_none());
+    assert!(rt; piece.unit(k as usize).is_none());
 }
 
 #[test]

@@ -1,8 +1,7 @@
 -- What is seen on a lawful board is right.
-use Rattle.std.proofs.Common.{◌≡◌, ℕ, zero, suc, ◌+◌, ◌-◌, ◌*◌, ◌/◌, ◌%◌, ◌<◌, ◌≤◌, min, Bool, true, false, cond, inl, inr, Option, Some, None, List, [], length, get_or, refl, sym, ap, subst, ◌∙◌, arith}
+use Rattle.std.proofs.Common.{◌≡◌, ℕ, ◌+◌, ◌-◌, ◌*◌, ◌/◌, ◌%◌, ◌<◌, ◌≤◌, min, Bool, true, false, cond, inl, inr, Option, Some, None, List, [], length, get_or, refl, sym, ap, subst, ◌∙◌, arith}
 use Rattle.std.specs.Prelude.{ℤ, slice_get, slice_index}
 use Rattle.std.proofs.lemmas.Bool.Decides.{eqb_tells}
-use Rattle.std.proofs.lemmas.Bool.{cases_lt}
 use Rattle.std.proofs.lemmas.Option.{slice_get-get_or, slice_get_past}
 use Rattle.std.proofs.lemmas.Nat.{div-add-mod', mod_below}
 use Rattle.std.proofs.Math.Nat.{mul-le-mul_right}
@@ -15,12 +14,11 @@ use Rattle.jr_scan.specs.ScanValue as scans
 use Rattle.jr_scan.specs.Units.{Decodes}
 use Rattle.jr_piece.specs.PieceValue.{PieceValue}
 use Rattle.jr_piece.specs.Outcome.{AreSamples, IsDamaged, IsOutcome, unit_of}
-use Rattle.jr_wall.specs.declared.mark.Mark.{Mark}
 use Rattle.jr_wall.specs.declared.mark.Mark.TheVariants.{Blank, Sound, Damaged}
 use Rattle.jr_wall.specs.BoardValue.{BoardValue}
 use Rattle.jr_wall.specs.Boards.{IsLawful, piece_at, mark_of, mark_at}
 use Rattle.jr_wall.specs.Shown.{blank_of, interval_of, within_interval, sample_in, shown_in, shown}
-use Rattle.jr_wall.specs.Seen.{spot_of, unit_in, place_in, ShowsDecoding, ShowsFront, IsRight}
+use Rattle.jr_wall.specs.Seen.{spot_of, unit_in, place_in, IsRight}
 
 -- an MCU of the picture is one of its interval
 within_few : (h : HeadValue) (mcu : ℕ) → mcu < mcus_of h → within_interval h mcu < mcus_in h (interval_of h mcu)
