@@ -142,6 +142,19 @@ pub(crate) fn file(alloc: Global, words: &str) -> Result<Vec<u8>, Fail> {
     Ok(bytes)
 }
 
+/// The first bytes of a file, at most so many.
+pub(crate) fn front(bytes: &[u8], length: usize) -> &[u8] {
+    &bytes[..length.min(bytes.len())]
+}
+
+/// The bytes of a file, one of them changed.
+pub(crate) fn changed(alloc: Global, bytes: &[u8], at: usize, value: u8) -> Result<Vec<u8>, Fail> {
+    let mut bytes = bytes.to_vec(alloc)?;
+    let byte = bytes.get_mut(at).ok_or("no byte there")?;
+    *byte = value;
+    Ok(bytes)
+}
+
 #[test]
 fn parts_are_put_together(rt: HostRuntime) -> Result<(), Fail> {
     assert_eq!(rt; file(rt.alloc(), "G 63 E")?.len(), 143);

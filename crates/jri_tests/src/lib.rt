@@ -3,18 +3,32 @@
 #![tactic(auto)]
 
 #[cfg(test)]
+mod boards;
+#[cfg(test)]
+mod cases;
+#[cfg(test)]
+mod changed;
+#[cfg(test)]
 mod decoding;
 #[cfg(test)]
 mod devices;
 #[cfg(test)]
+mod every_byte;
+#[cfg(test)]
 mod files;
+#[cfg(test)]
+mod one_byte;
 #[cfg(test)]
 mod pictures;
 #[cfg(test)]
 mod refused;
+#[cfg(test)]
+mod scans;
 #[cfg(test)]
 mod shares;
 #[cfg(test)]
 mod whole;
 #[cfg(test)]
 mod words;
+#[cfg(test)]
+mod workers;

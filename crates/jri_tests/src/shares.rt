@@ -105,3 +105,59 @@ fn damage_past_the_first(rt: HostRuntime) -> Result<(), Fail> {
     };
     check(&rt, 2, Some(1), one)
 }
+
+/// Ten intervals that have a decoding.
+const TEN: Case = Case {
+    file: "GW 63 FF D0 63 FF D1 63 FF D2 63 FF D3 63 FF D4 63 FF D5 63 FF D6 63 FF D7 63 FF D0 63 E",
+    picture: "P5 80 8 : 80*136",
+    intervals: "intervals 10 sound 10 damaged 0 blank 0",
+    status: 0,
+};
+
+/// Two intervals of three components.
+const COLOURED: Case = Case {
+    file: "S Q F3:0009:0011:22 D:00:03:06 A I C3 00 01 48 FF D0 60 00 07 E",
+    picture: "P6 17 9 : 16*229,77,128 1*136,136,136",
+    intervals: "intervals 2 sound 2 damaged 0 blank 0",
+    status: 0,
+};
+
+#[test]
+fn more_workers_than_intervals_and_fewer(rt: HostRuntime) -> Result<(), Fail> {
+    let three = Case {
+        picture: "P5 80 8 : 24*136 56*0",
+        intervals: "intervals 10 sound 3 damaged 0 blank 7",
+        ..TEN
+    };
+    let none = Case {
+        picture: "P5 80 8 : 80*0",
+        intervals: "intervals 10 sound 0 damaged 0 blank 10",
+        ..TEN
+    };
+    check(&rt, 1, None, TEN)?;
+    check(&rt, 64, None, TEN)?;
+    check(&rt, 1, Some(3), three)?;
+    check(&rt, 2, Some(3), three)?;
+    check(&rt, 64, Some(3), three)?;
+    check(&rt, 1, Some(0), none)?;
+    check(&rt, 64, Some(0), none)
+}
+
+/// An interval that is not decoded is black in colour too.
+#[test]
+fn first_intervals_of_three_components(rt: HostRuntime) -> Result<(), Fail> {
+    let one = Case {
+        picture: "P6 17 9 : 16*229,77,128 1*0,0,0",
+        intervals: "intervals 2 sound 1 damaged 0 blank 1",
+        ..COLOURED
+    };
+    let none = Case {
+        picture: "P6 17 9 : 17*0,0,0",
+        intervals: "intervals 2 sound 0 damaged 0 blank 2",
+        ..COLOURED
+    };
+    check(&rt, 1, None, COLOURED)?;
+    check(&rt, 64, None, COLOURED)?;
+    check(&rt, 2, Some(1), one)?;
+    check(&rt, 2, Some(0), none)
+}

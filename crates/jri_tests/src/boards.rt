@@ -1,0 +1,211 @@
+//! Pieces posted on a board: out of order, twice, and of another file's scan.
+
+use crate::scans::{piece, sample, scan, shows};
+use jr_paint::Samples;
+use jr_scan::Scan;
+use jr_wall::{Board, Gate, Mark, OpenGate, Piece, Unposted, decode_all};
+use std::alloc::Global;
+use std::process::Abort;
+use std::sync::Arc;
+use std::test::Fail;
+
+/// Two intervals that have a decoding; the same where the second has none; ten that have one.
+const SOUND: &str = "GI 63 FF D0 63 E";
+
+const DAMAGED: &str = "GI 63 FF D0 E0 E";
+
+const TEN: &str =
+    "GW 63 FF D0 63 FF D1 63 FF D2 63 FF D3 63 FF D4 63 FF D5 63 FF D6 63 FF D7 63 FF D0 63 E";
+
+/// The marks of a board of this scan: a letter for each interval.
+fn marks(alloc: Global, scan: &Scan, board: &Board) -> Result<String, Fail> {
+    let mut letters = String::new(alloc);
+    if !board.is_of(scan) {
+        return Err(Fail::from("a board of another scan"));
+    }
+    board.be_lawful();
+    for i in 0..scan.intervals() {
+        letters.push(match board.mark(i) {
+            Mark::Blank => '-',
+            Mark::Sound => 's',
+            Mark::Damaged => 'd',
+        })?;
+    }
+    Ok(letters)
+}
+
+/// The piece that comes back, and whether the board calls it foreign.
+fn back(outcome: Result<(), Unposted>) -> Option<(Arc<Piece>, bool)> {
+    match outcome {
+        Ok(()) => None,
+        Err(Unposted::Foreign(piece)) => Some((piece, true)),
+        Err(Unposted::AlreadyMarked(piece)) => Some((piece, false)),
+    }
+}
+
+fn counts(board: &Board) -> (u32, u32, u32) {
+    (board.sound(), board.damaged(), board.blank())
+}
+
+#[test]
+fn a_damaged_piece_before_a_sound_one(rt: HostRuntime) -> Result<(), Fail> {
+    let alloc = rt.alloc();
+    let scan = scan(alloc, DAMAGED)?;
+    let mut board = Board::new(alloc, Arc::try_clone(&scan)?)?;
+    assert_eq!(rt; counts(&board), (0, 0, 2));
+    assert_eq!(rt; sample(&board, 0, 0), Some(0));
+    assert!(rt; board.post(piece(alloc, &scan, 1)?).is_ok());
+    assert!(rt; marks(alloc, &scan, &board)?.as_str() == "-d");
+    assert_eq!(rt;
+        (sample(&board, 8, 0), sample(&board, 0, 0)),
+        (Some(128), Some(0))
+    );
+    assert!(rt; board.post(piece(alloc, &scan, 0)?).is_ok());
+    assert!(rt; marks(alloc, &scan, &board)?.as_str() == "sd");
+    assert!(rt; shows(&board, 0, 136) && shows(&board, 8, 128));
+    assert_eq!(rt; counts(&board), (1, 1, 0));
+    Ok(())
+}
+
+#[test]
+fn pieces_out_of_order(rt: HostRuntime) -> Result<(), Fail> {
+    let alloc = rt.alloc();
+    let scan = scan(alloc, TEN)?;
+    let mut board = Board::new(alloc, Arc::try_clone(&scan)?)?;
+    let steps = [
+        (7, "-------s--"),
+        (2, "--s----s--"),
+        (9, "--s----s-s"),
+        (0, "s-s----s-s"),
+        (8, "s-s----sss"),
+        (1, "sss----sss"),
+        (5, "sss--s-sss"),
+        (6, "sss--sssss"),
+        (3, "ssss-sssss"),
+        (4, "ssssssssss"),
+    ];
+    for (number, wanted) in steps {
+        assert!(rt; shows(&board, 8 * number, 0), "before {number}");
+        assert!(rt;
+            board.post(piece(alloc, &scan, number)?).is_ok(),
+            "piece {number}"
+        );
+        let found = marks(alloc, &scan, &board)?;
+        assert!(rt; found.as_str() == wanted, "marks after {number}");
+        assert!(rt; shows(&board, 8 * number, 136), "after {number}");
+    }
+    assert_eq!(rt; counts(&board), (10, 0, 0));
+    Ok(())
+}
+
+#[test]
+fn a_piece_posted_twice(rt: HostRuntime) -> Result<(), Fail> {
+    let alloc = rt.alloc();
+    let scan = scan(alloc, SOUND)?;
+    let mut board = Board::new(alloc, Arc::try_clone(&scan)?)?;
+    let once = piece(alloc, &scan, 0)?;
+    let again = Arc::try_clone(&once)?;
+    assert!(rt; board.post(once).is_ok());
+    let (refused, is_foreign) = back(board.post(again)).ok_or("posted twice")?;
+    assert!(rt; !is_foreign && refused.number() == 0);
+    let (refused, is_foreign) = back(board.post(piece(alloc, &scan, 0)?)).ok_or("posted twice")?;
+    assert!(rt; !is_foreign && refused.number() == 0);
+    assert_eq!(rt; counts(&board), (1, 0, 1));
+    assert!(rt; marks(alloc, &scan, &board)?.as_str() == "s-");
+    assert!(rt; shows(&board, 0, 136) && shows(&board, 8, 0));
+    Ok(())
+}
+
+#[test]
+fn a_foreign_piece(rt: HostRuntime) -> Result<(), Fail> {
+    let alloc = rt.alloc();
+    let scan_here = scan(alloc, SOUND)?;
+    let other = scan(alloc, DAMAGED)?;
+    let mut board = Board::new(alloc, Arc::try_clone(&scan_here)?)?;
+    assert!(rt; board.is_of(&scan_here) && !board.is_of(&other));
+    let stranger = piece(alloc, &other, 1)?;
+    assert!(rt; stranger.is_for(&other) && !stranger.is_for(&scan_here));
+    let (refused, is_foreign) = back(board.post(stranger)).ok_or("a foreign piece")?;
+    assert!(rt; is_foreign && refused.number() == 1 && !refused.is_sound());
+    assert_eq!(rt; counts(&board), (0, 0, 2));
+    assert!(rt; marks(alloc, &scan_here, &board)?.as_str() == "--");
+    assert!(rt; shows(&board, 0, 0) && shows(&board, 8, 0));
+    Ok(())
+}
+
+/// A piece of a number that the board's scan does not have.
+#[test]
+fn a_piece_past_the_last(rt: HostRuntime) -> Result<(), Fail> {
+    let alloc = rt.alloc();
+    let ten = scan(alloc, TEN)?;
+    let mut board = Board::new(alloc, scan(alloc, SOUND)?)?;
+    let (refused, is_foreign) = back(board.post(piece(alloc, &ten, 9)?)).ok_or("past the last")?;
+    assert!(rt; is_foreign && refused.number() == 9);
+    assert_eq!(rt; counts(&board), (0, 0, 2));
+    Ok(())
+}
+
+/// What a piece shows of its interval.
+#[test]
+fn looks_of_a_piece(rt: HostRuntime) -> Result<(), Fail> {
+    let alloc = rt.alloc();
+    let scan_here = scan(alloc, DAMAGED)?;
+    let first = piece(alloc, &scan_here, 0)?;
+    assert!(rt; first.number() == 0 && first.is_sound() && first.front() == 1);
+    assert!(rt; first.block(0) == Some(&[136; 64]) && first.block(1).is_none());
+    let second = piece(alloc, &scan_here, 1)?;
+    assert!(rt; second.number() == 1 && !second.is_sound() && second.front() == 0);
+    assert!(rt; second.block(0).is_none());
+    // Ten bits are left over, so the interval has no decoding, though its one MCU is shown.
+    let left_over = scan(alloc, "G 63 63 E")?;
+    let piece_here = piece(alloc, &left_over, 0)?;
+    assert!(rt; !piece_here.is_sound() && piece_here.front() == 1);
+    assert!(rt; piece_here.block(0) == Some(&[136; 64]));
+    Ok(())
+}
+
+/// A line of samples that begins and ends within data units.
+fn line<R: Abort>(rt: &R, board: &Board, from: u32) -> [u8; 8] {
+    let mut samples = [1; 8];
+    let head = board.head();
+    assert!(rt; 0 < head.components());
+    let across = (head.width() * head.horizontal(0)).div_ceil(head.horizontal_max());
+    let down = (head.height() * head.vertical(0)).div_ceil(head.vertical_max());
+    assert!(rt; from <= 8 && 16 <= across && 7 < down);
+    board.line(0, from, 7, &mut samples);
+    samples
+}
+
+#[test]
+fn decoded_by_workers(rt: HostRuntime) -> Result<(), Fail> {
+    let alloc = rt.alloc();
+    let scan = scan(alloc, DAMAGED)?;
+    let board = decode_all(&rt, alloc, Arc::try_clone(&scan)?, 3, None, &OpenGate)?;
+    assert!(rt; marks(alloc, &scan, &board)?.as_str() == "sd");
+    assert_eq!(rt;
+        line(&rt, &board, 4),
+        [136, 136, 136, 136, 128, 128, 128, 128]
+    );
+    assert_eq!(rt; (board.head().width(), board.head().height()), (16, 8));
+    let board = decode_all(&rt, alloc, Arc::try_clone(&scan)?, 3, Some(1), &OpenGate)?;
+    assert!(rt; marks(alloc, &scan, &board)?.as_str() == "s-");
+    assert_eq!(rt; line(&rt, &board, 4), [136, 136, 136, 136, 0, 0, 0, 0]);
+    Ok(())
+}
+
+/// The pieces that a board keeps, and a gate that nobody waits at.
+#[test]
+fn kept_pieces(rt: HostRuntime) -> Result<(), Fail> {
+    let alloc = rt.alloc();
+    let scan = scan(alloc, SOUND)?;
+    let board = decode_all(&rt, alloc, Arc::try_clone(&scan)?, 2, Some(1), &OpenGate)?;
+    assert!(rt; board.is_of(&scan));
+    board.be_lawful();
+    assert!(rt; scan.intervals() == 2);
+    assert!(rt; board.piece(1).is_none());
+    let kept = board.piece(0).ok_or("no piece")?;
+    assert!(rt; kept.number() == 0 && kept.is_sound() && kept.is_for(&scan));
+    OpenGate.pass(0);
+    OpenGate.made(kept);
+    Ok(())
+}

@@ -1,0 +1,177 @@
+//! Devices that move one byte a call and fail at one call, through `run`.
+
+use crate::files::file;
+use crate::pictures::picture;
+use jr_paint::Tally;
+use jr_wall::OpenGate;
+use jri_engine::{Fault, run};
+use std::alloc::Global;
+use std::io::{Error, ErrorKind, Read, Result as IoResult, Write};
+use std::process::Abort;
+use std::sync::Wait;
+use std::test::Fail;
+use std::thread::Threads;
+
+/// Gives a byte a call; the call of one number fails, and those behind it go on.
+#[derive(Drop)]
+struct Source<'a> {
+    rest: &'a [u8],
+    calls: u32,
+    failing: u32,
+    kind: ErrorKind,
+}
+
+impl Read for Source<'_> {
+    fn read(&mut self, buf: &mut [u8]) -> IoResult<usize> {
+        self.calls = self.calls.wrapping_add(1);
+        if self.calls == self.failing {
+            return Err(Error::from(self.kind));
+        }
+        let (Some((byte, rest)), Some(place)) = (self.rest.split_first(), buf.first_mut()) else {
+            return Ok(0);
+        };
+        *place = *byte;
+        self.rest = rest;
+        Ok(1)
+    }
+}
+
+/// How a call of a writer fails.
+#[derive(Clone, Copy, PartialEq, Eq)]
+enum Failure {
+    /// By an error of this kind.
+    Kind(ErrorKind),
+    /// It takes none of a byte.
+    TakesNone,
+}
+
+/// Takes a byte a call; the call of one number fails, and those behind it go on.
+#[derive(Drop)]
+struct Sink {
+    bytes: Vec<u8>,
+    calls: u32,
+    failing: u32,
+    failure: Failure,
+}
+
+impl Sink {
+    fn new(alloc: Global, failing: u32, failure: Failure) -> Sink {
+        Sink {
+            bytes: Vec::new(alloc),
+            calls: 0,
+            failing,
+            failure,
+        }
+    }
+}
+
+impl Write for Sink {
+    fn write(&mut self, buf: &[u8]) -> IoResult<usize> {
+        self.calls = self.calls.wrapping_add(1);
+        if self.calls == self.failing {
+            return match self.failure {
+                Failure::Kind(kind) => Err(Error::from(kind)),
+                Failure::TakesNone => Ok(0),
+            };
+        }
+        let Some(byte) = buf.first() else {
+            return Ok(0);
+        };
+        self.bytes.push(*byte)?;
+        Ok(1)
+    }
+
+    fn flush(&mut self) -> IoResult<()> {
+        Ok(())
+    }
+}
+
+/// The fault of a run whose input fails at a call, and what was written.
+fn read_failing<R: Threads + Wait + Sync + AllocGlobal>(
+    rt: &R,
+    bytes: &[u8],
+    failing: u32,
+    kind: ErrorKind,
+) -> (Option<Fault>, Vec<u8>) {
+    let mut input = Tally::of(Source {
+        rest: bytes,
+        calls: 0,
+        failing,
+        kind,
+    });
+    let mut out = Tally::of(Vec::new(rt.alloc()));
+    let outcome = run(rt, rt.alloc(), &mut input, &mut out, 1, None, &OpenGate);
+    (outcome.err(), out.into_inner())
+}
+
+/// The fault of a run whose output fails at a call, and what was written.
+fn write_failing<R: Threads + Wait + Sync + AllocGlobal>(
+    rt: &R,
+    bytes: &[u8],
+    failing: u32,
+    failure: Failure,
+) -> (Option<Fault>, Vec<u8>) {
+    let mut input = Tally::of(bytes);
+    let mut out = Tally::of(Sink::new(rt.alloc(), failing, failure));
+    let outcome = run(rt, rt.alloc(), &mut input, &mut out, 1, None, &OpenGate);
+    (outcome.err(), out.into_inner().bytes)
+}
+
+/// The smallest file has 143 bytes, so its end is told by call 144.
+#[test]
+fn an_input_that_fails_at_one_call(rt: HostRuntime) -> Result<(), Fail> {
+    let bytes = file(rt.alloc(), "G 63 E")?;
+    for kind in [ErrorKind::Other, ErrorKind::Interrupted] {
+        for failing in 1..=144 {
+            let (fault, written) = read_failing(&rt, bytes.as_slice(), failing, kind);
+            assert!(rt; fault == Some(Fault::Read), "call {failing}");
+            assert!(rt; written.is_empty(), "call {failing}");
+        }
+    }
+    Ok(())
+}
+
+fn check_failing_output<R: Threads + Wait + Sync + AllocGlobal + Abort>(
+    rt: &R,
+    failure: Failure,
+) -> Result<(), Fail> {
+    let bytes = file(rt.alloc(), "G 63 E")?;
+    let whole = picture(rt.alloc(), "P5 8 8 : 8*136")?;
+    assert!(rt; whole.len() == 75);
+    for failing in 1..=75u32 {
+        let (fault, written) = write_failing(rt, bytes.as_slice(), failing, failure);
+        assert!(rt; fault == Some(Fault::Write), "call {failing}");
+        let wanted = &whole.as_slice()[..failing as usize - 1];
+        assert!(rt; written.as_slice() == wanted, "call {failing}");
+    }
+    Ok(())
+}
+
+#[test]
+fn an_output_that_fails_at_one_call(rt: HostRuntime) -> Result<(), Fail> {
+    check_failing_output(&rt, Failure::Kind(ErrorKind::StorageFull))?;
+    check_failing_output(&rt, Failure::Kind(ErrorKind::Interrupted))
+}
+
+#[test]
+fn an_output_that_takes_none_of_a_byte(rt: HostRuntime) -> Result<(), Fail> {
+    check_failing_output(&rt, Failure::TakesNone)
+}
+
+#[test]
+fn a_byte_a_call(rt: HostRuntime) -> Result<(), Fail> {
+    let bytes = file(rt.alloc(), "G 63 E")?;
+    let mut input = Tally::of(Source {
+        rest: bytes.as_slice(),
+        calls: 0,
+        failing: 0,
+        kind: ErrorKind::Other,
+    });
+    let mut out = Tally::of(Sink::new(rt.alloc(), 0, Failure::TakesNone));
+    let outcome = run(&rt, rt.alloc(), &mut input, &mut out, 1, None, &OpenGate);
+    let report = outcome.ok().ok_or("a decoding that failed")?;
+    assert_eq!(rt; (report.sound, report.damaged), (1, 0));
+    let wanted = picture(rt.alloc(), "P5 8 8 : 8*136")?;
+    assert!(rt; out.into_inner().bytes.as_slice() == wanted.as_slice());
+    Ok(())
+}
