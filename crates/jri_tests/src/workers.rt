@@ -7,7 +7,7 @@ use crate::pictures::picture;
 use crate::scans::{scan, shows};
 use jr_paint::Tally;
 use jr_scan::Scan;
-use jr_wall::{Board, Desk, Gate, Mark, OpenGate, Piece, Seat, work};
+use jr_wall::{Board, Cells, Desk, Gate, Glimpse, Mark, OpenGate, Piece, Seat, glance, work};
 use jri_engine::run;
 use std::alloc::Global;
 use std::sync::atomic::{AtomicU64, Ordering};
@@ -103,11 +103,13 @@ fn fill<R: Wait>(
     desk: &Desk,
     seat: &mut Seat,
     board: &Mutex<Board>,
+    cells: &Cells,
 )
     requires seat { seat.old.desk ≡ desk.now }
     requires limit { desk.now.limit ≤ length scan.now.intervals }
+    requires cells { desk.now.limit ≤ length cells.now }
 {
-    work(rt, alloc, scan, desk, seat, board, &OpenGate);
+    work(rt, alloc, scan, desk, seat, board, cells, &OpenGate);
 }
 
 /// Whether each sound interval shows 136, each blank one 0, and the counts are those of the marks.
@@ -136,10 +138,57 @@ fn is_as_marked(scan: &Scan, board: &Board) -> bool {
     sound == board.sound() && blank == board.blank() && board.damaged() == 0
 }
 
-/// Takes the lock ten times, and says whether the board was as marked at each.
+/// A glance at the first component's sample in column x of the first line; none outside the picture.
+fn glimpse<R: Wait>(rt: &R, scan: &Scan, board: &Mutex<Board>, x: u32) -> Option<Glimpse> {
+    let head = scan.head();
+    if head.components() == 0 {
+        return None;
+    }
+    let across = (head.width() * head.horizontal(0)).div_ceil(head.horizontal_max());
+    let down = (head.height() * head.vertical(0)).div_ceil(head.vertical_max());
+    if x < across && 0 < down {
+        glance(rt, board, scan, 0, x, 0)
+    } else {
+        None
+    }
+}
+
+/// Whether a glance sees 136 in a sound interval, 0 in a blank one, and ten marks.
+fn is_as_seen(seen: &Glimpse) -> bool {
+    let value = match seen.mark {
+        Mark::Sound => 136,
+        Mark::Blank => 0,
+        Mark::Damaged => return false,
+    };
+    seen.sample == value && seen.damaged == 0 && seen.sound.saturating_add(seen.blank) == 10
+}
+
+/// Whether each cell holds the sound piece of its number, as a fresh sight finds.
+fn all_hung(cells: &Cells) -> bool {
+    let Ok(mut sight) = cells.sight() else {
+        return false;
+    };
+    for i in 0..cells.count() {
+        let Some(piece) = cells.look(i, &mut sight) else {
+            return false;
+        };
+        if piece.number() != i || !piece.is_sound() {
+            return false;
+        }
+    }
+    true
+}
+
+/// Takes the lock ten times and glances ten times, and says whether the board was as marked at each.
 fn view<R: Wait>(rt: &R, scan: &Scan, board: &Mutex<Board>) -> bool {
-    for _ in 0..10 {
+    for turn in 0..10u32 {
         if !is_as_marked(scan, &board.lock(rt)) {
+            return false;
+        }
+        let Some(seen) = glimpse(rt, scan, board, turn.saturating_mul(8)) else {
+            return false;
+        };
+        if !is_as_seen(&seen) {
             return false;
         }
         thread::yield_now();
@@ -158,23 +207,25 @@ fn a_viewer_beside_two_workers(rt: HostRuntime) -> Result<(), Fail> {
     let (Some(mut one), Some(mut two)) = (seats.pop(), seats.pop()) else {
         return Err(Fail::from("two seats"));
     };
-    let (host, read, at, shared): (_, &Scan, _, _) = (&rt, &scan_here, &desk, &board);
-    assert!(rt; at.limit() <= read.intervals());
+    let cells = Cells::open(alloc, 10)?;
+    let (host, read, at): (_, &Scan, _) = (&rt, &scan_here, &desk);
+    let (shared, hung) = (&board, &cells);
+    assert!(rt; at.limit() <= read.intervals() && at.limit() <= hung.count());
     let is_lawful = thread::scope(
         thread::scope_env(),
         &rt,
         |scope| -> bool
-            requires { (one.desk ≡ at.now) × (two.desk ≡ at.now) × (at.now.limit ≤ length read.now.intervals) }
+            requires { (one.desk ≡ at.now) × (two.desk ≡ at.now) × (at.now.limit ≤ length read.now.intervals) × (at.now.limit ≤ length hung.now) }
         {
             let _ = scope.spawn(
                 move ||
-                    requires { (one.desk ≡ at.now) × (at.now.limit ≤ length read.now.intervals) }
-                { fill(host, alloc, read, at, &mut one, shared) },
+                    requires { (one.desk ≡ at.now) × (at.now.limit ≤ length read.now.intervals) × (at.now.limit ≤ length hung.now) }
+                { fill(host, alloc, read, at, &mut one, shared, hung) },
             );
             let _ = scope.spawn(
                 move ||
-                    requires { (two.desk ≡ at.now) × (at.now.limit ≤ length read.now.intervals) }
-                { fill(host, alloc, read, at, &mut two, shared) },
+                    requires { (two.desk ≡ at.now) × (at.now.limit ≤ length read.now.intervals) × (at.now.limit ≤ length hung.now) }
+                { fill(host, alloc, read, at, &mut two, shared, hung) },
             );
             view(host, read, shared)
         },
@@ -182,5 +233,6 @@ fn a_viewer_beside_two_workers(rt: HostRuntime) -> Result<(), Fail> {
     let filled = board.into_inner();
     assert!(rt; is_lawful && is_as_marked(&scan_here, &filled));
     assert_eq!(rt; filled.sound(), 10);
+    assert!(rt; all_hung(&cells));
     Ok(())
 }
