@@ -6,6 +6,7 @@ ghost use Rattle.std.specs.Prelude.{◌≡◌, ℕ, ◌^◌, pos, neg_ℤ, ◌+�
 ghost use Rattle.std.proofs.Math.IntN.{◌*ℤ◌};
 ghost use Rattle.jr_head.specs.declared.mark.Kind.TheVariants.{Ycc};
 ghost use Rattle.jr_paint.specs.Colours.{colour_of, floor_div, byte_of, off, shade, IsWithin};
+ghost use Rattle.jr_paint.specs.Shades.{red_over_of, green_over_of, blue_over_of};
 
 use jr_head::Kind;
 
@@ -68,7 +69,7 @@ fn blue_over(b: i16) -> i16
 }
 
 /// The nearest number from 0 to 255 to luminance y and what is over it.
-fn shaded(y: u8, over: i16) -> u8
+pub(crate) fn shaded(y: u8, over: i16) -> u8
     requires { IsWithin 2048 over }
     ensures { result ≡ byte_of (pos y +ℤ over) }
 {
@@ -80,6 +81,32 @@ fn off_of(c: u8) -> i16
     ensures small { IsWithin 128 result }
 {
     i16::from(c) - 128
+}
+
+/// What the three colours have over luminance.
+#[derive(Clone, Copy)]
+pub(crate) struct Shades {
+    pub(crate) red: i16,
+    pub(crate) green: i16,
+    pub(crate) blue: i16,
+}
+
+/// What the colours of chrominance cb and cr have over luminance.
+pub(crate) fn shades_of(cb: u8, cr: u8) -> Shades
+    ensures red { result.red ≡ red_over_of cr }
+    ensures green { result.green ≡ green_over_of cb cr }
+    ensures blue { result.blue ≡ blue_over_of cb }
+    ensures small_red { IsWithin 2048 result.red }
+    ensures small_green { IsWithin 2048 result.green }
+    ensures small_blue { IsWithin 2048 result.blue }
+{
+    let b = off_of(cb);
+    let r = off_of(cr);
+    Shades {
+        red: red_over(r),
+        green: green_over(b, r),
+        blue: blue_over(b),
+    }
 }
 
 /// The colour of a pixel of luminance y and chrominance cb and cr.
