@@ -11,6 +11,7 @@ use crate::shades::{shade, spread};
 use crate::upsampling::{STRIP, half_count, read_halves, upsample};
 
 /// Puts what the colours of the first pixels of line y have over luminance into lines, by way of two lines of samples.
+#[inline(always)]
 fn read_shades<S: Samples>(
     samples: &S,
     y: u32,
@@ -39,6 +40,7 @@ fn read_shades<S: Samples>(
 }
 
 /// The first pixels of line y, by what their colours have over luminance.
+#[inline(always)]
 fn shade_line<S: Samples>(
     samples: &S,
     y: u32,
@@ -67,6 +69,7 @@ fn shade_line<S: Samples>(
 }
 
 /// The first pixels of line y and of the next, by way of lines of samples and of what the colours have over luminance.
+#[inline(always)]
 fn shade_two<S: Samples>(
     samples: &S,
     y: u32,
@@ -104,6 +107,7 @@ fn shade_two<S: Samples>(
 }
 
 /// The first pixels of line y and of the next, which take the same samples of chrominance.
+#[inline(always)]
 pub(crate) fn fill_two<S: Samples>(
     samples: &S,
     y: u32,

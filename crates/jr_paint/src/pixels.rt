@@ -29,6 +29,7 @@ fn convert_part(a: &[u8], b: &[u8], c: &[u8], from: usize, to: usize, out: &mut 
 }
 
 /// The colours of luminance a and chrominance b and c: eight pixels at a time fill whole registers.
+#[inline(always)]
 fn convert(a: &[u8], b: &[u8], c: &[u8], out: &mut [u8])
     requires second { length b.now ≡ length a.now }
     requires third { length c.now ≡ length a.now }
@@ -43,6 +44,7 @@ fn convert(a: &[u8], b: &[u8], c: &[u8], out: &mut [u8])
 }
 
 /// The colours of red a, green b and blue c.
+#[inline(always)]
 fn interleave(a: &[u8], b: &[u8], c: &[u8], out: &mut [u8])
     requires second { length b.now ≡ length a.now }
     requires third { length c.now ≡ length a.now }
@@ -57,6 +59,7 @@ fn interleave(a: &[u8], b: &[u8], c: &[u8], out: &mut [u8])
 }
 
 /// The colours of these values, one after the other.
+#[inline(always)]
 pub(crate) fn mix(kind: Kind, a: &[u8], b: &[u8], c: &[u8], out: &mut [u8])
     requires kind { component_count kind ≡ 3 }
     requires second { length b.now ≡ length a.now }

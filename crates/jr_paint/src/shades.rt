@@ -1,12 +1,13 @@
 //! Lines of what the three colours have over luminance, which lines of pixels with the same chrominance share.
 
-ghost use Rattle.std.specs.Prelude.{◌≡◌, ℕ, ◌*◌, ◌/◌, ◌<◌, ◌≤◌, length, slice_index, take};
+ghost use Rattle.std.specs.Prelude.{◌≡◌, ℕ, ◌*◌, ◌/◌, ◌<◌, ◌≤◌, length, slice_index};
 ghost use Rattle.std.specs.List.{flat_map, range_with_len};
 ghost use Rattle.jr_paint.specs.Shades.{red_over_of, green_over_of, blue_over_of, at, AreSmall, lit};
 
 use crate::colours::{shaded, shades_of};
 
 /// Puts what each pair of chrominance has over luminance into two entries of each line.
+#[inline(always)]
 pub(crate) fn spread(b: &[u8], c: &[u8], red: &mut [i16], green: &mut [i16], blue: &mut [i16])
     requires second { length c.now ≡ length b.now }
     requires enough { length red.old ≤ 2 * length b.now }
@@ -37,37 +38,8 @@ pub(crate) fn spread(b: &[u8], c: &[u8], red: &mut [i16], green: &mut [i16], blu
     }
 }
 
-/// Puts the colours of pixels `from` to `to` behind those of the pixels before.
+/// The colours of luminance a with these lines over it.
 #[inline(always)]
-fn shade_part(
-    a: &[u8],
-    red: &[i16],
-    green: &[i16],
-    blue: &[i16],
-    from: usize,
-    to: usize,
-    out: &mut [u8],
-)
-    requires red { length red.now ≡ length a.now }
-    requires green { length green.now ≡ length a.now }
-    requires blue { length blue.now ≡ length a.now }
-    requires small_red { AreSmall red.now }
-    requires small_green { AreSmall green.now }
-    requires small_blue { AreSmall blue.now }
-    requires room { length out.old ≡ 3 * length a.now }
-    requires order { from ≤ to }
-    requires inside { to ≤ length a.now }
-    requires before { take (3 * from) out.old ≡ flat_map (λ k. lit (slice_index a.now k) (at red.now k) (at green.now k) (at blue.now k)) (range_with_len 0 from) }
-    ensures { take (3 * to) out.new ≡ flat_map (λ k. lit (slice_index a.now k) (at red.now k) (at green.now k) (at blue.now k)) (range_with_len 0 to) }
-{
-    for i in from..to {
-        out[3 * i] = shaded(a[i], red[i]);
-        out[3 * i + 1] = shaded(a[i], green[i]);
-        out[3 * i + 2] = shaded(a[i], blue[i]);
-    }
-}
-
-/// The colours of luminance a with these lines over it: eight pixels at a time fill whole registers.
 pub(crate) fn shade(a: &[u8], red: &[i16], green: &[i16], blue: &[i16], out: &mut [u8])
     requires red { length red.now ≡ length a.now }
     requires green { length green.now ≡ length a.now }
@@ -78,9 +50,9 @@ pub(crate) fn shade(a: &[u8], red: &[i16], green: &[i16], blue: &[i16], out: &mu
     requires room { length out.old ≡ 3 * length a.now }
     ensures { out.new ≡ flat_map (λ k. lit (slice_index a.now k) (at red.now k) (at green.now k) (at blue.now k)) (range_with_len 0 (length a.now)) }
 {
-    let eights = a.len() / 8;
-    for i in 0..eights {
-        shade_part(a, red, green, blue, 8 * i, 8 * i + 8, out);
+    for i in 0..a.len() {
+        out[3 * i] = shaded(a[i], red[i]);
+        out[3 * i + 1] = shaded(a[i], green[i]);
+        out[3 * i + 2] = shaded(a[i], blue[i]);
     }
-    shade_part(a, red, green, blue, 8 * eights, a.len(), out);
 }

@@ -1,7 +1,7 @@
 use Rattle.std.proofs.Common.{◌≡◌, arith, slice_index, ◌∷◌, [], rules}
 use Rattle.jr_paint.specs.Shades.{at, lit}
 use Rattle.jr_paint.proofs.PixelLaws.{three_more}
-use Rattle.jr_paint.proofs.shades.shade_part.Goals as goal
+use Rattle.jr_paint.proofs.shades.shade.Goals as goal
 
 pub loop-i-preserved : goal.loop-i-preserved
 loop-i-preserved c =
