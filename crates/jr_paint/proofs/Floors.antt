@@ -1,59 +1,64 @@
--- A quotient rounded down, and those that the colours are made of.
-use Rattle.std.proofs.Common.{arith, ◌≡◌, ℕ, suc, ◌<◌, ◌≤◌, pos, negsuc, neg_ℤ, ◌+ℤ◌, ◌-ℤ◌, ◌≤ℤ◌, ◌<ℤ◌, ℤ}
+-- The quotients that the colours are made of.
+use Rattle.std.proofs.Common.{arith, ◌≡◌, ℕ, zero, suc, ◌<◌, pos, negsuc, neg_ℤ, ◌+ℤ◌, ◌-ℤ◌, ℤ, Bool, true, false, cond, eqb, inl, inr, refl, ap}
+use Rattle.std.proofs.lemmas.Bool.{cases_lt, eqb-true}
 use Rattle.std.proofs.Math.IntN.{◌*ℤ◌}
-use Rattle.std.proofs.Math.Nat.{mul-le-mul_left}
-use Rattle.std.proofs.lemmas.Int.{ints, by_lt_z}
-use Rattle.jr_paint.specs.Colours.{floor_div}
+use Rattle.std.proofs.lemmas.Int.{ints}
+use Rattle.jr_paint.specs.Colours.{floor_div, IsWithin}
 
-floor_below : (z : ℤ) (d : ℕ) → 0 < d → (pos d *ℤ floor_div z d) ≤ℤ z
-floor_below (pos a) d h = omega (arith, ints)
-floor_below (negsuc a) d h = omega (arith, ints)
+-- the same number
+same : ℤ → ℤ → Bool
+same (pos a) (pos b) = eqb a b
+same (negsuc a) (negsuc b) = eqb a b
+same (pos a) (negsuc b) = false
+same (negsuc a) (pos b) = false
 
-floor_above : (z : ℤ) (d : ℕ) → 0 < d → z <ℤ (pos d *ℤ floor_div z d +ℤ pos d)
-floor_above (pos a) d h = omega (arith, ints)
-floor_above (negsuc a) d h = omega (arith, ints)
+same_tells : (x y : ℤ) → same x y ≡ true → x ≡ y
+unfolding same
+same_tells (pos a) (pos b) h = ap pos (eqb-true a b h)
+same_tells (negsuc a) (negsuc b) h = ap negsuc (eqb-true a b h)
+same_tells (pos a) (negsuc b) h = cc
+same_tells (negsuc a) (pos b) h = cc
 
-apart : (d : ℕ) (a b : ℤ) → a <ℤ b → (pos d *ℤ a +ℤ pos d) ≤ℤ (pos d *ℤ b)
-apart d (pos a) (pos b) h = let s : suc a ≤ b = omega (arith, ints) in omega (arith, ints, mul-le-mul_left d s)
-apart d (pos a) (negsuc b) h = absurd (omega (arith, ints))
-apart d (negsuc a) (pos b) h = omega (arith, ints)
-apart d (negsuc a) (negsuc b) h = let s : suc b ≤ a = omega (arith, ints) in omega (arith, ints, mul-le-mul_left d s)
+-- each number below n passes
+all_pass : (ℕ → Bool) → ℕ → Bool
+all_pass p zero = true
+all_pass p (suc n) = cond (p n) (all_pass p n) false
 
-floor_is : (z q : ℤ) (d : ℕ) → 0 < d → (pos d *ℤ q) ≤ℤ z → z <ℤ (pos d *ℤ q +ℤ pos d) → q ≡ floor_div z d
-floor_is z q d h low high =
-    let f = floor_div z d in
-    let a = floor_below z d h in
-    let b = floor_above z d h in
-    by_lt_z q f
-    (λ less. let s = apart d q f less in absurd (omega (arith, ints, s, a, high)))
-    (λ most. by_lt_z f q
-    (λ less. let s = apart d f q less in absurd (omega (arith, ints, s, b, low)))
-    (λ least. omega (arith, ints, most, least)))
+both : (a b : Bool) → cond a b false ≡ true → (a ≡ true) × (b ≡ true)
+both true b h = (refl, h)
+both false b h = cc
 
-below : (z q : ℤ) (d : ℕ) → 0 < d → q ≡ floor_div z d → (pos d *ℤ q) ≤ℤ z
-below z q d h e = rw e (floor_below z d h)
+passes : (p : ℕ → Bool) (n k : ℕ) → all_pass p n ≡ true → k < n → p k ≡ true
+unfolding all_pass
+passes p zero k h l = absurd (omega (arith, l))
+passes p (suc n) k h l =
+    let parts = both (p n) (all_pass p n) h in
+    elim (cases_lt k n) [
+      | inl less ↦ passes p n k parts.1 less
+      | inr most ↦ let e : k ≡ n = omega (arith, l, most) in rw e parts.0
+    ]
 
-above : (z q : ℤ) (d : ℕ) → 0 < d → q ≡ floor_div z d → z <ℤ (pos d *ℤ q +ℤ pos d)
-above z q d h e = rw e (floor_above z d h)
+-- f and g agree on the numbers from -n to n, as a count shows
+agree : (f g : ℤ → ℤ) (n : ℕ) → all_pass (λ k. same (f (pos k)) (g (pos k))) (suc n) ≡ true → all_pass (λ k. same (f (negsuc k)) (g (negsuc k))) n ≡ true → (z : ℤ) → IsWithin n z → f z ≡ g z
+agree f g n p q (pos a) w = same_tells (f (pos a)) (g (pos a)) (passes (λ k. same (f (pos k)) (g (pos k))) (suc n) a p (omega (arith, ints, w.1)))
+agree f g n p q (negsuc a) w = same_tells (f (negsuc a)) (g (negsuc a)) (passes (λ k. same (f (negsuc k)) (g (negsuc k))) n a q (omega (arith, ints, w.0)))
 
-pub red_floor : (r q h : ℤ) → q ≡ floor_div (pos 26345 *ℤ (r +ℤ r)) 65536 → h ≡ floor_div (q +ℤ pos 1) 2 → r +ℤ h ≡ floor_div (pos 91881 *ℤ r +ℤ pos 32768) 65536
-red_floor r q h e f =
-    let low = below (pos 26345 *ℤ (r +ℤ r)) q 65536 (omega arith) e in
-    let high = above (pos 26345 *ℤ (r +ℤ r)) q 65536 (omega arith) e in
-    let least = below (q +ℤ pos 1) h 2 (omega arith) f in
-    let most = above (q +ℤ pos 1) h 2 (omega arith) f in
-    floor_is (pos 91881 *ℤ r +ℤ pos 32768) (r +ℤ h) 65536 (omega arith) (omega (arith, ints, low, least)) (omega (arith, ints, high, most))
+abbrev reckoned : ℤ → ℤ → ℤ → ℤ
+reckoned t weight more = t +ℤ floor_div (weight *ℤ t) 65536 +ℤ more
 
-pub blue_floor : (b q h : ℤ) → q ≡ floor_div (neg_ℤ (pos 14942) *ℤ (b +ℤ b)) 65536 → h ≡ floor_div (q +ℤ pos 1) 2 → b +ℤ b +ℤ h ≡ floor_div (pos 116130 *ℤ b +ℤ pos 32768) 65536
-blue_floor b q h e f =
-    let low = below (neg_ℤ (pos 14942) *ℤ (b +ℤ b)) q 65536 (omega arith) e in
-    let high = above (neg_ℤ (pos 14942) *ℤ (b +ℤ b)) q 65536 (omega arith) e in
-    let least = below (q +ℤ pos 1) h 2 (omega arith) f in
-    let most = above (q +ℤ pos 1) h 2 (omega arith) f in
-    floor_is (pos 116130 *ℤ b +ℤ pos 32768) (b +ℤ b +ℤ h) 65536 (omega arith) (omega (arith, ints, low, least)) (omega (arith, ints, high, most))
+red_same : (r : ℤ) → IsWithin 128 r → reckoned (r +ℤ r -ℤ pos 102) (neg_ℤ (pos 19596)) (pos 72) ≡ floor_div (pos 91881 *ℤ r +ℤ pos 32768) 65536
+unfolding same all_pass
+red_same = agree (λ r. reckoned (r +ℤ r -ℤ pos 102) (neg_ℤ (pos 19596)) (pos 72)) (λ r. floor_div (pos 91881 *ℤ r +ℤ pos 32768) 65536) 128 refl refl
 
-pub green_floor : (b r q : ℤ) → q ≡ floor_div (pos 18734 *ℤ r -ℤ pos 22554 *ℤ b +ℤ pos 32768) 65536 → q -ℤ r ≡ floor_div (neg_ℤ (pos 22554) *ℤ b -ℤ pos 46802 *ℤ r +ℤ pos 32768) 65536
-green_floor b r q e =
-    let low = below (pos 18734 *ℤ r -ℤ pos 22554 *ℤ b +ℤ pos 32768) q 65536 (omega arith) e in
-    let high = above (pos 18734 *ℤ r -ℤ pos 22554 *ℤ b +ℤ pos 32768) q 65536 (omega arith) e in
-    floor_is (neg_ℤ (pos 22554) *ℤ b -ℤ pos 46802 *ℤ r +ℤ pos 32768) (q -ℤ r) 65536 (omega arith) (omega (arith, ints, low)) (omega (arith, ints, high))
+blue_same : (b : ℤ) → IsWithin 128 b → reckoned (b +ℤ b -ℤ pos 250) (neg_ℤ (pos 7471)) (pos 222) ≡ floor_div (pos 116130 *ℤ b +ℤ pos 32768) 65536
+unfolding same all_pass
+blue_same = agree (λ b. reckoned (b +ℤ b -ℤ pos 250) (neg_ℤ (pos 7471)) (pos 222)) (λ b. floor_div (pos 116130 *ℤ b +ℤ pos 32768) 65536) 128 refl refl
+
+pub red_floor : (r t q : ℤ) → IsWithin 128 r → t ≡ r +ℤ r -ℤ pos 102 → q ≡ floor_div (neg_ℤ (pos 19596) *ℤ t) 65536 → t +ℤ q +ℤ pos 72 ≡ floor_div (pos 91881 *ℤ r +ℤ pos 32768) 65536
+red_floor r t q w e f = rw (f, e) (red_same r w)
+
+pub blue_floor : (b t q : ℤ) → IsWithin 128 b → t ≡ b +ℤ b -ℤ pos 250 → q ≡ floor_div (neg_ℤ (pos 7471) *ℤ t) 65536 → t +ℤ q +ℤ pos 222 ≡ floor_div (pos 116130 *ℤ b +ℤ pos 32768) 65536
+blue_floor b t q w e f = rw (f, e) (blue_same b w)
+
+pub green_floor : (b r s t : ℤ) → s ≡ b +ℤ b -ℤ pos 250 → t ≡ r +ℤ r -ℤ pos 102 → neg_ℤ (pos 5173384) -ℤ pos 23401 *ℤ t -ℤ pos 11277 *ℤ s ≡ neg_ℤ (pos 22554) *ℤ b -ℤ pos 46802 *ℤ r +ℤ pos 32768
+green_floor b r s t e f = omega (arith, ints, e, f)

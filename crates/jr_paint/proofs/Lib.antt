@@ -3,3 +3,5 @@ pub mod Places
 pub mod Factors
 pub mod Appending
 pub mod PixelLaws
+pub mod Lines
+pub mod ShadeLaws

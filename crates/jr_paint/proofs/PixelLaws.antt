@@ -66,6 +66,9 @@ coloured Ycc e v = refl
 regroup : (p a b r : List ℕ) → p ++ ((a ++ b) ++ r) ≡ ((p ++ a) ++ b) ++ r
 regroup p a b r = simp append_assoc
 
+regroup_two : (p a b c r : List ℕ) → (p ++ (a ++ b)) ++ c ++ r ≡ (p ++ a) ++ (b ++ c) ++ r
+regroup_two p a b c r = simp append_assoc
+
 module _ (h : HeadValue) (f : ℕ → ℕ → ℕ → ℕ) (y : ℕ) where
   pub pixels_none : (x : ℕ) → pixels_of h f y x 0 ≡ []
   unfolding pixels_of
@@ -123,3 +126,20 @@ module _ (h : HeadValue) (f : ℕ → ℕ → ℕ → ℕ) where
   pub text_is : text_of h f ≡ header_of h ++ lines_of h f h.height
   unfolding text_of
   text_is = refl
+
+  -- two lines more
+  pub two_lines_more : (n : ℕ) → lines_of h f (2 * (n + 1)) ≡ lines_of h f (2 * n) ++ (pixels_of h f (2 * n) 0 h.width ++ pixels_of h f (2 * n + 1) 0 h.width)
+  two_lines_more n =
+      let e : 2 * (n + 1) ≡ (2 * n + 1) + 1 = omega arith in
+      ap (lines_of h f) e ∙ lines_more (2 * n + 1) ∙ ap (λ z. z ++ pixels_of h f (2 * n + 1) 0 h.width) (lines_more (2 * n))
+      ∙ append_assoc (lines_of h f (2 * n)) (pixels_of h f (2 * n) 0 h.width) (pixels_of h f (2 * n + 1) 0 h.width)
+
+  -- two lines stand after the header and the lines before them
+  pub two_lines_around : (y : ℕ) → y + 1 < h.height → (rest : List ℕ) × (text_of h f ≡ (header_of h ++ lines_of h f y) ++ (pixels_of h f y 0 h.width ++ pixels_of h f (y + 1) 0 h.width) ++ rest)
+  two_lines_around y p =
+      let around = line_around (y + 1) p in
+      let two : lines_of h f (y + 1) ≡ lines_of h f y ++ pixels_of h f y 0 h.width = lines_more y in (
+        around.0,
+        around.1 ∙ ap (λ z. (header_of h ++ z) ++ pixels_of h f (y + 1) 0 h.width ++ around.0) two
+            ∙ regroup_two (header_of h) (lines_of h f y) (pixels_of h f y 0 h.width) (pixels_of h f (y + 1) 0 h.width) around.0,
+      )

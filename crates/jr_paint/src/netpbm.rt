@@ -1,15 +1,16 @@
 //! A picture's Netpbm text: PGM for grey pictures, PPM for the others.
 
-ghost use Rattle.std.specs.Prelude.{◌≡◌, ◌<◌, ◌≤◌, is_err, false, OnOk, OnErr};
+ghost use Rattle.std.specs.Prelude.{◌≡◌, ◌+◌, ◌<◌, ◌≤◌, ◌++◌, is_err, false, OnOk, OnErr};
 ghost use Rattle.std.specs.Io.KnownBytes.{Appends};
 ghost use Rattle.jr_paint.specs.Tally.{has_failed, known_in};
 ghost use Rattle.jr_paint.specs.Text.{AppendsFront, pixel_size, pixels_of, text_of};
 
 use crate::header::write_header;
+use crate::pairs::fill_two;
 use crate::samples::Samples;
 use crate::strips::fill;
 use crate::tally::Tally;
-use crate::upsampling::STRIP;
+use crate::upsampling::{STRIP, shares_chroma};
 use crate::writing::{WriteFault, write_all};
 use jr_head::Kind;
 use std::io::Write;
@@ -27,11 +28,12 @@ fn bytes_of_pixel(kind: Kind) -> usize
 }
 
 /// Writes line y, in parts.
+#[inline(always)]
 fn write_line<S: Samples, W: Write>(
     samples: &S,
     y: u32,
     room: &mut [u8; 4 * STRIP],
-    pixels: &mut [u8; 3 * STRIP],
+    pixels: &mut [u8; 6 * STRIP],
     out: &mut Tally<W>,
 ) -> Result<(), WriteFault>
     requires unfailed { has_failed out.old ≡ false }
@@ -53,6 +55,33 @@ fn write_line<S: Samples, W: Write>(
     Ok(())
 }
 
+/// Writes line y and the next, both at once where they take the same samples of chrominance.
+#[inline(always)]
+fn write_two<S: Samples, W: Write>(
+    samples: &S,
+    y: u32,
+    room: &mut [u8; 4 * STRIP],
+    lines: &mut [i16; 3 * STRIP],
+    pixels: &mut [u8; 6 * STRIP],
+    out: &mut Tally<W>,
+) -> Result<(), WriteFault>
+    requires unfailed { has_failed out.old ≡ false }
+    requires down { y + 1 < (S.head_of samples.now).height }
+    ensures ok { OnOk result (Appends (known_in W.contents out.old) (known_in W.contents out.new) (pixels_of (S.head_of samples.now) (S.shown samples.now) y 0 (S.head_of samples.now).width ++ pixels_of (S.head_of samples.now) (S.shown samples.now) (y + 1) 0 (S.head_of samples.now).width)) }
+    ensures err { OnErr result (AppendsFront (known_in W.contents out.old) (known_in W.contents out.new) (pixels_of (S.head_of samples.now) (S.shown samples.now) y 0 (S.head_of samples.now).width ++ pixels_of (S.head_of samples.now) (S.shown samples.now) (y + 1) 0 (S.head_of samples.now).width)) }
+    ensures failed { has_failed out.new ≡ is_err result }
+{
+    samples.head().be_lawful();
+    let width = samples.head().width() as usize;
+    if width <= STRIP && shares_chroma(samples.head(), y) {
+        let both = &mut pixels[..6 * width];
+        fill_two(samples, y, width, room, lines, both);
+        return write_all(out, both);
+    }
+    write_line(samples, y, room, pixels, out)?;
+    write_line(samples, y + 1, room, pixels, out)
+}
+
 /// Writes the picture's text: `Ok` where all of it was written, a fault where the writer failed behind a
 /// beginning of it. It takes no memory, and goes on after a short write.
 pub fn write_netpbm<S: Samples, W: Write>(samples: &S, out: &mut Tally<W>) -> Result<(), WriteFault>
@@ -64,9 +93,13 @@ pub fn write_netpbm<S: Samples, W: Write>(samples: &S, out: &mut Tally<W>) -> Re
     write_header(samples.head(), out)?;
     let height = samples.head().height();
     let mut room = [0; 4 * STRIP];
-    let mut pixels = [0; 3 * STRIP];
-    for y in 0..height {
-        write_line(samples, y, &mut room, &mut pixels, out)?;
+    let mut lines = [0; 3 * STRIP];
+    let mut pixels = [0; 6 * STRIP];
+    for pair in 0..height / 2 {
+        write_two(samples, 2 * pair, &mut room, &mut lines, &mut pixels, out)?;
+    }
+    if height % 2 == 1 {
+        write_line(samples, height - 1, &mut room, &mut pixels, out)?;
     }
     Ok(())
 }

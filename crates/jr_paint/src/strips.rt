@@ -11,6 +11,7 @@ use crate::upsampling::{STRIP, upsample};
 use jr_head::Kind;
 
 /// The pixels of a part of line y, in colours, by way of three lines of samples.
+#[inline(always)]
 fn join_colours<S: Samples>(
     samples: &S,
     x: u32,
@@ -40,6 +41,7 @@ fn join_colours<S: Samples>(
 }
 
 /// The pixels of a part of line y, in colours.
+#[inline(always)]
 fn fill_colours<S: Samples>(
     samples: &S,
     x: u32,
@@ -95,6 +97,7 @@ fn fill_grey<S: Samples>(
 }
 
 /// The pixels of a part of line y.
+#[inline(always)]
 pub(crate) fn fill<S: Samples>(
     samples: &S,
     x: u32,

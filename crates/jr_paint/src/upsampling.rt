@@ -3,10 +3,13 @@
 ghost use Rattle.std.specs.Prelude.{◌≡◌, ℕ, ◌+◌, ◌*◌, ◌/◌, ◌%◌, ◌<◌, ◌≤◌, length, slice_index};
 ghost use Rattle.jr_head.specs.Geometry.{components_of, horizontal_of, horizontal_max, vertical_of, vertical_max};
 ghost use Rattle.jr_paint.specs.Geometry.{samples_across, samples_down};
+ghost use Rattle.std.specs.Bool.{OnTrue};
+ghost use Rattle.jr_head.specs.Geometry.{component_count};
+ghost use Rattle.jr_paint.specs.Shades.{IsHalved, IsShared, SharesChroma};
 ghost use Rattle.jr_paint.specs.Text.{value_at};
 
 use crate::samples::Samples;
-use jr_head::Head;
+use jr_head::{Head, Kind};
 
 /// As many pixels as are painted at once: a multiple of each factor by which samples are repeated.
 pub(crate) const STRIP: usize = 4092;
@@ -178,4 +181,66 @@ pub(crate) fn upsample<S: Samples>(
     let line = sample_line(head, c, y);
     let factor = pixels_per_sample(head, c);
     stretch(samples, c, x, line, factor, near, out);
+}
+
+/// The samples of component c that the first pixels of line y take, a sample for two pixels.
+pub(crate) fn read_halves<S: Samples>(samples: &S, c: u32, y: u32, near: &mut [u8])
+    requires component { c < components_of (S.head_of samples.now) }
+    requires half { IsHalved (S.head_of samples.now) c }
+    requires across { length near.old ≤ samples_across (S.head_of samples.now) c }
+    requires down { y < (S.head_of samples.now).height }
+    ensures { (k : ℕ) → k / 2 < length near.new → slice_index near.new (k / 2) ≡ value_at (S.head_of samples.now) (S.shown samples.now) c k y }
+{
+    let head = samples.head();
+    head.be_lawful();
+    samples.line(c, 0, sample_line(head, c, y), near);
+}
+
+/// How many samples of each chrominance stand for so many pixels of a line, from the first on, two each.
+pub(crate) fn half_count(head: &Head, n: usize) -> usize
+    requires kind { component_count head.now.kind ≡ 3 }
+    requires half_b { IsHalved head.now 1 }
+    requires half_c { IsHalved head.now 2 }
+    requires some { 0 < n }
+    requires across { n ≤ head.now.width }
+    ensures value { n ≤ 2 * result }
+    ensures few { result ≤ n }
+    ensures inside_b { result ≤ samples_across head.now 1 }
+    ensures inside_c { result ≤ samples_across head.now 2 }
+{
+    head.be_lawful();
+    n.div_ceil(2)
+}
+
+/// Whether a sample of component c stands for two pixels of a line.
+fn is_halved(head: &Head, c: u32) -> bool
+    requires { c < components_of head.now }
+    ensures { OnTrue result (IsHalved head.now c) }
+{
+    pixels_per_sample(head, c) == 2
+}
+
+/// Whether line y and the next take their samples of component c from one line.
+fn is_shared(head: &Head, c: u32, y: u32) -> bool
+    requires component { c < components_of head.now }
+    requires down { y + 1 < head.now.height }
+    ensures { OnTrue result (IsShared head.now c y) }
+{
+    head.be_lawful();
+    sample_line(head, c, y + 1) == sample_line(head, c, y)
+}
+
+/// Whether line y and the next take the same samples of both chrominances, each for two pixels of a line.
+pub(crate) fn shares_chroma(head: &Head, y: u32) -> bool
+    requires down { y + 1 < head.now.height }
+    ensures { OnTrue result (SharesChroma head.now y) }
+{
+    head.be_lawful();
+    match head.kind() {
+        Kind::Ycc => is_halved(head, 1)
+            && is_halved(head, 2)
+            && is_shared(head, 1, y)
+            && is_shared(head, 2, y),
+        Kind::Grey | Kind::Rgb => false,
+    }
 }

@@ -1,4 +1,4 @@
-use Rattle.std.proofs.Common.{◌≡◌, ◌+ℤ◌, pos, arith, w16, w32, FitsSigned}
+use Rattle.std.proofs.Common.{◌≡◌, ◌+ℤ◌, ◌-ℤ◌, pos, neg_ℤ, arith, w16, w32, FitsSigned}
 use Rattle.std.proofs.Math.IntN.{◌*ℤ◌}
 use Rattle.std.proofs.lemmas.Int.{ints, to_z-of_z}
 use Rattle.jr_paint.specs.Colours.{floor_div}
@@ -8,16 +8,26 @@ use Rattle.jr_paint.proofs.colours.red_over.Goals as goal
 pub returns-clause-value : goal.returns-clause-value
 returns-clause-value c =
     let r = c.args.r in
+    let t = c.red_twice-twice.result in
     let q = c.upper_half.result in
-    let h = c.half.result in
-    let fr : FitsSigned w16 r = omega (arith, ints) in
+    let fv : FitsSigned w16 r = omega (arith, ints) in
+    let ft : FitsSigned w16 t = omega (arith, ints) in
     let fq : FitsSigned w16 q = omega (arith, ints) in
-    let fh : FitsSigned w16 h = omega (arith, ints) in
-    let ft : FitsSigned w16 (r +ℤ r) = omega (arith, ints) in
-    let fs : FitsSigned w16 (r +ℤ h) = omega (arith, ints) in
-    let fw : FitsSigned w32 (r +ℤ r) = omega (arith, ints) in
-    let fp : FitsSigned w32 (pos 26345 *ℤ (r +ℤ r)) = omega (arith, ints) in
-    let twice : c.from.result ≡ r +ℤ r = simp to_z-of_z at c.from.ensures in
-    let product : q ≡ floor_div (pos 26345 *ℤ (r +ℤ r)) 65536 = simp (to_z-of_z, twice) at c.upper_half.ensures.value in
-    let halved : h ≡ floor_div (q +ℤ pos 1) 2 = simp to_z-of_z at c.half.ensures.value in
-    simp to_z-of_z (red_floor r q h product halved)
+    let fs : FitsSigned w16 (t +ℤ q) = omega (arith, ints) in
+    let fm : FitsSigned w16 (t +ℤ q +ℤ pos 72) = omega (arith, ints) in
+    let fw : FitsSigned w32 t = omega (arith, ints) in
+    let fp : FitsSigned w32 (neg_ℤ (pos 19596) *ℤ t) = omega (arith, ints) in
+    let twice : t ≡ r +ℤ r -ℤ pos 102 = simp to_z-of_z at c.red_twice-twice.ensures.value in
+    let wide : c.from.result ≡ t = simp to_z-of_z at c.from.ensures in
+    let product : q ≡ floor_div (neg_ℤ (pos 19596) *ℤ t) 65536 = simp (to_z-of_z, wide) at c.upper_half.ensures.value in
+    simp to_z-of_z (red_floor r t q c.requires twice product)
+
+pub returns-clause-small : goal.returns-clause-small
+returns-clause-small c =
+    let t = c.red_twice-twice.result in
+    let q = c.upper_half.result in
+    let ft : FitsSigned w16 t = omega (arith, ints) in
+    let fq : FitsSigned w16 q = omega (arith, ints) in
+    let fs : FitsSigned w16 (t +ℤ q) = omega (arith, ints) in
+    let fm : FitsSigned w16 (t +ℤ q +ℤ pos 72) = omega (arith, ints) in
+    simp to_z-of_z (omega (arith, ints), omega (arith, ints))
