@@ -2,11 +2,11 @@ use Rattle.std.proofs.Common.{◌≡◌, ℕ, ◌+◌, ◌-◌, ◌<◌, ◌≤�
 use Rattle.jr_wall.specs.Shown.{shown}
 use Rattle.jr_wall.proofs.painting.BoardSamples.line.Given as goal
 
-abbrev pub invariant-units : goal.invariant-units
-invariant-units l = record {
+abbrev pub invariant-runs : goal.invariant-runs
+invariant-runs l = record {
   within : l.done ≤ length l.out;
   filled : (k : ℕ) → k < l.done → slice_index l.out k ≡ shown l.self l.c (l.x + k) l.y;
 }
 
-abbrev pub decreases-units : goal.decreases-units
-decreases-units l = length l.initial.out - l.done
+abbrev pub decreases-runs : goal.decreases-runs
+decreases-runs l = length l.initial.out - l.done
