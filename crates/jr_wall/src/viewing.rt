@@ -1,8 +1,9 @@
 //! What a viewer sees of a board, whenever its lock is free.
 
-ghost use Rattle.std.specs.Prelude.{◌≡◌, ◌<◌, IfSome};
+ghost use Rattle.std.specs.Prelude.{◌≡◌, ◌<◌, IfSome, IfNone};
 ghost use Rattle.jr_head.specs.Geometry.{components_of};
 ghost use Rattle.jr_paint.specs.Geometry.{samples_across, samples_down};
+ghost use Rattle.jr_scan.specs.ScanValue.{IsSameScan};
 ghost use Rattle.jr_wall.specs.Seen.{IsGlimpse};
 
 use crate::board::Board;
@@ -32,7 +33,8 @@ fn look(board: &Board, scan: &Scan, c: u32, x: u32, y: u32) -> Option<Glimpse>
     requires component { c < components_of scan.now.head }
     requires column { x < samples_across scan.now.head c }
     requires line { y < samples_down scan.now.head c }
-    ensures { IfSome result (IsGlimpse scan.now c x y) }
+    ensures some { IfSome result (IsGlimpse scan.now c x y) }
+    ensures none { IfNone result (IsSameScan board.now.scan scan.now → ⊥) }
 {
     if !board.is_of(scan) {
         return None;

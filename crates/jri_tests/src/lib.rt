@@ -27,6 +27,8 @@ mod scans;
 #[cfg(test)]
 mod shares;
 #[cfg(test)]
+mod viewers;
+#[cfg(test)]
 mod whole;
 #[cfg(test)]
 mod words;

@@ -11,8 +11,8 @@ use Rattle.jr_wall.specs.Seen.{spot_of, unit_in, place_in, IsRight}
 use Rattle.jr_wall.proofs.Seen.{right}
 use Rattle.jr_wall.proofs.viewing.look.Goals as goal
 
-pub returns : goal.returns
-returns c =
+pub returns-clause-some : goal.returns-clause-some
+returns-clause-some c =
     let b = c.args.board.now in
     let s = c.args.scan.now in
     let h = s.head in
