@@ -1,4 +1,4 @@
-use Rattle.std.proofs.Common.{◌≡◌, ℕ, ◌+◌, ◌-◌, ◌*◌, ◌/◌, ◌%◌, ◌<◌, ◌≤◌, ap, sym, ◌∙◌, length, slice_index, slice_get, arith, rules}
+use Rattle.std.proofs.Common.{◌≡◌, ◌+◌, ◌-◌, ◌*◌, ◌/◌, ◌%◌, ◌<◌, ap, sym, ◌∙◌, length, slice_get, arith, rules}
 use Rattle.std.proofs.Math.Nat.{add-div_right, add-mod_right, add-mul}
 use Rattle.jr_wall.specs.Shown.{sample_in}
 use Rattle.jr_wall.specs.Units.{unit_along}
