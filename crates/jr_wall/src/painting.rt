@@ -99,7 +99,7 @@ pub(crate) fn split(head: &Head, mcu: u32) -> (u32, u32)
     }
 }
 
-/// How many MCUs from this one on are sure to lie in its interval, one behind the other.
+/// How many MCUs from this one on lie in its interval; 65536, more than any line has, where there is one interval.
 fn left_from(head: &Head, mcu: u32, within: u32) -> u32
     requires { within ≡ within_interval head.now mcu }
     ensures some { 0 < result }
@@ -183,7 +183,7 @@ impl Board {
         unit_of(piece, number)
     }
 
-    /// Fills whole data units of an interval.
+    /// Fills rows of the data units of a stretch of an interval.
     fn fill_stretch(&self, c: u32, interval: u32, stretch: Stretch, out: &mut [u8])
         requires whole { length out.old % 8 ≡ 0 }
         requires short { length out.old < 65536 }
@@ -200,8 +200,8 @@ impl Board {
         }
     }
 
-    /// Fills, from column x of a line on, the whole data units that lie in one interval: how many samples that are.
-    /// The line begins at `start`.
+    /// Fills whole data units of a line from column x on, as far as they lie in one interval; gives the number of
+    /// samples. `start` is the spot of the line's column 0.
     fn fill_units(&self, c: u32, start: Spot, x: u32, out: &mut [u8]) -> usize
         requires component { c < components_of self.now.scan.head }
         requires mcu { start.mcu ≤ 67158025 }
@@ -233,8 +233,8 @@ impl Board {
         count
     }
 
-    /// Fills, from column x of a line on, what is shown of one data unit: how many samples that are.
-    /// The line begins at `start`.
+    /// Fills the samples of a line from column x on that lie in one data unit; gives their number. `start` is the
+    /// spot of the line's column 0.
     fn fill_unit(&self, c: u32, start: Spot, x: u32, out: &mut [u8]) -> usize
         requires component { c < components_of self.now.scan.head }
         requires mcu { start.mcu ≤ 67158025 }
@@ -255,8 +255,8 @@ impl Board {
         count
     }
 
-    /// Fills the samples from column x of a line on that lie in one interval: how many they are. The line begins at
-    /// `start`.
+    /// Fills samples of a line from column x on, of one interval, and at least one; gives their number. `start` is
+    /// the spot of the line's column 0.
     fn fill_front(&self, c: u32, start: Spot, x: u32, out: &mut [u8]) -> usize
         requires component { c < components_of self.now.scan.head }
         requires mcu { start.mcu ≤ 67158025 }
