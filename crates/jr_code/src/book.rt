@@ -1,16 +1,16 @@
 //! Code tables of a JPEG file.
 
-ghost use Rattle.std.specs.Prelude.{◌≡◌, ◌≢◌, ◌<◌, ◌≤◌, ◌↔◌, ◌++◌, ℕ, List, Bool, IsTrue, [], IfSome, IfNone, IfOk, OnOk, take, sum};
+ghost use Rattle.std.specs.Prelude.{◌≡◌, ◌≢◌, ◌<◌, ◌≤◌, ◌↔◌, ◌++◌, ℕ, List, Bool, IsTrue, [], IfSome, IfNone, IfOk, OnOk, take, drop, sum};
 ghost use Rattle.std.proofs.Common.{rules};
 ghost use Rattle.std.specs.Cmp.Rules.{comparing};
-ghost use Rattle.jr_code.specs.Code.{same_table, Table, IsWord, IsLawful, HasTooMany, IsOverfull, space, lengths, AreEntries, AreLong, IsFrontWhereWhole, HasNoFront, IsPrefixFree};
+ghost use Rattle.jr_code.specs.Code.{same_table, Table, IsWord, IsLawful, HasTooMany, IsOverfull, space, lengths, AreEntries, ArePairs, AreLong, IsFrontWhereWhole, HasNoFront, TakesExtended, HasNoExtended, IsPrefixFree};
 ghost use Rattle.jr_code.specs.Bits.{bits_of};
 ghost use Rattle.jr_code.specs.Register.{bits_in};
 
 use crate::bits::Bits;
 use crate::memory::Memory;
 use crate::register::Register;
-use crate::words::Words;
+use crate::words::{Extended, Words};
 use std::alloc::Global;
 use std::marker::Model;
 use thiserror::Error;
@@ -36,18 +36,20 @@ pub struct CodeBook {
     pub(crate) words: Words,
     /// By eight bits: the symbol and length of the word of at most eight bits in front.
     entries: [Option<(u8, u8)>; 256],
+    /// By ten bits: the word in front and its extra bits, where both are within them.
+    pairs: [Option<Extended>; 1024],
     /// For each length from nine to sixteen bits: the least word, and how many words are shorter.
     long: [(u32, u32); 8],
 }
 
 impl Model for CodeBook {
-    ghost use Rattle.jr_code.specs.Code.{Table, AreEntries, AreLong};
+    ghost use Rattle.jr_code.specs.Code.{Table, AreEntries, ArePairs, AreLong};
 
     ghost Value = { Table };
 
     ghost view = { λ b. b.words };
 
-    ghost invariant = { λ b. AreEntries b.words b.entries × AreLong b.words b.long };
+    ghost invariant = { λ b. AreEntries b.words b.entries × AreLong b.words b.long × ArePairs b.words b.pairs };
 }
 
 impl PartialEq for CodeBook {
@@ -98,6 +100,7 @@ impl CodeBook {
         Ok(CodeBook {
             words: self.words.try_clone()?,
             entries: self.entries,
+            pairs: self.pairs,
             long: self.long,
         })
     }
@@ -106,10 +109,12 @@ impl CodeBook {
         ensures { result ≡ words }
     {
         let entries = words.entries();
+        let pairs = words.pairs();
         let long = words.long();
         CodeBook {
             words,
             entries,
+            pairs,
             long,
         }
     }
@@ -143,6 +148,62 @@ impl CodeBook {
         let (symbol, long) = self.rare_word(register.held, register.count)?;
         bits.register = register.behind(u32::from(long));
         Some(symbol)
+    }
+
+    /// Takes a word and as many extra bits as the lower four bits of its symbol say, and gives the symbol and what the extra
+    /// bits stand for (T.81, F.2.2.1 and F.2.2.2). Where no such are in front it gives None, and nothing moves.
+    #[inline(always)]
+    pub fn read_extended(&self, bits: &mut Bits) -> Option<(u8, i32)>
+        ensures found { IfSome result (λ r. TakesExtended self.now r.0 r.1 bits.old bits.new) }
+        ensures none { IfNone result (HasNoExtended self.now bits.old) }
+        ensures unmoved { IfNone result (bits.new ≡ bits.old) }
+    {
+        let register = bits.register.refilled();
+        if register.count >= 32
+            && let Some(both) = self.short_pair(register)
+        {
+            bits.register = register.behind(u32::from(both.long));
+            return Some((both.symbol, i32::from(both.value)));
+        }
+        let both = self.rare_pair(register.held, register.count)?;
+        bits.register = register.behind(u32::from(both.long));
+        Some((both.symbol, i32::from(both.value)))
+    }
+
+    /// The word in front of the bits and its extra bits, where both are within ten bits.
+    #[inline(always)]
+    fn short_pair(&self, register: Register) -> Option<Extended>
+        requires { 32 ≤ register.count }
+        ensures { IfSome result (λ e. (e.long ≤ register.entry.count) × TakesExtended self.now e.symbol e.value (bits_in register.entry) (drop e.long (bits_in register.entry))) }
+    {
+        self.pairs[register.front(10) as usize]
+    }
+
+    /// The word that is in front of the last `count` bits of `held` and its extra bits, long ones or ones near the end of
+    /// all bits.
+    #[cold]
+    #[inline(never)]
+    fn rare_pair(&self, held: u64, count: u32) -> Option<Extended>
+        requires { count < 64 }
+        ensures found { IfSome result (λ e. (e.long ≤ count) × TakesExtended self.now e.symbol e.value (bits_of count held) (drop e.long (bits_of count held))) }
+        ensures none { IfNone result (HasNoExtended self.now (bits_of count held)) }
+    {
+        let (symbol, long) = self.rare_word(held, count)?;
+        let register = Register {
+            rest: &[],
+            held,
+            count,
+        };
+        let mut rest = Bits {
+            register: register.behind(u32::from(long)),
+        };
+        let size = symbol % 16;
+        let value = rest.extra(u32::from(size))?;
+        Some(Extended {
+            symbol,
+            value: value as i16,
+            long: long + size,
+        })
     }
 
     /// The word of at most eight bits that is in front of the bits.

@@ -1,12 +1,22 @@
 //! The words of a code table, read bit by bit, and what a faster reader looks up.
 
-ghost use Rattle.std.specs.Prelude.{◌≡◌, ◌≤◌, ◌++◌, ◌*◌, ℕ, List, Bool, IsTrue, ◌↔◌, length, IfSome, IfNone, IfOk, take, sum};
+ghost use Rattle.std.specs.Prelude.{◌≡◌, ◌<◌, ◌≤◌, ◌++◌, ◌*◌, ℕ, List, Bool, IsTrue, ◌↔◌, length, IfSome, IfNone, IfOk, take, sum};
 ghost use Rattle.jr_code.specs.Bits.{bits_of};
-ghost use Rattle.jr_code.specs.Code.{same_table, IsWord, HasNoFront, AreEntries, AreLong, room, space, lengths};
+ghost use Rattle.jr_code.specs.Code.{same_table, IsWord, HasNoFront, AreEntries, ArePairs, IsPair, AreLong, room, space, lengths};
 
 use crate::bits::Bits;
 use crate::memory::Memory;
 use std::marker::Model;
+
+/// A word and its extra bits together.
+#[derive(Clone, Copy)]
+pub(crate) struct Extended {
+    pub(crate) symbol: u8,
+    /// What the extra bits stand for.
+    pub(crate) value: i16,
+    /// How many bits both have.
+    pub(crate) long: u8,
+}
 
 /// Counts of words by length, and a symbol for each word: read bit by bit.
 #[derive(Drop)]
@@ -81,6 +91,38 @@ impl Words {
             entries[byte] = self.front(&Bits::over(&one));
         }
         entries
+    }
+
+    /// The word and its extra bits that begin ten bits, where these hold both.
+    fn pair(&self, window: u16) -> Option<Extended>
+        requires { window < 1024 }
+        ensures { IsPair self.now window result }
+    {
+        let bytes = [(window / 4) as u8, (window % 4 * 64) as u8];
+        let mut bits = Bits::over(&bytes);
+        let (symbol, long) = self.front(&bits)?;
+        let _ = bits.take(u32::from(long))?;
+        let size = symbol % 16;
+        let value = bits.extra(u32::from(size))?;
+        if long + size > 10 {
+            return None;
+        }
+        Some(Extended {
+            symbol,
+            value: value as i16,
+            long: long + size,
+        })
+    }
+
+    /// What each ten bits look up, by the reader itself.
+    pub(crate) fn pairs(&self) -> [Option<Extended>; 1024]
+        ensures { ArePairs self.now result }
+    {
+        let mut pairs = [None; 1024];
+        for window in 0..1024usize {
+            pairs[window] = self.pair(window as u16);
+        }
+        pairs
     }
 
     /// The word of nine bits or more that is in front of sixteen bits.

@@ -28,7 +28,6 @@ fn bytes_of_pixel(kind: Kind) -> usize
 }
 
 /// Writes line y, in parts.
-#[inline(always)]
 fn write_line<S: Samples, W: Write>(
     samples: &S,
     y: u32,
@@ -56,7 +55,6 @@ fn write_line<S: Samples, W: Write>(
 }
 
 /// Writes line y and the next, both at once where they take the same samples of chrominance.
-#[inline(always)]
 fn write_two<S: Samples, W: Write>(
     samples: &S,
     y: u32,

@@ -11,7 +11,6 @@ use crate::shades::{shade, spread};
 use crate::upsampling::{STRIP, half_count, read_halves, upsample};
 
 /// Puts what the colours of the first pixels of line y have over luminance into lines, by way of two lines of samples.
-#[inline(always)]
 fn read_shades<S: Samples>(
     samples: &S,
     y: u32,
@@ -40,7 +39,6 @@ fn read_shades<S: Samples>(
 }
 
 /// The first pixels of line y, by what their colours have over luminance.
-#[inline(always)]
 fn shade_line<S: Samples>(
     samples: &S,
     y: u32,
@@ -69,7 +67,6 @@ fn shade_line<S: Samples>(
 }
 
 /// The first pixels of line y and of the next, by way of lines of samples and of what the colours have over luminance.
-#[inline(always)]
 fn shade_two<S: Samples>(
     samples: &S,
     y: u32,
@@ -107,7 +104,6 @@ fn shade_two<S: Samples>(
 }
 
 /// The first pixels of line y and of the next, which take the same samples of chrominance.
-#[inline(always)]
 pub(crate) fn fill_two<S: Samples>(
     samples: &S,
     y: u32,

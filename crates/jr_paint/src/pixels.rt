@@ -1,6 +1,6 @@
 //! Lines of values, a line for each component, put together to pixels of three bytes.
 
-ghost use Rattle.std.specs.Prelude.{◌≡◌, ◌*◌, ◌≤◌, length, slice_index, take};
+ghost use Rattle.std.specs.Prelude.{◌≡◌, ◌*◌, length, slice_index};
 ghost use Rattle.std.specs.List.{flat_map, range_with_len};
 ghost use Rattle.jr_head.specs.declared.mark.Kind.TheVariants.{Grey, Rgb, Ycc};
 ghost use Rattle.jr_head.specs.Geometry.{component_count};
@@ -9,18 +9,14 @@ ghost use Rattle.jr_paint.specs.Colours.{colour_of};
 use crate::colours::mixed;
 use jr_head::Kind;
 
-/// Puts the colours of pixels `from` to `to` behind those of the pixels before.
-#[inline(always)]
-fn convert_part(a: &[u8], b: &[u8], c: &[u8], from: usize, to: usize, out: &mut [u8])
+/// The colours of luminance a and chrominance b and c.
+fn convert(a: &[u8], b: &[u8], c: &[u8], out: &mut [u8])
     requires second { length b.now ≡ length a.now }
     requires third { length c.now ≡ length a.now }
     requires room { length out.old ≡ 3 * length a.now }
-    requires order { from ≤ to }
-    requires inside { to ≤ length a.now }
-    requires before { take (3 * from) out.old ≡ flat_map (λ k. colour_of Ycc (slice_index a.now k) (slice_index b.now k) (slice_index c.now k)) (range_with_len 0 from) }
-    ensures { take (3 * to) out.new ≡ flat_map (λ k. colour_of Ycc (slice_index a.now k) (slice_index b.now k) (slice_index c.now k)) (range_with_len 0 to) }
+    ensures { out.new ≡ flat_map (λ k. colour_of Ycc (slice_index a.now k) (slice_index b.now k) (slice_index c.now k)) (range_with_len 0 (length a.now)) }
 {
-    for i in from..to {
+    for i in 0..a.len() {
         let [red, green, blue] = mixed(a[i], b[i], c[i]);
         out[3 * i] = red;
         out[3 * i + 1] = green;
@@ -28,23 +24,7 @@ fn convert_part(a: &[u8], b: &[u8], c: &[u8], from: usize, to: usize, out: &mut 
     }
 }
 
-/// The colours of luminance a and chrominance b and c: eight pixels at a time fill whole registers.
-#[inline(always)]
-fn convert(a: &[u8], b: &[u8], c: &[u8], out: &mut [u8])
-    requires second { length b.now ≡ length a.now }
-    requires third { length c.now ≡ length a.now }
-    requires room { length out.old ≡ 3 * length a.now }
-    ensures { out.new ≡ flat_map (λ k. colour_of Ycc (slice_index a.now k) (slice_index b.now k) (slice_index c.now k)) (range_with_len 0 (length a.now)) }
-{
-    let eights = a.len() / 8;
-    for i in 0..eights {
-        convert_part(a, b, c, 8 * i, 8 * i + 8, out);
-    }
-    convert_part(a, b, c, 8 * eights, a.len(), out);
-}
-
 /// The colours of red a, green b and blue c.
-#[inline(always)]
 fn interleave(a: &[u8], b: &[u8], c: &[u8], out: &mut [u8])
     requires second { length b.now ≡ length a.now }
     requires third { length c.now ≡ length a.now }
@@ -59,7 +39,6 @@ fn interleave(a: &[u8], b: &[u8], c: &[u8], out: &mut [u8])
 }
 
 /// The colours of these values, one after the other.
-#[inline(always)]
 pub(crate) fn mix(kind: Kind, a: &[u8], b: &[u8], c: &[u8], out: &mut [u8])
     requires kind { component_count kind ≡ 3 }
     requires second { length b.now ≡ length a.now }

@@ -7,7 +7,6 @@ ghost use Rattle.jr_paint.specs.Shades.{red_over_of, green_over_of, blue_over_of
 use crate::colours::{shaded, shades_of};
 
 /// Puts what each pair of chrominance has over luminance into two entries of each line.
-#[inline(always)]
 pub(crate) fn spread(b: &[u8], c: &[u8], red: &mut [i16], green: &mut [i16], blue: &mut [i16])
     requires second { length c.now ≡ length b.now }
     requires enough { length red.old ≤ 2 * length b.now }
@@ -39,7 +38,6 @@ pub(crate) fn spread(b: &[u8], c: &[u8], red: &mut [i16], green: &mut [i16], blu
 }
 
 /// The colours of luminance a with these lines over it.
-#[inline(always)]
 pub(crate) fn shade(a: &[u8], red: &[i16], green: &[i16], blue: &[i16], out: &mut [u8])
     requires red { length red.now ≡ length a.now }
     requires green { length green.now ≡ length a.now }

@@ -11,7 +11,6 @@ use crate::upsampling::{STRIP, upsample};
 use jr_head::Kind;
 
 /// The pixels of a part of line y, in colours, by way of three lines of samples.
-#[inline(always)]
 fn join_colours<S: Samples>(
     samples: &S,
     x: u32,
@@ -41,7 +40,6 @@ fn join_colours<S: Samples>(
 }
 
 /// The pixels of a part of line y, in colours.
-#[inline(always)]
 fn fill_colours<S: Samples>(
     samples: &S,
     x: u32,
@@ -97,7 +95,6 @@ fn fill_grey<S: Samples>(
 }
 
 /// The pixels of a part of line y.
-#[inline(always)]
 pub(crate) fn fill<S: Samples>(
     samples: &S,
     x: u32,

@@ -1,8 +1,8 @@
 -- What the readers of a first coefficient and of an item take.
-use Rattle.std.proofs.Common.{◌≡◌, ◌≢◌, ℕ, ◌+◌, ◌*◌, ◌/◌, ◌%◌, ◌<◌, ◌≤◌, Bool, List, [], ◌∷◌, ◌++◌, length, replicate, refl, sym, ap, subst, ◌∙◌, append_assoc, length-append, arith}
+use Rattle.std.proofs.Common.{◌≡◌, ℕ, ◌+◌, ◌*◌, ◌/◌, ◌%◌, ◌<◌, ◌≤◌, Bool, List, [], ◌∷◌, ◌++◌, length, replicate, refl, sym, ap, subst, ◌∙◌, append_assoc, arith}
 use Rattle.std.specs.Prelude.{ℤ, pos}
 use Rattle.std.proofs.lemmas.List.{append_cancel_left}
-use Rattle.jr_code.specs.Code.{Table, IsWord}
+use Rattle.jr_code.specs.Code.{Table, IsWord, TakesExtended, HasNoExtended}
 use Rattle.jr_scan.specs.Block.{Item, IsItem, item_bits, DifferenceAt}
 use Rattle.jr_scan.specs.Block.Item.{Sixteen, Coef}
 use Rattle.jr_scan.specs.Step.{TakesExtra, TakesItem, TakesEnd, TakesDifference, HasNoDifference, HasNoStep}
@@ -26,11 +26,6 @@ pub no_difference_far : (dc : Table) → IsPrefixFree dc → (size : ℕ) (old m
 no_difference_far dc free size old mid w far d bits rest f e =
     let o = difference_only dc free d size old mid bits rest w f e in
     omega (arith, o.0, f.small)
-
-pub no_difference_short : (dc : Table) → IsPrefixFree dc → (size : ℕ) (old mid : List Bool) → TakesWord dc old mid size → length mid < size → HasNoDifference dc old
-no_difference_short dc free size old mid w short d bits rest f e =
-    let o = difference_only dc free d size old mid bits rest w f e in
-    omega (arith, o.0, ap length o.1, length-append f.extra rest, f.count)
 
 pub takes_end : (ac : Table) (s : ℕ) (old new : List Bool) → TakesWord ac old new s → s ≡ 0 → TakesEnd ac old new
 takes_end ac s old new w e = record { word = w.0; is = subst (IsWord ac w.0) e w.1; split = w.2 }
@@ -65,23 +60,40 @@ no_step_at ac free symbol old mid w not_0 not_240 none =
         let same = free w.0 u mid (extra ++ rest) symbol (16 * r + s) w.1 h.3 whole in
         none r s extra rest same.1 h.1 h.2 h.4 (append_cancel_left u mid (extra ++ rest) (subst (λ (x : List Bool). x ++ mid ≡ u ++ (extra ++ rest)) same.0 whole))
 
-pub no_step_short : (ac : Table) → IsPrefixFree ac → (symbol size : ℕ) (old mid : List Bool) → TakesWord ac old mid symbol → size ≡ symbol % 16 → (symbol ≡ 0 → ⊥) → (symbol ≡ 240 → ⊥) → length mid < size → HasNoStep ac old
-no_step_short ac free symbol size old mid w is not_0 not_240 short =
-    no_step_at ac free symbol old mid w not_0 not_240 (λ r s extra rest e some small count left. omega (arith, e, small, ap length left, length-append extra rest, count, is, short))
-
 pub no_step_size : (ac : Table) → IsPrefixFree ac → (symbol size : ℕ) (old mid : List Bool) → TakesWord ac old mid symbol → size ≡ symbol % 16 → (symbol ≡ 0 → ⊥) → (symbol ≡ 240 → ⊥) → (1 ≤ size → size ≤ 10 → ⊥) → HasNoStep ac old
 no_step_size ac free symbol size old mid w is not_0 not_240 bad =
     no_step_at ac free symbol old mid w not_0 not_240 (λ r s extra rest e some small count left. let same : size ≡ s = omega (arith, e, small, is) in bad (omega (arith, same, some)) (omega (arith, same, small)))
 
--- where no word begins the bits, nothing does
-pub no_difference_word : (dc : Table) (old : List Bool) → ((word rest : List Bool) (s : ℕ) → IsWord dc word s → old ≢ word ++ rest) → HasNoDifference dc old
-no_difference_word dc old none d bits rest f e = none f.word (f.extra ++ rest) f.size f.is_word (e ∙ ap (λ (b : List Bool). b ++ rest) f.spelled ∙ append_assoc f.word f.extra rest)
+-- ---- a word and its extra bits, read together
 
-pub no_step_word : (ac : Table) (old : List Bool) → ((word rest : List Bool) (s : ℕ) → IsWord ac word s → old ≢ word ++ rest) → HasNoStep ac old
-no_step_word ac old none =
+pub word_of : (t : Table) (s : ℕ) (v : ℤ) (old new : List Bool) (x : TakesExtended t s v old new) → TakesWord t old (x.extra ++ new) s
+word_of t s v old new x = (x.word, x.is, x.split)
+
+pub extra_of : (t : Table) (s : ℕ) (v : ℤ) (old new : List Bool) (x : TakesExtended t s v old new) → TakesExtra (s % 16) v (x.extra ++ new) new
+extra_of t s v old new x = record { bits = x.extra; split = refl; count = x.count; is = x.value_is }
+
+no_bits : (bs : List Bool) → length bs ≡ 0 → bs ≡ []
+no_bits [] e = refl
+no_bits (b ∷ bs) e = absurd (omega (arith, e))
+
+pub word_alone : (t : Table) (s : ℕ) (v : ℤ) (old new : List Bool) → TakesExtended t s v old new → s % 16 ≡ 0 → TakesWord t old new s
+word_alone t s v old new x e = (x.word, x.is, x.split ∙ ap (λ (b : List Bool). x.word ++ (b ++ new)) (no_bits x.extra (x.count ∙ e)))
+
+pub takes_difference_of : (dc : Table) (size : ℕ) (d : ℤ) (old new : List Bool) → TakesExtended dc size d old new → size ≤ 11 → TakesDifference dc d old new
+takes_difference_of dc size d old new x small =
+    let same : size % 16 ≡ size = omega (arith, small) in
+    takes_difference dc size d old (x.extra ++ new) new (word_of dc size d old new x) small (subst (λ n. TakesExtra n d (x.extra ++ new) new) same (extra_of dc size d old new x))
+
+-- where none begins the bits, nothing does
+pub no_difference_extended : (dc : Table) (old : List Bool) → HasNoExtended dc old → HasNoDifference dc old
+no_difference_extended dc old none d bits rest f e =
+    none f.word f.extra rest f.size f.is_word (omega (arith, f.count, f.small)) (e ∙ ap (λ (b : List Bool). b ++ rest) f.spelled ∙ append_assoc f.word f.extra rest)
+
+pub no_step_extended : (ac : Table) (old : List Bool) → HasNoExtended ac old → HasNoStep ac old
+no_step_extended ac old none =
     let item : (i : Item) (rest : List Bool) → IsItem ac i → old ≡ item_bits i ++ rest → ⊥ = λ i rest. go i rest in
-    record { no_end = λ word rest h e. none word rest 0 h e; no_item = item }
+    record { no_end = λ word rest h e. none word [] rest 0 h refl e; no_item = item }
   where
     go : (i : Item) (rest : List Bool) → IsItem ac i → old ≡ item_bits i ++ rest → ⊥
-    go (Sixteen u) rest h e = none u rest 240 h e
-    go (Coef r s u extra) rest h e = none u (extra ++ rest) (16 * r + s) h.3 (e ∙ append_assoc u extra rest)
+    go (Sixteen u) rest h e = none u [] rest 240 h refl e
+    go (Coef r s u extra) rest h e = none u extra rest (16 * r + s) h.3 (omega (arith, h.2, h.4)) (e ∙ append_assoc u extra rest)

@@ -1,7 +1,7 @@
 //! The bits of one block.
 
 ghost use Rattle.std.specs.Prelude.{◌≡◌, ℕ, ◌<◌, ◌≤◌, ◌^◌, ℤ, pos, negsuc, ◌≤ℤ◌, ◌∷◌, List, length, IfSome, IfNone};
-ghost use Rattle.jr_scan.specs.Step.{TakesExtra, TakesStep, HasNoStep, TakesDifference, HasNoDifference, TakesOthers, HasNoOthers, TakesCoded, HasNoCoded};
+ghost use Rattle.jr_scan.specs.Step.{TakesStep, HasNoStep, TakesDifference, HasNoDifference, TakesOthers, HasNoOthers, TakesCoded, HasNoCoded};
 
 use jr_code::{Bits, CodeBook, one_word};
 
@@ -9,7 +9,7 @@ use jr_code::{Bits, CodeBook, one_word};
 pub type Block = [i32; 64];
 
 /// The most extra bits of a coefficient behind the first.
-const MOST_EXTRA: u32 = 10;
+const MOST_EXTRA: u8 = 10;
 
 /// What comes next behind the first coefficient of a block.
 #[derive(Clone, Copy, Debug, PartialEq, Eq)]
@@ -22,48 +22,40 @@ enum Step {
     Coefficient(u8, i32),
 }
 
-/// Takes so many extra bits and gives the value that they stand for (T.81, F.2.2.1, EXTEND).
-#[inline(always)]
-fn read_extra(bits: &mut Bits<'_>, size: u32) -> Option<i32>
-    requires { size ≤ 15 }
-    ensures some { IfSome result (λ v. TakesExtra size v bits.old bits.new) }
-    ensures none { IfNone result (length bits.old < size) }
-{
-    bits.extra(size)
-}
-
+/// Takes what comes next behind the first coefficient (T.81, F.1.2.2).
 fn read_step(ac: &CodeBook, bits: &mut Bits<'_>) -> Option<Step>
     ensures some { IfSome result (λ step. TakesStep ac.now step bits.old bits.new) }
     ensures none { IfNone result (HasNoStep ac.now bits.old) }
 {
     one_word();
-    let symbol = ac.read(bits)?;
-    let run = symbol / 16;
-    let size = u32::from(symbol % 16);
-    if symbol == 0 {
-        return Some(Step::End);
-    }
-    if symbol == 0xF0 {
-        return Some(Step::Zeros);
-    }
-    if size == 0 || size > MOST_EXTRA {
+    let (symbol, v) = ac.read_extended(bits)?;
+    let size = symbol % 16;
+    if size == 0 {
+        if symbol == 0 {
+            return Some(Step::End);
+        }
+        if symbol == 0xF0 {
+            return Some(Step::Zeros);
+        }
         return None;
     }
-    let v = read_extra(bits, size)?;
-    Some(Step::Coefficient(run, v))
+    if size > MOST_EXTRA {
+        return None;
+    }
+    Some(Step::Coefficient(symbol / 16, v))
 }
 
-/// Takes the first coefficient's difference to its prediction.
+/// Takes the first coefficient's difference to its prediction (T.81, F.1.2.1).
 fn read_difference(dc: &CodeBook, bits: &mut Bits<'_>) -> Option<i32>
     ensures some { IfSome result (λ d. TakesDifference dc.now d bits.old bits.new) }
     ensures none { IfNone result (HasNoDifference dc.now bits.old) }
 {
     one_word();
-    let size = u32::from(dc.read(bits)?);
+    let (size, v) = dc.read_extended(bits)?;
     if size > 11 {
         return None;
     }
-    read_extra(bits, size)
+    Some(v)
 }
 
 /// Takes the coefficients behind the first into a block.

@@ -2,7 +2,7 @@ use Rattle.std.proofs.Common.{◌≡◌, arith, slice_index, ◌∷◌, [], rule
 use Rattle.jr_head.specs.declared.mark.Kind.TheVariants.{Ycc}
 use Rattle.jr_paint.specs.Colours.{colour_of}
 use Rattle.jr_paint.proofs.PixelLaws.{three_more}
-use Rattle.jr_paint.proofs.pixels.convert_part.Goals as goal
+use Rattle.jr_paint.proofs.pixels.convert.Goals as goal
 
 pub loop-i-preserved : goal.loop-i-preserved
 loop-i-preserved c =

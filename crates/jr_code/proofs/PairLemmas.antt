@@ -1,0 +1,127 @@
+-- A word and its extra bits, read together.
+use Rattle.std.proofs.Common.{◌≡◌, ℕ, ◌+◌, ◌*◌, ◌/◌, ◌%◌, ◌^◌, ◌∷◌, ◌<◌, ◌≤◌, Bool, List, [], ◌++◌, length, take, drop, refl, sym, ◌∙◌, ap, subst, arith, length-append, append_assoc, ⊎_elim, inl, inr}
+use Rattle.std.specs.Prelude.{◌⊎◌, Option, Some, None, IsSome, IfSome, ℤ}
+use Rattle.std.proofs.lemmas.Bool.{cases_lt}
+use Rattle.std.proofs.lemmas.List.{append-nil, append_cancel_left, drop-append-le, drop-drop, length-drop, length-take-le, take-append-drop, take-append-le, take_at}
+use Rattle.jr_code.specs.Bits.{bits, bits_of, filled, value}
+use Rattle.jr_code.specs.Code.{Table, IsWord, IsPair, IsPrefixFree, HasNoFront, HasNoExtended, TakesExtended}
+use Rattle.jr_code.specs.declared.words.Extended.{Extended}
+use Rattle.jr_code.proofs.BitLemmas.{length-bits_of}
+use Rattle.jr_code.proofs.RegisterLemmas.{bits_of-split, bits_of-mod}
+
+-- a word of n bits, and m extra bits behind it
+pub taken_apart : (t : Table) (bs : List Bool) (s n m : ℕ) (v : ℤ) → IsWord t (take n bs) s → m ≡ s % 16 → m ≤ length (drop n bs) → v ≡ value (take m (drop n bs))
+    → TakesExtended t s v bs (drop (n + m) bs)
+taken_apart t bs s n m v is size enough is_value = record {
+  word = take n bs;
+  extra = take m (drop n bs);
+  is = is;
+  count = length-take-le m (drop n bs) enough ∙ size;
+  value_is = is_value;
+  split = sym (take-append-drop n bs) ∙ ap (λ b. take n bs ++ b) (sym (take-append-drop m (drop n bs)) ∙ ap (λ b. take m (drop n bs) ++ b) (drop-drop m n bs));
+}
+
+-- what is in front of the first bits is in front of all
+pub taken_more : (t : Table) (bs more : List Bool) (s n : ℕ) (v : ℤ) → n ≤ length bs → TakesExtended t s v bs (drop n bs) → TakesExtended t s v (bs ++ more) (drop n (bs ++ more))
+taken_more t bs more s n v fits x = record {
+  word = x.word;
+  extra = x.extra;
+  is = x.is;
+  count = x.count;
+  value_is = x.value_is;
+  split = ap (λ b. b ++ more) x.split ∙ append_assoc x.word (x.extra ++ drop n bs) more ∙ ap (λ b. x.word ++ b) (append_assoc x.extra (drop n bs) more)
+      ∙ ap (λ b. x.word ++ (x.extra ++ b)) (sym (drop-append-le n bs more fits));
+}
+
+-- what is in front of all, and within the first bits, is in front of these
+taken_less : (t : Table) (bs more : List Bool) (s n : ℕ) (v : ℤ) → n ≤ length bs → TakesExtended t s v (bs ++ more) (drop n (bs ++ more)) → TakesExtended t s v bs (drop n bs)
+taken_less t bs more s n v fits x =
+    let rest = drop n (bs ++ more) in
+    let long : length (x.word ++ x.extra) ≡ n =
+    omega (arith, fits, ap length x.split, length-append x.word (x.extra ++ rest), length-append x.extra rest, length-append x.word x.extra, length-append bs more, length-drop n (bs ++ more)) in
+    let front : take n bs ≡ x.word ++ x.extra =
+    sym (take-append-le n bs more fits) ∙ ap (λ b. take n b) (x.split ∙ sym (append_assoc x.word x.extra rest)) ∙ take_at (x.word ++ x.extra) rest n long in
+    record {
+      word = x.word;
+      extra = x.extra;
+      is = x.is;
+      count = x.count;
+      value_is = x.value_is;
+      split = sym (take-append-drop n bs) ∙ ap (λ b. b ++ drop n bs) front ∙ append_assoc x.word x.extra (drop n bs);
+    }
+
+-- two bytes that begin with the ten bits of w
+ten_bits : (w : ℕ) → bits (w / 4 ∷ w % 4 * 64 ∷ []) ≡ bits_of 10 w ++ bits_of 6 (w % 4 * 64)
+ten_bits w =
+    let low = w % 4 * 64 in
+    let split : bits_of 8 (w % 4 * 64) ≡ bits_of 2 (w % 4 * 64 / 2 ^ 6) ++ bits_of 6 (w % 4 * 64) = bits_of-split 2 6 low in
+    let back : w % 4 * 64 / 2 ^ 6 ≡ w % 2 ^ (0 + 2) = omega arith in
+    let two : bits_of 2 (w % 4 * 64 / 2 ^ 6) ≡ bits_of 2 w = ap (λ n. bits_of 2 n) back ∙ bits_of-mod 0 2 w in
+    let ten : bits_of 10 w ≡ bits_of 8 (w / 4) ++ bits_of 2 w = bits_of-split 8 2 w in
+    ap (λ b. bits_of 8 (w / 4) ++ b) (append-nil (bits_of 8 (w % 4 * 64)) ∙ split ∙ ap (λ b. b ++ bits_of 6 (w % 4 * 64)) two)
+    ∙ sym (append_assoc (bits_of 8 (w / 4)) (bits_of 2 w) (bits_of 6 (w % 4 * 64)))
+    ∙ ap (λ b. b ++ bits_of 6 (w % 4 * 64)) (sym ten)
+
+-- what the reader finds in two bytes, and within their first ten bits, is the pair of these
+pub pair_read : (t : Table) (w s n m : ℕ) (v : ℤ) (bs : List Bool) → bs ≡ bits (w / 4 ∷ w % 4 * 64 ∷ []) → IsWord t (take n bs) s → m ≡ s % 16 → m ≤ length (drop n bs)
+    → v ≡ value (take m (drop n bs)) → n + m ≤ 10 → TakesExtended t s v (bits_of 10 w) (drop (n + m) (bits_of 10 w))
+pair_read t w s n m v bs e is size enough is_value short =
+    let same : bs ≡ bits_of 10 w ++ bits_of 6 (w % 4 * 64) = e ∙ ten_bits w in
+    let both : TakesExtended t s v bs (drop (n + m) bs) = taken_apart t bs s n m v is size enough is_value in
+    taken_less t (bits_of 10 w) (bits_of 6 (w % 4 * 64)) s (n + m) v (omega (arith, short, length-bits_of 10 w)) (subst (λ b. TakesExtended t s v b (drop (n + m) b)) same both)
+
+-- the pair of ten bits is in front where there are ten bits and more
+pub pair_word : (t : Table) (bs : List Bool) (w count : ℕ) (r : Option Extended) → bits_of 10 w ≡ filled 10 bs → 10 ≤ count → count ≤ length bs → IsPair t w r
+    → IfSome r (λ x. (x.long ≤ count) × TakesExtended t x.symbol x.value bs (drop x.long bs))
+pair_word t bs w count None e many all p = tt
+pair_word t bs w count (Some x) e many all p =
+    let front : bits_of 10 w ≡ take 10 bs = e ∙ take-append-le 10 bs _ (omega (arith, many, all)) in
+    let whole : bits_of 10 w ++ drop 10 bs ≡ bs = ap (λ b. b ++ drop 10 bs) front ∙ take-append-drop 10 bs in
+    let fits : x.long ≤ length (bits_of 10 w) = omega (arith, p.0, length-bits_of 10 w) in (
+      omega (arith, p.0, many),
+      subst (λ b. TakesExtended t x.symbol x.value b (drop x.long b)) whole (taken_more t (bits_of 10 w) (drop 10 bs) x.symbol x.long x.value fits p.1),
+    )
+
+-- without a word there is none with its extra bits
+pub no_word_none : (t : Table) (bs : List Bool) → HasNoFront t bs → HasNoExtended t bs
+no_word_none t bs none = λ word extra rest s w n e. none word (extra ++ rest) s w e
+
+-- behind the one word in front there are too few bits
+pub short_none : (t : Table) → IsPrefixFree t → (old mid word : List Bool) (s : ℕ) → IsWord t word s → old ≡ word ++ mid → length mid < s % 16 → HasNoExtended t old
+short_none t free old mid word s w split short = λ u extra rest s' w' count e.
+    let same = free word u mid (extra ++ rest) s s' w w' (sym split ∙ e) in
+    let left : mid ≡ extra ++ rest = append_cancel_left u mid (extra ++ rest) (subst (λ (b : List Bool). b ++ mid ≡ u ++ (extra ++ rest)) same.0 (sym split ∙ e)) in
+    omega (arith, ap length left, length-append extra rest, count, ap (λ n. n % 16) same.1, short)
+
+pub too_few : (size : ℕ) (bs : List Bool) (r : Option ℤ) → r ≡ None → (size ≤ length bs → IsSome r) → length bs < size
+too_few size bs (Some v) is found = absurd cc
+too_few size bs None is found = elim (cases_lt (length bs) size) [ inl l ↦ l | inr g ↦ let h = found g in absurd cc ]
+
+-- the same of the last bits of a register, with none behind them
+pub held_apart : (t : Table) (bs mid : List Bool) (s n m : ℕ) (v : ℤ) → n ≤ length bs → IsWord t (take n bs) s → m ≡ s % 16 → mid ≡ drop n (bs ++ []) → m ≤ length mid → v ≡ value (take m mid)
+    → (n + m ≤ length bs) × TakesExtended t s v bs (drop (n + m) bs)
+held_apart t bs mid s n m v fits is size left enough is_value =
+    let e : mid ≡ drop n bs = left ∙ ap (λ b. drop n b) (append-nil bs) in (
+      omega (arith, enough, fits, ap length e, length-drop n bs),
+      taken_apart t bs s n m v is size (omega (arith, enough, ap length e)) (is_value ∙ ap (λ b. value (take m b)) e),
+    )
+
+pub held_short : (t : Table) → IsPrefixFree t → (bs mid : List Bool) (s n : ℕ) → IsWord t (take n bs) s → mid ≡ drop n (bs ++ []) → length mid < s % 16 → HasNoExtended t bs
+held_short t free bs mid s n w left short =
+    let e : mid ≡ drop n bs = left ∙ ap (λ b. drop n b) (append-nil bs) in
+    short_none t free bs (drop n bs) (take n bs) s w (sym (take-append-drop n bs)) (omega (arith, short, ap length e))
+
+-- what is not in front of the bits of a register is not in front of all, where these are as many as the longest has or all there are
+pub held_none : (t : Table) (bs rest : List Bool) → (32 ≤ length bs) ⊎ (rest ≡ []) → HasNoExtended t bs → HasNoExtended t (bs ++ rest)
+held_none t bs rest many none = λ word extra after s w count begins.
+    ⊎_elim
+    (λ enough.
+    let both = word ++ extra in
+    let long : length (word ++ extra) ≡ length word + length extra = length-append word extra in
+    let fits : length (word ++ extra) ≤ length bs = omega (arith, w.short, count, long, enough) in
+    let front : take (length (word ++ extra)) bs ≡ word ++ extra =
+    sym (take-append-le (length (word ++ extra)) bs rest fits) ∙ ap (λ b. take (length (word ++ extra)) b) (begins ∙ sym (append_assoc word extra after)) ∙ take_at (word ++ extra) after (length (word ++ extra)) refl in
+    none word extra (drop (length (word ++ extra)) bs) s w count
+    (sym (take-append-drop (length (word ++ extra)) bs) ∙ ap (λ f. f ++ drop (length (word ++ extra)) bs) front ∙ append_assoc word extra (drop (length (word ++ extra)) bs)))
+    (λ empty. none word extra after s w count (sym (append-nil bs) ∙ ap (λ r. bs ++ r) (sym empty) ∙ begins))
+    many

@@ -1,0 +1,13 @@
+use Rattle.std.proofs.Common.{arith, get_or}
+use Rattle.std.specs.Prelude.{None}
+use Rattle.jr_code.specs.Register.{bits_in}
+use Rattle.jr_code.proofs.PairLemmas.{pair_word}
+use Rattle.jr_code.proofs.RegisterLemmas.{length-held, window_whole}
+use Rattle.jr_code.proofs.book.CodeBook.short_pair.Goals as goal
+
+pub returns : goal.returns
+returns c =
+    let r = c.args.register in
+    let window = window_whole 10 c.front.result r.count r.held r.rest.now (omega arith) c.front.ensures.number in
+    rw (← c.self.view_is) (pair_word c.self.inside.words (bits_in c.args.register) c.front.result c.args.register.count (get_or c.self.inside.pairs c.front.result None)
+    window (omega arith) (omega (arith, length-held r.count r.held r.rest.now)) (c.self.invariant.2 c.front.result (omega arith)))
