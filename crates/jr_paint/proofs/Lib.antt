@@ -1,7 +1,10 @@
-pub mod Floors
+pub mod SixteenLanes
+pub mod Clamped
+pub mod Shuffled
+pub mod Raised
+pub mod Passed
 pub mod Places
 pub mod Factors
 pub mod Appending
 pub mod PixelLaws
-pub mod Lines
-pub mod ShadeLaws
+pub mod Blocks

@@ -7,6 +7,7 @@ use Rattle.std.proofs.lemmas.Grind.{take-set_at}
 use Rattle.jr_head.specs.declared.mark.Kind.{Kind}
 use Rattle.jr_head.specs.declared.mark.Kind.TheVariants.{Grey, Rgb, Ycc}
 use Rattle.jr_paint.specs.Colours.{colour_of}
+use Rattle.jr_paint.specs.Shades.{IsShared}
 use Rattle.std.specs.Prelude.{slice_index}
 use Rattle.jr_head.specs.HeadValue.{HeadValue}
 use Rattle.jr_head.specs.Geometry.{component_count}
@@ -99,6 +100,18 @@ module _ (h : HeadValue) (f : ℕ → ℕ → ℕ → ℕ) (y : ℕ) where
   pixels_colours x n a b c three p q r =
       flat_map-moved (λ k. colour_of h.kind (a k) (b k) (c k)) (pixel_of h f y) 0 x n
       (λ k l. let e : 0 + k ≡ k = omega arith in rw (e, p k l, q k l, r k l) (coloured h.kind three (λ d. value_at h f d (x + k) y)))
+
+-- lines of luminance and of both chrominances, pixel by pixel
+pub pixels_ycc : (h : HeadValue) (f : ℕ → ℕ → ℕ → ℕ) (y n : ℕ) (a b c : ℕ → ℕ) → h.kind ≡ Ycc → ((k : ℕ) → k < n → a k ≡ value_at h f 0 (0 + k) y) → ((k : ℕ) → k < n → b k ≡ value_at h f 1 k y) → ((k : ℕ) → k < n → c k ≡ value_at h f 2 k y) → flat_map (λ k. colour_of Ycc (a k) (b k) (c k)) (range_with_len 0 n) ≡ pixels_of h f y 0 n
+pixels_ycc h f y n a b c kind p q r =
+    let three : component_count h.kind ≡ 3 = rw kind refl in
+    let at : (k : ℕ) → 0 + k ≡ k = λ k. omega arith in
+    ap (λ t. flat_map (λ k. colour_of t (a k) (b k) (c k)) (range_with_len 0 n)) (sym kind)
+    ∙ pixels_colours h f y 0 n a b c three p (λ k l. rw (at k) (q k l)) (λ k l. rw (at k) (r k l))
+
+-- a sample that the next line takes too
+pub shared_value : (h : HeadValue) (f : ℕ → ℕ → ℕ → ℕ) (c y k : ℕ) → IsShared h c y → value_at h f c k y ≡ value_at h f c k (y + 1)
+shared_value h f c y k e = rw e refl
 
 module _ (h : HeadValue) (f : ℕ → ℕ → ℕ → ℕ) where
   pub lines_none : lines_of h f 0 ≡ []

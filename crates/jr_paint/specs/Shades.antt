@@ -1,11 +1,10 @@
 -- What the three colours have over luminance, by chrominance (JFIF 1.02).
-use Rattle.std.specs.Prelude.{◌≡◌, ℕ, ◌+◌, ◌*◌, ◌/◌, ◌<◌, ℤ, pos, neg_ℤ, ◌+ℤ◌, ◌-ℤ◌, List, [], ◌∷◌, length, slice_index_or}
+use Rattle.std.specs.Prelude.{◌≡◌, ℕ, ◌+◌, ◌-◌, ◌*◌, ◌/◌, ◌<◌, min, ℤ, pos, neg_ℤ, ◌+ℤ◌, ◌-ℤ◌}
 use Rattle.std.proofs.Math.IntN.{◌*ℤ◌}
 use Rattle.jr_head.specs.HeadValue.{HeadValue}
 use Rattle.jr_head.specs.declared.mark.Kind.TheVariants.{Ycc}
 use Rattle.jr_head.specs.Geometry.{horizontal_of, horizontal_max, vertical_of, vertical_max}
-use Rattle.jr_paint.specs.Colours.{IsWithin, floor_div, byte_of, off}
-use Rattle.jr_paint.specs.Text.{value_at}
+use Rattle.jr_paint.specs.Colours.{floor_div, off}
 
 abbrev pub red_over_of : ℕ → ℤ
 red_over_of cr = floor_div (pos 91881 *ℤ off cr +ℤ pos 32768) 65536
@@ -16,26 +15,14 @@ green_over_of cb cr = floor_div (neg_ℤ (pos 22554) *ℤ off cb -ℤ pos 46802 
 abbrev pub blue_over_of : ℕ → ℤ
 blue_over_of cb = floor_div (pos 116130 *ℤ off cb +ℤ pos 32768) 65536
 
--- the entry of a line, and 0 past its end
-abbrev pub at : List ℤ → ℕ → ℤ
-at line k = slice_index_or line k (pos 0)
+-- v says z in a lane of sixteen bits, as 1628 more
+pub record IsRaised (v : ℕ) (z : ℤ) : Type 0 where
+  pub value : pos v ≡ z +ℤ pos 1628
+  pub small : v < 4096
 
--- each entry is far from the ends of sixteen bits
-abbrev pub AreSmall : List ℤ → Type 0
-AreSmall line = (k : ℕ) → k < length line → IsWithin 2048 (at line k)
-
--- the colour of luminance y with so much over it
-abbrev pub lit : ℕ → ℤ → ℤ → ℤ → List ℕ
-lit y red green blue = byte_of (pos y +ℤ red) ∷ byte_of (pos y +ℤ green) ∷ byte_of (pos y +ℤ blue) ∷ []
-
--- these lines say what the colours of the first pixels of line y have over luminance, where f says the samples
-pub record AreShades (h : HeadValue) (f : ℕ → ℕ → ℕ → ℕ) (y : ℕ) (red green blue : List ℤ) : Type 0 where
-  pub red_is : (k : ℕ) → k < length red → at red k ≡ red_over_of (value_at h f 2 k y)
-  pub green_is : (k : ℕ) → k < length green → at green k ≡ green_over_of (value_at h f 1 k y) (value_at h f 2 k y)
-  pub blue_is : (k : ℕ) → k < length blue → at blue k ≡ blue_over_of (value_at h f 1 k y)
-  pub small_red : AreSmall red
-  pub small_green : AreSmall green
-  pub small_blue : AreSmall blue
+-- the nearest byte to y and what v says
+abbrev pub lowered : ℕ → ℕ → ℕ
+lowered y v = min (y + v - 1628) 255
 
 -- a sample of component c stands for two pixels of a line
 abbrev pub IsHalved : HeadValue → ℕ → Type 0

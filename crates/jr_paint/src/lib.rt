@@ -3,12 +3,13 @@
 
 mod colours;
 mod geometry;
+mod halves;
 mod header;
+mod lanes;
 mod netpbm;
 mod pairs;
 mod pixels;
 mod samples;
-mod shades;
 mod strips;
 mod tally;
 mod upsampling;

@@ -31,7 +31,7 @@ fn bytes_of_pixel(kind: Kind) -> usize
 fn write_line<S: Samples, W: Write>(
     samples: &S,
     y: u32,
-    room: &mut [u8; 4 * STRIP],
+    room: &mut [u8; 5 * STRIP],
     pixels: &mut [u8; 6 * STRIP],
     out: &mut Tally<W>,
 ) -> Result<(), WriteFault>
@@ -58,8 +58,7 @@ fn write_line<S: Samples, W: Write>(
 fn write_two<S: Samples, W: Write>(
     samples: &S,
     y: u32,
-    room: &mut [u8; 4 * STRIP],
-    lines: &mut [i16; 3 * STRIP],
+    room: &mut [u8; 5 * STRIP],
     pixels: &mut [u8; 6 * STRIP],
     out: &mut Tally<W>,
 ) -> Result<(), WriteFault>
@@ -73,7 +72,7 @@ fn write_two<S: Samples, W: Write>(
     let width = samples.head().width() as usize;
     if width <= STRIP && shares_chroma(samples.head(), y) {
         let both = &mut pixels[..6 * width];
-        fill_two(samples, y, width, room, lines, both);
+        fill_two(samples, y, width, room, both);
         return write_all(out, both);
     }
     write_line(samples, y, room, pixels, out)?;
@@ -90,11 +89,10 @@ pub fn write_netpbm<S: Samples, W: Write>(samples: &S, out: &mut Tally<W>) -> Re
 {
     write_header(samples.head(), out)?;
     let height = samples.head().height();
-    let mut room = [0; 4 * STRIP];
-    let mut lines = [0; 3 * STRIP];
+    let mut room = [0; 5 * STRIP];
     let mut pixels = [0; 6 * STRIP];
     for pair in 0..height / 2 {
-        write_two(samples, 2 * pair, &mut room, &mut lines, &mut pixels, out)?;
+        write_two(samples, 2 * pair, &mut room, &mut pixels, out)?;
     }
     if height % 2 == 1 {
         write_line(samples, height - 1, &mut room, &mut pixels, out)?;

@@ -45,7 +45,7 @@ fn fill_colours<S: Samples>(
     x: u32,
     y: u32,
     n: usize,
-    room: &mut [u8; 4 * STRIP],
+    room: &mut [u8; 5 * STRIP],
     pixels: &mut [u8],
 )
     requires kind { component_count (S.head_of samples.now).kind ≡ 3 }
@@ -78,7 +78,7 @@ fn fill_grey<S: Samples>(
     x: u32,
     y: u32,
     n: usize,
-    room: &mut [u8; 4 * STRIP],
+    room: &mut [u8; 5 * STRIP],
     pixels: &mut [u8],
 )
     requires kind { (S.head_of samples.now).kind ≡ Grey }
@@ -100,7 +100,7 @@ pub(crate) fn fill<S: Samples>(
     x: u32,
     y: u32,
     n: usize,
-    room: &mut [u8; 4 * STRIP],
+    room: &mut [u8; 5 * STRIP],
     pixels: &mut [u8],
 )
     requires start { x % 12 ≡ 0 }

@@ -1,6 +1,6 @@
 //! Pictures of every small size in the usual samplings, and writers that stop.
 
-ghost use Rattle.std.specs.Prelude.{◌≡◌, ◌+◌, ◌*◌, ◌%◌};
+ghost use Rattle.std.specs.Prelude.{◌≡◌, ◌+◌, ◌*◌, ◌%◌, ◌==◌, if◌then◌else◌};
 
 use super::{RGB, head};
 use crate::{Samples, Tally, WriteFault, write_netpbm};
@@ -10,10 +10,17 @@ use std::io::{Error, ErrorKind, Result as IoResult, Write};
 use std::process::Abort;
 use std::test::Fail;
 
+/// In 256 columns and lines components 1 and 2 take each pair of values, since 7 times 29 less 28 times 8 is odd.
 fn sample_at(c: u32, x: u32, y: u32) -> u8
-    ensures { result ≡ (89 * c + 7 * x + 29 * y) % 256 }
+    ensures { result ≡ (if c == 0 then 6 * x + 27 * y else if c == 1 then 89 + 7 * x + 28 * y else 178 + 8 * x + 29 * y) % 256 }
 {
-    ((89 * u64::from(c) + 7 * u64::from(x) + 29 * u64::from(y)) % 256) as u8
+    let (x, y) = (u64::from(x), u64::from(y));
+    let value = match c {
+        0 => 6 * x + 27 * y,
+        1 => 89 + 7 * x + 28 * y,
+        _ => 178 + 8 * x + 29 * y,
+    };
+    (value % 256) as u8
 }
 
 /// Samples by a rule of their component, column and line.
@@ -25,7 +32,7 @@ struct Ruled {
 impl Samples for Ruled {
     ghost head_of = { λ s. s.head };
 
-    ghost shown = { λ s c x y. (89 * c + 7 * x + 29 * y) % 256 };
+    ghost shown = { λ s c x y. (if c == 0 then 6 * x + 27 * y else if c == 1 then 89 + 7 * x + 28 * y else 178 + 8 * x + 29 * y) % 256 };
 
     fn head(&self) -> &Head {
         &self.head
@@ -146,7 +153,21 @@ fn is_painted(alloc: Global, shape: &Shape, most: usize) -> Result<bool, Fail> {
     Ok(is_written && out.into_inner().bytes.as_slice() == painted(alloc, shape)?.as_slice())
 }
 
-const SAMPLINGS: [(u32, u32); 7] = [(1, 1), (2, 1), (1, 2), (2, 2), (4, 1), (1, 4), (3, 1)];
+/// The factors of the first component, where those of the others are 1: at most ten data units in an MCU.
+const SAMPLINGS: [(u32, u32); 12] = [
+    (1, 1),
+    (1, 2),
+    (1, 3),
+    (1, 4),
+    (2, 1),
+    (2, 2),
+    (2, 3),
+    (2, 4),
+    (3, 1),
+    (3, 2),
+    (4, 1),
+    (4, 2),
+];
 
 #[test]
 fn small_sizes(rt: HostRuntime) -> Result<(), Fail> {
@@ -170,10 +191,50 @@ fn small_sizes(rt: HostRuntime) -> Result<(), Fail> {
     Ok(())
 }
 
+/// Widths about those that are painted 32 pixels at once.
+#[test]
+fn widths_about_a_block(rt: HostRuntime) -> Result<(), Fail> {
+    for (across, down) in SAMPLINGS {
+        for width in [31, 32, 33, 47, 48, 49, 63, 64, 65, 95, 96, 97] {
+            for height in 1..4 {
+                let shape = Shape {
+                    kind: Kind::Ycc,
+                    width,
+                    height,
+                    across,
+                    down,
+                };
+                assert!(rt;
+                    is_painted(rt.alloc(), &shape, 100)?,
+                    "{across} {down} {width} {height}"
+                );
+            }
+        }
+    }
+    Ok(())
+}
+
+/// Each pair of values of chrominance, a sample for a pixel, and for four.
+#[test]
+fn all_chrominance(rt: HostRuntime) -> Result<(), Fail> {
+    for (size, factor) in [(256, 1), (512, 2)] {
+        let shape = Shape {
+            kind: Kind::Ycc,
+            width: size,
+            height: size,
+            across: factor,
+            down: factor,
+        };
+        assert!(rt; is_painted(rt.alloc(), &shape, 100_000)?, "{size}");
+    }
+    Ok(())
+}
+
 /// Lines that are painted in several parts, and the other kinds; some by a writer of one byte a call.
 #[test]
 fn other_pictures(rt: HostRuntime) -> Result<(), Fail> {
     let cases = [
+        (Kind::Ycc, 4093, 2, (1, 1)),
         (Kind::Ycc, 4091, 2, (2, 2)),
         (Kind::Ycc, 4092, 3, (2, 2)),
         (Kind::Ycc, 4093, 3, (2, 2)),

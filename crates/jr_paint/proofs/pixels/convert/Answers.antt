@@ -1,4 +1,4 @@
-use Rattle.std.proofs.Common.{◌≡◌, arith, slice_index, ◌∷◌, [], rules}
+use Rattle.std.proofs.Common.{◌≡◌, ◌∷◌, [], slice_index, arith, rules}
 use Rattle.jr_head.specs.declared.mark.Kind.TheVariants.{Ycc}
 use Rattle.jr_paint.specs.Colours.{colour_of}
 use Rattle.jr_paint.proofs.PixelLaws.{three_more}
