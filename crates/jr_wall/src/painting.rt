@@ -1,9 +1,7 @@
 //! The samples that a board shows.
 
-ghost use Rattle.std.specs.Prelude.{◌≡◌, ℕ, ◌+◌, ◌*◌, ◌/◌, ◌%◌, ◌^◌, ◌<◌, ◌≤◌, ◌==◌, List, length, slice_index, slice_get, slice_index_or, Option, Some, None, if◌then◌else◌};
-ghost use Rattle.std.specs.Option.{option_copied};
-ghost use Rattle.jr_head.specs.Geometry.{components_of, blocks_of, horizontal_of, vertical_of};
-ghost use Rattle.jr_paint.specs.Geometry.{samples_across, samples_down, place_of, spot_at};
+ghost use Rattle.std.specs.Prelude.{◌≡◌, ℕ, ◌+◌, ◌*◌, ◌/◌, ◌%◌, ◌^◌, ◌<◌, ◌≤◌, length, slice_index, slice_get};
+ghost use Rattle.jr_head.specs.Geometry.{components_of, blocks_of, horizontal_of};
 ghost use Rattle.jr_wall.specs.Shown.{shown, blank_of, interval_of, within_interval, shown_in, sample_in, shown_at};
 ghost use Rattle.jr_wall.specs.Boards.{piece_at};
 ghost use Rattle.jr_wall.specs.Units.{value_in, unit_along, moved};
@@ -12,6 +10,7 @@ use crate::board::Board;
 use jr_head::{Head, Kind};
 use jr_paint::{Samples, Spot, place};
 use jr_piece::Piece;
+use std::simd::prelude::*;
 
 /// What is shown of a data unit.
 #[derive(Clone, Copy)]
@@ -49,13 +48,13 @@ fn blank(kind: Kind, c: u32) -> u8
     }
 }
 
-/// Copies samples; a whole row of a data unit without a call.
+/// Copies samples; a whole row of a data unit by one load and one store.
 fn copy(from: &[u8], out: &mut [u8])
     requires { length from.now ≡ length out.old }
     ensures { out.new ≡ from.now }
 {
     if out.len() == 8 {
-        out[..8].copy_from_slice(&from[..8]);
+        u8x8::from_slice(from).copy_to_slice(out);
     } else {
         out.copy_from_slice(from);
     }
