@@ -20,7 +20,7 @@ pub(crate) fn load(bytes: &[u8], i: usize) -> u8x16
     u8x16::from_slice(&bytes[i..])
 }
 
-/// What red has over luminance, raised: 45943 is 65536 times 1.402 over 2.
+/// What red has over luminance, raised. 45943 is about 65536 times 1.402 over 2.
 #[inline(always)]
 pub(crate) fn raised_red(cr: u8x16) -> u16x16
     ensures { (k : ℕ) → k < 16 → IsRaised (slice_index result k) (red_over_of (slice_index cr k)) }
@@ -30,7 +30,7 @@ pub(crate) fn raised_red(cr: u8x16) -> u16x16
     (product >> Simd::splat(16)).cast::<u16>()
 }
 
-/// What blue has over luminance, raised: 58066 is 65536 times 1.772 over 2.
+/// What blue has over luminance, raised. 58066 is about 65536 times 1.772 over 2.
 #[inline(always)]
 pub(crate) fn raised_blue(cb: u8x16) -> u16x16
     ensures { (k : ℕ) → k < 16 → IsRaised (slice_index result k) (blue_over_of (slice_index cb k)) }
@@ -40,8 +40,8 @@ pub(crate) fn raised_blue(cb: u8x16) -> u16x16
     (product >> Simd::splat(16)).cast::<u16>()
 }
 
-/// What green has over luminance, raised: the factors are 2^32 less 11277 and less 23401, which are 65536 times
-/// 0.34414 and 0.71414 over 2.
+/// What green has over luminance, raised. The factors are 2^32 less 11277 and less 23401, about 65536 times 0.34414
+/// and 0.71414 over 2, and the sum wraps; what is added makes up for offsets and middles, and is 65536 times 1628.5 more.
 #[inline(always)]
 pub(crate) fn raised_green(cb: u8x16, cr: u8x16) -> u16x16
     ensures { (k : ℕ) → k < 16 → IsRaised (slice_index result k) (green_over_of (slice_index cb k) (slice_index cr k)) }
