@@ -43,13 +43,13 @@ pub struct CodeBook {
 }
 
 impl Model for CodeBook {
-    ghost use Rattle.jr_code.specs.Code.{Table, AreEntries, ArePairs, AreLong};
+    ghost use Rattle.jr_code.specs.Code.{Table, IsLawful, AreEntries, ArePairs, AreLong};
 
     ghost Value = { Table };
 
     ghost view = { λ b. b.words };
 
-    ghost invariant = { λ b. AreEntries b.words b.entries × AreLong b.words b.long × ArePairs b.words b.pairs };
+    ghost invariant = { λ b. AreEntries b.words b.entries × AreLong b.words b.long × ArePairs b.words b.pairs × IsLawful b.words.counts b.words.symbols };
 }
 
 impl PartialEq for CodeBook {
@@ -93,6 +93,13 @@ impl CodeBook {
         Ok(CodeBook::of(words))
     }
 
+    /// What holds of every book, for callers that rest on it: it is a lawful table (T.81, Annex C).
+    pub fn be_lawful(&self)
+        ensures { IsLawful self.now.counts self.now.symbols }
+    {
+        let _ = &self.words;
+    }
+
     /// The same table once more.
     pub fn try_clone(&self) -> Result<CodeBook, Memory>
         ensures { IfOk result (λ b. b ≡ self.now) }
@@ -106,6 +113,7 @@ impl CodeBook {
     }
 
     fn of(words: Words) -> CodeBook
+        requires { IsLawful words.counts words.symbols }
         ensures { result ≡ words }
     {
         let entries = words.entries();

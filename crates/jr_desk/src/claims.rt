@@ -75,14 +75,14 @@ pub struct Desk {
 }
 
 impl Model for Desk {
-    ghost use Rattle.std.specs.Prelude.{◌≡◌, ◌≤◌};
+    ghost use Rattle.std.specs.Prelude.{◌≡◌, ◌<◌};
     ghost use Rattle.jr_desk.specs.Values.{DeskValue};
 
     ghost Value = { DeskValue };
 
     ghost view = { λ d. record { table = d.table.shared.table_id; limit = d.limit; seats = d.seats } };
 
-    ghost invariant = { λ d. (d.table.shared.table_id.words ≡ 2) × (d.table.shared.table_id.slots ≡ 0) × (d.table.shared.key ≡ (d.limit, d.seats)) };
+    ghost invariant = { λ d. (d.table.shared.table_id.words ≡ 2) × (d.table.shared.table_id.slots ≡ 0) × (d.table.shared.key ≡ (d.limit, d.seats)) × (0 < d.seats) };
 }
 
 /// A place at a desk, which claims.
@@ -234,7 +234,6 @@ impl Desk {
     pub fn gather(self, seats: Vec<Seat>) -> Drawn
         requires seats { All (λ s. s.desk ≡ self) seats.items }
         requires all { length seats.items ≡ self.seats }
-        requires some { 0 < self.seats }
         ensures drawn { (x : ℕ) → total (λ s. times x s.drawn) seats.items ≡ once_below x result }
         ensures limit { result ≤ self.limit }
         ensures ended { 0 < total (λ s. cond s.ended 1 0) seats.items → result ≡ self.limit }

@@ -16,7 +16,7 @@ use Rattle.jr_head.specs.declared.mark.Kind.TheVariants.{Grey, Rgb, Ycc}
 use Rattle.jr_head.specs.Bytes.{byte}
 use Rattle.jr_head.specs.Frames.{components_in, components, is_factor, have_factors, divides, is_ill_sampled, blocks, IsAccepted}
 use Rattle.jr_head.specs.Frames.{horizontal_max as frame_across, vertical_max as frame_down}
-use Rattle.jr_head.specs.Geometry.{no_component, units_of, component_count, greatest_across, greatest_down, IsSampled, IsSubsampled, AreLawful}
+use Rattle.jr_head.specs.Geometry.{no_component, units_of, component_count, greatest_across, greatest_down, IsSampled, IsSubsampled, IsCoded, AreLawful}
 use Rattle.jr_head.specs.Marks.{kind_by}
 use Rattle.jr_head.specs.Definitions.{HasFactors, HaveFactors}
 use Rattle.jr_head.specs.Scans.{selectors_in, selectors}
@@ -175,11 +175,18 @@ single c h v long =
       rw (h, v) (omega arith),
     )
 
-all_lawful : (kind : Kind) (cs : List Component) → length cs ≡ component_count kind → 0 < length cs → Tests cs
+each_coded : (is_single : Bool) (cs : List Component) (fs : List FrameComponent) → AllZip (HasFactors is_single) cs fs → AllByRecursion IsCoded cs
+each_coded is_single [] [] h = tt
+each_coded is_single [] (e ∷ fs) h = absurd h
+each_coded is_single (c ∷ cs) [] h = absurd h
+each_coded is_single (c ∷ cs) (e ∷ fs) h = (h.0.coded, each_coded is_single cs fs h.1)
+
+all_lawful : (kind : Kind) (cs : List Component) → length cs ≡ component_count kind → 0 < length cs → Tests cs → All IsCoded cs
     → (kind ≡ Grey → ((slice_index_or cs 0 no_component).horizontal ≡ 1) × ((slice_index_or cs 0 no_component).vertical ≡ 1)) → AreLawful kind cs
-all_lawful kind cs count some t ones = record {
+all_lawful kind cs count some t coded ones = record {
   count = count;
   sampled = t.0;
+  coded = coded;
   single = ones;
   subsampled = t.1;
   across = most_some (λ c. c.horizontal) cs some (λ c s. s.across) t.0;
@@ -195,7 +202,7 @@ one_lawful cs (e ∷ f ∷ fs) one h = absurd (omega (arith, one))
 one_lawful [] (e ∷ []) one h = absurd h
 one_lawful (c ∷ d ∷ cs) (e ∷ []) one h = absurd h.1
 one_lawful (c ∷ []) (e ∷ []) one h =
-    all_lawful Grey (c ∷ []) refl (omega arith) (single c h.0.horizontal h.0.vertical h.0.elements) (λ _. (h.0.horizontal, h.0.vertical))
+    all_lawful Grey (c ∷ []) refl (omega arith) (single c h.0.horizontal h.0.vertical h.0.elements) (All-from_recursion IsCoded (c ∷ []) (h.0.coded, tt)) (λ _. (h.0.horizontal, h.0.vertical))
 
 two_kinds : (b : Bool) → (component_count (if b then Rgb else Ycc) ≡ 3) × ((if b then Rgb else Ycc) ≡ Grey → ⊥)
 two_kinds true = (refl, λ e. absurd cc)
@@ -209,7 +216,7 @@ more_lawful : (is_jfif : Bool) (transform : Option ℕ) (cs : List Component) (f
 more_lawful is_jfif transform cs fs three h good well =
     let count : length cs ≡ 3 = sym (AllZip-long (HasFactors false) cs fs h) ∙ three in
     let k = coloured is_jfif transform in
-    all_lawful (kind_by false is_jfif transform) cs (count ∙ sym k.0) (omega (arith, count)) (several cs fs three h good well) (λ e. absurd (k.1 e))
+    all_lawful (kind_by false is_jfif transform) cs (count ∙ sym k.0) (omega (arith, count)) (several cs fs three h good well) (All-from_recursion IsCoded cs (each_coded false cs fs h)) (λ e. absurd (k.1 e))
 
 by_count : (f : Frame) (cs : List Component) (is_jfif : Bool) (transform : Option ℕ) → IsAccepted f → HaveFactors f.components.items cs → (length f.components.items ≡ 1) ⊎ (length f.components.items ≡ 3)
     → AreLawful (kind_by (length f.components.items == 1) is_jfif transform) cs

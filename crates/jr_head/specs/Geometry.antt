@@ -3,6 +3,7 @@ use Rattle.std.specs.Prelude.{◌≡◌, ℕ, suc, ◌*◌, ◌%◌, ◌<◌, �
 use Rattle.std.specs.List.{fold, All}
 use Rattle.std.specs.Int.{div_ceil}
 use Rattle.jr_code.specs.Code.{Table}
+use Rattle.jr_code.specs.Code as codes
 use Rattle.jr_head.specs.declared.component.Component.{Component}
 use Rattle.jr_head.specs.declared.mark.Kind.{Kind}
 use Rattle.jr_head.specs.declared.mark.Kind.TheVariants.{Grey, Rgb, Ycc}
@@ -97,10 +98,16 @@ pub record IsSubsampled (across down : ℕ) (c : Component) : Type 0 where
   pub across_divides : across % c.horizontal ≡ 0
   pub down_divides : down % c.vertical ≡ 0
 
+-- both code tables are lawful (Annex C)
+pub record IsCoded (c : Component) : Type 0 where
+  pub dc : codes.IsLawful c.dc.counts c.dc.symbols
+  pub ac : codes.IsLawful c.ac.counts c.ac.symbols
+
 -- what holds of the components of every accepted file
 pub record AreLawful (kind : Kind) (components : List Component) : Type 0 where
   pub count : length components ≡ component_count kind
   pub sampled : All IsSampled components
+  pub coded : All IsCoded components
   pub single : kind ≡ Grey → ((slice_index_or components 0 no_component).horizontal ≡ 1) × ((slice_index_or components 0 no_component).vertical ≡ 1)
   pub subsampled : All (IsSubsampled (greatest_across components) (greatest_down components)) components
   pub across : 0 < greatest_across components

@@ -8,6 +8,7 @@ pub mod Options
 pub mod UnitsLaws
 pub mod Predicted
 pub mod Ranges
+pub mod InRange
 pub mod Readers
 pub mod Fronts
 pub mod Cuts

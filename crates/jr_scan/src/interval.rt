@@ -1,6 +1,6 @@
 //! An interval of a scan.
 
-ghost use Rattle.std.specs.Prelude.{◌≡◌, ◌↔◌, ◌<◌, ◌≤◌, ◌^◌, ℕ, ℤ, List, length, IsTrue, IfOk, IfSome, IfNone};
+ghost use Rattle.std.specs.Prelude.{◌≡◌, ◌↔◌, ◌<◌, ◌≤◌, ◌^◌, ℕ, ℤ, List, All, length, IsTrue, IfOk, IfSome, IfNone};
 
 use crate::block::Block;
 use crate::front::FrontBlocks;
@@ -39,6 +39,7 @@ impl Model for Interval {
 impl Interval {
     ghost use Rattle.std.specs.Arc.{arc_value};
     ghost use Rattle.jr_scan.specs.Spans.{piece_of, IsWithin};
+    ghost use Rattle.jr_scan.specs.Block.{IsInRange};
     ghost use Rattle.jr_scan.specs.Units.{Decodes, LongestFront};
     ghost use Rattle.jr_scan.specs.Reader.{HasRead, HasEnded, whole_run};
 
@@ -107,6 +108,7 @@ impl Interval {
         ensures some { IfOk result (λ answer. IfSome answer (λ v. Decodes self.now v.items)) }
         ensures only { IfOk result (λ answer. IfSome answer (λ v. (ys : List (List ℤ)) → Decodes self.now ys → ys ≡ v.items)) }
         ensures none { IfOk result (λ answer. IfNone answer ((ys : List (List ℤ)) → Decodes self.now ys → ⊥)) }
+        ensures in_range { IfOk result (λ answer. IfSome answer (λ v. All IsInRange v.items)) }
     {
         one_word();
         let (blocks, reader) = self.read_blocks(alloc)?;
@@ -122,6 +124,7 @@ impl Interval {
         ensures front { IfOk result (λ f. LongestFront self.now f.mcus f.blocks) }
         ensures sound { IfOk result (λ f. IsTrue f.is_sound ↔ Decodes self.now f.blocks) }
         ensures damaged { IfOk result (λ f. (ys : List (List ℤ)) → Decodes self.now ys → ys ≡ f.blocks) }
+        ensures in_range { IfOk result (λ f. All IsInRange f.blocks) }
     {
         one_word();
         let (mut blocks, reader) = self.read_blocks(alloc)?;

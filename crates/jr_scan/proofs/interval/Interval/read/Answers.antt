@@ -1,4 +1,5 @@
 use Rattle.std.proofs.Common.{rules}
+use Rattle.jr_scan.proofs.InRange.{decoding_in_range}
 use Rattle.jr_scan.proofs.UnitsLaws.{one_decoding}
 use Rattle.jr_scan.proofs.interval.Interval.read.Goals as goal
 
@@ -9,3 +10,7 @@ returns-then-is_sound-clause-only c = λ ys d.
 pub returns-else-is_sound-clause-none : goal.returns-else-is_sound-clause-none
 returns-else-is_sound-clause-none c = λ ys d.
     c.is_sound.ensures.damaged c.if-is_sound.false c.args.self.now _ ys c.in_ok-blocks.ensures.run c.in_ok-blocks.ensures.read c.in_ok-blocks.ensures.ended d
+
+pub returns-then-is_sound-clause-in_range : goal.returns-then-is_sound-clause-in_range
+returns-then-is_sound-clause-in_range c =
+    decoding_in_range c.args.self.now _ (c.if-is_sound.ensures.sound (search rules) c.args.self.now _ c.in_ok-blocks.ensures.run c.in_ok-blocks.ensures.read)

@@ -3,6 +3,7 @@ use Rattle.jr_head.specs.Geometry.{order_of}
 use Rattle.jr_scan.specs.Units.{LongestFront}
 use Rattle.jr_scan.specs.Reader.{per_mcu}
 use Rattle.jr_scan.specs.FrontValue.{FrontValue}
+use Rattle.jr_scan.proofs.InRange.{front_in_range}
 use Rattle.jr_scan.proofs.Fronts.{FrontMade, made_front, made_sound, made_only}
 use Rattle.jr_scan.proofs.interval.Interval.read_front.Goals as goal
 
@@ -28,3 +29,6 @@ returns-clause-sound c = made_sound c.one_word.ensures _ _ _ _ (made c)
 
 pub returns-clause-damaged : goal.returns-clause-damaged
 returns-clause-damaged c = made_only c.one_word.ensures _ _ _ _ (made c)
+
+pub returns-clause-in_range : goal.returns-clause-in_range
+returns-clause-in_range c = front_in_range c.args.self.now _ _ (made_front _ _ _ _ (made c))
