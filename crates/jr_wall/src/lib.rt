@@ -3,6 +3,7 @@
 
 mod board;
 mod gate;
+mod headline;
 mod laws;
 mod mark;
 mod painting;
@@ -11,6 +12,7 @@ mod workers;
 
 pub use board::{Board, Unposted};
 pub use gate::{Gate, OpenGate};
+pub use headline::Counts;
 pub use jr_cells::{Cells, Sight};
 pub use jr_desk::{Desk, Drawn, Seat};
 pub use jr_piece::{Piece, one_outcome};

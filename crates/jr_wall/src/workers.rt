@@ -118,7 +118,7 @@ fn is_left(board: &Board, scan: &Scan, n: u32) -> bool
     }
     board.be_lawful();
     for i in n..scan.intervals() {
-        if board.mark(i) != Mark::Blank {
+        if board.mark_of(i) != Mark::Blank {
             return false;
         }
     }
@@ -167,7 +167,7 @@ fn sweep(alloc: Global, scan: &Scan, mut board: Board, n: u32) -> Result<Board, 
 {
     board.be_lawful();
     for i in 0..n {
-        if board.mark(i) == Mark::Blank {
+        if board.mark_of(i) == Mark::Blank {
             fill(alloc, scan, &mut board, i)?;
         }
     }

@@ -1,7 +1,8 @@
 //! The last lines on standard error, and the exit status.
 
-ghost use Rattle.std.specs.Prelude.{◌≡◌, MatchResult, false};
-ghost use Rattle.jr_paint.specs.Tally.{has_failed};
+ghost use Rattle.std.specs.Prelude.{◌≡◌, MatchResult, IfErr, false};
+ghost use Rattle.std.specs.Io.KnownBytes.{Keeps};
+ghost use Rattle.jr_paint.specs.Tally.{has_failed, known_in};
 ghost use Rattle.jri_engine.specs.Status.{fault_status, report_status};
 
 use crate::report::{Fault, Report};
@@ -79,7 +80,9 @@ pub fn finish<W: Write, E: Write>(
     out: &mut Tally<W>,
     errors: &mut E,
 ) -> u8
-    ensures { MatchResult outcome (λ report. has_failed out.old ≡ false → result ≡ report_status report (has_failed out.new)) (λ fault. result ≡ fault_status fault) }
+    ensures status { MatchResult outcome (λ report. has_failed out.old ≡ false → result ≡ report_status report (has_failed out.new)) (λ fault. result ≡ fault_status fault) }
+    ensures kept { Keeps (known_in W.contents out.old) (known_in W.contents out.new) }
+    ensures untouched { IfErr outcome (λ _. out.new ≡ out.old) }
 {
     let outcome = match outcome {
         Ok(report) if out.flush().is_ok() => Ok(report),

@@ -1,14 +1,18 @@
-use Rattle.std.proofs.Common.{◌≡◌, ℕ, ◌+◌, Bool, not, Option, Some, None, List, get_or, set, map, sym, ap, ◌∙◌, subst, arith, rules}
+use Rattle.std.proofs.Common.{◌≡◌, ◌≢◌, ℕ, ◌+◌, ◌<◌, length, Bool, true, false, is_some, cond, not, refl, Option, Some, None, List, get_or, set, map, sym, ap, ◌∙◌, subst, arith, rules}
 use Rattle.std.specs.declared.sync.Arc.{Arc}
 use Rattle.std.specs.declared.alloc.Global.{Global}
 use Rattle.std.specs.Arc.{arc_value}
-use Rattle.std.proofs.lemmas.List.{map-set}
+use Rattle.std.proofs.lemmas.List.{map-set, length-map, get_or_default}
 use Rattle.jr_scan.specs.ScanValue.{ScanValue}
 use Rattle.jr_piece.specs.PieceValue.{PieceValue}
 use Rattle.jr_wall.specs.BoardValue.{BoardValue}
 use Rattle.jr_piece.specs.Outcome.{IsOutcome}
-use Rattle.jr_wall.specs.Boards.{IsFor, IsKept, held, piece_at}
+use Rattle.jr_wall.specs.declared.mark.Mark.{Mark}
+use Rattle.jr_wall.specs.declared.mark.Mark.TheVariants.{Blank, Sound, Damaged}
+use Rattle.jr_wall.specs.Boards.{IsFor, IsKept, held, piece_at, mark_of, marks_of}
+use Rattle.jr_wall.specs.Headline.{mark_in}
 use Rattle.jr_wall.proofs.Pieces.{Posted, posts, held_at}
+use Rattle.jr_wall.proofs.Seen.{marks_at}
 use mir.Val.{bool_byte}
 use Rattle.jr_wall.proofs.board.Board.post.Goals as goal
 
@@ -64,3 +68,29 @@ returns-clause-ok c =
           ∙ ap (λ k. made (arc_value c.self.inside.scan) (set (map held c.self.inside.pieces.items) k (Some (arc_value c.args.piece)))) n
           ∙ ap (λ (b : BoardValue). made b.scan (set b.pieces (arc_value c.args.piece).interval.number (Some (arc_value c.args.piece)))) v,
     )
+
+-- what is posted has a mark
+marked : (b : Bool) → cond b Sound Damaged ≢ Blank
+marked true e = absurd cc
+marked false e = absurd cc
+
+posted_marked : (p : Option (Arc PieceValue Global)) → is_some p ≡ true → mark_of (held p) ≢ Blank
+posted_marked None t e = absurd cc
+posted_marked (Some p) t e = marked (arc_value p).is_sound e
+
+pub returns-then-is_some-clause-err : goal.returns-then-is_some-clause-err
+returns-then-is_some-clause-err c =
+    let i = (arc_value c.args.piece).interval in
+    let for : IsFor i c.args.self.now.scan = search rules in
+    let n : c.number-number.result ≡ i.number = search rules in
+    let items = c.self.inside.pieces.items in
+    let inside : i.number < length (arc_value c.self.inside.scan).intervals = search rules in
+    let lt : c.number-number.result < length items = omega (arith, n, inside, c.self.invariant.lawful.places, length-map items held) in
+    let found : is_some (get_or items c.number-number.result None) ≡ true
+        = ap is_some (sym (c.index.ensures ∙ get_or_default items c.number-number.result c.index.result.now None lt)) ∙ sym c.is_some.ensures ∙ c.if-is_some.true in
+    let there : is_some (get_or c.self.inside.pieces.items i.number None) ≡ true = subst (λ (k : ℕ). is_some (get_or c.self.inside.pieces.items k None) ≡ true) n found in
+    let here : held (get_or c.self.inside.pieces.items i.number None) ≡ piece_at c.args.self.now i.number
+        = sym (held_at c.self.inside.pieces.items i.number) ∙ ap (λ (b : BoardValue). piece_at b i.number) c.self.view_is in
+    let mark : mark_in (marks_of c.args.self.now) i.number ≡ mark_of (held (get_or c.self.inside.pieces.items i.number None))
+        = marks_at c.args.self.now.pieces i.number ∙ ap mark_of (sym here) in
+    (refl, (refl, for, λ blank. posted_marked (get_or c.self.inside.pieces.items i.number None) there (sym mark ∙ blank)))

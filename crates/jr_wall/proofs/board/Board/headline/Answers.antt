@@ -1,0 +1,6 @@
+use Rattle.std.proofs.Common.{rules}
+use Rattle.jr_wall.proofs.Seen.{picture}
+use Rattle.jr_wall.proofs.board.Board.headline.Goals as goal
+
+pub returns-clause-picture : goal.returns-clause-picture
+returns-clause-picture c = picture c.args.self.now c.be_lawful.ensures (search rules)
