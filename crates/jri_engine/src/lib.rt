@@ -5,6 +5,7 @@ mod answers;
 mod asking;
 mod engine;
 mod finishing;
+mod laws;
 mod reading;
 mod report;
 
@@ -12,4 +13,5 @@ pub use answers::{Asked, Unasked};
 pub use asking::asked;
 pub use engine::run;
 pub use finishing::finish;
+pub use laws::one_text;
 pub use report::{Fault, Report};
