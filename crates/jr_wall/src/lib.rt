@@ -1,4 +1,7 @@
 //! Pieces of a picture, the board that keeps them, and the workers that fill it.
+//!
+//! The headline, that each interval of a board shows what its mark says, is the contract of `Board::headline`; its
+//! definition, `IsPicture`, stands in specs/Headline.antt.
 #![tactic(auto)]
 
 mod board;

@@ -1,6 +1,6 @@
 //! The last lines on standard error, and the exit status.
 
-ghost use Rattle.std.specs.Prelude.{◌≡◌, MatchResult, IfErr, false};
+ghost use Rattle.std.specs.Prelude.{◌≡◌, IfOk, IfErr, false};
 ghost use Rattle.std.specs.Io.KnownBytes.{Keeps};
 ghost use Rattle.jr_paint.specs.Tally.{has_failed, known_in};
 ghost use Rattle.jri_engine.specs.Status.{fault_status, report_status};
@@ -80,7 +80,8 @@ pub fn finish<W: Write, E: Write>(
     out: &mut Tally<W>,
     errors: &mut E,
 ) -> u8
-    ensures status { MatchResult outcome (λ report. has_failed out.old ≡ false → result ≡ report_status report (has_failed out.new)) (λ fault. result ≡ fault_status fault) }
+    ensures written { IfOk outcome (λ report. has_failed out.old ≡ false → result ≡ report_status report (has_failed out.new)) }
+    ensures fault { IfErr outcome (λ fault. result ≡ fault_status fault) }
     ensures kept { Keeps (known_in W.contents out.old) (known_in W.contents out.new) }
     ensures untouched { IfErr outcome (λ _. out.new ≡ out.old) }
 {

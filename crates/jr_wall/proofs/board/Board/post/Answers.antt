@@ -60,14 +60,15 @@ returns-clause-ok c =
     let for : IsFor (arc_value c.args.piece).interval (arc_value c.self.inside.scan) = search rules in
     let n : c.number-number.result ≡ (arc_value c.args.piece).interval.number = search rules in
     let none : get_or c.self.inside.pieces.items c.number-number.result None ≡ None = search rules in
-    let v = c.self.view_is in (
-      subst (λ (b : BoardValue). IsFor (arc_value c.args.piece).interval b.scan) v for,
-      ap (λ (b : BoardValue). piece_at b (arc_value c.args.piece).interval.number) (sym v) ∙ held_at c.self.inside.pieces.items (arc_value c.args.piece).interval.number
-          ∙ ap (λ k. held (get_or c.self.inside.pieces.items k None)) (sym n) ∙ ap held none,
-      ap (made (arc_value c.self.inside.scan)) (map-set held c.self.inside.pieces.items c.number-number.result (Some c.args.piece))
+    let v = c.self.view_is in
+    record {
+      for = subst (λ (b : BoardValue). IsFor (arc_value c.args.piece).interval b.scan) v for;
+      blank = ap (λ (b : BoardValue). piece_at b (arc_value c.args.piece).interval.number) (sym v) ∙ held_at c.self.inside.pieces.items (arc_value c.args.piece).interval.number
+          ∙ ap (λ k. held (get_or c.self.inside.pieces.items k None)) (sym n) ∙ ap held none;
+      posted = ap (made (arc_value c.self.inside.scan)) (map-set held c.self.inside.pieces.items c.number-number.result (Some c.args.piece))
           ∙ ap (λ k. made (arc_value c.self.inside.scan) (set (map held c.self.inside.pieces.items) k (Some (arc_value c.args.piece)))) n
-          ∙ ap (λ (b : BoardValue). made b.scan (set b.pieces (arc_value c.args.piece).interval.number (Some (arc_value c.args.piece)))) v,
-    )
+          ∙ ap (λ (b : BoardValue). made b.scan (set b.pieces (arc_value c.args.piece).interval.number (Some (arc_value c.args.piece)))) v;
+    }
 
 -- what is posted has a mark
 marked : (b : Bool) → cond b Sound Damaged ≢ Blank
