@@ -1,5 +1,5 @@
 // The desk and its seats.
-ghost use Rattle.std.specs.Prelude.{◌≡◌, ℕ, ◌+◌, ◌-◌, ◌<◌, ◌≤◌, ◌^◌, List, [], ◌∷◌, ◌++◌, true, false, length, map, cond, All, IfOk, IfSome, MatchOption};
+ghost use Rattle.std.specs.Prelude.{◌≡◌, ℕ, ◌+◌, ◌-◌, ◌<◌, ◌≤◌, ◌^◌, List, [], ◌∷◌, ◌++◌, true, false, length, map, cond, All, IfOk, IfSome, IfNone, OnSome, MatchOption};
 ghost use Rattle.std.specs.List.{range_with_len};
 ghost use Rattle.jr_desk.specs.Count.{total, times, once_below};
 ghost use Rattle.jr_desk.specs.Draws.{view};
@@ -259,7 +259,9 @@ impl Desk {
         requires { seat.old.desk ≡ self.now }
         ensures same { (seat.new.desk ≡ seat.old.desk) × (seat.new.place ≡ seat.old.place) }
         ensures few { length seat.new.drawn ≤ self.now.limit }
-        ensures drawn { MatchOption result ((seat.new.drawn ≡ seat.old.drawn) × (seat.new.ended ≡ true)) (λ v. (v < self.now.limit) × (seat.old.ended ≡ false) × (seat.new.ended ≡ false) × (seat.new.drawn ≡ seat.old.drawn ++ v ∷ [])) }
+        ensures drawn { IfSome result (λ v. (v < self.now.limit) × (seat.new.drawn ≡ seat.old.drawn ++ v ∷ [])) }
+        ensures goes_on { OnSome result ((seat.old.ended ≡ false) × (seat.new.ended ≡ false)) }
+        ensures ended { IfNone result ((seat.new.drawn ≡ seat.old.drawn) × (seat.new.ended ≡ true)) }
     {
         if seat.ended {
             return None;
