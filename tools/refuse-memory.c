@@ -4,8 +4,8 @@
  * REFUSED_REQUEST   which request is refused, counted from 1; 0 for none
  * REFUSED_FOLLOW    where it is set, each request behind that one is refused too
  * REFUSED_TELLS     a file descriptor on which a byte for each refused request is written
- * REFUSED_BETWEEN   where it is set, only requests are counted that come between two lines on standard error, of which
- *                   the first is "call begins" and the second is "call ends"; else all from the program's start on
+ * REFUSED_CALL      where it is set, only the requests of the call of this number are counted, between its lines "call
+ *                   begins" and "call ends" on standard error; else all from the program's start on
  *
  * The program's threads are made by requests of the C library, which count too.
  */
@@ -29,6 +29,8 @@ static const char ENDS[] = "call ends\n";
 static long refused;
 static int follow;
 static int teller;
+static long call;
+static long calls;
 static atomic_long requests;
 static atomic_bool counts;
 
@@ -41,7 +43,8 @@ __attribute__((constructor)) static void start(void) {
     refused = number_of("REFUSED_REQUEST");
     follow = getenv("REFUSED_FOLLOW") != NULL;
     teller = (int)number_of("REFUSED_TELLS");
-    counts = getenv("REFUSED_BETWEEN") == NULL;
+    call = number_of("REFUSED_CALL");
+    counts = call == 0;
 }
 
 /* Whether this request is a refused one. Each has a number of its own, whatever threads do. */
@@ -84,12 +87,12 @@ static int is_line(const char *line, const void *bytes, size_t count) {
     return count == strlen(line) && memcmp(line, bytes, count) == 0;
 }
 
-/* Passes all on, and takes note of the two lines. */
+/* Passes all on, and takes note of the lines round a call. */
 ssize_t write(int file, const void *bytes, size_t count) {
-    if (file == STDERR_FILENO && is_line(ENDS, bytes, count))
+    if (call != 0 && file == STDERR_FILENO && is_line(ENDS, bytes, count))
         counts = 0;
     ssize_t written = syscall(SYS_write, file, bytes, count);
-    if (file == STDERR_FILENO && is_line(BEGINS, bytes, count))
-        counts = 1;
+    if (call != 0 && file == STDERR_FILENO && is_line(BEGINS, bytes, count))
+        counts = ++calls == call;
     return written;
 }
