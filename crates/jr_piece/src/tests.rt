@@ -9,6 +9,7 @@ use std::test::Fail;
 
 /// A file's segments before its scan, in hexadecimal notation of their parts: sizes and sampling, and a restart
 /// interval where there is one.
+#[derive(Clone, Copy)]
 struct Segments<'a> {
     frame: &'a [u8],
     restart: &'a [u8],
@@ -29,6 +30,12 @@ const COLOUR: Segments<'static> = Segments {
     ],
     restart: &[0xFF, 0xDD, 0, 4, 0, 1],
     scan: &[0xFF, 0xDA, 0, 0x0C, 3, 1, 0, 2, 0, 3, 0, 0, 0x3F, 0],
+};
+
+/// 512 by 512 grey pixels in one interval of 4096 MCUs.
+const LARGE: Segments<'static> = Segments {
+    frame: &[0xFF, 0xC0, 0, 0x0B, 8, 2, 0, 2, 0, 1, 1, 0x11, 0],
+    ..GREY
 };
 
 /// Each quantiser is 16; the words 00, 01 and 10 stand for three sizes of first coefficients, the word 0 for the end
@@ -120,5 +127,30 @@ fn intervals_of_three_components(rt: HostRuntime) -> Result<(), Fail> {
     )?;
     assert!(&rt; first.is_for(&other));
     assert!(&rt; !second.is_for(&other));
+    Ok(())
+}
+
+/// The first data unit takes six bits, each other one three; none is left out for want of memory.
+#[test]
+fn thousands_of_data_units(rt: HostRuntime) -> Result<(), Fail> {
+    let a = rt.alloc();
+    for (length, is_sound, front) in [
+        (1537, true, 4096),
+        (1500, false, 3999),
+        (1539, false, 4096),
+    ] {
+        let mut data = Vec::new(a);
+        data.push(0x60)?;
+        for _ in 1..length {
+            data.push(0)?;
+        }
+        let scan = scan_of(a, &LARGE, [0, 3, 5], data.as_slice())?;
+        let piece = piece_of(a, &scan, 0)?;
+        assert_eq!(rt; (piece.is_sound(), piece.front()), (is_sound, front));
+        for k in 0..front {
+            assert!(rt; piece.block(k) == Some(&[136; 64]), "unit {k} of {front}");
+        }
+        assert!(rt; piece.block(front).is_none());
+    }
     Ok(())
 }

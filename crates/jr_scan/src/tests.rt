@@ -1,5 +1,6 @@
 //! Files of a few bytes, and what their scans are.
 
+mod long;
 mod plain;
 mod rows;
 
@@ -11,8 +12,8 @@ use std::test::Fail;
 /// What the head of a small file says.
 #[derive(Clone, Copy)]
 struct Picture<'a> {
-    height: u8,
-    width: u8,
+    height: u16,
+    width: u16,
     /// The sampling factors of the first of three components, or one grey component.
     sampling: Option<u8>,
     /// Counts of words by length, and their symbols.
@@ -45,7 +46,10 @@ fn file(alloc: Global, picture: &Picture<'_>, scan: &[u8]) -> Result<Vec<u8>, Fa
     }
     let components: u8 = if picture.sampling.is_some() { 3 } else { 1 };
     file.extend_from_slice(&[0xFF, 0xC0, 0x00, 8 + 3 * components, 0x08])?;
-    file.extend_from_slice(&[0, picture.height, 0, picture.width, components])?;
+    for size in [picture.height, picture.width] {
+        file.extend_from_slice(&[(size / 256) as u8, (size % 256) as u8])?;
+    }
+    file.push(components)?;
     for c in 0..components {
         let factors = match picture.sampling {
             Some(factors) if c == 0 => factors,
@@ -71,7 +75,7 @@ fn file(alloc: Global, picture: &Picture<'_>, scan: &[u8]) -> Result<Vec<u8>, Fa
 fn scan_of(alloc: Global, picture: &Picture<'_>, scan: &[u8]) -> Result<Scan, Fail> {
     let bytes = file(alloc, picture, scan)?;
     let head = read_head(alloc, &bytes)?;
-    if bytes.len() > 1000 {
+    if bytes.len() > 100_000 {
         return Err(Fail::from("a small file"));
     }
     Ok(Scan::cut(alloc, head, &bytes)?)

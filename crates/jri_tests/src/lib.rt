@@ -17,6 +17,8 @@ mod every_byte;
 #[cfg(test)]
 mod files;
 #[cfg(test)]
+mod limits;
+#[cfg(test)]
 mod one_byte;
 #[cfg(test)]
 mod pictures;

@@ -1,0 +1,54 @@
+//! Files of thousands of MCUs and of thousands of restart intervals: there is memory for each.
+
+use crate::decoding::{Outcome, decode};
+use crate::files::file;
+use crate::pictures::picture;
+use std::process::Abort;
+use std::sync::Wait;
+use std::test::Fail;
+use std::thread::Threads;
+
+/// A file of 512 by 512 pixels of one grey, all of whose intervals are sound, by 1, 2 and 4 workers.
+fn check<R: Threads + Wait + Sync + AllocGlobal + Abort>(
+    rt: &R,
+    words: &str,
+    intervals: u32,
+) -> Result<(), Fail> {
+    let bytes = file(rt.alloc(), words)?;
+    let wanted = picture(rt.alloc(), "P5 512 512 : 512*136")?;
+    let text = format!(in rt.alloc();
+        "intervals {intervals} sound {intervals} damaged 0 blank 0\nscan ended at EOI\n"
+    )?;
+    for workers in [1, 2, 4] {
+        assert!(rt; 1 <= workers && workers <= 64);
+        let Outcome {
+            picture: painted,
+            lines,
+            status,
+        } = decode(rt, bytes.as_slice(), workers, None)?;
+        assert!(rt;
+            painted.as_slice() == wanted.as_slice(),
+            "picture by {workers} workers"
+        );
+        assert!(rt;
+            lines.as_slice() == text.as_bytes(),
+            "report by {workers} workers"
+        );
+        assert!(rt; status == 0, "status by {workers} workers");
+    }
+    Ok(())
+}
+
+/// The first MCU takes six bits, each of the other 4095 three.
+#[test]
+fn thousands_of_mcus(rt: HostRuntime) -> Result<(), Fail> {
+    check(&rt, "S Q F:0200:0200 D A C 60 1536*00 E", 1)
+}
+
+#[test]
+fn thousands_of_intervals(rt: HostRuntime) -> Result<(), Fail> {
+    let words = "S Q F:0200:0200 D A I C \
+                 511*63FFD063FFD163FFD263FFD363FFD463FFD563FFD663FFD7 \
+                 63FFD063FFD163FFD263FFD363FFD463FFD563FFD663 E";
+    check(&rt, words, 4096)
+}

@@ -1,0 +1,53 @@
+//! What calls are made with.
+
+ghost use Rattle.std.specs.Prelude.{◌≡◌, IfSome};
+
+use jr_head::read_head;
+use jr_scan::{Interval, Scan};
+use std::alloc::Global;
+use std::io::{Stderr, Write};
+use std::sync::Arc;
+
+/// A small file and its scan, and where the lines round a call are written. A method for each call tells whether it did
+/// right; None where it said that it was out of memory and left all as it promises.
+#[derive(Drop)]
+pub(crate) struct Caller<'a> {
+    pub alloc: Global,
+    pub file: &'a [u8],
+    pub scan: Arc<Scan>,
+    pub errors: Stderr,
+}
+
+impl<'a> Caller<'a> {
+    pub(crate) fn of(alloc: Global, file: &'a [u8], errors: Stderr) -> Option<Caller<'a>> {
+        if file.len() > 1000 {
+            return None;
+        }
+        let head = read_head(alloc, file).ok()?;
+        let scan = Scan::cut(alloc, head, file).ok()?;
+        let scan = Arc::new(alloc, scan).ok()?;
+        Some(Caller {
+            alloc,
+            file,
+            scan,
+            errors,
+        })
+    }
+
+    pub(crate) fn interval(&self, number: u32) -> Option<Interval>
+        ensures { IfSome result (λ i. i.number ≡ number) }
+    {
+        if number >= self.scan.intervals() {
+            return None;
+        }
+        self.scan.interval(number).ok()
+    }
+
+    pub(crate) fn begin(&mut self) {
+        let _ = self.errors.write_all(b"call begins\n");
+    }
+
+    pub(crate) fn end(&mut self) {
+        let _ = self.errors.write_all(b"call ends\n");
+    }
+}
