@@ -1,6 +1,7 @@
 //! Pieces posted on a board: out of order, twice, and of another file's scan.
 
-use crate::scans::{piece, sample, scan, shows};
+use crate::files::TEN;
+use crate::scans::{marks, piece, sample, scan, shows};
 use jr_paint::Samples;
 use jr_scan::Scan;
 use jr_wall::{Board, Gate, Mark, OpenGate, Piece, Unposted, decode_all};
@@ -9,30 +10,10 @@ use std::process::Abort;
 use std::sync::Arc;
 use std::test::Fail;
 
-/// Two intervals that have a decoding; the same where the second has none; ten that have one.
+/// Two intervals that have a decoding; the same where the second has none.
 const SOUND: &str = "GI 63 FF D0 63 E";
 
 const DAMAGED: &str = "GI 63 FF D0 E0 E";
-
-const TEN: &str =
-    "GW 63 FF D0 63 FF D1 63 FF D2 63 FF D3 63 FF D4 63 FF D5 63 FF D6 63 FF D7 63 FF D0 63 E";
-
-/// The marks of a board of this scan: a letter for each interval.
-fn marks(alloc: Global, scan: &Scan, board: &Board) -> Result<String, Fail> {
-    let mut letters = String::new(alloc);
-    if !board.is_of(scan) {
-        return Err(Fail::from("a board of another scan"));
-    }
-    board.be_lawful();
-    for i in 0..scan.intervals() {
-        letters.push(match board.mark(i) {
-            Mark::Blank => '-',
-            Mark::Sound => 's',
-            Mark::Damaged => 'd',
-        })?;
-    }
-    Ok(letters)
-}
 
 /// The piece that comes back, and whether the board calls it foreign.
 fn back(outcome: Result<(), Unposted>) -> Option<(Arc<Piece>, bool)> {

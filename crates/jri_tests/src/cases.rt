@@ -1,5 +1,7 @@
 //! Whole files that are accepted, and what becomes of each.
 
+use crate::files::{COLOURED, COLOURED_DAMAGED, TEN};
+
 /// A file that is accepted, and what becomes of it.
 #[derive(Clone, Copy)]
 pub(crate) struct Case {
@@ -127,7 +129,7 @@ pub(crate) fn restart_intervals() -> [Case; 7] {
             eoi,
         ),
         Case {
-            file: "GW 63 FF D0 63 FF D1 63 FF D2 63 FF D3 63 FF D4 63 FF D5 63 FF D6 63 FF D7 63 FF D0 63 E",
+            file: TEN,
             picture: "P5 80 8 : 80*136",
             intervals: "intervals 10 sound 10 damaged 0 blank 0",
             ended: eoi,
@@ -173,14 +175,9 @@ pub(crate) fn greatest_coefficients() -> [Case; 3] {
 pub(crate) fn three_components() -> [Case; 7] {
     let eoi = "scan ended at EOI";
     [
+        two(COLOURED, "P6 17 9 : 16*229,77,128 1*136,136,136", true, eoi),
         two(
-            "S Q F3:0009:0011:22 D:00:03:06 A I C3 00 01 48 FF D0 60 00 07 E",
-            "P6 17 9 : 16*229,77,128 1*136,136,136",
-            true,
-            eoi,
-        ),
-        two(
-            "S Q F3:0009:0011:22 D:00:03:06 A I C3 00 01 48 FF D0 E0 E",
+            COLOURED_DAMAGED,
             "P6 17 9 : 16*229,77,128 1*128,128,128",
             false,
             eoi,

@@ -1,44 +1,16 @@
 //! Each whole file cut at every length, and changed to FF and to 00 at every byte: it is refused with nothing written,
-//! or its text has exactly the size that its own first lines say.
+//! or its text has the first lines and the size that its head says.
 
 use crate::cases;
 use crate::cases::Case;
 use crate::decoding::{Outcome, decode};
 use crate::files::{changed, file, front};
+use crate::pictures::header;
+use jr_head::read_head;
 use std::process::Abort;
 use std::sync::Wait;
 use std::test::Fail;
 use std::thread::Threads;
-
-/// The first line of a text, and what is behind it.
-fn first_line(text: &[u8]) -> Option<(&[u8], &[u8])> {
-    let mut rest = text.iter();
-    let at = rest.position(|byte| *byte == b'\n')?;
-    let (line, behind) = (text.get(..at)?, text.get(at..)?);
-    let (_newline, behind) = behind.split_first()?;
-    Some((line, behind))
-}
-
-/// How many bytes of samples a picture has by the first lines of its text, and how many bytes are behind them.
-fn sizes(text: &[u8]) -> Option<(usize, usize)> {
-    let (magic, behind) = first_line(text)?;
-    let (size, behind) = first_line(behind)?;
-    let (most, samples) = first_line(behind)?;
-    if most != b"255".as_slice() {
-        return None;
-    }
-    let of_pixel: usize = match magic {
-        b"P5" => 1,
-        b"P6" => 3,
-        _ => return None,
-    };
-    let (width, height) = std::str::from_utf8(size).ok()?.split_once(' ')?;
-    let pixels = width
-        .parse::<usize>()
-        .ok()?
-        .checked_mul(height.parse::<usize>().ok()?)?;
-    Some((pixels.checked_mul(of_pixel)?, samples.len()))
-}
 
 fn check<R: Threads + Wait + Sync + AllocGlobal + Abort>(
     rt: &R,
@@ -51,15 +23,24 @@ fn check<R: Threads + Wait + Sync + AllocGlobal + Abort>(
         lines,
         status,
     } = decode(rt, bytes, 1, None)?;
-    if status == 2 {
+    let Ok(head) = read_head(rt.alloc(), bytes) else {
         assert!(rt; picture.is_empty(), "nothing is written of {name} at {at}");
         let is_told = lines.as_slice().starts_with(b"refused ".as_slice());
-        assert!(rt; is_told, "refusal of {name} at {at}");
+        assert!(rt; is_told && status == 2, "refusal of {name} at {at}");
         return Ok(());
-    }
+    };
     assert!(rt; status == 0 || status == 3, "status of {name} at {at}");
-    let (wanted, found) = sizes(picture.as_slice()).ok_or("no header")?;
-    assert!(rt; wanted == found, "size of {name} at {at}");
+    let pixels = (head.width() as usize) * (head.height() as usize);
+    let (magic, of_pixel) = match head.components() {
+        1 => ("P5", 1),
+        _ => ("P6", 3),
+    };
+    let first_lines = header(rt.alloc(), magic, head.width(), head.height())?;
+    let text = picture.as_slice();
+    let is_of_head = text.starts_with(first_lines.as_bytes());
+    assert!(rt; is_of_head, "first lines of {name} at {at}");
+    let size = first_lines.len().saturating_add(pixels * of_pixel);
+    assert!(rt; text.len() == size, "size of {name} at {at}");
     Ok(())
 }
 
@@ -106,8 +87,18 @@ fn runs_of_zeros(rt: HostRuntime) -> Result<(), Fail> {
 }
 
 #[test]
-fn restart_intervals(rt: HostRuntime) -> Result<(), Fail> {
-    check_all(&rt, &cases::restart_intervals())
+fn two_restart_intervals(rt: HostRuntime) -> Result<(), Fail> {
+    check_all(&rt, &cases::restart_intervals()[..3])
+}
+
+#[test]
+fn restart_intervals_without_data(rt: HostRuntime) -> Result<(), Fail> {
+    check_all(&rt, &cases::restart_intervals()[3..5])
+}
+
+#[test]
+fn longer_restart_intervals_and_more(rt: HostRuntime) -> Result<(), Fail> {
+    check_all(&rt, &cases::restart_intervals()[5..])
 }
 
 #[test]
@@ -121,8 +112,23 @@ fn greatest_coefficients(rt: HostRuntime) -> Result<(), Fail> {
 }
 
 #[test]
-fn three_components(rt: HostRuntime) -> Result<(), Fail> {
-    check_all(&rt, &cases::three_components())
+fn three_components_in_two_intervals(rt: HostRuntime) -> Result<(), Fail> {
+    check_all(&rt, &cases::three_components()[..2])
+}
+
+#[test]
+fn three_components_of_one_line(rt: HostRuntime) -> Result<(), Fail> {
+    check_all(&rt, &cases::three_components()[2..3])
+}
+
+#[test]
+fn three_components_by_their_marks(rt: HostRuntime) -> Result<(), Fail> {
+    check_all(&rt, &cases::three_components()[3..6])
+}
+
+#[test]
+fn three_components_that_are_damaged(rt: HostRuntime) -> Result<(), Fail> {
+    check_all(&rt, &cases::three_components()[6..])
 }
 
 #[test]

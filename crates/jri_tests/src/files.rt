@@ -45,6 +45,21 @@ const PARTS: [(&str, &str); 11] = [
     ),
 ];
 
+/// A file of ten intervals that have a decoding.
+pub(crate) const TEN: &str =
+    "GW 63 FF D0 63 FF D1 63 FF D2 63 FF D3 63 FF D4 63 FF D5 63 FF D6 63 FF D7 63 FF D0 63 E";
+
+/// A file of ten intervals, of which five have a decoding: those with E0 have bits that no word begins, that with 63 63
+/// has ten bits left over behind its data unit, and one has no bytes.
+pub(crate) const MIXED: &str =
+    "GW 63 FF D0 E0 FF D1 63 FF D2 63 63 FF D3 E0 FF D4 63 FF D5 FF D6 63 FF D7 E0 FF D0 63 E";
+
+/// Two intervals of three components; the same where the second has no decoding.
+pub(crate) const COLOURED: &str = "S Q F3:0009:0011:22 D:00:03:06 A I C3 00 01 48 FF D0 60 00 07 E";
+
+pub(crate) const COLOURED_DAMAGED: &str =
+    "S Q F3:0009:0011:22 D:00:03:06 A I C3 00 01 48 FF D0 E0 E";
+
 /// Parts with arguments: what stands before each argument, and behind the last.
 const FORMS: [(&str, &str); 5] = [
     ("F", "FF C0 00 0B 08 | | 01 01 11 00"),

@@ -9,6 +9,12 @@ mod cases;
 #[cfg(test)]
 mod changed;
 #[cfg(test)]
+mod counting;
+#[cfg(test)]
+mod crew;
+#[cfg(test)]
+mod damage;
+#[cfg(test)]
 mod decoding;
 #[cfg(test)]
 mod devices;
@@ -16,6 +22,8 @@ mod devices;
 mod every_byte;
 #[cfg(test)]
 mod files;
+#[cfg(test)]
+mod glances;
 #[cfg(test)]
 mod limits;
 #[cfg(test)]

@@ -3,7 +3,7 @@
 //! `P5 16 8 : 8*136 8*128` is the header of a PGM of 16 columns and 8 lines, each of them 8 times 136 and 8 times 128.
 //! Different lines are separated by `/`. The samples of a colour are joined by commas: `16*229,77,128`.
 
-use std::alloc::Global;
+use std::alloc::{AllocError, Global};
 use std::test::Fail;
 
 /// Puts so many times the bytes of a pixel, as `16*229,77,128`.
@@ -24,21 +24,31 @@ fn put_line(bytes: &mut Vec<u8>, line: &str) -> Result<(), Fail> {
     Ok(())
 }
 
+/// The first lines of a picture's Netpbm text.
+pub(crate) fn header(
+    alloc: Global,
+    magic: &str,
+    width: u32,
+    height: u32,
+) -> Result<String, AllocError> {
+    format!(in alloc; "{magic}\n{width} {height}\n255\n")
+}
+
 /// The Netpbm text of a picture in the notation above.
 pub(crate) fn picture(alloc: Global, words: &str) -> Result<Vec<u8>, Fail> {
-    let (header, lines) = words.split_once(" : ").ok_or("no lines")?;
-    let mut parts = header.split_whitespace();
+    let (size, lines) = words.split_once(" : ").ok_or("no lines")?;
+    let mut parts = size.split_whitespace();
     let magic = parts.next().ok_or("no magic")?;
-    let width = parts.next().ok_or("no width")?;
-    let height = parts.next().ok_or("no height")?;
-    let text = format!(in alloc; "{magic}\n{width} {height}\n255\n")?;
+    let width = parts.next().ok_or("no width")?.parse::<u32>()?;
+    let height = parts.next().ok_or("no height")?.parse::<u32>()?;
+    let text = header(alloc, magic, width, height)?;
     let mut bytes = text.as_bytes().to_vec(alloc)?;
     if lines.contains('/') {
         for line in lines.split('/') {
             put_line(&mut bytes, line)?;
         }
     } else {
-        for _ in 0..height.parse::<u32>()? {
+        for _ in 0..height {
             put_line(&mut bytes, lines)?;
         }
     }

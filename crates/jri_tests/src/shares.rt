@@ -3,6 +3,7 @@
 ghost use Rattle.std.specs.Prelude.{◌≤◌};
 
 use crate::decoding::{Outcome, decode};
+use crate::files;
 use crate::files::file;
 use crate::pictures::picture;
 use std::process::Abort;
@@ -108,7 +109,7 @@ fn damage_past_the_first(rt: HostRuntime) -> Result<(), Fail> {
 
 /// Ten intervals that have a decoding.
 const TEN: Case = Case {
-    file: "GW 63 FF D0 63 FF D1 63 FF D2 63 FF D3 63 FF D4 63 FF D5 63 FF D6 63 FF D7 63 FF D0 63 E",
+    file: files::TEN,
     picture: "P5 80 8 : 80*136",
     intervals: "intervals 10 sound 10 damaged 0 blank 0",
     status: 0,
@@ -116,7 +117,7 @@ const TEN: Case = Case {
 
 /// Two intervals of three components.
 const COLOURED: Case = Case {
-    file: "S Q F3:0009:0011:22 D:00:03:06 A I C3 00 01 48 FF D0 60 00 07 E",
+    file: files::COLOURED,
     picture: "P6 17 9 : 16*229,77,128 1*136,136,136",
     intervals: "intervals 2 sound 2 damaged 0 blank 0",
     status: 0,

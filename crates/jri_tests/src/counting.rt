@@ -1,0 +1,130 @@
+//! How many workers there are, as a gate finds that counts those inside it.
+
+ghost use Rattle.std.specs.Prelude.{◌≤◌};
+
+use crate::files::{TEN, file};
+use crate::scans::scan;
+use crate::workers::TURNS;
+use jr_paint::Tally;
+use jr_wall::{Gate, Piece, decode_all};
+use jri_engine::run;
+use std::process::Abort;
+use std::sync::Wait;
+use std::sync::atomic::{AtomicU64, Ordering};
+use std::test::Fail;
+use std::thread;
+use std::thread::Threads;
+
+/// How often a call looks whether one more worker comes than it waits for.
+const MORE_TURNS: u32 = 10_000;
+
+/// Holds each call until so many are inside at once, and then a while longer.
+#[derive(Drop)]
+struct Crowd {
+    wanted: u64,
+    inside: AtomicU64,
+    /// The greatest number that was inside at once.
+    greatest: AtomicU64,
+    calls: AtomicU64,
+    /// Calls that used up their turns.
+    late: AtomicU64,
+}
+
+impl Crowd {
+    fn of(wanted: u32) -> Crowd {
+        Crowd {
+            wanted: u64::from(wanted),
+            inside: AtomicU64::new(0),
+            greatest: AtomicU64::new(0),
+            calls: AtomicU64::new(0),
+            late: AtomicU64::new(0),
+        }
+    }
+
+    /// Notes that so many are inside. There are at most 64 workers, and each turn that fails has seen a greater number.
+    fn note(&self, number: u64) {
+        for _turn in 0..64u32 {
+            let greatest = self.greatest.load(Ordering::SeqCst);
+            if number <= greatest {
+                return;
+            }
+            let _ = self
+                .greatest
+                .compare_exchange(greatest, number, Ordering::SeqCst, Ordering::SeqCst);
+        }
+    }
+
+    /// Waits until this many have been inside at once; false where that takes too many turns.
+    fn await_crowd(&self, number: u64, turns: u32) -> bool {
+        for _turn in 0..turns {
+            if self.greatest.load(Ordering::SeqCst) >= number {
+                return true;
+            }
+            thread::yield_now();
+        }
+        false
+    }
+
+    /// Whether just the wanted number came, for the ten intervals.
+    fn is_as_wanted(&self) -> bool {
+        self.greatest.load(Ordering::SeqCst) == self.wanted
+            && self.calls.load(Ordering::SeqCst) == 10
+            && self.late.load(Ordering::SeqCst) == 0
+    }
+}
+
+impl Gate for Crowd {
+    fn pass(&self, _number: u32) {
+        self.calls.fetch_add(1, Ordering::SeqCst);
+        let before = self.inside.fetch_add(1, Ordering::SeqCst);
+        self.note(before.saturating_add(1));
+        let turns = if self.late.load(Ordering::SeqCst) == 0 {
+            TURNS
+        } else {
+            0
+        };
+        if self.await_crowd(self.wanted, turns) {
+            let _ = self.await_crowd(self.wanted.saturating_add(1), MORE_TURNS);
+        } else {
+            self.late.fetch_add(1, Ordering::SeqCst);
+        }
+        self.inside.fetch_sub(1, Ordering::SeqCst);
+    }
+
+    fn made(&self, _piece: &Piece) {}
+}
+
+/// So many workers come where `run` and where `decode_all` is asked for them.
+fn check<R: Threads + Wait + Sync + AllocGlobal + Abort>(rt: &R, workers: u32) -> Result<(), Fail>
+    requires some { 1 ≤ workers }
+    requires few { workers ≤ 64 }
+{
+    let gate = Crowd::of(workers);
+    let bytes = file(rt.alloc(), TEN)?;
+    let mut input = Tally::of(bytes.as_slice());
+    let mut out = Tally::of(Vec::new(rt.alloc()));
+    let outcome = run(rt, rt.alloc(), &mut input, &mut out, workers, None, &gate);
+    assert!(rt; outcome.is_ok());
+    assert!(rt; gate.is_as_wanted(), "{workers} workers by run");
+    let gate = Crowd::of(workers);
+    let scan = scan(rt.alloc(), TEN)?;
+    let board = decode_all(rt, rt.alloc(), scan, workers, None, &gate)?;
+    assert!(rt; board.sound() == 10);
+    assert!(rt; gate.is_as_wanted(), "{workers} workers by decode_all");
+    Ok(())
+}
+
+#[test]
+fn one_worker(rt: HostRuntime) -> Result<(), Fail> {
+    check(&rt, 1)
+}
+
+#[test]
+fn two_workers(rt: HostRuntime) -> Result<(), Fail> {
+    check(&rt, 2)
+}
+
+#[test]
+fn four_workers(rt: HostRuntime) -> Result<(), Fail> {
+    check(&rt, 4)
+}

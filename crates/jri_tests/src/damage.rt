@@ -1,0 +1,130 @@
+//! What workers leave of damaged intervals: marks, pieces in cells, and calls of the gate.
+
+use crate::crew::decode_by_two;
+use crate::files::MIXED;
+use crate::scans::{hung, marks, scan};
+use jr_wall::{Board, Cells, Gate, Piece};
+use std::alloc::{AllocError, Global};
+use std::process::Abort;
+use std::sync::atomic::{AtomicU64, Ordering};
+use std::sync::{Arc, Mutex, Wait};
+use std::test::Fail;
+use std::thread::Threads;
+
+/// How often a gate was told of an interval: that it is to be decoded, and then its piece.
+#[derive(Drop)]
+struct Told {
+    passed: AtomicU64,
+    sound: AtomicU64,
+    damaged: AtomicU64,
+}
+
+/// Counts the calls for each interval.
+#[derive(Drop)]
+struct Notes {
+    told: Vec<Told>,
+    /// Calls for an interval that is not there, and pieces that came before their interval had passed.
+    wrong: AtomicU64,
+}
+
+fn count(calls: &AtomicU64) {
+    calls.fetch_add(1, Ordering::SeqCst);
+}
+
+fn counted(calls: &AtomicU64) -> u64 {
+    calls.load(Ordering::SeqCst)
+}
+
+impl Notes {
+    fn new(alloc: Global, intervals: u32) -> Result<Notes, AllocError> {
+        let mut told = Vec::new(alloc);
+        for _ in 0..intervals {
+            told.push(Told {
+                passed: AtomicU64::new(0),
+                sound: AtomicU64::new(0),
+                damaged: AtomicU64::new(0),
+            })?;
+        }
+        Ok(Notes {
+            told,
+            wrong: AtomicU64::new(0),
+        })
+    }
+
+    /// A letter for each interval, as those of marks, and `?` where the calls are not one of each kind.
+    fn letters(&self, alloc: Global) -> Result<String, Fail> {
+        let mut letters = String::new(alloc);
+        for told in &self.told {
+            let calls = (
+                counted(&told.passed),
+                counted(&told.sound),
+                counted(&told.damaged),
+            );
+            letters.push(match calls {
+                (0, 0, 0) => '-',
+                (1, 1, 0) => 's',
+                (1, 0, 1) => 'd',
+                _ => '?',
+            })?;
+        }
+        Ok(letters)
+    }
+}
+
+impl Gate for Notes {
+    fn pass(&self, number: u32) {
+        match self.told.get(number as usize) {
+            Some(told) => count(&told.passed),
+            None => count(&self.wrong),
+        }
+    }
+
+    fn made(&self, piece: &Piece) {
+        match self.told.get(piece.number() as usize) {
+            Some(told) if counted(&told.passed) == 1 => count(if piece.is_sound() {
+                &told.sound
+            } else {
+                &told.damaged
+            }),
+            _ => count(&self.wrong),
+        }
+    }
+}
+
+/// Two workers decode the first intervals of a file, as many as there are letters: the board, the cells and the gate
+/// tell these.
+fn check<R: Threads + Wait + Sync + Abort>(
+    rt: &R,
+    alloc: Global,
+    words: &str,
+    letters: &str,
+) -> Result<(), Fail> {
+    let scan = scan(alloc, words)?;
+    let decoded = letters.trim_end_matches('-');
+    let gate = Notes::new(alloc, scan.intervals())?;
+    let cells = Cells::open(alloc, u32::try_from(decoded.len())?)?;
+    let board = Mutex::new(Board::new(alloc, Arc::try_clone(&scan)?)?);
+    assert!(rt; decode_by_two(rt, alloc, &scan, &board, &cells, &gate));
+    let told = gate.letters(alloc)?;
+    assert!(rt; told.as_str() == letters, "the gate was told {told}");
+    assert!(rt; counted(&gate.wrong) == 0);
+    let hung = hung(alloc, &cells)?;
+    assert!(rt; hung.as_str() == decoded, "in the cells hang {hung}");
+    let marks = marks(alloc, &scan, &board.into_inner())?;
+    assert!(rt; marks.as_str() == letters, "the marks are {marks}");
+    Ok(())
+}
+
+#[test]
+fn one_of_two_intervals(rt: HostRuntime) -> Result<(), Fail> {
+    check(&rt, rt.alloc(), "GI 63 FF D0 E0 E", "sd")?;
+    check(&rt, rt.alloc(), "GI E0 FF D0 63 E", "ds")?;
+    check(&rt, rt.alloc(), "GI E0 FF D0 E0 E", "dd")?;
+    check(&rt, rt.alloc(), "GI E0 FF D0 63 E", "d-")
+}
+
+#[test]
+fn five_of_ten_intervals(rt: HostRuntime) -> Result<(), Fail> {
+    check(&rt, rt.alloc(), MIXED, "sdsddsdsds")?;
+    check(&rt, rt.alloc(), MIXED, "sdsddsd---")
+}

@@ -1,0 +1,260 @@
+//! What glances at a board see: before, while and after workers fill it.
+
+use crate::crew::decode_by_two;
+use crate::files::{COLOURED, COLOURED_DAMAGED, MIXED, TEN};
+use crate::scans::{glimpse, hung, scan, shows};
+use jr_scan::Scan;
+use jr_wall::{Board, Cells, Desk, Gate, Glimpse, Mark, OpenGate, Piece, decode_all, work};
+use std::process::Abort;
+use std::sync::atomic::{AtomicU64, Ordering};
+use std::sync::{Arc, Mutex, Wait};
+use std::test::Fail;
+use std::thread;
+use std::thread::Threads;
+
+/// What the mixed file's intervals show. A damaged one shows the data unit in front of its damage, or else grey.
+const SHOWN: [(Mark, u8); 10] = [
+    (Mark::Sound, 136),
+    (Mark::Damaged, 128),
+    (Mark::Sound, 136),
+    (Mark::Damaged, 136),
+    (Mark::Damaged, 128),
+    (Mark::Sound, 136),
+    (Mark::Damaged, 128),
+    (Mark::Sound, 136),
+    (Mark::Damaged, 128),
+    (Mark::Sound, 136),
+];
+
+/// What the mixed file's interval i shows, where the first n are decoded.
+fn shown(i: u32, n: u32) -> (Mark, u8) {
+    match SHOWN.get(i as usize) {
+        Some(shown) if i < n => *shown,
+        _ => (Mark::Blank, 0),
+    }
+}
+
+/// What a glance into the mixed file's interval i sees, where the first n are decoded.
+fn wanted(i: u32, n: u32) -> Glimpse {
+    let (mark, sample) = shown(i, n);
+    let (mut sound, mut damaged, mut blank) = (0u32, 0u32, 0u32);
+    for other in 0..10u32 {
+        let count = match shown(other, n).0 {
+            Mark::Sound => &mut sound,
+            Mark::Damaged => &mut damaged,
+            Mark::Blank => &mut blank,
+        };
+        *count = count.saturating_add(1);
+    }
+    Glimpse {
+        mark,
+        sample,
+        sound,
+        damaged,
+        blank,
+    }
+}
+
+/// Whether glances at each column of the mixed file see that just its first n intervals are decoded.
+fn is_seen<R: Wait>(rt: &R, scan: &Scan, board: &Mutex<Board>, n: u32) -> bool {
+    for x in 0..80u32 {
+        for y in [0, x % 8, 7] {
+            if glimpse(rt, board, scan, 0, x, y) != Some(wanted(x / 8, n)) {
+                return false;
+            }
+        }
+    }
+    true
+}
+
+/// The first intervals of the mixed file, decoded by a caller's own workers and by `decode_all`.
+#[test]
+fn after_workers(rt: HostRuntime) -> Result<(), Fail> {
+    let alloc = rt.alloc();
+    let scan = scan(alloc, MIXED)?;
+    for n in 0..=10u32 {
+        let cells = Cells::open(alloc, n)?;
+        let board = Mutex::new(Board::new(alloc, Arc::try_clone(&scan)?)?);
+        assert!(rt; is_seen(&rt, &scan, &board, 0), "before {n}");
+        assert!(rt; decode_by_two(&rt, alloc, &scan, &board, &cells, &OpenGate));
+        assert!(rt; is_seen(&rt, &scan, &board, n), "after {n}");
+        let board = decode_all(&rt, alloc, Arc::try_clone(&scan)?, 2, Some(n), &OpenGate)?;
+        assert!(rt; is_seen(&rt, &scan, &Mutex::new(board), n), "{n} of all");
+    }
+    Ok(())
+}
+
+/// Glances at each call, while one worker fills the mixed file's board.
+#[derive(Drop)]
+struct Onlooker<'a, R> {
+    rt: &'a R,
+    scan: &'a Scan,
+    board: &'a Mutex<Board>,
+    calls: AtomicU64,
+    /// Calls that saw something else than that all intervals before theirs are decoded.
+    wrong: AtomicU64,
+}
+
+impl<R: Wait> Onlooker<'_, R> {
+    fn look(&self, number: u32) {
+        self.calls.fetch_add(1, Ordering::SeqCst);
+        if !is_seen(self.rt, self.scan, self.board, number) {
+            self.wrong.fetch_add(1, Ordering::SeqCst);
+        }
+    }
+}
+
+impl<R: Wait> Gate for Onlooker<'_, R> {
+    fn pass(&self, number: u32) {
+        self.look(number);
+    }
+
+    fn made(&self, piece: &Piece) {
+        self.look(piece.number());
+    }
+}
+
+#[test]
+fn between_the_steps_of_a_worker(rt: HostRuntime) -> Result<(), Fail> {
+    let alloc = rt.alloc();
+    let scan = scan(alloc, MIXED)?;
+    let (desk, mut seats) = Desk::open(alloc, 10, 1)?;
+    let mut seat = seats.pop().ok_or("one seat")?;
+    let cells = Cells::open(alloc, 10)?;
+    let board = Mutex::new(Board::new(alloc, Arc::try_clone(&scan)?)?);
+    let gate = Onlooker {
+        rt: &rt,
+        scan: &scan,
+        board: &board,
+        calls: AtomicU64::new(0),
+        wrong: AtomicU64::new(0),
+    };
+    assert!(rt; desk.limit() <= scan.intervals() && desk.limit() <= cells.count());
+    work(&rt, alloc, &scan, &desk, &mut seat, &board, &cells, &gate);
+    assert_eq!(rt; gate.calls.load(Ordering::SeqCst), 20);
+    assert_eq!(rt; gate.wrong.load(Ordering::SeqCst), 0);
+    Ok(())
+}
+
+/// Whether each sound interval shows 136, each blank one 0, and the counts are those of the marks.
+fn is_as_marked(scan: &Scan, board: &Board) -> bool {
+    if !board.is_of(scan) {
+        return false;
+    }
+    board.be_lawful();
+    let (mut sound, mut blank) = (0u32, 0u32);
+    for i in 0..scan.intervals() {
+        let value = match board.mark(i) {
+            Mark::Sound => {
+                sound = sound.wrapping_add(1);
+                136
+            }
+            Mark::Blank => {
+                blank = blank.wrapping_add(1);
+                0
+            }
+            Mark::Damaged => return false,
+        };
+        if !shows(board, i.saturating_mul(8), value) {
+            return false;
+        }
+    }
+    sound == board.sound() && blank == board.blank() && board.damaged() == 0
+}
+
+/// Whether a glance sees 136 in a sound interval, 0 in a blank one, and ten marks.
+fn is_as_seen(seen: &Glimpse) -> bool {
+    let value = match seen.mark {
+        Mark::Sound => 136,
+        Mark::Blank => 0,
+        Mark::Damaged => return false,
+    };
+    seen.sample == value && seen.damaged == 0 && seen.sound.saturating_add(seen.blank) == 10
+}
+
+/// Takes the lock and glances a hundred times, and says whether the board was as marked at each, with no mark fewer
+/// than before.
+fn view<R: Wait>(rt: &R, scan: &Scan, board: &Mutex<Board>) -> bool {
+    let mut before = 0;
+    for turn in 0..100u32 {
+        if !is_as_marked(scan, &board.lock(rt)) {
+            return false;
+        }
+        let Some(seen) = glimpse(rt, board, scan, 0, turn % 10 * 8, 0) else {
+            return false;
+        };
+        if !is_as_seen(&seen) || seen.sound < before {
+            return false;
+        }
+        before = seen.sound;
+        thread::yield_now();
+    }
+    true
+}
+
+#[test]
+fn beside_two_workers(rt: HostRuntime) -> Result<(), Fail> {
+    let alloc = rt.alloc();
+    let scan = scan(alloc, TEN)?;
+    let cells = Cells::open(alloc, 10)?;
+    let board = Mutex::new(Board::new(alloc, Arc::try_clone(&scan)?)?);
+    let (is_lawful, is_decoded) = thread::join(
+        &rt,
+        || view(&rt, &scan, &board),
+        || decode_by_two(&rt, alloc, &scan, &board, &cells, &OpenGate),
+    );
+    assert!(rt; is_lawful && is_decoded);
+    let filled = board.into_inner();
+    assert!(rt; is_as_marked(&scan, &filled));
+    assert_eq!(rt; filled.sound(), 10);
+    assert!(rt; hung(alloc, &cells)?.as_str() == "ssssssssss");
+    Ok(())
+}
+
+/// None of a board of another scan of the same size, but of one that is equal.
+#[test]
+fn of_another_scan(rt: HostRuntime) -> Result<(), Fail> {
+    let alloc = rt.alloc();
+    let board = Mutex::new(decode_all(&rt, alloc, scan(alloc, TEN)?, 2, None, &OpenGate)?);
+    let (other, equal) = (scan(alloc, MIXED)?, scan(alloc, TEN)?);
+    assert!(rt; glimpse(&rt, &board, &other, 0, 0, 0).is_none());
+    let seen = glimpse(&rt, &board, &equal, 0, 0, 0).ok_or("of an equal scan")?;
+    assert!(rt; seen.mark == Mark::Sound && seen.sample == 136 && seen.sound == 10);
+    Ok(())
+}
+
+/// The mark and the sample that a glance sees.
+fn seen<R: Wait>(rt: &R, board: &Mutex<Board>, scan: &Scan, c: u32, x: u32) -> Option<(Mark, u8)> {
+    let seen = glimpse(rt, board, scan, c, x, 4)?;
+    Some((seen.mark, seen.sample))
+}
+
+/// The first MCU shows 128, 128 and 200 up to the last of its columns; the second has this mark and these samples.
+fn check_colours<R: Threads + Wait + Sync + AllocGlobal + Abort>(
+    rt: &R,
+    words: &str,
+    first: u32,
+    mark: Mark,
+    samples: [u8; 3],
+) -> Result<(), Fail> {
+    let (alloc, scan) = (rt.alloc(), scan(rt.alloc(), words)?);
+    let board = decode_all(rt, alloc, Arc::try_clone(&scan)?, 2, Some(first), &OpenGate)?;
+    let board = Mutex::new(board);
+    let columns = [(0, 15, 128, 16), (1, 7, 128, 8), (2, 7, 200, 8)];
+    for ((c, last, value, next), sample) in columns.into_iter().zip(samples) {
+        let found = (
+            seen(rt, &board, &scan, c, last),
+            seen(rt, &board, &scan, c, next),
+        );
+        let wanted = (Some((Mark::Sound, value)), Some((mark, sample)));
+        assert!(rt; found == wanted, "component {c}");
+    }
+    Ok(())
+}
+
+#[test]
+fn of_three_components(rt: HostRuntime) -> Result<(), Fail> {
+    check_colours(&rt, COLOURED, 2, Mark::Sound, [136, 128, 128])?;
+    check_colours(&rt, COLOURED_DAMAGED, 2, Mark::Damaged, [128, 128, 128])?;
+    check_colours(&rt, COLOURED, 1, Mark::Blank, [0, 128, 128])
+}
