@@ -37,18 +37,6 @@ pub even_fits : {P : Type 0} (x0 x2 x4 x6 : ℤ) → IsWithin (2 ^ 40) x0 → Is
 even_fits x0 x2 x4 x6 a b d e give =
     give (omega (arith, ints)) (omega (arith, ints)) (omega (arith, ints)) (omega (arith, ints)) (omega (arith, ints)) (omega (arith, ints)) (omega (arith, ints)) (omega (arith, ints)) (omega (arith, ints)) (omega (arith, ints)) (omega (arith, ints)) (omega (arith, ints)) (omega (arith, ints)) (omega (arith, ints)) (omega (arith, ints)) (omega (arith, ints)) (omega (arith, ints)) (omega (arith, ints))
 
-pub even_sum_0 : (x0 x2 x4 x6 : ℤ) → (x0 +ℤ x4) *ℤ pos 8192 +ℤ ((x2 +ℤ x6) *ℤ pos 4433 +ℤ x2 *ℤ pos 6270) ≡ even_sum 0 (x0 ∷ x2 ∷ x4 ∷ x6 ∷ [])
-even_sum_0 x0 x2 x4 x6 = omega (arith, ints)
-
-pub even_sum_1 : (x0 x2 x4 x6 : ℤ) → (x0 -ℤ x4) *ℤ pos 8192 +ℤ ((x2 +ℤ x6) *ℤ pos 4433 -ℤ x6 *ℤ pos 15137) ≡ even_sum 1 (x0 ∷ x2 ∷ x4 ∷ x6 ∷ [])
-even_sum_1 x0 x2 x4 x6 = omega (arith, ints)
-
-pub even_sum_2 : (x0 x2 x4 x6 : ℤ) → (x0 -ℤ x4) *ℤ pos 8192 -ℤ ((x2 +ℤ x6) *ℤ pos 4433 -ℤ x6 *ℤ pos 15137) ≡ even_sum 2 (x0 ∷ x2 ∷ x4 ∷ x6 ∷ [])
-even_sum_2 x0 x2 x4 x6 = omega (arith, ints)
-
-pub even_sum_3 : (x0 x2 x4 x6 : ℤ) → (x0 +ℤ x4) *ℤ pos 8192 -ℤ ((x2 +ℤ x6) *ℤ pos 4433 +ℤ x2 *ℤ pos 6270) ≡ even_sum 3 (x0 ∷ x2 ∷ x4 ∷ x6 ∷ [])
-even_sum_3 x0 x2 x4 x6 = omega (arith, ints)
-
 -- the intermediate values of `odd` fit; a goal P follows from these facts
 pub odd_fits : {P : Type 0} (x1 x3 x5 x7 : ℤ) → IsWithin (2 ^ 40) x1 → IsWithin (2 ^ 40) x3 → IsWithin (2 ^ 40) x5 → IsWithin (2 ^ 40) x7
     → (FitsSigned w64 x1

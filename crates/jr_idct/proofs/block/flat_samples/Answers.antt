@@ -1,4 +1,4 @@
-use Rattle.std.proofs.Common.{arith, ap, ◌≡◌, ◌∙◌, pos, ◌+ℤ◌, w32, FitsSigned, to_z, of_z}
+use Rattle.std.proofs.Common.{arith, rules, ap, ◌≡◌, ◌∙◌, pos, ◌+ℤ◌, w32, FitsSigned, to_z, of_z}
 use Rattle.std.proofs.lemmas.Int.{ints, to_z-of_z}
 use Rattle.std.proofs.lemmas.Simd.{get_or-replicate}
 use Rattle.std.specs.Int.Signed.{shr_z}
@@ -12,4 +12,5 @@ returns c = λ n h.
     let f : FitsSigned w32 (p +ℤ pos 4) = omega (arith, ints) in
     let g = shr_fits (p +ℤ pos 4) 8 f in
     let e : to_z w32 (of_z w32 (shr_z (to_z w32 (of_z w32 (to_z w32 (of_z w32 p) +ℤ pos 4))) 8)) ≡ shr_z (p +ℤ pos 4) 8 = let s = c.ranges.product in simp to_z-of_z in
-    get_or-replicate 64 n c.clamped.result 0 h ∙ c.clamped.ensures ∙ ap (λ x. byte_of (x +ℤ pos 128)) e
+    let raw : c.clamped.result ≡ byte_of (to_z w32 (of_z w32 (shr_z (to_z w32 (of_z w32 (to_z w32 (of_z w32 p) +ℤ pos 4))) 8)) +ℤ pos 128) = search (rules, c.clamped.ensures) in
+    get_or-replicate 64 n c.clamped.result 0 h ∙ raw ∙ ap (λ x. byte_of (x +ℤ pos 128)) e

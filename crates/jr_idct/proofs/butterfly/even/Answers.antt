@@ -1,7 +1,7 @@
 use Rattle.std.proofs.Common.{arith}
-use Rattle.std.proofs.lemmas.Int.{to_z-of_z}
+use Rattle.std.proofs.lemmas.Int.{ints, to_z-of_z}
 use Rattle.jr_idct.specs.Matrix.{at}
-use Rattle.jr_idct.proofs.Halves.{even_small, even_fits, below_four, even_sum_0, even_sum_1, even_sum_2, even_sum_3}
+use Rattle.jr_idct.proofs.Halves.{even_small, even_fits, below_four}
 use Rattle.jr_idct.proofs.butterfly.even.Goals as goal
 
 pub overflow_sub-t2 : goal.overflow_sub-t2
@@ -52,10 +52,10 @@ returns-clause-sums c =
     let r = c.requires in
     even_fits (at x 0) (at x 1) (at x 2) (at x 3) (r 0 (omega arith)) (r 1 (omega arith)) (r 2 (omega arith)) (r 3 (omega arith))
     (λ f0 f1 f2 f3 f4 f5 f6 f7 f8 f9 f10 f11 f12 f13 f14 f15 f16 f17. below_four _
-    (simp to_z-of_z (even_sum_0 (at x 0) (at x 1) (at x 2) (at x 3)))
-    (simp to_z-of_z (even_sum_1 (at x 0) (at x 1) (at x 2) (at x 3)))
-    (simp to_z-of_z (even_sum_2 (at x 0) (at x 1) (at x 2) (at x 3)))
-    (simp to_z-of_z (even_sum_3 (at x 0) (at x 1) (at x 2) (at x 3))))
+    (simp to_z-of_z (omega (arith, ints)))
+    (simp to_z-of_z (omega (arith, ints)))
+    (simp to_z-of_z (omega (arith, ints)))
+    (simp to_z-of_z (omega (arith, ints))))
 
 pub returns-clause-small : goal.returns-clause-small
 returns-clause-small c = λ i h. let s = returns-clause-sums c i h in rw (s) (even_small c.args.x.now c.requires i h)

@@ -1,4 +1,4 @@
-use Rattle.std.proofs.Common.{arith, ◌+◌, ◌*◌, ◌^◌, lit<, ◌∙◌, w64}
+use Rattle.std.proofs.Common.{arith, rules, ◌+◌, ◌*◌, ◌^◌, lit<, ◌∙◌, w64}
 use Rattle.std.proofs.lemmas.Int.{to_z-of_z}
 use Rattle.jr_idct.specs.Matrix.{at}
 use Rattle.jr_idct.specs.Transform.{product_at}
@@ -22,13 +22,13 @@ pub clamped-requires : goal.clamped-requires
 clamped-requires c =
     let z = c.args.coefficients.now in
     let q = c.args.quantisers.now in
-    let s = values_small (product_at z q) c.dequantised.result c.dequantised.ensures (product_small z q c.requires c.fits-quantisers) c.plain_passes-columns.result c.plain_passes-columns.ensures c.plain_passes-values.result c.plain_passes-values.ensures c.loop-k.k (omega arith) in
+    let s = values_small (product_at z q) c.dequantised.result c.dequantised.ensures (product_small z q c.requires c.fits-quantisers) c.plain_passes-columns.result c.plain_passes-columns.ensures c.plain_passes-values.result (search (rules, c.plain_passes-values.ensures)) c.loop-k.k (omega arith) in
     rw (to_z-of_z w64 (at c.plain_passes-values.result c.loop-k.k) (fits_within (2 ^ 61) _ (lit< tt) s)) s
 
 pub returns-clause-by_place : goal.returns-clause-by_place
 returns-clause-by_place c = λ r k h g.
     c.loop-k.invariant.1 (8 * r + k) (omega arith)
-    ∙ sample_at (product_at c.args.coefficients.now c.args.quantisers.now) c.dequantised.result c.dequantised.ensures c.plain_passes-columns.result c.plain_passes-columns.ensures c.plain_passes-values.result c.plain_passes-values.ensures r k h g
+    ∙ sample_at (product_at c.args.coefficients.now c.args.quantisers.now) c.dequantised.result c.dequantised.ensures c.plain_passes-columns.result c.plain_passes-columns.ensures c.plain_passes-values.result (search (rules, c.plain_passes-values.ensures)) r k h g
 
 pub returns-clause-whole : goal.returns-clause-whole
 returns-clause-whole c =

@@ -1,4 +1,4 @@
-use Rattle.std.proofs.Common.{arith}
+use Rattle.std.proofs.Common.{arith, rules}
 use Rattle.std.proofs.lemmas.Int.{to_z-of_z}
 use Rattle.jr_idct.specs.Matrix.{at}
 use Rattle.jr_idct.proofs.NarrowHalves.{narrow_odd_small, narrow_odd_fits}
@@ -116,10 +116,10 @@ returns-clause-sums c =
     let r = c.requires in
     narrow_odd_fits (at x 0) (at x 1) (at x 2) (at x 3) (r 0 (omega arith)) (r 1 (omega arith)) (r 2 (omega arith)) (r 3 (omega arith))
     (λ f0 f1 f2 f3 f4 f5 f6 f7 f8 f9 f10 f11 f12 f13 f14 f15 f16 f17 f18 f19 f20 f21 f22 f23 f24 f25 f26 f27 f28 f29 f30. below_four _
-    (simp to_z-of_z (odd_sum_0 (at x 0) (at x 1) (at x 2) (at x 3)))
-    (simp to_z-of_z (odd_sum_1 (at x 0) (at x 1) (at x 2) (at x 3)))
-    (simp to_z-of_z (odd_sum_2 (at x 0) (at x 1) (at x 2) (at x 3)))
-    (simp to_z-of_z (odd_sum_3 (at x 0) (at x 1) (at x 2) (at x 3))))
+    (simp to_z-of_z (search (rules, odd_sum_0 (at x 0) (at x 1) (at x 2) (at x 3))))
+    (simp to_z-of_z (search (rules, odd_sum_1 (at x 0) (at x 1) (at x 2) (at x 3))))
+    (simp to_z-of_z (search (rules, odd_sum_2 (at x 0) (at x 1) (at x 2) (at x 3))))
+    (simp to_z-of_z (search (rules, odd_sum_3 (at x 0) (at x 1) (at x 2) (at x 3)))))
 
 pub returns-clause-small : goal.returns-clause-small
 returns-clause-small c = λ i h. let s = returns-clause-sums c i h in rw (s) (narrow_odd_small c.args.x.now c.requires i h)

@@ -25,13 +25,13 @@ returns-then-v-eq0-7 c =
     let passed : to_z w64 (of_z w64 (pos 8192 *ℤ to_z w64 (of_z w64 (at v 0)))) ≡ pos 8192 *ℤ at v 0 = simp to_z-of_z in
     let e = to_z-of_z w64 c.descaled.result g ∙ c.descaled.ensures ∙ ap (descale c.args.bits) passed in
     let zero = zero_pass c.args.bits (at v)
-    (zero_from_bits (at v 1) (small 1 (omega arith)) c.if-v-eq0.true)
-    (zero_from_bits (at v 2) (small 2 (omega arith)) c.if-v-eq0-2.true)
-    (zero_from_bits (at v 3) (small 3 (omega arith)) c.if-v-eq0-3.true)
-    (zero_from_bits (at v 4) (small 4 (omega arith)) c.if-v-eq0-4.true)
-    (zero_from_bits (at v 5) (small 5 (omega arith)) c.if-v-eq0-5.true)
-    (zero_from_bits (at v 6) (small 6 (omega arith)) c.if-v-eq0-6.true)
-    (zero_from_bits (at v 7) (small 7 (omega arith)) c.if-v-eq0-7.true) in
+    (zero_from_bits (at v 1) (small 1 (omega arith)) (search (rules, c.if-v-eq0.true)))
+    (zero_from_bits (at v 2) (small 2 (omega arith)) (search (rules, c.if-v-eq0-2.true)))
+    (zero_from_bits (at v 3) (small 3 (omega arith)) (search (rules, c.if-v-eq0-3.true)))
+    (zero_from_bits (at v 4) (small 4 (omega arith)) (search (rules, c.if-v-eq0-4.true)))
+    (zero_from_bits (at v 5) (small 5 (omega arith)) (search (rules, c.if-v-eq0-5.true)))
+    (zero_from_bits (at v 6) (small 6 (omega arith)) (search (rules, c.if-v-eq0-6.true)))
+    (zero_from_bits (at v 7) (small 7 (omega arith)) (search (rules, c.if-v-eq0-7.true))) in
     below_eight _
     (e ∙ sym (zero 0 (omega arith)))
     (e ∙ sym (zero 1 (omega arith)))

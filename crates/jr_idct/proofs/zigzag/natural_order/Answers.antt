@@ -1,4 +1,4 @@
-use Rattle.std.proofs.Common.{◌*◌, ◌∙◌, lit<, pos, w32, to_z, of_z}
+use Rattle.std.proofs.Common.{◌*◌, ◌∙◌, lit<, pos, rules, w32, to_z, of_z}
 use Rattle.std.proofs.lemmas.Int.{to_z-of_z}
 use Rattle.std.proofs.lemmas.List.{get_or-map}
 use Rattle.jr_idct.specs.Matrix.{at}
@@ -12,4 +12,4 @@ unfolding place_of
 returns c = λ n h.
     let z = c.args.z.now in
     let f = fits_narrow (32768 * 65535) (at z (place_of n)) (lit< tt) (c.requires (place_of n) (place_below n h)) in
-    get_or-map (λ k. to_z w32 (of_z w32 (at z k))) places n 0 (pos 0) h ∙ to_z-of_z w32 (at z (place_of n)) f
+    search (rules, get_or-map (λ k. to_z w32 (of_z w32 (at z k))) places n 0 (pos 0) h ∙ to_z-of_z w32 (at z (place_of n)) f)

@@ -1,4 +1,4 @@
-use Rattle.std.proofs.Common.{arith, ℕ, ◌<◌, length, pos, slice_index}
+use Rattle.std.proofs.Common.{arith, rules, ℕ, ◌<◌, length, pos, slice_index}
 use Rattle.std.proofs.Math.IntN.{◌*ℤ◌}
 use Rattle.std.proofs.Math.ListN.{length-set}
 use Rattle.std.proofs.lemmas.List.Edits.{fill_by_more}
@@ -12,7 +12,7 @@ loop-k-preserved c =
     let z = c.args.coefficients.now in
     let q = c.args.quantisers.now in
     let k = c.loop-k.k in
-    let e = narrow_product_stored c.from.result (at z k) (slice_index q k) (c.requires k (omega arith)) (c.fits-quantisers k) c.from.ensures in
+    let e = narrow_product_stored c.from.result (at z k) (slice_index q k) (c.requires k (omega arith)) (c.fits-quantisers k) (search (rules, c.from.ensures)) in
     let long : k < length c.loop-k.table = omega (arith, c.loop-k.invariant.0) in
     rw e
     (simp length-set c.loop-k.invariant.0, fill_by_more (λ (j : ℕ). at z j *ℤ pos (slice_index q j)) c.loop-k.table k (pos 0) long c.loop-k.invariant.1)

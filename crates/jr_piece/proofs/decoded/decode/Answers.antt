@@ -1,4 +1,4 @@
-use Rattle.std.proofs.Common.{◌≡◌, ℕ, ◌*◌, List, length, take, sym, ap, subst, ◌∙◌}
+use Rattle.std.proofs.Common.{rules, ◌≡◌, ℕ, ◌*◌, List, length, take, sym, ap, subst, ◌∙◌}
 use Rattle.jr_head.specs.Geometry.{order_of}
 use Rattle.jr_scan.specs.Units.{LongestFront}
 use Rattle.jr_scan.specs.Reader.{RunOf, per_mcu}
@@ -22,5 +22,7 @@ returns c =
       decodes = λ t. c.is_sound.ensures.sound t i zs run read;
       none = λ f ys. c.is_sound.ensures.damaged f i zs ys run read c.in_ok-samples.ensures.ended;
     } in
-    subst (λ (us : List (List ℕ)). IsOutcome (record { interval = i; is_sound = c.is_sound.result; front = front; samples = us })) (sym c.truncate.ensures.items)
-    (outcome i zs c.in_ok-samples.samples.items c.is_sound.result front (front * length c.order.result.now) ended (ap (λ (n : ℕ). front * n) order))
+    let cut : c.truncate.new.self.items ≡ take (front * length c.order.result.now) c.in_ok-samples.samples.items = search (rules, c.truncate.ensures.items) in
+    let told = subst (λ (us : List (List ℕ)). IsOutcome (record { interval = i; is_sound = c.is_sound.result; front = front; samples = us })) (sym cut)
+    (outcome i zs c.in_ok-samples.samples.items c.is_sound.result front (front * length c.order.result.now) ended (ap (λ (n : ℕ). front * n) order)) in
+    search (rules, told)

@@ -16,7 +16,8 @@ units-preserved c =
     let read = c.units.invariant.2 in
     let z = c.next.new.block in
     let k : c.in-Some.component ≡ component h (length zs) = c.in-Some.ensures.component ∙ ap (λ (r : RunOf). component r.interval.head (blocks_read c.units.reader)) run ∙ ap (component h) (sym read.count) in
-    let table : c.quantiser.result.now ≡ quantiser_of h (component h (length zs)) = c.quantiser.ensures ∙ ap (λ (g : HeadValue). quantiser_of g c.in-Some.component) c.head-head.ensures ∙ ap (quantiser_of h) k in
+    let given : c.quantiser.result.now ≡ quantiser_of c.head-head.result.now c.in-Some.component = search (rules, c.quantiser.ensures) in
+    let table : c.quantiser.result.now ≡ quantiser_of h (component h (length zs)) = given ∙ ap (λ (g : HeadValue). quantiser_of g c.in-Some.component) c.head-head.ensures ∙ ap (quantiser_of h) k in
     let unit : c.transform.result ≡ samples z (quantiser_of h (component h (length zs))) = c.transform.ensures.whole ∙ ap (samples z) table in
     let pushed : c.push.new.self.items ≡ c.units.samples.items ++ c.transform.result ∷ [] = search rules in (
       c.in-Some.ensures.run ∙ run,

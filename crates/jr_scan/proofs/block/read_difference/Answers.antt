@@ -1,4 +1,4 @@
-use Rattle.std.proofs.Common.{ℤ, rules, subst, sym, w32}
+use Rattle.std.proofs.Common.{ℤ, arith, rules, subst, sym, w32}
 use mir.Val.{SFits}
 use Rattle.std.proofs.lemmas.Int.{to_z-of_z}
 use Rattle.jr_scan.specs.Step.{TakesDifference}
@@ -10,10 +10,10 @@ returns-in_err-size-clause-none c = rw c.from_residual.ensures (no_difference_ex
 
 pub returns-then-size-gt11-clause-none : goal.returns-then-size-gt11-clause-none
 returns-then-size-gt11-clause-none c =
-    no_difference_far _ (c.one_word.ensures _) c.in_ok-size.size _ _ (word_of _ _ _ _ _ c.in_ok-size.ensures.found) c.if-size-gt11.true
+    no_difference_far _ (c.one_word.ensures _) c.in_ok-size.size _ _ (word_of _ _ _ _ _ c.in_ok-size.ensures.found) (omega (arith, c.if-size-gt11.true))
 
 pub returns-clause-some : goal.returns-clause-some
 returns-clause-some c =
-    let t = takes_difference_of _ c.in_ok-size.size c.in_ok-size.v _ _ c.in_ok-size.ensures.found c.if-size-gt11.false in
+    let t = takes_difference_of _ c.in_ok-size.size c.in_ok-size.v _ _ c.in_ok-size.ensures.found (omega (arith, c.if-size-gt11.false)) in
     let fits : SFits w32 c.in_ok-size.v = search rules in
     subst (λ (v : ℤ). TakesDifference c.args.dc.now v c.args.bits.now c.read_extended.new.bits) (sym (to_z-of_z w32 c.in_ok-size.v fits)) t

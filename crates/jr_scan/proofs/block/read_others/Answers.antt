@@ -23,7 +23,7 @@ returns-in-End-clause-some c =
 pub returns-then-place-gt64-clause-none : goal.returns-then-place-gt64-clause-none
 returns-then-place-gt64-clause-none c =
     let t : TakesItem c.args.ac.now (replicate 16 (pos 0)) c.steps.bits c.read_step.new.bits = subst (λ (st : Step). TakesStep c.args.ac.now st c.steps.bits c.read_step.new.bits) c.in-Zeros.is c.in_ok-read_step.ensures.some in
-    so_far_over _ (c.one_word.ensures _) _ _ _ _ _ (replicate 16 (pos 0)) _ c.steps.invariant.1 c.steps.invariant.0 t c.if-place-gt64.true
+    so_far_over _ (c.one_word.ensures _) _ _ _ _ _ (replicate 16 (pos 0)) _ c.steps.invariant.1 c.steps.invariant.0 t (omega (arith, c.if-place-gt64.true))
 
 pub returns-then-at-gt63-clause-none : goal.returns-then-at-gt63-clause-none
 returns-then-at-gt63-clause-none c =

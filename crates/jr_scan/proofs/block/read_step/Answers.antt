@@ -9,7 +9,7 @@ pub returns-in_err-symbol-clause-none : goal.returns-in_err-symbol-clause-none
 returns-in_err-symbol-clause-none c = rw c.from_residual.ensures (no_step_extended _ _ c.in_err-symbol.ensures.none)
 
 pub returns-then-symbol-clause-some : goal.returns-then-symbol-clause-some
-returns-then-symbol-clause-some c = takes_zeros _ _ _ _ (word_alone _ _ _ _ _ c.in_ok-symbol.ensures.found c.if-size-eq0.true) c.if-symbol.true
+returns-then-symbol-clause-some c = takes_zeros _ _ _ _ (word_alone _ _ _ _ _ c.in_ok-symbol.ensures.found c.if-size-eq0.true) (omega (arith, c.if-symbol.true))
 
 pub returns-then-size-eq0-clause-none : goal.returns-then-size-eq0-clause-none
 returns-then-size-eq0-clause-none c =
@@ -29,4 +29,4 @@ returns-clause-some c =
     let f = c.in_ok-symbol.ensures.found in
     let t = takes_coef _ s (s % 16) v _ _ _ (word_of _ _ _ _ _ f) (omega arith) refl c.if-size-eq0.false c.if-size-gt-MOST_EXTRA.false (extra_of _ _ _ _ _ f) in
     let fits : SFits w32 v = search rules in
-    subst (λ (v : ℤ). TakesItem c.args.ac.now (replicate (s / 16) (pos 0) ++ v ∷ []) c.args.bits.now c.read_extended.new.bits) (sym (to_z-of_z w32 v fits)) t
+    search (rules, subst (λ (v : ℤ). TakesItem c.args.ac.now (replicate (s / 16) (pos 0) ++ v ∷ []) c.args.bits.now c.read_extended.new.bits) (sym (to_z-of_z w32 v fits)) t)

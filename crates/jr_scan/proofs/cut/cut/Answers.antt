@@ -1,4 +1,4 @@
-use Rattle.std.proofs.Common.{◌+◌, length, refl, ap, arith}
+use Rattle.std.proofs.Common.{rules, ◌+◌, length, refl, ap, arith}
 use Rattle.jr_scan.proofs.Cuts.{fill_full, fill_next, marker_read, has_marker, cut_returns, cut_more, all_fill}
 use Rattle.jr_scan.proofs.Unstuffing.{piece_made}
 use Rattle.jr_scan.proofs.cut.cut.Goals as goal
@@ -45,7 +45,7 @@ returns-in-Some-clause-cut c =
     let full = fill_full c.args.bytes.now at c.fill.result c.fill.ensures.full in
     let lt = c.if-code_at-bytes.false in
     let r = marker_read c.args.bytes.now at c.fill.result m.read.stop full lt (fill_next c.args.bytes.now at c.fill.result lt c.fill.ensures.next) in
-    cut_returns _ _ c.args.bytes.now m.found _ _ c.pieces.at _ c.in_ok-count.count _ s m.read m.pieces (c.in-Some.ensures.ended _ (has_marker c.args.bytes.now at c.fill.result _ r refl))
+    cut_returns _ _ c.args.bytes.now m.found _ _ c.pieces.at _ c.in_ok-count.count _ s m.read m.pieces (search (rules, c.in-Some.ensures.ended _ (has_marker c.args.bytes.now at c.fill.result _ r refl)))
 
 pub returns-in-Some-clause-within : goal.returns-in-Some-clause-within
 returns-in-Some-clause-within c =

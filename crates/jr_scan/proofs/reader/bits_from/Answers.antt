@@ -1,4 +1,4 @@
-use Rattle.std.proofs.Common.{◌/◌, ◌%◌, ◌≤◌, length, drop, ap, ◌∙◌, length-drop, arith}
+use Rattle.std.proofs.Common.{rules, ◌/◌, ◌%◌, ◌≤◌, length, drop, ap, ◌∙◌, length-drop, arith}
 use Rattle.jr_code.specs.Bits.{bits}
 use Rattle.jr_code.proofs.BitLemmas.{length-bits}
 use Rattle.jr_scan.proofs.Cuts.{rest_is}
@@ -14,4 +14,4 @@ returns c =
     let is = c.over-bits.ensures ∙ ap bits (rest_is bytes at) in
     let long = length-bits (drop at bytes) in
     let enough : n ≤ length c.over-bits.result = omega (arith, ap length is, long, length-drop at bytes, c.requires.within) in
-    taken_any n c.over-bits.result c.take.new.self c.take.result c.take.ensures.found.1 c.take.ensures.taken enough ∙ ap (drop n) is ∙ bits_on bytes c.args.bit
+    taken_any n c.over-bits.result c.take.new.self c.take.result (search (rules, c.take.ensures.found.1)) (search (rules, c.take.ensures.taken)) enough ∙ ap (drop n) is ∙ bits_on bytes c.args.bit

@@ -1,4 +1,4 @@
-use Rattle.std.proofs.Common.{◌+◌, ◌<◌, ◌≤◌, length, refl, ap, length-drop, arith}
+use Rattle.std.proofs.Common.{rules, ◌+◌, ◌<◌, ◌≤◌, length, refl, ap, length-drop, arith}
 use Rattle.jr_scan.proofs.Cuts.{stop_end, stop_code, rest_is, fill_full, fill_next, fill_some}
 use Rattle.jr_scan.proofs.Unstuffing.{unstuffs_run, unstuffs_stuffed, plain_each, plain_next}
 use Rattle.jr_scan.proofs.unstuff.unstuff.Goals as goal
@@ -10,7 +10,7 @@ returns-then-next-bytes-clause-data c =
     let at = c.bytes.at in
     let n = c.plain.result in
     let room : at + n ≤ length bytes = omega (arith, c.plain.ensures.within, ap length (rest_is bytes at), length-drop at bytes, c.bytes.invariant.0) in
-    unstuffs_run bytes _ _ _ at n (at + n) refl room (plain_each bytes at n c.plain.ensures.plain) c.in_ok-extend_from_slice.ensures.items c.bytes.invariant.1
+    search (rules, unstuffs_run bytes _ _ _ at n (at + n) refl room (plain_each bytes at n c.plain.ensures.plain) c.in_ok-extend_from_slice.ensures.items c.bytes.invariant.1)
 
 pub returns-then-next-bytes-clause-stop : goal.returns-then-next-bytes-clause-stop
 returns-then-next-bytes-clause-stop c =

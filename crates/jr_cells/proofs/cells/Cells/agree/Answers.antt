@@ -1,4 +1,4 @@
-use Rattle.std.proofs.Common.{length, refl, sym, ap, ◌∙◌, arith, subst}
+use Rattle.std.proofs.Common.{rules, length, refl, sym, ap, ◌∙◌, arith, subst}
 use Rattle.jr_cells.specs.SightValue.{SightValue}
 use Rattle.jr_cells.specs.Sights.{CellNote, Knows, cells_of}
 use Rattle.jr_cells.proofs.Notes.{same_cell, agree_on, in_cells, set_back, known_within, seen}
@@ -22,7 +22,7 @@ loop-i-preserved c =
     let n = c.index_mut.ensures.value in
     record {
       one = set_back c.loop-i.one-inside.notes.items c.loop-i.i c.compare.new.self _ m c.compare.ensures.0 ∙ i.one;
-      two = set_back c.loop-i.two-inside.notes.items c.loop-i.i c.again-other.new.self _ n c.again-other.ensures.0 ∙ i.two;
+      two = search (rules, set_back c.loop-i.two-inside.notes.items c.loop-i.i c.again-other.new.self _ n c.again-other.ensures.0 ∙ i.two);
       agree = agree_on c.one.inside.notes.items c.two.inside.notes.items c.loop-i.one-inside.notes.items c.loop-i.two-inside.notes.items c.loop-i.i _ _ _ i.one i.two m n c.again-other.ensures.1 c.compare.ensures.1 i.agree;
     }
 

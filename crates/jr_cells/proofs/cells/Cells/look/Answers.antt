@@ -1,4 +1,4 @@
-use Rattle.std.proofs.Common.{length, sym, ap, ◌∙◌, arith}
+use Rattle.std.proofs.Common.{rules, length, sym, ap, ◌∙◌, arith}
 use Rattle.std.proofs.lemmas.List.{length-map}
 use Rattle.once_cell.specs.Once.{cell_name}
 use Rattle.jr_cells.specs.SightValue.{SightValue}
@@ -8,7 +8,7 @@ use Rattle.jr_cells.proofs.cells.Cells.look.Goals as goal
 pub look_cell-requires : goal.look_cell-requires
 look_cell-requires c =
     let e = ap (λ (s : SightValue). s.cells) c.sight.view_is ∙ c.requires.sight ∙ sym c.self.view_is in
-    same_name c.sight.inside.notes.items c.self.inside.cells.items c.args.i _ _ e (omega (arith, c.requires.cell, ap length c.self.view_is, length-map c.self.inside.cells.items cell_name)) c.index_mut.ensures.value c.index.ensures
+    same_name c.sight.inside.notes.items c.self.inside.cells.items c.args.i _ _ e (omega (arith, c.requires.cell, ap length c.self.view_is, length-map c.self.inside.cells.items cell_name)) c.index_mut.ensures.value (search (rules, c.index.ensures))
 
 pub returns-clause-cells : goal.returns-clause-cells
 returns-clause-cells c =

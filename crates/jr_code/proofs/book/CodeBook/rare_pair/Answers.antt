@@ -37,7 +37,7 @@ returns-clause-found c =
     let f16 : SFits w16 v = omega (arith, ints, c.in_ok-value.ensures.small) in
     let mid = bits_in c.behind.result in
     let left : bits_in c.behind.result ≡ drop n (bits_of c.args.count c.args.held ++ []) = c.behind.ensures ∙ ap (λ k. drop k (bits_of c.args.count c.args.held ++ [])) c.from.ensures in
-    let size : c.from-2.result ≡ s % 16 = c.from-2.ensures in
+    let size : c.from-2.result ≡ s % 16 = omega (arith, c.from-2.ensures) in
     let fits : n ≤ length (bits_of c.args.count c.args.held) = omega (arith, c.in_ok-symbol.ensures.found.0, length-bits_of c.args.count c.args.held) in
     let both = held_apart c.args.self.now bs mid s n c.from-2.result v fits c.in_ok-symbol.ensures.found.1 size left (c.in_ok-value.ensures.found.0 refl) c.in_ok-value.ensures.taken.0 in
     (omega (arith, both.0, size, length-bits_of c.args.count c.args.held), rw (to_z-of_z w32 v f32, to_z-of_z w16 v f16) (rw size at both.1))

@@ -1,4 +1,4 @@
-use Rattle.std.proofs.Common.{◌<◌, ◌≢◌, length, arith, below_more, get_or-set_other, get_or-set_same, ◌∙◌}
+use Rattle.std.proofs.Common.{◌<◌, ◌≢◌, length, arith, rules, below_more, get_or-set_other, get_or-set_same, ◌∙◌}
 use Rattle.std.proofs.lemmas.List.{length-set}
 use Rattle.jr_code.proofs.words.Words.pairs.Goals as goal
 
@@ -9,5 +9,5 @@ loop-window-preserved c =
       all = length-set c.loop-window.pairs c.loop-window.window c.pair.result ∙ c.loop-window.invariant.all;
       done = below_more _ _
           (λ k h. let ne : k ≢ c.loop-window.window = omega arith in rw get_or-set_other (c.loop-window.invariant.done k h))
-          (rw get_or-set_same c.pair.ensures);
+          (rw get_or-set_same (search (rules, c.pair.ensures)));
     }

@@ -1,4 +1,4 @@
-use Rattle.std.proofs.Common.{◌≡◌, ℕ, List, [], ◌∷◌, get_or, min, sym, ap, ◌∙◌}
+use Rattle.std.proofs.Common.{◌≡◌, ℕ, rules, List, [], ◌∷◌, get_or, min, sym, ap, ◌∙◌}
 use mathlib.Core.Option.{some, some-injective, some-ne-none}
 use lib.ListN.{get_elem?}
 use Rattle.jr_desk.specs.Values.{DeskValue}
@@ -18,4 +18,4 @@ returns-clause-drawn c = λ x.
     let all = has_all _ _ v.0 _ c.in-Some.pass.me.0 v.1.0 v.1.1 whole x in
     let word = ap (λ (l : List ℕ). get_or l 0 0) v.2 ∙ first _ _ c.word.ensures in
     let least = (λ i. min (word i) ((ap (λ k. k.0) key ∙ sym c.from.ensures) i)) ∙ sym c.min-drawn.ensures in
-    sym (c.in-Some.ensures.drawn x) ∙ all ∙ ap (once_below x) least
+    search (rules, sym (c.in-Some.ensures.drawn x) ∙ all ∙ ap (once_below x) least)

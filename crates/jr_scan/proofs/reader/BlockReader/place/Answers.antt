@@ -1,4 +1,4 @@
-use Rattle.std.proofs.Common.{◌≡◌, ◌-◌, ◌*◌, length, false, subst, sym, ap, ◌∙◌, arith}
+use Rattle.std.proofs.Common.{◌≡◌, ◌-◌, ◌*◌, length, false, subst, sym, ap, ◌∙◌, rules, arith}
 use Rattle.jr_scan.specs.declared.place.RunEnd.TheVariants.{AllRead}
 use Rattle.jr_scan.specs.Reader.{ReaderValue, IsKept}
 use Rattle.jr_scan.specs.Run.{IsRun}
@@ -14,5 +14,6 @@ returns-clause-some c = λ zs s.
     let size = c.self.invariant.0.three in
     let three : length r.predictions ≡ 3 = ap (λ (x : ReaderValue). length x.predictions) (sym v) ∙ size in
     let at = c.saturating_sub.ensures ∙ ap (λ x. 8 * length x - c.left.result) c.bytes.ensures.bytes ∙ ap (λ x. 8 * length c.self.inside.interval.now.bytes - x) c.left.ensures ∙ ap (λ (x : ReaderValue). 8 * length x.run.interval.bytes - length x.left) v in
-    subst (λ ps. IsRun (record { interval = r.run.interval; from = r.run.from; mcus = r.mcu }) zs (record { bit = c.saturating_sub.result; predictions = ps }) AllRead) (ap (λ (x : ReaderValue). x.predictions) (sym v))
-    (read_is_run r zs c.saturating_sub.result (subst IsKept v c.self.invariant.0) going none three at s)
+    let told = subst (λ ps. IsRun (record { interval = r.run.interval; from = r.run.from; mcus = r.mcu }) zs (record { bit = c.saturating_sub.result; predictions = ps }) AllRead) (ap (λ (x : ReaderValue). x.predictions) (sym v))
+    (read_is_run r zs c.saturating_sub.result (subst IsKept v c.self.invariant.0) going none three at s) in
+    search (rules, told)
