@@ -57,6 +57,12 @@ def adobe_rgb():
     return head + COLOUR_SCAN + bytes.fromhex("60 0F") + END
 
 
+def claims(height, width, intervals):
+    """A grey file of one coded MCU whose head claims so many pixels."""
+    head = START + QUANTISERS + grey_frame(height, width) + dc_table(0, 3, 5) + AC_TABLE + intervals + GREY_SCAN
+    return head + bytes.fromhex("63") + END
+
+
 SOUND = two_greys("63 FF D0 63")
 DAMAGED = two_greys("63 FF D0 E0")
 
