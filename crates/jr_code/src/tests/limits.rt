@@ -1,7 +1,5 @@
 //! Books of as many words as a table may have.
 
-ghost use Rattle.std.specs.Prelude.{◌<◌, length};
-
 use crate::bits::Bits;
 use crate::book::CodeBook;
 use std::alloc::Global;
