@@ -2,7 +2,7 @@
 
 use crate::crew::decode_by_two;
 use crate::files::{COLOURED, COLOURED_DAMAGED, MIXED, TEN};
-use crate::scans::{glimpse, hung, scan, shows};
+use crate::scans::{glimpse, hung, look, piece, scan, shows};
 use jr_scan::Scan;
 use jr_wall::{Board, Cells, Desk, Gate, Glimpse, Mark, OpenGate, Piece, decode_all, work};
 use std::process::Abort;
@@ -80,6 +80,24 @@ fn after_workers(rt: HostRuntime) -> Result<(), Fail> {
         assert!(rt; is_seen(&rt, &scan, &board, n), "after {n}");
         let board = decode_all(&rt, alloc, Arc::try_clone(&scan)?, 2, Some(n), &OpenGate)?;
         assert!(rt; is_seen(&rt, &scan, &Mutex::new(board), n), "{n} of all");
+    }
+    Ok(())
+}
+
+/// Looks at a board that nobody else has, on which the pieces of the mixed file are posted one by one.
+#[test]
+fn at_a_board_without_a_lock(rt: HostRuntime) -> Result<(), Fail> {
+    let alloc = rt.alloc();
+    let scan = scan(alloc, MIXED)?;
+    let mut board = Board::new(alloc, Arc::try_clone(&scan)?)?;
+    for n in 0..=10u32 {
+        for x in 0..80u32 {
+            let seen = look(&board, 0, x, x % 8);
+            assert!(rt; seen == Some(wanted(x / 8, n)), "column {x} of {n}");
+        }
+        if n < 10 {
+            assert!(rt; board.post(piece(alloc, &scan, n)?).is_ok());
+        }
     }
     Ok(())
 }

@@ -89,6 +89,15 @@ pub(crate) fn sample(board: &Board, x: u32, y: u32) -> Option<u8> {
     }
 }
 
+/// A look at the sample of component c in column x and line y; none outside the picture.
+pub(crate) fn look(board: &Board, c: u32, x: u32, y: u32) -> Option<Glimpse> {
+    if has_sample(board.head(), c, x, y) {
+        Some(board.look(c, x, y))
+    } else {
+        None
+    }
+}
+
 /// A glance at the sample of component c in column x and line y; none outside the picture.
 pub(crate) fn glimpse<R: Wait>(
     rt: &R,
