@@ -1,4 +1,4 @@
-use Rattle.std.proofs.Common.{ℕ, ◌-◌, ◌*◌, ◌/◌, length, slice_index, arith, refl}
+use Rattle.std.proofs.Common.{rules, ℕ, ◌-◌, ◌*◌, ◌/◌, length, slice_index, arith, refl}
 use Rattle.jr_head.specs.declared.mark.Kind.TheVariants.{Ycc}
 use Rattle.jr_paint.specs.Colours.{colour_of}
 use Rattle.jr_paint.proofs.Blocks.{halved_more, last_halved}
@@ -12,18 +12,18 @@ loop-n-preserved c =
     let d = slice_index c.args.c.now in
     let l = c.loop-n in
     record {
-      line = rw c.convert_block.ensures.line (halved_more (λ k. colour_of Ycc (a k) (b (k / 2)) (d (k / 2))) (λ k. refl) l.n l.first (omega arith) l.invariant.line);
-      next = rw c.convert_block.ensures.next (halved_more (λ k. colour_of Ycc (z k) (b (k / 2)) (d (k / 2))) (λ k. refl) l.n l.second (omega arith) l.invariant.next);
+      line = rw c.convert_block.ensures.line (search (rules, halved_more (λ k. colour_of Ycc (a k) (b (k / 2)) (d (k / 2))) (λ k. refl) l.n l.first (omega arith) l.invariant.line));
+      next = rw c.convert_block.ensures.next (search (rules, halved_more (λ k. colour_of Ycc (z k) (b (k / 2)) (d (k / 2))) (λ k. refl) l.n l.second (omega arith) l.invariant.next));
     }
 
 pub returns-then-count-gt1-clause-line : goal.returns-then-count-gt1-clause-line
 returns-then-count-gt1-clause-line c =
     let f = λ (k : ℕ). colour_of Ycc (slice_index c.args.a.now k) (slice_index c.args.b.now (k / 2)) (slice_index c.args.c.now (k / 2)) in
     let i = (length c.args.a.now - 32) / 2 in
-    rw c.convert_block-then-count-gt1.ensures.line (last_halved f (λ k. refl) i (32 * c.loop-n.n) c.loop-n.first (omega arith) (omega arith) c.loop-n.invariant.line)
+    rw c.convert_block-then-count-gt1.ensures.line (search (rules, last_halved f (λ k. refl) i (32 * c.loop-n.n) c.loop-n.first (omega arith) (omega arith) c.loop-n.invariant.line))
 
 pub returns-then-count-gt1-clause-next : goal.returns-then-count-gt1-clause-next
 returns-then-count-gt1-clause-next c =
     let f = λ (k : ℕ). colour_of Ycc (slice_index c.args.next.now k) (slice_index c.args.b.now (k / 2)) (slice_index c.args.c.now (k / 2)) in
     let i = (length c.args.a.now - 32) / 2 in
-    rw c.convert_block-then-count-gt1.ensures.next (last_halved f (λ k. refl) i (32 * c.loop-n.n) c.loop-n.second (omega arith) (omega arith) c.loop-n.invariant.next)
+    rw c.convert_block-then-count-gt1.ensures.next (search (rules, last_halved f (λ k. refl) i (32 * c.loop-n.n) c.loop-n.second (omega arith) (omega arith) c.loop-n.invariant.next))

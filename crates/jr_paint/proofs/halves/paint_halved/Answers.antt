@@ -1,4 +1,4 @@
-use Rattle.std.proofs.Common.{◌≡◌, ℕ, List, ◌+◌, ◌*◌, ◌/◌, ◌∷◌, [], slice_index, refl, ap, ap₂, ◌∙◌, arith}
+use Rattle.std.proofs.Common.{rules, ◌≡◌, ℕ, List, ◌+◌, ◌*◌, ◌/◌, ◌∷◌, [], slice_index, refl, ap, ap₂, ◌∙◌, arith}
 use Rattle.std.specs.List.{flat_map, range_with_len}
 use Rattle.std.specs.Simd.Lanes.{put_chunk}
 use Rattle.jr_paint.specs.Shades.{lowered}
@@ -29,6 +29,6 @@ returns c =
     refl refl
     (λ k l. let e = c.load.ensures k l in three_same (ap₂ lowered e (c.doubled.ensures.first k l)) (ap₂ lowered e (c.doubled-2.ensures.first k l)) (ap₂ lowered e (c.doubled-3.ensures.first k l)))
     (λ k l.
-    let e : y' k ≡ a (2 * i + (16 + k)) = let m : 2 * i + (16 + k) ≡ 2 * i + 16 + k = omega arith in rw m (c.load-2.ensures k l) in
+    let e : y' k ≡ a (2 * i + (16 + k)) = let m : 2 * i + (16 + k) ≡ 2 * i + 16 + k = omega arith in rw m (search (rules, c.load-2.ensures k l)) in
     let h : (16 + k) / 2 ≡ 8 + k / 2 = omega arith in
     rw h (three_same (ap₂ lowered e (c.doubled.ensures.second k l)) (ap₂ lowered e (c.doubled-2.ensures.second k l)) (ap₂ lowered e (c.doubled-3.ensures.second k l))))

@@ -1,4 +1,4 @@
-use Rattle.std.proofs.Common.{◌∷◌, [], slice_index, ap, ◌∙◌}
+use Rattle.std.proofs.Common.{rules, ◌∷◌, [], slice_index, ap, ◌∙◌}
 use Rattle.std.specs.Simd.Lanes.{put_chunk}
 use Rattle.jr_paint.specs.Shades.{lowered}
 use Rattle.jr_paint.proofs.Blocks.{same_pixels, three_same}
@@ -16,4 +16,4 @@ returns c =
     c.put.ensures
     ∙ ap (put_chunk c.args.i c.args.out.now)
     (same_pixels (λ k. r k ∷ g k ∷ b k ∷ []) (λ k. lowered (y k) (red k) ∷ lowered (y k) (green k) ∷ lowered (y k) (blue k) ∷ []) 16
-    (λ k l. three_same (c.lit.ensures k l) (c.lit-2.ensures k l) (c.lit-3.ensures k l)))
+    (λ k l. three_same (search (rules, c.lit.ensures k l)) (search (rules, c.lit-2.ensures k l)) (search (rules, c.lit-3.ensures k l))))

@@ -1,7 +1,8 @@
-use Rattle.std.proofs.Common.{ℕ, ◌+◌, ◌/◌, ◌<◌, ◌++◌, ◌∙◌, length, slice_index, ap, ap₂, arith}
+use Rattle.std.proofs.Common.{◌≡◌, rules, ℕ, ◌+◌, ◌/◌, ◌<◌, ◌++◌, ◌∙◌, length, slice_index, ap, ap₂, arith}
 use Rattle.std.specs.List.{flat_map, range_with_len}
 use Rattle.jr_head.specs.declared.mark.Kind.TheVariants.{Ycc}
 use Rattle.jr_paint.specs.Colours.{colour_of}
+use Rattle.jr_paint.specs.Text.{value_at}
 use Rattle.jr_paint.proofs.PixelLaws.{pixels_ycc, shared_value}
 use Rattle.jr_paint.proofs.pairs.join_two.Goals as goal
 
@@ -18,7 +19,7 @@ returns g c =
     let shares = c.requires.shares in
     let half : (k : ℕ) → k < n → k / 2 < length c.args.b.now = λ k l. omega (arith, l, c.requires.enough) in
     let first = λ (k : ℕ) (l : k < n). c.read_halves.ensures k (let m = half k l in omega (arith, m, c.read_halves.auto.near)) in
-    let second = λ (k : ℕ) (l : k < n). c.read_halves-2.ensures k (let m = half k l in omega (arith, m, c.read_halves-2.auto.near, c.requires.third)) in
+    let second : (k : ℕ) → k < n → d (k / 2) ≡ value_at h f 2 k y = λ k l. search (rules, c.read_halves-2.ensures k (let m = half k l in omega (arith, m, c.read_halves-2.auto.near, c.requires.third))) in
     let line =
     c.convert_two.ensures.line ∙ ap (λ (m : ℕ). flat_map (λ k. colour_of Ycc (a k) (b (k / 2)) (d (k / 2))) (range_with_len 0 m)) c.upsample.auto.out
     ∙ pixels_ycc h f y n a (λ k. b (k / 2)) (λ k. d (k / 2)) shares.kind (λ k l. c.upsample.ensures k (omega (arith, l, c.upsample.auto.out))) first second
@@ -28,4 +29,4 @@ returns g c =
     ∙ pixels_ycc h f (y + 1) n z (λ k. b (k / 2)) (λ k. d (k / 2)) shares.kind (λ k l. c.upsample-2.ensures k (omega (arith, l, c.upsample-2.auto.out, c.requires.other)))
     (λ k l. first k l ∙ shared_value h f 1 y k shares.same_b) (λ k l. second k l ∙ shared_value h f 2 y k shares.same_c)
     in
-    ap₂ (λ x y. x ++ y) line next
+    search (rules, ap₂ (λ x y. x ++ y) line next)

@@ -1,4 +1,4 @@
-use Rattle.std.proofs.Common.{◌≡◌, ◌+◌, ◌*◌, ◌∷◌, [], slice_index, ap, ◌∙◌, arith}
+use Rattle.std.proofs.Common.{rules, ◌≡◌, ◌+◌, ◌*◌, ◌∷◌, [], slice_index, ap, ◌∙◌, arith}
 use Rattle.std.specs.Simd.Lanes.{put_chunk}
 use Rattle.jr_head.specs.declared.mark.Kind.TheVariants.{Ycc}
 use Rattle.jr_paint.specs.Colours.{colour_of}
@@ -19,4 +19,6 @@ returns c =
     (flat_map-moved (λ k. lowered (y k) (r k) ∷ lowered (y k) (g k) ∷ lowered (y k) (b k) ∷ []) (λ k. colour_of Ycc (slice_index c.args.a.now k) (slice_index c.args.b.now k) (slice_index c.args.c.now k)) 0 i 16
     (λ k l.
     let e : 0 + k ≡ k = omega arith in
-    rw e (pixel_is (c.load.ensures k l) (c.load-cb.ensures k l) (c.load-cr.ensures k l) (c.raised_red-red.ensures k l) (c.raised_green-green.ensures k l) (c.raised_blue-blue.ensures k l))))
+    let second : slice_index c.load-cb.result k ≡ slice_index c.args.b.now (i + k) = search (rules, c.load-cb.ensures k l) in
+    let third : slice_index c.load-cr.result k ≡ slice_index c.args.c.now (i + k) = search (rules, c.load-cr.ensures k l) in
+    rw e (pixel_is (c.load.ensures k l) second third (c.raised_red-red.ensures k l) (c.raised_green-green.ensures k l) (c.raised_blue-blue.ensures k l))))

@@ -1,4 +1,4 @@
-use Rattle.std.proofs.Common.{◌≡◌, ℕ, ◌+◌, ◌-◌, ◌*◌, length, slice_index, arith, refl}
+use Rattle.std.proofs.Common.{rules, ◌≡◌, ℕ, ◌+◌, ◌-◌, ◌*◌, length, slice_index, arith, refl}
 use Rattle.jr_head.specs.declared.mark.Kind.TheVariants.{Ycc}
 use Rattle.jr_paint.specs.Colours.{colour_of}
 use Rattle.jr_paint.proofs.Blocks.{pixels_more, last_pixels}
@@ -9,11 +9,11 @@ loop-n-preserved c =
     let f = λ (k : ℕ). colour_of Ycc (slice_index c.args.a.now k) (slice_index c.args.b.now k) (slice_index c.args.c.now k) in
     let n = c.loop-n.n in
     let e : 32 * (n + 1) ≡ 32 * n + 32 = omega arith in
-    rw (c.convert_blocks.ensures, e) (pixels_more f (λ k. refl) (32 * n) 32 c.loop-n.out (omega arith) c.loop-n.invariant)
+    rw (c.convert_blocks.ensures, e) (search (rules, pixels_more f (λ k. refl) (32 * n) 32 c.loop-n.out (omega arith) c.loop-n.invariant))
 
 pub returns-then-count-gt0-clause-front : goal.returns-then-count-gt0-clause-front
 returns-then-count-gt0-clause-front c =
     let f = λ (k : ℕ). colour_of Ycc (slice_index c.args.a.now k) (slice_index c.args.b.now k) (slice_index c.args.c.now k) in
     let m = length c.args.a.now - 32 in
     let e : m + 32 ≡ length c.args.a.now = omega arith in
-    rw c.convert_blocks-then-count-gt0.ensures (rw e at (last_pixels f (λ k. refl) m (32 * c.loop-n.n) c.loop-n.out (omega arith) (omega arith) c.loop-n.invariant))
+    rw c.convert_blocks-then-count-gt0.ensures (search (rules, rw e at (last_pixels f (λ k. refl) m (32 * c.loop-n.n) c.loop-n.out (omega arith) (omega arith) c.loop-n.invariant)))

@@ -1,4 +1,4 @@
-use Rattle.std.proofs.Common.{refl, arith, slice_index, ◌∷◌, []}
+use Rattle.std.proofs.Common.{rules, refl, arith, slice_index, ◌∷◌, []}
 use Rattle.jr_paint.proofs.PixelLaws.{three_more}
 use Rattle.jr_paint.proofs.pixels.interleave.Goals as goal
 
@@ -8,4 +8,4 @@ loop-i-preserved c =
     let b = slice_index c.args.b.now in
     let d = slice_index c.args.c.now in
     let i = c.loop-i.i in
-    three_more (λ k. a k ∷ b k ∷ d k ∷ []) i c.loop-i.out (a i) (b i) (d i) (omega arith) refl c.loop-i.invariant
+    search (rules, three_more (λ k. a k ∷ b k ∷ d k ∷ []) i c.loop-i.out (a i) (b i) (d i) (omega arith) refl c.loop-i.invariant)

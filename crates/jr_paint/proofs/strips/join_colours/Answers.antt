@@ -20,4 +20,4 @@ returns g c =
     let mixed : c.mix.new.out ≡ flat_map (λ k. colour_of h.kind (a k) (b k) (d k)) (range_with_len 0 n) =
     c.mix.ensures ∙ ap₂ (λ (t : Kind) (m : ℕ). flat_map (λ k. colour_of t (a k) (b k) (d k)) (range_with_len 0 m)) kind long in
     mixed ∙ pixels_colours h f c.args.y c.args.x n a b d c.requires.kind
-    (λ k l. c.upsample.ensures k (omega arith)) (λ k l. c.upsample-2.ensures k (omega arith)) (λ k l. c.upsample-3.ensures k (omega arith))
+    (λ k l. c.upsample.ensures k (omega arith)) (λ k l. c.upsample-2.ensures k (omega arith)) (λ k l. search (rules, c.upsample-3.ensures k (omega arith)))

@@ -8,7 +8,7 @@ parts-preserved g c =
     record {
       within = search rules;
       unfailed = search rules;
-      sent = sent_more _ _ _ _ _ _ c.parts.invariant.sent e.bytes;
+      sent = search (rules, sent_more _ _ _ _ _ _ c.parts.invariant.sent e.bytes);
     }
 
 pub returns-in-Ok-eq0-clause-err : goal.returns-in-Ok-eq0-clause-err
