@@ -1,6 +1,5 @@
 //! The headline: what every board shows, whenever somebody looks.
 
-ghost use Rattle.std.specs.Prelude.{◌≡◌};
 ghost use Rattle.jr_wall.specs.Boards.{marks_of};
 ghost use Rattle.jr_wall.specs.Headline.{IsPicture, AreCounts};
 ghost use Rattle.jr_wall.specs.Shown.{shown};

@@ -1,5 +1,5 @@
 -- A file's text is one.
-use Rattle.std.proofs.Common.{◌≡◌, ℕ, ◌-◌, ◌⊎◌, inl, inr, List, [], ◌++◌, length, drop, replicate, Option, refl, sym, ap, subst, ◌∙◌}
+use Rattle.std.proofs.Common.{◌≡◌, ℕ, ◌-◌, ◌⊎◌, inl, inr, List, [], ◌++◌, length, drop, replicate, Option, sym, ap, subst, ◌∙◌}
 use Rattle.jr_head.specs.HeadValue.{HeadValue}
 use Rattle.jr_head.specs.Heads.{HeadOf, HasOneHead, HasOneFault}
 use Rattle.jr_head.specs.Geometry.{IsLawful}

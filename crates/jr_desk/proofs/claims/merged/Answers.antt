@@ -1,10 +1,8 @@
-use Rattle.std.proofs.Common.{rules, Bool, ◌≡◌, ℕ, ◌+◌, ◌-◌, ◌<◌, suc, [], ◌∷◌, ◌++◌, true, false, cond, length, length-append, map, sym, ap, ◌∙◌, subst, arith, refl}
-use Rattle.std.specs.List.{All}
+use Rattle.std.proofs.Common.{rules, Bool, ◌≡◌, ℕ, [], ◌∷◌, cond, length, length-append, ap, ◌∙◌, arith}
 use Rattle.std.proofs.lemmas.List.Elements.{All-pop}
 use Rattle.jr_desk.specs.declared.claims.View.{View}
 use Rattle.jr_desk.specs.Values.{SeatValue, DeskValue, desk_of}
 use Rattle.jr_desk.specs.Count.{total, times}
-use Rattle.jr_desk.specs.Draws.{view, Dealt}
 use Rattle.jr_desk.proofs.Rule.{joins, times-append, total_snoc}
 use Rattle.jr_desk.proofs.claims.merged.Goals as goal
 

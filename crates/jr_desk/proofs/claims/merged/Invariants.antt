@@ -1,7 +1,7 @@
-use Rattle.std.proofs.Common.{◌≡◌, ◌+◌, ◌<◌, ℕ, [], length, vec_len, cond}
+use Rattle.std.proofs.Common.{◌≡◌, ◌+◌, ◌<◌, ℕ, length, vec_len, cond}
 use Rattle.std.specs.List.{All}
 use Rattle.jr_desk.specs.Count.{total, times}
-use Rattle.jr_desk.specs.Values.{SeatValue, desk_of}
+use Rattle.jr_desk.specs.Values.{desk_of}
 use Rattle.jr_desk.proofs.claims.merged.Given as goal
 
 abbrev pub decreases-loop-seat : goal.decreases-loop-seat

@@ -1,4 +1,4 @@
-use Rattle.std.proofs.Common.{rules, ◌≡◌, sym, ap, ◌∙◌, cond, arith}
+use Rattle.std.proofs.Common.{rules, ap, ◌∙◌, cond}
 use Rattle.jr_desk.proofs.Rule.{claims}
 use Rattle.jr_desk.proofs.claims.Desk.claim.Goals as goal
 

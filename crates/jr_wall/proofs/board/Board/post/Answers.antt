@@ -7,7 +7,6 @@ use Rattle.jr_scan.specs.ScanValue.{ScanValue}
 use Rattle.jr_piece.specs.PieceValue.{PieceValue}
 use Rattle.jr_wall.specs.BoardValue.{BoardValue}
 use Rattle.jr_piece.specs.Outcome.{IsOutcome}
-use Rattle.jr_wall.specs.declared.mark.Mark.{Mark}
 use Rattle.jr_wall.specs.declared.mark.Mark.TheVariants.{Blank, Sound, Damaged}
 use Rattle.jr_wall.specs.Boards.{IsFor, IsKept, held, piece_at, mark_of, marks_of}
 use Rattle.jr_wall.specs.Headline.{mark_in}
@@ -88,10 +87,10 @@ returns-then-is_some-clause-err c =
     let inside : i.number < length (arc_value c.self.inside.scan).intervals = search rules in
     let lt : c.number-number.result < length items = omega (arith, n, inside, c.self.invariant.lawful.places, length-map items held) in
     let found : is_some (get_or items c.number-number.result None) ≡ true
-        = ap is_some (sym (c.index.ensures ∙ get_or_default items c.number-number.result c.index.result.now None lt)) ∙ sym c.is_some.ensures ∙ c.if-is_some.true in
+    = ap is_some (sym (c.index.ensures ∙ get_or_default items c.number-number.result c.index.result.now None lt)) ∙ sym c.is_some.ensures ∙ c.if-is_some.true in
     let there : is_some (get_or c.self.inside.pieces.items i.number None) ≡ true = subst (λ (k : ℕ). is_some (get_or c.self.inside.pieces.items k None) ≡ true) n found in
     let here : held (get_or c.self.inside.pieces.items i.number None) ≡ piece_at c.args.self.now i.number
-        = sym (held_at c.self.inside.pieces.items i.number) ∙ ap (λ (b : BoardValue). piece_at b i.number) c.self.view_is in
+    = sym (held_at c.self.inside.pieces.items i.number) ∙ ap (λ (b : BoardValue). piece_at b i.number) c.self.view_is in
     let mark : mark_in (marks_of c.args.self.now) i.number ≡ mark_of (held (get_or c.self.inside.pieces.items i.number None))
-        = marks_at c.args.self.now.pieces i.number ∙ ap mark_of (sym here) in
+    = marks_at c.args.self.now.pieces i.number ∙ ap mark_of (sym here) in
     (refl, (refl, for, λ blank. posted_marked (get_or c.self.inside.pieces.items i.number None) there (sym mark ∙ blank)))
