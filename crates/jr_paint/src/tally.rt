@@ -7,8 +7,8 @@ ghost use Rattle.jr_paint.specs.Tally.{inner_of, has_failed, took_none, known_in
 
 use std::io::{Read, Result, Write};
 
-/// Passes calls on to what it holds, and notes the first that fails: an error, or a write of at least one byte
-/// that takes none.
+/// A reader or a writer, and a note of the first call that fails: an error, or a write of at least one byte that takes
+/// none. No contract can say that each call is one of what it holds; tests show it.
 #[derive(Drop)]
 pub struct Tally<T> {
     inner: T,
