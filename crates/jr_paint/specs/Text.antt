@@ -6,6 +6,8 @@ use Rattle.jr_head.specs.HeadValue.{HeadValue}
 use Rattle.jr_head.specs.declared.mark.Kind.{Kind}
 use Rattle.jr_head.specs.declared.mark.Kind.TheVariants.{Grey, Rgb, Ycc}
 use Rattle.jr_head.specs.Geometry.{horizontal_of, vertical_of, horizontal_max, vertical_max}
+use Rattle.jr_paint.specs.declared.tally.Tally.{Tally}
+use Rattle.jr_paint.specs.Tally.{known_in}
 use Rattle.jr_paint.specs.Colours.{colour_of}
 
 abbrev pub magic_of : Kind → List ℕ
@@ -53,3 +55,11 @@ pub record AppendsFront (old new : Option (List ℕ)) (bs : List ℕ) : Type 0 w
   pub left : List ℕ
   pub whole : bs ≡ sent ++ left
   pub appended : Appends old new sent
+
+-- these bytes are written behind what is known of a writer
+abbrev pub Writes : {T : Type 0} → (T → Option (List ℕ)) → Tally T → Tally T → List ℕ → Type 0
+Writes known old new bs = Appends (known_in known old) (known_in known new) bs
+
+-- a beginning of these bytes is
+abbrev pub WritesFront : {T : Type 0} → (T → Option (List ℕ)) → Tally T → Tally T → List ℕ → Type 0
+WritesFront known old new bs = AppendsFront (known_in known old) (known_in known new) bs

@@ -5,8 +5,8 @@
 //! and blue out alike as 1628 more than they have over luminance: so the 1628 are taken from luminance, and once.
 
 ghost use Rattle.std.specs.Prelude.{◌≡◌, ℕ, ◌+◌, ◌/◌, ◌<◌, ◌≤◌, length, slice_index, pos, ◌+ℤ◌, [], ◌∷◌};
-ghost use Rattle.std.specs.List.{flat_map, range_with_len};
 ghost use Rattle.std.specs.Simd.Lanes.{put_chunk};
+ghost use Rattle.jr_paint.specs.Lines.{interleaving_of, colours_over};
 ghost use Rattle.jr_paint.specs.Shades.{red_over_of, green_over_of, blue_over_of, IsRaised, lowered};
 
 use std::simd::prelude::*;
@@ -78,7 +78,7 @@ pub(crate) fn doubled(v: u16x16) -> (u16x16, u16x16)
 #[inline(always)]
 fn put(red: u8x16, green: u8x16, blue: u8x16, out: &mut [u8], i: usize)
     requires { i + 48 ≤ length out.old }
-    ensures { out.new ≡ put_chunk i out.old (flat_map (λ k. slice_index red k ∷ slice_index green k ∷ slice_index blue k ∷ []) (range_with_len 0 16)) }
+    ensures { out.new ≡ put_chunk i out.old (interleaving_of red green blue 16) }
 {
     let (left, right) = red.interleave(green);
     let first: u8x16 = left.shuffle(blue, [0, 1, 16, 2, 3, 17, 4, 5, 18, 6, 7, 19, 8, 9, 20, 10]);
@@ -108,7 +108,7 @@ pub(crate) fn paint(y: u8x16, red: u16x16, green: u16x16, blue: u16x16, out: &mu
     requires green { (k : ℕ) → k < 16 → slice_index green k < 4096 }
     requires blue { (k : ℕ) → k < 16 → slice_index blue k < 4096 }
     requires room { i + 48 ≤ length out.old }
-    ensures { out.new ≡ put_chunk i out.old (flat_map (λ k. lowered (slice_index y k) (slice_index red k) ∷ lowered (slice_index y k) (slice_index green k) ∷ lowered (slice_index y k) (slice_index blue k) ∷ []) (range_with_len 0 16)) }
+    ensures { out.new ≡ put_chunk i out.old (colours_over y red green blue 16) }
 {
     put(lit(y, red), lit(y, green), lit(y, blue), out, i);
 }

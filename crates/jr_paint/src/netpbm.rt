@@ -1,9 +1,9 @@
 //! A picture's Netpbm text: PGM for grey pictures, PPM for the others.
 
 ghost use Rattle.std.specs.Prelude.{◌≡◌, ◌+◌, ◌<◌, ◌≤◌, ◌++◌, is_err, false, OnOk, OnErr};
-ghost use Rattle.std.specs.Io.KnownBytes.{Appends};
-ghost use Rattle.jr_paint.specs.Tally.{has_failed, known_in};
-ghost use Rattle.jr_paint.specs.Text.{AppendsFront, pixel_size, pixels_of, text_of};
+ghost use Rattle.jr_paint.specs.Lines.{line_of, two_lines_of};
+ghost use Rattle.jr_paint.specs.Tally.{has_failed};
+ghost use Rattle.jr_paint.specs.Text.{Writes, WritesFront, pixel_size, text_of};
 
 use crate::header::write_header;
 use crate::pairs::fill_two;
@@ -37,8 +37,8 @@ fn write_line<S: Samples, W: Write>(
 ) -> Result<(), WriteFault>
     requires unfailed { has_failed out.old ≡ false }
     requires down { y < (S.head_of samples.now).height }
-    ensures ok { OnOk result (Appends (known_in W.contents out.old) (known_in W.contents out.new) (pixels_of (S.head_of samples.now) (S.shown samples.now) y 0 (S.head_of samples.now).width)) }
-    ensures err { OnErr result (AppendsFront (known_in W.contents out.old) (known_in W.contents out.new) (pixels_of (S.head_of samples.now) (S.shown samples.now) y 0 (S.head_of samples.now).width)) }
+    ensures ok { OnOk result (Writes W.contents out.old out.new (line_of (S.head_of samples.now) (S.shown samples.now) y)) }
+    ensures err { OnErr result (WritesFront W.contents out.old out.new (line_of (S.head_of samples.now) (S.shown samples.now) y)) }
     ensures failed { has_failed out.new ≡ is_err result }
 {
     let width = samples.head().width();
@@ -64,8 +64,8 @@ fn write_two<S: Samples, W: Write>(
 ) -> Result<(), WriteFault>
     requires unfailed { has_failed out.old ≡ false }
     requires down { y + 1 < (S.head_of samples.now).height }
-    ensures ok { OnOk result (Appends (known_in W.contents out.old) (known_in W.contents out.new) (pixels_of (S.head_of samples.now) (S.shown samples.now) y 0 (S.head_of samples.now).width ++ pixels_of (S.head_of samples.now) (S.shown samples.now) (y + 1) 0 (S.head_of samples.now).width)) }
-    ensures err { OnErr result (AppendsFront (known_in W.contents out.old) (known_in W.contents out.new) (pixels_of (S.head_of samples.now) (S.shown samples.now) y 0 (S.head_of samples.now).width ++ pixels_of (S.head_of samples.now) (S.shown samples.now) (y + 1) 0 (S.head_of samples.now).width)) }
+    ensures ok { OnOk result (Writes W.contents out.old out.new (two_lines_of (S.head_of samples.now) (S.shown samples.now) y)) }
+    ensures err { OnErr result (WritesFront W.contents out.old out.new (two_lines_of (S.head_of samples.now) (S.shown samples.now) y)) }
     ensures failed { has_failed out.new ≡ is_err result }
 {
     samples.head().be_lawful();
@@ -83,8 +83,8 @@ fn write_two<S: Samples, W: Write>(
 /// beginning of it. It takes no memory, and goes on after a short write.
 pub fn write_netpbm<S: Samples, W: Write>(samples: &S, out: &mut Tally<W>) -> Result<(), WriteFault>
     requires { has_failed out.old ≡ false }
-    ensures ok { OnOk result (Appends (known_in W.contents out.old) (known_in W.contents out.new) (text_of (S.head_of samples.now) (S.shown samples.now))) }
-    ensures err { OnErr result (AppendsFront (known_in W.contents out.old) (known_in W.contents out.new) (text_of (S.head_of samples.now) (S.shown samples.now))) }
+    ensures ok { OnOk result (Writes W.contents out.old out.new (text_of (S.head_of samples.now) (S.shown samples.now))) }
+    ensures err { OnErr result (WritesFront W.contents out.old out.new (text_of (S.head_of samples.now) (S.shown samples.now))) }
     ensures failed { has_failed out.new ≡ is_err result }
 {
     write_header(samples.head(), out)?;

@@ -1,9 +1,9 @@
 //! The pixels of two lines that take the same samples of chrominance.
 
-ghost use Rattle.std.specs.Prelude.{◌≡◌, ◌+◌, ◌*◌, ◌<◌, ◌≤◌, ◌++◌, length};
+ghost use Rattle.std.specs.Prelude.{◌≡◌, ◌+◌, ◌*◌, ◌<◌, ◌≤◌, length};
 ghost use Rattle.jr_paint.specs.Geometry.{samples_across};
+ghost use Rattle.jr_paint.specs.Lines.{pixels_of_two};
 ghost use Rattle.jr_paint.specs.Shades.{SharesChroma};
-ghost use Rattle.jr_paint.specs.Text.{pixels_of};
 
 use crate::halves::convert_two;
 use crate::samples::Samples;
@@ -31,7 +31,7 @@ fn join_two<S: Samples>(
     requires third { length c.old ≡ length b.old }
     requires enough { length a.old ≤ 2 * length b.old }
     requires room { length pixels.old ≡ 6 * length a.old }
-    ensures { pixels.new ≡ pixels_of (S.head_of samples.now) (S.shown samples.now) y 0 (length a.old) ++ pixels_of (S.head_of samples.now) (S.shown samples.now) (y + 1) 0 (length a.old) }
+    ensures { pixels.new ≡ pixels_of_two (S.head_of samples.now) (S.shown samples.now) y (length a.old) }
 {
     samples.head().be_lawful();
     upsample(samples, 0, 0, y, near, a);
@@ -56,7 +56,7 @@ pub(crate) fn fill_two<S: Samples>(
     requires few { n ≤ 4092 }
     requires across { n ≤ (S.head_of samples.now).width }
     requires room { length pixels.old ≡ 6 * n }
-    ensures { pixels.new ≡ pixels_of (S.head_of samples.now) (S.shown samples.now) y 0 n ++ pixels_of (S.head_of samples.now) (S.shown samples.now) (y + 1) 0 n }
+    ensures { pixels.new ≡ pixels_of_two (S.head_of samples.now) (S.shown samples.now) y n }
 {
     let count = half_count(samples.head(), n);
     let (near, lines) = room.split_at_mut(STRIP);

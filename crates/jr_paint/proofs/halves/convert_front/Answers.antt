@@ -6,10 +6,10 @@ use Rattle.jr_paint.proofs.halves.convert_front.Goals as goal
 
 pub loop-n-preserved : goal.loop-n-preserved
 loop-n-preserved c =
-    let a = slice_index c.args.a.now in
-    let z = slice_index c.args.next.now in
-    let b = slice_index c.args.b.now in
-    let d = slice_index c.args.c.now in
+    let a = slice_index c.args.luma.now in
+    let z = slice_index c.args.next_luma.now in
+    let b = slice_index c.args.cb.now in
+    let d = slice_index c.args.cr.now in
     let l = c.loop-n in
     record {
       line = rw c.convert_block.ensures.line (search (rules, halved_more (λ k. colour_of Ycc (a k) (b (k / 2)) (d (k / 2))) (λ k. refl) l.n l.first (omega arith) l.invariant.line));
@@ -18,12 +18,12 @@ loop-n-preserved c =
 
 pub returns-then-count-gt1-clause-line : goal.returns-then-count-gt1-clause-line
 returns-then-count-gt1-clause-line c =
-    let f = λ (k : ℕ). colour_of Ycc (slice_index c.args.a.now k) (slice_index c.args.b.now (k / 2)) (slice_index c.args.c.now (k / 2)) in
-    let i = (length c.args.a.now - 32) / 2 in
+    let f = λ (k : ℕ). colour_of Ycc (slice_index c.args.luma.now k) (slice_index c.args.cb.now (k / 2)) (slice_index c.args.cr.now (k / 2)) in
+    let i = (length c.args.luma.now - 32) / 2 in
     rw c.convert_block-then-count-gt1.ensures.line (search (rules, last_halved f (λ k. refl) i (32 * c.loop-n.n) c.loop-n.first (omega arith) (omega arith) c.loop-n.invariant.line))
 
 pub returns-then-count-gt1-clause-next : goal.returns-then-count-gt1-clause-next
 returns-then-count-gt1-clause-next c =
-    let f = λ (k : ℕ). colour_of Ycc (slice_index c.args.next.now k) (slice_index c.args.b.now (k / 2)) (slice_index c.args.c.now (k / 2)) in
-    let i = (length c.args.a.now - 32) / 2 in
+    let f = λ (k : ℕ). colour_of Ycc (slice_index c.args.next_luma.now k) (slice_index c.args.cb.now (k / 2)) (slice_index c.args.cr.now (k / 2)) in
+    let i = (length c.args.luma.now - 32) / 2 in
     rw c.convert_block-then-count-gt1.ensures.next (search (rules, last_halved f (λ k. refl) i (32 * c.loop-n.n) c.loop-n.second (omega arith) (omega arith) c.loop-n.invariant.next))

@@ -6,10 +6,10 @@ use Rattle.jr_paint.proofs.halves.convert_two.Goals as goal
 
 pub loop-i-preserved : goal.loop-i-preserved
 loop-i-preserved c =
-    let a = slice_index c.args.a.now in
-    let z = slice_index c.args.next.now in
-    let b = slice_index c.args.b.now in
-    let d = slice_index c.args.c.now in
+    let a = slice_index c.args.luma.now in
+    let z = slice_index c.args.next_luma.now in
+    let b = slice_index c.args.cb.now in
+    let d = slice_index c.args.cr.now in
     let l = c.loop-i in
     let i = l.i in
     let p = slice_index c.mixed.result in

@@ -8,7 +8,7 @@ use Rattle.jr_paint.proofs.halves.paint_halved.Goals as goal
 pub returns : goal.returns
 returns c =
     let i = c.args.i in
-    let a = slice_index c.args.a.now in
+    let a = slice_index c.args.luma.now in
     let red = slice_index c.args.red in
     let green = slice_index c.args.green in
     let blue = slice_index c.args.blue in

@@ -6,9 +6,9 @@ use Rattle.jr_paint.proofs.pixels.convert.Goals as goal
 
 pub loop-i-preserved : goal.loop-i-preserved
 loop-i-preserved c =
-    let a = slice_index c.args.a.now in
-    let b = slice_index c.args.b.now in
-    let d = slice_index c.args.c.now in
+    let a = slice_index c.args.luma.now in
+    let b = slice_index c.args.cb.now in
+    let d = slice_index c.args.cr.now in
     let i = c.loop-i.i in
     let p = slice_index c.mixed.result in
     let is : colour_of Ycc (a i) (b i) (d i) ≡ p 0 ∷ p 1 ∷ p 2 ∷ [] = search rules in

@@ -5,4 +5,4 @@ use Rattle.jr_paint.specs.Colours.{colour_of}
 use Rattle.jr_paint.proofs.pixels.convert.Given as goal
 
 abbrev pub invariant-loop-i : goal.invariant-loop-i
-invariant-loop-i l = take (3 * l.i) l.out ≡ flat_map (λ k. colour_of Ycc (slice_index l.a k) (slice_index l.b k) (slice_index l.c k)) (range_with_len 0 l.i)
+invariant-loop-i l = take (3 * l.i) l.out ≡ flat_map (λ k. colour_of Ycc (slice_index l.luma k) (slice_index l.cb k) (slice_index l.cr k)) (range_with_len 0 l.i)

@@ -16,9 +16,9 @@ returns c =
     let b = slice_index c.raised_blue-blue.result in
     c.paint.ensures
     ∙ ap (put_chunk (3 * i) c.args.out.now)
-    (flat_map-moved (λ k. lowered (y k) (r k) ∷ lowered (y k) (g k) ∷ lowered (y k) (b k) ∷ []) (λ k. colour_of Ycc (slice_index c.args.a.now k) (slice_index c.args.b.now k) (slice_index c.args.c.now k)) 0 i 16
+    (flat_map-moved (λ k. lowered (y k) (r k) ∷ lowered (y k) (g k) ∷ lowered (y k) (b k) ∷ []) (λ k. colour_of Ycc (slice_index c.args.luma.now k) (slice_index c.args.cb.now k) (slice_index c.args.cr.now k)) 0 i 16
     (λ k l.
     let e : 0 + k ≡ k = omega arith in
-    let second : slice_index c.load-cb.result k ≡ slice_index c.args.b.now (i + k) = search (rules, c.load-cb.ensures k l) in
-    let third : slice_index c.load-cr.result k ≡ slice_index c.args.c.now (i + k) = search (rules, c.load-cr.ensures k l) in
+    let second : slice_index c.load-blue_chroma.result k ≡ slice_index c.args.cb.now (i + k) = search (rules, c.load-blue_chroma.ensures k l) in
+    let third : slice_index c.load-red_chroma.result k ≡ slice_index c.args.cr.now (i + k) = search (rules, c.load-red_chroma.ensures k l) in
     rw e (pixel_is (c.load.ensures k l) second third (c.raised_red-red.ensures k l) (c.raised_green-green.ensures k l) (c.raised_blue-blue.ensures k l))))

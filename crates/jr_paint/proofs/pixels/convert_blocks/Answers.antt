@@ -8,7 +8,7 @@ use Rattle.jr_paint.proofs.pixels.convert_blocks.Goals as goal
 
 pub returns : goal.returns
 returns c =
-    let f = λ (k : ℕ). colour_of Ycc (slice_index c.args.a.now k) (slice_index c.args.b.now k) (slice_index c.args.c.now k) in
+    let f = λ (k : ℕ). colour_of Ycc (slice_index c.args.luma.now k) (slice_index c.args.cb.now k) (slice_index c.args.cr.now k) in
     let i = c.args.i in
     c.convert_block-2.ensures ∙ ap (λ (o : List ℕ). put_chunk (3 * (i + 16)) o (flat_map f (range_with_len (i + 16) 16))) c.convert_block.ensures
     ∙ next_block f (λ k. refl) i c.args.out.now

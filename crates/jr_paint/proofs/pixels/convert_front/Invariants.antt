@@ -5,4 +5,4 @@ use Rattle.jr_paint.specs.Colours.{colour_of}
 use Rattle.jr_paint.proofs.pixels.convert_front.Given as goal
 
 abbrev pub invariant-loop-n : goal.invariant-loop-n
-invariant-loop-n l = take (3 * (32 * l.n)) l.out ≡ flat_map (λ k. colour_of Ycc (slice_index l.a k) (slice_index l.b k) (slice_index l.c k)) (range_with_len 0 (32 * l.n))
+invariant-loop-n l = take (3 * (32 * l.n)) l.out ≡ flat_map (λ k. colour_of Ycc (slice_index l.luma k) (slice_index l.cb k) (slice_index l.cr k)) (range_with_len 0 (32 * l.n))

@@ -5,4 +5,4 @@ use Rattle.jr_paint.specs.Colours.{colour_of}
 use Rattle.jr_paint.proofs.pixels.interleave.Given as goal
 
 abbrev pub invariant-loop-i : goal.invariant-loop-i
-invariant-loop-i l = take (3 * l.i) l.out ≡ flat_map (λ k. colour_of Rgb (slice_index l.a k) (slice_index l.b k) (slice_index l.c k)) (range_with_len 0 l.i)
+invariant-loop-i l = take (3 * l.i) l.out ≡ flat_map (λ k. colour_of Rgb (slice_index l.red k) (slice_index l.green k) (slice_index l.blue k)) (range_with_len 0 l.i)

@@ -1,0 +1,50 @@
+-- Lines of samples put together to pixels of three bytes.
+use Rattle.std.specs.Prelude.{ℕ, ◌+◌, ◌/◌, List, [], ◌∷◌, ◌++◌, slice_index}
+use Rattle.std.specs.List.{flat_map, range_with_len}
+use Rattle.jr_head.specs.HeadValue.{HeadValue}
+use Rattle.jr_head.specs.declared.mark.Kind.{Kind}
+use Rattle.jr_head.specs.declared.mark.Kind.TheVariants.{Ycc}
+use Rattle.jr_paint.specs.Colours.{colour_of}
+use Rattle.jr_paint.specs.Shades.{lowered}
+use Rattle.jr_paint.specs.Text.{pixels_of}
+
+-- n pixels from number i on, a sample of each of three lines for each
+abbrev pub colours_of : Kind → List ℕ → List ℕ → List ℕ → ℕ → ℕ → List ℕ
+colours_of kind first second third i n =
+    flat_map (λ k. colour_of kind (slice_index first k) (slice_index second k) (slice_index third k)) (range_with_len i n)
+
+-- n pixels from number i on, where a sample of chrominance stands for two pixels
+abbrev pub halved_colours_of : List ℕ → List ℕ → List ℕ → ℕ → ℕ → List ℕ
+halved_colours_of luma cb cr i n =
+    flat_map (λ k. colour_of Ycc (slice_index luma k) (slice_index cb (k / 2)) (slice_index cr (k / 2))) (range_with_len i n)
+
+-- n pixels of so much red, green and blue
+abbrev pub interleaving_of : List ℕ → List ℕ → List ℕ → ℕ → List ℕ
+interleaving_of red green blue n =
+    flat_map (λ k. slice_index red k ∷ slice_index green k ∷ slice_index blue k ∷ []) (range_with_len 0 n)
+
+-- one pixel of luminance y, where what the colours have over it is raised
+abbrev pub colour_over : ℕ → ℕ → ℕ → ℕ → List ℕ
+colour_over y red green blue = lowered y red ∷ lowered y green ∷ lowered y blue ∷ []
+
+-- n pixels of them
+abbrev pub colours_over : List ℕ → List ℕ → List ℕ → List ℕ → ℕ → List ℕ
+colours_over luma red green blue n =
+    flat_map (λ k. colour_over (slice_index luma k) (slice_index red k) (slice_index green k) (slice_index blue k)) (range_with_len 0 n)
+
+-- n pixels from luminance i on, where what the colours have over it stands for two pixels
+abbrev pub halved_colours_over : List ℕ → List ℕ → List ℕ → List ℕ → ℕ → ℕ → List ℕ
+halved_colours_over luma red green blue i n =
+    flat_map (λ k. colour_over (slice_index luma (i + k)) (slice_index red (k / 2)) (slice_index green (k / 2)) (slice_index blue (k / 2))) (range_with_len 0 n)
+
+-- the first n pixels of line y and of the next
+abbrev pub pixels_of_two : HeadValue → (ℕ → ℕ → ℕ → ℕ) → ℕ → ℕ → List ℕ
+pixels_of_two h f y n = pixels_of h f y 0 n ++ pixels_of h f (y + 1) 0 n
+
+-- line y
+abbrev pub line_of : HeadValue → (ℕ → ℕ → ℕ → ℕ) → ℕ → List ℕ
+line_of h f y = pixels_of h f y 0 h.width
+
+-- line y and the next
+abbrev pub two_lines_of : HeadValue → (ℕ → ℕ → ℕ → ℕ) → ℕ → List ℕ
+two_lines_of h f y = pixels_of_two h f y h.width
