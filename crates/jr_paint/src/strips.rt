@@ -10,35 +10,6 @@ use crate::samples::Samples;
 use crate::upsampling::{STRIP, upsample};
 use jr_head::Kind;
 
-/// The pixels of a part of line y, in colours, by way of three lines of samples.
-fn join_colours<S: Samples>(
-    samples: &S,
-    x: u32,
-    y: u32,
-    a: &mut [u8],
-    b: &mut [u8],
-    c: &mut [u8],
-    near: &mut [u8],
-    pixels: &mut [u8],
-)
-    requires kind { component_count (S.head_of samples.now).kind ≡ 3 }
-    requires start { x % 12 ≡ 0 }
-    requires some { 0 < length a.old }
-    requires second { length b.old ≡ length a.old }
-    requires third { length c.old ≡ length a.old }
-    requires fourth { length a.old ≤ length near.old }
-    requires across { x + length a.old ≤ (S.head_of samples.now).width }
-    requires down { y < (S.head_of samples.now).height }
-    requires room { length pixels.old ≡ 3 * length a.old }
-    ensures { pixels.new ≡ pixels_of (S.head_of samples.now) (S.shown samples.now) y x (length a.old) }
-{
-    samples.head().be_lawful();
-    upsample(samples, 0, x, y, near, a);
-    upsample(samples, 1, x, y, near, b);
-    upsample(samples, 2, x, y, near, c);
-    mix(samples.head().kind(), a, b, c, pixels);
-}
-
 /// The pixels of a part of line y, in colours.
 fn fill_colours<S: Samples>(
     samples: &S,
@@ -57,19 +28,17 @@ fn fill_colours<S: Samples>(
     requires room { length pixels.old ≡ 3 * n }
     ensures { pixels.new ≡ pixels_of (S.head_of samples.now) (S.shown samples.now) y x n }
 {
-    let (near, values) = room.split_at_mut(STRIP);
-    let (a, values) = values.split_at_mut(STRIP);
-    let (b, c) = values.split_at_mut(STRIP);
-    join_colours(
-        samples,
-        x,
-        y,
-        &mut a[..n],
-        &mut b[..n],
-        &mut c[..n],
-        near,
-        pixels,
-    );
+    samples.head().be_lawful();
+    let (near, lines) = room.split_at_mut(STRIP);
+    let (first, lines) = lines.split_at_mut(STRIP);
+    let (second, third) = lines.split_at_mut(STRIP);
+    let first = &mut first[..n];
+    let second = &mut second[..n];
+    let third = &mut third[..n];
+    upsample(samples, 0, x, y, near, first);
+    upsample(samples, 1, x, y, near, second);
+    upsample(samples, 2, x, y, near, third);
+    mix(samples.head().kind(), first, second, third, pixels);
 }
 
 /// The pixels of a part of line y of a grey picture.
