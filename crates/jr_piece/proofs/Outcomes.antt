@@ -7,7 +7,7 @@ use Rattle.std.proofs.Math.Seq.{get_or-append_seam}
 use Rattle.jr_head.specs.HeadValue.{HeadValue}
 use Rattle.jr_head.specs.Geometry.{order_of, quantiser_of}
 use Rattle.jr_scan.specs.IntervalValue.{IntervalValue}
-use Rattle.jr_scan.specs.Units.{component, Decodes, Front, LongestFront}
+use Rattle.jr_scan.specs.Mcus.{component, Decodes, Front, LongestFront}
 use Rattle.jr_idct.specs.Transform.{samples}
 use Rattle.jr_piece.specs.PieceValue.{PieceValue}
 use Rattle.jr_piece.specs.Outcome.{AreSamples, HasNoDecoding, IsSound, IsDamaged, IsOutcome}
@@ -55,7 +55,7 @@ pub record Ended (i : IntervalValue) (zs : List (List ℤ)) (units : List (List 
 
 whole_front : (i : IntervalValue) (zs ys : List (List ℤ)) (front : ℕ) → Decodes i zs → LongestFront i front ys → front ≡ i.mcus
 whole_front i zs ys front d f =
-    let whole : Front i i.mcus zs = record { at_most = omega arith; taken = d.taken; rest = d.padding; units = d.units; spelled = d.spelled } in
+    let whole : Front i i.mcus zs = record { at_most = omega arith; taken = d.taken; rest = d.padding; mcus = d.mcus; spelled = d.spelled } in
     omega (arith, f.longest i.mcus zs whole, f.front.at_most)
 
 pub outcome : (i : IntervalValue) (zs : List (List ℤ)) (units : List (List ℕ)) (is_sound : Bool) (front n : ℕ) → Ended i zs units is_sound front → n ≡ front * length (order_of i.head)
@@ -66,7 +66,7 @@ outcome i zs units is_sound front n e is =
     record {
       sound = λ t.
           let d = e.decodes t in
-          let all : take m zs ≡ zs = take_all m zs (omega (arith, d.units.0, ap (λ (k : ℕ). k * length (order_of i.head)) (whole_front i zs _ front d e.longest))) in
+          let all : take m zs ≡ zs = take_all m zs (omega (arith, d.mcus.0, ap (λ (k : ℕ). k * length (order_of i.head)) (whole_front i zs _ front d e.longest))) in
           record { blocks = zs; decodes = d; samples = subst (λ (ys : List (List ℤ)). AreSamples i.head ys (take n units)) all shown };
       whole = λ t. whole_front i zs _ front (e.decodes t) e.longest;
       damaged = λ f. record { undecodable = e.none f; blocks = take m zs; longest = e.longest; samples = shown };

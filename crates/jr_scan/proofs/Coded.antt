@@ -5,10 +5,10 @@ use Rattle.std.specs.Prelude.{ℤ, pos, ◌+ℤ◌}
 use Rattle.std.proofs.lemmas.List.{append_cancel_left}
 use Rattle.jr_code.specs.Bits.{value}
 use Rattle.jr_code.specs.Code.{Table}
-use Rattle.jr_scan.specs.Block.{Item, IsItem, item_bits, entries, IsEnd, DifferenceAt, OthersAt, CodedAt, BlockAt}
+use Rattle.jr_scan.specs.Block.{AcCode, IsAcCode, code_bits, entries, IsEnd, DifferenceAt, OthersAt, CodedAt, BlockAt}
 use Rattle.jr_scan.specs.Step.{TakesDifference, HasNoDifference, TakesOthers, HasNoOthers, TakesCoded, HasNoCoded}
 use Rattle.jr_scan.proofs.Words.{IsPrefixFree}
-use Rattle.jr_scan.proofs.Items.{split_same, same_item, not_end}
+use Rattle.jr_scan.proofs.AcCodes.{split_same, same_code, not_end}
 use Rattle.jr_scan.proofs.Rest.{end_within, entries_some}
 
 pub no_coded_first : (dc ac : Table) (old : List Bool) → HasNoDifference dc old → HasNoCoded dc ac old
@@ -44,23 +44,23 @@ no_coded_others dc ac free d old mid f none d' others bits rest b e =
     let left : mid ≡ b.others_bits ++ rest = append_cancel_left b.first_bits _ _ (subst (λ (q : List Bool). q ++ mid ≡ b.first_bits ++ (b.others_bits ++ rest)) s.0 whole) in
     none others b.others_bits rest b.are_others left
 
-same_items : (ac : Table) → IsPrefixFree ac → (n : ℕ) (is js : List Item) (s t x y : List Bool) → AllByRecursion (IsItem ac) is → AllByRecursion (IsItem ac) js
+same_codes : (ac : Table) → IsPrefixFree ac → (n : ℕ) (is js : List AcCode) (s t x y : List Bool) → AllByRecursion (IsAcCode ac) is → AllByRecursion (IsAcCode ac) js
     → IsEnd ac (n + length (flat_map entries is)) s → IsEnd ac (n + length (flat_map entries js)) t
-    → flat_map item_bits is ++ (s ++ x) ≡ flat_map item_bits js ++ (t ++ y) → (is ≡ js) × (s ≡ t)
-same_items ac free n [] [] s t x y hi hj (inl f) (inl g) e = (refl, f.1 ∙ sym g.1)
-same_items ac free n [] [] s t x y hi hj (inl f) (inr g) e = absurd (omega (arith, f.0, g.0))
-same_items ac free n [] [] s t x y hi hj (inr f) (inl g) e = absurd (omega (arith, f.0, g.0))
-same_items ac free n [] [] s t x y hi hj (inr f) (inr g) e = (refl, (free s t x y 0 0 f.1 g.1 e).0)
-same_items ac free n [] (j ∷ js) s t x y hi hj (inl f) g e = absurd (omega (arith, f.0, end_within ac _ t g, entries_some ac j hj.0, length-append (entries j) (flat_map entries js)))
-same_items ac free n [] (j ∷ js) s t x y hi hj (inr f) g e = absurd (not_end ac free j s (flat_map item_bits js ++ (t ++ y)) x hj.0 f.1 (sym (e ∙ append_assoc (item_bits j) (flat_map item_bits js) (t ++ y))))
-same_items ac free n (i ∷ is) [] s t x y hi hj f (inl g) e = absurd (omega (arith, g.0, end_within ac _ s f, entries_some ac i hi.0, length-append (entries i) (flat_map entries is)))
-same_items ac free n (i ∷ is) [] s t x y hi hj f (inr g) e = absurd (not_end ac free i t (flat_map item_bits is ++ (s ++ x)) y hi.0 g.1 (sym (append_assoc (item_bits i) (flat_map item_bits is) (s ++ x)) ∙ e))
-same_items ac free n (i ∷ is) (j ∷ js) s t x y hi hj f g e =
-    let first = same_item ac free i j (flat_map item_bits is ++ (s ++ x)) (flat_map item_bits js ++ (t ++ y)) hi.0 hj.0 (sym (append_assoc (item_bits i) (flat_map item_bits is) (s ++ x)) ∙ e ∙ append_assoc (item_bits j) (flat_map item_bits js) (t ++ y)) in
+    → flat_map code_bits is ++ (s ++ x) ≡ flat_map code_bits js ++ (t ++ y) → (is ≡ js) × (s ≡ t)
+same_codes ac free n [] [] s t x y hi hj (inl f) (inl g) e = (refl, f.1 ∙ sym g.1)
+same_codes ac free n [] [] s t x y hi hj (inl f) (inr g) e = absurd (omega (arith, f.0, g.0))
+same_codes ac free n [] [] s t x y hi hj (inr f) (inl g) e = absurd (omega (arith, f.0, g.0))
+same_codes ac free n [] [] s t x y hi hj (inr f) (inr g) e = (refl, (free s t x y 0 0 f.1 g.1 e).0)
+same_codes ac free n [] (j ∷ js) s t x y hi hj (inl f) g e = absurd (omega (arith, f.0, end_within ac _ t g, entries_some ac j hj.0, length-append (entries j) (flat_map entries js)))
+same_codes ac free n [] (j ∷ js) s t x y hi hj (inr f) g e = absurd (not_end ac free j s (flat_map code_bits js ++ (t ++ y)) x hj.0 f.1 (sym (e ∙ append_assoc (code_bits j) (flat_map code_bits js) (t ++ y))))
+same_codes ac free n (i ∷ is) [] s t x y hi hj f (inl g) e = absurd (omega (arith, g.0, end_within ac _ s f, entries_some ac i hi.0, length-append (entries i) (flat_map entries is)))
+same_codes ac free n (i ∷ is) [] s t x y hi hj f (inr g) e = absurd (not_end ac free i t (flat_map code_bits is ++ (s ++ x)) y hi.0 g.1 (sym (append_assoc (code_bits i) (flat_map code_bits is) (s ++ x)) ∙ e))
+same_codes ac free n (i ∷ is) (j ∷ js) s t x y hi hj f g e =
+    let first = same_code ac free i j (flat_map code_bits is ++ (s ++ x)) (flat_map code_bits js ++ (t ++ y)) hi.0 hj.0 (sym (append_assoc (code_bits i) (flat_map code_bits is) (s ++ x)) ∙ e ∙ append_assoc (code_bits j) (flat_map code_bits js) (t ++ y)) in
     let m = n + length (entries i) in
     let fi : n + length (entries i ++ flat_map entries is) ≡ m + length (flat_map entries is) = omega (arith, length-append (entries i) (flat_map entries is)) in
-    let gj : n + length (entries j ++ flat_map entries js) ≡ m + length (flat_map entries js) = omega (arith, length-append (entries j) (flat_map entries js), ap (λ (k : Item). length (entries k)) first.0) in
-    let others = same_items ac free m is js s t x y hi.1 hj.1 (subst (λ (k : ℕ). IsEnd ac k s) fi f) (subst (λ (k : ℕ). IsEnd ac k t) gj g) first.1 in
+    let gj : n + length (entries j ++ flat_map entries js) ≡ m + length (flat_map entries js) = omega (arith, length-append (entries j) (flat_map entries js), ap (λ (k : AcCode). length (entries k)) first.0) in
+    let others = same_codes ac free m is js s t x y hi.1 hj.1 (subst (λ (k : ℕ). IsEnd ac k s) fi f) (subst (λ (k : ℕ). IsEnd ac k t) gj g) first.1 in
     let here : i ≡ j = first.0 in
     let rest : is ≡ js = others.0 in
     (cc, others.1)
@@ -70,10 +70,10 @@ same_others ac free a b u v x y f g e =
     let z = λ (n : ℕ). n in
     let fz : length (flat_map entries f.items) ≡ 0 + length (flat_map entries f.items) = omega arith in
     let gz : length (flat_map entries g.items) ≡ 0 + length (flat_map entries g.items) = omega arith in
-    let whole = sym (append_assoc (flat_map item_bits f.items) f.tail x) ∙ ap (λ (q : List Bool). q ++ x) (sym f.spelled) ∙ e ∙ ap (λ (q : List Bool). q ++ y) g.spelled ∙ append_assoc (flat_map item_bits g.items) g.tail y in
-    let s = same_items ac free 0 f.items g.items f.tail g.tail x y f.each g.each (subst (λ (k : ℕ). IsEnd ac k f.tail) fz f.end) (subst (λ (k : ℕ). IsEnd ac k g.tail) gz g.end) whole in (
-      f.spelled ∙ ap (λ (is : List Item). flat_map item_bits is ++ f.tail) s.0 ∙ ap (λ (q : List Bool). flat_map item_bits g.items ++ q) s.1 ∙ sym g.spelled,
-      f.values ∙ ap (λ (is : List Item). flat_map entries is ++ replicate (63 - length (flat_map entries is)) (pos 0)) s.0 ∙ sym g.values,
+    let whole = sym (append_assoc (flat_map code_bits f.items) f.tail x) ∙ ap (λ (q : List Bool). q ++ x) (sym f.spelled) ∙ e ∙ ap (λ (q : List Bool). q ++ y) g.spelled ∙ append_assoc (flat_map code_bits g.items) g.tail y in
+    let s = same_codes ac free 0 f.items g.items f.tail g.tail x y f.each g.each (subst (λ (k : ℕ). IsEnd ac k f.tail) fz f.end) (subst (λ (k : ℕ). IsEnd ac k g.tail) gz g.end) whole in (
+      f.spelled ∙ ap (λ (is : List AcCode). flat_map code_bits is ++ f.tail) s.0 ∙ ap (λ (q : List Bool). flat_map code_bits g.items ++ q) s.1 ∙ sym g.spelled,
+      f.values ∙ ap (λ (is : List AcCode). flat_map entries is ++ replicate (63 - length (flat_map entries is)) (pos 0)) s.0 ∙ sym g.values,
     )
 
 pub same_coded : (dc ac : Table) → IsPrefixFree dc → IsPrefixFree ac → (a b : ℤ) (us vs : List ℤ) (u v x y : List Bool) → CodedAt dc ac a us u → CodedAt dc ac b vs v → u ++ x ≡ v ++ y → (u ≡ v) × (a ≡ b) × (us ≡ vs)

@@ -4,7 +4,7 @@ use Rattle.std.specs.List.{flat_map, AllByRecursion}
 use Rattle.std.proofs.lemmas.List.{append-nil}
 use Rattle.jr_scan.specs.declared.scan_end.ScanEnd.{ScanEnd}
 use Rattle.jr_scan.specs.declared.scan_end.ScanEnd.TheVariants.{EndOfImage, OtherMarker, OutOfStep, ExtraRestart, EndOfFile}
-use Rattle.jr_scan.specs.Cut.{Spelling, IsSpelling, spelling, byte_of, IsRaw, marker, Piece, marked, HasMarker, IsEnding, CutFrom, IsCut, IsStop}
+use Rattle.jr_scan.specs.Cut.{Spelling, IsSpelling, spelling, byte_spelled, IsRaw, marker, CodedSegment, with_markers, HasMarker, IsEnding, CutFrom, IsCut, IsStop}
 use Rattle.jr_scan.specs.Cut.Spelling.{Plain, Stuffed}
 use Rattle.jr_scan.proofs.Cuts.{run_same, run_end, stop_some}
 
@@ -41,7 +41,7 @@ same_parts (p ∷ ps) (q ∷ qs) s t hp hq hs ht e =
 same_raw : (r q a b s t : List ℕ) → IsRaw r a → IsRaw q b → IsStop s → IsStop t → r ++ s ≡ q ++ t → (a ≡ b) × (s ≡ t)
 same_raw r q a b s t hr hq hs ht e =
     let p = same_parts hr.parts hq.parts s t hr.each hq.each hs ht (ap (λ (x : List ℕ). x ++ s) (sym hr.spelled) ∙ e ∙ ap (λ (x : List ℕ). x ++ t) hq.spelled) in
-    (hr.means ∙ ap (map byte_of) p.0 ∙ sym hq.means, p.1)
+    (hr.means ∙ ap (map byte_spelled) p.0 ∙ sym hq.means, p.1)
 
 marker_stop : (tail : List ℕ) (code : ℕ) → HasMarker tail code → code ≢ 0 → code ≢ 255 → IsStop tail
 marker_stop tail code h not_0 not_255 = record { more = suc h.0; rest = code ∷ h.1; spelled = h.2 ∙ run_of h.0 code h.1; stops = inr (omega arith, code, h.1, not_0, not_255, refl) }
@@ -53,10 +53,10 @@ ending_stop n k at tail (ExtraRestart o) h = marker_stop tail (208 + h.0) h.2 (�
 ending_stop n k at tail (OutOfStep f x o) h = marker_stop tail (208 + f) h.1 (λ e. omega arith) (λ e. omega (arith, h.0))
 ending_stop n k at tail (OtherMarker c o) h = marker_stop tail c h.2 (λ e. omega (arith, h.0)) (λ e. omega (arith, h.1))
 
-marked_stop : (n j k at : ℕ) (ps : List Piece) (tail : List ℕ) (end : ScanEnd) → IsEnding n j at tail end → IsStop (marked k ps ++ tail)
-marked_stop n j k at [] tail end h = ending_stop n j at tail end h
-marked_stop n j k at (p ∷ ps) tail end h =
-    marker_stop _ (208 + k % 8) (p.more, (p.raw ++ marked (suc k) ps) ++ tail, append_assoc (marker p.more (208 + k % 8)) (p.raw ++ marked (suc k) ps) tail) (λ e. omega arith) (λ e. omega arith)
+with_markers_stop : (n j k at : ℕ) (ps : List CodedSegment) (tail : List ℕ) (end : ScanEnd) → IsEnding n j at tail end → IsStop (with_markers k ps ++ tail)
+with_markers_stop n j k at [] tail end h = ending_stop n j at tail end h
+with_markers_stop n j k at (p ∷ ps) tail end h =
+    marker_stop _ (208 + k % 8) (p.more, (p.raw ++ with_markers (suc k) ps) ++ tail, append_assoc (marker p.more (208 + k % 8)) (p.raw ++ with_markers (suc k) ps) tail) (λ e. omega arith) (λ e. omega arith)
 
 same_marker : (tail : List ℕ) (a b : ℕ) → HasMarker tail a → HasMarker tail b → a ≢ 255 → b ≢ 255 → a ≡ b
 same_marker tail a b f g ha hb = (run_same (suc f.0) (suc g.0) a b f.1 g.1 ha hb (sym (run_of f.0 a f.1) ∙ sym f.2 ∙ g.2 ∙ run_of g.0 b g.1)).1
@@ -111,11 +111,11 @@ same_ending n k at tail (OtherMarker c o) (ExtraRestart o') h g = absurd (other_
 same_ending n k at tail (OtherMarker c o) (OutOfStep f' x' o') h g = absurd (other_restart c f' h.3 g.0 (sym (same_marker tail c (208 + f') h.2 g.1 (λ e. omega (arith, h.1)) (λ e. omega (arith, g.0)))))
 same_ending n k at tail (OtherMarker c o) (OtherMarker c' o') h g = let a : c ≡ c' = same_marker tail c c' h.2 g.2 (λ e. omega (arith, h.1)) (λ e. omega (arith, g.1)) in let b : o ≡ o' = h.4 ∙ sym g.4 in cc
 
-same_pieces : (n k j i o o' total : ℕ) (raw raw' first first' tail tail' : List ℕ) (ps qs : List Piece) (a b : ScanEnd)
+same_segments : (n k j i o o' total : ℕ) (raw raw' first first' tail tail' : List ℕ) (ps qs : List CodedSegment) (a b : ScanEnd)
     → IsRaw raw first → IsRaw raw' first' → AllByRecursion (λ p. IsRaw p.raw p.bytes) ps → AllByRecursion (λ p. IsRaw p.raw p.bytes) qs
     → j ≡ k + length ps → i ≡ k + length qs → j < n → i < n → IsEnding n j o tail a → IsEnding n i o' tail' b → o + length tail ≡ total → o' + length tail' ≡ total
-    → raw ++ (marked k ps ++ tail) ≡ raw' ++ (marked k qs ++ tail') → (first ∷ map (λ p. p.bytes) ps ≡ first' ∷ map (λ p. p.bytes) qs) × (a ≡ b)
-same_pieces n k j i o o' total raw raw' first first' tail tail' [] [] a b hr hr' hp hq ej ei lj li ha hb lo lo' e =
+    → raw ++ (with_markers k ps ++ tail) ≡ raw' ++ (with_markers k qs ++ tail') → (first ∷ map (λ p. p.bytes) ps ≡ first' ∷ map (λ p. p.bytes) qs) × (a ≡ b)
+same_segments n k j i o o' total raw raw' first first' tail tail' [] [] a b hr hr' hp hq ej ei lj li ha hb lo lo' e =
     let r = same_raw raw raw' first first' tail tail' hr hr' (ending_stop n j o tail a ha) (ending_stop n i o' tail' b hb) e in
     let tails : tail ≡ tail' = r.1 in
     let eo : o' ≡ o = omega (arith, lo, lo', ap length tails) in
@@ -124,34 +124,34 @@ same_pieces n k j i o o' total raw raw' first first' tail tail' [] [] a b hr hr'
     let b2 = subst (λ (q : ℕ). IsEnding n j q tail' b) eo b1 in
     let b3 = subst (λ (t : List ℕ). IsEnding n j o t b) (sym tails) b2 in
     (ap (λ (x : List ℕ). x ∷ []) r.0, same_ending n j o tail a b ha b3)
-same_pieces n k j i o o' total raw raw' first first' tail tail' [] (q ∷ qs) a b hr hr' hp hq ej ei lj li ha hb lo lo' e =
-    let r = same_raw raw raw' first first' tail _ hr hr' (ending_stop n j o tail a ha) (marked_stop n i k o' (q ∷ qs) tail' b hb) e in
+same_segments n k j i o o' total raw raw' first first' tail tail' [] (q ∷ qs) a b hr hr' hp hq ej ei lj li ha hb lo lo' e =
+    let r = same_raw raw raw' first first' tail _ hr hr' (ending_stop n j o tail a ha) (with_markers_stop n i k o' (q ∷ qs) tail' b hb) e in
     let jk : j ≡ k = omega arith in
     let h = subst (λ (x : ℕ). IsEnding n x o tail a) jk ha in
-    absurd (ending_not_next n k o tail a h (q.more, (q.raw ++ marked (suc k) qs) ++ tail', r.1 ∙ append_assoc (marker q.more (208 + k % 8)) (q.raw ++ marked (suc k) qs) tail') (omega arith))
-same_pieces n k j i o o' total raw raw' first first' tail tail' (p ∷ ps) [] a b hr hr' hp hq ej ei lj li ha hb lo lo' e =
-    let r = same_raw raw raw' first first' _ tail' hr hr' (marked_stop n j k o (p ∷ ps) tail a ha) (ending_stop n i o' tail' b hb) e in
+    absurd (ending_not_next n k o tail a h (q.more, (q.raw ++ with_markers (suc k) qs) ++ tail', r.1 ∙ append_assoc (marker q.more (208 + k % 8)) (q.raw ++ with_markers (suc k) qs) tail') (omega arith))
+same_segments n k j i o o' total raw raw' first first' tail tail' (p ∷ ps) [] a b hr hr' hp hq ej ei lj li ha hb lo lo' e =
+    let r = same_raw raw raw' first first' _ tail' hr hr' (with_markers_stop n j k o (p ∷ ps) tail a ha) (ending_stop n i o' tail' b hb) e in
     let ik : i ≡ k = omega arith in
     let h = subst (λ (x : ℕ). IsEnding n x o' tail' b) ik hb in
-    absurd (ending_not_next n k o' tail' b h (p.more, (p.raw ++ marked (suc k) ps) ++ tail, sym r.1 ∙ append_assoc (marker p.more (208 + k % 8)) (p.raw ++ marked (suc k) ps) tail) (omega arith))
-same_pieces n k j i o o' total raw raw' first first' tail tail' (p ∷ ps) (q ∷ qs) a b hr hr' hp hq ej ei lj li ha hb lo lo' e =
-    let r = same_raw raw raw' first first' _ _ hr hr' (marked_stop n j k o (p ∷ ps) tail a ha) (marked_stop n i k o' (q ∷ qs) tail' b hb) e in
+    absurd (ending_not_next n k o' tail' b h (p.more, (p.raw ++ with_markers (suc k) ps) ++ tail, sym r.1 ∙ append_assoc (marker p.more (208 + k % 8)) (p.raw ++ with_markers (suc k) ps) tail) (omega arith))
+same_segments n k j i o o' total raw raw' first first' tail tail' (p ∷ ps) (q ∷ qs) a b hr hr' hp hq ej ei lj li ha hb lo lo' e =
+    let r = same_raw raw raw' first first' _ _ hr hr' (with_markers_stop n j k o (p ∷ ps) tail a ha) (with_markers_stop n i k o' (q ∷ qs) tail' b hb) e in
     let c = 208 + k % 8 in
     let not_ff : c ≢ 255 = λ z. omega arith in
-    let left : replicate (suc p.more) 255 ++ (c ∷ ((p.raw ++ marked (suc k) ps) ++ tail)) ≡ replicate (suc q.more) 255 ++ (c ∷ ((q.raw ++ marked (suc k) qs) ++ tail'))
-    = sym (run_of p.more c ((p.raw ++ marked (suc k) ps) ++ tail)) ∙ sym (append_assoc (marker p.more c) (p.raw ++ marked (suc k) ps) tail) ∙ r.1 ∙ append_assoc (marker q.more c) (q.raw ++ marked (suc k) qs) tail' ∙ run_of q.more c ((q.raw ++ marked (suc k) qs) ++ tail') in
+    let left : replicate (suc p.more) 255 ++ (c ∷ ((p.raw ++ with_markers (suc k) ps) ++ tail)) ≡ replicate (suc q.more) 255 ++ (c ∷ ((q.raw ++ with_markers (suc k) qs) ++ tail'))
+    = sym (run_of p.more c ((p.raw ++ with_markers (suc k) ps) ++ tail)) ∙ sym (append_assoc (marker p.more c) (p.raw ++ with_markers (suc k) ps) tail) ∙ r.1 ∙ append_assoc (marker q.more c) (q.raw ++ with_markers (suc k) qs) tail' ∙ run_of q.more c ((q.raw ++ with_markers (suc k) qs) ++ tail') in
     let m = run_same (suc p.more) (suc q.more) c c _ _ not_ff not_ff left in
-    let whole : p.raw ++ (marked (suc k) ps ++ tail) ≡ q.raw ++ (marked (suc k) qs ++ tail') = sym (append_assoc p.raw (marked (suc k) ps) tail) ∙ m.2 ∙ append_assoc q.raw (marked (suc k) qs) tail' in
-    let others = same_pieces n (suc k) j i o o' total p.raw q.raw p.bytes q.bytes tail tail' ps qs a b hp.0 hq.0 hp.1 hq.1 (omega arith) (omega arith) lj li ha hb lo lo' whole in
+    let whole : p.raw ++ (with_markers (suc k) ps ++ tail) ≡ q.raw ++ (with_markers (suc k) qs ++ tail') = sym (append_assoc p.raw (with_markers (suc k) ps) tail) ∙ m.2 ∙ append_assoc q.raw (with_markers (suc k) qs) tail' in
+    let others = same_segments n (suc k) j i o o' total p.raw q.raw p.bytes q.bytes tail tail' ps qs a b hp.0 hq.0 hp.1 hq.1 (omega arith) (omega arith) lj li ha hb lo lo' whole in
     let x : first ≡ first' = r.0 in
     let y = others.0 in
-    (ap (λ (z : List ℕ). z ∷ p.bytes ∷ map (λ (w : Piece). w.bytes) ps) x ∙ ap (λ (zs : List (List ℕ)). first' ∷ zs) y, others.1)
+    (ap (λ (z : List ℕ). z ∷ p.bytes ∷ map (λ (w : CodedSegment). w.bytes) ps) x ∙ ap (λ (zs : List (List ℕ)). first' ∷ zs) y, others.1)
 
 -- the offset of the tail and its length are those of all the bytes
-total_of : (n k at : ℕ) (bytes : List ℕ) (datas : List (List ℕ)) (end : ScanEnd) (c : CutFrom n k at bytes datas end) → at + length (c.raw ++ marked k c.pieces) + length c.tail ≡ at + length bytes
-total_of n k at bytes datas end c = omega (arith, ap length c.spelled, length-append c.raw (marked k c.pieces), length-append c.raw (marked k c.pieces ++ c.tail), length-append (marked k c.pieces) c.tail)
+total_of : (n k at : ℕ) (bytes : List ℕ) (datas : List (List ℕ)) (end : ScanEnd) (c : CutFrom n k at bytes datas end) → at + length (c.raw ++ with_markers k c.segments) + length c.tail ≡ at + length bytes
+total_of n k at bytes datas end c = omega (arith, ap length c.spelled, length-append c.raw (with_markers k c.segments), length-append c.raw (with_markers k c.segments ++ c.tail), length-append (with_markers k c.segments) c.tail)
 
 pub one_cut : (n at : ℕ) (bytes : List ℕ) (xs ys : List (List ℕ)) (a b : ScanEnd) → IsCut n at bytes xs a → IsCut n at bytes ys b → (xs ≡ ys) × (a ≡ b)
 one_cut n at bytes xs ys a b c d =
-    let s = same_pieces n 0 (0 + length c.pieces) (0 + length d.pieces) _ _ (at + length bytes) c.raw d.raw c.first d.first c.tail d.tail c.pieces d.pieces a b c.is_raw d.is_raw c.each d.each refl refl c.few d.few c.ends d.ends (total_of n 0 at bytes xs a c) (total_of n 0 at bytes ys b d) (sym c.spelled ∙ d.spelled) in
+    let s = same_segments n 0 (0 + length c.segments) (0 + length d.segments) _ _ (at + length bytes) c.raw d.raw c.first d.first c.tail d.tail c.segments d.segments a b c.is_raw d.is_raw c.each d.each refl refl c.few d.few c.ends d.ends (total_of n 0 at bytes xs a c) (total_of n 0 at bytes ys b d) (sym c.spelled ∙ d.spelled) in
     (c.means ∙ s.0 ∙ sym d.means, s.1)

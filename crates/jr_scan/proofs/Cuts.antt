@@ -1,4 +1,4 @@
--- Pieces: how they are read, and that there is one way.
+-- CodedSegments: how they are read, and that there is one way.
 use Rattle.std.proofs.Common.{◌≡◌, ◌≢◌, ℕ, zero, suc, ◌+◌, ◌-◌, ◌⊎◌, ◌%◌, ◌<◌, ◌≤◌, List, [], ◌∷◌, ◌++◌, length, replicate, take, drop, get_or, refl, sym, ap, subst, ◌∙◌, inl, inr, append_assoc, length-append, length-drop, add-one, arith}
 use Rattle.std.specs.List.{flat_map, AllByRecursion}
 use Rattle.std.proofs.Math.Seq.{drop-cons, take-add}
@@ -7,7 +7,7 @@ use Rattle.std.proofs.Math.ListN.{length-replicate}
 use Rattle.std.proofs.lemmas.Bool.{cases_eq}
 use Rattle.std.proofs.lemmas.List.Concat.{flat_map-append}
 use Rattle.jr_scan.specs.declared.scan_end.ScanEnd.{ScanEnd}
-use Rattle.jr_scan.specs.Cut.{Spelling, IsSpelling, spelling, byte_of, IsRaw, marker, Piece, marked, HasMarker, IsEnding, CutFrom, IsCut, IsStop}
+use Rattle.jr_scan.specs.Cut.{Spelling, IsSpelling, spelling, byte_spelled, IsRaw, marker, CodedSegment, with_markers, HasMarker, IsEnding, CutFrom, IsCut, IsStop}
 use Rattle.jr_scan.specs.Cut.Spelling.{Plain, Stuffed}
 
 all_push : (parts : List Spelling) (p : Spelling) → AllByRecursion IsSpelling parts → IsSpelling p → AllByRecursion IsSpelling (parts ++ p ∷ [])
@@ -18,15 +18,15 @@ pub raw_none : IsRaw [] []
 raw_none = record { parts = []; each = tt; spelled = refl; means = refl }
 
 -- one more spelling
-pub raw_more : (raw bytes : List ℕ) (p : Spelling) → IsRaw raw bytes → IsSpelling p → IsRaw (raw ++ spelling p) (bytes ++ byte_of p ∷ [])
+pub raw_more : (raw bytes : List ℕ) (p : Spelling) → IsRaw raw bytes → IsSpelling p → IsRaw (raw ++ spelling p) (bytes ++ byte_spelled p ∷ [])
 raw_more raw bytes p r is = record {
   parts = r.parts ++ p ∷ [];
   each = all_push r.parts p r.each is;
   spelled = ap (λ (x : List ℕ). x ++ spelling p) r.spelled ∙ ap (λ (x : List ℕ). flat_map spelling r.parts ++ x) (sym (append-nil (spelling p))) ∙ sym (flat_map-append spelling r.parts (p ∷ []));
-  means = ap (λ (x : List ℕ). x ++ byte_of p ∷ []) r.means ∙ sym (map_push byte_of r.parts p);
+  means = ap (λ (x : List ℕ). x ++ byte_spelled p ∷ []) r.means ∙ sym (map_push byte_spelled r.parts p);
 }
 
--- the last piece
+-- the last segment
 pub cut_last : (n k at : ℕ) (bytes raw found tail : List ℕ) (end : ScanEnd) → k < n → IsRaw raw found → bytes ≡ raw ++ tail → IsEnding n k (at + length raw) tail end → CutFrom n k at bytes (found ∷ []) end
 cut_last n k at bytes raw found tail end few is e ends =
     let a : k ≡ k + 0 = omega arith in
@@ -34,7 +34,7 @@ cut_last n k at bytes raw found tail end few is e ends =
     record {
       raw = raw;
       first = found;
-      pieces = [];
+      segments = [];
       tail = tail;
       is_raw = is;
       each = tt;
@@ -44,33 +44,33 @@ cut_last n k at bytes raw found tail end few is e ends =
       ends = subst (λ (j : ℕ). IsEnding n j (at + length (raw ++ [])) tail end) a (subst (λ (j : ℕ). IsEnding n k j tail end) b ends);
     }
 
--- a piece and its marker before others
+-- a segment and its marker before others
 pub cut_next : (n k at at' more : ℕ) (bytes raw found rest : List ℕ) (datas : List (List ℕ)) (end : ScanEnd) → IsRaw raw found → bytes ≡ raw ++ (marker more (208 + k % 8) ++ rest) → at' ≡ at + length raw + more + 2
     → CutFrom n (suc k) at' rest datas end → CutFrom n k at bytes (found ∷ datas) end
 cut_next n k at at' more bytes raw found rest datas end is e next c =
-    let p : Piece = record { more = more; raw = c.raw; bytes = c.first } in
+    let p : CodedSegment = record { more = more; raw = c.raw; bytes = c.first } in
     let m = marker more (208 + k % 8) in
-    let tail_at : at' + length (c.raw ++ marked (suc k) c.pieces) ≡ at + length (raw ++ (m ++ (c.raw ++ marked (suc k) c.pieces)))
-    = omega (arith, next, length-append raw (m ++ (c.raw ++ marked (suc k) c.pieces)), length-append m (c.raw ++ marked (suc k) c.pieces), length-append (replicate more 255) ((208 + k % 8) ∷ []), length-replicate {A = ℕ} more 255) in
-    let number : suc k + length c.pieces ≡ k + suc (length c.pieces) = omega arith in
+    let tail_at : at' + length (c.raw ++ with_markers (suc k) c.segments) ≡ at + length (raw ++ (m ++ (c.raw ++ with_markers (suc k) c.segments)))
+    = omega (arith, next, length-append raw (m ++ (c.raw ++ with_markers (suc k) c.segments)), length-append m (c.raw ++ with_markers (suc k) c.segments), length-append (replicate more 255) ((208 + k % 8) ∷ []), length-replicate {A = ℕ} more 255) in
+    let number : suc k + length c.segments ≡ k + suc (length c.segments) = omega arith in
     record {
       raw = raw;
       first = found;
-      pieces = p ∷ c.pieces;
+      segments = p ∷ c.segments;
       tail = c.tail;
       is_raw = is;
       each = (c.is_raw, c.each);
       few = omega (arith, c.few);
-      spelled = e ∙ ap (λ (x : List ℕ). raw ++ (m ++ x)) (c.spelled ∙ sym (append_assoc c.raw (marked (suc k) c.pieces) c.tail)) ∙ ap (λ (x : List ℕ). raw ++ x) (sym (append_assoc m (c.raw ++ marked (suc k) c.pieces) c.tail));
+      spelled = e ∙ ap (λ (x : List ℕ). raw ++ (m ++ x)) (c.spelled ∙ sym (append_assoc c.raw (with_markers (suc k) c.segments) c.tail)) ∙ ap (λ (x : List ℕ). raw ++ x) (sym (append_assoc m (c.raw ++ with_markers (suc k) c.segments) c.tail));
       means = ap (λ (x : List (List ℕ)). found ∷ x) c.means;
-      ends = subst (λ (j : ℕ). IsEnding n j (at + length (raw ++ (m ++ (c.raw ++ marked (suc k) c.pieces)))) c.tail end) number (subst (λ (j : ℕ). IsEnding n (suc k + length c.pieces) j c.tail end) tail_at c.ends);
+      ends = subst (λ (j : ℕ). IsEnding n j (at + length (raw ++ (m ++ (c.raw ++ with_markers (suc k) c.segments)))) c.tail end) number (subst (λ (j : ℕ). IsEnding n (suc k + length c.segments) j c.tail end) tail_at c.ends);
     }
 
--- how far the cutter has come: it stands at piece k
-pub record CutSoFar (n start : ℕ) (bytes : List ℕ) (pieces : List (List ℕ)) (at k : ℕ) : Type 0 where
+-- how far the cutter has come: it stands at segment k
+pub record CutSoFar (n start : ℕ) (bytes : List ℕ) (segments : List (List ℕ)) (at k : ℕ) : Type 0 where
   pub few : k < n
   pub within : at ≤ length bytes
-  pub on : (datas : List (List ℕ)) (end : ScanEnd) → CutFrom n k (start + at) (drop at bytes) datas end → CutFrom n 0 start bytes (pieces ++ datas) end
+  pub on : (datas : List (List ℕ)) (end : ScanEnd) → CutFrom n k (start + at) (drop at bytes) datas end → CutFrom n 0 start bytes (segments ++ datas) end
 
 pub so_far_first : (n start : ℕ) (bytes : List ℕ) → 0 < n → CutSoFar n start bytes [] 0 0
 so_far_first n start bytes some = record {
@@ -86,7 +86,7 @@ fill_split xs n e = sym (take-append-drop n xs) ∙ ap (λ (x : List ℕ). x ++ 
 pub rest_is : (xs : List ℕ) (n : ℕ) → take (length xs - n) (drop n xs) ≡ drop n xs
 rest_is xs n = take_all (length xs - n) (drop n xs) (omega (arith, length-drop n xs))
 
--- the bytes that a piece stops at, where the front has n FF bytes
+-- the bytes that a segment stops at, where the front has n FF bytes
 pub stop_end : (bytes : List ℕ) (at n : ℕ) → at ≤ length bytes → take n (drop at bytes) ≡ replicate n 255 → length bytes ≤ at + n → IsStop (drop at bytes)
 stop_end bytes at n h full past =
     let none : drop n (drop at bytes) ≡ [] = drop_all n (drop at bytes) (omega (arith, length-drop at bytes)) in
@@ -149,15 +149,15 @@ stop_some tail n code after s e not_ff = go s.stops
         let r = run_same n s.more code c after aft not_ff not_255 (sym e ∙ s.spelled ∙ ap (λ (x : List ℕ). replicate s.more 255 ++ x) is) in
         (omega (arith, r.0, some), λ z. not_0 (sym r.1 ∙ z))
 
--- a piece that was read at `at`, of len bytes
-pub record PieceRead (bytes found : List ℕ) (at len : ℕ) : Type 0 where
+-- a segment that was read at `at`, of len bytes
+pub record SegmentRead (bytes found : List ℕ) (at len : ℕ) : Type 0 where
   pub within : at + len ≤ length bytes
   pub raw : IsRaw (take len (drop at bytes)) found
   pub stop : IsStop (drop (at + len) bytes)
 
-pub piece_read : (bytes found : List ℕ) (at len : ℕ) → at ≤ length bytes → len ≤ length (take (length bytes - at) (drop at bytes)) → IsRaw (take len (take (length bytes - at) (drop at bytes))) found → IsStop (drop len (take (length bytes - at) (drop at bytes)))
-    → PieceRead bytes found at len
-piece_read bytes found at len h within raw stop =
+pub segment_read : (bytes found : List ℕ) (at len : ℕ) → at ≤ length bytes → len ≤ length (take (length bytes - at) (drop at bytes)) → IsRaw (take len (take (length bytes - at) (drop at bytes))) found → IsStop (drop len (take (length bytes - at) (drop at bytes)))
+    → SegmentRead bytes found at len
+segment_read bytes found at len h within raw stop =
     let w = subst (λ (x : List ℕ). len ≤ length x) (rest_is bytes at) within in
     record {
       within = omega (arith, w, length-drop at bytes);
@@ -165,7 +165,7 @@ piece_read bytes found at len h within raw stop =
       stop = subst IsStop (ap (drop len) (rest_is bytes at) ∙ drop-drop len at bytes) stop;
     }
 
--- FF bytes and a code where a piece stops
+-- FF bytes and a code where a segment stops
 pub record MarkerRead (bytes : List ℕ) (at n : ℕ) : Type 0 where
   pub more : ℕ
   pub count : n ≡ suc more
@@ -185,18 +185,18 @@ marker_read bytes at n stop full h not_ff =
 pub has_marker : (bytes : List ℕ) (at n code : ℕ) → MarkerRead bytes at n → get_or bytes (at + n) 0 ≡ code → HasMarker (drop at bytes) code
 has_marker bytes at n code m e = (m.more, drop (at + n + 1) bytes, m.spelled ∙ ap (λ (c : ℕ). marker m.more c ++ drop (at + n + 1) bytes) e)
 
-pub cut_returns : (n start : ℕ) (bytes found : List ℕ) (pieces new : List (List ℕ)) (at k len : ℕ) (end : ScanEnd) → CutSoFar n start bytes pieces at k → PieceRead bytes found at len → new ≡ pieces ++ found ∷ []
+pub cut_returns : (n start : ℕ) (bytes found : List ℕ) (segments new : List (List ℕ)) (at k len : ℕ) (end : ScanEnd) → CutSoFar n start bytes segments at k → SegmentRead bytes found at len → new ≡ segments ++ found ∷ []
     → IsEnding n k (start + (at + len)) (drop (at + len) bytes) end → IsCut n start bytes new end
-cut_returns n start bytes found pieces new at k len end s p e ends =
+cut_returns n start bytes found segments new at k len end s p e ends =
     let count : length (take len (drop at bytes)) ≡ len = length-take-le len (drop at bytes) (omega (arith, p.within, length-drop at bytes)) in
     let place : start + (at + len) ≡ start + at + length (take len (drop at bytes)) = omega (arith, count) in
     let split : drop at bytes ≡ take len (drop at bytes) ++ drop (at + len) bytes = sym (take-append-drop len (drop at bytes)) ∙ ap (λ (x : List ℕ). take len (drop at bytes) ++ x) (drop-drop len at bytes) in
     subst (λ (x : List (List ℕ)). IsCut n start bytes x end) (sym e)
     (s.on (found ∷ []) end (cut_last n k (start + at) (drop at bytes) (take len (drop at bytes)) found (drop (at + len) bytes) end s.few p.raw split (subst (λ (j : ℕ). IsEnding n k j (drop (at + len) bytes) end) place ends)))
 
-pub cut_more : (n start : ℕ) (bytes found : List ℕ) (pieces new : List (List ℕ)) (at k len fill at' k' : ℕ) → CutSoFar n start bytes pieces at k → PieceRead bytes found at len → new ≡ pieces ++ found ∷ []
+pub cut_more : (n start : ℕ) (bytes found : List ℕ) (segments new : List (List ℕ)) (at k len fill at' k' : ℕ) → CutSoFar n start bytes segments at k → SegmentRead bytes found at len → new ≡ segments ++ found ∷ []
     → MarkerRead bytes (at + len) fill → get_or bytes (at + len + fill) 0 ≡ 208 + k % 8 → at' ≡ at + len + fill + 1 → k' ≡ k + 1 → k' < n → at' ≤ length bytes → CutSoFar n start bytes new at' k'
-cut_more n start bytes found pieces new at k len fill at' k' s p e m code next number few within =
+cut_more n start bytes found segments new at k len fill at' k' s p e m code next number few within =
     let count : length (take len (drop at bytes)) ≡ len = length-take-le len (drop at bytes) (omega (arith, p.within, length-drop at bytes)) in
     let split : drop at bytes ≡ take len (drop at bytes) ++ (marker m.more (208 + k % 8) ++ drop at' bytes)
     = sym (take-append-drop len (drop at bytes)) ∙ ap (λ (x : List ℕ). take len (drop at bytes) ++ x) (drop-drop len at bytes ∙ m.spelled ∙ ap (λ (c : ℕ). marker m.more c ++ drop (at + len + fill + 1) bytes) code ∙ ap (λ (j : ℕ). marker m.more (208 + k % 8) ++ drop j bytes) (sym next)) in
@@ -205,7 +205,7 @@ cut_more n start bytes found pieces new at k len fill at' k' s p e m code next n
     record {
       few = few;
       within = within;
-      on = λ datas end c. subst (λ (x : List (List ℕ)). IsCut n start bytes x end) (ap (λ (x : List (List ℕ)). x ++ datas) (sym e)) (subst (λ (x : List (List ℕ)). IsCut n start bytes x end) (sym (append_assoc pieces (found ∷ []) datas))
+      on = λ datas end c. subst (λ (x : List (List ℕ)). IsCut n start bytes x end) (ap (λ (x : List (List ℕ)). x ++ datas) (sym e)) (subst (λ (x : List (List ℕ)). IsCut n start bytes x end) (sym (append_assoc segments (found ∷ []) datas))
           (s.on (found ∷ datas) end (cut_next n k (start + at) (start + at') m.more (drop at bytes) (take len (drop at bytes)) found (drop at' bytes) datas end p.raw split place (subst (λ (j : ℕ). CutFrom n j (start + at') (drop at' bytes) datas end) one c))));
     }
 

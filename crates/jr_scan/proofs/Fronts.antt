@@ -4,10 +4,10 @@ use Rattle.std.specs.Prelude.{ℤ}
 use Rattle.jr_head.specs.Geometry.{order_of}
 use Rattle.jr_scan.specs.IntervalValue.{IntervalValue}
 use Rattle.jr_scan.specs.FrontValue.{FrontValue}
-use Rattle.jr_scan.specs.Units.{Decodes, LongestFront}
+use Rattle.jr_scan.specs.Mcus.{Decodes, LongestFront}
 use Rattle.jr_scan.specs.Reader.{RunOf, ReaderValue, whole_run, per_mcu, HasRead, HasEnded}
 use Rattle.jr_scan.proofs.Words.{OneWord}
-use Rattle.jr_scan.proofs.UnitsLaws.{one_decoding, decoded_front}
+use Rattle.jr_scan.proofs.McuLaws.{one_decoding, decoded_front}
 
 pub record FrontMade (i : IntervalValue) (r : ReaderValue) (zs : List (List ℤ)) (f : FrontValue) : Type 0 where
   pub read : HasRead r zs

@@ -5,14 +5,14 @@ use Rattle.std.proofs.lemmas.List.Elements.{All-from_get_or}
 use Rattle.jr_head.specs.HeadValue.{HeadValue}
 use Rattle.jr_scan.specs.Block.{IsInRange}
 use Rattle.jr_scan.specs.IntervalValue.{IntervalValue}
-use Rattle.jr_scan.specs.Units.{Blocks, Decodes, LongestFront}
+use Rattle.jr_scan.specs.Mcus.{Blocks, Decodes, LongestFront}
 use Rattle.jr_scan.proofs.Ranges.{block_in_range}
 
 blocks_in_range : (h : HeadValue) (start : List ℤ) (zs : List (List ℤ)) (all : List Bool) → Blocks h start zs all → All IsInRange zs
 blocks_in_range h start zs all b = All-from_get_or IsInRange zs [] (λ n lt. block_in_range _ _ _ _ _ (b.each n lt))
 
 pub decoding_in_range : (i : IntervalValue) (zs : List (List ℤ)) → Decodes i zs → All IsInRange zs
-decoding_in_range i zs d = blocks_in_range _ _ _ _ d.units.1
+decoding_in_range i zs d = blocks_in_range _ _ _ _ d.mcus.1
 
 pub front_in_range : (i : IntervalValue) (k : ℕ) (zs : List (List ℤ)) → LongestFront i k zs → All IsInRange zs
-front_in_range i k zs l = blocks_in_range _ _ _ _ l.front.units.1
+front_in_range i k zs l = blocks_in_range _ _ _ _ l.front.mcus.1

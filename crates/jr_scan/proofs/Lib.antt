@@ -1,11 +1,11 @@
 pub mod Words
-pub mod Items
+pub mod AcCodes
 pub mod Rest
 pub mod Steps
 pub mod Coded
 pub mod Values
 pub mod Options
-pub mod UnitsLaws
+pub mod McuLaws
 pub mod Predicted
 pub mod Ranges
 pub mod InRange

@@ -9,8 +9,8 @@ use Rattle.std.proofs.lemmas.Bool.{cases_lt}
 use Rattle.jr_code.specs.Bits.{number, extended, value}
 use Rattle.jr_code.specs.Code.{Table}
 use Rattle.jr_code.proofs.BitLemmas.{number_below}
-use Rattle.jr_scan.specs.Block.{Item, IsItem, entries, DifferenceAt, OthersAt, CodedAt, BlockAt, IsInRange}
-use Rattle.jr_scan.specs.Block.Item.{Sixteen, Coef}
+use Rattle.jr_scan.specs.Block.{AcCode, IsAcCode, entries, DifferenceAt, OthersAt, CodedAt, BlockAt, IsInRange}
+use Rattle.jr_scan.specs.Block.AcCode.{ZeroRun, RunAndSize}
 use Rattle.jr_scan.specs.Step.{TakesCoded}
 use Rattle.jr_scan.proofs.Values.{extended_high, extended_low}
 use Rattle.jr_scan.proofs.Rest.{end_within}
@@ -56,11 +56,11 @@ within_one : (m : ℕ) (x : ℤ) → Within m x → (k : ℕ) → Within m (get_
 within_one m x h zero = h
 within_one m x h (suc k) = within_zero m
 
-entries_within : (ac : Table) (i : Item) → IsItem ac i → (k : ℕ) → Within 1023 (get_or (entries i) k (pos 0))
-entries_within ac (Sixteen w) h = within_replicate 1023 16
-entries_within ac (Coef r s w x) h = within_append 1023 (replicate r (pos 0)) (value x ∷ []) (within_replicate 1023 r) (within_one 1023 (value x) (value_within x 10 1023 (omega (arith, h.4, h.2)) (omega arith)))
+entries_within : (ac : Table) (i : AcCode) → IsAcCode ac i → (k : ℕ) → Within 1023 (get_or (entries i) k (pos 0))
+entries_within ac (ZeroRun w) h = within_replicate 1023 16
+entries_within ac (RunAndSize r s w x) h = within_append 1023 (replicate r (pos 0)) (value x ∷ []) (within_replicate 1023 r) (within_one 1023 (value x) (value_within x 10 1023 (omega (arith, h.4, h.2)) (omega arith)))
 
-all_within : (ac : Table) (items : List Item) → AllByRecursion (IsItem ac) items → (k : ℕ) → Within 1023 (get_or (flat_map entries items) k (pos 0))
+all_within : (ac : Table) (items : List AcCode) → AllByRecursion (IsAcCode ac) items → (k : ℕ) → Within 1023 (get_or (flat_map entries items) k (pos 0))
 all_within ac [] each k = within_zero 1023
 all_within ac (i ∷ is) each k = within_append 1023 (entries i) (flat_map entries is) (entries_within ac i each.0) (all_within ac is each.1) k
 

@@ -14,10 +14,10 @@ use Rattle.jr_head.specs.declared.mark.Kind.{Kind}
 use Rattle.jr_head.specs.declared.mark.Kind.TheVariants.{Grey, Rgb, Ycc}
 use Rattle.jr_scan.specs.IntervalValue.{IntervalValue}
 use Rattle.jr_scan.specs.Step.{TakesBlock, HasNoBlock}
-use Rattle.jr_scan.specs.Units.{component, block_of, prediction, no_predictions, Decodes, Front, LongestFront}
+use Rattle.jr_scan.specs.Mcus.{component, block_of, prediction, no_predictions, Decodes, Front, LongestFront}
 use Rattle.jr_scan.specs.Reader.{RunOf, ReaderValue, whole_run, per_mcu, HasEnded, Reads, HasNoNext, HasRead, IsKept}
 use Rattle.jr_scan.proofs.Words.{OneWord}
-use Rattle.jr_scan.proofs.UnitsLaws.{prediction_same, reads_none, reads_more, reads_stuck, reads_all, blocks_front}
+use Rattle.jr_scan.proofs.McuLaws.{prediction_same, reads_none, reads_more, reads_stuck, reads_all, blocks_front}
 
 -- the component of the next block, by its place in the MCU
 pub component_at : (h : HeadValue) (mcu place : ℕ) → place < length (order_of h) → component h (mcu * length (order_of h) + place) ≡ get_or (order_of h) place 0
@@ -150,7 +150,7 @@ sound i r zs e kept all short s =
     record {
       taken = reads.taken;
       padding = s.left;
-      units = (all_count i r zs e kept all s, reads.blocks);
+      mcus = (all_count i r zs e kept all s, reads.blocks);
       short = omega (arith, ap length (s.going (not_stuck r kept all)));
       spelled = reads.split;
     }
@@ -163,10 +163,10 @@ damaged one i r zs ys e kept far s (inl stuck) d =
     let more = whole_below r.mcu run.mcus (per_mcu r) r.place kept.within (kept.missing stuck) in
     let total : run.mcus * per_mcu r ≡ i.mcus * length (order_of i.head) = ap (λ (k : ℕ). k * per_mcu r) m ∙ ap (λ (k : ℕ). i.mcus * k) head in
     let none = subst (λ (run : RunOf). HasNoNext run.interval.head run.from.predictions zs s.left) e (s.stuck stuck) in
-    reads_stuck i.head no_predictions (bits i.bytes) s.left zs one (whole_reads i r zs e s) none ys d.taken d.padding d.units.1 d.spelled (omega (arith, s.count, more, total, d.units.0))
+    reads_stuck i.head no_predictions (bits i.bytes) s.left zs one (whole_reads i r zs e s) none ys d.taken d.padding d.mcus.1 d.spelled (omega (arith, s.count, more, total, d.mcus.0))
 damaged one i r zs ys e kept far s (inr all) d =
-    let l : length zs ≡ length ys = all_count i r zs e kept all s ∙ sym d.units.0 in
-    let same = reads_all i.head no_predictions (bits i.bytes) s.left zs one (whole_reads i r zs e s) ys d.taken d.padding d.units.1 d.spelled l in
+    let l : length zs ≡ length ys = all_count i r zs e kept all s ∙ sym d.mcus.0 in
+    let same = reads_all i.head no_predictions (bits i.bytes) s.left zs one (whole_reads i r zs e s) ys d.taken d.padding d.mcus.1 d.spelled l in
     far all (omega (arith, ap length (sym (s.going (not_stuck r kept all)) ∙ same.1), d.short))
 
 pub longest : OneWord → (i : IntervalValue) (r : ReaderValue) (zs : List (List ℤ)) → r.run ≡ whole_run i → IsKept r → HasRead r zs → HasEnded r → LongestFront i r.mcu (take (r.mcu * per_mcu r) zs)
@@ -181,7 +181,7 @@ longest one i r zs e kept s ended =
         at_most = omega (arith, below_whole r.mcu r.run.mcus (per_mcu r) r.place kept.within kept.few, m);
         taken = b.0;
         rest = b.1;
-        units = (length-take-le (r.mcu * per_mcu r) zs room ∙ ap (λ (k : ℕ). r.mcu * k) head, b.2);
+        mcus = (length-take-le (r.mcu * per_mcu r) zs room ∙ ap (λ (k : ℕ). r.mcu * k) head, b.2);
         spelled = b.3;
       };
       longest = λ j ys f. most j ys f ended;
@@ -195,7 +195,7 @@ longest one i r zs e kept s ended =
           let more = whole_below r.mcu j (per_mcu r) r.place kept.within l in
           let total : j * per_mcu r ≡ j * length (order_of i.head) = ap (λ (k : ℕ). j * k) head in
           let none = subst (λ (run : RunOf). HasNoNext run.interval.head run.from.predictions zs s.left) e (s.stuck stuck) in
-          absurd (reads_stuck i.head no_predictions (bits i.bytes) s.left zs one (whole_reads i r zs e s) none ys f.taken f.rest f.units.1 f.spelled (omega (arith, s.count, more, total, f.units.0)))
+          absurd (reads_stuck i.head no_predictions (bits i.bytes) s.left zs one (whole_reads i r zs e s) none ys f.taken f.rest f.mcus.1 f.spelled (omega (arith, s.count, more, total, f.mcus.0)))
       | inr g ↦ g
     ]
 

@@ -6,26 +6,26 @@ use Rattle.std.proofs.lemmas.List.{append-nil}
 use Rattle.std.proofs.Math.ListN.{length-replicate, replicate-append-replicate}
 use Rattle.jr_scan.proofs.Words.{IsPrefixFree}
 use Rattle.jr_code.specs.Code.{Table}
-use Rattle.jr_scan.specs.Block.{Item, IsItem, item_bits, entries, IsEnd, OthersAt}
+use Rattle.jr_scan.specs.Block.{AcCode, IsAcCode, code_bits, entries, IsEnd, OthersAt}
 use Rattle.jr_code.specs.Bits.{value}
-use Rattle.jr_scan.specs.Block.Item.{Sixteen, Coef}
-use Rattle.jr_scan.specs.Step.{TakesItem, TakesEnd, HasNoStep, TakesOthers, HasNoOthers}
-use Rattle.jr_scan.proofs.Items.{same_item, not_end}
+use Rattle.jr_scan.specs.Block.AcCode.{ZeroRun, RunAndSize}
+use Rattle.jr_scan.specs.Step.{TakesAcCode, TakesEnd, HasNoStep, TakesOthers, HasNoOthers}
+use Rattle.jr_scan.proofs.AcCodes.{same_code, not_end}
 
 -- bits begin with what is left of a block of whose other coefficients `done` are there; rest follows it
 pub record Goes (ac : Table) (done others : List ℤ) (bits rest : List Bool) : Type 0 where
-  pub items : List Item
+  pub items : List AcCode
   pub tail : List Bool
-  pub each : AllByRecursion (IsItem ac) items
+  pub each : AllByRecursion (IsAcCode ac) items
   pub end : IsEnd ac (length done + length (flat_map entries items)) tail
-  pub spelled : bits ≡ flat_map item_bits items ++ (tail ++ rest)
+  pub spelled : bits ≡ flat_map code_bits items ++ (tail ++ rest)
   pub values : others ≡ done ++ (flat_map entries items ++ replicate (63 - (length done + length (flat_map entries items))) (pos 0))
 
-pub entries_some : (ac : Table) (i : Item) → IsItem ac i → 0 < length (entries i)
-entries_some ac (Sixteen w) h = omega arith
-entries_some ac (Coef r s w x) h = omega (arith, length-append (replicate r (pos 0)) (value x ∷ []))
+pub entries_some : (ac : Table) (i : AcCode) → IsAcCode ac i → 0 < length (entries i)
+entries_some ac (ZeroRun w) h = omega arith
+entries_some ac (RunAndSize r s w x) h = omega (arith, length-append (replicate r (pos 0)) (value x ∷ []))
 
-pub step_back : (ac : Table) (i : Item) (done others : List ℤ) (bits rest : List Bool) → IsItem ac i → Goes ac (done ++ entries i) others bits rest → Goes ac done others (item_bits i ++ bits) rest
+pub step_back : (ac : Table) (i : AcCode) (done others : List ℤ) (bits rest : List Bool) → IsAcCode ac i → Goes ac (done ++ entries i) others bits rest → Goes ac done others (code_bits i ++ bits) rest
 step_back ac i done others bits rest is g =
     let n : length (done ++ entries i) + length (flat_map entries g.items) ≡ length done + length (entries i ++ flat_map entries g.items)
     = omega (arith, length-append done (entries i), length-append (entries i) (flat_map entries g.items)) in
@@ -34,19 +34,19 @@ step_back ac i done others bits rest is g =
       tail = g.tail;
       each = (is, g.each);
       end = subst (λ (k : ℕ). IsEnd ac k g.tail) n g.end;
-      spelled = ap (λ (b : List Bool). item_bits i ++ b) g.spelled ∙ sym (append_assoc (item_bits i) (flat_map item_bits g.items) (g.tail ++ rest));
+      spelled = ap (λ (b : List Bool). code_bits i ++ b) g.spelled ∙ sym (append_assoc (code_bits i) (flat_map code_bits g.items) (g.tail ++ rest));
       values = g.values ∙ append_assoc done (entries i) _ ∙ ap (λ (x : List ℤ). done ++ x) (sym (append_assoc (entries i) (flat_map entries g.items) _)) ∙ ap (λ (k : ℕ). done ++ ((entries i ++ flat_map entries g.items) ++ replicate (63 - k) (pos 0))) n;
     }
 
-step_on_at : (ac : Table) → IsPrefixFree ac → (i : Item) (done others : List ℤ) (bits rest : List Bool) → IsItem ac i → length done ≤ 62
-    → (items : List Item) (tail : List Bool) → AllByRecursion (IsItem ac) items → IsEnd ac (length done + length (flat_map entries items)) tail
-    → item_bits i ++ bits ≡ flat_map item_bits items ++ (tail ++ rest)
+step_on_at : (ac : Table) → IsPrefixFree ac → (i : AcCode) (done others : List ℤ) (bits rest : List Bool) → IsAcCode ac i → length done ≤ 62
+    → (items : List AcCode) (tail : List Bool) → AllByRecursion (IsAcCode ac) items → IsEnd ac (length done + length (flat_map entries items)) tail
+    → code_bits i ++ bits ≡ flat_map code_bits items ++ (tail ++ rest)
     → others ≡ done ++ (flat_map entries items ++ replicate (63 - (length done + length (flat_map entries items))) (pos 0))
     → Goes ac (done ++ entries i) others bits rest
 step_on_at ac free i done others bits rest is room [] tail each (inl full) spelled values = absurd (omega (arith, full.0))
 step_on_at ac free i done others bits rest is room [] tail each (inr end) spelled values = absurd (not_end ac free i tail bits rest is end.1 spelled)
 step_on_at ac free i done others bits rest is room (j ∷ js) tail each end spelled values =
-    let same = same_item ac free i j bits (flat_map item_bits js ++ (tail ++ rest)) is each.0 (spelled ∙ append_assoc (item_bits j) (flat_map item_bits js) (tail ++ rest)) in
+    let same = same_code ac free i j bits (flat_map code_bits js ++ (tail ++ rest)) is each.0 (spelled ∙ append_assoc (code_bits j) (flat_map code_bits js) (tail ++ rest)) in
     let n : length done + length (entries j ++ flat_map entries js) ≡ length (done ++ entries j) + length (flat_map entries js)
     = omega (arith, length-append done (entries j), length-append (entries j) (flat_map entries js)) in
     let there : Goes ac (done ++ entries j) others bits rest = record {
@@ -57,9 +57,9 @@ step_on_at ac free i done others bits rest is room (j ∷ js) tail each end spel
       spelled = same.1;
       values = values ∙ ap (λ (x : List ℤ). done ++ x) (append_assoc (entries j) (flat_map entries js) _) ∙ sym (append_assoc done (entries j) _) ∙ ap (λ (k : ℕ). (done ++ entries j) ++ (flat_map entries js ++ replicate (63 - k) (pos 0))) n;
     } in
-    subst (λ (k : Item). Goes ac (done ++ entries k) others bits rest) (sym same.0) there
+    subst (λ (k : AcCode). Goes ac (done ++ entries k) others bits rest) (sym same.0) there
 
-pub step_on : (ac : Table) → IsPrefixFree ac → (i : Item) (done others : List ℤ) (bits rest : List Bool) → IsItem ac i → length done ≤ 62 → Goes ac done others (item_bits i ++ bits) rest → Goes ac (done ++ entries i) others bits rest
+pub step_on : (ac : Table) → IsPrefixFree ac → (i : AcCode) (done others : List ℤ) (bits rest : List Bool) → IsAcCode ac i → length done ≤ 62 → Goes ac done others (code_bits i ++ bits) rest → Goes ac (done ++ entries i) others bits rest
 step_on ac free i done others bits rest is room g = step_on_at ac free i done others bits rest is room g.items g.tail g.each g.end g.spelled g.values
 
 -- a block is what is left of it where nothing is done
@@ -71,7 +71,7 @@ of_others ac others old bits rest o split =
       tail = o.tail;
       each = o.each;
       end = subst (λ (k : ℕ). IsEnd ac k o.tail) (sym z) o.end;
-      spelled = split ∙ ap (λ (b : List Bool). b ++ rest) o.spelled ∙ append_assoc (flat_map item_bits o.items) o.tail rest;
+      spelled = split ∙ ap (λ (b : List Bool). b ++ rest) o.spelled ∙ append_assoc (flat_map code_bits o.items) o.tail rest;
       values = o.values ∙ ap (λ (k : ℕ). flat_map entries o.items ++ replicate (63 - k) (pos 0)) (sym z);
     }
 
@@ -79,7 +79,7 @@ pub to_others : (ac : Table) (others : List ℤ) (old rest : List Bool) → Goes
 to_others ac others old rest g =
     let z : 0 + length (flat_map entries g.items) ≡ length (flat_map entries g.items) = omega arith in
     record {
-      bits = flat_map item_bits g.items ++ g.tail;
+      bits = flat_map code_bits g.items ++ g.tail;
       is = record {
         items = g.items;
         tail = g.tail;
@@ -88,7 +88,7 @@ to_others ac others old rest g =
         spelled = refl;
         values = g.values ∙ ap (λ (k : ℕ). flat_map entries g.items ++ replicate (63 - k) (pos 0)) z;
       };
-      split = g.spelled ∙ sym (append_assoc (flat_map item_bits g.items) g.tail rest);
+      split = g.spelled ∙ sym (append_assoc (flat_map code_bits g.items) g.tail rest);
     }
 
 -- how far the reader has come
@@ -103,9 +103,9 @@ pub record IsSoFar (ac : Table) (first : ℤ) (old bits : List Bool) (block : Li
 pub so_far_none : (ac : Table) (first : ℤ) (bits : List Bool) → IsSoFar ac first bits bits (first ∷ replicate 63 (pos 0)) 1
 so_far_none ac first bits = record { done = []; count = refl; within = omega arith; blocks = refl; on = λ others rest g. g; back = λ others rest g. g }
 
--- one more item
+-- one more code
 pub so_far_more : (ac : Table) → IsPrefixFree ac → (first : ℤ) (old bits new : List Bool) (block block' made : List ℤ) (place place' : ℕ)
-    → (s : IsSoFar ac first old bits block place) → place < 64 → TakesItem ac made bits new
+    → (s : IsSoFar ac first old bits block place) → place < 64 → TakesAcCode ac made bits new
     → place' ≡ place + length made → place' ≤ 64
     → block' ≡ first ∷ ((s.done ++ made) ++ replicate (64 - place') (pos 0))
     → IsSoFar ac first old new block' place'
@@ -116,8 +116,8 @@ so_far_more ac free first old bits new block block' made place place' s room t n
       count = omega (arith, length-append s.done made, s.count, next);
       within = fits;
       blocks = written;
-      on = λ others rest g. subst (λ (m : List ℤ). Goes ac (s.done ++ m) others new rest) e (step_on ac free t.item s.done others new rest t.is (omega (arith, s.count)) (subst (λ (b : List Bool). Goes ac s.done others b rest) t.split (s.on others rest g)));
-      back = λ others rest g. s.back others rest (subst (λ (b : List Bool). Goes ac s.done others b rest) (sym t.split) (step_back ac t.item s.done others new rest t.is (subst (λ (m : List ℤ). Goes ac (s.done ++ m) others new rest) (sym e) g)));
+      on = λ others rest g. subst (λ (m : List ℤ). Goes ac (s.done ++ m) others new rest) e (step_on ac free t.code s.done others new rest t.is (omega (arith, s.count)) (subst (λ (b : List Bool). Goes ac s.done others b rest) t.split (s.on others rest g)));
+      back = λ others rest g. s.back others rest (subst (λ (b : List Bool). Goes ac s.done others b rest) (sym t.split) (step_back ac t.code s.done others new rest t.is (subst (λ (m : List ℤ). Goes ac (s.done ++ m) others new rest) (sym e) g)));
     }
 
 -- all places are there
@@ -140,10 +140,10 @@ so_far_end ac first old bits new block place s room t =
     let g : Goes ac s.done others bits new = record { items = []; tail = t.word; each = tt; end = inr (omega (arith, s.count), t.is); spelled = t.split; values = ap (λ (q : ℕ). s.done ++ replicate q (pos 0)) (sym k) } in
     (others, s.blocks, to_others ac others old new (s.back others new g))
 
-no_goes_at : (ac : Table) (done others : List ℤ) (bits rest : List Bool) → length done ≤ 62 → HasNoStep ac bits → (items : List Item) (tail : List Bool) → AllByRecursion (IsItem ac) items → IsEnd ac (length done + length (flat_map entries items)) tail → bits ≡ flat_map item_bits items ++ (tail ++ rest) → ⊥
+no_goes_at : (ac : Table) (done others : List ℤ) (bits rest : List Bool) → length done ≤ 62 → HasNoStep ac bits → (items : List AcCode) (tail : List Bool) → AllByRecursion (IsAcCode ac) items → IsEnd ac (length done + length (flat_map entries items)) tail → bits ≡ flat_map code_bits items ++ (tail ++ rest) → ⊥
 no_goes_at ac done others bits rest room none [] tail each (inl full) spelled = omega (arith, full.0)
 no_goes_at ac done others bits rest room none [] tail each (inr end) spelled = none.no_end tail rest end.1 spelled
-no_goes_at ac done others bits rest room none (i ∷ is) tail each end spelled = none.no_item i (flat_map item_bits is ++ (tail ++ rest)) each.0 (spelled ∙ append_assoc (item_bits i) (flat_map item_bits is) (tail ++ rest))
+no_goes_at ac done others bits rest room none (i ∷ is) tail each end spelled = none.no_code i (flat_map code_bits is ++ (tail ++ rest)) each.0 (spelled ∙ append_assoc (code_bits i) (flat_map code_bits is) (tail ++ rest))
 
 -- where no step begins what is left, no block began
 pub so_far_stuck : (ac : Table) (first : ℤ) (old bits : List Bool) (block : List ℤ) (place : ℕ) → IsSoFar ac first old bits block place → place < 64 → HasNoStep ac bits → HasNoOthers ac old
@@ -155,12 +155,12 @@ pub end_within : (ac : Table) (n : ℕ) (tail : List Bool) → IsEnd ac n tail �
 end_within ac n tail (inl full) = omega (arith, full.0)
 end_within ac n tail (inr end) = omega (arith, end.0)
 
--- where the next item goes past the last place, no block began
-pub so_far_over : (ac : Table) → IsPrefixFree ac → (first : ℤ) (old bits new : List Bool) (block made : List ℤ) (place : ℕ) → IsSoFar ac first old bits block place → place < 64 → TakesItem ac made bits new → 64 < place + length made → HasNoOthers ac old
+-- where the next code goes past the last place, no block began
+pub so_far_over : (ac : Table) → IsPrefixFree ac → (first : ℤ) (old bits new : List Bool) (block made : List ℤ) (place : ℕ) → IsSoFar ac first old bits block place → place < 64 → TakesAcCode ac made bits new → 64 < place + length made → HasNoOthers ac old
 so_far_over ac free first old bits new block made place s room t over others b rest o split =
     let g = s.on others rest (of_others ac others old b rest o split) in
-    let h = step_on ac free t.item s.done others new rest t.is (omega (arith, s.count)) (subst (λ (x : List Bool). Goes ac s.done others x rest) t.split g) in
-    omega (arith, end_within ac _ h.tail h.end, length-append s.done (entries t.item), ap length t.gives, s.count)
+    let h = step_on ac free t.code s.done others new rest t.is (omega (arith, s.count)) (subst (λ (x : List Bool). Goes ac s.done others x rest) t.split g) in
+    omega (arith, end_within ac _ h.tail h.end, length-append s.done (entries t.code), ap length t.gives, s.count)
 
 -- a write behind a run of zeros
 pub set_at : (done : List ℤ) (n run : ℕ) (v : ℤ) → run < n → set (done ++ replicate n (pos 0)) (length done + run) v ≡ (done ++ (replicate run (pos 0) ++ v ∷ [])) ++ replicate (n - (run + 1)) (pos 0)
@@ -192,14 +192,14 @@ block_zeros first done block place is h =
     is ∙ ap (λ (q : ℕ). first ∷ (done ++ replicate q (pos 0))) k ∙ ap (λ (x : List ℤ). first ∷ (done ++ x)) (sym (replicate-append-replicate 16 (64 - (place + 16)) (pos 0))) ∙ ap (λ (x : List ℤ). first ∷ x) (sym (append_assoc done (replicate 16 (pos 0)) (replicate (64 - (place + 16)) (pos 0))))
 
 pub so_far_zeros : (ac : Table) → IsPrefixFree ac → (first : ℤ) (old bits new : List Bool) (block block' : List ℤ) (place place' : ℕ)
-    → IsSoFar ac first old bits block place → place < 64 → TakesItem ac (replicate 16 (pos 0)) bits new → block' ≡ block → place' ≡ place + 16 → place' ≤ 64 → IsSoFar ac first old new block' place'
+    → IsSoFar ac first old bits block place → place < 64 → TakesAcCode ac (replicate 16 (pos 0)) bits new → block' ≡ block → place' ≡ place + 16 → place' ≤ 64 → IsSoFar ac first old new block' place'
 so_far_zeros ac free first old bits new block block' place place' s room t same next fits =
     let written : block' ≡ first ∷ ((s.done ++ replicate 16 (pos 0)) ++ replicate (64 - place') (pos 0))
     = same ∙ block_zeros first s.done block place s.blocks (omega (arith, next, fits)) ∙ ap (λ (q : ℕ). first ∷ ((s.done ++ replicate 16 (pos 0)) ++ replicate (64 - q) (pos 0))) (sym next) in
     so_far_more ac free first old bits new block block' (replicate 16 (pos 0)) place place' s room t next fits written
 
 pub so_far_coef : (ac : Table) → IsPrefixFree ac → (first v : ℤ) (old bits new : List Bool) (block block' : List ℤ) (place run at place' : ℕ)
-    → IsSoFar ac first old bits block place → place < 64 → TakesItem ac (replicate run (pos 0) ++ v ∷ []) bits new → at ≡ place + run → at ≤ 63 → block' ≡ set block at v → place' ≡ at + 1 → IsSoFar ac first old new block' place'
+    → IsSoFar ac first old bits block place → place < 64 → TakesAcCode ac (replicate run (pos 0) ++ v ∷ []) bits new → at ≡ place + run → at ≤ 63 → block' ≡ set block at v → place' ≡ at + 1 → IsSoFar ac first old new block' place'
 so_far_coef ac free first v old bits new block block' place run at place' s room t is fits wrote next =
     let n : length (replicate run (pos 0) ++ v ∷ []) ≡ run + 1 = omega (arith, length-append (replicate run (pos 0)) (v ∷ []), length-replicate run (pos 0)) in
     let written : block' ≡ first ∷ ((s.done ++ (replicate run (pos 0) ++ v ∷ [])) ++ replicate (64 - place') (pos 0))

@@ -19,11 +19,11 @@ use Rattle.jr_scan.specs.declared.place.RunEnd.{RunEnd}
 use Rattle.jr_scan.specs.declared.place.RunEnd.TheVariants.{AllRead, NoMcu}
 use Rattle.jr_scan.specs.Block.{BlockAt}
 use Rattle.jr_scan.specs.IntervalValue.{IntervalValue}
-use Rattle.jr_scan.specs.Units.{component, block_of, prediction, IsBlock, joined, Blocks, Units, no_predictions, Decodes}
+use Rattle.jr_scan.specs.Mcus.{component, block_of, prediction, IsBlock, all_bits, Blocks, Mcus, no_predictions, Decodes}
 use Rattle.jr_scan.specs.Reader.{RunOf, ReaderValue, whole_run, per_mcu, HasRead, HasEnded, IsKept}
 use Rattle.jr_scan.specs.Run.{left_at, predicted, HasNoMcu, EndsAs, IsRun}
 use Rattle.jr_scan.proofs.Words.{OneWord}
-use Rattle.jr_scan.proofs.UnitsLaws.{prediction_same, is_block_same, one_blocks, blocks_front, blocks_before, reads_stuck}
+use Rattle.jr_scan.proofs.McuLaws.{prediction_same, is_block_same, one_blocks, blocks_front, blocks_before, reads_stuck}
 use Rattle.jr_scan.proofs.Readers.{below_whole}
 
 -- behind whole MCUs the components come as from the start on
@@ -59,7 +59,7 @@ blocks_join h start k zs ys u v three whole b d =
     record {
       parts = b.parts ++ d.parts;
       count = length-append b.parts d.parts ∙ omega (arith, b.count, d.count, long);
-      spelled = ap (λ (w : List Bool). w ++ v) b.spelled ∙ ap (λ (w : List Bool). joined b.parts ++ w) d.spelled ∙ sym (flat_map-append (λ (part : List Bool). part) b.parts d.parts);
+      spelled = ap (λ (w : List Bool). w ++ v) b.spelled ∙ ap (λ (w : List Bool). all_bits b.parts ++ w) d.spelled ∙ sym (flat_map-append (λ (part : List Bool). part) b.parts d.parts);
       each = λ n lt. elim (cases_lt n (length zs)) [
         | inl l ↦ is_block_same h start zs (zs ++ ys) n (get_or b.parts n []) (get_or (b.parts ++ d.parts) n [])
             (λ j g. sym (get_or_append_left zs ys [] j (omega arith)))
@@ -94,16 +94,16 @@ runs_meet i p q s k m zs ys end three a b =
     let h = i.head in
     let per = length (order_of h) in
     let full : a.count ≡ k = a.ends in
-    let blocks2 = subst (λ (start : List ℤ). Blocks h start ys b.taken) a.predictions b.units.1 in
+    let blocks2 = subst (λ (start : List ℤ). Blocks h start ys b.taken) a.predictions b.mcus.1 in
     let sum : (a.count + b.count) * per ≡ a.count * per + b.count * per = omega arith in
     record {
       count = a.count + b.count;
       few = omega (arith, a.few, b.few);
       taken = a.taken ++ b.taken;
-      units = (length-append zs ys ∙ omega (arith, a.units.0, b.units.0, sum), blocks_join h p.predictions a.count zs ys a.taken b.taken three a.units.0 a.units.1 blocks2);
+      mcus = (length-append zs ys ∙ omega (arith, a.mcus.0, b.mcus.0, sum), blocks_join h p.predictions a.count zs ys a.taken b.taken three a.mcus.0 a.mcus.1 blocks2);
       spelled = a.spelled ∙ ap (λ (w : List Bool). a.taken ++ w) b.spelled ∙ sym (append_assoc a.taken b.taken (left_at i s));
       bit = omega (arith, b.bit, a.bit, length-append a.taken b.taken);
-      predictions = b.predictions ∙ ap (λ (start : List ℤ). predicted h start ys) a.predictions ∙ predicted_on h p.predictions a.count zs ys a.units.0;
+      predictions = b.predictions ∙ ap (λ (start : List ℤ). predicted h start ys) a.predictions ∙ predicted_on h p.predictions a.count zs ys a.mcus.0;
       ends = ended end b.ends;
     }
   where
@@ -113,7 +113,7 @@ runs_meet i p q s k m zs ys end three a b =
 
 -- the blocks behind whole MCUs, by themselves
 blocks_behind : (h : HeadValue) (start : List ℤ) (k : ℕ) (zs ys : List (List ℤ)) (w : List Bool) → ((n : ℕ) → component h n < 3) → length zs ≡ k * length (order_of h)
-    → (b : Blocks h start (zs ++ ys) w) → Blocks h (predicted h start zs) ys (joined (drop (length zs) b.parts))
+    → (b : Blocks h start (zs ++ ys) w) → Blocks h (predicted h start zs) ys (all_bits (drop (length zs) b.parts))
 blocks_behind h start k zs ys w three whole b =
     let long : length (zs ++ ys) ≡ length zs + length ys = length-append zs ys in
     record {
@@ -167,23 +167,23 @@ no_more one r zs ys a b e f three s t lt = go e s.ends
         let h = r.interval.head in
         let per = length (order_of h) in
         let start = r.from.predictions in
-        let room : s.count * per ≤ length ys = omega (arith, t.units.0, mul-le-mul_right {m = s.count} {n = t.count} per (omega arith)) in
-        let more : suc s.count * per ≤ length ys = omega (arith, t.units.0, mul-le-mul_right {m = suc s.count} {n = t.count} per lt) in
+        let room : s.count * per ≤ length ys = omega (arith, t.mcus.0, mul-le-mul_right {m = s.count} {n = t.count} per (omega arith)) in
+        let more : suc s.count * per ≤ length ys = omega (arith, t.mcus.0, mul-le-mul_right {m = suc s.count} {n = t.count} per lt) in
         let next : suc s.count * per ≡ s.count * per + per = omega arith in
-        let first = blocks_front h start ys (left_at r.interval r.from) t.taken (left_at r.interval b) (s.count * per) t.units.1 t.spelled room in
-        let both = blocks_front h start ys (left_at r.interval r.from) t.taken (left_at r.interval b) (suc s.count * per) t.units.1 t.spelled more in
+        let first = blocks_front h start ys (left_at r.interval r.from) t.taken (left_at r.interval b) (s.count * per) t.mcus.1 t.spelled room in
+        let both = blocks_front h start ys (left_at r.interval r.from) t.taken (left_at r.interval b) (suc s.count * per) t.mcus.1 t.spelled more in
         let count : length (take (s.count * per) ys) ≡ s.count * per = length-take-le (s.count * per) ys room in
-        let same = one_blocks h start one zs (take (s.count * per) ys) s.taken first.0 (left_at r.interval a) first.1 s.units.1 first.2 (sym s.spelled ∙ first.3) (s.units.0 ∙ sym count) in
+        let same = one_blocks h start one zs (take (s.count * per) ys) s.taken first.0 (left_at r.interval a) first.1 s.mcus.1 first.2 (sym s.spelled ∙ first.3) (s.mcus.0 ∙ sym count) in
         let split : take (suc s.count * per) ys ≡ zs ++ take per (drop (s.count * per) ys) = ap (λ (n : ℕ). take n ys) next ∙ take-add (s.count * per) per ys ∙ ap (λ (x : List (List ℤ)). x ++ take per (drop (s.count * per) ys)) (sym same.0) in
         let whole = subst (λ (x : List (List ℤ)). Blocks h start x both.0) split both.2 in
-        let one_more = blocks_behind h start s.count zs (take per (drop (s.count * per) ys)) both.0 three s.units.0 whole in
-        let alone = subst (λ (q : List ℤ). Blocks h q (take per (drop (s.count * per) ys)) (joined (drop (length zs) whole.parts))) (sym s.predictions) one_more in
+        let one_more = blocks_behind h start s.count zs (take per (drop (s.count * per) ys)) both.0 three s.mcus.0 whole in
+        let alone = subst (λ (q : List ℤ). Blocks h q (take per (drop (s.count * per) ys)) (all_bits (drop (length zs) whole.parts))) (sym s.predictions) one_more in
         let long : length (take per (drop (s.count * per) ys)) ≡ 1 * per = length-take-le per (drop (s.count * per) ys) (omega (arith, length-drop (s.count * per) ys, more, next)) ∙ omega arith in
-        let front : Blocks h start zs (joined (take (length zs) whole.parts)) = blocks_before h start zs (take per (drop (s.count * per) ys)) both.0 whole in
-        let cut : left_at r.interval r.from ≡ joined (take (length zs) whole.parts) ++ (joined (drop (length zs) whole.parts) ++ both.1)
-        = both.3 ∙ ap (λ (w : List Bool). w ++ both.1) (whole.spelled ∙ ap joined (sym (take-append-drop (length zs) whole.parts)) ∙ flat_map-append (λ (part : List Bool). part) (take (length zs) whole.parts) (drop (length zs) whole.parts)) ∙ append_assoc (joined (take (length zs) whole.parts)) (joined (drop (length zs) whole.parts)) both.1 in
-        let left = (one_blocks h start one zs zs s.taken (joined (take (length zs) whole.parts)) (left_at r.interval a) (joined (drop (length zs) whole.parts) ++ both.1) s.units.1 front (sym s.spelled ∙ cut) refl).1 in
-        none.1 (take per (drop (s.count * per) ys)) (joined (drop (length zs) whole.parts)) both.1 (long, alone) left
+        let front : Blocks h start zs (all_bits (take (length zs) whole.parts)) = blocks_before h start zs (take per (drop (s.count * per) ys)) both.0 whole in
+        let cut : left_at r.interval r.from ≡ all_bits (take (length zs) whole.parts) ++ (all_bits (drop (length zs) whole.parts) ++ both.1)
+        = both.3 ∙ ap (λ (w : List Bool). w ++ both.1) (whole.spelled ∙ ap all_bits (sym (take-append-drop (length zs) whole.parts)) ∙ flat_map-append (λ (part : List Bool). part) (take (length zs) whole.parts) (drop (length zs) whole.parts)) ∙ append_assoc (all_bits (take (length zs) whole.parts)) (all_bits (drop (length zs) whole.parts)) both.1 in
+        let left = (one_blocks h start one zs zs s.taken (all_bits (take (length zs) whole.parts)) (left_at r.interval a) (all_bits (drop (length zs) whole.parts) ++ both.1) s.mcus.1 front (sym s.spelled ∙ cut) refl).1 in
+        none.1 (take per (drop (s.count * per) ys)) (all_bits (drop (length zs) whole.parts)) both.1 (long, alone) left
 
 -- each start and number of MCUs has one run
 pub one_run : OneWord → (r : RunOf) (zs ys : List (List ℤ)) (a b : Place) (e f : RunEnd) → ((n : ℕ) → component r.interval.head n < 3) → IsRun r zs a e → IsRun r ys b f → (zs ≡ ys) × (a ≡ b) × (e ≡ f)
@@ -194,8 +194,8 @@ one_run one r zs ys a b e f three s t =
       | inl l ↦ absurd (no_more one r zs ys a b e f three s t l)
       | inr g ↦ elim (cases_lt t.count s.count) [ inl l ↦ absurd (no_more one r ys zs b a f e three t s l) | inr g' ↦ omega arith ]
     ] in
-    let l : length zs ≡ length ys = s.units.0 ∙ ap (λ (n : ℕ). n * per) count ∙ sym t.units.0 in
-    let same = one_blocks h r.from.predictions one zs ys s.taken t.taken (left_at r.interval a) (left_at r.interval b) s.units.1 t.units.1 (sym s.spelled ∙ t.spelled) l in
+    let l : length zs ≡ length ys = s.mcus.0 ∙ ap (λ (n : ℕ). n * per) count ∙ sym t.mcus.0 in
+    let same = one_blocks h r.from.predictions one zs ys s.taken t.taken (left_at r.interval a) (left_at r.interval b) s.mcus.1 t.mcus.1 (sym s.spelled ∙ t.spelled) l in
     let taken : length s.taken ≡ length t.taken = omega (arith, ap length (sym s.spelled ∙ t.spelled), ap length same.1, length-append s.taken (left_at r.interval a), length-append t.taken (left_at r.interval b)) in (
       same.0,
       same_place a b (omega (arith, s.bit, t.bit, taken)) (s.predictions ∙ ap (predicted h r.from.predictions) same.0 ∙ sym t.predictions),
@@ -218,7 +218,7 @@ decoding_is_run i zs d =
         count = i.mcus;
         few = omega arith;
         taken = d.taken;
-        units = d.units;
+        mcus = d.mcus;
         spelled = d.spelled ∙ ap (λ (w : List Bool). d.taken ++ w) (sym left);
         bit = omega arith;
         predictions = refl;
@@ -232,7 +232,7 @@ run_is_decoding i zs to r short =
     record {
       taken = r.taken;
       padding = left_at i to;
-      units = subst (λ (n : ℕ). Units i.head no_predictions n zs r.taken) r.ends r.units;
+      mcus = subst (λ (n : ℕ). Mcus i.head no_predictions n zs r.taken) r.ends r.mcus;
       short = short;
       spelled = r.spelled;
     }
@@ -261,7 +261,7 @@ read_is_run r zs bit kept going place three at s =
       count = r.mcu;
       few = omega arith;
       taken = s.reads.taken;
-      units = (count, s.reads.blocks);
+      mcus = (count, s.reads.blocks);
       spelled = s.reads.split ∙ ap (λ (w : List Bool). s.reads.taken ++ w) (sym behind);
       bit = where';
       predictions = three_places r.predictions three
@@ -320,7 +320,7 @@ read_run one r zs kept three s ended = (to, (why ended).0, (why ended).1)
       count = r.mcu;
       few = below_whole r.mcu r.run.mcus (per_mcu r) r.place kept.within kept.few;
       taken = front.0;
-      units = (count, front.2);
+      mcus = (count, front.2);
       spelled = front.3 ∙ ap (λ (w : List Bool). front.0 ++ w) (sym behind);
       bit = refl;
       predictions = refl;

@@ -1,11 +1,11 @@
--- What the readers of a first coefficient and of an item take.
+-- What the readers of a first coefficient and of an code take.
 use Rattle.std.proofs.Common.{◌≡◌, ℕ, ◌+◌, ◌*◌, ◌/◌, ◌%◌, ◌<◌, ◌≤◌, Bool, List, [], ◌∷◌, ◌++◌, length, replicate, refl, sym, ap, subst, ◌∙◌, append_assoc, arith}
 use Rattle.std.specs.Prelude.{ℤ, pos}
 use Rattle.std.proofs.lemmas.List.{append_cancel_left}
 use Rattle.jr_code.specs.Code.{Table, IsWord, TakesExtended, HasNoExtended}
-use Rattle.jr_scan.specs.Block.{Item, IsItem, item_bits, DifferenceAt}
-use Rattle.jr_scan.specs.Block.Item.{Sixteen, Coef}
-use Rattle.jr_scan.specs.Step.{TakesExtra, TakesItem, TakesEnd, TakesDifference, HasNoDifference, HasNoStep}
+use Rattle.jr_scan.specs.Block.{AcCode, IsAcCode, code_bits, DifferenceAt}
+use Rattle.jr_scan.specs.Block.AcCode.{ZeroRun, RunAndSize}
+use Rattle.jr_scan.specs.Step.{TakesExtra, TakesAcCode, TakesEnd, TakesDifference, HasNoDifference, HasNoStep}
 use Rattle.jr_scan.proofs.Words.{IsPrefixFree, TakesWord}
 
 pub takes_difference : (dc : Table) (size : ℕ) (d : ℤ) (old mid new : List Bool) → TakesWord dc old mid size → size ≤ 11 → TakesExtra size d mid new → TakesDifference dc d old new
@@ -30,15 +30,15 @@ no_difference_far dc free size old mid w far d bits rest f e =
 pub takes_end : (ac : Table) (s : ℕ) (old new : List Bool) → TakesWord ac old new s → s ≡ 0 → TakesEnd ac old new
 takes_end ac s old new w e = record { word = w.0; is = subst (IsWord ac w.0) e w.1; split = w.2 }
 
-pub takes_zeros : (ac : Table) (s : ℕ) (old new : List Bool) → TakesWord ac old new s → s ≡ 240 → TakesItem ac (replicate 16 (pos 0)) old new
-takes_zeros ac s old new w e = record { item = Sixteen w.0; is = subst (IsWord ac w.0) e w.1; gives = refl; split = w.2 }
+pub takes_zeros : (ac : Table) (s : ℕ) (old new : List Bool) → TakesWord ac old new s → s ≡ 240 → TakesAcCode ac (replicate 16 (pos 0)) old new
+takes_zeros ac s old new w e = record { code = ZeroRun w.0; is = subst (IsWord ac w.0) e w.1; gives = refl; split = w.2 }
 
 pub takes_coef : (ac : Table) (symbol size : ℕ) (v : ℤ) (old mid new : List Bool) → TakesWord ac old mid symbol → symbol < 256 → size ≡ symbol % 16 → (size ≡ 0 → ⊥) → size ≤ 10 → TakesExtra size v mid new
-    → TakesItem ac (replicate (symbol / 16) (pos 0) ++ v ∷ []) old new
+    → TakesAcCode ac (replicate (symbol / 16) (pos 0) ++ v ∷ []) old new
 takes_coef ac symbol size v old mid new w byte is some small x =
     let e : symbol ≡ 16 * (symbol / 16) + size = omega arith in
     record {
-      item = Coef (symbol / 16) size w.0 x.bits;
+      code = RunAndSize (symbol / 16) size w.0 x.bits;
       is = (omega arith, omega arith, small, subst (IsWord ac w.0) e w.1, x.count);
       gives = ap (λ (q : ℤ). replicate (symbol / 16) (pos 0) ++ q ∷ []) (sym x.is);
       split = w.2 ∙ ap (λ (b : List Bool). w.0 ++ b) x.split ∙ sym (append_assoc w.0 x.bits new);
@@ -47,15 +47,15 @@ takes_coef ac symbol size v old mid new w byte is some small x =
 pub no_step_at : (ac : Table) → IsPrefixFree ac → (symbol : ℕ) (old mid : List Bool) → TakesWord ac old mid symbol → (symbol ≡ 0 → ⊥) → (symbol ≡ 240 → ⊥)
     → ((r s : ℕ) (extra rest : List Bool) → symbol ≡ 16 * r + s → 1 ≤ s → s ≤ 10 → length extra ≡ s → mid ≡ extra ++ rest → ⊥) → HasNoStep ac old
 no_step_at ac free symbol old mid w not_0 not_240 none =
-    let item : (i : Item) (rest : List Bool) → IsItem ac i → old ≡ item_bits i ++ rest → ⊥ = λ i rest. go i rest in
+    let code : (i : AcCode) (rest : List Bool) → IsAcCode ac i → old ≡ code_bits i ++ rest → ⊥ = λ i rest. go i rest in
     record {
       no_end = λ word rest h e. not_0 (free w.0 word mid rest symbol 0 w.1 h (sym w.2 ∙ e)).1;
-      no_item = item;
+      no_code = code;
     }
   where
-    go : (i : Item) (rest : List Bool) → IsItem ac i → old ≡ item_bits i ++ rest → ⊥
-    go (Sixteen u) rest h e = not_240 (free w.0 u mid rest symbol 240 w.1 h (sym w.2 ∙ e)).1
-    go (Coef r s u extra) rest h e =
+    go : (i : AcCode) (rest : List Bool) → IsAcCode ac i → old ≡ code_bits i ++ rest → ⊥
+    go (ZeroRun u) rest h e = not_240 (free w.0 u mid rest symbol 240 w.1 h (sym w.2 ∙ e)).1
+    go (RunAndSize r s u extra) rest h e =
         let whole : w.0 ++ mid ≡ u ++ (extra ++ rest) = sym w.2 ∙ e ∙ append_assoc u extra rest in
         let same = free w.0 u mid (extra ++ rest) symbol (16 * r + s) w.1 h.3 whole in
         none r s extra rest same.1 h.1 h.2 h.4 (append_cancel_left u mid (extra ++ rest) (subst (λ (x : List Bool). x ++ mid ≡ u ++ (extra ++ rest)) same.0 whole))
@@ -91,9 +91,9 @@ no_difference_extended dc old none d bits rest f e =
 
 pub no_step_extended : (ac : Table) (old : List Bool) → HasNoExtended ac old → HasNoStep ac old
 no_step_extended ac old none =
-    let item : (i : Item) (rest : List Bool) → IsItem ac i → old ≡ item_bits i ++ rest → ⊥ = λ i rest. go i rest in
-    record { no_end = λ word rest h e. none word [] rest 0 h refl e; no_item = item }
+    let code : (i : AcCode) (rest : List Bool) → IsAcCode ac i → old ≡ code_bits i ++ rest → ⊥ = λ i rest. go i rest in
+    record { no_end = λ word rest h e. none word [] rest 0 h refl e; no_code = code }
   where
-    go : (i : Item) (rest : List Bool) → IsItem ac i → old ≡ item_bits i ++ rest → ⊥
-    go (Sixteen u) rest h e = none u [] rest 240 h refl e
-    go (Coef r s u extra) rest h e = none u extra rest (16 * r + s) h.3 (omega (arith, h.2, h.4)) (e ∙ append_assoc u extra rest)
+    go : (i : AcCode) (rest : List Bool) → IsAcCode ac i → old ≡ code_bits i ++ rest → ⊥
+    go (ZeroRun u) rest h e = none u [] rest 240 h refl e
+    go (RunAndSize r s u extra) rest h e = none u extra rest (16 * r + s) h.3 (omega (arith, h.2, h.4)) (e ∙ append_assoc u extra rest)

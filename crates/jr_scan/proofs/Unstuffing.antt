@@ -3,11 +3,11 @@ use Rattle.std.proofs.Common.{◌≡◌, ◌≢◌, ℕ, zero, suc, ◌+◌, ◌
 use Rattle.std.specs.List.{flat_map, All}
 use Rattle.std.proofs.lemmas.List.{append-nil, take_more, take-append-le, drop-append-le, get_or-drop, length-take-le, take_all, map_push}
 use Rattle.std.proofs.Math.Seq.{drop-append_seam}
-use Rattle.jr_scan.specs.Cut.{Spelling, spelling, byte_of, IsRaw, IsStop}
+use Rattle.jr_scan.specs.Cut.{Spelling, spelling, byte_spelled, IsRaw, IsStop}
 use Rattle.jr_scan.specs.Cut.Spelling.{Plain, Stuffed}
 use Rattle.jr_scan.specs.declared.span.Span.{Span}
-use Rattle.jr_scan.specs.Spans.{piece_of, IsWithin, Unstuffs}
-use Rattle.jr_scan.proofs.Cuts.{raw_none, raw_plain, raw_stuffed, rest_is, PieceRead, piece_read}
+use Rattle.jr_scan.specs.Spans.{segment_data, IsWithin, Unstuffs}
+use Rattle.jr_scan.proofs.Cuts.{raw_none, raw_plain, raw_stuffed, rest_is, SegmentRead, segment_read}
 
 -- bytes other than FF spell themselves
 pub raw_run : (bytes found : List ℕ) (at n : ℕ) → at + n ≤ length bytes → ((k : ℕ) → k < n → get_or (drop at bytes) k 0 ≢ 255) → IsRaw (take at bytes) found → IsRaw (take (at + n) bytes) (found ++ take n (drop at bytes))
@@ -52,7 +52,7 @@ unstuffs_stuffed bytes old new new' at n room full some zero_byte wrote u =
       joins = wrote ∙ ap (λ (x : List ℕ). x ++ 255 ∷ []) u.joins ∙ append_assoc old u.added (255 ∷ []);
     }
 
-spelled_long : (parts : List Spelling) → length (map byte_of parts) ≤ length (flat_map spelling parts)
+spelled_long : (parts : List Spelling) → length (map byte_spelled parts) ≤ length (flat_map spelling parts)
 spelled_long [] = omega arith
 spelled_long (p ∷ ps) = omega (arith, length-append (spelling p) (flat_map spelling ps), spelled_long ps, some p)
   where
@@ -64,25 +64,25 @@ spelled_long (p ∷ ps) = omega (arith, length-append (spelling p) (flat_map spe
 pub raw_long : (raw bytes : List ℕ) → IsRaw raw bytes → length bytes ≤ length raw
 raw_long raw bytes r = omega (arith, ap length r.spelled, ap length r.means, spelled_long r.parts)
 
-piece_kept : (old added : List ℕ) (s : Span) → IsWithin old s → piece_of (old ++ added) s ≡ piece_of old s
-piece_kept old added s w =
+segment_kept : (old added : List ℕ) (s : Span) → IsWithin old s → segment_data (old ++ added) s ≡ segment_data old s
+segment_kept old added s w =
     ap (take (s.end - s.start)) (drop-append-le s.start old added (omega (arith, w.0, w.1))) ∙ take-append-le (s.end - s.start) (drop s.start old) added (omega (arith, length-drop s.start old, w.1))
 
--- the pieces stay where others are put behind them
-pub pieces_kept : (old added : List ℕ) (spans : List Span) → All (IsWithin old) spans → map (piece_of (old ++ added)) spans ≡ map (piece_of old) spans
-pieces_kept old added [] within = refl
-pieces_kept old added (s ∷ ss) within =
-    let first : piece_of (old ++ added) s ≡ piece_of old s = piece_kept old added s (within 0 s (omega arith)) in
-    let rest : map (piece_of (old ++ added)) ss ≡ map (piece_of old) ss = pieces_kept old added ss (λ k d lt. within (suc k) d (omega arith)) in
+-- the segments stay where others are put behind them
+pub segments_kept : (old added : List ℕ) (spans : List Span) → All (IsWithin old) spans → map (segment_data (old ++ added)) spans ≡ map (segment_data old) spans
+segments_kept old added [] within = refl
+segments_kept old added (s ∷ ss) within =
+    let first : segment_data (old ++ added) s ≡ segment_data old s = segment_kept old added s (within 0 s (omega arith)) in
+    let rest : map (segment_data (old ++ added)) ss ≡ map (segment_data old) ss = segments_kept old added ss (λ k d lt. within (suc k) d (omega arith)) in
     cc
 
-pub piece_added : (old added : List ℕ) (s : Span) → s.start ≡ length old → s.end ≡ length (old ++ added) → piece_of (old ++ added) s ≡ added
-piece_added old added s from to =
+pub segment_added : (old added : List ℕ) (s : Span) → s.start ≡ length old → s.end ≡ length (old ++ added) → segment_data (old ++ added) s ≡ added
+segment_added old added s from to =
     ap (λ (k : ℕ). take (s.end - s.start) (drop k (old ++ added))) from ∙ ap (take (s.end - s.start)) (drop-append_seam old added) ∙ take_all (s.end - s.start) added (omega (arith, from, to, length-append old added))
 
-pub pieces_more : (old added new : List ℕ) (spans spans' : List Span) (s : Span) → new ≡ old ++ added → All (IsWithin old) spans → s.start ≡ length old → s.end ≡ length new → spans' ≡ spans ++ s ∷ [] → map (piece_of new) spans' ≡ map (piece_of old) spans ++ added ∷ []
-pieces_more old added new spans spans' s e within from to pushed =
-    ap (λ (x : List ℕ). map (piece_of x) spans') e ∙ ap (map (piece_of (old ++ added))) pushed ∙ map_push (piece_of (old ++ added)) spans s ∙ ap (λ (x : List (List ℕ)). x ++ piece_of (old ++ added) s ∷ []) (pieces_kept old added spans within) ∙ ap (λ (x : List ℕ). map (piece_of old) spans ++ x ∷ []) (piece_added old added s from (to ∙ ap length e))
+pub segments_more : (old added new : List ℕ) (spans spans' : List Span) (s : Span) → new ≡ old ++ added → All (IsWithin old) spans → s.start ≡ length old → s.end ≡ length new → spans' ≡ spans ++ s ∷ [] → map (segment_data new) spans' ≡ map (segment_data old) spans ++ added ∷ []
+segments_more old added new spans spans' s e within from to pushed =
+    ap (λ (x : List ℕ). map (segment_data x) spans') e ∙ ap (map (segment_data (old ++ added))) pushed ∙ map_push (segment_data (old ++ added)) spans s ∙ ap (λ (x : List (List ℕ)). x ++ segment_data (old ++ added) s ∷ []) (segments_kept old added spans within) ∙ ap (λ (x : List ℕ). map (segment_data old) spans ++ x ∷ []) (segment_added old added s from (to ∙ ap length e))
 
 pub within_more : (old added new : List ℕ) (spans spans' : List Span) (s : Span) → new ≡ old ++ added → All (IsWithin old) spans → s.start ≡ length old → s.end ≡ length new → spans' ≡ spans ++ s ∷ [] → All (IsWithin new) spans'
 within_more old added new spans spans' s e within from to pushed =
@@ -94,23 +94,23 @@ within_more old added new spans spans' s e within from to pushed =
     push (t ∷ ss) w zero d lt = w 0 d (omega arith)
     push (t ∷ ss) w (suc k) d lt = push ss (λ j d lt. w (suc j) d (omega arith)) k d (omega arith)
 
--- a piece that was read at a place, and what is there with it
-pub record PieceMade (bytes old new : List ℕ) (spans spans' : List Span) (at count : ℕ) : Type 0 where
+-- a segment that was read at a place, and what is there with it
+pub record SegmentMade (bytes old new : List ℕ) (spans spans' : List Span) (at count : ℕ) : Type 0 where
   pub found : List ℕ
-  pub read : PieceRead bytes found at count
-  pub pieces : map (piece_of new) spans' ≡ map (piece_of old) spans ++ found ∷ []
+  pub read : SegmentRead bytes found at count
+  pub segments : map (segment_data new) spans' ≡ map (segment_data old) spans ++ found ∷ []
   pub within : All (IsWithin new) spans'
   pub few : length new ≤ at + count
 
-pub piece_made : (bytes old new : List ℕ) (spans spans' : List Span) (at count : ℕ) (s : Span) → at ≤ length bytes → length old ≤ at
+pub segment_made : (bytes old new : List ℕ) (spans spans' : List Span) (at count : ℕ) (s : Span) → at ≤ length bytes → length old ≤ at
     → count ≤ length (take (length bytes - at) (drop at bytes)) → Unstuffs (take count (take (length bytes - at) (drop at bytes))) old new → IsStop (drop count (take (length bytes - at) (drop at bytes)))
-    → All (IsWithin old) spans → s.start ≡ length old → s.end ≡ length new → spans' ≡ spans ++ s ∷ [] → PieceMade bytes old new spans spans' at count
-piece_made bytes old new spans spans' at count s h few room u stop within from to pushed =
+    → All (IsWithin old) spans → s.start ≡ length old → s.end ≡ length new → spans' ≡ spans ++ s ∷ [] → SegmentMade bytes old new spans spans' at count
+segment_made bytes old new spans spans' at count s h few room u stop within from to pushed =
     let long = raw_long (take count (take (length bytes - at) (drop at bytes))) u.added u.is in
     record {
       found = u.added;
-      read = piece_read bytes u.added at count h room u.is stop;
-      pieces = pieces_more old u.added new spans spans' s u.joins within from to pushed;
+      read = segment_read bytes u.added at count h room u.is stop;
+      segments = segments_more old u.added new spans spans' s u.joins within from to pushed;
       within = within_more old u.added new spans spans' s u.joins within from to pushed;
       few = omega (arith, long, length-take-le count (take (length bytes - at) (drop at bytes)) room, ap length u.joins, length-append old u.added, few);
     }

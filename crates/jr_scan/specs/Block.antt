@@ -6,22 +6,22 @@ use Rattle.jr_code.specs.Code.{Table, IsWord}
 
 -- what follows the first coefficient: sixteen zeros by a word of F0, or a run of zeros and a value by the word of
 -- their numbers and as many extra bits as the size says
-pub data Item : Type 0 where
-  Sixteen : List Bool → Item
-  Coef : ℕ → ℕ → List Bool → List Bool → Item
+pub data AcCode : Type 0 where
+  ZeroRun : List Bool → AcCode
+  RunAndSize : ℕ → ℕ → List Bool → List Bool → AcCode
 
-abbrev pub IsItem : Table → Item → Type 0
-IsItem ac (Sixteen word) = IsWord ac word 240
-IsItem ac (Coef run size word extra) = (run < 16) × (1 ≤ size) × (size ≤ 10) × IsWord ac word (16 * run + size) × (length extra ≡ size)
+abbrev pub IsAcCode : Table → AcCode → Type 0
+IsAcCode ac (ZeroRun word) = IsWord ac word 240
+IsAcCode ac (RunAndSize run size word extra) = (run < 16) × (1 ≤ size) × (size ≤ 10) × IsWord ac word (16 * run + size) × (length extra ≡ size)
 
-abbrev pub item_bits : Item → List Bool
-item_bits (Sixteen word) = word
-item_bits (Coef run size word extra) = word ++ extra
+abbrev pub code_bits : AcCode → List Bool
+code_bits (ZeroRun word) = word
+code_bits (RunAndSize run size word extra) = word ++ extra
 
--- the coefficients that an item stands for: as many as its span
-abbrev pub entries : Item → List ℤ
-entries (Sixteen word) = replicate 16 (pos 0)
-entries (Coef run size word extra) = replicate run (pos 0) ++ value extra ∷ []
+-- the coefficients that an code stands for: as many as its span
+abbrev pub entries : AcCode → List ℤ
+entries (ZeroRun word) = replicate 16 (pos 0)
+entries (RunAndSize run size word extra) = replicate run (pos 0) ++ value extra ∷ []
 
 -- behind items of so many places all 63 are there, or a word of 00 says that the rest is 0
 abbrev pub IsEnd : Table → ℕ → List Bool → Type 0
@@ -29,11 +29,11 @@ IsEnd ac places tail = ((places ≡ 63) × (tail ≡ [])) ⊎ ((places ≤ 62) �
 
 -- the bits behind the first coefficient, and the 63 other coefficients
 pub record OthersAt (ac : Table) (others : List ℤ) (bits : List Bool) : Type 0 where
-  pub items : List Item
+  pub items : List AcCode
   pub tail : List Bool
-  pub each : AllByRecursion (IsItem ac) items
+  pub each : AllByRecursion (IsAcCode ac) items
   pub end : IsEnd ac (length (flat_map entries items)) tail
-  pub spelled : bits ≡ flat_map item_bits items ++ tail
+  pub spelled : bits ≡ flat_map code_bits items ++ tail
   pub values : others ≡ flat_map entries items ++ replicate (63 - length (flat_map entries items)) (pos 0)
 
 -- the bits of the first coefficient: a word of a size of at most 11, and so many extra bits for its difference to

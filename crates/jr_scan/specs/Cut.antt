@@ -1,4 +1,4 @@
--- How the bytes of a scan fall into pieces.
+-- How the bytes of a scan fall into segments.
 use Rattle.std.specs.Prelude.{◌≡◌, ◌≢◌, ℕ, suc, ◌+◌, ◌%◌, ◌<◌, List, [], ◌∷◌, ◌++◌, length, replicate, map, ◌⊎◌}
 use Rattle.std.specs.List.{flat_map, AllByRecursion}
 use Rattle.jr_scan.specs.declared.scan_end.ScanEnd.{ScanEnd}
@@ -17,36 +17,36 @@ abbrev pub spelling : Spelling → List ℕ
 spelling (Plain byte) = byte ∷ []
 spelling (Stuffed more) = 255 ∷ (replicate more 255 ++ 0 ∷ [])
 
-abbrev pub byte_of : Spelling → ℕ
-byte_of (Plain byte) = byte
-byte_of (Stuffed more) = 255
+abbrev pub byte_spelled : Spelling → ℕ
+byte_spelled (Plain byte) = byte
+byte_spelled (Stuffed more) = 255
 
 -- raw is spellings of the bytes of data, one after the other
 pub record IsRaw (raw bytes : List ℕ) : Type 0 where
   pub parts : List Spelling
   pub each : AllByRecursion IsSpelling parts
   pub spelled : raw ≡ flat_map spelling parts
-  pub means : bytes ≡ map byte_of parts
+  pub means : bytes ≡ map byte_spelled parts
 
 -- one or more FF and a code
 abbrev pub marker : ℕ → ℕ → List ℕ
 marker more code = 255 ∷ (replicate more 255 ++ code ∷ [])
 
--- a piece behind a restart marker: the marker's further FF, the piece's bytes as they stand and what they spell
-pub record Piece : Type 0 where
+-- a segment behind a restart marker: the marker's further FF, the segment's bytes as they stand and what they spell
+pub record CodedSegment : Type 0 where
   pub more : ℕ
   pub raw : List ℕ
   pub bytes : List ℕ
 
--- pieces with their markers, the first of which has number k modulo 8
-abbrev pub marked : ℕ → List Piece → List ℕ
-marked k [] = []
-marked k (p ∷ ps) = marker p.more (208 + k % 8) ++ (p.raw ++ marked (suc k) ps)
+-- segments with their markers, the first of which has number k modulo 8
+abbrev pub with_markers : ℕ → List CodedSegment → List ℕ
+with_markers k [] = []
+with_markers k (p ∷ ps) = marker p.more (208 + k % 8) ++ (p.raw ++ with_markers (suc k) ps)
 
 abbrev pub HasMarker : List ℕ → ℕ → Type 0
 HasMarker tail code = (more : ℕ) × (rest : List ℕ) × (tail ≡ marker more code ++ rest)
 
--- what ends the scan: n intervals, the last piece is number k, and tail stands at that offset
+-- what ends the scan: n intervals, the last segment is number k, and tail stands at that offset
 abbrev pub IsEnding : (n k at : ℕ) → List ℕ → ScanEnd → Type 0
 IsEnding n k at tail EndOfFile = (more : ℕ) × (tail ≡ replicate more 255)
 IsEnding n k at tail EndOfImage = HasMarker tail 217
@@ -54,24 +54,24 @@ IsEnding n k at tail (ExtraRestart offset) = (number : ℕ) × (number < 8) × H
 IsEnding n k at tail (OutOfStep found expected offset) = (found < 8) × HasMarker tail (208 + found) × (k + 1 < n) × (expected ≡ k % 8) × (found ≢ expected) × (offset ≡ at)
 IsEnding n k at tail (OtherMarker code offset) = (0 < code) × (code < 255) × HasMarker tail code × ((code < 208) ⊎ ((code ≡ 216) ⊎ (217 < code))) × (offset ≡ at)
 
--- the bytes at that offset are piece k, the markers and pieces after it, and what ends the scan; datas is what the pieces spell
+-- the bytes at that offset are segment k, the markers and segments after it, and what ends the scan; datas is what the segments spell
 pub record CutFrom (n k at : ℕ) (bytes : List ℕ) (datas : List (List ℕ)) (end : ScanEnd) : Type 0 where
   pub raw : List ℕ
   pub first : List ℕ
-  pub pieces : List Piece
+  pub segments : List CodedSegment
   pub tail : List ℕ
   pub is_raw : IsRaw raw first
-  pub each : AllByRecursion (λ p. IsRaw p.raw p.bytes) pieces
-  pub few : k + length pieces < n
-  pub spelled : bytes ≡ raw ++ (marked k pieces ++ tail)
-  pub means : datas ≡ first ∷ map (λ p. p.bytes) pieces
-  pub ends : IsEnding n (k + length pieces) (at + length (raw ++ marked k pieces)) tail end
+  pub each : AllByRecursion (λ p. IsRaw p.raw p.bytes) segments
+  pub few : k + length segments < n
+  pub spelled : bytes ≡ raw ++ (with_markers k segments ++ tail)
+  pub means : datas ≡ first ∷ map (λ p. p.bytes) segments
+  pub ends : IsEnding n (k + length segments) (at + length (raw ++ with_markers k segments)) tail end
 
 -- the scan's bytes, of which the first stands at that offset of the file
 abbrev pub IsCut : (n at : ℕ) → List ℕ → List (List ℕ) → ScanEnd → Type 0
 IsCut n at bytes datas end = CutFrom n 0 at bytes datas end
 
--- what a piece stops at: FF bytes to the end, or FF bytes and a code
+-- what a segment stops at: FF bytes to the end, or FF bytes and a code
 pub record IsStop (tail : List ℕ) : Type 0 where
   pub more : ℕ
   pub rest : List ℕ

@@ -2,7 +2,7 @@ pub mod Block
 pub mod Step
 pub mod IntervalValue
 pub mod FrontValue
-pub mod Units
+pub mod Mcus
 pub mod Reader
 pub mod Cut
 pub mod Spans

@@ -6,7 +6,7 @@ use Rattle.jr_head.specs.Geometry.{order_of, dc_of, ac_of}
 use Rattle.jr_scan.specs.declared.place.Place.{Place}
 use Rattle.jr_scan.specs.IntervalValue.{IntervalValue}
 use Rattle.jr_scan.specs.Step.{HasNoBlock}
-use Rattle.jr_scan.specs.Units.{component, prediction, no_predictions, Blocks}
+use Rattle.jr_scan.specs.Mcus.{component, prediction, no_predictions, Blocks}
 
 -- a run of MCUs of an interval: where it starts, and how many MCUs it has at most
 pub record RunOf : Type 0 where

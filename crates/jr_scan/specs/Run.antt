@@ -6,7 +6,7 @@ use Rattle.jr_scan.specs.declared.place.Place.{Place}
 use Rattle.jr_scan.specs.declared.place.RunEnd.{RunEnd}
 use Rattle.jr_scan.specs.declared.place.RunEnd.TheVariants.{AllRead, NoMcu}
 use Rattle.jr_scan.specs.IntervalValue.{IntervalValue}
-use Rattle.jr_scan.specs.Units.{prediction, Units}
+use Rattle.jr_scan.specs.Mcus.{prediction, Mcus}
 use Rattle.jr_scan.specs.Reader.{RunOf}
 
 abbrev pub left_at : IntervalValue → Place → List Bool
@@ -18,7 +18,7 @@ predicted h start zs = prediction h start zs 0 (length zs) ∷ prediction h star
 
 -- no whole MCU follows
 abbrev pub HasNoMcu : IntervalValue → Place → Type 0
-HasNoMcu i p = (ys : List (List ℤ)) (taken rest : List Bool) → Units i.head p.predictions 1 ys taken → left_at i p ≢ taken ++ rest
+HasNoMcu i p = (ys : List (List ℤ)) (taken rest : List Bool) → Mcus i.head p.predictions 1 ys taken → left_at i p ≢ taken ++ rest
 
 -- all MCUs that were asked for are there, or no further one follows
 abbrev pub EndsAs : RunOf → ℕ → Place → RunEnd → Type 0
@@ -30,7 +30,7 @@ pub record IsRun (r : RunOf) (zs : List (List ℤ)) (to : Place) (end : RunEnd) 
   pub count : ℕ
   pub few : count ≤ r.mcus
   pub taken : List Bool
-  pub units : Units r.interval.head r.from.predictions count zs taken
+  pub mcus : Mcus r.interval.head r.from.predictions count zs taken
   pub spelled : left_at r.interval r.from ≡ taken ++ left_at r.interval to
   pub bit : to.bit ≡ r.from.bit + length taken
   pub predictions : to.predictions ≡ predicted r.interval.head r.from.predictions zs

@@ -24,11 +24,11 @@ mcus_in h i = if h.restart == 0 then mcus_of h else min h.restart (mcus_of h - i
 abbrev pub interval_of : ScanValue → ℕ → IntervalValue
 interval_of s i = record { number = i; mcus = mcus_in s.head i; bytes = slice_index_or s.intervals i []; head = s.head }
 
--- the intervals are the pieces that the file's bytes behind the scan header are cut into, and empty ones
+-- the intervals are the segments that the file's bytes behind the scan header are cut into, and empty ones
 pub record IsScanOf (file : List ℕ) (s : ScanValue) : Type 0 where
-  pub pieces : List (List ℕ)
-  pub cut : IsCut (intervals_of s.head) s.head.scan_at (drop s.head.scan_at file) pieces s.ended
-  pub intervals : s.intervals ≡ pieces ++ replicate (intervals_of s.head - length pieces) []
+  pub segments : List (List ℕ)
+  pub cut : IsCut (intervals_of s.head) s.head.scan_at (drop s.head.scan_at file) segments s.ended
+  pub intervals : s.intervals ≡ segments ++ replicate (intervals_of s.head - length segments) []
 
 -- equal heads, and the same data in each interval; what ended them may differ
 abbrev pub IsSameScan : ScanValue → ScanValue → Type 0

@@ -1,10 +1,10 @@
--- Where the data of each piece stand in all unstuffed bytes of a scan.
+-- Where the data of each segment stand in all unstuffed bytes of a scan.
 use Rattle.std.specs.Prelude.{◌≡◌, ℕ, ◌≤◌, List, ◌++◌, length, slice_range}
 use Rattle.jr_scan.specs.declared.span.Span.{Span}
 use Rattle.jr_scan.specs.Cut.{IsRaw}
 
-abbrev pub piece_of : List ℕ → Span → List ℕ
-piece_of bytes s = slice_range bytes s.start s.end
+abbrev pub segment_data : List ℕ → Span → List ℕ
+segment_data bytes s = slice_range bytes s.start s.end
 
 abbrev pub IsWithin : List ℕ → Span → Type 0
 IsWithin bytes s = (s.start ≤ s.end) × (s.end ≤ length bytes)

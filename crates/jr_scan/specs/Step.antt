@@ -2,7 +2,7 @@
 use Rattle.std.specs.Prelude.{◌≡◌, ℕ, Bool, List, [], ◌∷◌, ◌++◌, length, replicate, ℤ, pos}
 use Rattle.jr_code.specs.Bits.{value}
 use Rattle.jr_code.specs.Code.{Table, IsWord}
-use Rattle.jr_scan.specs.Block.{Item, IsItem, item_bits, entries, OthersAt, DifferenceAt, CodedAt, BlockAt}
+use Rattle.jr_scan.specs.Block.{AcCode, IsAcCode, code_bits, entries, OthersAt, DifferenceAt, CodedAt, BlockAt}
 use Rattle.jr_scan.specs.declared.block.Step.{Step}
 use Rattle.jr_scan.specs.declared.block.Step.TheVariants.{End, Zeros, Coefficient}
 
@@ -13,12 +13,12 @@ pub record TakesExtra (size : ℕ) (v : ℤ) (old new : List Bool) : Type 0 wher
   pub count : length bits ≡ size
   pub is : v ≡ value bits
 
--- old is an item that gives these coefficients, and then new
-pub record TakesItem (ac : Table) (made : List ℤ) (old new : List Bool) : Type 0 where
-  pub item : Item
-  pub is : IsItem ac item
-  pub gives : entries item ≡ made
-  pub split : old ≡ item_bits item ++ new
+-- old is an code that gives these coefficients, and then new
+pub record TakesAcCode (ac : Table) (made : List ℤ) (old new : List Bool) : Type 0 where
+  pub code : AcCode
+  pub is : IsAcCode ac code
+  pub gives : entries code ≡ made
+  pub split : old ≡ code_bits code ++ new
 
 -- old is a word of 00, and then new
 pub record TakesEnd (ac : Table) (old new : List Bool) : Type 0 where
@@ -28,13 +28,13 @@ pub record TakesEnd (ac : Table) (old new : List Bool) : Type 0 where
 
 abbrev pub TakesStep : Table → Step → List Bool → List Bool → Type 0
 TakesStep ac End old new = TakesEnd ac old new
-TakesStep ac Zeros old new = TakesItem ac (replicate 16 (pos 0)) old new
-TakesStep ac (Coefficient run v) old new = TakesItem ac (replicate run (pos 0) ++ v ∷ []) old new
+TakesStep ac Zeros old new = TakesAcCode ac (replicate 16 (pos 0)) old new
+TakesStep ac (Coefficient run v) old new = TakesAcCode ac (replicate run (pos 0) ++ v ∷ []) old new
 
--- no item and no end of a block begins these bits
+-- no code and no end of a block begins these bits
 pub record HasNoStep (ac : Table) (bits : List Bool) : Type 0 where
   pub no_end : (word rest : List Bool) → IsWord ac word 0 → bits ≡ word ++ rest → ⊥
-  pub no_item : (item : Item) (rest : List Bool) → IsItem ac item → bits ≡ item_bits item ++ rest → ⊥
+  pub no_code : (code : AcCode) (rest : List Bool) → IsAcCode ac code → bits ≡ code_bits code ++ rest → ⊥
 
 pub record TakesDifference (dc : Table) (difference : ℤ) (old new : List Bool) : Type 0 where
   pub bits : List Bool

@@ -16,7 +16,7 @@ const MOST_EXTRA: u8 = 10;
 enum Step {
     /// The rest of the block is 0.
     End,
-    /// Sixteen zeros.
+    /// ZeroRun zeros.
     Zeros,
     /// A run of zeros and a coefficient.
     Coefficient(u8, i32),

@@ -3,7 +3,7 @@
 ghost use Rattle.std.specs.Prelude.{◌≡◌, ◌≢◌, ℕ, ◌+◌, ◌%◌, ◌<◌, ◌≤◌, ◌^◌, List, length, map, IfOk, IfSome, IfNone};
 ghost use Rattle.std.specs.List.{All};
 ghost use Rattle.jr_scan.specs.Cut.{HasMarker, IsEnding, IsCut};
-ghost use Rattle.jr_scan.specs.Spans.{piece_of, IsWithin};
+ghost use Rattle.jr_scan.specs.Spans.{segment_data, IsWithin};
 
 use crate::scan_end::ScanEnd;
 use crate::span::Span;
@@ -11,15 +11,15 @@ use crate::unstuff::{fill, unstuff};
 use jr_code::Memory;
 use std::alloc::Global;
 
-/// The unstuffed bytes of a scan, where in them each piece between restart markers stands, and what ended the scan.
+/// The unstuffed bytes of a scan, where in them each segment between restart markers stands, and what ended the scan.
 #[derive(Drop)]
-pub(crate) struct Pieces {
+pub(crate) struct CodedSegments {
     pub unstuffed: Vec<u8>,
     pub spans: Vec<Span>,
     pub ended: ScanEnd,
 }
 
-/// What a marker behind piece k means: that the scan ends there, or that the next piece follows it.
+/// What a marker behind segment k means: that the scan ends there, or that the next segment follows it.
 fn end_at(code: u8, at: u64, k: u32, intervals: u32) -> Option<ScanEnd>
     requires few { k < intervals }
     requires not_stuffing { code ≢ 0 }
@@ -50,10 +50,10 @@ fn end_at(code: u8, at: u64, k: u32, intervals: u32) -> Option<ScanEnd>
 }
 
 /// Cuts the bytes of a scan, the first of which stands at an offset of the file.
-pub(crate) fn cut(alloc: Global, intervals: u32, start: u64, bytes: &[u8]) -> Result<Pieces, Memory>
+pub(crate) fn cut(alloc: Global, intervals: u32, start: u64, bytes: &[u8]) -> Result<CodedSegments, Memory>
     requires some { 0 < intervals }
     requires fits { start + length bytes.now < 2 ^ 64 }
-    ensures cut { IfOk result (λ p. IsCut intervals start bytes.now (map (piece_of p.unstuffed.items) p.spans.items) p.ended) }
+    ensures cut { IfOk result (λ p. IsCut intervals start bytes.now (map (segment_data p.unstuffed.items) p.spans.items) p.ended) }
     ensures within { IfOk result (λ p. All (IsWithin p.unstuffed.items) p.spans.items) }
     ensures few { IfOk result (λ p. length p.unstuffed.items ≤ length bytes.now) }
 {
@@ -61,7 +61,7 @@ pub(crate) fn cut(alloc: Global, intervals: u32, start: u64, bytes: &[u8]) -> Re
     let mut spans = Vec::new(alloc);
     let mut at: usize = 0;
     let mut k: u32 = 0;
-    'pieces: loop {
+    'segments: loop {
         let begin = unstuffed.as_slice().len();
         let count = unstuff(&bytes[at..], &mut unstuffed)?;
         spans.push(Span {
@@ -71,14 +71,14 @@ pub(crate) fn cut(alloc: Global, intervals: u32, start: u64, bytes: &[u8]) -> Re
         at += count;
         let code_at = at + fill(&bytes[at..]);
         if code_at >= bytes.len() {
-            return Ok(Pieces {
+            return Ok(CodedSegments {
                 unstuffed,
                 spans,
                 ended: ScanEnd::EndOfFile,
             });
         }
         if let Some(ended) = end_at(bytes[code_at], start + at as u64, k, intervals) {
-            return Ok(Pieces {
+            return Ok(CodedSegments {
                 unstuffed,
                 spans,
                 ended,

@@ -38,9 +38,9 @@ impl Model for Interval {
 
 impl Interval {
     ghost use Rattle.std.specs.Arc.{arc_value};
-    ghost use Rattle.jr_scan.specs.Spans.{piece_of, IsWithin};
+    ghost use Rattle.jr_scan.specs.Spans.{segment_data, IsWithin};
     ghost use Rattle.jr_scan.specs.Block.{IsInRange};
-    ghost use Rattle.jr_scan.specs.Units.{Decodes, LongestFront};
+    ghost use Rattle.jr_scan.specs.Mcus.{Decodes, LongestFront};
     ghost use Rattle.jr_scan.specs.Reader.{HasRead, HasEnded, whole_run};
 
     pub(crate) fn of(
@@ -52,7 +52,7 @@ impl Interval {
     ) -> Interval
         requires few { length (arc_value unstuffed).items < 2 ^ 61 }
         requires within { IsWithin (arc_value unstuffed).items span }
-        ensures { result ≡ record { number = number; mcus = mcus; bytes = piece_of (arc_value unstuffed).items span; head = arc_value head } }
+        ensures { result ≡ record { number = number; mcus = mcus; bytes = segment_data (arc_value unstuffed).items span; head = arc_value head } }
     {
         Interval {
             head,

@@ -10,7 +10,7 @@ ghost use Rattle.jr_scan.specs.Run.{IsRun, left_at};
 ghost use Rattle.jr_scan.specs.declared.scan_end.ScanEnd.{ScanEnd};
 ghost use Rattle.jr_scan.specs.Cut.{IsCut};
 ghost use Rattle.jr_scan.specs.IntervalValue.{IntervalValue};
-ghost use Rattle.jr_scan.specs.Units.{Decodes, Front};
+ghost use Rattle.jr_scan.specs.Mcus.{Decodes, Front};
 
 use jr_code::one_word;
 

@@ -91,7 +91,7 @@ impl<'a> Model for BlockReader<'a> {
 
 impl<'a> BlockReader<'a> {
     ghost use Rattle.jr_head.specs.Geometry.{components_of, order_of};
-    ghost use Rattle.jr_scan.specs.Units.{component, Decodes, LongestFront};
+    ghost use Rattle.jr_scan.specs.Mcus.{component, Decodes, LongestFront};
     ghost use Rattle.jr_scan.specs.IntervalValue.{IntervalValue};
     ghost use Rattle.std.specs.Prelude.{◌⊎◌};
     ghost use Rattle.jr_scan.specs.declared.place.Place.{Place};

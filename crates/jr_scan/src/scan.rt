@@ -27,11 +27,11 @@ impl Model for Scan {
     ghost use Rattle.std.specs.List.{All};
     ghost use Rattle.std.specs.Arc.{arc_value};
     ghost use Rattle.jr_scan.specs.ScanValue.{ScanValue, intervals_of};
-    ghost use Rattle.jr_scan.specs.Spans.{piece_of, IsWithin};
+    ghost use Rattle.jr_scan.specs.Spans.{segment_data, IsWithin};
 
     ghost Value = { ScanValue };
 
-    ghost view = { λ s. record { head = arc_value s.head; intervals = map (piece_of (arc_value s.unstuffed).items) s.spans.items ++ replicate (s.intervals - length s.spans.items) []; ended = s.ended } };
+    ghost view = { λ s. record { head = arc_value s.head; intervals = map (segment_data (arc_value s.unstuffed).items) s.spans.items ++ replicate (s.intervals - length s.spans.items) []; ended = s.ended } };
 
     ghost invariant = { λ s. All (IsWithin (arc_value s.unstuffed).items) s.spans.items × (length s.spans.items ≤ s.intervals) × (s.intervals ≡ intervals_of (arc_value s.head)) × (0 < s.intervals) × (length (arc_value s.unstuffed).items < 2 ^ 61) };
 }
@@ -85,13 +85,13 @@ impl Scan {
     {
         let intervals = count_of(&head);
         let start = head.scan_at();
-        let pieces = cut(alloc, intervals, start, behind(bytes, start))?;
+        let segments = cut(alloc, intervals, start, behind(bytes, start))?;
         Ok(Scan {
             head: Arc::new(alloc, head)?,
-            unstuffed: Arc::new(alloc, pieces.unstuffed)?,
-            spans: pieces.spans,
+            unstuffed: Arc::new(alloc, segments.unstuffed)?,
+            spans: segments.spans,
             intervals,
-            ended: pieces.ended,
+            ended: segments.ended,
         })
     }
 

@@ -90,32 +90,32 @@ fn block(p: &Picture<'_>, bytes: &[u8], start: usize, z: &mut Block) -> Option<u
     if place == 64 { Some(at) } else { None }
 }
 
-/// The data of the pieces in front, how the scan ends and where.
-fn pieces(alloc: Global, bytes: &[u8], intervals: usize) -> Result<(Vec<Vec<u8>>, u8), Fail> {
-    let mut pieces = Vec::new(alloc);
-    let mut piece = Vec::new(alloc);
+/// The data of the segments in front, how the scan ends and where.
+fn segments(alloc: Global, bytes: &[u8], intervals: usize) -> Result<(Vec<Vec<u8>>, u8), Fail> {
+    let mut segments = Vec::new(alloc);
+    let mut segment = Vec::new(alloc);
     let mut filled = false;
     for byte in bytes {
         if *byte == 0xFF {
             filled = true;
         } else if !filled {
-            piece.push(*byte)?;
+            segment.push(*byte)?;
         } else if *byte == 0 {
-            piece.push(0xFF)?;
+            segment.push(0xFF)?;
             filled = false;
         } else {
-            let k = pieces.as_slice().len();
-            pieces.push(piece)?;
-            piece = Vec::new(alloc);
+            let k = segments.as_slice().len();
+            segments.push(segment)?;
+            segment = Vec::new(alloc);
             filled = false;
             let due = 0xD0 + (k % 8) as u8;
             if *byte != due || k.checked_add(1) == Some(intervals) {
-                return Ok((pieces, *byte));
+                return Ok((segments, *byte));
             }
         }
     }
-    pieces.push(piece)?;
-    Ok((pieces, 0))
+    segments.push(segment)?;
+    Ok((segments, 0))
 }
 
 /// The first coefficients of the whole MCUs in front, and whether these are all and fewer than eight bits are left.
@@ -211,14 +211,14 @@ fn reads_as_the_definitions_say(rt: HostRuntime) -> Result<(), Fail> {
                 scan.push(byte(state))?;
             }
             let cut = scan_of(a, p, &scan)?;
-            let (data, end) = pieces(a, &scan, cut.intervals() as usize)?;
+            let (data, end) = segments(a, &scan, cut.intervals() as usize)?;
             if let Some(code) = code(cut.ended()) {
                 assert_eq!(rt; code, end);
             }
             for i in 0..cut.intervals() {
                 let interval = cut.interval(i)?;
                 let bytes = match data.as_slice().get(i as usize) {
-                    Some(piece) => piece.as_slice(),
+                    Some(segment) => segment.as_slice(),
                     None => &[],
                 };
                 assert_eq!(rt; interval.bytes(), bytes);

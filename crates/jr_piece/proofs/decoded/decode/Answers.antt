@@ -1,6 +1,6 @@
 use Rattle.std.proofs.Common.{rules, ◌≡◌, ℕ, ◌*◌, List, length, take, sym, ap, subst, ◌∙◌}
 use Rattle.jr_head.specs.Geometry.{order_of}
-use Rattle.jr_scan.specs.Units.{LongestFront}
+use Rattle.jr_scan.specs.Mcus.{LongestFront}
 use Rattle.jr_scan.specs.Reader.{RunOf, per_mcu}
 use Rattle.jr_piece.specs.Outcome.{IsOutcome}
 use Rattle.jr_piece.proofs.Outcomes.{Ended, outcome}

@@ -1,7 +1,7 @@
 use Rattle.std.proofs.Common.{◌≡◌, [], ◌∷◌, ◌++◌, length, sym, ap, subst, ◌∙◌, rules}
 use Rattle.jr_head.specs.HeadValue.{HeadValue}
 use Rattle.jr_head.specs.Geometry.{quantiser_of}
-use Rattle.jr_scan.specs.Units.{component}
+use Rattle.jr_scan.specs.Mcus.{component}
 use Rattle.jr_scan.specs.Reader.{RunOf, blocks_read}
 use Rattle.jr_idct.specs.Transform.{samples}
 use Rattle.jr_piece.specs.Outcome.{AreSamples}

@@ -2,7 +2,7 @@ use Rattle.std.proofs.Common.{rules, ◌+◌, [], ◌∷◌, ◌++◌, replicate
 use mir.Val.{SFits, to_z, of_z}
 use Rattle.std.proofs.Math.ListN.{length-replicate}
 use Rattle.std.proofs.lemmas.Int.{to_z-of_z}
-use Rattle.jr_scan.specs.Step.{TakesStep, TakesItem, TakesEnd}
+use Rattle.jr_scan.specs.Step.{TakesStep, TakesAcCode, TakesEnd}
 use Rattle.jr_scan.specs.declared.block.Step.{Step}
 use Rattle.jr_scan.proofs.Rest.{IsSoFar, so_far_none, so_far_zeros, so_far_coef, so_far_all, so_far_end, so_far_stuck, so_far_over}
 use Rattle.jr_scan.proofs.block.read_others.Goals as goal
@@ -22,14 +22,14 @@ returns-in-End-clause-some c =
 
 pub returns-then-place-gt64-clause-none : goal.returns-then-place-gt64-clause-none
 returns-then-place-gt64-clause-none c =
-    let t : TakesItem c.args.ac.now (replicate 16 (pos 0)) c.steps.bits c.read_step.new.bits = subst (λ (st : Step). TakesStep c.args.ac.now st c.steps.bits c.read_step.new.bits) c.in-Zeros.is c.in_ok-read_step.ensures.some in
+    let t : TakesAcCode c.args.ac.now (replicate 16 (pos 0)) c.steps.bits c.read_step.new.bits = subst (λ (st : Step). TakesStep c.args.ac.now st c.steps.bits c.read_step.new.bits) c.in-Zeros.is c.in_ok-read_step.ensures.some in
     so_far_over _ (c.one_word.ensures _) _ _ _ _ _ (replicate 16 (pos 0)) _ c.steps.invariant.1 c.steps.invariant.0 t (omega (arith, c.if-place-gt64.true))
 
 pub returns-then-at-gt63-clause-none : goal.returns-then-at-gt63-clause-none
 returns-then-at-gt63-clause-none c =
     let run = c.in-Coefficient.run' in
     let v = c.in-Coefficient.v in
-    let t : TakesItem c.args.ac.now (replicate run (pos 0) ++ v ∷ []) c.steps.bits c.read_step.new.bits = subst (λ (st : Step). TakesStep c.args.ac.now st c.steps.bits c.read_step.new.bits) c.in-Coefficient.is c.in_ok-read_step.ensures.some in
+    let t : TakesAcCode c.args.ac.now (replicate run (pos 0) ++ v ∷ []) c.steps.bits c.read_step.new.bits = subst (λ (st : Step). TakesStep c.args.ac.now st c.steps.bits c.read_step.new.bits) c.in-Coefficient.is c.in_ok-read_step.ensures.some in
     so_far_over _ (c.one_word.ensures _) _ _ _ _ _ (replicate run (pos 0) ++ v ∷ []) _ c.steps.invariant.1 c.steps.invariant.0 t (omega (arith, length-append (replicate run (pos 0)) (v ∷ []), length-replicate run (pos 0), c.from.ensures, c.if-at-gt63.true))
 
 pub returns-then-place-eq64-clause-some : goal.returns-then-place-eq64-clause-some

@@ -1,7 +1,7 @@
 use Rattle.std.proofs.Common.{ℤ, ◌/◌, ◌%◌, ◌∷◌, ◌++◌, [], refl, replicate, pos, rules, arith, subst, sym, w32}
 use mir.Val.{SFits}
 use Rattle.std.proofs.lemmas.Int.{to_z-of_z}
-use Rattle.jr_scan.specs.Step.{TakesItem}
+use Rattle.jr_scan.specs.Step.{TakesAcCode}
 use Rattle.jr_scan.proofs.Steps.{word_of, word_alone, extra_of, takes_zeros, takes_coef, no_step_extended, no_step_size}
 use Rattle.jr_scan.proofs.block.read_step.Goals as goal
 
@@ -29,4 +29,4 @@ returns-clause-some c =
     let f = c.in_ok-symbol.ensures.found in
     let t = takes_coef _ s (s % 16) v _ _ _ (word_of _ _ _ _ _ f) (omega arith) refl c.if-size-eq0.false c.if-size-gt-MOST_EXTRA.false (extra_of _ _ _ _ _ f) in
     let fits : SFits w32 v = search rules in
-    search (rules, subst (λ (v : ℤ). TakesItem c.args.ac.now (replicate (s / 16) (pos 0) ++ v ∷ []) c.args.bits.now c.read_extended.new.bits) (sym (to_z-of_z w32 v fits)) t)
+    search (rules, subst (λ (v : ℤ). TakesAcCode c.args.ac.now (replicate (s / 16) (pos 0) ++ v ∷ []) c.args.bits.now c.read_extended.new.bits) (sym (to_z-of_z w32 v fits)) t)

@@ -1,4 +1,4 @@
-use Rattle.jr_scan.proofs.UnitsLaws as laws
+use Rattle.jr_scan.proofs.McuLaws as laws
 use Rattle.jr_scan.proofs.laws.one_decoding.Goals as goal
 
 pub returns : goal.returns

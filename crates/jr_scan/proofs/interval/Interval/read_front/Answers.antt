@@ -1,6 +1,6 @@
 use Rattle.std.proofs.Common.{ℕ, ◌≡◌, rules, ◌*◌, List, length, take, subst, ap, ◌∙◌}
 use Rattle.jr_head.specs.Geometry.{order_of}
-use Rattle.jr_scan.specs.Units.{LongestFront}
+use Rattle.jr_scan.specs.Mcus.{LongestFront}
 use Rattle.jr_scan.specs.Reader.{per_mcu}
 use Rattle.jr_scan.specs.FrontValue.{FrontValue}
 use Rattle.jr_scan.proofs.InRange.{front_in_range}

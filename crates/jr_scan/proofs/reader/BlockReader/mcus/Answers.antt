@@ -2,7 +2,7 @@ use Rattle.std.proofs.Common.{◌*◌, take, sym, ap, subst, ◌∙◌}
 use Rattle.jr_head.specs.Geometry.{IsLawful}
 use Rattle.jr_scan.specs.declared.place.Place.{Place}
 use Rattle.jr_scan.specs.declared.place.RunEnd.{RunEnd}
-use Rattle.jr_scan.specs.Units.{LongestFront}
+use Rattle.jr_scan.specs.Mcus.{LongestFront}
 use Rattle.jr_scan.specs.Reader.{IsKept, ReaderValue, per_mcu}
 use Rattle.jr_scan.specs.Run.{IsRun}
 use Rattle.jr_scan.proofs.Readers.{longest}

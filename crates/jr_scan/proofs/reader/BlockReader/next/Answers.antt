@@ -7,7 +7,7 @@ use Rattle.jr_code.specs.Code.{Table}
 use Rattle.jr_head.specs.HeadValue.{HeadValue}
 use Rattle.jr_head.specs.Geometry.{components_of, component_count, order_of, dc_of, ac_of}
 use Rattle.jr_scan.specs.Step.{TakesBlock, HasNoBlock}
-use Rattle.jr_scan.specs.Units.{component}
+use Rattle.jr_scan.specs.Mcus.{component}
 use Rattle.jr_scan.specs.Reader.{HasRead, ReaderValue, blocks_read}
 use Rattle.jr_scan.proofs.Predicted.{kept_fits}
 use Rattle.jr_scan.proofs.Ranges.{block_in_range}

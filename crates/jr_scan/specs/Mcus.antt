@@ -25,19 +25,19 @@ prediction h start zs c (suc m) = if component h m == c then slice_index_or (blo
 abbrev pub IsBlock : HeadValue → List ℤ → List (List ℤ) → ℕ → List Bool → Type 0
 IsBlock h start zs n part = let c = component h n in BlockAt (dc_of h c) (ac_of h c) (prediction h start zs c n) (block_of zs n) part
 
-abbrev pub joined : List (List Bool) → List Bool
-joined parts = flat_map (λ part. part) parts
+abbrev pub all_bits : List (List Bool) → List Bool
+all_bits parts = flat_map (λ part. part) parts
 
 -- the bits are those of the blocks in order
 pub record Blocks (h : HeadValue) (start : List ℤ) (zs : List (List ℤ)) (all : List Bool) : Type 0 where
   pub parts : List (List Bool)
   pub count : length parts ≡ length zs
-  pub spelled : all ≡ joined parts
+  pub spelled : all ≡ all_bits parts
   pub each : (n : ℕ) → n < length zs → IsBlock h start zs n (slice_index_or parts n [])
 
 -- so many MCUs of blocks
-abbrev pub Units : HeadValue → List ℤ → ℕ → List (List ℤ) → List Bool → Type 0
-Units h start k zs all = (length zs ≡ k * length (order_of h)) × Blocks h start zs all
+abbrev pub Mcus : HeadValue → List ℤ → ℕ → List (List ℤ) → List Bool → Type 0
+Mcus h start k zs all = (length zs ≡ k * length (order_of h)) × Blocks h start zs all
 
 -- at the start of an interval each component is predicted to be 0 (F.1.1.5.1)
 abbrev pub no_predictions : List ℤ
@@ -47,7 +47,7 @@ no_predictions = replicate 3 (pos 0)
 pub record Decodes (i : IntervalValue) (zs : List (List ℤ)) : Type 0 where
   pub taken : List Bool
   pub padding : List Bool
-  pub units : Units i.head no_predictions i.mcus zs taken
+  pub mcus : Mcus i.head no_predictions i.mcus zs taken
   pub short : length padding < 8
   pub spelled : bits i.bytes ≡ taken ++ padding
 
@@ -56,7 +56,7 @@ pub record Front (i : IntervalValue) (k : ℕ) (zs : List (List ℤ)) : Type 0 w
   pub at_most : k ≤ i.mcus
   pub taken : List Bool
   pub rest : List Bool
-  pub units : Units i.head no_predictions k zs taken
+  pub mcus : Mcus i.head no_predictions k zs taken
   pub spelled : bits i.bytes ≡ taken ++ rest
 
 -- the front of the greatest number of whole MCUs

@@ -13,7 +13,7 @@ use Rattle.jr_head.specs.Geometry.{order_of, dc_of, ac_of}
 use Rattle.jr_scan.specs.Block.{BlockAt}
 use Rattle.jr_scan.specs.IntervalValue.{IntervalValue}
 use Rattle.jr_scan.specs.Step.{TakesBlock}
-use Rattle.jr_scan.specs.Units.{component, block_of, prediction, IsBlock, joined, Blocks, no_predictions, Decodes, Front, LongestFront}
+use Rattle.jr_scan.specs.Mcus.{component, block_of, prediction, IsBlock, all_bits, Blocks, no_predictions, Decodes, Front, LongestFront}
 use Rattle.jr_scan.specs.Reader.{Reads, HasNoNext}
 use Rattle.jr_scan.proofs.Words.{OneWord}
 use Rattle.jr_scan.proofs.Coded.{same_block}
@@ -40,22 +40,22 @@ is_block_same h start zs ys n u v same e b =
     let b2 = subst (λ (y : List ℤ). BlockAt (dc_of h c) (ac_of h c) (prediction h start ys c n) y u) z b1 in
     subst (λ (w : List Bool). BlockAt (dc_of h c) (ac_of h c) (prediction h start ys c n) (block_of ys n) w) e b2
 
-pub joined_at : (parts : List (List Bool)) (n : ℕ) (x : List Bool) → n < length parts → joined (drop n parts) ++ x ≡ get_or parts n [] ++ (joined (drop (suc n) parts) ++ x)
-joined_at parts n x h = ap (λ (ps : List (List Bool)). joined ps ++ x) (drop-cons parts n [] h) ∙ append_assoc (get_or parts n []) (joined (drop (suc n) parts)) x
+pub all_bits_at : (parts : List (List Bool)) (n : ℕ) (x : List Bool) → n < length parts → all_bits (drop n parts) ++ x ≡ get_or parts n [] ++ (all_bits (drop (suc n) parts) ++ x)
+all_bits_at parts n x h = ap (λ (ps : List (List Bool)). all_bits ps ++ x) (drop-cons parts n [] h) ∙ append_assoc (get_or parts n []) (all_bits (drop (suc n) parts)) x
 
 -- two lists of blocks at the front of the same bits have the same blocks as far as both go
 pub same_so_far : (h : HeadValue) (start : List ℤ) (zs ys : List (List ℤ)) (u v x y : List Bool) → (b : Blocks h start zs u) → (d : Blocks h start ys v) → u ++ x ≡ v ++ y
     → OneWord → (n : ℕ) → n ≤ length zs → n ≤ length ys
-    → SameBelow zs ys n × (joined (drop n b.parts) ++ x ≡ joined (drop n d.parts) ++ y)
+    → SameBelow zs ys n × (all_bits (drop n b.parts) ++ x ≡ all_bits (drop n d.parts) ++ y)
 same_so_far h start zs ys u v x y b d e one zero hz hy = (λ k lt. absurd (omega arith), ap (λ (w : List Bool). w ++ x) (sym b.spelled) ∙ e ∙ ap (λ (w : List Bool). w ++ y) d.spelled)
 same_so_far h start zs ys u v x y b d e one (suc n) hz hy =
     let before = same_so_far h start zs ys u v x y b d e one n (omega arith) (omega arith) in
     let c = component h n in
-    let whole = sym (joined_at b.parts n x (omega (arith, b.count))) ∙ before.1 ∙ joined_at d.parts n y (omega (arith, d.count)) in
+    let whole = sym (all_bits_at b.parts n x (omega (arith, b.count))) ∙ before.1 ∙ all_bits_at d.parts n y (omega (arith, d.count)) in
     let p = prediction_same h start zs ys c n before.0 in
     let bz : BlockAt (dc_of h c) (ac_of h c) (prediction h start ys c n) (block_of zs n) (get_or b.parts n []) = subst (λ (q : ℤ). BlockAt (dc_of h c) (ac_of h c) q (block_of zs n) (get_or b.parts n [])) p (b.each n (omega arith)) in
     let s = same_block _ _ (one (dc_of h c)) (one (ac_of h c)) _ _ _ _ _ _ _ bz (d.each n (omega arith)) whole in
-    (below_suc n before.0 s.1, append_cancel_left (get_or d.parts n []) _ _ (subst (λ (w : List Bool). w ++ (joined (drop (suc n) b.parts) ++ x) ≡ get_or d.parts n [] ++ (joined (drop (suc n) d.parts) ++ y)) s.0 whole))
+    (below_suc n before.0 s.1, append_cancel_left (get_or d.parts n []) _ _ (subst (λ (w : List Bool). w ++ (all_bits (drop (suc n) b.parts) ++ x) ≡ get_or d.parts n [] ++ (all_bits (drop (suc n) d.parts) ++ y)) s.0 whole))
   where
     below_suc : (n : ℕ) → SameBelow zs ys n → block_of zs n ≡ block_of ys n → SameBelow zs ys (suc n)
     below_suc n below here k h = elim (cases_lt k n) [ inl l ↦ below k l | inr g ↦ let e : k ≡ n = omega arith in rw e here ]
@@ -78,7 +78,7 @@ blocks_more h start zs z u v b here =
     record {
       parts = b.parts ++ v ∷ [];
       count = omega (arith, length-append b.parts (v ∷ []), length-append zs (z ∷ []), b.count);
-      spelled = ap (λ (w : List Bool). w ++ v) b.spelled ∙ ap (λ (w : List Bool). joined b.parts ++ w) (sym (append-nil v)) ∙ sym (flat_map-append (λ (part : List Bool). part) b.parts (v ∷ []));
+      spelled = ap (λ (w : List Bool). w ++ v) b.spelled ∙ ap (λ (w : List Bool). all_bits b.parts ++ w) (sym (append-nil v)) ∙ sym (flat_map-append (λ (part : List Bool). part) b.parts (v ∷ []));
       each = λ n lt. elim (cases_lt n (length zs)) [
         | inl l ↦ is_block_same h start zs (zs ++ z ∷ []) n (get_or b.parts n []) (get_or (b.parts ++ v ∷ []) n [])
             (λ k g. sym (get_or_append_left zs (z ∷ []) [] k (omega arith)))
@@ -108,7 +108,7 @@ reads_more h start all left new zs z n c p r e is pred t =
       split = r.split ∙ ap (λ (w : List Bool). r.taken ++ w) t.split ∙ sym (append_assoc r.taken t.bits new);
     }
 
-blocks_take : (h : HeadValue) (start : List ℤ) (zs : List (List ℤ)) (u : List Bool) (m : ℕ) → (b : Blocks h start zs u) → m ≤ length zs → Blocks h start (take m zs) (joined (take m b.parts))
+blocks_take : (h : HeadValue) (start : List ℤ) (zs : List (List ℤ)) (u : List Bool) (m : ℕ) → (b : Blocks h start zs u) → m ≤ length zs → Blocks h start (take m zs) (all_bits (take m b.parts))
 blocks_take h start zs u m b le =
     let lz : length (take m zs) ≡ m = length-take-le m zs le in
     let lp : length (take m b.parts) ≡ m = length-take-le m b.parts (omega (arith, b.count)) in
@@ -128,11 +128,11 @@ reads_stuck h start all left zs one r none ys v y d e past =
     let c = component h n in
     let s = same_so_far h start zs ys r.taken v left y r.blocks d (sym r.split ∙ e) one n (omega arith) (omega arith) in
     let all_read : drop n r.blocks.parts ≡ [] = drop_all n r.blocks.parts (omega (arith, r.blocks.count)) in
-    let next : left ≡ get_or d.parts n [] ++ (joined (drop (suc n) d.parts) ++ y)
-    = ap (λ (ps : List (List Bool)). joined ps ++ left) (sym all_read) ∙ s.1 ∙ joined_at d.parts n y (omega (arith, d.count)) in
+    let next : left ≡ get_or d.parts n [] ++ (all_bits (drop (suc n) d.parts) ++ y)
+    = ap (λ (ps : List (List Bool)). all_bits ps ++ left) (sym all_read) ∙ s.1 ∙ all_bits_at d.parts n y (omega (arith, d.count)) in
     let q : prediction h start ys c n ≡ prediction h start zs c n = sym (prediction_same h start zs ys c n s.0) in
     let b = subst (λ (x : ℤ). BlockAt (dc_of h c) (ac_of h c) x (block_of ys n) (get_or d.parts n [])) q (d.each n past) in
-    none (block_of ys n) (get_or d.parts n []) (joined (drop (suc n) d.parts) ++ y) b next
+    none (block_of ys n) (get_or d.parts n []) (all_bits (drop (suc n) d.parts) ++ y) b next
 
 -- blocks that are as many as those that were read are those, and what is left is what follows them
 pub reads_all : (h : HeadValue) (start : List ℤ) (all left : List Bool) (zs : List (List ℤ)) → OneWord → Reads h start all left zs
@@ -142,7 +142,7 @@ reads_all h start all left zs one r ys v y d e l =
     let none : drop (length zs) r.blocks.parts ≡ [] = drop_all (length zs) r.blocks.parts (omega (arith, r.blocks.count)) in
     let none' : drop (length zs) d.parts ≡ [] = drop_all (length zs) d.parts (omega (arith, d.count)) in (
       same_list zs ys l s.0,
-      ap (λ (ps : List (List Bool)). joined ps ++ left) (sym none) ∙ s.1 ∙ ap (λ (ps : List (List Bool)). joined ps ++ y) none',
+      ap (λ (ps : List (List Bool)). all_bits ps ++ left) (sym none) ∙ s.1 ∙ ap (λ (ps : List (List Bool)). all_bits ps ++ y) none',
     )
 
 -- at most one list of so many blocks that the bits begin with
@@ -150,42 +150,42 @@ pub one_blocks : (h : HeadValue) (start : List ℤ) → OneWord → (zs ys : Lis
 one_blocks h start one zs ys u v x y b d e l = reads_all h start (u ++ x) x zs one (record { taken = u; blocks = b; split = refl }) ys v y d e l
 
 pub one_decoding : OneWord → (i : IntervalValue) (zs ys : List (List ℤ)) → Decodes i zs → Decodes i ys → zs ≡ ys
-one_decoding one i zs ys a b = (one_blocks i.head no_predictions one zs ys a.taken b.taken a.padding b.padding a.units.1 b.units.1 (sym a.spelled ∙ b.spelled) (a.units.0 ∙ sym b.units.0)).0
+one_decoding one i zs ys a b = (one_blocks i.head no_predictions one zs ys a.taken b.taken a.padding b.padding a.mcus.1 b.mcus.1 (sym a.spelled ∙ b.spelled) (a.mcus.0 ∙ sym b.mcus.0)).0
 
 pub one_front : OneWord → (i : IntervalValue) (k : ℕ) (zs ys : List (List ℤ)) → Front i k zs → Front i k ys → zs ≡ ys
-one_front one i k zs ys a b = (one_blocks i.head no_predictions one zs ys a.taken b.taken a.rest b.rest a.units.1 b.units.1 (sym a.spelled ∙ b.spelled) (a.units.0 ∙ sym b.units.0)).0
+one_front one i k zs ys a b = (one_blocks i.head no_predictions one zs ys a.taken b.taken a.rest b.rest a.mcus.1 b.mcus.1 (sym a.spelled ∙ b.spelled) (a.mcus.0 ∙ sym b.mcus.0)).0
 
 -- a list of blocks begins with a shorter one
 pub blocks_front : (h : HeadValue) (start : List ℤ) (zs : List (List ℤ)) (all u x : List Bool) (m : ℕ) → (b : Blocks h start zs u) → all ≡ u ++ x → m ≤ length zs → (v y : List Bool) × Blocks h start (take m zs) v × (all ≡ v ++ y)
 blocks_front h start zs all u x m b e room = (
-  joined (take m b.parts),
-  joined (drop m b.parts) ++ x,
+  all_bits (take m b.parts),
+  all_bits (drop m b.parts) ++ x,
   blocks_take h start zs u m b room,
-  e ∙ ap (λ (w : List Bool). w ++ x) (b.spelled ∙ ap joined (sym (take-append-drop m b.parts)) ∙ flat_map-append (λ (part : List Bool). part) (take m b.parts) (drop m b.parts)) ∙ append_assoc (joined (take m b.parts)) (joined (drop m b.parts)) x,
+  e ∙ ap (λ (w : List Bool). w ++ x) (b.spelled ∙ ap all_bits (sym (take-append-drop m b.parts)) ∙ flat_map-append (λ (part : List Bool). part) (take m b.parts) (drop m b.parts)) ∙ append_assoc (all_bits (take m b.parts)) (all_bits (drop m b.parts)) x,
 )
 
 pub front_less : (i : IntervalValue) (j k : ℕ) (zs : List (List ℤ)) → j ≤ k → Front i k zs → Front i j (take (j * length (order_of i.head)) zs)
 front_less i j k zs le f =
     let m = j * length (order_of i.head) in
     let most : m ≤ k * length (order_of i.head) = mul-le-mul_right (length (order_of i.head)) le in
-    let room : m ≤ length zs = omega (arith, f.units.0) in
-    let b = blocks_front i.head no_predictions zs (bits i.bytes) f.taken f.rest m f.units.1 f.spelled room in
-    record { at_most = omega (arith, f.at_most); taken = b.0; rest = b.1; units = (length-take-le m zs room, b.2); spelled = b.3 }
+    let room : m ≤ length zs = omega (arith, f.mcus.0) in
+    let b = blocks_front i.head no_predictions zs (bits i.bytes) f.taken f.rest m f.mcus.1 f.spelled room in
+    record { at_most = omega (arith, f.at_most); taken = b.0; rest = b.1; mcus = (length-take-le m zs room, b.2); spelled = b.3 }
 
 -- no blocks at all are a front
 pub front_none : (i : IntervalValue) → Front i 0 []
-front_none i = record { at_most = omega arith; taken = []; rest = bits i.bytes; units = (omega arith, no_blocks i.head no_predictions); spelled = refl }
+front_none i = record { at_most = omega arith; taken = []; rest = bits i.bytes; mcus = (omega arith, no_blocks i.head no_predictions); spelled = refl }
 
 -- a decoding is the longest front
 pub decoded_front : (i : IntervalValue) (k : ℕ) (zs : List (List ℤ)) → LongestFront i k (take (k * length (order_of i.head)) zs) → Decodes i zs → take (k * length (order_of i.head)) zs ≡ zs
 decoded_front i k zs f d =
-    let whole : Front i i.mcus zs = record { at_most = omega arith; taken = d.taken; rest = d.padding; units = d.units; spelled = d.spelled } in
+    let whole : Front i i.mcus zs = record { at_most = omega arith; taken = d.taken; rest = d.padding; mcus = d.mcus; spelled = d.spelled } in
     let least = f.longest i.mcus zs whole in
     let e : k ≡ i.mcus = omega (arith, least, f.front.at_most) in
-    take_all (k * length (order_of i.head)) zs (omega (arith, d.units.0, ap (λ (n : ℕ). n * length (order_of i.head)) e))
+    take_all (k * length (order_of i.head)) zs (omega (arith, d.mcus.0, ap (λ (n : ℕ). n * length (order_of i.head)) e))
 
 -- the first of a list of blocks, by themselves
-pub blocks_before : (h : HeadValue) (start : List ℤ) (zs ys : List (List ℤ)) (w : List Bool) → (b : Blocks h start (zs ++ ys) w) → Blocks h start zs (joined (take (length zs) b.parts))
+pub blocks_before : (h : HeadValue) (start : List ℤ) (zs ys : List (List ℤ)) (w : List Bool) → (b : Blocks h start (zs ++ ys) w) → Blocks h start zs (all_bits (take (length zs) b.parts))
 blocks_before h start zs ys w b =
     let t = blocks_take h start (zs ++ ys) w (length zs) b (omega (arith, length-append zs ys)) in
-    subst (λ (x : List (List ℤ)). Blocks h start x (joined (take (length zs) b.parts))) (take-append_seam zs ys) t
+    subst (λ (x : List (List ℤ)). Blocks h start x (all_bits (take (length zs) b.parts))) (take-append_seam zs ys) t
