@@ -23,7 +23,14 @@ fn paint_halved(luma: &[u8], i: usize, red: u16x16, green: u16x16, blue: u16x16,
     let (left_red, right_red) = doubled(red);
     let (left_green, right_green) = doubled(green);
     let (left_blue, right_blue) = doubled(blue);
-    paint(load(luma, 2 * i), left_red, left_green, left_blue, out, 6 * i);
+    paint(
+        load(luma, 2 * i),
+        left_red,
+        left_green,
+        left_blue,
+        out,
+        6 * i,
+    );
     paint(
         load(luma, 2 * i + 16),
         right_red,

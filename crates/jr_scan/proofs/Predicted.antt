@@ -1,16 +1,17 @@
 -- A block with its prediction, from a block as it is coded.
 use Rattle.std.proofs.Common.{◌≡◌, Bool, List, ◌∷◌, get_or, set, sym, ap, subst, ◌∙◌, arith}
-use Rattle.std.specs.Prelude.{ℤ, pos, negsuc, ◌+ℤ◌, ◌≤ℤ◌}
+use Rattle.std.specs.Prelude.{ℤ, pos, ◌+ℤ◌, ◌≤ℤ◌}
 use Rattle.std.proofs.Common.{w32}
 use mir.Val.{SFits, to_z, of_z}
 use Rattle.std.proofs.lemmas.Int.{ints, to_z-of_z}
 use Rattle.jr_code.specs.Code.{Table}
+use Rattle.jr_scan.specs.Block.{IsInDcRange}
 use Rattle.jr_scan.specs.Step.{TakesCoded, HasNoCoded, TakesBlock, HasNoBlock}
 use Rattle.jr_scan.proofs.Words.{IsPrefixFree}
 use Rattle.jr_scan.proofs.Coded.{same_coded}
 
-pub takes_block : (dc ac : Table) (p first : ℤ) (z z' : List ℤ) (old new : List Bool) → TakesCoded dc ac z old new → first ≡ p +ℤ get_or z 0 (pos 0) → negsuc 32767 ≤ℤ first → first ≤ℤ pos 32767 → z' ≡ set z 0 first → TakesBlock dc ac p z' old new
-takes_block dc ac p first z z' old new t is low high wrote =
+pub takes_block : (dc ac : Table) (p first : ℤ) (z z' : List ℤ) (old new : List Bool) → TakesCoded dc ac z old new → first ≡ p +ℤ get_or z 0 (pos 0) → IsInDcRange first → z' ≡ set z 0 first → TakesBlock dc ac p z' old new
+takes_block dc ac p first z z' old new t is within wrote =
     let e : first ≡ p +ℤ t.difference = is ∙ ap (λ (x : List ℤ). p +ℤ get_or x 0 (pos 0)) t.values in
     record {
       bits = t.bits;
@@ -19,8 +20,7 @@ takes_block dc ac p first z z' old new t is low high wrote =
         others = t.others;
         coded = t.is;
         values = wrote ∙ ap (λ (x : List ℤ). set x 0 first) t.values ∙ ap (λ (x : ℤ). x ∷ t.others) e;
-        low = subst (λ (x : ℤ). negsuc 32767 ≤ℤ x) e low;
-        high = subst (λ (x : ℤ). x ≤ℤ pos 32767) e high;
+        in_range = subst IsInDcRange e within;
       };
       split = t.split;
     }
@@ -28,26 +28,30 @@ takes_block dc ac p first z z' old new t is low high wrote =
 pub no_block_coded : (dc ac : Table) (p : ℤ) (old : List Bool) → HasNoCoded dc ac old → HasNoBlock dc ac p old
 no_block_coded dc ac p old none z bits rest b e = none b.difference b.others bits rest b.coded e
 
-pub no_block_far : (dc ac : Table) → IsPrefixFree dc → IsPrefixFree ac → (p first : ℤ) (z : List ℤ) (old new : List Bool) → TakesCoded dc ac z old new → first ≡ p +ℤ get_or z 0 (pos 0) → (negsuc 32767 ≤ℤ first → first ≤ℤ pos 32767 → ⊥) → HasNoBlock dc ac p old
+pub no_block_far : (dc ac : Table) → IsPrefixFree dc → IsPrefixFree ac → (p first : ℤ) (z : List ℤ) (old new : List Bool) → TakesCoded dc ac z old new → first ≡ p +ℤ get_or z 0 (pos 0) → (IsInDcRange first → ⊥) → HasNoBlock dc ac p old
 no_block_far dc ac dfree afree p first z old new t is far z' bits rest b e =
     let s = same_coded dc ac dfree afree t.difference b.difference t.others b.others t.bits bits new rest t.is b.coded (sym t.split ∙ e) in
     let same : p +ℤ b.difference ≡ first = ap (λ (x : ℤ). p +ℤ x) (sym s.1) ∙ sym (is ∙ ap (λ (x : List ℤ). p +ℤ get_or x 0 (pos 0)) t.values) in
-    far (subst (λ (x : ℤ). negsuc 32767 ≤ℤ x) same b.low) (subst (λ (x : ℤ). x ≤ℤ pos 32767) same b.high)
+    far (subst IsInDcRange same b.in_range)
 
 -- the sum of a prediction and a difference, as the code makes it
-pub sum_fits : (p d : ℤ) → negsuc 32767 ≤ℤ p → p ≤ℤ pos 32767 → d ≤ℤ pos 2047 → pos 0 ≤ℤ (d +ℤ pos 2047) → SFits w32 (to_z w32 (of_z w32 p) +ℤ to_z w32 (of_z w32 d))
-sum_fits p d low high dhigh dlow =
+pub sum_fits : (p d : ℤ) → IsInDcRange p → d ≤ℤ pos 2047 → pos 0 ≤ℤ (d +ℤ pos 2047) → SFits w32 (to_z w32 (of_z w32 p) +ℤ to_z w32 (of_z w32 d))
+sum_fits p d within dhigh dlow =
+    let low = within.0 in
+    let high = within.1 in
     let fp : SFits w32 p = grind (arith, ints) in
     let fd : SFits w32 d = grind (arith, ints) in
     let ep = to_z-of_z w32 p fp in
     let ed = to_z-of_z w32 d fd in
     rw (ep, ed) (grind (arith, ints))
 
-pub sum_is : (p d : ℤ) → negsuc 32767 ≤ℤ p → p ≤ℤ pos 32767 → d ≤ℤ pos 2047 → pos 0 ≤ℤ (d +ℤ pos 2047) → to_z w32 (of_z w32 (to_z w32 (of_z w32 p) +ℤ to_z w32 (of_z w32 d))) ≡ p +ℤ d
-sum_is p d low high dhigh dlow =
+pub sum_is : (p d : ℤ) → IsInDcRange p → d ≤ℤ pos 2047 → pos 0 ≤ℤ (d +ℤ pos 2047) → to_z w32 (of_z w32 (to_z w32 (of_z w32 p) +ℤ to_z w32 (of_z w32 d))) ≡ p +ℤ d
+sum_is p d within dhigh dlow =
+    let low = within.0 in
+    let high = within.1 in
     let fp : SFits w32 p = grind (arith, ints) in
     let fd : SFits w32 d = grind (arith, ints) in
-    to_z-of_z w32 _ (sum_fits p d low high dhigh dlow) ∙ ap (λ (x : ℤ). x +ℤ to_z w32 (of_z w32 d)) (to_z-of_z w32 p fp) ∙ ap (λ (x : ℤ). p +ℤ x) (to_z-of_z w32 d fd)
+    to_z-of_z w32 _ (sum_fits p d within dhigh dlow) ∙ ap (λ (x : ℤ). x +ℤ to_z w32 (of_z w32 d)) (to_z-of_z w32 p fp) ∙ ap (λ (x : ℤ). p +ℤ x) (to_z-of_z w32 d fd)
 
-pub kept_fits : (p : ℤ) → negsuc 32767 ≤ℤ p → p ≤ℤ pos 32767 → SFits w32 p
-kept_fits p low high = grind (arith, ints)
+pub kept_fits : (p : ℤ) → IsInDcRange p → SFits w32 p
+kept_fits p within = let low = within.0 in let high = within.1 in grind (arith, ints)

@@ -1,6 +1,6 @@
 -- The coefficients of a block are in range.
 use Rattle.std.proofs.Common.{◌≡◌, ℕ, zero, suc, ◌+◌, ◌-◌, ◌*◌, ◌<◌, ◌≤◌, ◌^◌, Bool, List, [], ◌∷◌, ◌++◌, length, get_or, replicate, sym, ap, subst, inl, inr, length-append, arith}
-use Rattle.std.specs.Prelude.{ℤ, pos, negsuc, ◌+ℤ◌, ◌≤ℤ◌}
+use Rattle.std.specs.Prelude.{ℤ, pos, ◌+ℤ◌, ◌≤ℤ◌}
 use Rattle.std.specs.List.{flat_map, AllByRecursion}
 use Rattle.std.proofs.Math.ListN.{length-replicate}
 use Rattle.std.proofs.Math.Pow.{pow_mono}
@@ -9,7 +9,7 @@ use Rattle.std.proofs.lemmas.Bool.{cases_lt}
 use Rattle.jr_code.specs.Bits.{number, extended, value}
 use Rattle.jr_code.specs.Code.{Table}
 use Rattle.jr_code.proofs.BitLemmas.{number_below}
-use Rattle.jr_scan.specs.Block.{AcCode, IsAcCode, entries, DifferenceAt, OthersAt, CodedAt, BlockAt, IsInRange}
+use Rattle.jr_scan.specs.Block.{AcCode, IsAcCode, entries, DifferenceAt, OthersAt, CodedAt, BlockAt, IsInDcRange, IsInRange}
 use Rattle.jr_scan.specs.Block.AcCode.{ZeroRun, RunAndSize}
 use Rattle.jr_scan.specs.Step.{TakesCoded}
 use Rattle.jr_scan.proofs.Values.{extended_high, extended_low}
@@ -89,10 +89,8 @@ block_in_range dc ac p z bits b =
     let rest : (k : ℕ) → 0 < k → Within 1023 (get_or z k (pos 0)) = λ k some. subst (λ (x : List ℤ). Within 1023 (get_or x k (pos 0))) (sym b.values) (behind (p +ℤ b.difference) b.others others k some) in
     record {
       count = omega (arith, ap length b.values, coded_count dc ac b.difference b.others bits b.coded);
-      first_low = subst (λ (x : ℤ). negsuc 32767 ≤ℤ x) (sym first) b.low;
-      first_high = subst (λ (x : ℤ). x ≤ℤ pos 32767) (sym first) b.high;
-      low = λ k some lt. let w = rest k some in omega (arith, ints, w.1);
-      high = λ k some lt. (rest k some).0;
+      first = subst IsInDcRange (sym first) b.in_range;
+      others = λ k some lt. let w = rest k some in (omega (arith, ints, w.1), w.0);
     }
   where
     behind : (x : ℤ) (xs : List ℤ) → ((k : ℕ) → Within 1023 (get_or xs k (pos 0))) → (k : ℕ) → 0 < k → Within 1023 (get_or (x ∷ xs) k (pos 0))

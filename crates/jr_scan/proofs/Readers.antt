@@ -1,6 +1,6 @@
 -- A reader goes on by one block, and what its end says of the interval.
 use Rattle.std.proofs.Common.{◌≡◌, ◌≢◌, ℕ, suc, ◌+◌, ◌*◌, ◌<◌, ◌≤◌, Bool, true, false, cond, List, [], ◌∷◌, ◌++◌, length, get_or, take, drop, set, refl, sym, ap, subst, ◌∙◌, inl, inr, length-append, arith}
-use Rattle.std.specs.Prelude.{ℤ, pos, negsuc, ◌≤ℤ◌}
+use Rattle.std.specs.Prelude.{ℤ, pos}
 use Rattle.std.proofs.lemmas.List.{get_or-set_same, get_or-set_other, get_or_append_left, length-take-le}
 use Rattle.std.proofs.lemmas.Bool.{cases_lt, cases_eq}
 use Rattle.std.proofs.lemmas.Bool.Decides.{eqb_tells}
@@ -13,6 +13,7 @@ use Rattle.jr_head.specs.Geometry.{component_count, order_of, dc_of, ac_of}
 use Rattle.jr_head.specs.declared.mark.Kind.{Kind}
 use Rattle.jr_head.specs.declared.mark.Kind.TheVariants.{Grey, Rgb, Ycc}
 use Rattle.jr_scan.specs.IntervalValue.{IntervalValue}
+use Rattle.jr_scan.specs.Block.{IsInDcRange}
 use Rattle.jr_scan.specs.Step.{TakesBlock, HasNoBlock}
 use Rattle.jr_scan.specs.Mcus.{component, block_of, prediction, no_predictions, Decodes, Front, LongestFront}
 use Rattle.jr_scan.specs.Reader.{RunOf, ReaderValue, whole_run, per_mcu, HasEnded, Reads, HasNoNext, HasRead, IsKept}
@@ -40,7 +41,7 @@ register_at h start zs z registers v c k is room is_first before =
     ]
 
 -- a reader that hasn't read yet
-pub read_none : (run : RunOf) (left : List Bool) (zero' : ℕ) → left ≡ drop run.from.bit (bits run.interval.bytes) → HasRead (record { run = run; left = left; predictions = run.from.predictions; mcu = 0; place = 0; stuck = false }) []
+pub read_none : (run : RunOf) (left : List Bool) (zero' : ℕ) → left ≡ drop run.from.bit (bits run.interval.bytes) → HasRead (record { run = run; left = left; predictions = run.from.predictions; mcu = 0; next_block = 0; stuck = false }) []
 read_none run left z e = record {
   left = left;
   reads = subst (λ (b : List Bool). Reads run.interval.head run.from.predictions b left []) e (reads_none run.interval.head run.from.predictions left);
@@ -55,8 +56,8 @@ pub read_more : (run : RunOf) (left new : List Bool) (ps ps' : List ℤ) (mcu pl
     → let h = run.interval.head in c ≡ component h (mcu * length (order_of h) + place) → c < 3 → length ps ≡ 3
     → TakesBlock (dc_of h c) (ac_of h c) (get_or ps c (pos 0)) z left new → v ≡ get_or z 0 (pos 0) → ps' ≡ set ps c v
     → mcu' * length (order_of h) + place' ≡ mcu * length (order_of h) + place + 1
-    → HasRead (record { run = run; left = left; predictions = ps; mcu = mcu; place = place; stuck = false }) zs
-    → HasRead (record { run = run; left = new; predictions = ps'; mcu = mcu'; place = place'; stuck = false }) (zs ++ z ∷ [])
+    → HasRead (record { run = run; left = left; predictions = ps; mcu = mcu; next_block = place; stuck = false }) zs
+    → HasRead (record { run = run; left = new; predictions = ps'; mcu = mcu'; next_block = place'; stuck = false }) (zs ++ z ∷ [])
 read_more run left new ps ps' mcu place mcu' place' c v z zs is three size t first wrote next r =
     let h = run.interval.head in
     let start = run.from.predictions in
@@ -75,8 +76,8 @@ read_more run left new ps ps' mcu place mcu' place' c v z zs is three size t fir
 -- no block follows
 pub read_stop : (run : RunOf) (left new : List Bool) (ps : List ℤ) (mcu place c : ℕ) (zs : List (List ℤ))
     → let h = run.interval.head in c ≡ component h (mcu * length (order_of h) + place) → c < 3 → HasNoBlock (dc_of h c) (ac_of h c) (get_or ps c (pos 0)) left
-    → HasRead (record { run = run; left = left; predictions = ps; mcu = mcu; place = place; stuck = false }) zs
-    → HasRead (record { run = run; left = new; predictions = ps; mcu = mcu; place = place; stuck = true }) zs
+    → HasRead (record { run = run; left = left; predictions = ps; mcu = mcu; next_block = place; stuck = false }) zs
+    → HasRead (record { run = run; left = new; predictions = ps; mcu = mcu; next_block = place; stuck = true }) zs
 read_stop run left new ps mcu place c zs is three none r =
     let h = run.interval.head in
     let start = run.from.predictions in
@@ -94,16 +95,11 @@ read_stop run left new ps mcu place c zs is three none r =
     }
 
 -- the kept predictions
-pub kept_low : (ps ps' : List ℤ) (c : ℕ) (v : ℤ) → length ps ≡ 3 → ps' ≡ set ps c v → negsuc 32767 ≤ℤ v → ((k : ℕ) → k < 3 → negsuc 32767 ≤ℤ get_or ps k (pos 0)) → (k : ℕ) → k < 3 → negsuc 32767 ≤ℤ get_or ps' k (pos 0)
-kept_low ps ps' c v size wrote here there k lt = elim (cases_eq k c) [
-  | inl e ↦ subst (λ (x : ℤ). negsuc 32767 ≤ℤ x) (sym (ap (λ (rs : List ℤ). get_or rs k (pos 0)) wrote ∙ ap (λ (j : ℕ). get_or (set ps c v) j (pos 0)) e ∙ get_or-set_same ps c v (pos 0) (omega (arith, size)))) here
-  | inr ne ↦ subst (λ (x : ℤ). negsuc 32767 ≤ℤ x) (sym (ap (λ (rs : List ℤ). get_or rs k (pos 0)) wrote ∙ get_or-set_other ps c k v (pos 0) ne)) (there k lt)
-]
-
-pub kept_high : (ps ps' : List ℤ) (c : ℕ) (v : ℤ) → length ps ≡ 3 → ps' ≡ set ps c v → v ≤ℤ pos 32767 → ((k : ℕ) → k < 3 → get_or ps k (pos 0) ≤ℤ pos 32767) → (k : ℕ) → k < 3 → get_or ps' k (pos 0) ≤ℤ pos 32767
-kept_high ps ps' c v size wrote here there k lt = elim (cases_eq k c) [
-  | inl e ↦ subst (λ (x : ℤ). x ≤ℤ pos 32767) (sym (ap (λ (rs : List ℤ). get_or rs k (pos 0)) wrote ∙ ap (λ (j : ℕ). get_or (set ps c v) j (pos 0)) e ∙ get_or-set_same ps c v (pos 0) (omega (arith, size)))) here
-  | inr ne ↦ subst (λ (x : ℤ). x ≤ℤ pos 32767) (sym (ap (λ (rs : List ℤ). get_or rs k (pos 0)) wrote ∙ get_or-set_other ps c k v (pos 0) ne)) (there k lt)
+pub kept_in_range : (ps ps' : List ℤ) (c : ℕ) (v : ℤ) → length ps ≡ 3 → ps' ≡ set ps c v → IsInDcRange v
+    → ((k : ℕ) → k < 3 → IsInDcRange (get_or ps k (pos 0))) → (k : ℕ) → k < 3 → IsInDcRange (get_or ps' k (pos 0))
+kept_in_range ps ps' c v size wrote here there k lt = elim (cases_eq k c) [
+  | inl e ↦ subst IsInDcRange (sym (ap (λ (rs : List ℤ). get_or rs k (pos 0)) wrote ∙ ap (λ (j : ℕ). get_or (set ps c v) j (pos 0)) e ∙ get_or-set_same ps c v (pos 0) (omega (arith, size)))) here
+  | inr ne ↦ subst IsInDcRange (sym (ap (λ (rs : List ℤ). get_or rs k (pos 0)) wrote ∙ get_or-set_other ps c k v (pos 0) ne)) (there k lt)
 ]
 
 -- from the start of an interval on, nothing is passed over
@@ -135,7 +131,7 @@ not_stuck r kept all = go r.stuck refl
 
 all_count : (i : IntervalValue) (r : ReaderValue) (zs : List (List ℤ)) → r.run ≡ whole_run i → IsKept r → r.mcu ≡ r.run.mcus → HasRead r zs → length zs ≡ i.mcus * length (order_of i.head)
 all_count i r zs e kept all s =
-    let place : r.place ≡ 0 = at_end r.mcu r.run.mcus (per_mcu r) r.place all kept.few in
+    let place : r.next_block ≡ 0 = at_end r.mcu r.run.mcus (per_mcu r) r.next_block all kept.few in
     let m : r.run.mcus ≡ i.mcus = ap (λ (run : RunOf). run.mcus) e in
     let head : per_mcu r ≡ length (order_of i.head) = ap (λ (run : RunOf). length (order_of run.interval.head)) e in
     s.count ∙ ap (λ (p : ℕ). r.mcu * per_mcu r + p) place ∙ none (r.mcu * per_mcu r) ∙ ap (λ (k : ℕ). k * per_mcu r) (all ∙ m) ∙ ap (λ (k : ℕ). i.mcus * k) head
@@ -160,7 +156,7 @@ damaged one i r zs ys e kept far s (inl stuck) d =
     let run = r.run in
     let m : run.mcus ≡ i.mcus = ap (λ (run : RunOf). run.mcus) e in
     let head : per_mcu r ≡ length (order_of i.head) = ap (λ (run : RunOf). length (order_of run.interval.head)) e in
-    let more = whole_below r.mcu run.mcus (per_mcu r) r.place kept.within (kept.missing stuck) in
+    let more = whole_below r.mcu run.mcus (per_mcu r) r.next_block kept.within (kept.missing stuck) in
     let total : run.mcus * per_mcu r ≡ i.mcus * length (order_of i.head) = ap (λ (k : ℕ). k * per_mcu r) m ∙ ap (λ (k : ℕ). i.mcus * k) head in
     let none = subst (λ (run : RunOf). HasNoNext run.interval.head run.from.predictions zs s.left) e (s.stuck stuck) in
     reads_stuck i.head no_predictions (bits i.bytes) s.left zs one (whole_reads i r zs e s) none ys d.taken d.padding d.mcus.1 d.spelled (omega (arith, s.count, more, total, d.mcus.0))
@@ -178,7 +174,7 @@ longest one i r zs e kept s ended =
     let b = blocks_front i.head no_predictions zs (bits i.bytes) reads.taken s.left (r.mcu * per_mcu r) reads.blocks reads.split room in
     record {
       front = record {
-        at_most = omega (arith, below_whole r.mcu r.run.mcus (per_mcu r) r.place kept.within kept.few, m);
+        at_most = omega (arith, below_whole r.mcu r.run.mcus (per_mcu r) r.next_block kept.within kept.few, m);
         taken = b.0;
         rest = b.1;
         mcus = (length-take-le (r.mcu * per_mcu r) zs room ∙ ap (λ (k : ℕ). r.mcu * k) head, b.2);
@@ -192,7 +188,7 @@ longest one i r zs e kept s ended =
     most j ys f (inl stuck) = elim (cases_lt r.mcu j) [
       | inl l ↦
           let head : per_mcu r ≡ length (order_of i.head) = ap (λ (run : RunOf). length (order_of run.interval.head)) e in
-          let more = whole_below r.mcu j (per_mcu r) r.place kept.within l in
+          let more = whole_below r.mcu j (per_mcu r) r.next_block kept.within l in
           let total : j * per_mcu r ≡ j * length (order_of i.head) = ap (λ (k : ℕ). j * k) head in
           let none = subst (λ (run : RunOf). HasNoNext run.interval.head run.from.predictions zs s.left) e (s.stuck stuck) in
           absurd (reads_stuck i.head no_predictions (bits i.bytes) s.left zs one (whole_reads i r zs e s) none ys f.taken f.rest f.mcus.1 f.spelled (omega (arith, s.count, more, total, f.mcus.0)))

@@ -92,11 +92,11 @@ to_others ac others old rest g =
     }
 
 -- how far the reader has come
-pub record IsSoFar (ac : Table) (first : ℤ) (old bits : List Bool) (block : List ℤ) (place : ℕ) : Type 0 where
+pub record IsSoFar (ac : Table) (first : ℤ) (old bits : List Bool) (block : List ℤ) (index : ℕ) : Type 0 where
   pub done : List ℤ
-  pub count : length done + 1 ≡ place
-  pub within : place ≤ 64
-  pub blocks : block ≡ first ∷ (done ++ replicate (64 - place) (pos 0))
+  pub count : length done + 1 ≡ index
+  pub within : index ≤ 64
+  pub blocks : block ≡ first ∷ (done ++ replicate (64 - index) (pos 0))
   pub on : (others : List ℤ) (rest : List Bool) → Goes ac [] others old rest → Goes ac done others bits rest
   pub back : (others : List ℤ) (rest : List Bool) → Goes ac done others bits rest → Goes ac [] others old rest
 
@@ -104,12 +104,12 @@ pub so_far_none : (ac : Table) (first : ℤ) (bits : List Bool) → IsSoFar ac f
 so_far_none ac first bits = record { done = []; count = refl; within = omega arith; blocks = refl; on = λ others rest g. g; back = λ others rest g. g }
 
 -- one more code
-pub so_far_more : (ac : Table) → IsPrefixFree ac → (first : ℤ) (old bits new : List Bool) (block block' made : List ℤ) (place place' : ℕ)
-    → (s : IsSoFar ac first old bits block place) → place < 64 → TakesAcCode ac made bits new
-    → place' ≡ place + length made → place' ≤ 64
+pub so_far_more : (ac : Table) → IsPrefixFree ac → (first : ℤ) (old bits new : List Bool) (block block' made : List ℤ) (index place' : ℕ)
+    → (s : IsSoFar ac first old bits block index) → index < 64 → TakesAcCode ac made bits new
+    → place' ≡ index + length made → place' ≤ 64
     → block' ≡ first ∷ ((s.done ++ made) ++ replicate (64 - place') (pos 0))
     → IsSoFar ac first old new block' place'
-so_far_more ac free first old bits new block block' made place place' s room t next fits written =
+so_far_more ac free first old bits new block block' made index place' s room t next fits written =
     let e = t.gives in
     record {
       done = s.done ++ made;
@@ -121,10 +121,10 @@ so_far_more ac free first old bits new block block' made place place' s room t n
     }
 
 -- all places are there
-pub so_far_all : (ac : Table) (first : ℤ) (old bits : List Bool) (block : List ℤ) (place : ℕ) → IsSoFar ac first old bits block place → 64 ≤ place
+pub so_far_all : (ac : Table) (first : ℤ) (old bits : List Bool) (block : List ℤ) (index : ℕ) → IsSoFar ac first old bits block index → 64 ≤ index
     → (others : List ℤ) × (block ≡ first ∷ others) × TakesOthers ac others old bits
-so_far_all ac first old bits block place s all =
-    let n : 64 - place ≡ 0 = omega arith in
+so_far_all ac first old bits block index s all =
+    let n : 64 - index ≡ 0 = omega arith in
     let m : length s.done + 0 ≡ 63 = omega (arith, s.count, s.within) in
     let k : 63 - (length s.done + 0) ≡ 0 = omega arith in
     let b : block ≡ first ∷ s.done = s.blocks ∙ rw n (ap (λ (x : List ℤ). first ∷ x) (append-nil s.done)) in
@@ -132,11 +132,11 @@ so_far_all ac first old bits block place s all =
     (s.done, b, to_others ac s.done old bits (s.back s.done bits g))
 
 -- a word says that the rest is 0
-pub so_far_end : (ac : Table) (first : ℤ) (old bits new : List Bool) (block : List ℤ) (place : ℕ) → IsSoFar ac first old bits block place → place < 64 → TakesEnd ac bits new
+pub so_far_end : (ac : Table) (first : ℤ) (old bits new : List Bool) (block : List ℤ) (index : ℕ) → IsSoFar ac first old bits block index → index < 64 → TakesEnd ac bits new
     → (others : List ℤ) × (block ≡ first ∷ others) × TakesOthers ac others old new
-so_far_end ac first old bits new block place s room t =
-    let others = s.done ++ replicate (64 - place) (pos 0) in
-    let k : 63 - (length s.done + 0) ≡ 64 - place = omega (arith, s.count) in
+so_far_end ac first old bits new block index s room t =
+    let others = s.done ++ replicate (64 - index) (pos 0) in
+    let k : 63 - (length s.done + 0) ≡ 64 - index = omega (arith, s.count) in
     let g : Goes ac s.done others bits new = record { items = []; tail = t.word; each = tt; end = inr (omega (arith, s.count), t.is); spelled = t.split; values = ap (λ (q : ℕ). s.done ++ replicate q (pos 0)) (sym k) } in
     (others, s.blocks, to_others ac others old new (s.back others new g))
 
@@ -146,8 +146,8 @@ no_goes_at ac done others bits rest room none [] tail each (inr end) spelled = n
 no_goes_at ac done others bits rest room none (i ∷ is) tail each end spelled = none.no_code i (flat_map code_bits is ++ (tail ++ rest)) each.0 (spelled ∙ append_assoc (code_bits i) (flat_map code_bits is) (tail ++ rest))
 
 -- where no step begins what is left, no block began
-pub so_far_stuck : (ac : Table) (first : ℤ) (old bits : List Bool) (block : List ℤ) (place : ℕ) → IsSoFar ac first old bits block place → place < 64 → HasNoStep ac bits → HasNoOthers ac old
-so_far_stuck ac first old bits block place s room none others b rest o split =
+pub so_far_stuck : (ac : Table) (first : ℤ) (old bits : List Bool) (block : List ℤ) (index : ℕ) → IsSoFar ac first old bits block index → index < 64 → HasNoStep ac bits → HasNoOthers ac old
+so_far_stuck ac first old bits block index s room none others b rest o split =
     let g = s.on others rest (of_others ac others old b rest o split) in
     no_goes_at ac s.done others bits rest (omega (arith, s.count)) none g.items g.tail g.each g.end g.spelled
 
@@ -156,8 +156,8 @@ end_within ac n tail (inl full) = omega (arith, full.0)
 end_within ac n tail (inr end) = omega (arith, end.0)
 
 -- where the next code goes past the last place, no block began
-pub so_far_over : (ac : Table) → IsPrefixFree ac → (first : ℤ) (old bits new : List Bool) (block made : List ℤ) (place : ℕ) → IsSoFar ac first old bits block place → place < 64 → TakesAcCode ac made bits new → 64 < place + length made → HasNoOthers ac old
-so_far_over ac free first old bits new block made place s room t over others b rest o split =
+pub so_far_over : (ac : Table) → IsPrefixFree ac → (first : ℤ) (old bits new : List Bool) (block made : List ℤ) (index : ℕ) → IsSoFar ac first old bits block index → index < 64 → TakesAcCode ac made bits new → 64 < index + length made → HasNoOthers ac old
+so_far_over ac free first old bits new block made index s room t over others b rest o split =
     let g = s.on others rest (of_others ac others old b rest o split) in
     let h = step_on ac free t.code s.done others new rest t.is (omega (arith, s.count)) (subst (λ (x : List Bool). Goes ac s.done others x rest) t.split g) in
     omega (arith, end_within ac _ h.tail h.end, length-append s.done (entries t.code), ap length t.gives, s.count)
@@ -176,32 +176,32 @@ set_at (x ∷ done) n run v h =
     ap (λ (q : ℕ). set (x ∷ (done ++ replicate n (pos 0))) q v) e ∙ ap (λ (y : List ℤ). x ∷ y) (set_at done n run v h)
 
 -- the block behind the write of an item's value
-pub block_written : (first v : ℤ) (done block : List ℤ) (place run at : ℕ) → block ≡ first ∷ (done ++ replicate (64 - place) (pos 0)) → length done + 1 ≡ place → at ≡ place + run → at < 64
+pub block_written : (first v : ℤ) (done block : List ℤ) (index run at : ℕ) → block ≡ first ∷ (done ++ replicate (64 - index) (pos 0)) → length done + 1 ≡ index → at ≡ index + run → at < 64
     → set block at v ≡ first ∷ ((done ++ (replicate run (pos 0) ++ v ∷ [])) ++ replicate (64 - (at + 1)) (pos 0))
-block_written first v done block place run at is count e h =
+block_written first v done block index run at is count e h =
     let a : at ≡ suc (length done + run) = omega arith in
-    let k : (64 - place) - (run + 1) ≡ 64 - (at + 1) = omega arith in
-    let lt : run < 64 - place = omega arith in
-    ap (λ (b : List ℤ). set b at v) is ∙ ap (λ (q : ℕ). set (first ∷ (done ++ replicate (64 - place) (pos 0))) q v) a ∙ ap (λ (x : List ℤ). first ∷ x) (set_at done (64 - place) run v lt) ∙ ap (λ (q : ℕ). first ∷ ((done ++ (replicate run (pos 0) ++ v ∷ [])) ++ replicate q (pos 0))) k
+    let k : (64 - index) - (run + 1) ≡ 64 - (at + 1) = omega arith in
+    let lt : run < 64 - index = omega arith in
+    ap (λ (b : List ℤ). set b at v) is ∙ ap (λ (q : ℕ). set (first ∷ (done ++ replicate (64 - index) (pos 0))) q v) a ∙ ap (λ (x : List ℤ). first ∷ x) (set_at done (64 - index) run v lt) ∙ ap (λ (q : ℕ). first ∷ ((done ++ (replicate run (pos 0) ++ v ∷ [])) ++ replicate q (pos 0))) k
 
 -- the block behind sixteen zeros
-pub block_zeros : (first : ℤ) (done block : List ℤ) (place : ℕ) → block ≡ first ∷ (done ++ replicate (64 - place) (pos 0)) → place + 16 ≤ 64
-    → block ≡ first ∷ ((done ++ replicate 16 (pos 0)) ++ replicate (64 - (place + 16)) (pos 0))
-block_zeros first done block place is h =
-    let k : 64 - place ≡ 16 + (64 - (place + 16)) = omega arith in
-    is ∙ ap (λ (q : ℕ). first ∷ (done ++ replicate q (pos 0))) k ∙ ap (λ (x : List ℤ). first ∷ (done ++ x)) (sym (replicate-append-replicate 16 (64 - (place + 16)) (pos 0))) ∙ ap (λ (x : List ℤ). first ∷ x) (sym (append_assoc done (replicate 16 (pos 0)) (replicate (64 - (place + 16)) (pos 0))))
+pub block_zeros : (first : ℤ) (done block : List ℤ) (index : ℕ) → block ≡ first ∷ (done ++ replicate (64 - index) (pos 0)) → index + 16 ≤ 64
+    → block ≡ first ∷ ((done ++ replicate 16 (pos 0)) ++ replicate (64 - (index + 16)) (pos 0))
+block_zeros first done block index is h =
+    let k : 64 - index ≡ 16 + (64 - (index + 16)) = omega arith in
+    is ∙ ap (λ (q : ℕ). first ∷ (done ++ replicate q (pos 0))) k ∙ ap (λ (x : List ℤ). first ∷ (done ++ x)) (sym (replicate-append-replicate 16 (64 - (index + 16)) (pos 0))) ∙ ap (λ (x : List ℤ). first ∷ x) (sym (append_assoc done (replicate 16 (pos 0)) (replicate (64 - (index + 16)) (pos 0))))
 
-pub so_far_zeros : (ac : Table) → IsPrefixFree ac → (first : ℤ) (old bits new : List Bool) (block block' : List ℤ) (place place' : ℕ)
-    → IsSoFar ac first old bits block place → place < 64 → TakesAcCode ac (replicate 16 (pos 0)) bits new → block' ≡ block → place' ≡ place + 16 → place' ≤ 64 → IsSoFar ac first old new block' place'
-so_far_zeros ac free first old bits new block block' place place' s room t same next fits =
+pub so_far_zeros : (ac : Table) → IsPrefixFree ac → (first : ℤ) (old bits new : List Bool) (block block' : List ℤ) (index place' : ℕ)
+    → IsSoFar ac first old bits block index → index < 64 → TakesAcCode ac (replicate 16 (pos 0)) bits new → block' ≡ block → place' ≡ index + 16 → place' ≤ 64 → IsSoFar ac first old new block' place'
+so_far_zeros ac free first old bits new block block' index place' s room t same next fits =
     let written : block' ≡ first ∷ ((s.done ++ replicate 16 (pos 0)) ++ replicate (64 - place') (pos 0))
-    = same ∙ block_zeros first s.done block place s.blocks (omega (arith, next, fits)) ∙ ap (λ (q : ℕ). first ∷ ((s.done ++ replicate 16 (pos 0)) ++ replicate (64 - q) (pos 0))) (sym next) in
-    so_far_more ac free first old bits new block block' (replicate 16 (pos 0)) place place' s room t next fits written
+    = same ∙ block_zeros first s.done block index s.blocks (omega (arith, next, fits)) ∙ ap (λ (q : ℕ). first ∷ ((s.done ++ replicate 16 (pos 0)) ++ replicate (64 - q) (pos 0))) (sym next) in
+    so_far_more ac free first old bits new block block' (replicate 16 (pos 0)) index place' s room t next fits written
 
-pub so_far_coef : (ac : Table) → IsPrefixFree ac → (first v : ℤ) (old bits new : List Bool) (block block' : List ℤ) (place run at place' : ℕ)
-    → IsSoFar ac first old bits block place → place < 64 → TakesAcCode ac (replicate run (pos 0) ++ v ∷ []) bits new → at ≡ place + run → at ≤ 63 → block' ≡ set block at v → place' ≡ at + 1 → IsSoFar ac first old new block' place'
-so_far_coef ac free first v old bits new block block' place run at place' s room t is fits wrote next =
+pub so_far_coef : (ac : Table) → IsPrefixFree ac → (first v : ℤ) (old bits new : List Bool) (block block' : List ℤ) (index run at place' : ℕ)
+    → IsSoFar ac first old bits block index → index < 64 → TakesAcCode ac (replicate run (pos 0) ++ v ∷ []) bits new → at ≡ index + run → at ≤ 63 → block' ≡ set block at v → place' ≡ at + 1 → IsSoFar ac first old new block' place'
+so_far_coef ac free first v old bits new block block' index run at place' s room t is fits wrote next =
     let n : length (replicate run (pos 0) ++ v ∷ []) ≡ run + 1 = omega (arith, length-append (replicate run (pos 0)) (v ∷ []), length-replicate run (pos 0)) in
     let written : block' ≡ first ∷ ((s.done ++ (replicate run (pos 0) ++ v ∷ [])) ++ replicate (64 - place') (pos 0))
-    = wrote ∙ block_written first v s.done block place run at s.blocks s.count is (omega (arith, fits)) ∙ ap (λ (q : ℕ). first ∷ ((s.done ++ (replicate run (pos 0) ++ v ∷ [])) ++ replicate (64 - q) (pos 0))) (sym next) in
-    so_far_more ac free first old bits new block block' (replicate run (pos 0) ++ v ∷ []) place place' s room t (omega (arith, n, is, next)) (omega (arith, next, fits)) written
+    = wrote ∙ block_written first v s.done block index run at s.blocks s.count is (omega (arith, fits)) ∙ ap (λ (q : ℕ). first ∷ ((s.done ++ (replicate run (pos 0) ++ v ∷ [])) ++ replicate (64 - q) (pos 0))) (sym next) in
+    so_far_more ac free first old bits new block block' (replicate run (pos 0) ++ v ∷ []) index place' s room t (omega (arith, n, is, next)) (omega (arith, next, fits)) written

@@ -245,7 +245,7 @@ three_places (a ∷ b ∷ c ∷ []) e = refl
 three_places (a ∷ b ∷ c ∷ d ∷ es) e = absurd (omega arith)
 
 -- what a reader has read is the run of so many MCUs, where it stands between two of them
-pub read_is_run : (r : ReaderValue) (zs : List (List ℤ)) (bit : ℕ) → IsKept r → r.stuck ≡ false → r.place ≡ 0 → length r.predictions ≡ 3 → bit ≡ 8 * length r.run.interval.bytes - length r.left → HasRead r zs
+pub read_is_run : (r : ReaderValue) (zs : List (List ℤ)) (bit : ℕ) → IsKept r → r.stuck ≡ false → r.next_block ≡ 0 → length r.predictions ≡ 3 → bit ≡ 8 * length r.run.interval.bytes - length r.left → HasRead r zs
     → IsRun (record { interval = r.run.interval; from = r.run.from; mcus = r.mcu }) zs (record { bit = bit; predictions = r.predictions }) AllRead
 read_is_run r zs bit kept going place three at s =
     let i = r.run.interval in
@@ -318,7 +318,7 @@ read_run one r zs kept three s ended = (to, (why ended).0, (why ended).1)
     made : (end : RunEnd) → EndsAs r.run r.mcu to end → IsRun r.run (take m zs) to end
     made end e = record {
       count = r.mcu;
-      few = below_whole r.mcu r.run.mcus (per_mcu r) r.place kept.within kept.few;
+      few = below_whole r.mcu r.run.mcus (per_mcu r) r.next_block kept.within kept.few;
       taken = front.0;
       mcus = (count, front.2);
       spelled = front.3 ∙ ap (λ (w : List Bool). front.0 ++ w) (sym behind);

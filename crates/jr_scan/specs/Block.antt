@@ -1,5 +1,5 @@
 -- One block: what its bits are, and which coefficients they give (T.81, F.1.2 and F.2.2).
-use Rattle.std.specs.Prelude.{◌≡◌, ℕ, ◌+◌, ◌-◌, ◌*◌, ◌<◌, ◌≤◌, Bool, List, [], ◌∷◌, ◌++◌, length, replicate, ◌⊎◌, ℤ, pos, negsuc, ◌+ℤ◌, ◌≤ℤ◌, slice_index_or}
+use Rattle.std.specs.Prelude.{◌≡◌, ℕ, ◌+◌, ◌-◌, ◌*◌, ◌<◌, ◌≤◌, Bool, List, [], ◌∷◌, ◌++◌, length, replicate, ◌⊎◌, ℤ, pos, neg_ℤ, ◌+ℤ◌, ◌≤ℤ◌, slice_index_or}
 use Rattle.std.specs.List.{flat_map, AllByRecursion}
 use Rattle.jr_code.specs.Bits.{value}
 use Rattle.jr_code.specs.Code.{Table, IsWord}
@@ -56,19 +56,24 @@ pub record CodedAt (dc ac : Table) (difference : ℤ) (others : List ℤ) (bits 
   pub are_others : OthersAt ac others others_bits
   pub spelled : bits ≡ first_bits ++ others_bits
 
+-- what a first coefficient and its prediction can be: sixteen bits hold them
+abbrev pub IsInDcRange : ℤ → Type 0
+IsInDcRange z = (neg_ℤ (pos 32768) ≤ℤ z) × (z ≤ℤ pos 32767)
+
+-- what the others can be: at most ten extra bits give them
+abbrev pub IsInAcRange : ℤ → Type 0
+IsInAcRange z = (neg_ℤ (pos 1023) ≤ℤ z) × (z ≤ℤ pos 1023)
+
 -- the block z where the first coefficient is predicted to be p, in zigzag order
 pub record BlockAt (dc ac : Table) (p : ℤ) (z : List ℤ) (bits : List Bool) : Type 0 where
   pub difference : ℤ
   pub others : List ℤ
   pub coded : CodedAt dc ac difference others bits
   pub values : z ≡ (p +ℤ difference) ∷ others
-  pub low : negsuc 32767 ≤ℤ (p +ℤ difference)
-  pub high : (p +ℤ difference) ≤ℤ pos 32767
+  pub in_range : IsInDcRange (p +ℤ difference)
 
 -- coefficients in the ranges that the inverse transform asks for
 pub record IsInRange (z : List ℤ) : Type 0 where
   pub count : length z ≡ 64
-  pub first_low : negsuc 32767 ≤ℤ slice_index_or z 0 (pos 0)
-  pub first_high : slice_index_or z 0 (pos 0) ≤ℤ pos 32767
-  pub low : (k : ℕ) → 0 < k → k < 64 → negsuc 1022 ≤ℤ slice_index_or z k (pos 0)
-  pub high : (k : ℕ) → 0 < k → k < 64 → slice_index_or z k (pos 0) ≤ℤ pos 1023
+  pub first : IsInDcRange (slice_index_or z 0 (pos 0))
+  pub others : (k : ℕ) → 0 < k → k < 64 → IsInAcRange (slice_index_or z k (pos 0))

@@ -71,6 +71,12 @@ pub record CutFrom (n k at : ℕ) (bytes : List ℕ) (datas : List (List ℕ)) (
 abbrev pub IsCut : (n at : ℕ) → List ℕ → List (List ℕ) → ScanEnd → Type 0
 IsCut n at bytes datas end = CutFrom n 0 at bytes datas end
 
+-- a way to cut them: what the segments spell, and what ends the scan
+pub record Cutting (n at : ℕ) (bytes : List ℕ) : Type 0 where
+  pub datas : List (List ℕ)
+  pub end : ScanEnd
+  pub is : IsCut n at bytes datas end
+
 -- what a segment stops at: FF bytes to the end, or FF bytes and a code
 pub record IsStop (tail : List ℕ) : Type 0 where
   pub more : ℕ

@@ -51,6 +51,10 @@ pub record Decodes (i : IntervalValue) (zs : List (List ℤ)) : Type 0 where
   pub short : length padding < 8
   pub spelled : bits i.bytes ≡ taken ++ padding
 
+-- no blocks are the interval's decoding
+abbrev pub HasNoDecoding : IntervalValue → Type 0
+HasNoDecoding i = (zs : List (List ℤ)) → Decodes i zs → ⊥
+
 -- the interval's bits begin with those of its first k MCUs
 pub record Front (i : IntervalValue) (k : ℕ) (zs : List (List ℤ)) : Type 0 where
   pub at_most : k ≤ i.mcus

@@ -1,9 +1,10 @@
 -- How far a reader of blocks has come.
-use Rattle.std.specs.Prelude.{◌≡◌, ℕ, ◌+◌, ◌-◌, ◌*◌, ◌<◌, ◌≤◌, Bool, true, false, List, ◌++◌, length, drop, ◌⊎◌, ℤ, pos, negsuc, ◌≤ℤ◌, slice_index_or}
+use Rattle.std.specs.Prelude.{◌≡◌, ℕ, ◌+◌, ◌-◌, ◌*◌, ◌<◌, ◌≤◌, Bool, true, false, List, ◌++◌, length, take, drop, ◌⊎◌, ℤ, pos, slice_index_or}
 use Rattle.jr_code.specs.Bits.{bits}
 use Rattle.jr_head.specs.HeadValue.{HeadValue}
 use Rattle.jr_head.specs.Geometry.{order_of, dc_of, ac_of}
 use Rattle.jr_scan.specs.declared.place.Place.{Place}
+use Rattle.jr_scan.specs.Block.{IsInDcRange}
 use Rattle.jr_scan.specs.IntervalValue.{IntervalValue}
 use Rattle.jr_scan.specs.Step.{HasNoBlock}
 use Rattle.jr_scan.specs.Mcus.{component, prediction, no_predictions, Blocks}
@@ -21,14 +22,14 @@ start = record { bit = 0; predictions = no_predictions }
 abbrev pub whole_run : IntervalValue → RunOf
 whole_run i = record { interval = i; from = start; mcus = i.mcus }
 
--- a reader: its run, the bits that are left, each component's prediction, how many whole MCUs and how many blocks
--- of the next one it has read, and whether it has met no block
+-- a reader: its run, the bits that are left, each component's prediction, how many whole MCUs it has read, which block
+-- of the next one follows, and whether it has met none
 pub record ReaderValue : Type 0 where
   pub run : RunOf
   pub left : List Bool
   pub predictions : List ℤ
   pub mcu : ℕ
-  pub place : ℕ
+  pub next_block : ℕ
   pub stuck : Bool
 
 -- the blocks of an MCU
@@ -36,7 +37,7 @@ abbrev pub per_mcu : ReaderValue → ℕ
 per_mcu r = length (order_of r.run.interval.head)
 
 abbrev pub blocks_read : ReaderValue → ℕ
-blocks_read r = r.mcu * per_mcu r + r.place
+blocks_read r = r.mcu * per_mcu r + r.next_block
 
 abbrev pub blocks_left : ReaderValue → ℕ
 blocks_left r = r.run.mcus * per_mcu r - blocks_read r
@@ -65,12 +66,23 @@ pub record HasRead (r : ReaderValue) (zs : List (List ℤ)) : Type 0 where
   pub going : r.stuck ≡ false → left ≡ r.left
   pub stuck : r.stuck ≡ true → HasNoNext r.run.interval.head r.run.from.predictions zs left
 
+-- these blocks are those that a reader of a whole interval has read so far
+abbrev pub HasReadOf : ReaderValue → IntervalValue → List (List ℤ) → Type 0
+HasReadOf r i zs = (r.run ≡ whole_run i) × HasRead r zs
+
+-- the run of the MCUs that a reader has read so far
+abbrev pub run_so_far : ReaderValue → RunOf
+run_so_far r = record { interval = r.run.interval; from = r.run.from; mcus = r.mcu }
+
+-- the blocks of the first k MCUs
+abbrev pub first_mcus : ReaderValue → ℕ → List (List ℤ) → List (List ℤ)
+first_mcus r k zs = take (k * per_mcu r) zs
+
 -- what each reader keeps
 pub record IsKept (r : ReaderValue) : Type 0 where
   pub start : r.run.from.bit ≤ 8 * length r.run.interval.bytes
-  pub within : r.place < per_mcu r
+  pub within : r.next_block < per_mcu r
   pub few : blocks_read r ≤ r.run.mcus * per_mcu r
   pub missing : r.stuck ≡ true → r.mcu < r.run.mcus
   pub three : length r.predictions ≡ 3
-  pub low : (c : ℕ) → c < 3 → negsuc 32767 ≤ℤ slice_index_or r.predictions c (pos 0)
-  pub high : (c : ℕ) → c < 3 → slice_index_or r.predictions c (pos 0) ≤ℤ pos 32767
+  pub in_range : (c : ℕ) → c < 3 → IsInDcRange (slice_index_or r.predictions c (pos 0))

@@ -7,7 +7,11 @@ use Rattle.jr_scan.specs.declared.place.RunEnd.{RunEnd}
 use Rattle.jr_scan.specs.declared.place.RunEnd.TheVariants.{AllRead, NoMcu}
 use Rattle.jr_scan.specs.IntervalValue.{IntervalValue}
 use Rattle.jr_scan.specs.Mcus.{prediction, Mcus}
-use Rattle.jr_scan.specs.Reader.{RunOf}
+use Rattle.jr_scan.specs.Reader.{RunOf, whole_run}
+
+-- so many MCUs from a place of an interval on
+abbrev pub run_from : IntervalValue → Place → ℕ → RunOf
+run_from i p k = record { interval = i; from = p; mcus = k }
 
 abbrev pub left_at : IntervalValue → Place → List Bool
 left_at i p = drop p.bit (bits i.bytes)
@@ -35,3 +39,18 @@ pub record IsRun (r : RunOf) (zs : List (List ℤ)) (to : Place) (end : RunEnd) 
   pub bit : to.bit ≡ r.from.bit + length taken
   pub predictions : to.predictions ≡ predicted r.interval.head r.from.predictions zs
   pub ends : EndsAs r count to end
+
+-- what a run gives: its blocks, where it ends and why
+pub record RunRead (r : RunOf) : Type 0 where
+  pub blocks : List (List ℤ)
+  pub to : Place
+  pub end : RunEnd
+  pub is : IsRun r blocks to end
+
+-- a run has these blocks, wherever and for whatever reason it ends
+abbrev pub HasBlocks : RunOf → List (List ℤ) → Type 0
+HasBlocks r zs = (to : Place) × (end : RunEnd) × IsRun r zs to end
+
+-- the whole run of an interval has all its MCUs and these blocks, and leaves fewer than eight bits
+abbrev pub IsSoundRun : IntervalValue → List (List ℤ) → Type 0
+IsSoundRun i zs = (to : Place) × IsRun (whole_run i) zs to AllRead × (length (left_at i to) < 8)

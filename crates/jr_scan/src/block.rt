@@ -66,26 +66,26 @@ fn read_others(ac: &CodeBook, bits: &mut Bits<'_>, first: i32, block: &mut Block
     one_word();
     *block = [0; 64];
     block[0] = first;
-    let mut place: usize = 1;
+    let mut index: usize = 1;
     'steps: loop {
         match read_step(ac, bits)? {
             Step::End => return Some(()),
             Step::Zeros => {
-                if place + 16 > 64 {
+                if index + 16 > 64 {
                     return None;
                 }
-                place += 16;
+                index += 16;
             }
             Step::Coefficient(run, v) => {
-                let at = place + usize::from(run);
+                let at = index + usize::from(run);
                 if at > 63 {
                     return None;
                 }
                 block[at] = v;
-                place = at + 1;
+                index = at + 1;
             }
         }
-        if place == 64 {
+        if index == 64 {
             return Some(());
         }
     }

@@ -50,7 +50,12 @@ fn end_at(code: u8, at: u64, k: u32, intervals: u32) -> Option<ScanEnd>
 }
 
 /// Cuts the bytes of a scan, the first of which stands at an offset of the file.
-pub(crate) fn cut(alloc: Global, intervals: u32, start: u64, bytes: &[u8]) -> Result<CodedSegments, Memory>
+pub(crate) fn cut(
+    alloc: Global,
+    intervals: u32,
+    start: u64,
+    bytes: &[u8],
+) -> Result<CodedSegments, Memory>
     requires some { 0 < intervals }
     requires fits { start + length bytes.now < 2 ^ 64 }
     ensures cut { IfOk result (λ p. IsCut intervals start bytes.now (map (segment_data p.unstuffed.items) p.spans.items) p.ended) }

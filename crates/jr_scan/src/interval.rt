@@ -40,7 +40,7 @@ impl Interval {
     ghost use Rattle.std.specs.Arc.{arc_value};
     ghost use Rattle.jr_scan.specs.Spans.{segment_data, IsWithin};
     ghost use Rattle.jr_scan.specs.Block.{IsInRange};
-    ghost use Rattle.jr_scan.specs.Mcus.{Decodes, LongestFront};
+    ghost use Rattle.jr_scan.specs.Mcus.{Decodes, HasNoDecoding, LongestFront};
     ghost use Rattle.jr_scan.specs.Reader.{HasRead, HasEnded, whole_run};
 
     pub(crate) fn of(
@@ -107,7 +107,7 @@ impl Interval {
     pub fn read(&self, alloc: Global) -> Result<Option<Vec<Block>>, Memory>
         ensures some { IfOk result (λ answer. IfSome answer (λ v. Decodes self.now v.items)) }
         ensures only { IfOk result (λ answer. IfSome answer (λ v. (ys : List (List ℤ)) → Decodes self.now ys → ys ≡ v.items)) }
-        ensures none { IfOk result (λ answer. IfNone answer ((ys : List (List ℤ)) → Decodes self.now ys → ⊥)) }
+        ensures none { IfOk result (λ answer. IfNone answer (HasNoDecoding self.now)) }
         ensures in_range { IfOk result (λ answer. IfSome answer (λ v. All IsInRange v.items)) }
     {
         one_word();

@@ -1,14 +1,12 @@
 //! What holds of every scan and of every interval.
 
-ghost use Rattle.std.specs.Prelude.{◌≡◌, ◌+◌, ◌<◌, ◌≤◌, ◌↔◌, ◌*◌, ◌++◌, ℕ, ℤ, List, [], take, length};
+ghost use Rattle.std.specs.Prelude.{◌≡◌, ◌+◌, ◌≤◌, ◌↔◌, ◌*◌, ◌++◌, ℕ, ℤ, List, [], take, length};
 ghost use Rattle.jr_head.specs.Geometry.{IsLawful, order_of};
 ghost use Rattle.jr_scan.specs.declared.place.Place.{Place};
-ghost use Rattle.jr_scan.specs.declared.place.RunEnd.{RunEnd};
 ghost use Rattle.jr_scan.specs.declared.place.RunEnd.TheVariants.{AllRead};
-ghost use Rattle.jr_scan.specs.Reader.{RunOf, whole_run};
-ghost use Rattle.jr_scan.specs.Run.{IsRun, left_at};
-ghost use Rattle.jr_scan.specs.declared.scan_end.ScanEnd.{ScanEnd};
-ghost use Rattle.jr_scan.specs.Cut.{IsCut};
+ghost use Rattle.jr_scan.specs.Reader.{RunOf};
+ghost use Rattle.jr_scan.specs.Run.{IsRun, IsSoundRun, RunRead, run_from};
+ghost use Rattle.jr_scan.specs.Cut.{Cutting};
 ghost use Rattle.jr_scan.specs.IntervalValue.{IntervalValue};
 ghost use Rattle.jr_scan.specs.Mcus.{Decodes, Front};
 
@@ -16,7 +14,7 @@ use jr_code::one_word;
 
 /// A scan's bytes are cut in one way: n intervals, the first byte at an offset of the file.
 pub fn one_cut()
-    ensures { (n at : ℕ) (bytes : List ℕ) (xs ys : List (List ℕ)) (a b : ScanEnd) → IsCut n at bytes xs a → IsCut n at bytes ys b → (xs ≡ ys) × (a ≡ b) }
+    ensures { (n at : ℕ) (bytes : List ℕ) (a b : Cutting n at bytes) → (a.datas ≡ b.datas) × (a.end ≡ b.end) }
 {}
 
 /// An interval has at most one decoding.
@@ -45,19 +43,18 @@ pub fn no_front()
 
 /// Each place of an interval starts one run of so many MCUs: its blocks, where it ends and why are settled.
 pub fn one_run()
-    ensures { (r : RunOf) (zs ys : List (List ℤ)) (a b : Place) (e f : RunEnd) → IsLawful r.interval.head → IsRun r zs a e → IsRun r ys b f → (zs ≡ ys) × (a ≡ b) × (e ≡ f) }
+    ensures { (r : RunOf) (a b : RunRead r) → IsLawful r.interval.head → (a.blocks ≡ b.blocks) × (a.to ≡ b.to) × (a.end ≡ b.end) }
 {
     one_word();
 }
 
 /// Where a run has all its MCUs and another starts at its end, they are one run.
 pub fn runs_meet()
-    ensures { (i : IntervalValue) (p q s : Place) (k m : ℕ) (zs ys : List (List ℤ)) (end : RunEnd) → IsLawful i.head
-        → IsRun (record { interval = i; from = p; mcus = k }) zs q AllRead → IsRun (record { interval = i; from = q; mcus = m }) ys s end
-        → IsRun (record { interval = i; from = p; mcus = k + m }) (zs ++ ys) s end }
+    ensures { (i : IntervalValue) (p : Place) (k m : ℕ) (a : RunRead (run_from i p k)) (b : RunRead (run_from i a.to m)) → IsLawful i.head
+        → a.end ≡ AllRead → IsRun (run_from i p (k + m)) (a.blocks ++ b.blocks) b.to b.end }
 {}
 
 /// An interval decodes to the blocks of its whole run, where this has all MCUs and leaves fewer than eight bits.
 pub fn decoding_is_whole_run()
-    ensures { (i : IntervalValue) (zs : List (List ℤ)) → Decodes i zs ↔ ((to : Place) × IsRun (whole_run i) zs to AllRead × (length (left_at i to) < 8)) }
+    ensures { (i : IntervalValue) (zs : List (List ℤ)) → Decodes i zs ↔ IsSoundRun i zs }
 {}

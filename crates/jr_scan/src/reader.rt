@@ -1,9 +1,9 @@
 //! The blocks of an interval, one at a time.
 
-ghost use Rattle.std.specs.Prelude.{◌≡◌, ◌<◌, ◌≤◌, ◌+◌, ℕ, length, drop, ◌^◌, ℤ, pos, negsuc, ◌≤ℤ◌, List, [], ◌∷◌, ◌++◌, take, ◌*◌, true, false, IsTrue, IfSome, IfNone, OnSome, slice_index_or};
+ghost use Rattle.std.specs.Prelude.{◌≡◌, ◌<◌, ◌≤◌, ◌+◌, ℕ, length, drop, ◌^◌, ℤ, pos, List, [], ◌∷◌, ◌++◌, take, ◌*◌, true, false, IsTrue, IfSome, IfNone, OnSome, slice_index_or};
 ghost use Rattle.std.specs.List.{All};
 ghost use Rattle.jr_code.specs.Bits.{bits};
-ghost use Rattle.jr_scan.specs.Block.{IsInRange};
+ghost use Rattle.jr_scan.specs.Block.{IsInDcRange, IsInRange};
 ghost use Rattle.jr_scan.specs.Step.{TakesBlock, HasNoBlock};
 
 use crate::block::{Block, read_block};
@@ -20,8 +20,7 @@ fn read_predicted(
     prediction: i32,
     block: &mut Block,
 ) -> Option<i32>
-    requires low { negsuc 32767 ≤ℤ prediction }
-    requires high { prediction ≤ℤ pos 32767 }
+    requires { IsInDcRange prediction }
     ensures some { OnSome result (TakesBlock dc.now ac.now prediction block.new bits.old bits.new) }
     ensures first { IfSome result (λ first. first ≡ slice_index_or block.new 0 (pos 0)) }
     ensures none { IfNone result (HasNoBlock dc.now ac.now prediction bits.old) }
@@ -36,18 +35,18 @@ fn read_predicted(
     Some(first)
 }
 
-/// The number of whole MCUs and the place in the next one, behind one more block.
-fn following(mcu: u32, place: usize, blocks: usize, mcus: u32) -> (u32, usize)
-    requires within { place < blocks }
+/// The number of whole MCUs and of the next block in its MCU, behind one more block.
+fn following(mcu: u32, next_block: usize, blocks: usize, mcus: u32) -> (u32, usize)
+    requires within { next_block < blocks }
     requires room { mcu < mcus }
     ensures within { result.1 < blocks }
-    ensures next { result.0 * blocks + result.1 ≡ mcu * blocks + place + 1 }
+    ensures next { result.0 * blocks + result.1 ≡ mcu * blocks + next_block + 1 }
     ensures few { result.0 * blocks + result.1 ≤ mcus * blocks }
 {
-    if place + 1 == blocks {
+    if next_block + 1 == blocks {
         (mcu + 1, 0)
     } else {
-        (mcu, place + 1)
+        (mcu, next_block + 1)
     }
 }
 
@@ -72,7 +71,7 @@ pub struct BlockReader<'a> {
     bits: Bits<'a>,
     predictions: [i32; 3],
     mcu: u32,
-    place: usize,
+    next_block: usize,
     is_stuck: bool,
 }
 
@@ -84,21 +83,19 @@ impl<'a> Model for BlockReader<'a> {
 
     ghost Value = { ReaderValue };
 
-    ghost view = { λ r. record { run = record { interval = r.interval.now; from = r.from; mcus = r.mcus }; left = r.bits; predictions = r.predictions; mcu = r.mcu; place = r.place; stuck = r.is_stuck } };
+    ghost view = { λ r. record { run = record { interval = r.interval.now; from = r.from; mcus = r.mcus }; left = r.bits; predictions = r.predictions; mcu = r.mcu; next_block = r.next_block; stuck = r.is_stuck } };
 
-    ghost invariant = { λ r. IsKept (record { run = record { interval = r.interval.now; from = r.from; mcus = r.mcus }; left = r.bits; predictions = r.predictions; mcu = r.mcu; place = r.place; stuck = r.is_stuck }) × (r.order.now ≡ order_of r.interval.now.head) × All (λ c. c < components_of r.interval.now.head) r.order.now };
+    ghost invariant = { λ r. IsKept (record { run = record { interval = r.interval.now; from = r.from; mcus = r.mcus }; left = r.bits; predictions = r.predictions; mcu = r.mcu; next_block = r.next_block; stuck = r.is_stuck }) × (r.order.now ≡ order_of r.interval.now.head) × All (λ c. c < components_of r.interval.now.head) r.order.now };
 }
 
 impl<'a> BlockReader<'a> {
     ghost use Rattle.jr_head.specs.Geometry.{components_of, order_of};
-    ghost use Rattle.jr_scan.specs.Mcus.{component, Decodes, LongestFront};
+    ghost use Rattle.jr_scan.specs.Mcus.{component, Decodes, HasNoDecoding, LongestFront};
     ghost use Rattle.jr_scan.specs.IntervalValue.{IntervalValue};
     ghost use Rattle.std.specs.Prelude.{◌⊎◌};
-    ghost use Rattle.jr_scan.specs.declared.place.Place.{Place};
-    ghost use Rattle.jr_scan.specs.declared.place.RunEnd.{RunEnd};
     ghost use Rattle.jr_scan.specs.declared.place.RunEnd.TheVariants.{AllRead};
-    ghost use Rattle.jr_scan.specs.Run.{IsRun};
-    ghost use Rattle.jr_scan.specs.Reader.{HasRead, HasEnded, whole_run, blocks_left, blocks_read, per_mcu};
+    ghost use Rattle.jr_scan.specs.Run.{HasBlocks, IsRun};
+    ghost use Rattle.jr_scan.specs.Reader.{HasRead, HasReadOf, HasEnded, whole_run, run_so_far, first_mcus, blocks_left, blocks_read};
 
     /// A reader of all blocks of an interval.
     pub fn over(interval: &'a Interval) -> BlockReader<'a>
@@ -111,8 +108,7 @@ impl<'a> BlockReader<'a> {
     /// A reader of so many MCUs from a place of an interval on.
     pub fn at(interval: &'a Interval, from: Place, mcus: u32) -> BlockReader<'a>
         requires within { from.bit ≤ 8 * length interval.now.bytes }
-        requires low { All (λ p. negsuc 32767 ≤ℤ p) from.predictions }
-        requires high { All (λ p. p ≤ℤ pos 32767) from.predictions }
+        requires in_range { All IsInDcRange from.predictions }
         ensures run { result.run ≡ record { interval = interval.now; from = from; mcus = mcus } }
         ensures read { HasRead result [] }
     {
@@ -125,9 +121,19 @@ impl<'a> BlockReader<'a> {
             bits: bits_from(interval.bytes(), from.bit),
             predictions,
             mcu: 0,
-            place: 0,
+            next_block: 0,
             is_stuck: false,
         }
+    }
+
+    /// The component of the next block.
+    fn next_component(&self) -> u8
+        ensures value { result ≡ component self.now.run.interval.head (blocks_read self.now) }
+        ensures within { result < components_of self.now.run.interval.head }
+        ensures few { result < 3 }
+    {
+        self.interval.head().be_lawful();
+        self.order[self.next_block]
     }
 
     /// Reads the next block and tells its component. None where all MCUs are read or no block follows; the array then
@@ -146,8 +152,7 @@ impl<'a> BlockReader<'a> {
             return None;
         }
         let head = self.interval.head();
-        head.be_lawful();
-        let c = self.order[self.place];
+        let c = self.next_component();
         let dc = head.dc_book(u32::from(c));
         let ac = head.ac_book(u32::from(c));
         let prediction = self.predictions[c as usize];
@@ -155,19 +160,19 @@ impl<'a> BlockReader<'a> {
             self.is_stuck = true;
             return None;
         };
-        let (mcu, place) = following(self.mcu, self.place, self.order.len(), self.mcus);
+        let (mcu, next_block) = following(self.mcu, self.next_block, self.order.len(), self.mcus);
         self.predictions[c as usize] = first;
         self.mcu = mcu;
-        self.place = place;
+        self.next_block = next_block;
         Some(u32::from(c))
     }
 
     /// How many whole MCUs are read.
     pub fn mcus(&self) -> u32
         ensures value { result ≡ self.now.mcu }
-        ensures front { (i : IntervalValue) (zs : List (List ℤ)) → self.now.run ≡ whole_run i → HasRead self.now zs → HasEnded self.now → LongestFront i result (take (result * per_mcu self.now) zs) }
+        ensures front { (i : IntervalValue) (zs : List (List ℤ)) → HasReadOf self.now i zs → HasEnded self.now → LongestFront i result (first_mcus self.now result zs) }
         // Their blocks are those of the reader's run, which ends somewhere for some reason.
-        ensures run { (zs : List (List ℤ)) → HasRead self.now zs → HasEnded self.now → (to : Place) × (end : RunEnd) × IsRun self.now.run (take (result * per_mcu self.now) zs) to end }
+        ensures run { (zs : List (List ℤ)) → HasRead self.now zs → HasEnded self.now → HasBlocks self.now.run (first_mcus self.now result zs) }
     {
         one_word();
         self.interval.head().be_lawful();
@@ -176,13 +181,12 @@ impl<'a> BlockReader<'a> {
 
     /// Where the next MCU starts. None inside an MCU, and where no block followed.
     pub fn place(&self) -> Option<Place>
-        ensures some { IfSome result (λ p. (zs : List (List ℤ)) → HasRead self.now zs → IsRun (record { interval = self.now.run.interval; from = self.now.run.from; mcus = self.now.mcu }) zs p AllRead) }
+        ensures some { IfSome result (λ p. (zs : List (List ℤ)) → HasRead self.now zs → IsRun (run_so_far self.now) zs p AllRead) }
         ensures within { IfSome result (λ p. p.bit ≤ 8 * length self.now.run.interval.bytes) }
-        ensures low { IfSome result (λ p. All (λ q. negsuc 32767 ≤ℤ q) p.predictions) }
-        ensures high { IfSome result (λ p. All (λ q. q ≤ℤ pos 32767) p.predictions) }
-        ensures none { IfNone result ((self.now.stuck ≡ true) ⊎ (0 < self.now.place)) }
+        ensures in_range { IfSome result (λ p. All IsInDcRange p.predictions) }
+        ensures none { IfNone result ((self.now.stuck ≡ true) ⊎ (0 < self.now.next_block)) }
     {
-        if self.is_stuck || self.place > 0 {
+        if self.is_stuck || self.next_block > 0 {
             return None;
         }
         let bits = 8 * self.interval.bytes().len() as u64;
@@ -201,8 +205,8 @@ impl<'a> BlockReader<'a> {
 
     /// Whether all blocks are read and fewer than eight bits are left.
     pub fn is_sound(&self) -> bool
-        ensures sound { IsTrue result → (i : IntervalValue) (zs : List (List ℤ)) → self.now.run ≡ whole_run i → HasRead self.now zs → Decodes i zs }
-        ensures damaged { result ≡ false → (i : IntervalValue) (zs ys : List (List ℤ)) → self.now.run ≡ whole_run i → HasRead self.now zs → HasEnded self.now → Decodes i ys → ⊥ }
+        ensures sound { IsTrue result → (i : IntervalValue) (zs : List (List ℤ)) → HasReadOf self.now i zs → Decodes i zs }
+        ensures damaged { result ≡ false → (i : IntervalValue) (zs : List (List ℤ)) → HasReadOf self.now i zs → HasEnded self.now → HasNoDecoding i }
     {
         one_word();
         self.mcu == self.mcus && self.bits.left() < 8

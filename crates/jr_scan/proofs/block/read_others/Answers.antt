@@ -6,7 +6,7 @@ use Rattle.jr_scan.specs.Step.{TakesStep, TakesAcCode, TakesEnd}
 use Rattle.jr_scan.specs.declared.block.Step.{Step}
 use Rattle.jr_scan.proofs.Rest.{IsSoFar, so_far_none, so_far_zeros, so_far_coef, so_far_all, so_far_end, so_far_stuck, so_far_over}
 use Rattle.jr_scan.proofs.block.read_others.Goals as goal
-use Rattle.jr_scan.proofs.block.read_others.Goals.{in-Zeros+else-place-gt64, in-Coefficient+else-at-gt63}
+use Rattle.jr_scan.proofs.block.read_others.Goals.{in-Zeros+else-index-gt64, in-Coefficient+else-at-gt63}
 
 pub steps-init : goal.steps-init
 steps-init c = (omega arith, so_far_none _ _ _)
@@ -16,14 +16,14 @@ returns-in_err-read_step-clause-none c = rw c.from_residual.ensures (so_far_stuc
 
 pub returns-in-End-clause-some : goal.returns-in-End-clause-some
 returns-in-End-clause-some c =
-    let s : IsSoFar c.args.ac.now c.args.first c.args.bits.now c.steps.bits c.steps.block c.steps.place = subst (λ q. IsSoFar c.args.ac.now q c.args.bits.now c.steps.bits c.steps.block c.steps.place) (to_z-of_z w32 c.args.first c.ranges.first) c.steps.invariant.1 in
+    let s : IsSoFar c.args.ac.now c.args.first c.args.bits.now c.steps.bits c.steps.block c.steps.index = subst (λ q. IsSoFar c.args.ac.now q c.args.bits.now c.steps.bits c.steps.block c.steps.index) (to_z-of_z w32 c.args.first c.ranges.first) c.steps.invariant.1 in
     let t : TakesEnd c.args.ac.now c.steps.bits c.read_step.new.bits = subst (λ (st : Step). TakesStep c.args.ac.now st c.steps.bits c.read_step.new.bits) c.in-End.is c.in_ok-read_step.ensures.some in
     so_far_end _ _ _ _ _ _ _ s c.steps.invariant.0 t
 
-pub returns-then-place-gt64-clause-none : goal.returns-then-place-gt64-clause-none
-returns-then-place-gt64-clause-none c =
+pub returns-then-index-gt64-clause-none : goal.returns-then-index-gt64-clause-none
+returns-then-index-gt64-clause-none c =
     let t : TakesAcCode c.args.ac.now (replicate 16 (pos 0)) c.steps.bits c.read_step.new.bits = subst (λ (st : Step). TakesStep c.args.ac.now st c.steps.bits c.read_step.new.bits) c.in-Zeros.is c.in_ok-read_step.ensures.some in
-    so_far_over _ (c.one_word.ensures _) _ _ _ _ _ (replicate 16 (pos 0)) _ c.steps.invariant.1 c.steps.invariant.0 t (omega (arith, c.if-place-gt64.true))
+    so_far_over _ (c.one_word.ensures _) _ _ _ _ _ (replicate 16 (pos 0)) _ c.steps.invariant.1 c.steps.invariant.0 t (omega (arith, c.if-index-gt64.true))
 
 pub returns-then-at-gt63-clause-none : goal.returns-then-at-gt63-clause-none
 returns-then-at-gt63-clause-none c =
@@ -32,25 +32,25 @@ returns-then-at-gt63-clause-none c =
     let t : TakesAcCode c.args.ac.now (replicate run (pos 0) ++ v ∷ []) c.steps.bits c.read_step.new.bits = subst (λ (st : Step). TakesStep c.args.ac.now st c.steps.bits c.read_step.new.bits) c.in-Coefficient.is c.in_ok-read_step.ensures.some in
     so_far_over _ (c.one_word.ensures _) _ _ _ _ _ (replicate run (pos 0) ++ v ∷ []) _ c.steps.invariant.1 c.steps.invariant.0 t (omega (arith, length-append (replicate run (pos 0)) (v ∷ []), length-replicate run (pos 0), c.from.ensures, c.if-at-gt63.true))
 
-pub returns-then-place-eq64-clause-some : goal.returns-then-place-eq64-clause-some
-returns-then-place-eq64-clause-some c =
-    let s : IsSoFar c.args.ac.now c.args.first c.args.bits.now c.steps.bits c.steps.block c.steps.place = subst (λ q. IsSoFar c.args.ac.now q c.args.bits.now c.steps.bits c.steps.block c.steps.place) (to_z-of_z w32 c.args.first c.ranges.first) c.steps.invariant.1 in
-    let next : IsSoFar c.args.ac.now c.args.first c.args.bits.now c.read_step.new.bits c.match-branch-2.block c.match-branch-2.place = elim c.match-branch-2.branch [
-      | in-Zeros+else-place-gt64 w ↦
-          so_far_zeros _ (c.one_word.ensures _) _ _ _ _ _ _ _ _ s c.steps.invariant.0 (subst (λ (st : Step). TakesStep c.args.ac.now st c.steps.bits c.read_step.new.bits) w.in-Zeros.is c.in_ok-read_step.ensures.some) w.block-is w.place-is (omega arith)
+pub returns-then-index-eq64-clause-some : goal.returns-then-index-eq64-clause-some
+returns-then-index-eq64-clause-some c =
+    let s : IsSoFar c.args.ac.now c.args.first c.args.bits.now c.steps.bits c.steps.block c.steps.index = subst (λ q. IsSoFar c.args.ac.now q c.args.bits.now c.steps.bits c.steps.block c.steps.index) (to_z-of_z w32 c.args.first c.ranges.first) c.steps.invariant.1 in
+    let next : IsSoFar c.args.ac.now c.args.first c.args.bits.now c.read_step.new.bits c.match-branch-2.block c.match-branch-2.index = elim c.match-branch-2.branch [
+      | in-Zeros+else-index-gt64 w ↦
+          so_far_zeros _ (c.one_word.ensures _) _ _ _ _ _ _ _ _ s c.steps.invariant.0 (subst (λ (st : Step). TakesStep c.args.ac.now st c.steps.bits c.read_step.new.bits) w.in-Zeros.is c.in_ok-read_step.ensures.some) w.block-is w.index-is (omega arith)
       | in-Coefficient+else-at-gt63 w ↦
           let f : SFits w32 w.in-Coefficient.v = search rules in
-          so_far_coef _ (c.one_word.ensures _) _ w.in-Coefficient.v _ _ _ _ _ _ w.in-Coefficient.run' (c.steps.place + w.from.result) _ s c.steps.invariant.0 (subst (λ (st : Step). TakesStep c.args.ac.now st c.steps.bits c.read_step.new.bits) w.in-Coefficient.is c.in_ok-read_step.ensures.some) (omega (arith, w.from.ensures)) w.if-at-gt63.false (w.block-is ∙ ap (set c.steps.block (c.steps.place + w.from.result)) (to_z-of_z w32 w.in-Coefficient.v f)) w.place-is
+          so_far_coef _ (c.one_word.ensures _) _ w.in-Coefficient.v _ _ _ _ _ _ w.in-Coefficient.run' (c.steps.index + w.from.result) _ s c.steps.invariant.0 (subst (λ (st : Step). TakesStep c.args.ac.now st c.steps.bits c.read_step.new.bits) w.in-Coefficient.is c.in_ok-read_step.ensures.some) (omega (arith, w.from.ensures)) w.if-at-gt63.false (w.block-is ∙ ap (set c.steps.block (c.steps.index + w.from.result)) (to_z-of_z w32 w.in-Coefficient.v f)) w.index-is
     ] in
     so_far_all _ _ _ _ _ _ next (omega arith)
 
 pub steps-preserved : goal.steps-preserved
 steps-preserved c =
-    let next : IsSoFar c.args.ac.now (to_z w32 (of_z w32 c.args.first)) c.args.bits.now c.read_step.new.bits c.match-branch-2.block c.match-branch-2.place = elim c.match-branch-2.branch [
-      | in-Zeros+else-place-gt64 w ↦
-          so_far_zeros _ (c.one_word.ensures _) _ _ _ _ _ _ _ _ c.steps.invariant.1 c.steps.invariant.0 (subst (λ (st : Step). TakesStep c.args.ac.now st c.steps.bits c.read_step.new.bits) w.in-Zeros.is c.in_ok-read_step.ensures.some) w.block-is w.place-is (omega arith)
+    let next : IsSoFar c.args.ac.now (to_z w32 (of_z w32 c.args.first)) c.args.bits.now c.read_step.new.bits c.match-branch-2.block c.match-branch-2.index = elim c.match-branch-2.branch [
+      | in-Zeros+else-index-gt64 w ↦
+          so_far_zeros _ (c.one_word.ensures _) _ _ _ _ _ _ _ _ c.steps.invariant.1 c.steps.invariant.0 (subst (λ (st : Step). TakesStep c.args.ac.now st c.steps.bits c.read_step.new.bits) w.in-Zeros.is c.in_ok-read_step.ensures.some) w.block-is w.index-is (omega arith)
       | in-Coefficient+else-at-gt63 w ↦
           let f : SFits w32 w.in-Coefficient.v = search rules in
-          so_far_coef _ (c.one_word.ensures _) _ w.in-Coefficient.v _ _ _ _ _ _ w.in-Coefficient.run' (c.steps.place + w.from.result) _ c.steps.invariant.1 c.steps.invariant.0 (subst (λ (st : Step). TakesStep c.args.ac.now st c.steps.bits c.read_step.new.bits) w.in-Coefficient.is c.in_ok-read_step.ensures.some) (omega (arith, w.from.ensures)) w.if-at-gt63.false (w.block-is ∙ ap (set c.steps.block (c.steps.place + w.from.result)) (to_z-of_z w32 w.in-Coefficient.v f)) w.place-is
+          so_far_coef _ (c.one_word.ensures _) _ w.in-Coefficient.v _ _ _ _ _ _ w.in-Coefficient.run' (c.steps.index + w.from.result) _ c.steps.invariant.1 c.steps.invariant.0 (subst (λ (st : Step). TakesStep c.args.ac.now st c.steps.bits c.read_step.new.bits) w.in-Coefficient.is c.in_ok-read_step.ensures.some) (omega (arith, w.from.ensures)) w.if-at-gt63.false (w.block-is ∙ ap (set c.steps.block (c.steps.index + w.from.result)) (to_z-of_z w32 w.in-Coefficient.v f)) w.index-is
     ] in
     (omega arith, next)

@@ -11,14 +11,14 @@ returns-in_err-read_block-clause-none c = rw c.from_residual.ensures (no_block_c
 pub overflow_add-first : goal.overflow_add-first
 overflow_add-first c =
     let w = (coded_first _ _ _ _ _ c.in_ok-read_block.ensures.some).0 in
-    sum_fits c.args.prediction (get_or c.read_block.new.block 0 (pos 0)) c.requires.low c.requires.high w.0 w.1
+    sum_fits c.args.prediction (get_or c.read_block.new.block 0 (pos 0)) c.requires w.0 w.1
 
 pub returns-then-first-ltminus32768-clause-none : goal.returns-then-first-ltminus32768-clause-none
 returns-then-first-ltminus32768-clause-none c =
     let w = (coded_first _ _ _ _ _ c.in_ok-read_block.ensures.some).0 in
-    let is = sum_is c.args.prediction (get_or c.read_block.new.block 0 (pos 0)) c.requires.low c.requires.high w.0 w.1 in
+    let is = sum_is c.args.prediction (get_or c.read_block.new.block 0 (pos 0)) c.requires w.0 w.1 in
     no_block_far _ _ (c.one_word.ensures _) (c.one_word.ensures _) c.args.prediction _ c.read_block.new.block _ _ c.in_ok-read_block.ensures.some is
-    (λ low high. elim c.then-first-ltminus32768.branch [
+    (λ within. let low = within.0 in let high = within.1 in elim c.then-first-ltminus32768.branch [
       | then-first-ltminus32768-via-then-first-ltminus32768 w ↦ let lt = w.if-first-ltminus32768.true in omega (arith, ints)
       | then-first-ltminus32768-via-else-first-ltminus32768+then-first-gt32767 w ↦ let lt = w.if-first-gt32767.true in omega (arith, ints)
     ])
@@ -26,5 +26,5 @@ returns-then-first-ltminus32768-clause-none c =
 pub returns-clause-some : goal.returns-clause-some
 returns-clause-some c =
     let w = (coded_first _ _ _ _ _ c.in_ok-read_block.ensures.some).0 in
-    let is = sum_is c.args.prediction (get_or c.read_block.new.block 0 (pos 0)) c.requires.low c.requires.high w.0 w.1 in
-    takes_block _ _ c.args.prediction _ c.read_block.new.block _ _ _ c.in_ok-read_block.ensures.some is (grind (arith, ints)) (grind (arith, ints)) refl
+    let is = sum_is c.args.prediction (get_or c.read_block.new.block 0 (pos 0)) c.requires w.0 w.1 in
+    takes_block _ _ c.args.prediction _ c.read_block.new.block _ _ _ c.in_ok-read_block.ensures.some is (grind (arith, ints), grind (arith, ints)) refl

@@ -4,16 +4,16 @@ use Rattle.jr_scan.proofs.Readers.{sound, damaged}
 use Rattle.jr_scan.proofs.reader.BlockReader.is_sound.Goals as goal
 
 pub returns-then-self-clause-sound : goal.returns-then-self-clause-sound
-returns-then-self-clause-sound c = λ t i zs e s.
+returns-then-self-clause-sound c = λ t i zs s.
     let all = ap (λ (r : ReaderValue). r.mcu) (sym c.self.view_is) ∙ c.if-self.true ∙ ap (λ (r : ReaderValue). r.run.mcus) c.self.view_is in
     let lt : c.left.result < 8 = grind (arith, rules) in
-    sound i c.args.self.now zs e (subst IsKept c.self.view_is c.self.invariant.0) all (omega (arith, lt, c.left.ensures, ap (λ (r : ReaderValue). length r.left) c.self.view_is)) s
+    sound i c.args.self.now zs s.0 (subst IsKept c.self.view_is c.self.invariant.0) all (omega (arith, lt, c.left.ensures, ap (λ (r : ReaderValue). length r.left) c.self.view_is)) s.1
 
 pub returns-then-self-clause-damaged : goal.returns-then-self-clause-damaged
-returns-then-self-clause-damaged c = λ f i zs ys e s ended d. damaged c.one_word.ensures i c.args.self.now zs ys e (subst IsKept c.self.view_is c.self.invariant.0) (λ all short.
+returns-then-self-clause-damaged c = λ f i zs s ended ys d. damaged c.one_word.ensures i c.args.self.now zs ys s.0 (subst IsKept c.self.view_is c.self.invariant.0) (λ all short.
     let lt : c.left.result < 8 = omega (arith, short, c.left.ensures, ap (λ (r : ReaderValue). length r.left) c.self.view_is) in
-    grind (arith, rules)) s ended d
+    grind (arith, rules)) s.1 ended d
 
 pub returns-else-self-clause-damaged : goal.returns-else-self-clause-damaged
-returns-else-self-clause-damaged c = λ f i zs ys e s ended d. damaged c.one_word.ensures i c.args.self.now zs ys e (subst IsKept c.self.view_is c.self.invariant.0) (λ all short.
-    c.if-self.false (ap (λ (r : ReaderValue). r.mcu) c.self.view_is ∙ all ∙ ap (λ (r : ReaderValue). r.run.mcus) (sym c.self.view_is))) s ended d
+returns-else-self-clause-damaged c = λ f i zs s ended ys d. damaged c.one_word.ensures i c.args.self.now zs ys s.0 (subst IsKept c.self.view_is c.self.invariant.0) (λ all short.
+    c.if-self.false (ap (λ (r : ReaderValue). r.mcu) c.self.view_is ∙ all ∙ ap (λ (r : ReaderValue). r.run.mcus) (sym c.self.view_is))) s.1 ended d

@@ -10,8 +10,8 @@ use Rattle.jr_scan.proofs.Runs.{component_low, read_run}
 use Rattle.jr_scan.proofs.reader.BlockReader.mcus.Goals as goal
 
 pub returns-clause-front : goal.returns-clause-front
-returns-clause-front c = λ i zs e s ended.
-    subst (λ n. LongestFront i n (take (n * per_mcu c.args.self.now) zs)) (ap (λ (r : ReaderValue). r.mcu) (sym c.self.view_is)) (longest c.one_word.ensures i c.args.self.now zs e (subst IsKept c.self.view_is c.self.invariant.0) s ended)
+returns-clause-front c = λ i zs s ended.
+    subst (λ n. LongestFront i n (take (n * per_mcu c.args.self.now) zs)) (ap (λ (r : ReaderValue). r.mcu) (sym c.self.view_is)) (longest c.one_word.ensures i c.args.self.now zs s.0 (subst IsKept c.self.view_is c.self.invariant.0) s.1 ended)
 
 pub returns-clause-run : goal.returns-clause-run
 returns-clause-run c = λ zs s ended.
