@@ -16,7 +16,7 @@ use Rattle.jr_scan.specs.IntervalValue.{IntervalValue}
 use Rattle.jr_scan.specs.Block.{IsInDcRange}
 use Rattle.jr_scan.specs.Step.{TakesBlock, HasNoBlock}
 use Rattle.jr_scan.specs.Mcus.{component, block_of, prediction, no_predictions, Decodes, Front, LongestFront}
-use Rattle.jr_scan.specs.Reader.{RunOf, ReaderValue, whole_run, per_mcu, HasEnded, Reads, HasNoNext, HasRead, IsKept}
+use Rattle.jr_scan.specs.Reader.{RunOf, ReaderValue, whole_run, per_mcu, HasEnded, Reads, HasNoNext, HasRead, IsReader}
 use Rattle.jr_scan.proofs.Words.{OneWord}
 use Rattle.jr_scan.proofs.McuLaws.{prediction_same, reads_none, reads_more, reads_stuck, reads_all, blocks_front}
 
@@ -122,14 +122,14 @@ below_whole mcu mcus per place lt few = elim (cases_lt mcus mcu) [
   | inr g ↦ g
 ]
 
-not_stuck : (r : ReaderValue) → IsKept r → r.mcu ≡ r.run.mcus → r.stuck ≡ false
+not_stuck : (r : ReaderValue) → IsReader r → r.mcu ≡ r.run.mcus → r.stuck ≡ false
 not_stuck r kept all = go r.stuck refl
   where
     go : (b : Bool) → r.stuck ≡ b → r.stuck ≡ false
     go false e = e
     go true e = let lt = kept.missing e in absurd (omega (arith, lt, all))
 
-all_count : (i : IntervalValue) (r : ReaderValue) (zs : List (List ℤ)) → r.run ≡ whole_run i → IsKept r → r.mcu ≡ r.run.mcus → HasRead r zs → length zs ≡ i.mcus * length (order_of i.head)
+all_count : (i : IntervalValue) (r : ReaderValue) (zs : List (List ℤ)) → r.run ≡ whole_run i → IsReader r → r.mcu ≡ r.run.mcus → HasRead r zs → length zs ≡ i.mcus * length (order_of i.head)
 all_count i r zs e kept all s =
     let place : r.next_block ≡ 0 = at_end r.mcu r.run.mcus (per_mcu r) r.next_block all kept.few in
     let m : r.run.mcus ≡ i.mcus = ap (λ (run : RunOf). run.mcus) e in
@@ -140,7 +140,7 @@ all_count i r zs e kept all s =
     none k = omega arith
 
 -- all blocks are read, and fewer than eight bits are left
-pub sound : (i : IntervalValue) (r : ReaderValue) (zs : List (List ℤ)) → r.run ≡ whole_run i → IsKept r → r.mcu ≡ r.run.mcus → length r.left < 8 → HasRead r zs → Decodes i zs
+pub sound : (i : IntervalValue) (r : ReaderValue) (zs : List (List ℤ)) → r.run ≡ whole_run i → IsReader r → r.mcu ≡ r.run.mcus → length r.left < 8 → HasRead r zs → Decodes i zs
 sound i r zs e kept all short s =
     let reads = whole_reads i r zs e s in
     record {
@@ -151,7 +151,7 @@ sound i r zs e kept all short s =
       spelled = reads.split;
     }
 
-pub damaged : OneWord → (i : IntervalValue) (r : ReaderValue) (zs ys : List (List ℤ)) → r.run ≡ whole_run i → IsKept r → (r.mcu ≡ r.run.mcus → length r.left < 8 → ⊥) → HasRead r zs → HasEnded r → Decodes i ys → ⊥
+pub damaged : OneWord → (i : IntervalValue) (r : ReaderValue) (zs ys : List (List ℤ)) → r.run ≡ whole_run i → IsReader r → (r.mcu ≡ r.run.mcus → length r.left < 8 → ⊥) → HasRead r zs → HasEnded r → Decodes i ys → ⊥
 damaged one i r zs ys e kept far s (inl stuck) d =
     let run = r.run in
     let m : run.mcus ≡ i.mcus = ap (λ (run : RunOf). run.mcus) e in
@@ -165,7 +165,7 @@ damaged one i r zs ys e kept far s (inr all) d =
     let same = reads_all i.head no_predictions (bits i.bytes) s.left zs one (whole_reads i r zs e s) ys d.taken d.padding d.mcus.1 d.spelled l in
     far all (omega (arith, ap length (sym (s.going (not_stuck r kept all)) ∙ same.1), d.short))
 
-pub longest : OneWord → (i : IntervalValue) (r : ReaderValue) (zs : List (List ℤ)) → r.run ≡ whole_run i → IsKept r → HasRead r zs → HasEnded r → LongestFront i r.mcu (take (r.mcu * per_mcu r) zs)
+pub longest : OneWord → (i : IntervalValue) (r : ReaderValue) (zs : List (List ℤ)) → r.run ≡ whole_run i → IsReader r → HasRead r zs → HasEnded r → LongestFront i r.mcu (take (r.mcu * per_mcu r) zs)
 longest one i r zs e kept s ended =
     let m : r.run.mcus ≡ i.mcus = ap (λ (run : RunOf). run.mcus) e in
     let head : per_mcu r ≡ length (order_of i.head) = ap (λ (run : RunOf). length (order_of run.interval.head)) e in

@@ -20,7 +20,7 @@ use Rattle.jr_scan.specs.declared.place.RunEnd.TheVariants.{AllRead, NoMcu}
 use Rattle.jr_scan.specs.Block.{BlockAt}
 use Rattle.jr_scan.specs.IntervalValue.{IntervalValue}
 use Rattle.jr_scan.specs.Mcus.{component, block_of, prediction, IsBlock, all_bits, Blocks, Mcus, no_predictions, Decodes}
-use Rattle.jr_scan.specs.Reader.{RunOf, ReaderValue, whole_run, per_mcu, HasRead, HasEnded, IsKept}
+use Rattle.jr_scan.specs.Reader.{RunOf, ReaderValue, whole_run, per_mcu, HasRead, HasEnded, IsReader}
 use Rattle.jr_scan.specs.Run.{left_at, predicted, HasNoMcu, EndsAs, IsRun}
 use Rattle.jr_scan.proofs.Words.{OneWord}
 use Rattle.jr_scan.proofs.McuLaws.{prediction_same, is_block_same, one_blocks, blocks_front, blocks_before, reads_stuck}
@@ -245,7 +245,7 @@ three_places (a ∷ b ∷ c ∷ []) e = refl
 three_places (a ∷ b ∷ c ∷ d ∷ es) e = absurd (omega arith)
 
 -- what a reader has read is the run of so many MCUs, where it stands between two of them
-pub read_is_run : (r : ReaderValue) (zs : List (List ℤ)) (bit : ℕ) → IsKept r → r.stuck ≡ false → r.next_block ≡ 0 → length r.predictions ≡ 3 → bit ≡ 8 * length r.run.interval.bytes - length r.left → HasRead r zs
+pub read_is_run : (r : ReaderValue) (zs : List (List ℤ)) (bit : ℕ) → IsReader r → r.stuck ≡ false → r.next_block ≡ 0 → length r.predictions ≡ 3 → bit ≡ 8 * length r.run.interval.bytes - length r.left → HasRead r zs
     → IsRun (record { interval = r.run.interval; from = r.run.from; mcus = r.mcu }) zs (record { bit = bit; predictions = r.predictions }) AllRead
 read_is_run r zs bit kept going place three at s =
     let i = r.run.interval in
@@ -285,7 +285,7 @@ bits_on bytes bit =
     ap (drop (bit % 8)) (drop_bytes (bit / 8) bytes) ∙ drop-drop (bit % 8) (8 * (bit / 8)) (bits bytes) ∙ ap (λ (k : ℕ). drop k (bits bytes)) (omega arith)
 
 -- what a reader has read when it ends has the whole MCUs of its run in front
-pub read_run : OneWord → (r : ReaderValue) (zs : List (List ℤ)) → IsKept r → ((n : ℕ) → component r.run.interval.head n < 3) → HasRead r zs → HasEnded r → (to : Place) × (end : RunEnd) × IsRun r.run (take (r.mcu * per_mcu r) zs) to end
+pub read_run : OneWord → (r : ReaderValue) (zs : List (List ℤ)) → IsReader r → ((n : ℕ) → component r.run.interval.head n < 3) → HasRead r zs → HasEnded r → (to : Place) × (end : RunEnd) × IsRun r.run (take (r.mcu * per_mcu r) zs) to end
 read_run one r zs kept three s ended = (to, (why ended).0, (why ended).1)
   where
     h : HeadValue

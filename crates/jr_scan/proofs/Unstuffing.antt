@@ -6,7 +6,7 @@ use Rattle.std.proofs.Math.Seq.{drop-append_seam}
 use Rattle.jr_scan.specs.Cut.{Spelling, spelling, byte_spelled, IsRaw, IsStop}
 use Rattle.jr_scan.specs.Cut.Spelling.{Plain, Stuffed}
 use Rattle.jr_scan.specs.declared.span.Span.{Span}
-use Rattle.jr_scan.specs.Spans.{segment_data, IsWithin, Unstuffs}
+use Rattle.jr_scan.specs.Spans.{segment_data, IsSpanOf, Unstuffs}
 use Rattle.jr_scan.proofs.Cuts.{raw_none, raw_plain, raw_stuffed, rest_is, SegmentRead, segment_read}
 
 -- bytes other than FF spell themselves
@@ -64,12 +64,12 @@ spelled_long (p ∷ ps) = omega (arith, length-append (spelling p) (flat_map spe
 pub raw_long : (raw bytes : List ℕ) → IsRaw raw bytes → length bytes ≤ length raw
 raw_long raw bytes r = omega (arith, ap length r.spelled, ap length r.means, spelled_long r.parts)
 
-segment_kept : (old added : List ℕ) (s : Span) → IsWithin old s → segment_data (old ++ added) s ≡ segment_data old s
+segment_kept : (old added : List ℕ) (s : Span) → IsSpanOf old s → segment_data (old ++ added) s ≡ segment_data old s
 segment_kept old added s w =
     ap (take (s.end - s.start)) (drop-append-le s.start old added (omega (arith, w.0, w.1))) ∙ take-append-le (s.end - s.start) (drop s.start old) added (omega (arith, length-drop s.start old, w.1))
 
 -- the segments stay where others are put behind them
-pub segments_kept : (old added : List ℕ) (spans : List Span) → All (IsWithin old) spans → map (segment_data (old ++ added)) spans ≡ map (segment_data old) spans
+pub segments_kept : (old added : List ℕ) (spans : List Span) → All (IsSpanOf old) spans → map (segment_data (old ++ added)) spans ≡ map (segment_data old) spans
 segments_kept old added [] within = refl
 segments_kept old added (s ∷ ss) within =
     let first : segment_data (old ++ added) s ≡ segment_data old s = segment_kept old added s (within 0 s (omega arith)) in
@@ -80,15 +80,15 @@ pub segment_added : (old added : List ℕ) (s : Span) → s.start ≡ length old
 segment_added old added s from to =
     ap (λ (k : ℕ). take (s.end - s.start) (drop k (old ++ added))) from ∙ ap (take (s.end - s.start)) (drop-append_seam old added) ∙ take_all (s.end - s.start) added (omega (arith, from, to, length-append old added))
 
-pub segments_more : (old added new : List ℕ) (spans spans' : List Span) (s : Span) → new ≡ old ++ added → All (IsWithin old) spans → s.start ≡ length old → s.end ≡ length new → spans' ≡ spans ++ s ∷ [] → map (segment_data new) spans' ≡ map (segment_data old) spans ++ added ∷ []
+pub segments_more : (old added new : List ℕ) (spans spans' : List Span) (s : Span) → new ≡ old ++ added → All (IsSpanOf old) spans → s.start ≡ length old → s.end ≡ length new → spans' ≡ spans ++ s ∷ [] → map (segment_data new) spans' ≡ map (segment_data old) spans ++ added ∷ []
 segments_more old added new spans spans' s e within from to pushed =
     ap (λ (x : List ℕ). map (segment_data x) spans') e ∙ ap (map (segment_data (old ++ added))) pushed ∙ map_push (segment_data (old ++ added)) spans s ∙ ap (λ (x : List (List ℕ)). x ++ segment_data (old ++ added) s ∷ []) (segments_kept old added spans within) ∙ ap (λ (x : List ℕ). map (segment_data old) spans ++ x ∷ []) (segment_added old added s from (to ∙ ap length e))
 
-pub within_more : (old added new : List ℕ) (spans spans' : List Span) (s : Span) → new ≡ old ++ added → All (IsWithin old) spans → s.start ≡ length old → s.end ≡ length new → spans' ≡ spans ++ s ∷ [] → All (IsWithin new) spans'
+pub within_more : (old added new : List ℕ) (spans spans' : List Span) (s : Span) → new ≡ old ++ added → All (IsSpanOf old) spans → s.start ≡ length old → s.end ≡ length new → spans' ≡ spans ++ s ∷ [] → All (IsSpanOf new) spans'
 within_more old added new spans spans' s e within from to pushed =
-    subst (All (IsWithin new)) (sym pushed) (push spans (λ k d lt. let w = within k d lt in (w.0, omega (arith, w.1, ap length e, length-append old added))))
+    subst (All (IsSpanOf new)) (sym pushed) (push spans (λ k d lt. let w = within k d lt in (w.0, omega (arith, w.1, ap length e, length-append old added))))
   where
-    push : (ss : List Span) → All (IsWithin new) ss → All (IsWithin new) (ss ++ s ∷ [])
+    push : (ss : List Span) → All (IsSpanOf new) ss → All (IsSpanOf new) (ss ++ s ∷ [])
     push [] w zero d lt = (omega (arith, from, to, ap length e, length-append old added), omega (arith, to))
     push [] w (suc k) d lt = absurd (omega arith)
     push (t ∷ ss) w zero d lt = w 0 d (omega arith)
@@ -99,12 +99,12 @@ pub record SegmentMade (bytes old new : List ℕ) (spans spans' : List Span) (at
   pub found : List ℕ
   pub read : SegmentRead bytes found at count
   pub segments : map (segment_data new) spans' ≡ map (segment_data old) spans ++ found ∷ []
-  pub within : All (IsWithin new) spans'
+  pub within : All (IsSpanOf new) spans'
   pub few : length new ≤ at + count
 
 pub segment_made : (bytes old new : List ℕ) (spans spans' : List Span) (at count : ℕ) (s : Span) → at ≤ length bytes → length old ≤ at
     → count ≤ length (take (length bytes - at) (drop at bytes)) → Unstuffs (take count (take (length bytes - at) (drop at bytes))) old new → IsStop (drop count (take (length bytes - at) (drop at bytes)))
-    → All (IsWithin old) spans → s.start ≡ length old → s.end ≡ length new → spans' ≡ spans ++ s ∷ [] → SegmentMade bytes old new spans spans' at count
+    → All (IsSpanOf old) spans → s.start ≡ length old → s.end ≡ length new → spans' ≡ spans ++ s ∷ [] → SegmentMade bytes old new spans spans' at count
 segment_made bytes old new spans spans' at count s h few room u stop within from to pushed =
     let long = raw_long (take count (take (length bytes - at) (drop at bytes))) u.added u.is in
     record {

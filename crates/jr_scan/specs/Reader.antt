@@ -15,12 +15,12 @@ pub record RunOf : Type 0 where
   pub from : Place
   pub mcus : ℕ
 
-abbrev pub start : Place
-start = record { bit = 0; predictions = no_predictions }
+abbrev pub start_of_interval : Place
+start_of_interval = record { bit = 0; predictions = no_predictions }
 
 -- all MCUs of an interval
 abbrev pub whole_run : IntervalValue → RunOf
-whole_run i = record { interval = i; from = start; mcus = i.mcus }
+whole_run i = record { interval = i; from = start_of_interval; mcus = i.mcus }
 
 -- a reader: its run, the bits that are left, each component's prediction, how many whole MCUs it has read, which block
 -- of the next one follows, and whether it has met none
@@ -70,6 +70,10 @@ pub record HasRead (r : ReaderValue) (zs : List (List ℤ)) : Type 0 where
 abbrev pub HasReadOf : ReaderValue → IntervalValue → List (List ℤ) → Type 0
 HasReadOf r i zs = (r.run ≡ whole_run i) × HasRead r zs
 
+-- and no block follows them, or none is left
+abbrev pub HasReadAll : ReaderValue → IntervalValue → List (List ℤ) → Type 0
+HasReadAll r i zs = HasReadOf r i zs × HasEnded r
+
 -- the run of the MCUs that a reader has read so far
 abbrev pub run_so_far : ReaderValue → RunOf
 run_so_far r = record { interval = r.run.interval; from = r.run.from; mcus = r.mcu }
@@ -79,7 +83,7 @@ abbrev pub first_mcus : ReaderValue → ℕ → List (List ℤ) → List (List �
 first_mcus r k zs = take (k * per_mcu r) zs
 
 -- what each reader keeps
-pub record IsKept (r : ReaderValue) : Type 0 where
+pub record IsReader (r : ReaderValue) : Type 0 where
   pub start : r.run.from.bit ≤ 8 * length r.run.interval.bytes
   pub within : r.next_block < per_mcu r
   pub few : blocks_read r ≤ r.run.mcus * per_mcu r

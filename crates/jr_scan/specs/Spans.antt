@@ -6,8 +6,8 @@ use Rattle.jr_scan.specs.Cut.{IsRaw}
 abbrev pub segment_data : List ℕ → Span → List ℕ
 segment_data bytes s = slice_range bytes s.start s.end
 
-abbrev pub IsWithin : List ℕ → Span → Type 0
-IsWithin bytes s = (s.start ≤ s.end) × (s.end ≤ length bytes)
+abbrev pub IsSpanOf : List ℕ → Span → Type 0
+IsSpanOf bytes s = (s.start ≤ s.end) × (s.end ≤ length bytes)
 
 -- what the raw bytes spell stands behind what was there
 pub record Unstuffs (raw old new : List ℕ) : Type 0 where

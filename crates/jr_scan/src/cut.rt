@@ -3,7 +3,7 @@
 ghost use Rattle.std.specs.Prelude.{◌≡◌, ◌≢◌, ℕ, ◌+◌, ◌%◌, ◌<◌, ◌≤◌, ◌^◌, List, length, map, IfOk, IfSome, IfNone};
 ghost use Rattle.std.specs.List.{All};
 ghost use Rattle.jr_scan.specs.Cut.{HasMarker, IsEnding, IsCut};
-ghost use Rattle.jr_scan.specs.Spans.{segment_data, IsWithin};
+ghost use Rattle.jr_scan.specs.Spans.{segment_data, IsSpanOf};
 
 use crate::scan_end::ScanEnd;
 use crate::span::Span;
@@ -59,7 +59,7 @@ pub(crate) fn cut(
     requires some { 0 < intervals }
     requires fits { start + length bytes.now < 2 ^ 64 }
     ensures cut { IfOk result (λ p. IsCut intervals start bytes.now (map (segment_data p.unstuffed.items) p.spans.items) p.ended) }
-    ensures within { IfOk result (λ p. All (IsWithin p.unstuffed.items) p.spans.items) }
+    ensures within { IfOk result (λ p. All (IsSpanOf p.unstuffed.items) p.spans.items) }
     ensures few { IfOk result (λ p. length p.unstuffed.items ≤ length bytes.now) }
 {
     let mut unstuffed = Vec::with_capacity(alloc, bytes.len())?;

@@ -38,7 +38,7 @@ impl Model for Interval {
 
 impl Interval {
     ghost use Rattle.std.specs.Arc.{arc_value};
-    ghost use Rattle.jr_scan.specs.Spans.{segment_data, IsWithin};
+    ghost use Rattle.jr_scan.specs.Spans.{segment_data, IsSpanOf};
     ghost use Rattle.jr_scan.specs.Block.{IsInRange};
     ghost use Rattle.jr_scan.specs.Mcus.{Decodes, HasNoDecoding, LongestFront};
     ghost use Rattle.jr_scan.specs.Reader.{HasRead, HasEnded, whole_run};
@@ -51,7 +51,7 @@ impl Interval {
         mcus: u32,
     ) -> Interval
         requires few { length (arc_value unstuffed).items < 2 ^ 61 }
-        requires within { IsWithin (arc_value unstuffed).items span }
+        requires within { IsSpanOf (arc_value unstuffed).items span }
         ensures { result ≡ record { number = number; mcus = mcus; bytes = segment_data (arc_value unstuffed).items span; head = arc_value head } }
     {
         Interval {

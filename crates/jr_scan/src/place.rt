@@ -1,7 +1,7 @@
 //! Where a run of MCUs starts, and how it ends.
 
 ghost use Rattle.std.specs.Prelude.{◌≡◌};
-ghost use Rattle.jr_scan.specs.Reader.{start};
+ghost use Rattle.jr_scan.specs.Reader.{start_of_interval};
 
 /// A place between two MCUs of an interval: how many bits of its data stand before it, and what the first coefficient
 /// of each component is predicted to be there.
@@ -14,7 +14,7 @@ pub struct Place {
 impl Place {
     /// The start of an interval, where each component is predicted to be 0 (T.81, F.1.1.5.1).
     pub fn start() -> Place
-        ensures { result ≡ start }
+        ensures { result ≡ start_of_interval }
     {
         Place {
             bit: 0,

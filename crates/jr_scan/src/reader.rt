@@ -79,13 +79,13 @@ impl<'a> Model for BlockReader<'a> {
     ghost use Rattle.std.specs.Prelude.{◌≡◌, ◌<◌};
     ghost use Rattle.std.specs.List.{All};
     ghost use Rattle.jr_head.specs.Geometry.{components_of, order_of};
-    ghost use Rattle.jr_scan.specs.Reader.{ReaderValue, IsKept};
+    ghost use Rattle.jr_scan.specs.Reader.{ReaderValue, IsReader};
 
     ghost Value = { ReaderValue };
 
     ghost view = { λ r. record { run = record { interval = r.interval.now; from = r.from; mcus = r.mcus }; left = r.bits; predictions = r.predictions; mcu = r.mcu; next_block = r.next_block; stuck = r.is_stuck } };
 
-    ghost invariant = { λ r. IsKept (record { run = record { interval = r.interval.now; from = r.from; mcus = r.mcus }; left = r.bits; predictions = r.predictions; mcu = r.mcu; next_block = r.next_block; stuck = r.is_stuck }) × (r.order.now ≡ order_of r.interval.now.head) × All (λ c. c < components_of r.interval.now.head) r.order.now };
+    ghost invariant = { λ r. IsReader (record { run = record { interval = r.interval.now; from = r.from; mcus = r.mcus }; left = r.bits; predictions = r.predictions; mcu = r.mcu; next_block = r.next_block; stuck = r.is_stuck }) × (r.order.now ≡ order_of r.interval.now.head) × All (λ c. c < components_of r.interval.now.head) r.order.now };
 }
 
 impl<'a> BlockReader<'a> {
@@ -95,7 +95,7 @@ impl<'a> BlockReader<'a> {
     ghost use Rattle.std.specs.Prelude.{◌⊎◌};
     ghost use Rattle.jr_scan.specs.declared.place.RunEnd.TheVariants.{AllRead};
     ghost use Rattle.jr_scan.specs.Run.{HasBlocks, IsRun};
-    ghost use Rattle.jr_scan.specs.Reader.{HasRead, HasReadOf, HasEnded, whole_run, run_so_far, first_mcus, blocks_left, blocks_read};
+    ghost use Rattle.jr_scan.specs.Reader.{HasRead, HasReadOf, HasReadAll, HasEnded, whole_run, run_so_far, first_mcus, blocks_left, blocks_read};
 
     /// A reader of all blocks of an interval.
     pub fn over(interval: &'a Interval) -> BlockReader<'a>
@@ -170,7 +170,7 @@ impl<'a> BlockReader<'a> {
     /// How many whole MCUs are read.
     pub fn mcus(&self) -> u32
         ensures value { result ≡ self.now.mcu }
-        ensures front { (i : IntervalValue) (zs : List (List ℤ)) → HasReadOf self.now i zs → HasEnded self.now → LongestFront i result (first_mcus self.now result zs) }
+        ensures front { (i : IntervalValue) (zs : List (List ℤ)) → HasReadAll self.now i zs → LongestFront i result (first_mcus self.now result zs) }
         // Their blocks are those of the reader's run, which ends somewhere for some reason.
         ensures run { (zs : List (List ℤ)) → HasRead self.now zs → HasEnded self.now → HasBlocks self.now.run (first_mcus self.now result zs) }
     {
@@ -206,7 +206,7 @@ impl<'a> BlockReader<'a> {
     /// Whether all blocks are read and fewer than eight bits are left.
     pub fn is_sound(&self) -> bool
         ensures sound { IsTrue result → (i : IntervalValue) (zs : List (List ℤ)) → HasReadOf self.now i zs → Decodes i zs }
-        ensures damaged { result ≡ false → (i : IntervalValue) (zs : List (List ℤ)) → HasReadOf self.now i zs → HasEnded self.now → HasNoDecoding i }
+        ensures damaged { result ≡ false → (i : IntervalValue) (zs : List (List ℤ)) → HasReadAll self.now i zs → HasNoDecoding i }
     {
         one_word();
         self.mcu == self.mcus && self.bits.left() < 8

@@ -27,13 +27,13 @@ impl Model for Scan {
     ghost use Rattle.std.specs.List.{All};
     ghost use Rattle.std.specs.Arc.{arc_value};
     ghost use Rattle.jr_scan.specs.ScanValue.{ScanValue, intervals_of};
-    ghost use Rattle.jr_scan.specs.Spans.{segment_data, IsWithin};
+    ghost use Rattle.jr_scan.specs.Spans.{segment_data, IsSpanOf};
 
     ghost Value = { ScanValue };
 
     ghost view = { λ s. record { head = arc_value s.head; intervals = map (segment_data (arc_value s.unstuffed).items) s.spans.items ++ replicate (s.intervals - length s.spans.items) []; ended = s.ended } };
 
-    ghost invariant = { λ s. All (IsWithin (arc_value s.unstuffed).items) s.spans.items × (length s.spans.items ≤ s.intervals) × (s.intervals ≡ intervals_of (arc_value s.head)) × (0 < s.intervals) × (length (arc_value s.unstuffed).items < 2 ^ 61) };
+    ghost invariant = { λ s. All (IsSpanOf (arc_value s.unstuffed).items) s.spans.items × (length s.spans.items ≤ s.intervals) × (s.intervals ≡ intervals_of (arc_value s.head)) × (0 < s.intervals) × (length (arc_value s.unstuffed).items < 2 ^ 61) };
 }
 
 /// The bytes from an offset on, none where it is past the end.

@@ -5,14 +5,14 @@ use Rattle.jr_head.specs.Heads.{HeadOf, HasOneHead, HasOneFault}
 use Rattle.jr_head.specs.Geometry.{IsLawful}
 use Rattle.jr_paint.specs.Text.{text_of}
 use Rattle.jr_scan.specs.declared.scan_end.ScanEnd.{ScanEnd}
-use Rattle.jr_scan.specs.Cut.{IsCut}
+use Rattle.jr_scan.specs.Cut.{Cutting, IsCut}
 use Rattle.jr_scan.specs.ScanValue.{ScanValue, IsScanOf, intervals_of}
 use Rattle.jr_wall.specs.declared.mark.Mark.{Mark}
 use Rattle.jr_wall.specs.Headline.{IsPicture, AreFirst}
 use Rattle.jri_engine.specs.Files.{IsPictureOf}
 
 abbrev OneCut : Type 0
-OneCut = (n at : ℕ) (bytes : List ℕ) (xs ys : List (List ℕ)) (a b : ScanEnd) → IsCut n at bytes xs a → IsCut n at bytes ys b → (xs ≡ ys) × (a ≡ b)
+OneCut = (n at : ℕ) (bytes : List ℕ) (a b : Cutting n at bytes) → (a.datas ≡ b.datas) × (a.end ≡ b.end)
 
 abbrev OnePicture : Type 0
 OnePicture = (scan : ScanValue) (n : ℕ) (k m : List Mark) (f g : ℕ → ℕ → ℕ → ℕ) → IsLawful scan.head → IsPicture scan k f → IsPicture scan m g → AreFirst n k → AreFirst n m
@@ -30,9 +30,9 @@ filled h pieces = pieces ++ replicate (intervals_of h - length pieces) []
 
 one_scan : (file : List ℕ) (s t : ScanValue) → OneCut → s.head ≡ t.head → IsScanOf file s → IsScanOf file t → s ≡ t
 one_scan file s t cut e p q =
-    let there = subst (λ (h : HeadValue). IsCut (intervals_of h) h.scan_at (drop h.scan_at file) q.pieces t.ended) (sym e) q.cut in
-    let one = cut (intervals_of s.head) s.head.scan_at (drop s.head.scan_at file) p.pieces q.pieces s.ended t.ended p.cut there in
-    let intervals : s.intervals ≡ t.intervals = p.intervals ∙ ap (filled s.head) one.0 ∙ ap (λ (h : HeadValue). filled h q.pieces) e ∙ sym q.intervals in
+    let there = subst (λ (h : HeadValue). IsCut (intervals_of h) h.scan_at (drop h.scan_at file) q.segments t.ended) (sym e) q.cut in
+    let one = cut (intervals_of s.head) s.head.scan_at (drop s.head.scan_at file) (record { datas = p.segments; end = s.ended; is = p.cut }) (record { datas = q.segments; end = t.ended; is = there }) in
+    let intervals : s.intervals ≡ t.intervals = p.intervals ∙ ap (filled s.head) one.0 ∙ ap (λ (h : HeadValue). filled h q.segments) e ∙ sym q.intervals in
     ap (λ (h : HeadValue). made h s.intervals s.ended) e ∙ ap (λ (l : List (List ℕ)). made t.head l s.ended) intervals ∙ ap (made t.head t.intervals) one.1
 
 pub one_text : (file : List ℕ) (first : Option ℕ) → HasOneHead file ⊎ HasOneFault file → OneCut → OnePicture → (s t : ScanValue) (k m : List Mark) (f g : ℕ → ℕ → ℕ → ℕ)

@@ -18,9 +18,9 @@ returns c =
     let order : length c.order.result.now ≡ length (order_of i.head) = ap (λ (o : List ℕ). length o) (c.order.ensures.value ∙ ap order_of c.head.ensures) in
     let ended : Ended i zs c.in_ok-samples.samples.items c.is_sound.result front = record {
       samples = c.in_ok-samples.ensures.read.2;
-      longest = subst (λ (n : ℕ). LongestFront i front (take (front * n) zs)) per (c.mcus-front.ensures.front i zs (run, read) c.in_ok-samples.ensures.ended);
+      longest = subst (λ (n : ℕ). LongestFront i front (take (front * n) zs)) per (c.mcus-front.ensures.front i zs ((run, read), c.in_ok-samples.ensures.ended));
       decodes = λ t. c.is_sound.ensures.sound t i zs (run, read);
-      none = λ f ys. c.is_sound.ensures.damaged f i zs (run, read) c.in_ok-samples.ensures.ended ys;
+      none = λ f ys. c.is_sound.ensures.damaged f i zs ((run, read), c.in_ok-samples.ensures.ended) ys;
     } in
     let cut : c.truncate.new.self.items ≡ take (front * length c.order.result.now) c.in_ok-samples.samples.items = search (rules, c.truncate.ensures.items) in
     let told = subst (λ (us : List (List ℕ)). IsOutcome (record { interval = i; is_sound = c.is_sound.result; front = front; samples = us })) (sym cut)

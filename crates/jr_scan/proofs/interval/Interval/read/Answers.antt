@@ -9,7 +9,7 @@ returns-then-is_sound-clause-only c = λ ys d.
 
 pub returns-else-is_sound-clause-none : goal.returns-else-is_sound-clause-none
 returns-else-is_sound-clause-none c = λ ys d.
-    c.is_sound.ensures.damaged c.if-is_sound.false c.args.self.now _ (c.in_ok-blocks.ensures.run, c.in_ok-blocks.ensures.read) c.in_ok-blocks.ensures.ended ys d
+    c.is_sound.ensures.damaged c.if-is_sound.false c.args.self.now _ ((c.in_ok-blocks.ensures.run, c.in_ok-blocks.ensures.read), c.in_ok-blocks.ensures.ended) ys d
 
 pub returns-then-is_sound-clause-in_range : goal.returns-then-is_sound-clause-in_range
 returns-then-is_sound-clause-in_range c =
