@@ -6,7 +6,7 @@ ghost use Rattle.jr_desk.specs.Draws.{view};
 ghost use Rattle.jr_desk.specs.Values.{desk_of, fresh};
 
 use atomic_table::{Join, Play, Shared, Split, Table, TableRule};
-use jr_code::Memory;
+use jr_base::Memory;
 use std::alloc::Global;
 use std::collections::LinkedList;
 use std::marker::Model;

@@ -1,7 +1,6 @@
 -- The Netpbm text of a picture.
-use Rattle.std.specs.Prelude.{◌≡◌, ℕ, ◌*◌, ◌/◌, List, [], ◌∷◌, ◌++◌, codes, decimal, Option}
+use Rattle.std.specs.Prelude.{ℕ, ◌*◌, ◌/◌, List, [], ◌∷◌, ◌++◌, codes, decimal}
 use Rattle.std.specs.List.{flat_map, range_with_len}
-use Rattle.std.specs.Io.KnownBytes.{Appends}
 use Rattle.jr_head.specs.HeadValue.{HeadValue}
 use Rattle.jr_head.specs.declared.mark.Kind.{Kind}
 use Rattle.jr_head.specs.declared.mark.Kind.TheVariants.{Grey, Rgb, Ycc}
@@ -46,10 +45,3 @@ lines_of h f n = flat_map (λ y. pixels_of h f y 0 h.width) (range_with_len 0 n)
 
 unfoldable pub text_of : HeadValue → (ℕ → ℕ → ℕ → ℕ) → List ℕ
 text_of h f = header_of h ++ lines_of h f h.height
-
--- known bytes grow by a beginning of bs
-pub record AppendsFront (old new : Option (List ℕ)) (bs : List ℕ) : Type 0 where
-  pub sent : List ℕ
-  pub left : List ℕ
-  pub whole : bs ≡ sent ++ left
-  pub appended : Appends old new sent

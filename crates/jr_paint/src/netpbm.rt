@@ -2,16 +2,15 @@
 
 ghost use Rattle.std.specs.Prelude.{◌≡◌, ◌+◌, ◌<◌, ◌≤◌, ◌++◌, is_err, false, OnOk, OnErr};
 ghost use Rattle.std.specs.Io.KnownBytes.{Appends};
-ghost use Rattle.jr_paint.specs.Tally.{has_failed, known_in};
-ghost use Rattle.jr_paint.specs.Text.{AppendsFront, pixel_size, pixels_of, text_of};
+ghost use Rattle.jr_base.specs.Tally.{AppendsFront, has_failed, known_in};
+ghost use Rattle.jr_paint.specs.Text.{pixel_size, pixels_of, text_of};
 
 use crate::header::write_header;
 use crate::pairs::fill_two;
 use crate::samples::Samples;
 use crate::strips::fill;
-use crate::tally::Tally;
 use crate::upsampling::{STRIP, shares_chroma};
-use crate::writing::{WriteFault, write_all};
+use jr_base::{Tally, WriteFault, write_all};
 use jr_head::Kind;
 use std::io::Write;
 

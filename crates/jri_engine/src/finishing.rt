@@ -2,7 +2,7 @@
 
 ghost use Rattle.std.specs.Prelude.{◌≡◌, IfOk, IfErr, false};
 ghost use Rattle.std.specs.Io.KnownBytes.{Keeps};
-ghost use Rattle.jr_paint.specs.Tally.{has_failed, known_in};
+ghost use Rattle.jr_base.specs.Tally.{has_failed, known_in};
 ghost use Rattle.jri_engine.specs.Status.{fault_status, report_status};
 
 use crate::report::{Fault, Report};

@@ -1,7 +1,7 @@
 //! The input, to its end.
 
 ghost use Rattle.std.specs.Prelude.{◌≡◌, ◌≤◌, vec_len, take, IfOk, OnOk, IfSome, true, false};
-ghost use Rattle.jr_paint.specs.Tally.{has_failed, known_in};
+ghost use Rattle.jr_base.specs.Tally.{has_failed, known_in};
 
 use jr_paint::Tally;
 use std::alloc::Global;

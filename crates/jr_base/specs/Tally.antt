@@ -1,6 +1,7 @@
 -- What a clause reads of a `Tally`.
-use Rattle.std.specs.Prelude.{ℕ, Bool, true, ◌&&◌, ◌==◌, nat_lt, List, length, Option, Result, Ok, Err}
-use Rattle.jr_paint.specs.declared.tally.Tally.{Tally}
+use Rattle.std.specs.Prelude.{◌≡◌, ℕ, Bool, true, ◌&&◌, ◌==◌, nat_lt, List, ◌++◌, length, Option, Result, Ok, Err}
+use Rattle.std.specs.Io.KnownBytes.{Appends}
+use Rattle.jr_base.specs.declared.tally.Tally.{Tally}
 
 abbrev pub inner_of : {T : Type 0} → Tally T → T
 inner_of t = t.inner
@@ -17,3 +18,10 @@ known_in known t = known t.inner
 abbrev pub took_none : {E : Type 0} → Result ℕ E → List ℕ → Bool
 took_none (Ok n) buf = (n == 0) && nat_lt 0 (length buf)
 took_none (Err e) buf = true
+
+-- known bytes grow by a beginning of bs
+pub record AppendsFront (old new : Option (List ℕ)) (bs : List ℕ) : Type 0 where
+  pub sent : List ℕ
+  pub left : List ℕ
+  pub whole : bs ≡ sent ++ left
+  pub appended : Appends old new sent
