@@ -6,7 +6,7 @@ ghost use Rattle.jr_base.specs.Tally.{has_failed, known_in};
 ghost use Rattle.jri_engine.specs.Status.{fault_status, report_status};
 
 use crate::report::{Fault, Report};
-use jr_paint::Tally;
+use jr_base::Tally;
 use jr_scan::ScanEnd;
 use std::io::{Result as IoResult, Write};
 
