@@ -8,7 +8,7 @@ ghost use Rattle.jr_code.specs.Bits.{bits_of};
 ghost use Rattle.jr_code.specs.Register.{bits_in};
 
 use crate::bits::Bits;
-use crate::memory::Memory;
+use jr_base::Memory;
 use crate::register::Register;
 use crate::words::{Extended, Words};
 use std::alloc::Global;

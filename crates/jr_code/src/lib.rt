@@ -4,14 +4,13 @@
 mod bits;
 mod book;
 mod laws;
-mod memory;
 mod register;
 mod words;
 
 pub use bits::Bits;
 pub use book::{CodeBook, CodeFault};
+pub use jr_base::Memory;
 pub use laws::{each_place_has_a_word, one_word, same_table_tells};
-pub use memory::Memory;
 
 #[cfg(test)]
 mod tests;

@@ -5,7 +5,7 @@ ghost use Rattle.jr_code.specs.Bits.{bits_of};
 ghost use Rattle.jr_code.specs.Code.{same_table, IsWord, HasNoFront, AreEntries, ArePairs, IsPair, AreLong, room, space, lengths};
 
 use crate::bits::Bits;
-use crate::memory::Memory;
+use jr_base::Memory;
 use std::marker::Model;
 
 /// A word and its extra bits together.

@@ -3,6 +3,7 @@ use Rattle.std.specs.Prelude.{◌≡◌, ℕ, ◌+◌, ◌<◌, ◌≤◌, ◌^�
 use mathlib.Core.Option.{some}
 use lib.ListN.{get_elem?}
 use Rattle.atomic_table.specs.Table.{State, Me, Step}
+use Rattle.jr_base.specs.declared.limits.TheConstants.{MAX_WORKERS}
 use Rattle.jr_desk.specs.declared.claims.View.{View}
 use Rattle.jr_desk.specs.Count.{total, times, once_below}
 
@@ -23,7 +24,7 @@ pub record Dealt (n k : ℕ) (s : State (Unit {0}) View) : Type 0 where
   pub words : length s.words ≡ 2
   pub second : slice_index s.words 1 ≡ n
   pub fits : n < 2 ^ 32
-  pub few : k ≤ 64
+  pub few : k ≤ MAX_WORKERS
   pub once : (x : ℕ) → total (λ v. times x v.drawn) s.views ≡ once_below x (min (slice_index s.words 0) n)
   pub drawn : total (λ v. length v.drawn) s.views ≡ min (slice_index s.words 0) n
   pub seats : total (λ v. v.seats) s.views ≡ k

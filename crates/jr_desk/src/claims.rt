@@ -1,12 +1,13 @@
 // The desk and its seats.
 ghost use Rattle.std.specs.Prelude.{◌≡◌, ℕ, ◌+◌, ◌-◌, ◌<◌, ◌≤◌, ◌^◌, [], ◌∷◌, ◌++◌, true, false, length, map, cond, All, IfOk, IfSome, IfNone, OnSome, MatchOption};
 ghost use Rattle.std.specs.List.{range_with_len};
+ghost use Rattle.jr_base.specs.declared.limits.TheConstants.{MAX_WORKERS};
 ghost use Rattle.jr_desk.specs.Count.{total, times, once_below};
 ghost use Rattle.jr_desk.specs.Draws.{view};
 ghost use Rattle.jr_desk.specs.Values.{desk_of, fresh};
 
 use atomic_table::{Join, Play, Shared, Split, Table, TableRule};
-use jr_code::Memory;
+use jr_base::Memory;
 use std::alloc::Global;
 use std::collections::LinkedList;
 use std::marker::Model;
@@ -203,7 +204,7 @@ fn merged(table: &Tables, mut seats: Vec<Seat>) -> Option<Pass>
 impl Desk {
     /// A desk that hands out the numbers below `limit`, and its seats.
     pub fn open(alloc: Global, limit: u32, seats: u32) -> Result<(Desk, Vec<Seat>), Memory>
-        requires { (1 ≤ seats) × (seats ≤ 64) }
+        requires { (1 ≤ seats) × (seats ≤ MAX_WORKERS) }
         ensures desk { IfOk result (λ r. (r.0.limit ≡ limit) × (r.0.seats ≡ seats)) }
         ensures seats { IfOk result (λ r. r.1.items ≡ map (fresh r.0) (range_with_len 0 seats)) }
         ensures each { IfOk result (λ r. (length r.1.items ≡ seats) × All (λ s. s.desk ≡ r.0) r.1.items) }

@@ -9,6 +9,7 @@ use Rattle.std.proofs.lemmas.List.Concat.{flat_map-cons}
 use Rattle.std.proofs.lemmas.Grind.{flat_map-append}
 use Rattle.std.proofs.lemmas.List.Folds.{list_any-append}
 use Rattle.jr_code.specs.Code.{space, lengths}
+use Rattle.jr_base.specs.declared.marker.TheConstants.{DHT, DQT, DRI, SOF0, SOF1, SOS}
 use Rattle.jr_head.specs.declared.frame.FrameComponent.{FrameComponent}
 use Rattle.jr_head.specs.declared.quantiser.Quantiser.{Quantiser}
 use Rattle.jr_head.specs.declared.refusal.Refusal.{Refusal}
@@ -40,15 +41,15 @@ passes_on t ts e h = rw e h
 one_quantiser : (t : ℕ × List ℕ) → first_fault (baseline_quantisation_tests t) ≡ None → (first_fault (quantisation_tests t) ≡ None) × (elements_len t.0 ≡ 64) × ((high t.0 == 1) ≡ false)
 unfolding baseline_quantisation_tests quantisation_tests
 one_quantiser t h =
-    let first = passes_first (BadQuantTable when (nat_lt 0 (high t.0) || nat_lt 3 (low t.0))) ((BadLength 0xDB when nat_lt (length t.1) 64) ∷ []) h in
-    let second = passes_first (BadLength 0xDB when nat_lt (length t.1) 64) [] first.1 in
+    let first = passes_first (BadQuantTable when (nat_lt 0 (high t.0) || nat_lt 3 (low t.0))) ((BadLength DQT when nat_lt (length t.1) 64) ∷ []) h in
+    let second = passes_first (BadLength DQT when nat_lt (length t.1) 64) [] first.1 in
     let both = no_one (nat_lt 0 (high t.0)) (nat_lt 3 (low t.0)) first.0 in
     let none : high t.0 ≤ 0 = ltb-false 0 (high t.0) both.0 in
     let precise : high t.0 ≡ 0 = omega (arith, none) in
     let short : elements_len t.0 ≡ 64 = rw precise refl in
     let far : (nat_lt 1 (high t.0) || nat_lt 3 (low t.0)) ≡ false = rw (precise, both.1) refl in (
-      passes_on (BadQuantTable when (nat_lt 1 (high t.0) || nat_lt 3 (low t.0))) ((BadLength 0xDB when nat_lt (length t.1) (elements_len t.0)) ∷ []) far
-          (passes_on (BadLength 0xDB when nat_lt (length t.1) (elements_len t.0)) [] (rw short second.0) refl),
+      passes_on (BadQuantTable when (nat_lt 1 (high t.0) || nat_lt 3 (low t.0))) ((BadLength DQT when nat_lt (length t.1) (elements_len t.0)) ∷ []) far
+          (passes_on (BadLength DQT when nat_lt (length t.1) (elements_len t.0)) [] (rw short second.0) refl),
       short,
       rw precise refl,
     )
@@ -84,9 +85,9 @@ one_coding : (t : ℕ × List ℕ) → first_fault (baseline_coding_tests t) ≡
 unfolding baseline_coding_tests coding_tests
 one_coding t h =
     let more =
-    (BadLength 0xC4 when nat_lt (length t.1) 16)
+    (BadLength DHT when nat_lt (length t.1) 16)
     ∷ (BadCodeTable when nat_lt 256 (sum (take 16 t.1)))
-    ∷ (BadLength 0xC4 when nat_lt (length t.1) (coding_len t.1))
+    ∷ (BadLength DHT when nat_lt (length t.1) (coding_len t.1))
     ∷ (BadCodeTable when nat_lt 65536 (space (lengths (take 16 t.1))))
     ∷ [] in
     let first = passes_first (BadCodeTable when (nat_lt 1 (high t.0) || nat_lt 1 (low t.0))) more h in
@@ -125,14 +126,14 @@ four_pass false false true d r s t u h = absurd cc
 four_pass false false false true r s t u h = absurd cc
 four_pass false false false false r s t u h = (refl, refl, refl, refl)
 
-code_pass : (framed : Bool) (code : ℕ) → first_fault (baseline_code_tests framed code) ≡ None → (first_fault (code_tests framed code) ≡ None) × ((code == 0xC1) ≡ false)
+code_pass : (framed : Bool) (code : ℕ) → first_fault (baseline_code_tests framed code) ≡ None → (first_fault (code_tests framed code) ≡ None) × ((code == SOF1) ≡ false)
 unfolding baseline_code_tests code_tests
 code_pass framed code h =
-    let four = four_pass (is_not_baseline code || code == 0xC1) (code == 0xC0 && framed) (code == 0xDA && not framed) (not (code == 0xDB || code == 0xC4 || code == 0xDD || code == 0xC0 || code == 0xDA || is_other code))
+    let four = four_pass (is_not_baseline code || code == SOF1) (code == SOF0 && framed) (code == SOS && not framed) (not (code == DQT || code == DHT || code == DRI || code == SOF0 || code == SOS || is_other code))
     (NotBaseline code) SecondFrame NoFrame (UnexpectedMarker code) h in
-    let both = no_one (is_not_baseline code) (code == 0xC1) four.0 in
-    let frame : (is_frame code && framed) ≡ false = frame_more (code == 0xC0) (code == 0xC1) framed both.1 four.1 in
-    let known : not (is_known code) ≡ false = known_more (code == 0xDB) (code == 0xC4) (code == 0xDD) (code == 0xC0) (code == 0xDA) (is_other code) (code == 0xC1) four.3 in
+    let both = no_one (is_not_baseline code) (code == SOF1) four.0 in
+    let frame : (is_frame code && framed) ≡ false = frame_more (code == SOF0) (code == SOF1) framed both.1 four.1 in
+    let known : not (is_known code) ≡ false = known_more (code == DQT) (code == DHT) (code == DRI) (code == SOF0) (code == SOS) (is_other code) (code == SOF1) four.3 in
     (rw (both.0, frame, four.2, known) refl, both.1)
 
 -- ---- the scan header
@@ -156,15 +157,15 @@ unfolding has_wide quantiser_for
 none_wide qs [] h = refl
 none_wide qs (u ∷ us) h = rw (last_narrow (λ d. d.destination == u.0.quantiser) qs h, none_wide qs us h) refl
 
-scan_pass : (code : ℕ) (cs : List FrameComponent) (qs : List Quantisation) (ds : List Coding) (p : List ℕ) → code ≡ 0xC0 → list_any is_wide_definition qs ≡ false
+scan_pass : (code : ℕ) (cs : List FrameComponent) (qs : List Quantisation) (ds : List Coding) (p : List ℕ) → code ≡ SOF0 → list_any is_wide_definition qs ≡ false
     → first_fault (baseline_scan_tests cs qs ds p) ≡ None → first_fault (scan_tests code cs qs ds p) ≡ None
 unfolding baseline_scan_tests scan_tests header_tests table_tests is_ill_selected
 scan_pass code cs qs ds p c narrow h =
     let us = used cs p in
     let header =
-    (BadLength 0xDA when (length p == 0))
+    (BadLength SOS when (length p == 0))
     ∷ (BadScanHeader when not (byte 0 p == length cs))
-    ∷ (BadLength 0xDA when not (length p == 4 + 2 * byte 0 p))
+    ∷ (BadLength SOS when not (length p == 4 + 2 * byte 0 p))
     ∷ (BadScanHeader when is_ill_selected_baseline us)
     ∷ (BadScanHeader when not (is_whole p))
     ∷ [] in
@@ -178,7 +179,7 @@ scan_pass code cs qs ds p c narrow h =
 
 -- what the items of a baseline file have
 record IsNarrow (items : List Item) : Type 0 where
-  frame : (frame_item items).code ≡ 0xC0
+  frame : (frame_item items).code ≡ SOF0
   quantisers : list_any is_wide_definition (all_quantisations items) ≡ false
 
 by_code : (a b c d e g : Bool) (q x k y r f s z : List Test) → g ≡ false → (first_fault q ≡ None → first_fault x ≡ None) → (first_fault k ≡ None → first_fault y ≡ None) → (first_fault s ≡ None → first_fault z ≡ None)
@@ -193,13 +194,13 @@ by_code false false false false true false q x k y r f s z n on_q on_k on_s h = 
 by_code false false false false false true q x k y r f s z n on_q on_k on_s h = absurd cc
 by_code false false false false false false q x k y r f s z n on_q on_k on_s h = refl
 
-payload_pass : (before : List Item) (code : ℕ) (p : List ℕ) → IsNarrow before → (code == 0xC1) ≡ false → first_fault (baseline_payload_tests before code p) ≡ None → first_fault (payload_tests before code p) ≡ None
+payload_pass : (before : List Item) (code : ℕ) (p : List ℕ) → IsNarrow before → (code == SOF1) ≡ false → first_fault (baseline_payload_tests before code p) ≡ None → first_fault (payload_tests before code p) ≡ None
 unfolding baseline_payload_tests payload_tests quantisations_tests codings_tests tables
 payload_pass before code p n other h =
-    by_code (code == 0xDB) (code == 0xC4) (code == 0xDD) (code == 0xC0) (code == 0xDA) (code == 0xC1)
+    by_code (code == DQT) (code == DHT) (code == DRI) (code == SOF0) (code == SOS) (code == SOF1)
     (flat_map baseline_quantisation_tests (tables_after size_one 0 p)) (flat_map quantisation_tests (tables_after size_any 0 p))
     (flat_map baseline_coding_tests (tables_after (λ _ q. coding_len q) 0 p)) (flat_map coding_tests (tables_after (λ _ q. coding_len q) 0 p))
-    ((BadLength 0xDD when not (length p == 2)) ∷ []) (frame_tests code p)
+    ((BadLength DRI when not (length p == 2)) ∷ []) (frame_tests code p)
     (baseline_scan_tests (components (frame_item before).payload) (all_quantisations before) (all_codings before) p)
     (scan_tests (frame_item before).code (components (frame_item before).payload) (all_quantisations before) (all_codings before) p)
     other
@@ -220,9 +221,9 @@ passes before i n ok =
 
 -- ---- the chain
 
-frame_code : (b c : Bool) (i : Item) (o : Option Item) → (i.code == 0xC0) ≡ b → (i.code == 0xC1) ≡ c → c ≡ false → (unwrap_or o (record { fill = 0; code = 0xC0; payload = [] })).code ≡ 0xC0
-    → (unwrap_or (if (b || c) then Some i else o) (record { fill = 0; code = 0xC0; payload = [] })).code ≡ 0xC0
-frame_code true c i o e f n h = eqb-true i.code 0xC0 e
+frame_code : (b c : Bool) (i : Item) (o : Option Item) → (i.code == SOF0) ≡ b → (i.code == SOF1) ≡ c → c ≡ false → (unwrap_or o (record { fill = 0; code = SOF0; payload = [] })).code ≡ SOF0
+    → (unwrap_or (if (b || c) then Some i else o) (record { fill = 0; code = SOF0; payload = [] })).code ≡ SOF0
+frame_code true c i o e f n h = eqb-true i.code SOF0 e
 frame_code false true i o e f n h = absurd cc
 frame_code false false i o e f n h = h
 
@@ -230,11 +231,11 @@ narrow_push : (before : List Item) (i : Item) → IsNarrow before → PassesBase
 unfolding baseline_payload_tests
 narrow_push before i n ok =
     let c = code_pass (has_frame before) i.code ok.code in
-    let mine : Item → List Quantisation = λ (x : Item). if x.code == 0xDB then quantisations x.payload else [] in
+    let mine : Item → List Quantisation = λ (x : Item). if x.code == DQT then quantisations x.payload else [] in
     let split : all_quantisations (before ++ i ∷ []) ≡ all_quantisations before ++ mine i = flat_map-append mine before (i ∷ []) ∙ ap (λ (t : List Quantisation). all_quantisations before ++ t) (flat_map-cons mine i [] ∙ append-nil (mine i)) in
-    let narrow : list_any is_wide_definition (mine i) ≡ false = narrow_payload (i.code == 0xDB) i.payload _ ok.payload in
+    let narrow : list_any is_wide_definition (mine i) ≡ false = narrow_payload (i.code == DQT) i.payload _ ok.payload in
     record {
-      frame = rw (last_push (λ (x : Item). is_frame x.code) before i) (frame_code (i.code == 0xC0) (i.code == 0xC1) i (frame_in before) refl refl c.1 n.frame);
+      frame = rw (last_push (λ (x : Item). is_frame x.code) before i) (frame_code (i.code == SOF0) (i.code == SOF1) i (frame_in before) refl refl c.1 n.frame);
       quantisers = ap (list_any is_wide_definition) split ∙ list_any-append is_wide_definition (all_quantisations before) (mine i) ∙ rw (n.quantisers, narrow) refl;
     }
 

@@ -3,6 +3,7 @@ use Rattle.std.proofs.Common.{◌≡◌, inl, inr, ℕ, ◌-◌, ◌<◌, Bool, 
 use Rattle.std.specs.Prelude.{Some, ◌==◌, if◌then◌else◌}
 use Rattle.std.specs.List.{flat_map}
 use Rattle.std.proofs.lemmas.List.Concat.{flat_map-cons}
+use Rattle.jr_base.specs.declared.marker.TheConstants.{DHT, DQT, DRI, SOS}
 use Rattle.jr_head.specs.declared.frame.FrameComponent.{FrameComponent}
 use Rattle.jr_head.specs.declared.refusal.Refusal.{Refusal}
 use Rattle.jr_head.specs.Bytes.{byte}
@@ -85,11 +86,11 @@ of_scan code cs qs ds p = (omega arith, (omega arith, (omega arith, (omega arith
 of_payload : (before : List Item) (code : ℕ) (p : List ℕ) → AreOfFiles (payload_tests before code p)
 unfolding payload_tests quantisations_tests codings_tests
 of_payload before code p =
-    choice_of (code == 0xDB) (quantisations_tests p) _ (flat_of quantisation_tests (tables (λ b _. elements_len b) p) of_quantisation)
-    (choice_of (code == 0xC4) (codings_tests p) _ (flat_of coding_tests (tables (λ _ q. coding_len q) p) of_coding)
-    (choice_of (code == 0xDD) _ _ (omega arith, tt)
+    choice_of (code == DQT) (quantisations_tests p) _ (flat_of quantisation_tests (tables (λ b _. elements_len b) p) of_quantisation)
+    (choice_of (code == DHT) (codings_tests p) _ (flat_of coding_tests (tables (λ _ q. coding_len q) p) of_coding)
+    (choice_of (code == DRI) _ _ (omega arith, tt)
     (choice_of (is_frame code) (frame_tests code p) _ (of_frame code p)
-    (choice_of (code == 0xDA) _ [] (of_scan (frame_item before).code (components (frame_item before).payload) (all_quantisations before) (all_codings before) p) tt))))
+    (choice_of (code == SOS) _ [] (of_scan (frame_item before).code (components (frame_item before).payload) (all_quantisations before) (all_codings before) p) tt))))
 
 of_item : (before : List Item) (at : ℕ) (bytes : List ℕ) → AreOfFiles (item_tests before at bytes)
 of_item before at bytes =

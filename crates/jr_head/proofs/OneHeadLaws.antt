@@ -7,6 +7,8 @@ use Rattle.std.proofs.lemmas.Bool.{and_parts, eqb-true, eqb-false, ltb-false, le
 use Rattle.std.proofs.lemmas.List.{append-nil, length-drop, get_or_past}
 use Rattle.std.proofs.lemmas.List.Concat.{flat_map-cons}
 use Rattle.jr_code.specs.Code.{Table}
+use Rattle.jr_base.specs.declared.limits.TheConstants.{MAX_FILE_BYTES}
+use Rattle.jr_base.specs.declared.marker.TheConstants.{PREFIX, SOF0, SOI, SOS}
 use Rattle.jr_head.specs.declared.component.Component.{Component}
 use Rattle.jr_head.specs.declared.frame.FrameComponent.{FrameComponent}
 use Rattle.jr_head.specs.declared.mark.Kind.{Kind}
@@ -19,7 +21,7 @@ use Rattle.jr_head.specs.Codes.{Coding, coding_for}
 use Rattle.jr_head.specs.Definitions.{IsComponent, restart_of}
 use Rattle.jr_head.specs.Frames.{components, width, height}
 use Rattle.jr_head.specs.HeadValue.{HeadValue}
-use Rattle.jr_head.specs.Heads.{Passes, IsChain, Defines, HeadOf, EndsWith, RefusalOf, item_tests, payload_tests, start, start_tests, limit, is_single, HasOneHead, HasOneFault}
+use Rattle.jr_head.specs.Heads.{Passes, IsChain, Defines, HeadOf, EndsWith, RefusalOf, item_tests, payload_tests, start, start_tests, is_single, HasOneHead, HasOneFault}
 use Rattle.jr_head.specs.Items.{Item, spelled, item_at, after_item, has_frame, framing_tests}
 use Rattle.jr_head.specs.Marks.{kind_of}
 use Rattle.jr_head.specs.Quantisers.{Quantisation, quantiser_for}
@@ -106,17 +108,17 @@ made_all qs cs single (u ∷ us) h =
     let l = made_all qs cs single us both.1 in
     (c.0 ∷ l.0, (c.1, l.1))
 
-none_missing : (items : List Item) (p : List ℕ) → first_fault (payload_tests items 0xDA p) ≡ None
+none_missing : (items : List Item) (p : List ℕ) → first_fault (payload_tests items SOS p) ≡ None
     → list_any (is_missing (all_quantisations items) (all_codings items)) (used (components (frame_item items).payload) p) ≡ false
 unfolding payload_tests scan_tests table_tests
 none_missing items p h =
     let us = used (components (frame_item items).payload) p in
     let qs = all_quantisations items in
     let code = (frame_item items).code in
-    let both = passes_parts (header_tests code (components (frame_item items).payload) p) ((MissingTable when list_any (is_missing qs (all_codings items)) us) ∷ (BadQuantTable when (code == 0xC0 && has_wide qs us)) ∷ []) h in
-    (passes_first (MissingTable when list_any (is_missing qs (all_codings items)) us) ((BadQuantTable when (code == 0xC0 && has_wide qs us)) ∷ []) both.1).0
+    let both = passes_parts (header_tests code (components (frame_item items).payload) p) ((MissingTable when list_any (is_missing qs (all_codings items)) us) ∷ (BadQuantTable when (code == SOF0 && has_wide qs us)) ∷ []) h in
+    (passes_first (MissingTable when list_any (is_missing qs (all_codings items)) us) ((BadQuantTable when (code == SOF0 && has_wide qs us)) ∷ []) both.1).0
 
-made_head : (items : List Item) (p : List ℕ) (at : ℕ) → first_fault (payload_tests items 0xDA p) ≡ None → (h : HeadValue) × Defines items p h × (h.scan_at ≡ at)
+made_head : (items : List Item) (p : List ℕ) (at : ℕ) → first_fault (payload_tests items SOS p) ≡ None → (h : HeadValue) × Defines items p h × (h.scan_at ≡ at)
 made_head items p at h =
     let cs = made_all (all_quantisations items) (all_codings items) (is_single items) (used (components (frame_item items).payload) p) (none_missing items p h) in (
       record { width = width (frame_item items).payload; height = height (frame_item items).payload; kind = kind_of items (is_single items); components = cs.0; restart = restart_of items; scan_at = at },
@@ -130,7 +132,7 @@ record IsScanned (size : ℕ) (before : List Item) (bytes : List ℕ) (h : HeadV
   scan : Item
   rest : List ℕ
   is : bytes ≡ spelled scan ++ rest
-  is_scan : scan.code ≡ 0xDA
+  is_scan : scan.code ≡ SOS
   passes : Passes before scan
   defines : Defines before scan.payload h
   scan_at : h.scan_at + length rest ≡ size
@@ -171,7 +173,7 @@ one_end size before bytes (Err f) (Ok y) h k =
 one_end size before bytes (Err f) (Err g) h k = ap Err (same_some f g (sym h ∙ k))
 
 -- a chain does not end before an item that passes and is no scan header
-goes_on : (size : ℕ) (before : List Item) (bytes rest : List ℕ) (i : Item) (r : Result HeadValue Refusal) → Passes before i → i.code ≢ 0xDA → bytes ≡ spelled i ++ rest → Comes size before bytes r → ⊥
+goes_on : (size : ℕ) (before : List Item) (bytes rest : List ℕ) (i : Item) (r : Result HeadValue Refusal) → Passes before i → i.code ≢ SOS → bytes ≡ spelled i ++ rest → Comes size before bytes r → ⊥
 goes_on size before bytes rest i (Ok h) ok other e c =
     let m = next_is before i bytes rest ok e in
     let n = next_is before c.scan bytes c.rest c.passes c.is in
@@ -216,7 +218,7 @@ SomeWalk size before bytes = (r : Result HeadValue Refusal) × Walk size before 
 ends_here : (size : ℕ) (before : List Item) (bytes : List ℕ) (r : Result HeadValue Refusal) → Comes size before bytes r → SomeWalk size before bytes
 ends_here size before bytes r c = (r, record { items = []; rest = bytes; is = refl; chain = tt; comes = subst (λ (l : List Item). Comes size l bytes r) (sym (append-nil before)) c })
 
-goes_further : (size : ℕ) (before : List Item) (bytes : List ℕ) (i : Item) (after : List ℕ) → bytes ≡ spelled i ++ after → Passes before i → i.code ≢ 0xDA → SomeWalk size (before ++ i ∷ []) after → SomeWalk size before bytes
+goes_further : (size : ℕ) (before : List Item) (bytes : List ℕ) (i : Item) (after : List ℕ) → bytes ≡ spelled i ++ after → Passes before i → i.code ≢ SOS → SomeWalk size (before ++ i ∷ []) after → SomeWalk size before bytes
 goes_further size before bytes i after e ok other w = (
   w.0,
   record {
@@ -228,37 +230,37 @@ goes_further size before bytes i after e ok other w = (
   },
 )
 
-scanned : (size : ℕ) (before : List Item) (bytes : List ℕ) (i : Item) (after : List ℕ) → bytes ≡ spelled i ++ after → Passes before i → i.code ≡ 0xDA → length after ≤ size → SomeWalk size before bytes
+scanned : (size : ℕ) (before : List Item) (bytes : List ℕ) (i : Item) (after : List ℕ) → bytes ≡ spelled i ++ after → Passes before i → i.code ≡ SOS → length after ≤ size → SomeWalk size before bytes
 scanned size before bytes i after e ok is_scan small =
     let made = made_head before i.payload (size - length after) (subst (λ (c : ℕ). first_fault (payload_tests before c i.payload) ≡ None) is_scan ok.payload) in
     let at : made.0.scan_at + length after ≡ size = omega (arith, made.2, small) in
     ends_here size before bytes (Ok made.0) (record { scan = i; rest = after; is = e; is_scan = is_scan; passes = ok; defines = made.1; scan_at = at })
 
-walk_step : (size : ℕ) (before : List Item) (bytes : List ℕ) (is_scan : Bool) (o : Option Refusal) → IsBytes bytes → length bytes ≤ size → eqb (item_at bytes).code 0xDA ≡ is_scan
+walk_step : (size : ℕ) (before : List Item) (bytes : List ℕ) (is_scan : Bool) (o : Option Refusal) → IsBytes bytes → length bytes ≤ size → eqb (item_at bytes).code SOS ≡ is_scan
     → first_fault (item_tests before (size - length bytes) bytes) ≡ o
     → ((i : Item) → length (after_item bytes) < length bytes → SomeWalk size (before ++ i ∷ []) (after_item bytes)) → SomeWalk size before bytes
 walk_step size before bytes is_scan (Some f) fits small which e go = ends_here size before bytes (Err f) e
 walk_step size before bytes true None fits small which e go =
     let both = passes_parts (framing_tests (has_frame before) (size - length bytes) bytes) (payload_tests before (item_at bytes).code (item_at bytes).payload) e in
     let f = framed_is (has_frame before) (size - length bytes) bytes fits both.0 in
-    scanned size before bytes (item_at bytes) (after_item bytes) f.is (record { code = f.code; short = f.short; payload = both.1 }) (eqb-true (item_at bytes).code 0xDA which) (omega (arith, f.shorter, small))
+    scanned size before bytes (item_at bytes) (after_item bytes) f.is (record { code = f.code; short = f.short; payload = both.1 }) (eqb-true (item_at bytes).code SOS which) (omega (arith, f.shorter, small))
 walk_step size before bytes false None fits small which e go =
     let both = passes_parts (framing_tests (has_frame before) (size - length bytes) bytes) (payload_tests before (item_at bytes).code (item_at bytes).payload) e in
     let f = framed_is (has_frame before) (size - length bytes) bytes fits both.0 in
-    goes_further size before bytes (item_at bytes) (after_item bytes) f.is (record { code = f.code; short = f.short; payload = both.1 }) (eqb-false (item_at bytes).code 0xDA which) (go (item_at bytes) f.shorter)
+    goes_further size before bytes (item_at bytes) (after_item bytes) f.is (record { code = f.code; short = f.short; payload = both.1 }) (eqb-false (item_at bytes).code SOS which) (go (item_at bytes) f.shorter)
 
 some_walk : (n size : ℕ) (before : List Item) (bytes : List ℕ) → length bytes < n → IsBytes bytes → length bytes ≤ size → SomeWalk size before bytes
 some_walk zero size before bytes few fits small = absurd (omega (arith, few))
 some_walk (suc n) size before bytes few fits small =
-    walk_step size before bytes (eqb (item_at bytes).code 0xDA) (first_fault (item_tests before (size - length bytes) bytes)) fits small refl refl
+    walk_step size before bytes (eqb (item_at bytes).code SOS) (first_fault (item_tests before (size - length bytes) bytes)) fits small refl refl
     (λ i shorter. some_walk n size (before ++ i ∷ []) (after_item bytes) (omega (arith, few, shorter)) (rest_bytes bytes fits) (omega (arith, shorter, small)))
 
 -- ---- the whole file
 
-starts_so : (file rest : List ℕ) → length file ≤ limit → file ≡ start ++ rest → first_fault (start_tests file) ≡ None
+starts_so : (file rest : List ℕ) → length file ≤ MAX_FILE_BYTES → file ≡ start ++ rest → first_fault (start_tests file) ≡ None
 starts_so file rest small e =
-    let short : nat_lt limit (length file) ≡ false = le-ltb limit (length file) small in
-    let begins : (byte 0 file == 0xFF && byte 1 file == 0xD8) ≡ true = rw e refl in
+    let short : nat_lt MAX_FILE_BYTES (length file) ≡ false = le-ltb MAX_FILE_BYTES (length file) small in
+    let begins : (byte 0 file == PREFIX && byte 1 file == SOI) ≡ true = rw e refl in
     rw (short, begins) refl
 
 two_tests : (a b : Bool) → first_fault ((TooLong when a) ∷ (NotJpeg when not b) ∷ []) ≡ None → (a ≡ false) × (b ≡ true)
@@ -266,13 +268,13 @@ two_tests true b h = absurd cc
 two_tests false false h = absurd cc
 two_tests false true h = (refl, refl)
 
-begins_so : (file : List ℕ) → (byte 0 file == 0xFF && byte 1 file == 0xD8) ≡ true → file ≡ start ++ drop 2 file
+begins_so : (file : List ℕ) → (byte 0 file == PREFIX && byte 1 file == SOI) ≡ true → file ≡ start ++ drop 2 file
 begins_so [] h = absurd cc
-begins_so (a ∷ []) h = absurd (let k = (and_parts (a == 0xFF) (byte 1 (a ∷ []) == 0xD8) h).1 in cc)
+begins_so (a ∷ []) h = absurd (let k = (and_parts (a == PREFIX) (byte 1 (a ∷ []) == SOI) h).1 in cc)
 begins_so (a ∷ b ∷ rest) h =
-    let both = and_parts (a == 0xFF) (b == 0xD8) h in
-    let first : a ≡ 0xFF = eqb-true a 0xFF both.0 in
-    let second : b ≡ 0xD8 = eqb-true b 0xD8 both.1 in
+    let both = and_parts (a == PREFIX) (b == SOI) h in
+    let first : a ≡ PREFIX = eqb-true a PREFIX both.0 in
+    let second : b ≡ SOI = eqb-true b SOI both.1 in
     rw (first, second) refl
 
 -- heads and faults are walks from behind SOI
@@ -288,7 +290,7 @@ head_walk file h k = record {
 fault_walk : (file : List ℕ) (f : Refusal) → EndsWith file f → Walk (length file) [] (drop 2 file) (Err f)
 fault_walk file f k = record { items = k.items; rest = k.rest; is = ap (drop 2) k.is; chain = k.chain; comes = k.fails }
 
-walk_head : (file : List ℕ) (h : HeadValue) → length file ≤ limit → file ≡ start ++ drop 2 file → Walk (length file) [] (drop 2 file) (Ok h) → HeadOf file h
+walk_head : (file : List ℕ) (h : HeadValue) → length file ≤ MAX_FILE_BYTES → file ≡ start ++ drop 2 file → Walk (length file) [] (drop 2 file) (Ok h) → HeadOf file h
 walk_head file h small e w = record {
   items = w.items;
   scan = w.comes.scan;
@@ -339,7 +341,7 @@ at_start file f e = inr record {
   no_head = λ h k. none_some (first_fault (start_tests file)) f (starts_so file (flat_map spelled k.items ++ (spelled k.scan ++ k.rest)) k.small k.is) e;
 }
 
-by_walk : (file : List ℕ) (r : Result HeadValue Refusal) → first_fault (start_tests file) ≡ None → length file ≤ limit → file ≡ start ++ drop 2 file → Walk (length file) [] (drop 2 file) r → OneOf file
+by_walk : (file : List ℕ) (r : Result HeadValue Refusal) → first_fault (start_tests file) ≡ None → length file ≤ MAX_FILE_BYTES → file ≡ start ++ drop 2 file → Walk (length file) [] (drop 2 file) r → OneOf file
 by_walk file (Ok h) starts small e w = inl record {
   head = h;
   is_head = walk_head file h small e w;
@@ -356,8 +358,8 @@ by_walk file (Err f) starts small e w = inr record {
 
 after_start : (file : List ℕ) → IsBytes file → first_fault (start_tests file) ≡ None → OneOf file
 after_start file fits starts =
-    let t = two_tests (nat_lt limit (length file)) (byte 0 file == 0xFF && byte 1 file == 0xD8) starts in
-    let small : length file ≤ limit = ltb-false limit (length file) t.0 in
+    let t = two_tests (nat_lt MAX_FILE_BYTES (length file)) (byte 0 file == PREFIX && byte 1 file == SOI) starts in
+    let small : length file ≤ MAX_FILE_BYTES = ltb-false MAX_FILE_BYTES (length file) t.0 in
     let e : file ≡ start ++ drop 2 file = begins_so file t.1 in
     let short : length (drop 2 file) ≤ length file = omega (arith, length-drop 2 file) in
     let w = some_walk (suc (length (drop 2 file))) (length file) [] (drop 2 file) (omega arith) (IsBytes-drop 2 file fits) short in

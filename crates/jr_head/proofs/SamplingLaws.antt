@@ -1,5 +1,7 @@
 -- Sampling factors, and the data units of an MCU.
 use Rattle.std.proofs.Common.{◌≡◌, ℕ, zero, suc, ◌+◌, ◌*◌, ◌<◌, ◌≤◌, List, [], ◌∷◌, ◌++◌, length, take, replicate, get_or, refl, sym, ap, ◌∙◌, append_assoc, arith, length-append, zero-add, max}
+use Rattle.std.proofs.Common.{⊎_elim}
+use Rattle.std.proofs.lemmas.Bool.{cases_lt}
 use Rattle.std.specs.Prelude.{All, sum_by, slice_index_or}
 use Rattle.std.specs.List.{fold, AllByRecursion}
 use Rattle.std.specs.Int.{div_ceil}
@@ -9,6 +11,7 @@ use Rattle.std.proofs.lemmas.Grind.{div_ceil_times}
 use Rattle.std.proofs.lemmas.List.{length-replicate, length-take-le, take_more, append-nil}
 use Rattle.std.proofs.lemmas.List.Sums.{sum_by-cons}
 use Rattle.std.proofs.lemmas.List.Elements.{All-append, All-replicate, recursion_from_All, All-nil}
+use Rattle.jr_base.specs.declared.limits.TheConstants.{MAX_MCUS_ACROSS}
 use Rattle.jr_head.specs.declared.component.Component.{Component}
 use Rattle.jr_head.specs.declared.mark.Kind.{Kind}
 use Rattle.jr_head.specs.declared.mark.Kind.TheVariants.{Grey, Rgb, Ycc}
@@ -74,11 +77,14 @@ units_some (c ∷ cs) h a =
     rw (sum_by-cons units_of c cs) (omega (arith, one))
 
 -- few MCUs stand in a row or in a column of at most 65535 pixels
-pub few_across : (n m : ℕ) → n < 65536 → 0 < m → m ≤ 4 → div_ceil n (8 * m) ≤ 8195
+pub few_across : (n m : ℕ) → n < 65536 → 0 < m → m ≤ 4 → div_ceil n (8 * m) ≤ MAX_MCUS_ACROSS
 few_across n m h some few =
     let times = div_ceil_times n (8 * m) (omega arith) in
-    let less = mul-le (div_ceil n (8 * m)) 8 (div_ceil n (8 * m)) (8 * m) (omega arith) (omega arith) in
-    omega (arith, times.1, less)
+    ⊎_elim (λ (k : div_ceil n (8 * m) < suc MAX_MCUS_ACROSS). omega (arith, k))
+    (λ (k : suc MAX_MCUS_ACROSS ≤ div_ceil n (8 * m)).
+      let more = mul-le (suc MAX_MCUS_ACROSS) (8 * m) (div_ceil n (8 * m)) (8 * m) k (omega arith) in
+      absurd (omega (arith, times.1, more)))
+    (cases_lt (div_ceil n (8 * m)) (suc MAX_MCUS_ACROSS))
 
 positive : (a b n : ℕ) → 0 < n → n ≤ a * b → 0 < a
 positive zero b n h k = absurd (omega (arith, h, k))

@@ -5,6 +5,7 @@ use Rattle.std.specs.List.{prefix_len}
 use Rattle.std.proofs.lemmas.Bool.{eqb-true, le-ltb}
 use Rattle.std.proofs.lemmas.List.{length-append, length-replicate, length-take-le}
 use Rattle.byteorder.specs.Endian.{big_bytes}
+use Rattle.jr_base.specs.declared.marker.TheConstants.{PREFIX, SOS}
 use Rattle.jr_head.specs.declared.refusal.Refusal.{Refusal}
 use Rattle.jr_head.specs.declared.refusal.Refusal.TheVariants.{EndsEarly, ExpectedMarker, UnexpectedMarker, NotBaseline, BadLength, SecondFrame, NoFrame}
 use Rattle.jr_head.specs.Bytes.{byte, word}
@@ -15,18 +16,18 @@ use Rattle.jr_head.proofs.TestLaws.{none_both}
 
 -- ---- fill bytes
 
-prefix_is : (k c : ℕ) (s : List ℕ) → eqb c 255 ≡ false → prefix_len (λ x. eqb x 255) (replicate k 255 ++ c ∷ s) ≡ k
+prefix_is : (k c : ℕ) (s : List ℕ) → eqb c PREFIX ≡ false → prefix_len (λ x. eqb x PREFIX) (replicate k PREFIX ++ c ∷ s) ≡ k
 prefix_is zero c s e = rw e refl
 prefix_is (suc k) c s e = omega (arith, prefix_is k c s e)
 
-behind_fill : (k : ℕ) (t : List ℕ) → drop k (replicate k 255 ++ t) ≡ t
+behind_fill : (k : ℕ) (t : List ℕ) → drop k (replicate k PREFIX ++ t) ≡ t
 behind_fill zero t = refl
 behind_fill (suc k) t = behind_fill k t
 
-fill_is : (k c : ℕ) (s : List ℕ) → eqb c 255 ≡ false → fill (replicate k 255 ++ c ∷ s) ≡ k
+fill_is : (k c : ℕ) (s : List ℕ) → eqb c PREFIX ≡ false → fill (replicate k PREFIX ++ c ∷ s) ≡ k
 fill_is k c s e =
-    ap (λ (n : ℕ). length (take n (replicate k 255 ++ c ∷ s))) (prefix_is k c s e)
-    ∙ length-take-le k (replicate k 255 ++ c ∷ s) (omega (arith, length-append (replicate k 255) (c ∷ s), length-replicate {A = ℕ} k 255))
+    ap (λ (n : ℕ). length (take n (replicate k PREFIX ++ c ∷ s))) (prefix_is k c s e)
+    ∙ length-take-le k (replicate k PREFIX ++ c ∷ s) (omega (arith, length-append (replicate k PREFIX) (c ∷ s), length-replicate {A = ℕ} k PREFIX))
 
 -- ---- the length and the payload
 
@@ -75,7 +76,7 @@ last_of_four false false false true r s t u h = refl
 code_known : (framed : Bool) (c : ℕ) → first_fault (code_tests framed c) ≡ None → is_known c ≡ true
 unfolding code_tests
 code_known framed c h =
-    last_of_four (is_not_baseline c) (is_frame c && framed) ((c == 0xDA) && not framed) (is_known c) (NotBaseline c) SecondFrame NoFrame (UnexpectedMarker c) h
+    last_of_four (is_not_baseline c) (is_frame c && framed) ((c == SOS) && not framed) (is_known c) (NotBaseline c) SecondFrame NoFrame (UnexpectedMarker c) h
 
 -- ---- the tests
 
@@ -124,9 +125,9 @@ pub record IsNext (before : List Item) (bytes : List ℕ) (i : Item) (rest : Lis
   pub after : after_item bytes ≡ rest
   pub passes : (at : ℕ) → first_fault (item_tests before at bytes) ≡ None
 
-written : (i : Item) (rest : List ℕ) → spelled i ++ rest ≡ replicate (suc i.fill) 255 ++ tail_of i.code i.payload rest
+written : (i : Item) (rest : List ℕ) → spelled i ++ rest ≡ replicate (suc i.fill) PREFIX ++ tail_of i.code i.payload rest
 unfolding spelled
-written i rest = append_assoc (replicate (suc i.fill) 255) (i.code ∷ (big_bytes 2 (length i.payload + 2) ++ i.payload)) rest
+written i rest = append_assoc (replicate (suc i.fill) PREFIX) (i.code ∷ (big_bytes 2 (length i.payload + 2) ++ i.payload)) rest
 
 next_item : (before : List Item) (i : Item) (bytes rest : List ℕ) → Passes before i → fill bytes ≡ suc i.fill → at_code bytes ≡ tail_of i.code i.payload rest → length bytes ≢ 0 → IsNext before bytes i rest
 next_item before i bytes rest ok f t long =
@@ -142,9 +143,9 @@ next_item before i bytes rest ok f t long =
 pub next_is : (before : List Item) (i : Item) (bytes rest : List ℕ) → Passes before i → bytes ≡ spelled i ++ rest → IsNext before bytes i rest
 next_is before i bytes rest ok e =
     let known = code_known (has_frame before) i.code ok.code in
-    let apart : eqb i.code 255 ≡ false = known_apart i.code 255 (eqb i.code 255) refl refl known in
-    let w : bytes ≡ replicate (suc i.fill) 255 ++ tail_of i.code i.payload rest = e ∙ written i rest in
+    let apart : eqb i.code PREFIX ≡ false = known_apart i.code PREFIX (eqb i.code PREFIX) refl refl known in
+    let w : bytes ≡ replicate (suc i.fill) PREFIX ++ tail_of i.code i.payload rest = e ∙ written i rest in
     let f : fill bytes ≡ suc i.fill = ap fill w ∙ fill_is (suc i.fill) i.code (drop 1 (tail_of i.code i.payload rest)) apart in
     let t : at_code bytes ≡ tail_of i.code i.payload rest = ap (λ (n : ℕ). drop n bytes) f ∙ ap (drop (suc i.fill)) w ∙ behind_fill (suc i.fill) (tail_of i.code i.payload rest) in
-    let long : length bytes ≢ 0 = λ z. omega (arith, z, ap length w, length-append (replicate (suc i.fill) 255) (tail_of i.code i.payload rest), length-replicate {A = ℕ} (suc i.fill) 255) in
+    let long : length bytes ≢ 0 = λ z. omega (arith, z, ap length w, length-append (replicate (suc i.fill) PREFIX) (tail_of i.code i.payload rest), length-replicate {A = ℕ} (suc i.fill) PREFIX) in
     next_item before i bytes rest ok f t long

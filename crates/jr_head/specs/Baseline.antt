@@ -2,6 +2,8 @@
 use Rattle.std.specs.Prelude.{◌≡◌, ◌≢◌, ◌<◌, ◌≤◌, ℕ, ◌+◌, ◌*◌, ◌==◌, Bool, not, ◌||◌, ◌&&◌, nat_lt, List, [], ◌∷◌, ◌++◌, length, sum, take, None, if◌then◌else◌}
 use Rattle.std.specs.List.{flat_map, list_any}
 use Rattle.jr_code.specs.Code.{space, lengths}
+use Rattle.jr_base.specs.declared.limits.TheConstants.{MAX_FILE_BYTES}
+use Rattle.jr_base.specs.declared.marker.TheConstants.{DHT, DQT, DRI, SOF0, SOF1, SOS}
 use Rattle.jr_head.specs.declared.frame.FrameComponent.{FrameComponent}
 use Rattle.jr_head.specs.declared.refusal.Refusal.TheVariants.{BadLength, BadQuantTable, BadCodeTable, BadScanHeader, MissingTable, NotBaseline, SecondFrame, NoFrame, UnexpectedMarker}
 use Rattle.jr_head.specs.declared.scan.Selector.{Selector}
@@ -9,7 +11,7 @@ use Rattle.jr_head.specs.Bytes.{byte, high, low}
 use Rattle.jr_head.specs.Codes.{Coding, coding_len}
 use Rattle.jr_head.specs.Frames.{frame_tests, components}
 use Rattle.jr_head.specs.HeadValue.{HeadValue}
-use Rattle.jr_head.specs.Heads.{Defines, start, limit}
+use Rattle.jr_head.specs.Heads.{Defines, start}
 use Rattle.jr_head.specs.Items.{Item, spelled, is_not_baseline, is_other, has_frame}
 use Rattle.jr_head.specs.Quantisers.{Quantisation}
 use Rattle.jr_head.specs.Scans.{all_quantisations, all_codings, frame_item, used, is_missing, is_whole}
@@ -19,26 +21,26 @@ use Rattle.jr_head.specs.Tests.{Test, ◌when◌, first_fault}
 -- SOF1 is no frame of this reader
 unfoldable pub baseline_code_tests : Bool → ℕ → List Test
 baseline_code_tests framed code =
-    (NotBaseline code when (is_not_baseline code || code == 0xC1))
-    ∷ (SecondFrame when (code == 0xC0 && framed))
-    ∷ (NoFrame when (code == 0xDA && not framed))
-    ∷ (UnexpectedMarker code when not (code == 0xDB || code == 0xC4 || code == 0xDD || code == 0xC0 || code == 0xDA || is_other code))
+    (NotBaseline code when (is_not_baseline code || code == SOF1))
+    ∷ (SecondFrame when (code == SOF0 && framed))
+    ∷ (NoFrame when (code == SOS && not framed))
+    ∷ (UnexpectedMarker code when not (code == DQT || code == DHT || code == DRI || code == SOF0 || code == SOS || is_other code))
     ∷ []
 
 -- elements have one byte each
 unfoldable pub baseline_quantisation_tests : ℕ × List ℕ → List Test
 baseline_quantisation_tests t =
     (BadQuantTable when (nat_lt 0 (high t.0) || nat_lt 3 (low t.0)))
-    ∷ (BadLength 0xDB when nat_lt (length t.1) 64)
+    ∷ (BadLength DQT when nat_lt (length t.1) 64)
     ∷ []
 
 -- destinations 0 and 1
 unfoldable pub baseline_coding_tests : ℕ × List ℕ → List Test
 baseline_coding_tests t =
     (BadCodeTable when (nat_lt 1 (high t.0) || nat_lt 1 (low t.0)))
-    ∷ (BadLength 0xC4 when nat_lt (length t.1) 16)
+    ∷ (BadLength DHT when nat_lt (length t.1) 16)
     ∷ (BadCodeTable when nat_lt 256 (sum (take 16 t.1)))
-    ∷ (BadLength 0xC4 when nat_lt (length t.1) (coding_len t.1))
+    ∷ (BadLength DHT when nat_lt (length t.1) (coding_len t.1))
     ∷ (BadCodeTable when nat_lt 65536 (space (lengths (take 16 t.1))))
     ∷ []
 
@@ -47,9 +49,9 @@ is_ill_selected_baseline us = list_any (λ u. not (u.0.id == u.1.id) || nat_lt 1
 
 unfoldable pub baseline_scan_tests : List FrameComponent → List Quantisation → List Coding → List ℕ → List Test
 baseline_scan_tests cs qs ds p =
-    (BadLength 0xDA when (length p == 0))
+    (BadLength SOS when (length p == 0))
     ∷ (BadScanHeader when not (byte 0 p == length cs))
-    ∷ (BadLength 0xDA when not (length p == 4 + 2 * byte 0 p))
+    ∷ (BadLength SOS when not (length p == 4 + 2 * byte 0 p))
     ∷ (BadScanHeader when is_ill_selected_baseline (used cs p))
     ∷ (BadScanHeader when not (is_whole p))
     ∷ (MissingTable when list_any (is_missing qs ds) (used cs p))
@@ -57,11 +59,11 @@ baseline_scan_tests cs qs ds p =
 
 unfoldable pub baseline_payload_tests : List Item → ℕ → List ℕ → List Test
 baseline_payload_tests before code p =
-    if code == 0xDB then flat_map baseline_quantisation_tests (tables (λ _ _. 64) p)
-    else (if code == 0xC4 then flat_map baseline_coding_tests (tables (λ _ q. coding_len q) p)
-    else (if code == 0xDD then (BadLength 0xDD when not (length p == 2)) ∷ []
-    else (if code == 0xC0 then frame_tests code p
-    else (if code == 0xDA then baseline_scan_tests (components (frame_item before).payload) (all_quantisations before) (all_codings before) p
+    if code == DQT then flat_map baseline_quantisation_tests (tables (λ _ _. 64) p)
+    else (if code == DHT then flat_map baseline_coding_tests (tables (λ _ q. coding_len q) p)
+    else (if code == DRI then (BadLength DRI when not (length p == 2)) ∷ []
+    else (if code == SOF0 then frame_tests code p
+    else (if code == SOS then baseline_scan_tests (components (frame_item before).payload) (all_quantisations before) (all_codings before) p
     else []))))
 
 -- items that pass these tests, each given those before it
@@ -72,17 +74,17 @@ pub record PassesBaseline (before : List Item) (i : Item) : Type 0 where
 
 abbrev pub IsBaselineChain : List Item → List Item → Type 0
 IsBaselineChain before [] = Unit {0}
-IsBaselineChain before (i ∷ is) = PassesBaseline before i × (i.code ≢ 0xDA) × IsBaselineChain (before ++ i ∷ []) is
+IsBaselineChain before (i ∷ is) = PassesBaseline before i × (i.code ≢ SOS) × IsBaselineChain (before ++ i ∷ []) is
 
 -- the head that such a reader accepts
 pub record BaselineHeadOf (file : List ℕ) (h : HeadValue) : Type 0 where
   pub items : List Item
   pub scan : Item
   pub rest : List ℕ
-  pub small : length file ≤ limit
+  pub small : length file ≤ MAX_FILE_BYTES
   pub is : file ≡ start ++ (flat_map spelled items ++ (spelled scan ++ rest))
   pub chain : IsBaselineChain [] items
-  pub is_scan : scan.code ≡ 0xDA
+  pub is_scan : scan.code ≡ SOS
   pub passes : PassesBaseline items scan
   pub defines : Defines items scan.payload h
   pub scan_at : h.scan_at + length rest ≡ length file

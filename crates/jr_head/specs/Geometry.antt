@@ -4,6 +4,7 @@ use Rattle.std.specs.List.{fold, All}
 use Rattle.std.specs.Int.{div_ceil}
 use Rattle.jr_code.specs.Code.{Table}
 use Rattle.jr_code.specs.Code as codes
+use Rattle.jr_base.specs.declared.limits.TheConstants.{MAX_FILE_BYTES, MAX_PIXELS}
 use Rattle.jr_head.specs.declared.component.Component.{Component}
 use Rattle.jr_head.specs.declared.mark.Kind.{Kind}
 use Rattle.jr_head.specs.declared.mark.Kind.TheVariants.{Grey, Rgb, Ycc}
@@ -123,5 +124,5 @@ pub record IsLawful (h : HeadValue) : Type 0 where
   pub narrow : h.width < 65536
   pub high : 0 < h.height
   pub low : h.height < 65536
-  pub pixels : h.width * h.height ≤ 268435456
-  pub behind : h.scan_at ≤ 1073741824
+  pub pixels : h.width * h.height ≤ MAX_PIXELS
+  pub behind : h.scan_at ≤ MAX_FILE_BYTES

@@ -5,6 +5,5 @@ pub mod Raised
 pub mod Passed
 pub mod Places
 pub mod Factors
-pub mod Appending
 pub mod PixelLaws
 pub mod Blocks

@@ -1,23 +1,10 @@
 -- Colours in fixed point (JFIF 1.02, "Conversion to and from RGB"): R = Y + 1.402 (Cr - 128),
 -- G = Y - 0.34414 (Cb - 128) - 0.71414 (Cr - 128) and B = Y + 1.772 (Cb - 128), with factors over 65536.
-use Rattle.std.specs.Prelude.{ℕ, min, ℤ, pos, negsuc, neg_ℤ, ◌+ℤ◌, ◌-ℤ◌, ◌≤ℤ◌, List, [], ◌∷◌}
-use Rattle.std.specs.Int.Signed.{shr_z}
+use Rattle.std.specs.Prelude.{ℕ, ℤ, pos, neg_ℤ, ◌+ℤ◌, ◌-ℤ◌, List, [], ◌∷◌}
 use Rattle.std.proofs.Math.IntN.{◌*ℤ◌}
+pub use Rattle.jr_base.specs.Numbers.{IsWithin, floor_div, byte_of}
 use Rattle.jr_head.specs.declared.mark.Kind.{Kind}
 use Rattle.jr_head.specs.declared.mark.Kind.TheVariants.{Grey, Rgb, Ycc}
-
--- z lies from -n to n
-abbrev pub IsWithin : ℕ → ℤ → Type 0
-IsWithin n z = (neg_ℤ (pos n) ≤ℤ z) × (z ≤ℤ pos n)
-
--- z divided by d, rounded towards the lesser number
-abbrev pub floor_div : ℤ → ℕ → ℤ
-floor_div z d = shr_z z d
-
--- the nearest number from 0 to 255
-abbrev pub byte_of : ℤ → ℕ
-byte_of (pos n) = min n 255
-byte_of (negsuc n) = 0
 
 -- how far a chroma sample is from the middle
 abbrev pub off : ℕ → ℤ

@@ -1,13 +1,10 @@
 -- The Netpbm text of a picture.
-use Rattle.std.specs.Prelude.{◌≡◌, ℕ, ◌*◌, ◌/◌, List, [], ◌∷◌, ◌++◌, codes, decimal, Option}
+use Rattle.std.specs.Prelude.{ℕ, ◌*◌, ◌/◌, List, [], ◌∷◌, ◌++◌, codes, decimal}
 use Rattle.std.specs.List.{flat_map, range_with_len}
-use Rattle.std.specs.Io.KnownBytes.{Appends}
 use Rattle.jr_head.specs.HeadValue.{HeadValue}
 use Rattle.jr_head.specs.declared.mark.Kind.{Kind}
 use Rattle.jr_head.specs.declared.mark.Kind.TheVariants.{Grey, Rgb, Ycc}
 use Rattle.jr_head.specs.Geometry.{horizontal_of, vertical_of, horizontal_max, vertical_max}
-use Rattle.jr_paint.specs.declared.tally.Tally.{Tally}
-use Rattle.jr_paint.specs.Tally.{known_in}
 use Rattle.jr_paint.specs.Colours.{colour_of}
 
 abbrev pub magic_of : Kind → List ℕ
@@ -48,18 +45,3 @@ lines_of h f n = flat_map (λ y. pixels_of h f y 0 h.width) (range_with_len 0 n)
 
 unfoldable pub text_of : HeadValue → (ℕ → ℕ → ℕ → ℕ) → List ℕ
 text_of h f = header_of h ++ lines_of h f h.height
-
--- known bytes grow by a beginning of bs
-pub record AppendsFront (old new : Option (List ℕ)) (bs : List ℕ) : Type 0 where
-  pub sent : List ℕ
-  pub left : List ℕ
-  pub whole : bs ≡ sent ++ left
-  pub appended : Appends old new sent
-
--- these bytes are written behind what is known of a writer
-abbrev pub Writes : {T : Type 0} → (T → Option (List ℕ)) → Tally T → Tally T → List ℕ → Type 0
-Writes known old new bs = Appends (known_in known old) (known_in known new) bs
-
--- a beginning of these bytes is
-abbrev pub WritesFront : {T : Type 0} → (T → Option (List ℕ)) → Tally T → Tally T → List ℕ → Type 0
-WritesFront known old new bs = AppendsFront (known_in known old) (known_in known new) bs

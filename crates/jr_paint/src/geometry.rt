@@ -1,6 +1,7 @@
 //! Where a sample lies among the data units of a picture (T.81, A.2).
 
 ghost use Rattle.std.specs.Prelude.{◌≡◌, ℕ, ◌+◌, ◌*◌, ◌<◌, ◌≤◌};
+ghost use Rattle.jr_base.specs.declared.limits.TheConstants.{MAX_MCUS_ACROSS};
 ghost use Rattle.jr_head.specs.Geometry.{components_of, horizontal_of, vertical_of, mcus_across, mcus_of, blocks_before, blocks_of};
 ghost use Rattle.jr_paint.specs.Geometry.{Place, Where, IsOnlyOne, samples_across, samples_down, place_of, spot_at};
 
@@ -26,7 +27,7 @@ pub fn exactly_one_place()
 
 fn mcu_columns(head: &Head) -> u32
     ensures value { result ≡ mcus_across head.now }
-    ensures few { result ≤ 8195 }
+    ensures few { result ≤ MAX_MCUS_ACROSS }
 {
     head.width().div_ceil(8 * head.horizontal_max())
 }
@@ -35,7 +36,7 @@ fn mcu_columns(head: &Head) -> u32
 fn mcu_number(line: u32, column: u32, columns: u32) -> u32
     requires line { line < 65536 }
     requires column { column < 65536 }
-    requires columns { columns ≤ 8195 }
+    requires columns { columns ≤ MAX_MCUS_ACROSS }
     ensures { result ≡ line * columns + column }
 {
     line * columns + column

@@ -2,12 +2,11 @@
 
 ghost use Rattle.std.specs.Prelude.{◌≡◌, is_err, false, OnOk, OnErr};
 ghost use Rattle.std.specs.Io.KnownBytes.{Appends};
-ghost use Rattle.jr_paint.specs.Tally.{has_failed, known_in};
-ghost use Rattle.jr_paint.specs.Text.{AppendsFront, header_of, magic_of};
+ghost use Rattle.jr_base.specs.Tally.{AppendsFront, has_failed, known_in};
+ghost use Rattle.jr_paint.specs.Text.{header_of, magic_of};
 
-use crate::tally::Tally;
-use crate::writing::{WriteFault, write_all};
 use itoa::Buffer;
+use jr_base::{Tally, WriteFault, write_all};
 use jr_head::{Head, Kind};
 use std::io::Write;
 

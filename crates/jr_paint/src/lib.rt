@@ -11,16 +11,13 @@ mod pairs;
 mod pixels;
 mod samples;
 mod strips;
-mod tally;
 mod upsampling;
-mod writing;
 
 pub use colours::colour;
 pub use geometry::{Spot, exactly_one_place, place};
+pub use jr_base::{Tally, WriteFault};
 pub use netpbm::write_netpbm;
 pub use samples::Samples;
-pub use tally::Tally;
-pub use writing::WriteFault;
 
 #[cfg(test)]
 mod tests;

@@ -1,17 +1,16 @@
 //! A picture's Netpbm text: PGM for grey pictures, PPM for the others.
 
 ghost use Rattle.std.specs.Prelude.{◌≡◌, ◌+◌, ◌<◌, ◌≤◌, ◌++◌, is_err, false, OnOk, OnErr};
+ghost use Rattle.jr_base.specs.Tally.{Writes, WritesFront, has_failed};
 ghost use Rattle.jr_paint.specs.Lines.{line_of, two_lines_of};
-ghost use Rattle.jr_paint.specs.Tally.{has_failed};
-ghost use Rattle.jr_paint.specs.Text.{Writes, WritesFront, pixel_size, text_of};
+ghost use Rattle.jr_paint.specs.Text.{pixel_size, text_of};
 
 use crate::header::write_header;
 use crate::pairs::fill_two;
 use crate::samples::Samples;
 use crate::strips::fill;
-use crate::tally::Tally;
 use crate::upsampling::{STRIP, shares_chroma};
-use crate::writing::{WriteFault, write_all};
+use jr_base::{Tally, WriteFault, write_all};
 use jr_head::Kind;
 use std::io::Write;
 

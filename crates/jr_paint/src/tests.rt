@@ -1,6 +1,5 @@
-//! Colours, places, devices that fail, and pictures of every small size, beside a slow painter.
+//! Colours, places, and pictures of every small size, beside a slow painter.
 
-mod devices;
 mod painting;
 mod tables;
 

@@ -2,22 +2,23 @@
 use Rattle.std.proofs.Common.{◌≡◌, ◌≢◌, ℕ, suc, ◌+◌, ◌%◌, ◌<◌, ◌⊎◌, List, [], ◌∷◌, ◌++◌, length, replicate, map, refl, sym, ap, subst, ◌∙◌, inl, inr, append_assoc, length-append, arith}
 use Rattle.std.specs.List.{flat_map, AllByRecursion}
 use Rattle.std.proofs.lemmas.List.{append-nil}
+use Rattle.jr_base.specs.declared.marker.TheConstants.{EOI, PREFIX, RST0, SOI}
 use Rattle.jr_scan.specs.declared.scan_end.ScanEnd.{ScanEnd}
 use Rattle.jr_scan.specs.declared.scan_end.ScanEnd.TheVariants.{EndOfImage, OtherMarker, OutOfStep, ExtraRestart, EndOfFile}
 use Rattle.jr_scan.specs.Cut.{Spelling, IsSpelling, spelling, byte_spelled, IsRaw, marker, CodedSegment, with_markers, HasMarker, IsEnding, CutFrom, IsCut, IsStop}
 use Rattle.jr_scan.specs.Cut.Spelling.{Plain, Stuffed}
 use Rattle.jr_scan.proofs.Cuts.{run_same, run_end, stop_some}
 
-zero_not : ◌≢◌ {A = ℕ} 0 255
+zero_not : ◌≢◌ {A = ℕ} 0 PREFIX
 zero_not e = omega arith
 
-run_of : (more code : ℕ) (rest : List ℕ) → marker more code ++ rest ≡ replicate (suc more) 255 ++ (code ∷ rest)
-run_of more code rest = ap (λ (x : List ℕ). 255 ∷ x) (append_assoc (replicate more 255) (code ∷ []) rest)
+run_of : (more code : ℕ) (rest : List ℕ) → marker more code ++ rest ≡ replicate (suc more) PREFIX ++ (code ∷ rest)
+run_of more code rest = ap (λ (x : List ℕ). PREFIX ∷ x) (append_assoc (replicate more PREFIX) (code ∷ []) rest)
 
 same_spelling : (p q : Spelling) (x y : List ℕ) → IsSpelling p → IsSpelling q → spelling p ++ x ≡ spelling q ++ y → (p ≡ q) × (x ≡ y)
 same_spelling (Plain a) (Plain b) x y hp hq e = let h : a ≡ b = cc in (ap Plain h, cc)
-same_spelling (Plain a) (Stuffed n) x y hp hq e = let h : a ≡ 255 = cc in absurd (hp h)
-same_spelling (Stuffed m) (Plain b) x y hp hq e = let h : b ≡ 255 = cc in absurd (hq h)
+same_spelling (Plain a) (Stuffed n) x y hp hq e = let h : a ≡ PREFIX = cc in absurd (hp h)
+same_spelling (Stuffed m) (Plain b) x y hp hq e = let h : b ≡ PREFIX = cc in absurd (hq h)
 same_spelling (Stuffed m) (Stuffed n) x y hp hq e =
     let r = run_same (suc m) (suc n) 0 0 x y zero_not zero_not (sym (run_of m 0 x) ∙ e ∙ run_of n 0 y) in
     let h : m ≡ n = omega (arith, r.0) in
@@ -43,72 +44,72 @@ same_raw r q a b s t hr hq hs ht e =
     let p = same_parts hr.parts hq.parts s t hr.each hq.each hs ht (ap (λ (x : List ℕ). x ++ s) (sym hr.spelled) ∙ e ∙ ap (λ (x : List ℕ). x ++ t) hq.spelled) in
     (hr.means ∙ ap (map byte_spelled) p.0 ∙ sym hq.means, p.1)
 
-marker_stop : (tail : List ℕ) (code : ℕ) → HasMarker tail code → code ≢ 0 → code ≢ 255 → IsStop tail
+marker_stop : (tail : List ℕ) (code : ℕ) → HasMarker tail code → code ≢ 0 → code ≢ PREFIX → IsStop tail
 marker_stop tail code h not_0 not_255 = record { more = suc h.0; rest = code ∷ h.1; spelled = h.2 ∙ run_of h.0 code h.1; stops = inr (omega arith, code, h.1, not_0, not_255, refl) }
 
 ending_stop : (n k at : ℕ) (tail : List ℕ) (end : ScanEnd) → IsEnding n k at tail end → IsStop tail
-ending_stop n k at tail EndOfFile h = record { more = h.0; rest = []; spelled = h.1 ∙ sym (append-nil (replicate h.0 255)); stops = inl refl }
-ending_stop n k at tail EndOfImage h = marker_stop tail 217 h (λ e. omega arith) (λ e. omega arith)
-ending_stop n k at tail (ExtraRestart o) h = marker_stop tail (208 + h.0) h.2 (λ e. omega arith) (λ e. omega (arith, h.1))
-ending_stop n k at tail (OutOfStep f x o) h = marker_stop tail (208 + f) h.1 (λ e. omega arith) (λ e. omega (arith, h.0))
+ending_stop n k at tail EndOfFile h = record { more = h.0; rest = []; spelled = h.1 ∙ sym (append-nil (replicate h.0 PREFIX)); stops = inl refl }
+ending_stop n k at tail EndOfImage h = marker_stop tail EOI h (λ e. omega arith) (λ e. omega arith)
+ending_stop n k at tail (ExtraRestart o) h = marker_stop tail (RST0 + h.0) h.2 (λ e. omega arith) (λ e. omega (arith, h.1))
+ending_stop n k at tail (OutOfStep f x o) h = marker_stop tail (RST0 + f) h.1 (λ e. omega arith) (λ e. omega (arith, h.0))
 ending_stop n k at tail (OtherMarker c o) h = marker_stop tail c h.2 (λ e. omega (arith, h.0)) (λ e. omega (arith, h.1))
 
 with_markers_stop : (n j k at : ℕ) (ps : List CodedSegment) (tail : List ℕ) (end : ScanEnd) → IsEnding n j at tail end → IsStop (with_markers k ps ++ tail)
 with_markers_stop n j k at [] tail end h = ending_stop n j at tail end h
 with_markers_stop n j k at (p ∷ ps) tail end h =
-    marker_stop _ (208 + k % 8) (p.more, (p.raw ++ with_markers (suc k) ps) ++ tail, append_assoc (marker p.more (208 + k % 8)) (p.raw ++ with_markers (suc k) ps) tail) (λ e. omega arith) (λ e. omega arith)
+    marker_stop _ (RST0 + k % 8) (p.more, (p.raw ++ with_markers (suc k) ps) ++ tail, append_assoc (marker p.more (RST0 + k % 8)) (p.raw ++ with_markers (suc k) ps) tail) (λ e. omega arith) (λ e. omega arith)
 
-same_marker : (tail : List ℕ) (a b : ℕ) → HasMarker tail a → HasMarker tail b → a ≢ 255 → b ≢ 255 → a ≡ b
+same_marker : (tail : List ℕ) (a b : ℕ) → HasMarker tail a → HasMarker tail b → a ≢ PREFIX → b ≢ PREFIX → a ≡ b
 same_marker tail a b f g ha hb = (run_same (suc f.0) (suc g.0) a b f.1 g.1 ha hb (sym (run_of f.0 a f.1) ∙ sym f.2 ∙ g.2 ∙ run_of g.0 b g.1)).1
 
-no_marker : (tail : List ℕ) (a more : ℕ) → HasMarker tail a → a ≢ 255 → tail ≡ replicate more 255 → ⊥
+no_marker : (tail : List ℕ) (a more : ℕ) → HasMarker tail a → a ≢ PREFIX → tail ≡ replicate more PREFIX → ⊥
 no_marker tail a more f ha e = run_end (suc f.0) more a f.1 ha (sym (run_of f.0 a f.1) ∙ sym f.2 ∙ e)
 
-other_217 : (c : ℕ) → (c < 208) ⊎ ((c ≡ 216) ⊎ (217 < c)) → 217 ≡ c → ⊥
+other_217 : (c : ℕ) → (c < RST0) ⊎ ((c ≡ SOI) ⊎ (EOI < c)) → EOI ≡ c → ⊥
 other_217 c (inl l) e = omega arith
 other_217 c (inr (inl q)) e = omega arith
 other_217 c (inr (inr g)) e = omega arith
 
-other_restart : (c j : ℕ) → (c < 208) ⊎ ((c ≡ 216) ⊎ (217 < c)) → j < 8 → 208 + j ≡ c → ⊥
+other_restart : (c j : ℕ) → (c < RST0) ⊎ ((c ≡ SOI) ⊎ (EOI < c)) → j < 8 → RST0 + j ≡ c → ⊥
 other_restart c j (inl l) h e = omega arith
 other_restart c j (inr (inl q)) h e = omega arith
 other_restart c j (inr (inr g)) h e = omega arith
 
 -- what a marker of the next number is not
-ending_not_next : (n k at : ℕ) (tail : List ℕ) (end : ScanEnd) → IsEnding n k at tail end → HasMarker tail (208 + k % 8) → k + 1 < n → ⊥
-ending_not_next n k at tail EndOfFile h m room = no_marker tail (208 + k % 8) h.0 m (λ e. omega arith) h.1
-ending_not_next n k at tail EndOfImage h m room = let e = same_marker tail 217 (208 + k % 8) h m (λ e. omega arith) (λ e. omega arith) in omega (arith, e)
+ending_not_next : (n k at : ℕ) (tail : List ℕ) (end : ScanEnd) → IsEnding n k at tail end → HasMarker tail (RST0 + k % 8) → k + 1 < n → ⊥
+ending_not_next n k at tail EndOfFile h m room = no_marker tail (RST0 + k % 8) h.0 m (λ e. omega arith) h.1
+ending_not_next n k at tail EndOfImage h m room = let e = same_marker tail EOI (RST0 + k % 8) h m (λ e. omega arith) (λ e. omega arith) in omega (arith, e)
 ending_not_next n k at tail (ExtraRestart o) h m room = omega (arith, h.3)
 ending_not_next n k at tail (OutOfStep f x o) h m room =
-    let e = same_marker tail (208 + f) (208 + k % 8) h.1 m (λ e. omega (arith, h.0)) (λ e. omega arith) in
+    let e = same_marker tail (RST0 + f) (RST0 + k % 8) h.1 m (λ e. omega (arith, h.0)) (λ e. omega arith) in
     let same : f ≡ x = omega (arith, e, h.3) in h.4 same
-ending_not_next n k at tail (OtherMarker c o) h m room = other_restart c (k % 8) h.3 (omega arith) (same_marker tail (208 + k % 8) c m h.2 (λ e. omega arith) (λ e. omega (arith, h.1)))
+ending_not_next n k at tail (OtherMarker c o) h m room = other_restart c (k % 8) h.3 (omega arith) (same_marker tail (RST0 + k % 8) c m h.2 (λ e. omega arith) (λ e. omega (arith, h.1)))
 
 same_ending : (n k at : ℕ) (tail : List ℕ) (a b : ScanEnd) → IsEnding n k at tail a → IsEnding n k at tail b → a ≡ b
 same_ending n k at tail EndOfFile EndOfFile h g = refl
-same_ending n k at tail EndOfFile EndOfImage h g = absurd (no_marker tail 217 h.0 g (λ e. omega arith) h.1)
-same_ending n k at tail EndOfFile (ExtraRestart o') h g = absurd (no_marker tail (208 + g.0) h.0 g.2 (λ e. omega (arith, g.1)) h.1)
-same_ending n k at tail EndOfFile (OutOfStep f' x' o') h g = absurd (no_marker tail (208 + f') h.0 g.1 (λ e. omega (arith, g.0)) h.1)
+same_ending n k at tail EndOfFile EndOfImage h g = absurd (no_marker tail EOI h.0 g (λ e. omega arith) h.1)
+same_ending n k at tail EndOfFile (ExtraRestart o') h g = absurd (no_marker tail (RST0 + g.0) h.0 g.2 (λ e. omega (arith, g.1)) h.1)
+same_ending n k at tail EndOfFile (OutOfStep f' x' o') h g = absurd (no_marker tail (RST0 + f') h.0 g.1 (λ e. omega (arith, g.0)) h.1)
 same_ending n k at tail EndOfFile (OtherMarker c' o') h g = absurd (no_marker tail c' h.0 g.2 (λ e. omega (arith, g.1)) h.1)
-same_ending n k at tail EndOfImage EndOfFile h g = absurd (no_marker tail 217 g.0 h (λ e. omega arith) g.1)
+same_ending n k at tail EndOfImage EndOfFile h g = absurd (no_marker tail EOI g.0 h (λ e. omega arith) g.1)
 same_ending n k at tail EndOfImage EndOfImage h g = refl
-same_ending n k at tail EndOfImage (ExtraRestart o') h g = let q = same_marker tail 217 (208 + g.0) h g.2 (λ e. omega arith) (λ e. omega (arith, g.1)) in absurd (omega (arith, q, g.1))
-same_ending n k at tail EndOfImage (OutOfStep f' x' o') h g = let q = same_marker tail 217 (208 + f') h g.1 (λ e. omega arith) (λ e. omega (arith, g.0)) in absurd (omega (arith, q, g.0))
-same_ending n k at tail EndOfImage (OtherMarker c' o') h g = absurd (other_217 c' g.3 (same_marker tail 217 c' h g.2 (λ e. omega arith) (λ e. omega (arith, g.1))))
-same_ending n k at tail (ExtraRestart o) EndOfFile h g = absurd (no_marker tail (208 + h.0) g.0 h.2 (λ e. omega (arith, h.1)) g.1)
-same_ending n k at tail (ExtraRestart o) EndOfImage h g = let q = same_marker tail (208 + h.0) 217 h.2 g (λ e. omega (arith, h.1)) (λ e. omega arith) in absurd (omega (arith, q, h.1))
+same_ending n k at tail EndOfImage (ExtraRestart o') h g = let q = same_marker tail EOI (RST0 + g.0) h g.2 (λ e. omega arith) (λ e. omega (arith, g.1)) in absurd (omega (arith, q, g.1))
+same_ending n k at tail EndOfImage (OutOfStep f' x' o') h g = let q = same_marker tail EOI (RST0 + f') h g.1 (λ e. omega arith) (λ e. omega (arith, g.0)) in absurd (omega (arith, q, g.0))
+same_ending n k at tail EndOfImage (OtherMarker c' o') h g = absurd (other_217 c' g.3 (same_marker tail EOI c' h g.2 (λ e. omega arith) (λ e. omega (arith, g.1))))
+same_ending n k at tail (ExtraRestart o) EndOfFile h g = absurd (no_marker tail (RST0 + h.0) g.0 h.2 (λ e. omega (arith, h.1)) g.1)
+same_ending n k at tail (ExtraRestart o) EndOfImage h g = let q = same_marker tail (RST0 + h.0) EOI h.2 g (λ e. omega (arith, h.1)) (λ e. omega arith) in absurd (omega (arith, q, h.1))
 same_ending n k at tail (ExtraRestart o) (ExtraRestart o') h g = ap ExtraRestart (h.4 ∙ sym g.4)
 same_ending n k at tail (ExtraRestart o) (OutOfStep f' x' o') h g = absurd (omega (arith, h.3, g.2))
-same_ending n k at tail (ExtraRestart o) (OtherMarker c' o') h g = absurd (other_restart c' h.0 g.3 h.1 (same_marker tail (208 + h.0) c' h.2 g.2 (λ e. omega (arith, h.1)) (λ e. omega (arith, g.1))))
-same_ending n k at tail (OutOfStep f x o) EndOfFile h g = absurd (no_marker tail (208 + f) g.0 h.1 (λ e. omega (arith, h.0)) g.1)
-same_ending n k at tail (OutOfStep f x o) EndOfImage h g = let q = same_marker tail (208 + f) 217 h.1 g (λ e. omega (arith, h.0)) (λ e. omega arith) in absurd (omega (arith, q, h.0))
+same_ending n k at tail (ExtraRestart o) (OtherMarker c' o') h g = absurd (other_restart c' h.0 g.3 h.1 (same_marker tail (RST0 + h.0) c' h.2 g.2 (λ e. omega (arith, h.1)) (λ e. omega (arith, g.1))))
+same_ending n k at tail (OutOfStep f x o) EndOfFile h g = absurd (no_marker tail (RST0 + f) g.0 h.1 (λ e. omega (arith, h.0)) g.1)
+same_ending n k at tail (OutOfStep f x o) EndOfImage h g = let q = same_marker tail (RST0 + f) EOI h.1 g (λ e. omega (arith, h.0)) (λ e. omega arith) in absurd (omega (arith, q, h.0))
 same_ending n k at tail (OutOfStep f x o) (ExtraRestart o') h g = absurd (omega (arith, h.2, g.3))
-same_ending n k at tail (OutOfStep f x o) (OutOfStep f' x' o') h g = let q = same_marker tail (208 + f) (208 + f') h.1 g.1 (λ e. omega (arith, h.0)) (λ e. omega (arith, g.0)) in let a : f ≡ f' = omega (arith, q) in let b : x ≡ x' = h.3 ∙ sym g.3 in let c : o ≡ o' = h.5 ∙ sym g.5 in cc
-same_ending n k at tail (OutOfStep f x o) (OtherMarker c' o') h g = absurd (other_restart c' f g.3 h.0 (same_marker tail (208 + f) c' h.1 g.2 (λ e. omega (arith, h.0)) (λ e. omega (arith, g.1))))
+same_ending n k at tail (OutOfStep f x o) (OutOfStep f' x' o') h g = let q = same_marker tail (RST0 + f) (RST0 + f') h.1 g.1 (λ e. omega (arith, h.0)) (λ e. omega (arith, g.0)) in let a : f ≡ f' = omega (arith, q) in let b : x ≡ x' = h.3 ∙ sym g.3 in let c : o ≡ o' = h.5 ∙ sym g.5 in cc
+same_ending n k at tail (OutOfStep f x o) (OtherMarker c' o') h g = absurd (other_restart c' f g.3 h.0 (same_marker tail (RST0 + f) c' h.1 g.2 (λ e. omega (arith, h.0)) (λ e. omega (arith, g.1))))
 same_ending n k at tail (OtherMarker c o) EndOfFile h g = absurd (no_marker tail c g.0 h.2 (λ e. omega (arith, h.1)) g.1)
-same_ending n k at tail (OtherMarker c o) EndOfImage h g = absurd (other_217 c h.3 (sym (same_marker tail c 217 h.2 g (λ e. omega (arith, h.1)) (λ e. omega arith))))
-same_ending n k at tail (OtherMarker c o) (ExtraRestart o') h g = absurd (other_restart c g.0 h.3 g.1 (sym (same_marker tail c (208 + g.0) h.2 g.2 (λ e. omega (arith, h.1)) (λ e. omega (arith, g.1)))))
-same_ending n k at tail (OtherMarker c o) (OutOfStep f' x' o') h g = absurd (other_restart c f' h.3 g.0 (sym (same_marker tail c (208 + f') h.2 g.1 (λ e. omega (arith, h.1)) (λ e. omega (arith, g.0)))))
+same_ending n k at tail (OtherMarker c o) EndOfImage h g = absurd (other_217 c h.3 (sym (same_marker tail c EOI h.2 g (λ e. omega (arith, h.1)) (λ e. omega arith))))
+same_ending n k at tail (OtherMarker c o) (ExtraRestart o') h g = absurd (other_restart c g.0 h.3 g.1 (sym (same_marker tail c (RST0 + g.0) h.2 g.2 (λ e. omega (arith, h.1)) (λ e. omega (arith, g.1)))))
+same_ending n k at tail (OtherMarker c o) (OutOfStep f' x' o') h g = absurd (other_restart c f' h.3 g.0 (sym (same_marker tail c (RST0 + f') h.2 g.1 (λ e. omega (arith, h.1)) (λ e. omega (arith, g.0)))))
 same_ending n k at tail (OtherMarker c o) (OtherMarker c' o') h g = let a : c ≡ c' = same_marker tail c c' h.2 g.2 (λ e. omega (arith, h.1)) (λ e. omega (arith, g.1)) in let b : o ≡ o' = h.4 ∙ sym g.4 in cc
 
 same_segments : (n k j i o o' total : ℕ) (raw raw' first first' tail tail' : List ℕ) (ps qs : List CodedSegment) (a b : ScanEnd)
@@ -128,17 +129,17 @@ same_segments n k j i o o' total raw raw' first first' tail tail' [] (q ∷ qs) 
     let r = same_raw raw raw' first first' tail _ hr hr' (ending_stop n j o tail a ha) (with_markers_stop n i k o' (q ∷ qs) tail' b hb) e in
     let jk : j ≡ k = omega arith in
     let h = subst (λ (x : ℕ). IsEnding n x o tail a) jk ha in
-    absurd (ending_not_next n k o tail a h (q.more, (q.raw ++ with_markers (suc k) qs) ++ tail', r.1 ∙ append_assoc (marker q.more (208 + k % 8)) (q.raw ++ with_markers (suc k) qs) tail') (omega arith))
+    absurd (ending_not_next n k o tail a h (q.more, (q.raw ++ with_markers (suc k) qs) ++ tail', r.1 ∙ append_assoc (marker q.more (RST0 + k % 8)) (q.raw ++ with_markers (suc k) qs) tail') (omega arith))
 same_segments n k j i o o' total raw raw' first first' tail tail' (p ∷ ps) [] a b hr hr' hp hq ej ei lj li ha hb lo lo' e =
     let r = same_raw raw raw' first first' _ tail' hr hr' (with_markers_stop n j k o (p ∷ ps) tail a ha) (ending_stop n i o' tail' b hb) e in
     let ik : i ≡ k = omega arith in
     let h = subst (λ (x : ℕ). IsEnding n x o' tail' b) ik hb in
-    absurd (ending_not_next n k o' tail' b h (p.more, (p.raw ++ with_markers (suc k) ps) ++ tail, sym r.1 ∙ append_assoc (marker p.more (208 + k % 8)) (p.raw ++ with_markers (suc k) ps) tail) (omega arith))
+    absurd (ending_not_next n k o' tail' b h (p.more, (p.raw ++ with_markers (suc k) ps) ++ tail, sym r.1 ∙ append_assoc (marker p.more (RST0 + k % 8)) (p.raw ++ with_markers (suc k) ps) tail) (omega arith))
 same_segments n k j i o o' total raw raw' first first' tail tail' (p ∷ ps) (q ∷ qs) a b hr hr' hp hq ej ei lj li ha hb lo lo' e =
     let r = same_raw raw raw' first first' _ _ hr hr' (with_markers_stop n j k o (p ∷ ps) tail a ha) (with_markers_stop n i k o' (q ∷ qs) tail' b hb) e in
-    let c = 208 + k % 8 in
-    let not_ff : c ≢ 255 = λ z. omega arith in
-    let left : replicate (suc p.more) 255 ++ (c ∷ ((p.raw ++ with_markers (suc k) ps) ++ tail)) ≡ replicate (suc q.more) 255 ++ (c ∷ ((q.raw ++ with_markers (suc k) qs) ++ tail'))
+    let c = RST0 + k % 8 in
+    let not_ff : c ≢ PREFIX = λ z. omega arith in
+    let left : replicate (suc p.more) PREFIX ++ (c ∷ ((p.raw ++ with_markers (suc k) ps) ++ tail)) ≡ replicate (suc q.more) PREFIX ++ (c ∷ ((q.raw ++ with_markers (suc k) qs) ++ tail'))
     = sym (run_of p.more c ((p.raw ++ with_markers (suc k) ps) ++ tail)) ∙ sym (append_assoc (marker p.more c) (p.raw ++ with_markers (suc k) ps) tail) ∙ r.1 ∙ append_assoc (marker q.more c) (q.raw ++ with_markers (suc k) qs) tail' ∙ run_of q.more c ((q.raw ++ with_markers (suc k) qs) ++ tail') in
     let m = run_same (suc p.more) (suc q.more) c c _ _ not_ff not_ff left in
     let whole : p.raw ++ (with_markers (suc k) ps ++ tail) ≡ q.raw ++ (with_markers (suc k) qs ++ tail') = sym (append_assoc p.raw (with_markers (suc k) ps) tail) ∙ m.2 ∙ append_assoc q.raw (with_markers (suc k) qs) tail' in

@@ -3,6 +3,7 @@ use Rattle.std.proofs.Common.{◌≡◌, ◌≢◌, ℕ, zero, suc, ◌+◌, ◌
 use Rattle.std.specs.List.{flat_map, All}
 use Rattle.std.proofs.lemmas.List.{append-nil, take_more, take-append-le, drop-append-le, get_or-drop, length-take-le, take_all, map_push}
 use Rattle.std.proofs.Math.Seq.{drop-append_seam}
+use Rattle.jr_base.specs.declared.marker.TheConstants.{PREFIX}
 use Rattle.jr_scan.specs.Cut.{Spelling, spelling, byte_spelled, IsRaw, IsStop}
 use Rattle.jr_scan.specs.Cut.Spelling.{Plain, Stuffed}
 use Rattle.jr_scan.specs.declared.span.Span.{Span}
@@ -10,7 +11,7 @@ use Rattle.jr_scan.specs.Spans.{segment_data, IsSpanOf, Unstuffs}
 use Rattle.jr_scan.proofs.Cuts.{raw_none, raw_plain, raw_stuffed, rest_is, SegmentRead, segment_read}
 
 -- bytes other than FF spell themselves
-pub raw_run : (bytes found : List ℕ) (at n : ℕ) → at + n ≤ length bytes → ((k : ℕ) → k < n → get_or (drop at bytes) k 0 ≢ 255) → IsRaw (take at bytes) found → IsRaw (take (at + n) bytes) (found ++ take n (drop at bytes))
+pub raw_run : (bytes found : List ℕ) (at n : ℕ) → at + n ≤ length bytes → ((k : ℕ) → k < n → get_or (drop at bytes) k 0 ≢ PREFIX) → IsRaw (take at bytes) found → IsRaw (take (at + n) bytes) (found ++ take n (drop at bytes))
 raw_run bytes found at zero room plain r =
     let e : at + 0 ≡ at = omega arith in
     subst (λ (k : ℕ). IsRaw (take k bytes) (found ++ [])) (sym e) (subst (λ (x : List ℕ). IsRaw (take at bytes) x) (sym (append-nil found)) r)
@@ -24,18 +25,18 @@ raw_run bytes found at (suc n) room plain r =
     subst (λ (k : ℕ). IsRaw (take k bytes) (found ++ take (suc n) (drop at bytes))) at_end (subst (λ (x : List ℕ). IsRaw (take (at + n + 1) bytes) x) grown one)
 
 -- the bytes from a place on, as the slice that they are read from
-pub plain_each : (bytes : List ℕ) (at n : ℕ) → ((k : ℕ) → k < n → get_or (take (length bytes - at) (drop at bytes)) k 0 ≢ 255) → (k : ℕ) → k < n → get_or (drop at bytes) k 0 ≢ 255
-plain_each bytes at n plain = subst (λ (xs : List ℕ). (k : ℕ) → k < n → get_or xs k 0 ≢ 255) (rest_is bytes at) plain
+pub plain_each : (bytes : List ℕ) (at n : ℕ) → ((k : ℕ) → k < n → get_or (take (length bytes - at) (drop at bytes)) k 0 ≢ PREFIX) → (k : ℕ) → k < n → get_or (drop at bytes) k 0 ≢ PREFIX
+plain_each bytes at n plain = subst (λ (xs : List ℕ). (k : ℕ) → k < n → get_or xs k 0 ≢ PREFIX) (rest_is bytes at) plain
 
-pub plain_next : (bytes : List ℕ) (at n : ℕ) → at + n < length bytes → (n < length (take (length bytes - at) (drop at bytes)) → get_or (take (length bytes - at) (drop at bytes)) n 0 ≡ 255) → get_or bytes (at + n) 0 ≡ 255
+pub plain_next : (bytes : List ℕ) (at n : ℕ) → at + n < length bytes → (n < length (take (length bytes - at) (drop at bytes)) → get_or (take (length bytes - at) (drop at bytes)) n 0 ≡ PREFIX) → get_or bytes (at + n) 0 ≡ PREFIX
 plain_next bytes at n lt next =
-    let f = subst (λ (xs : List ℕ). n < length xs → get_or xs n 0 ≡ 255) (rest_is bytes at) next in
+    let f = subst (λ (xs : List ℕ). n < length xs → get_or xs n 0 ≡ PREFIX) (rest_is bytes at) next in
     sym (get_or-drop at bytes n 0) ∙ f (omega (arith, length-drop at bytes))
 
 pub unstuffs_none : (bytes old : List ℕ) → Unstuffs (take 0 bytes) old old
 unstuffs_none bytes old = record { added = []; is = raw_none; joins = sym (append-nil old) }
 
-pub unstuffs_run : (bytes old new new' : List ℕ) (at n end : ℕ) → end ≡ at + n → end ≤ length bytes → ((k : ℕ) → k < n → get_or (drop at bytes) k 0 ≢ 255) → new' ≡ new ++ take (end - at) (drop at bytes) → Unstuffs (take at bytes) old new → Unstuffs (take end bytes) old new'
+pub unstuffs_run : (bytes old new new' : List ℕ) (at n end : ℕ) → end ≡ at + n → end ≤ length bytes → ((k : ℕ) → k < n → get_or (drop at bytes) k 0 ≢ PREFIX) → new' ≡ new ++ take (end - at) (drop at bytes) → Unstuffs (take at bytes) old new → Unstuffs (take end bytes) old new'
 unstuffs_run bytes old new new' at n end e room plain wrote u =
     let k : end - at ≡ n = omega arith in
     record {
@@ -44,12 +45,12 @@ unstuffs_run bytes old new new' at n end e room plain wrote u =
       joins = wrote ∙ ap (λ (j : ℕ). new ++ take j (drop at bytes)) k ∙ ap (λ (x : List ℕ). x ++ take n (drop at bytes)) u.joins ∙ append_assoc old u.added (take n (drop at bytes));
     }
 
-pub unstuffs_stuffed : (bytes old new new' : List ℕ) (at n : ℕ) → at + n < length bytes → take n (drop at bytes) ≡ replicate n 255 → 0 < n → get_or bytes (at + n) 0 ≡ 0 → new' ≡ new ++ 255 ∷ [] → Unstuffs (take at bytes) old new → Unstuffs (take (at + n + 1) bytes) old new'
+pub unstuffs_stuffed : (bytes old new new' : List ℕ) (at n : ℕ) → at + n < length bytes → take n (drop at bytes) ≡ replicate n PREFIX → 0 < n → get_or bytes (at + n) 0 ≡ 0 → new' ≡ new ++ PREFIX ∷ [] → Unstuffs (take at bytes) old new → Unstuffs (take (at + n + 1) bytes) old new'
 unstuffs_stuffed bytes old new new' at n room full some zero_byte wrote u =
     record {
-      added = u.added ++ 255 ∷ [];
+      added = u.added ++ PREFIX ∷ [];
       is = raw_stuffed bytes u.added at n room full some zero_byte u.is;
-      joins = wrote ∙ ap (λ (x : List ℕ). x ++ 255 ∷ []) u.joins ∙ append_assoc old u.added (255 ∷ []);
+      joins = wrote ∙ ap (λ (x : List ℕ). x ++ PREFIX ∷ []) u.joins ∙ append_assoc old u.added (PREFIX ∷ []);
     }
 
 spelled_long : (parts : List Spelling) → length (map byte_spelled parts) ≤ length (flat_map spelling parts)

@@ -2,13 +2,15 @@
 
 ghost use Rattle.std.specs.Prelude.{◌≡◌, ◌≢◌, ℕ, ◌+◌, ◌%◌, ◌<◌, ◌≤◌, ◌^◌, List, length, map, IfOk, IfSome, IfNone};
 ghost use Rattle.std.specs.List.{All};
+ghost use Rattle.jr_base.specs.declared.marker.TheConstants.{PREFIX, RST0};
 ghost use Rattle.jr_scan.specs.Cut.{HasMarker, IsEnding, IsCut};
 ghost use Rattle.jr_scan.specs.Spans.{segment_data, IsSpanOf};
 
 use crate::scan_end::ScanEnd;
 use crate::span::Span;
 use crate::unstuff::{fill, unstuff};
-use jr_code::Memory;
+use jr_base::Memory;
+use jr_base::marker::{EOI, RST0, RST7};
 use std::alloc::Global;
 
 /// The unstuffed bytes of a scan, where in them each segment between restart markers stands, and what ended the scan.
@@ -23,21 +25,21 @@ pub(crate) struct CodedSegments {
 fn end_at(code: u8, at: u64, k: u32, intervals: u32) -> Option<ScanEnd>
     requires few { k < intervals }
     requires not_stuffing { code ≢ 0 }
-    requires not_fill { code ≢ 255 }
+    requires not_fill { code ≢ PREFIX }
     ensures ended { IfSome result (λ end. (tail : List ℕ) → HasMarker tail code → IsEnding intervals k at tail end) }
-    ensures number { IfNone result (code ≡ 208 + k % 8) }
+    ensures number { IfNone result (code ≡ RST0 + k % 8) }
     ensures more { IfNone result (k + 1 < intervals) }
 {
-    if code == 0xD9 {
+    if code == EOI {
         return Some(ScanEnd::EndOfImage);
     }
-    if code < 0xD0 || code > 0xD7 {
+    if code < RST0 || code > RST7 {
         return Some(ScanEnd::OtherMarker(code, at));
     }
     if k + 1 == intervals {
         return Some(ScanEnd::ExtraRestart(at));
     }
-    let found = code - 0xD0;
+    let found = code - RST0;
     let expected = (k % 8) as u8;
     if found != expected {
         return Some(ScanEnd::OutOfStep {

@@ -1,21 +1,23 @@
 //! Data bytes without their stuffing (T.81, B.1.1.5 and F.1.2.3).
 
 ghost use Rattle.std.specs.Prelude.{◌≡◌, ◌≢◌, ℕ, ◌+◌, ◌<◌, ◌≤◌, length, take, drop, replicate, slice_index, IfOk};
+ghost use Rattle.jr_base.specs.declared.marker.TheConstants.{PREFIX};
 ghost use Rattle.jr_scan.specs.Cut.{IsStop};
 ghost use Rattle.jr_scan.specs.Spans.{Unstuffs};
 
-use jr_code::Memory;
+use jr_base::Memory;
+use jr_base::marker::PREFIX;
 use memchr::memchr;
 
 /// How many bytes at the front are FF.
 pub(crate) fn fill(bytes: &[u8]) -> usize
     ensures within { result ≤ length bytes.now }
-    ensures full { take result bytes.now ≡ replicate result 255 }
-    ensures next { result < length bytes.now → slice_index bytes.now result ≢ 255 }
+    ensures full { take result bytes.now ≡ replicate result PREFIX }
+    ensures next { result < length bytes.now → slice_index bytes.now result ≢ PREFIX }
 {
     let mut n = 0;
     for byte in bytes {
-        if *byte != 0xFF {
+        if *byte != PREFIX {
             return n;
         }
         n += 1;
@@ -26,10 +28,10 @@ pub(crate) fn fill(bytes: &[u8]) -> usize
 /// How many bytes at the front are not FF.
 fn plain(bytes: &[u8]) -> usize
     ensures within { result ≤ length bytes.now }
-    ensures plain { (k : ℕ) → k < result → slice_index bytes.now k ≢ 255 }
-    ensures next { result < length bytes.now → slice_index bytes.now result ≡ 255 }
+    ensures plain { (k : ℕ) → k < result → slice_index bytes.now k ≢ PREFIX }
+    ensures next { result < length bytes.now → slice_index bytes.now result ≡ PREFIX }
 {
-    match memchr(0xFF, bytes) {
+    match memchr(PREFIX, bytes) {
         Some(at) => at,
         None => bytes.len(),
     }
@@ -49,7 +51,7 @@ pub(crate) fn unstuff(bytes: &[u8], unstuffed: &mut Vec<u8>) -> Result<usize, Me
         if next >= bytes.len() || bytes[next] != 0 {
             return Ok(end);
         }
-        unstuffed.push(0xFF)?;
+        unstuffed.push(PREFIX)?;
         at = next + 1;
     }
 }

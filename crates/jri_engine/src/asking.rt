@@ -1,10 +1,12 @@
 //! The words of a command line.
 
 ghost use Rattle.std.specs.Prelude.{◌≤◌, IfOk};
+ghost use Rattle.jr_base.specs.declared.limits.TheConstants.{MAX_WORKERS};
 
 use crate::answers::{Asked, Unasked};
 use clap::error::ErrorKind;
 use clap::{Arg, ArgAction, Command, Error, value_parser};
+use jr_base::limits::MAX_WORKERS;
 use std::alloc::{AllocError, Global};
 
 /// `jri [--workers N] [--first K] [FILE]`.
@@ -14,7 +16,7 @@ fn command<'a>(alloc: Global) -> Result<Command<'a>, AllocError> {
         .action(ArgAction::Set)
         .value_name("N")
         .help("How many threads decode, 1 to 64")
-        .value_parser(value_parser!(u32).range(1..=64))
+        .value_parser(value_parser!(u32).range(1..=i64::from(MAX_WORKERS)))
         .default_value("4");
     let first = Arg::new(alloc, "first")
         .long("first")
@@ -49,7 +51,7 @@ fn refusal(alloc: Global, error: &Error) -> Unasked {
 /// at most one file. `Unasked` has the text to print where they ask for help or are wrong.
 pub fn asked<'a>(alloc: Global, words: &'a [String]) -> Result<Asked, Unasked>
     ensures some { IfOk result (λ a. 1 ≤ a.workers) }
-    ensures few { IfOk result (λ a. a.workers ≤ 64) }
+    ensures few { IfOk result (λ a. a.workers ≤ MAX_WORKERS) }
 {
     let matches = match command(alloc)?.try_get_matches_from(words) {
         Ok(matches) => matches,
@@ -61,7 +63,7 @@ pub fn asked<'a>(alloc: Global, words: &'a [String]) -> Result<Asked, Unasked>
     };
     match matches.get_one::<u32>("workers") {
         // the range of the argument's values, which the parser's contract does not repeat
-        Some(workers) if (1..=64).contains(&workers) => Ok(Asked {
+        Some(workers) if (1..=MAX_WORKERS).contains(&workers) => Ok(Asked {
             workers,
             first: matches.get_one::<u32>("first"),
             file,

@@ -2,11 +2,11 @@
 
 ghost use Rattle.std.specs.Prelude.{◌≡◌, IfOk, IfErr, false};
 ghost use Rattle.std.specs.Io.KnownBytes.{Keeps};
-ghost use Rattle.jr_paint.specs.Tally.{has_failed, known_in};
+ghost use Rattle.jr_base.specs.Tally.{has_failed, known_in};
 ghost use Rattle.jri_engine.specs.Status.{fault_status, report_status};
 
 use crate::report::{Fault, Report};
-use jr_paint::Tally;
+use jr_base::Tally;
 use jr_scan::ScanEnd;
 use std::io::{Result as IoResult, Write};
 

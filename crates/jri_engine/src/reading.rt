@@ -1,9 +1,11 @@
 //! The input, to its end.
 
-ghost use Rattle.std.specs.Prelude.{◌≡◌, ◌≤◌, vec_len, take, IfOk, OnOk, IfSome, true, false};
-ghost use Rattle.jr_paint.specs.Tally.{has_failed, known_in};
+ghost use Rattle.std.specs.Prelude.{◌≡◌, ◌≤◌, ◌+◌, vec_len, take, IfOk, OnOk, IfSome, true, false};
+ghost use Rattle.jr_base.specs.declared.limits.TheConstants.{MAX_FILE_BYTES};
+ghost use Rattle.jr_base.specs.Tally.{has_failed, known_in};
 
-use jr_paint::Tally;
+use jr_base::Tally;
+use jr_base::limits::MAX_FILE_BYTES;
 use std::alloc::Global;
 use std::io::Read;
 
@@ -48,17 +50,14 @@ fn read_at_most<R: Read>(
     Ok(bytes)
 }
 
-/// One byte more than a file may have.
-const TOO_MANY: usize = 1_073_741_825;
-
 /// All bytes of the input, or one more than a file may have.
 pub(crate) fn read_input<R: Read>(alloc: Global, input: &mut Tally<R>) -> Result<Vec<u8>, Unread>
     requires { has_failed input.old ≡ false }
-    ensures bytes { IfOk result (λ v. IfSome (known_in R.remaining input.old) (λ xs. v.items ≡ take 1073741825 xs)) }
-    ensures few { IfOk result (λ v. vec_len v ≤ 1073741825) }
+    ensures bytes { IfOk result (λ v. IfSome (known_in R.remaining input.old) (λ xs. v.items ≡ take (MAX_FILE_BYTES + 1) xs)) }
+    ensures few { IfOk result (λ v. vec_len v ≤ MAX_FILE_BYTES + 1) }
     ensures unfailed { OnOk result (has_failed input.new ≡ false) }
     ensures failed { result ≡ Err Unread.Read → has_failed input.new ≡ true }
     ensures memory { result ≡ Err Unread.Memory → has_failed input.new ≡ false }
 {
-    read_at_most(alloc, input, TOO_MANY)
+    read_at_most(alloc, input, MAX_FILE_BYTES + 1)
 }

@@ -1,6 +1,7 @@
 //! How many workers there are, as a gate finds that counts those inside it.
 
 ghost use Rattle.std.specs.Prelude.{◌≤◌};
+ghost use Rattle.jr_base.specs.declared.limits.TheConstants.{MAX_WORKERS};
 
 use crate::files::{TEN, file};
 use crate::scans::scan;
@@ -97,7 +98,7 @@ impl Gate for Crowd {
 /// So many workers come where `run` and where `decode_all` is asked for them.
 fn check<R: Threads + Wait + Sync + AllocGlobal + Abort>(rt: &R, workers: u32) -> Result<(), Fail>
     requires some { 1 ≤ workers }
-    requires few { workers ≤ 64 }
+    requires few { workers ≤ MAX_WORKERS }
 {
     let gate = Crowd::of(workers);
     let bytes = file(rt.alloc(), TEN)?;

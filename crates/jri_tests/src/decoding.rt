@@ -1,6 +1,7 @@
 //! A decoding of bytes as the program does it.
 
 ghost use Rattle.std.specs.Prelude.{◌≤◌};
+ghost use Rattle.jr_base.specs.declared.limits.TheConstants.{MAX_WORKERS};
 
 use jr_paint::Tally;
 use jr_wall::OpenGate;
@@ -25,7 +26,7 @@ pub(crate) fn decode<R: Threads + Wait + Sync + AllocGlobal>(
     first: Option<u32>,
 ) -> Result<Outcome, Fail>
     requires some { 1 ≤ workers }
-    requires few { workers ≤ 64 }
+    requires few { workers ≤ MAX_WORKERS }
 {
     let mut input = Tally::of(bytes);
     let mut output = Tally::of(Vec::new(rt.alloc()));

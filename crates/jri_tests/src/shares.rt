@@ -1,6 +1,7 @@
 //! The first intervals alone, and other numbers of workers.
 
 ghost use Rattle.std.specs.Prelude.{◌≤◌};
+ghost use Rattle.jr_base.specs.declared.limits.TheConstants.{MAX_WORKERS};
 
 use crate::decoding::{Outcome, decode};
 use crate::files;
@@ -27,7 +28,7 @@ fn check<R: Threads + Wait + Sync + AllocGlobal + Abort>(
     case: Case,
 ) -> Result<(), Fail>
     requires some { 1 ≤ workers }
-    requires few { workers ≤ 64 }
+    requires few { workers ≤ MAX_WORKERS }
 {
     let bytes = file(rt.alloc(), case.file)?;
     let found = decode(rt, bytes.as_slice(), workers, first)?;

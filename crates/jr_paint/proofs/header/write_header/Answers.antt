@@ -1,7 +1,7 @@
 use Rattle.std.proofs.Common.{rules, ◌≡◌, ◌++◌, [], append_assoc}
 use Rattle.std.specs.Prelude.{codes, decimal}
 use Rattle.jr_paint.specs.Text.{header_of}
-use Rattle.jr_paint.proofs.Appending.{then, on_err, on_err_map, front_first, front_of}
+use Rattle.jr_base.proofs.Appending.{then, on_err, on_err_map, front_first, front_of}
 use Rattle.jr_paint.proofs.header.write_header.Goals as goal
 
 pub returns-in_err-write_all-clause-err : goal.returns-in_err-write_all-clause-err

@@ -1,6 +1,6 @@
 use Rattle.std.proofs.Common.{◌≡◌, ◌≤◌, ◌+◌, ◌-◌, ◌++◌, ◌%◌, ◌<◌, ℕ, min, refl, arith, rules}
 use Rattle.jr_paint.specs.Text.{pixels_of}
-use Rattle.jr_paint.proofs.Appending.{then, none_yet, on_err, front_of}
+use Rattle.jr_base.proofs.Appending.{then, none_yet, on_err, front_of}
 use Rattle.jr_paint.proofs.PixelLaws.{pixels_none, pixels-append, pixels_around}
 use Rattle.jr_paint.proofs.netpbm.write_line.Goals as goal
 

@@ -1,6 +1,6 @@
 use Rattle.std.proofs.Common.{◌≡◌, ◌≤◌, ◌-◌, ◌%◌, ◌<◌, false}
 use Rattle.std.specs.Io.KnownBytes.{Appends}
-use Rattle.jr_paint.specs.Tally.{has_failed, known_in}
+use Rattle.jr_base.specs.Tally.{has_failed, known_in}
 use Rattle.jr_paint.specs.Text.{pixels_of}
 use Rattle.jr_paint.proofs.netpbm.write_line.Given as goal
 

@@ -1,7 +1,7 @@
 use Rattle.std.proofs.Common.{◌≡◌, ◌+◌, ◌-◌, ◌*◌, ◌<◌, ◌∙◌, ◌++◌, arith, rules, ap}
 use Rattle.jr_head.specs.HeadValue.{HeadValue}
 use Rattle.jr_paint.specs.Text.{lines_of, pixels_of}
-use Rattle.jr_paint.proofs.Appending.{then, none_yet, on_err, front_first, front_of}
+use Rattle.jr_base.proofs.Appending.{then, none_yet, on_err, front_first, front_of}
 use Rattle.jr_paint.proofs.PixelLaws.{lines_none, lines_more, line_around, two_lines_more, two_lines_around, text_is}
 use Rattle.jr_paint.proofs.netpbm.write_netpbm.Goals as goal
 

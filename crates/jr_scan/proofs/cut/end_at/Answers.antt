@@ -1,8 +1,9 @@
 use Rattle.std.proofs.Common.{◌≡◌, ◌+◌, ◌-◌, refl, subst, arith}
+use Rattle.jr_base.specs.declared.marker.TheConstants.{RST0}
 use Rattle.jr_scan.specs.Cut.{HasMarker}
 use Rattle.jr_scan.proofs.cut.end_at.Goals as goal
 
 pub returns-then-k-intervals-clause-ended : goal.returns-then-k-intervals-clause-ended
 returns-then-k-intervals-clause-ended c = λ tail m.
-    let e : c.args.code ≡ 208 + (c.args.code - 208) = omega arith in
-    (c.args.code - 208, omega arith, subst (HasMarker tail) e m, c.if-k-intervals.true, refl)
+    let e : c.args.code ≡ RST0 + (c.args.code - RST0) = omega arith in
+    (c.args.code - RST0, omega arith, subst (HasMarker tail) e m, c.if-k-intervals.true, refl)

@@ -1,6 +1,6 @@
 use Rattle.std.proofs.Common.{◌≡◌, ◌≤◌, ◌-◌, false, vec_len}
 use Rattle.std.specs.Io.KnownBytes.{Consumes}
-use Rattle.jr_paint.specs.Tally.{has_failed, known_in}
+use Rattle.jr_base.specs.Tally.{has_failed, known_in}
 use Rattle.jri_engine.proofs.reading.read_at_most.Given as goal
 
 abbrev pub invariant-parts : goal.invariant-parts

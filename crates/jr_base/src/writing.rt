@@ -1,9 +1,7 @@
 //! Writing that goes on after short writes, and ends at the first failure.
 
 ghost use Rattle.std.specs.Prelude.{◌≡◌, is_err, false, OnOk, OnErr};
-ghost use Rattle.std.specs.Io.KnownBytes.{Appends};
-ghost use Rattle.jr_paint.specs.Tally.{has_failed, known_in};
-ghost use Rattle.jr_paint.specs.Text.{AppendsFront};
+ghost use Rattle.jr_base.specs.Tally.{Writes, WritesFront, has_failed};
 
 use crate::tally::Tally;
 use std::io::Write;
@@ -13,10 +11,10 @@ use std::io::Write;
 pub struct WriteFault;
 
 /// Writes all of these bytes, or a beginning of them.
-pub(crate) fn write_all<W: Write>(out: &mut Tally<W>, bytes: &[u8]) -> Result<(), WriteFault>
+pub fn write_all<W: Write>(out: &mut Tally<W>, bytes: &[u8]) -> Result<(), WriteFault>
     requires { has_failed out.old ≡ false }
-    ensures ok { OnOk result (Appends (known_in W.contents out.old) (known_in W.contents out.new) bytes.now) }
-    ensures err { OnErr result (AppendsFront (known_in W.contents out.old) (known_in W.contents out.new) bytes.now) }
+    ensures ok { OnOk result (Writes W.contents out.old out.new bytes.now) }
+    ensures err { OnErr result (WritesFront W.contents out.old out.new bytes.now) }
     ensures failed { has_failed out.new ≡ is_err result }
 {
     let mut at = 0;

@@ -1,7 +1,7 @@
 use Rattle.std.proofs.Common.{◌≡◌, ◌≤◌, ◌-◌, false, take, length}
 use Rattle.std.specs.Io.KnownBytes.{Appends}
-use Rattle.jr_paint.specs.Tally.{has_failed, known_in}
-use Rattle.jr_paint.proofs.writing.write_all.Given as goal
+use Rattle.jr_base.specs.Tally.{has_failed, known_in}
+use Rattle.jr_base.proofs.writing.write_all.Given as goal
 
 abbrev pub invariant-parts : goal.invariant-parts
 invariant-parts g l = record {

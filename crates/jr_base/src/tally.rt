@@ -3,7 +3,7 @@
 ghost use Rattle.std.specs.Prelude.{◌≡◌, ◌||◌, is_err, false};
 ghost use Rattle.std.specs.Io.{ReadsAtMost, WritesAtMost};
 ghost use Rattle.std.specs.Io.KnownBytes.{Keeps, ReadConsumes, WriteAppends};
-ghost use Rattle.jr_paint.specs.Tally.{inner_of, has_failed, took_none, known_in};
+ghost use Rattle.jr_base.specs.Tally.{inner_of, has_failed, took_none, known_in};
 
 use std::io::{Read, Result, Write};
 

@@ -1,6 +1,6 @@
 use Rattle.std.proofs.Common.{rules}
-use Rattle.jr_paint.proofs.Appending.{sent_more, some_sent, kept}
-use Rattle.jr_paint.proofs.writing.write_all.Goals as goal
+use Rattle.jr_base.proofs.Appending.{sent_more, some_sent, kept}
+use Rattle.jr_base.proofs.writing.write_all.Goals as goal
 
 pub parts-preserved : goal.parts-preserved
 parts-preserved g c =

@@ -2,7 +2,7 @@
 use Rattle.std.proofs.Common.{◌≡◌, ℕ, ◌+◌, ◌-◌, arith, List, [], ◌++◌, Option, Some, None, Result, Ok, Err, OnErr, take, drop, length, append_assoc, append-nil, ap, sym, ◌∙◌}
 use Rattle.std.proofs.lemmas.List.{drop-take, take-append-drop, take-take, take_rest}
 use Rattle.std.specs.Io.KnownBytes.{Appends, Keeps}
-use Rattle.jr_paint.specs.Text.{AppendsFront}
+use Rattle.jr_base.specs.Tally.{AppendsFront}
 
 pub then : (a b c : Option (List ℕ)) (xs ys : List ℕ) → Appends a b xs → Appends b c ys → Appends a c (xs ++ ys)
 then None b c xs ys p q = tt
