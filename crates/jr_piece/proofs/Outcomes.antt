@@ -7,10 +7,10 @@ use Rattle.std.proofs.Math.Seq.{get_or-append_seam}
 use Rattle.jr_head.specs.HeadValue.{HeadValue}
 use Rattle.jr_head.specs.Geometry.{order_of, quantiser_of}
 use Rattle.jr_scan.specs.IntervalValue.{IntervalValue}
-use Rattle.jr_scan.specs.Mcus.{component, Decodes, Front, LongestFront}
+use Rattle.jr_scan.specs.Mcus.{component, Decodes, HasNoDecoding, Front, LongestFront}
 use Rattle.jr_idct.specs.Transform.{samples}
 use Rattle.jr_piece.specs.PieceValue.{PieceValue}
-use Rattle.jr_piece.specs.Outcome.{AreSamples, HasNoDecoding, IsSound, IsDamaged, IsOutcome}
+use Rattle.jr_piece.specs.Outcome.{AreSamples, IsSound, IsDamaged, IsOutcome}
 
 pub no_samples : (h : HeadValue) → AreSamples h [] []
 no_samples h = record { count = refl; each = λ n lt. absurd (omega arith) }

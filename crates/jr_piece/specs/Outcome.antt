@@ -3,7 +3,7 @@ use Rattle.std.specs.Prelude.{◌≡◌, ℕ, ◌<◌, true, false, List, [], le
 use Rattle.jr_head.specs.HeadValue.{HeadValue}
 use Rattle.jr_head.specs.Geometry.{quantiser_of}
 use Rattle.jr_scan.specs.IntervalValue.{IntervalValue}
-use Rattle.jr_scan.specs.Mcus.{component, block_of, Decodes, LongestFront}
+use Rattle.jr_scan.specs.Mcus.{component, block_of, Decodes, HasNoDecoding, LongestFront}
 use Rattle.jr_idct.specs.Transform.{samples}
 use Rattle.jr_piece.specs.PieceValue.{PieceValue}
 
@@ -15,10 +15,6 @@ unit_of h zs n = samples (block_of zs n) (quantiser_of h (component h n))
 pub record AreSamples (h : HeadValue) (zs : List (List ℤ)) (units : List (List ℕ)) : Type 0 where
   pub count : length units ≡ length zs
   pub each : (n : ℕ) → n < length zs → slice_index_or units n [] ≡ unit_of h zs n
-
--- the interval has no decoding
-abbrev pub HasNoDecoding : IntervalValue → Type 0
-HasNoDecoding i = (zs : List (List ℤ)) → Decodes i zs → ⊥
 
 -- the interval has a decoding, of which these are the samples
 pub record IsSound (i : IntervalValue) (units : List (List ℕ)) : Type 0 where
