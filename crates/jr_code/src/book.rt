@@ -1,6 +1,6 @@
 //! Code tables of a JPEG file.
 
-ghost use Rattle.std.specs.Prelude.{◌≡◌, ◌≢◌, ◌<◌, ◌≤◌, ◌↔◌, ◌++◌, ℕ, List, Bool, IsTrue, [], IfSome, IfNone, IfOk, OnOk, take, drop, sum};
+ghost use Rattle.std.specs.Prelude.{◌≡◌, ◌≢◌, ◌<◌, ◌≤◌, ◌↔◌, ◌++◌, ℕ, List, Bool, IsTrue, [], length, IfSome, IfNone, IfOk, OnOk, take, drop, sum};
 ghost use Rattle.std.proofs.Common.{rules};
 ghost use Rattle.std.specs.Cmp.Rules.{comparing};
 ghost use Rattle.jr_code.specs.Code.{same_table, Table, IsWord, IsLawful, HasTooMany, IsOverfull, space, lengths, AreEntries, ArePairs, AreLong, IsFrontWhereWhole, HasNoFront, TakesExtended, HasNoExtended, IsPrefixFree};
@@ -8,9 +8,9 @@ ghost use Rattle.jr_code.specs.Bits.{bits_of};
 ghost use Rattle.jr_code.specs.Register.{bits_in};
 
 use crate::bits::Bits;
-use jr_base::Memory;
 use crate::register::Register;
 use crate::words::{Extended, Words};
+use jr_base::Memory;
 use std::alloc::Global;
 use std::marker::Model;
 use thiserror::Error;
@@ -78,10 +78,27 @@ impl CodeBook {
         ensures too_many { (result ≡ Err CodeFault.TooMany) ↔ HasTooMany counts.now symbols.now }
         ensures overfull { (result ≡ Err CodeFault.Overfull) ↔ (IsOverfull counts.now × ¬ HasTooMany counts.now symbols.now) }
     {
-        let (total, space) = sums(counts);
+        let total = word_count(counts);
         if total > 256 || total as usize != symbols.len() {
             return Err(CodeFault::TooMany);
         }
+        CodeBook::with_symbols(alloc, counts, symbols)
+    }
+
+    /// The table of these counts and of one symbol for each word, for callers that have added up the counts.
+    pub fn with_symbols(
+        alloc: Global,
+        counts: &[u8; 16],
+        symbols: &[u8],
+    ) -> Result<CodeBook, CodeFault>
+        requires each { sum counts.now ≡ length symbols.now }
+        requires few { length symbols.now ≤ 256 }
+        ensures book { IfOk result (λ b. b ≡ record { counts = counts.now; symbols = symbols.now }) }
+        ensures lawful { OnOk result (IsLawful counts.now symbols.now) }
+        ensures enough { result ≢ Err CodeFault.TooMany }
+        ensures overfull { (result ≡ Err CodeFault.Overfull) ↔ IsOverfull counts.now }
+    {
+        let space = space_of(counts);
         if space > 65536 {
             return Err(CodeFault::Overfull);
         }
@@ -259,17 +276,26 @@ impl CodeBook {
     }
 }
 
-/// How many words there are, and their room.
-fn sums(counts: &[u8; 16]) -> (u32, u32)
-    ensures total { result.0 ≡ sum counts.now }
-    ensures space { result.1 ≡ space (lengths counts.now) }
+/// How many words there are, where `counts[i]` have i + 1 bits.
+pub fn word_count(counts: &[u8; 16]) -> u32
+    ensures value { result ≡ sum counts.now }
+    ensures few { result ≤ 4080 }
 {
     let mut total: u32 = 0;
+    for count in counts {
+        total += u32::from(*count);
+    }
+    total
+}
+
+/// The rooms of all words together.
+fn space_of(counts: &[u8; 16]) -> u32
+    ensures { result ≡ space (lengths counts.now) }
+{
     let mut space: u32 = 0;
     for i in 0..16usize {
         let count = u32::from(counts[i]);
-        total += count;
         space += count << (15 - i);
     }
-    (total, space)
+    space
 }

@@ -10,6 +10,7 @@ use Rattle.std.proofs.lemmas.Grind.{flat_map-append}
 use Rattle.std.proofs.lemmas.List.Folds.{list_any-append}
 use Rattle.jr_code.specs.Code.{space, lengths}
 use Rattle.jr_base.specs.declared.marker.TheConstants.{DHT, DQT, DRI, SOF0, SOF1, SOS}
+use Rattle.jr_head.specs.Restart.{restart_tests}
 use Rattle.jr_head.specs.declared.frame.FrameComponent.{FrameComponent}
 use Rattle.jr_head.specs.declared.quantiser.Quantiser.{Quantiser}
 use Rattle.jr_head.specs.declared.refusal.Refusal.{Refusal}
@@ -200,7 +201,7 @@ payload_pass before code p n other h =
     by_code (code == DQT) (code == DHT) (code == DRI) (code == SOF0) (code == SOS) (code == SOF1)
     (flat_map baseline_quantisation_tests (tables_after size_one 0 p)) (flat_map quantisation_tests (tables_after size_any 0 p))
     (flat_map baseline_coding_tests (tables_after (λ _ q. coding_len q) 0 p)) (flat_map coding_tests (tables_after (λ _ q. coding_len q) 0 p))
-    ((BadLength DRI when not (length p == 2)) ∷ []) (frame_tests code p)
+    (restart_tests p) (frame_tests code p)
     (baseline_scan_tests (components (frame_item before).payload) (all_quantisations before) (all_codings before) p)
     (scan_tests (frame_item before).code (components (frame_item before).payload) (all_quantisations before) (all_codings before) p)
     other

@@ -4,6 +4,7 @@ use Rattle.std.specs.Prelude.{Some, ◌==◌, if◌then◌else◌}
 use Rattle.std.specs.List.{flat_map}
 use Rattle.std.proofs.lemmas.List.Concat.{flat_map-cons}
 use Rattle.jr_base.specs.declared.marker.TheConstants.{DHT, DQT, DRI, SOS}
+use Rattle.jr_head.specs.Restart.{restart_tests}
 use Rattle.jr_head.specs.declared.frame.FrameComponent.{FrameComponent}
 use Rattle.jr_head.specs.declared.refusal.Refusal.{Refusal}
 use Rattle.jr_head.specs.Bytes.{byte}
@@ -84,7 +85,7 @@ unfolding scan_tests header_tests table_tests
 of_scan code cs qs ds p = (omega arith, (omega arith, (omega arith, (omega arith, (omega arith, (omega arith, (omega arith, tt)))))))
 
 of_payload : (before : List Item) (code : ℕ) (p : List ℕ) → AreOfFiles (payload_tests before code p)
-unfolding payload_tests quantisations_tests codings_tests
+unfolding payload_tests quantisations_tests codings_tests restart_tests
 of_payload before code p =
     choice_of (code == DQT) (quantisations_tests p) _ (flat_of quantisation_tests (tables (λ b _. elements_len b) p) of_quantisation)
     (choice_of (code == DHT) (codings_tests p) _ (flat_of coding_tests (tables (λ _ q. coding_len q) p) of_coding)

@@ -13,6 +13,7 @@ use Rattle.jr_head.specs.Frames.{frame_tests, components}
 use Rattle.jr_head.specs.HeadValue.{HeadValue}
 use Rattle.jr_head.specs.Heads.{Defines, start}
 use Rattle.jr_head.specs.Items.{Item, spelled, is_not_baseline, is_other, has_frame}
+use Rattle.jr_head.specs.Restart.{restart_tests}
 use Rattle.jr_head.specs.Quantisers.{Quantisation}
 use Rattle.jr_head.specs.Scans.{all_quantisations, all_codings, frame_item, used, is_missing, is_whole}
 use Rattle.jr_head.specs.Tables.{tables}
@@ -61,7 +62,7 @@ unfoldable pub baseline_payload_tests : List Item → ℕ → List ℕ → List 
 baseline_payload_tests before code p =
     if code == DQT then flat_map baseline_quantisation_tests (tables (λ _ _. 64) p)
     else (if code == DHT then flat_map baseline_coding_tests (tables (λ _ q. coding_len q) p)
-    else (if code == DRI then (BadLength DRI when not (length p == 2)) ∷ []
+    else (if code == DRI then restart_tests p
     else (if code == SOF0 then frame_tests code p
     else (if code == SOS then baseline_scan_tests (components (frame_item before).payload) (all_quantisations before) (all_codings before) p
     else []))))
