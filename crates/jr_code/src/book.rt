@@ -3,7 +3,7 @@
 ghost use Rattle.std.specs.Prelude.{◌≡◌, ◌≢◌, ◌<◌, ◌≤◌, ◌↔◌, ◌++◌, ℕ, List, Bool, IsTrue, [], length, IfSome, IfNone, IfOk, OnOk, take, drop, sum};
 ghost use Rattle.std.proofs.Common.{rules};
 ghost use Rattle.std.specs.Cmp.Rules.{comparing};
-ghost use Rattle.jr_code.specs.Code.{same_table, Table, IsWord, IsLawful, HasTooMany, IsOverfull, space, lengths, AreEntries, ArePairs, AreLong, IsFrontWhereWhole, HasNoFront, TakesExtended, HasNoExtended, IsPrefixFree};
+ghost use Rattle.jr_code.specs.Code.{same_table, Table, IsWord, IsLawful, HasTooMany, IsOverfull, space, lengths, AreEntries, ArePairs, AreLong, IsFrontWhereWhole, HasNoFront, TakesExtended, HasNoExtended, IsInFront, IsPrefixFree};
 ghost use Rattle.jr_code.specs.Bits.{bits_of};
 ghost use Rattle.jr_code.specs.Register.{bits_in};
 
@@ -199,7 +199,7 @@ impl CodeBook {
     #[inline(always)]
     fn short_pair(&self, register: Register) -> Option<Extended>
         requires { 32 ≤ register.count }
-        ensures { IfSome result (λ e. (e.long ≤ register.entry.count) × TakesExtended self.now e.symbol e.value (bits_in register.entry) (drop e.long (bits_in register.entry))) }
+        ensures { IfSome result (λ e. IsInFront self.now e register.entry.count (bits_in register.entry)) }
     {
         self.pairs[register.front(10) as usize]
     }
@@ -210,7 +210,7 @@ impl CodeBook {
     #[inline(never)]
     fn rare_pair(&self, held: u64, count: u32) -> Option<Extended>
         requires { count < 64 }
-        ensures found { IfSome result (λ e. (e.long ≤ count) × TakesExtended self.now e.symbol e.value (bits_of count held) (drop e.long (bits_of count held))) }
+        ensures found { IfSome result (λ e. IsInFront self.now e count (bits_of count held)) }
         ensures none { IfNone result (HasNoExtended self.now (bits_of count held)) }
     {
         let (symbol, long) = self.rare_word(held, count)?;

@@ -4,7 +4,7 @@ use Rattle.jr_base.specs.declared.marker.TheConstants.{APP0, COM, SOS}
 use Rattle.jr_head.specs.declared.definitions.Definitions.{Definitions}
 use Rattle.jr_head.specs.declared.marker.Marker.{Marker}
 use Rattle.jr_head.specs.declared.marker.Marker.TheVariants.{Sof0, Sof1, Dht, Dqt, Dri, Sos, App, Com}
-use Rattle.jr_head.specs.Items.{Item}
+use Rattle.jr_head.specs.Segments.{Segment}
 use Rattle.jr_head.specs.Marker.{code_of}
 use Rattle.jr_head.specs.Definitions.{InForce}
 use Rattle.jr_head.proofs.DefinitionLaws.{IsSilent, silent, silent_in_force}
@@ -27,13 +27,13 @@ app_silent n no_jfif no_adobe =
 com_silent : IsSilent COM
 com_silent = silent COM (λ e. omega (arith, e)) (λ e. omega (arith, e)) (λ e. omega (arith, e)) (λ e. omega (arith, e)) (λ e. omega (arith, e)) (λ e. omega (arith, e)) (λ e. omega (arith, e))
 
-pub app_in_force : (items : List Item) (old : Definitions) (fill code : ℕ) (payload : List ℕ) (n : ℕ) → code ≡ APP0 + n → n ≢ 0 → n ≢ 14 → InForce items old
-    → InForce (items ++ record { fill = fill; code = code; payload = payload } ∷ []) old
-app_in_force items old fill code payload n is no_jfif no_adobe k = silent_in_force items old fill code payload (rw is (app_silent n no_jfif no_adobe)) k
+pub app_in_force : (segments : List Segment) (old : Definitions) (fill code : ℕ) (payload : List ℕ) (n : ℕ) → code ≡ APP0 + n → n ≢ 0 → n ≢ 14 → InForce segments old
+    → InForce (segments ++ record { fill = fill; code = code; payload = payload } ∷ []) old
+app_in_force segments old fill code payload n is no_jfif no_adobe k = silent_in_force segments old fill code payload (rw is (app_silent n no_jfif no_adobe)) k
 
-pub com_in_force : (items : List Item) (old : Definitions) (fill code : ℕ) (payload : List ℕ) → code ≡ COM → InForce items old
-    → InForce (items ++ record { fill = fill; code = code; payload = payload } ∷ []) old
-com_in_force items old fill code payload is k = silent_in_force items old fill code payload (rw is com_silent) k
+pub com_in_force : (segments : List Segment) (old : Definitions) (fill code : ℕ) (payload : List ℕ) → code ≡ COM → InForce segments old
+    → InForce (segments ++ record { fill = fill; code = code; payload = payload } ∷ []) old
+com_in_force segments old fill code payload is k = silent_in_force segments old fill code payload (rw is com_silent) k
 
 pub scan_code : (m : Marker) → m ≡ Sos → code_of m ≡ SOS
 scan_code m is = rw is refl
