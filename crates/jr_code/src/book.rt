@@ -3,7 +3,7 @@
 ghost use Rattle.std.specs.Prelude.{◌≡◌, ◌≢◌, ◌<◌, ◌≤◌, ◌↔◌, ◌++◌, ℕ, List, Bool, IsTrue, [], length, IfSome, IfNone, IfOk, OnOk, take, drop, sum};
 ghost use Rattle.std.proofs.Common.{rules};
 ghost use Rattle.std.specs.Cmp.Rules.{comparing};
-ghost use Rattle.jr_code.specs.Code.{same_table, Table, IsWord, IsLawful, HasTooMany, IsOverfull, space, lengths, AreEntries, ArePairs, AreLong, IsFrontWhereWhole, HasNoFront, TakesExtended, HasNoExtended, IsInFront, IsPrefixFree};
+ghost use Rattle.jr_code.specs.Code.{same_table, Table, IsWord, IsLawfulTable, HasTooMany, IsOverfull, space, lengths, AreEntries, ArePairs, AreLong, IsFrontWhereWhole, HasNoFront, TakesExtended, HasNoExtended, IsInFront, IsPrefixFree};
 ghost use Rattle.jr_code.specs.Bits.{bits_of};
 ghost use Rattle.jr_code.specs.Register.{bits_in};
 
@@ -43,13 +43,13 @@ pub struct CodeBook {
 }
 
 impl Model for CodeBook {
-    ghost use Rattle.jr_code.specs.Code.{Table, IsLawful, AreEntries, ArePairs, AreLong};
+    ghost use Rattle.jr_code.specs.Code.{Table, IsLawfulTable, AreEntries, ArePairs, AreLong};
 
     ghost Value = { Table };
 
     ghost view = { λ b. b.words };
 
-    ghost invariant = { λ b. AreEntries b.words b.entries × AreLong b.words b.long × ArePairs b.words b.pairs × IsLawful b.words.counts b.words.symbols };
+    ghost invariant = { λ b. AreEntries b.words b.entries × AreLong b.words b.long × ArePairs b.words b.pairs × IsLawfulTable b.words.counts b.words.symbols };
 }
 
 impl PartialEq for CodeBook {
@@ -74,7 +74,7 @@ impl CodeBook {
     /// and Annex C). A symbol may stand twice, the word of all ones may be assigned, and a table may be empty.
     pub fn new(alloc: Global, counts: &[u8; 16], symbols: &[u8]) -> Result<CodeBook, CodeFault>
         ensures book { IfOk result (λ b. b ≡ record { counts = counts.now; symbols = symbols.now }) }
-        ensures lawful { OnOk result (IsLawful counts.now symbols.now) }
+        ensures lawful { OnOk result (IsLawfulTable counts.now symbols.now) }
         ensures too_many { (result ≡ Err CodeFault.TooMany) ↔ HasTooMany counts.now symbols.now }
         ensures overfull { (result ≡ Err CodeFault.Overfull) ↔ (IsOverfull counts.now × ¬ HasTooMany counts.now symbols.now) }
     {
@@ -94,7 +94,7 @@ impl CodeBook {
         requires each { sum counts.now ≡ length symbols.now }
         requires few { length symbols.now ≤ 256 }
         ensures book { IfOk result (λ b. b ≡ record { counts = counts.now; symbols = symbols.now }) }
-        ensures lawful { OnOk result (IsLawful counts.now symbols.now) }
+        ensures lawful { OnOk result (IsLawfulTable counts.now symbols.now) }
         ensures enough { result ≢ Err CodeFault.TooMany }
         ensures overfull { (result ≡ Err CodeFault.Overfull) ↔ IsOverfull counts.now }
     {
@@ -112,7 +112,7 @@ impl CodeBook {
 
     /// What holds of every book, for callers that rest on it: it is a lawful table (T.81, Annex C).
     pub fn be_lawful(&self)
-        ensures { IsLawful self.now.counts self.now.symbols }
+        ensures { IsLawfulTable self.now.counts self.now.symbols }
     {
         let _ = &self.words;
     }
@@ -130,7 +130,7 @@ impl CodeBook {
     }
 
     fn of(words: Words) -> CodeBook
-        requires { IsLawful words.counts words.symbols }
+        requires { IsLawfulTable words.counts words.symbols }
         ensures { result ≡ words }
     {
         let entries = words.entries();

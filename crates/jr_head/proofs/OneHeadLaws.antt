@@ -21,7 +21,7 @@ use Rattle.jr_head.specs.HuffmanTables.{HuffmanTable, huffman_table_for}
 use Rattle.jr_head.specs.Definitions.{IsComponent, restart_of}
 use Rattle.jr_head.specs.Frames.{components, width, height}
 use Rattle.jr_head.specs.HeadValue.{HeadValue}
-use Rattle.jr_head.specs.Heads.{Passes, IsChain, Defines, HeadOf, EndsWith, RefusalOf, segment_tests, payload_tests, start, start_tests, is_single, HasOneHead, HasOneFault}
+use Rattle.jr_head.specs.Heads.{Passes, IsChain, Defines, HeadOf, EndsWith, RefusalOf, segment_tests, payload_tests, start_of_image, start_tests, is_single, HasOneHead, HasOneFault}
 use Rattle.jr_head.specs.Segments.{Segment, segment_bytes, segment_at, behind_segment, has_frame, framing_tests}
 use Rattle.jr_head.specs.Marks.{kind_of}
 use Rattle.jr_head.specs.Quantisers.{Quantisation, quantiser_for}
@@ -257,7 +257,7 @@ some_walk (suc n) size before bytes few fits small =
 
 -- ---- the whole file
 
-starts_so : (file rest : List ℕ) → length file ≤ MAX_FILE_BYTES → file ≡ start ++ rest → first_fault (start_tests file) ≡ None
+starts_so : (file rest : List ℕ) → length file ≤ MAX_FILE_BYTES → file ≡ start_of_image ++ rest → first_fault (start_tests file) ≡ None
 starts_so file rest small e =
     let short : nat_lt MAX_FILE_BYTES (length file) ≡ false = le-ltb MAX_FILE_BYTES (length file) small in
     let begins : (byte 0 file == PREFIX && byte 1 file == SOI) ≡ true = rw e refl in
@@ -268,7 +268,7 @@ two_tests true b h = absurd cc
 two_tests false false h = absurd cc
 two_tests false true h = (refl, refl)
 
-begins_so : (file : List ℕ) → (byte 0 file == PREFIX && byte 1 file == SOI) ≡ true → file ≡ start ++ drop 2 file
+begins_so : (file : List ℕ) → (byte 0 file == PREFIX && byte 1 file == SOI) ≡ true → file ≡ start_of_image ++ drop 2 file
 begins_so [] h = absurd cc
 begins_so (a ∷ []) h = absurd (let k = (and_parts (a == PREFIX) (byte 1 (a ∷ []) == SOI) h).1 in cc)
 begins_so (a ∷ b ∷ rest) h =
@@ -290,13 +290,13 @@ head_walk file h k = record {
 fault_walk : (file : List ℕ) (f : Refusal) → EndsWith file f → Walk (length file) [] (drop 2 file) (Err f)
 fault_walk file f k = record { segments = k.segments; rest = k.rest; is = ap (drop 2) k.is; chain = k.chain; comes = k.fails }
 
-walk_head : (file : List ℕ) (h : HeadValue) → length file ≤ MAX_FILE_BYTES → file ≡ start ++ drop 2 file → Walk (length file) [] (drop 2 file) (Ok h) → HeadOf file h
+walk_head : (file : List ℕ) (h : HeadValue) → length file ≤ MAX_FILE_BYTES → file ≡ start_of_image ++ drop 2 file → Walk (length file) [] (drop 2 file) (Ok h) → HeadOf file h
 walk_head file h small e w = record {
   segments = w.segments;
   scan = w.comes.scan;
   rest = w.comes.rest;
   small = small;
-  is = e ∙ ap (λ (t : List ℕ). start ++ t) (w.is ∙ ap (λ (t : List ℕ). flat_map segment_bytes w.segments ++ t) w.comes.is);
+  is = e ∙ ap (λ (t : List ℕ). start_of_image ++ t) (w.is ∙ ap (λ (t : List ℕ). flat_map segment_bytes w.segments ++ t) w.comes.is);
   chain = w.chain;
   is_scan = w.comes.is_scan;
   passes = w.comes.passes;
@@ -304,8 +304,8 @@ walk_head file h small e w = record {
   scan_at = w.comes.scan_at;
 }
 
-walk_fault : (file : List ℕ) (f : Refusal) → first_fault (start_tests file) ≡ None → file ≡ start ++ drop 2 file → Walk (length file) [] (drop 2 file) (Err f) → EndsWith file f
-walk_fault file f starts e w = record { segments = w.segments; rest = w.rest; starts = starts; is = e ∙ ap (λ (t : List ℕ). start ++ t) w.is; chain = w.chain; fails = w.comes }
+walk_fault : (file : List ℕ) (f : Refusal) → first_fault (start_tests file) ≡ None → file ≡ start_of_image ++ drop 2 file → Walk (length file) [] (drop 2 file) (Err f) → EndsWith file f
+walk_fault file f starts e w = record { segments = w.segments; rest = w.rest; starts = starts; is = e ∙ ap (λ (t : List ℕ). start_of_image ++ t) w.is; chain = w.chain; fails = w.comes }
 
 abbrev OneOf : List ℕ → Type 0
 OneOf file = HasOneHead file ⊎ HasOneFault file
@@ -341,7 +341,7 @@ at_start file f e = inr record {
   no_head = λ h k. none_some (first_fault (start_tests file)) f (starts_so file (flat_map segment_bytes k.segments ++ (segment_bytes k.scan ++ k.rest)) k.small k.is) e;
 }
 
-by_walk : (file : List ℕ) (r : Result HeadValue Refusal) → first_fault (start_tests file) ≡ None → length file ≤ MAX_FILE_BYTES → file ≡ start ++ drop 2 file → Walk (length file) [] (drop 2 file) r → OneOf file
+by_walk : (file : List ℕ) (r : Result HeadValue Refusal) → first_fault (start_tests file) ≡ None → length file ≤ MAX_FILE_BYTES → file ≡ start_of_image ++ drop 2 file → Walk (length file) [] (drop 2 file) r → OneOf file
 by_walk file (Ok h) starts small e w = inl record {
   head = h;
   is_head = walk_head file h small e w;
@@ -360,7 +360,7 @@ after_start : (file : List ℕ) → IsBytes file → first_fault (start_tests fi
 after_start file fits starts =
     let t = two_tests (nat_lt MAX_FILE_BYTES (length file)) (byte 0 file == PREFIX && byte 1 file == SOI) starts in
     let small : length file ≤ MAX_FILE_BYTES = ltb-false MAX_FILE_BYTES (length file) t.0 in
-    let e : file ≡ start ++ drop 2 file = begins_so file t.1 in
+    let e : file ≡ start_of_image ++ drop 2 file = begins_so file t.1 in
     let short : length (drop 2 file) ≤ length file = omega (arith, length-drop 2 file) in
     let w = some_walk (suc (length (drop 2 file))) (length file) [] (drop 2 file) (omega arith) (IsBytes-drop 2 file fits) short in
     by_walk file w.0 starts small e w.1

@@ -11,7 +11,7 @@ use Rattle.jr_head.specs.Bytes.{byte, high, low}
 use Rattle.jr_head.specs.HuffmanTables.{HuffmanTable, huffman_table_len}
 use Rattle.jr_head.specs.Frames.{frame_tests, components}
 use Rattle.jr_head.specs.HeadValue.{HeadValue}
-use Rattle.jr_head.specs.Heads.{Defines, start}
+use Rattle.jr_head.specs.Heads.{Defines, start_of_image}
 use Rattle.jr_head.specs.Segments.{Segment, segment_bytes, is_not_baseline, is_other, has_frame}
 use Rattle.jr_head.specs.Restart.{restart_tests}
 use Rattle.jr_head.specs.Quantisers.{Quantisation}
@@ -83,7 +83,7 @@ pub record BaselineHeadOf (file : List ℕ) (h : HeadValue) : Type 0 where
   pub scan : Segment
   pub rest : List ℕ
   pub small : length file ≤ MAX_FILE_BYTES
-  pub is : file ≡ start ++ (flat_map segment_bytes segments ++ (segment_bytes scan ++ rest))
+  pub is : file ≡ start_of_image ++ (flat_map segment_bytes segments ++ (segment_bytes scan ++ rest))
   pub chain : IsBaselineChain [] segments
   pub is_scan : scan.code ≡ SOS
   pub passes : PassesBaseline segments scan
