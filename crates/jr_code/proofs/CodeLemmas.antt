@@ -13,7 +13,7 @@ use Rattle.std.proofs.lemmas.List.Sums.{sum_by-append, sum_by-cons, sum_by_more,
 use Rattle.std.proofs.lemmas.Option.{slice_get_within, get_or_from_slice_get}
 use Rattle.std.proofs.Math.Nat.{mul_assoc, mul_comm, add-mul, pow-suc, lt_of_mul-lt-mul_right, mul-div_left, mul-lt-mul_of_pos_right, mod-eq_of_lt}
 use Rattle.jr_code.specs.Bits.{number, bits_of}
-use Rattle.jr_code.specs.Code.{Table, IsWord, IsLawful, lengths_from, lengths, room, space}
+use Rattle.jr_code.specs.Code.{Table, IsWord, IsLawfulTable, lengths_from, lengths, room, space}
 use Rattle.jr_code.proofs.BitLemmas.{number_below, length-bits_of, number-bits_of, number-append, slice_get-append_left, slice_get-append_right}
 
 pub length-lengths : (l : ℕ) (cs : List ℕ) → length (lengths_from l cs) ≡ sum cs
@@ -286,7 +286,7 @@ one_word t a b x y s u v w e = ⊎_elim
     (cases_lt (length a) (length b))
 
 -- each place of a lawful table has a word
-pub word_exists : (t : Table) (place s : ℕ) → IsLawful t.counts t.symbols → slice_get t.symbols place ≡ Some s
+pub word_exists : (t : Table) (place s : ℕ) → IsLawfulTable t.counts t.symbols → slice_get t.symbols place ≡ Some s
     → (word : List Bool) × (w : IsWord t word s) × (w.place ≡ place)
 unfolding space
 word_exists t place s lawful known =

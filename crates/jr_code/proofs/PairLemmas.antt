@@ -3,7 +3,7 @@ use Rattle.std.proofs.Common.{◌≡◌, ℕ, ◌+◌, ◌*◌, ◌/◌, ◌%◌
 use Rattle.std.specs.Prelude.{◌⊎◌, Option, Some, None, IsSome, IfSome, ℤ}
 use Rattle.std.proofs.lemmas.Bool.{cases_lt}
 use Rattle.std.proofs.lemmas.List.{append-nil, append_cancel_left, drop-append-le, drop-drop, length-drop, length-take-le, take-append-drop, take-append-le, take_at}
-use Rattle.jr_code.specs.Bits.{bits, bits_of, filled, value}
+use Rattle.jr_code.specs.Bits.{bits, bits_of, window_of, value}
 use Rattle.jr_code.specs.Code.{Table, IsWord, IsPair, IsPrefixFree, HasNoFront, HasNoExtended, TakesExtended}
 use Rattle.jr_code.specs.declared.words.Extended.{Extended}
 use Rattle.jr_code.proofs.BitLemmas.{length-bits_of}
@@ -71,7 +71,7 @@ pair_read t w s n m v bs e is size enough is_value short =
     taken_less t (bits_of 10 w) (bits_of 6 (w % 4 * 64)) s (n + m) v (omega (arith, short, length-bits_of 10 w)) (subst (λ b. TakesExtended t s v b (drop (n + m) b)) same both)
 
 -- the pair of ten bits is in front where there are ten bits and more
-pub pair_word : (t : Table) (bs : List Bool) (w count : ℕ) (r : Option Extended) → bits_of 10 w ≡ filled 10 bs → 10 ≤ count → count ≤ length bs → IsPair t w r
+pub pair_word : (t : Table) (bs : List Bool) (w count : ℕ) (r : Option Extended) → bits_of 10 w ≡ window_of 10 bs → 10 ≤ count → count ≤ length bs → IsPair t w r
     → IfSome r (λ x. (x.long ≤ count) × TakesExtended t x.symbol x.value bs (drop x.long bs))
 pair_word t bs w count None e many all p = tt
 pair_word t bs w count (Some x) e many all p =

@@ -7,8 +7,8 @@ use Rattle.std.proofs.lemmas.List.{append-nil, take-take, length-take-le, take-a
 use Rattle.std.proofs.lemmas.List.Sums.{sum_by_more_le}
 use Rattle.std.proofs.lemmas.Option.{slice_get_read}
 use Rattle.std.proofs.Math.Nat.{mul_assoc, mul_comm, le-mul_of_pos_right, pow-le-pow_right, mod-eq_of_lt}
-use Rattle.jr_code.specs.Bits.{number, bits_of, filled}
-use Rattle.jr_code.specs.Code.{IsEntry, Table, HasNoFront, IsFrontWhereWhole, IsWord, IsLawful, lengths_from, lengths, room, space}
+use Rattle.jr_code.specs.Bits.{number, bits_of, window_of}
+use Rattle.jr_code.specs.Code.{IsEntry, Table, HasNoFront, IsFrontWhereWhole, IsWord, IsLawfulTable, lengths_from, lengths, room, space}
 use Rattle.jr_code.proofs.BitLemmas.{number-take_zero, length-bits_of, number-bits_of}
 use Rattle.jr_code.proofs.RegisterLemmas.{take-held}
 use Rattle.jr_code.proofs.CodeLemmas.{lengths-append, space-append, space_more, stands, found, room_halves, doubled, space-nil, whole, room_pos, div_room, same_times, spelled, one_word}
@@ -101,34 +101,34 @@ reached_none t bs = record {
 
 -- ---- windows: the next n bits, where zeros stand for those that are missing
 
-take-filled : (k n : ℕ) (bs : List Bool) → k ≤ n → k ≤ length bs → take k (filled n bs) ≡ take k bs
-take-filled k n bs h e = take-take k n (bs ++ replicate n false) h ∙ take-append-le k bs (replicate n false) e
+take-window : (k n : ℕ) (bs : List Bool) → k ≤ n → k ≤ length bs → take k (window_of n bs) ≡ take k bs
+take-window k n bs h e = take-take k n (bs ++ replicate n false) h ∙ take-append-le k bs (replicate n false) e
 
 -- a word that begins what is left, and is no longer than the window, begins the window
-begins_filled : (n : ℕ) (bs word rest : List Bool) → bs ≡ word ++ rest → length word ≤ n → filled n bs ≡ word ++ drop (length word) (filled n bs)
-begins_filled n bs word rest e h =
+begins_window : (n : ℕ) (bs word rest : List Bool) → bs ≡ word ++ rest → length word ≤ n → window_of n bs ≡ word ++ drop (length word) (window_of n bs)
+begins_window n bs word rest e h =
     let fits : length word ≤ length bs = omega (arith, ap length e, length-append word rest) in
-    let front : take (length word) (filled n bs) ≡ word = take-filled (length word) n bs h fits ∙ ap (λ b. take (length word) b) e ∙ take_at word rest (length word) refl in
-    sym (take-append-drop (length word) (filled n bs)) ∙ ap (λ f. f ++ drop (length word) (filled n bs)) front
+    let front : take (length word) (window_of n bs) ≡ word = take-window (length word) n bs h fits ∙ ap (λ b. take (length word) b) e ∙ take_at word rest (length word) refl in
+    sym (take-append-drop (length word) (window_of n bs)) ∙ ap (λ f. f ++ drop (length word) (window_of n bs)) front
 
 -- a window's word is in front where it is whole; where it is cut off there is none, for no word is a front of another
-pub window_word : (n : ℕ) (t : Table) (bs : List Bool) (w s long : ℕ) → bits_of n w ≡ filled n bs → long ≤ n → IsWord t (take long (bits_of n w)) s → IsFrontWhereWhole t bs s long
+pub window_word : (n : ℕ) (t : Table) (bs : List Bool) (w s long : ℕ) → bits_of n w ≡ window_of n bs → long ≤ n → IsWord t (take long (bits_of n w)) s → IsFrontWhereWhole t bs s long
 window_word n t bs w s long e h is = (
-  λ fits. rw (← take-filled long n bs h fits, ← e) is,
+  λ fits. rw (← take-window long n bs h fits, ← e) is,
   λ cut word rest u v begins.
       let fits : length word ≤ length bs = omega (arith, ap length begins, length-append word rest) in
-      let same = one_word t (take long (bits_of n w)) word (drop long (bits_of n w)) (drop (length word) (filled n bs)) s u is v
-      (take-append-drop long (bits_of n w) ∙ e ∙ begins_filled n bs word rest begins (omega arith)) in
+      let same = one_word t (take long (bits_of n w)) word (drop long (bits_of n w)) (drop (length word) (window_of n bs)) s u is v
+      (take-append-drop long (bits_of n w) ∙ e ∙ begins_window n bs word rest begins (omega arith)) in
       let full : length (take long (bits_of n w)) ≡ long = length-take-le long (bits_of n w) (omega (arith, h, length-bits_of n w)) in
       omega (arith, ap length same.0),
 )
 
 -- no short word and no long one in front
-pub window_none : (t : Table) (bs : List Bool) (byte w : ℕ) → bits_of 8 byte ≡ filled 8 bs → IsEntry t byte None → bits_of 16 w ≡ filled 16 bs
+pub window_none : (t : Table) (bs : List Bool) (byte w : ℕ) → bits_of 8 byte ≡ window_of 8 bs → IsEntry t byte None → bits_of 16 w ≡ window_of 16 bs
     → ((word rest : List Bool) (s : ℕ) → IsWord t word s → bits_of 16 w ≡ word ++ rest → length word ≤ 8) → HasNoFront t bs
 window_none t bs byte w e none f short = λ word rest s is begins.
-    let few : length word ≤ 8 = short word (drop (length word) (filled 16 bs)) s is (f ∙ begins_filled 16 bs word rest begins is.short) in
-    none word (drop (length word) (filled 8 bs)) s is (e ∙ begins_filled 8 bs word rest begins few)
+    let few : length word ≤ 8 = short word (drop (length word) (window_of 16 bs)) s is (f ∙ begins_window 16 bs word rest begins is.short) in
+    none word (drop (length word) (window_of 8 bs)) s is (e ∙ begins_window 8 bs word rest begins few)
 
 -- the number of a front of a window
 pub number_window : (n w : ℕ) → n ≤ 16 → w < 65536 → number (take n (bits_of 16 w)) ≡ w / 2 ^ (16 - n)
@@ -185,18 +185,18 @@ long_none t w k first fits short within e past word rest s is begins longer =
           (λ m small same. past m small (omega (arith, same, f.1))) is begins (omega (arith, longer)),
     )
 
-pub long_word : (t : Table) (bs : List Bool) (w : ℕ) (r : Option (ℕ × ℕ)) → bits_of 16 w ≡ filled 16 bs → IfSome r (λ f. (f.1 ≤ 16) × IsWord t (take f.1 (bits_of 16 w)) f.0)
+pub long_word : (t : Table) (bs : List Bool) (w : ℕ) (r : Option (ℕ × ℕ)) → bits_of 16 w ≡ window_of 16 bs → IfSome r (λ f. (f.1 ≤ 16) × IsWord t (take f.1 (bits_of 16 w)) f.0)
     → IfSome r (λ f. IsFrontWhereWhole t bs f.0 f.1)
 long_word t bs w None e is = is
 long_word t bs w (Some f) e is = window_word 16 t bs w f.0 f.1 e is.0 is.1
 
-pub no_word : (t : Table) (bs : List Bool) (byte w : ℕ) (r : Option (ℕ × ℕ)) → bits_of 8 byte ≡ filled 8 bs → IsEntry t byte None → bits_of 16 w ≡ filled 16 bs
+pub no_word : (t : Table) (bs : List Bool) (byte w : ℕ) (r : Option (ℕ × ℕ)) → bits_of 8 byte ≡ window_of 8 bs → IsEntry t byte None → bits_of 16 w ≡ window_of 16 bs
     → IfNone r ((word rest : List Bool) (s : ℕ) → IsWord t word s → bits_of 16 w ≡ word ++ rest → length word ≤ 8) → IfNone r (HasNoFront t bs)
 no_word t bs byte w None e none f short = window_none t bs byte w e none f short
 no_word t bs byte w (Some g) e none f short = short
 
 -- a byte's word is in front where there are eight bits and more
-pub entry_word : (t : Table) (bs : List Bool) (byte count : ℕ) (r : Option (ℕ × ℕ)) → bits_of 8 byte ≡ filled 8 bs → 8 ≤ count → count ≤ length bs → IsEntry t byte r
+pub entry_word : (t : Table) (bs : List Bool) (byte count : ℕ) (r : Option (ℕ × ℕ)) → bits_of 8 byte ≡ window_of 8 bs → 8 ≤ count → count ≤ length bs → IsEntry t byte r
     → IfSome r (λ f. (f.1 ≤ count) × IsWord t (take f.1 bs) f.0)
 entry_word t bs byte count None e many all entry = tt
 entry_word t bs byte count (Some f) e many all entry =
@@ -228,7 +228,7 @@ pub place_within : (t : Table) (i shorter k : ℕ) → sum t.counts ≡ length t
     → shorter + k < length t.symbols
 place_within t i shorter k each within is small = omega (arith, each, is, small, sum_by_more_le (λ n. n) t.counts i 0 within)
 
-pub end_below : (t : Table) (i end : ℕ) → IsLawful t.counts t.symbols → end * room i ≡ space (lengths (take i t.counts)) → end ≤ 65536
+pub end_below : (t : Table) (i end : ℕ) → IsLawfulTable t.counts t.symbols → end * room i ≡ space (lengths (take i t.counts)) → end ≤ 65536
 end_below t i end lawful full =
     let split : space (lengths t.counts) ≡ space (lengths (take i t.counts)) + space (lengths_from (1 + length (take i t.counts)) (drop i t.counts)) =
     ap (λ c. space (lengths c)) (sym (take-append-drop i t.counts)) ∙ ap space (lengths-append 1 (take i t.counts) (drop i t.counts))

@@ -8,7 +8,7 @@ use Rattle.std.proofs.lemmas.List.Concat.{flat_map-append}
 use Rattle.std.proofs.Math.Pow.{mod-mod-pow}
 use Rattle.std.proofs.Math.Nat.{mul-mod_left, mod-eq_of_lt}
 use Rattle.std.proofs.Math.Seq.{take-append-add, drop-append_seam}
-use Rattle.jr_code.specs.Bits.{number, bits_of, bits, filled}
+use Rattle.jr_code.specs.Bits.{number, bits_of, bits, window_of}
 use Rattle.jr_code.proofs.BitLemmas.{same_bits, length-bits_of, length-bits, number-bits_of, number-append, bits_of-number, slice_get-bits_of, slice_get-append_left, slice_get-append_right}
 
 -- bits are those of the number below 2 ^ k
@@ -109,7 +109,7 @@ length-held count held rest = omega (arith, length-append (bits_of count held) (
 
 -- a window that is whole
 pub window_whole : (n v count held : ℕ) (rest : List ℕ) → n ≤ count → v ≡ number (take n (bits_of count held ++ bits rest))
-    → bits_of n v ≡ filled n (bits_of count held ++ bits rest)
+    → bits_of n v ≡ window_of n (bits_of count held ++ bits rest)
 window_whole n v count held rest h e =
     let bs = bits_of count held ++ bits rest in
     let enough : n ≤ length bs = omega (arith, length-held count held rest) in
@@ -125,7 +125,7 @@ bits_of-zero (suc k) =
 
 -- a window of which the last bits are missing
 pub window_cut : (n count held : ℕ) (rest : List ℕ) → n ≤ 16 → count < n → rest ≡ []
-    → bits_of n (bit_and (held * 2 ^ (n - count) % 2 ^ 64) (1 * 2 ^ n % 2 ^ 64 - 1)) ≡ filled n (bits_of count held ++ bits rest)
+    → bits_of n (bit_and (held * 2 ^ (n - count) % 2 ^ 64) (1 * 2 ^ n % 2 ^ 64 - 1)) ≡ window_of n (bits_of count held ++ bits rest)
 window_cut n count held rest short h none =
     let k = n - count in
     let e : count + k ≡ n = omega arith in

@@ -1,16 +1,16 @@
 //! Code tables of a JPEG file.
 
-ghost use Rattle.std.specs.Prelude.{◌≡◌, ◌≢◌, ◌<◌, ◌≤◌, ◌↔◌, ◌++◌, ℕ, List, Bool, IsTrue, [], IfSome, IfNone, IfOk, OnOk, take, drop, sum};
+ghost use Rattle.std.specs.Prelude.{◌≡◌, ◌≢◌, ◌<◌, ◌≤◌, ◌↔◌, ◌++◌, ℕ, List, Bool, IsTrue, [], length, IfSome, IfNone, IfOk, OnOk, take, drop, sum};
 ghost use Rattle.std.proofs.Common.{rules};
 ghost use Rattle.std.specs.Cmp.Rules.{comparing};
-ghost use Rattle.jr_code.specs.Code.{same_table, Table, IsWord, IsLawful, HasTooMany, IsOverfull, space, lengths, AreEntries, ArePairs, AreLong, IsFrontWhereWhole, HasNoFront, TakesExtended, HasNoExtended, IsPrefixFree};
+ghost use Rattle.jr_code.specs.Code.{same_table, Table, IsWord, IsLawfulTable, HasTooMany, IsOverfull, space, lengths, AreEntries, ArePairs, AreLong, IsFrontWhereWhole, HasNoFront, TakesExtended, HasNoExtended, IsInFront, IsPrefixFree};
 ghost use Rattle.jr_code.specs.Bits.{bits_of};
 ghost use Rattle.jr_code.specs.Register.{bits_in};
 
 use crate::bits::Bits;
-use jr_base::Memory;
 use crate::register::Register;
 use crate::words::{Extended, Words};
+use jr_base::Memory;
 use std::alloc::Global;
 use std::marker::Model;
 use thiserror::Error;
@@ -43,13 +43,13 @@ pub struct CodeBook {
 }
 
 impl Model for CodeBook {
-    ghost use Rattle.jr_code.specs.Code.{Table, IsLawful, AreEntries, ArePairs, AreLong};
+    ghost use Rattle.jr_code.specs.Code.{Table, IsLawfulTable, AreEntries, ArePairs, AreLong};
 
     ghost Value = { Table };
 
     ghost view = { λ b. b.words };
 
-    ghost invariant = { λ b. AreEntries b.words b.entries × AreLong b.words b.long × ArePairs b.words b.pairs × IsLawful b.words.counts b.words.symbols };
+    ghost invariant = { λ b. AreEntries b.words b.entries × AreLong b.words b.long × ArePairs b.words b.pairs × IsLawfulTable b.words.counts b.words.symbols };
 }
 
 impl PartialEq for CodeBook {
@@ -74,14 +74,31 @@ impl CodeBook {
     /// and Annex C). A symbol may stand twice, the word of all ones may be assigned, and a table may be empty.
     pub fn new(alloc: Global, counts: &[u8; 16], symbols: &[u8]) -> Result<CodeBook, CodeFault>
         ensures book { IfOk result (λ b. b ≡ record { counts = counts.now; symbols = symbols.now }) }
-        ensures lawful { OnOk result (IsLawful counts.now symbols.now) }
+        ensures lawful { OnOk result (IsLawfulTable counts.now symbols.now) }
         ensures too_many { (result ≡ Err CodeFault.TooMany) ↔ HasTooMany counts.now symbols.now }
         ensures overfull { (result ≡ Err CodeFault.Overfull) ↔ (IsOverfull counts.now × ¬ HasTooMany counts.now symbols.now) }
     {
-        let (total, space) = sums(counts);
+        let total = word_count(counts);
         if total > 256 || total as usize != symbols.len() {
             return Err(CodeFault::TooMany);
         }
+        CodeBook::with_symbols(alloc, counts, symbols)
+    }
+
+    /// The table of these counts and of one symbol for each word, for callers that have added up the counts.
+    pub fn with_symbols(
+        alloc: Global,
+        counts: &[u8; 16],
+        symbols: &[u8],
+    ) -> Result<CodeBook, CodeFault>
+        requires each { sum counts.now ≡ length symbols.now }
+        requires few { length symbols.now ≤ 256 }
+        ensures book { IfOk result (λ b. b ≡ record { counts = counts.now; symbols = symbols.now }) }
+        ensures lawful { OnOk result (IsLawfulTable counts.now symbols.now) }
+        ensures enough { result ≢ Err CodeFault.TooMany }
+        ensures overfull { (result ≡ Err CodeFault.Overfull) ↔ IsOverfull counts.now }
+    {
+        let space = space_of(counts);
         if space > 65536 {
             return Err(CodeFault::Overfull);
         }
@@ -95,7 +112,7 @@ impl CodeBook {
 
     /// What holds of every book, for callers that rest on it: it is a lawful table (T.81, Annex C).
     pub fn be_lawful(&self)
-        ensures { IsLawful self.now.counts self.now.symbols }
+        ensures { IsLawfulTable self.now.counts self.now.symbols }
     {
         let _ = &self.words;
     }
@@ -113,7 +130,7 @@ impl CodeBook {
     }
 
     fn of(words: Words) -> CodeBook
-        requires { IsLawful words.counts words.symbols }
+        requires { IsLawfulTable words.counts words.symbols }
         ensures { result ≡ words }
     {
         let entries = words.entries();
@@ -182,7 +199,7 @@ impl CodeBook {
     #[inline(always)]
     fn short_pair(&self, register: Register) -> Option<Extended>
         requires { 32 ≤ register.count }
-        ensures { IfSome result (λ e. (e.long ≤ register.entry.count) × TakesExtended self.now e.symbol e.value (bits_in register.entry) (drop e.long (bits_in register.entry))) }
+        ensures { IfSome result (λ e. IsInFront self.now e register.entry.count (bits_in register.entry)) }
     {
         self.pairs[register.front(10) as usize]
     }
@@ -193,7 +210,7 @@ impl CodeBook {
     #[inline(never)]
     fn rare_pair(&self, held: u64, count: u32) -> Option<Extended>
         requires { count < 64 }
-        ensures found { IfSome result (λ e. (e.long ≤ count) × TakesExtended self.now e.symbol e.value (bits_of count held) (drop e.long (bits_of count held))) }
+        ensures found { IfSome result (λ e. IsInFront self.now e count (bits_of count held)) }
         ensures none { IfNone result (HasNoExtended self.now (bits_of count held)) }
     {
         let (symbol, long) = self.rare_word(held, count)?;
@@ -259,17 +276,26 @@ impl CodeBook {
     }
 }
 
-/// How many words there are, and their room.
-fn sums(counts: &[u8; 16]) -> (u32, u32)
-    ensures total { result.0 ≡ sum counts.now }
-    ensures space { result.1 ≡ space (lengths counts.now) }
+/// How many words there are, where `counts[i]` have i + 1 bits.
+pub fn word_count(counts: &[u8; 16]) -> u32
+    ensures value { result ≡ sum counts.now }
+    ensures few { result ≤ 4080 }
 {
     let mut total: u32 = 0;
+    for count in counts {
+        total += u32::from(*count);
+    }
+    total
+}
+
+/// The rooms of all words together.
+fn space_of(counts: &[u8; 16]) -> u32
+    ensures { result ≡ space (lengths counts.now) }
+{
     let mut space: u32 = 0;
     for i in 0..16usize {
         let count = u32::from(counts[i]);
-        total += count;
         space += count << (15 - i);
     }
-    (total, space)
+    space
 }

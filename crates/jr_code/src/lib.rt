@@ -8,7 +8,7 @@ mod register;
 mod words;
 
 pub use bits::Bits;
-pub use book::{CodeBook, CodeFault};
+pub use book::{CodeBook, CodeFault, word_count};
 pub use jr_base::Memory;
 pub use laws::{each_place_has_a_word, one_word, same_table_tells};
 

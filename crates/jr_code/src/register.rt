@@ -1,7 +1,7 @@
 //! The bits of a byte slice, by way of a register that is refilled by whole words.
 
 ghost use Rattle.std.specs.Prelude.{◌≡◌, ◌<◌, ◌≤◌, ◌+◌, ◌*◌, ◌^◌, ◌⊎◌, ◌↔◌, length, IsSome, IfSome, drop, take, slice_get, Some, [], ◌∷◌, ◌++◌, ℕ};
-ghost use Rattle.jr_code.specs.Bits.{bits, bits_of, number, filled};
+ghost use Rattle.jr_code.specs.Bits.{bits, bits_of, number, window_of};
 
 /// The last `count` bits of `held`, and behind them those of `rest`. Other bits of `held` mean nothing.
 #[derive(Clone, Copy)]
@@ -93,7 +93,7 @@ impl<'a> Register<'a> {
     pub(crate) fn window(self, n: u32) -> u64
         requires short { n ≤ 16 }
         requires all { self.rest.now ≡ [] }
-        ensures front { bits_of n result ≡ filled n (bits_in self.entry) }
+        ensures front { bits_of n result ≡ window_of n (bits_in self.entry) }
         ensures small { result < 2 ^ n }
     {
         if n <= self.count {

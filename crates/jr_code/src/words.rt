@@ -26,13 +26,13 @@ pub(crate) struct Words {
 }
 
 impl Model for Words {
-    ghost use Rattle.jr_code.specs.Code.{Table, IsLawful};
+    ghost use Rattle.jr_code.specs.Code.{Table, IsLawfulTable};
 
     ghost Value = { Table };
 
     ghost view = { λ b. record { counts = b.counts; symbols = b.symbols.items } };
 
-    ghost invariant = { λ b. IsLawful b.counts b.symbols.items };
+    ghost invariant = { λ b. IsLawfulTable b.counts b.symbols.items };
 }
 
 impl Words {

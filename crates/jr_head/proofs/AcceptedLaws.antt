@@ -15,7 +15,7 @@ use Rattle.jr_head.specs.declared.mark.Kind.{Kind}
 use Rattle.jr_head.specs.declared.mark.Kind.TheVariants.{Grey, Rgb, Ycc}
 use Rattle.jr_head.specs.Bytes.{byte}
 use Rattle.jr_head.specs.Frames.{components_in, components, is_factor, have_factors, divides, is_ill_sampled, blocks, IsAccepted}
-use Rattle.jr_head.specs.Frames.{horizontal_max as frame_across, vertical_max as frame_down}
+use Rattle.jr_head.specs.Frames.{greatest_horizontal as frame_across, greatest_vertical as frame_down}
 use Rattle.jr_head.specs.Geometry.{no_component, units_of, component_count, greatest_across, greatest_down, IsSampled, IsSubsampled, IsCoded, AreLawful}
 use Rattle.jr_head.specs.Marks.{kind_by}
 use Rattle.jr_head.specs.Definitions.{HasFactors, HaveFactors}

@@ -10,20 +10,21 @@ use Rattle.std.proofs.lemmas.Grind.{flat_map-append}
 use Rattle.std.proofs.lemmas.List.Folds.{list_any-append}
 use Rattle.jr_code.specs.Code.{space, lengths}
 use Rattle.jr_base.specs.declared.marker.TheConstants.{DHT, DQT, DRI, SOF0, SOF1, SOS}
+use Rattle.jr_head.specs.Restart.{restart_tests}
 use Rattle.jr_head.specs.declared.frame.FrameComponent.{FrameComponent}
 use Rattle.jr_head.specs.declared.quantiser.Quantiser.{Quantiser}
 use Rattle.jr_head.specs.declared.refusal.Refusal.{Refusal}
 use Rattle.jr_head.specs.declared.refusal.Refusal.TheVariants.{BadLength, BadQuantTable, BadCodeTable, BadScanHeader, MissingTable, NotBaseline, SecondFrame, NoFrame, UnexpectedMarker}
 use Rattle.jr_head.specs.declared.scan.Selector.{Selector}
-use Rattle.jr_head.specs.Baseline.{baseline_code_tests, baseline_quantisation_tests, baseline_coding_tests, baseline_scan_tests, baseline_payload_tests, is_ill_selected_baseline, PassesBaseline, IsBaselineChain, BaselineHeadOf}
+use Rattle.jr_head.specs.Baseline.{baseline_code_tests, baseline_quantisation_tests, baseline_huffman_table_tests, baseline_scan_tests, baseline_payload_tests, is_ill_selected_baseline, PassesBaseline, IsBaselineChain, BaselineHeadOf}
 use Rattle.jr_head.specs.Bytes.{byte, high, low}
-use Rattle.jr_head.specs.Codes.{Coding, coding_len, coding_tests, codings_tests}
+use Rattle.jr_head.specs.HuffmanTables.{HuffmanTable, huffman_table_len, huffman_table_tests, huffman_tables_tests}
 use Rattle.jr_head.specs.Frames.{frame_tests, components}
 use Rattle.jr_head.specs.HeadValue.{HeadValue}
 use Rattle.jr_head.specs.Heads.{Passes, IsChain, HeadOf, payload_tests}
-use Rattle.jr_head.specs.Items.{Item, code_tests, frame_in, has_frame, is_frame, is_known, is_other, is_not_baseline}
+use Rattle.jr_head.specs.Segments.{Segment, code_tests, frame_in, has_frame, is_frame, is_known, is_other, is_not_baseline}
 use Rattle.jr_head.specs.Quantisers.{Quantisation, quantisation, quantisations, quantisation_tests, quantisations_tests, quantiser_for, elements_len}
-use Rattle.jr_head.specs.Scans.{all_quantisations, all_codings, frame_item, used, is_missing, is_whole, has_wide, is_ill_selected, header_tests, table_tests, scan_tests}
+use Rattle.jr_head.specs.Scans.{all_quantisations, all_huffman_tables, frame_segment, scan_components, is_missing, is_whole, has_wide, is_ill_selected, header_tests, table_tests, scan_tests}
 use Rattle.jr_head.specs.Tables.{tables, tables_after, last_where}
 use Rattle.jr_head.specs.Tests.{Test, ◌when◌, first_fault}
 use Rattle.jr_head.proofs.TableLaws.{last_push}
@@ -81,13 +82,13 @@ quantisers_pass zero (b ∷ bs) h =
 
 -- ---- code tables
 
-one_coding : (t : ℕ × List ℕ) → first_fault (baseline_coding_tests t) ≡ None → first_fault (coding_tests t) ≡ None
-unfolding baseline_coding_tests coding_tests
-one_coding t h =
+one_huffman_table : (t : ℕ × List ℕ) → first_fault (baseline_huffman_table_tests t) ≡ None → first_fault (huffman_table_tests t) ≡ None
+unfolding baseline_huffman_table_tests huffman_table_tests
+one_huffman_table t h =
     let more =
     (BadLength DHT when nat_lt (length t.1) 16)
     ∷ (BadCodeTable when nat_lt 256 (sum (take 16 t.1)))
-    ∷ (BadLength DHT when nat_lt (length t.1) (coding_len t.1))
+    ∷ (BadLength DHT when nat_lt (length t.1) (huffman_table_len t.1))
     ∷ (BadCodeTable when nat_lt 65536 (space (lengths (take 16 t.1))))
     ∷ [] in
     let first = passes_first (BadCodeTable when (nat_lt 1 (high t.0) || nat_lt 1 (low t.0))) more h in
@@ -96,11 +97,11 @@ one_coding t h =
     let low_fits : nat_lt 3 (low t.0) ≡ false = le-ltb 3 (low t.0) (omega (arith, near)) in
     passes_on (BadCodeTable when (nat_lt 1 (high t.0) || nat_lt 3 (low t.0))) more (rw (both.0, low_fits) refl) first.1
 
-codings_pass : (l : List (ℕ × List ℕ)) → first_fault (flat_map baseline_coding_tests l) ≡ None → first_fault (flat_map coding_tests l) ≡ None
-codings_pass [] h = refl
-codings_pass (t ∷ l) h =
-    let both = passes_parts (baseline_coding_tests t) (flat_map baseline_coding_tests l) (rw (flat_map-cons baseline_coding_tests t l) at h) in
-    ap first_fault (flat_map-cons coding_tests t l) ∙ none_both (coding_tests t) (flat_map coding_tests l) (one_coding t both.0) (codings_pass l both.1)
+huffman_tables_pass : (l : List (ℕ × List ℕ)) → first_fault (flat_map baseline_huffman_table_tests l) ≡ None → first_fault (flat_map huffman_table_tests l) ≡ None
+huffman_tables_pass [] h = refl
+huffman_tables_pass (t ∷ l) h =
+    let both = passes_parts (baseline_huffman_table_tests t) (flat_map baseline_huffman_table_tests l) (rw (flat_map-cons baseline_huffman_table_tests t l) at h) in
+    ap first_fault (flat_map-cons huffman_table_tests t l) ∙ none_both (huffman_table_tests t) (flat_map huffman_table_tests l) (one_huffman_table t both.0) (huffman_tables_pass l both.1)
 
 -- ---- codes
 
@@ -157,11 +158,11 @@ unfolding has_wide quantiser_for
 none_wide qs [] h = refl
 none_wide qs (u ∷ us) h = rw (last_narrow (λ d. d.destination == u.0.quantiser) qs h, none_wide qs us h) refl
 
-scan_pass : (code : ℕ) (cs : List FrameComponent) (qs : List Quantisation) (ds : List Coding) (p : List ℕ) → code ≡ SOF0 → list_any is_wide_definition qs ≡ false
+scan_pass : (code : ℕ) (cs : List FrameComponent) (qs : List Quantisation) (ds : List HuffmanTable) (p : List ℕ) → code ≡ SOF0 → list_any is_wide_definition qs ≡ false
     → first_fault (baseline_scan_tests cs qs ds p) ≡ None → first_fault (scan_tests code cs qs ds p) ≡ None
 unfolding baseline_scan_tests scan_tests header_tests table_tests is_ill_selected
 scan_pass code cs qs ds p c narrow h =
-    let us = used cs p in
+    let us = scan_components cs p in
     let header =
     (BadLength SOS when (length p == 0))
     ∷ (BadScanHeader when not (byte 0 p == length cs))
@@ -177,10 +178,10 @@ scan_pass code cs qs ds p c narrow h =
 
 -- ---- all payloads
 
--- what the items of a baseline file have
-record IsNarrow (items : List Item) : Type 0 where
-  frame : (frame_item items).code ≡ SOF0
-  quantisers : list_any is_wide_definition (all_quantisations items) ≡ false
+-- what the segments of a baseline file have
+record IsNarrow (segments : List Segment) : Type 0 where
+  frame : (frame_segment segments).code ≡ SOF0
+  quantisers : list_any is_wide_definition (all_quantisations segments) ≡ false
 
 by_code : (a b c d e g : Bool) (q x k y r f s z : List Test) → g ≡ false → (first_fault q ≡ None → first_fault x ≡ None) → (first_fault k ≡ None → first_fault y ≡ None) → (first_fault s ≡ None → first_fault z ≡ None)
     → first_fault (if a then q else (if b then k else (if c then r else (if d then f else (if e then s else []))))) ≡ None
@@ -194,18 +195,18 @@ by_code false false false false true false q x k y r f s z n on_q on_k on_s h = 
 by_code false false false false false true q x k y r f s z n on_q on_k on_s h = absurd cc
 by_code false false false false false false q x k y r f s z n on_q on_k on_s h = refl
 
-payload_pass : (before : List Item) (code : ℕ) (p : List ℕ) → IsNarrow before → (code == SOF1) ≡ false → first_fault (baseline_payload_tests before code p) ≡ None → first_fault (payload_tests before code p) ≡ None
-unfolding baseline_payload_tests payload_tests quantisations_tests codings_tests tables
+payload_pass : (before : List Segment) (code : ℕ) (p : List ℕ) → IsNarrow before → (code == SOF1) ≡ false → first_fault (baseline_payload_tests before code p) ≡ None → first_fault (payload_tests before code p) ≡ None
+unfolding baseline_payload_tests payload_tests quantisations_tests huffman_tables_tests tables
 payload_pass before code p n other h =
     by_code (code == DQT) (code == DHT) (code == DRI) (code == SOF0) (code == SOS) (code == SOF1)
     (flat_map baseline_quantisation_tests (tables_after size_one 0 p)) (flat_map quantisation_tests (tables_after size_any 0 p))
-    (flat_map baseline_coding_tests (tables_after (λ _ q. coding_len q) 0 p)) (flat_map coding_tests (tables_after (λ _ q. coding_len q) 0 p))
-    ((BadLength DRI when not (length p == 2)) ∷ []) (frame_tests code p)
-    (baseline_scan_tests (components (frame_item before).payload) (all_quantisations before) (all_codings before) p)
-    (scan_tests (frame_item before).code (components (frame_item before).payload) (all_quantisations before) (all_codings before) p)
+    (flat_map baseline_huffman_table_tests (tables_after (λ _ q. huffman_table_len q) 0 p)) (flat_map huffman_table_tests (tables_after (λ _ q. huffman_table_len q) 0 p))
+    (restart_tests p) (frame_tests code p)
+    (baseline_scan_tests (components (frame_segment before).payload) (all_quantisations before) (all_huffman_tables before) p)
+    (scan_tests (frame_segment before).code (components (frame_segment before).payload) (all_quantisations before) (all_huffman_tables before) p)
     other
-    (λ e. (quantisers_pass 0 p e).0) (codings_pass (tables_after (λ _ q. coding_len q) 0 p))
-    (scan_pass (frame_item before).code (components (frame_item before).payload) (all_quantisations before) (all_codings before) p n.frame n.quantisers)
+    (λ e. (quantisers_pass 0 p e).0) (huffman_tables_pass (tables_after (λ _ q. huffman_table_len q) 0 p))
+    (scan_pass (frame_segment before).code (components (frame_segment before).payload) (all_quantisations before) (all_huffman_tables before) p n.frame n.quantisers)
     h
 
 narrow_payload : (a : Bool) (p : List ℕ) (others : List Test) → first_fault (if a then flat_map baseline_quantisation_tests (tables (λ _ _. 64) p) else others) ≡ None
@@ -214,36 +215,36 @@ unfolding quantisations tables
 narrow_payload true p others h = (quantisers_pass 0 p h).1
 narrow_payload false p others h = refl
 
-passes : (before : List Item) (i : Item) → IsNarrow before → PassesBaseline before i → Passes before i
+passes : (before : List Segment) (i : Segment) → IsNarrow before → PassesBaseline before i → Passes before i
 passes before i n ok =
     let c = code_pass (has_frame before) i.code ok.code in
     record { code = c.0; short = ok.short; payload = payload_pass before i.code i.payload n c.1 ok.payload }
 
 -- ---- the chain
 
-frame_code : (b c : Bool) (i : Item) (o : Option Item) → (i.code == SOF0) ≡ b → (i.code == SOF1) ≡ c → c ≡ false → (unwrap_or o (record { fill = 0; code = SOF0; payload = [] })).code ≡ SOF0
+frame_code : (b c : Bool) (i : Segment) (o : Option Segment) → (i.code == SOF0) ≡ b → (i.code == SOF1) ≡ c → c ≡ false → (unwrap_or o (record { fill = 0; code = SOF0; payload = [] })).code ≡ SOF0
     → (unwrap_or (if (b || c) then Some i else o) (record { fill = 0; code = SOF0; payload = [] })).code ≡ SOF0
 frame_code true c i o e f n h = eqb-true i.code SOF0 e
 frame_code false true i o e f n h = absurd cc
 frame_code false false i o e f n h = h
 
-narrow_push : (before : List Item) (i : Item) → IsNarrow before → PassesBaseline before i → IsNarrow (before ++ i ∷ [])
+narrow_push : (before : List Segment) (i : Segment) → IsNarrow before → PassesBaseline before i → IsNarrow (before ++ i ∷ [])
 unfolding baseline_payload_tests
 narrow_push before i n ok =
     let c = code_pass (has_frame before) i.code ok.code in
-    let mine : Item → List Quantisation = λ (x : Item). if x.code == DQT then quantisations x.payload else [] in
+    let mine : Segment → List Quantisation = λ (x : Segment). if x.code == DQT then quantisations x.payload else [] in
     let split : all_quantisations (before ++ i ∷ []) ≡ all_quantisations before ++ mine i = flat_map-append mine before (i ∷ []) ∙ ap (λ (t : List Quantisation). all_quantisations before ++ t) (flat_map-cons mine i [] ∙ append-nil (mine i)) in
     let narrow : list_any is_wide_definition (mine i) ≡ false = narrow_payload (i.code == DQT) i.payload _ ok.payload in
     record {
-      frame = rw (last_push (λ (x : Item). is_frame x.code) before i) (frame_code (i.code == SOF0) (i.code == SOF1) i (frame_in before) refl refl c.1 n.frame);
+      frame = rw (last_push (λ (x : Segment). is_frame x.code) before i) (frame_code (i.code == SOF0) (i.code == SOF1) i (frame_in before) refl refl c.1 n.frame);
       quantisers = ap (list_any is_wide_definition) split ∙ list_any-append is_wide_definition (all_quantisations before) (mine i) ∙ rw (n.quantisers, narrow) refl;
     }
 
-chain_pass : (before items : List Item) → IsNarrow before → IsBaselineChain before items → IsChain before items × IsNarrow (before ++ items)
+chain_pass : (before segments : List Segment) → IsNarrow before → IsBaselineChain before segments → IsChain before segments × IsNarrow (before ++ segments)
 chain_pass before [] n c = (tt, subst IsNarrow (sym (append-nil before)) n)
-chain_pass before (i ∷ items) n c =
-    let more = chain_pass (before ++ i ∷ []) items (narrow_push before i n c.0) c.2 in
-    ((passes before i n c.0, c.1, more.0), subst IsNarrow (append_assoc before (i ∷ []) items) more.1)
+chain_pass before (i ∷ segments) n c =
+    let more = chain_pass (before ++ i ∷ []) segments (narrow_push before i n c.0) c.2 in
+    ((passes before i n c.0, c.1, more.0), subst IsNarrow (append_assoc before (i ∷ []) segments) more.1)
 
 nothing_narrow : IsNarrow []
 unfolding last_where
@@ -251,16 +252,16 @@ nothing_narrow = record { frame = refl; quantisers = refl }
 
 pub baseline_is_accepted : (file : List ℕ) (h : HeadValue) → BaselineHeadOf file h → HeadOf file h
 baseline_is_accepted file h b =
-    let c = chain_pass [] b.items nothing_narrow b.chain in
+    let c = chain_pass [] b.segments nothing_narrow b.chain in
     record {
-      items = b.items;
+      segments = b.segments;
       scan = b.scan;
       rest = b.rest;
       small = b.small;
       is = b.is;
       chain = c.0;
       is_scan = b.is_scan;
-      passes = passes b.items b.scan c.1 b.passes;
+      passes = passes b.segments b.scan c.1 b.passes;
       defines = b.defines;
       scan_at = b.scan_at;
     }

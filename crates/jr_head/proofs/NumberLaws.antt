@@ -4,16 +4,17 @@ use Rattle.std.specs.Prelude.{Some, ◌==◌, if◌then◌else◌}
 use Rattle.std.specs.List.{flat_map}
 use Rattle.std.proofs.lemmas.List.Concat.{flat_map-cons}
 use Rattle.jr_base.specs.declared.marker.TheConstants.{DHT, DQT, DRI, SOS}
+use Rattle.jr_head.specs.Restart.{restart_tests}
 use Rattle.jr_head.specs.declared.frame.FrameComponent.{FrameComponent}
 use Rattle.jr_head.specs.declared.refusal.Refusal.{Refusal}
 use Rattle.jr_head.specs.Bytes.{byte}
-use Rattle.jr_head.specs.Codes.{Coding, coding_len, coding_tests, codings_tests}
+use Rattle.jr_head.specs.HuffmanTables.{HuffmanTable, huffman_table_len, huffman_table_tests, huffman_tables_tests}
 use Rattle.jr_head.specs.Frames.{components, size_tests, component_tests, frame_tests}
-use Rattle.jr_head.specs.Heads.{item_tests, payload_tests, start_tests, RefusalOf}
-use Rattle.jr_head.specs.Items.{Item, at_code, has_frame, is_frame, item_at, marker_tests, code_tests, length_tests, framing_tests}
+use Rattle.jr_head.specs.Heads.{segment_tests, payload_tests, start_tests, RefusalOf}
+use Rattle.jr_head.specs.Segments.{Segment, at_code, has_frame, is_frame, segment_at, marker_tests, code_tests, length_tests, framing_tests}
 use Rattle.jr_head.specs.Quantisers.{Quantisation, elements_len, quantisation_tests, quantisations_tests}
 use Rattle.jr_head.specs.Refusal.{number_of}
-use Rattle.jr_head.specs.Scans.{all_quantisations, all_codings, frame_item, header_tests, table_tests, scan_tests}
+use Rattle.jr_head.specs.Scans.{all_quantisations, all_huffman_tables, frame_segment, header_tests, table_tests, scan_tests}
 use Rattle.jr_head.specs.Tables.{tables}
 use Rattle.jr_head.specs.Tests.{Test, first_fault}
 
@@ -63,9 +64,9 @@ of_quantisation : (t : ℕ × List ℕ) → AreOfFiles (quantisation_tests t)
 unfolding quantisation_tests
 of_quantisation t = (omega arith, (omega arith, tt))
 
-of_coding : (t : ℕ × List ℕ) → AreOfFiles (coding_tests t)
-unfolding coding_tests
-of_coding t = (omega arith, (omega arith, (omega arith, (omega arith, (omega arith, tt)))))
+of_huffman_table : (t : ℕ × List ℕ) → AreOfFiles (huffman_table_tests t)
+unfolding huffman_table_tests
+of_huffman_table t = (omega arith, (omega arith, (omega arith, (omega arith, (omega arith, tt)))))
 
 of_sizes : (code : ℕ) (p : List ℕ) → AreOfFiles (size_tests code p)
 unfolding size_tests
@@ -79,27 +80,27 @@ of_frame : (code : ℕ) (p : List ℕ) → AreOfFiles (frame_tests code p)
 unfolding frame_tests
 of_frame code p = append_of (size_tests code p) (component_tests (components p)) (of_sizes code p) (of_components (components p))
 
-of_scan : (code : ℕ) (cs : List FrameComponent) (qs : List Quantisation) (ds : List Coding) (p : List ℕ) → AreOfFiles (scan_tests code cs qs ds p)
+of_scan : (code : ℕ) (cs : List FrameComponent) (qs : List Quantisation) (ds : List HuffmanTable) (p : List ℕ) → AreOfFiles (scan_tests code cs qs ds p)
 unfolding scan_tests header_tests table_tests
 of_scan code cs qs ds p = (omega arith, (omega arith, (omega arith, (omega arith, (omega arith, (omega arith, (omega arith, tt)))))))
 
-of_payload : (before : List Item) (code : ℕ) (p : List ℕ) → AreOfFiles (payload_tests before code p)
-unfolding payload_tests quantisations_tests codings_tests
+of_payload : (before : List Segment) (code : ℕ) (p : List ℕ) → AreOfFiles (payload_tests before code p)
+unfolding payload_tests quantisations_tests huffman_tables_tests restart_tests
 of_payload before code p =
     choice_of (code == DQT) (quantisations_tests p) _ (flat_of quantisation_tests (tables (λ b _. elements_len b) p) of_quantisation)
-    (choice_of (code == DHT) (codings_tests p) _ (flat_of coding_tests (tables (λ _ q. coding_len q) p) of_coding)
+    (choice_of (code == DHT) (huffman_tables_tests p) _ (flat_of huffman_table_tests (tables (λ _ q. huffman_table_len q) p) of_huffman_table)
     (choice_of (code == DRI) _ _ (omega arith, tt)
     (choice_of (is_frame code) (frame_tests code p) _ (of_frame code p)
-    (choice_of (code == SOS) _ [] (of_scan (frame_item before).code (components (frame_item before).payload) (all_quantisations before) (all_codings before) p) tt))))
+    (choice_of (code == SOS) _ [] (of_scan (frame_segment before).code (components (frame_segment before).payload) (all_quantisations before) (all_huffman_tables before) p) tt))))
 
-of_item : (before : List Item) (at : ℕ) (bytes : List ℕ) → AreOfFiles (item_tests before at bytes)
-of_item before at bytes =
-    append_of (framing_tests (has_frame before) at bytes) (payload_tests before (item_at bytes).code (item_at bytes).payload)
-    (of_framing (has_frame before) at bytes) (of_payload before (item_at bytes).code (item_at bytes).payload)
+of_segment : (before : List Segment) (at : ℕ) (bytes : List ℕ) → AreOfFiles (segment_tests before at bytes)
+of_segment before at bytes =
+    append_of (framing_tests (has_frame before) at bytes) (payload_tests before (segment_at bytes).code (segment_at bytes).payload)
+    (of_framing (has_frame before) at bytes) (of_payload before (segment_at bytes).code (segment_at bytes).payload)
 
 of_start : (file : List ℕ) → AreOfFiles (start_tests file)
 of_start file = (omega arith, (omega arith, tt))
 
 pub fault_number : (file : List ℕ) (f : Refusal) → RefusalOf file f → number_of f < 19
 fault_number file f (inl h) = fault_of (start_tests file) f (of_start file) h
-fault_number file f (inr e) = fault_of (item_tests e.items (length file - length e.rest) e.rest) f (of_item e.items (length file - length e.rest) e.rest) e.fails
+fault_number file f (inr e) = fault_of (segment_tests e.segments (length file - length e.rest) e.rest) f (of_segment e.segments (length file - length e.rest) e.rest) e.fails

@@ -17,17 +17,17 @@ use Rattle.jr_head.specs.declared.refusal.Refusal.{Refusal}
 use Rattle.jr_head.specs.declared.refusal.Refusal.TheVariants.{TooLong, NotJpeg, MissingTable, BadQuantTable}
 use Rattle.jr_head.specs.declared.scan.Selector.{Selector}
 use Rattle.jr_head.specs.Bytes.{byte}
-use Rattle.jr_head.specs.Codes.{Coding, coding_for}
+use Rattle.jr_head.specs.HuffmanTables.{HuffmanTable, huffman_table_for}
 use Rattle.jr_head.specs.Definitions.{IsComponent, restart_of}
 use Rattle.jr_head.specs.Frames.{components, width, height}
 use Rattle.jr_head.specs.HeadValue.{HeadValue}
-use Rattle.jr_head.specs.Heads.{Passes, IsChain, Defines, HeadOf, EndsWith, RefusalOf, item_tests, payload_tests, start, start_tests, is_single, HasOneHead, HasOneFault}
-use Rattle.jr_head.specs.Items.{Item, spelled, item_at, after_item, has_frame, framing_tests}
+use Rattle.jr_head.specs.Heads.{Passes, IsChain, Defines, HeadOf, EndsWith, RefusalOf, segment_tests, payload_tests, start_of_image, start_tests, is_single, HasOneHead, HasOneFault}
+use Rattle.jr_head.specs.Segments.{Segment, segment_bytes, segment_at, behind_segment, has_frame, framing_tests}
 use Rattle.jr_head.specs.Marks.{kind_of}
 use Rattle.jr_head.specs.Quantisers.{Quantisation, quantiser_for}
-use Rattle.jr_head.specs.Scans.{all_quantisations, all_codings, frame_item, used, is_missing, has_wide, header_tests, table_tests, scan_tests}
+use Rattle.jr_head.specs.Scans.{all_quantisations, all_huffman_tables, frame_segment, scan_components, is_missing, has_wide, header_tests, table_tests, scan_tests}
 use Rattle.jr_head.specs.Tests.{◌when◌, first_fault}
-use Rattle.jr_head.proofs.ItemLaws.{IsBytes, IsBytes-drop, framed_is}
+use Rattle.jr_head.proofs.SegmentLaws.{IsBytes, IsBytes-drop, framed_is}
 use Rattle.jr_head.proofs.NumberLaws.{fault_number}
 use Rattle.jr_head.proofs.ReadLaws.{rest_bytes}
 use Rattle.jr_head.proofs.StepLaws.{next_is}
@@ -50,12 +50,12 @@ same_parts x y h v q d a =
     ∙ ap (λ (n : Table). component_by y.horizontal y.vertical y.quantiser n x.ac) d
     ∙ ap (λ (n : Table). component_by y.horizontal y.vertical y.quantiser y.dc n) a
 
-same_component : (qs : List Quantisation) (cs : List Coding) (single : Bool) (u : FrameComponent × Selector) (x y : Component) → IsComponent qs cs single x u → IsComponent qs cs single y u → x ≡ y
+same_component : (qs : List Quantisation) (cs : List HuffmanTable) (single : Bool) (u : FrameComponent × Selector) (x y : Component) → IsComponent qs cs single x u → IsComponent qs cs single y u → x ≡ y
 same_component qs cs single u x y h k =
     same_parts x y (h.horizontal ∙ sym k.horizontal) (h.vertical ∙ sym k.vertical)
     (same_some x.quantiser y.quantiser (sym h.quantiser ∙ k.quantiser)) (same_some x.dc y.dc (sym h.dc ∙ k.dc)) (same_some x.ac y.ac (sym h.ac ∙ k.ac))
 
-same_components : (qs : List Quantisation) (cs : List Coding) (single : Bool) (us : List (FrameComponent × Selector)) (xs ys : List Component)
+same_components : (qs : List Quantisation) (cs : List HuffmanTable) (single : Bool) (us : List (FrameComponent × Selector)) (xs ys : List Component)
     → AllZip (IsComponent qs cs single) xs us → AllZip (IsComponent qs cs single) ys us → xs ≡ ys
 same_components qs cs single [] [] [] h k = refl
 same_components qs cs single [] (x ∷ xs) ys h k = absurd h
@@ -68,14 +68,14 @@ same_components qs cs single (u ∷ us) (x ∷ xs) (y ∷ ys) h k =
 head_by : ℕ → ℕ → Kind → List Component → ℕ → ℕ → HeadValue
 head_by w h k c r s = record { width = w; height = h; kind = k; components = c; restart = r; scan_at = s }
 
-same_head : (items : List Item) (scan : List ℕ) (x y : HeadValue) → Defines items scan x → Defines items scan y → x.scan_at ≡ y.scan_at → x ≡ y
+same_head : (segments : List Segment) (scan : List ℕ) (x y : HeadValue) → Defines segments scan x → Defines segments scan y → x.scan_at ≡ y.scan_at → x ≡ y
 unfolding head_by
-same_head items scan x y h k at =
+same_head segments scan x y h k at =
     ap (λ n. head_by n x.height x.kind x.components x.restart x.scan_at) (h.width ∙ sym k.width)
     ∙ ap (λ n. head_by y.width n x.kind x.components x.restart x.scan_at) (h.height ∙ sym k.height)
     ∙ ap (λ (n : Kind). head_by y.width y.height n x.components x.restart x.scan_at) (h.kind ∙ sym k.kind)
     ∙ ap (λ (n : List Component). head_by y.width y.height y.kind n x.restart x.scan_at)
-    (same_components (all_quantisations items) (all_codings items) (is_single items) (used (components (frame_item items).payload) scan) x.components y.components h.components k.components)
+    (same_components (all_quantisations segments) (all_huffman_tables segments) (is_single segments) (scan_components (components (frame_segment segments).payload) scan) x.components y.components h.components k.components)
     ∙ ap (λ n. head_by y.width y.height y.kind y.components n x.scan_at) (h.restart ∙ sym k.restart)
     ∙ ap (λ n. head_by y.width y.height y.kind y.components y.restart n) at
 
@@ -89,18 +89,18 @@ there : {T : Type 0} (o : Option T) → is_none o ≡ false → (x : T) × (o �
 there None h = absurd cc
 there (Some x) h = (x, refl)
 
-made_one : (qs : List Quantisation) (cs : List Coding) (single : Bool) (u : FrameComponent × Selector) → is_missing qs cs u ≡ false → (c : Component) × IsComponent qs cs single c u
+made_one : (qs : List Quantisation) (cs : List HuffmanTable) (single : Bool) (u : FrameComponent × Selector) → is_missing qs cs u ≡ false → (c : Component) × IsComponent qs cs single c u
 made_one qs cs single u h =
-    let first = no_one (is_none (quantiser_for qs u.0.quantiser) || is_none (coding_for cs 0 u.1.dc)) (is_none (coding_for cs 1 u.1.ac)) h in
-    let both = no_one (is_none (quantiser_for qs u.0.quantiser)) (is_none (coding_for cs 0 u.1.dc)) first.0 in
+    let first = no_one (is_none (quantiser_for qs u.0.quantiser) || is_none (huffman_table_for cs 0 u.1.dc)) (is_none (huffman_table_for cs 1 u.1.ac)) h in
+    let both = no_one (is_none (quantiser_for qs u.0.quantiser)) (is_none (huffman_table_for cs 0 u.1.dc)) first.0 in
     let q = there (quantiser_for qs u.0.quantiser) both.0 in
-    let d = there (coding_for cs 0 u.1.dc) both.1 in
-    let a = there (coding_for cs 1 u.1.ac) first.1 in (
+    let d = there (huffman_table_for cs 0 u.1.dc) both.1 in
+    let a = there (huffman_table_for cs 1 u.1.ac) first.1 in (
       record { horizontal = (if single then 1 else u.0.horizontal); vertical = (if single then 1 else u.0.vertical); quantiser = q.0.elements; dc = d.0; ac = a.0 },
       record { horizontal = refl; vertical = refl; quantiser = ap (option_map (λ (x : Quantiser). x.elements)) q.1; dc = d.1; ac = a.1 },
     )
 
-made_all : (qs : List Quantisation) (cs : List Coding) (single : Bool) (us : List (FrameComponent × Selector)) → list_any (is_missing qs cs) us ≡ false → (l : List Component) × AllZip (IsComponent qs cs single) l us
+made_all : (qs : List Quantisation) (cs : List HuffmanTable) (single : Bool) (us : List (FrameComponent × Selector)) → list_any (is_missing qs cs) us ≡ false → (l : List Component) × AllZip (IsComponent qs cs single) l us
 made_all qs cs single [] h = ([], tt)
 made_all qs cs single (u ∷ us) h =
     let both = no_one (is_missing qs cs u) (list_any (is_missing qs cs) us) h in
@@ -108,45 +108,45 @@ made_all qs cs single (u ∷ us) h =
     let l = made_all qs cs single us both.1 in
     (c.0 ∷ l.0, (c.1, l.1))
 
-none_missing : (items : List Item) (p : List ℕ) → first_fault (payload_tests items SOS p) ≡ None
-    → list_any (is_missing (all_quantisations items) (all_codings items)) (used (components (frame_item items).payload) p) ≡ false
+none_missing : (segments : List Segment) (p : List ℕ) → first_fault (payload_tests segments SOS p) ≡ None
+    → list_any (is_missing (all_quantisations segments) (all_huffman_tables segments)) (scan_components (components (frame_segment segments).payload) p) ≡ false
 unfolding payload_tests scan_tests table_tests
-none_missing items p h =
-    let us = used (components (frame_item items).payload) p in
-    let qs = all_quantisations items in
-    let code = (frame_item items).code in
-    let both = passes_parts (header_tests code (components (frame_item items).payload) p) ((MissingTable when list_any (is_missing qs (all_codings items)) us) ∷ (BadQuantTable when (code == SOF0 && has_wide qs us)) ∷ []) h in
-    (passes_first (MissingTable when list_any (is_missing qs (all_codings items)) us) ((BadQuantTable when (code == SOF0 && has_wide qs us)) ∷ []) both.1).0
+none_missing segments p h =
+    let us = scan_components (components (frame_segment segments).payload) p in
+    let qs = all_quantisations segments in
+    let code = (frame_segment segments).code in
+    let both = passes_parts (header_tests code (components (frame_segment segments).payload) p) ((MissingTable when list_any (is_missing qs (all_huffman_tables segments)) us) ∷ (BadQuantTable when (code == SOF0 && has_wide qs us)) ∷ []) h in
+    (passes_first (MissingTable when list_any (is_missing qs (all_huffman_tables segments)) us) ((BadQuantTable when (code == SOF0 && has_wide qs us)) ∷ []) both.1).0
 
-made_head : (items : List Item) (p : List ℕ) (at : ℕ) → first_fault (payload_tests items SOS p) ≡ None → (h : HeadValue) × Defines items p h × (h.scan_at ≡ at)
-made_head items p at h =
-    let cs = made_all (all_quantisations items) (all_codings items) (is_single items) (used (components (frame_item items).payload) p) (none_missing items p h) in (
-      record { width = width (frame_item items).payload; height = height (frame_item items).payload; kind = kind_of items (is_single items); components = cs.0; restart = restart_of items; scan_at = at },
+made_head : (segments : List Segment) (p : List ℕ) (at : ℕ) → first_fault (payload_tests segments SOS p) ≡ None → (h : HeadValue) × Defines segments p h × (h.scan_at ≡ at)
+made_head segments p at h =
+    let cs = made_all (all_quantisations segments) (all_huffman_tables segments) (is_single segments) (scan_components (components (frame_segment segments).payload) p) (none_missing segments p h) in (
+      record { width = width (frame_segment segments).payload; height = height (frame_segment segments).payload; kind = kind_of segments (is_single segments); components = cs.0; restart = restart_of segments; scan_at = at },
       record { width = refl; height = refl; kind = refl; components = cs.1; restart = refl },
       refl,
     )
 
 -- ---- what a chain comes to, where size is the file's length
 
-record IsScanned (size : ℕ) (before : List Item) (bytes : List ℕ) (h : HeadValue) : Type 0 where
-  scan : Item
+record IsScanned (size : ℕ) (before : List Segment) (bytes : List ℕ) (h : HeadValue) : Type 0 where
+  scan : Segment
   rest : List ℕ
-  is : bytes ≡ spelled scan ++ rest
+  is : bytes ≡ segment_bytes scan ++ rest
   is_scan : scan.code ≡ SOS
   passes : Passes before scan
   defines : Defines before scan.payload h
   scan_at : h.scan_at + length rest ≡ size
 
-abbrev Comes : ℕ → List Item → List ℕ → Result HeadValue Refusal → Type 0
+abbrev Comes : ℕ → List Segment → List ℕ → Result HeadValue Refusal → Type 0
 Comes size before bytes (Ok h) = IsScanned size before bytes h
-Comes size before bytes (Err f) = first_fault (item_tests before (size - length bytes) bytes) ≡ Some f
+Comes size before bytes (Err f) = first_fault (segment_tests before (size - length bytes) bytes) ≡ Some f
 
-record Walk (size : ℕ) (before : List Item) (bytes : List ℕ) (r : Result HeadValue Refusal) : Type 0 where
-  items : List Item
+record Walk (size : ℕ) (before : List Segment) (bytes : List ℕ) (r : Result HeadValue Refusal) : Type 0 where
+  segments : List Segment
   rest : List ℕ
-  is : bytes ≡ flat_map spelled items ++ rest
-  chain : IsChain before items
-  comes : Comes size (before ++ items) rest r
+  is : bytes ≡ flat_map segment_bytes segments ++ rest
+  chain : IsChain before segments
+  comes : Comes size (before ++ segments) rest r
 
 -- ---- it comes to one thing
 
@@ -156,108 +156,108 @@ none_some o f e h = absurd (let k = sym e ∙ h in cc)
 same_ends : (a b : ℕ) (u v : List ℕ) (size : ℕ) → u ≡ v → a + length u ≡ size → b + length v ≡ size → a ≡ b
 same_ends a b u v size e h k = omega (arith, ap length e, h, k)
 
-two_heads : (size : ℕ) (before : List Item) (bytes : List ℕ) (x y : HeadValue) → IsScanned size before bytes x → IsScanned size before bytes y → x ≡ y
+two_heads : (size : ℕ) (before : List Segment) (bytes : List ℕ) (x y : HeadValue) → IsScanned size before bytes x → IsScanned size before bytes y → x ≡ y
 two_heads size before bytes x y h k =
     let m = next_is before h.scan bytes h.rest h.passes h.is in
     let n = next_is before k.scan bytes k.rest k.passes k.is in
-    let item : h.scan ≡ k.scan = sym m.item ∙ n.item in
+    let segment : h.scan ≡ k.scan = sym m.segment ∙ n.segment in
     let rest : h.rest ≡ k.rest = sym m.after ∙ n.after in
-    same_head before k.scan.payload x y (subst (λ (i : Item). Defines before i.payload x) item h.defines) k.defines (same_ends x.scan_at y.scan_at h.rest k.rest size rest h.scan_at k.scan_at)
+    same_head before k.scan.payload x y (subst (λ (i : Segment). Defines before i.payload x) segment h.defines) k.defines (same_ends x.scan_at y.scan_at h.rest k.rest size rest h.scan_at k.scan_at)
 
-one_end : (size : ℕ) (before : List Item) (bytes : List ℕ) (r s : Result HeadValue Refusal) → Comes size before bytes r → Comes size before bytes s → r ≡ s
+one_end : (size : ℕ) (before : List Segment) (bytes : List ℕ) (r s : Result HeadValue Refusal) → Comes size before bytes r → Comes size before bytes s → r ≡ s
 one_end size before bytes (Ok x) (Ok y) h k = ap Ok (two_heads size before bytes x y h k)
 one_end size before bytes (Ok x) (Err g) h k =
-    absurd (none_some (first_fault (item_tests before (size - length bytes) bytes)) g ((next_is before h.scan bytes h.rest h.passes h.is).passes (size - length bytes)) k)
+    absurd (none_some (first_fault (segment_tests before (size - length bytes) bytes)) g ((next_is before h.scan bytes h.rest h.passes h.is).passes (size - length bytes)) k)
 one_end size before bytes (Err f) (Ok y) h k =
-    absurd (none_some (first_fault (item_tests before (size - length bytes) bytes)) f ((next_is before k.scan bytes k.rest k.passes k.is).passes (size - length bytes)) h)
+    absurd (none_some (first_fault (segment_tests before (size - length bytes) bytes)) f ((next_is before k.scan bytes k.rest k.passes k.is).passes (size - length bytes)) h)
 one_end size before bytes (Err f) (Err g) h k = ap Err (same_some f g (sym h ∙ k))
 
--- a chain does not end before an item that passes and is no scan header
-goes_on : (size : ℕ) (before : List Item) (bytes rest : List ℕ) (i : Item) (r : Result HeadValue Refusal) → Passes before i → i.code ≢ SOS → bytes ≡ spelled i ++ rest → Comes size before bytes r → ⊥
+-- a chain does not end before a segment that passes and is no scan header
+goes_on : (size : ℕ) (before : List Segment) (bytes rest : List ℕ) (i : Segment) (r : Result HeadValue Refusal) → Passes before i → i.code ≢ SOS → bytes ≡ segment_bytes i ++ rest → Comes size before bytes r → ⊥
 goes_on size before bytes rest i (Ok h) ok other e c =
     let m = next_is before i bytes rest ok e in
     let n = next_is before c.scan bytes c.rest c.passes c.is in
-    let same : i ≡ c.scan = sym m.item ∙ n.item in
-    other (ap (λ (x : Item). x.code) same ∙ c.is_scan)
+    let same : i ≡ c.scan = sym m.segment ∙ n.segment in
+    other (ap (λ (x : Segment). x.code) same ∙ c.is_scan)
 goes_on size before bytes rest i (Err f) ok other e c =
-    none_some (first_fault (item_tests before (size - length bytes) bytes)) f ((next_is before i bytes rest ok e).passes (size - length bytes)) c
+    none_some (first_fault (segment_tests before (size - length bytes) bytes)) f ((next_is before i bytes rest ok e).passes (size - length bytes)) c
 
-first_spelled : (i : Item) (is : List Item) (bytes rest : List ℕ) → bytes ≡ flat_map spelled (i ∷ is) ++ rest → bytes ≡ spelled i ++ (flat_map spelled is ++ rest)
-first_spelled i is bytes rest e = e ∙ ap (λ (t : List ℕ). t ++ rest) (flat_map-cons spelled i is) ∙ append_assoc (spelled i) (flat_map spelled is) rest
+first_spelled : (i : Segment) (is : List Segment) (bytes rest : List ℕ) → bytes ≡ flat_map segment_bytes (i ∷ is) ++ rest → bytes ≡ segment_bytes i ++ (flat_map segment_bytes is ++ rest)
+first_spelled i is bytes rest e = e ∙ ap (λ (t : List ℕ). t ++ rest) (flat_map-cons segment_bytes i is) ∙ append_assoc (segment_bytes i) (flat_map segment_bytes is) rest
 
-nothing_spelled : (size : ℕ) (before : List Item) (bytes rest : List ℕ) (r : Result HeadValue Refusal) → bytes ≡ rest → Comes size (before ++ []) rest r → Comes size before bytes r
+nothing_spelled : (size : ℕ) (before : List Segment) (bytes rest : List ℕ) (r : Result HeadValue Refusal) → bytes ≡ rest → Comes size (before ++ []) rest r → Comes size before bytes r
 nothing_spelled size before bytes rest r e c =
-    subst (λ (l : List Item). Comes size l bytes r) (append-nil before) (subst (λ (t : List ℕ). Comes size (before ++ []) t r) (sym e) c)
+    subst (λ (l : List Segment). Comes size l bytes r) (append-nil before) (subst (λ (t : List ℕ). Comes size (before ++ []) t r) (sym e) c)
 
-one_outcome : (size : ℕ) (before : List Item) (bytes : List ℕ) (xs ys : List Item) (u v : List ℕ) (r s : Result HeadValue Refusal)
-    → bytes ≡ flat_map spelled xs ++ u → bytes ≡ flat_map spelled ys ++ v → IsChain before xs → IsChain before ys → Comes size (before ++ xs) u r → Comes size (before ++ ys) v s → r ≡ s
+one_outcome : (size : ℕ) (before : List Segment) (bytes : List ℕ) (xs ys : List Segment) (u v : List ℕ) (r s : Result HeadValue Refusal)
+    → bytes ≡ flat_map segment_bytes xs ++ u → bytes ≡ flat_map segment_bytes ys ++ v → IsChain before xs → IsChain before ys → Comes size (before ++ xs) u r → Comes size (before ++ ys) v s → r ≡ s
 one_outcome size before bytes [] [] u v r s d e p q h k = one_end size before bytes r s (nothing_spelled size before bytes u r d h) (nothing_spelled size before bytes v s e k)
 one_outcome size before bytes [] (j ∷ ys) u v r s d e p q h k =
-    absurd (goes_on size before bytes (flat_map spelled ys ++ v) j r q.0 q.1 (first_spelled j ys bytes v e) (nothing_spelled size before bytes u r d h))
+    absurd (goes_on size before bytes (flat_map segment_bytes ys ++ v) j r q.0 q.1 (first_spelled j ys bytes v e) (nothing_spelled size before bytes u r d h))
 one_outcome size before bytes (i ∷ xs) [] u v r s d e p q h k =
-    absurd (goes_on size before bytes (flat_map spelled xs ++ u) i s p.0 p.1 (first_spelled i xs bytes u d) (nothing_spelled size before bytes v s e k))
+    absurd (goes_on size before bytes (flat_map segment_bytes xs ++ u) i s p.0 p.1 (first_spelled i xs bytes u d) (nothing_spelled size before bytes v s e k))
 one_outcome size before bytes (i ∷ xs) (j ∷ ys) u v r s d e p q h k =
-    let m = next_is before i bytes (flat_map spelled xs ++ u) p.0 (first_spelled i xs bytes u d) in
-    let n = next_is before j bytes (flat_map spelled ys ++ v) q.0 (first_spelled j ys bytes v e) in
-    let item : j ≡ i = sym n.item ∙ m.item in
-    let left : after_item bytes ≡ flat_map spelled xs ++ u = m.after in
-    let right : after_item bytes ≡ flat_map spelled ys ++ v = n.after in
-    one_outcome size (before ++ i ∷ []) (after_item bytes) xs ys u v r s left right p.2
-    (subst (λ (x : Item). IsChain (before ++ x ∷ []) ys) item q.2)
-    (subst (λ (l : List Item). Comes size l u r) (sym (append_assoc before (i ∷ []) xs)) h)
-    (subst (λ (x : Item). Comes size ((before ++ x ∷ []) ++ ys) v s) item (subst (λ (l : List Item). Comes size l v s) (sym (append_assoc before (j ∷ []) ys)) k))
+    let m = next_is before i bytes (flat_map segment_bytes xs ++ u) p.0 (first_spelled i xs bytes u d) in
+    let n = next_is before j bytes (flat_map segment_bytes ys ++ v) q.0 (first_spelled j ys bytes v e) in
+    let segment : j ≡ i = sym n.segment ∙ m.segment in
+    let left : behind_segment bytes ≡ flat_map segment_bytes xs ++ u = m.after in
+    let right : behind_segment bytes ≡ flat_map segment_bytes ys ++ v = n.after in
+    one_outcome size (before ++ i ∷ []) (behind_segment bytes) xs ys u v r s left right p.2
+    (subst (λ (x : Segment). IsChain (before ++ x ∷ []) ys) segment q.2)
+    (subst (λ (l : List Segment). Comes size l u r) (sym (append_assoc before (i ∷ []) xs)) h)
+    (subst (λ (x : Segment). Comes size ((before ++ x ∷ []) ++ ys) v s) segment (subst (λ (l : List Segment). Comes size l v s) (sym (append_assoc before (j ∷ []) ys)) k))
 
-one_walk : (size : ℕ) (before : List Item) (bytes : List ℕ) (r s : Result HeadValue Refusal) → Walk size before bytes r → Walk size before bytes s → r ≡ s
-one_walk size before bytes r s h k = one_outcome size before bytes h.items k.items h.rest k.rest r s h.is k.is h.chain k.chain h.comes k.comes
+one_walk : (size : ℕ) (before : List Segment) (bytes : List ℕ) (r s : Result HeadValue Refusal) → Walk size before bytes r → Walk size before bytes s → r ≡ s
+one_walk size before bytes r s h k = one_outcome size before bytes h.segments k.segments h.rest k.rest r s h.is k.is h.chain k.chain h.comes k.comes
 
 -- ---- it comes to something
 
-abbrev SomeWalk : ℕ → List Item → List ℕ → Type 0
+abbrev SomeWalk : ℕ → List Segment → List ℕ → Type 0
 SomeWalk size before bytes = (r : Result HeadValue Refusal) × Walk size before bytes r
 
-ends_here : (size : ℕ) (before : List Item) (bytes : List ℕ) (r : Result HeadValue Refusal) → Comes size before bytes r → SomeWalk size before bytes
-ends_here size before bytes r c = (r, record { items = []; rest = bytes; is = refl; chain = tt; comes = subst (λ (l : List Item). Comes size l bytes r) (sym (append-nil before)) c })
+ends_here : (size : ℕ) (before : List Segment) (bytes : List ℕ) (r : Result HeadValue Refusal) → Comes size before bytes r → SomeWalk size before bytes
+ends_here size before bytes r c = (r, record { segments = []; rest = bytes; is = refl; chain = tt; comes = subst (λ (l : List Segment). Comes size l bytes r) (sym (append-nil before)) c })
 
-goes_further : (size : ℕ) (before : List Item) (bytes : List ℕ) (i : Item) (after : List ℕ) → bytes ≡ spelled i ++ after → Passes before i → i.code ≢ SOS → SomeWalk size (before ++ i ∷ []) after → SomeWalk size before bytes
+goes_further : (size : ℕ) (before : List Segment) (bytes : List ℕ) (i : Segment) (after : List ℕ) → bytes ≡ segment_bytes i ++ after → Passes before i → i.code ≢ SOS → SomeWalk size (before ++ i ∷ []) after → SomeWalk size before bytes
 goes_further size before bytes i after e ok other w = (
   w.0,
   record {
-    items = i ∷ w.1.items;
+    segments = i ∷ w.1.segments;
     rest = w.1.rest;
-    is = e ∙ ap (λ (t : List ℕ). spelled i ++ t) w.1.is ∙ sym (append_assoc (spelled i) (flat_map spelled w.1.items) w.1.rest) ∙ ap (λ (t : List ℕ). t ++ w.1.rest) (sym (flat_map-cons spelled i w.1.items));
+    is = e ∙ ap (λ (t : List ℕ). segment_bytes i ++ t) w.1.is ∙ sym (append_assoc (segment_bytes i) (flat_map segment_bytes w.1.segments) w.1.rest) ∙ ap (λ (t : List ℕ). t ++ w.1.rest) (sym (flat_map-cons segment_bytes i w.1.segments));
     chain = (ok, other, w.1.chain);
-    comes = subst (λ (l : List Item). Comes size l w.1.rest w.0) (append_assoc before (i ∷ []) w.1.items) w.1.comes;
+    comes = subst (λ (l : List Segment). Comes size l w.1.rest w.0) (append_assoc before (i ∷ []) w.1.segments) w.1.comes;
   },
 )
 
-scanned : (size : ℕ) (before : List Item) (bytes : List ℕ) (i : Item) (after : List ℕ) → bytes ≡ spelled i ++ after → Passes before i → i.code ≡ SOS → length after ≤ size → SomeWalk size before bytes
+scanned : (size : ℕ) (before : List Segment) (bytes : List ℕ) (i : Segment) (after : List ℕ) → bytes ≡ segment_bytes i ++ after → Passes before i → i.code ≡ SOS → length after ≤ size → SomeWalk size before bytes
 scanned size before bytes i after e ok is_scan small =
     let made = made_head before i.payload (size - length after) (subst (λ (c : ℕ). first_fault (payload_tests before c i.payload) ≡ None) is_scan ok.payload) in
     let at : made.0.scan_at + length after ≡ size = omega (arith, made.2, small) in
     ends_here size before bytes (Ok made.0) (record { scan = i; rest = after; is = e; is_scan = is_scan; passes = ok; defines = made.1; scan_at = at })
 
-walk_step : (size : ℕ) (before : List Item) (bytes : List ℕ) (is_scan : Bool) (o : Option Refusal) → IsBytes bytes → length bytes ≤ size → eqb (item_at bytes).code SOS ≡ is_scan
-    → first_fault (item_tests before (size - length bytes) bytes) ≡ o
-    → ((i : Item) → length (after_item bytes) < length bytes → SomeWalk size (before ++ i ∷ []) (after_item bytes)) → SomeWalk size before bytes
+walk_step : (size : ℕ) (before : List Segment) (bytes : List ℕ) (is_scan : Bool) (o : Option Refusal) → IsBytes bytes → length bytes ≤ size → eqb (segment_at bytes).code SOS ≡ is_scan
+    → first_fault (segment_tests before (size - length bytes) bytes) ≡ o
+    → ((i : Segment) → length (behind_segment bytes) < length bytes → SomeWalk size (before ++ i ∷ []) (behind_segment bytes)) → SomeWalk size before bytes
 walk_step size before bytes is_scan (Some f) fits small which e go = ends_here size before bytes (Err f) e
 walk_step size before bytes true None fits small which e go =
-    let both = passes_parts (framing_tests (has_frame before) (size - length bytes) bytes) (payload_tests before (item_at bytes).code (item_at bytes).payload) e in
+    let both = passes_parts (framing_tests (has_frame before) (size - length bytes) bytes) (payload_tests before (segment_at bytes).code (segment_at bytes).payload) e in
     let f = framed_is (has_frame before) (size - length bytes) bytes fits both.0 in
-    scanned size before bytes (item_at bytes) (after_item bytes) f.is (record { code = f.code; short = f.short; payload = both.1 }) (eqb-true (item_at bytes).code SOS which) (omega (arith, f.shorter, small))
+    scanned size before bytes (segment_at bytes) (behind_segment bytes) f.is (record { code = f.code; short = f.short; payload = both.1 }) (eqb-true (segment_at bytes).code SOS which) (omega (arith, f.shorter, small))
 walk_step size before bytes false None fits small which e go =
-    let both = passes_parts (framing_tests (has_frame before) (size - length bytes) bytes) (payload_tests before (item_at bytes).code (item_at bytes).payload) e in
+    let both = passes_parts (framing_tests (has_frame before) (size - length bytes) bytes) (payload_tests before (segment_at bytes).code (segment_at bytes).payload) e in
     let f = framed_is (has_frame before) (size - length bytes) bytes fits both.0 in
-    goes_further size before bytes (item_at bytes) (after_item bytes) f.is (record { code = f.code; short = f.short; payload = both.1 }) (eqb-false (item_at bytes).code SOS which) (go (item_at bytes) f.shorter)
+    goes_further size before bytes (segment_at bytes) (behind_segment bytes) f.is (record { code = f.code; short = f.short; payload = both.1 }) (eqb-false (segment_at bytes).code SOS which) (go (segment_at bytes) f.shorter)
 
-some_walk : (n size : ℕ) (before : List Item) (bytes : List ℕ) → length bytes < n → IsBytes bytes → length bytes ≤ size → SomeWalk size before bytes
+some_walk : (n size : ℕ) (before : List Segment) (bytes : List ℕ) → length bytes < n → IsBytes bytes → length bytes ≤ size → SomeWalk size before bytes
 some_walk zero size before bytes few fits small = absurd (omega (arith, few))
 some_walk (suc n) size before bytes few fits small =
-    walk_step size before bytes (eqb (item_at bytes).code SOS) (first_fault (item_tests before (size - length bytes) bytes)) fits small refl refl
-    (λ i shorter. some_walk n size (before ++ i ∷ []) (after_item bytes) (omega (arith, few, shorter)) (rest_bytes bytes fits) (omega (arith, shorter, small)))
+    walk_step size before bytes (eqb (segment_at bytes).code SOS) (first_fault (segment_tests before (size - length bytes) bytes)) fits small refl refl
+    (λ i shorter. some_walk n size (before ++ i ∷ []) (behind_segment bytes) (omega (arith, few, shorter)) (rest_bytes bytes fits) (omega (arith, shorter, small)))
 
 -- ---- the whole file
 
-starts_so : (file rest : List ℕ) → length file ≤ MAX_FILE_BYTES → file ≡ start ++ rest → first_fault (start_tests file) ≡ None
+starts_so : (file rest : List ℕ) → length file ≤ MAX_FILE_BYTES → file ≡ start_of_image ++ rest → first_fault (start_tests file) ≡ None
 starts_so file rest small e =
     let short : nat_lt MAX_FILE_BYTES (length file) ≡ false = le-ltb MAX_FILE_BYTES (length file) small in
     let begins : (byte 0 file == PREFIX && byte 1 file == SOI) ≡ true = rw e refl in
@@ -268,7 +268,7 @@ two_tests true b h = absurd cc
 two_tests false false h = absurd cc
 two_tests false true h = (refl, refl)
 
-begins_so : (file : List ℕ) → (byte 0 file == PREFIX && byte 1 file == SOI) ≡ true → file ≡ start ++ drop 2 file
+begins_so : (file : List ℕ) → (byte 0 file == PREFIX && byte 1 file == SOI) ≡ true → file ≡ start_of_image ++ drop 2 file
 begins_so [] h = absurd cc
 begins_so (a ∷ []) h = absurd (let k = (and_parts (a == PREFIX) (byte 1 (a ∷ []) == SOI) h).1 in cc)
 begins_so (a ∷ b ∷ rest) h =
@@ -280,23 +280,23 @@ begins_so (a ∷ b ∷ rest) h =
 -- heads and faults are walks from behind SOI
 head_walk : (file : List ℕ) (h : HeadValue) → HeadOf file h → Walk (length file) [] (drop 2 file) (Ok h)
 head_walk file h k = record {
-  items = k.items;
-  rest = spelled k.scan ++ k.rest;
+  segments = k.segments;
+  rest = segment_bytes k.scan ++ k.rest;
   is = ap (drop 2) k.is;
   chain = k.chain;
   comes = record { scan = k.scan; rest = k.rest; is = refl; is_scan = k.is_scan; passes = k.passes; defines = k.defines; scan_at = k.scan_at };
 }
 
 fault_walk : (file : List ℕ) (f : Refusal) → EndsWith file f → Walk (length file) [] (drop 2 file) (Err f)
-fault_walk file f k = record { items = k.items; rest = k.rest; is = ap (drop 2) k.is; chain = k.chain; comes = k.fails }
+fault_walk file f k = record { segments = k.segments; rest = k.rest; is = ap (drop 2) k.is; chain = k.chain; comes = k.fails }
 
-walk_head : (file : List ℕ) (h : HeadValue) → length file ≤ MAX_FILE_BYTES → file ≡ start ++ drop 2 file → Walk (length file) [] (drop 2 file) (Ok h) → HeadOf file h
+walk_head : (file : List ℕ) (h : HeadValue) → length file ≤ MAX_FILE_BYTES → file ≡ start_of_image ++ drop 2 file → Walk (length file) [] (drop 2 file) (Ok h) → HeadOf file h
 walk_head file h small e w = record {
-  items = w.items;
+  segments = w.segments;
   scan = w.comes.scan;
   rest = w.comes.rest;
   small = small;
-  is = e ∙ ap (λ (t : List ℕ). start ++ t) (w.is ∙ ap (λ (t : List ℕ). flat_map spelled w.items ++ t) w.comes.is);
+  is = e ∙ ap (λ (t : List ℕ). start_of_image ++ t) (w.is ∙ ap (λ (t : List ℕ). flat_map segment_bytes w.segments ++ t) w.comes.is);
   chain = w.chain;
   is_scan = w.comes.is_scan;
   passes = w.comes.passes;
@@ -304,8 +304,8 @@ walk_head file h small e w = record {
   scan_at = w.comes.scan_at;
 }
 
-walk_fault : (file : List ℕ) (f : Refusal) → first_fault (start_tests file) ≡ None → file ≡ start ++ drop 2 file → Walk (length file) [] (drop 2 file) (Err f) → EndsWith file f
-walk_fault file f starts e w = record { items = w.items; rest = w.rest; starts = starts; is = e ∙ ap (λ (t : List ℕ). start ++ t) w.is; chain = w.chain; fails = w.comes }
+walk_fault : (file : List ℕ) (f : Refusal) → first_fault (start_tests file) ≡ None → file ≡ start_of_image ++ drop 2 file → Walk (length file) [] (drop 2 file) (Err f) → EndsWith file f
+walk_fault file f starts e w = record { segments = w.segments; rest = w.rest; starts = starts; is = e ∙ ap (λ (t : List ℕ). start_of_image ++ t) w.is; chain = w.chain; fails = w.comes }
 
 abbrev OneOf : List ℕ → Type 0
 OneOf file = HasOneHead file ⊎ HasOneFault file
@@ -338,10 +338,10 @@ at_start file f e = inr record {
   is_fault = inl e;
   number = fault_number file f (inl e);
   only = λ other g. only_start file f other e g;
-  no_head = λ h k. none_some (first_fault (start_tests file)) f (starts_so file (flat_map spelled k.items ++ (spelled k.scan ++ k.rest)) k.small k.is) e;
+  no_head = λ h k. none_some (first_fault (start_tests file)) f (starts_so file (flat_map segment_bytes k.segments ++ (segment_bytes k.scan ++ k.rest)) k.small k.is) e;
 }
 
-by_walk : (file : List ℕ) (r : Result HeadValue Refusal) → first_fault (start_tests file) ≡ None → length file ≤ MAX_FILE_BYTES → file ≡ start ++ drop 2 file → Walk (length file) [] (drop 2 file) r → OneOf file
+by_walk : (file : List ℕ) (r : Result HeadValue Refusal) → first_fault (start_tests file) ≡ None → length file ≤ MAX_FILE_BYTES → file ≡ start_of_image ++ drop 2 file → Walk (length file) [] (drop 2 file) r → OneOf file
 by_walk file (Ok h) starts small e w = inl record {
   head = h;
   is_head = walk_head file h small e w;
@@ -360,7 +360,7 @@ after_start : (file : List ℕ) → IsBytes file → first_fault (start_tests fi
 after_start file fits starts =
     let t = two_tests (nat_lt MAX_FILE_BYTES (length file)) (byte 0 file == PREFIX && byte 1 file == SOI) starts in
     let small : length file ≤ MAX_FILE_BYTES = ltb-false MAX_FILE_BYTES (length file) t.0 in
-    let e : file ≡ start ++ drop 2 file = begins_so file t.1 in
+    let e : file ≡ start_of_image ++ drop 2 file = begins_so file t.1 in
     let short : length (drop 2 file) ≤ length file = omega (arith, length-drop 2 file) in
     let w = some_walk (suc (length (drop 2 file))) (length file) [] (drop 2 file) (omega arith) (IsBytes-drop 2 file fits) short in
     by_walk file w.0 starts small e w.1

@@ -82,8 +82,8 @@ few_across n m h some few =
     let times = div_ceil_times n (8 * m) (omega arith) in
     ⊎_elim (λ (k : div_ceil n (8 * m) < suc MAX_MCUS_ACROSS). omega (arith, k))
     (λ (k : suc MAX_MCUS_ACROSS ≤ div_ceil n (8 * m)).
-      let more = mul-le (suc MAX_MCUS_ACROSS) (8 * m) (div_ceil n (8 * m)) (8 * m) k (omega arith) in
-      absurd (omega (arith, times.1, more)))
+    let more = mul-le (suc MAX_MCUS_ACROSS) (8 * m) (div_ceil n (8 * m)) (8 * m) k (omega arith) in
+    absurd (omega (arith, times.1, more)))
     (cases_lt (div_ceil n (8 * m)) (suc MAX_MCUS_ACROSS))
 
 positive : (a b n : ℕ) → 0 < n → n ≤ a * b → 0 < a

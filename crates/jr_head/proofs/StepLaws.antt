@@ -1,4 +1,4 @@
--- An item that passes its tests is read as it is spelled.
+-- A segment that passes its tests is read as it is spelled.
 use Rattle.std.proofs.Common.{◌≡◌, ◌≢◌, ℕ, zero, suc, ◌+◌, ◌-◌, ◌/◌, ◌%◌, ◌<◌, Bool, true, false, eqb, ltb, List, [], ◌∷◌, ◌++◌, length, take, drop, replicate, None, refl, sym, ap, subst, ◌∙◌, append_assoc, arith}
 use Rattle.std.specs.Prelude.{not, ◌&&◌, ◌==◌}
 use Rattle.std.specs.List.{prefix_len}
@@ -10,8 +10,8 @@ use Rattle.jr_head.specs.declared.refusal.Refusal.{Refusal}
 use Rattle.jr_head.specs.declared.refusal.Refusal.TheVariants.{EndsEarly, ExpectedMarker, UnexpectedMarker, NotBaseline, BadLength, SecondFrame, NoFrame}
 use Rattle.jr_head.specs.Bytes.{byte, word}
 use Rattle.jr_head.specs.Tests.{◌when◌, first_fault}
-use Rattle.jr_head.specs.Items.{Item, spelled, item_at, after_item, fill, at_code, is_frame, is_known, is_not_baseline, has_frame, marker_tests, code_tests, length_tests, framing_tests}
-use Rattle.jr_head.specs.Heads.{Passes, item_tests, payload_tests}
+use Rattle.jr_head.specs.Segments.{Segment, segment_bytes, segment_at, behind_segment, fill, at_code, is_frame, is_known, is_not_baseline, has_frame, marker_tests, code_tests, length_tests, framing_tests}
+use Rattle.jr_head.specs.Heads.{Passes, segment_tests, payload_tests}
 use Rattle.jr_head.proofs.TestLaws.{none_both}
 
 -- ---- fill bytes
@@ -56,9 +56,9 @@ rest_is c p rest short =
     let n : 1 + word 1 (tail_of c p rest) ≡ suc (suc (suc (length p))) = omega (arith, word_is c p rest short) in
     ap (λ (k : ℕ). drop k (tail_of c p rest)) n ∙ back_of p rest
 
-item_is : (f n c : ℕ) (t p rest : List ℕ) → length p + 2 < 65536 → f ≡ suc n → t ≡ tail_of c p rest
-    → (let i : Item = record { fill = f - 1; code = byte 0 t; payload = take (word 1 t - 2) (drop 3 t) } in i) ≡ record { fill = n; code = c; payload = p }
-item_is f n c t p rest short e g = let m : suc n - 1 ≡ n = omega arith in rw (e, g, m) (ap (λ (q : List ℕ). (let i : Item = record { fill = n; code = c; payload = q } in i)) (payload_is c p rest short))
+segment_is : (f n c : ℕ) (t p rest : List ℕ) → length p + 2 < 65536 → f ≡ suc n → t ≡ tail_of c p rest
+    → (let i : Segment = record { fill = f - 1; code = byte 0 t; payload = take (word 1 t - 2) (drop 3 t) } in i) ≡ record { fill = n; code = c; payload = p }
+segment_is f n c t p rest short e g = let m : suc n - 1 ≡ n = omega arith in rw (e, g, m) (ap (λ (q : List ℕ). (let i : Segment = record { fill = n; code = c; payload = q } in i)) (payload_is c p rest short))
 
 -- ---- the code
 
@@ -119,28 +119,28 @@ framing_there framed at n c bytes p rest short f t long passes =
 
 -- ---- the step
 
--- the bytes begin with this item, and its tests pass
-pub record IsNext (before : List Item) (bytes : List ℕ) (i : Item) (rest : List ℕ) : Type 0 where
-  pub item : item_at bytes ≡ i
-  pub after : after_item bytes ≡ rest
-  pub passes : (at : ℕ) → first_fault (item_tests before at bytes) ≡ None
+-- the bytes begin with this segment, and its tests pass
+pub record IsNext (before : List Segment) (bytes : List ℕ) (i : Segment) (rest : List ℕ) : Type 0 where
+  pub segment : segment_at bytes ≡ i
+  pub after : behind_segment bytes ≡ rest
+  pub passes : (at : ℕ) → first_fault (segment_tests before at bytes) ≡ None
 
-written : (i : Item) (rest : List ℕ) → spelled i ++ rest ≡ replicate (suc i.fill) PREFIX ++ tail_of i.code i.payload rest
-unfolding spelled
+written : (i : Segment) (rest : List ℕ) → segment_bytes i ++ rest ≡ replicate (suc i.fill) PREFIX ++ tail_of i.code i.payload rest
+unfolding segment_bytes
 written i rest = append_assoc (replicate (suc i.fill) PREFIX) (i.code ∷ (big_bytes 2 (length i.payload + 2) ++ i.payload)) rest
 
-next_item : (before : List Item) (i : Item) (bytes rest : List ℕ) → Passes before i → fill bytes ≡ suc i.fill → at_code bytes ≡ tail_of i.code i.payload rest → length bytes ≢ 0 → IsNext before bytes i rest
-next_item before i bytes rest ok f t long =
-    let same : item_at bytes ≡ i = item_is (fill bytes) i.fill i.code (at_code bytes) i.payload rest ok.short f t in
+next_segment : (before : List Segment) (i : Segment) (bytes rest : List ℕ) → Passes before i → fill bytes ≡ suc i.fill → at_code bytes ≡ tail_of i.code i.payload rest → length bytes ≢ 0 → IsNext before bytes i rest
+next_segment before i bytes rest ok f t long =
+    let same : segment_at bytes ≡ i = segment_is (fill bytes) i.fill i.code (at_code bytes) i.payload rest ok.short f t in
     record {
-      item = same;
+      segment = same;
       after = rw t (rest_is i.code i.payload rest ok.short);
-      passes = λ at. none_both (framing_tests (has_frame before) at bytes) (payload_tests before (item_at bytes).code (item_at bytes).payload)
+      passes = λ at. none_both (framing_tests (has_frame before) at bytes) (payload_tests before (segment_at bytes).code (segment_at bytes).payload)
           (framing_there (has_frame before) at i.fill i.code bytes i.payload rest ok.short f t long ok.code)
-          (subst (λ (x : Item). first_fault (payload_tests before x.code x.payload) ≡ None) (sym same) ok.payload);
+          (subst (λ (x : Segment). first_fault (payload_tests before x.code x.payload) ≡ None) (sym same) ok.payload);
     }
 
-pub next_is : (before : List Item) (i : Item) (bytes rest : List ℕ) → Passes before i → bytes ≡ spelled i ++ rest → IsNext before bytes i rest
+pub next_is : (before : List Segment) (i : Segment) (bytes rest : List ℕ) → Passes before i → bytes ≡ segment_bytes i ++ rest → IsNext before bytes i rest
 next_is before i bytes rest ok e =
     let known = code_known (has_frame before) i.code ok.code in
     let apart : eqb i.code PREFIX ≡ false = known_apart i.code PREFIX (eqb i.code PREFIX) refl refl known in
@@ -148,4 +148,4 @@ next_is before i bytes rest ok e =
     let f : fill bytes ≡ suc i.fill = ap fill w ∙ fill_is (suc i.fill) i.code (drop 1 (tail_of i.code i.payload rest)) apart in
     let t : at_code bytes ≡ tail_of i.code i.payload rest = ap (λ (n : ℕ). drop n bytes) f ∙ ap (drop (suc i.fill)) w ∙ behind_fill (suc i.fill) (tail_of i.code i.payload rest) in
     let long : length bytes ≢ 0 = λ z. omega (arith, z, ap length w, length-append (replicate (suc i.fill) PREFIX) (tail_of i.code i.payload rest), length-replicate {A = ℕ} (suc i.fill) PREFIX) in
-    next_item before i bytes rest ok f t long
+    next_segment before i bytes rest ok f t long

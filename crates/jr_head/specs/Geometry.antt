@@ -101,8 +101,8 @@ pub record IsSubsampled (across down : ℕ) (c : Component) : Type 0 where
 
 -- both code tables are lawful (Annex C)
 pub record IsCoded (c : Component) : Type 0 where
-  pub dc : codes.IsLawful c.dc.counts c.dc.symbols
-  pub ac : codes.IsLawful c.ac.counts c.ac.symbols
+  pub dc : codes.IsLawfulTable c.dc.counts c.dc.symbols
+  pub ac : codes.IsLawfulTable c.ac.counts c.ac.symbols
 
 -- what holds of the components of every accepted file
 pub record AreLawful (kind : Kind) (components : List Component) : Type 0 where

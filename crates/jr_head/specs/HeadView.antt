@@ -7,7 +7,7 @@ use Rattle.jr_head.specs.Geometry.{IsLawful, order_of, horizontal_max, vertical_
 abbrev pub head_value : Inside → HeadValue
 head_value h = record { width = h.width; height = h.height; kind = h.kind; components = h.components.items; restart = h.restart; scan_at = h.scan_at }
 
-pub record IsKept (h : Inside) : Type 0 where
+pub record KeepsHead (h : Inside) : Type 0 where
   pub lawful : IsLawful (head_value h)
   pub order : h.order.items ≡ order_of (head_value h)
   pub horizontal : h.horizontal_max ≡ horizontal_max (head_value h)

@@ -1,19 +1,22 @@
 //! Restart intervals (T.81, B.2.4.4).
 
-ghost use Rattle.std.specs.Prelude.{◌≡◌, ◌==◌, ◌∷◌, [], not, length, IfOk};
-ghost use Rattle.jr_base.specs.declared.marker.TheConstants.{DRI};
-ghost use Rattle.jr_head.specs.declared.refusal.Refusal.TheVariants.{BadLength};
-ghost use Rattle.jr_head.specs.Bytes.{word};
-ghost use Rattle.jr_head.specs.Tests.{Obeys, ◌when◌};
+ghost use Rattle.std.specs.Prelude.{◌≡◌, IfOk};
+ghost use Rattle.jr_head.specs.Tests.{Obeys};
+ghost use Rattle.jr_head.specs.Restart.{restart_interval, restart_tests};
 
-use jr_base::marker::DRI;
 use crate::refusal::Refusal;
 use byteorder::{BigEndian, ByteOrder};
+use jr_base::marker::DRI;
 
 /// Ri, the number of MCUs in a restart interval, 0 where there are no restart markers.
+///
+/// # Errors
+///
+/// `BadLength` where the payload has not two bytes.
+#[tactic(auto, unfolding(crate::specs::Restart::restart_tests))]
 pub(crate) fn read_restart(payload: &[u8]) -> Result<u16, Refusal>
-    ensures obeys { Obeys result ((BadLength DRI when not (length payload.now == 2)) ∷ []) }
-    ensures value { IfOk result (λ n. n ≡ word 0 payload.now) }
+    ensures obeys { Obeys result (restart_tests payload.now) }
+    ensures value { IfOk result (λ n. n ≡ restart_interval payload.now) }
 {
     if payload.len() != 2 {
         return Err(Refusal::BadLength(DRI));

@@ -45,7 +45,7 @@ same_raw r q a b s t hr hq hs ht e =
     (hr.means ∙ ap (map byte_spelled) p.0 ∙ sym hq.means, p.1)
 
 marker_stop : (tail : List ℕ) (code : ℕ) → HasMarker tail code → code ≢ 0 → code ≢ PREFIX → IsStop tail
-marker_stop tail code h not_0 not_255 = record { more = suc h.0; rest = code ∷ h.1; spelled = h.2 ∙ run_of h.0 code h.1; stops = inr (omega arith, code, h.1, not_0, not_255, refl) }
+marker_stop tail code h not_0 not_prefix = record { more = suc h.0; rest = code ∷ h.1; spelled = h.2 ∙ run_of h.0 code h.1; stops = inr (omega arith, code, h.1, not_0, not_prefix, refl) }
 
 ending_stop : (n k at : ℕ) (tail : List ℕ) (end : ScanEnd) → IsEnding n k at tail end → IsStop tail
 ending_stop n k at tail EndOfFile h = record { more = h.0; rest = []; spelled = h.1 ∙ sym (append-nil (replicate h.0 PREFIX)); stops = inl refl }
@@ -65,10 +65,10 @@ same_marker tail a b f g ha hb = (run_same (suc f.0) (suc g.0) a b f.1 g.1 ha hb
 no_marker : (tail : List ℕ) (a more : ℕ) → HasMarker tail a → a ≢ PREFIX → tail ≡ replicate more PREFIX → ⊥
 no_marker tail a more f ha e = run_end (suc f.0) more a f.1 ha (sym (run_of f.0 a f.1) ∙ sym f.2 ∙ e)
 
-other_217 : (c : ℕ) → (c < RST0) ⊎ ((c ≡ SOI) ⊎ (EOI < c)) → EOI ≡ c → ⊥
-other_217 c (inl l) e = omega arith
-other_217 c (inr (inl q)) e = omega arith
-other_217 c (inr (inr g)) e = omega arith
+other_end : (c : ℕ) → (c < RST0) ⊎ ((c ≡ SOI) ⊎ (EOI < c)) → EOI ≡ c → ⊥
+other_end c (inl l) e = omega arith
+other_end c (inr (inl q)) e = omega arith
+other_end c (inr (inr g)) e = omega arith
 
 other_restart : (c j : ℕ) → (c < RST0) ⊎ ((c ≡ SOI) ⊎ (EOI < c)) → j < 8 → RST0 + j ≡ c → ⊥
 other_restart c j (inl l) h e = omega arith
@@ -95,7 +95,7 @@ same_ending n k at tail EndOfImage EndOfFile h g = absurd (no_marker tail EOI g.
 same_ending n k at tail EndOfImage EndOfImage h g = refl
 same_ending n k at tail EndOfImage (ExtraRestart o') h g = let q = same_marker tail EOI (RST0 + g.0) h g.2 (λ e. omega arith) (λ e. omega (arith, g.1)) in absurd (omega (arith, q, g.1))
 same_ending n k at tail EndOfImage (OutOfStep f' x' o') h g = let q = same_marker tail EOI (RST0 + f') h g.1 (λ e. omega arith) (λ e. omega (arith, g.0)) in absurd (omega (arith, q, g.0))
-same_ending n k at tail EndOfImage (OtherMarker c' o') h g = absurd (other_217 c' g.3 (same_marker tail EOI c' h g.2 (λ e. omega arith) (λ e. omega (arith, g.1))))
+same_ending n k at tail EndOfImage (OtherMarker c' o') h g = absurd (other_end c' g.3 (same_marker tail EOI c' h g.2 (λ e. omega arith) (λ e. omega (arith, g.1))))
 same_ending n k at tail (ExtraRestart o) EndOfFile h g = absurd (no_marker tail (RST0 + h.0) g.0 h.2 (λ e. omega (arith, h.1)) g.1)
 same_ending n k at tail (ExtraRestart o) EndOfImage h g = let q = same_marker tail (RST0 + h.0) EOI h.2 g (λ e. omega (arith, h.1)) (λ e. omega arith) in absurd (omega (arith, q, h.1))
 same_ending n k at tail (ExtraRestart o) (ExtraRestart o') h g = ap ExtraRestart (h.4 ∙ sym g.4)
@@ -107,7 +107,7 @@ same_ending n k at tail (OutOfStep f x o) (ExtraRestart o') h g = absurd (omega 
 same_ending n k at tail (OutOfStep f x o) (OutOfStep f' x' o') h g = let q = same_marker tail (RST0 + f) (RST0 + f') h.1 g.1 (λ e. omega (arith, h.0)) (λ e. omega (arith, g.0)) in let a : f ≡ f' = omega (arith, q) in let b : x ≡ x' = h.3 ∙ sym g.3 in let c : o ≡ o' = h.5 ∙ sym g.5 in cc
 same_ending n k at tail (OutOfStep f x o) (OtherMarker c' o') h g = absurd (other_restart c' f g.3 h.0 (same_marker tail (RST0 + f) c' h.1 g.2 (λ e. omega (arith, h.0)) (λ e. omega (arith, g.1))))
 same_ending n k at tail (OtherMarker c o) EndOfFile h g = absurd (no_marker tail c g.0 h.2 (λ e. omega (arith, h.1)) g.1)
-same_ending n k at tail (OtherMarker c o) EndOfImage h g = absurd (other_217 c h.3 (sym (same_marker tail c EOI h.2 g (λ e. omega (arith, h.1)) (λ e. omega arith))))
+same_ending n k at tail (OtherMarker c o) EndOfImage h g = absurd (other_end c h.3 (sym (same_marker tail c EOI h.2 g (λ e. omega (arith, h.1)) (λ e. omega arith))))
 same_ending n k at tail (OtherMarker c o) (ExtraRestart o') h g = absurd (other_restart c g.0 h.3 g.1 (sym (same_marker tail c (RST0 + g.0) h.2 g.2 (λ e. omega (arith, h.1)) (λ e. omega (arith, g.1)))))
 same_ending n k at tail (OtherMarker c o) (OutOfStep f' x' o') h g = absurd (other_restart c f' h.3 g.0 (sym (same_marker tail c (RST0 + f') h.2 g.1 (λ e. omega (arith, h.1)) (λ e. omega (arith, g.0)))))
 same_ending n k at tail (OtherMarker c o) (OtherMarker c' o') h g = let a : c ≡ c' = same_marker tail c c' h.2 g.2 (λ e. omega (arith, h.1)) (λ e. omega (arith, g.1)) in let b : o ≡ o' = h.4 ∙ sym g.4 in cc

@@ -146,8 +146,8 @@ stop_some tail n code after s e not_ff = go s.stops
   where
     go : (s.rest ≡ []) ⊎ ((0 < s.more) × (code : ℕ) × (after : List ℕ) × (code ≢ 0) × (code ≢ PREFIX) × (s.rest ≡ code ∷ after)) → (0 < n) × (code ≢ 0)
     go (inl none) = absurd (run_end n s.more code after not_ff (sym e ∙ s.spelled ∙ ap (λ (x : List ℕ). replicate s.more PREFIX ++ x) none ∙ append-nil (replicate s.more PREFIX)))
-    go (inr (some, c, aft, not_0, not_255, is)) =
-        let r = run_same n s.more code c after aft not_ff not_255 (sym e ∙ s.spelled ∙ ap (λ (x : List ℕ). replicate s.more PREFIX ++ x) is) in
+    go (inr (some, c, aft, not_0, not_prefix, is)) =
+        let r = run_same n s.more code c after aft not_ff not_prefix (sym e ∙ s.spelled ∙ ap (λ (x : List ℕ). replicate s.more PREFIX ++ x) is) in
         (omega (arith, r.0, some), λ z. not_0 (sym r.1 ∙ z))
 
 -- a segment that was read at `at`, of len bytes

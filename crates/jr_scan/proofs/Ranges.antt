@@ -6,7 +6,7 @@ use Rattle.std.proofs.Math.ListN.{length-replicate}
 use Rattle.std.proofs.Math.Pow.{pow_mono}
 use Rattle.std.proofs.lemmas.Int.{ints}
 use Rattle.std.proofs.lemmas.Bool.{cases_lt}
-use Rattle.jr_code.specs.Bits.{number, extended, value}
+use Rattle.jr_code.specs.Bits.{number, extend, value}
 use Rattle.jr_code.specs.Code.{Table}
 use Rattle.jr_code.proofs.BitLemmas.{number_below}
 use Rattle.jr_scan.specs.Block.{AcCode, IsAcCode, entries, DifferenceAt, OthersAt, CodedAt, BlockAt, IsInDcRange, IsInRange}
@@ -22,7 +22,7 @@ Within m x = (x ≤ℤ pos m) × (pos 0 ≤ℤ (x +ℤ pos m))
 within_zero : (m : ℕ) → Within m (pos 0)
 within_zero m = (omega (arith, ints), omega (arith, ints))
 
-extended_within : (size v m : ℕ) → v < 2 ^ size → 2 ^ size ≤ m + 1 → Within m (extended size v)
+extended_within : (size v m : ℕ) → v < 2 ^ size → 2 ^ size ≤ m + 1 → Within m (extend size v)
 extended_within zero v m lt fits = within_zero m
 extended_within (suc s) v m lt fits =
     let e : suc s - 1 ≡ s = omega arith in

@@ -1,9 +1,9 @@
 -- What extra bits stand for.
 use Rattle.std.proofs.Common.{◌≡◌, ℕ, zero, suc, ◌-◌, ◌*◌, ◌<◌, ◌≤◌, ◌^◌, Bool, true, false, cond, refl, sym, ap, subst, ◌∙◌, arith}
 use Rattle.std.specs.Prelude.{pos, ◌+ℤ◌, ◌-ℤ◌, nat_le}
-use Rattle.jr_code.specs.Bits.{extended}
+use Rattle.jr_code.specs.Bits.{extend}
 
-pub extended_high : (size v : ℕ) → (size ≡ 0 → ⊥) → 2 ^ (size - 1) ≤ v → extended size v ≡ pos v
+pub extended_high : (size v : ℕ) → (size ≡ 0 → ⊥) → 2 ^ (size - 1) ≤ v → extend size v ≡ pos v
 extended_high zero v some h = absurd (some refl)
 extended_high (suc s) v some h =
     let e : suc s - 1 ≡ s = omega arith in
@@ -11,7 +11,7 @@ extended_high (suc s) v some h =
     let t : nat_le (2 ^ s) v ≡ true = grind (arith) in
     ap (λ (b : Bool). cond b (pos v) ((pos v -ℤ pos (2 ^ suc s)) +ℤ pos 1)) t
 
-pub extended_low : (size v : ℕ) → (size ≡ 0 → ⊥) → v < 2 ^ (size - 1) → extended size v ≡ (pos v -ℤ pos (2 * 2 ^ (size - 1))) +ℤ pos 1
+pub extended_low : (size v : ℕ) → (size ≡ 0 → ⊥) → v < 2 ^ (size - 1) → extend size v ≡ (pos v -ℤ pos (2 * 2 ^ (size - 1))) +ℤ pos 1
 extended_low zero v some h = absurd (some refl)
 extended_low (suc s) v some h =
     let e : suc s - 1 ≡ s = omega arith in
