@@ -5,15 +5,18 @@
 #![tactic(auto)]
 
 mod board;
+mod decoding;
 mod gate;
 mod headline;
 mod laws;
 mod mark;
 mod painting;
+mod sweeping;
 mod viewing;
 mod workers;
 
 pub use board::{Board, Unposted};
+pub use decoding::Decoding;
 pub use gate::{Gate, OpenGate};
 pub use headline::Counts;
 pub use jr_cells::{Cells, Sight};
