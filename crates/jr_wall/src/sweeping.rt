@@ -24,7 +24,7 @@ fn is_left(board: &Board, scan: &Scan, n: u32) -> bool
     }
     board.be_lawful();
     for i in n..scan.intervals() {
-        if board.mark_of(i) != Mark::Blank {
+        if board.mark(i) != Mark::Blank {
             return false;
         }
     }
@@ -73,7 +73,7 @@ pub(crate) fn sweep(alloc: Global, scan: &Scan, mut board: Board, n: u32) -> Res
 {
     board.be_lawful();
     for i in 0..n {
-        if board.mark_of(i) == Mark::Blank {
+        if board.mark(i) == Mark::Blank {
             decode_one(alloc, scan, &mut board, i)?;
         }
     }

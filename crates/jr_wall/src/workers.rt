@@ -40,7 +40,7 @@ pub fn work<R: Wait, G: Gate>(
     let mut sight = cells.sight().ok();
     while let Some(number) = desk.claim(seat) {
         gate.pass(number);
-        if let Some(piece) = made(alloc, scan, number, gate) {
+        if let Some(piece) = make_piece(alloc, scan, number, gate) {
             hang(cells, number, &piece, &mut sight);
             let _ = board.lock(rt).post(piece);
         }
@@ -48,7 +48,7 @@ pub fn work<R: Wait, G: Gate>(
 }
 
 /// The piece of an interval, which the gate has seen; none for want of memory.
-fn made<G: Gate>(alloc: Global, scan: &Scan, number: u32, gate: &G) -> Option<Arc<Piece>>
+fn make_piece<G: Gate>(alloc: Global, scan: &Scan, number: u32, gate: &G) -> Option<Arc<Piece>>
     requires { number < length scan.now.intervals }
     ensures { IfSome result (λ piece. (arc_value piece).interval.number ≡ number) }
 {
