@@ -3,7 +3,9 @@
 use crate::files::{COLOURED, COLOURED_DAMAGED, MIXED, TEN};
 use crate::scans::{glimpse, hung, look, piece, scan, shows};
 use jr_scan::Scan;
-use jr_wall::{Board, Cells, Decoding, Desk, Gate, Glimpse, Mark, OpenGate, Piece, decode_all, work};
+use jr_wall::{
+    Board, Cells, Decoding, Desk, Gate, Glimpse, Mark, OpenGate, Piece, decode_all, work,
+};
 use std::process::Abort;
 use std::sync::atomic::{AtomicU64, Ordering};
 use std::sync::{Arc, Mutex, Wait};
