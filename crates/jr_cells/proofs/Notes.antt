@@ -10,7 +10,7 @@ use Rattle.std.specs.Borrow.{Bor}
 use Rattle.once_cell.specs.Once.{cell_name, Agrees}
 use Rattle.jr_piece.specs.PieceValue.{PieceValue}
 use Rattle.jr_cells.specs.SightValue.{SightValue}
-use Rattle.jr_cells.specs.Sights.{CellNote, cells_of, pieces_of, piece_at, Knows, KnowsNothing, KnowsAll, KnowsMore}
+use Rattle.jr_cells.specs.Sights.{CellNote, cells_of, pieces_of, piece_in_cell, Knows, KnowsNothing, KnowsAll, KnowsMore}
 
 abbrev pub seen : List CellNote → SightValue
 seen ns = record { cells = cells_of ns; pieces = pieces_of 0 ns }
@@ -38,27 +38,27 @@ length-pieces_of : (k : ℕ) (ns : List CellNote) → length (pieces_of k ns) �
 length-pieces_of k [] = refl
 length-pieces_of k (n ∷ ns) = ap suc (length-pieces_of (k + 1) ns)
 
-pub piece_there : (k : ℕ) (ns : List CellNote) (i : ℕ) (d : CellNote) → i < length ns → get_or (pieces_of k ns) i None ≡ piece_at (k + i) (get_or ns i d).known
+pub piece_there : (k : ℕ) (ns : List CellNote) (i : ℕ) (d : CellNote) → i < length ns → get_or (pieces_of k ns) i None ≡ piece_in_cell (k + i) (get_or ns i d).known
 piece_there k [] i d h = absurd (omega arith)
-piece_there k (n ∷ ns) zero d h = let e : k ≡ k + 0 = omega arith in ap (λ (m : ℕ). piece_at m n.known) e
-piece_there k (n ∷ ns) (suc i) d h = let e : k + 1 + i ≡ k + suc i = omega arith in piece_there (k + 1) ns i d (omega arith) ∙ ap (λ (m : ℕ). piece_at m (get_or ns i d).known) e
+piece_there k (n ∷ ns) zero d h = let e : k ≡ k + 0 = omega arith in ap (λ (m : ℕ). piece_in_cell m n.known) e
+piece_there k (n ∷ ns) (suc i) d h = let e : k + 1 + i ≡ k + suc i = omega arith in piece_there (k + 1) ns i d (omega arith) ∙ ap (λ (m : ℕ). piece_in_cell m (get_or ns i d).known) e
 
-pieces_set : (k : ℕ) (ns : List CellNote) (i : ℕ) (n : CellNote) → pieces_of k (set ns i n) ≡ set (pieces_of k ns) i (piece_at (k + i) n.known)
+pieces_set : (k : ℕ) (ns : List CellNote) (i : ℕ) (n : CellNote) → pieces_of k (set ns i n) ≡ set (pieces_of k ns) i (piece_in_cell (k + i) n.known)
 pieces_set k [] i n = refl
-pieces_set k (m ∷ ns) zero n = let e : k ≡ k + 0 = omega arith in ap (λ (j : ℕ). piece_at j n.known ∷ pieces_of (k + 1) ns) e
-pieces_set k (m ∷ ns) (suc i) n = let e : k + 1 + i ≡ k + suc i = omega arith in ap (λ (l : List (Option PieceValue)). piece_at k m.known ∷ l) (pieces_set (k + 1) ns i n ∙ ap (λ (j : ℕ). set (pieces_of (k + 1) ns) i (piece_at j n.known)) e)
+pieces_set k (m ∷ ns) zero n = let e : k ≡ k + 0 = omega arith in ap (λ (j : ℕ). piece_in_cell j n.known ∷ pieces_of (k + 1) ns) e
+pieces_set k (m ∷ ns) (suc i) n = let e : k + 1 + i ≡ k + suc i = omega arith in ap (λ (l : List (Option PieceValue)). piece_in_cell k m.known ∷ l) (pieces_set (k + 1) ns i n ∙ ap (λ (j : ℕ). set (pieces_of (k + 1) ns) i (piece_in_cell j n.known)) e)
 
 -- what the new note knows is known there, and what was known elsewhere stays
-pub here : (ns : List CellNote) (i : ℕ) (n : CellNote) → i < length ns → get_or (pieces_of 0 (set ns i n)) i None ≡ piece_at i n.known
+pub here : (ns : List CellNote) (i : ℕ) (n : CellNote) → i < length ns → get_or (pieces_of 0 (set ns i n)) i None ≡ piece_in_cell i n.known
 here ns i n h =
     let e : 0 + i ≡ i = omega arith in
-    ap (λ (l : List (Option PieceValue)). get_or l i None) (pieces_set 0 ns i n) ∙ get_or-set_same (pieces_of 0 ns) i (piece_at (0 + i) n.known) None (omega (arith, length-pieces_of 0 ns)) ∙ ap (λ (j : ℕ). piece_at j n.known) e
+    ap (λ (l : List (Option PieceValue)). get_or l i None) (pieces_set 0 ns i n) ∙ get_or-set_same (pieces_of 0 ns) i (piece_in_cell (0 + i) n.known) None (omega (arith, length-pieces_of 0 ns)) ∙ ap (λ (j : ℕ). piece_in_cell j n.known) e
 
 elsewhere : (ns : List CellNote) (i j : ℕ) (n : CellNote) → j ≢ i → get_or (pieces_of 0 (set ns i n)) j None ≡ get_or (pieces_of 0 ns) j None
-elsewhere ns i j n apart = ap (λ (l : List (Option PieceValue)). get_or l j None) (pieces_set 0 ns i n) ∙ get_or-set_other (pieces_of 0 ns) i j (piece_at (0 + i) n.known) None apart
+elsewhere ns i j n apart = ap (λ (l : List (Option PieceValue)). get_or l j None) (pieces_set 0 ns i n) ∙ get_or-set_other (pieces_of 0 ns) i j (piece_in_cell (0 + i) n.known) None apart
 
-was : (ns : List CellNote) (i : ℕ) (old : CellNote) → i < length ns → old ≡ get_or ns i old → get_or (pieces_of 0 ns) i None ≡ piece_at i old.known
-was ns i old h e = let z : 0 + i ≡ i = omega arith in piece_there 0 ns i old h ∙ ap (λ (m : CellNote). piece_at (0 + i) m.known) (sym e) ∙ ap (λ (j : ℕ). piece_at j old.known) z
+was : (ns : List CellNote) (i : ℕ) (old : CellNote) → i < length ns → old ≡ get_or ns i old → get_or (pieces_of 0 ns) i None ≡ piece_in_cell i old.known
+was ns i old h e = let z : 0 + i ≡ i = omega arith in piece_there 0 ns i old h ∙ ap (λ (m : CellNote). piece_in_cell (0 + i) m.known) (sym e) ∙ ap (λ (j : ℕ). piece_in_cell j old.known) z
 
 pub knows_all : (ns : List CellNote) (i : ℕ) (old new : CellNote) → i < length ns → old ≡ get_or ns i old → KnowsMore i old new → KnowsAll (seen ns) (seen (set ns i new))
 knows_all ns i old new h e more j p knew = dite (ℕ_discrete j i)
@@ -72,30 +72,30 @@ set_piece (x ∷ xs) zero p h e = λ j. e j ∷ xs
 set_piece (x ∷ xs) (suc i) p h e = λ j. x ∷ set_piece xs i p (omega arith) e j
 
 -- a note that knows no more changes nothing
-pub unchanged : (ns : List CellNote) (i : ℕ) (old new : CellNote) → i < length ns → old ≡ get_or ns i old → new.cell ≡ old.cell → piece_at i new.known ≡ piece_at i old.known → seen (set ns i new) ≡ seen ns
+pub unchanged : (ns : List CellNote) (i : ℕ) (old new : CellNote) → i < length ns → old ≡ get_or ns i old → new.cell ≡ old.cell → piece_in_cell i new.known ≡ piece_in_cell i old.known → seen (set ns i new) ≡ seen ns
 unchanged ns i old new h e cell known =
     let z : 0 + i ≡ i = omega arith in
     let cells = cells_set ns i old new h e cell in
-    let pieces = pieces_set 0 ns i new ∙ set_piece (pieces_of 0 ns) i (piece_at (0 + i) new.known) (omega (arith, length-pieces_of 0 ns)) (ap (λ (j : ℕ). piece_at j new.known) z ∙ known ∙ sym (was ns i old h e)) in
+    let pieces = pieces_set 0 ns i new ∙ set_piece (pieces_of 0 ns) i (piece_in_cell (0 + i) new.known) (omega (arith, length-pieces_of 0 ns)) (ap (λ (j : ℕ). piece_in_cell j new.known) z ∙ known ∙ sym (was ns i old h e)) in
     λ k. record { cells = cells k; pieces = pieces k }
 
 -- what a look into cell i found
 pub looked : (ns : List CellNote) (i : ℕ) (new : CellNote) (r : Option (Bor PieceValue)) → i < length ns
-    → IfSome r (λ p. (p.now.interval.number ≡ i) × (piece_at i new.known ≡ Some p.now))
+    → IfSome r (λ p. (p.now.interval.number ≡ i) × (piece_in_cell i new.known ≡ Some p.now))
     → IfSome r (λ p. (p.now.interval.number ≡ i) × Knows (seen (set ns i new)) i p.now)
 looked ns i new None h m = tt
 looked ns i new (Some p) h m = (m.0, here ns i new h ∙ m.1)
 
 -- what a look into cell i did not find
 pub overlooked : (ns : List CellNote) (i : ℕ) (old new : CellNote) (r : Option (Bor PieceValue)) → i < length ns → old ≡ get_or ns i old → new.cell ≡ old.cell
-    → IfNone r ((piece_at i new.known ≡ None) × (piece_at i old.known ≡ None))
+    → IfNone r ((piece_in_cell i new.known ≡ None) × (piece_in_cell i old.known ≡ None))
     → IfNone r ((seen (set ns i new) ≡ seen ns) × KnowsNothing (seen ns) i)
 overlooked ns i old new None h e cell m = (unchanged ns i old new h e cell (m.0 ∙ sym m.1), was ns i old h e ∙ m.1)
 overlooked ns i old new (Some p) h e cell m = tt
 
 -- a piece that was hung into cell i is known there
 pub hung : {E : Type 0} (ns : List CellNote) (i : ℕ) (new : CellNote) (given piece : Arc PieceValue Global) (r : Result (Unit {0}) E) → i < length ns → given ≡ piece
-    → IfOk r (λ _. piece_at i new.known ≡ Some (arc_value given))
+    → IfOk r (λ _. piece_in_cell i new.known ≡ Some (arc_value given))
     → IfOk r (λ _. Knows (seen (set ns i new)) i (arc_value piece))
 hung ns i new given piece (Ok u) h e m = here ns i new h ∙ m ∙ ap (λ (a : Arc PieceValue Global). Some (arc_value a)) e
 hung ns i new given piece (Err x) h e m = tt
@@ -108,7 +108,7 @@ picked : (b : Bool) (a : Arc PieceValue Global) (p : PieceValue) → cond b (Som
 picked true a p e = cc
 picked false a p e = cc
 
-found : (i : ℕ) (m n : Option (Arc PieceValue Global)) (p q : PieceValue) → IfSome n (Agrees m) → piece_at i m ≡ Some p → piece_at i n ≡ Some q → p ≡ q
+found : (i : ℕ) (m n : Option (Arc PieceValue Global)) (p q : PieceValue) → IfSome n (Agrees m) → piece_in_cell i m ≡ Some p → piece_in_cell i n ≡ Some q → p ≡ q
 found i None n p q h e f = cc
 found i (Some a) None p q h e f = cc
 found i (Some a) (Some b) p q h e f = sym (picked ((arc_value a).interval.number == i) a p e) ∙ ap (λ (x : Arc PieceValue Global). arc_value x) h ∙ picked ((arc_value b).interval.number == i) b q f
@@ -136,7 +136,7 @@ set_back (x ∷ xs) (suc i) m n e f = λ j. x ∷ set_back xs i m n e f j
 
 pub fresh_pieces : (k : ℕ) (ns : List CellNote) → ((i : ℕ) (d : CellNote) → i < length ns → (get_or ns i d).known ≡ None) → pieces_of k ns ≡ replicate (length ns) None
 fresh_pieces k [] h = refl
-fresh_pieces k (n ∷ ns) h = let e : piece_at k n.known ≡ None = ap (piece_at k) (h zero n (omega arith)) in λ j. e j ∷ fresh_pieces (k + 1) ns (λ i d l. h (suc i) d (omega arith)) j
+fresh_pieces k (n ∷ ns) h = let e : piece_in_cell k n.known ≡ None = ap (piece_in_cell k) (h zero n (omega arith)) in λ j. e j ∷ fresh_pieces (k + 1) ns (λ i d l. h (suc i) d (omega arith)) j
 
 pub same_cell : (a b : List CellNote) (i : ℕ) (m n : CellNote) → cells_of a ≡ cells_of b → i < length a → m ≡ get_or a i m → n ≡ get_or b i n → n.cell ≡ m.cell
 same_cell a b i m n e h f g =

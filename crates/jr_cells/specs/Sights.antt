@@ -12,9 +12,9 @@ abbrev pub CellNote : Type 0
 CellNote = Note (Arc PieceValue Global)
 
 -- a piece in cell i counts only if it is of interval i
-abbrev pub piece_at : ℕ → Option (Arc PieceValue Global) → Option PieceValue
-piece_at i None = None
-piece_at i (Some p) = cond ((arc_value p).interval.number == i) (Some (arc_value p)) None
+abbrev pub piece_in_cell : ℕ → Option (Arc PieceValue Global) → Option PieceValue
+piece_in_cell i None = None
+piece_in_cell i (Some p) = cond ((arc_value p).interval.number == i) (Some (arc_value p)) None
 
 -- the cells that these notes are of
 abbrev pub cells_of : List CellNote → List ℕ
@@ -23,7 +23,7 @@ cells_of ns = map (λ n. n.cell) ns
 -- the pieces that they know in the cells from i on
 abbrev pub pieces_of : ℕ → List CellNote → List (Option PieceValue)
 pieces_of i [] = []
-pieces_of i (n ∷ ns) = piece_at i n.known ∷ pieces_of (i + 1) ns
+pieces_of i (n ∷ ns) = piece_in_cell i n.known ∷ pieces_of (i + 1) ns
 
 -- the sight knows this piece in cell i
 abbrev pub Knows : SightValue → ℕ → PieceValue → Type 0
@@ -43,4 +43,4 @@ Agree a b = (i : ℕ) (p q : PieceValue) → Knows a i p → Knows b i q → p �
 
 -- the new note of cell i knows what the old one knew
 abbrev pub KnowsMore : ℕ → CellNote → CellNote → Type 0
-KnowsMore i old new = (new.cell ≡ old.cell) × ((p : PieceValue) → piece_at i old.known ≡ Some p → piece_at i new.known ≡ Some p)
+KnowsMore i old new = (new.cell ≡ old.cell) × ((p : PieceValue) → piece_in_cell i old.known ≡ Some p → piece_in_cell i new.known ≡ Some p)

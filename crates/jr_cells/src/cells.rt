@@ -4,7 +4,7 @@ ghost use Rattle.std.specs.Prelude.{◌≡◌, ℕ, ◌<◌, length, replicate, 
 ghost use Rattle.std.specs.Arc.{arc_value};
 ghost use Rattle.once_cell.specs.Once.{cell_name};
 ghost use Rattle.jr_piece.specs.Outcome.{IsOutcome};
-ghost use Rattle.jr_cells.specs.Sights.{piece_at, Knows, KnowsNothing, KnowsAll, KnowsMore, Agree};
+ghost use Rattle.jr_cells.specs.Sights.{piece_in_cell, Knows, KnowsNothing, KnowsAll, KnowsMore, Agree};
 
 use jr_code::Memory;
 use jr_piece::Piece;
@@ -135,7 +135,7 @@ fn set_cell(
     requires cell { note.old.cell ≡ cell_name cell.now }
     requires number { (arc_value piece.value).interval.number ≡ i }
     ensures later { KnowsMore i note.old note.new }
-    ensures ok { IfOk result (λ _. piece_at i note.new.known ≡ Some (arc_value piece.value)) }
+    ensures ok { IfOk result (λ _. piece_in_cell i note.new.known ≡ Some (arc_value piece.value)) }
     ensures err { IfErr result (λ back. back ≡ piece.value) }
 {
     match cell.set_as(piece, note) {
@@ -152,9 +152,9 @@ fn look_cell<'a>(
 ) -> Option<&'a Piece>
     requires { note.old.cell ≡ cell_name cell.now }
     ensures later { KnowsMore i note.old note.new }
-    ensures some { IfSome result (λ p. (p.now.interval.number ≡ i) × (piece_at i note.new.known ≡ Some p.now)) }
+    ensures some { IfSome result (λ p. (p.now.interval.number ≡ i) × (piece_in_cell i note.new.known ≡ Some p.now)) }
     ensures outcome { IfSome result (λ p. IsOutcome p.now) }
-    ensures none { IfNone result ((piece_at i note.new.known ≡ None) × (piece_at i note.old.known ≡ None)) }
+    ensures none { IfNone result ((piece_in_cell i note.new.known ≡ None) × (piece_in_cell i note.old.known ≡ None)) }
 {
     let piece: &Piece = match cell.get_as(note) {
         Some(piece) => piece,

@@ -14,9 +14,7 @@ use std::marker::Model;
 #[derive(Drop)]
 pub struct Piece {
     interval: Interval,
-    is_sound: bool,
-    front: u32,
-    samples: Vec<[u8; 64]>,
+    decoded: Decoded,
 }
 
 impl Model for Piece {
@@ -24,11 +22,11 @@ impl Model for Piece {
 
     ghost Value = { PieceValue };
 
-    ghost view = { λ p. record { interval = p.interval; is_sound = p.is_sound; front = p.front; samples = p.samples.items } };
+    ghost view = { λ p. record { interval = p.interval; is_sound = p.decoded.is_sound; front = p.decoded.front; samples = p.decoded.samples.items } };
 
     ghost use Rattle.jr_piece.specs.Outcome.{IsOutcome};
 
-    ghost invariant = { λ p. IsOutcome (record { interval = p.interval; is_sound = p.is_sound; front = p.front; samples = p.samples.items }) };
+    ghost invariant = { λ p. IsOutcome (record { interval = p.interval; is_sound = p.decoded.is_sound; front = p.decoded.front; samples = p.decoded.samples.items }) };
 }
 
 impl Piece {
@@ -39,19 +37,7 @@ impl Piece {
         ensures err { IfErr result (λ back. back ≡ interval) }
     {
         match decode(alloc, &interval) {
-            Ok(decoded) => {
-                let Decoded {
-                    is_sound,
-                    front,
-                    samples,
-                } = decoded;
-                Ok(Piece {
-                    interval,
-                    is_sound,
-                    front,
-                    samples,
-                })
-            }
+            Ok(decoded) => Ok(Piece { interval, decoded }),
             Err(_) => Err(interval),
         }
     }
@@ -60,7 +46,7 @@ impl Piece {
     pub fn be_outcome(&self)
         ensures { IsOutcome self.now }
     {
-        let _ = &self.samples;
+        let _ = &self.decoded;
     }
 
     /// The number of its interval.
@@ -74,21 +60,21 @@ impl Piece {
     pub fn is_sound(&self) -> bool
         ensures { result ≡ self.now.is_sound }
     {
-        self.is_sound
+        self.decoded.is_sound
     }
 
     /// How many whole MCUs it shows.
     pub fn front(&self) -> u32
         ensures { result ≡ self.now.front }
     {
-        self.front
+        self.decoded.front
     }
 
     /// The samples of data unit k of the interval, none past the front.
     pub fn unit(&self, k: usize) -> Option<&[u8; 64]>
         ensures { option_copied result ≡ slice_get self.now.samples k }
     {
-        self.samples.get(k)
+        self.decoded.samples.get(k)
     }
 
     /// The samples of data unit k of the interval, `8 row + column`; none past the front.

@@ -1,4 +1,4 @@
 pub mod Pieces
 pub mod Lines
-pub mod Seen
+pub mod BoardPictures
 pub mod Pictures

@@ -2,7 +2,7 @@
 
 ghost use Rattle.jr_wall.specs.Boards.{marks_of};
 ghost use Rattle.jr_wall.specs.Headline.{IsPicture, AreCounts};
-ghost use Rattle.jr_wall.specs.Shown.{shown};
+ghost use Rattle.jr_wall.specs.Samples.{samples_of};
 
 use crate::board::Board;
 use jr_paint::Samples;
@@ -23,7 +23,7 @@ impl Board {
     /// that T.81 gives for it; one marked damaged has no decoding, and shows its longest decodable front of whole MCUs and
     /// then grey; every other is blank. The counts equal the marks.
     pub fn headline(&self) -> Counts
-        ensures picture { IsPicture self.now.scan (marks_of self.now) (shown self.now) }
+        ensures picture { IsPicture self.now.scan (marks_of self.now) (samples_of self.now) }
         ensures counts { AreCounts (marks_of self.now) result.sound result.damaged result.blank }
     {
         self.be_lawful();

@@ -5,21 +5,24 @@
 #![tactic(auto)]
 
 mod board;
+mod decoding;
 mod gate;
+mod glimpse;
 mod headline;
 mod laws;
 mod mark;
 mod painting;
-mod viewing;
+mod sweeping;
 mod workers;
 
 pub use board::{Board, Unposted};
+pub use decoding::Decoding;
 pub use gate::{Gate, OpenGate};
+pub use glimpse::{Glimpse, glance};
 pub use headline::Counts;
 pub use jr_cells::{Cells, Sight};
 pub use jr_desk::{Desk, Drawn, Seat};
 pub use jr_piece::{Piece, one_outcome};
 pub use laws::one_picture;
 pub use mark::Mark;
-pub use viewing::{Glimpse, glance};
 pub use workers::{decode_all, work};

@@ -2,21 +2,23 @@
 use Rattle.std.proofs.Common.{◌≡◌, ℕ, ◌-◌, ◌⊎◌, inl, inr, List, [], ◌++◌, length, drop, replicate, Option, sym, ap, subst, ◌∙◌}
 use Rattle.jr_head.specs.HeadValue.{HeadValue}
 use Rattle.jr_head.specs.Heads.{HeadOf, HasOneHead, HasOneFault}
-use Rattle.jr_head.specs.Geometry.{IsLawful}
 use Rattle.jr_paint.specs.Text.{text_of}
 use Rattle.jr_scan.specs.declared.scan_end.ScanEnd.{ScanEnd}
 use Rattle.jr_scan.specs.Cut.{Cutting, IsCut}
 use Rattle.jr_scan.specs.ScanValue.{ScanValue, IsScanOf, intervals_of}
 use Rattle.jr_wall.specs.declared.mark.Mark.{Mark}
-use Rattle.jr_wall.specs.Headline.{IsPicture, AreFirst}
+use Rattle.jr_wall.specs.Decoded.{least}
+use Rattle.jr_wall.specs.Headline.{ShowsFirst, HasOnePicture}
 use Rattle.jri_engine.specs.Files.{IsPictureOf}
 
 abbrev OneCut : Type 0
 OneCut = (n at : ℕ) (bytes : List ℕ) (a b : Cutting n at bytes) → (a.datas ≡ b.datas) × (a.end ≡ b.end)
 
 abbrev OnePicture : Type 0
-OnePicture = (scan : ScanValue) (n : ℕ) (k m : List Mark) (f g : ℕ → ℕ → ℕ → ℕ) → IsLawful scan.head → IsPicture scan k f → IsPicture scan m g → AreFirst n k → AreFirst n m
-    → (k ≡ m) × (text_of scan.head f ≡ text_of scan.head g)
+OnePicture = (scan : ScanValue) (n : ℕ) → HasOnePicture scan n
+
+shows_first : (file : List ℕ) (first : Option ℕ) (s : ScanValue) (k : List Mark) (f : ℕ → ℕ → ℕ → ℕ) → IsPictureOf file first s k f → ShowsFirst s (least first (length s.intervals)) k f
+shows_first file first s k f p = record { lawful = p.is_scan.lawful; picture = p.picture; first = p.decoded }
 
 one_head : (file : List ℕ) (a b : HeadValue) → HasOneHead file ⊎ HasOneFault file → HeadOf file a → HeadOf file b → a ≡ b
 one_head file a b (inl one) p q = one.only a p ∙ sym (one.only b q)
@@ -40,5 +42,7 @@ pub one_text : (file : List ℕ) (first : Option ℕ) → HasOneHead file ⊎ Ha
 one_text file first one cut picture s t k m f g p q =
     let e : s ≡ t = one_scan file s t cut (one_head file s.head t.head one p.is_scan.head q.is_scan.head) p.is_scan.cut q.is_scan.cut in
     let there = subst (λ (v : ScanValue). IsPictureOf file first v k f) e p in
-    let same = picture t _ k m f g q.is_scan.lawful there.picture q.picture there.decoded q.decoded in
-    (e, same.0, ap (λ (v : ScanValue). text_of v.head f) e ∙ same.1)
+    let one = picture t (least first (length t.intervals)) in
+    let left = shows_first file first t k f there in
+    let right = shows_first file first t m g q in
+    (e, one.marks k m f g left right, ap (λ (v : ScanValue). text_of v.head f) e ∙ one.text k m f g left right)

@@ -1,8 +1,5 @@
 //! What the words of a command line ask for, or why they ask for nothing.
 
-ghost use Rattle.std.specs.Prelude.{◌≡◌};
-ghost use Rattle.jri_engine.specs.Status.{unasked_status};
-
 use std::alloc::AllocError;
 
 /// What the words ask for.
@@ -25,19 +22,6 @@ pub enum Unasked {
     Wrong(String),
     /// Memory ran out.
     Memory,
-}
-
-impl Unasked {
-    /// The exit status: 0 for help, 2 for wrong words, 1 for want of memory.
-    pub fn status(&self) -> u8
-        ensures { result ≡ unasked_status self.now }
-    {
-        match self {
-            Unasked::Help(_) => 0,
-            Unasked::Wrong(_) => 2,
-            Unasked::Memory => 1,
-        }
-    }
 }
 
 impl From<AllocError> for Unasked {

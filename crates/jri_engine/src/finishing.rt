@@ -63,15 +63,6 @@ fn write_fault<E: Write>(errors: &mut E, fault: Fault) -> IoResult<()> {
     }
 }
 
-fn status_of(fault: Fault) -> u8
-    ensures { result ≡ fault_status fault }
-{
-    match fault {
-        Fault::Refused(_) => 2,
-        Fault::Read | Fault::Memory | Fault::Write | Fault::NoFile => 1,
-    }
-}
-
 /// Flushes the picture where there is one, writes the report or the fault to `errors`, whose faults are passed over,
 /// and answers the exit status: 0 or, with a damaged interval, 3; 2 for a refused file; 1 for devices and memory. A
 /// flush that fails is a picture that could not be written.
@@ -93,11 +84,11 @@ pub fn finish<W: Write, E: Write>(
     match outcome {
         Ok(report) => {
             let _ = write_report(errors, &report);
-            if report.damaged == 0 { 0 } else { 3 }
+            report.status()
         }
         Err(fault) => {
             let _ = write_fault(errors, fault);
-            status_of(fault)
+            fault.status()
         }
     }
 }

@@ -8,6 +8,7 @@ mod finishing;
 mod laws;
 mod reading;
 mod report;
+mod status;
 
 pub use answers::{Asked, Unasked};
 pub use asking::asked;

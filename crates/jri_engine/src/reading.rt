@@ -16,11 +16,14 @@ pub(crate) enum Unread {
     Memory,
 }
 
+/// One byte more than a file may have.
+pub(crate) const TOO_MANY: usize = MAX_FILE_BYTES + 1;
+
 /// How many bytes are asked of the input at once.
 const PART: usize = 65_536;
 
 /// The bytes of the input, to its end or up to the limit. Any error ends it, an interrupted call too.
-fn read_at_most<R: Read>(
+pub(crate) fn read_at_most<R: Read>(
     alloc: Global,
     input: &mut Tally<R>,
     limit: usize,
@@ -48,16 +51,4 @@ fn read_at_most<R: Read>(
         }
     }
     Ok(bytes)
-}
-
-/// All bytes of the input, or one more than a file may have.
-pub(crate) fn read_input<R: Read>(alloc: Global, input: &mut Tally<R>) -> Result<Vec<u8>, Unread>
-    requires { has_failed input.old ≡ false }
-    ensures bytes { IfOk result (λ v. IfSome (known_in R.remaining input.old) (λ xs. v.items ≡ take (MAX_FILE_BYTES + 1) xs)) }
-    ensures few { IfOk result (λ v. vec_len v ≤ MAX_FILE_BYTES + 1) }
-    ensures unfailed { OnOk result (has_failed input.new ≡ false) }
-    ensures failed { result ≡ Err Unread.Read → has_failed input.new ≡ true }
-    ensures memory { result ≡ Err Unread.Memory → has_failed input.new ≡ false }
-{
-    read_at_most(alloc, input, MAX_FILE_BYTES + 1)
 }

@@ -1,13 +1,12 @@
 //! What workers leave of damaged intervals: marks, pieces in cells, and calls of the gate.
 
-use crate::crew::decode_by_two;
 use crate::files::MIXED;
 use crate::scans::{hung, marks, scan};
-use jr_wall::{Board, Cells, Gate, Piece};
+use jr_wall::{Decoding, Gate, Piece};
 use std::alloc::{AllocError, Global};
 use std::process::Abort;
 use std::sync::atomic::{AtomicU64, Ordering};
-use std::sync::{Arc, Mutex, Wait};
+use std::sync::{Arc, Wait};
 use std::test::Fail;
 use std::thread::Threads;
 
@@ -102,15 +101,15 @@ fn check<R: Threads + Wait + Sync + Abort>(
     let scan = scan(alloc, words)?;
     let decoded = letters.trim_end_matches('-');
     let gate = Notes::new(alloc, scan.intervals())?;
-    let cells = Cells::open(alloc, u32::try_from(decoded.len())?)?;
-    let board = Mutex::new(Board::new(alloc, Arc::try_clone(&scan)?)?);
-    assert!(rt; decode_by_two(rt, alloc, &scan, &board, &cells, &gate));
+    let first = u32::try_from(decoded.len())?;
+    let (decoding, seats) = Decoding::open(alloc, Arc::try_clone(&scan)?, 2, Some(first))?;
+    decoding.run(rt, seats, &gate, |_| {});
     let told = gate.letters(alloc)?;
     assert!(rt; told.as_str() == letters, "the gate was told {told}");
     assert!(rt; counted(&gate.wrong) == 0);
-    let hung = hung(alloc, &cells)?;
+    let hung = hung(alloc, decoding.cells())?;
     assert!(rt; hung.as_str() == decoded, "in the cells hang {hung}");
-    let marks = marks(alloc, &scan, &board.into_inner())?;
+    let marks = marks(alloc, &scan, &decoding.board().lock(rt))?;
     assert!(rt; marks.as_str() == letters, "the marks are {marks}");
     Ok(())
 }

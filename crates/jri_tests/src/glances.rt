@@ -1,10 +1,11 @@
 //! What glances at a board see: before, while and after workers fill it.
 
-use crate::crew::decode_by_two;
 use crate::files::{COLOURED, COLOURED_DAMAGED, MIXED, TEN};
 use crate::scans::{glimpse, hung, look, piece, scan, shows};
 use jr_scan::Scan;
-use jr_wall::{Board, Cells, Desk, Gate, Glimpse, Mark, OpenGate, Piece, decode_all, work};
+use jr_wall::{
+    Board, Cells, Decoding, Desk, Gate, Glimpse, Mark, OpenGate, Piece, decode_all, work,
+};
 use std::process::Abort;
 use std::sync::atomic::{AtomicU64, Ordering};
 use std::sync::{Arc, Mutex, Wait};
@@ -67,17 +68,16 @@ fn is_seen<R: Wait>(rt: &R, scan: &Scan, board: &Mutex<Board>, n: u32) -> bool {
     true
 }
 
-/// The first intervals of the mixed file, decoded by a caller's own workers and by `decode_all`.
+/// The first intervals of the mixed file, decoded by the workers of a decoding and by `decode_all`.
 #[test]
 fn after_workers(rt: HostRuntime) -> Result<(), Fail> {
     let alloc = rt.alloc();
     let scan = scan(alloc, MIXED)?;
     for n in 0..=10u32 {
-        let cells = Cells::open(alloc, n)?;
-        let board = Mutex::new(Board::new(alloc, Arc::try_clone(&scan)?)?);
-        assert!(rt; is_seen(&rt, &scan, &board, 0), "before {n}");
-        assert!(rt; decode_by_two(&rt, alloc, &scan, &board, &cells, &OpenGate));
-        assert!(rt; is_seen(&rt, &scan, &board, n), "after {n}");
+        let (decoding, seats) = Decoding::open(alloc, Arc::try_clone(&scan)?, 2, Some(n))?;
+        assert!(rt; is_seen(&rt, &scan, decoding.board(), 0), "before {n}");
+        decoding.run(&rt, seats, &OpenGate, |_| {});
+        assert!(rt; is_seen(&rt, &scan, decoding.board(), n), "after {n}");
         let board = decode_all(&rt, alloc, Arc::try_clone(&scan)?, 2, Some(n), &OpenGate)?;
         assert!(rt; is_seen(&rt, &scan, &Mutex::new(board), n), "{n} of all");
     }
@@ -214,18 +214,15 @@ fn view<R: Wait>(rt: &R, scan: &Scan, board: &Mutex<Board>) -> bool {
 fn beside_two_workers(rt: HostRuntime) -> Result<(), Fail> {
     let alloc = rt.alloc();
     let scan = scan(alloc, TEN)?;
-    let cells = Cells::open(alloc, 10)?;
-    let board = Mutex::new(Board::new(alloc, Arc::try_clone(&scan)?)?);
-    let (is_lawful, is_decoded) = thread::join(
-        &rt,
-        || view(&rt, &scan, &board),
-        || decode_by_two(&rt, alloc, &scan, &board, &cells, &OpenGate),
-    );
-    assert!(rt; is_lawful && is_decoded);
-    let filled = board.into_inner();
+    let (decoding, seats) = Decoding::open(alloc, Arc::try_clone(&scan)?, 2, None)?;
+    let is_lawful = decoding.run(&rt, seats, &OpenGate, |decoding| {
+        view(&rt, &scan, decoding.board())
+    });
+    assert!(rt; is_lawful);
+    assert!(rt; hung(alloc, decoding.cells())?.as_str() == "ssssssssss");
+    let filled = decoding.finish()?;
     assert!(rt; is_as_marked(&scan, &filled));
     assert_eq!(rt; filled.sound(), 10);
-    assert!(rt; hung(alloc, &cells)?.as_str() == "ssssssssss");
     Ok(())
 }
 

@@ -11,8 +11,6 @@ mod changed;
 #[cfg(test)]
 mod counting;
 #[cfg(test)]
-mod crew;
-#[cfg(test)]
 mod damage;
 #[cfg(test)]
 mod decoding;

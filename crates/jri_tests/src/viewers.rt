@@ -1,15 +1,12 @@
-//! Workers in threads of the caller's own, and viewers that look at the cells beside them.
+//! Viewers that look into the cells beside the workers.
 
-ghost use Rattle.std.specs.Prelude.{◌≡◌, IfOk};
+ghost use Rattle.std.specs.Prelude.{◌≡◌, All, IfOk};
 
-use crate::crew::decode_by_two;
 use crate::files::TEN;
 use crate::scans::scan;
 use jr_code::Memory;
-use jr_scan::Scan;
-use jr_wall::{Board, Cells, OpenGate, Sight};
-use std::alloc::Global;
-use std::sync::{Arc, Mutex, Wait};
+use jr_wall::{Cells, Decoding, OpenGate, Seat, Sight};
+use std::sync::Wait;
 use std::test::Fail;
 use std::thread;
 use std::thread::Threads;
@@ -92,38 +89,37 @@ fn watch_twice<R: Threads + Sync>(
     )
 }
 
-/// Two workers fill a board and cells, while two viewers look. False where the workers can't be seated.
+/// Two workers fill the cells of a decoding, while two viewers look.
 fn work_and_watch<R: Threads + Wait + Sync>(
     rt: &R,
-    alloc: Global,
-    scan: &Scan,
-    board: &Mutex<Board>,
-    cells: &Cells,
-) -> ((Result<View, Memory>, Result<View, Memory>), bool)
-    ensures { IfOk result.0.0 (λ v. v.sight.cells ≡ cells.now) × IfOk result.0.1 (λ v. v.sight.cells ≡ cells.now) }
+    decoding: &Decoding,
+    seats: Vec<Seat>,
+) -> (Result<View, Memory>, Result<View, Memory>)
+    requires { All (λ s. s.desk ≡ decoding.now.desk) seats.items }
+    ensures { IfOk result.0 (λ v. v.sight.cells ≡ decoding.now.cells) × IfOk result.1 (λ v. v.sight.cells ≡ decoding.now.cells) }
 {
-    thread::join(
+    decoding.run(
         rt,
-        || -> (Result<View, Memory>, Result<View, Memory>)
-            ensures { IfOk result.0 (λ v. v.sight.cells ≡ cells.entry.now) × IfOk result.1 (λ v. v.sight.cells ≡ cells.entry.now) }
-        { watch_twice(rt, cells) },
-        || decode_by_two(rt, alloc, scan, board, cells, &OpenGate),
+        seats,
+        &OpenGate,
+        |decoding| -> (Result<View, Memory>, Result<View, Memory>)
+            ensures { IfOk result.0 (λ v. v.sight.cells ≡ decoding.now.cells) × IfOk result.1 (λ v. v.sight.cells ≡ decoding.now.cells) }
+        { watch_twice(rt, decoding.cells()) },
     )
 }
 
 #[test]
 fn two_viewers_beside_two_workers(rt: HostRuntime) -> Result<(), Fail> {
     let alloc = rt.alloc();
-    let scan_here = scan(alloc, TEN)?;
-    let cells = Cells::open(alloc, 10)?;
-    let board = Mutex::new(Board::new(alloc, Arc::try_clone(&scan_here)?)?);
-    let (views, is_decoded) = work_and_watch(&rt, alloc, &scan_here, &board, &cells);
-    let (mut first, mut second) = (views.0?, views.1?);
-    assert!(rt; is_decoded && first.is_steady && second.is_steady);
+    let (decoding, seats) = Decoding::open(alloc, scan(alloc, TEN)?, 2, None)?;
+    let (first, second) = work_and_watch(&rt, &decoding, seats);
+    let (mut first, mut second) = (first?, second?);
+    assert!(rt; first.is_steady && second.is_steady);
+    let cells = decoding.cells();
     cells.agree(&mut first.sight, &mut second.sight);
-    let mut last = unseen(&cells)?;
-    look_over(&cells, &mut last);
+    let mut last = unseen(cells)?;
+    look_over(cells, &mut last);
     assert!(rt; last.seen == [true; 10]);
-    assert_eq!(rt; board.into_inner().sound(), 10);
+    assert_eq!(rt; decoding.board().lock(&rt).sound(), 10);
     Ok(())
 }

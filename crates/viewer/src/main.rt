@@ -3,16 +3,16 @@
 //! every schedule.
 #![tactic(auto)]
 
-ghost use Rattle.std.specs.Prelude.{◌≡◌, ◌<◌, ◌≤◌, length, All};
+ghost use Rattle.std.specs.Prelude.{◌≡◌};
 
 use jr_code::Memory;
 use jr_head::read_head;
 use jr_scan::Scan;
-use jr_wall::{Board, Cells, Desk, OpenGate, Seat, Sight, work};
+use jr_wall::{Cells, Decoding, OpenGate, Sight};
 use std::alloc::Global;
 use std::io::{Read, Write};
 use std::process::ExitCode;
-use std::sync::{Arc, Mutex, Wait};
+use std::sync::{Arc, Wait};
 use std::thread;
 use std::thread::Threads;
 use std::time::{Clock, Duration};
@@ -67,39 +67,6 @@ fn watch<C: Clock, E: Write>(clock: &C, cells: &Cells, errors: &mut E) {
     }
 }
 
-/// Starts a worker for each seat, and watches the cells meanwhile. It returns once all workers have ended.
-fn decode<R: Threads + Wait + Clock + Sync, E: Write>(
-    rt: &R,
-    alloc: Global,
-    scan: &Scan,
-    desk: &Desk,
-    seats: Vec<Seat>,
-    board: &Mutex<Board>,
-    cells: &Cells,
-    errors: &mut E,
-)
-    requires seats { All (λ s. s.desk ≡ desk.now) seats.items }
-    requires limit { desk.now.limit ≤ length scan.now.intervals }
-    requires cells { desk.now.limit ≤ length cells.now }
-{
-    thread::scope(
-        thread::scope_env(),
-        rt,
-        |scope|
-            requires { All (λ s. s.desk ≡ desk.now) seats.items × (desk.now.limit ≤ length scan.now.intervals) × (desk.now.limit ≤ length cells.now) }
-        {
-            for mut seat in seats {
-                let _ = scope.spawn(
-                    move ||
-                        requires { (seat.desk ≡ desk.now) × (desk.now.limit ≤ length scan.now.intervals) × (desk.now.limit ≤ length cells.now) }
-                    { work(rt, alloc, scan, desk, &mut seat, board, cells, &OpenGate) },
-                );
-            }
-            watch(rt, cells, errors);
-        },
-    );
-}
-
 /// Decodes a scan, watched by a viewer, and gives what can be seen at the end.
 fn view_scan<R: Threads + Wait + Clock + Sync, E: Write>(
     rt: &R,
@@ -108,12 +75,12 @@ fn view_scan<R: Threads + Wait + Clock + Sync, E: Write>(
     errors: &mut E,
 ) -> Result<View, Memory> {
     let scan = Arc::new(alloc, scan)?;
-    let n = scan.intervals();
-    let (desk, seats) = Desk::open(alloc, n, WORKERS)?;
-    let cells = Cells::open(alloc, n)?;
-    let board = Mutex::new(Board::new(alloc, Arc::try_clone(&scan)?)?);
-    decode(rt, alloc, &scan, &desk, seats, &board, &cells, errors);
-    Ok(look_over(&cells, &mut cells.sight()?))
+    let (decoding, seats) = Decoding::open(alloc, scan, WORKERS, None)?;
+    decoding.run(rt, seats, &OpenGate, |decoding| {
+        watch(rt, decoding.cells(), errors);
+    });
+    let cells = decoding.cells();
+    Ok(look_over(cells, &mut cells.sight()?))
 }
 
 fn main(rt: HostRuntime) -> ExitCode {

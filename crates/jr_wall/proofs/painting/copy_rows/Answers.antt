@@ -1,7 +1,7 @@
 use Rattle.std.proofs.Common.{◌≡◌, ◌+◌, ◌-◌, ◌*◌, ◌/◌, ◌%◌, ◌<◌, ap, sym, ◌∙◌, length, slice_get, arith, rules}
 use Rattle.std.proofs.Math.Nat.{add-div_right, add-mod_right, add-mul}
-use Rattle.jr_wall.specs.Shown.{sample_in}
-use Rattle.jr_wall.specs.Units.{unit_along}
+use Rattle.jr_wall.specs.Samples.{sample_in}
+use Rattle.jr_wall.specs.Lines.{unit_along}
 use Rattle.jr_wall.proofs.Lines.{filled_more, row_along, next_part, next_mcu}
 use Rattle.jr_wall.proofs.painting.copy_rows.Goals as goal
 

@@ -8,23 +8,23 @@ use Rattle.jr_piece.specs.PieceValue.{PieceValue}
 use Rattle.jr_wall.specs.BoardValue.{BoardValue}
 use Rattle.jr_piece.specs.Outcome.{IsOutcome}
 use Rattle.jr_wall.specs.declared.mark.Mark.TheVariants.{Blank, Sound, Damaged}
-use Rattle.jr_wall.specs.Boards.{IsFor, IsKept, held, piece_at, mark_of, marks_of}
+use Rattle.jr_wall.specs.Boards.{IsFor, HasCounts, shared_piece, piece_at, mark_of, marks_of}
 use Rattle.jr_wall.specs.Headline.{mark_in}
 use Rattle.jr_wall.proofs.Pieces.{Posted, posts, held_at}
-use Rattle.jr_wall.proofs.Seen.{marks_at}
+use Rattle.jr_wall.proofs.BoardPictures.{marks_at}
 use mir.Val.{bool_byte}
 use Rattle.jr_wall.proofs.board.Board.post.Goals as goal
 
 -- posts, by the fields
 fields_post : (scan : ScanValue) (items : List (Option (Arc PieceValue Global))) (n : ℕ) (p : PieceValue) (q : PieceValue) (b : Bool) (sound damaged more less : ℕ)
-    → IsKept (record { scan = scan; pieces = map held items }) sound damaged → n ≡ p.interval.number → IsFor p.interval scan → IsOutcome p → get_or items n None ≡ None → q ≡ p → b ≡ q.is_sound
-    → more ≡ bool_byte b → less ≡ bool_byte (not b) → Posted (record { scan = scan; pieces = map held items }) n p (sound + more) (damaged + less)
+    → HasCounts (record { scan = scan; pieces = map shared_piece items }) sound damaged → n ≡ p.interval.number → IsFor p.interval scan → IsOutcome p → get_or items n None ≡ None → q ≡ p → b ≡ q.is_sound
+    → more ≡ bool_byte b → less ≡ bool_byte (not b) → Posted (record { scan = scan; pieces = map shared_piece items }) n p (sound + more) (damaged + less)
 fields_post scan items n p q b sound damaged more less k is for outcome none same sound_is m l =
     let s : b ≡ p.is_sound = sound_is ∙ ap (λ (x : PieceValue). x.is_sound) same in
-    posts (record { scan = scan; pieces = map held items }) n p sound damaged more less k is for outcome (held_at items n ∙ ap held none) (m ∙ ap bool_byte s) (l ∙ ap (λ x. bool_byte (not x)) s)
+    posts (record { scan = scan; pieces = map shared_piece items }) n p sound damaged more less k is for outcome (held_at items n ∙ ap shared_piece none) (m ∙ ap bool_byte s) (l ∙ ap (λ x. bool_byte (not x)) s)
 
-abbrev made : ScanValue → List (Option PieceValue) → BoardValue
-made scan pieces = record { scan = scan; pieces = pieces }
+abbrev board_of : ScanValue → List (Option PieceValue) → BoardValue
+board_of scan pieces = record { scan = scan; pieces = pieces }
 
 pub overflow_add-sound : goal.overflow_add-sound
 overflow_add-sound c =
@@ -51,8 +51,8 @@ invariant_of-self c =
     let none : get_or c.self.inside.pieces.items c.number-number.result None ≡ None = search rules in
     let p = fields_post (arc_value c.self.inside.scan) c.self.inside.pieces.items c.number-number.result (arc_value c.args.piece) c.deref-5.result.now c.is_sound-is_sound.result c.self.inside.sound c.self.inside.damaged c.from.result c.from-2.result
     c.self.invariant n for (search rules) none c.deref-5.ensures c.is_sound-is_sound.ensures c.from.ensures c.from-2.ensures in
-    subst (λ (ps : List (Option PieceValue)). IsKept (record { scan = arc_value c.self.inside.scan; pieces = ps }) (c.self.inside.sound + c.from.result) (c.self.inside.damaged + c.from-2.result))
-    (sym (map-set held c.self.inside.pieces.items c.number-number.result (Some c.args.piece))) p.kept
+    subst (λ (ps : List (Option PieceValue)). HasCounts (record { scan = arc_value c.self.inside.scan; pieces = ps }) (c.self.inside.sound + c.from.result) (c.self.inside.damaged + c.from-2.result))
+    (sym (map-set shared_piece c.self.inside.pieces.items c.number-number.result (Some c.args.piece))) p.kept
 
 pub returns-clause-ok : goal.returns-clause-ok
 returns-clause-ok c =
@@ -63,10 +63,10 @@ returns-clause-ok c =
     record {
       for = subst (λ (b : BoardValue). IsFor (arc_value c.args.piece).interval b.scan) v for;
       blank = ap (λ (b : BoardValue). piece_at b (arc_value c.args.piece).interval.number) (sym v) ∙ held_at c.self.inside.pieces.items (arc_value c.args.piece).interval.number
-          ∙ ap (λ k. held (get_or c.self.inside.pieces.items k None)) (sym n) ∙ ap held none;
-      posted = ap (made (arc_value c.self.inside.scan)) (map-set held c.self.inside.pieces.items c.number-number.result (Some c.args.piece))
-          ∙ ap (λ k. made (arc_value c.self.inside.scan) (set (map held c.self.inside.pieces.items) k (Some (arc_value c.args.piece)))) n
-          ∙ ap (λ (b : BoardValue). made b.scan (set b.pieces (arc_value c.args.piece).interval.number (Some (arc_value c.args.piece)))) v;
+          ∙ ap (λ k. shared_piece (get_or c.self.inside.pieces.items k None)) (sym n) ∙ ap shared_piece none;
+      posted = ap (board_of (arc_value c.self.inside.scan)) (map-set shared_piece c.self.inside.pieces.items c.number-number.result (Some c.args.piece))
+          ∙ ap (λ k. board_of (arc_value c.self.inside.scan) (set (map shared_piece c.self.inside.pieces.items) k (Some (arc_value c.args.piece)))) n
+          ∙ ap (λ (b : BoardValue). board_of b.scan (set b.pieces (arc_value c.args.piece).interval.number (Some (arc_value c.args.piece)))) v;
     }
 
 -- what is posted has a mark
@@ -74,7 +74,7 @@ marked : (b : Bool) → cond b Sound Damaged ≢ Blank
 marked true e = absurd cc
 marked false e = absurd cc
 
-posted_marked : (p : Option (Arc PieceValue Global)) → is_some p ≡ true → mark_of (held p) ≢ Blank
+posted_marked : (p : Option (Arc PieceValue Global)) → is_some p ≡ true → mark_of (shared_piece p) ≢ Blank
 posted_marked None t e = absurd cc
 posted_marked (Some p) t e = marked (arc_value p).is_sound e
 
@@ -85,12 +85,12 @@ returns-then-is_some-clause-err c =
     let n : c.number-number.result ≡ i.number = search rules in
     let items = c.self.inside.pieces.items in
     let inside : i.number < length (arc_value c.self.inside.scan).intervals = search rules in
-    let lt : c.number-number.result < length items = omega (arith, n, inside, c.self.invariant.lawful.places, length-map items held) in
+    let lt : c.number-number.result < length items = omega (arith, n, inside, c.self.invariant.lawful.places, length-map items shared_piece) in
     let found : is_some (get_or items c.number-number.result None) ≡ true
     = ap is_some (sym (c.index.ensures ∙ get_or_default items c.number-number.result c.index.result.now None lt)) ∙ sym c.is_some.ensures ∙ c.if-is_some.true in
     let there : is_some (get_or c.self.inside.pieces.items i.number None) ≡ true = subst (λ (k : ℕ). is_some (get_or c.self.inside.pieces.items k None) ≡ true) n found in
-    let here : held (get_or c.self.inside.pieces.items i.number None) ≡ piece_at c.args.self.now i.number
+    let here : shared_piece (get_or c.self.inside.pieces.items i.number None) ≡ piece_at c.args.self.now i.number
     = sym (held_at c.self.inside.pieces.items i.number) ∙ ap (λ (b : BoardValue). piece_at b i.number) c.self.view_is in
-    let mark : mark_in (marks_of c.args.self.now) i.number ≡ mark_of (held (get_or c.self.inside.pieces.items i.number None))
+    let mark : mark_in (marks_of c.args.self.now) i.number ≡ mark_of (shared_piece (get_or c.self.inside.pieces.items i.number None))
     = marks_at c.args.self.now.pieces i.number ∙ ap mark_of (sym here) in
     (refl, (refl, for, λ blank. posted_marked (get_or c.self.inside.pieces.items i.number None) there (sym mark ∙ blank)))

@@ -6,7 +6,7 @@ use Rattle.jr_paint.specs.Geometry.{samples_across, place_of, spot_at}
 use Rattle.jr_paint.proofs.Factors.{samples_across-le}
 use Rattle.jr_scan.specs.ScanValue.{ScanValue}
 use Rattle.jr_wall.specs.BoardValue.{BoardValue}
-use Rattle.jr_wall.specs.Shown.{shown}
+use Rattle.jr_wall.specs.Samples.{samples_of}
 use Rattle.jr_wall.proofs.Lines.{shown_along, filled_more}
 use Rattle.jr_wall.proofs.painting.BoardSamples.line.Goals as goal
 
@@ -28,6 +28,6 @@ runs-preserved c =
     let some : 0 < horizontal_of b.scan.head c.args.c = subst (λ (h : HeadValue). 0 < horizontal_of h c.args.c) head (omega (arith, c.place-start.ensures.lies.block_across)) in
     record {
       within = search rules;
-      filled = filled_more (λ k. shown b c.args.c (c.args.x + k) c.args.y) c.runs.done c.fill_front-done.result (length c.runs.out - c.runs.done) c.runs.out c.fill_front-done.new.out c.runs.invariant.within c.fill_front-done.ensures.within c.runs.invariant.filled
-          (λ j lt. c.fill_front-done.ensures.filled j lt ∙ shown_along b c.args.c (c.args.x + c.runs.done + j) c.args.y c.place-start.result some spot ∙ ap (λ k. shown b c.args.c k c.args.y) (omega arith));
+      filled = filled_more (λ k. samples_of b c.args.c (c.args.x + k) c.args.y) c.runs.done c.fill_front-done.result (length c.runs.out - c.runs.done) c.runs.out c.fill_front-done.new.out c.runs.invariant.within c.fill_front-done.ensures.within c.runs.invariant.filled
+          (λ j lt. c.fill_front-done.ensures.filled j lt ∙ shown_along b c.args.c (c.args.x + c.runs.done + j) c.args.y c.place-start.result some spot ∙ ap (λ k. samples_of b c.args.c k c.args.y) (omega arith));
     }

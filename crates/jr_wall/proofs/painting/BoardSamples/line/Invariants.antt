@@ -1,11 +1,11 @@
 use Rattle.std.proofs.Common.{◌≡◌, ℕ, ◌+◌, ◌-◌, ◌<◌, ◌≤◌, length, slice_index}
-use Rattle.jr_wall.specs.Shown.{shown}
+use Rattle.jr_wall.specs.Samples.{samples_of}
 use Rattle.jr_wall.proofs.painting.BoardSamples.line.Given as goal
 
 abbrev pub invariant-runs : goal.invariant-runs
 invariant-runs l = record {
   within : l.done ≤ length l.out;
-  filled : (k : ℕ) → k < l.done → slice_index l.out k ≡ shown l.self l.c (l.x + k) l.y;
+  filled : (k : ℕ) → k < l.done → slice_index l.out k ≡ samples_of l.self l.c (l.x + k) l.y;
 }
 
 abbrev pub decreases-runs : goal.decreases-runs

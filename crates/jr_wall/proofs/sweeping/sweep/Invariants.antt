@@ -2,7 +2,7 @@ use Rattle.std.proofs.Common.{◌≡◌, ◌≢◌, ◌<◌, ◌≤◌, ℕ, len
 use Rattle.jr_scan.specs.ScanValue.{IsSameScan}
 use Rattle.jr_wall.specs.declared.mark.Mark.TheVariants.{Blank}
 use Rattle.jr_wall.specs.Boards.{mark_at}
-use Rattle.jr_wall.proofs.workers.sweep.Given as goal
+use Rattle.jr_wall.proofs.sweeping.sweep.Given as goal
 
 abbrev pub invariant-loop-i : goal.invariant-loop-i
 invariant-loop-i l = record {
