@@ -7,13 +7,21 @@ use jr_scan::Scan;
 use jr_wall::{Board, Gate, Mark, OpenGate, Piece, Unposted, decode_all};
 use std::alloc::Global;
 use std::process::Abort;
-use std::sync::Arc;
+use std::sync::{Arc, Wait};
 use std::test::Fail;
+use std::thread::Threads;
 
 /// Two intervals that have a decoding; the same where the second has none.
 const SOUND: &str = "GI 63 FF D0 63 E";
 
 const DAMAGED: &str = "GI 63 FF D0 E0 E";
+
+/// The scan of a file, and a blank board of it.
+fn blank_board(alloc: Global, words: &str) -> Result<(Arc<Scan>, Board), Fail> {
+    let scan = scan(alloc, words)?;
+    let board = Board::new(alloc, Arc::try_clone(&scan)?)?;
+    Ok((scan, board))
+}
 
 /// The piece that comes back, and whether the board calls it foreign.
 fn back(outcome: Result<(), Unposted>) -> Option<(Arc<Piece>, bool)> {
@@ -31,8 +39,7 @@ fn counts(board: &Board) -> (u32, u32, u32) {
 #[test]
 fn a_damaged_piece_before_a_sound_one(rt: HostRuntime) -> Result<(), Fail> {
     let alloc = rt.alloc();
-    let scan = scan(alloc, DAMAGED)?;
-    let mut board = Board::new(alloc, Arc::try_clone(&scan)?)?;
+    let (scan, mut board) = blank_board(alloc, DAMAGED)?;
     assert_eq!(rt; counts(&board), (0, 0, 2));
     assert_eq!(rt; sample(&board, 0, 0), Some(0));
     assert!(rt; board.post(piece(alloc, &scan, 1)?).is_ok());
@@ -51,8 +58,7 @@ fn a_damaged_piece_before_a_sound_one(rt: HostRuntime) -> Result<(), Fail> {
 #[test]
 fn pieces_out_of_order(rt: HostRuntime) -> Result<(), Fail> {
     let alloc = rt.alloc();
-    let scan = scan(alloc, TEN)?;
-    let mut board = Board::new(alloc, Arc::try_clone(&scan)?)?;
+    let (scan, mut board) = blank_board(alloc, TEN)?;
     let steps = [
         (7, "-------s--"),
         (2, "--s----s--"),
@@ -82,8 +88,7 @@ fn pieces_out_of_order(rt: HostRuntime) -> Result<(), Fail> {
 #[test]
 fn a_piece_posted_twice(rt: HostRuntime) -> Result<(), Fail> {
     let alloc = rt.alloc();
-    let scan = scan(alloc, SOUND)?;
-    let mut board = Board::new(alloc, Arc::try_clone(&scan)?)?;
+    let (scan, mut board) = blank_board(alloc, SOUND)?;
     let once = piece(alloc, &scan, 0)?;
     let again = Arc::try_clone(&once)?;
     assert!(rt; board.post(once).is_ok());
@@ -100,9 +105,8 @@ fn a_piece_posted_twice(rt: HostRuntime) -> Result<(), Fail> {
 #[test]
 fn a_foreign_piece(rt: HostRuntime) -> Result<(), Fail> {
     let alloc = rt.alloc();
-    let scan_here = scan(alloc, SOUND)?;
+    let (scan_here, mut board) = blank_board(alloc, SOUND)?;
     let other = scan(alloc, DAMAGED)?;
-    let mut board = Board::new(alloc, Arc::try_clone(&scan_here)?)?;
     assert!(rt; board.is_of(&scan_here) && !board.is_of(&other));
     let stranger = piece(alloc, &other, 1)?;
     assert!(rt; stranger.is_for(&other) && !stranger.is_for(&scan_here));
@@ -157,36 +161,50 @@ fn line<R: Abort>(rt: &R, board: &Board, from: u32) -> [u8; 8] {
     samples
 }
 
+/// Whether a board of so many first intervals of the file, decoded by workers, has these marks and shows this line.
+fn decodes<R: Threads + Wait + Sync + AllocGlobal + Abort>(
+    rt: &R,
+    first: Option<u32>,
+    letters: &str,
+    samples: [u8; 8],
+) -> Result<bool, Fail> {
+    let scan = scan(rt.alloc(), DAMAGED)?;
+    let shared = Arc::try_clone(&scan)?;
+    let board = decode_all(rt, rt.alloc(), shared, 3, first, &OpenGate)?;
+    let size = (board.head().width(), board.head().height());
+    let is_marked = marks(rt.alloc(), &scan, &board)?.as_str() == letters;
+    Ok(is_marked && size == (16, 8) && line(rt, &board, 4) == samples)
+}
+
 #[test]
 fn decoded_by_workers(rt: HostRuntime) -> Result<(), Fail> {
-    let alloc = rt.alloc();
-    let scan = scan(alloc, DAMAGED)?;
-    let board = decode_all(&rt, alloc, Arc::try_clone(&scan)?, 3, None, &OpenGate)?;
-    assert!(rt; marks(alloc, &scan, &board)?.as_str() == "sd");
-    assert_eq!(rt;
-        line(&rt, &board, 4),
-        [136, 136, 136, 136, 128, 128, 128, 128]
-    );
-    assert_eq!(rt; (board.head().width(), board.head().height()), (16, 8));
-    let board = decode_all(&rt, alloc, Arc::try_clone(&scan)?, 3, Some(1), &OpenGate)?;
-    assert!(rt; marks(alloc, &scan, &board)?.as_str() == "s-");
-    assert_eq!(rt; line(&rt, &board, 4), [136, 136, 136, 136, 0, 0, 0, 0]);
+    let both = [136, 136, 136, 136, 128, 128, 128, 128];
+    assert!(rt; decodes(&rt, None, "sd", both)?);
+    let one = [136, 136, 136, 136, 0, 0, 0, 0];
+    assert!(rt; decodes(&rt, Some(1), "s-", one)?);
     Ok(())
+}
+
+/// Whether a board keeps a sound piece of the first of a scan's intervals alone, which a gate lets pass.
+fn keeps_the_first(board: &Board, scan: &Scan) -> bool {
+    let Some(kept) = board.piece(0) else {
+        return false;
+    };
+    OpenGate.pass(0);
+    OpenGate.made(kept);
+    let is_first = kept.number() == 0 && kept.is_sound() && kept.is_for(scan);
+    is_first && board.piece(1).is_none() && board.piece(2).is_none()
 }
 
 /// The pieces that a board keeps, and a gate that nobody waits at.
 #[test]
 fn kept_pieces(rt: HostRuntime) -> Result<(), Fail> {
-    let alloc = rt.alloc();
-    let scan = scan(alloc, SOUND)?;
-    let board = decode_all(&rt, alloc, Arc::try_clone(&scan)?, 2, Some(1), &OpenGate)?;
+    let scan = scan(rt.alloc(), SOUND)?;
+    let shared = Arc::try_clone(&scan)?;
+    let board = decode_all(&rt, rt.alloc(), shared, 2, Some(1), &OpenGate)?;
     assert!(rt; board.is_of(&scan));
-    board.be_lawful();
     assert!(rt; scan.intervals() == 2);
-    assert!(rt; board.piece(1).is_none());
-    let kept = board.piece(0).ok_or("no piece")?;
-    assert!(rt; kept.number() == 0 && kept.is_sound() && kept.is_for(&scan));
-    OpenGate.pass(0);
-    OpenGate.made(kept);
+    assert!(rt; keeps_the_first(&board, &scan));
+    assert!(rt; board.mark(2) == Mark::Blank);
     Ok(())
 }

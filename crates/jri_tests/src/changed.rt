@@ -2,7 +2,6 @@
 
 use crate::decoding::{Outcome, decode};
 use crate::files::{changed, file, front};
-use crate::pictures::picture;
 use jr_head::read_head;
 use std::process::Abort;
 use std::sync::Wait;
@@ -48,23 +47,9 @@ fn check<R: Threads + Wait + Sync + AllocGlobal + Abort>(
     answer: Answer,
     at: usize,
 ) -> Result<(), Fail> {
-    let Outcome {
-        picture: found,
-        lines,
-        status,
-    } = decode(rt, bytes, 2, None)?;
-    match answer.picture {
-        None => assert!(rt; found.is_empty(), "nothing is written at {at}"),
-        Some(words) => {
-            let want = picture(rt.alloc(), words)?;
-            assert!(rt; found.as_slice() == want.as_slice(), "picture at {at}");
-        }
-    }
-    assert!(rt;
-        lines.as_slice() == answer.lines.as_bytes(),
-        "lines at {at}"
-    );
-    assert!(rt; status == answer.status, "status at {at}");
+    let found = decode(rt, bytes, 2, None)?;
+    let differs = found.difference(rt.alloc(), answer.picture, answer.lines, answer.status)?;
+    assert!(rt; differs.is_empty(), "{differs} at {at}");
     Ok(())
 }
 

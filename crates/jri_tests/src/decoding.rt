@@ -3,9 +3,11 @@
 ghost use Rattle.std.specs.Prelude.{◌≤◌};
 ghost use Rattle.jr_base.specs.declared.limits.TheConstants.{MAX_WORKERS};
 
+use crate::pictures::picture;
 use jr_paint::Tally;
 use jr_wall::OpenGate;
 use jri_engine::{finish, run};
+use std::alloc::Global;
 use std::sync::Wait;
 use std::test::Fail;
 use std::thread::Threads;
@@ -16,6 +18,30 @@ pub(crate) struct Outcome {
     pub picture: Vec<u8>,
     pub lines: Vec<u8>,
     pub status: u8,
+}
+
+impl Outcome {
+    /// What is not as wanted: a picture in the notation of pictures, which is none where nothing is to be written, the
+    /// lines, or the exit status. It is empty where all is.
+    pub(crate) fn difference(
+        &self,
+        alloc: Global,
+        wanted: Option<&str>,
+        lines: &str,
+        status: u8,
+    ) -> Result<&'static str, Fail> {
+        let is_picture = match wanted {
+            None => self.picture.is_empty(),
+            Some(words) => self.picture.as_slice() == picture(alloc, words)?.as_slice(),
+        };
+        if !is_picture {
+            return Ok("picture");
+        }
+        if self.lines.as_slice() != lines.as_bytes() {
+            return Ok("lines");
+        }
+        Ok(if self.status == status { "" } else { "status" })
+    }
 }
 
 /// Decodes the bytes of a file.

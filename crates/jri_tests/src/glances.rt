@@ -6,7 +6,6 @@ use jr_scan::Scan;
 use jr_wall::{
     Board, Cells, Decoding, Desk, Gate, Glimpse, Mark, OpenGate, Piece, decode_all, work,
 };
-use std::process::Abort;
 use std::sync::atomic::{AtomicU64, Ordering};
 use std::sync::{Arc, Mutex, Wait};
 use std::test::Fail;
@@ -68,6 +67,16 @@ fn is_seen<R: Wait>(rt: &R, scan: &Scan, board: &Mutex<Board>, n: u32) -> bool {
     true
 }
 
+/// Whether looks at each column of the mixed file see that just its first n intervals are decoded.
+fn is_looked_at(board: &Board, n: u32) -> bool {
+    for x in 0..80u32 {
+        if look(board, 0, x, x % 8) != Some(wanted(x / 8, n)) {
+            return false;
+        }
+    }
+    true
+}
+
 /// The first intervals of the mixed file, decoded by the workers of a decoding and by `decode_all`.
 #[test]
 fn after_workers(rt: HostRuntime) -> Result<(), Fail> {
@@ -90,15 +99,11 @@ fn at_a_board_without_a_lock(rt: HostRuntime) -> Result<(), Fail> {
     let alloc = rt.alloc();
     let scan = scan(alloc, MIXED)?;
     let mut board = Board::new(alloc, Arc::try_clone(&scan)?)?;
-    for n in 0..=10u32 {
-        for x in 0..80u32 {
-            let seen = look(&board, 0, x, x % 8);
-            assert!(rt; seen == Some(wanted(x / 8, n)), "column {x} of {n}");
-        }
-        if n < 10 {
-            assert!(rt; board.post(piece(alloc, &scan, n)?).is_ok());
-        }
+    for n in 0..10u32 {
+        assert!(rt; is_looked_at(&board, n), "before {n}");
+        assert!(rt; board.post(piece(alloc, &scan, n)?).is_ok());
     }
+    assert!(rt; is_looked_at(&board, 10));
     Ok(())
 }
 
@@ -159,7 +164,6 @@ fn is_as_marked(scan: &Scan, board: &Board) -> bool {
     if !board.is_of(scan) {
         return false;
     }
-    board.be_lawful();
     let (mut sound, mut blank) = (0u32, 0u32);
     for i in 0..scan.intervals() {
         let value = match board.mark(i) {
@@ -239,37 +243,62 @@ fn of_another_scan(rt: HostRuntime) -> Result<(), Fail> {
 }
 
 /// The mark and the sample that a glance sees.
-fn seen<R: Wait>(rt: &R, board: &Mutex<Board>, scan: &Scan, c: u32, x: u32) -> Option<(Mark, u8)> {
+fn marked<R: Wait>(
+    rt: &R,
+    board: &Mutex<Board>,
+    scan: &Scan,
+    c: u32,
+    x: u32,
+) -> Option<(Mark, u8)> {
     let seen = glimpse(rt, board, scan, c, x, 4)?;
     Some((seen.mark, seen.sample))
 }
 
-/// The first MCU shows 128, 128 and 200 up to the last of its columns; the second has this mark and these samples.
-fn check_colours<R: Threads + Wait + Sync + AllocGlobal + Abort>(
+/// Whether the first MCU shows 128, 128 and 200 up to the last of its columns, and the second has this mark and these
+/// samples.
+fn is_coloured<R: Wait>(
+    rt: &R,
+    board: &Mutex<Board>,
+    scan: &Scan,
+    mark: Mark,
+    samples: [u8; 3],
+) -> bool {
+    let columns = [(0, 15, 128, 16), (1, 7, 128, 8), (2, 7, 200, 8)];
+    for ((c, last, value, next), sample) in columns.into_iter().zip(samples) {
+        if marked(rt, board, scan, c, last) != Some((Mark::Sound, value)) {
+            return false;
+        }
+        if marked(rt, board, scan, c, next) != Some((mark, sample)) {
+            return false;
+        }
+    }
+    true
+}
+
+/// Whether the board of a file's first intervals is coloured so.
+fn decodes_coloured<R: Threads + Wait + Sync + AllocGlobal>(
     rt: &R,
     words: &str,
     first: u32,
     mark: Mark,
     samples: [u8; 3],
-) -> Result<(), Fail> {
-    let (alloc, scan) = (rt.alloc(), scan(rt.alloc(), words)?);
-    let board = decode_all(rt, alloc, Arc::try_clone(&scan)?, 2, Some(first), &OpenGate)?;
-    let board = Mutex::new(board);
-    let columns = [(0, 15, 128, 16), (1, 7, 128, 8), (2, 7, 200, 8)];
-    for ((c, last, value, next), sample) in columns.into_iter().zip(samples) {
-        let found = (
-            seen(rt, &board, &scan, c, last),
-            seen(rt, &board, &scan, c, next),
-        );
-        let wanted = (Some((Mark::Sound, value)), Some((mark, sample)));
-        assert!(rt; found == wanted, "component {c}");
-    }
-    Ok(())
+) -> Result<bool, Fail> {
+    let scan = scan(rt.alloc(), words)?;
+    let shared = Arc::try_clone(&scan)?;
+    let board = decode_all(rt, rt.alloc(), shared, 2, Some(first), &OpenGate)?;
+    Ok(is_coloured(rt, &Mutex::new(board), &scan, mark, samples))
 }
 
 #[test]
 fn of_three_components(rt: HostRuntime) -> Result<(), Fail> {
-    check_colours(&rt, COLOURED, 2, Mark::Sound, [136, 128, 128])?;
-    check_colours(&rt, COLOURED_DAMAGED, 2, Mark::Damaged, [128, 128, 128])?;
-    check_colours(&rt, COLOURED, 1, Mark::Blank, [0, 128, 128])
+    let cases = [
+        (COLOURED, 2, Mark::Sound, [136, 128, 128]),
+        (COLOURED_DAMAGED, 2, Mark::Damaged, [128, 128, 128]),
+        (COLOURED, 1, Mark::Blank, [0, 128, 128]),
+    ];
+    for (words, first, mark, samples) in cases {
+        let is_right = decodes_coloured(&rt, words, first, mark, samples)?;
+        assert!(rt; is_right, "{first} of {words}");
+    }
+    Ok(())
 }

@@ -2,10 +2,16 @@
 
 use crate::decoding::{Outcome, decode};
 use crate::files::file;
+use std::alloc::Global;
 use std::process::Abort;
 use std::sync::Wait;
 use std::test::Fail;
 use std::thread::Threads;
+
+fn difference(alloc: Global, found: &Outcome, line: &str) -> Result<&'static str, Fail> {
+    let text = format!(in alloc; "refused {line}\n")?;
+    found.difference(alloc, None, text.as_str(), 2)
+}
 
 fn check<R: Threads + Wait + Sync + AllocGlobal + Abort>(
     rt: &R,
@@ -13,15 +19,9 @@ fn check<R: Threads + Wait + Sync + AllocGlobal + Abort>(
 ) -> Result<(), Fail> {
     for (words, line) in cases {
         let bytes = file(rt.alloc(), words)?;
-        let Outcome {
-            picture,
-            lines,
-            status,
-        } = decode(rt, bytes.as_slice(), 1, None)?;
-        assert!(rt; picture.is_empty(), "nothing is written of {words}");
-        let text = format!(in rt.alloc(); "refused {line}\n")?;
-        assert!(rt; lines.as_slice() == text.as_bytes(), "line of {words}");
-        assert!(rt; status == 2, "status of {words}");
+        let found = decode(rt, bytes.as_slice(), 1, None)?;
+        let differs = difference(rt.alloc(), &found, line)?;
+        assert!(rt; differs.is_empty(), "{differs} of {words}");
     }
     Ok(())
 }

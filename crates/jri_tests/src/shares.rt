@@ -6,7 +6,7 @@ ghost use Rattle.jr_base.specs.declared.limits.TheConstants.{MAX_WORKERS};
 use crate::decoding::{Outcome, decode};
 use crate::files;
 use crate::files::file;
-use crate::pictures::picture;
+use std::alloc::Global;
 use std::process::Abort;
 use std::sync::Wait;
 use std::test::Fail;
@@ -21,6 +21,24 @@ struct Case {
     status: u8,
 }
 
+impl Case {
+    /// The same file, of which other intervals are decoded, and all that are have a decoding.
+    const fn showing(self, picture: &'static str, intervals: &'static str) -> Case {
+        Case {
+            file: self.file,
+            picture,
+            intervals,
+            status: 0,
+        }
+    }
+}
+
+fn difference(alloc: Global, found: &Outcome, case: &Case) -> Result<&'static str, Fail> {
+    let intervals = case.intervals;
+    let text = format!(in alloc; "{intervals}\nscan ended at EOI\n")?;
+    found.difference(alloc, Some(case.picture), text.as_str(), case.status)
+}
+
 fn check<R: Threads + Wait + Sync + AllocGlobal + Abort>(
     rt: &R,
     workers: u32,
@@ -32,23 +50,8 @@ fn check<R: Threads + Wait + Sync + AllocGlobal + Abort>(
 {
     let bytes = file(rt.alloc(), case.file)?;
     let found = decode(rt, bytes.as_slice(), workers, first)?;
-    let Outcome {
-        picture: painted,
-        lines,
-        status,
-    } = found;
-    let wanted = picture(rt.alloc(), case.picture)?;
-    assert!(rt;
-        painted.as_slice() == wanted.as_slice(),
-        "picture by {workers} workers"
-    );
-    let intervals = case.intervals;
-    let text = format!(in rt.alloc(); "{intervals}\nscan ended at EOI\n")?;
-    assert!(rt;
-        lines.as_slice() == text.as_bytes(),
-        "report by {workers} workers"
-    );
-    assert!(rt; status == case.status, "status by {workers} workers");
+    let differs = difference(rt.alloc(), &found, &case)?;
+    assert!(rt; differs.is_empty(), "{differs} by {workers} workers");
     Ok(())
 }
 
@@ -80,16 +83,11 @@ fn numbers_of_workers(rt: HostRuntime) -> Result<(), Fail> {
 
 #[test]
 fn first_intervals(rt: HostRuntime) -> Result<(), Fail> {
-    let none = Case {
-        picture: "P5 16 8 : 16*0",
-        intervals: "intervals 2 sound 0 damaged 0 blank 2",
-        ..SOUND
-    };
-    let one = Case {
-        picture: "P5 16 8 : 8*136 8*0",
-        intervals: "intervals 2 sound 1 damaged 0 blank 1",
-        ..SOUND
-    };
+    let none = SOUND.showing("P5 16 8 : 16*0", "intervals 2 sound 0 damaged 0 blank 2");
+    let one = SOUND.showing(
+        "P5 16 8 : 8*136 8*0",
+        "intervals 2 sound 1 damaged 0 blank 1",
+    );
     check(&rt, 4, Some(0), none)?;
     check(&rt, 4, Some(1), one)?;
     check(&rt, 4, Some(2), SOUND)?;
@@ -99,12 +97,10 @@ fn first_intervals(rt: HostRuntime) -> Result<(), Fail> {
 /// Damage behind the intervals that are decoded is not seen.
 #[test]
 fn damage_past_the_first(rt: HostRuntime) -> Result<(), Fail> {
-    let one = Case {
-        picture: "P5 16 8 : 8*136 8*0",
-        intervals: "intervals 2 sound 1 damaged 0 blank 1",
-        status: 0,
-        ..DAMAGED
-    };
+    let one = DAMAGED.showing(
+        "P5 16 8 : 8*136 8*0",
+        "intervals 2 sound 1 damaged 0 blank 1",
+    );
     check(&rt, 2, Some(1), one)
 }
 
@@ -126,16 +122,11 @@ const COLOURED: Case = Case {
 
 #[test]
 fn more_workers_than_intervals_and_fewer(rt: HostRuntime) -> Result<(), Fail> {
-    let three = Case {
-        picture: "P5 80 8 : 24*136 56*0",
-        intervals: "intervals 10 sound 3 damaged 0 blank 7",
-        ..TEN
-    };
-    let none = Case {
-        picture: "P5 80 8 : 80*0",
-        intervals: "intervals 10 sound 0 damaged 0 blank 10",
-        ..TEN
-    };
+    let three = TEN.showing(
+        "P5 80 8 : 24*136 56*0",
+        "intervals 10 sound 3 damaged 0 blank 7",
+    );
+    let none = TEN.showing("P5 80 8 : 80*0", "intervals 10 sound 0 damaged 0 blank 10");
     check(&rt, 1, None, TEN)?;
     check(&rt, 64, None, TEN)?;
     check(&rt, 1, Some(3), three)?;
@@ -148,16 +139,14 @@ fn more_workers_than_intervals_and_fewer(rt: HostRuntime) -> Result<(), Fail> {
 /// An interval that is not decoded is black in colour too.
 #[test]
 fn first_intervals_of_three_components(rt: HostRuntime) -> Result<(), Fail> {
-    let one = Case {
-        picture: "P6 17 9 : 16*229,77,128 1*0,0,0",
-        intervals: "intervals 2 sound 1 damaged 0 blank 1",
-        ..COLOURED
-    };
-    let none = Case {
-        picture: "P6 17 9 : 17*0,0,0",
-        intervals: "intervals 2 sound 0 damaged 0 blank 2",
-        ..COLOURED
-    };
+    let one = COLOURED.showing(
+        "P6 17 9 : 16*229,77,128 1*0,0,0",
+        "intervals 2 sound 1 damaged 0 blank 1",
+    );
+    let none = COLOURED.showing(
+        "P6 17 9 : 17*0,0,0",
+        "intervals 2 sound 0 damaged 0 blank 2",
+    );
     check(&rt, 1, None, COLOURED)?;
     check(&rt, 64, None, COLOURED)?;
     check(&rt, 2, Some(1), one)?;

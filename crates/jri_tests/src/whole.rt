@@ -4,11 +4,17 @@ use crate::cases;
 use crate::cases::Case;
 use crate::decoding::{Outcome, decode};
 use crate::files::file;
-use crate::pictures::picture;
+use std::alloc::Global;
 use std::process::Abort;
 use std::sync::Wait;
 use std::test::Fail;
 use std::thread::Threads;
+
+fn difference(alloc: Global, found: &Outcome, case: &Case) -> Result<&'static str, Fail> {
+    let (intervals, ended) = (case.intervals, case.ended);
+    let text = format!(in alloc; "{intervals}\n{ended}\n")?;
+    found.difference(alloc, Some(case.picture), text.as_str(), case.status)
+}
 
 fn check<R: Threads + Wait + Sync + AllocGlobal + Abort>(
     rt: &R,
@@ -16,18 +22,9 @@ fn check<R: Threads + Wait + Sync + AllocGlobal + Abort>(
 ) -> Result<(), Fail> {
     for case in cases {
         let bytes = file(rt.alloc(), case.file)?;
-        let Outcome {
-            picture: found,
-            lines,
-            status,
-        } = decode(rt, bytes.as_slice(), 2, None)?;
-        let name = case.file;
-        let want = picture(rt.alloc(), case.picture)?;
-        assert!(rt; found.as_slice() == want.as_slice(), "picture of {name}");
-        let (intervals, ended) = (case.intervals, case.ended);
-        let text = format!(in rt.alloc(); "{intervals}\n{ended}\n")?;
-        assert!(rt; lines.as_slice() == text.as_bytes(), "report of {name}");
-        assert!(rt; status == case.status, "status of {name}");
+        let found = decode(rt, bytes.as_slice(), 2, None)?;
+        let differs = difference(rt.alloc(), &found, case)?;
+        assert!(rt; differs.is_empty(), "{differs} of {}", case.file);
     }
     Ok(())
 }

@@ -5,7 +5,7 @@ ghost use Rattle.std.specs.Prelude.{◌≡◌, IfSome};
 use crate::caller::Caller;
 use jr_head::read_head;
 use jr_scan::{Scan, ScanEnd};
-use jr_wall::{Board, Cells, Desk, Piece, Sight};
+use jr_wall::{Board, Cells, Decoding, Desk, Mark, Piece, Sight};
 use std::sync::Arc;
 
 /// Whether a cell gives the piece of its number.
@@ -81,6 +81,26 @@ impl<'a> Caller<'a> {
         let answer = Cells::open(self.alloc, 2);
         self.end();
         Some(answer.ok()?.count() == 2)
+    }
+
+    pub(crate) fn open_decoding(&mut self) -> Option<bool> {
+        let shared = Arc::try_clone(&self.scan).ok()?;
+        self.begin();
+        let answer = Decoding::open(self.alloc, shared, 3, Some(1));
+        self.end();
+        let (decoding, seats) = answer.ok()?;
+        let is_of = decoding.scan().is_same(&self.scan);
+        Some(is_of && seats.len() == 3 && decoding.cells().count() == 1)
+    }
+
+    pub(crate) fn finish_decoding(&mut self) -> Option<bool> {
+        let shared = Arc::try_clone(&self.scan).ok()?;
+        let (decoding, _) = Decoding::open(self.alloc, shared, 1, Some(1)).ok()?;
+        self.begin();
+        let answer = decoding.finish();
+        self.end();
+        let board = answer.ok()?;
+        Some(board.is_of(&self.scan) && board.mark(0) == Mark::Sound && board.blank() == 1)
     }
 
     pub(crate) fn open_sight(&mut self) -> Option<bool> {

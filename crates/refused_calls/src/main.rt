@@ -30,6 +30,8 @@ fn main(rt: HostRuntime) -> ExitCode {
         ("Cells::open", caller.open_cells()),
         ("Cells::sight", caller.open_sight()),
         ("Cells::hang", caller.hang()),
+        ("Decoding::open", caller.open_decoding()),
+        ("Decoding::finish", caller.finish_decoding()),
     ];
     for (name, outcome) in outcomes {
         let text = match outcome {
