@@ -6,9 +6,11 @@ ghost use Rattle.jr_idct.specs.Matrix.{at, even_sum, odd_sum, weight, IsWithin};
 
 use crate::number::Number;
 
-// The constants have 13 bits after the point; ck stands for sqrt(2) * cos(k * pi / 16).
-/// 1, which is c4.
-const ONE: i16 = 8192;
+// What numbers are multiplied by, with 13 bits after the point. ck stands for sqrt(2) * cos(k * pi / 16), so
+// that c4 is 1; libjpeg calls each by its value, as FIX_1_175875602 for c3.
+
+/// c4.
+const C4: i16 = 8192;
 /// c6.
 const C6: i16 = 4433;
 /// c2 - c6.
@@ -25,13 +27,13 @@ const C3_PLUS_C5: i16 = 16069;
 const C7_MINUS_C3: i16 = -7373;
 /// -c1 - c3.
 const MINUS_C1_C3: i16 = -20995;
-/// c1 + c3 - c5 - c7: what x1 has beside the terms that it shares.
+/// c1 + c3 - c5 - c7: what x1 has in entry 0 beside the terms that it shares.
 const OWN_OF_X1: i16 = 12299;
-/// c1 + c3 + c5 - c7.
+/// c1 + c3 + c5 - c7: the same of x3 in entry 1.
 const OWN_OF_X3: i16 = 25172;
-/// c1 + c3 - c5 + c7.
+/// c1 + c3 - c5 + c7: the same of x5 in entry 2.
 const OWN_OF_X5: i16 = 16819;
-/// -c1 + c3 + c5 - c7.
+/// -c1 + c3 + c5 - c7: the same of x7 in entry 3.
 const OWN_OF_X7: i16 = 2446;
 
 /// What x2 and x6 make of entry 1 (and, with the other sign, of entry 2), and of entry 0 (and of entry 3).
@@ -62,8 +64,8 @@ pub(crate) fn even_part<T: Number>(x0: T, x2: T, x4: T, x6: T) -> (T, T, T, T)
     ensures entry_3 { T.value result.3 ≡ even_sum 3 (T.value x0 ∷ T.value x2 ∷ T.value x4 ∷ T.value x6 ∷ []) }
 {
     let (inner, outer) = rotated(x2, x6);
-    let sum = x0.plus(x4).times(ONE);
-    let difference = x0.minus(x4).times(ONE);
+    let sum = x0.plus(x4).times(C4);
+    let difference = x0.minus(x4).times(C4);
     let entry_0 = sum.plus(outer);
     let entry_1 = difference.plus(inner);
     let entry_2 = difference.minus(inner);

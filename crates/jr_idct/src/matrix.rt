@@ -5,7 +5,7 @@ ghost use Rattle.std.proofs.Math.IntN.{◌*ℤ◌};
 ghost use Rattle.jr_idct.specs.Matrix.{at, weight, row_sum, transposed, IsWithin};
 ghost use Rattle.jr_idct.specs.Transform.{place_of, product_at, sample, samples};
 
-use crate::number::Number;
+use crate::number::{COLUMN_BITS, Number, ROW_BITS};
 
 /// The zigzag place of each natural index, `8 row + column`.
 static PLACES: [u8; 64] = [
@@ -96,8 +96,8 @@ pub fn matrix_transform(coefficients: &[i32; 64], quantisers: &[u16; 64]) -> [u8
     ensures by_place { (r c : ℕ) → r < 8 → c < 8 → slice_index result (8 * r + c) ≡ sample coefficients.now quantisers.now r c }
     ensures whole { result ≡ samples coefficients.now quantisers.now }
 {
-    let columns = plain_passes(&dequantised(coefficients, quantisers), 11);
-    let values = plain_passes(&columns, 18);
+    let columns = plain_passes(&dequantised(coefficients, quantisers), COLUMN_BITS);
+    let values = plain_passes(&columns, ROW_BITS);
     let mut samples = [0; 64];
     for k in 0..64 {
         samples[k] = values[k].clamped();

@@ -1,11 +1,11 @@
 //! The transform in 32 bits, for blocks with small products, which are nearly all.
 
-ghost use Rattle.std.specs.Prelude.{◌≡◌, ℕ, ◌+◌, ◌*◌, ◌<◌, ◌+ℤ◌, ◌-ℤ◌, slice_index, IsTrue, ◌↔◌};
+ghost use Rattle.std.specs.Prelude.{◌≡◌, ℕ, ◌+◌, ◌*◌, ◌<◌, pos, ◌+ℤ◌, ◌-ℤ◌, slice_index, IsTrue, ◌↔◌};
 ghost use Rattle.jr_idct.specs.Matrix.{at, descale, narrow_reach, row_weight, transposed, IsWithin};
-ghost use Rattle.jr_idct.specs.Transform.{sample_of};
+ghost use Rattle.jr_idct.specs.Transform.{byte_of, sample_of};
 
 use crate::butterfly::{even_part, odd_part};
-use crate::number::Number;
+use crate::number::{COLUMN_BITS, Number, ROW_BITS};
 
 /// How large the products may be whose passes fit in 32 bits: the first pass makes numbers up to 34971 of them,
 /// and the sums of the second one, rounded, stay below 2^31.
@@ -64,20 +64,35 @@ fn column_pass(table: &[i32; 64], c: usize, bits: u32) -> [i32; 8]
     [y0, y1, y2, y3, y4, y5, y6, y7]
 }
 
-/// The pass over each column, whose results are the rows of the answer. No step depends on what a column holds,
-/// so that several are done at once, by vectors.
-#[inline(always)]
-fn passes(table: &[i32; 64], bits: u32) -> [i32; 64]
-    requires positive { 0 < bits }
-    requires few { bits < 19 }
-    requires small { (k : ℕ) → k < 64 → IsWithin narrow_reach (at table.now k) }
-    ensures { (k : ℕ) → k < 64 → at result k ≡ transposed bits table.now k }
+/// The first pass over each column, whose results are the rows of the answer. No step depends on what a column
+/// holds, so that several are done at once, by vectors.
+#[inline]
+fn first_passes(table: &[i32; 64]) -> [i32; 64]
+    requires { (k : ℕ) → k < 64 → IsWithin narrow_reach (at table.now k) }
+    ensures { (k : ℕ) → k < 64 → at result k ≡ transposed COLUMN_BITS table.now k }
 {
     let mut rows = [0; 64];
     for c in 0..8 {
-        let row = column_pass(table, c, bits);
+        let row = column_pass(table, c, COLUMN_BITS);
         for r in 0..8 {
             rows[8 * c + r] = row[r];
+        }
+    }
+    rows
+}
+
+/// The second pass over each column of what the first one made, whose results, clamped at once, are the rows of
+/// the answer. Clamped in a loop of their own they would be stored one by one and read back by vectors.
+#[inline]
+fn sample_rows(columns: &[i32; 64]) -> [u8; 64]
+    requires { (k : ℕ) → k < 64 → IsWithin narrow_reach (at columns.now k) }
+    ensures { (k : ℕ) → k < 64 → slice_index result k ≡ byte_of (transposed ROW_BITS columns.now k +ℤ pos 128) }
+{
+    let mut rows = [0; 64];
+    for c in 0..8 {
+        let row = column_pass(columns, c, ROW_BITS);
+        for r in 0..8 {
+            rows[8 * c + r] = row[r].clamped();
         }
     }
     rows
@@ -89,11 +104,5 @@ pub(crate) fn narrow_samples(table: &[i32; 64]) -> [u8; 64]
     requires { (k : ℕ) → k < 64 → IsWithin LIMIT (at table.now k) }
     ensures { (r c : ℕ) → r < 8 → c < 8 → slice_index result (8 * r + c) ≡ sample_of (at table.now) r c }
 {
-    let columns = passes(table, 11);
-    let values = passes(&columns, 18);
-    let mut samples = [0; 64];
-    for k in 0..64 {
-        samples[k] = values[k].clamped();
-    }
-    samples
+    sample_rows(&first_passes(table))
 }
