@@ -6,11 +6,11 @@ use Rattle.std.proofs.lemmas.Int.{ints, by_lt_z}
 use Rattle.std.specs.Prelude.{◌↔◌}
 use Rattle.jr_idct.specs.Matrix.{floor_div}
 
-floor_below : (z : ℤ) (d : ℕ) → 0 < d → (pos d *ℤ floor_div z d) ≤ℤ z
+pub floor_below : (z : ℤ) (d : ℕ) → 0 < d → (pos d *ℤ floor_div z d) ≤ℤ z
 floor_below (pos a) d h = omega (arith, ints)
 floor_below (negsuc a) d h = omega (arith, ints)
 
-floor_above : (z : ℤ) (d : ℕ) → 0 < d → z <ℤ (pos d *ℤ floor_div z d +ℤ pos d)
+pub floor_above : (z : ℤ) (d : ℕ) → 0 < d → z <ℤ (pos d *ℤ floor_div z d +ℤ pos d)
 floor_above (pos a) d h = omega (arith, ints)
 floor_above (negsuc a) d h = omega (arith, ints)
 

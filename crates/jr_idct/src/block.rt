@@ -4,11 +4,12 @@ ghost use Rattle.std.specs.Prelude.{◌≡◌, ℕ, ◌+◌, ◌*◌, ◌<◌, �
 ghost use Rattle.jr_idct.specs.Matrix.{at, floor_div, IsWithin};
 ghost use Rattle.jr_idct.specs.Transform.{byte_of, sample, samples};
 
-use crate::narrow::{are_small, clamped, narrow_samples};
-use crate::wide::wide_samples;
+use crate::matrix::matrix_transform;
+use crate::narrow::{are_small, narrow_samples};
+use crate::number::Number;
 use crate::zigzag::{natural_order, products};
 
-// Whether all coefficients but the first are 0. It ends at the first that is not.
+/// Whether all coefficients but the first are 0. It ends at the first that is not.
 #[inline]
 fn is_flat(coefficients: &[i32; 64]) -> bool
     ensures { IsTrue result ↔ ((k : ℕ) → 0 < k → k < 64 → at coefficients.now k ≡ pos 0) }
@@ -21,13 +22,13 @@ fn is_flat(coefficients: &[i32; 64]) -> bool
     true
 }
 
-// The samples of a block that is only its first coefficient, given its product: all are equal.
+/// The samples of a block that is only its first coefficient, given its product: all are equal.
 #[inline]
 fn flat_samples(product: i32) -> [u8; 64]
     requires { IsWithin (32768 * 65535) product }
     ensures { (n : ℕ) → n < 64 → slice_index result n ≡ byte_of (floor_div (product +ℤ pos 4) 8 +ℤ pos 128) }
 {
-    [clamped((product + 4) >> 3); 64]
+    [((product + 4) >> 3).clamped(); 64]
 }
 
 /// The 64 samples of a block: dequantised, put in natural order, transformed and shifted (T.81, A.3.1,
@@ -45,10 +46,9 @@ pub fn transform(coefficients: &[i32; 64], quantisers: &[u16; 64]) -> [u8; 64]
         return flat_samples(coefficients[0] * i32::from(quantisers[0]));
     }
     let dequantised = products(coefficients, quantisers);
-    let table = natural_order(&dequantised);
     if are_small(&dequantised) {
-        narrow_samples(&table)
+        narrow_samples(&natural_order(&dequantised))
     } else {
-        wide_samples(&table)
+        matrix_transform(coefficients, quantisers)
     }
 }

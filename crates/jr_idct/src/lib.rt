@@ -10,10 +10,9 @@ mod butterfly;
 mod laws;
 mod matrix;
 mod narrow;
-mod rounding;
+mod number;
 #[cfg(test)]
 mod tests;
-mod wide;
 mod zigzag;
 
 pub use block::transform;

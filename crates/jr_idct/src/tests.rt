@@ -7,7 +7,7 @@ use crate::{even, floors, matrix_transform, odd, tables_agree, transform};
 use std::process::Abort;
 use std::test::Fail;
 
-// A block with two coefficients, the second one at a zigzag place.
+/// A block with two coefficients, the second one at a zigzag place.
 fn block(first: i32, place: usize, value: i32) -> [i32; 64]
     requires place_in { place < 64 }
     requires first_small { IsWithin 32768 first }
@@ -20,6 +20,7 @@ fn block(first: i32, place: usize, value: i32) -> [i32; 64]
     coefficients
 }
 
+/// A block whose coefficients are all equal.
 fn full(value: i32) -> [i32; 64]
     requires { IsWithin 32768 value }
     ensures { (k : ℕ) → k < 64 → IsWithin 32768 (at result k) }
@@ -27,7 +28,7 @@ fn full(value: i32) -> [i32; 64]
     [value; 64]
 }
 
-// One coefficient gives what the matrix gives, at each of these quantisers.
+/// One coefficient gives what the matrix gives, at each of these quantisers.
 fn agrees(rt: &impl Abort, place: usize, value: i32)
     requires place_in { place < 64 }
     requires value_small { IsWithin 32768 value }
@@ -85,8 +86,19 @@ fn as_the_matrix(rt: HostRuntime) -> Result<(), Fail> {
         agrees(&rt, place, -1);
         agrees(&rt, place, 1023);
         agrees(&rt, place, -1023);
+        agrees(&rt, place, 1170);
+        agrees(&rt, place, -1170);
         agrees(&rt, place, 32768);
         agrees(&rt, place, -32768);
+    }
+    Ok(())
+}
+
+#[test]
+fn all_at_the_limit_of_32_bits(rt: HostRuntime) -> Result<(), Fail> {
+    for value in [1170, 1171, -1170, -1171] {
+        let samples = transform(&full(value), &[1; 64]);
+        assert_eq!(rt; samples, matrix_transform(&full(value), &[1; 64]));
     }
     Ok(())
 }

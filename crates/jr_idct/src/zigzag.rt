@@ -5,7 +5,7 @@ ghost use Rattle.std.proofs.Math.IntN.{◌*ℤ◌};
 ghost use Rattle.jr_idct.specs.Matrix.{at, IsWithin};
 ghost use Rattle.jr_idct.specs.Transform.{place_of};
 
-// Dequantisation (T.81, A.3.4), still in zigzag order. Every product fits.
+/// Dequantisation (T.81, A.3.4), still in zigzag order. Every product fits.
 #[inline]
 pub(crate) fn products(coefficients: &[i32; 64], quantisers: &[u16; 64]) -> [i32; 64]
     requires { (k : ℕ) → k < 64 → IsWithin 32768 (at coefficients.now k) }
@@ -19,7 +19,7 @@ pub(crate) fn products(coefficients: &[i32; 64], quantisers: &[u16; 64]) -> [i32
     table
 }
 
-// Zigzag order undone (T.81, A.3.6): each place is named, so that no table is read.
+/// Zigzag order undone (T.81, A.3.6): each place is named, so that no table is read.
 #[inline]
 pub(crate) fn natural_order(z: &[i32; 64]) -> [i32; 64]
     requires { (k : ℕ) → k < 64 → IsWithin (32768 * 65535) (at z.now k) }

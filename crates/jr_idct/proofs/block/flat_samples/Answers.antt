@@ -3,7 +3,7 @@ use Rattle.std.proofs.lemmas.Int.{ints, to_z-of_z}
 use Rattle.std.proofs.lemmas.Simd.{get_or-replicate}
 use Rattle.std.specs.Int.Signed.{shr_z}
 use Rattle.jr_idct.specs.Transform.{byte_of}
-use Rattle.jr_idct.proofs.NarrowPasses.{shr_fits}
+use Rattle.jr_idct.proofs.Passes.{shr_fits}
 use Rattle.jr_idct.proofs.block.flat_samples.Goals as goal
 
 pub returns : goal.returns

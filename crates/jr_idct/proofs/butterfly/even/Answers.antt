@@ -1,61 +1,28 @@
-use Rattle.std.proofs.Common.{arith}
+use Rattle.std.proofs.Common.{arith, rules, ◌^◌, w64, FitsSigned, ◌∙◌}
 use Rattle.std.proofs.lemmas.Int.{ints, to_z-of_z}
 use Rattle.jr_idct.specs.Matrix.{at}
-use Rattle.jr_idct.proofs.Halves.{even_small, even_fits, below_four}
+use Rattle.jr_idct.proofs.Passes.{below_four, even_sum_within}
 use Rattle.jr_idct.proofs.butterfly.even.Goals as goal
-
-pub overflow_sub-t2 : goal.overflow_sub-t2
-overflow_sub-t2 c =
-    let x = c.args.x.now in
-    let r = c.requires in
-    even_fits (at x 0) (at x 1) (at x 2) (at x 3) (r 0 (omega arith)) (r 1 (omega arith)) (r 2 (omega arith)) (r 3 (omega arith))
-    (λ f0 f1 f2 f3 f4 f5 f6 f7 f8 f9 f10 f11 f12 f13 f14 f15 f16 f17. simp to_z-of_z f7)
-
-pub overflow_add-t3 : goal.overflow_add-t3
-overflow_add-t3 c =
-    let x = c.args.x.now in
-    let r = c.requires in
-    even_fits (at x 0) (at x 1) (at x 2) (at x 3) (r 0 (omega arith)) (r 1 (omega arith)) (r 2 (omega arith)) (r 3 (omega arith))
-    (λ f0 f1 f2 f3 f4 f5 f6 f7 f8 f9 f10 f11 f12 f13 f14 f15 f16 f17. simp to_z-of_z f9)
-
-pub overflow_add-result : goal.overflow_add-result
-overflow_add-result c =
-    let x = c.args.x.now in
-    let r = c.requires in
-    even_fits (at x 0) (at x 1) (at x 2) (at x 3) (r 0 (omega arith)) (r 1 (omega arith)) (r 2 (omega arith)) (r 3 (omega arith))
-    (λ f0 f1 f2 f3 f4 f5 f6 f7 f8 f9 f10 f11 f12 f13 f14 f15 f16 f17. simp to_z-of_z f14)
-
-pub overflow_add-result-2 : goal.overflow_add-result-2
-overflow_add-result-2 c =
-    let x = c.args.x.now in
-    let r = c.requires in
-    even_fits (at x 0) (at x 1) (at x 2) (at x 3) (r 0 (omega arith)) (r 1 (omega arith)) (r 2 (omega arith)) (r 3 (omega arith))
-    (λ f0 f1 f2 f3 f4 f5 f6 f7 f8 f9 f10 f11 f12 f13 f14 f15 f16 f17. simp to_z-of_z f15)
-
-pub overflow_sub-result : goal.overflow_sub-result
-overflow_sub-result c =
-    let x = c.args.x.now in
-    let r = c.requires in
-    even_fits (at x 0) (at x 1) (at x 2) (at x 3) (r 0 (omega arith)) (r 1 (omega arith)) (r 2 (omega arith)) (r 3 (omega arith))
-    (λ f0 f1 f2 f3 f4 f5 f6 f7 f8 f9 f10 f11 f12 f13 f14 f15 f16 f17. simp to_z-of_z f16)
-
-pub overflow_sub-result-2 : goal.overflow_sub-result-2
-overflow_sub-result-2 c =
-    let x = c.args.x.now in
-    let r = c.requires in
-    even_fits (at x 0) (at x 1) (at x 2) (at x 3) (r 0 (omega arith)) (r 1 (omega arith)) (r 2 (omega arith)) (r 3 (omega arith))
-    (λ f0 f1 f2 f3 f4 f5 f6 f7 f8 f9 f10 f11 f12 f13 f14 f15 f16 f17. simp to_z-of_z f17)
 
 pub returns-clause-sums : goal.returns-clause-sums
 returns-clause-sums c =
+    let e = c.even_part-entry_0.ensures in
     let x = c.args.x.now in
-    let r = c.requires in
-    even_fits (at x 0) (at x 1) (at x 2) (at x 3) (r 0 (omega arith)) (r 1 (omega arith)) (r 2 (omega arith)) (r 3 (omega arith))
-    (λ f0 f1 f2 f3 f4 f5 f6 f7 f8 f9 f10 f11 f12 f13 f14 f15 f16 f17. below_four _
-    (simp to_z-of_z (omega (arith, ints)))
-    (simp to_z-of_z (omega (arith, ints)))
-    (simp to_z-of_z (omega (arith, ints)))
-    (simp to_z-of_z (omega (arith, ints))))
+    let a = c.requires 0 (omega arith) in
+    let b = c.requires 1 (omega arith) in
+    let d = c.requires 2 (omega arith) in
+    let f = c.requires 3 (omega arith) in
+    let fa : FitsSigned w64 (at x 0) = omega (arith, ints) in
+    let fb : FitsSigned w64 (at x 1) = omega (arith, ints) in
+    let fd : FitsSigned w64 (at x 2) = omega (arith, ints) in
+    let ff : FitsSigned w64 (at x 3) = omega (arith, ints) in
+    below_four _
+    (to_z-of_z w64 _ (search rules) ∙ simp to_z-of_z at e.entry_0)
+    (to_z-of_z w64 _ (search rules) ∙ simp to_z-of_z at e.entry_1)
+    (to_z-of_z w64 _ (search rules) ∙ simp to_z-of_z at e.entry_2)
+    (to_z-of_z w64 _ (search rules) ∙ simp to_z-of_z at e.entry_3)
 
 pub returns-clause-small : goal.returns-clause-small
-returns-clause-small c = λ i h. let s = returns-clause-sums c i h in rw (s) (even_small c.args.x.now c.requires i h)
+returns-clause-small c = λ i h.
+    let s = even_sum_within (2 ^ 40) c.args.x.now c.requires i h in
+    rw (returns-clause-sums c i h) (omega (arith, ints), omega (arith, ints))

@@ -1,17 +1,17 @@
-use Rattle.std.proofs.Common.{arith, rules, ◌+ℤ◌, ◌-ℤ◌, w32, FitsSigned, ap, ◌∙◌}
+use Rattle.std.proofs.Common.{arith, rules, ◌+ℤ◌, ◌-ℤ◌, w32, FitsSigned, ◌∙◌}
 use Rattle.std.proofs.lemmas.Int.{ints, to_z-of_z}
-use Rattle.jr_idct.specs.Matrix.{descale}
-use Rattle.jr_idct.proofs.NarrowPasses.{narrow_sum_passed, narrow_difference_passed}
 use Rattle.jr_idct.proofs.narrow.both_descaled.Goals as goal
 
 pub returns-clause-sum : goal.returns-clause-sum
 returns-clause-sum c =
-    let f : FitsSigned w32 (c.args.e +ℤ c.args.o) = omega (arith, ints) in
-    let g : FitsSigned w32 c.descaled.result = search rules in
-    to_z-of_z w32 c.descaled.result g ∙ c.descaled.ensures ∙ ap (descale c.args.bits) (narrow_sum_passed c.args.e c.args.o c.ranges.e c.ranges.o f)
+    let f : FitsSigned w32 (c.args.even +ℤ c.args.odd) = omega (arith, ints) in
+    let e = c.ranges.even in
+    let o = c.ranges.odd in
+    to_z-of_z w32 _ (search rules) ∙ simp to_z-of_z at c.descaled-sum.ensures
 
 pub returns-clause-difference : goal.returns-clause-difference
 returns-clause-difference c =
-    let f : FitsSigned w32 (c.args.e -ℤ c.args.o) = omega (arith, ints) in
-    let g : FitsSigned w32 c.descaled-2.result = search rules in
-    to_z-of_z w32 c.descaled-2.result g ∙ c.descaled-2.ensures ∙ ap (descale c.args.bits) (narrow_difference_passed c.args.e c.args.o c.ranges.e c.ranges.o f)
+    let f : FitsSigned w32 (c.args.even -ℤ c.args.odd) = omega (arith, ints) in
+    let e = c.ranges.even in
+    let o = c.ranges.odd in
+    to_z-of_z w32 _ (search rules) ∙ simp to_z-of_z at c.descaled-difference.ensures

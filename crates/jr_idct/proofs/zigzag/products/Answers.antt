@@ -1,10 +1,11 @@
 use Rattle.std.proofs.Common.{arith, rules, ℕ, ◌<◌, length, pos, slice_index}
 use Rattle.std.proofs.Math.IntN.{◌*ℤ◌}
 use Rattle.std.proofs.Math.ListN.{length-set}
+use Rattle.std.proofs.lemmas.Int.{ints}
 use Rattle.std.proofs.lemmas.List.Edits.{fill_by_more}
 use Rattle.jr_idct.specs.Matrix.{at}
 use Rattle.jr_idct.proofs.Tables.{narrow_product_stored}
-use Rattle.jr_idct.proofs.Whole.{term_within}
+use Rattle.jr_idct.proofs.Whole.{product_within}
 use Rattle.jr_idct.proofs.zigzag.products.Goals as goal
 
 pub loop-k-preserved : goal.loop-k-preserved
@@ -22,4 +23,5 @@ returns-clause-small c = λ k h.
     let z = c.args.coefficients.now in
     let q = c.args.quantisers.now in
     let b : k < c.loop-k.k = omega arith in
-    rw (c.loop-k.invariant.1 k b) (term_within (at z k) (slice_index q k) (c.requires k h) (c.fits-quantisers k))
+    let f = c.fits-quantisers k in
+    rw (c.loop-k.invariant.1 k b) (product_within 32768 65535 (at z k) (pos (slice_index q k)) (c.requires k h) (omega (arith, ints), omega (arith, ints, f)))

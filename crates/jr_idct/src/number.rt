@@ -1,0 +1,110 @@
+//! The two widths of numbers that a pass reckons in, under one contract.
+
+ghost use Rattle.std.specs.Prelude.{◌≡◌, ℕ, ℤ, ◌+◌, ◌*◌, ◌^◌, ◌<◌, pos, ◌+ℤ◌, ◌-ℤ◌};
+ghost use Rattle.std.proofs.Math.IntN.{◌*ℤ◌};
+ghost use Rattle.jr_idct.specs.Matrix.{descale, narrow_reach, row_weight, IsInRoom, IsWithin};
+ghost use Rattle.jr_idct.specs.Transform.{byte_of};
+
+/// How many bits the pass over columns drops: the 13 of the constants, less two that are kept.
+pub(crate) const COLUMN_BITS: u32 = 11;
+
+/// How many bits the pass over rows drops: those 13, the two, and three for the sum's scale of 8.
+pub(crate) const ROW_BITS: u32 = 18;
+
+/// A signed number. What a pass makes of numbers within its reach is exact.
+pub(crate) trait Number: Copy {
+    // the whole number it stands for
+    ghost value: { Self → ℤ };
+
+    // how large the numbers may be that a pass is given
+    ghost reach: { ℕ };
+
+    /// The sum of the two.
+    fn plus(self, other: Self) -> Self
+        requires { IsInRoom reach (value self +ℤ value other) }
+        ensures { value result ≡ value self +ℤ value other };
+
+    /// The difference of the two.
+    fn minus(self, other: Self) -> Self
+        requires { IsInRoom reach (value self -ℤ value other) }
+        ensures { value result ≡ value self -ℤ value other };
+
+    /// The product with a constant.
+    fn times(self, constant: i16) -> Self
+        requires { IsInRoom reach (constant *ℤ value self) }
+        ensures { value result ≡ constant *ℤ value self };
+
+    /// The number without its last bits, rounded; halves go up.
+    fn descaled(self, bits: u32) -> Self
+        requires positive { 0 < bits }
+        requires few { bits < 19 }
+        requires small { IsWithin (row_weight * reach) (value self) }
+        ensures { value result ≡ descale bits (value self) };
+
+    /// The sample of a value: the level shift of T.81, A.3.1, and the nearest number of eight bits.
+    fn clamped(self) -> u8
+        requires { IsInRoom reach (value self) }
+        ensures { result ≡ byte_of (value self +ℤ pos 128) };
+}
+
+impl Number for i32 {
+    ghost value = { λ x. x };
+
+    ghost reach = { narrow_reach };
+
+    #[inline]
+    fn plus(self, other: Self) -> Self {
+        self + other
+    }
+
+    #[inline]
+    fn minus(self, other: Self) -> Self {
+        self - other
+    }
+
+    #[inline]
+    fn times(self, constant: i16) -> Self {
+        constant as i32 * self
+    }
+
+    #[inline]
+    fn descaled(self, bits: u32) -> Self {
+        (self + (1_i32 << (bits - 1))) >> bits
+    }
+
+    #[inline]
+    fn clamped(self) -> u8 {
+        (self + 128).clamp(0, 255) as u8
+    }
+}
+
+impl Number for i64 {
+    ghost value = { λ x. x };
+
+    ghost reach = { 2 ^ 44 };
+
+    #[inline]
+    fn plus(self, other: Self) -> Self {
+        self + other
+    }
+
+    #[inline]
+    fn minus(self, other: Self) -> Self {
+        self - other
+    }
+
+    #[inline]
+    fn times(self, constant: i16) -> Self {
+        constant as i64 * self
+    }
+
+    #[inline]
+    fn descaled(self, bits: u32) -> Self {
+        (self + (1_i64 << (bits - 1))) >> bits
+    }
+
+    #[inline]
+    fn clamped(self) -> u8 {
+        (self + 128).clamp(0, 255) as u8
+    }
+}
