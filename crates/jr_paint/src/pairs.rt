@@ -1,6 +1,7 @@
 //! The pixels of two lines that take the same samples of chrominance.
 
 ghost use Rattle.std.specs.Prelude.{◌≡◌, ◌+◌, ◌*◌, ◌<◌, ◌≤◌, length};
+ghost use Rattle.jr_paint.specs.declared.upsampling.TheConstants.{STRIP};
 ghost use Rattle.jr_paint.specs.Geometry.{samples_across};
 ghost use Rattle.jr_paint.specs.Lines.{pixels_of_two};
 ghost use Rattle.jr_paint.specs.Shades.{SharesChroma};
@@ -20,7 +21,7 @@ pub(crate) fn fill_two<S: Samples>(
     requires shares { SharesChroma (S.head_of samples.now) y }
     requires down { y + 1 < (S.head_of samples.now).height }
     requires some { 0 < n }
-    requires few { n ≤ 4092 }
+    requires few { n ≤ STRIP }
     requires across { n ≤ (S.head_of samples.now).width }
     requires room { length pixels.old ≡ 6 * n }
     ensures { pixels.new ≡ pixels_of_two (S.head_of samples.now) (S.shown samples.now) y n }

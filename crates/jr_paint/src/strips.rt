@@ -3,6 +3,7 @@
 ghost use Rattle.std.specs.Prelude.{◌≡◌, ℕ, ◌+◌, ◌*◌, ◌%◌, ◌<◌, ◌≤◌, length};
 ghost use Rattle.jr_head.specs.declared.mark.Kind.TheVariants.{Grey};
 ghost use Rattle.jr_head.specs.Geometry.{component_count};
+ghost use Rattle.jr_paint.specs.declared.upsampling.TheConstants.{STRIP};
 ghost use Rattle.jr_paint.specs.Text.{pixel_size, pixels_of};
 
 use crate::pixels::mix;
@@ -22,7 +23,7 @@ fn fill_colours<S: Samples>(
     requires kind { component_count (S.head_of samples.now).kind ≡ 3 }
     requires start { x % 12 ≡ 0 }
     requires some { 0 < n }
-    requires few { n ≤ 4092 }
+    requires few { n ≤ STRIP }
     requires across { x + n ≤ (S.head_of samples.now).width }
     requires down { y < (S.head_of samples.now).height }
     requires room { length pixels.old ≡ 3 * n }
@@ -53,7 +54,7 @@ fn fill_grey<S: Samples>(
     requires kind { (S.head_of samples.now).kind ≡ Grey }
     requires start { x % 12 ≡ 0 }
     requires some { 0 < n }
-    requires few { n ≤ 4092 }
+    requires few { n ≤ STRIP }
     requires across { x + n ≤ (S.head_of samples.now).width }
     requires down { y < (S.head_of samples.now).height }
     requires room { length pixels.old ≡ n }
@@ -74,7 +75,7 @@ pub(crate) fn fill<S: Samples>(
 )
     requires start { x % 12 ≡ 0 }
     requires some { 0 < n }
-    requires few { n ≤ 4092 }
+    requires few { n ≤ STRIP }
     requires across { x + n ≤ (S.head_of samples.now).width }
     requires down { y < (S.head_of samples.now).height }
     requires room { length pixels.old ≡ pixel_size (S.head_of samples.now).kind * n }

@@ -3,6 +3,7 @@
 ghost use Rattle.std.specs.Prelude.{◌≡◌, ◌≤◌, length, All, IfOk};
 ghost use Rattle.std.specs.Arc.{arc_value};
 ghost use Rattle.std.specs.Fn.{FnOnceReturnsAt};
+ghost use Rattle.jr_base.specs.declared.limits.TheConstants.{MAX_WORKERS};
 ghost use Rattle.jr_wall.specs.Decoded.{IsDecoded, least};
 
 use crate::board::Board;
@@ -55,7 +56,7 @@ impl Decoding {
         first: Option<u32>,
     ) -> Result<(Decoding, Vec<Seat>), Memory>
         requires some { 1 ≤ workers }
-        requires few { workers ≤ 64 }
+        requires few { workers ≤ MAX_WORKERS }
         ensures scan { IfOk result (λ r. r.0.scan ≡ arc_value scan) }
         ensures limit { IfOk result (λ r. r.0.desk.limit ≡ least first (length (arc_value scan).intervals)) }
         ensures cells { IfOk result (λ r. length r.0.cells ≡ r.0.desk.limit) }

@@ -2,6 +2,7 @@
 
 ghost use Rattle.std.specs.Prelude.{◌≡◌, ◌<◌, ◌≤◌, ℕ, ◌++◌, List, length, true, IfOk, IfSome};
 ghost use Rattle.std.specs.Arc.{arc_value};
+ghost use Rattle.jr_base.specs.declared.limits.TheConstants.{MAX_WORKERS};
 ghost use Rattle.jr_wall.specs.Decoded.{IsDecoded, least};
 
 use crate::board::Board;
@@ -84,7 +85,7 @@ pub fn decode_all<R: Threads + Wait + Sync, G: Gate + Sync>(
     gate: &G,
 ) -> Result<Board, Memory>
     requires some { 1 ≤ workers }
-    requires few { workers ≤ 64 }
+    requires few { workers ≤ MAX_WORKERS }
     ensures { IfOk result (λ b. IsDecoded (arc_value scan) (least first (length (arc_value scan).intervals)) b) }
 {
     let (decoding, seats) = Decoding::open(alloc, scan, workers, first)?;

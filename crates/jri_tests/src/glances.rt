@@ -77,18 +77,38 @@ fn is_looked_at(board: &Board, n: u32) -> bool {
     true
 }
 
+/// Whether glances see nothing before the workers of a decoding, and its first n intervals after them.
+fn is_seen_of_a_decoding<R: Threads + Wait + Sync + AllocGlobal>(
+    rt: &R,
+    scan: &Arc<Scan>,
+    n: u32,
+) -> Result<bool, Fail> {
+    let (decoding, seats) = Decoding::open(rt.alloc(), Arc::try_clone(scan)?, 2, Some(n))?;
+    if !is_seen(rt, scan, decoding.board(), 0) {
+        return Ok(false);
+    }
+    decoding.run(rt, seats, &OpenGate, |_| {});
+    Ok(is_seen(rt, scan, decoding.board(), n))
+}
+
+/// The same of `decode_all`.
+fn is_seen_of_all<R: Threads + Wait + Sync + AllocGlobal>(
+    rt: &R,
+    scan: &Arc<Scan>,
+    n: u32,
+) -> Result<bool, Fail> {
+    let shared = Arc::try_clone(scan)?;
+    let board = decode_all(rt, rt.alloc(), shared, 2, Some(n), &OpenGate)?;
+    Ok(is_seen(rt, scan, &Mutex::new(board), n))
+}
+
 /// The first intervals of the mixed file, decoded by the workers of a decoding and by `decode_all`.
 #[test]
 fn after_workers(rt: HostRuntime) -> Result<(), Fail> {
-    let alloc = rt.alloc();
-    let scan = scan(alloc, MIXED)?;
+    let scan = scan(rt.alloc(), MIXED)?;
     for n in 0..=10u32 {
-        let (decoding, seats) = Decoding::open(alloc, Arc::try_clone(&scan)?, 2, Some(n))?;
-        assert!(rt; is_seen(&rt, &scan, decoding.board(), 0), "before {n}");
-        decoding.run(&rt, seats, &OpenGate, |_| {});
-        assert!(rt; is_seen(&rt, &scan, decoding.board(), n), "after {n}");
-        let board = decode_all(&rt, alloc, Arc::try_clone(&scan)?, 2, Some(n), &OpenGate)?;
-        assert!(rt; is_seen(&rt, &scan, &Mutex::new(board), n), "{n} of all");
+        assert!(rt; is_seen_of_a_decoding(&rt, &scan, n)?, "{n} of a decoding");
+        assert!(rt; is_seen_of_all(&rt, &scan, n)?, "{n} of all");
     }
     Ok(())
 }

@@ -1,13 +1,14 @@
 use Rattle.std.proofs.Common.{◌≡◌, ◌≤◌, ◌+◌, ◌-◌, ◌++◌, ◌%◌, ◌<◌, ℕ, min, refl, arith, rules}
+use Rattle.jr_paint.specs.declared.upsampling.TheConstants.{STRIP}
 use Rattle.jr_paint.specs.Text.{pixels_of}
 use Rattle.jr_base.proofs.Appending.{then, none_yet, on_err, front_of}
 use Rattle.jr_paint.proofs.PixelLaws.{pixels_none, pixels-append, pixels_around}
 use Rattle.jr_paint.proofs.netpbm.write_line.Goals as goal
 
--- only the last strip is shorter than 4092 pixels
-strip_start : (x n width : ℕ) → n ≡ min (width - x) 4092 → x % 12 ≡ 0 → x + n < width → (x + n) % 12 ≡ 0
+-- only the last strip is shorter than STRIP pixels
+strip_start : (x n width : ℕ) → n ≡ min (width - x) STRIP → x % 12 ≡ 0 → x + n < width → (x + n) % 12 ≡ 0
 strip_start x n width e d h =
-    let whole : n ≡ 4092 = omega (arith, e, h) in
+    let whole : n ≡ STRIP = omega (arith, e, h) in
     rw whole (omega (arith, d))
 
 pub strips-init : goal.strips-init
