@@ -4,10 +4,10 @@ use Rattle.std.proofs.Math.IntN.{◌*ℤ◌}
 use Rattle.std.proofs.lemmas.Int.{ints}
 use Rattle.std.specs.Prelude.{slice_index}
 use Rattle.jr_idct.specs.Matrix.{at, descale, pass, floor_div}
-use Rattle.jr_idct.specs.Transform.{byte_of, product_at, column_pass, sample, place_of}
+use Rattle.jr_idct.specs.Transform.{byte_of, product_at, column_pass, sample, zigzag_place}
 use Rattle.jr_idct.proofs.FloorLaws.{floor_below, floor_above, floor_is}
 use Rattle.jr_idct.proofs.Passes.{zero_pass}
-use Rattle.jr_idct.proofs.Tables.{place_below, place_positive, place_of_0}
+use Rattle.jr_idct.proofs.Tables.{place_below, place_positive, zigzag_place_0}
 
 four_times : (x : ℤ) → descale 11 (pos 8192 *ℤ x) ≡ pos 4 *ℤ x
 four_times x = sym (floor_is (pos 8192 *ℤ x +ℤ pos 1024) (pos 4 *ℤ x) 2048 (omega arith) (omega (arith, ints)) (omega (arith, ints)))
@@ -44,6 +44,6 @@ pub flat_is : (z : List ℤ) (q : List ℕ) → ((k : ℕ) → 0 < k → k < 64 
 flat_is z q zeros r c h g =
     let v : ℕ → ℤ = product_at z q in
     let zs : (k : ℕ) → 0 < k → k < 64 → v k ≡ pos 0 =
-    λ k p b. ap (λ x. x *ℤ pos (slice_index q (place_of k))) (zeros (place_of k) (place_positive k p b) (place_below k b)) ∙ nothing (slice_index q (place_of k)) in
-    let top : v 0 ≡ at z 0 *ℤ pos (slice_index q 0) = ap (λ n. at z n *ℤ pos (slice_index q n)) place_of_0 in
+    λ k p b. ap (λ x. x *ℤ pos (slice_index q (zigzag_place k))) (zeros (zigzag_place k) (place_positive k p b) (place_below k b)) ∙ nothing (slice_index q (zigzag_place k)) in
+    let top : v 0 ≡ at z 0 *ℤ pos (slice_index q 0) = ap (λ n. at z n *ℤ pos (slice_index q n)) zigzag_place_0 in
     sym (ap (λ x. byte_of (x +ℤ pos 128)) (flat v zs r c h g ∙ ap (λ x. floor_div (x +ℤ pos 4) 8) top))

@@ -5,7 +5,7 @@ use Rattle.std.proofs.lemmas.Bool.{cases_lt}
 use Rattle.std.proofs.Common.{inl, inr}
 use Rattle.std.proofs.lemmas.Bool.Decides.{nat_tests}
 use Rattle.jr_idct.specs.Matrix.{IsWithin}
-use Rattle.jr_idct.specs.Transform.{places, place_of}
+use Rattle.jr_idct.specs.Transform.{places, zigzag_place}
 use Rattle.std.specs.List.{list_all, range_with_len}
 use Rattle.std.proofs.lemmas.List.FromFn.{get_or-range_with_len}
 use Rattle.std.specs.Prelude.{slice_index, ◌^◌, ℤ, pos, FitsSigned}
@@ -16,8 +16,8 @@ use Rattle.std.proofs.lemmas.Int.{ints, to_z-of_z, fits_signed_mul}
 in_table : list_all (λ p. nat_lt p 64) places ≡ true
 in_table = refl
 
-pub place_below : (n : ℕ) → n < 64 → place_of n < 64
-unfolding place_of
+pub place_below : (n : ℕ) → n < 64 → zigzag_place n < 64
+unfolding zigzag_place
 place_below n h =
     elim (cases_lt (slice_index places n) 64) [
       | inl a ↦ a
@@ -28,8 +28,8 @@ zero_first : list_all (λ n. nat_lt 0 (slice_index places n)) (range_with_len 1 
 zero_first = refl
 
 -- the place of an index above 0 is above 0
-pub place_positive : (n : ℕ) → 0 < n → n < 64 → 0 < place_of n
-unfolding place_of
+pub place_positive : (n : ℕ) → 0 < n → n < 64 → 0 < zigzag_place n
+unfolding zigzag_place
 place_positive n p h =
     elim (cases_lt 0 (slice_index places n)) [
       | inl a ↦ a
@@ -41,9 +41,9 @@ place_positive n p h =
           absurd (cc (list_all_at (λ k. nat_lt 0 (slice_index places k)) (range_with_len 1 63) (n - 1) 0 l g, zero_first))
     ]
 
-pub place_of_0 : place_of 0 ≡ 0
-unfolding place_of
-place_of_0 = refl
+pub zigzag_place_0 : zigzag_place 0 ≡ 0
+unfolding zigzag_place
+zigzag_place_0 = refl
 
 -- what the code computes for the product of an `i32` and a `u16`
 pub product_stored : (x y a : ℤ) (b : ℕ) → FitsSigned w32 a → b < 65536 → x ≡ to_z w32 (of_z w32 a) → y ≡ pos b

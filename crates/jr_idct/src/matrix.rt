@@ -3,7 +3,7 @@
 ghost use Rattle.std.specs.Prelude.{◌≡◌, ℕ, ◌+◌, ◌*◌, ◌^◌, ◌<◌, slice_index};
 ghost use Rattle.std.proofs.Math.IntN.{◌*ℤ◌};
 ghost use Rattle.jr_idct.specs.Matrix.{at, weight, row_sum, transposed, IsWithin};
-ghost use Rattle.jr_idct.specs.Transform.{place_of, product_at, sample, samples};
+ghost use Rattle.jr_idct.specs.Transform.{zigzag_place, product_at, sample, samples};
 
 use crate::number::{COLUMN_BITS, Number, ROW_BITS};
 
@@ -29,7 +29,7 @@ static MATRIX: [[i16; 8]; 8] = [
 /// The zigzag place of natural index n.
 fn place_at(n: usize) -> usize
     requires { n < 64 }
-    ensures value { result ≡ place_of n }
+    ensures value { result ≡ zigzag_place n }
     ensures below { result < 64 }
 {
     PLACES[n] as usize

@@ -3,7 +3,7 @@
 ghost use Rattle.std.specs.Prelude.{◌≡◌, ℕ, ◌*◌, ◌<◌, pos, slice_index};
 ghost use Rattle.std.proofs.Math.IntN.{◌*ℤ◌};
 ghost use Rattle.jr_idct.specs.Matrix.{at, IsWithin};
-ghost use Rattle.jr_idct.specs.Transform.{place_of};
+ghost use Rattle.jr_idct.specs.Transform.{zigzag_place};
 
 /// Dequantisation (T.81, A.3.4), still in zigzag order. Every product fits.
 #[inline]
@@ -23,7 +23,7 @@ pub(crate) fn products(coefficients: &[i32; 64], quantisers: &[u16; 64]) -> [i32
 #[inline]
 pub(crate) fn natural_order(z: &[i32; 64]) -> [i32; 64]
     requires { (k : ℕ) → k < 64 → IsWithin (32768 * 65535) (at z.now k) }
-    ensures { (n : ℕ) → n < 64 → at result n ≡ at z.now (place_of n) }
+    ensures { (n : ℕ) → n < 64 → at result n ≡ at z.now (zigzag_place n) }
 {
     [
         z[0], z[1], z[5], z[6], z[14], z[15], z[27], z[28], z[2], z[4], z[7], z[13], z[16], z[26],
