@@ -2,7 +2,7 @@
 use Rattle.std.proofs.Common.{◌≡◌, ℕ, ◌+◌, ◌-◌, arith, List, [], ◌++◌, Option, Some, None, Result, Ok, Err, OnErr, take, drop, length, append_assoc, append-nil, ap, sym, ◌∙◌}
 use Rattle.std.proofs.lemmas.List.{drop-take, take-append-drop, take-take, take_rest}
 use Rattle.std.specs.Io.KnownBytes.{Appends, Keeps}
-use Rattle.jr_base.specs.Tally.{AppendsFront}
+use Rattle.jr_base.specs.Tally.{AppendsBeginning}
 
 pub then : (a b c : Option (List ℕ)) (xs ys : List ℕ) → Appends a b xs → Appends b c ys → Appends a c (xs ++ ys)
 then None b c xs ys p q = tt
@@ -24,13 +24,13 @@ take_two m n bs =
 pub sent_more : (a b c : Option (List ℕ)) (m n : ℕ) (bs : List ℕ) → Appends a b (take m bs) → Appends b c (take n (take (length bs - m) (drop m bs))) → Appends a c (take (m + n) bs)
 sent_more a b c m n bs p q = rw (← take_two m n bs) (then a b c (take m bs) (take n (drop m bs)) p (rw take_rest at q))
 
-pub kept : (a b c : Option (List ℕ)) (m : ℕ) (bs : List ℕ) → Appends a b (take m bs) → Keeps b c → AppendsFront a c bs
+pub kept : (a b c : Option (List ℕ)) (m : ℕ) (bs : List ℕ) → Appends a b (take m bs) → Keeps b c → AppendsBeginning a c bs
 kept None b c m bs p q = record { sent = take m bs; left = drop m bs; whole = sym (take-append-drop m bs); appended = tt }
 kept (Some k) None c m bs p q = absurd p
 kept (Some k) (Some l) None m bs p q = absurd q
 kept (Some k) (Some l) (Some n) m bs p q = record { sent = take m bs; left = drop m bs; whole = sym (take-append-drop m bs); appended = q ∙ p }
 
-pub some_sent : (a c : Option (List ℕ)) (k : ℕ) (bs : List ℕ) → Appends a c (take k bs) → AppendsFront a c bs
+pub some_sent : (a c : Option (List ℕ)) (k : ℕ) (bs : List ℕ) → Appends a c (take k bs) → AppendsBeginning a c bs
 some_sent a c k bs p = record { sent = take k bs; left = drop k bs; whole = sym (take-append-drop k bs); appended = p }
 
 pub on_err : {T E : Type 0} (r : Result T E) (P : Type 0) → P → OnErr r P
@@ -41,7 +41,7 @@ pub from_err : {T E : Type 0} (r : Result T E) (e : E) (P : Type 0) → r ≡ Er
 from_err r e P is p = rw is at p
 
 -- a front of the first piece
-pub front_first : {a b : Option (List ℕ)} (xs ys : List ℕ) → AppendsFront a b xs → AppendsFront a b (xs ++ ys)
+pub front_first : {a b : Option (List ℕ)} (xs ys : List ℕ) → AppendsBeginning a b xs → AppendsBeginning a b (xs ++ ys)
 front_first xs ys f = record {
   sent = f.sent;
   left = f.left ++ ys;
@@ -50,7 +50,7 @@ front_first xs ys f = record {
 }
 
 -- the first piece, and a front of the second
-pub front_after : (a b c : Option (List ℕ)) (xs ys : List ℕ) → Appends a b xs → AppendsFront b c ys → AppendsFront a c (xs ++ ys)
+pub front_after : (a b c : Option (List ℕ)) (xs ys : List ℕ) → Appends a b xs → AppendsBeginning b c ys → AppendsBeginning a c (xs ++ ys)
 front_after a b c xs ys p f = record {
   sent = xs ++ f.sent;
   left = f.left;
@@ -59,7 +59,7 @@ front_after a b c xs ys p f = record {
 }
 
 -- a front of a text, where the pieces before ys were sent, and then a front of ys
-pub front_of : (a b c : Option (List ℕ)) (xs ys zs whole : List ℕ) → whole ≡ xs ++ ys ++ zs → Appends a b xs → AppendsFront b c ys → AppendsFront a c whole
+pub front_of : (a b c : Option (List ℕ)) (xs ys zs whole : List ℕ) → whole ≡ xs ++ ys ++ zs → Appends a b xs → AppendsBeginning b c ys → AppendsBeginning a c whole
 front_of a b c xs ys zs whole e p f = rw e (front_first (xs ++ ys) zs (front_after a b c xs ys p f))
 
 pub on_err_map : {T E : Type 0} (r : Result T E) (P Q : Type 0) → (P → Q) → OnErr r P → OnErr r Q

@@ -20,7 +20,7 @@ took_none (Ok n) buf = (n == 0) && nat_lt 0 (length buf)
 took_none (Err e) buf = true
 
 -- known bytes grow by a beginning of bs
-pub record AppendsFront (old new : Option (List ℕ)) (bs : List ℕ) : Type 0 where
+pub record AppendsBeginning (old new : Option (List ℕ)) (bs : List ℕ) : Type 0 where
   pub sent : List ℕ
   pub left : List ℕ
   pub whole : bs ≡ sent ++ left
@@ -31,5 +31,5 @@ abbrev pub Writes : {T : Type 0} → (T → Option (List ℕ)) → Tally T → T
 Writes known old new bs = Appends (known_in known old) (known_in known new) bs
 
 -- a beginning of these bytes is
-abbrev pub WritesFront : {T : Type 0} → (T → Option (List ℕ)) → Tally T → Tally T → List ℕ → Type 0
-WritesFront known old new bs = AppendsFront (known_in known old) (known_in known new) bs
+abbrev pub WritesBeginning : {T : Type 0} → (T → Option (List ℕ)) → Tally T → Tally T → List ℕ → Type 0
+WritesBeginning known old new bs = AppendsBeginning (known_in known old) (known_in known new) bs

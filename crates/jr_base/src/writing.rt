@@ -1,7 +1,7 @@
 //! Writing that goes on after short writes, and ends at the first failure.
 
 ghost use Rattle.std.specs.Prelude.{◌≡◌, is_err, false, OnOk, OnErr};
-ghost use Rattle.jr_base.specs.Tally.{Writes, WritesFront, has_failed};
+ghost use Rattle.jr_base.specs.Tally.{Writes, WritesBeginning, has_failed};
 
 use crate::tally::Tally;
 use std::io::Write;
@@ -14,7 +14,7 @@ pub struct WriteFault;
 pub fn write_all<W: Write>(out: &mut Tally<W>, bytes: &[u8]) -> Result<(), WriteFault>
     requires { has_failed out.old ≡ false }
     ensures ok { OnOk result (Writes W.contents out.old out.new bytes.now) }
-    ensures err { OnErr result (WritesFront W.contents out.old out.new bytes.now) }
+    ensures err { OnErr result (WritesBeginning W.contents out.old out.new bytes.now) }
     ensures failed { has_failed out.new ≡ is_err result }
 {
     let mut at = 0;

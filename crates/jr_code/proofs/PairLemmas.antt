@@ -4,7 +4,7 @@ use Rattle.std.specs.Prelude.{◌⊎◌, Option, Some, None, IsSome, IfSome, ℤ
 use Rattle.std.proofs.lemmas.Bool.{cases_lt}
 use Rattle.std.proofs.lemmas.List.{append-nil, append_cancel_left, drop-append-le, drop-drop, length-drop, length-take-le, take-append-drop, take-append-le, take_at}
 use Rattle.jr_code.specs.Bits.{bits, bits_of, window_of, value}
-use Rattle.jr_code.specs.Code.{Table, IsWord, IsPair, IsPrefixFree, HasNoFront, HasNoExtended, TakesExtended}
+use Rattle.jr_code.specs.Code.{Table, IsWord, IsPair, IsPrefixFree, HasNoFirstWord, HasNoExtended, TakesExtended}
 use Rattle.jr_code.specs.declared.words.Extended.{Extended}
 use Rattle.jr_code.proofs.BitLemmas.{length-bits_of}
 use Rattle.jr_code.proofs.RegisterLemmas.{bits_of-split, bits_of-mod}
@@ -83,7 +83,7 @@ pair_word t bs w count (Some x) e many all p =
     )
 
 -- without a word there is none with its extra bits
-pub no_word_none : (t : Table) (bs : List Bool) → HasNoFront t bs → HasNoExtended t bs
+pub no_word_none : (t : Table) (bs : List Bool) → HasNoFirstWord t bs → HasNoExtended t bs
 no_word_none t bs none = λ word extra rest s w n e. none word (extra ++ rest) s w e
 
 -- behind the one word in front there are too few bits

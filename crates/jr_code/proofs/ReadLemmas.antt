@@ -8,7 +8,7 @@ use Rattle.std.proofs.lemmas.List.Sums.{sum_by_more_le}
 use Rattle.std.proofs.lemmas.Option.{slice_get_read}
 use Rattle.std.proofs.Math.Nat.{mul_assoc, mul_comm, le-mul_of_pos_right, pow-le-pow_right, mod-eq_of_lt}
 use Rattle.jr_code.specs.Bits.{number, bits_of, window_of}
-use Rattle.jr_code.specs.Code.{IsEntry, Table, HasNoFront, IsFrontWhereWhole, IsWord, IsLawfulTable, lengths_from, lengths, room, space}
+use Rattle.jr_code.specs.Code.{IsEntry, Table, HasNoFirstWord, IsFirstWordWhereWhole, IsWord, IsLawfulTable, lengths_from, lengths, room, space}
 use Rattle.jr_code.proofs.BitLemmas.{number-take_zero, length-bits_of, number-bits_of}
 use Rattle.jr_code.proofs.RegisterLemmas.{take-held}
 use Rattle.jr_code.proofs.CodeLemmas.{lengths-append, space-append, space_more, stands, found, room_halves, doubled, space-nil, whole, room_pos, div_room, same_times, spelled, one_word}
@@ -112,7 +112,7 @@ begins_window n bs word rest e h =
     sym (take-append-drop (length word) (window_of n bs)) ∙ ap (λ f. f ++ drop (length word) (window_of n bs)) front
 
 -- a window's word is in front where it is whole; where it is cut off there is none, for no word is a front of another
-pub window_word : (n : ℕ) (t : Table) (bs : List Bool) (w s long : ℕ) → bits_of n w ≡ window_of n bs → long ≤ n → IsWord t (take long (bits_of n w)) s → IsFrontWhereWhole t bs s long
+pub window_word : (n : ℕ) (t : Table) (bs : List Bool) (w s long : ℕ) → bits_of n w ≡ window_of n bs → long ≤ n → IsWord t (take long (bits_of n w)) s → IsFirstWordWhereWhole t bs s long
 window_word n t bs w s long e h is = (
   λ fits. rw (← take-window long n bs h fits, ← e) is,
   λ cut word rest u v begins.
@@ -125,7 +125,7 @@ window_word n t bs w s long e h is = (
 
 -- no short word and no long one in front
 pub window_none : (t : Table) (bs : List Bool) (byte w : ℕ) → bits_of 8 byte ≡ window_of 8 bs → IsEntry t byte None → bits_of 16 w ≡ window_of 16 bs
-    → ((word rest : List Bool) (s : ℕ) → IsWord t word s → bits_of 16 w ≡ word ++ rest → length word ≤ 8) → HasNoFront t bs
+    → ((word rest : List Bool) (s : ℕ) → IsWord t word s → bits_of 16 w ≡ word ++ rest → length word ≤ 8) → HasNoFirstWord t bs
 window_none t bs byte w e none f short = λ word rest s is begins.
     let few : length word ≤ 8 = short word (drop (length word) (window_of 16 bs)) s is (f ∙ begins_window 16 bs word rest begins is.short) in
     none word (drop (length word) (window_of 8 bs)) s is (e ∙ begins_window 8 bs word rest begins few)
@@ -186,12 +186,12 @@ long_none t w k first fits short within e past word rest s is begins longer =
     )
 
 pub long_word : (t : Table) (bs : List Bool) (w : ℕ) (r : Option (ℕ × ℕ)) → bits_of 16 w ≡ window_of 16 bs → IfSome r (λ f. (f.1 ≤ 16) × IsWord t (take f.1 (bits_of 16 w)) f.0)
-    → IfSome r (λ f. IsFrontWhereWhole t bs f.0 f.1)
+    → IfSome r (λ f. IsFirstWordWhereWhole t bs f.0 f.1)
 long_word t bs w None e is = is
 long_word t bs w (Some f) e is = window_word 16 t bs w f.0 f.1 e is.0 is.1
 
 pub no_word : (t : Table) (bs : List Bool) (byte w : ℕ) (r : Option (ℕ × ℕ)) → bits_of 8 byte ≡ window_of 8 bs → IsEntry t byte None → bits_of 16 w ≡ window_of 16 bs
-    → IfNone r ((word rest : List Bool) (s : ℕ) → IsWord t word s → bits_of 16 w ≡ word ++ rest → length word ≤ 8) → IfNone r (HasNoFront t bs)
+    → IfNone r ((word rest : List Bool) (s : ℕ) → IsWord t word s → bits_of 16 w ≡ word ++ rest → length word ≤ 8) → IfNone r (HasNoFirstWord t bs)
 no_word t bs byte w None e none f short = window_none t bs byte w e none f short
 no_word t bs byte w (Some g) e none f short = short
 
@@ -203,7 +203,7 @@ entry_word t bs byte count (Some f) e many all entry =
     (omega (arith, entry.0, many), (window_word 8 t bs byte f.0 f.1 e entry.0 entry.1).0 (omega (arith, entry.0, many, all)))
 
 -- what is in front of the bits of a register is in front of all, where these are as many as the longest word has or all there are
-pub held_none : (t : Table) (bs rest : List Bool) → (16 ≤ length bs) ⊎ (rest ≡ []) → HasNoFront t bs → HasNoFront t (bs ++ rest)
+pub held_none : (t : Table) (bs rest : List Bool) → (16 ≤ length bs) ⊎ (rest ≡ []) → HasNoFirstWord t bs → HasNoFirstWord t (bs ++ rest)
 held_none t bs rest many none = λ word after s w begins.
     ⊎_elim
     (λ enough.
@@ -213,11 +213,11 @@ held_none t bs rest many none = λ word after s w begins.
     (λ empty. none word after s w (sym (append-nil bs) ∙ ap (λ r. bs ++ r) (sym empty) ∙ begins))
     many
 
-pub nil_none : (t : Table) (bs : List Bool) → HasNoFront t (bs ++ []) → HasNoFront t bs
-nil_none t bs none = subst (λ b. HasNoFront t b) (append-nil bs) none
+pub nil_none : (t : Table) (bs : List Bool) → HasNoFirstWord t (bs ++ []) → HasNoFirstWord t bs
+nil_none t bs none = subst (λ b. HasNoFirstWord t b) (append-nil bs) none
 
-pub nil_word : (t : Table) (bs : List Bool) (s long : ℕ) → IsFrontWhereWhole t (bs ++ []) s long → IsFrontWhereWhole t bs s long
-nil_word t bs s long is = subst (λ b. IsFrontWhereWhole t b s long) (append-nil bs) is
+pub nil_word : (t : Table) (bs : List Bool) (s long : ℕ) → IsFirstWordWhereWhole t (bs ++ []) s long → IsFirstWordWhereWhole t bs s long
+nil_word t bs s long is = subst (λ b. IsFirstWordWhereWhole t b s long) (append-nil bs) is
 
 pub if_none : {X : Type 0} (P : Type 0) (r : Option X) → P → IfNone r P
 if_none P None p = p

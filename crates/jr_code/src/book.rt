@@ -3,7 +3,7 @@
 ghost use Rattle.std.specs.Prelude.{◌≡◌, ◌≢◌, ◌<◌, ◌≤◌, ◌↔◌, ◌++◌, ℕ, List, Bool, IsTrue, [], length, IfSome, IfNone, IfOk, OnOk, take, drop, sum};
 ghost use Rattle.std.proofs.Common.{rules};
 ghost use Rattle.std.specs.Cmp.Rules.{comparing};
-ghost use Rattle.jr_code.specs.Code.{same_table, Table, IsWord, IsLawfulTable, HasTooMany, IsOverfull, space, lengths, AreEntries, ArePairs, AreLong, IsFrontWhereWhole, HasNoFront, TakesExtended, HasNoExtended, IsInFront, IsPrefixFree};
+ghost use Rattle.jr_code.specs.Code.{same_table, Table, IsWord, IsLawfulTable, HasTooMany, IsOverfull, space, lengths, AreEntries, ArePairs, AreLong, IsFirstWordWhereWhole, HasNoFirstWord, TakesExtended, HasNoExtended, IsInFront, IsPrefixFree};
 ghost use Rattle.jr_code.specs.Bits.{bits_of};
 ghost use Rattle.jr_code.specs.Register.{bits_in};
 
@@ -201,7 +201,7 @@ impl CodeBook {
         requires { 32 ≤ register.count }
         ensures { IfSome result (λ e. IsInFront self.now e register.entry.count (bits_in register.entry)) }
     {
-        self.pairs[register.front(10) as usize]
+        self.pairs[register.first_bits(10) as usize]
     }
 
     /// The word that is in front of the last `count` bits of `held` and its extra bits, long ones or ones near the end of
@@ -237,7 +237,7 @@ impl CodeBook {
         requires { 32 ≤ register.count }
         ensures { IfSome result (λ f. (f.1 ≤ register.entry.count) × IsWord self.now (take f.1 (bits_in register.entry)) f.0) }
     {
-        self.entries[register.front(8) as usize]
+        self.entries[register.first_bits(8) as usize]
     }
 
     /// The word that is in front of the last `count` bits of `held`, a long one or one near the end of all bits. By value,
@@ -247,14 +247,14 @@ impl CodeBook {
     fn rare_word(&self, held: u64, count: u32) -> Option<(u8, u8)>
         requires { count < 64 }
         ensures found { IfSome result (λ f. (f.1 ≤ count) × IsWord self.now (take f.1 (bits_of count held)) f.0) }
-        ensures none { IfNone result (HasNoFront self.now (bits_of count held)) }
+        ensures none { IfNone result (HasNoFirstWord self.now (bits_of count held)) }
     {
         let register = Register {
             rest: &[],
             held,
             count,
         };
-        let (symbol, long) = self.front(register)?;
+        let (symbol, long) = self.first_word(register)?;
         if u32::from(long) > count {
             return None;
         }
@@ -262,16 +262,16 @@ impl CodeBook {
     }
 
     /// The word that is in front of the bits where these are as many; where they are fewer there is none.
-    fn front(&self, register: Register) -> Option<(u8, u8)>
+    fn first_word(&self, register: Register) -> Option<(u8, u8)>
         requires { register.rest.now ≡ [] }
-        ensures found { IfSome result (λ f. IsFrontWhereWhole self.now (bits_in register.entry) f.0 f.1) }
-        ensures none { IfNone result (HasNoFront self.now (bits_in register.entry)) }
+        ensures found { IfSome result (λ f. IsFirstWordWhereWhole self.now (bits_in register.entry) f.0 f.1) }
+        ensures none { IfNone result (HasNoFirstWord self.now (bits_in register.entry)) }
     {
         match self.entries[register.window(8) as usize] {
             Some(word) => Some(word),
             None => self
                 .words
-                .long_front(&self.long, register.window(16) as u16),
+                .long_word(&self.long, register.window(16) as u16),
         }
     }
 }

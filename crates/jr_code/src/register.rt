@@ -80,7 +80,7 @@ impl<'a> Register<'a> {
 
     /// The number of the next n bits.
     #[inline(always)]
-    pub(crate) fn front(self, n: u32) -> u64
+    pub(crate) fn first_bits(self, n: u32) -> u64
         requires short { n ≤ 16 }
         requires held { n ≤ self.count }
         ensures number { result ≡ number (take n (bits_in self.entry)) }
@@ -97,7 +97,7 @@ impl<'a> Register<'a> {
         ensures small { result < 2 ^ n }
     {
         if n <= self.count {
-            self.front(n)
+            self.first_bits(n)
         } else {
             (self.held << (n - self.count)) & ((1 << n) - 1)
         }

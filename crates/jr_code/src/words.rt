@@ -2,7 +2,7 @@
 
 ghost use Rattle.std.specs.Prelude.{◌≡◌, ◌<◌, ◌≤◌, ◌++◌, ◌*◌, ℕ, List, Bool, IsTrue, ◌↔◌, length, IfSome, IfNone, IfOk, take, sum};
 ghost use Rattle.jr_code.specs.Bits.{bits_of};
-ghost use Rattle.jr_code.specs.Code.{same_table, IsWord, HasNoFront, AreEntries, ArePairs, IsPair, AreLong, room, space, lengths};
+ghost use Rattle.jr_code.specs.Code.{same_table, IsWord, HasNoFirstWord, HasShortWordsOnly, AreEntries, ArePairs, IsPair, AreLong, room, space, lengths};
 
 use crate::bits::Bits;
 use jr_base::Memory;
@@ -53,10 +53,10 @@ impl Words {
     }
 
     /// The word that is in front of the bits, of which there is at most one: its symbol, and how many bits it has.
-    pub(crate) fn front(&self, bits: &Bits) -> Option<(u8, u8)>
+    pub(crate) fn first_word(&self, bits: &Bits) -> Option<(u8, u8)>
         ensures found { IfSome result (λ f. (f.1 ≤ length bits.now) × IsWord self.now (take f.1 bits.now) f.0) }
         ensures short { IfSome result (λ f. f.1 ≤ 16) }
-        ensures none { IfNone result (HasNoFront self.now bits.now) }
+        ensures none { IfNone result (HasNoFirstWord self.now bits.now) }
     {
         let mut code: u32 = 0;
         let mut end: u32 = 0;
@@ -88,7 +88,7 @@ impl Words {
         let mut entries = [None; 256];
         for byte in 0..256usize {
             let one = [byte as u8];
-            entries[byte] = self.front(&Bits::over(&one));
+            entries[byte] = self.first_word(&Bits::over(&one));
         }
         entries
     }
@@ -100,7 +100,7 @@ impl Words {
     {
         let bytes = [(window / 4) as u8, (window % 4 * 64) as u8];
         let mut bits = Bits::over(&bytes);
-        let (symbol, long) = self.front(&bits)?;
+        let (symbol, long) = self.first_word(&bits)?;
         let _ = bits.take(u32::from(long))?;
         let size = symbol % 16;
         let value = bits.extra(u32::from(size))?;
@@ -127,10 +127,10 @@ impl Words {
 
     /// The word of nine bits or more that is in front of sixteen bits.
     #[inline(never)]
-    pub(crate) fn long_front(&self, long: &[(u32, u32); 8], window: u16) -> Option<(u8, u8)>
+    pub(crate) fn long_word(&self, long: &[(u32, u32); 8], window: u16) -> Option<(u8, u8)>
         requires { AreLong self.now long.now }
         ensures found { IfSome result (λ f. (f.1 ≤ 16) × IsWord self.now (take f.1 (bits_of 16 window)) f.0) }
-        ensures none { IfNone result ((word rest : List Bool) (s : ℕ) → IsWord self.now word s → bits_of 16 window ≡ word ++ rest → length word ≤ 8) }
+        ensures none { IfNone result (HasShortWordsOnly self.now (bits_of 16 window)) }
     {
         for k in 0..8usize {
             let code = u32::from(window) >> (7 - k);

@@ -11,8 +11,8 @@ use Rattle.std.proofs.lemmas.Slice.Zip.{AllZip-long}
 use Rattle.jr_head.specs.declared.component.Component.{Component}
 use Rattle.jr_head.specs.declared.frame.Frame.{Frame}
 use Rattle.jr_head.specs.declared.frame.FrameComponent.{FrameComponent}
-use Rattle.jr_head.specs.declared.mark.Kind.{Kind}
-use Rattle.jr_head.specs.declared.mark.Kind.TheVariants.{Grey, Rgb, Ycc}
+use Rattle.jr_head.specs.declared.kind.Kind.{Kind}
+use Rattle.jr_head.specs.declared.kind.Kind.TheVariants.{Grey, Rgb, Ycc}
 use Rattle.jr_head.specs.Bytes.{byte}
 use Rattle.jr_head.specs.Frames.{components_in, components, is_factor, have_factors, divides, is_ill_sampled, blocks, IsAccepted}
 use Rattle.jr_head.specs.Frames.{greatest_horizontal as frame_across, greatest_vertical as frame_down}

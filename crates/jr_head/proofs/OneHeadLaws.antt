@@ -11,7 +11,7 @@ use Rattle.jr_base.specs.declared.limits.TheConstants.{MAX_FILE_BYTES}
 use Rattle.jr_base.specs.declared.marker.TheConstants.{PREFIX, SOF0, SOI, SOS}
 use Rattle.jr_head.specs.declared.component.Component.{Component}
 use Rattle.jr_head.specs.declared.frame.FrameComponent.{FrameComponent}
-use Rattle.jr_head.specs.declared.mark.Kind.{Kind}
+use Rattle.jr_head.specs.declared.kind.Kind.{Kind}
 use Rattle.jr_head.specs.declared.quantiser.Quantiser.{Quantiser}
 use Rattle.jr_head.specs.declared.refusal.Refusal.{Refusal}
 use Rattle.jr_head.specs.declared.refusal.Refusal.TheVariants.{TooLong, NotJpeg, MissingTable, BadQuantTable}

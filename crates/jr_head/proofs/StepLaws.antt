@@ -10,11 +10,11 @@ use Rattle.jr_head.specs.declared.refusal.Refusal.{Refusal}
 use Rattle.jr_head.specs.declared.refusal.Refusal.TheVariants.{EndsEarly, ExpectedMarker, UnexpectedMarker, NotBaseline, BadLength, SecondFrame, NoFrame}
 use Rattle.jr_head.specs.Bytes.{byte, word}
 use Rattle.jr_head.specs.Tests.{◌when◌, first_fault}
-use Rattle.jr_head.specs.Segments.{Segment, segment_bytes, segment_at, behind_segment, fill, at_code, is_frame, is_known, is_not_baseline, has_frame, marker_tests, code_tests, length_tests, framing_tests}
+use Rattle.jr_head.specs.Segments.{Segment, segment_bytes, segment_at, behind_segment, fill_count, at_code, is_frame, is_known, is_not_baseline, has_frame, marker_tests, code_tests, length_tests, framing_tests}
 use Rattle.jr_head.specs.Heads.{Passes, segment_tests, payload_tests}
 use Rattle.jr_head.proofs.TestLaws.{none_both}
 
--- ---- fill bytes
+-- ---- fill_count bytes
 
 prefix_is : (k c : ℕ) (s : List ℕ) → eqb c PREFIX ≡ false → prefix_len (λ x. eqb x PREFIX) (replicate k PREFIX ++ c ∷ s) ≡ k
 prefix_is zero c s e = rw e refl
@@ -24,7 +24,7 @@ behind_fill : (k : ℕ) (t : List ℕ) → drop k (replicate k PREFIX ++ t) ≡ 
 behind_fill zero t = refl
 behind_fill (suc k) t = behind_fill k t
 
-fill_is : (k c : ℕ) (s : List ℕ) → eqb c PREFIX ≡ false → fill (replicate k PREFIX ++ c ∷ s) ≡ k
+fill_is : (k c : ℕ) (s : List ℕ) → eqb c PREFIX ≡ false → fill_count (replicate k PREFIX ++ c ∷ s) ≡ k
 fill_is k c s e =
     ap (λ (n : ℕ). length (take n (replicate k PREFIX ++ c ∷ s))) (prefix_is k c s e)
     ∙ length-take-le k (replicate k PREFIX ++ c ∷ s) (omega (arith, length-append (replicate k PREFIX) (c ∷ s), length-replicate {A = ℕ} k PREFIX))
@@ -93,11 +93,11 @@ zero_tells n true e h = absurd (h (eqb-true n 0 e))
 not_zero : (n : ℕ) → n ≢ 0 → (n == 0) ≡ false
 not_zero n h = zero_tells n (n == 0) refl h
 
-marker_there : (at n c : ℕ) (bytes s : List ℕ) → fill bytes ≡ suc n → at_code bytes ≡ c ∷ s → eqb c 0 ≡ false → length bytes ≢ 0 → first_fault (marker_tests at bytes) ≡ None
+marker_there : (at n c : ℕ) (bytes s : List ℕ) → fill_count bytes ≡ suc n → at_code bytes ≡ c ∷ s → eqb c 0 ≡ false → length bytes ≢ 0 → first_fault (marker_tests at bytes) ≡ None
 unfolding marker_tests
 marker_there at n c bytes s f t apart long =
-    all_four (length bytes == 0) (fill bytes == 0) (length (at_code bytes) == 0) (byte 0 (at_code bytes) == 0) EndsEarly (ExpectedMarker at) EndsEarly (ExpectedMarker (at + fill bytes))
-    (not_zero (length bytes) long) (not_zero (fill bytes) (λ z. omega (arith, z, f))) (not_zero (length (at_code bytes)) (λ z. omega (arith, z, ap length t))) (rw t apart)
+    all_four (length bytes == 0) (fill_count bytes == 0) (length (at_code bytes) == 0) (byte 0 (at_code bytes) == 0) EndsEarly (ExpectedMarker at) EndsEarly (ExpectedMarker (at + fill_count bytes))
+    (not_zero (length bytes) long) (not_zero (fill_count bytes) (λ z. omega (arith, z, f))) (not_zero (length (at_code bytes)) (λ z. omega (arith, z, ap length t))) (rw t apart)
 
 length_there : (code : ℕ) (c : ℕ) (p rest : List ℕ) → length p + 2 < 65536 → first_fault (length_tests code (drop 1 (tail_of c p rest))) ≡ None
 unfolding length_tests
@@ -108,7 +108,7 @@ length_there code c p rest short =
     (le-ltb (word 0 (drop 1 (tail_of c p rest))) 2 (omega (arith, w)))
     (le-ltb (length (drop 1 (tail_of c p rest))) (word 0 (drop 1 (tail_of c p rest))) (omega (arith, w, length-append p rest)))
 
-framing_there : (framed : Bool) (at n c : ℕ) (bytes p rest : List ℕ) → length p + 2 < 65536 → fill bytes ≡ suc n → at_code bytes ≡ tail_of c p rest → length bytes ≢ 0
+framing_there : (framed : Bool) (at n c : ℕ) (bytes p rest : List ℕ) → length p + 2 < 65536 → fill_count bytes ≡ suc n → at_code bytes ≡ tail_of c p rest → length bytes ≢ 0
     → first_fault (code_tests framed c) ≡ None → first_fault (framing_tests framed at bytes) ≡ None
 unfolding framing_tests
 framing_there framed at n c bytes p rest short f t long passes =
@@ -129,9 +129,9 @@ written : (i : Segment) (rest : List ℕ) → segment_bytes i ++ rest ≡ replic
 unfolding segment_bytes
 written i rest = append_assoc (replicate (suc i.fill) PREFIX) (i.code ∷ (big_bytes 2 (length i.payload + 2) ++ i.payload)) rest
 
-next_segment : (before : List Segment) (i : Segment) (bytes rest : List ℕ) → Passes before i → fill bytes ≡ suc i.fill → at_code bytes ≡ tail_of i.code i.payload rest → length bytes ≢ 0 → IsNext before bytes i rest
+next_segment : (before : List Segment) (i : Segment) (bytes rest : List ℕ) → Passes before i → fill_count bytes ≡ suc i.fill → at_code bytes ≡ tail_of i.code i.payload rest → length bytes ≢ 0 → IsNext before bytes i rest
 next_segment before i bytes rest ok f t long =
-    let same : segment_at bytes ≡ i = segment_is (fill bytes) i.fill i.code (at_code bytes) i.payload rest ok.short f t in
+    let same : segment_at bytes ≡ i = segment_is (fill_count bytes) i.fill i.code (at_code bytes) i.payload rest ok.short f t in
     record {
       segment = same;
       after = rw t (rest_is i.code i.payload rest ok.short);
@@ -145,7 +145,7 @@ next_is before i bytes rest ok e =
     let known = code_known (has_frame before) i.code ok.code in
     let apart : eqb i.code PREFIX ≡ false = known_apart i.code PREFIX (eqb i.code PREFIX) refl refl known in
     let w : bytes ≡ replicate (suc i.fill) PREFIX ++ tail_of i.code i.payload rest = e ∙ written i rest in
-    let f : fill bytes ≡ suc i.fill = ap fill w ∙ fill_is (suc i.fill) i.code (drop 1 (tail_of i.code i.payload rest)) apart in
+    let f : fill_count bytes ≡ suc i.fill = ap fill w ∙ fill_is (suc i.fill) i.code (drop 1 (tail_of i.code i.payload rest)) apart in
     let t : at_code bytes ≡ tail_of i.code i.payload rest = ap (λ (n : ℕ). drop n bytes) f ∙ ap (drop (suc i.fill)) w ∙ behind_fill (suc i.fill) (tail_of i.code i.payload rest) in
     let long : length bytes ≢ 0 = λ z. omega (arith, z, ap length w, length-append (replicate (suc i.fill) PREFIX) (tail_of i.code i.payload rest), length-replicate {A = ℕ} (suc i.fill) PREFIX) in
     next_segment before i bytes rest ok f t long

@@ -72,7 +72,7 @@ fn convert_block(
 
 /// The colours of the first pixels of two lines, in blocks of 32, of which the last may begin within the one before:
 /// answers how many pixels of a line there are.
-fn convert_front(
+fn convert_whole_blocks(
     luma: &[u8],
     next_luma: &[u8],
     cb: &[u8],
@@ -119,7 +119,7 @@ pub(crate) fn convert_two(
     ensures line { first.new ≡ halved_colours_of luma.now cb.now cr.now 0 (length luma.now) }
     ensures next { second.new ≡ halved_colours_of next_luma.now cb.now cr.now 0 (length luma.now) }
 {
-    let done = convert_front(luma, next_luma, cb, cr, first, second);
+    let done = convert_whole_blocks(luma, next_luma, cb, cr, first, second);
     for i in done..luma.len() {
         let [red, green, blue] = mixed(luma[i], cb[i / 2], cr[i / 2]);
         first[3 * i] = red;

@@ -1,7 +1,7 @@
 //! A picture's Netpbm text: PGM for grey pictures, PPM for the others.
 
 ghost use Rattle.std.specs.Prelude.{◌≡◌, ◌+◌, ◌<◌, ◌≤◌, ◌++◌, is_err, false, OnOk, OnErr};
-ghost use Rattle.jr_base.specs.Tally.{Writes, WritesFront, has_failed};
+ghost use Rattle.jr_base.specs.Tally.{Writes, WritesBeginning, has_failed};
 ghost use Rattle.jr_paint.specs.Lines.{line_of, two_lines_of};
 ghost use Rattle.jr_paint.specs.Text.{pixel_size, text_of};
 
@@ -37,7 +37,7 @@ fn write_line<S: Samples, W: Write>(
     requires unfailed { has_failed out.old ≡ false }
     requires down { y < (S.head_of samples.now).height }
     ensures ok { OnOk result (Writes W.contents out.old out.new (line_of (S.head_of samples.now) (S.shown samples.now) y)) }
-    ensures err { OnErr result (WritesFront W.contents out.old out.new (line_of (S.head_of samples.now) (S.shown samples.now) y)) }
+    ensures err { OnErr result (WritesBeginning W.contents out.old out.new (line_of (S.head_of samples.now) (S.shown samples.now) y)) }
     ensures failed { has_failed out.new ≡ is_err result }
 {
     let width = samples.head().width();
@@ -64,7 +64,7 @@ fn write_two<S: Samples, W: Write>(
     requires unfailed { has_failed out.old ≡ false }
     requires down { y + 1 < (S.head_of samples.now).height }
     ensures ok { OnOk result (Writes W.contents out.old out.new (two_lines_of (S.head_of samples.now) (S.shown samples.now) y)) }
-    ensures err { OnErr result (WritesFront W.contents out.old out.new (two_lines_of (S.head_of samples.now) (S.shown samples.now) y)) }
+    ensures err { OnErr result (WritesBeginning W.contents out.old out.new (two_lines_of (S.head_of samples.now) (S.shown samples.now) y)) }
     ensures failed { has_failed out.new ≡ is_err result }
 {
     samples.head().be_lawful();
@@ -83,7 +83,7 @@ fn write_two<S: Samples, W: Write>(
 pub fn write_netpbm<S: Samples, W: Write>(samples: &S, out: &mut Tally<W>) -> Result<(), WriteFault>
     requires { has_failed out.old ≡ false }
     ensures ok { OnOk result (Writes W.contents out.old out.new (text_of (S.head_of samples.now) (S.shown samples.now))) }
-    ensures err { OnErr result (WritesFront W.contents out.old out.new (text_of (S.head_of samples.now) (S.shown samples.now))) }
+    ensures err { OnErr result (WritesBeginning W.contents out.old out.new (text_of (S.head_of samples.now) (S.shown samples.now))) }
     ensures failed { has_failed out.new ≡ is_err result }
 {
     write_header(samples.head(), out)?;

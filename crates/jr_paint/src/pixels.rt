@@ -2,7 +2,7 @@
 
 ghost use Rattle.std.specs.Prelude.{◌≡◌, ◌+◌, ◌*◌, ◌≤◌, length, take};
 ghost use Rattle.std.specs.Simd.Lanes.{put_chunk};
-ghost use Rattle.jr_head.specs.declared.mark.Kind.TheVariants.{Rgb, Ycc};
+ghost use Rattle.jr_head.specs.declared.kind.Kind.TheVariants.{Rgb, Ycc};
 ghost use Rattle.jr_head.specs.Geometry.{component_count};
 ghost use Rattle.jr_paint.specs.Lines.{colours_of};
 
@@ -42,7 +42,7 @@ fn convert_blocks(luma: &[u8], cb: &[u8], cr: &[u8], i: usize, out: &mut [u8])
 
 /// The colours of the first pixels, in blocks of 32, of which the last may begin within the one before: answers how
 /// many pixels there are.
-fn convert_front(luma: &[u8], cb: &[u8], cr: &[u8], out: &mut [u8]) -> usize
+fn convert_whole_blocks(luma: &[u8], cb: &[u8], cr: &[u8], out: &mut [u8]) -> usize
     requires second { length cb.now ≡ length luma.now }
     requires third { length cr.now ≡ length luma.now }
     requires room { length out.old ≡ 3 * length luma.now }
@@ -68,7 +68,7 @@ fn convert(luma: &[u8], cb: &[u8], cr: &[u8], out: &mut [u8])
     requires room { length out.old ≡ 3 * length luma.now }
     ensures { out.new ≡ colours_of Ycc luma.now cb.now cr.now 0 (length luma.now) }
 {
-    let done = convert_front(luma, cb, cr, out);
+    let done = convert_whole_blocks(luma, cb, cr, out);
     for i in done..luma.len() {
         let [red, green, blue] = mixed(luma[i], cb[i], cr[i]);
         out[3 * i] = red;

@@ -1,7 +1,7 @@
 //! The pixels of a part of a line.
 
 ghost use Rattle.std.specs.Prelude.{◌≡◌, ℕ, ◌+◌, ◌*◌, ◌%◌, ◌<◌, ◌≤◌, length};
-ghost use Rattle.jr_head.specs.declared.mark.Kind.TheVariants.{Grey};
+ghost use Rattle.jr_head.specs.declared.kind.Kind.TheVariants.{Grey};
 ghost use Rattle.jr_head.specs.Geometry.{component_count};
 ghost use Rattle.jr_paint.specs.declared.upsampling.TheConstants.{STRIP};
 ghost use Rattle.jr_paint.specs.Text.{pixel_size, pixels_of};

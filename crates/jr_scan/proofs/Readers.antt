@@ -10,8 +10,8 @@ use Rattle.std.proofs.Math.Nat.{mul-le-mul_right}
 use Rattle.jr_code.specs.Bits.{bits}
 use Rattle.jr_head.specs.HeadValue.{HeadValue}
 use Rattle.jr_head.specs.Geometry.{component_count, order_of, dc_of, ac_of}
-use Rattle.jr_head.specs.declared.mark.Kind.{Kind}
-use Rattle.jr_head.specs.declared.mark.Kind.TheVariants.{Grey, Rgb, Ycc}
+use Rattle.jr_head.specs.declared.kind.Kind.{Kind}
+use Rattle.jr_head.specs.declared.kind.Kind.TheVariants.{Grey, Rgb, Ycc}
 use Rattle.jr_scan.specs.IntervalValue.{IntervalValue}
 use Rattle.jr_scan.specs.Block.{IsInDcRange}
 use Rattle.jr_scan.specs.Step.{TakesBlock, HasNoBlock}

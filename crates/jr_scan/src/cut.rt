@@ -8,7 +8,7 @@ ghost use Rattle.jr_scan.specs.Spans.{segment_data, IsSpanOf};
 
 use crate::scan_end::ScanEnd;
 use crate::span::Span;
-use crate::unstuff::{fill, unstuff};
+use crate::unstuff::{fill_count, unstuff};
 use jr_base::Memory;
 use jr_base::marker::{EOI, RST0, RST7};
 use std::alloc::Global;
@@ -76,7 +76,7 @@ pub(crate) fn cut(
             end: unstuffed.as_slice().len(),
         })?;
         at += count;
-        let code_at = at + fill(&bytes[at..]);
+        let code_at = at + fill_count(&bytes[at..]);
         if code_at >= bytes.len() {
             return Ok(CodedSegments {
                 unstuffed,

@@ -153,8 +153,9 @@ impl<'a> BlockReader<'a> {
         }
         let head = self.interval.head();
         let c = self.next_component();
-        let dc = head.dc_book(u32::from(c));
-        let ac = head.ac_book(u32::from(c));
+        let component = u32::from(c);
+        let dc = head.dc_book(component);
+        let ac = head.ac_book(component);
         let prediction = self.predictions[c as usize];
         let Some(first) = read_predicted(dc, ac, &mut self.bits, prediction, block) else {
             self.is_stuck = true;
@@ -164,7 +165,7 @@ impl<'a> BlockReader<'a> {
         self.predictions[c as usize] = first;
         self.mcu = mcu;
         self.next_block = next_block;
-        Some(u32::from(c))
+        Some(component)
     }
 
     /// How many whole MCUs are read.

@@ -10,7 +10,7 @@ use jr_base::marker::PREFIX;
 use memchr::memchr;
 
 /// How many bytes at the front are FF.
-pub(crate) fn fill(bytes: &[u8]) -> usize
+pub(crate) fn fill_count(bytes: &[u8]) -> usize
     ensures within { result ≤ length bytes.now }
     ensures full { take result bytes.now ≡ replicate result PREFIX }
     ensures next { result < length bytes.now → slice_index bytes.now result ≢ PREFIX }
@@ -47,7 +47,7 @@ pub(crate) fn unstuff(bytes: &[u8], unstuffed: &mut Vec<u8>) -> Result<usize, Me
     'bytes: loop {
         let end = at + plain(&bytes[at..]);
         unstuffed.extend_from_slice(&bytes[at..end])?;
-        let next = end + fill(&bytes[end..]);
+        let next = end + fill_count(&bytes[end..]);
         if next >= bytes.len() || bytes[next] != 0 {
             return Ok(end);
         }

@@ -1,6 +1,6 @@
 use Rattle.std.proofs.Common.{◌≡◌, rules, ℕ, ◌+◌, ◌/◌, ◌<◌, ◌++◌, ◌∙◌, length, slice_index, ap, ap₂, arith}
 use Rattle.std.specs.List.{flat_map, range_with_len}
-use Rattle.jr_head.specs.declared.mark.Kind.TheVariants.{Ycc}
+use Rattle.jr_head.specs.declared.kind.Kind.TheVariants.{Ycc}
 use Rattle.jr_paint.specs.Colours.{colour_of}
 use Rattle.jr_paint.specs.Text.{value_at}
 use Rattle.jr_paint.proofs.PixelLaws.{pixels_ycc, shared_value}

@@ -1,6 +1,6 @@
 use Rattle.std.proofs.Common.{◌≡◌, ℕ, ◌∙◌, length, slice_index, ap₂, arith, rules}
 use Rattle.std.specs.List.{flat_map, range_with_len}
-use Rattle.jr_head.specs.declared.mark.Kind.{Kind}
+use Rattle.jr_head.specs.declared.kind.Kind.{Kind}
 use Rattle.jr_paint.specs.Colours.{colour_of}
 use Rattle.jr_paint.proofs.PixelLaws.{pixels_colours}
 use Rattle.jr_paint.proofs.strips.fill_colours.Goals as goal

@@ -18,15 +18,15 @@ returns-then-next-bytes-clause-stop c =
     let at = c.bytes.at in
     let n = c.plain.result in
     let end = at + n in
-    let f = c.fill.result in
+    let f = c.fill_count.result in
     let room : at + n ≤ length bytes = omega (arith, c.plain.ensures.within, ap length (rest_is bytes at), length-drop at bytes, c.bytes.invariant.0) in
-    let full = fill_full bytes end f c.fill.ensures.full in
+    let full = fill_full bytes end f c.fill_count.ensures.full in
     elim c.then-next-bytes.branch [
       | then-next-bytes-via-then-next-bytes w ↦ stop_end bytes end f room full w.if-next-bytes.true
       | then-next-bytes-via-else-next-bytes+then-bytes-next-ne0 w ↦
           let lt : end < length bytes = omega (arith, w.if-next-bytes.false) in
-          let some = fill_some bytes end f lt (plain_next bytes at n lt c.plain.ensures.next) (λ h. fill_next bytes end f h c.fill.ensures.next) in
-          stop_code bytes end f full w.if-next-bytes.false some (fill_next bytes end f w.if-next-bytes.false c.fill.ensures.next) w.if-bytes-next-ne0.true
+          let some = fill_some bytes end f lt (plain_next bytes at n lt c.plain.ensures.next) (λ h. fill_next bytes end f h c.fill_count.ensures.next) in
+          stop_code bytes end f full w.if-next-bytes.false some (fill_next bytes end f w.if-next-bytes.false c.fill_count.ensures.next) w.if-bytes-next-ne0.true
     ]
 
 pub bytes-preserved : goal.bytes-preserved
@@ -35,10 +35,10 @@ bytes-preserved c =
     let at = c.bytes.at in
     let n = c.plain.result in
     let end = at + n in
-    let f = c.fill.result in
+    let f = c.fill_count.result in
     let room : at + n ≤ length bytes = omega (arith, c.plain.ensures.within, ap length (rest_is bytes at), length-drop at bytes, c.bytes.invariant.0) in
-    let full = fill_full bytes end f c.fill.ensures.full in
+    let full = fill_full bytes end f c.fill_count.ensures.full in
     let lt : end < length bytes = omega (arith, c.if-next-bytes.false) in
-    let some = fill_some bytes end f lt (plain_next bytes at n lt c.plain.ensures.next) (λ h. fill_next bytes end f h c.fill.ensures.next) in
+    let some = fill_some bytes end f lt (plain_next bytes at n lt c.plain.ensures.next) (λ h. fill_next bytes end f h c.fill_count.ensures.next) in
     let run = unstuffs_run bytes _ _ _ at n end refl room (plain_each bytes at n c.plain.ensures.plain) c.in_ok-extend_from_slice.ensures.items c.bytes.invariant.1 in
     (omega arith, unstuffs_stuffed bytes _ _ _ end f c.if-next-bytes.false full some c.if-bytes-next-ne0.false c.in_ok-push.ensures.items run)

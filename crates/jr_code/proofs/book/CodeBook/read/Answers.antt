@@ -2,7 +2,7 @@ use Rattle.std.proofs.Common.{◌≡◌, ◌≤◌, ◌++◌, ◌∙◌, [], ap,
 use Rattle.std.specs.Prelude.{◌⊎◌}
 use Rattle.std.proofs.lemmas.List.{take-append-drop, take-append-le}
 use Rattle.jr_code.specs.Bits.{bits_of, bits}
-use Rattle.jr_code.specs.Code.{HasNoFront, IsWord}
+use Rattle.jr_code.specs.Code.{HasNoFirstWord, IsWord}
 use Rattle.jr_code.specs.Register.{bits_in}
 use Rattle.jr_code.proofs.BitLemmas.{length-bits_of}
 use Rattle.jr_code.proofs.CodeLemmas.{one_word}
@@ -20,9 +20,9 @@ returns-in_err-symbol-clause-none c =
     (λ enough. inl (omega (arith, length-bits_of r.count r.held)))
     (λ none. inr (ap bits none))
     c.refilled-register.ensures.full in
-    let all : HasNoFront c.args.self.now (bits_in c.refilled-register.result) = held_none c.args.self.now held (bits r.rest.now) many c.in_err-symbol.ensures.none in
-    if_none (HasNoFront c.args.self.now c.args.bits.now) c.from_residual.result
-    (subst (λ b. HasNoFront c.args.self.now b) (c.refilled-register.ensures.same ∙ c.bits.view_is) all)
+    let all : HasNoFirstWord c.args.self.now (bits_in c.refilled-register.result) = held_none c.args.self.now held (bits r.rest.now) many c.in_err-symbol.ensures.none in
+    if_none (HasNoFirstWord c.args.self.now c.args.bits.now) c.from_residual.result
+    (subst (λ b. HasNoFirstWord c.args.self.now b) (c.refilled-register.ensures.same ∙ c.bits.view_is) all)
 
 pub returns-in_err-symbol-clause-one_word : goal.returns-in_err-symbol-clause-one_word
 returns-in_err-symbol-clause-one_word c = one_word c.args.self.now

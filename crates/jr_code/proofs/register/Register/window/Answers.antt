@@ -4,7 +4,7 @@ use Rattle.jr_code.proofs.register.Register.window.Goals as goal
 
 pub returns-then-n-self-clause-front : goal.returns-then-n-self-clause-front
 returns-then-n-self-clause-front c =
-    window_whole c.args.n c.front.result c.args.self.count c.args.self.held c.args.self.rest.now (omega arith) c.front.ensures.number
+    window_whole c.args.n c.first_bits.result c.args.self.count c.args.self.held c.args.self.rest.now (omega arith) c.first_bits.ensures.number
 
 pub returns-else-n-self-clause-front : goal.returns-else-n-self-clause-front
 returns-else-n-self-clause-front c =

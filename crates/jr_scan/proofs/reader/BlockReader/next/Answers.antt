@@ -21,8 +21,8 @@ returns-in_default-clause-kept c = λ zs r.
     let k = c.next_component-c.result in
     let is : k ≡ component h (c.self.inside.mcu * length (order_of h) + c.self.inside.next_block) = subst (λ (v : ReaderValue). k ≡ component v.run.interval.head (blocks_read v)) (sym c.self.view_is) c.next_component-c.ensures.value in
     let three : k < 3 = c.next_component-c.ensures.few in
-    let dc : c.dc_book-dc.result.now ≡ dc_of h k = c.dc_book-dc.ensures ∙ ap (λ (x : HeadValue). dc_of x c.from.result) c.head-head.ensures ∙ ap (dc_of h) c.from.ensures in
-    let ac : c.ac_book-ac.result.now ≡ ac_of h k = c.ac_book-ac.ensures ∙ ap (λ (x : HeadValue). ac_of x c.from-2.result) c.head-head.ensures ∙ ap (ac_of h) c.from-2.ensures in
+    let dc : c.dc_book-dc.result.now ≡ dc_of h k = c.dc_book-dc.ensures ∙ ap (λ (x : HeadValue). dc_of x c.from-component.result) c.head-head.ensures ∙ ap (dc_of h) c.from-component.ensures in
+    let ac : c.ac_book-ac.result.now ≡ ac_of h k = c.ac_book-ac.ensures ∙ ap (λ (x : HeadValue). ac_of x c.from-component.result) c.head-head.ensures ∙ ap (ac_of h) c.from-component.ensures in
     let p = get_or c.self.inside.predictions k (pos 0) in
     let same = to_z-of_z w32 p (kept_fits p (c.self.invariant.0.in_range k three)) in
     let none0 = subst (λ (q : ℤ). HasNoBlock c.dc_book-dc.result.now c.ac_book-ac.result.now q c.self.inside.bits) same (search (rules, c.in_default.ensures.none)) in
@@ -60,8 +60,8 @@ returns-clause-read c = λ zs r.
     let k = c.next_component-c.result in
     let is : k ≡ component h (c.self.inside.mcu * length (order_of h) + c.self.inside.next_block) = subst (λ (v : ReaderValue). k ≡ component v.run.interval.head (blocks_read v)) (sym c.self.view_is) c.next_component-c.ensures.value in
     let three : k < 3 = c.next_component-c.ensures.few in
-    let dc : c.dc_book-dc.result.now ≡ dc_of h k = c.dc_book-dc.ensures ∙ ap (λ (x : HeadValue). dc_of x c.from.result) c.head-head.ensures ∙ ap (dc_of h) c.from.ensures in
-    let ac : c.ac_book-ac.result.now ≡ ac_of h k = c.ac_book-ac.ensures ∙ ap (λ (x : HeadValue). ac_of x c.from-2.result) c.head-head.ensures ∙ ap (ac_of h) c.from-2.ensures in
+    let dc : c.dc_book-dc.result.now ≡ dc_of h k = c.dc_book-dc.ensures ∙ ap (λ (x : HeadValue). dc_of x c.from-component.result) c.head-head.ensures ∙ ap (dc_of h) c.from-component.ensures in
+    let ac : c.ac_book-ac.result.now ≡ ac_of h k = c.ac_book-ac.ensures ∙ ap (λ (x : HeadValue). ac_of x c.from-component.result) c.head-head.ensures ∙ ap (ac_of h) c.from-component.ensures in
     let fits : SFits w32 c.in-Some.first = search rules in
     let wrote = ap (set c.self.inside.predictions k) (to_z-of_z w32 c.in-Some.first fits) in
     let size = c.self.invariant.0.three in
@@ -77,7 +77,7 @@ returns-clause-read c = λ zs r.
     subst (λ (b : Bool). HasRead (record { run = record { interval = c.self.inside.interval.now; from = c.self.inside.from; mcus = c.self.inside.mcus }; left = c.read_predicted.new.bits; predictions = set c.self.inside.predictions k (to_z w32 (of_z w32 c.in-Some.first)); mcu = c.following-mcu.result.0; next_block = c.following-mcu.result.1; stuck = b }) (zs ++ c.read_predicted.new.block ∷ [])) (sym c.if-self.false) made
 
 pub returns-clause-component : goal.returns-clause-component
-returns-clause-component c = c.from-3.ensures ∙ c.next_component-c.ensures.value
+returns-clause-component c = c.from-component.ensures ∙ c.next_component-c.ensures.value
 
 pub returns-clause-in_range : goal.returns-clause-in_range
 returns-clause-in_range c = block_in_range _ _ _ _ _ c.in-Some.ensures.some.is

@@ -3,8 +3,8 @@ use Rattle.std.proofs.lemmas.Bool.{cases_lt}
 use Rattle.std.specs.Prelude.{sum, slice_get, Some, slice_index_or}
 use Rattle.jr_code.specs.Code.{Table}
 use Rattle.jr_code.proofs.ReadLemmas.{long_found, long_none, place_within, known_there}
-use Rattle.jr_code.proofs.words.Words.long_front.Goals as goal
-use Rattle.jr_code.proofs.words.Words.long_front.Goals.{else-code-first-via-then-code-first+else-code-first-2, else-code-first-via-else-code-first}
+use Rattle.jr_code.proofs.words.Words.long_word.Goals as goal
+use Rattle.jr_code.proofs.words.Words.long_word.Goals.{else-code-first-via-then-code-first+else-code-first-2, else-code-first-via-else-code-first}
 
 pub loop-k-init : goal.loop-k-init
 loop-k-init c = record { none = λ word rest s w e longer. omega (arith, longer) }
