@@ -171,7 +171,8 @@ impl CodeBook {
             return Some(symbol);
         }
         let (symbol, long) = self.rare_word(register.held, register.count)?;
-        bits.register = register.behind(u32::from(long));
+        let count = u32::from(long);
+        bits.register = register.behind(count);
         Some(symbol)
     }
 
@@ -191,8 +192,10 @@ impl CodeBook {
             return Some((both.symbol, i32::from(both.value)));
         }
         let both = self.rare_pair(register.held, register.count)?;
-        bits.register = register.behind(u32::from(both.long));
-        Some((both.symbol, i32::from(both.value)))
+        let count = u32::from(both.long);
+        let value = i32::from(both.value);
+        bits.register = register.behind(count);
+        Some((both.symbol, value))
     }
 
     /// The word in front of the bits and its extra bits, where both are within ten bits.
@@ -223,7 +226,8 @@ impl CodeBook {
             register: register.behind(u32::from(long)),
         };
         let size = symbol % 16;
-        let value = rest.extra(u32::from(size))?;
+        let count = u32::from(size);
+        let value = rest.extra(count)?;
         Some(Extended {
             symbol,
             value: value as i16,

@@ -3,8 +3,8 @@ use Rattle.jr_head.proofs.scan.component_of.Goals as goal
 
 pub returns-clause-factors : goal.returns-clause-factors
 returns-clause-factors c = record {
-  horizontal = c.factor.ensures;
-  vertical = c.factor-2.ensures;
+  horizontal = c.factor-horizontal.ensures;
+  vertical = c.factor-vertical.ensures;
   elements = c.to_elements.ensures.count;
   coded = record { dc = search rules; ac = search rules };
 }

@@ -23,9 +23,9 @@ returns-in_err-value-clause-none c =
     let n = c.in_ok-symbol.long in
     let mid = bits_in c.behind.result in
     let left : bits_in c.behind.result ≡ drop n (bits_of c.args.count c.args.held ++ []) = c.behind.ensures ∙ ap (λ k. drop k (bits_of c.args.count c.args.held ++ [])) c.from.ensures in
-    let few : length (bits_in c.behind.result) < c.from-2.result = too_few c.from-2.result (bits_in c.behind.result) None refl c.in_err-value.ensures.found.1 in
+    let few : length (bits_in c.behind.result) < c.from-count.result = too_few c.from-count.result (bits_in c.behind.result) None refl c.in_err-value.ensures.found.1 in
     if_none (HasNoExtended c.args.self.now bs) c.from_residual-in_err-value.result
-    (held_short c.args.self.now (one_word c.args.self.now) bs mid s n c.in_ok-symbol.ensures.found.1 left (omega (arith, few, c.from-2.ensures)))
+    (held_short c.args.self.now (one_word c.args.self.now) bs mid s n c.in_ok-symbol.ensures.found.1 left (omega (arith, few, c.from-count.ensures)))
 
 pub returns-clause-found : goal.returns-clause-found
 returns-clause-found c =
@@ -37,7 +37,7 @@ returns-clause-found c =
     let f16 : SFits w16 v = omega (arith, ints, c.in_ok-value.ensures.small) in
     let mid = bits_in c.behind.result in
     let left : bits_in c.behind.result ≡ drop n (bits_of c.args.count c.args.held ++ []) = c.behind.ensures ∙ ap (λ k. drop k (bits_of c.args.count c.args.held ++ [])) c.from.ensures in
-    let size : c.from-2.result ≡ s % 16 = omega (arith, c.from-2.ensures) in
+    let size : c.from-count.result ≡ s % 16 = omega (arith, c.from-count.ensures) in
     let fits : n ≤ length (bits_of c.args.count c.args.held) = omega (arith, c.in_ok-symbol.ensures.found.0, length-bits_of c.args.count c.args.held) in
-    let both = held_apart c.args.self.now bs mid s n c.from-2.result v fits c.in_ok-symbol.ensures.found.1 size left (c.in_ok-value.ensures.found.0 refl) c.in_ok-value.ensures.taken.0 in
+    let both = held_apart c.args.self.now bs mid s n c.from-count.result v fits c.in_ok-symbol.ensures.found.1 size left (c.in_ok-value.ensures.found.0 refl) c.in_ok-value.ensures.taken.0 in
     (omega (arith, both.0, size, length-bits_of c.args.count c.args.held), rw (to_z-of_z w32 v f32, to_z-of_z w16 v f16) (rw size at both.1))

@@ -29,9 +29,9 @@ returns-2-clause-found c =
     let held = bits_of c.refilled-register.result.count c.refilled-register.result.held in
     let fits : c.in_ok-both.both.long ≤ length (bits_of c.refilled-register.result.count c.refilled-register.result.held) = omega (arith, c.in_ok-both.ensures.found.0, length-bits_of r.count r.held) in
     let same : bits_in c.refilled-register.result ≡ c.args.bits.now = c.refilled-register.ensures.same ∙ c.bits.view_is in
-    let rest : drop x.long (bits_in c.refilled-register.result) ≡ bits_in c.behind-bits-inside-2.result = ap (λ n. drop n (bits_in c.refilled-register.result)) (sym c.from-3.ensures) ∙ sym c.behind-bits-inside-2.ensures in
+    let rest : drop x.long (bits_in c.refilled-register.result) ≡ bits_in c.behind-bits-inside-2.result = ap (λ n. drop n (bits_in c.refilled-register.result)) (sym c.from-count.ensures) ∙ sym c.behind-bits-inside-2.ensures in
     let all = taken_more c.args.self.now held (bits r.rest.now) x.symbol x.long x.value fits c.in_ok-both.ensures.found.1 in
     let fv : SFits w32 x.value = search rules in
     let f16 : SFits w16 x.value = search rules in
-    let is : c.from-4.result ≡ x.value = c.from-4.ensures ∙ to_z-of_z w16 x.value f16 in
+    let is : c.from-value.result ≡ x.value = c.from-value.ensures ∙ to_z-of_z w16 x.value f16 in
     rw (is, to_z-of_z w32 x.value fv, ← rest, ← same) all
