@@ -1,12 +1,17 @@
-//! Decoded intervals: their samples, whether they have a decoding, and how far they go where they have none.
+//! Decoded intervals: their samples, whether they have a decoding, and how far they go where they have none. Long ones
+//! can be had strip by strip.
 #![tactic(auto)]
 
 mod decoded;
 mod laws;
 mod piece;
+mod strip;
+mod strip_reader;
 
-pub use laws::one_outcome;
+pub use laws::{one_outcome, one_strip, strip_is_final, strips_meet, whole_strip_is_outcome};
 pub use piece::Piece;
+pub use strip::{CodedStrip, Strip};
+pub use strip_reader::StripReader;
 
 #[cfg(test)]
 mod tests;

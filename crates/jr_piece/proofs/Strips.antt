@@ -1,0 +1,142 @@
+-- A strip is final.
+use Rattle.std.proofs.Common.{◌≡◌, ℕ, ◌+◌, ◌-◌, ◌*◌, ◌<◌, ◌≤◌, Bool, true, false, List, [], ◌∷◌, ◌++◌, length, get_or, take, drop, refl, sym, ap, subst, ◌∙◌, inl, inr, arith, length-append, length-drop}
+use Rattle.std.specs.Prelude.{ℤ}
+use Rattle.std.proofs.lemmas.Bool.{cases_lt}
+use Rattle.std.proofs.lemmas.List.{get_or-drop, get_or_append_left, get_or-append_right, drop-append-le, take-append-drop, length-take-le, take_more}
+use Rattle.std.proofs.Math.Nat.{mul-add-mod_self_right}
+use Rattle.jr_head.specs.HeadValue.{HeadValue}
+use Rattle.jr_head.specs.Geometry.{order_of, quantiser_of}
+use Rattle.jr_scan.specs.IntervalValue.{IntervalValue}
+use Rattle.jr_scan.specs.Mcus.{component, Decodes, Front, LongestFront}
+use Rattle.jr_idct.specs.Transform.{samples}
+use Rattle.jr_piece.specs.PieceValue.{PieceValue}
+use Rattle.jr_piece.specs.Outcome.{AreSamples, IsOutcome, unit_of}
+use Rattle.jr_piece.specs.StripValue.{StripValue}
+use Rattle.jr_piece.specs.Strips.{AreBlocks, IsStrip}
+use Rattle.jr_piece.proofs.Outcomes.{first_samples, more_samples, same_samples, OneFront}
+
+abbrev pub ShorterFront : Type 0
+ShorterFront = (i : IntervalValue) (j k : ℕ) (zs : List (List ℤ)) → j ≤ k → Front i k zs → Front i j (take (j * length (order_of i.head)) zs)
+
+-- behind whole MCUs the components come as from the start on
+component_on : (h : HeadValue) (k n : ℕ) → component h (k * length (order_of h) + n) ≡ component h n
+component_on h k n = ap (λ (j : ℕ). get_or (order_of h) j 0) (mul-add-mod_self_right k (length (order_of h)) n)
+
+-- the samples of the blocks behind the first MCUs
+pub later_samples : (h : HeadValue) (zs : List (List ℤ)) (us : List (List ℕ)) (k : ℕ) → AreSamples h zs us → AreSamples h (drop (k * length (order_of h)) zs) (drop (k * length (order_of h)) us)
+later_samples h zs us k s =
+    let m = k * length (order_of h) in
+    let rest = length-drop m zs in
+    record {
+      count = omega (arith, length-drop m us, rest, s.count);
+      each = λ n lt.
+          get_or-drop m us n [] ∙ s.each (m + n) (omega (arith, rest, lt))
+          ∙ ap (λ (c : ℕ). samples (get_or zs (m + n) []) (quantiser_of h c)) (component_on h k n)
+          ∙ ap (λ (z : List ℤ). samples z (quantiser_of h (component h n))) (sym (get_or-drop m zs n []));
+    }
+
+-- every piece shows the longest front of its interval
+pub record Fronted (i : IntervalValue) (front : ℕ) (us : List (List ℕ)) : Type 0 where
+  pub blocks : List (List ℤ)
+  pub longest : LongestFront i front blocks
+  pub samples : AreSamples i.head blocks us
+
+whole_longest : (i : IntervalValue) (zs : List (List ℤ)) → Decodes i zs → LongestFront i i.mcus zs
+whole_longest i zs d = record {
+  front = record { at_most = omega arith; taken = d.taken; rest = d.padding; mcus = d.mcus; spelled = d.spelled };
+  longest = λ j ys f. f.at_most;
+}
+
+pub fronted : (p : PieceValue) → IsOutcome p → Fronted p.interval p.front p.samples
+fronted p o = go p.is_sound refl
+  where
+    go : (t : Bool) → p.is_sound ≡ t → Fronted p.interval p.front p.samples
+    go true e =
+        let s = o.sound e in
+        record { blocks = s.blocks; longest = subst (λ (k : ℕ). LongestFront p.interval k s.blocks) (sym (o.whole e)) (whole_longest p.interval s.blocks s.decodes); samples = s.samples }
+    go false e = let d = o.damaged e in record { blocks = d.blocks; longest = d.longest; samples = d.samples }
+
+pub final : OneFront → ShorterFront → (p : PieceValue) (s : StripValue) → p.interval ≡ s.interval → IsOutcome p → IsStrip s
+    → (s.first + s.mcus ≤ p.front) × (s.samples ≡ drop (s.first * length (order_of s.interval.head)) (take ((s.first + s.mcus) * length (order_of s.interval.head)) p.samples))
+final one shorter p s e o t =
+    let i = s.interval in
+    let per = length (order_of i.head) in
+    let j = s.first + s.mcus in
+    let f : Fronted i p.front p.samples = subst (λ (v : IntervalValue). Fronted v p.front p.samples) e (fronted p o) in
+    let all = t.are.all in
+    let few : j ≤ p.front = f.longest.longest j all t.are.front in
+    let same : take (j * per) f.blocks ≡ all = one i j (take (j * per) f.blocks) all (shorter i j p.front f.blocks few f.longest.front) t.are.front in
+    let front : AreSamples i.head all (take (j * per) p.samples) = subst (λ (zs : List (List ℤ)). AreSamples i.head zs (take (j * per) p.samples)) same (first_samples i.head f.blocks p.samples (j * per) f.samples) in
+    let last = later_samples i.head all (take (j * per) p.samples) s.first front in
+    let there : AreSamples i.head (drop (s.first * per) all) s.samples = subst (λ (zs : List (List ℤ)). AreSamples i.head zs s.samples) t.are.last t.samples in
+    (few, same_samples i.head (drop (s.first * per) all) s.samples (drop (s.first * per) (take (j * per) p.samples)) there last)
+
+-- the samples of one more of the blocks
+pub next_samples : (h : HeadValue) (zs : List (List ℤ)) (units all : List (List ℕ)) (k c : ℕ) (u q : List ℕ) → k < length zs → AreSamples h (take k zs) units → all ≡ units ++ u ∷ [] → u ≡ samples (get_or zs k []) q → q ≡ quantiser_of h c → c ≡ component h k
+    → AreSamples h (take (k + 1) zs) all
+next_samples h zs units all k c u q lt s pushed is table at =
+    let long : k ≡ length (take k zs) = sym (length-take-le k zs (omega (arith, lt))) in
+    let unit : u ≡ samples (get_or zs k []) (quantiser_of h (component h (length (take k zs)))) = is ∙ ap (samples (get_or zs k [])) (table ∙ ap (quantiser_of h) at ∙ ap (λ (n : ℕ). quantiser_of h (component h n)) long) in
+    let more = more_samples h (take k zs) units (get_or zs k []) u s unit in
+    subst (λ (ys : List (List ℤ)). AreSamples h ys all) (sym (take_more zs k [] lt)) (subst (AreSamples h (take k zs ++ get_or zs k [] ∷ [])) (sym pushed) more)
+
+-- the samples of blocks behind whole MCUs, and of those before them
+appended : (h : HeadValue) (xs ys : List (List ℤ)) (us vs : List (List ℕ)) (k : ℕ) → length xs ≡ k * length (order_of h) → AreSamples h xs us → AreSamples h ys vs → AreSamples h (xs ++ ys) (us ++ vs)
+appended h xs ys us vs k whole a b =
+    record {
+      count = omega (arith, length-append xs ys, length-append us vs, a.count, b.count);
+      each = λ n lt. elim (cases_lt n (length xs)) [
+        | inl l ↦ get_or_append_left us vs [] n (omega (arith, a.count, l)) ∙ a.each n l ∙ ap (λ (z : List ℤ). samples z (quantiser_of h (component h n))) (sym (get_or_append_left xs ys [] n l))
+        | inr g ↦ behind n (n - length xs) (omega (arith, g)) (omega (arith, length-append xs ys, lt, g))
+      ];
+    }
+  where
+    behind : (n m : ℕ) → n ≡ length xs + m → m < length ys → get_or (us ++ vs) n [] ≡ unit_of h (xs ++ ys) n
+    behind n m e lt =
+        let c : component h n ≡ component h m = ap (component h) (e ∙ ap (λ (j : ℕ). j + m) whole) ∙ component_on h k m in
+        let u : get_or (us ++ vs) n [] ≡ get_or vs m [] = get_or-append_right us vs (length us) n [] refl (omega (arith, e, a.count)) ∙ ap (λ (j : ℕ). get_or vs j []) (omega (arith, e, a.count)) in
+        let z : get_or (xs ++ ys) n [] ≡ get_or ys m [] = get_or-append_right xs ys (length xs) n [] refl (omega (arith, e)) ∙ ap (λ (j : ℕ). get_or ys j []) (omega (arith, e)) in
+        u ∙ b.each m lt ∙ ap (λ (j : ℕ). samples (get_or ys m []) (quantiser_of h j)) (sym c) ∙ ap (λ (x : List ℤ). samples x (quantiser_of h (component h n))) (sym z)
+
+-- strips that follow one another are one
+pub meet : OneFront → ShorterFront → (a b : StripValue) → a.interval ≡ b.interval → b.first ≡ a.first + a.mcus → IsStrip a → IsStrip b → IsStrip (record { interval = b.interval; first = a.first; mcus = a.mcus + b.mcus; samples = a.samples ++ b.samples })
+meet one shorter a b e follows s t =
+    let i = b.interval in
+    let per = length (order_of i.head) in
+    let xs = s.blocks in
+    let ys = t.blocks in
+    let are : AreBlocks i a.first a.mcus xs = subst (λ (v : IntervalValue). AreBlocks v a.first a.mcus xs) e s.are in
+    let shows : AreSamples i.head xs a.samples = subst (λ (v : IntervalValue). AreSamples v.head xs a.samples) e s.samples in
+    let all = t.are.all in
+    let p = a.first * per in
+    let q = (a.first + a.mcus) * per in
+    let sum : q ≡ p + a.mcus * per = omega arith in
+    let before = shorter i (a.first + a.mcus) (b.first + b.mcus) all (omega (arith, follows)) t.are.front in
+    let same : take q all ≡ are.all = one i (a.first + a.mcus) (take q all) are.all before are.front in
+    let long : length (take q all) ≡ q = before.mcus.0 in
+    let first : xs ≡ drop p (take q all) = are.last ∙ ap (λ (zs : List (List ℤ)). drop p zs) (sym same) in
+    let rest : ys ≡ drop q all = t.are.last ∙ ap (λ (k : ℕ). drop (k * per) all) follows in
+    let count : length xs ≡ a.mcus * per = ap (λ (l : List (List ℤ)). length l) first ∙ length-drop p (take q all) ∙ omega (arith, long, sum) in
+    let joined : xs ++ ys ≡ drop p all = ap (λ (l : List (List ℤ)). l ++ ys) first ∙ ap (λ (l : List (List ℤ)). drop p (take q all) ++ l) rest ∙ sym (drop-append-le p (take q all) (drop q all) (omega (arith, long, sum))) ∙ ap (λ (l : List (List ℤ)). drop p l) (take-append-drop q all) in
+    record {
+      blocks = xs ++ ys;
+      are = record { all = all; front = subst (λ (k : ℕ). Front i k all) (omega (arith, follows)) t.are.front; last = joined };
+      samples = appended i.head xs ys a.samples b.samples a.mcus count shows t.samples;
+    }
+
+-- a strip of all MCUs that there are tells the outcome
+pub all_there : OneFront → (s : StripValue) (zs : List (List ℤ)) (t : Bool) → s.first ≡ 0 → IsStrip s → LongestFront s.interval s.mcus zs → (t ≡ true → Decodes s.interval zs) → (t ≡ false → HasNoDecoding s.interval)
+    → IsOutcome (record { interval = s.interval; is_sound = t; front = s.mcus; samples = s.samples })
+all_there one s zs t start is longest sound none =
+    let i = s.interval in
+    let per = length (order_of i.head) in
+    let front : Front i s.mcus is.are.all = subst (λ (k : ℕ). Front i k is.are.all) (omega (arith, start)) is.are.front in
+    let same : is.are.all ≡ zs = one i s.mcus is.are.all zs front longest.front in
+    let none_before : s.first * per ≡ 0 = ap (λ (k : ℕ). k * per) start ∙ omega arith in
+    let blocks : is.blocks ≡ zs = is.are.last ∙ ap (λ (k : ℕ). drop k is.are.all) none_before ∙ same in
+    let shows : AreSamples i.head zs s.samples = subst (λ (l : List (List ℤ)). AreSamples i.head l s.samples) blocks is.samples in
+    record {
+      sound = λ e. record { blocks = zs; decodes = sound e; samples = shows };
+      whole = λ e. let d = sound e in omega (arith, longest.longest i.mcus zs (whole_longest i zs d).front, longest.front.at_most);
+      damaged = λ e. record { undecodable = none e; blocks = zs; longest = longest; samples = shows };
+    }

@@ -1,0 +1,86 @@
+-- Strips: whole MCUs of an interval that follow one another, as far as its bits hold them, whatever comes behind.
+use Rattle.std.specs.Prelude.{◌≡◌, ℕ, ◌+◌, ◌*◌, ◌<◌, ◌≤◌, Bool, true, false, List, ◌++◌, length, take, drop, Some, None, ℤ}
+use Rattle.std.specs.List.{All}
+use Rattle.jr_head.specs.Geometry.{order_of}
+use Rattle.jr_scan.specs.declared.place.Place.{Place}
+use Rattle.jr_scan.specs.declared.place.RunEnd.TheVariants.{AllRead}
+use Rattle.jr_scan.specs.IntervalValue.{IntervalValue}
+use Rattle.jr_scan.specs.Block.{IsInDcRange, IsInRange}
+use Rattle.jr_scan.specs.Mcus.{Decodes, HasNoDecoding, Front, LongestFront}
+use Rattle.jr_scan.specs.Reader.{RunOf, start_of_interval}
+use Rattle.jr_scan.specs.Run.{run_from, HasNoMcu, IsRun}
+use Rattle.jr_piece.specs.PieceValue.{PieceValue}
+use Rattle.jr_piece.specs.Outcome.{AreSamples}
+use Rattle.jr_piece.specs.StripValue.{CodedValue, StripValue, ReadingValue}
+
+-- the data units of the first k MCUs of an interval
+abbrev pub units_before : IntervalValue → ℕ → ℕ
+units_before i k = k * length (order_of i.head)
+
+-- the interval's bits begin with the blocks of its first MCUs, and these are those from MCU `first` on
+pub record AreBlocks (i : IntervalValue) (first mcus : ℕ) (ys : List (List ℤ)) : Type 0 where
+  pub all : List (List ℤ)
+  pub front : Front i (first + mcus) all
+  pub last : ys ≡ drop (units_before i first) all
+
+-- a strip holds the samples of such blocks
+pub record IsStrip (s : StripValue) : Type 0 where
+  pub blocks : List (List ℤ)
+  pub are : AreBlocks s.interval s.first s.mcus blocks
+  pub samples : AreSamples s.interval.head blocks s.samples
+
+-- a coded strip holds such blocks, in the ranges that the inverse transform asks for
+pub record IsCoded (s : CodedValue) : Type 0 where
+  pub are : AreBlocks s.interval s.first s.mcus s.blocks
+  pub in_range : All IsInRange s.blocks
+
+-- a piece shows the strip's MCUs, and at their data units the strip's samples
+pub record ShowsStrip (p : PieceValue) (s : StripValue) : Type 0 where
+  pub few : s.first + s.mcus ≤ p.front
+  pub samples : s.samples ≡ drop (units_before s.interval s.first) (take (units_before s.interval (s.first + s.mcus)) p.samples)
+
+-- the second strip starts where the first one ends
+abbrev pub Follows : StripValue → StripValue → Type 0
+Follows a b = (a.interval ≡ b.interval) × (b.first ≡ a.first + a.mcus)
+
+-- both as one strip
+abbrev pub joined : StripValue → StripValue → StripValue
+joined a b = record { interval = a.interval; first = a.first; mcus = a.mcus + b.mcus; samples = a.samples ++ b.samples }
+
+-- the strip starts with its interval, and no whole MCU follows it
+pub record IsWhole (s : StripValue) : Type 0 where
+  pub start : s.first ≡ 0
+  pub blocks : List (List ℤ)
+  pub longest : LongestFront s.interval s.mcus blocks
+
+-- whether the interval has a decoding
+abbrev pub TellsSound : Bool → IntervalValue → Type 0
+TellsSound true i = (zs : List (List ℤ)) × Decodes i zs
+TellsSound false i = HasNoDecoding i
+
+-- the strip as a piece
+abbrev pub piece_of : Bool → StripValue → PieceValue
+piece_of is_sound s = record { interval = s.interval; is_sound = is_sound; front = s.mcus; samples = s.samples }
+
+-- these are the blocks of the first n MCUs of a run; where they are fewer than may be, no further one follows
+pub record FirstMcus (r : RunOf) (n : ℕ) (ys : List (List ℤ)) : Type 0 where
+  pub to : Place
+  pub run : IsRun (run_from r.interval r.from n) ys to AllRead
+  pub none : n < r.mcus → HasNoMcu r.interval to
+
+-- a place from which blocks of an interval can be read
+abbrev pub CanReadFrom : IntervalValue → Place → Type 0
+CanReadFrom i p = (p.bit ≤ 8 * length i.bytes) × All IsInDcRange p.predictions
+
+-- the first MCUs of an interval are these blocks, and the next one starts there
+pub record IsNext (i : IntervalValue) (first : ℕ) (zs : List (List ℤ)) (p : Place) : Type 0 where
+  pub run : IsRun (run_from i start_of_interval first) zs p AllRead
+  pub can : CanReadFrom i p
+
+-- what a reader of strips keeps
+pub record IsReading (r : ReadingValue) : Type 0 where
+  pub blocks : List (List ℤ)
+  pub front : Front r.interval r.first blocks
+  pub next : (p : Place) → r.next ≡ Some p → IsNext r.interval r.first blocks p
+  pub longest : r.next ≡ None → LongestFront r.interval r.first blocks
+  pub short : r.next ≡ None → r.first < r.interval.mcus

@@ -1,0 +1,154 @@
+//! An interval, a strip at a time.
+
+ghost use Rattle.std.specs.Prelude.{◌≡◌, ◌≤◌, ◌<◌, ◌+◌, ℤ, List, Option, None, Some, false, IsTrue, IfOk, IfErr, IfSome, IfNone};
+ghost use Rattle.std.specs.List.{All};
+ghost use Rattle.std.specs.Arc.{arc_value};
+ghost use Rattle.jr_scan.specs.declared.place.RunEnd.TheVariants.{AllRead};
+ghost use Rattle.jr_scan.specs.Block.{IsInRange};
+ghost use Rattle.jr_scan.specs.Mcus.{Decodes, Front, HasNoDecoding, LongestFront};
+ghost use Rattle.jr_scan.specs.Reader.{HasRead, HasEnded, start_of_interval};
+ghost use Rattle.jr_scan.specs.Run.{IsRun, run_from};
+ghost use Rattle.jr_piece.specs.Strips.{CanReadFrom, FirstMcus};
+
+use crate::strip::CodedStrip;
+use jr_code::Memory;
+use jr_scan::{
+    Block, BlockReader, Interval, Place, decoding_is_whole_run, one_front, one_run, runs_meet,
+    shorter_front,
+};
+use std::alloc::Global;
+use std::marker::Model;
+use std::sync::Arc;
+
+/// The whole MCUs of a run, and where the next one starts.
+#[derive(Drop)]
+struct Run {
+    blocks: Vec<Block>,
+    mcus: u32,
+    next: Option<Place>,
+}
+
+/// All blocks of a run, also those of an MCU that is not whole.
+fn read_blocks(
+    alloc: Global,
+    interval: &Interval,
+    from: Place,
+    mcus: u32,
+) -> Result<(Vec<Block>, BlockReader<'_>), Memory>
+    requires { CanReadFrom interval.now from }
+    ensures run { IfOk result (λ r. r.1.run ≡ run_from interval.now from mcus) }
+    ensures read { IfOk result (λ r. HasRead r.1 r.0.items) }
+    ensures in_range { IfOk result (λ r. All IsInRange r.0.items) }
+    ensures ended { IfOk result (λ r. HasEnded r.1) }
+{
+    let mut reader = BlockReader::at(interval, from, mcus);
+    let mut blocks = Vec::new(alloc);
+    let mut block = [0; 64];
+    'blocks: loop {
+        let Some(_component) = reader.next(&mut block) else {
+            return Ok((blocks, reader));
+        };
+        blocks.push(block)?;
+    }
+}
+
+/// The whole MCUs of a run of at most so many.
+fn read_run(alloc: Global, interval: &Interval, from: Place, mcus: u32) -> Result<Run, Memory>
+    requires { CanReadFrom interval.now from }
+    ensures few { IfOk result (λ r. r.mcus ≤ mcus) }
+    ensures run { IfOk result (λ r. FirstMcus (run_from interval.now from mcus) r.mcus r.blocks.items) }
+    ensures in_range { IfOk result (λ r. All IsInRange r.blocks.items) }
+    ensures next { IfOk result (λ r. IfSome r.next (λ p. IsRun (run_from interval.now from r.mcus) r.blocks.items p AllRead)) }
+    ensures can { IfOk result (λ r. IfSome r.next (CanReadFrom interval.now)) }
+    ensures none { IfOk result (λ r. IfNone r.next (r.mcus < mcus)) }
+{
+    let (mut blocks, reader) = read_blocks(alloc, interval, from, mcus)?;
+    let read = reader.mcus();
+    blocks.truncate(read as usize * interval.head().order().len());
+    Ok(Run {
+        blocks,
+        mcus: read,
+        next: reader.place(),
+    })
+}
+
+/// Reads the whole MCUs of an interval, a strip at a time.
+#[derive(Drop)]
+pub struct StripReader {
+    interval: Arc<Interval>,
+    first: u32,
+    next: Option<Place>,
+}
+
+impl Model for StripReader {
+    ghost use Rattle.std.specs.Arc.{arc_value};
+    ghost use Rattle.jr_piece.specs.StripValue.{ReadingValue};
+    ghost use Rattle.jr_piece.specs.Strips.{IsReading};
+
+    ghost Value = { ReadingValue };
+
+    ghost view = { λ r. record { interval = arc_value r.interval; first = r.first; next = r.next } };
+
+    ghost invariant = { λ r. IsReading (record { interval = arc_value r.interval; first = r.first; next = r.next }) };
+}
+
+impl StripReader {
+    /// A reader that has read nothing of an interval.
+    pub fn over(interval: Arc<Interval>) -> StripReader
+        ensures { result ≡ record { interval = arc_value interval; first = 0; next = Some start_of_interval } }
+    {
+        StripReader {
+            interval,
+            first: 0,
+            next: Some(Place::start()),
+        }
+    }
+
+    /// Reads the next whole MCUs, so many at most and at least one. None where no further one follows.
+    pub fn next(&mut self, alloc: Global, most: u32) -> Result<Option<CodedStrip>, Memory>
+        ensures interval { self.new.interval ≡ self.old.interval }
+        ensures of { IfOk result (λ o. IfSome o (λ s. s.interval ≡ self.old.interval)) }
+        ensures first { IfOk result (λ o. IfSome o (λ s. s.first ≡ self.old.first)) }
+        ensures some { IfOk result (λ o. IfSome o (λ s. 0 < s.mcus)) }
+        ensures few { IfOk result (λ o. IfSome o (λ s. s.mcus ≤ most)) }
+        ensures on { IfOk result (λ o. IfSome o (λ s. self.new.first ≡ s.first + s.mcus)) }
+        ensures none { IfOk result (λ o. IfNone o (0 < most → (zs : List (List ℤ)) × LongestFront self.old.interval self.old.first zs)) }
+        ensures same { IfOk result (λ o. IfNone o (self.new ≡ self.old)) }
+        ensures err { IfErr result (λ _. self.new ≡ self.old) }
+    {
+        one_run();
+        runs_meet();
+        shorter_front();
+        let Some(from) = self.next else {
+            return Ok(None);
+        };
+        let interval = Arc::try_clone(&self.interval)?;
+        interval.head().be_lawful();
+        let asked = most.min(interval.mcus() - self.first);
+        let Run { blocks, mcus, next } = read_run(alloc, &interval, from, asked)?;
+        if mcus == 0 {
+            return Ok(None);
+        }
+        let first = self.first;
+        self.first += mcus;
+        self.next = next;
+        Ok(Some(CodedStrip::of(interval, first, mcus, blocks)))
+    }
+
+    /// Whether all MCUs are read and fewer than eight bits are left: then the interval decodes, and where no further
+    /// MCU follows it otherwise doesn't.
+    pub fn is_sound(&self) -> bool
+        ensures sound { IsTrue result → (zs : List (List ℤ)) → Front self.now.interval self.now.first zs → Decodes self.now.interval zs }
+        ensures damaged { result ≡ false → (zs : List (List ℤ)) → LongestFront self.now.interval self.now.first zs → HasNoDecoding self.now.interval }
+    {
+        one_run();
+        one_front();
+        decoding_is_whole_run();
+        self.interval.head().be_lawful();
+        let Some(place) = self.next else {
+            return false;
+        };
+        let bits = 8 * self.interval.bytes().len() as u64;
+        self.first == self.interval.mcus() && bits.saturating_sub(place.bit) < 8
+    }
+}
