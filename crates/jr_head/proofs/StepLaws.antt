@@ -145,7 +145,7 @@ next_is before i bytes rest ok e =
     let known = code_known (has_frame before) i.code ok.code in
     let apart : eqb i.code PREFIX ≡ false = known_apart i.code PREFIX (eqb i.code PREFIX) refl refl known in
     let w : bytes ≡ replicate (suc i.fill) PREFIX ++ tail_of i.code i.payload rest = e ∙ written i rest in
-    let f : fill_count bytes ≡ suc i.fill = ap fill w ∙ fill_is (suc i.fill) i.code (drop 1 (tail_of i.code i.payload rest)) apart in
+    let f : fill_count bytes ≡ suc i.fill = ap fill_count w ∙ fill_is (suc i.fill) i.code (drop 1 (tail_of i.code i.payload rest)) apart in
     let t : at_code bytes ≡ tail_of i.code i.payload rest = ap (λ (n : ℕ). drop n bytes) f ∙ ap (drop (suc i.fill)) w ∙ behind_fill (suc i.fill) (tail_of i.code i.payload rest) in
     let long : length bytes ≢ 0 = λ z. omega (arith, z, ap length w, length-append (replicate (suc i.fill) PREFIX) (tail_of i.code i.payload rest), length-replicate {A = ℕ} (suc i.fill) PREFIX) in
     next_segment before i bytes rest ok f t long
