@@ -104,6 +104,20 @@ impl StripReader {
         }
     }
 
+    /// The number of its interval.
+    pub fn number(&self) -> u32
+        ensures { result ≡ self.now.interval.number }
+    {
+        self.interval.number()
+    }
+
+    /// How many MCUs are read.
+    pub fn first(&self) -> u32
+        ensures { result ≡ self.now.first }
+    {
+        self.first
+    }
+
     /// Reads the next whole MCUs, so many at most and at least one. None where no further one follows.
     pub fn next(&mut self, alloc: Global, most: u32) -> Result<Option<CodedStrip>, Memory>
         ensures interval { self.new.interval ≡ self.old.interval }

@@ -1,0 +1,12 @@
+use Rattle.std.proofs.Common.{rules, ◌≡◌, [], ◌∷◌, ◌++◌, None, slice_index_or, sym, subst}
+use Rattle.std.specs.List.{All}
+use Rattle.jr_piece.specs.Sharing.{IsEmptyOrOf, IsStripOf}
+use Rattle.jr_piece.proofs.Gathering.{one_more}
+use Rattle.jr_piece.proofs.gathered.all_of.Goals as goal
+
+pub loop-place-preserved : goal.loop-place-preserved
+loop-place-preserved c = λ i all.
+    let at : IsEmptyOrOf i (slice_index_or c.args.places.now c.loop-place.place-index None) = all c.loop-place.place-index None c.loop-place-test.true in
+    let one : IsStripOf i c.in_ok-ok.field-0 = search (rules, at) in
+    let pushed : c.push.new.self.items ≡ c.loop-place.strips.items ++ c.in_ok-ok.field-0 ∷ [] = search rules in
+    subst (All (IsStripOf i)) (sym pushed) (one_more (IsStripOf i) c.loop-place.strips.items c.in_ok-ok.field-0 (c.loop-place.invariant i all) one)

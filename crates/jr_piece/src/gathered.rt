@@ -1,0 +1,122 @@
+//! The strips of a shared interval, kept until all are there.
+
+ghost use Rattle.std.specs.Prelude.{◌≡◌, IfOk, IfSome};
+ghost use Rattle.std.specs.List.{All};
+ghost use Rattle.std.specs.Arc.{arc_value};
+ghost use Rattle.jr_scan.specs.IntervalValue.{IntervalValue};
+ghost use Rattle.jr_piece.specs.Sharing.{IsOneOf, IsEmptyOrOf, IsEndOf, IsStripOf, EndsAt};
+
+use crate::one_scan::OneScan;
+use crate::reading::End;
+use crate::strip::Strip;
+use jr_code::Memory;
+use jr_scan::Interval;
+use std::alloc::Global;
+use std::marker::{Model, PhantomData};
+use std::sync::Arc;
+
+/// What has been decoded of an interval of the scan: each strip in its place, and its end once that is known.
+#[derive(Drop)]
+pub(crate) struct Gathered<S: OneScan> {
+    interval: Arc<Interval>,
+    strips: Vec<Option<Arc<Strip>>>,
+    kept: u32,
+    end: Option<End>,
+    of: PhantomData<S>,
+}
+
+impl<S: OneScan> Model for Gathered<S> {
+    ghost use Rattle.std.specs.Prelude.{IfSome};
+    ghost use Rattle.std.specs.List.{All};
+    ghost use Rattle.std.specs.Arc.{arc_value};
+    ghost use Rattle.jr_scan.specs.IntervalValue.{IntervalValue};
+    ghost use Rattle.jr_piece.specs.Sharing.{IsOneOf, IsEmptyOrOf, EndsAt};
+
+    ghost Value = { IntervalValue };
+
+    ghost view = { λ g. arc_value g.interval };
+
+    ghost invariant = { λ g. IsOneOf S.scan (arc_value g.interval) × All (IsEmptyOrOf (arc_value g.interval)) g.strips.items × IfSome g.end (λ e. EndsAt (arc_value g.interval) e.front e.is_sound) };
+}
+
+/// The strips of all places; none where a place is empty.
+fn all_of(alloc: Global, places: &[Option<Arc<Strip>>]) -> Option<Vec<Arc<Strip>>>
+    ensures { IfSome result (λ v. (i : IntervalValue) → All (IsEmptyOrOf i) places.now → All (IsStripOf i) v.items) }
+{
+    let mut strips = Vec::with_capacity(alloc, places.len()).ok()?;
+    for place in places {
+        let strip = place.as_ref()?;
+        strips.push(Arc::try_clone(strip).ok()?).ok()?;
+    }
+    Some(strips)
+}
+
+/// Puts a strip into its place. Places before it that are not there yet are empty.
+fn put(
+    places: &mut Vec<Option<Arc<Strip>>>,
+    place: usize,
+    strip: Arc<Strip>,
+) -> Result<(), Memory>
+    ensures { (i : IntervalValue) → IsStripOf i strip → All (IsEmptyOrOf i) places.old.items → All (IsEmptyOrOf i) places.new.items }
+{
+    for _ in places.len()..=place {
+        places.push(None)?;
+    }
+    places[place] = Some(strip);
+    Ok(())
+}
+
+impl<S: OneScan> Gathered<S> {
+    /// Nothing is decoded of an interval yet.
+    pub(crate) fn of(alloc: Global, interval: Arc<Interval>) -> Gathered<S>
+        requires { IsOneOf S.scan (arc_value interval) }
+        ensures { result ≡ arc_value interval }
+    {
+        Gathered {
+            interval,
+            strips: Vec::new(alloc),
+            kept: 0,
+            end: None,
+            of: PhantomData,
+        }
+    }
+
+    /// Keeps a strip of this interval in its place; of another interval it keeps none.
+    pub(crate) fn keep(&mut self, place: u32, strip: Arc<Strip>) -> Result<(), Memory>
+        requires { IsOneOf S.scan (arc_value strip).interval }
+        ensures { self.new ≡ self.old }
+    {
+        if strip.number() != self.interval.number() {
+            return Ok(());
+        }
+        put(&mut self.strips, place as usize, strip)?;
+        self.kept = self.kept.saturating_add(1);
+        Ok(())
+    }
+
+    /// Notes where this interval ends.
+    pub(crate) fn close(&mut self, end: End)
+        requires { IsEndOf S.scan end }
+        ensures { self.new ≡ self.old }
+    {
+        if end.number == self.interval.number() {
+            self.end = Some(end);
+        }
+    }
+
+    /// All strips and the end, once they are there. They are given once.
+    pub(crate) fn take(&mut self, alloc: Global) -> Option<(Vec<Arc<Strip>>, End)>
+        ensures own { IsOneOf S.scan self.old }
+        ensures strips { IfSome result (λ r. All (IsStripOf self.old) r.0.items) }
+        ensures end { IfSome result (λ r. EndsAt self.old r.1.front r.1.is_sound) }
+        ensures same { self.new ≡ self.old }
+    {
+        let end = self.end?;
+        if self.kept != end.strips {
+            return None;
+        }
+        self.end = None;
+        let strips = all_of(alloc, self.strips.as_slice())?;
+        Some((strips, end))
+    }
+}

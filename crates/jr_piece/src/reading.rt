@@ -1,0 +1,88 @@
+//! How far a shared interval is read.
+
+ghost use Rattle.std.specs.Prelude.{◌≡◌, IfOk};
+ghost use Rattle.std.specs.Arc.{arc_value};
+ghost use Rattle.jr_piece.specs.Sharing.{IsOneOf, IsNextOf};
+
+use crate::one_scan::OneScan;
+use crate::strip::CodedStrip;
+use crate::strip_reader::StripReader;
+use jr_code::Memory;
+use jr_scan::Interval;
+use std::alloc::Global;
+use std::marker::{Model, PhantomData};
+use std::sync::Arc;
+
+/// How many MCUs a strip has, but for an interval's last one: 256 of 4:2:0 are 98,304 bytes of samples, and their blocks
+/// stay in a processor's own cache between reading and transforming.
+pub(crate) const STRIP_MCUS: u32 = 256;
+
+/// Where the whole MCUs of interval `number` end, in how many strips, and whether it has a decoding.
+#[derive(Clone, Copy)]
+pub(crate) struct End {
+    pub number: u32,
+    pub strips: u32,
+    pub front: u32,
+    pub is_sound: bool,
+}
+
+/// What follows what is read.
+#[derive(Drop)]
+pub(crate) enum Next {
+    /// The next strip, and how many stand before it.
+    Strip(u32, CodedStrip),
+    /// Nothing: so the interval ends.
+    End(End),
+}
+
+/// The reader of an interval of the scan, and how many strips it has read.
+#[derive(Drop)]
+pub(crate) struct Reading<S: OneScan> {
+    reader: StripReader,
+    strips: u32,
+    of: PhantomData<S>,
+}
+
+impl<S: OneScan> Model for Reading<S> {
+    ghost use Rattle.jr_scan.specs.IntervalValue.{IntervalValue};
+    ghost use Rattle.jr_piece.specs.Sharing.{IsOneOf};
+
+    ghost Value = { IntervalValue };
+
+    ghost view = { λ r. r.reader.interval };
+
+    ghost invariant = { λ r. IsOneOf S.scan r.reader.interval };
+}
+
+impl<S: OneScan> Reading<S> {
+    /// Nothing is read of an interval yet.
+    pub(crate) fn of(interval: Arc<Interval>) -> Reading<S>
+        requires { IsOneOf S.scan (arc_value interval) }
+        ensures { result ≡ arc_value interval }
+    {
+        Reading {
+            reader: StripReader::over(interval),
+            strips: 0,
+            of: PhantomData,
+        }
+    }
+
+    /// Reads the next strip.
+    pub(crate) fn next(&mut self, alloc: Global) -> Result<Next, Memory>
+        ensures { IfOk result (IsNextOf S.scan) }
+    {
+        let place = self.strips;
+        match self.reader.next(alloc, STRIP_MCUS)? {
+            Some(strip) => {
+                self.strips = place.saturating_add(1);
+                Ok(Next::Strip(place, strip))
+            }
+            None => Ok(Next::End(End {
+                number: self.reader.number(),
+                strips: place,
+                front: self.reader.first(),
+                is_sound: self.reader.is_sound(),
+            })),
+        }
+    }
+}
