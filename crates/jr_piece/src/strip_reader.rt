@@ -10,6 +10,7 @@ ghost use Rattle.jr_scan.specs.Reader.{HasRead, HasEnded, start_of_interval};
 ghost use Rattle.jr_scan.specs.Run.{IsRun, run_from};
 ghost use Rattle.jr_piece.specs.Strips.{CanReadFrom, FirstMcus};
 
+use crate::decoded::most_units;
 use crate::strip::CodedStrip;
 use jr_code::Memory;
 use jr_scan::{
@@ -41,8 +42,8 @@ fn read_blocks(
     ensures in_range { IfOk result (λ r. All IsInRange r.0.items) }
     ensures ended { IfOk result (λ r. HasEnded r.1) }
 {
+    let mut blocks = Vec::with_capacity(alloc, most_units(interval, from.bit, mcus))?;
     let mut reader = BlockReader::at(interval, from, mcus);
-    let mut blocks = Vec::new(alloc);
     let mut block = [0; 64];
     'blocks: loop {
         let Some(_component) = reader.next(&mut block) else {
