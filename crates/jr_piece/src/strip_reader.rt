@@ -45,7 +45,7 @@ fn read_blocks(
     let mut blocks = Vec::with_capacity(alloc, most_units(interval, from.bit, mcus))?;
     let mut reader = BlockReader::at(interval, from, mcus);
     let mut block = [0; 64];
-    'blocks: loop {
+    'units: loop {
         let Some(_component) = reader.next(&mut block) else {
             return Ok((blocks, reader));
         };
