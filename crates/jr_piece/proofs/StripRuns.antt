@@ -1,6 +1,6 @@
 -- Runs of an interval that follow one another, and the fronts that they are.
 use Rattle.std.proofs.Common.{◌≡◌, ℕ, zero, suc, ◌+◌, ◌-◌, ◌*◌, ◌<◌, ◌≤◌, min, inl, inr, Option, Some, None, List, [], ◌∷◌, ◌++◌, length, get_or, take, drop, length-drop, refl, sym, ap, subst, ◌∙◌, arith}
-use Rattle.std.specs.Prelude.{◌↔◌, ℤ, pos, negsuc, ◌≤ℤ◌}
+use Rattle.std.specs.Prelude.{◌↔◌, ℤ}
 use Rattle.std.specs.Option.{IfSome, IfNone}
 use Rattle.std.specs.List.{All}
 use Rattle.std.proofs.lemmas.Bool.{cases_lt}
@@ -21,7 +21,7 @@ use Rattle.jr_scan.specs.Reader.{RunOf, ReaderValue, start_of_interval, whole_ru
 use Rattle.jr_scan.specs.Run.{run_from, left_at, predicted, HasNoMcu, EndsAs, IsRun, RunRead, IsSoundRun}
 use Rattle.jr_scan.proofs.McuLaws.{no_blocks}
 use Rattle.jr_piece.specs.StripValue.{ReadingValue}
-use Rattle.jr_piece.specs.Strips.{AreBlocks, CanReadFrom, FirstMcus, IsNext, IsReading}
+use Rattle.jr_piece.specs.Strips.{AreBlocks, CanReadFrom, FirstMcus, HasWholeMcus, IsNext, IsReading}
 use Rattle.jr_piece.proofs.Strips.{ShorterFront}
 
 pub in_range_more : (zs : List (List ℤ)) (z : List ℤ) → All IsInRange zs → IsInRange z → All IsInRange (zs ++ z ∷ [])
@@ -179,7 +179,7 @@ module _ (one : OneRun) (meet : RunsMeet) (shorter : ShorterFront) (i : Interval
   }
 
   -- fewer than are asked for are read only where no further one follows
-  pub ended : (most : ℕ) → Front i first zs → m ≡ min most (i.mcus - first) → n < most → (x : List (List ℤ)) × LongestFront i (first + n) x
+  pub ended : (most : ℕ) → Front i first zs → m ≡ min most (i.mcus - first) → n < most → HasWholeMcus i (first + n)
   ended most f asked few_read = elim (cases_lt n m) [
     | inl l ↦ (zs ++ ys, longest l)
     | inr g ↦ (zs ++ ys, whole i (first + n) (zs ++ ys) front (omega (arith, f.at_most, few, g, asked, few_read)))
@@ -205,10 +205,11 @@ is_whole one law r p k e all few zs f =
 
 -- where they are not, the interval has no decoding
 pub is_damaged : OneRun → WholeRun → (r : ReadingValue) → IsLawful r.interval.head → IsReading r → ((p : Place) → r.next ≡ Some p → r.first ≡ r.interval.mcus → 8 * length r.interval.bytes - p.bit < 8 → ⊥)
-    → (zs : List (List ℤ)) → LongestFront r.interval r.first zs → HasNoDecoding r.interval
-is_damaged one law r lawful k none zs longest ys d =
+    → HasWholeMcus r.interval r.first → HasNoDecoding r.interval
+is_damaged one law r lawful k none all_there ys d =
     let i = r.interval in
     let w = (law i ys).0 d in
+    let longest = all_there.1 in
     let there : i.mcus ≤ r.first = longest.longest i.mcus ys (front_of i i.mcus ys w.0 w.1 (omega arith)) in
     let all : r.first ≡ i.mcus = omega (arith, there, longest.front.at_most) in
     go r.next refl all w.0 w.1 w.2

@@ -7,7 +7,7 @@ use Rattle.std.proofs.Math.Nat.{mul-add-mod_self_right}
 use Rattle.jr_head.specs.HeadValue.{HeadValue}
 use Rattle.jr_head.specs.Geometry.{order_of, quantiser_of}
 use Rattle.jr_scan.specs.IntervalValue.{IntervalValue}
-use Rattle.jr_scan.specs.Mcus.{component, Decodes, HasNoDecoding, Front, LongestFront}
+use Rattle.jr_scan.specs.Mcus.{component, Decodes, Front, LongestFront}
 use Rattle.jr_idct.specs.Transform.{samples}
 use Rattle.jr_piece.specs.PieceValue.{PieceValue}
 use Rattle.jr_piece.specs.Outcome.{AreSamples, IsOutcome, unit_of}
@@ -152,11 +152,11 @@ pub all_there : OneFront → (s : StripValue) (t : Bool) → IsStrip s → IsWho
 all_there one s t is whole told =
     let i = s.interval in
     let per = length (order_of i.head) in
-    let zs = whole.blocks in
-    let longest = whole.longest in
-    let front : Front i s.mcus is.are.all = subst (λ (k : ℕ). Front i k is.are.all) (omega (arith, whole.start)) is.are.front in
+    let zs = whole.1.0 in
+    let longest = whole.1.1 in
+    let front : Front i s.mcus is.are.all = subst (λ (k : ℕ). Front i k is.are.all) (omega (arith, whole.0)) is.are.front in
     let same : is.are.all ≡ zs = one i s.mcus is.are.all zs front longest.front in
-    let none_before : s.first * per ≡ 0 = ap (λ (k : ℕ). k * per) whole.start ∙ omega arith in
+    let none_before : s.first * per ≡ 0 = ap (λ (k : ℕ). k * per) whole.0 ∙ omega arith in
     let blocks : is.blocks ≡ zs = is.are.last ∙ ap (λ (k : ℕ). drop k is.are.all) none_before ∙ same in
     let shows : AreSamples i.head zs s.samples = subst (λ (l : List (List ℤ)). AreSamples i.head l s.samples) blocks is.samples in
     go t told zs longest shows

@@ -1,5 +1,4 @@
-use Rattle.std.proofs.Common.{◌≡◌, ℕ, ◌+◌, ◌-◌, ◌*◌, ◌<◌, ◌≤◌, min, List, length, sym, ap, subst, ◌∙◌, arith, rules}
-use Rattle.std.specs.Prelude.{ℤ}
+use Rattle.std.proofs.Common.{◌≡◌, ℕ, ◌+◌, ◌-◌, ◌≤◌, min, sym, ap, subst, ◌∙◌, arith, rules}
 use Rattle.std.specs.Arc.{arc_value}
 use Rattle.std.specs.Option.{IfSome}
 use Rattle.jr_head.specs.Geometry.{IsLawful}
@@ -7,9 +6,8 @@ use Rattle.jr_scan.specs.declared.place.Place.{Place}
 use Rattle.jr_scan.specs.declared.place.RunEnd.TheVariants.{AllRead}
 use Rattle.jr_scan.specs.IntervalValue.{IntervalValue}
 use Rattle.jr_scan.specs.Run.{IsRun, run_from}
-use Rattle.jr_scan.specs.Mcus.{LongestFront}
-use Rattle.jr_piece.specs.StripValue.{ReadingValue}
-use Rattle.jr_piece.specs.Strips.{CanReadFrom, FirstMcus, IsCoded}
+use Rattle.jr_piece.specs.StripValue.{CodedValue, ReadingValue}
+use Rattle.jr_piece.specs.Strips.{CanReadFrom, FirstMcus, HasWholeMcus, IsCoded}
 use Rattle.jr_piece.proofs.StripRuns.{blocks, reading, ended}
 use Rattle.jr_piece.proofs.strip_reader.StripReader.next.Goals as goal
 
@@ -64,5 +62,19 @@ returns-then-mcus-eq0-clause-none c = λ some.
     let asked = c.min-asked.ensures ∙ ap (λ (k : ℕ). min c.args.most (k - c.self.inside.first)) (c.mcus.ensures ∙ ap (λ (v : IntervalValue). v.mcus) other) in
     let last = ended c.one_run.ensures c.runs_meet.ensures c.shorter_front.ensures i lawful c.self.inside.first c.self.invariant.blocks c.in-Some.from (c.self.invariant.next c.in-Some.from c.in-Some.is) r.mcus c.min-asked.result r.blocks.items was few
     c.args.most c.self.invariant.front asked (omega (arith, c.if-mcus-eq0.true, some)) in
-    let here = subst (λ (k : ℕ). (x : List (List ℤ)) × LongestFront i k x) (omega (arith, c.if-mcus-eq0.true)) last in
-    subst (λ (v : ReadingValue). (x : List (List ℤ)) × LongestFront v.interval v.first x) c.self.view_is here
+    let here = subst (λ (k : ℕ). HasWholeMcus i k) (omega (arith, c.if-mcus-eq0.true)) last in
+    subst (λ (v : ReadingValue). HasWholeMcus v.interval v.first) c.self.view_is here
+
+pub returns-clause-last : goal.returns-clause-last
+returns-clause-last c = λ lt.
+    let i = arc_value c.self.inside.interval in
+    let at : c.deref-3.result.now ≡ i = search rules in
+    let other : c.deref-2.result.now ≡ i = search rules in
+    let own_head : c.deref.result.now ≡ i = search rules in
+    let lawful : IsLawful i.head = subst IsLawful (c.head.ensures ∙ ap (λ (v : IntervalValue). v.head) own_head) c.be_lawful.ensures in
+    let r = c.in_ok-blocks.field-0 in
+    let was : FirstMcus (run_from i c.in-Some.from c.min-asked.result) r.mcus r.blocks.items = subst (λ (v : IntervalValue). FirstMcus (run_from v c.in-Some.from c.min-asked.result) r.mcus r.blocks.items) at c.in_ok-blocks.ensures.run in
+    let few = room i c.deref-2.result.now c.self.inside.first r.mcus c.min-asked.result c.args.most c.mcus.result other c.in_ok-blocks.ensures.few c.min-asked.ensures c.mcus.ensures c.self.invariant.front.at_most in
+    let asked = c.min-asked.ensures ∙ ap (λ (k : ℕ). min c.args.most (k - c.self.inside.first)) (c.mcus.ensures ∙ ap (λ (v : IntervalValue). v.mcus) other) in
+    ended c.one_run.ensures c.runs_meet.ensures c.shorter_front.ensures i lawful c.self.inside.first c.self.invariant.blocks c.in-Some.from (c.self.invariant.next c.in-Some.from c.in-Some.is) r.mcus c.min-asked.result r.blocks.items was few
+    c.args.most c.self.invariant.front asked (omega (arith, ap (λ (s : CodedValue). s.mcus) c.of.ensures, lt))
