@@ -1,6 +1,6 @@
 //! An interval, a strip at a time.
 
-ghost use Rattle.std.specs.Prelude.{◌≡◌, ◌≤◌, ◌<◌, ◌+◌, ℤ, List, Option, None, Some, false, IsTrue, IfOk, IfErr, IfSome, IfNone};
+ghost use Rattle.std.specs.Prelude.{◌≡◌, ◌≤◌, ◌<◌, ◌+◌, ℤ, List, Option, None, Some, false, IsTrue, IfOk, IfErr, IfSome, IfNone, OnSome};
 ghost use Rattle.std.specs.List.{All};
 ghost use Rattle.std.specs.Arc.{arc_value};
 ghost use Rattle.jr_scan.specs.declared.place.RunEnd.TheVariants.{AllRead};
@@ -114,6 +114,7 @@ impl StripReader {
         ensures some { IfOk result (λ o. IfSome o (λ s. 0 < s.mcus)) }
         ensures few { IfOk result (λ o. IfSome o (λ s. s.mcus ≤ most)) }
         ensures on { IfOk result (λ o. IfSome o (λ s. self.new.first ≡ s.first + s.mcus)) }
+        ensures within { IfOk result (λ o. OnSome o (self.new.first ≤ self.old.interval.mcus)) }
         ensures last { IfOk result (λ o. IfSome o (λ s. s.mcus < most → HasWholeMcus self.new.interval self.new.first)) }
         ensures none { IfOk result (λ o. IfNone o (0 < most → HasWholeMcus self.old.interval self.old.first)) }
         ensures same { IfOk result (λ o. IfNone o (self.new ≡ self.old)) }

@@ -29,8 +29,10 @@ of-requires c =
     let own_head : c.deref.result.now ≡ i = search rules in
     let lawful : IsLawful i.head = subst IsLawful (c.head.ensures ∙ ap (λ (v : IntervalValue). v.head) own_head) c.be_lawful.ensures in
     let r = c.in_ok-blocks.field-0 in
-    let was : FirstMcus (run_from i c.in-Some.from c.min-asked.result) r.mcus r.blocks.items = subst (λ (v : IntervalValue). FirstMcus (run_from v c.in-Some.from c.min-asked.result) r.mcus r.blocks.items) at c.in_ok-blocks.ensures.run in
-    let few = room i c.deref-2.result.now c.self.inside.first r.mcus c.min-asked.result c.args.most c.mcus.result other c.in_ok-blocks.ensures.few c.min-asked.ensures c.mcus.ensures c.self.invariant.front.at_most in
+    let run : FirstMcus (run_from c.deref-3.result.now c.in-Some.from c.min-asked.result) r.mcus r.blocks.items = search (rules, c.in_ok-blocks.ensures.run) in
+    let was : FirstMcus (run_from i c.in-Some.from c.min-asked.result) r.mcus r.blocks.items = subst (λ (v : IntervalValue). FirstMcus (run_from v c.in-Some.from c.min-asked.result) r.mcus r.blocks.items) at run in
+    let least : c.min-asked.result ≡ min c.args.most (c.mcus.result - c.self.inside.first) = search (rules, c.min-asked.ensures) in
+    let few = room i c.deref-2.result.now c.self.inside.first r.mcus c.min-asked.result c.args.most c.mcus.result other c.in_ok-blocks.ensures.few least c.mcus.ensures c.self.invariant.front.at_most in
     let blocks = blocks c.one_run.ensures c.runs_meet.ensures c.shorter_front.ensures i lawful c.self.inside.first c.self.invariant.blocks c.in-Some.from (c.self.invariant.next c.in-Some.from c.in-Some.is) r.mcus c.min-asked.result r.blocks.items was few in
     subst (λ (v : IntervalValue). IsCoded (record { interval = v; first = c.self.inside.first; mcus = r.mcus; blocks = r.blocks.items })) (sym own) (record { are = blocks; in_range = c.in_ok-blocks.ensures.in_range })
 
@@ -42,12 +44,15 @@ invariant_of-self c =
     let own_head : c.deref.result.now ≡ i = search rules in
     let lawful : IsLawful i.head = subst IsLawful (c.head.ensures ∙ ap (λ (v : IntervalValue). v.head) own_head) c.be_lawful.ensures in
     let r = c.in_ok-blocks.field-0 in
-    let was : FirstMcus (run_from i c.in-Some.from c.min-asked.result) r.mcus r.blocks.items = subst (λ (v : IntervalValue). FirstMcus (run_from v c.in-Some.from c.min-asked.result) r.mcus r.blocks.items) at c.in_ok-blocks.ensures.run in
-    let few = room i c.deref-2.result.now c.self.inside.first r.mcus c.min-asked.result c.args.most c.mcus.result other c.in_ok-blocks.ensures.few c.min-asked.ensures c.mcus.ensures c.self.invariant.front.at_most in
-    let under : c.self.inside.first + c.min-asked.result ≤ i.mcus = omega (arith, c.min-asked.ensures, c.mcus.ensures, ap (λ (v : IntervalValue). v.mcus) other, c.self.invariant.front.at_most) in
-    reading c.one_run.ensures c.runs_meet.ensures c.shorter_front.ensures i lawful c.self.inside.first c.self.invariant.blocks c.in-Some.from (c.self.invariant.next c.in-Some.from c.in-Some.is) r.mcus c.min-asked.result r.blocks.items was few
+    let run : FirstMcus (run_from c.deref-3.result.now c.in-Some.from c.min-asked.result) r.mcus r.blocks.items = search (rules, c.in_ok-blocks.ensures.run) in
+    let was : FirstMcus (run_from i c.in-Some.from c.min-asked.result) r.mcus r.blocks.items = subst (λ (v : IntervalValue). FirstMcus (run_from v c.in-Some.from c.min-asked.result) r.mcus r.blocks.items) at run in
+    let least : c.min-asked.result ≡ min c.args.most (c.mcus.result - c.self.inside.first) = search (rules, c.min-asked.ensures) in
+    let few = room i c.deref-2.result.now c.self.inside.first r.mcus c.min-asked.result c.args.most c.mcus.result other c.in_ok-blocks.ensures.few least c.mcus.ensures c.self.invariant.front.at_most in
+    let under : c.self.inside.first + c.min-asked.result ≤ i.mcus = omega (arith, least, c.mcus.ensures, ap (λ (v : IntervalValue). v.mcus) other, c.self.invariant.front.at_most) in
+    let told = reading c.one_run.ensures c.runs_meet.ensures c.shorter_front.ensures i lawful c.self.inside.first c.self.invariant.blocks c.in-Some.from (c.self.invariant.next c.in-Some.from c.in-Some.is) r.mcus c.min-asked.result r.blocks.items was few
     r.next under (subst (λ (v : IntervalValue). IfSome r.next (λ (p : Place). IsRun (run_from v c.in-Some.from r.mcus) r.blocks.items p AllRead)) at c.in_ok-blocks.ensures.next)
-    (subst (λ (v : IntervalValue). IfSome r.next (CanReadFrom v)) at c.in_ok-blocks.ensures.can) c.in_ok-blocks.ensures.none
+    (subst (λ (v : IntervalValue). IfSome r.next (CanReadFrom v)) at c.in_ok-blocks.ensures.can) c.in_ok-blocks.ensures.none in
+    search (rules, told)
 
 pub returns-then-mcus-eq0-clause-none : goal.returns-then-mcus-eq0-clause-none
 returns-then-mcus-eq0-clause-none c = λ some.
@@ -57,9 +62,11 @@ returns-then-mcus-eq0-clause-none c = λ some.
     let own_head : c.deref.result.now ≡ i = search rules in
     let lawful : IsLawful i.head = subst IsLawful (c.head.ensures ∙ ap (λ (v : IntervalValue). v.head) own_head) c.be_lawful.ensures in
     let r = c.in_ok-blocks.field-0 in
-    let was : FirstMcus (run_from i c.in-Some.from c.min-asked.result) r.mcus r.blocks.items = subst (λ (v : IntervalValue). FirstMcus (run_from v c.in-Some.from c.min-asked.result) r.mcus r.blocks.items) at c.in_ok-blocks.ensures.run in
-    let few = room i c.deref-2.result.now c.self.inside.first r.mcus c.min-asked.result c.args.most c.mcus.result other c.in_ok-blocks.ensures.few c.min-asked.ensures c.mcus.ensures c.self.invariant.front.at_most in
-    let asked = c.min-asked.ensures ∙ ap (λ (k : ℕ). min c.args.most (k - c.self.inside.first)) (c.mcus.ensures ∙ ap (λ (v : IntervalValue). v.mcus) other) in
+    let run : FirstMcus (run_from c.deref-3.result.now c.in-Some.from c.min-asked.result) r.mcus r.blocks.items = search (rules, c.in_ok-blocks.ensures.run) in
+    let was : FirstMcus (run_from i c.in-Some.from c.min-asked.result) r.mcus r.blocks.items = subst (λ (v : IntervalValue). FirstMcus (run_from v c.in-Some.from c.min-asked.result) r.mcus r.blocks.items) at run in
+    let least : c.min-asked.result ≡ min c.args.most (c.mcus.result - c.self.inside.first) = search (rules, c.min-asked.ensures) in
+    let few = room i c.deref-2.result.now c.self.inside.first r.mcus c.min-asked.result c.args.most c.mcus.result other c.in_ok-blocks.ensures.few least c.mcus.ensures c.self.invariant.front.at_most in
+    let asked = least ∙ ap (λ (k : ℕ). min c.args.most (k - c.self.inside.first)) (c.mcus.ensures ∙ ap (λ (v : IntervalValue). v.mcus) other) in
     let last = ended c.one_run.ensures c.runs_meet.ensures c.shorter_front.ensures i lawful c.self.inside.first c.self.invariant.blocks c.in-Some.from (c.self.invariant.next c.in-Some.from c.in-Some.is) r.mcus c.min-asked.result r.blocks.items was few
     c.args.most c.self.invariant.front asked (omega (arith, c.if-mcus-eq0.true, some)) in
     let here = subst (λ (k : ℕ). HasWholeMcus i k) (omega (arith, c.if-mcus-eq0.true)) last in
@@ -73,8 +80,18 @@ returns-clause-last c = λ lt.
     let own_head : c.deref.result.now ≡ i = search rules in
     let lawful : IsLawful i.head = subst IsLawful (c.head.ensures ∙ ap (λ (v : IntervalValue). v.head) own_head) c.be_lawful.ensures in
     let r = c.in_ok-blocks.field-0 in
-    let was : FirstMcus (run_from i c.in-Some.from c.min-asked.result) r.mcus r.blocks.items = subst (λ (v : IntervalValue). FirstMcus (run_from v c.in-Some.from c.min-asked.result) r.mcus r.blocks.items) at c.in_ok-blocks.ensures.run in
-    let few = room i c.deref-2.result.now c.self.inside.first r.mcus c.min-asked.result c.args.most c.mcus.result other c.in_ok-blocks.ensures.few c.min-asked.ensures c.mcus.ensures c.self.invariant.front.at_most in
-    let asked = c.min-asked.ensures ∙ ap (λ (k : ℕ). min c.args.most (k - c.self.inside.first)) (c.mcus.ensures ∙ ap (λ (v : IntervalValue). v.mcus) other) in
+    let run : FirstMcus (run_from c.deref-3.result.now c.in-Some.from c.min-asked.result) r.mcus r.blocks.items = search (rules, c.in_ok-blocks.ensures.run) in
+    let was : FirstMcus (run_from i c.in-Some.from c.min-asked.result) r.mcus r.blocks.items = subst (λ (v : IntervalValue). FirstMcus (run_from v c.in-Some.from c.min-asked.result) r.mcus r.blocks.items) at run in
+    let least : c.min-asked.result ≡ min c.args.most (c.mcus.result - c.self.inside.first) = search (rules, c.min-asked.ensures) in
+    let few = room i c.deref-2.result.now c.self.inside.first r.mcus c.min-asked.result c.args.most c.mcus.result other c.in_ok-blocks.ensures.few least c.mcus.ensures c.self.invariant.front.at_most in
+    let asked = least ∙ ap (λ (k : ℕ). min c.args.most (k - c.self.inside.first)) (c.mcus.ensures ∙ ap (λ (v : IntervalValue). v.mcus) other) in
     ended c.one_run.ensures c.runs_meet.ensures c.shorter_front.ensures i lawful c.self.inside.first c.self.invariant.blocks c.in-Some.from (c.self.invariant.next c.in-Some.from c.in-Some.is) r.mcus c.min-asked.result r.blocks.items was few
     c.args.most c.self.invariant.front asked (omega (arith, ap (λ (s : CodedValue). s.mcus) c.of.ensures, lt))
+
+pub returns-clause-within : goal.returns-clause-within
+returns-clause-within c =
+    let i = arc_value c.self.inside.interval in
+    let other : c.deref-2.result.now ≡ i = search rules in
+    let least : c.min-asked.result ≡ min c.args.most (c.mcus.result - c.self.inside.first) = search (rules, c.min-asked.ensures) in
+    let told = room i c.deref-2.result.now c.self.inside.first c.in_ok-blocks.field-0.mcus c.min-asked.result c.args.most c.mcus.result other c.in_ok-blocks.ensures.few least c.mcus.ensures c.self.invariant.front.at_most in
+    subst (λ (v : ReadingValue). c.self.inside.first + c.in_ok-blocks.field-0.mcus ≤ v.interval.mcus) c.self.view_is told
