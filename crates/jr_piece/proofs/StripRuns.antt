@@ -1,6 +1,6 @@
 -- Runs of an interval that follow one another, and the fronts that they are.
 use Rattle.std.proofs.Common.{◌≡◌, ℕ, zero, suc, ◌+◌, ◌-◌, ◌*◌, ◌<◌, ◌≤◌, min, inl, inr, Option, Some, None, List, [], ◌∷◌, ◌++◌, length, get_or, take, drop, length-drop, refl, sym, ap, subst, ◌∙◌, arith}
-use Rattle.std.specs.Prelude.{◌↔◌, ℤ, pos, negsuc, ◌≤ℤ◌}
+use Rattle.std.specs.Prelude.{◌↔◌, ℤ}
 use Rattle.std.specs.Option.{IfSome, IfNone}
 use Rattle.std.specs.List.{All}
 use Rattle.std.proofs.lemmas.Bool.{cases_lt}
@@ -14,14 +14,14 @@ use Rattle.jr_head.specs.Geometry.{order_of, IsLawful}
 use Rattle.jr_scan.specs.declared.place.Place.{Place}
 use Rattle.jr_scan.specs.declared.place.RunEnd.{RunEnd}
 use Rattle.jr_scan.specs.declared.place.RunEnd.TheVariants.{AllRead, NoMcu}
-use Rattle.jr_scan.specs.Block.{IsInRange}
+use Rattle.jr_scan.specs.Block.{IsInDcRange, IsInRange}
 use Rattle.jr_scan.specs.IntervalValue.{IntervalValue}
 use Rattle.jr_scan.specs.Mcus.{HasNoDecoding, Mcus, Decodes, Front, LongestFront, no_predictions}
 use Rattle.jr_scan.specs.Reader.{RunOf, ReaderValue, start_of_interval, whole_run, per_mcu, HasRead}
-use Rattle.jr_scan.specs.Run.{left_at, predicted, HasNoMcu, EndsAs, IsRun}
+use Rattle.jr_scan.specs.Run.{run_from, left_at, predicted, HasNoMcu, EndsAs, IsRun, RunRead, IsSoundRun}
 use Rattle.jr_scan.proofs.McuLaws.{no_blocks}
 use Rattle.jr_piece.specs.StripValue.{ReadingValue}
-use Rattle.jr_piece.specs.Strips.{AreBlocks, IsNext, IsReading}
+use Rattle.jr_piece.specs.Strips.{AreBlocks, CanReadFrom, FirstMcus, HasWholeMcus, IsNext, IsReading}
 use Rattle.jr_piece.proofs.Strips.{ShorterFront}
 
 pub in_range_more : (zs : List (List ℤ)) (z : List ℤ) → All IsInRange zs → IsInRange z → All IsInRange (zs ++ z ∷ [])
@@ -30,16 +30,6 @@ in_range_more zs z all one = All-append IsInRange zs (z ∷ []) all (λ k d lt. 
     at : (k : ℕ) (d : List ℤ) → k < length (z ∷ []) → IsInRange (get_or (z ∷ []) k d)
     at zero d lt = one
     at (suc k) d lt = absurd (omega arith)
-
--- so many MCUs of an interval from a place on
-abbrev pub run_from : IntervalValue → Place → ℕ → RunOf
-run_from i p n = record { interval = i; from = p; mcus = n }
-
--- the whole MCUs from a place on, behind which no further one follows where they are fewer than m
-pub record Part (i : IntervalValue) (from : Place) (n m : ℕ) (ys : List (List ℤ)) : Type 0 where
-  pub to : Place
-  pub run : IsRun (run_from i from n) ys to AllRead
-  pub none : n < m → HasNoMcu i to
 
 same_count : (c n per : ℕ) → 0 < per → c * per ≡ n * per → c ≡ n
 same_count c n per p e = elim (cases_lt c n) [
@@ -51,7 +41,7 @@ same_count c n per p e = elim (cases_lt c n) [
 ]
 
 -- a run, by how many MCUs it has
-counted : (i : IntervalValue) (from to : Place) (m n : ℕ) (ys : List (List ℤ)) (end : RunEnd) → (s : IsRun (run_from i from m) ys to end) → s.count ≡ n → Part i from n m ys
+counted : (i : IntervalValue) (from to : Place) (m n : ℕ) (ys : List (List ℤ)) (end : RunEnd) → (s : IsRun (run_from i from m) ys to end) → s.count ≡ n → FirstMcus (run_from i from m) n ys
 counted i from to m n ys end s e =
     record {
       to = to;
@@ -74,7 +64,7 @@ module _ (rd : ReaderValue) (i : IntervalValue) (from : Place) (m n len : ℕ) (
   count : length ys ≡ n * len
   count = ap length first ∙ length-take-le (n * len) zs room
 
-  pub part : ((to : Place) × (end : RunEnd) × IsRun rd.run (take (n * per_mcu rd) zs) to end) → Part i from n m ys
+  pub part : ((to : Place) × (end : RunEnd) × IsRun rd.run (take (n * per_mcu rd) zs) to end) → FirstMcus (run_from i from m) n ys
   part there =
       let same : take (n * per_mcu rd) zs ≡ ys = ap (λ (k : ℕ). take (n * k) zs) per ∙ sym first in
       let s1 = subst (λ (x : List (List ℤ)). IsRun rd.run x there.0 there.1) same there.2 in
@@ -107,10 +97,13 @@ run_of i k zs f =
     )
 
 abbrev pub OneRun : Type 0
-OneRun = (r : RunOf) (zs ys : List (List ℤ)) (a b : Place) (e f : RunEnd) → IsLawful r.interval.head → IsRun r zs a e → IsRun r ys b f → (zs ≡ ys) × (a ≡ b) × (e ≡ f)
+OneRun = (r : RunOf) (a b : RunRead r) → IsLawful r.interval.head → (a.blocks ≡ b.blocks) × (a.to ≡ b.to) × (a.end ≡ b.end)
 
 abbrev pub RunsMeet : Type 0
-RunsMeet = (i : IntervalValue) (p q s : Place) (k m : ℕ) (zs ys : List (List ℤ)) (end : RunEnd) → IsLawful i.head → IsRun (record { interval = i; from = p; mcus = k }) zs q AllRead → IsRun (record { interval = i; from = q; mcus = m }) ys s end → IsRun (record { interval = i; from = p; mcus = k + m }) (zs ++ ys) s end
+RunsMeet = (i : IntervalValue) (p : Place) (k m : ℕ) (a : RunRead (run_from i p k)) (b : RunRead (run_from i a.to m)) → IsLawful i.head → a.end ≡ AllRead → IsRun (run_from i p (k + m)) (a.blocks ++ b.blocks) b.to b.end
+
+abbrev read : (r : RunOf) (zs : List (List ℤ)) (to : Place) (end : RunEnd) → IsRun r zs to end → RunRead r
+read r zs to end is = record { blocks = zs; to = to; end = end; is = is }
 
 -- where no whole MCU follows, the front is the longest
 stuck : OneRun → ShorterFront → (i : IntervalValue) (k : ℕ) (zs : List (List ℤ)) (to : Place) → IsLawful i.head → IsRun (run_from i start_of_interval k) zs to AllRead → HasNoMcu i to → k ≤ i.mcus → LongestFront i k zs
@@ -123,7 +116,8 @@ stuck one shorter i k zs to lawful r none few = record { front = front_of i k zs
           let there = run_of i (k + 1) (take ((k + 1) * length (order_of i.head)) ys) (shorter i (k + 1) j ys (omega arith) f) in
           let count : r.count ≡ k = r.ends in
           let here : IsRun (run_from i start_of_interval (k + 1)) zs to NoMcu = record { count = r.count; few = omega (arith, count); taken = r.taken; mcus = r.mcus; spelled = r.spelled; bit = r.bit; predictions = r.predictions; ends = (omega (arith, count), none) } in
-          let e : NoMcu ≡ AllRead = (one (run_from i start_of_interval (k + 1)) zs _ to there.0 NoMcu AllRead lawful here there.1).2 in
+          let more = run_from i start_of_interval (k + 1) in
+          let e : NoMcu ≡ AllRead = (one more (read more zs to NoMcu here) (read more _ there.0 AllRead there.1) lawful).2 in
           absurd (let z : NoMcu ≡ AllRead = e in cc)
     ]
 
@@ -131,10 +125,35 @@ stuck one shorter i k zs to lawful r none few = record { front = front_of i k zs
 whole : (i : IntervalValue) (k : ℕ) (zs : List (List ℤ)) → Front i k zs → k ≡ i.mcus → LongestFront i k zs
 whole i k zs f e = record { front = f; longest = λ j ys g. omega (arith, g.at_most, e) }
 
--- the strip behind the first MCUs
-module _ (one : OneRun) (meet : RunsMeet) (shorter : ShorterFront) (i : IntervalValue) (lawful : IsLawful i.head) (first : ℕ) (zs : List (List ℤ)) (p : Place) (next : IsNext i first zs p) (n m : ℕ) (ys : List (List ℤ)) (here : Part i p n m ys) (few : first + n ≤ i.mcus) where
+-- nothing is read at the start
+start_in_range : All IsInDcRange no_predictions
+start_in_range zero d lt = (omega arith, omega arith)
+start_in_range (suc zero) d lt = (omega arith, omega arith)
+start_in_range (suc (suc zero)) d lt = (omega arith, omega arith)
+start_in_range (suc (suc (suc k))) d lt = absurd (omega arith)
+
+pub at_start : (i : IntervalValue) → IsReading (record { interval = i; first = 0; next = Some start_of_interval })
+at_start i = record {
+  blocks = [];
+  front = record { at_most = omega arith; taken = []; rest = bits i.bytes; mcus = (omega arith, no_blocks i.head no_predictions); spelled = refl };
+  next = λ p e. let f : start_of_interval ≡ p = cc in subst (IsNext i 0 []) f (record {
+    run = record { count = 0; few = omega arith; taken = []; mcus = (omega arith, no_blocks i.head no_predictions); spelled = refl; bit = refl; predictions = refl; ends = refl };
+    can = (omega arith, start_in_range);
+  });
+  longest = λ e. let z : Some start_of_interval ≡ None = e in cc;
+  short = λ e. let z : Some start_of_interval ≡ None = e in cc;
+}
+
+said : (Q : Place → Type 0) (o : Option Place) → IfSome o Q → (p : Place) → o ≡ Some p → Q p
+said Q o h p e = subst (λ (x : Option Place). IfSome x Q) e h
+
+unsaid : (Q : Type 0) (o : Option Place) → IfNone o Q → o ≡ None → Q
+unsaid Q o h e = subst (λ (x : Option Place). IfNone x Q) e h
+
+-- the first MCUs of an interval, and those of the run behind them
+module _ (one : OneRun) (meet : RunsMeet) (shorter : ShorterFront) (i : IntervalValue) (lawful : IsLawful i.head) (first : ℕ) (zs : List (List ℤ)) (p : Place) (next : IsNext i first zs p) (n m : ℕ) (ys : List (List ℤ)) (here : FirstMcus (run_from i p m) n ys) (few : first + n ≤ i.mcus) where
   joined : IsRun (run_from i start_of_interval (first + n)) (zs ++ ys) here.to AllRead
-  joined = meet i start_of_interval p here.to first n zs ys AllRead lawful next.run here.run
+  joined = meet i start_of_interval first n (read _ zs p AllRead next.run) (read _ ys here.to AllRead here.run) lawful refl
 
   pub front : Front i (first + n) (zs ++ ys)
   front = front_of i (first + n) (zs ++ ys) here.to joined few
@@ -147,64 +166,23 @@ module _ (one : OneRun) (meet : RunsMeet) (shorter : ShorterFront) (i : Interval
   pub longest : n < m → LongestFront i (first + n) (zs ++ ys)
   longest lt = stuck one shorter i (first + n) (zs ++ ys) here.to lawful joined (here.none lt) few
 
-  pub going : (q : Place) → IsRun (run_from i p n) ys q AllRead → q.bit ≤ 8 * length i.bytes → All (λ x. negsuc 32767 ≤ℤ x) q.predictions → All (λ x. x ≤ℤ pos 32767) q.predictions → IsNext i (first + n) (zs ++ ys) q
-  going q r within low high = record { run = meet i start_of_interval p q first n zs ys AllRead lawful next.run r; within = within; low = low; high = high }
+  pub going : (q : Place) → IsRun (run_from i p n) ys q AllRead → CanReadFrom i q → IsNext i (first + n) (zs ++ ys) q
+  going q r can = record { run = meet i start_of_interval first n (read _ zs p AllRead next.run) (read _ ys q AllRead r) lawful refl; can = can }
 
--- nothing is read at the start
-low_start : All (λ x. negsuc 32767 ≤ℤ x) no_predictions
-low_start zero d lt = omega arith
-low_start (suc zero) d lt = omega arith
-low_start (suc (suc zero)) d lt = omega arith
-low_start (suc (suc (suc k))) d lt = absurd (omega arith)
-
-high_start : All (λ x. x ≤ℤ pos 32767) no_predictions
-high_start zero d lt = omega arith
-high_start (suc zero) d lt = omega arith
-high_start (suc (suc zero)) d lt = omega arith
-high_start (suc (suc (suc k))) d lt = absurd (omega arith)
-
-pub at_start : (i : IntervalValue) → IsReading (record { interval = i; first = 0; next = Some start_of_interval })
-at_start i = record {
-  blocks = [];
-  front = record { at_most = omega arith; taken = []; rest = bits i.bytes; mcus = (omega arith, no_blocks i.head no_predictions); spelled = refl };
-  next = λ p e. let f : start_of_interval ≡ p = cc in subst (IsNext i 0 []) f (record {
-    run = record { count = 0; few = omega arith; taken = []; mcus = (omega arith, no_blocks i.head no_predictions); spelled = refl; bit = refl; predictions = refl; ends = refl };
-    within = omega arith;
-    low = low_start;
-    high = high_start;
-  });
-  longest = λ e. let z : Some start_of_interval ≡ None = e in cc;
-  short = λ e. let z : Some start_of_interval ≡ None = e in cc;
-}
-
-said : (Q : Place → Type 0) (o : Option Place) → IfSome o Q → (p : Place) → o ≡ Some p → Q p
-said Q o h p e = subst (λ (x : Option Place). IfSome x Q) e h
-
-unsaid : (Q : Type 0) (o : Option Place) → IfNone o Q → o ≡ None → Q
-unsaid Q o h e = subst (λ (x : Option Place). IfNone x Q) e h
-
--- what a reader of strips has once it has read the run behind the first MCUs
-module _ (one : OneRun) (meet : RunsMeet) (shorter : ShorterFront) (i : IntervalValue) (lawful : IsLawful i.head) (first : ℕ) (zs : List (List ℤ)) (p : Place) (next : IsNext i first zs p) (n m : ℕ) (ys : List (List ℤ)) (to : (to : Place) × IsRun (run_from i p n) ys to AllRead × (n < m → HasNoMcu i to)) (few : first + n ≤ i.mcus) where
-  here : Part i p n m ys
-  here = record { to = to.0; run = to.1; none = to.2 }
-
-  pub strip : AreBlocks i first n ys
-  strip = blocks one meet shorter i lawful first zs p next n m ys here few
-
-  pub reading : (q : Option Place) → first + m ≤ i.mcus → IfSome q (λ x. IsRun (run_from i p n) ys x AllRead) → IfSome q (λ x. x.bit ≤ 8 * length i.bytes) → IfSome q (λ x. All (λ y. negsuc 32767 ≤ℤ y) x.predictions) → IfSome q (λ x. All (λ y. y ≤ℤ pos 32767) x.predictions) → IfNone q (n < m)
-      → IsReading (record { interval = i; first = first + n; next = q })
-  reading q room r within low high none = record {
+  pub reading : (q : Option Place) → first + m ≤ i.mcus → IfSome q (λ x. IsRun (run_from i p n) ys x AllRead) → IfSome q (CanReadFrom i) → IfNone q (n < m) → IsReading (record { interval = i; first = first + n; next = q })
+  reading q room r can none = record {
     blocks = zs ++ ys;
-    front = front one meet shorter i lawful first zs p next n m ys here few;
-    next = λ x e. going one meet shorter i lawful first zs p next n m ys here few x (said _ q r x e) (said _ q within x e) (said _ q low x e) (said _ q high x e);
-    longest = λ e. longest one meet shorter i lawful first zs p next n m ys here few (unsaid _ q none e);
+    front = front;
+    next = λ x e. going x (said _ q r x e) (said _ q can x e);
+    longest = λ e. longest (unsaid _ q none e);
     short = λ e. let lt : n < m = unsaid _ q none e in omega (arith, lt, room);
   }
 
-  pub ended : (most : ℕ) → Front i first zs → n ≡ 0 → m ≡ min most (i.mcus - first) → 0 < most → (x : List (List ℤ)) × LongestFront i first x
-  ended most f nothing asked some = elim (cases_lt n m) [
-    | inl l ↦ (zs ++ ys, subst (λ (k : ℕ). LongestFront i k (zs ++ ys)) (omega (arith, nothing)) (longest one meet shorter i lawful first zs p next n m ys here few l))
-    | inr g ↦ (zs, whole i first zs f (omega (arith, f.at_most, g, nothing, asked, some)))
+  -- fewer than are asked for are read only where no further one follows
+  pub ended : (most : ℕ) → Front i first zs → m ≡ min most (i.mcus - first) → n < most → HasWholeMcus i (first + n)
+  ended most f asked few_read = elim (cases_lt n m) [
+    | inl l ↦ (zs ++ ys, longest l)
+    | inr g ↦ (zs ++ ys, whole i (first + n) (zs ++ ys) front (omega (arith, f.at_most, few, g, asked, few_read)))
   ]
 
 left_is : (i : IntervalValue) (p : Place) → length (left_at i p) ≡ 8 * length i.bytes - p.bit
@@ -214,7 +192,7 @@ abbrev pub OneFront : Type 0
 OneFront = (i : IntervalValue) (k : ℕ) (zs ys : List (List ℤ)) → Front i k zs → Front i k ys → zs ≡ ys
 
 abbrev pub WholeRun : Type 0
-WholeRun = (i : IntervalValue) (zs : List (List ℤ)) → Decodes i zs ↔ ((to : Place) × IsRun (whole_run i) zs to AllRead × (length (left_at i to) < 8))
+WholeRun = (i : IntervalValue) (zs : List (List ℤ)) → Decodes i zs ↔ IsSoundRun i zs
 
 -- all MCUs are read, and fewer than eight bits are left
 pub is_whole : OneFront → WholeRun → (r : ReadingValue) (p : Place) → IsReading r → r.next ≡ Some p → r.first ≡ r.interval.mcus → 8 * length r.interval.bytes - p.bit < 8 → (zs : List (List ℤ)) → Front r.interval r.first zs → Decodes r.interval zs
@@ -227,10 +205,11 @@ is_whole one law r p k e all few zs f =
 
 -- where they are not, the interval has no decoding
 pub is_damaged : OneRun → WholeRun → (r : ReadingValue) → IsLawful r.interval.head → IsReading r → ((p : Place) → r.next ≡ Some p → r.first ≡ r.interval.mcus → 8 * length r.interval.bytes - p.bit < 8 → ⊥)
-    → (zs : List (List ℤ)) → LongestFront r.interval r.first zs → HasNoDecoding r.interval
-is_damaged one law r lawful k none zs longest ys d =
+    → HasWholeMcus r.interval r.first → HasNoDecoding r.interval
+is_damaged one law r lawful k none all_there ys d =
     let i = r.interval in
     let w = (law i ys).0 d in
+    let longest = all_there.1 in
     let there : i.mcus ≤ r.first = longest.longest i.mcus ys (front_of i i.mcus ys w.0 w.1 (omega arith)) in
     let all : r.first ≡ i.mcus = omega (arith, there, longest.front.at_most) in
     go r.next refl all w.0 w.1 w.2
@@ -239,5 +218,5 @@ is_damaged one law r lawful k none zs longest ys d =
     go None e all to run few = omega (arith, k.short e, all)
     go (Some p) e all to run few =
         let mine : IsRun (whole_run r.interval) k.blocks p AllRead = subst (λ (m : ℕ). IsRun (run_from r.interval start_of_interval m) k.blocks p AllRead) all (k.next p e).run in
-        let same : p ≡ to = (one (whole_run r.interval) k.blocks ys p to AllRead AllRead lawful mine run).1 in
+        let same : p ≡ to = (one (whole_run r.interval) (read _ k.blocks p AllRead mine) (read _ ys to AllRead run) lawful).1 in
         none p e all (omega (arith, left_is r.interval p, ap (λ (x : Place). length (left_at r.interval x)) same, few))

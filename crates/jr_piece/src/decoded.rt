@@ -17,11 +17,11 @@ pub(crate) struct Decoded {
     pub samples: Vec<[u8; 64]>,
 }
 
-/// At most as many data units as the data can code: each takes two bits or more.
-fn most_units(interval: &Interval) -> usize {
-    let coded = interval.bytes().len() * 4;
-    let claimed = interval.mcus() as usize * interval.head().order().len();
-    coded.min(claimed)
+/// At most as many data units of so many MCUs as the bits from one on can code: each takes two bits or more.
+pub(crate) fn most_units(interval: &Interval, from: u64, mcus: u32) -> usize {
+    let bits = (8 * interval.bytes().len() as u64).saturating_sub(from);
+    let claimed = mcus as usize * interval.head().order().len();
+    claimed.min((bits / 2) as usize)
 }
 
 /// Reads the blocks of an interval up to its end, or up to where none follows, and transforms each as it comes.
@@ -34,7 +34,8 @@ fn read_samples(
     ensures ended { IfOk result (λ r. HasEnded r.1) }
 {
     let head = interval.head();
-    let mut samples = Vec::with_capacity(alloc, most_units(interval))?;
+    let most = most_units(interval, 0, interval.mcus());
+    let mut samples = Vec::with_capacity(alloc, most)?;
     let mut reader = BlockReader::over(interval);
     let mut block = [0; 64];
     'units: loop {

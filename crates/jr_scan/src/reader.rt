@@ -186,6 +186,7 @@ impl<'a> BlockReader<'a> {
         ensures within { IfSome result (λ p. p.bit ≤ 8 * length self.now.run.interval.bytes) }
         ensures in_range { IfSome result (λ p. All IsInDcRange p.predictions) }
         ensures none { IfNone result ((self.now.stuck ≡ true) ⊎ (0 < self.now.next_block)) }
+        ensures missing { IfNone result (self.now.mcu < self.now.run.mcus) }
     {
         if self.is_stuck || self.next_block > 0 {
             return None;
