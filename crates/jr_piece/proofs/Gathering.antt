@@ -1,11 +1,20 @@
--- Lists that grow by one, and lists of which one changes.
-use Rattle.std.proofs.Common.{◌≡◌, ℕ, ◌<◌, zero, suc, List, [], ◌∷◌, ◌++◌, length, get_or, slice_set, sym, subst, ◌∙◌, arith}
+-- Strips gathered one after the other.
+use Rattle.std.proofs.Common.{◌≡◌, ℕ, ◌<◌, zero, suc, List, [], ◌∷◌, ◌++◌, length, get_or, sym, subst, arith, map-append}
 use Rattle.std.specs.List.{All}
+use Rattle.std.specs.declared.sync.Arc.{Arc}
+use Rattle.std.specs.declared.alloc.Global.{Global}
+use Rattle.std.specs.Arc.{arc_value}
 use Rattle.std.proofs.lemmas.List.Elements.{All-append}
+use Rattle.jr_scan.specs.IntervalValue.{IntervalValue}
+use Rattle.jr_piece.specs.StripValue.{StripValue}
+use Rattle.jr_piece.specs.Strips.{AreOf, shared_strips}
 
-pub one_more : {X : Type 0} (P : X → Type 0) (xs : List X) (x : X) → All P xs → P x → All P (xs ++ x ∷ [])
-one_more P xs x all one = All-append P xs (x ∷ []) all (λ k d lt. at k d lt)
+-- one more strip of the interval
+pub one_more_of : (i : IntervalValue) (xs : List (Arc StripValue Global)) (x : Arc StripValue Global) → AreOf i (shared_strips xs) → (arc_value x).interval ≡ i → AreOf i (shared_strips (xs ++ x ∷ []))
+one_more_of i xs x all one = subst (All of) (sym (map-append arc_value xs (x ∷ []))) (All-append of (shared_strips xs) (arc_value x ∷ []) all (λ k d lt. at k d lt))
   where
-    at : (k : ℕ) (d : _) → k < length (x ∷ []) → P (get_or (x ∷ []) k d)
+    of : StripValue → Type 0
+    of s = s.interval ≡ i
+    at : (k : ℕ) (d : StripValue) → k < length (arc_value x ∷ []) → of (get_or (arc_value x ∷ []) k d)
     at zero d lt = one
     at (suc k) d lt = absurd (omega arith)

@@ -1,15 +1,13 @@
 -- What several workers know of a long interval that they decode together.
-use Rattle.std.specs.Prelude.{◌≡◌, ℕ, Bool, List, Option, Some, None, ℤ}
+use Rattle.std.specs.Prelude.{◌≡◌, ℕ, Option, Some, None}
 use Rattle.std.specs.Option.{IfSome}
-use Rattle.std.specs.List.{All}
 use Rattle.std.specs.declared.sync.Arc.{Arc}
 use Rattle.std.specs.declared.alloc.Global.{Global}
 use Rattle.std.specs.Arc.{arc_value}
 use Rattle.jr_scan.specs.IntervalValue.{IntervalValue}
 use Rattle.jr_scan.specs.ScanValue.{ScanValue, HasInterval}
-use Rattle.jr_scan.specs.Mcus.{LongestFront}
 use Rattle.jr_piece.specs.StripValue.{StripValue}
-use Rattle.jr_piece.specs.Strips.{TellsSound}
+use Rattle.jr_piece.specs.Strips.{TellsEnd}
 use Rattle.jr_piece.specs.declared.reading.End.{End}
 use Rattle.jr_piece.specs.declared.reading.Next.{Next}
 use Rattle.jr_piece.specs.declared.reading.Next.TheVariants.{Strip, End as Ended}
@@ -19,26 +17,16 @@ abbrev pub IsOneOf : Option ScanValue → IntervalValue → Type 0
 IsOneOf None i = ⊥
 IsOneOf (Some s) i = HasInterval s i
 
--- the interval has so many whole MCUs, and a decoding or none
-pub record EndsAt (i : IntervalValue) (front : ℕ) (is_sound : Bool) : Type 0 where
-  pub blocks : List (List ℤ)
-  pub longest : LongestFront i front blocks
-  pub tells : TellsSound is_sound i
-
--- the strip is one of the interval
-abbrev pub IsStripOf : IntervalValue → Arc StripValue Global → Type 0
-IsStripOf i s = (arc_value s).interval ≡ i
-
 -- a place is empty, or holds a strip of the interval
 abbrev pub IsEmptyOrOf : IntervalValue → Option (Arc StripValue Global) → Type 0
-IsEmptyOrOf i slot = IfSome slot (IsStripOf i)
+IsEmptyOrOf i slot = IfSome slot (λ s. (arc_value s).interval ≡ i)
 
 -- the end of the scan's interval of that number
 pub record IsEndOf (scan : Option ScanValue) (e : End) : Type 0 where
   pub interval : IntervalValue
   pub own : IsOneOf scan interval
   pub number : interval.number ≡ e.number
-  pub ends : EndsAt interval e.front e.is_sound
+  pub ends : TellsEnd interval e.front e.is_sound
 
 -- what follows is of an interval of the scan
 abbrev pub IsNextOf : Option ScanValue → Next → Type 0

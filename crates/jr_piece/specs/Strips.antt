@@ -1,6 +1,9 @@
 -- Strips: whole MCUs of an interval that follow one another, as far as its bits hold them, whatever comes behind.
-use Rattle.std.specs.Prelude.{◌≡◌, ℕ, ◌+◌, ◌*◌, ◌<◌, ◌≤◌, Bool, true, false, List, ◌++◌, length, take, drop, Some, None, ℤ}
+use Rattle.std.specs.Prelude.{◌≡◌, ℕ, ◌+◌, ◌-◌, ◌*◌, ◌<◌, ◌≤◌, min, Bool, true, false, List, [], ◌∷◌, ◌++◌, map, length, take, drop, slice_get, Some, None, ℤ}
 use Rattle.std.specs.List.{All}
+use Rattle.std.specs.declared.sync.Arc.{Arc}
+use Rattle.std.specs.Arc.{arc_value}
+use Rattle.std.specs.declared.alloc.Global.{Global}
 use Rattle.jr_head.specs.Geometry.{order_of}
 use Rattle.jr_scan.specs.declared.place.Place.{Place}
 use Rattle.jr_scan.specs.declared.place.RunEnd.TheVariants.{AllRead}
@@ -86,3 +89,33 @@ pub record IsReading (r : ReadingValue) : Type 0 where
   pub next : (p : Place) → r.next ≡ Some p → IsNext r.interval r.first blocks p
   pub longest : r.next ≡ None → LongestFront r.interval r.first blocks
   pub short : r.next ≡ None → r.first < r.interval.mcus
+
+-- the strips that these Arcs share
+abbrev pub shared_strips : List (Arc StripValue Global) → List StripValue
+shared_strips strips = map arc_value strips
+
+-- all of them are of this interval
+abbrev pub AreOf : IntervalValue → List StripValue → Type 0
+AreOf i strips = All (λ s. s.interval ≡ i) strips
+
+-- how many MCUs each strip has but for the last: as many as the first one
+abbrev pub mcus_of_each : List StripValue → ℕ
+mcus_of_each [] = 1
+mcus_of_each (s ∷ more) = s.mcus
+
+-- strip j, where the MCUs before `front` make strips of so many each, and the last has those that are left
+pub record IsStripAt (each front j : ℕ) (s : StripValue) : Type 0 where
+  pub some : 0 < s.mcus
+  pub first : s.first ≡ j * each
+  pub mcus : s.mcus ≡ min each (front - j * each)
+
+-- these are all of them, in their order
+pub record AreInOrder (front : ℕ) (strips : List StripValue) : Type 0 where
+  pub at : (j : ℕ) (s : StripValue) → slice_get strips j ≡ Some s → IsStripAt (mcus_of_each strips) front j s
+  pub all : front ≤ length strips * mcus_of_each strips
+
+-- so many whole MCUs is the most that the interval's bits begin with, and this tells whether it has a decoding
+pub record TellsEnd (i : IntervalValue) (front : ℕ) (is_sound : Bool) : Type 0 where
+  pub blocks : List (List ℤ)
+  pub longest : LongestFront i front blocks
+  pub sound : TellsSound is_sound i

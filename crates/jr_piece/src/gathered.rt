@@ -4,7 +4,8 @@ ghost use Rattle.std.specs.Prelude.{◌≡◌, IfOk, IfSome};
 ghost use Rattle.std.specs.List.{All};
 ghost use Rattle.std.specs.Arc.{arc_value};
 ghost use Rattle.jr_scan.specs.IntervalValue.{IntervalValue};
-ghost use Rattle.jr_piece.specs.Sharing.{IsOneOf, IsEmptyOrOf, IsEndOf, IsStripOf, EndsAt};
+ghost use Rattle.jr_piece.specs.Sharing.{IsOneOf, IsEmptyOrOf, IsEndOf};
+ghost use Rattle.jr_piece.specs.Strips.{AreOf, TellsEnd, shared_strips};
 
 use crate::one_scan::OneScan;
 use crate::reading::End;
@@ -30,18 +31,19 @@ impl<S: OneScan> Model for Gathered<S> {
     ghost use Rattle.std.specs.List.{All};
     ghost use Rattle.std.specs.Arc.{arc_value};
     ghost use Rattle.jr_scan.specs.IntervalValue.{IntervalValue};
-    ghost use Rattle.jr_piece.specs.Sharing.{IsOneOf, IsEmptyOrOf, EndsAt};
+    ghost use Rattle.jr_piece.specs.Sharing.{IsOneOf, IsEmptyOrOf};
+    ghost use Rattle.jr_piece.specs.Strips.{TellsEnd};
 
     ghost Value = { IntervalValue };
 
     ghost view = { λ g. arc_value g.interval };
 
-    ghost invariant = { λ g. IsOneOf S.scan (arc_value g.interval) × All (IsEmptyOrOf (arc_value g.interval)) g.strips.items × IfSome g.end (λ e. EndsAt (arc_value g.interval) e.front e.is_sound) };
+    ghost invariant = { λ g. IsOneOf S.scan (arc_value g.interval) × All (IsEmptyOrOf (arc_value g.interval)) g.strips.items × IfSome g.end (λ e. TellsEnd (arc_value g.interval) e.front e.is_sound) };
 }
 
 /// The strips of all places; none where a place is empty.
 fn all_of(alloc: Global, places: &[Option<Arc<Strip>>]) -> Option<Vec<Arc<Strip>>>
-    ensures { IfSome result (λ v. (i : IntervalValue) → All (IsEmptyOrOf i) places.now → All (IsStripOf i) v.items) }
+    ensures { IfSome result (λ v. (i : IntervalValue) → All (IsEmptyOrOf i) places.now → AreOf i (shared_strips v.items)) }
 {
     let mut strips = Vec::with_capacity(alloc, places.len()).ok()?;
     for place in places {
@@ -57,7 +59,7 @@ fn put(
     place: usize,
     strip: Arc<Strip>,
 ) -> Result<(), Memory>
-    ensures { (i : IntervalValue) → IsStripOf i strip → All (IsEmptyOrOf i) places.old.items → All (IsEmptyOrOf i) places.new.items }
+    ensures { (i : IntervalValue) → (arc_value strip).interval ≡ i → All (IsEmptyOrOf i) places.old.items → All (IsEmptyOrOf i) places.new.items }
 {
     for _ in places.len()..=place {
         places.push(None)?;
@@ -104,12 +106,12 @@ impl<S: OneScan> Gathered<S> {
         }
     }
 
-    /// All strips and the end, once they are there. They are given once.
-    pub(crate) fn take(&mut self, alloc: Global) -> Option<(Vec<Arc<Strip>>, End)>
+    /// The interval's number, all strips and the end, once they are there. They are given once.
+    pub(crate) fn take(&mut self, alloc: Global) -> Option<(u32, Vec<Arc<Strip>>, End)>
         ensures own { IsOneOf S.scan self.old }
-        ensures strips { IfSome result (λ r. All (IsStripOf self.old) r.0.items) }
-        ensures end { IfSome result (λ r. EndsAt self.old r.1.front r.1.is_sound) }
-        ensures same { self.new ≡ self.old }
+        ensures number { IfSome result (λ r. r.0 ≡ self.old.number) }
+        ensures strips { IfSome result (λ r. AreOf self.old (shared_strips r.1.items)) }
+        ensures end { IfSome result (λ r. TellsEnd self.old r.2.front r.2.is_sound) }
     {
         let end = self.end?;
         if self.kept != end.strips {
@@ -117,6 +119,6 @@ impl<S: OneScan> Gathered<S> {
         }
         self.end = None;
         let strips = all_of(alloc, self.strips.as_slice())?;
-        Some((strips, end))
+        Some((self.interval.number(), strips, end))
     }
 }

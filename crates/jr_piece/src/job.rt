@@ -1,22 +1,22 @@
 //! One long interval, decoded by several workers.
 
-ghost use Rattle.std.specs.Prelude.{◌≡◌, IfOk, IfSome};
-ghost use Rattle.std.specs.List.{All};
-ghost use Rattle.std.specs.Arc.{arc_value};
-ghost use Rattle.jr_piece.specs.Sharing.{IsOneOf, EndsAt};
+ghost use Rattle.std.specs.Prelude.{◌≡◌, Some, IfSome};
+ghost use Rattle.jr_scan.specs.ScanValue.{HasInterval};
+ghost use Rattle.jr_piece.specs.Sharing.{IsOneOf};
 
 use crate::gathered::Gathered;
 use crate::one_scan::OneScan;
 use crate::piece::Piece;
 use crate::reading::{Next, Reading};
 use jr_code::Memory;
-use jr_scan::Interval;
+use jr_scan::{Interval, Scan};
 use std::alloc::Global;
 use std::sync::{Arc, Mutex, Wait};
 
 /// An interval that several workers decode, a strip at a time: one reads the next strip while others decode theirs.
 #[derive(Drop)]
 pub struct Job<S: OneScan> {
+    mcus: u32,
     reading: Mutex<Reading<S>>,
     gathered: Mutex<Gathered<S>>,
 }
@@ -26,9 +26,11 @@ impl<S: OneScan> Job<S> {
     pub fn open(alloc: Global, interval: Interval) -> Result<Job<S>, Memory>
         requires { IsOneOf S.scan interval }
     {
+        let mcus = interval.mcus();
         let interval = Arc::new(alloc, interval)?;
         let same = Arc::try_clone(&interval)?;
         Ok(Job {
+            mcus,
             reading: Mutex::new(Reading::of(same)),
             gathered: Mutex::new(Gathered::of(alloc, interval)),
         })
@@ -48,5 +50,24 @@ impl<S: OneScan> Job<S> {
                 Ok(false)
             }
         }
+    }
+
+    /// Reads and decodes strips, as other workers may do at the same time, until none follows or memory is refused.
+    pub fn work<R: Wait>(&self, rt: &R, alloc: Global) {
+        for _ in 0..=self.mcus {
+            if self.step(rt, alloc) != Ok(true) {
+                return;
+            }
+        }
+    }
+
+    /// The interval's piece, once all strips are decoded; it is given once.
+    pub fn piece<R: Wait>(&self, rt: &R, alloc: Global, scan: &Scan) -> Option<Piece>
+        requires { S.scan ≡ Some scan.now }
+        ensures { IfSome result (λ p. HasInterval scan.now p.interval) }
+    {
+        let (number, strips, end) = self.gathered.lock(rt).take(alloc)?;
+        let interval = scan.interval(number).ok()?;
+        Piece::of_strips(interval, strips, end.front, end.is_sound).ok()
     }
 }

@@ -2,20 +2,22 @@
 //! can be had strip by strip.
 #![tactic(auto)]
 
+mod data_units;
 mod decoded;
 mod gathered;
 mod job;
 mod laws;
 mod one_scan;
+mod order;
 mod piece;
 mod reading;
 mod strip;
 mod strip_reader;
 
-pub use laws::{one_outcome, one_strip, strip_is_final, strips_meet, whole_strip_is_outcome};
 pub use job::Job;
+pub use laws::{one_outcome, one_strip, strip_is_final, strips_meet, whole_strip_is_outcome};
 pub use one_scan::OneScan;
-pub use piece::Piece;
+pub use piece::{NotInOrder, Piece};
 pub use strip::{CodedStrip, Strip};
 pub use strip_reader::StripReader;
 

@@ -1,20 +1,27 @@
 //! The samples of one interval.
 
-ghost use Rattle.std.specs.Prelude.{◌≡◌, ◌↔◌, ◌<◌, ℕ, List, IsTrue, IfOk, IfErr, slice_get};
+ghost use Rattle.std.specs.Prelude.{◌≡◌, ◌↔◌, IsTrue, IsOk, IfOk, IfErr, slice_get};
 ghost use Rattle.std.specs.Option.{option_copied};
 ghost use Rattle.jr_scan.specs.ScanValue.{HasInterval};
 ghost use Rattle.jr_piece.specs.Outcome.{IsOutcome};
+ghost use Rattle.jr_piece.specs.Strips.{AreInOrder, AreOf, TellsEnd, shared_strips};
 
-use crate::decoded::{Decoded, decode};
+use crate::data_units::DataUnits;
+use crate::decoded::decode;
+use crate::order::{are_in_order, mcus_of_each};
+use crate::strip::Strip;
 use jr_scan::{Interval, Scan};
 use std::alloc::Global;
 use std::marker::Model;
+use std::sync::Arc;
 
 /// A decoded interval: it, and the samples of its longest decodable front of whole MCUs.
 #[derive(Drop)]
 pub struct Piece {
     interval: Interval,
-    decoded: Decoded,
+    is_sound: bool,
+    front: u32,
+    samples: DataUnits,
 }
 
 impl Model for Piece {
@@ -22,11 +29,20 @@ impl Model for Piece {
 
     ghost Value = { PieceValue };
 
-    ghost view = { λ p. record { interval = p.interval; is_sound = p.decoded.is_sound; front = p.decoded.front; samples = p.decoded.samples.items } };
+    ghost view = { λ p. record { interval = p.interval; is_sound = p.is_sound; front = p.front; samples = p.samples } };
 
     ghost use Rattle.jr_piece.specs.Outcome.{IsOutcome};
 
-    ghost invariant = { λ p. IsOutcome (record { interval = p.interval; is_sound = p.decoded.is_sound; front = p.decoded.front; samples = p.decoded.samples.items }) };
+    ghost invariant = { λ p. IsOutcome (record { interval = p.interval; is_sound = p.is_sound; front = p.front; samples = p.samples }) };
+}
+
+/// Why strips are not a piece: they are not all strips of their interval in order. They and the interval come back.
+#[derive(Drop)]
+pub struct NotInOrder {
+    /// The interval.
+    pub interval: Interval,
+    /// The strips.
+    pub strips: Vec<Arc<Strip>>,
 }
 
 impl Piece {
@@ -37,16 +53,51 @@ impl Piece {
         ensures err { IfErr result (λ back. back ≡ interval) }
     {
         match decode(alloc, &interval) {
-            Ok(decoded) => Ok(Piece { interval, decoded }),
+            Ok(decoded) => Ok(Piece {
+                interval,
+                is_sound: decoded.is_sound,
+                front: decoded.front,
+                samples: DataUnits::of_list(decoded.samples),
+            }),
             Err(_) => Err(interval),
         }
+    }
+
+    /// The piece of an interval that is decoded as strips. It takes no memory, and copies no sample.
+    ///
+    /// The strips stand in the order of their MCUs; all but the last have equally many, and the last ends at `front`.
+    /// `Err` where they don't.
+    pub fn of_strips(
+        interval: Interval,
+        strips: Vec<Arc<Strip>>,
+        front: u32,
+        is_sound: bool,
+    ) -> Result<Piece, NotInOrder>
+        requires of { AreOf interval (shared_strips strips.items) }
+        requires tells { TellsEnd interval front is_sound }
+        ensures ok { IfOk result (λ p. p.interval ≡ interval) }
+        ensures outcome { IfOk result IsOutcome }
+        ensures order { AreInOrder front (shared_strips strips.items) → IsOk result }
+        ensures interval { IfErr result (λ back. back.interval ≡ interval) }
+        ensures strips { IfErr result (λ back. back.strips ≡ strips) }
+    {
+        if !are_in_order(strips.as_slice(), front) {
+            return Err(NotInOrder { interval, strips });
+        }
+        let each = mcus_of_each(strips.as_slice()) as usize * interval.head().order().len();
+        Ok(Piece {
+            interval,
+            is_sound,
+            front,
+            samples: DataUnits::of_strips(strips, each),
+        })
     }
 
     /// What holds of every piece: it tells what T.81 gives for its interval.
     pub fn be_outcome(&self)
         ensures { IsOutcome self.now }
     {
-        let _ = &self.decoded;
+        let _ = &self.samples;
     }
 
     /// The number of its interval.
@@ -60,28 +111,21 @@ impl Piece {
     pub fn is_sound(&self) -> bool
         ensures { result ≡ self.now.is_sound }
     {
-        self.decoded.is_sound
+        self.is_sound
     }
 
     /// How many whole MCUs it shows.
     pub fn front(&self) -> u32
         ensures { result ≡ self.now.front }
     {
-        self.decoded.front
-    }
-
-    /// The samples of data unit k of the interval, none past the front.
-    pub fn unit(&self, k: usize) -> Option<&[u8; 64]>
-        ensures { option_copied result ≡ slice_get self.now.samples k }
-    {
-        self.decoded.samples.get(k)
+        self.front
     }
 
     /// The samples of data unit k of the interval, `8 row + column`; none past the front.
     pub fn block(&self, k: u32) -> Option<&[u8; 64]>
         ensures { option_copied result ≡ slice_get self.now.samples k }
     {
-        self.unit(k as usize)
+        self.samples.get(k)
     }
 
     /// Whether its interval is this scan's interval of its number.

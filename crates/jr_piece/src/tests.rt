@@ -84,7 +84,6 @@ fn check(rt: &impl Abort, piece: &Piece, is_sound: bool, front: u32, values: &[u
         k = k.wrapping_add(1);
     }
     assert!(rt; piece.block(k).is_none());
-    assert!(rt; piece.unit(k as usize).is_none());
 }
 
 #[test]

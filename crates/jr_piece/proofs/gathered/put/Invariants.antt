@@ -1,7 +1,7 @@
 use Rattle.std.proofs.Common.{◌≡◌, ◌≤◌, ◌<◌, length}
 use Rattle.std.specs.List.{All}
 use Rattle.jr_scan.specs.IntervalValue.{IntervalValue}
-use Rattle.jr_piece.specs.Sharing.{IsEmptyOrOf, IsStripOf}
+use Rattle.jr_piece.specs.Sharing.{IsEmptyOrOf}
 use Rattle.jr_piece.proofs.gathered.put.Given as goal
 
 abbrev pub invariant-loop : goal.invariant-loop

@@ -1,0 +1,37 @@
+//! Whether strips are all of an interval, in order.
+
+ghost use Rattle.std.specs.Prelude.{◌≡◌, ◌↔◌, IsTrue};
+ghost use Rattle.std.specs.List.{All};
+ghost use Rattle.jr_piece.specs.Strips.{AreInOrder, IsStrip, mcus_of_each, shared_strips};
+
+use crate::strip::Strip;
+use std::sync::Arc;
+
+/// How many MCUs the first strip has, 1 where there is none.
+pub(crate) fn mcus_of_each(strips: &[Arc<Strip>]) -> u32
+    ensures { result ≡ mcus_of_each (shared_strips strips.now) }
+{
+    match strips.first() {
+        None => 1,
+        Some(strip) => strip.mcus(),
+    }
+}
+
+/// Whether strips follow one another from MCU 0 to MCU `front`, all but the last of equally many MCUs.
+pub(crate) fn are_in_order(strips: &[Arc<Strip>], front: u32) -> bool
+    ensures order { IsTrue result ↔ AreInOrder front (shared_strips strips.now) }
+    ensures strips { IsTrue result → All IsStrip (shared_strips strips.now) }
+{
+    let each = mcus_of_each(strips);
+    let mut end = 0;
+    'strips: for k in 0..strips.len() {
+        let strip = &strips[k];
+        strip.be_strip();
+        let left = each.min(front - end);
+        if strip.mcus() == 0 || strip.first() != end || strip.mcus() != left {
+            return false;
+        }
+        end += left;
+    }
+    end == front
+}
