@@ -113,6 +113,13 @@ pub struct Drawn {
 }
 
 impl Seat {
+    /// Its place among the seats of its desk, from 0 on.
+    pub fn place(&self) -> u32
+        ensures { result ≡ self.now.place }
+    {
+        self.place
+    }
+
     /// How many numbers it drew.
     pub fn drawn(&self) -> u32
         ensures { result ≡ length self.now.drawn }

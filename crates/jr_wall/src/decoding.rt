@@ -1,6 +1,6 @@
 //! One decoding by several workers: what they share, and what is left to do when they have ended.
 
-ghost use Rattle.std.specs.Prelude.{◌≡◌, ◌≤◌, length, All, IfOk};
+ghost use Rattle.std.specs.Prelude.{◌≡◌, ◌≤◌, length, All, Some, IfOk, IfSome};
 ghost use Rattle.std.specs.Arc.{arc_value};
 ghost use Rattle.std.specs.Fn.{FnOnceReturnsAt};
 ghost use Rattle.jr_base.specs.declared.limits.TheConstants.{MAX_WORKERS};
@@ -8,14 +8,16 @@ ghost use Rattle.jr_wall.specs.Decoded.{IsDecoded, least};
 
 use crate::board::Board;
 use crate::gate::Gate;
+use crate::jobs::Jobs;
 use crate::sweeping::{sweep, usable};
-use crate::workers::work;
-use jr_cells::Cells;
+use crate::workers::{hang, make_piece};
+use jr_cells::{Cells, Sight};
 use jr_code::Memory;
 use jr_desk::{Desk, Seat};
+use jr_piece::{Job, OneScan, Piece};
 use jr_scan::Scan;
 use std::alloc::Global;
-use std::marker::Model;
+use std::marker::{Brand, Model};
 use std::sync::{Arc, Mutex, Wait};
 use std::thread;
 use std::thread::Threads;
@@ -102,6 +104,8 @@ impl Decoding {
 
     /// Starts a worker at each seat, calls `beside` in the calling thread meanwhile, and returns what that gave, once all
     /// workers have ended. A worker that can't be started is left out: `finish` decodes what no worker did.
+    ///
+    /// Long intervals are shared by all workers, a strip at a time.
     pub fn run<R: Threads + Wait + Sync, G: Gate + Sync, T, F: FnOnce(&Decoding) -> T>(
         &self,
         rt: &R,
@@ -113,18 +117,35 @@ impl Decoding {
         requires beside { F.IsAlwaysCallable beside }
         ensures { FnOnceReturnsAt F.FnOnce beside self.now result }
     {
+        run_as::<R, G, T, F, Brand>(self, rt, seats, gate, beside)
+    }
+
+    /// `run`, with the jobs that the workers share.
+    fn run_with<R: Threads + Wait + Sync, G: Gate + Sync, T, F: FnOnce(&Decoding) -> T, S: OneScan + Send>(
+        &self,
+        rt: &R,
+        seats: Vec<Seat>,
+        gate: &G,
+        jobs: &Jobs<S>,
+        beside: F,
+    ) -> T
+        requires scan { S.scan ≡ Some self.now.scan }
+        requires seats { All (λ s. s.desk ≡ self.now.desk) seats.items }
+        requires beside { F.IsAlwaysCallable beside }
+        ensures { FnOnceReturnsAt F.FnOnce beside self.now result }
+    {
         thread::scope(
             thread::scope_env(),
             rt,
             |scope| -> T
-                requires { F.IsAlwaysCallable beside × All (λ s. s.desk ≡ self.now.desk) seats.items }
+                requires { F.IsAlwaysCallable beside × All (λ s. s.desk ≡ self.now.desk) seats.items × (S.scan ≡ Some self.now.scan) }
                 ensures { FnOnceReturnsAt F.FnOnce beside self.entry.now result }
             {
                 for mut seat in seats {
                     let _ = scope.spawn(
                         move ||
-                            requires { seat.desk ≡ self.now.desk }
-                        { self.work(rt, &mut seat, gate) },
+                            requires { (seat.desk ≡ self.now.desk) × (S.scan ≡ Some self.now.scan) }
+                        { self.work(rt, &mut seat, gate, jobs) },
                     );
                 }
                 beside(self)
@@ -132,20 +153,71 @@ impl Decoding {
         )
     }
 
-    /// Works at a seat of its desk until that has ended.
-    fn work<R: Wait, G: Gate>(&self, rt: &R, seat: &mut Seat, gate: &G)
-        requires { seat.old.desk ≡ self.now.desk }
+    /// Works at a seat of its desk until that has ended, and then helps with the long intervals.
+    fn work<R: Wait, G: Gate, S: OneScan>(&self, rt: &R, seat: &mut Seat, gate: &G, jobs: &Jobs<S>)
+        requires scan { S.scan ≡ Some self.now.scan }
+        requires desk { seat.old.desk ≡ self.now.desk }
     {
-        work(
-            rt,
-            self.alloc,
-            &self.scan,
-            &self.desk,
-            seat,
-            &self.board,
-            &self.cells,
-            gate,
-        );
+        let mut sight = self.cells.sight().ok();
+        while let Some(number) = self.desk.claim(seat) {
+            gate.pass(number);
+            let piece = match jobs.open(rt, &self.scan, number) {
+                Some(job) => self.share(rt, gate, &job),
+                None => make_piece(self.alloc, &self.scan, number, gate),
+            };
+            if let Some(piece) = piece {
+                self.post(rt, piece, &mut sight);
+            }
+        }
+        self.help(rt, seat.place(), gate, jobs, &mut sight);
+    }
+
+    /// Works on every open job, beginning with another one at each seat.
+    fn help<R: Wait, G: Gate, S: OneScan>(
+        &self,
+        rt: &R,
+        place: u32,
+        gate: &G,
+        jobs: &Jobs<S>,
+        sight: &mut Option<Sight>,
+    )
+        requires scan { S.scan ≡ Some self.now.scan }
+        requires sight { IfSome sight.old (λ s. s.cells ≡ self.now.cells) }
+    {
+        let count = jobs.count(rt);
+        for k in 0..count {
+            let Some(job) = jobs.get(rt, (k + place as usize) % count) else {
+                return;
+            };
+            if let Some(piece) = self.share(rt, gate, &job) {
+                self.post(rt, piece, sight);
+            }
+        }
+    }
+
+    /// Works on a job until nothing of it is left to read. The worker that decodes its last strip gets the piece, which
+    /// the gate has seen.
+    fn share<R: Wait, G: Gate, S: OneScan>(
+        &self,
+        rt: &R,
+        gate: &G,
+        job: &Job<S>,
+    ) -> Option<Arc<Piece>>
+        requires { S.scan ≡ Some self.now.scan }
+    {
+        job.work(rt, self.alloc);
+        let piece = job.piece(rt, self.alloc, &self.scan)?;
+        gate.made(&piece);
+        Arc::new(self.alloc, piece).ok()
+    }
+
+    /// Hangs a piece into its cell, and posts it under the lock.
+    fn post<R: Wait>(&self, rt: &R, piece: Arc<Piece>, sight: &mut Option<Sight>)
+        requires { IfSome sight.old (λ s. s.cells ≡ self.now.cells) }
+        ensures { IfSome sight.new (λ s. s.cells ≡ self.now.cells) }
+    {
+        hang(&self.cells, &piece, sight);
+        let _ = self.board.lock(rt).post(piece);
     }
 
     /// The board, after what is still blank of the first intervals has been decoded. `Err` where memory is refused.
@@ -163,4 +235,21 @@ impl Decoding {
         let board = usable(alloc, board.into_inner(), &scan, n)?;
         sweep(alloc, &scan, board, n)
     }
+}
+
+/// `run`, where a type stands for the scan, so that what the workers share under locks is known to be of it.
+fn run_as<R: Threads + Wait + Sync, G: Gate + Sync, T, F: FnOnce(&Decoding) -> T, S: OneScan + Send>(
+    decoding: &Decoding,
+    rt: &R,
+    seats: Vec<Seat>,
+    gate: &G,
+    beside: F,
+) -> T
+    requires scan { S.scan ≡ Some decoding.now.scan }
+    requires seats { All (λ s. s.desk ≡ decoding.now.desk) seats.items }
+    requires beside { F.IsAlwaysCallable beside }
+    ensures { FnOnceReturnsAt F.FnOnce beside decoding.now result }
+{
+    let jobs: Jobs<S> = Jobs::of(decoding.alloc, seats.len());
+    decoding.run_with(rt, seats, gate, &jobs, beside)
 }

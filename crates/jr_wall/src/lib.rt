@@ -9,6 +9,7 @@ mod decoding;
 mod gate;
 mod glimpse;
 mod headline;
+mod jobs;
 mod laws;
 mod mark;
 mod painting;

@@ -42,16 +42,15 @@ pub fn work<R: Wait, G: Gate>(
     while let Some(number) = desk.claim(seat) {
         gate.pass(number);
         if let Some(piece) = make_piece(alloc, scan, number, gate) {
-            hang(cells, number, &piece, &mut sight);
+            hang(cells, &piece, &mut sight);
             let _ = board.lock(rt).post(piece);
         }
     }
 }
 
 /// The piece of an interval, which the gate has seen; none for want of memory.
-fn make_piece<G: Gate>(alloc: Global, scan: &Scan, number: u32, gate: &G) -> Option<Arc<Piece>>
+pub(crate) fn make_piece<G: Gate>(alloc: Global, scan: &Scan, number: u32, gate: &G) -> Option<Arc<Piece>>
     requires { number < length scan.now.intervals }
-    ensures { IfSome result (λ piece. (arc_value piece).interval.number ≡ number) }
 {
     let interval = scan.interval(number).ok()?;
     let piece = Piece::make(alloc, interval).ok()?;
@@ -59,17 +58,18 @@ fn make_piece<G: Gate>(alloc: Global, scan: &Scan, number: u32, gate: &G) -> Opt
     Arc::new(alloc, piece).ok()
 }
 
-/// Hangs a piece into the cell of its number, where there is a sight to do it by.
-fn hang(cells: &Cells, number: u32, piece: &Arc<Piece>, sight: &mut Option<Sight>)
-    requires cell { number < length cells.now }
-    requires number { (arc_value piece.now).interval.number ≡ number }
-    requires sight { IfSome sight.old (λ s. s.cells ≡ cells.now) }
+/// Hangs a piece into the cell of its number, where there are a cell and a sight to do it by.
+pub(crate) fn hang(cells: &Cells, piece: &Arc<Piece>, sight: &mut Option<Sight>)
+    requires { IfSome sight.old (λ s. s.cells ≡ cells.now) }
     ensures { IfSome sight.new (λ s. s.cells ≡ cells.now) }
 {
+    let number = piece.number();
     let Some(sight) = sight else {
         return;
     };
-    if let Ok(piece) = Arc::try_clone(piece) {
+    if number < cells.count()
+        && let Ok(piece) = Arc::try_clone(piece)
+    {
         let _ = cells.hang(number, piece, sight);
     }
 }
