@@ -1,6 +1,6 @@
 -- Runs of an interval that follow one another, and the fronts that they are.
 use Rattle.std.proofs.Common.{◌≡◌, ℕ, zero, suc, ◌+◌, ◌-◌, ◌*◌, ◌<◌, ◌≤◌, min, inl, inr, Option, Some, None, List, [], ◌∷◌, ◌++◌, length, get_or, take, drop, length-drop, refl, sym, ap, subst, ◌∙◌, arith}
-use Rattle.std.specs.Prelude.{◌↔◌, ℤ, pos, negsuc, ◌≤ℤ◌}
+use Rattle.std.specs.Prelude.{◌↔◌, ℤ}
 use Rattle.std.specs.Option.{IfSome, IfNone}
 use Rattle.std.specs.List.{All}
 use Rattle.std.proofs.lemmas.Bool.{cases_lt}
@@ -21,7 +21,7 @@ use Rattle.jr_scan.specs.Reader.{RunOf, ReaderValue, start_of_interval, whole_ru
 use Rattle.jr_scan.specs.Run.{run_from, left_at, predicted, HasNoMcu, EndsAs, IsRun, RunRead, IsSoundRun}
 use Rattle.jr_scan.proofs.McuLaws.{no_blocks}
 use Rattle.jr_piece.specs.StripValue.{ReadingValue}
-use Rattle.jr_piece.specs.Strips.{AreBlocks, CanReadFrom, FirstMcus, IsNext, IsReading}
+use Rattle.jr_piece.specs.Strips.{AreBlocks, CanReadFrom, FirstMcus, HasWholeMcus, IsNext, IsReading}
 use Rattle.jr_piece.proofs.Strips.{ShorterFront}
 
 pub in_range_more : (zs : List (List ℤ)) (z : List ℤ) → All IsInRange zs → IsInRange z → All IsInRange (zs ++ z ∷ [])
@@ -102,7 +102,7 @@ OneRun = (r : RunOf) (a b : RunRead r) → IsLawful r.interval.head → (a.block
 abbrev pub RunsMeet : Type 0
 RunsMeet = (i : IntervalValue) (p : Place) (k m : ℕ) (a : RunRead (run_from i p k)) (b : RunRead (run_from i a.to m)) → IsLawful i.head → a.end ≡ AllRead → IsRun (run_from i p (k + m)) (a.blocks ++ b.blocks) b.to b.end
 
-read : (r : RunOf) (zs : List (List ℤ)) (to : Place) (end : RunEnd) → IsRun r zs to end → RunRead r
+abbrev read : (r : RunOf) (zs : List (List ℤ)) (to : Place) (end : RunEnd) → IsRun r zs to end → RunRead r
 read r zs to end is = record { blocks = zs; to = to; end = end; is = is }
 
 -- where no whole MCU follows, the front is the longest
@@ -124,25 +124,6 @@ stuck one shorter i k zs to lawful r none few = record { front = front_of i k zs
 -- all MCUs are the longest front
 whole : (i : IntervalValue) (k : ℕ) (zs : List (List ℤ)) → Front i k zs → k ≡ i.mcus → LongestFront i k zs
 whole i k zs f e = record { front = f; longest = λ j ys g. omega (arith, g.at_most, e) }
-
--- the strip behind the first MCUs
-module _ (one : OneRun) (meet : RunsMeet) (shorter : ShorterFront) (i : IntervalValue) (lawful : IsLawful i.head) (first : ℕ) (zs : List (List ℤ)) (p : Place) (next : IsNext i first zs p) (n m : ℕ) (ys : List (List ℤ)) (here : FirstMcus (run_from i p m) n ys) (few : first + n ≤ i.mcus) where
-  joined : IsRun (run_from i start_of_interval (first + n)) (zs ++ ys) here.to AllRead
-  joined = meet i start_of_interval first n (read _ zs p AllRead next.run) (read _ ys here.to AllRead here.run) lawful refl
-
-  pub front : Front i (first + n) (zs ++ ys)
-  front = front_of i (first + n) (zs ++ ys) here.to joined few
-
-  pub blocks : AreBlocks i first n ys
-  blocks =
-      let long : length zs ≡ first * length (order_of i.head) = next.run.mcus.0 ∙ ap (λ (k : ℕ). k * length (order_of i.head)) next.run.ends in
-      record { all = zs ++ ys; front = front; last = sym (ap (λ (k : ℕ). drop k (zs ++ ys)) (sym long) ∙ drop-append_seam zs ys) }
-
-  pub longest : n < m → LongestFront i (first + n) (zs ++ ys)
-  longest lt = stuck one shorter i (first + n) (zs ++ ys) here.to lawful joined (here.none lt) few
-
-  pub going : (q : Place) → IsRun (run_from i p n) ys q AllRead → CanReadFrom i q → IsNext i (first + n) (zs ++ ys) q
-  going q r can = record { run = meet i start_of_interval first n (read _ zs p AllRead next.run) (read _ ys q AllRead r) lawful refl; can = can }
 
 -- nothing is read at the start
 start_in_range : All IsInDcRange no_predictions
@@ -169,24 +150,39 @@ said Q o h p e = subst (λ (x : Option Place). IfSome x Q) e h
 unsaid : (Q : Type 0) (o : Option Place) → IfNone o Q → o ≡ None → Q
 unsaid Q o h e = subst (λ (x : Option Place). IfNone x Q) e h
 
--- what a reader of strips has once it has read the run behind the first MCUs
+-- the first MCUs of an interval, and those of the run behind them
 module _ (one : OneRun) (meet : RunsMeet) (shorter : ShorterFront) (i : IntervalValue) (lawful : IsLawful i.head) (first : ℕ) (zs : List (List ℤ)) (p : Place) (next : IsNext i first zs p) (n m : ℕ) (ys : List (List ℤ)) (here : FirstMcus (run_from i p m) n ys) (few : first + n ≤ i.mcus) where
-  pub strip : AreBlocks i first n ys
-  strip = blocks one meet shorter i lawful first zs p next n m ys here few
+  joined : IsRun (run_from i start_of_interval (first + n)) (zs ++ ys) here.to AllRead
+  joined = meet i start_of_interval first n (read _ zs p AllRead next.run) (read _ ys here.to AllRead here.run) lawful refl
+
+  pub front : Front i (first + n) (zs ++ ys)
+  front = front_of i (first + n) (zs ++ ys) here.to joined few
+
+  pub blocks : AreBlocks i first n ys
+  blocks =
+      let long : length zs ≡ first * length (order_of i.head) = next.run.mcus.0 ∙ ap (λ (k : ℕ). k * length (order_of i.head)) next.run.ends in
+      record { all = zs ++ ys; front = front; last = sym (ap (λ (k : ℕ). drop k (zs ++ ys)) (sym long) ∙ drop-append_seam zs ys) }
+
+  pub longest : n < m → LongestFront i (first + n) (zs ++ ys)
+  longest lt = stuck one shorter i (first + n) (zs ++ ys) here.to lawful joined (here.none lt) few
+
+  pub going : (q : Place) → IsRun (run_from i p n) ys q AllRead → CanReadFrom i q → IsNext i (first + n) (zs ++ ys) q
+  going q r can = record { run = meet i start_of_interval first n (read _ zs p AllRead next.run) (read _ ys q AllRead r) lawful refl; can = can }
 
   pub reading : (q : Option Place) → first + m ≤ i.mcus → IfSome q (λ x. IsRun (run_from i p n) ys x AllRead) → IfSome q (CanReadFrom i) → IfNone q (n < m) → IsReading (record { interval = i; first = first + n; next = q })
   reading q room r can none = record {
     blocks = zs ++ ys;
-    front = front one meet shorter i lawful first zs p next n m ys here few;
-    next = λ x e. going one meet shorter i lawful first zs p next n m ys here few x (said _ q r x e) (said _ q can x e);
-    longest = λ e. longest one meet shorter i lawful first zs p next n m ys here few (unsaid _ q none e);
+    front = front;
+    next = λ x e. going x (said _ q r x e) (said _ q can x e);
+    longest = λ e. longest (unsaid _ q none e);
     short = λ e. let lt : n < m = unsaid _ q none e in omega (arith, lt, room);
   }
 
-  pub ended : (most : ℕ) → Front i first zs → n ≡ 0 → m ≡ min most (i.mcus - first) → 0 < most → (x : List (List ℤ)) × LongestFront i first x
-  ended most f nothing asked some = elim (cases_lt n m) [
-    | inl l ↦ (zs ++ ys, subst (λ (k : ℕ). LongestFront i k (zs ++ ys)) (omega (arith, nothing)) (longest one meet shorter i lawful first zs p next n m ys here few l))
-    | inr g ↦ (zs, whole i first zs f (omega (arith, f.at_most, g, nothing, asked, some)))
+  -- fewer than are asked for are read only where no further one follows
+  pub ended : (most : ℕ) → Front i first zs → m ≡ min most (i.mcus - first) → n < most → HasWholeMcus i (first + n)
+  ended most f asked few_read = elim (cases_lt n m) [
+    | inl l ↦ (zs ++ ys, longest l)
+    | inr g ↦ (zs ++ ys, whole i (first + n) (zs ++ ys) front (omega (arith, f.at_most, few, g, asked, few_read)))
   ]
 
 left_is : (i : IntervalValue) (p : Place) → length (left_at i p) ≡ 8 * length i.bytes - p.bit
@@ -209,10 +205,11 @@ is_whole one law r p k e all few zs f =
 
 -- where they are not, the interval has no decoding
 pub is_damaged : OneRun → WholeRun → (r : ReadingValue) → IsLawful r.interval.head → IsReading r → ((p : Place) → r.next ≡ Some p → r.first ≡ r.interval.mcus → 8 * length r.interval.bytes - p.bit < 8 → ⊥)
-    → (zs : List (List ℤ)) → LongestFront r.interval r.first zs → HasNoDecoding r.interval
-is_damaged one law r lawful k none zs longest ys d =
+    → HasWholeMcus r.interval r.first → HasNoDecoding r.interval
+is_damaged one law r lawful k none all_there ys d =
     let i = r.interval in
     let w = (law i ys).0 d in
+    let longest = all_there.1 in
     let there : i.mcus ≤ r.first = longest.longest i.mcus ys (front_of i i.mcus ys w.0 w.1 (omega arith)) in
     let all : r.first ≡ i.mcus = omega (arith, there, longest.front.at_most) in
     go r.next refl all w.0 w.1 w.2

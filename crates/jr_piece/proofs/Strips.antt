@@ -12,7 +12,7 @@ use Rattle.jr_idct.specs.Transform.{samples}
 use Rattle.jr_piece.specs.PieceValue.{PieceValue}
 use Rattle.jr_piece.specs.Outcome.{AreSamples, IsOutcome, unit_of}
 use Rattle.jr_piece.specs.StripValue.{StripValue}
-use Rattle.jr_piece.specs.Strips.{AreBlocks, IsStrip}
+use Rattle.jr_piece.specs.Strips.{AreBlocks, Follows, IsStrip, IsWhole, ShowsStrip, TellsSound, joined, piece_of}
 use Rattle.jr_piece.proofs.Outcomes.{first_samples, more_samples, same_samples, OneFront}
 
 abbrev pub ShorterFront : Type 0
@@ -56,8 +56,7 @@ fronted p o = go p.is_sound refl
         record { blocks = s.blocks; longest = subst (λ (k : ℕ). LongestFront p.interval k s.blocks) (sym (o.whole e)) (whole_longest p.interval s.blocks s.decodes); samples = s.samples }
     go false e = let d = o.damaged e in record { blocks = d.blocks; longest = d.longest; samples = d.samples }
 
-pub final : OneFront → ShorterFront → (p : PieceValue) (s : StripValue) → p.interval ≡ s.interval → IsOutcome p → IsStrip s
-    → (s.first + s.mcus ≤ p.front) × (s.samples ≡ drop (s.first * length (order_of s.interval.head)) (take ((s.first + s.mcus) * length (order_of s.interval.head)) p.samples))
+pub final : OneFront → ShorterFront → (p : PieceValue) (s : StripValue) → p.interval ≡ s.interval → IsOutcome p → IsStrip s → ShowsStrip p s
 final one shorter p s e o t =
     let i = s.interval in
     let per = length (order_of i.head) in
@@ -69,7 +68,7 @@ final one shorter p s e o t =
     let front : AreSamples i.head all (take (j * per) p.samples) = subst (λ (zs : List (List ℤ)). AreSamples i.head zs (take (j * per) p.samples)) same (first_samples i.head f.blocks p.samples (j * per) f.samples) in
     let last = later_samples i.head all (take (j * per) p.samples) s.first front in
     let there : AreSamples i.head (drop (s.first * per) all) s.samples = subst (λ (zs : List (List ℤ)). AreSamples i.head zs s.samples) t.are.last t.samples in
-    (few, same_samples i.head (drop (s.first * per) all) s.samples (drop (s.first * per) (take (j * per) p.samples)) there last)
+    record { few = few; samples = same_samples i.head (drop (s.first * per) all) s.samples (drop (s.first * per) (take (j * per) p.samples)) there last }
 
 -- the samples of one more of the blocks
 pub next_samples : (h : HeadValue) (zs : List (List ℤ)) (units all : List (List ℕ)) (k c : ℕ) (u q : List ℕ) → k < length zs → AreSamples h (take k zs) units → all ≡ units ++ u ∷ [] → u ≡ samples (get_or zs k []) q → q ≡ quantiser_of h c → c ≡ component h k
@@ -98,9 +97,33 @@ appended h xs ys us vs k whole a b =
         let z : get_or (xs ++ ys) n [] ≡ get_or ys m [] = get_or-append_right xs ys (length xs) n [] refl (omega (arith, e)) ∙ ap (λ (j : ℕ). get_or ys j []) (omega (arith, e)) in
         u ∙ b.each m lt ∙ ap (λ (j : ℕ). samples (get_or ys m []) (quantiser_of h j)) (sym c) ∙ ap (λ (x : List ℤ). samples x (quantiser_of h (component h n))) (sym z)
 
+abbrev strip : IntervalValue → ℕ → ℕ → List (List ℕ) → StripValue
+strip i k n us = record { interval = i; first = k; mcus = n; samples = us }
+
+-- strips of the same MCUs have the same samples
+module _ (one : OneFront) (i : IntervalValue) (first mcus : ℕ) where
+  same_blocks : (ys zs : List (List ℤ)) → AreBlocks i first mcus ys → AreBlocks i first mcus zs → ys ≡ zs
+  same_blocks ys zs a b = a.last ∙ ap (λ (l : List (List ℤ)). drop (first * length (order_of i.head)) l) (one i (first + mcus) a.all b.all a.front b.front) ∙ sym b.last
+
+  same_strips : (us vs : List (List ℕ)) → IsStrip (strip i first mcus us) → IsStrip (strip i first mcus vs) → us ≡ vs
+  same_strips us vs s t =
+      let there : AreSamples i.head s.blocks vs = subst (λ (zs : List (List ℤ)). AreSamples i.head zs vs) (same_blocks t.blocks s.blocks t.are s.are) t.samples in
+      same_samples i.head s.blocks us vs s.samples there
+
+same_value : (i j : IntervalValue) (k l m n : ℕ) (us vs : List (List ℕ)) → i ≡ j → k ≡ l → m ≡ n → us ≡ vs → strip i k m us ≡ strip j l n vs
+same_value i j k l m n us vs e f g h = rw (e, f, g, h) refl
+
+pub one_strip : OneFront → (a b : StripValue) → a.interval ≡ b.interval → a.first ≡ b.first → a.mcus ≡ b.mcus → IsStrip a → IsStrip b → a ≡ b
+one_strip one a b e f g s t =
+    let moved : strip b.interval b.first b.mcus a.samples ≡ a = same_value b.interval a.interval b.first a.first b.mcus a.mcus a.samples a.samples (sym e) (sym f) (sym g) refl in
+    let same = same_strips one b.interval b.first b.mcus a.samples b.samples (subst IsStrip (sym moved) s) t in
+    same_value a.interval b.interval a.first b.first a.mcus b.mcus a.samples b.samples e f g same
+
 -- strips that follow one another are one
-pub meet : OneFront → ShorterFront → (a b : StripValue) → a.interval ≡ b.interval → b.first ≡ a.first + a.mcus → IsStrip a → IsStrip b → IsStrip (record { interval = b.interval; first = a.first; mcus = a.mcus + b.mcus; samples = a.samples ++ b.samples })
-meet one shorter a b e follows s t =
+pub meet : OneFront → ShorterFront → (a b : StripValue) → Follows a b → IsStrip a → IsStrip b → IsStrip (joined a b)
+meet one shorter a b next s t =
+    let e = next.0 in
+    let follows = next.1 in
     let i = b.interval in
     let per = length (order_of i.head) in
     let xs = s.blocks in
@@ -117,26 +140,40 @@ meet one shorter a b e follows s t =
     let first : xs ≡ drop p (take q all) = are.last ∙ ap (λ (zs : List (List ℤ)). drop p zs) (sym same) in
     let rest : ys ≡ drop q all = t.are.last ∙ ap (λ (k : ℕ). drop (k * per) all) follows in
     let count : length xs ≡ a.mcus * per = ap (λ (l : List (List ℤ)). length l) first ∙ length-drop p (take q all) ∙ omega (arith, long, sum) in
-    let joined : xs ++ ys ≡ drop p all = ap (λ (l : List (List ℤ)). l ++ ys) first ∙ ap (λ (l : List (List ℤ)). drop p (take q all) ++ l) rest ∙ sym (drop-append-le p (take q all) (drop q all) (omega (arith, long, sum))) ∙ ap (λ (l : List (List ℤ)). drop p l) (take-append-drop q all) in
-    record {
+    let both : xs ++ ys ≡ drop p all = ap (λ (l : List (List ℤ)). l ++ ys) first ∙ ap (λ (l : List (List ℤ)). drop p (take q all) ++ l) rest ∙ sym (drop-append-le p (take q all) (drop q all) (omega (arith, long, sum))) ∙ ap (λ (l : List (List ℤ)). drop p l) (take-append-drop q all) in
+    subst (λ (v : IntervalValue). IsStrip (strip v a.first (a.mcus + b.mcus) (a.samples ++ b.samples))) (sym e) (record {
       blocks = xs ++ ys;
-      are = record { all = all; front = subst (λ (k : ℕ). Front i k all) (omega (arith, follows)) t.are.front; last = joined };
+      are = record { all = all; front = subst (λ (k : ℕ). Front i k all) (omega (arith, follows)) t.are.front; last = both };
       samples = appended i.head xs ys a.samples b.samples a.mcus count shows t.samples;
-    }
+    })
 
 -- a strip of all MCUs that there are tells the outcome
-pub all_there : OneFront → (s : StripValue) (zs : List (List ℤ)) (t : Bool) → s.first ≡ 0 → IsStrip s → LongestFront s.interval s.mcus zs → (t ≡ true → Decodes s.interval zs) → (t ≡ false → HasNoDecoding s.interval)
-    → IsOutcome (record { interval = s.interval; is_sound = t; front = s.mcus; samples = s.samples })
-all_there one s zs t start is longest sound none =
+pub all_there : OneFront → (s : StripValue) (t : Bool) → IsStrip s → IsWhole s → TellsSound t s.interval → IsOutcome (piece_of t s)
+all_there one s t is whole told =
     let i = s.interval in
     let per = length (order_of i.head) in
-    let front : Front i s.mcus is.are.all = subst (λ (k : ℕ). Front i k is.are.all) (omega (arith, start)) is.are.front in
+    let zs = whole.1.0 in
+    let longest = whole.1.1 in
+    let front : Front i s.mcus is.are.all = subst (λ (k : ℕ). Front i k is.are.all) (omega (arith, whole.0)) is.are.front in
     let same : is.are.all ≡ zs = one i s.mcus is.are.all zs front longest.front in
-    let none_before : s.first * per ≡ 0 = ap (λ (k : ℕ). k * per) start ∙ omega arith in
+    let none_before : s.first * per ≡ 0 = ap (λ (k : ℕ). k * per) whole.0 ∙ omega arith in
     let blocks : is.blocks ≡ zs = is.are.last ∙ ap (λ (k : ℕ). drop k is.are.all) none_before ∙ same in
     let shows : AreSamples i.head zs s.samples = subst (λ (l : List (List ℤ)). AreSamples i.head l s.samples) blocks is.samples in
-    record {
-      sound = λ e. record { blocks = zs; decodes = sound e; samples = shows };
-      whole = λ e. let d = sound e in omega (arith, longest.longest i.mcus zs (whole_longest i zs d).front, longest.front.at_most);
-      damaged = λ e. record { undecodable = none e; blocks = zs; longest = longest; samples = shows };
-    }
+    go t told zs longest shows
+  where
+    go : (t : Bool) → TellsSound t s.interval → (zs : List (List ℤ)) → LongestFront s.interval s.mcus zs → AreSamples s.interval.head zs s.samples → IsOutcome (piece_of t s)
+    go true told zs longest shows =
+        let decoded : LongestFront s.interval s.interval.mcus told.0 = whole_longest s.interval told.0 told.1 in
+        let all : s.mcus ≡ s.interval.mcus = omega (arith, longest.longest s.interval.mcus told.0 decoded.front, longest.front.at_most) in
+        let same : told.0 ≡ zs = one s.interval s.interval.mcus told.0 zs decoded.front (subst (λ (k : ℕ). Front s.interval k zs) all longest.front) in
+        record {
+          sound = λ e. record { blocks = zs; decodes = subst (Decodes s.interval) same told.1; samples = shows };
+          whole = λ e. all;
+          damaged = λ e. let f : true ≡ false = e in cc;
+        }
+    go false told zs longest shows =
+        record {
+          sound = λ e. let f : false ≡ true = e in cc;
+          whole = λ e. let f : false ≡ true = e in cc;
+          damaged = λ e. record { undecodable = told; blocks = zs; longest = longest; samples = shows };
+        }

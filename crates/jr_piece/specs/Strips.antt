@@ -50,11 +50,13 @@ Follows a b = (a.interval ≡ b.interval) × (b.first ≡ a.first + a.mcus)
 abbrev pub joined : StripValue → StripValue → StripValue
 joined a b = record { interval = a.interval; first = a.first; mcus = a.mcus + b.mcus; samples = a.samples ++ b.samples }
 
--- the strip starts with its interval, and no whole MCU follows it
-pub record IsWhole (s : StripValue) : Type 0 where
-  pub start : s.first ≡ 0
-  pub blocks : List (List ℤ)
-  pub longest : LongestFront s.interval s.mcus blocks
+-- so many whole MCUs are all that the interval's bits begin with
+abbrev pub HasWholeMcus : IntervalValue → ℕ → Type 0
+HasWholeMcus i k = (zs : List (List ℤ)) × LongestFront i k zs
+
+-- the strip has them all
+abbrev pub IsWhole : StripValue → Type 0
+IsWhole s = (s.first ≡ 0) × HasWholeMcus s.interval s.mcus
 
 -- whether the interval has a decoding
 abbrev pub TellsSound : Bool → IntervalValue → Type 0

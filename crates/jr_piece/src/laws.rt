@@ -44,6 +44,5 @@ pub fn strips_meet()
 pub fn whole_strip_is_outcome()
     ensures { (s : StripValue) (t : Bool) → IsStrip s → IsWhole s → TellsSound t s.interval → IsOutcome (piece_of t s) }
 {
-    one_decoding();
     one_front();
 }

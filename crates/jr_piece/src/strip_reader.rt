@@ -1,14 +1,14 @@
 //! An interval, a strip at a time.
 
-ghost use Rattle.std.specs.Prelude.{◌≡◌, ◌≤◌, ◌<◌, ◌+◌, ℤ, List, Option, None, Some, false, IsTrue, IfOk, IfErr, IfSome, IfNone};
+ghost use Rattle.std.specs.Prelude.{◌≡◌, ◌≤◌, ◌<◌, ◌+◌, ℤ, List, Option, None, Some, false, IsTrue, IfOk, IfErr, IfSome, IfNone, OnSome};
 ghost use Rattle.std.specs.List.{All};
 ghost use Rattle.std.specs.Arc.{arc_value};
 ghost use Rattle.jr_scan.specs.declared.place.RunEnd.TheVariants.{AllRead};
 ghost use Rattle.jr_scan.specs.Block.{IsInRange};
-ghost use Rattle.jr_scan.specs.Mcus.{Decodes, Front, HasNoDecoding, LongestFront};
+ghost use Rattle.jr_scan.specs.Mcus.{Decodes, Front, HasNoDecoding};
 ghost use Rattle.jr_scan.specs.Reader.{HasRead, HasEnded, start_of_interval};
 ghost use Rattle.jr_scan.specs.Run.{IsRun, run_from};
-ghost use Rattle.jr_piece.specs.Strips.{CanReadFrom, FirstMcus};
+ghost use Rattle.jr_piece.specs.Strips.{CanReadFrom, FirstMcus, HasWholeMcus};
 
 use crate::decoded::most_units;
 use crate::strip::CodedStrip;
@@ -45,7 +45,7 @@ fn read_blocks(
     let mut blocks = Vec::with_capacity(alloc, most_units(interval, from.bit, mcus))?;
     let mut reader = BlockReader::at(interval, from, mcus);
     let mut block = [0; 64];
-    'blocks: loop {
+    'units: loop {
         let Some(_component) = reader.next(&mut block) else {
             return Ok((blocks, reader));
         };
@@ -105,7 +105,8 @@ impl StripReader {
         }
     }
 
-    /// Reads the next whole MCUs, so many at most and at least one. None where no further one follows.
+    /// Reads the next whole MCUs, as many as are asked for or as follow. None where no further one follows; then, and at
+    /// an error, the reader stays as it is.
     pub fn next(&mut self, alloc: Global, most: u32) -> Result<Option<CodedStrip>, Memory>
         ensures interval { self.new.interval ≡ self.old.interval }
         ensures of { IfOk result (λ o. IfSome o (λ s. s.interval ≡ self.old.interval)) }
@@ -113,7 +114,9 @@ impl StripReader {
         ensures some { IfOk result (λ o. IfSome o (λ s. 0 < s.mcus)) }
         ensures few { IfOk result (λ o. IfSome o (λ s. s.mcus ≤ most)) }
         ensures on { IfOk result (λ o. IfSome o (λ s. self.new.first ≡ s.first + s.mcus)) }
-        ensures none { IfOk result (λ o. IfNone o (0 < most → (zs : List (List ℤ)) × LongestFront self.old.interval self.old.first zs)) }
+        ensures within { IfOk result (λ o. OnSome o (self.new.first ≤ self.old.interval.mcus)) }
+        ensures last { IfOk result (λ o. IfSome o (λ s. s.mcus < most → HasWholeMcus self.new.interval self.new.first)) }
+        ensures none { IfOk result (λ o. IfNone o (0 < most → HasWholeMcus self.old.interval self.old.first)) }
         ensures same { IfOk result (λ o. IfNone o (self.new ≡ self.old)) }
         ensures err { IfErr result (λ _. self.new ≡ self.old) }
     {
@@ -136,11 +139,11 @@ impl StripReader {
         Ok(Some(CodedStrip::of(interval, first, mcus, blocks)))
     }
 
-    /// Whether all MCUs are read and fewer than eight bits are left: then the interval decodes, and where no further
-    /// MCU follows it otherwise doesn't.
+    /// Whether all MCUs are read and fewer than eight bits are left: then what is read is the interval's decoding. Where
+    /// no further MCU follows and it is false, the interval has none.
     pub fn is_sound(&self) -> bool
         ensures sound { IsTrue result → (zs : List (List ℤ)) → Front self.now.interval self.now.first zs → Decodes self.now.interval zs }
-        ensures damaged { result ≡ false → (zs : List (List ℤ)) → LongestFront self.now.interval self.now.first zs → HasNoDecoding self.now.interval }
+        ensures damaged { result ≡ false → HasWholeMcus self.now.interval self.now.first → HasNoDecoding self.now.interval }
     {
         one_run();
         one_front();

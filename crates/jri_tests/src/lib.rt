@@ -35,6 +35,8 @@ mod scans;
 #[cfg(test)]
 mod shares;
 #[cfg(test)]
+mod strips;
+#[cfg(test)]
 mod viewers;
 #[cfg(test)]
 mod whole;

@@ -4,8 +4,9 @@ use Rattle.std.specs.Arc.{arc_value}
 use Rattle.jr_head.specs.Geometry.{IsLawful}
 use Rattle.jr_scan.specs.declared.place.Place.{Place}
 use Rattle.jr_scan.specs.IntervalValue.{IntervalValue}
-use Rattle.jr_scan.specs.Mcus.{HasNoDecoding, Decodes, Front, LongestFront}
+use Rattle.jr_scan.specs.Mcus.{HasNoDecoding, Decodes, Front}
 use Rattle.jr_piece.specs.StripValue.{ReadingValue}
+use Rattle.jr_piece.specs.Strips.{HasWholeMcus}
 use Rattle.jr_piece.proofs.StripRuns.{is_whole, is_damaged}
 use Rattle.jr_piece.proofs.strip_reader.StripReader.is_sound.Goals as goal
 
@@ -13,7 +14,7 @@ abbrev Sound : ReadingValue → Type 0
 Sound r = (zs : List (List ℤ)) → Front r.interval r.first zs → Decodes r.interval zs
 
 abbrev Damaged : ReadingValue → Type 0
-Damaged r = (zs : List (List ℤ)) → LongestFront r.interval r.first zs → HasNoDecoding r.interval
+Damaged r = HasWholeMcus r.interval r.first → HasNoDecoding r.interval
 
 pub returns-in_default-clause-damaged : goal.returns-in_default-clause-damaged
 returns-in_default-clause-damaged c = λ _.

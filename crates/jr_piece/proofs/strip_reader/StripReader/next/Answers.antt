@@ -1,33 +1,21 @@
-use Rattle.std.proofs.Common.{◌≡◌, ℕ, ◌+◌, ◌-◌, ◌*◌, ◌<◌, ◌≤◌, min, List, length, sym, ap, subst, ◌∙◌, arith, rules}
-use Rattle.std.specs.Prelude.{ℤ}
+use Rattle.std.proofs.Common.{◌≡◌, ℕ, ◌+◌, ◌-◌, ◌≤◌, min, sym, ap, subst, ◌∙◌, arith, rules}
 use Rattle.std.specs.Arc.{arc_value}
 use Rattle.std.specs.Option.{IfSome}
 use Rattle.jr_head.specs.Geometry.{IsLawful}
 use Rattle.jr_scan.specs.declared.place.Place.{Place}
 use Rattle.jr_scan.specs.declared.place.RunEnd.TheVariants.{AllRead}
 use Rattle.jr_scan.specs.IntervalValue.{IntervalValue}
-use Rattle.jr_scan.specs.Run.{IsRun, HasNoMcu}
-use Rattle.jr_scan.specs.Mcus.{LongestFront}
-use Rattle.jr_piece.specs.StripValue.{ReadingValue}
-use Rattle.jr_piece.specs.Strips.{IsCoded}
-use Rattle.jr_piece.proofs.StripRuns.{run_from, strip, reading, ended}
+use Rattle.jr_scan.specs.Run.{IsRun, run_from}
+use Rattle.jr_piece.specs.StripValue.{CodedValue, ReadingValue}
+use Rattle.jr_piece.specs.Strips.{CanReadFrom, FirstMcus, HasWholeMcus, IsCoded}
+use Rattle.jr_piece.proofs.StripRuns.{blocks, reading, ended}
 use Rattle.jr_piece.proofs.strip_reader.StripReader.next.Goals as goal
 
-pub read_run-requires-clause-within : goal.read_run-requires-clause-within
-read_run-requires-clause-within c =
+pub read_run-requires : goal.read_run-requires
+read_run-requires c =
     let at : c.deref-3.result.now ≡ arc_value c.self.inside.interval = search rules in
     let n = c.self.invariant.next c.in-Some.from c.in-Some.is in
-    omega (arith, n.within, ap (λ (i : IntervalValue). length i.bytes) at)
-
-pub read_run-requires-clause-low : goal.read_run-requires-clause-low
-read_run-requires-clause-low c = (c.self.invariant.next c.in-Some.from c.in-Some.is).low
-
-pub read_run-requires-clause-high : goal.read_run-requires-clause-high
-read_run-requires-clause-high c = (c.self.invariant.next c.in-Some.from c.in-Some.is).high
-
--- what was read
-abbrev Was : IntervalValue → Place → ℕ → ℕ → List (List ℤ) → Type 0
-Was i p n m ys = (to : Place) × IsRun (run_from i p n) ys to AllRead × (n < m → HasNoMcu i to)
+    subst (λ (i : IntervalValue). CanReadFrom i c.in-Some.from) (sym at) n.can
 
 room : (i j : IntervalValue) (first n m most mcus : ℕ) → j ≡ i → n ≤ m → m ≡ min most (mcus - first) → mcus ≡ j.mcus → first ≤ i.mcus → first + n ≤ i.mcus
 room i j first n m most mcus e few asked is le = let k : mcus ≡ i.mcus = is ∙ ap (λ (v : IntervalValue). v.mcus) e in omega (arith, few, asked, k, le)
@@ -41,9 +29,11 @@ of-requires c =
     let own_head : c.deref.result.now ≡ i = search rules in
     let lawful : IsLawful i.head = subst IsLawful (c.head.ensures ∙ ap (λ (v : IntervalValue). v.head) own_head) c.be_lawful.ensures in
     let r = c.in_ok-blocks.field-0 in
-    let was : Was i c.in-Some.from r.mcus c.min-asked.result r.blocks.items = subst (λ (v : IntervalValue). Was v c.in-Some.from r.mcus c.min-asked.result r.blocks.items) at c.in_ok-blocks.ensures.run in
-    let few = room i c.deref-2.result.now c.self.inside.first r.mcus c.min-asked.result c.args.most c.mcus.result other c.in_ok-blocks.ensures.few c.min-asked.ensures c.mcus.ensures c.self.invariant.front.at_most in
-    let blocks = strip c.one_run.ensures c.runs_meet.ensures c.shorter_front.ensures i lawful c.self.inside.first c.self.invariant.blocks c.in-Some.from (c.self.invariant.next c.in-Some.from c.in-Some.is) r.mcus c.min-asked.result r.blocks.items was few in
+    let run : FirstMcus (run_from c.deref-3.result.now c.in-Some.from c.min-asked.result) r.mcus r.blocks.items = search (rules, c.in_ok-blocks.ensures.run) in
+    let was : FirstMcus (run_from i c.in-Some.from c.min-asked.result) r.mcus r.blocks.items = subst (λ (v : IntervalValue). FirstMcus (run_from v c.in-Some.from c.min-asked.result) r.mcus r.blocks.items) at run in
+    let least : c.min-asked.result ≡ min c.args.most (c.mcus.result - c.self.inside.first) = search (rules, c.min-asked.ensures) in
+    let few = room i c.deref-2.result.now c.self.inside.first r.mcus c.min-asked.result c.args.most c.mcus.result other c.in_ok-blocks.ensures.few least c.mcus.ensures c.self.invariant.front.at_most in
+    let blocks = blocks c.one_run.ensures c.runs_meet.ensures c.shorter_front.ensures i lawful c.self.inside.first c.self.invariant.blocks c.in-Some.from (c.self.invariant.next c.in-Some.from c.in-Some.is) r.mcus c.min-asked.result r.blocks.items was few in
     subst (λ (v : IntervalValue). IsCoded (record { interval = v; first = c.self.inside.first; mcus = r.mcus; blocks = r.blocks.items })) (sym own) (record { are = blocks; in_range = c.in_ok-blocks.ensures.in_range })
 
 pub invariant_of-self : goal.invariant_of-self
@@ -54,13 +44,15 @@ invariant_of-self c =
     let own_head : c.deref.result.now ≡ i = search rules in
     let lawful : IsLawful i.head = subst IsLawful (c.head.ensures ∙ ap (λ (v : IntervalValue). v.head) own_head) c.be_lawful.ensures in
     let r = c.in_ok-blocks.field-0 in
-    let was : Was i c.in-Some.from r.mcus c.min-asked.result r.blocks.items = subst (λ (v : IntervalValue). Was v c.in-Some.from r.mcus c.min-asked.result r.blocks.items) at c.in_ok-blocks.ensures.run in
-    let few = room i c.deref-2.result.now c.self.inside.first r.mcus c.min-asked.result c.args.most c.mcus.result other c.in_ok-blocks.ensures.few c.min-asked.ensures c.mcus.ensures c.self.invariant.front.at_most in
-    let under : c.self.inside.first + c.min-asked.result ≤ i.mcus = omega (arith, c.min-asked.ensures, c.mcus.ensures, ap (λ (v : IntervalValue). v.mcus) other, c.self.invariant.front.at_most) in
-    reading c.one_run.ensures c.runs_meet.ensures c.shorter_front.ensures i lawful c.self.inside.first c.self.invariant.blocks c.in-Some.from (c.self.invariant.next c.in-Some.from c.in-Some.is) r.mcus c.min-asked.result r.blocks.items was few
+    let run : FirstMcus (run_from c.deref-3.result.now c.in-Some.from c.min-asked.result) r.mcus r.blocks.items = search (rules, c.in_ok-blocks.ensures.run) in
+    let was : FirstMcus (run_from i c.in-Some.from c.min-asked.result) r.mcus r.blocks.items = subst (λ (v : IntervalValue). FirstMcus (run_from v c.in-Some.from c.min-asked.result) r.mcus r.blocks.items) at run in
+    let least : c.min-asked.result ≡ min c.args.most (c.mcus.result - c.self.inside.first) = search (rules, c.min-asked.ensures) in
+    let few = room i c.deref-2.result.now c.self.inside.first r.mcus c.min-asked.result c.args.most c.mcus.result other c.in_ok-blocks.ensures.few least c.mcus.ensures c.self.invariant.front.at_most in
+    let under : c.self.inside.first + c.min-asked.result ≤ i.mcus = omega (arith, least, c.mcus.ensures, ap (λ (v : IntervalValue). v.mcus) other, c.self.invariant.front.at_most) in
+    let told = reading c.one_run.ensures c.runs_meet.ensures c.shorter_front.ensures i lawful c.self.inside.first c.self.invariant.blocks c.in-Some.from (c.self.invariant.next c.in-Some.from c.in-Some.is) r.mcus c.min-asked.result r.blocks.items was few
     r.next under (subst (λ (v : IntervalValue). IfSome r.next (λ (p : Place). IsRun (run_from v c.in-Some.from r.mcus) r.blocks.items p AllRead)) at c.in_ok-blocks.ensures.next)
-    (subst (λ (v : IntervalValue). IfSome r.next (λ (p : Place). p.bit ≤ 8 * length v.bytes)) at c.in_ok-blocks.ensures.next_within)
-    c.in_ok-blocks.ensures.next_low c.in_ok-blocks.ensures.next_high c.in_ok-blocks.ensures.none
+    (subst (λ (v : IntervalValue). IfSome r.next (CanReadFrom v)) at c.in_ok-blocks.ensures.can) c.in_ok-blocks.ensures.none in
+    search (rules, told)
 
 pub returns-then-mcus-eq0-clause-none : goal.returns-then-mcus-eq0-clause-none
 returns-then-mcus-eq0-clause-none c = λ some.
@@ -70,9 +62,36 @@ returns-then-mcus-eq0-clause-none c = λ some.
     let own_head : c.deref.result.now ≡ i = search rules in
     let lawful : IsLawful i.head = subst IsLawful (c.head.ensures ∙ ap (λ (v : IntervalValue). v.head) own_head) c.be_lawful.ensures in
     let r = c.in_ok-blocks.field-0 in
-    let was : Was i c.in-Some.from r.mcus c.min-asked.result r.blocks.items = subst (λ (v : IntervalValue). Was v c.in-Some.from r.mcus c.min-asked.result r.blocks.items) at c.in_ok-blocks.ensures.run in
-    let few = room i c.deref-2.result.now c.self.inside.first r.mcus c.min-asked.result c.args.most c.mcus.result other c.in_ok-blocks.ensures.few c.min-asked.ensures c.mcus.ensures c.self.invariant.front.at_most in
-    let asked = c.min-asked.ensures ∙ ap (λ (k : ℕ). min c.args.most (k - c.self.inside.first)) (c.mcus.ensures ∙ ap (λ (v : IntervalValue). v.mcus) other) in
+    let run : FirstMcus (run_from c.deref-3.result.now c.in-Some.from c.min-asked.result) r.mcus r.blocks.items = search (rules, c.in_ok-blocks.ensures.run) in
+    let was : FirstMcus (run_from i c.in-Some.from c.min-asked.result) r.mcus r.blocks.items = subst (λ (v : IntervalValue). FirstMcus (run_from v c.in-Some.from c.min-asked.result) r.mcus r.blocks.items) at run in
+    let least : c.min-asked.result ≡ min c.args.most (c.mcus.result - c.self.inside.first) = search (rules, c.min-asked.ensures) in
+    let few = room i c.deref-2.result.now c.self.inside.first r.mcus c.min-asked.result c.args.most c.mcus.result other c.in_ok-blocks.ensures.few least c.mcus.ensures c.self.invariant.front.at_most in
+    let asked = least ∙ ap (λ (k : ℕ). min c.args.most (k - c.self.inside.first)) (c.mcus.ensures ∙ ap (λ (v : IntervalValue). v.mcus) other) in
     let last = ended c.one_run.ensures c.runs_meet.ensures c.shorter_front.ensures i lawful c.self.inside.first c.self.invariant.blocks c.in-Some.from (c.self.invariant.next c.in-Some.from c.in-Some.is) r.mcus c.min-asked.result r.blocks.items was few
-    c.args.most c.self.invariant.front c.if-mcus-eq0.true asked some in
-    subst (λ (v : ReadingValue). (x : List (List ℤ)) × LongestFront v.interval v.first x) c.self.view_is last
+    c.args.most c.self.invariant.front asked (omega (arith, c.if-mcus-eq0.true, some)) in
+    let here = subst (λ (k : ℕ). HasWholeMcus i k) (omega (arith, c.if-mcus-eq0.true)) last in
+    subst (λ (v : ReadingValue). HasWholeMcus v.interval v.first) c.self.view_is here
+
+pub returns-clause-last : goal.returns-clause-last
+returns-clause-last c = λ lt.
+    let i = arc_value c.self.inside.interval in
+    let at : c.deref-3.result.now ≡ i = search rules in
+    let other : c.deref-2.result.now ≡ i = search rules in
+    let own_head : c.deref.result.now ≡ i = search rules in
+    let lawful : IsLawful i.head = subst IsLawful (c.head.ensures ∙ ap (λ (v : IntervalValue). v.head) own_head) c.be_lawful.ensures in
+    let r = c.in_ok-blocks.field-0 in
+    let run : FirstMcus (run_from c.deref-3.result.now c.in-Some.from c.min-asked.result) r.mcus r.blocks.items = search (rules, c.in_ok-blocks.ensures.run) in
+    let was : FirstMcus (run_from i c.in-Some.from c.min-asked.result) r.mcus r.blocks.items = subst (λ (v : IntervalValue). FirstMcus (run_from v c.in-Some.from c.min-asked.result) r.mcus r.blocks.items) at run in
+    let least : c.min-asked.result ≡ min c.args.most (c.mcus.result - c.self.inside.first) = search (rules, c.min-asked.ensures) in
+    let few = room i c.deref-2.result.now c.self.inside.first r.mcus c.min-asked.result c.args.most c.mcus.result other c.in_ok-blocks.ensures.few least c.mcus.ensures c.self.invariant.front.at_most in
+    let asked = least ∙ ap (λ (k : ℕ). min c.args.most (k - c.self.inside.first)) (c.mcus.ensures ∙ ap (λ (v : IntervalValue). v.mcus) other) in
+    ended c.one_run.ensures c.runs_meet.ensures c.shorter_front.ensures i lawful c.self.inside.first c.self.invariant.blocks c.in-Some.from (c.self.invariant.next c.in-Some.from c.in-Some.is) r.mcus c.min-asked.result r.blocks.items was few
+    c.args.most c.self.invariant.front asked (omega (arith, ap (λ (s : CodedValue). s.mcus) c.of.ensures, lt))
+
+pub returns-clause-within : goal.returns-clause-within
+returns-clause-within c =
+    let i = arc_value c.self.inside.interval in
+    let other : c.deref-2.result.now ≡ i = search rules in
+    let least : c.min-asked.result ≡ min c.args.most (c.mcus.result - c.self.inside.first) = search (rules, c.min-asked.ensures) in
+    let told = room i c.deref-2.result.now c.self.inside.first c.in_ok-blocks.field-0.mcus c.min-asked.result c.args.most c.mcus.result other c.in_ok-blocks.ensures.few least c.mcus.ensures c.self.invariant.front.at_most in
+    subst (λ (v : ReadingValue). c.self.inside.first + c.in_ok-blocks.field-0.mcus ≤ v.interval.mcus) c.self.view_is told

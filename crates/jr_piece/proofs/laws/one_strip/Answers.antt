@@ -1,0 +1,5 @@
+use Rattle.jr_piece.proofs.Strips.{one_strip}
+use Rattle.jr_piece.proofs.laws.one_strip.Goals as goal
+
+pub returns : goal.returns
+returns c = one_strip c.one_front.ensures
