@@ -1,13 +1,12 @@
 -- Strips in order.
-use Rattle.std.proofs.Common.{◌≡◌, ℕ, ◌+◌, ◌-◌, ◌*◌, ◌<◌, ◌≤◌, min, true, nat_eq, inl, inr, List, length, get_or, slice_get, sym, ap, subst, ◌∙◌, arith, refl}
-use Rattle.std.specs.Prelude.{Some, IsTrue, map}
+use Rattle.std.proofs.Common.{◌≡◌, ℕ, ◌+◌, ◌-◌, ◌*◌, ◌<◌, ◌≤◌, min, nat_eq, inl, inr, List, length, get_or, slice_get, sym, ap, subst, ◌∙◌, arith, refl}
+use Rattle.std.specs.Prelude.{Some, IsTrue}
 use Rattle.std.specs.Option.{option_map}
 use Rattle.std.specs.declared.sync.Arc.{Arc}
 use Rattle.std.specs.Arc.{arc_value}
 use Rattle.std.specs.declared.alloc.Global.{Global}
 use Rattle.std.specs.List.{All}
 use Rattle.std.proofs.lemmas.Bool.{cases_lt, eqb-true, eq-eqb}
-use Rattle.std.proofs.lemmas.List.{length-map}
 use Rattle.std.proofs.lemmas.Option.{slice_get-map, slice_get_read, slice_get-get_or, slice_get_within, get_or_from_slice_get}
 use Rattle.std.proofs.Math.Nat.{add-mul}
 use Rattle.jr_piece.specs.StripValue.{StripValue}
@@ -24,11 +23,11 @@ same_at ss k j t s e a b = sym (get_or_from_slice_get ss k t s a) ∙ ap (λ (n 
 pub one_more : (P : ℕ → StripValue → Type 0) (ss : List StripValue) (k : ℕ) (t : StripValue) → slice_get ss k ≡ Some t → P k t
     → ((j : ℕ) (s : StripValue) → j < k → slice_get ss j ≡ Some s → P j s) → (j : ℕ) (s : StripValue) → j < k + 1 → slice_get ss j ≡ Some s → P j s
 one_more P ss k t is last before j s lt at = elim (cases_lt j k) [
-    | inl below ↦ before j s below at
-    | inr beyond ↦
-        let e : k ≡ j = omega (arith, lt, beyond) in
-        subst (λ (n : ℕ). P n s) e (subst (P k) (same_at ss k j t s e is at) last)
-  ]
+  | inl below ↦ before j s below at
+  | inr beyond ↦
+      let e : k ≡ j = omega (arith, lt, beyond) in
+      subst (λ (n : ℕ). P n s) e (subst (P k) (same_at ss k j t s e is at) last)
+]
 
 pub all_of : (P : StripValue → Type 0) (ss : List StripValue) (n : ℕ) → length ss ≤ n → ((j : ℕ) (s : StripValue) → j < n → slice_get ss j ≡ Some s → P s) → All P ss
 all_of P ss n long each = λ k d lt. each k (get_or ss k d) (omega (arith, lt, long)) (slice_get-get_or ss k d lt)
@@ -58,12 +57,12 @@ refused each front k end ss s is e at none o = none (at_next each front k end s 
 pub ended : (each front n end : ℕ) (ss : List StripValue) → each ≡ mcus_of_each ss → end ≡ min front (n * each) → length ss ≡ n
     → ((j : ℕ) (s : StripValue) → j < n → slice_get ss j ≡ Some s → IsStripAt each front j s) → (IsTrue (nat_eq end front) → AreInOrder front ss) × (AreInOrder front ss → IsTrue (nat_eq end front))
 ended each front n end ss is e long before = (
-    λ t. record {
-      at = λ j s at. subst (λ (m : ℕ). IsStripAt m front j s) is (before j s (omega (arith, slice_get_within ss j s at, long)) at);
-      all = subst (λ (m : ℕ). front ≤ m) (count) (omega (arith, eqb-true end front t, e));
-    },
-    λ o. eq-eqb end front (omega (arith, e, o.all, count)),
-  )
+  λ t. record {
+    at = λ j s at. subst (λ (m : ℕ). IsStripAt m front j s) is (before j s (omega (arith, slice_get_within ss j s at, long)) at);
+    all = subst (λ (m : ℕ). front ≤ m) (count) (omega (arith, eqb-true end front t, e));
+  },
+  λ o. eq-eqb end front (omega (arith, e, o.all, count)),
+)
   where
     count : n * each ≡ length ss * mcus_of_each ss
     count = ap (λ (m : ℕ). m * each) (sym long) ∙ ap (λ (m : ℕ). length ss * m) is

@@ -1,18 +1,18 @@
 -- Strips in order are one strip, and make a piece.
-use Rattle.std.proofs.Common.{◌≡◌, ℕ, zero, suc, ◌+◌, ◌-◌, ◌*◌, ◌<◌, ◌≤◌, min, Bool, true, List, [], ◌∷◌, ◌++◌, length, get_or, slice_get, drop, refl, sym, ap, subst, ◌∙◌, arith}
+use Rattle.std.proofs.Common.{◌≡◌, ℕ, suc, ◌+◌, ◌-◌, ◌*◌, ◌<◌, ◌≤◌, min, Bool, true, List, [], ◌∷◌, ◌++◌, length, slice_get, drop, refl, sym, ap, subst, ◌∙◌, arith}
 use Rattle.std.specs.Prelude.{ℤ, Some}
 use Rattle.std.specs.List.{All}
 use Rattle.std.specs.declared.sync.Arc.{Arc}
 use Rattle.std.specs.declared.alloc.Global.{Global}
 use Rattle.std.proofs.lemmas.List.{drop_all, length-drop}
 use Rattle.std.proofs.lemmas.Option.{get_or_from_slice_get, slice_get_within}
-use Rattle.std.proofs.Math.Nat.{add-mul, mul-le-mul_right, mul-pos}
+use Rattle.std.proofs.Math.Nat.{add-mul, mul-le-mul_right}
 use Rattle.jr_head.specs.Geometry.{order_of}
 use Rattle.jr_scan.specs.IntervalValue.{IntervalValue}
 use Rattle.jr_scan.specs.Mcus.{Front}
 use Rattle.jr_piece.specs.StripValue.{StripValue}
-use Rattle.jr_piece.specs.Outcome.{AreSamples, IsOutcome}
-use Rattle.jr_piece.specs.Strips.{AreBlocks, AreInOrder, AreOf, Follows, IsStrip, IsStripAt, IsWhole, TellsEnd, TellsSound, joined, mcus_of_each, piece_of, shared_strips}
+use Rattle.jr_piece.specs.Outcome.{IsOutcome}
+use Rattle.jr_piece.specs.Strips.{AreInOrder, AreOf, Follows, IsStrip, IsStripAt, IsWhole, TellsEnd, TellsSound, joined, mcus_of_each, piece_of, shared_strips}
 use Rattle.jr_piece.specs.DataUnits.{AreEven, units_of}
 use Rattle.jr_piece.proofs.Outcomes.{no_samples}
 
@@ -134,8 +134,8 @@ pub tell_outcome : StripsMeet → WholeIsOutcome → (i : IntervalValue) (front 
 tell_outcome meet whole i front is_sound ss o tells =
     let each = mcus_of_each ss in
     let long : length ss ≡ 0 + length ss = omega arith in
-    let one : IsStrip (strip_to i front (min front (0 * each)) ss) = together meet i each front tells.blocks tells.longest.front ss 0 (from_all i front ss o.of o.are o.order) (subst (λ (n : ℕ). front ≤ n * each) long o.order.all) in
+    let one : IsStrip (strip_to i front (min front (0 * each)) ss) = together meet i each front tells.0.0 tells.0.1.front ss 0 (from_all i front ss o.of o.are o.order) (subst (λ (n : ℕ). front ≤ n * each) long o.order.all) in
     let start : min front (0 * each) ≡ 0 = omega arith in
     let mcus : front - 0 ≡ front = omega arith in
     let all : IsStrip (strip_of i 0 front (units_of ss)) = subst (λ (n : ℕ). IsStrip (strip_of i 0 n (units_of ss))) mcus (subst (λ (n : ℕ). IsStrip (strip_to i front n ss)) start one) in
-    whole (strip_of i 0 front (units_of ss)) is_sound all (record { start = refl; blocks = tells.blocks; longest = tells.longest }) tells.sound
+    whole (strip_of i 0 front (units_of ss)) is_sound all (refl, tells.0) tells.1
