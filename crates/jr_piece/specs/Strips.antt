@@ -114,8 +114,6 @@ pub record AreInOrder (front : ℕ) (strips : List StripValue) : Type 0 where
   pub at : (j : ℕ) (s : StripValue) → slice_get strips j ≡ Some s → IsStripAt (mcus_of_each strips) front j s
   pub all : front ≤ length strips * mcus_of_each strips
 
--- so many whole MCUs is the most that the interval's bits begin with, and this tells whether it has a decoding
-pub record TellsEnd (i : IntervalValue) (front : ℕ) (is_sound : Bool) : Type 0 where
-  pub blocks : List (List ℤ)
-  pub longest : LongestFront i front blocks
-  pub sound : TellsSound is_sound i
+-- so many whole MCUs are all that the interval's bits begin with, and this tells whether it has a decoding
+abbrev pub TellsEnd : IntervalValue → ℕ → Bool → Type 0
+TellsEnd i front is_sound = HasWholeMcus i front × TellsSound is_sound i

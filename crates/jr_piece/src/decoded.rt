@@ -17,7 +17,7 @@ pub(crate) struct Decoded {
     pub samples: Vec<[u8; 64]>,
 }
 
-/// At most as many data units of so many MCUs as the bits from one on can code: each takes two bits or more.
+/// How many data units of so many MCUs the bits from one on can code at most: each takes two bits or more.
 pub(crate) fn most_units(interval: &Interval, from: u64, mcus: u32) -> usize {
     let bits = (8 * interval.bytes().len() as u64).saturating_sub(from);
     let claimed = mcus as usize * interval.head().order().len();

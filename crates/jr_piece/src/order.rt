@@ -1,6 +1,6 @@
 //! Whether strips are all of an interval, in order.
 
-ghost use Rattle.std.specs.Prelude.{◌≡◌, ◌↔◌, IsTrue};
+ghost use Rattle.std.specs.Prelude.{◌≡◌, ◌↔◌, ◌<◌, IsTrue};
 ghost use Rattle.std.specs.List.{All};
 ghost use Rattle.jr_piece.specs.Strips.{AreInOrder, IsStrip, mcus_of_each, shared_strips};
 
@@ -17,6 +17,13 @@ pub(crate) fn mcus_of_each(strips: &[Arc<Strip>]) -> u32
     }
 }
 
+/// Whether a strip has these MCUs, one at least.
+fn has_mcus(strip: &Strip, first: u32, mcus: u32) -> bool
+    ensures { IsTrue result ↔ ((0 < strip.now.mcus) × (strip.now.first ≡ first) × (strip.now.mcus ≡ mcus)) }
+{
+    strip.mcus() > 0 && strip.first() == first && strip.mcus() == mcus
+}
+
 /// Whether strips follow one another from MCU 0 to MCU `front`, all but the last of equally many MCUs.
 pub(crate) fn are_in_order(strips: &[Arc<Strip>], front: u32) -> bool
     ensures order { IsTrue result ↔ AreInOrder front (shared_strips strips.now) }
@@ -27,11 +34,11 @@ pub(crate) fn are_in_order(strips: &[Arc<Strip>], front: u32) -> bool
     'strips: for k in 0..strips.len() {
         let strip = &strips[k];
         strip.be_strip();
-        let left = each.min(front - end);
-        if strip.mcus() == 0 || strip.first() != end || strip.mcus() != left {
+        let mcus = each.min(front - end);
+        if !has_mcus(strip, end, mcus) {
             return false;
         }
-        end += left;
+        end += mcus;
     }
     end == front
 }
