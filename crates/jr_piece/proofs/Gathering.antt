@@ -24,5 +24,5 @@ one_more_of i xs x all one = subst (All of) (sym (map-append arc_value xs (x ∷
 
 -- what a reader tells at its end
 pub tells_end : (b : Bool) (i : IntervalValue) (k : ℕ) → (IsTrue b → (zs : List (List ℤ)) → Front i k zs → Decodes i zs) → (b ≡ false → HasWholeMcus i k → HasNoDecoding i) → HasWholeMcus i k → TellsEnd i k b
-tells_end true i k sound damaged w = record { blocks = w.0; longest = w.1; sound = (w.0, sound refl w.0 w.1.front) }
-tells_end false i k sound damaged w = record { blocks = w.0; longest = w.1; sound = damaged refl w }
+tells_end true i k sound damaged w = (w, (w.0, sound refl w.0 w.1.front))
+tells_end false i k sound damaged w = (w, damaged refl w)

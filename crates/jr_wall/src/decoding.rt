@@ -117,20 +117,35 @@ impl Decoding {
         requires beside { F.IsAlwaysCallable beside }
         ensures { FnOnceReturnsAt F.FnOnce beside self.now result }
     {
-        run_as::<R, G, T, F, Brand>(self, rt, seats, gate, beside)
+        run_as::<R, G, T, F, Brand>(self, rt, seats, None, gate, beside)
     }
 
-    /// `run`, with the jobs that the workers share.
+    /// Starts a worker at each seat but the last one, where the calling thread works: with one seat no thread is started.
+    pub fn run_here<R: Threads + Wait + Sync, G: Gate + Sync>(
+        &self,
+        rt: &R,
+        mut seats: Vec<Seat>,
+        gate: &G,
+    )
+        requires { All (λ s. s.desk ≡ self.now.desk) seats.items }
+    {
+        let own = seats.pop();
+        run_as::<R, G, (), _, Brand>(self, rt, seats, own, gate, |_| {});
+    }
+
+    /// `run`, with the jobs that the workers share, and a seat for the calling thread.
     fn run_with<R: Threads + Wait + Sync, G: Gate + Sync, T, F: FnOnce(&Decoding) -> T, S: OneScan + Send>(
         &self,
         rt: &R,
         seats: Vec<Seat>,
+        own: Option<Seat>,
         gate: &G,
         jobs: &Jobs<S>,
         beside: F,
     ) -> T
         requires scan { S.scan ≡ Some self.now.scan }
         requires seats { All (λ s. s.desk ≡ self.now.desk) seats.items }
+        requires own { IfSome own (λ s. s.desk ≡ self.now.desk) }
         requires beside { F.IsAlwaysCallable beside }
         ensures { FnOnceReturnsAt F.FnOnce beside self.now result }
     {
@@ -138,7 +153,7 @@ impl Decoding {
             thread::scope_env(),
             rt,
             |scope| -> T
-                requires { F.IsAlwaysCallable beside × All (λ s. s.desk ≡ self.now.desk) seats.items × (S.scan ≡ Some self.now.scan) }
+                requires { F.IsAlwaysCallable beside × All (λ s. s.desk ≡ self.now.desk) seats.items × IfSome own (λ s. s.desk ≡ self.now.desk) × (S.scan ≡ Some self.now.scan) }
                 ensures { FnOnceReturnsAt F.FnOnce beside self.entry.now result }
             {
                 for mut seat in seats {
@@ -148,7 +163,11 @@ impl Decoding {
                         { self.work(rt, &mut seat, gate, jobs) },
                     );
                 }
-                beside(self)
+                let result = beside(self);
+                if let Some(mut seat) = own {
+                    self.work(rt, &mut seat, gate, jobs);
+                }
+                result
             },
         )
     }
@@ -186,7 +205,7 @@ impl Decoding {
     {
         let count = jobs.count(rt);
         for k in 0..count {
-            let Some(job) = jobs.get(rt, (k + place as usize) % count) else {
+            let Some(job) = jobs.get(rt, k.saturating_add(place as usize) % count) else {
                 return;
             };
             if let Some(piece) = self.share(rt, gate, &job) {
@@ -237,19 +256,22 @@ impl Decoding {
     }
 }
 
-/// `run`, where a type stands for the scan, so that what the workers share under locks is known to be of it.
+/// `run_with`, where a type stands for the scan, so that what the workers share under locks is known to be of it.
 fn run_as<R: Threads + Wait + Sync, G: Gate + Sync, T, F: FnOnce(&Decoding) -> T, S: OneScan + Send>(
     decoding: &Decoding,
     rt: &R,
     seats: Vec<Seat>,
+    own: Option<Seat>,
     gate: &G,
     beside: F,
 ) -> T
     requires scan { S.scan ≡ Some decoding.now.scan }
     requires seats { All (λ s. s.desk ≡ decoding.now.desk) seats.items }
+    requires own { IfSome own (λ s. s.desk ≡ decoding.now.desk) }
     requires beside { F.IsAlwaysCallable beside }
     ensures { FnOnceReturnsAt F.FnOnce beside decoding.now result }
 {
-    let jobs: Jobs<S> = Jobs::of(decoding.alloc, seats.len());
-    decoding.run_with(rt, seats, gate, &jobs, beside)
+    let workers = seats.len().saturating_add(usize::from(own.is_some()));
+    let jobs: Jobs<S> = Jobs::of(decoding.alloc, workers);
+    decoding.run_with(rt, seats, own, gate, &jobs, beside)
 }

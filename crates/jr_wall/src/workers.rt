@@ -89,6 +89,6 @@ pub fn decode_all<R: Threads + Wait + Sync, G: Gate + Sync>(
     ensures { IfOk result (λ b. IsDecoded (arc_value scan) (least first (length (arc_value scan).intervals)) b) }
 {
     let (decoding, seats) = Decoding::open(alloc, scan, workers, first)?;
-    decoding.run(rt, seats, gate, |_| {});
+    decoding.run_here(rt, seats, gate);
     decoding.finish()
 }

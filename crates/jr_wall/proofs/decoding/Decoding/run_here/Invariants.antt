@@ -1,0 +1,5 @@
+use Rattle.std.specs.Prelude.{Some}
+use Rattle.jr_wall.proofs.decoding.Decoding.run_here.Given as goal
+
+abbrev pub ghosts-run_as : goal.ghosts-run_as
+ghosts-run_as g a = record { scan = Some a.decoding.now.scan }
