@@ -16,5 +16,5 @@ returns-in_err-write_number-clause-err g c =
 pub returns-clause-err : goal.returns-clause-err
 returns-clause-err g c =
     let h = c.args.head.now in
-    let e : header_of h ≡ (c.magic.result.now ++ decimal h.width ++ codes " ") ++ (decimal h.height ++ codes "\n255\n") ++ [] = search (rules, append_assoc) in
+    let e : header_of h ≡ (c.magic.result.now ++ (decimal h.width ++ codes " ")) ++ (decimal h.height ++ codes "\n255\n") ++ [] = search (rules, append_assoc) in
     on_err_map c.write_number-2.result _ _ (front_of _ _ _ _ _ _ _ e (then _ _ _ _ _ c.in_ok-write_all.ensures.ok (rw c.width.ensures.value at c.in_ok-write_number.ensures.ok))) (rw c.height.ensures.value at c.write_number-2.ensures.err)
