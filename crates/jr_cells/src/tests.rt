@@ -17,7 +17,7 @@ use std::thread::Threads;
 
 /// What a piece tells.
 fn told(piece: &Piece) -> Option<Told> {
-    let samples = piece.unit(0)?;
+    let samples = piece.block(0)?;
     Some((piece.number(), *samples))
 }
 

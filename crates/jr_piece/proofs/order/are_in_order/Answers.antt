@@ -1,4 +1,4 @@
-use Rattle.std.proofs.Common.{◌+◌, ap, subst, ◌∙◌, sym, arith, rules}
+use Rattle.std.proofs.Common.{◌≡◌, ◌+◌, length, ap, subst, ◌∙◌, sym, arith, rules}
 use Rattle.std.specs.Arc.{arc_value}
 use Rattle.std.proofs.lemmas.Bool.{false≢true}
 use Rattle.std.proofs.lemmas.List.{length-map}
@@ -35,7 +35,7 @@ strips-preserved c =
 pub returns-clause-order : goal.returns-clause-order
 returns-clause-order c =
     let strips = c.args.strips.now in
-    let all = length-map strips arc_value ∙ omega (arith, c.strips-test.false, c.strips.auto.k-end) in
+    let all : length (shared_strips strips) ≡ c.strips.k = length-map strips arc_value ∙ omega (arith, c.strips-test.false, c.strips.auto.k-end) in
     search (rules, ended c.mcus_of_each-each.result c.args.front c.strips.k c.strips.end (shared_strips strips) c.mcus_of_each-each.ensures c.strips.invariant.end all c.strips.invariant.at)
 
 pub returns-clause-strips : goal.returns-clause-strips
