@@ -1,4 +1,4 @@
-use Rattle.std.proofs.Common.{◌≡◌, ◌<◌, sym, subst, ap, ◌∙◌, arith}
+use Rattle.std.proofs.Common.{rules, ◌≡◌, ◌<◌, sym, subst, ap, ◌∙◌, arith}
 use Rattle.std.specs.Option.{IfNone}
 use Rattle.jr_scan.specs.IntervalValue.{IntervalValue}
 use Rattle.jr_piece.specs.Sharing.{IsOneOf}
@@ -15,9 +15,10 @@ returns-in-None g c =
     let some : 0 < 256 = omega arith in
     let there : HasWholeMcus r.interval r.first = (subst (λ o. IfNone o (0 < 256 → HasWholeMcus r.interval r.first)) c.in-None.is c.in_ok-strip.ensures.none) some in
     let whole : HasWholeMcus now.interval now.first = subst (λ (x : ReadingValue). HasWholeMcus x.interval x.first) (sym same) there in
+    let ends : TellsEnd now.interval c.first.result c.is_sound.result = subst (λ k. TellsEnd now.interval k c.is_sound.result) (sym c.first.ensures) (tells_end c.is_sound.result now.interval now.first c.is_sound.ensures.sound c.is_sound.ensures.damaged whole) in
     record {
       interval = now.interval;
       own = subst (IsOneOf g.S.OneScan.scan) (ap (λ (x : ReadingValue). x.interval) (sym same)) c.self.invariant;
       number = sym c.number.ensures;
-      ends = subst (λ k. TellsEnd now.interval k c.is_sound.result) (sym c.first.ensures) (tells_end c.is_sound.result now.interval now.first c.is_sound.ensures.sound c.is_sound.ensures.damaged whole);
+      ends = search (rules, ends);
     }
