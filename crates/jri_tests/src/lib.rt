@@ -25,6 +25,8 @@ mod glances;
 #[cfg(test)]
 mod limits;
 #[cfg(test)]
+mod long_intervals;
+#[cfg(test)]
 mod one_byte;
 #[cfg(test)]
 mod pictures;

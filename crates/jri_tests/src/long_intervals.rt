@@ -1,0 +1,95 @@
+//! Files whose intervals are so long that all workers share them, strip by strip: whole, cut and changed, they give the
+//! picture, the report and the status that one worker gives, which shares nothing.
+
+ghost use Rattle.std.specs.Prelude.{◌≤◌};
+ghost use Rattle.jr_base.specs.declared.limits.TheConstants.{MAX_WORKERS};
+
+use crate::decoding::{Outcome, decode};
+use crate::files::{changed, file, front};
+use std::process::Abort;
+use std::sync::Wait;
+use std::test::Fail;
+use std::thread::Threads;
+
+/// One interval of 1056 MCUs: twelve, each 8 lighter than the one before, then twelve, each 8 darker, and so on.
+const ONE: &str =
+    "S Q F:0108:0100 D A C 44*618618618618618618596596596596596596 E";
+
+/// Two such intervals.
+const TWO: &str = "S Q F:0210:0100 D A FF DD 00 04 04 20 C 44*618618618618618618596596596596596596 \
+    FF D0 44*618618618618618618596596596596596596 E";
+
+/// One such interval, and one of 32 MCUs, which is short.
+const LONG_AND_SHORT: &str = "S Q F:0110:0100 D A FF DD 00 04 04 20 \
+    C 44*618618618618618618596596596596596596 FF D0 4*618618596596 E";
+
+/// Three components, 1080 MCUs of six data units.
+const COLOURED: &str = "S Q F3:01E0:0240:22 D:00:03:06 A \
+    C3 108*6000C06000C06000C06000C06000C05800B05800B05800B05800B05800B0 E";
+
+/// Whether two runs gave the same picture, lines and status.
+fn is_same(one: &Outcome, other: &Outcome) -> bool {
+    one.picture == other.picture && one.lines == other.lines && one.status == other.status
+}
+
+/// Holds the outcomes of several workers against that of one.
+fn check<R: Threads + Wait + Sync + AllocGlobal + Abort>(
+    rt: &R,
+    bytes: &[u8],
+    name: &str,
+    at: usize,
+) -> Result<(), Fail> {
+    let one = decode(rt, bytes, 1, None)?;
+    for workers in [2, 3, 4, 64] {
+        let other = decode(rt, bytes, workers, None)?;
+        assert!(rt; is_same(&one, &other), "{name} at {at} by {workers} workers");
+    }
+    Ok(())
+}
+
+/// A file whole, and cut and changed at every 211th byte of its last ones.
+fn check_all<R: Threads + Wait + Sync + AllocGlobal + Abort>(
+    rt: &R,
+    words: &str,
+    last: usize,
+) -> Result<(), Fail> {
+    let whole = file(rt.alloc(), words)?;
+    let bytes = whole.as_slice();
+    check(rt, bytes, words, bytes.len())?;
+    for at in (bytes.len().saturating_sub(last)..bytes.len()).step_by(211) {
+        check(rt, front(bytes, at), words, at)?;
+        check(rt, changed(rt.alloc(), bytes, at, 0xE0)?.as_slice(), words, at)?;
+    }
+    Ok(())
+}
+
+/// A sound interval of 1056 MCUs is reported as such, whoever decodes it.
+#[test]
+fn one_long_interval_is_sound(rt: HostRuntime) -> Result<(), Fail> {
+    let bytes = file(rt.alloc(), ONE)?;
+    let outcome = decode(&rt, bytes.as_slice(), 4, None)?;
+    assert_eq!(rt; outcome.status, 0);
+    let lines = "intervals 1 sound 1 damaged 0 blank 0\n";
+    assert!(rt; outcome.lines.as_slice().starts_with(lines.as_bytes()));
+    Ok(())
+}
+
+#[test]
+fn one_long_interval(rt: HostRuntime) -> Result<(), Fail> {
+    check_all(&rt, ONE, 800)
+}
+
+#[test]
+fn two_long_intervals(rt: HostRuntime) -> Result<(), Fail> {
+    check_all(&rt, TWO, 1600)
+}
+
+#[test]
+fn a_long_interval_and_a_short_one(rt: HostRuntime) -> Result<(), Fail> {
+    check_all(&rt, LONG_AND_SHORT, 830)
+}
+
+#[test]
+fn three_components_in_a_long_interval(rt: HostRuntime) -> Result<(), Fail> {
+    check_all(&rt, COLOURED, 3300)
+}
