@@ -12,8 +12,7 @@ use std::test::Fail;
 use std::thread::Threads;
 
 /// One interval of 1056 MCUs: twelve, each 8 lighter than the one before, then twelve, each 8 darker, and so on.
-const ONE: &str =
-    "S Q F:0108:0100 D A C 44*618618618618618618596596596596596596 E";
+const ONE: &str = "S Q F:0108:0100 D A C 44*618618618618618618596596596596596596 E";
 
 /// Two such intervals.
 const TWO: &str = "S Q F:0210:0100 D A FF DD 00 04 04 20 C 44*618618618618618618596596596596596596 \
@@ -42,7 +41,10 @@ fn check<R: Threads + Wait + Sync + AllocGlobal + Abort>(
     let one = decode(rt, bytes, 1, None)?;
     for workers in [2, 3, 4, 64] {
         let other = decode(rt, bytes, workers, None)?;
-        assert!(rt; is_same(&one, &other), "{name} at {at} by {workers} workers");
+        assert!(rt;
+            is_same(&one, &other),
+            "{name} at {at} by {workers} workers"
+        );
     }
     Ok(())
 }
@@ -58,7 +60,12 @@ fn check_all<R: Threads + Wait + Sync + AllocGlobal + Abort>(
     check(rt, bytes, words, bytes.len())?;
     for at in (bytes.len().saturating_sub(last)..bytes.len()).step_by(211) {
         check(rt, front(bytes, at), words, at)?;
-        check(rt, changed(rt.alloc(), bytes, at, 0xE0)?.as_slice(), words, at)?;
+        check(
+            rt,
+            changed(rt.alloc(), bytes, at, 0xE0)?.as_slice(),
+            words,
+            at,
+        )?;
     }
     Ok(())
 }
