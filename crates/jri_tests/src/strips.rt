@@ -38,37 +38,51 @@ const fn colour(file: &'static str, mcus: u32, is_sound: bool) -> Case {
 
 /// Ten MCUs of one data unit, each 8 lighter than the one before; the data whole, cut, changed in one bit and followed by
 /// a spare byte.
-const GREY: [Case; 7] = [
-    grey("S Q F:0008:0050 D A C 61 86 18 61 86 18 61 8F E", 10, true),
-    grey("S Q F:0008:0050 D A C 61 86 18 61 E", 5, false),
-    grey("S Q F:0008:0050 D A C 61 86 38 61 86 18 61 8F E", 3, false),
-    grey("S Q F:0008:0050 D A C 71 86 18 61 86 18 61 8F E", 10, true),
-    grey("S Q F:0008:0050 D A C 61 86 18 61 86 18 61 8F 00 E", 10, false),
-    grey("S Q F:0008:0050 D A C E0 E", 0, false),
-    grey("S Q F:0008:0050 D A C E", 0, false),
-];
+fn grey_intervals() -> [Case; 7] {
+    [
+        grey("S Q F:0008:0050 D A C 61 86 18 61 86 18 61 8F E", 10, true),
+        grey("S Q F:0008:0050 D A C 61 86 18 61 E", 5, false),
+        grey("S Q F:0008:0050 D A C 61 86 38 61 86 18 61 8F E", 3, false),
+        grey("S Q F:0008:0050 D A C 71 86 18 61 86 18 61 8F E", 10, true),
+        grey(
+            "S Q F:0008:0050 D A C 61 86 18 61 86 18 61 8F 00 E",
+            10,
+            false,
+        ),
+        grey("S Q F:0008:0050 D A C E0 E", 0, false),
+        grey("S Q F:0008:0050 D A C E", 0, false),
+    ]
+}
 
 /// Four MCUs of six data units; the first and the fifth of each are 8 lighter than those before.
-const COLOUR: [Case; 4] = [
-    colour(
-        "S Q F3:0010:0040:22 D:00:03:06 A C3 60 00 C0 60 00 C0 60 00 C0 60 00 C0 E",
-        4,
-        true,
-    ),
-    colour("S Q F3:0010:0040:22 D:00:03:06 A C3 60 00 C0 60 00 E", 1, false),
-    colour(
-        "S Q F3:0010:0040:22 D:00:03:06 A C3 60 00 C0 60 00 C0 60 03 C0 60 00 C0 E",
-        2,
-        false,
-    ),
-    colour("S Q F3:0010:0040:22 D:00:03:06 A C3 E0 E", 0, false),
-];
+fn coloured_intervals() -> [Case; 4] {
+    [
+        colour(
+            "S Q F3:0010:0040:22 D:00:03:06 A C3 60 00 C0 60 00 C0 60 00 C0 60 00 C0 E",
+            4,
+            true,
+        ),
+        colour(
+            "S Q F3:0010:0040:22 D:00:03:06 A C3 60 00 C0 60 00 E",
+            1,
+            false,
+        ),
+        colour(
+            "S Q F3:0010:0040:22 D:00:03:06 A C3 60 00 C0 60 00 C0 60 03 C0 60 00 C0 E",
+            2,
+            false,
+        ),
+        colour("S Q F3:0010:0040:22 D:00:03:06 A C3 E0 E", 0, false),
+    ]
+}
 
 /// 256 MCUs, and an interval whose head claims four millions of them over the data of one.
-const LARGE: [Case; 2] = [
-    grey("S Q F:0020:0200 D A C 60 96*00 E", 256, true),
-    grey("S Q F:FFFF:1000 D A C 63 E", 1, false),
-];
+fn large_intervals() -> [Case; 2] {
+    [
+        grey("S Q F:0020:0200 D A C 60 96*00 E", 256, true),
+        grey("S Q F:FFFF:1000 D A C 63 E", 1, false),
+    ]
+}
 
 /// A reader of the one interval of a scan.
 fn reader(alloc: Global, scan: &Scan) -> Result<StripReader, Fail> {
@@ -127,8 +141,14 @@ fn check_strips(
         strip.be_strip();
         assert_eq!(rt; strip.number(), piece.number());
         assert_eq!(rt; strip.first().wrapping_add(strip.mcus()), end);
-        assert!(rt; strip.mcus() == most || end == piece.front(), "a short strip");
-        assert!(rt; is_part(&strip, piece, blocks), "the strip before MCU {end}");
+        assert!(rt;
+            strip.mcus() == most || end == piece.front(),
+            "a short strip"
+        );
+        assert!(rt;
+            is_part(&strip, piece, blocks),
+            "the strip before MCU {end}"
+        );
         end = strip.first();
     }
     assert_eq!(rt; end, 0);
@@ -139,7 +159,10 @@ fn check_strips(
 fn check(rt: &impl Abort, alloc: Global, case: &Case) -> Result<(), Fail> {
     let scan = scan(alloc, case.file)?;
     let piece = piece(alloc, &scan, 0)?;
-    assert_eq!(rt; (piece.front(), piece.is_sound()), (case.mcus, case.is_sound));
+    assert_eq!(rt;
+        (piece.front(), piece.is_sound()),
+        (case.mcus, case.is_sound)
+    );
     for most in [1, 2, 3, 64, u32::MAX] {
         let mut reader = reader(alloc, &scan)?;
         assert!(rt; !reader.is_sound(), "nothing is read");
@@ -152,7 +175,7 @@ fn check(rt: &impl Abort, alloc: Global, case: &Case) -> Result<(), Fail> {
 
 #[test]
 fn strips_of_one_component(rt: HostRuntime) -> Result<(), Fail> {
-    for case in &GREY {
+    for case in &grey_intervals() {
         check(&rt, rt.alloc(), case)?;
     }
     Ok(())
@@ -160,7 +183,7 @@ fn strips_of_one_component(rt: HostRuntime) -> Result<(), Fail> {
 
 #[test]
 fn strips_of_three_components(rt: HostRuntime) -> Result<(), Fail> {
-    for case in &COLOUR {
+    for case in &coloured_intervals() {
         check(&rt, rt.alloc(), case)?;
     }
     Ok(())
@@ -168,7 +191,7 @@ fn strips_of_three_components(rt: HostRuntime) -> Result<(), Fail> {
 
 #[test]
 fn strips_of_many_mcus(rt: HostRuntime) -> Result<(), Fail> {
-    for case in &LARGE {
+    for case in &large_intervals() {
         check(&rt, rt.alloc(), case)?;
     }
     Ok(())
