@@ -1,6 +1,7 @@
 //! Pieces that are made of strips show what those of the same intervals show that are read at once.
 
-ghost use Rattle.std.specs.Prelude.{◌≡◌, ◌<◌, IfOk};
+ghost use Rattle.std.specs.Prelude.{◌≡◌, ◌<◌, IfOk, OnOk};
+ghost use Rattle.jr_scan.specs.IntervalValue.{IntervalValue};
 ghost use Rattle.jr_piece.specs.Strips.{AreOf, HasWholeMcus, shared_strips};
 
 use crate::scans::{piece, scan};
@@ -23,7 +24,7 @@ struct Cut {
 /// No strip is left out.
 const ALL: usize = 1000;
 
-const fn cut(first: u32, then: u32, without: usize) -> Cut {
+const fn strips_of(first: u32, then: u32, without: usize) -> Cut {
     Cut {
         first,
         then,
@@ -38,35 +39,57 @@ struct Gathered {
     front: u32,
 }
 
+/// How many MCUs a strip is asked for.
+fn mcus_of(cut: Cut, number: usize) -> u32
+    requires first { 0 < cut.first }
+    requires then { 0 < cut.then }
+    ensures { 0 < result }
+{
+    if number == 0 { cut.first } else { cut.then }
+}
+
+/// Puts a strip behind others, or leaves it out.
+fn keep(
+    alloc: Global,
+    strips: &mut Vec<Arc<Strip>>,
+    strip: Strip,
+    is_left_out: bool,
+) -> Result<(), Fail>
+    ensures { OnOk result ((i : IntervalValue) → strip.interval ≡ i → AreOf i (shared_strips strips.old.items) → AreOf i (shared_strips strips.new.items)) }
+{
+    if is_left_out {
+        return Ok(());
+    }
+    strips.push(Arc::new(alloc, strip)?)?;
+    Ok(())
+}
+
 /// Reads an interval in strips.
 fn gather(alloc: Global, reader: &mut StripReader, cut: Cut) -> Result<Gathered, Fail>
     requires start { reader.old.first ≡ 0 }
     requires first { 0 < cut.first }
     requires then { 0 < cut.then }
     ensures interval { reader.new.interval ≡ reader.old.interval }
-    ensures of { IfOk result (λ g. AreOf reader.new.interval (shared_strips g.strips.items)) }
+    ensures of { IfOk result (λ g. AreOf reader.old.interval (shared_strips g.strips.items)) }
     ensures front { IfOk result (λ g. g.front ≡ reader.new.first) }
-    ensures whole { IfOk result (λ g. HasWholeMcus reader.new.interval g.front) }
+    ensures whole { IfOk result (λ g. HasWholeMcus reader.old.interval g.front) }
 {
     let mut strips = Vec::new(alloc);
     let mut front = 0;
     let mut number = 0usize;
     'strips: loop {
-        let most = if number == 0 { cut.first } else { cut.then };
-        let Some(coded) = reader.next(alloc, most)? else {
+        let Some(coded) = reader.next(alloc, mcus_of(cut, number))? else {
             return Ok(Gathered { strips, front });
         };
         let strip = coded.decode(alloc)?;
-        front = strip.first() + strip.mcus();
-        if number != cut.without {
-            strips.push(Arc::new(alloc, strip)?)?;
-        }
+        front = strip.first().checked_add(strip.mcus()).ok_or("an MCU past the last")?;
+        keep(alloc, &mut strips, strip, number == cut.without)?;
         number = number.saturating_add(1);
     }
 }
 
 /// The piece of the first interval, made of its strips.
-fn gathered(alloc: Global, scan: &Scan, cut: Cut) -> Result<Result<Piece, NotInOrder>, Fail>
+fn piece_of_strips(alloc: Global, scan: &Scan, cut: Cut) -> Result<Result<Piece, NotInOrder>, Fail>
     requires first { 0 < cut.first }
     requires then { 0 < cut.then }
 {
@@ -102,7 +125,7 @@ fn check(
         if *first == 0 || *then == 0 {
             return Err(Fail::from("a strip of no MCUs"));
         }
-        let Ok(made) = gathered(alloc, &scan, cut(*first, *then, ALL))? else {
+        let Ok(made) = piece_of_strips(alloc, &scan, strips_of(*first, *then, ALL))? else {
             return Err(Fail::from("strips in order"));
         };
         made.be_outcome();
@@ -136,18 +159,18 @@ fn strips_out_of_order(rt: HostRuntime) -> Result<(), Fail> {
     let a = rt.alloc();
     let scan = scan(a, GREY)?;
     let cases = [
-        (cut(4, 6, ALL), 2),
-        (cut(4, 3, ALL), 3),
-        (cut(3, 3, 0), 3),
-        (cut(3, 3, 1), 3),
-        (cut(3, 3, 3), 3),
-        (cut(10, 1, 0), 0),
+        (strips_of(4, 6, ALL), 2),
+        (strips_of(4, 3, ALL), 3),
+        (strips_of(3, 3, 0), 3),
+        (strips_of(3, 3, 1), 3),
+        (strips_of(3, 3, 3), 3),
+        (strips_of(10, 1, 0), 0),
     ];
     for (cut, count) in cases {
         if cut.first == 0 || cut.then == 0 {
             return Err(Fail::from("a strip of no MCUs"));
         }
-        let Err(back) = gathered(a, &scan, cut)? else {
+        let Err(back) = piece_of_strips(a, &scan, cut)? else {
             return Err(Fail::from("strips out of order"));
         };
         assert_eq!(rt; back.strips.len(), count);
