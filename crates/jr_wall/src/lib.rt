@@ -24,8 +24,8 @@ pub use headline::Counts;
 pub use jr_cells::{Cells, Sight};
 pub use jr_desk::{Desk, Drawn, Seat};
 pub use jr_piece::{
-    CodedStrip, Piece, Strip, StripReader, one_outcome, one_strip, strip_is_final, strips_meet,
-    whole_strip_is_outcome,
+    CodedStrip, NotInOrder, Piece, Strip, StripReader, one_outcome, one_strip, strip_is_final,
+    strips_meet, whole_strip_is_outcome,
 };
 pub use laws::one_picture;
 pub use mark::Mark;

@@ -31,6 +31,8 @@ mod one_byte;
 #[cfg(test)]
 mod pictures;
 #[cfg(test)]
+mod pieces;
+#[cfg(test)]
 mod refused;
 #[cfg(test)]
 mod scans;
