@@ -20,6 +20,3 @@ pub use one_scan::OneScan;
 pub use piece::{NotInOrder, Piece};
 pub use strip::{CodedStrip, Strip};
 pub use strip_reader::StripReader;
-
-#[cfg(test)]
-mod tests;

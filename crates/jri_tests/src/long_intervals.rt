@@ -5,7 +5,7 @@ ghost use Rattle.std.specs.Prelude.{◌≤◌};
 ghost use Rattle.jr_base.specs.declared.limits.TheConstants.{MAX_WORKERS};
 
 use crate::decoding::{Outcome, decode};
-use crate::files::{changed, file, front};
+use crate::files::{file, front, with_byte};
 use std::process::Abort;
 use std::sync::Wait;
 use std::test::Fail;
@@ -62,7 +62,7 @@ fn check_all<R: Threads + Wait + Sync + AllocGlobal + Abort>(
         check(rt, front(bytes, at), words, at)?;
         check(
             rt,
-            changed(rt.alloc(), bytes, at, 0xE0)?.as_slice(),
+            with_byte(rt.alloc(), bytes, at, 0xE0)?.as_slice(),
             words,
             at,
         )?;
