@@ -7,6 +7,7 @@
 mod caller;
 mod intervals;
 mod keeping;
+mod strips;
 
 use caller::Caller;
 use std::io::{Read, Write};
@@ -24,6 +25,8 @@ fn main(rt: HostRuntime) -> ExitCode {
         ("Interval::read, damaged", caller.read(1)),
         ("Piece::make", caller.make_piece(0)),
         ("Piece::make, damaged", caller.make_piece(1)),
+        ("StripReader::next", caller.read_strip()),
+        ("CodedStrip::decode", caller.decode_strip()),
         ("Scan::cut", caller.cut()),
         ("Board::new", caller.open_board()),
         ("Desk::open", caller.open_desk()),
