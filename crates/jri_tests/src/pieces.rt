@@ -82,7 +82,10 @@ fn gather(alloc: Global, reader: &mut StripReader, cut: Cut) -> Result<Gathered,
             return Ok(Gathered { strips, front });
         };
         let strip = coded.decode(alloc)?;
-        front = strip.first().checked_add(strip.mcus()).ok_or("an MCU past the last")?;
+        front = strip
+            .first()
+            .checked_add(strip.mcus())
+            .ok_or("an MCU past the last")?;
         keep(alloc, &mut strips, strip, number == cut.without)?;
         number = number.saturating_add(1);
     }
@@ -122,16 +125,23 @@ fn check(
     let scan = scan(alloc, file)?;
     let piece = piece(alloc, &scan, 0)?;
     for (first, then) in cuts {
-        if *first == 0 || *then == 0 {
+        let cut = strips_of(*first, *then, ALL);
+        if cut.first == 0 || cut.then == 0 {
             return Err(Fail::from("a strip of no MCUs"));
         }
-        let Ok(made) = piece_of_strips(alloc, &scan, strips_of(*first, *then, ALL))? else {
+        let Ok(made) = piece_of_strips(alloc, &scan, cut)? else {
             return Err(Fail::from("strips in order"));
         };
         made.be_outcome();
         assert_eq!(rt; made.number(), piece.number());
-        assert_eq!(rt; (made.front(), made.is_sound()), (piece.front(), piece.is_sound()));
-        assert!(rt; made.is_for(&scan) && is_same(&made, &piece, units), "strips of {first}");
+        assert_eq!(rt;
+            (made.front(), made.is_sound()),
+            (piece.front(), piece.is_sound())
+        );
+        assert!(rt;
+            made.is_for(&scan) && is_same(&made, &piece, units),
+            "strips of {first}"
+        );
     }
     Ok(())
 }
@@ -143,7 +153,16 @@ const GREY: &str = "S Q F:0008:0050 D A C 61 86 18 61 86 18 61 8F E";
 #[test]
 fn pieces_of_strips(rt: HostRuntime) -> Result<(), Fail> {
     let a = rt.alloc();
-    let cuts = [(1, 1), (2, 2), (3, 3), (4, 4), (6, 9), (9, 1), (10, 1), (u32::MAX, 1)];
+    let cuts = [
+        (1, 1),
+        (2, 2),
+        (3, 3),
+        (4, 4),
+        (6, 9),
+        (9, 1),
+        (10, 1),
+        (u32::MAX, 1),
+    ];
     check(&rt, a, GREY, 10, &cuts)?;
     // Five MCUs and then the end, and none at all.
     check(&rt, a, "S Q F:0008:0050 D A C 61 86 18 61 E", 5, &cuts)?;

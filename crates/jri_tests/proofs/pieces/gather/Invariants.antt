@@ -1,4 +1,4 @@
-use Rattle.std.proofs.Common.{◌≡◌, ℕ, ◌-◌}
+use Rattle.std.proofs.Common.{◌≡◌, ◌-◌}
 use Rattle.jr_piece.specs.Strips.{AreOf, shared_strips}
 use Rattle.jri_tests.proofs.pieces.gather.Given as goal
 
