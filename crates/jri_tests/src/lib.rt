@@ -43,9 +43,9 @@ mod paint;
 #[cfg(test)]
 mod pictures;
 #[cfg(test)]
-mod pieces;
-#[cfg(test)]
 mod piece;
+#[cfg(test)]
+mod pieces_of_strips;
 #[cfg(test)]
 mod plain;
 #[cfg(test)]
@@ -57,9 +57,9 @@ mod scans;
 #[cfg(test)]
 mod shares;
 #[cfg(test)]
-mod strips;
-#[cfg(test)]
 mod short_files;
+#[cfg(test)]
+mod strips;
 #[cfg(test)]
 mod viewers;
 #[cfg(test)]

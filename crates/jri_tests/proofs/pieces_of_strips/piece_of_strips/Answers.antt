@@ -3,7 +3,7 @@ use Rattle.std.specs.Prelude.{ℤ}
 use Rattle.jr_scan.specs.IntervalValue.{IntervalValue}
 use Rattle.jr_scan.specs.Mcus.{Decodes, Front, HasNoDecoding}
 use Rattle.jr_piece.specs.Strips.{HasWholeMcus, TellsSound}
-use Rattle.jri_tests.proofs.pieces.piece_of_strips.Goals as goal
+use Rattle.jri_tests.proofs.pieces_of_strips.piece_of_strips.Goals as goal
 
 tells_sound : (t : Bool) (i : IntervalValue) (k : ℕ) → (t ≡ true → (zs : List (List ℤ)) → Front i k zs → Decodes i zs) → (t ≡ false → HasWholeMcus i k → HasNoDecoding i) → HasWholeMcus i k → TellsSound t i
 tells_sound true i k sound none whole = (whole.0, sound refl whole.0 whole.1.front)

@@ -1,6 +1,6 @@
 use Rattle.std.proofs.Common.{◌≡◌, ◌-◌}
 use Rattle.jr_piece.specs.Strips.{AreOf, shared_strips}
-use Rattle.jri_tests.proofs.pieces.gather.Given as goal
+use Rattle.jri_tests.proofs.pieces_of_strips.gather.Given as goal
 
 abbrev pub invariant-strips : goal.invariant-strips
 invariant-strips l = record {
