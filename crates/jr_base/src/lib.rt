@@ -11,6 +11,3 @@ mod writing;
 pub use memory::Memory;
 pub use tally::Tally;
 pub use writing::{WriteFault, write_all};
-
-#[cfg(test)]
-mod tests;

@@ -6,6 +6,3 @@
 mod cells;
 
 pub use cells::{Cells, Sight};
-
-#[cfg(test)]
-mod tests;

@@ -11,6 +11,3 @@ pub use bits::Bits;
 pub use book::{CodeBook, CodeFault, word_count};
 pub use jr_base::Memory;
 pub use laws::{each_place_has_a_word, one_word, same_table_tells};
-
-#[cfg(test)]
-mod tests;

@@ -6,6 +6,3 @@
 mod claims;
 
 pub use claims::{Desk, Drawn, Seat};
-
-#[cfg(test)]
-mod tests;

@@ -11,8 +11,6 @@ mod laws;
 mod matrix;
 mod narrow;
 mod number;
-#[cfg(test)]
-mod tests;
 mod zigzag;
 
 pub use block::transform;

@@ -18,6 +18,3 @@ pub use geometry::{Spot, exactly_one_place, place};
 pub use jr_base::{Tally, WriteFault};
 pub use netpbm::write_netpbm;
 pub use samples::Samples;
-
-#[cfg(test)]
-mod tests;

@@ -7,6 +7,3 @@ mod piece;
 
 pub use laws::one_outcome;
 pub use piece::Piece;
-
-#[cfg(test)]
-mod tests;

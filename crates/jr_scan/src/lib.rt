@@ -24,6 +24,3 @@ pub use place::{Place, RunEnd};
 pub use reader::BlockReader;
 pub use scan::Scan;
 pub use scan_end::ScanEnd;
-
-#[cfg(test)]
-mod tests;

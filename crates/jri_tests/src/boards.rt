@@ -1,7 +1,7 @@
 //! Pieces posted on a board: out of order, twice, and of another file's scan.
 
 use crate::files::TEN;
-use crate::scans::{marks, piece, sample, scan, shows};
+use crate::scans::{marks_of, piece, sample_at, scan, shows};
 use jr_paint::Samples;
 use jr_scan::Scan;
 use jr_wall::{Board, Gate, Mark, OpenGate, Piece, Unposted, decode_all};
@@ -24,7 +24,7 @@ fn blank_board(alloc: Global, words: &str) -> Result<(Arc<Scan>, Board), Fail> {
 }
 
 /// The piece that comes back, and whether the board calls it foreign.
-fn back(outcome: Result<(), Unposted>) -> Option<(Arc<Piece>, bool)> {
+fn piece_back(outcome: Result<(), Unposted>) -> Option<(Arc<Piece>, bool)> {
     match outcome {
         Ok(()) => None,
         Err(Unposted::Foreign(piece)) => Some((piece, true)),
@@ -37,26 +37,26 @@ fn counts(board: &Board) -> (u32, u32, u32) {
 }
 
 #[test]
-fn a_damaged_piece_before_a_sound_one(rt: HostRuntime) -> Result<(), Fail> {
+fn takes_a_damaged_piece_before_a_sound_one(rt: HostRuntime) -> Result<(), Fail> {
     let alloc = rt.alloc();
     let (scan, mut board) = blank_board(alloc, DAMAGED)?;
     assert_eq!(rt; counts(&board), (0, 0, 2));
-    assert_eq!(rt; sample(&board, 0, 0), Some(0));
+    assert_eq!(rt; sample_at(&board, 0, 0), Some(0));
     assert!(rt; board.post(piece(alloc, &scan, 1)?).is_ok());
-    assert!(rt; marks(alloc, &scan, &board)?.as_str() == "-d");
+    assert!(rt; marks_of(alloc, &scan, &board)?.as_str() == "-d");
     assert_eq!(rt;
-        (sample(&board, 8, 0), sample(&board, 0, 0)),
+        (sample_at(&board, 8, 0), sample_at(&board, 0, 0)),
         (Some(128), Some(0))
     );
     assert!(rt; board.post(piece(alloc, &scan, 0)?).is_ok());
-    assert!(rt; marks(alloc, &scan, &board)?.as_str() == "sd");
+    assert!(rt; marks_of(alloc, &scan, &board)?.as_str() == "sd");
     assert!(rt; shows(&board, 0, 136) && shows(&board, 8, 128));
     assert_eq!(rt; counts(&board), (1, 1, 0));
     Ok(())
 }
 
 #[test]
-fn pieces_out_of_order(rt: HostRuntime) -> Result<(), Fail> {
+fn takes_pieces_out_of_order(rt: HostRuntime) -> Result<(), Fail> {
     let alloc = rt.alloc();
     let (scan, mut board) = blank_board(alloc, TEN)?;
     let steps = [
@@ -71,14 +71,14 @@ fn pieces_out_of_order(rt: HostRuntime) -> Result<(), Fail> {
         (3, "ssss-sssss"),
         (4, "ssssssssss"),
     ];
-    for (number, wanted) in steps {
+    for (number, letters) in steps {
         assert!(rt; shows(&board, 8 * number, 0), "before {number}");
         assert!(rt;
             board.post(piece(alloc, &scan, number)?).is_ok(),
             "piece {number}"
         );
-        let found = marks(alloc, &scan, &board)?;
-        assert!(rt; found.as_str() == wanted, "marks after {number}");
+        let found = marks_of(alloc, &scan, &board)?;
+        assert!(rt; found.as_str() == letters, "marks after {number}");
         assert!(rt; shows(&board, 8 * number, 136), "after {number}");
     }
     assert_eq!(rt; counts(&board), (10, 0, 0));
@@ -86,45 +86,49 @@ fn pieces_out_of_order(rt: HostRuntime) -> Result<(), Fail> {
 }
 
 #[test]
-fn a_piece_posted_twice(rt: HostRuntime) -> Result<(), Fail> {
+fn refuses_a_piece_posted_twice(rt: HostRuntime) -> Result<(), Fail> {
     let alloc = rt.alloc();
     let (scan, mut board) = blank_board(alloc, SOUND)?;
     let once = piece(alloc, &scan, 0)?;
     let again = Arc::try_clone(&once)?;
     assert!(rt; board.post(once).is_ok());
-    let (refused, is_foreign) = back(board.post(again)).ok_or("posted twice")?;
+    let (refused, is_foreign) = piece_back(board.post(again)).ok_or("posted twice")?;
     assert!(rt; !is_foreign && refused.number() == 0);
-    let (refused, is_foreign) = back(board.post(piece(alloc, &scan, 0)?)).ok_or("posted twice")?;
+    let (refused, is_foreign) = piece_back(board.post(piece(alloc, &scan, 0)?)).ok_or(
+        "posted twice",
+    )?;
     assert!(rt; !is_foreign && refused.number() == 0);
     assert_eq!(rt; counts(&board), (1, 0, 1));
-    assert!(rt; marks(alloc, &scan, &board)?.as_str() == "s-");
+    assert!(rt; marks_of(alloc, &scan, &board)?.as_str() == "s-");
     assert!(rt; shows(&board, 0, 136) && shows(&board, 8, 0));
     Ok(())
 }
 
 #[test]
-fn a_foreign_piece(rt: HostRuntime) -> Result<(), Fail> {
+fn refuses_a_foreign_piece(rt: HostRuntime) -> Result<(), Fail> {
     let alloc = rt.alloc();
     let (scan_here, mut board) = blank_board(alloc, SOUND)?;
     let other = scan(alloc, DAMAGED)?;
     assert!(rt; board.is_of(&scan_here) && !board.is_of(&other));
     let stranger = piece(alloc, &other, 1)?;
     assert!(rt; stranger.is_for(&other) && !stranger.is_for(&scan_here));
-    let (refused, is_foreign) = back(board.post(stranger)).ok_or("a foreign piece")?;
+    let (refused, is_foreign) = piece_back(board.post(stranger)).ok_or("a foreign piece")?;
     assert!(rt; is_foreign && refused.number() == 1 && !refused.is_sound());
     assert_eq!(rt; counts(&board), (0, 0, 2));
-    assert!(rt; marks(alloc, &scan_here, &board)?.as_str() == "--");
+    assert!(rt; marks_of(alloc, &scan_here, &board)?.as_str() == "--");
     assert!(rt; shows(&board, 0, 0) && shows(&board, 8, 0));
     Ok(())
 }
 
 /// A piece of a number that the board's scan does not have.
 #[test]
-fn a_piece_past_the_last(rt: HostRuntime) -> Result<(), Fail> {
+fn refuses_a_piece_past_the_last(rt: HostRuntime) -> Result<(), Fail> {
     let alloc = rt.alloc();
     let ten = scan(alloc, TEN)?;
     let mut board = Board::new(alloc, scan(alloc, SOUND)?)?;
-    let (refused, is_foreign) = back(board.post(piece(alloc, &ten, 9)?)).ok_or("past the last")?;
+    let (refused, is_foreign) = piece_back(board.post(piece(alloc, &ten, 9)?)).ok_or(
+        "past the last",
+    )?;
     assert!(rt; is_foreign && refused.number() == 9);
     assert_eq!(rt; counts(&board), (0, 0, 2));
     Ok(())
@@ -132,7 +136,7 @@ fn a_piece_past_the_last(rt: HostRuntime) -> Result<(), Fail> {
 
 /// What a piece shows of its interval.
 #[test]
-fn looks_of_a_piece(rt: HostRuntime) -> Result<(), Fail> {
+fn shows_sound_and_damaged_pieces(rt: HostRuntime) -> Result<(), Fail> {
     let alloc = rt.alloc();
     let scan_here = scan(alloc, DAMAGED)?;
     let first = piece(alloc, &scan_here, 0)?;
@@ -172,12 +176,12 @@ fn decodes<R: Threads + Wait + Sync + AllocGlobal + Abort>(
     let shared = Arc::try_clone(&scan)?;
     let board = decode_all(rt, rt.alloc(), shared, 3, first, &OpenGate)?;
     let size = (board.head().width(), board.head().height());
-    let is_marked = marks(rt.alloc(), &scan, &board)?.as_str() == letters;
+    let is_marked = marks_of(rt.alloc(), &scan, &board)?.as_str() == letters;
     Ok(is_marked && size == (16, 8) && line(rt, &board, 4) == samples)
 }
 
 #[test]
-fn decoded_by_workers(rt: HostRuntime) -> Result<(), Fail> {
+fn shows_what_workers_decode(rt: HostRuntime) -> Result<(), Fail> {
     let both = [136, 136, 136, 136, 128, 128, 128, 128];
     assert!(rt; decodes(&rt, None, "sd", both)?);
     let one = [136, 136, 136, 136, 0, 0, 0, 0];
@@ -198,7 +202,7 @@ fn keeps_the_first(board: &Board, scan: &Scan) -> bool {
 
 /// The pieces that a board keeps, and a gate that nobody waits at.
 #[test]
-fn kept_pieces(rt: HostRuntime) -> Result<(), Fail> {
+fn keeps_pieces(rt: HostRuntime) -> Result<(), Fail> {
     let scan = scan(rt.alloc(), SOUND)?;
     let shared = Arc::try_clone(&scan)?;
     let board = decode_all(&rt, rt.alloc(), shared, 2, Some(1), &OpenGate)?;

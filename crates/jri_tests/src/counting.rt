@@ -22,7 +22,7 @@ const MORE_TURNS: u32 = 10_000;
 /// Holds each call until so many are inside at once, and then a while longer.
 #[derive(Drop)]
 struct Crowd {
-    wanted: u64,
+    number: u64,
     inside: AtomicU64,
     /// The greatest number that was inside at once.
     greatest: AtomicU64,
@@ -32,9 +32,9 @@ struct Crowd {
 }
 
 impl Crowd {
-    fn of(wanted: u32) -> Crowd {
+    fn of(number: u32) -> Crowd {
         Crowd {
-            wanted: u64::from(wanted),
+            number: u64::from(number),
             inside: AtomicU64::new(0),
             greatest: AtomicU64::new(0),
             calls: AtomicU64::new(0),
@@ -66,9 +66,9 @@ impl Crowd {
         false
     }
 
-    /// Whether just the wanted number came, for the ten intervals.
-    fn is_as_wanted(&self) -> bool {
-        self.greatest.load(Ordering::SeqCst) == self.wanted
+    /// Whether just that number came, for the ten intervals.
+    fn is_exact(&self) -> bool {
+        self.greatest.load(Ordering::SeqCst) == self.number
             && self.calls.load(Ordering::SeqCst) == 10
             && self.late.load(Ordering::SeqCst) == 0
     }
@@ -84,8 +84,8 @@ impl Gate for Crowd {
         } else {
             0
         };
-        if self.await_crowd(self.wanted, turns) {
-            let _ = self.await_crowd(self.wanted.saturating_add(1), MORE_TURNS);
+        if self.await_crowd(self.number, turns) {
+            let _ = self.await_crowd(self.number.saturating_add(1), MORE_TURNS);
         } else {
             self.late.fetch_add(1, Ordering::SeqCst);
         }
@@ -106,26 +106,26 @@ fn check<R: Threads + Wait + Sync + AllocGlobal + Abort>(rt: &R, workers: u32) -
     let mut out = Tally::of(Vec::new(rt.alloc()));
     let outcome = run(rt, rt.alloc(), &mut input, &mut out, workers, None, &gate);
     assert!(rt; outcome.is_ok());
-    assert!(rt; gate.is_as_wanted(), "{workers} workers by run");
+    assert!(rt; gate.is_exact(), "{workers} workers by run");
     let gate = Crowd::of(workers);
     let scan = scan(rt.alloc(), TEN)?;
     let board = decode_all(rt, rt.alloc(), scan, workers, None, &gate)?;
     assert!(rt; board.sound() == 10);
-    assert!(rt; gate.is_as_wanted(), "{workers} workers by decode_all");
+    assert!(rt; gate.is_exact(), "{workers} workers by decode_all");
     Ok(())
 }
 
 #[test]
-fn one_worker(rt: HostRuntime) -> Result<(), Fail> {
+fn counts_one_worker(rt: HostRuntime) -> Result<(), Fail> {
     check(&rt, 1)
 }
 
 #[test]
-fn two_workers(rt: HostRuntime) -> Result<(), Fail> {
+fn counts_two_workers(rt: HostRuntime) -> Result<(), Fail> {
     check(&rt, 2)
 }
 
 #[test]
-fn four_workers(rt: HostRuntime) -> Result<(), Fail> {
+fn counts_four_workers(rt: HostRuntime) -> Result<(), Fail> {
     check(&rt, 4)
 }

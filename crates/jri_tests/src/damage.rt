@@ -1,7 +1,7 @@
 //! What workers leave of damaged intervals: marks, pieces in cells, and calls of the gate.
 
 use crate::files::MIXED;
-use crate::scans::{hung, marks, scan};
+use crate::scans::{letters_in_cells, marks_of, scan};
 use jr_wall::{Decoding, Gate, Piece};
 use std::alloc::{AllocError, Global};
 use std::process::Abort;
@@ -12,7 +12,7 @@ use std::thread::Threads;
 
 /// How often a gate was told of an interval: that it is to be decoded, and then its piece.
 #[derive(Drop)]
-struct Told {
+struct Calls {
     passed: AtomicU64,
     sound: AtomicU64,
     damaged: AtomicU64,
@@ -21,7 +21,7 @@ struct Told {
 /// Counts the calls for each interval.
 #[derive(Drop)]
 struct Notes {
-    told: Vec<Told>,
+    calls: Vec<Calls>,
     /// Calls for an interval that is not there, and pieces that came before their interval had passed.
     wrong: AtomicU64,
 }
@@ -30,22 +30,22 @@ fn count(calls: &AtomicU64) {
     calls.fetch_add(1, Ordering::SeqCst);
 }
 
-fn counted(calls: &AtomicU64) -> u64 {
+fn number_of(calls: &AtomicU64) -> u64 {
     calls.load(Ordering::SeqCst)
 }
 
 impl Notes {
     fn new(alloc: Global, intervals: u32) -> Result<Notes, AllocError> {
-        let mut told = Vec::new(alloc);
+        let mut calls = Vec::new(alloc);
         for _ in 0..intervals {
-            told.push(Told {
+            calls.push(Calls {
                 passed: AtomicU64::new(0),
                 sound: AtomicU64::new(0),
                 damaged: AtomicU64::new(0),
             })?;
         }
         Ok(Notes {
-            told,
+            calls,
             wrong: AtomicU64::new(0),
         })
     }
@@ -53,13 +53,13 @@ impl Notes {
     /// A letter for each interval, as those of marks, and `?` where the calls are not one of each kind.
     fn letters(&self, alloc: Global) -> Result<String, Fail> {
         let mut letters = String::new(alloc);
-        for told in &self.told {
-            let calls = (
-                counted(&told.passed),
-                counted(&told.sound),
-                counted(&told.damaged),
+        for calls in &self.calls {
+            let numbers = (
+                number_of(&calls.passed),
+                number_of(&calls.sound),
+                number_of(&calls.damaged),
             );
-            letters.push(match calls {
+            letters.push(match numbers {
                 (0, 0, 0) => '-',
                 (1, 1, 0) => 's',
                 (1, 0, 1) => 'd',
@@ -72,18 +72,18 @@ impl Notes {
 
 impl Gate for Notes {
     fn pass(&self, number: u32) {
-        match self.told.get(number as usize) {
-            Some(told) => count(&told.passed),
+        match self.calls.get(number as usize) {
+            Some(calls) => count(&calls.passed),
             None => count(&self.wrong),
         }
     }
 
     fn made(&self, piece: &Piece) {
-        match self.told.get(piece.number() as usize) {
-            Some(told) if counted(&told.passed) == 1 => count(if piece.is_sound() {
-                &told.sound
+        match self.calls.get(piece.number() as usize) {
+            Some(calls) if number_of(&calls.passed) == 1 => count(if piece.is_sound() {
+                &calls.sound
             } else {
-                &told.damaged
+                &calls.damaged
             }),
             _ => count(&self.wrong),
         }
@@ -106,16 +106,16 @@ fn check<R: Threads + Wait + Sync + Abort>(
     decoding.run(rt, seats, &gate, |_| {});
     let told = gate.letters(alloc)?;
     assert!(rt; told.as_str() == letters, "the gate was told {told}");
-    assert!(rt; counted(&gate.wrong) == 0);
-    let hung = hung(alloc, decoding.cells())?;
-    assert!(rt; hung.as_str() == decoded, "in the cells hang {hung}");
-    let marks = marks(alloc, &scan, &decoding.board().lock(rt))?;
+    assert!(rt; number_of(&gate.wrong) == 0);
+    let found = letters_in_cells(alloc, decoding.cells())?;
+    assert!(rt; found.as_str() == decoded, "in the cells hang {found}");
+    let marks = marks_of(alloc, &scan, &decoding.board().lock(rt))?;
     assert!(rt; marks.as_str() == letters, "the marks are {marks}");
     Ok(())
 }
 
 #[test]
-fn one_of_two_intervals(rt: HostRuntime) -> Result<(), Fail> {
+fn marks_one_of_two_intervals(rt: HostRuntime) -> Result<(), Fail> {
     check(&rt, rt.alloc(), "GI 63 FF D0 E0 E", "sd")?;
     check(&rt, rt.alloc(), "GI E0 FF D0 63 E", "ds")?;
     check(&rt, rt.alloc(), "GI E0 FF D0 E0 E", "dd")?;
@@ -123,7 +123,7 @@ fn one_of_two_intervals(rt: HostRuntime) -> Result<(), Fail> {
 }
 
 #[test]
-fn five_of_ten_intervals(rt: HostRuntime) -> Result<(), Fail> {
+fn marks_five_of_ten_intervals(rt: HostRuntime) -> Result<(), Fail> {
     check(&rt, rt.alloc(), MIXED, "sdsddsdsds")?;
     check(&rt, rt.alloc(), MIXED, "sdsddsd---")
 }

@@ -21,16 +21,16 @@ pub(crate) struct Outcome {
 }
 
 impl Outcome {
-    /// What is not as wanted: a picture in the notation of pictures, which is none where nothing is to be written, the
+    /// What is not as expected: a picture in the notation of pictures, which is none where nothing is to be written, the
     /// lines, or the exit status. It is empty where all is.
     pub(crate) fn difference(
         &self,
         alloc: Global,
-        wanted: Option<&str>,
+        expected: Option<&str>,
         lines: &str,
         status: u8,
     ) -> Result<&'static str, Fail> {
-        let is_picture = match wanted {
+        let is_picture = match expected {
             None => self.picture.is_empty(),
             Some(words) => self.picture.as_slice() == picture(alloc, words)?.as_slice(),
         };

@@ -58,7 +58,7 @@ impl Read for Unreadable {
 }
 
 /// The lines and the exit status of an outcome, over a writer that takes everything.
-fn told(alloc: Global, outcome: Result<Report, Fault>) -> (Vec<u8>, u8) {
+fn lines_and_status(alloc: Global, outcome: Result<Report, Fault>) -> (Vec<u8>, u8) {
     let mut out = Tally::of(Vec::new(alloc));
     let mut lines = Vec::new(alloc);
     let status = finish(outcome, &mut out, &mut lines);
@@ -66,7 +66,7 @@ fn told(alloc: Global, outcome: Result<Report, Fault>) -> (Vec<u8>, u8) {
 }
 
 #[test]
-fn an_input_that_cannot_be_read(rt: HostRuntime) -> Result<(), Fail> {
+fn tells_an_input_that_cannot_be_read(rt: HostRuntime) -> Result<(), Fail> {
     let mut input = Tally::of(Unreadable);
     let mut out = Tally::of(Vec::new(rt.alloc()));
     let outcome = run(&rt, rt.alloc(), &mut input, &mut out, 1, None, &OpenGate);
@@ -79,7 +79,7 @@ fn an_input_that_cannot_be_read(rt: HostRuntime) -> Result<(), Fail> {
 }
 
 #[test]
-fn a_full_device(rt: HostRuntime) -> Result<(), Fail> {
+fn tells_a_full_device(rt: HostRuntime) -> Result<(), Fail> {
     let bytes = file(rt.alloc(), "G 63 E")?;
     let whole = picture(rt.alloc(), "P5 8 8 : 8*136")?;
     for room in 0..whole.len() {
@@ -103,7 +103,7 @@ fn a_full_device(rt: HostRuntime) -> Result<(), Fail> {
 }
 
 #[test]
-fn a_failed_flush(rt: HostRuntime) -> Result<(), Fail> {
+fn tells_a_failed_flush(rt: HostRuntime) -> Result<(), Fail> {
     let bytes = file(rt.alloc(), "G 63 E")?;
     let mut input = Tally::of(bytes.as_slice());
     let mut out = Tally::of(Full::new(rt.alloc(), 1000, false));
@@ -116,11 +116,11 @@ fn a_failed_flush(rt: HostRuntime) -> Result<(), Fail> {
 }
 
 #[test]
-fn faults_that_no_file_has(rt: HostRuntime) -> Result<(), Fail> {
-    let (lines, status) = told(rt.alloc(), Err(Fault::NoFile));
+fn tells_faults_that_no_file_has(rt: HostRuntime) -> Result<(), Fail> {
+    let (lines, status) = lines_and_status(rt.alloc(), Err(Fault::NoFile));
     assert!(rt; lines.as_slice() == b"cannot open the file\n".as_slice());
     assert_eq!(rt; status, 1);
-    let (lines, status) = told(rt.alloc(), Err(Fault::Memory));
+    let (lines, status) = lines_and_status(rt.alloc(), Err(Fault::Memory));
     assert!(rt; lines.as_slice() == b"out of memory\n".as_slice());
     assert_eq!(rt; status, 1);
     Ok(())

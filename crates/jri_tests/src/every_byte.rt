@@ -4,7 +4,7 @@
 use crate::cases;
 use crate::cases::Case;
 use crate::decoding::{Outcome, decode};
-use crate::files::{changed, file, front};
+use crate::files::{file, front, with_byte};
 use crate::pictures::header;
 use jr_head::read_head;
 use std::process::Abort;
@@ -52,9 +52,9 @@ fn check_at<R: Threads + Wait + Sync + AllocGlobal + Abort>(
     at: usize,
 ) -> Result<(), Fail> {
     check(rt, front(whole, at), name, at)?;
-    let bytes = changed(rt.alloc(), whole, at, 0xFF)?;
+    let bytes = with_byte(rt.alloc(), whole, at, 0xFF)?;
     check(rt, bytes.as_slice(), name, at)?;
-    let bytes = changed(rt.alloc(), whole, at, 0x00)?;
+    let bytes = with_byte(rt.alloc(), whole, at, 0x00)?;
     check(rt, bytes.as_slice(), name, at)
 }
 
@@ -72,66 +72,66 @@ fn check_all<R: Threads + Wait + Sync + AllocGlobal + Abort>(
 }
 
 #[test]
-fn grey_blocks(rt: HostRuntime) -> Result<(), Fail> {
+fn keeps_sizes_of_grey_blocks(rt: HostRuntime) -> Result<(), Fail> {
     check_all(&rt, &cases::grey_blocks())
 }
 
 #[test]
-fn spellings_and_tables(rt: HostRuntime) -> Result<(), Fail> {
+fn keeps_sizes_of_spellings_and_tables(rt: HostRuntime) -> Result<(), Fail> {
     check_all(&rt, &cases::spellings_and_tables())
 }
 
 #[test]
-fn runs_of_zeros(rt: HostRuntime) -> Result<(), Fail> {
+fn keeps_sizes_of_runs_of_zeros(rt: HostRuntime) -> Result<(), Fail> {
     check_all(&rt, &cases::runs_of_zeros())
 }
 
 #[test]
-fn two_restart_intervals(rt: HostRuntime) -> Result<(), Fail> {
+fn keeps_sizes_of_two_restart_intervals(rt: HostRuntime) -> Result<(), Fail> {
     check_all(&rt, &cases::restart_intervals()[..3])
 }
 
 #[test]
-fn restart_intervals_without_data(rt: HostRuntime) -> Result<(), Fail> {
+fn keeps_sizes_of_restart_intervals_without_data(rt: HostRuntime) -> Result<(), Fail> {
     check_all(&rt, &cases::restart_intervals()[3..5])
 }
 
 #[test]
-fn longer_restart_intervals_and_more(rt: HostRuntime) -> Result<(), Fail> {
+fn keeps_sizes_of_longer_restart_intervals_and_more(rt: HostRuntime) -> Result<(), Fail> {
     check_all(&rt, &cases::restart_intervals()[5..])
 }
 
 #[test]
-fn ends_of_scans(rt: HostRuntime) -> Result<(), Fail> {
+fn keeps_sizes_of_ends_of_scans(rt: HostRuntime) -> Result<(), Fail> {
     check_all(&rt, &cases::ends_of_scans())
 }
 
 #[test]
-fn greatest_coefficients(rt: HostRuntime) -> Result<(), Fail> {
+fn keeps_sizes_of_greatest_coefficients(rt: HostRuntime) -> Result<(), Fail> {
     check_all(&rt, &cases::greatest_coefficients())
 }
 
 #[test]
-fn three_components_in_two_intervals(rt: HostRuntime) -> Result<(), Fail> {
+fn keeps_sizes_of_three_components_in_two_intervals(rt: HostRuntime) -> Result<(), Fail> {
     check_all(&rt, &cases::three_components()[..2])
 }
 
 #[test]
-fn three_components_of_one_line(rt: HostRuntime) -> Result<(), Fail> {
+fn keeps_sizes_of_three_components_of_one_line(rt: HostRuntime) -> Result<(), Fail> {
     check_all(&rt, &cases::three_components()[2..3])
 }
 
 #[test]
-fn three_components_by_their_marks(rt: HostRuntime) -> Result<(), Fail> {
+fn keeps_sizes_of_three_components_by_their_marks(rt: HostRuntime) -> Result<(), Fail> {
     check_all(&rt, &cases::three_components()[3..6])
 }
 
 #[test]
-fn three_components_that_are_damaged(rt: HostRuntime) -> Result<(), Fail> {
+fn keeps_sizes_of_three_components_that_are_damaged(rt: HostRuntime) -> Result<(), Fail> {
     check_all(&rt, &cases::three_components()[6..])
 }
 
 #[test]
-fn extended_sequential_frames(rt: HostRuntime) -> Result<(), Fail> {
+fn keeps_sizes_of_extended_sequential_frames(rt: HostRuntime) -> Result<(), Fail> {
     check_all(&rt, &cases::extended_sequential_frames())
 }

@@ -1,20 +1,20 @@
 //! Files in a short notation.
 //!
-//! Words are separated by spaces. Two hexadecimal digits are a byte. The other words are parts of files:
+//! Words are separated by spaces. These stand for parts of files; two other hexadecimal digits are a byte:
 //!
 //! | word | bytes |
 //! |---|---|
 //! | `S`, `E` | the markers SOI and EOI |
 //! | `Q` | table 0 of quantisers, each 16 |
-//! | `F:0008:0010` | a baseline frame of 8 lines and 16 columns of one component; `F1` for SOF1 |
-//! | `F3:0009:0011:22` | the same of three components, the first with these sampling factors |
+//! | `F:0008:0010`, `F` | a baseline frame of one component, 8 lines and 16 columns, or 8 and 8; `F1:0008:0010` for SOF1 |
+//! | `F3:0009:0011:22`, `F3` | of three components, the first with these sampling factors, or 8 by 8 with all factors 1 |
 //! | `D:00:03:05` | DC table 0 with the words 00, 01 and 10 of these symbols; `D` alone is `D:00:03:05` |
 //! | `A` | AC table 0 with the word 0 for the end of a block |
 //! | `A2:00:01` | AC table 0 with the words 0 and 10 of these symbols |
 //! | `K` | the luminance DC table of T.81, Annex K |
-//! | `I` | a restart interval of one MCU |
+//! | `I:0002` | a restart interval of two MCUs; `I` alone is `I:0001` |
 //! | `C`, `C3` | the header of a scan of one component, or of three |
-//! | `J`, `T` | a JFIF mark, and an Adobe mark with transform 0 |
+//! | `J`, `T`, `T1` | a JFIF mark, and Adobe marks with transform 0 and 1 |
 //! | `64*10` | 64 times the byte 10 |
 
 use std::alloc::Global;
@@ -28,10 +28,15 @@ const GROUPS: [(&str, &str); 4] = [
     ("GW", "S Q F:0008:0050 D A I C"),
 ];
 
-const PARTS: [(&str, &str); 11] = [
+const PARTS: [(&str, &str); 14] = [
     ("S", "FF D8"),
     ("E", "FF D9"),
     ("Q", "FF DB 00 43 00 64*10"),
+    ("F", "FF C0 00 0B 08 00 08 00 08 01 01 11 00"),
+    (
+        "F3",
+        "FF C0 00 11 08 00 08 00 08 03 01 11 00 02 11 00 03 11 00",
+    ),
     ("D", "FF C4 00 16 00 00 03 14*00 00 03 05"),
     ("A", "FF C4 00 14 10 01 15*00 00"),
     ("I", "FF DD 00 04 00 01"),
@@ -39,6 +44,7 @@ const PARTS: [(&str, &str); 11] = [
     ("C3", "FF DA 00 0C 03 01 00 02 00 03 00 00 3F 00"),
     ("J", "FF E0 00 10 4A 46 49 46 00 01 02 00 00 01 00 01 00 00"),
     ("T", "FF EE 00 0E 41 64 6F 62 65 00 64 00 00 00 00 00"),
+    ("T1", "FF EE 00 0E 41 64 6F 62 65 00 64 00 00 00 00 01"),
     (
         "K",
         "FF C4 00 1F 00 00 01 05 01 01 01 01 01 01 7*00 00 01 02 03 04 05 06 07 08 09 0A 0B",
@@ -54,6 +60,10 @@ pub(crate) const TEN: &str =
 pub(crate) const MIXED: &str =
     "GW 63 FF D0 E0 FF D1 63 FF D2 63 63 FF D3 E0 FF D4 63 FF D5 FF D6 63 FF D7 E0 FF D0 63 E";
 
+/// A file of 4096 intervals that have a decoding.
+pub(crate) const THOUSANDS: &str = "S Q F:0200:0200 D A I C \
+     511*63FFD063FFD163FFD263FFD363FFD463FFD563FFD663FFD7 63FFD063FFD163FFD263FFD363FFD463FFD563FFD663 E";
+
 /// Two intervals of three components; the same where the second has no decoding.
 pub(crate) const COLOURED: &str = "S Q F3:0009:0011:22 D:00:03:06 A I C3 00 01 48 FF D0 60 00 07 E";
 
@@ -61,15 +71,17 @@ pub(crate) const COLOURED_DAMAGED: &str =
     "S Q F3:0009:0011:22 D:00:03:06 A I C3 00 01 48 FF D0 E0 E";
 
 /// Parts with arguments: what stands before each argument, and behind the last.
-const FORMS: [(&str, &str); 5] = [
+const FORMS: [(&str, &str); 6] = [
     ("F", "FF C0 00 0B 08 | | 01 01 11 00"),
     ("F1", "FF C1 00 0B 08 | | 01 01 11 00"),
     ("F3", "FF C0 00 11 08 | | 03 01 | 00 02 11 00 03 11 00"),
     ("D", "FF C4 00 16 00 00 03 14*00 | | "),
     ("A2", "FF C4 00 15 10 01 01 14*00 | "),
+    ("I", "FF DD 00 04 |"),
 ];
 
-fn found<'a>(table: &[(&'a str, &'a str)], word: &str) -> Option<&'a str> {
+/// The text beside a name in a table.
+fn text_of<'a>(table: &[(&'a str, &'a str)], word: &str) -> Option<&'a str> {
     for (name, text) in table {
         if *name == word {
             return Some(*text);
@@ -127,18 +139,19 @@ fn put_form(bytes: &mut Vec<u8>, fragments: &str, arguments: &str) -> Result<(),
 }
 
 fn put_part(bytes: &mut Vec<u8>, word: &str) -> Result<(), Fail> {
-    if let Some(words) = found(&PARTS, word) {
+    if let Some(words) = text_of(&PARTS, word) {
         return put_all_digits(bytes, words);
     }
     if let Some((name, arguments)) = word.split_once(':') {
-        if let Some(fragments) = found(&FORMS, name) {
+        if let Some(fragments) = text_of(&FORMS, name) {
             return put_form(bytes, fragments, arguments);
         }
     }
     put_digits(bytes, word)
 }
 
-fn put_parts(bytes: &mut Vec<u8>, words: &str) -> Result<(), Fail> {
+/// Puts the bytes of words; groups of parts are none of them.
+pub(crate) fn put_parts(bytes: &mut Vec<u8>, words: &str) -> Result<(), Fail> {
     for word in words.split_whitespace() {
         put_part(bytes, word)?;
     }
@@ -149,7 +162,7 @@ fn put_parts(bytes: &mut Vec<u8>, words: &str) -> Result<(), Fail> {
 pub(crate) fn file(alloc: Global, words: &str) -> Result<Vec<u8>, Fail> {
     let mut bytes = Vec::new(alloc);
     for word in words.split_whitespace() {
-        match found(&GROUPS, word) {
+        match text_of(&GROUPS, word) {
             Some(parts) => put_parts(&mut bytes, parts)?,
             None => put_part(&mut bytes, word)?,
         }
@@ -163,7 +176,12 @@ pub(crate) fn front(bytes: &[u8], length: usize) -> &[u8] {
 }
 
 /// The bytes of a file, one of them changed.
-pub(crate) fn changed(alloc: Global, bytes: &[u8], at: usize, value: u8) -> Result<Vec<u8>, Fail> {
+pub(crate) fn with_byte(
+    alloc: Global,
+    bytes: &[u8],
+    at: usize,
+    value: u8,
+) -> Result<Vec<u8>, Fail> {
     let mut bytes = bytes.to_vec(alloc)?;
     let byte = bytes.get_mut(at).ok_or("no byte there")?;
     *byte = value;
@@ -171,7 +189,7 @@ pub(crate) fn changed(alloc: Global, bytes: &[u8], at: usize, value: u8) -> Resu
 }
 
 #[test]
-fn parts_are_put_together(rt: HostRuntime) -> Result<(), Fail> {
+fn puts_parts_together(rt: HostRuntime) -> Result<(), Fail> {
     assert_eq!(rt; file(rt.alloc(), "G 63 E")?.len(), 143);
     assert_eq!(rt; file(rt.alloc(), "GI")?.len(), 146);
     let bytes = file(rt.alloc(), "D:00:03:05")?;

@@ -1,7 +1,7 @@
 //! What glances at a board see: before, while and after workers fill it.
 
 use crate::files::{COLOURED, COLOURED_DAMAGED, MIXED, TEN};
-use crate::scans::{glimpse, hung, look, piece, scan, shows};
+use crate::scans::{glimpse, letters_in_cells, look, piece, scan, shows};
 use jr_scan::Scan;
 use jr_wall::{
     Board, Cells, Decoding, Desk, Gate, Glimpse, Mark, OpenGate, Piece, decode_all, work,
@@ -13,7 +13,7 @@ use std::thread;
 use std::thread::Threads;
 
 /// What the mixed file's intervals show. A damaged one shows the data unit in front of its damage, or else grey.
-const SHOWN: [(Mark, u8); 10] = [
+const MARKS_AND_SAMPLES: [(Mark, u8); 10] = [
     (Mark::Sound, 136),
     (Mark::Damaged, 128),
     (Mark::Sound, 136),
@@ -27,19 +27,19 @@ const SHOWN: [(Mark, u8); 10] = [
 ];
 
 /// What the mixed file's interval i shows, where the first n are decoded.
-fn shown(i: u32, n: u32) -> (Mark, u8) {
-    match SHOWN.get(i as usize) {
-        Some(shown) if i < n => *shown,
+fn mark_and_sample(i: u32, n: u32) -> (Mark, u8) {
+    match MARKS_AND_SAMPLES.get(i as usize) {
+        Some(both) if i < n => *both,
         _ => (Mark::Blank, 0),
     }
 }
 
 /// What a glance into the mixed file's interval i sees, where the first n are decoded.
-fn wanted(i: u32, n: u32) -> Glimpse {
-    let (mark, sample) = shown(i, n);
+fn expected_glimpse(i: u32, n: u32) -> Glimpse {
+    let (mark, sample) = mark_and_sample(i, n);
     let (mut sound, mut damaged, mut blank) = (0u32, 0u32, 0u32);
     for other in 0..10u32 {
-        let count = match shown(other, n).0 {
+        let count = match mark_and_sample(other, n).0 {
             Mark::Sound => &mut sound,
             Mark::Damaged => &mut damaged,
             Mark::Blank => &mut blank,
@@ -59,7 +59,7 @@ fn wanted(i: u32, n: u32) -> Glimpse {
 fn is_seen<R: Wait>(rt: &R, scan: &Scan, board: &Mutex<Board>, n: u32) -> bool {
     for x in 0..80u32 {
         for y in [0, x % 8, 7] {
-            if glimpse(rt, board, scan, 0, x, y) != Some(wanted(x / 8, n)) {
+            if glimpse(rt, board, scan, 0, x, y) != Some(expected_glimpse(x / 8, n)) {
                 return false;
             }
         }
@@ -70,7 +70,7 @@ fn is_seen<R: Wait>(rt: &R, scan: &Scan, board: &Mutex<Board>, n: u32) -> bool {
 /// Whether looks at each column of the mixed file see that just its first n intervals are decoded.
 fn is_looked_at(board: &Board, n: u32) -> bool {
     for x in 0..80u32 {
-        if look(board, 0, x, x % 8) != Some(wanted(x / 8, n)) {
+        if look(board, 0, x, x % 8) != Some(expected_glimpse(x / 8, n)) {
             return false;
         }
     }
@@ -104,7 +104,7 @@ fn is_seen_of_all<R: Threads + Wait + Sync + AllocGlobal>(
 
 /// The first intervals of the mixed file, decoded by the workers of a decoding and by `decode_all`.
 #[test]
-fn after_workers(rt: HostRuntime) -> Result<(), Fail> {
+fn sees_first_intervals_after_workers(rt: HostRuntime) -> Result<(), Fail> {
     let scan = scan(rt.alloc(), MIXED)?;
     for n in 0..=10u32 {
         assert!(rt; is_seen_of_a_decoding(&rt, &scan, n)?, "{n} of a decoding");
@@ -115,7 +115,7 @@ fn after_workers(rt: HostRuntime) -> Result<(), Fail> {
 
 /// Looks at a board that nobody else has, on which the pieces of the mixed file are posted one by one.
 #[test]
-fn at_a_board_without_a_lock(rt: HostRuntime) -> Result<(), Fail> {
+fn looks_at_a_board_without_a_lock(rt: HostRuntime) -> Result<(), Fail> {
     let alloc = rt.alloc();
     let scan = scan(alloc, MIXED)?;
     let mut board = Board::new(alloc, Arc::try_clone(&scan)?)?;
@@ -158,7 +158,7 @@ impl<R: Wait> Gate for Onlooker<'_, R> {
 }
 
 #[test]
-fn between_the_steps_of_a_worker(rt: HostRuntime) -> Result<(), Fail> {
+fn sees_each_step_of_a_worker(rt: HostRuntime) -> Result<(), Fail> {
     let alloc = rt.alloc();
     let scan = scan(alloc, MIXED)?;
     let (desk, mut seats) = Desk::open(alloc, 10, 1)?;
@@ -235,7 +235,7 @@ fn view<R: Wait>(rt: &R, scan: &Scan, board: &Mutex<Board>) -> bool {
 }
 
 #[test]
-fn beside_two_workers(rt: HostRuntime) -> Result<(), Fail> {
+fn sees_marks_grow_beside_two_workers(rt: HostRuntime) -> Result<(), Fail> {
     let alloc = rt.alloc();
     let scan = scan(alloc, TEN)?;
     let (decoding, seats) = Decoding::open(alloc, Arc::try_clone(&scan)?, 2, None)?;
@@ -243,7 +243,7 @@ fn beside_two_workers(rt: HostRuntime) -> Result<(), Fail> {
         view(&rt, &scan, decoding.board())
     });
     assert!(rt; is_lawful);
-    assert!(rt; hung(alloc, decoding.cells())?.as_str() == "ssssssssss");
+    assert!(rt; letters_in_cells(alloc, decoding.cells())?.as_str() == "ssssssssss");
     let filled = decoding.finish()?;
     assert!(rt; is_as_marked(&scan, &filled));
     assert_eq!(rt; filled.sound(), 10);
@@ -252,7 +252,7 @@ fn beside_two_workers(rt: HostRuntime) -> Result<(), Fail> {
 
 /// None of a board of another scan of the same size, but of one that is equal.
 #[test]
-fn of_another_scan(rt: HostRuntime) -> Result<(), Fail> {
+fn sees_nothing_of_another_scan(rt: HostRuntime) -> Result<(), Fail> {
     let alloc = rt.alloc();
     let board = Mutex::new(decode_all(&rt, alloc, scan(alloc, TEN)?, 2, None, &OpenGate)?);
     let (other, equal) = (scan(alloc, MIXED)?, scan(alloc, TEN)?);
@@ -263,7 +263,7 @@ fn of_another_scan(rt: HostRuntime) -> Result<(), Fail> {
 }
 
 /// The mark and the sample that a glance sees.
-fn marked<R: Wait>(
+fn mark_and_sample_seen<R: Wait>(
     rt: &R,
     board: &Mutex<Board>,
     scan: &Scan,
@@ -285,10 +285,10 @@ fn is_coloured<R: Wait>(
 ) -> bool {
     let columns = [(0, 15, 128, 16), (1, 7, 128, 8), (2, 7, 200, 8)];
     for ((c, last, value, next), sample) in columns.into_iter().zip(samples) {
-        if marked(rt, board, scan, c, last) != Some((Mark::Sound, value)) {
+        if mark_and_sample_seen(rt, board, scan, c, last) != Some((Mark::Sound, value)) {
             return false;
         }
-        if marked(rt, board, scan, c, next) != Some((mark, sample)) {
+        if mark_and_sample_seen(rt, board, scan, c, next) != Some((mark, sample)) {
             return false;
         }
     }
@@ -310,7 +310,7 @@ fn decodes_coloured<R: Threads + Wait + Sync + AllocGlobal>(
 }
 
 #[test]
-fn of_three_components(rt: HostRuntime) -> Result<(), Fail> {
+fn sees_three_components(rt: HostRuntime) -> Result<(), Fail> {
     let cases = [
         (COLOURED, 2, Mark::Sound, [136, 128, 128]),
         (COLOURED_DAMAGED, 2, Mark::Damaged, [128, 128, 128]),

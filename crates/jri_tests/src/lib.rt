@@ -1,19 +1,25 @@
-//! Tests that go through several crates: whole files through `run` and `finish`, words through `asked`, devices that
-//! fail, against answers worked out by hand from T.81.
+//! Tests of all crates through their public calls: files, scans, boards and words against answers worked out by hand
+//! from T.81, code tables and pictures beside plain readers and painters, and devices that fail.
 #![tactic(auto)]
 
+#[cfg(test)]
+mod base;
 #[cfg(test)]
 mod boards;
 #[cfg(test)]
 mod cases;
 #[cfg(test)]
-mod changed;
+mod cells;
+#[cfg(test)]
+mod code;
 #[cfg(test)]
 mod counting;
 #[cfg(test)]
 mod damage;
 #[cfg(test)]
 mod decoding;
+#[cfg(test)]
+mod desk;
 #[cfg(test)]
 mod devices;
 #[cfg(test)]
@@ -23,19 +29,35 @@ mod files;
 #[cfg(test)]
 mod glances;
 #[cfg(test)]
+mod head;
+#[cfg(test)]
+mod idct;
+#[cfg(test)]
 mod limits;
 #[cfg(test)]
 mod one_byte;
 #[cfg(test)]
+mod paint;
+#[cfg(test)]
 mod pictures;
 #[cfg(test)]
+mod piece;
+#[cfg(test)]
+mod plain;
+#[cfg(test)]
 mod refused;
+#[cfg(test)]
+mod scan;
 #[cfg(test)]
 mod scans;
 #[cfg(test)]
 mod shares;
 #[cfg(test)]
+mod short_files;
+#[cfg(test)]
 mod viewers;
+#[cfg(test)]
+mod views;
 #[cfg(test)]
 mod whole;
 #[cfg(test)]

@@ -1,7 +1,7 @@
 //! Files of thousands of MCUs and of thousands of restart intervals: there is memory for each.
 
 use crate::decoding::{Outcome, decode};
-use crate::files::file;
+use crate::files::{THOUSANDS, file};
 use crate::pictures::picture;
 use std::process::Abort;
 use std::sync::Wait;
@@ -15,7 +15,7 @@ fn check<R: Threads + Wait + Sync + AllocGlobal + Abort>(
     intervals: u32,
 ) -> Result<(), Fail> {
     let bytes = file(rt.alloc(), words)?;
-    let wanted = picture(rt.alloc(), "P5 512 512 : 512*136")?;
+    let expected = picture(rt.alloc(), "P5 512 512 : 512*136")?;
     let text = format!(in rt.alloc();
         "intervals {intervals} sound {intervals} damaged 0 blank 0\nscan ended at EOI\n"
     )?;
@@ -27,7 +27,7 @@ fn check<R: Threads + Wait + Sync + AllocGlobal + Abort>(
             status,
         } = decode(rt, bytes.as_slice(), workers, None)?;
         assert!(rt;
-            painted.as_slice() == wanted.as_slice(),
+            painted.as_slice() == expected.as_slice(),
             "picture by {workers} workers"
         );
         assert!(rt;
@@ -41,14 +41,11 @@ fn check<R: Threads + Wait + Sync + AllocGlobal + Abort>(
 
 /// The first MCU takes six bits, each of the other 4095 three.
 #[test]
-fn thousands_of_mcus(rt: HostRuntime) -> Result<(), Fail> {
+fn decodes_thousands_of_mcus(rt: HostRuntime) -> Result<(), Fail> {
     check(&rt, "S Q F:0200:0200 D A C 60 1536*00 E", 1)
 }
 
 #[test]
-fn thousands_of_intervals(rt: HostRuntime) -> Result<(), Fail> {
-    let words = "S Q F:0200:0200 D A I C \
-                 511*63FFD063FFD163FFD263FFD363FFD463FFD563FFD663FFD7 \
-                 63FFD063FFD163FFD263FFD363FFD463FFD563FFD663 E";
-    check(&rt, words, 4096)
+fn decodes_thousands_of_intervals(rt: HostRuntime) -> Result<(), Fail> {
+    check(&rt, THOUSANDS, 4096)
 }

@@ -87,7 +87,7 @@ impl Write for Sink {
 }
 
 /// The fault of a run whose input fails at a call, and what was written.
-fn read_failing<R: Threads + Wait + Sync + AllocGlobal>(
+fn fault_of_input<R: Threads + Wait + Sync + AllocGlobal>(
     rt: &R,
     bytes: &[u8],
     failing: u32,
@@ -105,7 +105,7 @@ fn read_failing<R: Threads + Wait + Sync + AllocGlobal>(
 }
 
 /// The fault of a run whose output fails at a call, and what was written.
-fn write_failing<R: Threads + Wait + Sync + AllocGlobal>(
+fn fault_of_output<R: Threads + Wait + Sync + AllocGlobal>(
     rt: &R,
     bytes: &[u8],
     failing: u32,
@@ -119,11 +119,11 @@ fn write_failing<R: Threads + Wait + Sync + AllocGlobal>(
 
 /// The smallest file has 143 bytes, so its end is told by call 144.
 #[test]
-fn an_input_that_fails_at_one_call(rt: HostRuntime) -> Result<(), Fail> {
+fn tells_an_input_that_fails_at_one_call(rt: HostRuntime) -> Result<(), Fail> {
     let bytes = file(rt.alloc(), "G 63 E")?;
     for kind in [ErrorKind::Other, ErrorKind::Interrupted] {
         for failing in 1..=144 {
-            let (fault, written) = read_failing(&rt, bytes.as_slice(), failing, kind);
+            let (fault, written) = fault_of_input(&rt, bytes.as_slice(), failing, kind);
             assert!(rt; fault == Some(Fault::Read), "call {failing}");
             assert!(rt; written.is_empty(), "call {failing}");
         }
@@ -139,27 +139,27 @@ fn check_failing_output<R: Threads + Wait + Sync + AllocGlobal + Abort>(
     let whole = picture(rt.alloc(), "P5 8 8 : 8*136")?;
     assert!(rt; whole.len() == 75);
     for failing in 1..=75u32 {
-        let (fault, written) = write_failing(rt, bytes.as_slice(), failing, failure);
+        let (fault, written) = fault_of_output(rt, bytes.as_slice(), failing, failure);
         assert!(rt; fault == Some(Fault::Write), "call {failing}");
-        let wanted = &whole.as_slice()[..failing as usize - 1];
-        assert!(rt; written.as_slice() == wanted, "call {failing}");
+        let expected = &whole.as_slice()[..failing as usize - 1];
+        assert!(rt; written.as_slice() == expected, "call {failing}");
     }
     Ok(())
 }
 
 #[test]
-fn an_output_that_fails_at_one_call(rt: HostRuntime) -> Result<(), Fail> {
+fn tells_an_output_that_fails_at_one_call(rt: HostRuntime) -> Result<(), Fail> {
     check_failing_output(&rt, Failure::Kind(ErrorKind::StorageFull))?;
     check_failing_output(&rt, Failure::Kind(ErrorKind::Interrupted))
 }
 
 #[test]
-fn an_output_that_takes_none_of_a_byte(rt: HostRuntime) -> Result<(), Fail> {
+fn tells_an_output_that_takes_none_of_a_byte(rt: HostRuntime) -> Result<(), Fail> {
     check_failing_output(&rt, Failure::TakesNone)
 }
 
 #[test]
-fn a_byte_a_call(rt: HostRuntime) -> Result<(), Fail> {
+fn decodes_by_a_byte_a_call(rt: HostRuntime) -> Result<(), Fail> {
     let bytes = file(rt.alloc(), "G 63 E")?;
     let mut input = Tally::of(Source {
         rest: bytes.as_slice(),
@@ -171,7 +171,7 @@ fn a_byte_a_call(rt: HostRuntime) -> Result<(), Fail> {
     let outcome = run(&rt, rt.alloc(), &mut input, &mut out, 1, None, &OpenGate);
     let report = outcome.ok().ok_or("a decoding that failed")?;
     assert_eq!(rt; (report.sound, report.damaged), (1, 0));
-    let wanted = picture(rt.alloc(), "P5 8 8 : 8*136")?;
-    assert!(rt; out.into_inner().bytes.as_slice() == wanted.as_slice());
+    let expected = picture(rt.alloc(), "P5 8 8 : 8*136")?;
+    assert!(rt; out.into_inner().bytes.as_slice() == expected.as_slice());
     Ok(())
 }

@@ -27,7 +27,7 @@ fn check<R: Threads + Wait + Sync + AllocGlobal + Abort>(
 }
 
 #[test]
-fn beginnings(rt: HostRuntime) -> Result<(), Fail> {
+fn refuses_bad_beginnings(rt: HostRuntime) -> Result<(), Fail> {
     let cases = [
         ("", "1: not a JPEG file"),
         ("FF D8", "2: the file ends early"),
@@ -45,7 +45,7 @@ fn beginnings(rt: HostRuntime) -> Result<(), Fail> {
 }
 
 #[test]
-fn tables(rt: HostRuntime) -> Result<(), Fail> {
+fn refuses_bad_tables(rt: HostRuntime) -> Result<(), Fail> {
     let cases = [
         ("FF D8 FF DB 00 03 10", "6: bad length of segment DB"),
         ("FF D8 FF DB 00 03 00", "6: bad length of segment DB"),
@@ -63,7 +63,7 @@ fn tables(rt: HostRuntime) -> Result<(), Fail> {
 }
 
 #[test]
-fn frames(rt: HostRuntime) -> Result<(), Fail> {
+fn refuses_bad_frames(rt: HostRuntime) -> Result<(), Fail> {
     let cases = [
         (
             "FF D8 FF C0 00 08 0C 00 00 00 00 02",
@@ -102,7 +102,7 @@ fn frames(rt: HostRuntime) -> Result<(), Fail> {
 }
 
 #[test]
-fn scans(rt: HostRuntime) -> Result<(), Fail> {
+fn refuses_bad_scan_headers(rt: HostRuntime) -> Result<(), Fail> {
     let cases = [
         ("S Q F:0008:0008 D C 63 E", "17: a table is missing"),
         (

@@ -13,14 +13,19 @@ use std::alloc::Global;
 use std::sync::{Arc, Mutex, Wait};
 use std::test::Fail;
 
+/// The scan of a file.
+pub(crate) fn scan_of(alloc: Global, bytes: &[u8]) -> Result<Scan, Fail> {
+    if bytes.len() > 100_000 {
+        return Err(Fail::from("a file that is too long"));
+    }
+    let head = read_head(alloc, bytes)?;
+    Ok(Scan::cut(alloc, head, bytes)?)
+}
+
 /// The scan of a file in the notation of files.
 pub(crate) fn scan(alloc: Global, words: &str) -> Result<Arc<Scan>, Fail> {
     let bytes = file(alloc, words)?;
-    if bytes.len() > 1000 {
-        return Err(Fail::from("a file that is too long"));
-    }
-    let head = read_head(alloc, bytes.as_slice())?;
-    let scan = Scan::cut(alloc, head, bytes.as_slice())?;
+    let scan = scan_of(alloc, bytes.as_slice())?;
     Ok(Arc::new(alloc, scan)?)
 }
 
@@ -35,7 +40,7 @@ pub(crate) fn piece(alloc: Global, scan: &Scan, number: u32) -> Result<Arc<Piece
 }
 
 /// The marks of a board of this scan: a letter for each interval.
-pub(crate) fn marks(alloc: Global, scan: &Scan, board: &Board) -> Result<String, Fail> {
+pub(crate) fn marks_of(alloc: Global, scan: &Scan, board: &Board) -> Result<String, Fail> {
     let mut letters = String::new(alloc);
     if !board.is_of(scan) {
         return Err(Fail::from("a board of another scan"));
@@ -51,7 +56,7 @@ pub(crate) fn marks(alloc: Global, scan: &Scan, board: &Board) -> Result<String,
 }
 
 /// What a fresh sight finds in cells: a letter for each, as those of marks, and `?` for a piece of another number.
-pub(crate) fn hung(alloc: Global, cells: &Cells) -> Result<String, Fail> {
+pub(crate) fn letters_in_cells(alloc: Global, cells: &Cells) -> Result<String, Fail> {
     let mut letters = String::new(alloc);
     let mut sight = cells.sight()?;
     for i in 0..cells.count() {
@@ -80,7 +85,7 @@ fn has_sample(head: &Head, c: u32, x: u32, y: u32) -> bool
 }
 
 /// The sample of the first component in column x and line y; none outside the picture.
-pub(crate) fn sample(board: &Board, x: u32, y: u32) -> Option<u8> {
+pub(crate) fn sample_at(board: &Board, x: u32, y: u32) -> Option<u8> {
     if has_sample(board.head(), 0, x, y) {
         Some(board.sample(0, x, y))
     } else {
@@ -117,7 +122,7 @@ pub(crate) fn glimpse<R: Wait>(
 pub(crate) fn shows(board: &Board, x: u32, value: u8) -> bool {
     for y in 0..8 {
         for column in 0..8 {
-            if sample(board, x.saturating_add(column), y) != Some(value) {
+            if sample_at(board, x.saturating_add(column), y) != Some(value) {
                 return false;
             }
         }

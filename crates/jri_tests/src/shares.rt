@@ -72,7 +72,7 @@ const DAMAGED: Case = Case {
 };
 
 #[test]
-fn numbers_of_workers(rt: HostRuntime) -> Result<(), Fail> {
+fn decodes_by_each_number_of_workers(rt: HostRuntime) -> Result<(), Fail> {
     check(&rt, 1, None, SOUND)?;
     check(&rt, 2, None, SOUND)?;
     check(&rt, 64, None, SOUND)?;
@@ -82,7 +82,7 @@ fn numbers_of_workers(rt: HostRuntime) -> Result<(), Fail> {
 }
 
 #[test]
-fn first_intervals(rt: HostRuntime) -> Result<(), Fail> {
+fn shows_first_intervals_alone(rt: HostRuntime) -> Result<(), Fail> {
     let none = SOUND.showing("P5 16 8 : 16*0", "intervals 2 sound 0 damaged 0 blank 2");
     let one = SOUND.showing(
         "P5 16 8 : 8*136 8*0",
@@ -96,7 +96,7 @@ fn first_intervals(rt: HostRuntime) -> Result<(), Fail> {
 
 /// Damage behind the intervals that are decoded is not seen.
 #[test]
-fn damage_past_the_first(rt: HostRuntime) -> Result<(), Fail> {
+fn passes_over_damage_past_the_first(rt: HostRuntime) -> Result<(), Fail> {
     let one = DAMAGED.showing(
         "P5 16 8 : 8*136 8*0",
         "intervals 2 sound 1 damaged 0 blank 1",
@@ -121,7 +121,7 @@ const COLOURED: Case = Case {
 };
 
 #[test]
-fn more_workers_than_intervals_and_fewer(rt: HostRuntime) -> Result<(), Fail> {
+fn decodes_by_more_workers_than_intervals_and_fewer(rt: HostRuntime) -> Result<(), Fail> {
     let three = TEN.showing(
         "P5 80 8 : 24*136 56*0",
         "intervals 10 sound 3 damaged 0 blank 7",
@@ -138,7 +138,7 @@ fn more_workers_than_intervals_and_fewer(rt: HostRuntime) -> Result<(), Fail> {
 
 /// An interval that is not decoded is black in colour too.
 #[test]
-fn first_intervals_of_three_components(rt: HostRuntime) -> Result<(), Fail> {
+fn shows_first_intervals_of_three_components(rt: HostRuntime) -> Result<(), Fail> {
     let one = COLOURED.showing(
         "P6 17 9 : 16*229,77,128 1*0,0,0",
         "intervals 2 sound 1 damaged 0 blank 1",

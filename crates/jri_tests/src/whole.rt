@@ -30,41 +30,41 @@ fn check<R: Threads + Wait + Sync + AllocGlobal + Abort>(
 }
 
 #[test]
-fn grey_blocks(rt: HostRuntime) -> Result<(), Fail> {
+fn decodes_grey_blocks(rt: HostRuntime) -> Result<(), Fail> {
     check(&rt, &cases::grey_blocks())
 }
 
 #[test]
-fn spellings_and_tables(rt: HostRuntime) -> Result<(), Fail> {
+fn decodes_spellings_and_tables(rt: HostRuntime) -> Result<(), Fail> {
     check(&rt, &cases::spellings_and_tables())
 }
 
 #[test]
-fn runs_of_zeros(rt: HostRuntime) -> Result<(), Fail> {
+fn decodes_runs_of_zeros(rt: HostRuntime) -> Result<(), Fail> {
     check(&rt, &cases::runs_of_zeros())
 }
 
 #[test]
-fn restart_intervals(rt: HostRuntime) -> Result<(), Fail> {
+fn decodes_restart_intervals(rt: HostRuntime) -> Result<(), Fail> {
     check(&rt, &cases::restart_intervals())
 }
 
 #[test]
-fn ends_of_scans(rt: HostRuntime) -> Result<(), Fail> {
+fn tells_ends_of_scans(rt: HostRuntime) -> Result<(), Fail> {
     check(&rt, &cases::ends_of_scans())
 }
 
 #[test]
-fn greatest_coefficients(rt: HostRuntime) -> Result<(), Fail> {
+fn decodes_greatest_coefficients(rt: HostRuntime) -> Result<(), Fail> {
     check(&rt, &cases::greatest_coefficients())
 }
 
 #[test]
-fn three_components(rt: HostRuntime) -> Result<(), Fail> {
+fn decodes_three_components(rt: HostRuntime) -> Result<(), Fail> {
     check(&rt, &cases::three_components())
 }
 
 #[test]
-fn extended_sequential_frames(rt: HostRuntime) -> Result<(), Fail> {
+fn decodes_extended_sequential_frames(rt: HostRuntime) -> Result<(), Fail> {
     check(&rt, &cases::extended_sequential_frames())
 }

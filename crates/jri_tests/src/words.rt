@@ -28,7 +28,7 @@ fn help_text(unasked: Unasked) -> Option<String> {
 }
 
 #[test]
-fn words_that_ask_for_a_decoding(rt: HostRuntime) -> Result<(), Fail> {
+fn asks_for_a_decoding(rt: HostRuntime) -> Result<(), Fail> {
     let cases = [
         ("", 4, None, None),
         ("--workers 1", 1, None, None),
@@ -46,7 +46,7 @@ fn words_that_ask_for_a_decoding(rt: HostRuntime) -> Result<(), Fail> {
         assert!(rt; found.workers == workers, "workers of {line}");
         assert!(rt; found.first == first, "first of {line}");
         let is_named = match (&found.file, file) {
-            (Some(name), Some(wanted)) => name.as_str() == wanted,
+            (Some(name), Some(file)) => name.as_str() == file,
             (None, None) => true,
             _ => false,
         };
@@ -56,7 +56,7 @@ fn words_that_ask_for_a_decoding(rt: HostRuntime) -> Result<(), Fail> {
 }
 
 #[test]
-fn wrong_words(rt: HostRuntime) -> Result<(), Fail> {
+fn refuses_wrong_words(rt: HostRuntime) -> Result<(), Fail> {
     let cases = [
         "--workers 0",
         "--workers 65",
@@ -81,7 +81,7 @@ fn wrong_words(rt: HostRuntime) -> Result<(), Fail> {
 }
 
 #[test]
-fn help(rt: HostRuntime) -> Result<(), Fail> {
+fn answers_help(rt: HostRuntime) -> Result<(), Fail> {
     let words = words_of(rt.alloc(), "--help")?;
     let unasked = asked(rt.alloc(), words.as_slice()).err().ok_or("no help")?;
     assert_eq!(rt; unasked.status(), 0);

@@ -1,0 +1,5 @@
+//! Heads of files, and the files that have none.
+
+mod accepted;
+mod long;
+mod refused;
