@@ -6,8 +6,11 @@ ghost use Rattle.jr_base.specs.declared.limits.TheConstants.{MAX_WORKERS};
 
 use crate::decoding::{Outcome, decode};
 use crate::files::{file, front, with_byte};
+use crate::scans::scan;
+use jr_wall::{Gate, Piece, decode_all};
 use std::process::Abort;
 use std::sync::Wait;
+use std::sync::atomic::{AtomicU32, Ordering};
 use std::test::Fail;
 use std::thread::Threads;
 
@@ -25,6 +28,22 @@ const LONG_AND_SHORT: &str = "S Q F:0110:0100 D A FF DD 00 04 04 20 \
 /// Three components, 1080 MCUs of six data units.
 const COLOURED: &str = "S Q F3:01E0:0240:22 D:00:03:06 A \
     C3 108*6000C06000C06000C06000C06000C05800B05800B05800B05800B05800B0 E";
+
+/// How often a gate is passed, and how many MCUs the pieces have that it is shown.
+struct Calls {
+    passed: AtomicU32,
+    made: AtomicU32,
+}
+
+impl Gate for Calls {
+    fn pass(&self, _number: u32) {
+        self.passed.fetch_add(1, Ordering::SeqCst);
+    }
+
+    fn made(&self, piece: &Piece) {
+        self.made.fetch_add(piece.front(), Ordering::SeqCst);
+    }
+}
 
 /// Whether two runs gave the same picture, lines and status.
 fn is_same(one: &Outcome, other: &Outcome) -> bool {
@@ -99,4 +118,21 @@ fn a_long_interval_and_a_short_one(rt: HostRuntime) -> Result<(), Fail> {
 #[test]
 fn three_components_in_a_long_interval(rt: HostRuntime) -> Result<(), Fail> {
     check_all(&rt, COLOURED, 3300)
+}
+
+/// The gate is passed once and shown one piece, whoever decodes its strips.
+#[test]
+fn the_gate_is_told_once(rt: HostRuntime) -> Result<(), Fail> {
+    for workers in [1, 2, 4] {
+        let gate = Calls {
+            passed: AtomicU32::new(0),
+            made: AtomicU32::new(0),
+        };
+        let scan = scan(rt.alloc(), ONE)?;
+        let board = decode_all(&rt, rt.alloc(), scan, workers, None, &gate)?;
+        assert_eq!(rt; board.sound(), 1);
+        assert_eq!(rt; gate.passed.load(Ordering::SeqCst), 1);
+        assert_eq!(rt; gate.made.load(Ordering::SeqCst), 1056);
+    }
+    Ok(())
 }
