@@ -18,6 +18,7 @@ one_more_of i xs x all one = subst (All of) (sym (map-append arc_value xs (x ∷
   where
     of : StripValue → Type 0
     of s = s.interval ≡ i
+
     at : (k : ℕ) (d : StripValue) → k < length (arc_value x ∷ []) → of (get_or (arc_value x ∷ []) k d)
     at zero d lt = one
     at (suc k) d lt = absurd (omega arith)

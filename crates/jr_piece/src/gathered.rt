@@ -54,11 +54,7 @@ fn all_of(alloc: Global, places: &[Option<Arc<Strip>>]) -> Option<Vec<Arc<Strip>
 }
 
 /// Puts a strip into its place. Places before it that are not there yet are empty.
-fn put(
-    places: &mut Vec<Option<Arc<Strip>>>,
-    place: usize,
-    strip: Arc<Strip>,
-) -> Result<(), Memory>
+fn put(places: &mut Vec<Option<Arc<Strip>>>, place: usize, strip: Arc<Strip>) -> Result<(), Memory>
     ensures { (i : IntervalValue) → (arc_value strip).interval ≡ i → All (IsEmptyOrOf i) places.old.items → All (IsEmptyOrOf i) places.new.items }
 {
     for _ in places.len()..=place {

@@ -134,15 +134,13 @@ impl Decoding {
     }
 
     /// `run`, with the jobs that the workers share, and a seat for the calling thread.
-    fn run_with<R: Threads + Wait + Sync, G: Gate + Sync, T, F: FnOnce(&Decoding) -> T, S: OneScan + Send>(
-        &self,
-        rt: &R,
-        seats: Vec<Seat>,
-        own: Option<Seat>,
-        gate: &G,
-        jobs: &Jobs<S>,
-        beside: F,
-    ) -> T
+    fn run_with<
+        R: Threads + Wait + Sync,
+        G: Gate + Sync,
+        T,
+        F: FnOnce(&Decoding) -> T,
+        S: OneScan + Send,
+    >(&self, rt: &R, seats: Vec<Seat>, own: Option<Seat>, gate: &G, jobs: &Jobs<S>, beside: F) -> T
         requires scan { S.scan ≡ Some self.now.scan }
         requires seats { All (λ s. s.desk ≡ self.now.desk) seats.items }
         requires own { IfSome own (λ s. s.desk ≡ self.now.desk) }
@@ -257,14 +255,13 @@ impl Decoding {
 }
 
 /// `run_with`, where a type stands for the scan, so that what the workers share under locks is known to be of it.
-fn run_as<R: Threads + Wait + Sync, G: Gate + Sync, T, F: FnOnce(&Decoding) -> T, S: OneScan + Send>(
-    decoding: &Decoding,
-    rt: &R,
-    seats: Vec<Seat>,
-    own: Option<Seat>,
-    gate: &G,
-    beside: F,
-) -> T
+fn run_as<
+    R: Threads + Wait + Sync,
+    G: Gate + Sync,
+    T,
+    F: FnOnce(&Decoding) -> T,
+    S: OneScan + Send,
+>(decoding: &Decoding, rt: &R, seats: Vec<Seat>, own: Option<Seat>, gate: &G, beside: F) -> T
     requires scan { S.scan ≡ Some decoding.now.scan }
     requires seats { All (λ s. s.desk ≡ decoding.now.desk) seats.items }
     requires own { IfSome own (λ s. s.desk ≡ decoding.now.desk) }

@@ -49,7 +49,12 @@ pub fn work<R: Wait, G: Gate>(
 }
 
 /// The piece of an interval, which the gate has seen; none for want of memory.
-pub(crate) fn make_piece<G: Gate>(alloc: Global, scan: &Scan, number: u32, gate: &G) -> Option<Arc<Piece>>
+pub(crate) fn make_piece<G: Gate>(
+    alloc: Global,
+    scan: &Scan,
+    number: u32,
+    gate: &G,
+) -> Option<Arc<Piece>>
     requires { number < length scan.now.intervals }
 {
     let interval = scan.interval(number).ok()?;
