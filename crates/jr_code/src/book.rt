@@ -273,9 +273,7 @@ impl CodeBook {
     {
         match self.entries[register.window(8) as usize] {
             Some(word) => Some(word),
-            None => self
-                .words
-                .long_word(&self.long, register.window(16) as u16),
+            None => self.words.long_word(&self.long, register.window(16) as u16),
         }
     }
 }
