@@ -56,7 +56,7 @@ pub(crate) fn picture(alloc: Global, words: &str) -> Result<Vec<u8>, Fail> {
 }
 
 #[test]
-fn lines_are_put_together(rt: HostRuntime) -> Result<(), Fail> {
+fn puts_lines_together(rt: HostRuntime) -> Result<(), Fail> {
     let bytes = picture(rt.alloc(), "P5 2 2 : 2*7")?;
     assert_eq!(rt;
         bytes.as_slice(),
