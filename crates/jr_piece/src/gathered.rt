@@ -23,6 +23,7 @@ pub(crate) struct Gathered<S: OneScan> {
     strips: Vec<Option<Arc<Strip>>>,
     kept: u32,
     end: Option<End>,
+    is_given: bool,
     of: PhantomData<S>,
 }
 
@@ -75,6 +76,7 @@ impl<S: OneScan> Gathered<S> {
             strips: Vec::new(alloc),
             kept: 0,
             end: None,
+            is_given: false,
             of: PhantomData,
         }
     }
@@ -92,12 +94,12 @@ impl<S: OneScan> Gathered<S> {
         Ok(())
     }
 
-    /// Notes where this interval ends.
+    /// Notes where this interval ends, until its strips are given.
     pub(crate) fn close(&mut self, end: End)
         requires { IsEndOf S.scan end }
         ensures { self.new ≡ self.old }
     {
-        if end.number == self.interval.number() {
+        if !self.is_given && end.number == self.interval.number() {
             self.end = Some(end);
         }
     }
@@ -114,6 +116,7 @@ impl<S: OneScan> Gathered<S> {
             return None;
         }
         self.end = None;
+        self.is_given = true;
         let strips = all_of(alloc, self.strips.as_slice())?;
         Some((self.interval.number(), strips, end))
     }

@@ -30,6 +30,7 @@ const COLOURED: &str = "S Q F3:01E0:0240:22 D:00:03:06 A \
     C3 108*6000C06000C06000C06000C06000C05800B05800B05800B05800B05800B0 E";
 
 /// How often a gate is passed, and how many MCUs the pieces have that it is shown.
+#[derive(Drop)]
 struct Calls {
     passed: AtomicU32,
     made: AtomicU32,
