@@ -8,7 +8,7 @@ ghost use Rattle.jr_piece.specs.Sharing.{IsOneOf, IsEmptyOrOf, IsEndOf};
 ghost use Rattle.jr_piece.specs.Strips.{AreOf, TellsEnd, shared_strips};
 
 use crate::one_scan::OneScan;
-use crate::reading::End;
+use crate::reading::{End, STRIP_MCUS};
 use crate::strip::Strip;
 use jr_code::Memory;
 use jr_scan::Interval;
@@ -82,13 +82,14 @@ impl<S: OneScan> Gathered<S> {
     }
 
     /// Keeps a strip of this interval in its place; of another interval it keeps none.
-    pub(crate) fn keep(&mut self, place: u32, strip: Arc<Strip>) -> Result<(), Memory>
+    pub(crate) fn keep(&mut self, strip: Arc<Strip>) -> Result<(), Memory>
         requires { IsOneOf S.scan (arc_value strip).interval }
         ensures { self.new ≡ self.old }
     {
         if strip.number() != self.interval.number() {
             return Ok(());
         }
+        let place = strip.first() / STRIP_MCUS;
         put(&mut self.strips, place as usize, strip)?;
         self.kept = self.kept.saturating_add(1);
         Ok(())
@@ -112,7 +113,7 @@ impl<S: OneScan> Gathered<S> {
         ensures end { IfSome result (λ r. TellsEnd self.old r.2.front r.2.is_sound) }
     {
         let end = self.end?;
-        if self.kept != end.strips {
+        if self.kept != end.front.div_ceil(STRIP_MCUS) {
             return None;
         }
         self.end = None;

@@ -10,6 +10,7 @@ mod laws;
 mod one_scan;
 mod order;
 mod piece;
+mod progress;
 mod reading;
 mod strip;
 mod strip_reader;

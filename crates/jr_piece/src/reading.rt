@@ -17,11 +17,10 @@ use std::sync::Arc;
 /// stay in a processor's own cache between reading and transforming.
 pub(crate) const STRIP_MCUS: u32 = 256;
 
-/// Where the whole MCUs of interval `number` end, in how many strips, and whether it has a decoding.
+/// Where the whole MCUs of interval `number` end, and whether it has a decoding.
 #[derive(Clone, Copy)]
 pub(crate) struct End {
     pub number: u32,
-    pub strips: u32,
     pub front: u32,
     pub is_sound: bool,
 }
@@ -29,17 +28,16 @@ pub(crate) struct End {
 /// What follows what is read.
 #[derive(Drop)]
 pub(crate) enum Next {
-    /// The next strip, and how many stand before it.
-    Strip(u32, CodedStrip),
+    /// The next strip.
+    Strip(CodedStrip),
     /// Nothing: so the interval ends.
     End(End),
 }
 
-/// The reader of an interval of the scan, and how many strips it has read.
+/// The reader of an interval of the scan.
 #[derive(Drop)]
 pub(crate) struct Reading<S: OneScan> {
     reader: StripReader,
-    strips: u32,
     of: PhantomData<S>,
 }
 
@@ -62,7 +60,6 @@ impl<S: OneScan> Reading<S> {
     {
         Reading {
             reader: StripReader::over(interval),
-            strips: 0,
             of: PhantomData,
         }
     }
@@ -71,18 +68,13 @@ impl<S: OneScan> Reading<S> {
     pub(crate) fn next(&mut self, alloc: Global) -> Result<Next, Memory>
         ensures { IfOk result (IsNextOf S.scan) }
     {
-        let place = self.strips;
-        match self.reader.next(alloc, STRIP_MCUS)? {
-            Some(strip) => {
-                self.strips = place.saturating_add(1);
-                Ok(Next::Strip(place, strip))
-            }
-            None => Ok(Next::End(End {
-                number: self.reader.number(),
-                strips: place,
-                front: self.reader.first(),
-                is_sound: self.reader.is_sound(),
-            })),
+        if let Some(strip) = self.reader.next(alloc, STRIP_MCUS)? {
+            return Ok(Next::Strip(strip));
         }
+        Ok(Next::End(End {
+            number: self.reader.number(),
+            front: self.reader.first(),
+            is_sound: self.reader.is_sound(),
+        }))
     }
 }

@@ -178,8 +178,8 @@ impl Decoding {
         let mut sight = self.cells.sight().ok();
         while let Some(number) = self.desk.claim(seat) {
             gate.pass(number);
-            let piece = match jobs.open(rt, &self.scan, number) {
-                Some(job) => self.share(rt, gate, &job),
+            let piece = match jobs.get(number as usize) {
+                Some(job) => self.share(rt, gate, job),
                 None => make_piece(self.alloc, &self.scan, number, gate),
             };
             if let Some(piece) = piece {
@@ -189,7 +189,7 @@ impl Decoding {
         self.help(rt, seat.place(), gate, jobs, &mut sight);
     }
 
-    /// Works on every open job, beginning with another one at each seat.
+    /// Works on what is left of every job, beginning with another one at each seat.
     fn help<R: Wait, G: Gate, S: OneScan>(
         &self,
         rt: &R,
@@ -201,18 +201,18 @@ impl Decoding {
         requires scan { S.scan ≡ Some self.now.scan }
         requires sight { IfSome sight.old (λ s. s.cells ≡ self.now.cells) }
     {
-        let count = jobs.count(rt);
+        let count = jobs.count();
         for k in 0..count {
-            let Some(job) = jobs.get(rt, k.saturating_add(place as usize) % count) else {
-                return;
+            let Some(job) = jobs.get(k.saturating_add(place as usize) % count) else {
+                continue;
             };
-            if let Some(piece) = self.share(rt, gate, &job) {
+            if let Some(piece) = self.share(rt, gate, job) {
                 self.post(rt, piece, sight);
             }
         }
     }
 
-    /// Works on a job until nothing of it is left to read. The worker that decodes its last strip gets the piece, which
+    /// Works on a job until nothing of it is left to do. The worker that decodes its last strip gets the piece, which
     /// the gate has seen.
     fn share<R: Wait, G: Gate, S: OneScan>(
         &self,
@@ -222,7 +222,11 @@ impl Decoding {
     ) -> Option<Arc<Piece>>
         requires { S.scan ≡ Some self.now.scan }
     {
-        job.work(rt, self.alloc);
+        for _ in 0..job.most_strips() {
+            if job.step(rt, self.alloc).is_none() {
+                break;
+            }
+        }
         let piece = job.piece(rt, self.alloc, &self.scan)?;
         gate.made(&piece);
         Arc::new(self.alloc, piece).ok()
@@ -268,7 +272,17 @@ fn run_as<
     requires beside { F.IsAlwaysCallable beside }
     ensures { FnOnceReturnsAt F.FnOnce beside decoding.now result }
 {
+    let is_alone = own.is_some() && seats.is_empty();
     let workers = seats.len().saturating_add(usize::from(own.is_some()));
-    let jobs: Jobs<S> = Jobs::of(decoding.alloc, workers);
+    let jobs: Jobs<S> = if is_alone {
+        Jobs::none(decoding.alloc)
+    } else {
+        Jobs::open(
+            decoding.alloc,
+            &decoding.scan,
+            decoding.desk.limit(),
+            workers,
+        )
+    };
     decoding.run_with(rt, seats, own, gate, &jobs, beside)
 }
