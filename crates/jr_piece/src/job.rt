@@ -2,7 +2,6 @@
 
 ghost use Rattle.std.specs.Prelude.{◌≡◌, Some, IfOk, IfSome};
 ghost use Rattle.std.specs.Arc.{arc_value};
-ghost use Rattle.jr_scan.specs.ScanValue.{HasInterval};
 ghost use Rattle.jr_piece.specs.Sharing.{IsOneOf};
 
 use crate::gathered::Gathered;
@@ -14,42 +13,54 @@ use crate::strip::Strip;
 use jr_code::Memory;
 use jr_scan::{Interval, Scan};
 use std::alloc::Global;
+use std::marker::Model;
 use std::sync::{Arc, Condvar, Mutex, Wait};
 
 /// An interval that several workers decode: one of them reads strip after strip, and whoever is free transforms what is
 /// read. So nobody waits for the reader but who has nothing else to do.
 #[derive(Drop)]
 pub struct Job<S: OneScan> {
-    mcus: u32,
+    interval: Arc<Interval>,
     progress: Mutex<Progress<S>>,
     /// Somebody has read a strip, or all.
     has_read: Condvar,
+}
+
+impl<S: OneScan> Model for Job<S> {
+    ghost use Rattle.std.specs.Arc.{arc_value};
+    ghost use Rattle.jr_scan.specs.IntervalValue.{IntervalValue};
+    ghost use Rattle.jr_piece.specs.Sharing.{IsOneOf};
+
+    ghost Value = { IntervalValue };
+
+    ghost view = { λ j. arc_value j.interval };
+
+    ghost invariant = { λ j. IsOneOf S.scan (arc_value j.interval) };
 }
 
 impl<S: OneScan> Job<S> {
     /// A job for so many workers, of which nothing is done yet. `Err` where memory is refused.
     pub fn open(alloc: Global, interval: Interval, workers: usize) -> Result<Job<S>, Memory>
         requires { IsOneOf S.scan interval }
+        ensures { IfOk result (λ j. j ≡ interval) }
     {
-        let mcus = interval.mcus();
         let interval = Arc::new(alloc, interval)?;
-        let same = Arc::try_clone(&interval)?;
-        let progress = Progress::of(
-            alloc,
-            Reading::of(same),
-            Gathered::of(alloc, interval),
-            workers.saturating_sub(1).max(1),
-        );
+        let reading = Reading::of(Arc::try_clone(&interval)?);
+        let gathered = Gathered::of(alloc, Arc::try_clone(&interval)?);
+        let most_waiting = workers.saturating_sub(1).max(1);
+        let progress = Progress::of(alloc, reading, gathered, most_waiting);
         Ok(Job {
-            mcus,
+            interval,
             progress: Mutex::new(progress),
             has_read: Condvar::new(),
         })
     }
 
-    /// At most so many strips can follow.
-    pub fn most_strips(&self) -> u32 {
-        self.mcus
+    /// The interval that is decoded.
+    pub fn interval(&self) -> &Interval
+        ensures { result.now ≡ self.now }
+    {
+        &self.interval
     }
 
     /// What to do next, once there is something.
@@ -74,9 +85,12 @@ impl<S: OneScan> Job<S> {
 
     /// Transforms a strip and keeps it.
     fn decode<R: Wait>(&self, rt: &R, alloc: Global, coded: &Coded<S>) -> Result<Arc<Strip>, Memory>
-        ensures { IfOk result (λ s. IsOneOf S.scan (arc_value s).interval) }
+        ensures { IfOk result (λ s. (arc_value s).interval ≡ self.now) }
     {
         let strip = Arc::new(alloc, coded.decode(alloc)?)?;
+        if strip.number() != self.interval.number() {
+            return Err(Memory);
+        }
         let same = Arc::try_clone(&strip)?;
         self.progress.lock(rt).keep(same)?;
         Ok(strip)
@@ -91,9 +105,9 @@ impl<S: OneScan> Job<S> {
     /// Decodes a strip, as other workers may do at the same time. None where nothing is left to do for this one, and
     /// where memory is refused.
     pub fn step<R: Wait>(&self, rt: &R, alloc: Global) -> Option<Arc<Strip>>
-        ensures { IfSome result (λ s. IsOneOf S.scan (arc_value s).interval) }
+        ensures { IfSome result (λ s. (arc_value s).interval ≡ self.now) }
     {
-        for _ in 0..=self.mcus {
+        for _ in 0..=self.interval.mcus() {
             match self.task(rt) {
                 Task::Read(reading) => self.read(rt, alloc, reading),
                 Task::Decode(coded) => {
@@ -112,9 +126,12 @@ impl<S: OneScan> Job<S> {
     /// The interval's piece, once all strips are decoded; it is given once.
     pub fn piece<R: Wait>(&self, rt: &R, alloc: Global, scan: &Scan) -> Option<Piece>
         requires { S.scan ≡ Some scan.now }
-        ensures { IfSome result (λ p. HasInterval scan.now p.interval) }
+        ensures { IfSome result (λ p. p.interval ≡ self.now) }
     {
         let (number, strips, end) = self.progress.lock(rt).take(alloc)?;
+        if number != self.interval.number() {
+            return None;
+        }
         let interval = scan.interval(number).ok()?;
         Piece::of_strips(interval, strips, end.front, end.is_sound).ok()
     }
