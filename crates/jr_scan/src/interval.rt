@@ -101,7 +101,6 @@ impl Interval {
         ensures claimed { result ≤ self.now.mcus }
         ensures coded { result * length (order_of self.now.head) ≤ 4 * length self.now.bytes }
     {
-        one_word();
         self.head.be_lawful();
         let units = 4 * self.bytes().len();
         let mcus = units / self.head.order().len();
