@@ -1,2 +1,4 @@
 pub mod SightValue
 pub mod Sights
+pub mod StripCellsValue
+pub mod StripSights

@@ -4,5 +4,7 @@
 #![tactic(auto)]
 
 mod cells;
+mod strip_cells;
 
 pub use cells::{Cells, Sight};
+pub use strip_cells::{StripCells, StripSight};
