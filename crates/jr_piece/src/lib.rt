@@ -19,5 +19,6 @@ pub use job::Job;
 pub use laws::{one_outcome, one_strip, strip_is_final, strips_meet, whole_strip_is_outcome};
 pub use one_scan::OneScan;
 pub use piece::{NotInOrder, Piece};
+pub use reading::strip_mcus;
 pub use strip::{CodedStrip, Strip};
 pub use strip_reader::StripReader;

@@ -1,6 +1,6 @@
 //! How far a shared interval is read.
 
-ghost use Rattle.std.specs.Prelude.{◌≡◌, IfOk};
+ghost use Rattle.std.specs.Prelude.{◌≡◌, ◌<◌, IfOk};
 ghost use Rattle.std.specs.Arc.{arc_value};
 ghost use Rattle.jr_piece.specs.Sharing.{IsOneOf, IsNextOf};
 
@@ -13,9 +13,24 @@ use std::alloc::Global;
 use std::marker::{Model, PhantomData};
 use std::sync::Arc;
 
-/// How many MCUs a strip has, but for an interval's last one: 256 of 4:2:0 are 98,304 bytes of samples, and their blocks
-/// stay in a processor's own cache between reading and transforming.
-pub(crate) const STRIP_MCUS: u32 = 256;
+/// How many strips a long interval has at least, but for the roundings.
+const STRIPS: u32 = 64;
+
+/// How many MCUs a strip has at least: reading fewer takes no longer than handing the reader on.
+const LEAST_MCUS: u32 = 256;
+
+/// How many data units a strip has at most, where it has more than the least: their blocks fit into a processor's own
+/// cache.
+const MOST_UNITS: u32 = 3072;
+
+/// How many MCUs the strips of a shared interval have, but for the last one.
+pub fn strip_mcus(interval: &Interval) -> u32
+    ensures { 0 < result }
+{
+    let units = interval.head().order().len() as u32;
+    let even = interval.mcus() / STRIPS;
+    even.min(MOST_UNITS / units).max(LEAST_MCUS)
+}
 
 /// Where the whole MCUs of interval `number` end, and whether it has a decoding.
 #[derive(Clone, Copy)]
@@ -38,10 +53,12 @@ pub(crate) enum Next {
 #[derive(Drop)]
 pub(crate) struct Reading<S: OneScan> {
     reader: StripReader,
+    each: u32,
     of: PhantomData<S>,
 }
 
 impl<S: OneScan> Model for Reading<S> {
+    ghost use Rattle.std.specs.Prelude.{◌<◌};
     ghost use Rattle.jr_scan.specs.IntervalValue.{IntervalValue};
     ghost use Rattle.jr_piece.specs.Sharing.{IsOneOf};
 
@@ -49,7 +66,7 @@ impl<S: OneScan> Model for Reading<S> {
 
     ghost view = { λ r. r.reader.interval };
 
-    ghost invariant = { λ r. IsOneOf S.scan r.reader.interval };
+    ghost invariant = { λ r. IsOneOf S.scan r.reader.interval × (0 < r.each) };
 }
 
 impl<S: OneScan> Reading<S> {
@@ -58,8 +75,10 @@ impl<S: OneScan> Reading<S> {
         requires { IsOneOf S.scan (arc_value interval) }
         ensures { result ≡ arc_value interval }
     {
+        let each = strip_mcus(&interval);
         Reading {
             reader: StripReader::over(interval),
+            each,
             of: PhantomData,
         }
     }
@@ -68,7 +87,7 @@ impl<S: OneScan> Reading<S> {
     pub(crate) fn next(&mut self, alloc: Global) -> Result<Next, Memory>
         ensures { IfOk result (IsNextOf S.scan) }
     {
-        if let Some(strip) = self.reader.next(alloc, STRIP_MCUS)? {
+        if let Some(strip) = self.reader.next(alloc, self.each)? {
             return Ok(Next::Strip(strip));
         }
         Ok(Next::End(End {

@@ -1,69 +1,82 @@
-//! The long intervals: all workers share each of them.
+//! The long intervals that are being decoded.
 
 ghost use Rattle.std.specs.Prelude.{◌≡◌, ◌<◌, ◌≤◌, length, Some};
 
+use jr_cells::StripCells;
 use jr_piece::{Job, OneScan};
 use jr_scan::Scan;
 use std::alloc::Global;
+use std::sync::Arc;
 
-/// How many MCUs an interval has at least that several workers share: four strips.
-pub(crate) const LONG_MCUS: u32 = 1024;
-
-/// A job for each long interval, by the interval's number.
+/// How a worker decodes long intervals.
 #[derive(Drop)]
-pub(crate) struct Jobs<S: OneScan> {
-    jobs: Vec<Option<Box<Job<S>>>>,
+pub(crate) enum Jobs<S: OneScan> {
+    /// Together with the others: a job for each, by the interval's number.
+    Shared(Vec<Option<Arc<Job<S>>>>),
+    /// Each that it claims by itself, strip by strip.
+    Own,
+    /// As it decodes short ones: nobody looks for strips.
+    Whole,
 }
 
-/// Whether intervals of the scan can be long: all but the last one have equally many MCUs.
-pub(crate) fn may_be_long(scan: &Scan) -> bool {
-    let restart = u32::from(scan.head().restart());
-    restart == 0 || restart >= LONG_MCUS
-}
-
-/// The job of interval i, if that is long. None where it is not, and where memory is refused.
-fn job_of<S: OneScan>(alloc: Global, scan: &Scan, i: u32, workers: usize) -> Option<Box<Job<S>>>
+/// A job of interval i for so many workers. None where memory is refused.
+fn job_of<S: OneScan>(alloc: Global, scan: &Scan, i: u32, workers: usize) -> Option<Arc<Job<S>>>
     requires scan { S.scan ≡ Some scan.now }
     requires i { i < length scan.now.intervals }
 {
     let interval = scan.interval(i).ok()?;
-    if interval.mcus() < LONG_MCUS {
-        return None;
-    }
-    Box::new(alloc, Job::open(alloc, interval, workers).ok()?).ok()
+    Arc::new(alloc, Job::open(alloc, interval, workers).ok()?).ok()
 }
 
 impl<S: OneScan> Jobs<S> {
-    /// No job at all.
-    pub(crate) fn none(alloc: Global) -> Jobs<S> {
-        Jobs {
-            jobs: Vec::new(alloc),
-        }
-    }
-
-    /// Jobs for the long ones of the first intervals, each for so many workers. Where memory is refused an interval has
-    /// none.
-    pub(crate) fn open(alloc: Global, scan: &Scan, limit: u32, workers: usize) -> Jobs<S>
+    /// Jobs for the intervals that have cells of strips, each for so many workers.
+    pub(crate) fn shared(
+        alloc: Global,
+        scan: &Scan,
+        strips: &[Option<StripCells>],
+        workers: usize,
+    ) -> Jobs<S>
         requires scan { S.scan ≡ Some scan.now }
-        requires limit { limit ≤ length scan.now.intervals }
+        requires strips { length strips.now ≤ length scan.now.intervals }
     {
         let mut jobs = Vec::new(alloc);
-        let count = if may_be_long(scan) { limit } else { 0 };
-        for i in 0..count {
-            if jobs.push(job_of(alloc, scan, i, workers)).is_err() {
+        for i in 0..strips.len() {
+            let job = match strips[i] {
+                Some(_) => job_of(alloc, scan, i as u32, workers),
+                None => None,
+            };
+            if jobs.push(job).is_err() {
                 break;
             }
         }
-        Jobs { jobs }
+        Jobs::Shared(jobs)
     }
 
-    /// One more than the last interval that may have a job.
+    /// One more than the last interval of which a worker can do a part.
     pub(crate) fn count(&self) -> usize {
-        self.jobs.len()
+        match self {
+            Jobs::Shared(jobs) => jobs.len(),
+            Jobs::Own | Jobs::Whole => 0,
+        }
     }
 
-    /// The job of interval i, where there is one.
+    /// The shared job of interval i, where there is one.
     pub(crate) fn get(&self, i: usize) -> Option<&Job<S>> {
-        self.jobs.get(i)?.as_deref()
+        match self {
+            Jobs::Shared(jobs) => jobs.get(i)?.as_deref(),
+            Jobs::Own | Jobs::Whole => None,
+        }
+    }
+
+    /// The job by which a long interval i is decoded that a worker has claimed. None where it is decoded as a whole.
+    pub(crate) fn claimed(&self, alloc: Global, scan: &Scan, i: u32) -> Option<Arc<Job<S>>>
+        requires scan { S.scan ≡ Some scan.now }
+        requires i { i < length scan.now.intervals }
+    {
+        match self {
+            Jobs::Shared(jobs) => Arc::try_clone(jobs.get(i as usize)?.as_ref()?).ok(),
+            Jobs::Own => job_of(alloc, scan, i, 1),
+            Jobs::Whole => None,
+        }
     }
 }

@@ -13,6 +13,7 @@ mod jobs;
 mod laws;
 mod mark;
 mod painting;
+mod strips;
 mod sweeping;
 mod workers;
 
