@@ -4,6 +4,7 @@
 #![tactic(auto)]
 
 mod cells;
+mod once;
 mod strip_cells;
 
 pub use cells::{Cells, Sight};
