@@ -37,7 +37,7 @@ impl Model for StripCells {
 
     ghost view = { λ c. record { number = c.number; each = c.each; cells = map cell_name c.cells.items } };
 
-    ghost invariant = { λ c. (length c.cells.items < 2 ^ 32) × ((place : ℕ) → place < length c.cells.items → place * c.each < 2 ^ 32) };
+    ghost invariant = { λ c. (0 < c.each) × (length c.cells.items < 2 ^ 32) × ((place : ℕ) → place < length c.cells.items → place * c.each < 2 ^ 32) };
 }
 
 /// What one thread has seen of an interval's strips. Its notes take no bytes: they are what a proof knows of each cell.
@@ -87,7 +87,8 @@ impl StripCells {
 
     /// How many MCUs each strip has but for the last.
     pub fn each(&self) -> u32
-        ensures { result ≡ self.now.each }
+        ensures value { result ≡ self.now.each }
+        ensures some { 0 < result }
     {
         self.each
     }

@@ -24,9 +24,11 @@ returns-in-Ok-set_as-clause-ok g c =
 pub returns-in-Err-set_as-clause-cells : goal.returns-in-Err-set_as-clause-cells
 returns-in-Err-set_as-clause-cells g c =
     let within = within_notes c.args.notes.now.items c.args.cells.now c.args.at c.requires.notes c.requires.cell in
-    names_kept c.args.notes.now.items c.args.at c.index_mut.result.now c.set_as.new.note (record { within = within; there = c.index_mut.ensures.value; cell = c.set_as.ensures.cell; keeps = kept_by_set _ _ c.set_as.ensures.known })
+    let kept = names_kept c.args.notes.now.items c.args.at c.index_mut.result.now c.set_as.new.note (record { within = within; there = c.index_mut.ensures.value; cell = c.set_as.ensures.cell; keeps = kept_by_set _ _ c.set_as.ensures.known }) in
+    search (rules, kept)
 
 pub returns-in-Err-set_as-clause-later : goal.returns-in-Err-set_as-clause-later
 returns-in-Err-set_as-clause-later g c =
     let within = within_notes c.args.notes.now.items c.args.cells.now c.args.at c.requires.notes c.requires.cell in
-    all_kept c.args.notes.now.items c.args.at c.index_mut.result.now c.set_as.new.note (record { within = within; there = c.index_mut.ensures.value; cell = c.set_as.ensures.cell; keeps = kept_by_set _ _ c.set_as.ensures.known })
+    let kept = all_kept c.args.notes.now.items c.args.at c.index_mut.result.now c.set_as.new.note (record { within = within; there = c.index_mut.ensures.value; cell = c.set_as.ensures.cell; keeps = kept_by_set _ _ c.set_as.ensures.known }) in
+    search (rules, kept)
