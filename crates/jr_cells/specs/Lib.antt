@@ -1,3 +1,4 @@
+pub mod Notes
 pub mod SightValue
 pub mod Sights
 pub mod StripCellsValue

@@ -2,11 +2,12 @@
 
 ghost use Rattle.std.specs.Prelude.{◌≡◌, ℕ, ℤ, List, ◌*◌, ◌<◌, ◌≤◌, length, replicate, None, Some, IfOk, IfErr, IfSome, IfNone};
 ghost use Rattle.std.specs.Arc.{arc_value};
-ghost use Rattle.once_cell.specs.Once.{cell_name};
+ghost use Rattle.jr_head.specs.Geometry.{order_of};
 ghost use Rattle.jr_scan.specs.Mcus.{Front};
 ghost use Rattle.jr_piece.specs.Strips.{IsStrip};
 ghost use Rattle.jr_cells.specs.StripSights.{KnowsStrip, KnowsNoStrip, KnowsAllStrips, AgreeOnStrips};
 
+use crate::once::{compare_notes, empty_cells, fresh_notes, get_cell, set_cell};
 use jr_code::Memory;
 use jr_piece::Strip;
 use jr_scan::Interval;
@@ -36,7 +37,7 @@ impl Model for StripCells {
 
     ghost view = { λ c. record { number = c.number; each = c.each; cells = map cell_name c.cells.items } };
 
-    ghost invariant = { λ c. (length c.cells.items < 2 ^ 32) × ((place : ℕ) → place < length c.cells.items → place * c.each < 2 ^ 32) };
+    ghost invariant = { λ c. (0 < c.each) × (length c.cells.items < 2 ^ 32) × ((place : ℕ) → place < length c.cells.items → place * c.each < 2 ^ 32) };
 }
 
 /// What one thread has seen of an interval's strips. Its notes take no bytes: they are what a proof knows of each cell.
@@ -48,13 +49,13 @@ pub struct StripSight {
 }
 
 impl Model for StripSight {
-    ghost use Rattle.std.specs.Prelude.{map};
-    ghost use Rattle.jr_cells.specs.StripCellsValue.{StripSightValue};
+    ghost use Rattle.jr_cells.specs.Notes.{names_of};
+    ghost use Rattle.jr_cells.specs.StripCellsValue.{StripCellsValue, StripSightValue};
     ghost use Rattle.jr_cells.specs.StripSights.{strips_of};
 
     ghost Value = { StripSightValue };
 
-    ghost view = { λ s. record { cells = record { number = s.number; each = s.each; cells = map (λ n. n.cell) s.notes.items }; strips = strips_of s.number s.each 0 s.notes.items } };
+    ghost view = { λ s. record { cells = record { number = s.number; each = s.each; cells = names_of s.notes.items }; strips = strips_of s.number s.each s.notes.items } };
 }
 
 impl StripCells {
@@ -65,13 +66,10 @@ impl StripCells {
         ensures number { IfOk result (λ c. c.number ≡ interval.now.number) }
         ensures each { IfOk result (λ c. c.each ≡ each) }
         ensures enough { IfOk result (λ c. (k : ℕ) (zs : List (List ℤ)) → Front interval.now k zs → k ≤ length c.cells * each) }
-        ensures few { IfOk result (λ c. length c.cells ≤ 4 * length interval.now.bytes) }
+        ensures within { IfOk result (λ c. (place : ℕ) → place < length c.cells → place * each < interval.now.mcus) }
+        ensures few { IfOk result (λ c. length c.cells * length (order_of interval.now.head) ≤ 4 * length interval.now.bytes) }
     {
-        let count = interval.most_mcus().div_ceil(each);
-        let mut cells = Vec::with_capacity(alloc, count as usize)?;
-        for _ in 0..count {
-            cells.push(OnceBox::new(alloc))?;
-        }
+        let cells = empty_cells(alloc, interval.most_mcus().div_ceil(each))?;
         Ok(StripCells {
             number: interval.number(),
             each,
@@ -89,7 +87,8 @@ impl StripCells {
 
     /// How many MCUs each strip has but for the last.
     pub fn each(&self) -> u32
-        ensures { result ≡ self.now.each }
+        ensures value { result ≡ self.now.each }
+        ensures some { 0 < result }
     {
         self.each
     }
@@ -106,10 +105,7 @@ impl StripCells {
         ensures cells { IfOk result (λ s. s.cells ≡ self.now) }
         ensures nothing { IfOk result (λ s. s.strips ≡ replicate (length self.now.cells) None) }
     {
-        let mut notes = Vec::with_capacity(self.alloc, self.cells.len())?;
-        for cell in &self.cells {
-            notes.push(cell.note())?;
-        }
+        let notes = fresh_notes(self.alloc, self.cells.as_slice())?;
         Ok(StripSight {
             number: self.number,
             each: self.each,
@@ -134,16 +130,8 @@ impl StripCells {
         ensures ok { IfOk result (λ _. KnowsStrip sight.new place (arc_value strip)) }
         ensures err { IfErr result (λ back. back ≡ strip) }
     {
-        let alloc = self.alloc;
-        let boxed = match Box::new(alloc, strip) {
-            Ok(boxed) => boxed,
-            Err(refused) => return Err(refused.value),
-        };
-        let at = place as usize;
-        match self.cells[at].set_as(boxed, &mut sight.notes[at]) {
-            Ok(()) => Ok(()),
-            Err(back) => Err(Box::into_inner(back)),
-        }
+        let cells = self.cells.as_slice();
+        set_cell(self.alloc, cells, place as usize, strip, &mut sight.notes)
     }
 
     /// The strip in the cell of this place; none where the cell is still empty. Whoever saw a strip in a cell finds it
@@ -159,14 +147,13 @@ impl StripCells {
         ensures strip { IfSome result (λ s. IsStrip s.now) }
         ensures none { IfNone result ((sight.new ≡ sight.old) × KnowsNoStrip sight.old place) }
     {
-        let at = place as usize;
-        let strip: &Strip = self.cells[at].get_as(&mut sight.notes[at])?;
+        let cells = self.cells.as_slice();
+        let strip: &Strip = get_cell(cells, place as usize, &mut sight.notes)?;
         strip.be_strip();
-        if strip.number() == self.number && strip.first() == place * self.each {
-            Some(strip)
-        } else {
-            None
+        if strip.number() != self.number || strip.first() != place * self.each {
+            return None;
         }
+        Some(strip)
     }
 
     /// Two sights of these cells agree on each cell of which both know the strip. Neither is changed.
@@ -175,9 +162,6 @@ impl StripCells {
         ensures same { (one.new ≡ one.old) × (two.new ≡ two.old) }
         ensures agree { AgreeOnStrips one.old two.old }
     {
-        for i in 0..self.cells.len() {
-            let other = two.notes[i].again();
-            one.notes[i].compare(other);
-        }
+        compare_notes(&mut one.notes, &mut two.notes);
     }
 }
