@@ -39,6 +39,8 @@ impl<S: OneScan> Jobs<S> {
         requires scan { S.scan ≡ Some scan.now }
         requires strips { length strips.now ≤ length scan.now.intervals }
     {
+        // By its contract an interval's number has room in 32 bits.
+        let _all = scan.intervals();
         let mut jobs = Vec::new(alloc);
         for i in 0..strips.len() {
             let job = match strips[i] {
