@@ -1,2 +1,5 @@
+pub mod Notes
 pub mod SightValue
 pub mod Sights
+pub mod StripCellsValue
+pub mod StripSights

@@ -2,10 +2,10 @@
 
 ghost use Rattle.std.specs.Prelude.{◌≡◌, ℕ, ◌<◌, length, replicate, None, Some, IfOk, IfErr, IfSome, IfNone};
 ghost use Rattle.std.specs.Arc.{arc_value};
-ghost use Rattle.once_cell.specs.Once.{cell_name};
 ghost use Rattle.jr_piece.specs.Outcome.{IsOutcome};
-ghost use Rattle.jr_cells.specs.Sights.{piece_in_cell, Knows, KnowsNothing, KnowsAll, KnowsMore, Agree};
+ghost use Rattle.jr_cells.specs.Sights.{Knows, KnowsNothing, KnowsAll, Agree};
 
+use crate::once::{compare_notes, empty_cells, fresh_notes, get_cell, set_cell};
 use jr_code::Memory;
 use jr_piece::Piece;
 use once_cell::race::{Note, OnceBox};
@@ -41,11 +41,12 @@ pub struct Sight {
 
 impl Model for Sight {
     ghost use Rattle.jr_cells.specs.SightValue.{SightValue};
-    ghost use Rattle.jr_cells.specs.Sights.{cells_of, pieces_of};
+    ghost use Rattle.jr_cells.specs.Notes.{names_of};
+    ghost use Rattle.jr_cells.specs.Sights.{pieces_of};
 
     ghost Value = { SightValue };
 
-    ghost view = { λ s. record { cells = cells_of s.notes.items; pieces = pieces_of 0 s.notes.items } };
+    ghost view = { λ s. record { cells = names_of s.notes.items; pieces = pieces_of s.notes.items } };
 }
 
 impl Cells {
@@ -53,10 +54,7 @@ impl Cells {
     pub fn open(alloc: Global, n: u32) -> Result<Cells, Memory>
         ensures { IfOk result (λ c. length c ≡ n) }
     {
-        let mut cells = Vec::with_capacity(alloc, n as usize)?;
-        for _ in 0..n {
-            cells.push(OnceBox::new(alloc))?;
-        }
+        let cells = empty_cells(alloc, n)?;
         Ok(Cells { cells, alloc })
     }
 
@@ -72,10 +70,7 @@ impl Cells {
         ensures cells { IfOk result (λ s. s.cells ≡ self.now) }
         ensures nothing { IfOk result (λ s. s.pieces ≡ replicate (length self.now) None) }
     {
-        let mut notes = Vec::with_capacity(self.alloc, self.cells.len())?;
-        for cell in &self.cells {
-            notes.push(cell.note())?;
-        }
+        let notes = fresh_notes(self.alloc, self.cells.as_slice())?;
         Ok(Sight { notes })
     }
 
@@ -89,13 +84,8 @@ impl Cells {
         ensures ok { IfOk result (λ _. Knows sight.new i (arc_value piece)) }
         ensures err { IfErr result (λ back. back ≡ piece) }
     {
-        let alloc = self.alloc;
-        let boxed = match Box::new(alloc, piece) {
-            Ok(boxed) => boxed,
-            Err(refused) => return Err(refused.value),
-        };
-        let at = i as usize;
-        set_cell(&self.cells[at], i, boxed, &mut sight.notes[at])
+        let cells = self.cells.as_slice();
+        set_cell(self.alloc, cells, i as usize, piece, &mut sight.notes)
     }
 
     /// The piece in cell i; none where the cell is still empty. Whoever saw a piece in a cell finds it there ever after.
@@ -108,8 +98,12 @@ impl Cells {
         ensures outcome { IfSome result (λ p. IsOutcome p.now) }
         ensures none { IfNone result ((sight.new ≡ sight.old) × KnowsNothing sight.old i) }
     {
-        let at = i as usize;
-        look_cell(&self.cells[at], i, &mut sight.notes[at])
+        let piece: &Piece = get_cell(self.cells.as_slice(), i as usize, &mut sight.notes)?;
+        piece.be_outcome();
+        if piece.number() != i {
+            return None;
+        }
+        Some(piece)
     }
 
     /// Two sights of these cells agree on each cell of which both know the piece. Neither is changed.
@@ -118,52 +112,6 @@ impl Cells {
         ensures same { (one.new ≡ one.old) × (two.new ≡ two.old) }
         ensures agree { Agree one.old two.old }
     {
-        for i in 0..self.cells.len() {
-            let other = two.notes[i].again();
-            one.notes[i].compare(other);
-        }
-    }
-}
-
-/// Sets one cell. A refused piece comes back.
-fn set_cell(
-    cell: &OnceBox<Arc<Piece>>,
-    i: u32,
-    piece: Box<Arc<Piece>>,
-    note: &mut Note<Arc<Piece>>,
-) -> Result<(), Arc<Piece>>
-    requires cell { note.old.cell ≡ cell_name cell.now }
-    requires number { (arc_value piece.value).interval.number ≡ i }
-    ensures later { KnowsMore i note.old note.new }
-    ensures ok { IfOk result (λ _. piece_in_cell i note.new.known ≡ Some (arc_value piece.value)) }
-    ensures err { IfErr result (λ back. back ≡ piece.value) }
-{
-    match cell.set_as(piece, note) {
-        Ok(()) => Ok(()),
-        Err(back) => Err(Box::into_inner(back)),
-    }
-}
-
-/// The piece in one cell, which counts only with the cell's number.
-fn look_cell<'a>(
-    cell: &'a OnceBox<Arc<Piece>>,
-    i: u32,
-    note: &mut Note<Arc<Piece>>,
-) -> Option<&'a Piece>
-    requires { note.old.cell ≡ cell_name cell.now }
-    ensures later { KnowsMore i note.old note.new }
-    ensures some { IfSome result (λ p. (p.now.interval.number ≡ i) × (piece_in_cell i note.new.known ≡ Some p.now)) }
-    ensures outcome { IfSome result (λ p. IsOutcome p.now) }
-    ensures none { IfNone result ((piece_in_cell i note.new.known ≡ None) × (piece_in_cell i note.old.known ≡ None)) }
-{
-    let piece: &Piece = match cell.get_as(note) {
-        Some(piece) => piece,
-        None => return None,
-    };
-    piece.be_outcome();
-    if piece.number() == i {
-        Some(piece)
-    } else {
-        None
+        compare_notes(&mut one.notes, &mut two.notes);
     }
 }

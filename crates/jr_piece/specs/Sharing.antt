@@ -30,5 +30,5 @@ pub record IsEndOf (scan : Option ScanValue) (e : End) : Type 0 where
 
 -- what follows is of an interval of the scan
 abbrev pub IsNextOf : Option ScanValue → Next → Type 0
-IsNextOf scan (Strip place s) = IsOneOf scan s.interval
+IsNextOf scan (Strip s) = IsOneOf scan s.interval
 IsNextOf scan (Ended e) = IsEndOf scan e

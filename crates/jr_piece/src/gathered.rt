@@ -8,7 +8,7 @@ ghost use Rattle.jr_piece.specs.Sharing.{IsOneOf, IsEmptyOrOf, IsEndOf};
 ghost use Rattle.jr_piece.specs.Strips.{AreOf, TellsEnd, shared_strips};
 
 use crate::one_scan::OneScan;
-use crate::reading::End;
+use crate::reading::{End, strip_mcus};
 use crate::strip::Strip;
 use jr_code::Memory;
 use jr_scan::Interval;
@@ -20,6 +20,7 @@ use std::sync::Arc;
 #[derive(Drop)]
 pub(crate) struct Gathered<S: OneScan> {
     interval: Arc<Interval>,
+    each: u32,
     strips: Vec<Option<Arc<Strip>>>,
     kept: u32,
     end: Option<End>,
@@ -28,7 +29,7 @@ pub(crate) struct Gathered<S: OneScan> {
 }
 
 impl<S: OneScan> Model for Gathered<S> {
-    ghost use Rattle.std.specs.Prelude.{IfSome};
+    ghost use Rattle.std.specs.Prelude.{◌<◌, IfSome};
     ghost use Rattle.std.specs.List.{All};
     ghost use Rattle.std.specs.Arc.{arc_value};
     ghost use Rattle.jr_scan.specs.IntervalValue.{IntervalValue};
@@ -39,7 +40,7 @@ impl<S: OneScan> Model for Gathered<S> {
 
     ghost view = { λ g. arc_value g.interval };
 
-    ghost invariant = { λ g. IsOneOf S.scan (arc_value g.interval) × All (IsEmptyOrOf (arc_value g.interval)) g.strips.items × IfSome g.end (λ e. TellsEnd (arc_value g.interval) e.front e.is_sound) };
+    ghost invariant = { λ g. (0 < g.each) × IsOneOf S.scan (arc_value g.interval) × All (IsEmptyOrOf (arc_value g.interval)) g.strips.items × IfSome g.end (λ e. TellsEnd (arc_value g.interval) e.front e.is_sound) };
 }
 
 /// The strips of all places; none where a place is empty.
@@ -71,8 +72,10 @@ impl<S: OneScan> Gathered<S> {
         requires { IsOneOf S.scan (arc_value interval) }
         ensures { result ≡ arc_value interval }
     {
+        let each = strip_mcus(&interval);
         Gathered {
             interval,
+            each,
             strips: Vec::new(alloc),
             kept: 0,
             end: None,
@@ -82,13 +85,14 @@ impl<S: OneScan> Gathered<S> {
     }
 
     /// Keeps a strip of this interval in its place; of another interval it keeps none.
-    pub(crate) fn keep(&mut self, place: u32, strip: Arc<Strip>) -> Result<(), Memory>
+    pub(crate) fn keep(&mut self, strip: Arc<Strip>) -> Result<(), Memory>
         requires { IsOneOf S.scan (arc_value strip).interval }
         ensures { self.new ≡ self.old }
     {
         if strip.number() != self.interval.number() {
             return Ok(());
         }
+        let place = strip.first() / self.each;
         put(&mut self.strips, place as usize, strip)?;
         self.kept = self.kept.saturating_add(1);
         Ok(())
@@ -112,7 +116,7 @@ impl<S: OneScan> Gathered<S> {
         ensures end { IfSome result (λ r. TellsEnd self.old r.2.front r.2.is_sound) }
     {
         let end = self.end?;
-        if self.kept != end.strips {
+        if self.kept != end.front.div_ceil(self.each) {
             return None;
         }
         self.end = None;

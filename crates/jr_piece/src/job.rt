@@ -1,72 +1,137 @@
 //! One long interval, decoded by several workers.
 
-ghost use Rattle.std.specs.Prelude.{◌≡◌, Some, IfSome};
-ghost use Rattle.jr_scan.specs.ScanValue.{HasInterval};
+ghost use Rattle.std.specs.Prelude.{◌≡◌, Some, IfOk, IfSome};
+ghost use Rattle.std.specs.Arc.{arc_value};
 ghost use Rattle.jr_piece.specs.Sharing.{IsOneOf};
 
 use crate::gathered::Gathered;
 use crate::one_scan::OneScan;
 use crate::piece::Piece;
-use crate::reading::{Next, Reading};
+use crate::progress::{Coded, Progress, Task};
+use crate::reading::Reading;
+use crate::strip::Strip;
 use jr_code::Memory;
 use jr_scan::{Interval, Scan};
 use std::alloc::Global;
-use std::sync::{Arc, Mutex, Wait};
+use std::marker::Model;
+use std::sync::{Arc, Condvar, Mutex, Wait};
 
-/// An interval that several workers decode, a strip at a time: one reads the next strip while others decode theirs.
+/// An interval that several workers decode: one of them reads strip after strip, and whoever is free transforms what is
+/// read. So nobody waits for the reader but who has nothing else to do.
 #[derive(Drop)]
 pub struct Job<S: OneScan> {
-    mcus: u32,
-    reading: Mutex<Reading<S>>,
-    gathered: Mutex<Gathered<S>>,
+    interval: Arc<Interval>,
+    progress: Mutex<Progress<S>>,
+    /// Somebody has read a strip, or all.
+    has_read: Condvar,
+}
+
+impl<S: OneScan> Model for Job<S> {
+    ghost use Rattle.std.specs.Arc.{arc_value};
+    ghost use Rattle.jr_scan.specs.IntervalValue.{IntervalValue};
+    ghost use Rattle.jr_piece.specs.Sharing.{IsOneOf};
+
+    ghost Value = { IntervalValue };
+
+    ghost view = { λ j. arc_value j.interval };
+
+    ghost invariant = { λ j. IsOneOf S.scan (arc_value j.interval) };
 }
 
 impl<S: OneScan> Job<S> {
-    /// A job of which nothing is done yet. `Err` where memory is refused.
-    pub fn open(alloc: Global, interval: Interval) -> Result<Job<S>, Memory>
+    /// A job for so many workers, of which nothing is done yet. `Err` where memory is refused.
+    pub fn open(alloc: Global, interval: Interval, workers: usize) -> Result<Job<S>, Memory>
         requires { IsOneOf S.scan interval }
+        ensures { IfOk result (λ j. j ≡ interval) }
     {
-        let mcus = interval.mcus();
         let interval = Arc::new(alloc, interval)?;
-        let same = Arc::try_clone(&interval)?;
+        let reading = Reading::of(Arc::try_clone(&interval)?);
+        let gathered = Gathered::of(alloc, Arc::try_clone(&interval)?);
+        let most_waiting = workers.saturating_sub(1).max(1);
+        let progress = Progress::of(alloc, reading, gathered, most_waiting);
         Ok(Job {
-            mcus,
-            reading: Mutex::new(Reading::of(same)),
-            gathered: Mutex::new(Gathered::of(alloc, interval)),
+            interval,
+            progress: Mutex::new(progress),
+            has_read: Condvar::new(),
         })
     }
 
-    /// Reads and decodes one strip; false where none follows.
-    fn step<R: Wait>(&self, rt: &R, alloc: Global) -> Result<bool, Memory> {
-        let next = self.reading.lock(rt).next(alloc)?;
-        match next {
-            Next::Strip(place, coded) => {
-                let strip = Arc::new(alloc, coded.decode(alloc)?)?;
-                self.gathered.lock(rt).keep(place, strip)?;
-                Ok(true)
-            }
-            Next::End(end) => {
-                self.gathered.lock(rt).close(end);
-                Ok(false)
-            }
+    /// The interval that is decoded.
+    pub fn interval(&self) -> &Interval
+        ensures { result.now ≡ self.now }
+    {
+        &self.interval
+    }
+
+    /// What to do next, once there is something.
+    fn task<R: Wait>(&self, rt: &R) -> Task<S> {
+        let progress = self.progress.lock(rt);
+        let mut progress = self
+            .has_read
+            .wait_while(rt, progress, |progress| progress.has_no_task());
+        progress.task()
+    }
+
+    /// Reads a strip, and wakes whoever waits for one.
+    fn read<R: Wait>(&self, rt: &R, alloc: Global, mut reading: Reading<S>) {
+        let next = reading.next(alloc);
+        let is_over = self.progress.lock(rt).put(reading, next);
+        if is_over {
+            self.has_read.notify_all();
+        } else {
+            self.has_read.notify_one();
         }
     }
 
-    /// Reads and decodes strips, as other workers may do at the same time, until none follows or memory is refused.
-    pub fn work<R: Wait>(&self, rt: &R, alloc: Global) {
-        for _ in 0..=self.mcus {
-            if self.step(rt, alloc) != Ok(true) {
-                return;
+    /// Transforms a strip and keeps it.
+    fn decode<R: Wait>(&self, rt: &R, alloc: Global, coded: &Coded<S>) -> Result<Arc<Strip>, Memory>
+        ensures { IfOk result (λ s. (arc_value s).interval ≡ self.now) }
+    {
+        let strip = Arc::new(alloc, coded.decode(alloc)?)?;
+        if strip.number() != self.interval.number() {
+            return Err(Memory);
+        }
+        let same = Arc::try_clone(&strip)?;
+        self.progress.lock(rt).keep(same)?;
+        Ok(strip)
+    }
+
+    /// Ends the work of all workers, since memory is refused.
+    fn give_up<R: Wait>(&self, rt: &R) {
+        self.progress.lock(rt).give_up();
+        self.has_read.notify_all();
+    }
+
+    /// Decodes a strip, as other workers may do at the same time. None where nothing is left to do for this one, and
+    /// where memory is refused.
+    pub fn step<R: Wait>(&self, rt: &R, alloc: Global) -> Option<Arc<Strip>>
+        ensures { IfSome result (λ s. (arc_value s).interval ≡ self.now) }
+    {
+        for _ in 0..=self.interval.mcus() {
+            match self.task(rt) {
+                Task::Read(reading) => self.read(rt, alloc, reading),
+                Task::Decode(coded) => {
+                    let strip = self.decode(rt, alloc, &coded).ok();
+                    if strip.is_none() {
+                        self.give_up(rt);
+                    }
+                    return strip;
+                }
+                Task::Leave => return None,
             }
         }
+        None
     }
 
     /// The interval's piece, once all strips are decoded; it is given once.
     pub fn piece<R: Wait>(&self, rt: &R, alloc: Global, scan: &Scan) -> Option<Piece>
         requires { S.scan ≡ Some scan.now }
-        ensures { IfSome result (λ p. HasInterval scan.now p.interval) }
+        ensures { IfSome result (λ p. p.interval ≡ self.now) }
     {
-        let (number, strips, end) = self.gathered.lock(rt).take(alloc)?;
+        let (number, strips, end) = self.progress.lock(rt).take(alloc)?;
+        if number != self.interval.number() {
+            return None;
+        }
         let interval = scan.interval(number).ok()?;
         Piece::of_strips(interval, strips, end.front, end.is_sound).ok()
     }

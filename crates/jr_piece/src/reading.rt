@@ -1,6 +1,6 @@
 //! How far a shared interval is read.
 
-ghost use Rattle.std.specs.Prelude.{◌≡◌, IfOk};
+ghost use Rattle.std.specs.Prelude.{◌≡◌, ◌<◌, IfOk};
 ghost use Rattle.std.specs.Arc.{arc_value};
 ghost use Rattle.jr_piece.specs.Sharing.{IsOneOf, IsNextOf};
 
@@ -13,15 +13,29 @@ use std::alloc::Global;
 use std::marker::{Model, PhantomData};
 use std::sync::Arc;
 
-/// How many MCUs a strip has, but for an interval's last one: 256 of 4:2:0 are 98,304 bytes of samples, and their blocks
-/// stay in a processor's own cache between reading and transforming.
-pub(crate) const STRIP_MCUS: u32 = 256;
+/// How many strips a long interval has at least, but for the roundings.
+const STRIPS: u32 = 64;
 
-/// Where the whole MCUs of interval `number` end, in how many strips, and whether it has a decoding.
+/// How many MCUs a strip has at least: reading fewer takes no longer than handing the reader on.
+const LEAST_MCUS: u32 = 256;
+
+/// How many data units a strip has at most, where it has more than the least: their blocks fit into a processor's own
+/// cache.
+const MOST_UNITS: u32 = 3072;
+
+/// How many MCUs the strips of a shared interval have, but for the last one.
+pub fn strip_mcus(interval: &Interval) -> u32
+    ensures { 0 < result }
+{
+    let units = interval.head().order().len() as u32;
+    let even = interval.mcus() / STRIPS;
+    even.min(MOST_UNITS / units).max(LEAST_MCUS)
+}
+
+/// Where the whole MCUs of interval `number` end, and whether it has a decoding.
 #[derive(Clone, Copy)]
 pub(crate) struct End {
     pub number: u32,
-    pub strips: u32,
     pub front: u32,
     pub is_sound: bool,
 }
@@ -29,21 +43,22 @@ pub(crate) struct End {
 /// What follows what is read.
 #[derive(Drop)]
 pub(crate) enum Next {
-    /// The next strip, and how many stand before it.
-    Strip(u32, CodedStrip),
+    /// The next strip.
+    Strip(CodedStrip),
     /// Nothing: so the interval ends.
     End(End),
 }
 
-/// The reader of an interval of the scan, and how many strips it has read.
+/// The reader of an interval of the scan.
 #[derive(Drop)]
 pub(crate) struct Reading<S: OneScan> {
     reader: StripReader,
-    strips: u32,
+    each: u32,
     of: PhantomData<S>,
 }
 
 impl<S: OneScan> Model for Reading<S> {
+    ghost use Rattle.std.specs.Prelude.{◌<◌};
     ghost use Rattle.jr_scan.specs.IntervalValue.{IntervalValue};
     ghost use Rattle.jr_piece.specs.Sharing.{IsOneOf};
 
@@ -51,7 +66,7 @@ impl<S: OneScan> Model for Reading<S> {
 
     ghost view = { λ r. r.reader.interval };
 
-    ghost invariant = { λ r. IsOneOf S.scan r.reader.interval };
+    ghost invariant = { λ r. IsOneOf S.scan r.reader.interval × (0 < r.each) };
 }
 
 impl<S: OneScan> Reading<S> {
@@ -60,9 +75,10 @@ impl<S: OneScan> Reading<S> {
         requires { IsOneOf S.scan (arc_value interval) }
         ensures { result ≡ arc_value interval }
     {
+        let each = strip_mcus(&interval);
         Reading {
             reader: StripReader::over(interval),
-            strips: 0,
+            each,
             of: PhantomData,
         }
     }
@@ -71,18 +87,13 @@ impl<S: OneScan> Reading<S> {
     pub(crate) fn next(&mut self, alloc: Global) -> Result<Next, Memory>
         ensures { IfOk result (IsNextOf S.scan) }
     {
-        let place = self.strips;
-        match self.reader.next(alloc, STRIP_MCUS)? {
-            Some(strip) => {
-                self.strips = place.saturating_add(1);
-                Ok(Next::Strip(place, strip))
-            }
-            None => Ok(Next::End(End {
-                number: self.reader.number(),
-                strips: place,
-                front: self.reader.first(),
-                is_sound: self.reader.is_sound(),
-            })),
+        if let Some(strip) = self.reader.next(alloc, self.each)? {
+            return Ok(Next::Strip(strip));
         }
+        Ok(Next::End(End {
+            number: self.reader.number(),
+            front: self.reader.first(),
+            is_sound: self.reader.is_sound(),
+        }))
     }
 }

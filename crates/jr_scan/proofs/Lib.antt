@@ -11,6 +11,7 @@ pub mod Ranges
 pub mod InRange
 pub mod Readers
 pub mod Fronts
+pub mod FewMcus
 pub mod Cuts
 pub mod Unstuffing
 pub mod Scans

@@ -1,6 +1,6 @@
 //! An interval of a scan.
 
-ghost use Rattle.std.specs.Prelude.{◌≡◌, ◌↔◌, ◌<◌, ◌≤◌, ◌^◌, ℕ, ℤ, List, All, length, IsTrue, IfOk, IfSome, IfNone};
+ghost use Rattle.std.specs.Prelude.{◌≡◌, ◌↔◌, ◌<◌, ◌≤◌, ◌^◌, ◌*◌, ℕ, ℤ, List, All, length, IsTrue, IfOk, IfSome, IfNone};
 
 use crate::block::Block;
 use crate::front::FrontBlocks;
@@ -40,7 +40,8 @@ impl Interval {
     ghost use Rattle.std.specs.Arc.{arc_value};
     ghost use Rattle.jr_scan.specs.Spans.{segment_data, IsSpanOf};
     ghost use Rattle.jr_scan.specs.Block.{IsInRange};
-    ghost use Rattle.jr_scan.specs.Mcus.{Decodes, HasNoDecoding, LongestFront};
+    ghost use Rattle.jr_head.specs.Geometry.{order_of};
+    ghost use Rattle.jr_scan.specs.Mcus.{Decodes, HasNoDecoding, Front, LongestFront};
     ghost use Rattle.jr_scan.specs.Reader.{HasRead, HasEnded, whole_run};
 
     pub(crate) fn of(
@@ -91,6 +92,19 @@ impl Interval {
         ensures { result.now ≡ self.now.head }
     {
         &self.head
+    }
+
+    /// How many whole MCUs the interval can show at most: as many as its head claims, and no more than its bits can code,
+    /// where each data unit takes two bits or more.
+    pub fn most_mcus(&self) -> u32
+        ensures enough { (k : ℕ) (zs : List (List ℤ)) → Front self.now k zs → k ≤ result }
+        ensures claimed { result ≤ self.now.mcus }
+        ensures coded { result * length (order_of self.now.head) ≤ 4 * length self.now.bytes }
+    {
+        self.head.be_lawful();
+        let units = 4 * self.bytes().len();
+        let mcus = units / self.head.order().len();
+        mcus.min(self.mcus as usize) as u32
     }
 
     /// Whether both are the same interval: equal numbers, MCU counts, data and heads.

@@ -1,17 +1,20 @@
 //! One decoding by several workers: what they share, and what is left to do when they have ended.
 
-ghost use Rattle.std.specs.Prelude.{◌≡◌, ◌≤◌, length, All, Some, IfOk, IfSome};
+ghost use Rattle.std.specs.Prelude.{◌≡◌, ◌<◌, ◌≤◌, ◌++◌, ℕ, List, length, true, All, Some, IfOk, IfSome};
+ghost use Rattle.std.specs.Option.{option_copied};
 ghost use Rattle.std.specs.Arc.{arc_value};
 ghost use Rattle.std.specs.Fn.{FnOnceReturnsAt};
 ghost use Rattle.jr_base.specs.declared.limits.TheConstants.{MAX_WORKERS};
+ghost use Rattle.jr_wall.specs.DecodingValue.{strips_at};
 ghost use Rattle.jr_wall.specs.Decoded.{IsDecoded, least};
 
 use crate::board::Board;
 use crate::gate::Gate;
 use crate::jobs::Jobs;
+use crate::strips::{hang_strip, open_strips};
 use crate::sweeping::{sweep, usable};
 use crate::workers::{hang, make_piece};
-use jr_cells::{Cells, Sight};
+use jr_cells::{Cells, Sight, StripCells};
 use jr_code::Memory;
 use jr_desk::{Desk, Seat};
 use jr_piece::{Job, OneScan, Piece};
@@ -23,7 +26,7 @@ use std::thread;
 use std::thread::Threads;
 
 /// A decoding of a scan's first intervals: the desk that hands them out, the board that keeps the pieces, and the cells
-/// that show them.
+/// that show them, and of long intervals each strip.
 ///
 /// It is opened, run, and finished. Its threads share it: whoever has a `&Decoding` may look at the board and into the
 /// cells at any moment.
@@ -33,19 +36,20 @@ pub struct Decoding {
     desk: Desk,
     board: Mutex<Board>,
     cells: Cells,
+    strips: Vec<Option<StripCells>>,
     alloc: Global,
 }
 
 impl Model for Decoding {
     ghost use Rattle.std.specs.Prelude.{◌≤◌, length};
     ghost use Rattle.std.specs.Arc.{arc_value};
-    ghost use Rattle.jr_wall.specs.DecodingValue.{DecodingValue};
+    ghost use Rattle.jr_wall.specs.DecodingValue.{DecodingValue, AreNumbered};
 
     ghost Value = { DecodingValue };
 
-    ghost view = { λ d. record { scan = arc_value d.scan; desk = d.desk; cells = d.cells } };
+    ghost view = { λ d. record { scan = arc_value d.scan; desk = d.desk; cells = d.cells; strips = d.strips.items } };
 
-    ghost invariant = { λ d. (d.desk.limit ≤ length (arc_value d.scan).intervals) × (d.desk.limit ≤ length d.cells) };
+    ghost invariant = { λ d. (d.desk.limit ≤ length (arc_value d.scan).intervals) × (d.desk.limit ≤ length d.cells) × (length d.strips.items ≤ length (arc_value d.scan).intervals) × AreNumbered d.strips.items };
 }
 
 impl Decoding {
@@ -72,12 +76,14 @@ impl Decoding {
         };
         let (desk, seats) = Desk::open(alloc, limit, workers)?;
         let cells = Cells::open(alloc, limit)?;
+        let strips = open_strips(alloc, &scan, limit)?;
         let board = Mutex::new(Board::new(alloc, Arc::try_clone(&scan)?)?);
         let decoding = Decoding {
             scan,
             desk,
             board,
             cells,
+            strips,
             alloc,
         };
         Ok((decoding, seats))
@@ -102,6 +108,15 @@ impl Decoding {
         &self.cells
     }
 
+    /// The cells that the workers hang the strips of interval i into; none where it is decoded as a whole, being short
+    /// or without the data.
+    pub fn strips(&self, i: u32) -> Option<&StripCells>
+        ensures cells { option_copied result ≡ strips_at self.now i }
+        ensures number { IfSome result (λ c. c.now.number ≡ i) }
+    {
+        self.strips.get(i as usize)?.as_ref()
+    }
+
     /// Starts a worker at each seat, calls `beside` in the calling thread meanwhile, and returns what that gave, once all
     /// workers have ended. A worker that can't be started is left out: `finish` decodes what no worker did.
     ///
@@ -120,8 +135,9 @@ impl Decoding {
         run_as::<R, G, T, F, Brand>(self, rt, seats, None, gate, beside)
     }
 
-    /// Starts a worker at each seat but the last one, where the calling thread works: with one seat no thread is started.
-    pub fn run_here<R: Threads + Wait + Sync, G: Gate + Sync>(
+    /// Starts a worker at each seat but the last one, where the calling thread works: with one seat no thread is started,
+    /// and nothing decoded strip by strip.
+    pub(crate) fn run_here<R: Threads + Wait + Sync, G: Gate + Sync>(
         &self,
         rt: &R,
         mut seats: Vec<Seat>,
@@ -158,38 +174,75 @@ impl Decoding {
                     let _ = scope.spawn(
                         move ||
                             requires { (seat.desk ≡ self.now.desk) × (S.scan ≡ Some self.now.scan) }
-                        { self.work(rt, &mut seat, gate, jobs) },
+                        { self.work_with(rt, &mut seat, gate, jobs) },
                     );
                 }
                 let result = beside(self);
                 if let Some(mut seat) = own {
-                    self.work(rt, &mut seat, gate, jobs);
+                    self.work_with(rt, &mut seat, gate, jobs);
                 }
                 result
             },
         )
     }
 
+    /// Works at a seat of its desk until that has ended, as a thread of the caller's own may do. It decodes by itself the
+    /// intervals that it claims, long ones strip by strip, and hangs and posts what it has decoded.
+    pub fn work<R: Wait, G: Gate>(&self, rt: &R, seat: &mut Seat, gate: &G)
+        requires { seat.old.desk ≡ self.now.desk }
+        ensures ended { seat.new.ended ≡ true }
+        ensures desk { seat.new.desk ≡ seat.old.desk }
+        ensures place { seat.new.place ≡ seat.old.place }
+        ensures drawn { (rest : List ℕ) × (seat.new.drawn ≡ seat.old.drawn ++ rest) }
+    {
+        work_as::<R, G, Brand>(self, rt, seat, gate);
+    }
+
     /// Works at a seat of its desk until that has ended, and then helps with the long intervals.
-    fn work<R: Wait, G: Gate, S: OneScan>(&self, rt: &R, seat: &mut Seat, gate: &G, jobs: &Jobs<S>)
+    fn work_with<R: Wait, G: Gate, S: OneScan>(
+        &self,
+        rt: &R,
+        seat: &mut Seat,
+        gate: &G,
+        jobs: &Jobs<S>,
+    )
         requires scan { S.scan ≡ Some self.now.scan }
         requires desk { seat.old.desk ≡ self.now.desk }
+        ensures ended { seat.new.ended ≡ true }
+        ensures desk { seat.new.desk ≡ seat.old.desk }
+        ensures place { seat.new.place ≡ seat.old.place }
+        ensures drawn { (rest : List ℕ) × (seat.new.drawn ≡ seat.old.drawn ++ rest) }
     {
         let mut sight = self.cells.sight().ok();
         while let Some(number) = self.desk.claim(seat) {
             gate.pass(number);
-            let piece = match jobs.open(rt, &self.scan, number) {
-                Some(job) => self.share(rt, gate, &job),
-                None => make_piece(self.alloc, &self.scan, number, gate),
-            };
-            if let Some(piece) = piece {
+            if let Some(piece) = self.decode_claimed(rt, number, gate, jobs) {
                 self.post(rt, piece, &mut sight);
             }
         }
         self.help(rt, seat.place(), gate, jobs, &mut sight);
     }
 
-    /// Works on every open job, beginning with another one at each seat.
+    /// Decodes an interval that a worker has claimed, or a part of it.
+    fn decode_claimed<R: Wait, G: Gate, S: OneScan>(
+        &self,
+        rt: &R,
+        number: u32,
+        gate: &G,
+        jobs: &Jobs<S>,
+    ) -> Option<Arc<Piece>>
+        requires scan { S.scan ≡ Some self.now.scan }
+        requires number { number < length self.now.scan.intervals }
+    {
+        if let Some(cells) = self.strips(number)
+            && let Some(job) = jobs.claimed(self.alloc, &self.scan, number)
+        {
+            return self.share(rt, gate, &job, cells);
+        }
+        make_piece(self.alloc, &self.scan, number, gate)
+    }
+
+    /// Works on what is left of every job, beginning with another one at each seat.
     fn help<R: Wait, G: Gate, S: OneScan>(
         &self,
         rt: &R,
@@ -201,28 +254,36 @@ impl Decoding {
         requires scan { S.scan ≡ Some self.now.scan }
         requires sight { IfSome sight.old (λ s. s.cells ≡ self.now.cells) }
     {
-        let count = jobs.count(rt);
+        let count = jobs.count();
         for k in 0..count {
-            let Some(job) = jobs.get(rt, k.saturating_add(place as usize) % count) else {
-                return;
-            };
-            if let Some(piece) = self.share(rt, gate, &job) {
+            let number = k.saturating_add(place as usize) % count;
+            if let Some(job) = jobs.get(number)
+                && let Some(cells) = self.strips(job.interval().number())
+                && let Some(piece) = self.share(rt, gate, job, cells)
+            {
                 self.post(rt, piece, sight);
             }
         }
     }
 
-    /// Works on a job until nothing of it is left to read. The worker that decodes its last strip gets the piece, which
+    /// Works on a job until nothing of it is left to do. The worker that decodes its last strip gets the piece, which
     /// the gate has seen.
     fn share<R: Wait, G: Gate, S: OneScan>(
         &self,
         rt: &R,
         gate: &G,
         job: &Job<S>,
+        cells: &StripCells,
     ) -> Option<Arc<Piece>>
         requires { S.scan ≡ Some self.now.scan }
     {
-        job.work(rt, self.alloc);
+        let mut sight = cells.sight().ok();
+        for _ in 0..job.interval().mcus() {
+            let Some(strip) = job.step(rt, self.alloc) else {
+                break;
+            };
+            hang_strip(cells, strip, &mut sight);
+        }
         let piece = job.piece(rt, self.alloc, &self.scan)?;
         gate.made(&piece);
         Arc::new(self.alloc, piece).ok()
@@ -246,6 +307,7 @@ impl Decoding {
             desk,
             board,
             cells: _,
+            strips: _,
             alloc,
         } = self;
         let n = desk.limit();
@@ -268,7 +330,30 @@ fn run_as<
     requires beside { F.IsAlwaysCallable beside }
     ensures { FnOnceReturnsAt F.FnOnce beside decoding.now result }
 {
+    let is_alone = own.is_some() && seats.is_empty();
     let workers = seats.len().saturating_add(usize::from(own.is_some()));
-    let jobs: Jobs<S> = Jobs::of(decoding.alloc, workers);
+    let jobs: Jobs<S> = if is_alone {
+        Jobs::Whole
+    } else {
+        Jobs::shared(
+            decoding.alloc,
+            &decoding.scan,
+            decoding.strips.as_slice(),
+            workers,
+        )
+    };
     decoding.run_with(rt, seats, own, gate, &jobs, beside)
+}
+
+/// `work_with`, where a type stands for the scan.
+fn work_as<R: Wait, G: Gate, S: OneScan>(decoding: &Decoding, rt: &R, seat: &mut Seat, gate: &G)
+    requires scan { S.scan ≡ Some decoding.now.scan }
+    requires desk { seat.old.desk ≡ decoding.now.desk }
+    ensures ended { seat.new.ended ≡ true }
+    ensures desk { seat.new.desk ≡ seat.old.desk }
+    ensures place { seat.new.place ≡ seat.old.place }
+    ensures drawn { (rest : List ℕ) × (seat.new.drawn ≡ seat.old.drawn ++ rest) }
+{
+    let jobs: Jobs<S> = Jobs::Own;
+    decoding.work_with(rt, seat, gate, &jobs);
 }

@@ -1,59 +1,84 @@
-//! The long intervals that are being decoded: whoever has nothing left to claim helps with them.
+//! The long intervals that are being decoded.
 
-ghost use Rattle.std.specs.Prelude.{◌≡◌, ◌<◌, length, Some};
+ghost use Rattle.std.specs.Prelude.{◌≡◌, ◌<◌, ◌≤◌, length, Some};
 
-use jr_code::Memory;
+use jr_cells::StripCells;
 use jr_piece::{Job, OneScan};
 use jr_scan::Scan;
 use std::alloc::Global;
-use std::sync::{Arc, Mutex, Wait};
+use std::sync::Arc;
 
-/// How many MCUs an interval has at least that several workers share: four strips.
-pub(crate) const LONG_MCUS: u32 = 1024;
-
-/// The jobs that are open. With one worker there are none: it has nobody to share an interval with.
+/// How a worker decodes long intervals.
 #[derive(Drop)]
-pub(crate) struct Jobs<S: OneScan> {
-    open: Mutex<Vec<Arc<Job<S>>>>,
-    are_shared: bool,
-    alloc: Global,
+pub(crate) enum Jobs<S: OneScan> {
+    /// Together with the others: a job for each, by the interval's number.
+    Shared(Vec<Option<Arc<Job<S>>>>),
+    /// Each that it claims by itself, strip by strip.
+    Own,
+    /// As it decodes short ones: nobody looks for strips.
+    Whole,
+}
+
+/// A job of interval i for so many workers. None where memory is refused.
+fn job_of<S: OneScan>(alloc: Global, scan: &Scan, i: u32, workers: usize) -> Option<Arc<Job<S>>>
+    requires scan { S.scan ≡ Some scan.now }
+    requires i { i < length scan.now.intervals }
+{
+    let interval = scan.interval(i).ok()?;
+    Arc::new(alloc, Job::open(alloc, interval, workers).ok()?).ok()
 }
 
 impl<S: OneScan> Jobs<S> {
-    /// No jobs yet, of so many workers.
-    pub(crate) fn of(alloc: Global, workers: usize) -> Jobs<S> {
-        Jobs {
-            open: Mutex::new(Vec::new(alloc)),
-            are_shared: workers > 1,
-            alloc,
+    /// Jobs for the intervals that have cells of strips, each for so many workers.
+    pub(crate) fn shared(
+        alloc: Global,
+        scan: &Scan,
+        strips: &[Option<StripCells>],
+        workers: usize,
+    ) -> Jobs<S>
+        requires scan { S.scan ≡ Some scan.now }
+        requires strips { length strips.now ≤ length scan.now.intervals }
+    {
+        // By its contract an interval's number has room in 32 bits.
+        let _all = scan.intervals();
+        let mut jobs = Vec::new(alloc);
+        for i in 0..strips.len() {
+            let job = match strips[i] {
+                Some(_) => job_of(alloc, scan, i as u32, workers),
+                None => None,
+            };
+            if jobs.push(job).is_err() {
+                break;
+            }
+        }
+        Jobs::Shared(jobs)
+    }
+
+    /// One more than the last interval of which a worker can do a part.
+    pub(crate) fn count(&self) -> usize {
+        match self {
+            Jobs::Shared(jobs) => jobs.len(),
+            Jobs::Own | Jobs::Whole => 0,
         }
     }
 
-    /// Opens interval i to all workers, if it is long. None where it is not, and where memory is refused.
-    pub(crate) fn open<R: Wait>(&self, rt: &R, scan: &Scan, i: u32) -> Option<Arc<Job<S>>>
+    /// The shared job of interval i, where there is one.
+    pub(crate) fn get(&self, i: usize) -> Option<&Job<S>> {
+        match self {
+            Jobs::Shared(jobs) => jobs.get(i)?.as_deref(),
+            Jobs::Own | Jobs::Whole => None,
+        }
+    }
+
+    /// The job by which a long interval i is decoded that a worker has claimed. None where it is decoded as a whole.
+    pub(crate) fn claimed(&self, alloc: Global, scan: &Scan, i: u32) -> Option<Arc<Job<S>>>
         requires scan { S.scan ≡ Some scan.now }
         requires i { i < length scan.now.intervals }
     {
-        if !self.are_shared {
-            return None;
+        match self {
+            Jobs::Shared(jobs) => Arc::try_clone(jobs.get(i as usize)?.as_ref()?).ok(),
+            Jobs::Own => job_of(alloc, scan, i, 1),
+            Jobs::Whole => None,
         }
-        let interval = scan.interval(i).ok()?;
-        if interval.mcus() < LONG_MCUS {
-            return None;
-        }
-        let job = Arc::new(self.alloc, Job::open(self.alloc, interval).ok()?).ok()?;
-        self.open.lock(rt).push(Arc::try_clone(&job).ok()?).ok()?;
-        Some(job)
-    }
-
-    /// How many have been opened.
-    pub(crate) fn count<R: Wait>(&self, rt: &R) -> usize {
-        self.open.lock(rt).len()
-    }
-
-    /// Job k in the order in which they were opened.
-    pub(crate) fn get<R: Wait>(&self, rt: &R, k: usize) -> Option<Arc<Job<S>>> {
-        let open = self.open.lock(rt);
-        Arc::try_clone(open.get(k)?).ok()
     }
 }

@@ -13,6 +13,7 @@ mod jobs;
 mod laws;
 mod mark;
 mod painting;
+mod strips;
 mod sweeping;
 mod workers;
 
@@ -21,7 +22,7 @@ pub use decoding::Decoding;
 pub use gate::{Gate, OpenGate};
 pub use glimpse::{Glimpse, glance};
 pub use headline::Counts;
-pub use jr_cells::{Cells, Sight};
+pub use jr_cells::{Cells, Sight, StripCells, StripSight};
 pub use jr_desk::{Desk, Drawn, Seat};
 pub use jr_piece::{
     CodedStrip, NotInOrder, Piece, Strip, StripReader, one_outcome, one_strip, strip_is_final,

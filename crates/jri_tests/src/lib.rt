@@ -59,6 +59,8 @@ mod shares;
 #[cfg(test)]
 mod short_files;
 #[cfg(test)]
+mod strip_cells;
+#[cfg(test)]
 mod strips;
 #[cfg(test)]
 mod viewers;

@@ -1,13 +1,11 @@
-use Rattle.std.proofs.Common.{◌≡◌, ℕ, length, replicate, None, Option, ap, sym, ◌∙◌, rules}
+use Rattle.std.proofs.Common.{◌≡◌, ℕ, length, replicate, None, Option, ap, sym, ◌∙◌}
 use Rattle.std.proofs.lemmas.List.{length-map}
-use Rattle.std.proofs.lemmas.Grind.{common_steps}
+use Rattle.once_cell.specs.Once.{cell_name}
 use Rattle.jr_piece.specs.PieceValue.{PieceValue}
-use Rattle.jr_cells.specs.Sights.{CellNote, cells_of}
-use Rattle.jr_cells.proofs.Notes.{fresh_pieces}
+use Rattle.jr_cells.proofs.Pieces.{fresh_pieces}
 use Rattle.jr_cells.proofs.cells.Cells.sight.Goals as goal
 
 pub returns-clause-nothing : goal.returns-clause-nothing
 returns-clause-nothing c =
-    let e : cells_of c.loop-cell.notes.items ≡ c.args.self.now = first_of (search rules, search (rules, common_steps)) in
-    let many : length c.loop-cell.notes.items ≡ length c.args.self.now = sym (length-map c.loop-cell.notes.items (λ (n : CellNote). n.cell)) ∙ ap length e in
-    fresh_pieces 0 c.loop-cell.notes.items (λ i d h. c.loop-cell.invariant.none i d h) ∙ ap (λ (m : ℕ). replicate {A = Option PieceValue} m None) many
+    let many : length c.as_slice.result.now ≡ length c.args.self.now = ap length c.as_slice.ensures.value ∙ sym (length-map c.self.inside.cells.items cell_name) ∙ ap length c.self.view_is in
+    fresh_pieces c.in_ok-notes.notes.items (length c.as_slice.result.now) c.in_ok-notes.ensures.nothing ∙ ap (λ (m : ℕ). replicate {A = Option PieceValue} m None) many

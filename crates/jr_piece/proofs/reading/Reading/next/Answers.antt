@@ -7,18 +7,18 @@ use Rattle.jr_piece.specs.Strips.{HasWholeMcus, TellsEnd}
 use Rattle.jr_piece.proofs.Gathering.{tells_end}
 use Rattle.jr_piece.proofs.reading.Reading.next.Goals as goal
 
-pub returns-in-None : goal.returns-in-None
-returns-in-None g c =
+pub returns : goal.returns
+returns g c =
     let r = c.self.inside.reader in
     let now = c.next.new.self in
-    let same : now ≡ r = subst (λ o. IfNone o (now ≡ r)) c.in-None.is c.in_ok-strip.ensures.same in
-    let some : 0 < 256 = omega arith in
-    let there : HasWholeMcus r.interval r.first = (subst (λ o. IfNone o (0 < 256 → HasWholeMcus r.interval r.first)) c.in-None.is c.in_ok-strip.ensures.none) some in
+    let same : now ≡ r = subst (λ o. IfNone o (now ≡ r)) c.in_default.is c.in_ok-strip.ensures.same in
+    let some : 0 < c.self.inside.each = c.self.invariant.1 in
+    let there : HasWholeMcus r.interval r.first = (subst (λ o. IfNone o (0 < c.self.inside.each → HasWholeMcus r.interval r.first)) c.in_default.is c.in_ok-strip.ensures.none) some in
     let whole : HasWholeMcus now.interval now.first = subst (λ (x : ReadingValue). HasWholeMcus x.interval x.first) (sym same) there in
     let ends : TellsEnd now.interval c.first.result c.is_sound.result = subst (λ k. TellsEnd now.interval k c.is_sound.result) (sym c.first.ensures) (tells_end c.is_sound.result now.interval now.first c.is_sound.ensures.sound c.is_sound.ensures.damaged whole) in
     record {
       interval = now.interval;
-      own = subst (IsOneOf g.S.OneScan.scan) (ap (λ (x : ReadingValue). x.interval) (sym same)) c.self.invariant;
+      own = subst (IsOneOf g.S.OneScan.scan) (ap (λ (x : ReadingValue). x.interval) (sym same)) c.self.invariant.0;
       number = sym c.number.ensures;
       ends = search (rules, ends);
     }

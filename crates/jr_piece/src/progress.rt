@@ -1,0 +1,160 @@
+//! How far a shared interval is, and what its workers do next.
+
+ghost use Rattle.std.specs.Prelude.{◌≡◌, IfOk, IfSome};
+ghost use Rattle.std.specs.Arc.{arc_value};
+ghost use Rattle.jr_piece.specs.Sharing.{IsOneOf, IsNextOf};
+ghost use Rattle.jr_piece.specs.Strips.{AreOf, TellsEnd, shared_strips};
+
+use crate::gathered::Gathered;
+use crate::one_scan::OneScan;
+use crate::reading::{End, Next, Reading};
+use crate::strip::{CodedStrip, Strip};
+use jr_code::Memory;
+use jr_scan::Interval;
+use std::alloc::Global;
+use std::collections::VecDeque;
+use std::marker::{Model, PhantomData};
+use std::sync::Arc;
+
+/// A strip of an interval of the scan, read and not yet transformed.
+#[derive(Drop)]
+pub(crate) struct Coded<S: OneScan> {
+    strip: CodedStrip,
+    of: PhantomData<S>,
+}
+
+impl<S: OneScan> Model for Coded<S> {
+    ghost use Rattle.jr_piece.specs.StripValue.{CodedValue};
+    ghost use Rattle.jr_piece.specs.Sharing.{IsOneOf};
+
+    ghost Value = { CodedValue };
+
+    ghost view = { λ c. c.strip };
+
+    ghost invariant = { λ c. IsOneOf S.scan c.strip.interval };
+}
+
+impl<S: OneScan> Coded<S> {
+    fn of(strip: CodedStrip) -> Coded<S>
+        requires { IsOneOf S.scan strip.interval }
+        ensures { result ≡ strip }
+    {
+        Coded {
+            strip,
+            of: PhantomData,
+        }
+    }
+
+    /// The strip's samples.
+    pub(crate) fn decode(&self, alloc: Global) -> Result<Strip, Memory>
+        ensures interval { IfOk result (λ s. s.interval ≡ self.now.interval) }
+        ensures own { IfOk result (λ s. IsOneOf S.scan s.interval) }
+    {
+        self.strip.decode(alloc)
+    }
+}
+
+/// What a worker does next.
+#[derive(Drop)]
+pub(crate) enum Task<S: OneScan> {
+    /// Read the next strip.
+    Read(Reading<S>),
+    /// Transform a strip that is read.
+    Decode(Coded<S>),
+    /// Nothing: all is read, and others decode what is left.
+    Leave,
+}
+
+/// How far an interval is: one worker reads, and the strips that it has read wait for whoever is free.
+#[derive(Drop)]
+pub(crate) struct Progress<S: OneScan> {
+    /// None while a worker reads, and where nothing is left to read.
+    reading: Option<Reading<S>>,
+    /// Nothing will be read any more.
+    is_over: bool,
+    /// In the order in which they were read.
+    coded: VecDeque<Coded<S>>,
+    /// As many of them may wait before the worker that reads decodes one.
+    most_waiting: usize,
+    gathered: Gathered<S>,
+}
+
+impl<S: OneScan> Progress<S> {
+    /// Nothing is done yet.
+    pub(crate) fn of(
+        alloc: Global,
+        reading: Reading<S>,
+        gathered: Gathered<S>,
+        most_waiting: usize,
+    ) -> Progress<S> {
+        Progress {
+            reading: Some(reading),
+            is_over: false,
+            coded: VecDeque::new(alloc),
+            most_waiting,
+            gathered,
+        }
+    }
+
+    /// Whether a worker has to wait for what another one reads.
+    pub(crate) fn has_no_task(&self) -> bool {
+        !self.is_over && self.reading.is_none() && self.coded.is_empty()
+    }
+
+    /// What a worker does next.
+    pub(crate) fn task(&mut self) -> Task<S> {
+        if self.coded.len() < self.most_waiting
+            && let Some(reading) = self.reading.take()
+        {
+            return Task::Read(reading);
+        }
+        match self.coded.pop_front() {
+            Some(strip) => Task::Decode(strip),
+            None => Task::Leave,
+        }
+    }
+
+    /// Takes the reading back, with what was read. True where nothing will be read any more.
+    pub(crate) fn put(&mut self, reading: Reading<S>, next: Result<Next, Memory>) -> bool
+        requires { IfOk next (IsNextOf S.scan) }
+    {
+        match next {
+            Ok(Next::Strip(strip)) => {
+                self.is_over |= self.coded.push_back(Coded::of(strip)).is_err();
+            }
+            Ok(Next::End(end)) => {
+                self.gathered.close(end);
+                self.is_over = true;
+            }
+            Err(Memory) => self.is_over = true,
+        }
+        if !self.is_over {
+            self.reading = Some(reading);
+        }
+        self.is_over
+    }
+
+    /// Keeps a strip of the interval.
+    pub(crate) fn keep(&mut self, strip: Arc<Strip>) -> Result<(), Memory>
+        requires { IsOneOf S.scan (arc_value strip).interval }
+    {
+        self.gathered.keep(strip)
+    }
+
+    /// Ends the work, since memory is refused.
+    pub(crate) fn give_up(&mut self) {
+        self.is_over = true;
+        self.reading = None;
+        self.coded.clear();
+    }
+
+    /// The interval's number, all strips and the end, once they are there. They are given once.
+    pub(crate) fn take(&mut self, alloc: Global) -> Option<(u32, Vec<Arc<Strip>>, End)>
+        ensures own { IsOneOf S.scan self.old.gathered }
+        ensures number { IfSome result (λ r. r.0 ≡ self.old.gathered.number) }
+        ensures strips { IfSome result (λ r. AreOf self.old.gathered (shared_strips r.1.items)) }
+        ensures end { IfSome result (λ r. TellsEnd self.old.gathered r.2.front r.2.is_sound) }
+    {
+        self.gathered.take(alloc)
+    }
+}
