@@ -3,7 +3,7 @@
 use crate::picture::View;
 use crate::watching::Screen;
 use jr_paint::{Tally, write_netpbm};
-use jr_wall::Decoding;
+use jr_wall::{Decoding, StripCells};
 use std::io::Write;
 
 /// What can be seen, where its pictures go, and how many twentieths the last one showed.
@@ -24,6 +24,19 @@ impl<W: Write> Frames<'_, W> {
         }
         self.twentieths = twentieths;
     }
+
+    /// Shows the strips of a long interval that can be seen by now.
+    fn look_over(&mut self, strips: &StripCells) {
+        let Ok(mut sight) = strips.sight() else {
+            return;
+        };
+        for place in 0..strips.count() {
+            if let Some(strip) = strips.look(place, &mut sight) {
+                self.view.show_strip(strip);
+                self.write_due();
+            }
+        }
+    }
 }
 
 impl<W: Write> Screen for Frames<'_, W> {
@@ -36,6 +49,8 @@ impl<W: Write> Screen for Frames<'_, W> {
             if let Some(piece) = cells.look(i, &mut sight) {
                 self.view.show_piece(piece);
                 self.write_due();
+            } else if let Some(strips) = decoding.strips(i) {
+                self.look_over(strips);
             }
         }
         self.twentieths == 20 || self.out.failed()

@@ -8,7 +8,7 @@ use jr_code::Memory;
 use jr_head::Head;
 use jr_paint::Samples;
 use jr_scan::Scan;
-use jr_wall::Piece;
+use jr_wall::{Piece, Strip};
 use std::alloc::Global;
 use std::sync::Arc;
 
@@ -49,6 +49,12 @@ pub trait Units {
 impl Units for Piece {
     fn block(&self, k: u32) -> Option<&[u8; 64]> {
         Piece::block(self, k)
+    }
+}
+
+impl Units for Strip {
+    fn block(&self, k: u32) -> Option<&[u8; 64]> {
+        Strip::block(self, k)
     }
 }
 
@@ -99,13 +105,24 @@ impl View {
 
     /// Shows a piece: all of its interval was seen then, and is grey behind the piece's front.
     pub fn show_piece(&mut self, piece: &Piece) {
-        let all = self.scan.head().mcus();
-        let most = match u32::from(self.scan.head().restart()) {
-            0 => all,
-            every => every,
-        };
-        let first = piece.number().saturating_mul(most);
-        self.show(first, most.min(all.saturating_sub(first)), piece);
+        let first = self.first_of(piece.number());
+        let mcus = self.first_of(piece.number().saturating_add(1)).saturating_sub(first);
+        self.show(first, mcus, piece);
+    }
+
+    /// Shows a strip, before its interval's piece is there.
+    pub fn show_strip(&mut self, strip: &Strip) {
+        let first = self.first_of(strip.number()).saturating_add(strip.first());
+        self.show(first, strip.mcus(), strip);
+    }
+
+    /// The first MCU of interval i.
+    fn first_of(&self, i: u32) -> u32 {
+        let head = self.scan.head();
+        match u32::from(head.restart()) {
+            0 => i.min(1).saturating_mul(head.mcus()),
+            every => i.saturating_mul(every).min(head.mcus()),
+        }
     }
 
     /// Shows the MCUs from `first` on that were not seen before.
