@@ -1,19 +1,24 @@
-//! Counts the intervals that can be seen.
+//! Tells how many intervals can be seen.
 
-use crate::watching::Screen;
+use crate::watching::{Screen, watch};
 use jr_code::Memory;
+use jr_scan::Scan;
 use jr_wall::{Cells, Decoding};
+use std::alloc::Global;
 use std::io::Write;
+use std::sync::{Arc, Wait};
+use std::thread::Threads;
+use std::time::Clock;
 
 /// How many intervals can be seen, and how many of them are damaged.
 #[derive(Clone, Copy)]
-pub struct Count {
-    pub seen: u32,
-    pub damaged: u32,
+struct Count {
+    seen: u32,
+    damaged: u32,
 }
 
 /// Looks into each cell once.
-pub fn look_over(cells: &Cells) -> Result<Count, Memory> {
+fn look_over(cells: &Cells) -> Result<Count, Memory> {
     let mut sight = cells.sight()?;
     let (mut seen, mut damaged) = (0u32, 0u32);
     for i in 0..cells.count() {
@@ -25,11 +30,11 @@ pub fn look_over(cells: &Cells) -> Result<Count, Memory> {
     Ok(Count { seen, damaged })
 }
 
-/// Tells each time that more intervals can be seen.
+/// Tells each time that more intervals can be seen, and how many they were last.
 #[derive(Drop)]
-pub struct Counter<'a, E> {
-    pub errors: &'a mut E,
-    pub seen: u32,
+struct Counter<'a, E> {
+    errors: &'a mut E,
+    seen: u32,
 }
 
 impl<E: Write> Screen for Counter<'_, E> {
@@ -43,4 +48,22 @@ impl<E: Write> Screen for Counter<'_, E> {
         }
         self.seen == all
     }
+}
+
+/// Decodes a scan, and tells how many of its intervals can be seen, meanwhile and at the end.
+pub fn tell<R: Threads + Wait + Clock + Sync, W: Write, E: Write>(
+    rt: &R,
+    alloc: Global,
+    scan: Scan,
+    out: &mut W,
+    errors: &mut E,
+) -> Result<(), Memory> {
+    let mut counter = Counter { errors, seen: 0 };
+    let decoding = watch(rt, alloc, Arc::new(alloc, scan)?, &mut counter)?;
+    let Count { seen, damaged } = look_over(decoding.cells())?;
+    let _ = writeln!(
+        out,
+        "{seen} intervals can be seen, {damaged} of them damaged"
+    );
+    Ok(())
 }

@@ -1,17 +1,23 @@
 //! Writes a picture each time that a further twentieth of it can be seen.
 
 use crate::picture::View;
-use crate::watching::Screen;
+use crate::watching::{Screen, watch};
+use jr_code::Memory;
 use jr_paint::{Tally, write_netpbm};
+use jr_scan::Scan;
 use jr_wall::{Decoding, StripCells};
+use std::alloc::Global;
 use std::io::Write;
+use std::sync::{Arc, Wait};
+use std::thread::Threads;
+use std::time::Clock;
 
 /// What can be seen, where its pictures go, and how many twentieths the last one showed.
 #[derive(Drop)]
-pub struct Frames<'a, W> {
-    pub view: View,
-    pub out: &'a mut Tally<W>,
-    pub twentieths: u64,
+struct Frames<'a, W> {
+    view: View,
+    out: &'a mut Tally<W>,
+    twentieths: u64,
 }
 
 impl<W: Write> Frames<'_, W> {
@@ -55,4 +61,27 @@ impl<W: Write> Screen for Frames<'_, W> {
         }
         self.twentieths == 20 || self.out.failed()
     }
+}
+
+/// Decodes a scan, and writes pictures of what can be seen of it; the last one is finished.
+pub fn paint<R: Threads + Wait + Clock + Sync, W: Write>(
+    rt: &R,
+    alloc: Global,
+    scan: Scan,
+    out: &mut Tally<W>,
+) -> Result<(), Memory> {
+    let scan = Arc::new(alloc, scan)?;
+    let mut frames = Frames {
+        view: View::of(alloc, &scan)?,
+        out,
+        twentieths: 0,
+    };
+    let decoding = watch(rt, alloc, scan, &mut frames)?;
+    drop(frames);
+    let board = decoding.finish()?;
+    if !out.failed() {
+        let _ = write_netpbm(&board, out);
+        let _ = out.flush();
+    }
+    Ok(())
 }

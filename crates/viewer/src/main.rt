@@ -1,7 +1,8 @@
 //! An example of a viewer: while workers decode a JPEG file, it looks at what is finished, and never waits for them.
 //!
-//! `viewer < FILE` tells how many intervals can be seen; its last line, on standard output, is the same on every schedule.
+//! `viewer [FILE]` tells how many intervals can be seen; its last line, on standard output, is the same on every schedule.
 //! `viewer --frames [FILE]` writes Netpbm pictures of what can be seen, one each time that more can; the last is finished.
+//! Without a file it reads standard input.
 #![tactic(auto)]
 
 mod counting;
@@ -9,81 +10,38 @@ mod frames;
 mod picture;
 mod watching;
 
-use crate::counting::{Count, Counter, look_over};
-use crate::frames::Frames;
-use crate::picture::View;
-use crate::watching::watch;
-use jr_code::Memory;
+use crate::counting::tell;
+use crate::frames::paint;
 use jr_head::read_head;
-use jr_paint::{Tally, write_netpbm};
+use jr_paint::Tally;
 use jr_scan::Scan;
 use std::alloc::Global;
 use std::io::{Read, Result as IoResult, Write};
 use std::process::ExitCode;
-use std::sync::{Arc, Wait};
-use std::thread::Threads;
-use std::time::Clock;
 use std::{env, fs};
 
-/// Tells how many intervals can be seen.
-fn tell<R: Threads + Wait + Clock + Sync, W: Write, E: Write>(
-    rt: &R,
-    alloc: Global,
-    scan: Scan,
-    out: &mut W,
-    errors: &mut E,
-) -> Result<(), Memory> {
-    let mut counter = Counter { errors, seen: 0 };
-    let decoding = watch(rt, alloc, Arc::new(alloc, scan)?, &mut counter)?;
-    let Count { seen, damaged } = look_over(decoding.cells())?;
-    let _ = writeln!(
-        out,
-        "{seen} intervals can be seen, {damaged} of them damaged"
-    );
-    Ok(())
-}
-
-/// Writes pictures of what can be seen, and the finished one.
-fn paint<R: Threads + Wait + Clock + Sync, W: Write>(
-    rt: &R,
-    alloc: Global,
-    scan: Scan,
-    out: &mut Tally<W>,
-) -> Result<(), Memory> {
-    let scan = Arc::new(alloc, scan)?;
-    let mut frames = Frames {
-        view: View::of(alloc, &scan)?,
-        out,
-        twentieths: 0,
-    };
-    let decoding = watch(rt, alloc, scan, &mut frames)?;
-    drop(frames);
-    let board = decoding.finish()?;
-    if !out.failed() {
-        let _ = write_netpbm(&board, out);
-        let _ = out.flush();
+/// Whether pictures are asked for, and the bytes of the file that is named, or of standard input.
+fn read(rt: &HostRuntime) -> IoResult<(bool, Vec<u8>)> {
+    let mut words = env::args(rt)?.skip(1);
+    let mut name = words.next();
+    let has_frames = name
+        .as_ref()
+        .is_some_and(|word| word.as_str() == "--frames");
+    if has_frames {
+        name = words.next();
     }
-    Ok(())
-}
-
-/// The bytes of the file of this name, or of standard input.
-fn read(rt: &HostRuntime, name: Option<String>) -> IoResult<Vec<u8>> {
     let mut file = Vec::new(rt.alloc());
     match name {
         Some(name) => fs::open(rt, name.as_str())?.read_to_end(&mut file)?,
         None => rt.stdin().read_to_end(&mut file)?,
     };
-    Ok(file)
+    Ok((has_frames, file))
 }
 
 fn main(rt: HostRuntime) -> ExitCode {
     let alloc: Global = rt.alloc();
     let (mut out, mut errors) = (Tally::of(rt.stdout()), rt.stderr());
-    let Ok(mut words) = env::args(&rt) else {
-        return ExitCode::from(1);
-    };
-    let has_frames = words.nth(1).is_some_and(|word| word.as_str() == "--frames");
-    let Ok(file) = read(&rt, words.next()) else {
+    let Ok((has_frames, file)) = read(&rt) else {
         return ExitCode::from(1);
     };
     let head = match read_head(alloc, file.as_slice()) {

@@ -32,29 +32,11 @@ impl Plane {
         line as usize * self.across as usize + column as usize
     }
 
-    fn put(&mut self, column: u32, line: u32, samples: &[u8; 64]) {
+    fn put(&mut self, column: u32, line: u32, samples: [u8; 64]) {
         let number = self.number(column, line);
         if let Some(unit) = self.units.get_mut(number) {
-            *unit = *samples;
+            *unit = samples;
         }
-    }
-}
-
-/// What has data units, one after the other in scan order.
-pub trait Units {
-    /// The samples of data unit k, `8 row + column`; none past the last.
-    fn block(&self, k: u32) -> Option<&[u8; 64]>;
-}
-
-impl Units for Piece {
-    fn block(&self, k: u32) -> Option<&[u8; 64]> {
-        Piece::block(self, k)
-    }
-}
-
-impl Units for Strip {
-    fn block(&self, k: u32) -> Option<&[u8; 64]> {
-        Strip::block(self, k)
     }
 }
 
@@ -106,14 +88,16 @@ impl View {
     /// Shows a piece: all of its interval was seen then, and is grey behind the piece's front.
     pub fn show_piece(&mut self, piece: &Piece) {
         let first = self.first_of(piece.number());
-        let mcus = self.first_of(piece.number().saturating_add(1)).saturating_sub(first);
-        self.show(first, mcus, piece);
+        let mcus = self
+            .first_of(piece.number().saturating_add(1))
+            .saturating_sub(first);
+        self.show(first, mcus, |k| piece.block(k).copied());
     }
 
     /// Shows a strip, before its interval's piece is there.
     pub fn show_strip(&mut self, strip: &Strip) {
         let first = self.first_of(strip.number()).saturating_add(strip.first());
-        self.show(first, strip.mcus(), strip);
+        self.show(first, strip.mcus(), |k| strip.block(k).copied());
     }
 
     /// The first MCU of interval i.
@@ -125,13 +109,15 @@ impl View {
         }
     }
 
-    /// Shows the MCUs from `first` on that were not seen before.
-    fn show<U: Units>(&mut self, first: u32, mcus: u32, units: &U) {
+    /// Shows the MCUs from `first` on that were not seen before. `block` gives their data units, in scan order.
+    fn show<F: Fn(u32) -> Option<[u8; 64]>>(&mut self, first: u32, mcus: u32, block: F)
+        requires { F.IsAlwaysCallable block }
+    {
         let per_mcu = self.scan.head().order().len() as u32;
         for j in 0..mcus {
             let mcu = first.saturating_add(j);
             if self.is_new(mcu) {
-                self.show_mcu(mcu, j.saturating_mul(per_mcu), units);
+                self.show_mcu(mcu, j.saturating_mul(per_mcu), &block);
             }
         }
     }
@@ -154,16 +140,15 @@ impl View {
     }
 
     /// Shows an MCU, whose data units are those from number k on.
-    fn show_mcu<U: Units>(&mut self, mcu: u32, mut k: u32, units: &U) {
+    fn show_mcu<F: Fn(u32) -> Option<[u8; 64]>>(&mut self, mcu: u32, mut k: u32, block: &F)
+        requires { F.IsAlwaysCallable block.now }
+    {
         let head = self.scan.head();
         let (column, row) = (mcu % columns(head), mcu / columns(head));
         for c in 0..head.components() {
             let (across, down) = (head.horizontal(c), head.vertical(c));
             for j in 0..across * down {
-                if let (Some(plane), Some(samples)) = (
-                    self.planes.get_mut(c as usize),
-                    units.block(k),
-                ) {
+                if let (Some(plane), Some(samples)) = (self.planes.get_mut(c as usize), block(k)) {
                     plane.put(
                         column * across + j % across,
                         row.saturating_mul(down).saturating_add(j / across),
