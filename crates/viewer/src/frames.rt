@@ -52,11 +52,12 @@ impl<W: Write> Screen for Frames<'_, W> {
             return false;
         };
         for i in 0..cells.count() {
+            if let Some(strips) = decoding.strips(i) {
+                self.look_over(strips);
+            }
             if let Some(piece) = cells.look(i, &mut sight) {
                 self.view.show_piece(piece);
                 self.write_due();
-            } else if let Some(strips) = decoding.strips(i) {
-                self.look_over(strips);
             }
         }
         self.twentieths == 20 || self.out.failed()
