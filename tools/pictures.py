@@ -2,6 +2,7 @@
 
 import struct
 import subprocess
+import zlib
 
 
 class Random:
@@ -53,3 +54,16 @@ def markers(data):
     at = data.find(b"\xff\xc0")
     height, width = struct.unpack(">HH", data[at + 5 : at + 9])
     return count, width, height
+
+
+def png(channels, rows):
+    """A PNG file of rows of grey or RGB pixels."""
+
+    def chunk(kind, data):
+        return struct.pack(">I", len(data)) + kind + data + struct.pack(">I", zlib.crc32(kind + data))
+
+    width = len(rows[0]) // channels
+    header = struct.pack(">IIBBBBB", width, len(rows), 8, 0 if channels == 1 else 2, 0, 0, 0)
+    # Each row begins with the number of its filter, here none.
+    data = zlib.compress(b"".join(b"\0" + row for row in rows), 1)
+    return b"\x89PNG\r\n\x1a\n" + chunk(b"IHDR", header) + chunk(b"IDAT", data) + chunk(b"IEND", b"")

@@ -1,0 +1,2 @@
+-- What a view shows.
+pub mod Views
