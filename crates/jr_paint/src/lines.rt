@@ -6,7 +6,7 @@ ghost use Rattle.jr_paint.specs.Lines.{IsStretched, line_of, two_lines_of, line_
 ghost use Rattle.jr_paint.specs.Shades.{SharesChroma};
 
 use crate::halves::convert_two;
-use crate::pixels::{convert, interleave};
+use crate::pixels::mix;
 use crate::samples::Samples;
 use crate::upsampling::{half_count, read_halves, upsample};
 use jr_head::Kind;
@@ -59,11 +59,7 @@ fn fill_colours<S: Samples, const WIDTH: usize>(
     upsample(samples, 0, y, &mut lines.near, first);
     upsample(samples, 1, y, &mut lines.near, second);
     upsample(samples, 2, y, &mut lines.near, third);
-    if samples.head().kind() == Kind::Ycc {
-        convert(first, second, third, pixels);
-    } else {
-        interleave(first, second, third, pixels);
-    }
+    mix(samples.head().kind(), first, second, third, pixels);
 }
 
 /// The pixels of line y.

@@ -3,10 +3,12 @@
 ghost use Rattle.std.specs.Prelude.{◌≡◌, ◌+◌, ◌*◌, ◌≤◌, length, take};
 ghost use Rattle.std.specs.Simd.Lanes.{put_chunk};
 ghost use Rattle.jr_head.specs.declared.kind.Kind.TheVariants.{Rgb, Ycc};
+ghost use Rattle.jr_head.specs.Geometry.{component_count};
 ghost use Rattle.jr_paint.specs.Lines.{colours_of};
 
 use crate::colours::mixed;
 use crate::lanes::{load, paint, raised_blue, raised_green, raised_red};
+use jr_head::Kind;
 
 /// The colours of sixteen pixels, from pixel i on, of luminance and chrominance.
 #[inline(always)]
@@ -60,7 +62,7 @@ fn convert_whole_blocks(luma: &[u8], cb: &[u8], cr: &[u8], out: &mut [u8]) -> us
 }
 
 /// The colours of luminance and chrominance.
-pub(crate) fn convert(luma: &[u8], cb: &[u8], cr: &[u8], out: &mut [u8])
+fn convert(luma: &[u8], cb: &[u8], cr: &[u8], out: &mut [u8])
     requires second { length cb.now ≡ length luma.now }
     requires third { length cr.now ≡ length luma.now }
     requires room { length out.old ≡ 3 * length luma.now }
@@ -76,7 +78,7 @@ pub(crate) fn convert(luma: &[u8], cb: &[u8], cr: &[u8], out: &mut [u8])
 }
 
 /// The pixels of lines of red, green and blue.
-pub(crate) fn interleave(red: &[u8], green: &[u8], blue: &[u8], out: &mut [u8])
+fn interleave(red: &[u8], green: &[u8], blue: &[u8], out: &mut [u8])
     requires second { length green.now ≡ length red.now }
     requires third { length blue.now ≡ length red.now }
     requires room { length out.old ≡ 3 * length red.now }
@@ -86,5 +88,20 @@ pub(crate) fn interleave(red: &[u8], green: &[u8], blue: &[u8], out: &mut [u8])
         out[3 * i] = red[i];
         out[3 * i + 1] = green[i];
         out[3 * i + 2] = blue[i];
+    }
+}
+
+/// The colours of these values, one after the other.
+pub(crate) fn mix(kind: Kind, first: &[u8], second: &[u8], third: &[u8], out: &mut [u8])
+    requires kind { component_count kind ≡ 3 }
+    requires second { length second.now ≡ length first.now }
+    requires third { length third.now ≡ length first.now }
+    requires room { length out.old ≡ 3 * length first.now }
+    ensures { out.new ≡ colours_of kind first.now second.now third.now 0 (length first.now) }
+{
+    if kind == Kind::Ycc {
+        convert(first, second, third, out);
+    } else {
+        interleave(first, second, third, out);
     }
 }

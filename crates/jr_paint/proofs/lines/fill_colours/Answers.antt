@@ -1,18 +1,14 @@
-use Rattle.std.proofs.Common.{◌≡◌, ◌∙◌, rules, refl, length, slice_index, arith}
-use Rattle.jr_head.specs.declared.kind.Kind.TheVariants.{Rgb, Ycc}
-use Rattle.jr_paint.proofs.PixelLaws.{line_coloured, rgb_is}
+use Rattle.std.proofs.Common.{◌≡◌, ◌∙◌, ◌<◌, ℕ, rules, length, slice_index, arith}
+use Rattle.jr_paint.specs.Text.{value_at}
+use Rattle.jr_paint.proofs.PixelLaws.{line_coloured}
 use Rattle.jr_paint.proofs.lines.fill_colours.Goals as goal
 
-pub returns-then-eq : goal.returns-then-eq
-returns-then-eq g c =
+pub returns : goal.returns
+returns g c =
     let h = g.S.Samples.head_of c.args.samples.now in
-    let kind : Ycc ≡ h.kind = search rules in
+    let f = g.S.Samples.shown c.args.samples.now in
+    let y = c.args.y in
+    let kind : c.kind.result ≡ h.kind = search rules in
     let long : length c.upsample.new.out ≡ h.width = search (rules, arith, c.upsample.auto.out) in
-    c.convert.ensures ∙ line_coloured h (g.S.Samples.shown c.args.samples.now) c.args.y Ycc _ (slice_index c.upsample.new.out) (slice_index c.upsample-2.new.out) (slice_index c.upsample-3.new.out) kind refl long c.upsample.ensures c.upsample-2.ensures c.upsample-3.ensures
-
-pub returns-else-eq : goal.returns-else-eq
-returns-else-eq g c =
-    let h = g.S.Samples.head_of c.args.samples.now in
-    let kind : Rgb ≡ h.kind = rgb_is h.kind c.requires.kind (search rules) in
-    let long : length c.upsample.new.out ≡ h.width = search (rules, arith, c.upsample.auto.out) in
-    c.interleave.ensures ∙ line_coloured h (g.S.Samples.shown c.args.samples.now) c.args.y Rgb _ (slice_index c.upsample.new.out) (slice_index c.upsample-2.new.out) (slice_index c.upsample-3.new.out) kind refl long c.upsample.ensures c.upsample-2.ensures c.upsample-3.ensures
+    let third : (k : ℕ) → k < h.width → slice_index c.upsample-3.new.out k ≡ value_at h f 2 k y = λ k l. search (rules, c.upsample-3.ensures k l) in
+    c.mix.ensures ∙ line_coloured h f y c.kind.result _ (slice_index c.upsample.new.out) (slice_index c.upsample-2.new.out) (slice_index c.upsample-3.new.out) kind (rw kind c.requires.kind) long c.upsample.ensures c.upsample-2.ensures third

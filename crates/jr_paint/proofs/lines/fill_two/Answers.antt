@@ -15,9 +15,10 @@ returns g c =
     let cb = λ (k : ℕ). slice_index c.read_halves.new.out (k / 2) in
     let cr = λ (k : ℕ). slice_index c.read_halves-2.new.out (k / 2) in
     let shares = c.requires.shares in
+    let red : (k : ℕ) → k < h.width → cr k ≡ value_at h f 2 k y = λ k l. search (rules, c.read_halves-2.ensures k l) in
     let long : length c.upsample.new.out ≡ h.width = search (rules, arith, c.upsample.auto.out) in
-    let upper = c.convert_two.ensures.line ∙ line_coloured h f y Ycc _ (slice_index c.upsample.new.out) cb cr (sym shares.kind) refl long c.upsample.ensures c.read_halves.ensures c.read_halves-2.ensures in
+    let upper = c.convert_two.ensures.line ∙ line_coloured h f y Ycc _ (slice_index c.upsample.new.out) cb cr (sym shares.kind) refl long c.upsample.ensures c.read_halves.ensures red in
     let second : (k : ℕ) → k < h.width → cb k ≡ value_at h f 1 k (y + 1) = λ k l. c.read_halves.ensures k l ∙ shared_value h f 1 y k shares.same_b in
-    let third : (k : ℕ) → k < h.width → cr k ≡ value_at h f 2 k (y + 1) = λ k l. c.read_halves-2.ensures k l ∙ shared_value h f 2 y k shares.same_c in
+    let third : (k : ℕ) → k < h.width → cr k ≡ value_at h f 2 k (y + 1) = λ k l. red k l ∙ shared_value h f 2 y k shares.same_c in
     let lower = c.convert_two.ensures.next ∙ line_coloured h f (y + 1) Ycc _ (slice_index c.upsample-2.new.out) cb cr (sym shares.kind) refl long c.upsample-2.ensures second third in
     search (rules, ap₂ (λ x y. x ++ y) upper lower)
