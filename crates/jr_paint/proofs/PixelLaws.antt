@@ -10,7 +10,7 @@ use Rattle.jr_paint.specs.Colours.{colour_of}
 use Rattle.jr_paint.specs.Shades.{IsShared}
 use Rattle.jr_head.specs.HeadValue.{HeadValue}
 use Rattle.jr_head.specs.Geometry.{component_count}
-use Rattle.jr_paint.specs.Lines.{IsStretched, line_of, two_lines_of}
+use Rattle.jr_paint.specs.Lines.{IsStretched, line_of, next_lines_of}
 use Rattle.jr_paint.specs.Text.{header_of, value_at, bytes_of, pixel_of, pixels_of, lines_of, text_of}
 
 -- the numbers from a on, and then those from a + m on
@@ -95,29 +95,20 @@ module _ (h : HeadValue) (f : ℕ → ℕ → ℕ → ℕ) where
   unfolding lines_of
   text_none = append-nil (header_of h)
 
-  lines_more : (n : ℕ) → lines_of h f (n + 1) ≡ lines_of h f n ++ line_of h f n
+  lines_append : (n m : ℕ) → lines_of h f (n + m) ≡ lines_of h f n ++ next_lines_of h f n m
   unfolding lines_of
-  lines_more n = sym (flat_map-range_more (line_of h f) n)
+  lines_append n m = let e : 0 + n ≡ n = omega arith in let both = flat_map-range-append (line_of h f) 0 n m in rw e at both
 
-  -- a line more
-  pub text_more : (n : ℕ) → header_of h ++ lines_of h f (n + 1) ≡ (header_of h ++ lines_of h f n) ++ line_of h f n
-  text_more n = ap (λ z. header_of h ++ z) (lines_more n) ∙ sym (append_assoc (header_of h) (lines_of h f n) (line_of h f n))
-
-  -- two lines more
-  pub text_two_more : (n : ℕ) → header_of h ++ lines_of h f (n + 2) ≡ (header_of h ++ lines_of h f n) ++ two_lines_of h f n
-  text_two_more n =
-      let e : n + 2 ≡ (n + 1) + 1 = omega arith in
-      ap (λ m. header_of h ++ lines_of h f m) e ∙ text_more (n + 1) ∙ ap (λ z. z ++ line_of h f (n + 1)) (text_more n)
-      ∙ append_assoc (header_of h ++ lines_of h f n) (line_of h f n) (line_of h f (n + 1))
+  -- m lines more
+  pub text_more : (n m : ℕ) → header_of h ++ lines_of h f (n + m) ≡ (header_of h ++ lines_of h f n) ++ next_lines_of h f n m
+  text_more n m = ap (λ z. header_of h ++ z) (lines_append n m) ∙ sym (append_assoc (header_of h) (lines_of h f n) (next_lines_of h f n m))
 
   -- the header and the first lines are a beginning of the text
   pub text_begins : (n : ℕ) → n ≤ h.height → (rest : List ℕ) × (text_of h f ≡ (header_of h ++ lines_of h f n) ++ rest)
-  unfolding text_of lines_of
+  unfolding text_of
   text_begins n p =
       let e : h.height ≡ n + (h.height - n) = omega arith in
-      let rest = flat_map (line_of h f) (range_with_len (0 + n) (h.height - n)) in
-      let lines : lines_of h f h.height ≡ lines_of h f n ++ rest = ap (lines_of h f) e ∙ flat_map-range-append (line_of h f) 0 n (h.height - n) in
-      (rest, ap (λ z. header_of h ++ z) lines ∙ sym (append_assoc (header_of h) (lines_of h f n) rest))
+      (next_lines_of h f n (h.height - n), ap (λ m. header_of h ++ lines_of h f m) e ∙ text_more n (h.height - n))
 
   pub text_is : text_of h f ≡ header_of h ++ lines_of h f h.height
   unfolding text_of

@@ -53,6 +53,10 @@ line_of h f y = pixels_of h f y 0 h.width
 abbrev pub two_lines_of : HeadValue → (ℕ → ℕ → ℕ → ℕ) → ℕ → List ℕ
 two_lines_of h f y = line_of h f y ++ line_of h f (y + 1)
 
+-- n lines from line y on
+abbrev pub next_lines_of : HeadValue → (ℕ → ℕ → ℕ → ℕ) → ℕ → ℕ → List ℕ
+next_lines_of h f y n = flat_map (line_of h f) (range_with_len y n)
+
 -- how many bytes a line has
 abbrev pub line_size : HeadValue → ℕ
 line_size h = pixel_size h.kind * h.width

@@ -2,14 +2,14 @@
 
 ghost use Rattle.std.specs.Prelude.{◌≡◌, ◌+◌, ◌*◌, ◌<◌, ◌≤◌, length};
 ghost use Rattle.jr_head.specs.Geometry.{component_count};
-ghost use Rattle.jr_paint.specs.Lines.{IsStretched, line_of, two_lines_of, line_size};
+ghost use Rattle.jr_paint.specs.Lines.{IsStretched, line_of, two_lines_of, next_lines_of, line_size};
 ghost use Rattle.jr_paint.specs.Shades.{SharesChroma};
 
 use crate::halves::convert_two;
 use crate::pixels::mix;
 use crate::samples::Samples;
-use crate::upsampling::{half_count, read_halves, upsample};
-use jr_head::Kind;
+use crate::upsampling::{half_count, read_halves, shares_chroma, upsample};
+use jr_head::{Head, Kind};
 
 /// Lines of samples, as many of each as pixels are painted at once.
 #[derive(Drop)]
@@ -63,7 +63,7 @@ fn fill_colours<S: Samples, const WIDTH: usize>(
 }
 
 /// The pixels of line y.
-pub(crate) fn fill<S: Samples, const WIDTH: usize>(
+fn fill<S: Samples, const WIDTH: usize>(
     samples: &S,
     y: u32,
     lines: &mut SampleLines<WIDTH>,
@@ -82,7 +82,7 @@ pub(crate) fn fill<S: Samples, const WIDTH: usize>(
 }
 
 /// The pixels of line y and of the next, which take the same samples of chrominance.
-pub(crate) fn fill_two<S: Samples, const WIDTH: usize>(
+fn fill_two<S: Samples, const WIDTH: usize>(
     samples: &S,
     y: u32,
     lines: &mut SampleLines<WIDTH>,
@@ -106,4 +106,38 @@ pub(crate) fn fill_two<S: Samples, const WIDTH: usize>(
     read_halves(samples, 2, y, cr);
     let (upper, lower) = pixels.split_at_mut(3 * width);
     convert_two(luma, next_luma, cb, cr, upper, lower);
+}
+
+/// How many lines are painted at once from line y on: two where both take the same samples of chrominance.
+pub(crate) fn lines_at_once(head: &Head, y: u32) -> u32
+    requires { y < head.now.height }
+    ensures some { 0 < result }
+    ensures few { result ≤ 2 }
+    ensures inside { y + result ≤ head.now.height }
+    ensures shared { result ≡ 2 → SharesChroma head.now y }
+{
+    if shares_chroma(head, y) { 2 } else { 1 }
+}
+
+/// The pixels of so many lines from line y on: of one, or of two that take the same samples of chrominance.
+pub(crate) fn fill_lines<S: Samples, const WIDTH: usize>(
+    samples: &S,
+    y: u32,
+    count: u32,
+    lines: &mut SampleLines<WIDTH>,
+    pixels: &mut [u8],
+)
+    requires some { 0 < count }
+    requires few { count ≤ 2 }
+    requires down { y + count ≤ (S.head_of samples.now).height }
+    requires shared { count ≡ 2 → SharesChroma (S.head_of samples.now) y }
+    requires wide { (S.head_of samples.now).width ≤ WIDTH }
+    requires room { length pixels.old ≡ count * line_size (S.head_of samples.now) }
+    ensures { pixels.new ≡ next_lines_of (S.head_of samples.now) (S.shown samples.now) y count }
+{
+    if count == 2 {
+        fill_two(samples, y, lines, pixels);
+    } else {
+        fill(samples, y, lines, pixels);
+    }
 }

@@ -8,9 +8,8 @@ ghost use Rattle.jr_paint.specs.Written.{WritesUpTo};
 ghost use Rattle.jr_paint.specs.declared.netpbm.TheConstants.{BATCH, TWO_WIDEST};
 
 use crate::header::put_header;
-use crate::lines::{SampleLines, fill, fill_two};
+use crate::lines::{SampleLines, fill_lines, lines_at_once};
 use crate::samples::Samples;
-use crate::upsampling::shares_chroma;
 use jr_base::{Tally, WriteFault, write_all};
 use jr_head::{Head, Kind};
 use std::io::Write;
@@ -85,18 +84,13 @@ fn write_lines<S: Samples, W: Write, const WIDTH: usize>(
     let mut filled = filled;
     let mut y = 0;
     'lines: while y < height {
-        filled = make_room(pixels, filled, 2 * line, out)?;
-        if shares_chroma(samples.head(), y) {
-            let end = filled + 2 * line;
-            fill_two(samples, y, lines, &mut pixels[filled..end]);
-            filled = end;
-            y += 2;
-        } else {
-            let end = filled + line;
-            fill(samples, y, lines, &mut pixels[filled..end]);
-            filled = end;
-            y += 1;
-        }
+        let count = lines_at_once(samples.head(), y);
+        let size = count as usize * line;
+        filled = make_room(pixels, filled, size, out)?;
+        let end = filled + size;
+        fill_lines(samples, y, count, lines, &mut pixels[filled..end]);
+        filled = end;
+        y += count;
     }
     write_all(out, &pixels[..filled])
 }
