@@ -127,9 +127,13 @@ fn samples_of(alloc: Global, shape: &Shape) -> Result<Ruled, Fail> {
     Ok(Ruled { head })
 }
 
-/// How many calls of a writer that takes so many bytes a call the text of this picture takes; none where it is not that
-/// of the slow painter.
-fn calls_for(alloc: Global, shape: &Shape, most: usize) -> Result<Option<usize>, Fail> {
+/// How many calls of a writer that takes so many bytes a call write this picture; none where its text is another.
+fn calls_for(
+    alloc: Global,
+    shape: &Shape,
+    text: &[u8],
+    most: usize,
+) -> Result<Option<usize>, Fail> {
     let samples = samples_of(alloc, shape)?;
     let mut out = Tally::of(Slow {
         bytes: Vec::new(alloc),
@@ -139,14 +143,16 @@ fn calls_for(alloc: Global, shape: &Shape, most: usize) -> Result<Option<usize>,
     });
     let is_written = write_netpbm(&samples, &mut out) == Ok(()) && !out.failed();
     let slow = out.into_inner();
-    if is_written && slow.bytes.as_slice() == text_of(alloc, shape)?.as_slice() {
+    if is_written && slow.bytes.as_slice() == text {
         return Ok(usize::MAX.checked_sub(slow.left));
     }
     Ok(None)
 }
 
+/// Whether the text of this picture is that of the slow painter, by a writer that takes so many bytes a call.
 fn is_painted(alloc: Global, shape: &Shape, most: usize) -> Result<bool, Fail> {
-    Ok(calls_for(alloc, shape, most)?.is_some())
+    let text = text_of(alloc, shape)?;
+    Ok(calls_for(alloc, shape, text.as_slice(), most)?.is_some())
 }
 
 /// The factors of the first component, where those of the others are 1: at most ten data units in an MCU.
@@ -303,10 +309,10 @@ const LARGE: [(Kind, u16, u16, (u32, u32)); 8] = [
     (Kind::Ycc, 1, 30_000, (1, 1)),
     (Kind::Ycc, 300, 301, (1, 2)),
     (Kind::Ycc, 4096, 14, (2, 2)),
-    (Kind::Ycc, 10_923, 5, (1, 1)),
-    (Kind::Ycc, 22_001, 5, (2, 2)),
-    (Kind::Rgb, 22_001, 4, (1, 1)),
-    (Kind::Ycc, 65_535, 3, (2, 2)),
+    (Kind::Ycc, 10_923, 4, (1, 1)),
+    (Kind::Ycc, 22_001, 3, (2, 2)),
+    (Kind::Rgb, 22_001, 3, (1, 1)),
+    (Kind::Ycc, 65_535, 2, (2, 2)),
 ];
 
 /// A write takes 48 KB on the average, beside the first and the last.
@@ -320,9 +326,9 @@ fn writes_much_at_once(rt: HostRuntime) -> Result<(), Fail> {
             across,
             down,
         };
-        let calls = calls_for(rt.alloc(), &shape, usize::MAX)?;
-        let bytes = text_of(rt.alloc(), &shape)?.len();
-        let most = (bytes / 49_152).saturating_add(2);
+        let text = text_of(rt.alloc(), &shape)?;
+        let calls = calls_for(rt.alloc(), &shape, text.as_slice(), usize::MAX)?;
+        let most = (text.len() / 49_152).saturating_add(2);
         assert!(rt;
             calls.is_some_and(|calls| calls > 1 && calls <= most),
             "{width} {height}: {calls:?} of {most}"
@@ -337,14 +343,15 @@ fn stops_between_large_writes(rt: HostRuntime) -> Result<(), Fail> {
     let alloc = rt.alloc();
     let shape = Shape {
         kind: Kind::Ycc,
-        width: 4,
-        height: 30_001,
+        width: 300,
+        height: 301,
         across: 2,
         down: 2,
     };
     let samples = samples_of(alloc, &shape)?;
     let whole = text_of(alloc, &shape)?;
-    let calls = calls_for(alloc, &shape, usize::MAX)?.unwrap_or(0);
+    let calls = calls_for(alloc, &shape, whole.as_slice(), usize::MAX)?.unwrap_or(0);
+    assert!(rt; calls > 3);
     let mut before = 0;
     for left in 0..calls {
         let mut out = Tally::of(Slow {
