@@ -4,7 +4,7 @@ ghost use Rattle.std.specs.Prelude.{◌≡◌, ◌+◌, ◌*◌, ◌≤◌, ◌+
 ghost use Rattle.jr_base.specs.Tally.{Writes, WritesBeginning, has_failed};
 ghost use Rattle.jr_paint.specs.Lines.{line_size};
 ghost use Rattle.jr_paint.specs.Text.{header_of, text_of};
-ghost use Rattle.jr_paint.specs.Written.{WritesUpTo};
+ghost use Rattle.jr_paint.specs.Written.{IsSent, WritesUpTo};
 ghost use Rattle.jr_paint.specs.declared.netpbm.TheConstants.{BATCH, TWO_WIDEST};
 
 use crate::header::put_header;
@@ -75,9 +75,7 @@ fn write_lines<S: Samples, W: Write, const WIDTH: usize>(
     requires room { 2 * line_size (S.head_of samples.now) ≤ length pixels.old }
     requires inside { filled ≤ length pixels.old }
     requires header { take filled pixels.old ≡ header_of (S.head_of samples.now) }
-    ensures ok { OnOk result (Writes W.contents out.old out.new (text_of (S.head_of samples.now) (S.shown samples.now))) }
-    ensures err { OnErr result (WritesBeginning W.contents out.old out.new (text_of (S.head_of samples.now) (S.shown samples.now))) }
-    ensures failed { has_failed out.new ≡ is_err result }
+    ensures { IsSent W.contents out.old out.new result (text_of (S.head_of samples.now) (S.shown samples.now)) }
 {
     let line = bytes_of_line(samples.head());
     let height = samples.head().height();
@@ -107,9 +105,7 @@ fn write_text<S: Samples, W: Write, const WIDTH: usize, const ROOM: usize>(
     requires room { 6 * WIDTH ≤ ROOM }
     requires batch { BATCH ≤ ROOM }
     requires stack { ROOM ≤ TWO_WIDEST }
-    ensures ok { OnOk result (Writes W.contents out.old out.new (text_of (S.head_of samples.now) (S.shown samples.now))) }
-    ensures err { OnErr result (WritesBeginning W.contents out.old out.new (text_of (S.head_of samples.now) (S.shown samples.now))) }
-    ensures failed { has_failed out.new ≡ is_err result }
+    ensures { IsSent W.contents out.old out.new result (text_of (S.head_of samples.now) (S.shown samples.now)) }
 {
     let most = BATCH.max(2 * bytes_of_line(samples.head()));
     let mut lines = SampleLines::<WIDTH>::new();
