@@ -62,7 +62,7 @@ fn make_room<W: Write>(
     Ok(0)
 }
 
-/// Writes the picture's text, as much at once as `pixels` has room for, of which the header stands in it up to `filled`.
+/// Writes the picture's text, as much at once as `pixels` has room for; up to `filled` the header stands there.
 fn write_lines<S: Samples, W: Write, const WIDTH: usize>(
     samples: &S,
     lines: &mut SampleLines<WIDTH>,
@@ -93,8 +93,8 @@ fn write_lines<S: Samples, W: Write, const WIDTH: usize>(
     write_all(out, &pixels[..filled])
 }
 
-/// Writes the text of a picture of at most that width. A function of its own, so that only a wide picture's stack has
-/// room for two of its lines.
+/// Writes the text of a picture of at most `WIDTH` columns, of which up to `ROOM` bytes go out by one write. A function
+/// of its own, so that only a wide picture takes the stack for two of its lines.
 #[inline(never)]
 fn write_text<S: Samples, W: Write, const WIDTH: usize, const ROOM: usize>(
     samples: &S,
