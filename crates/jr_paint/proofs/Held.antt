@@ -1,15 +1,11 @@
 -- Bytes that are held back before they are written.
-use Rattle.std.proofs.Common.{◌≡◌, ℕ, ◌≤◌, ◌+◌, List, [], ◌++◌, length, take, arith, Option, Result, Ok, Err, OnOk, append_assoc, ap, refl, ◌∙◌, sym}
+use Rattle.std.proofs.Common.{◌≡◌, ℕ, ◌≤◌, ◌+◌, List, [], ◌++◌, length, take, arith, Option, Result, Ok, Err, OnOk, OnErr, is_err, append_assoc, ap, refl, ◌∙◌, sym}
 use Rattle.std.proofs.lemmas.Slice.{take-put_mid}
 use borrow.Rule.Slice.PartMut.{put_mid}
 use Rattle.jr_base.specs.declared.tally.Tally.{Tally}
-use Rattle.jr_base.specs.Tally.{Writes, WritesBeginning, known_in}
+use Rattle.jr_base.specs.Tally.{Writes, WritesBeginning, has_failed, known_in}
 use Rattle.jr_base.proofs.Appending.{then, none_yet, front_after}
-use Rattle.jr_paint.specs.Written.{WritesUpTo}
-
-pub on_ok_map : {T E : Type 0} (r : Result T E) (P Q : Type 0) → (P → Q) → OnOk r P → OnOk r Q
-on_ok_map (Ok v) P Q f p = f p
-on_ok_map (Err e) P Q f p = tt
+use Rattle.jr_paint.specs.Written.{IsSent, WritesUpTo}
 
 module _ {T : Type 0} (known : T → Option (List ℕ)) where
   pub nothing_written : (a : Tally T) (text : List ℕ) → WritesUpTo known a a text text
@@ -37,8 +33,10 @@ module _ {T : Type 0} (known : T → Option (List ℕ)) where
       let e : take (at + n) (put_mid at k xs ys) ≡ take at xs ++ ys = take-put_mid at k xs ys (at + n) (omega (arith, long)) inside in
       rw e (held_more a b text (take at xs) ys p)
 
-  pub all_written : (a b c : Tally T) (text held : List ℕ) → WritesUpTo known a b text held → Writes known b c held → Writes known a c text
-  all_written a b c text held p q = rw p.whole (then _ _ _ _ _ p.appended q)
-
   pub begun : (a b c : Tally T) (text held : List ℕ) → WritesUpTo known a b text held → WritesBeginning known b c held → WritesBeginning known a c text
   begun a b c text held p q = rw p.whole (front_after _ _ _ p.sent held p.appended q)
+
+  -- all that was held back is written, or a beginning of it
+  pub rest_sent : {U E : Type 0} (a b c : Tally T) (r : Result U E) (text held : List ℕ) → WritesUpTo known a b text held → OnOk r (Writes known b c held) → OnErr r (WritesBeginning known b c held) → has_failed c ≡ is_err r → IsSent known a c r text
+  rest_sent a b c (Ok v) text held p q e f = record { ok = rw p.whole (then _ _ _ _ _ p.appended q); err = tt; failed = f }
+  rest_sent a b c (Err v) text held p q e f = record { ok = tt; err = begun a b c text held p e; failed = f }

@@ -59,11 +59,6 @@ grey_bytes f x (b ∷ bs) h =
     let others = grey_bytes f (x + 1) bs (λ k p. let e : x + 1 + k ≡ x + suc k = omega arith in rw e (h (suc k) (omega arith))) in
     ap₂ (λ y ys. y ∷ ys) first others
 
-pub rgb_is : (kind : Kind) → component_count kind ≡ 3 → (kind ≡ Ycc → ⊥) → Rgb ≡ kind
-rgb_is Grey e not = absurd (omega (arith, e))
-rgb_is Rgb e not = refl
-rgb_is Ycc e not = absurd (not refl)
-
 coloured : (kind : Kind) → component_count kind ≡ 3 → (v : ℕ → ℕ) → colour_of kind (v 0) (v 1) (v 2) ≡ bytes_of kind v
 coloured Grey e v = absurd (omega arith)
 coloured Rgb e v = refl

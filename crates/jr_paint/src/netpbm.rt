@@ -4,7 +4,7 @@ ghost use Rattle.std.specs.Prelude.{◌≡◌, ◌+◌, ◌*◌, ◌≤◌, ◌+
 ghost use Rattle.jr_base.specs.Tally.{Writes, WritesBeginning, has_failed};
 ghost use Rattle.jr_paint.specs.Lines.{line_size};
 ghost use Rattle.jr_paint.specs.Text.{header_of, text_of};
-ghost use Rattle.jr_paint.specs.Written.{WritesUpTo};
+ghost use Rattle.jr_paint.specs.Written.{IsSent, WritesUpTo};
 ghost use Rattle.jr_paint.specs.declared.netpbm.TheConstants.{BATCH, TWO_WIDEST};
 
 use crate::header::put_header;
@@ -62,7 +62,7 @@ fn make_room<W: Write>(
     Ok(0)
 }
 
-/// Writes the picture's text, as much at once as `pixels` has room for, of which the header stands in it up to `filled`.
+/// Writes the picture's text, as much at once as `pixels` has room for; up to `filled` the header stands there.
 fn write_lines<S: Samples, W: Write, const WIDTH: usize>(
     samples: &S,
     lines: &mut SampleLines<WIDTH>,
@@ -75,9 +75,7 @@ fn write_lines<S: Samples, W: Write, const WIDTH: usize>(
     requires room { 2 * line_size (S.head_of samples.now) ≤ length pixels.old }
     requires inside { filled ≤ length pixels.old }
     requires header { take filled pixels.old ≡ header_of (S.head_of samples.now) }
-    ensures ok { OnOk result (Writes W.contents out.old out.new (text_of (S.head_of samples.now) (S.shown samples.now))) }
-    ensures err { OnErr result (WritesBeginning W.contents out.old out.new (text_of (S.head_of samples.now) (S.shown samples.now))) }
-    ensures failed { has_failed out.new ≡ is_err result }
+    ensures { IsSent W.contents out.old out.new result (text_of (S.head_of samples.now) (S.shown samples.now)) }
 {
     let line = bytes_of_line(samples.head());
     let height = samples.head().height();
@@ -95,8 +93,8 @@ fn write_lines<S: Samples, W: Write, const WIDTH: usize>(
     write_all(out, &pixels[..filled])
 }
 
-/// Writes the text of a picture of at most that width. A function of its own, so that only a wide picture's stack has
-/// room for two of its lines.
+/// Writes the text of a picture of at most `WIDTH` columns, of which up to `ROOM` bytes go out by one write. A function
+/// of its own, so that only a wide picture takes the stack for two of its lines.
 #[inline(never)]
 fn write_text<S: Samples, W: Write, const WIDTH: usize, const ROOM: usize>(
     samples: &S,
@@ -107,9 +105,7 @@ fn write_text<S: Samples, W: Write, const WIDTH: usize, const ROOM: usize>(
     requires room { 6 * WIDTH ≤ ROOM }
     requires batch { BATCH ≤ ROOM }
     requires stack { ROOM ≤ TWO_WIDEST }
-    ensures ok { OnOk result (Writes W.contents out.old out.new (text_of (S.head_of samples.now) (S.shown samples.now))) }
-    ensures err { OnErr result (WritesBeginning W.contents out.old out.new (text_of (S.head_of samples.now) (S.shown samples.now))) }
-    ensures failed { has_failed out.new ≡ is_err result }
+    ensures { IsSent W.contents out.old out.new result (text_of (S.head_of samples.now) (S.shown samples.now)) }
 {
     let most = BATCH.max(2 * bytes_of_line(samples.head()));
     let mut lines = SampleLines::<WIDTH>::new();

@@ -11,7 +11,7 @@ use jr_scan::ScanEnd;
 use std::fmt::Display;
 use std::io::{Cursor, Result as IoResult, Write};
 
-/// More bytes than a line has: each is words of at most 60 letters and up to four numbers.
+/// More bytes than the longest line has: words of 61 letters, a number of 20 digits and the line's end.
 const LINE_ROOM: usize = 128;
 
 /// Writes a line by one write, so that the lines of several programs on one terminal stay whole. It takes no memory, since

@@ -1,8 +1,8 @@
 use Rattle.std.proofs.Common.{refl, ◌≡◌, ◌+◌, ◌*◌, ◌-◌, ◌≤◌, ◌++◌, ◌∙◌, length, take, arith, rules}
 use Rattle.jr_paint.specs.Text.{header_of, lines_of}
 use borrow.Rule.Slice.PartMut.{put_mid}
-use Rattle.jr_base.proofs.Appending.{on_err, on_err_map, front_first}
-use Rattle.jr_paint.proofs.Held.{nothing_written, written_on, painted, all_written, begun, on_ok_map}
+use Rattle.jr_base.proofs.Appending.{on_err, front_first}
+use Rattle.jr_paint.proofs.Held.{nothing_written, written_on, painted, begun, rest_sent}
 use Rattle.jr_paint.proofs.PixelLaws.{text_none, text_more, text_begins, text_is}
 use Rattle.jr_paint.proofs.netpbm.write_lines.Goals as goal
 
@@ -15,11 +15,15 @@ lines-init g c = record {
   sent = rw (text_none, c.requires.header) (nothing_written g.W.Write.contents c.args.out.now _);
 }
 
-pub returns-in_err-filled-clause-err : goal.returns-in_err-filled-clause-err
-returns-in_err-filled-clause-err g c =
-    let h = g.S.Samples.head_of c.args.samples.now in
-    let all = text_begins h (g.S.Samples.shown c.args.samples.now) c.lines.y (search rules) in
-    on_err c.from_residual.result _ (rw all.1 (front_first _ all.0 (begun g.W.Write.contents c.args.out.now c.lines.out c.make_room.new.out _ _ c.lines.invariant.sent c.in_err-filled.ensures.err)))
+pub returns-in_err-filled : goal.returns-in_err-filled
+returns-in_err-filled g c =
+    let all = text_begins (g.S.Samples.head_of c.args.samples.now) (g.S.Samples.shown c.args.samples.now) c.lines.y (search rules) in
+    let sent = begun g.W.Write.contents c.args.out.now c.lines.out c.make_room.new.out _ _ c.lines.invariant.sent c.in_err-filled.ensures.err in
+    record {
+      ok = search rules;
+      err = on_err c.from_residual.result _ (rw all.1 (front_first _ all.0 sent));
+      failed = search rules;
+    }
 
 pub lines-preserved : goal.lines-preserved
 lines-preserved g c =
@@ -42,14 +46,9 @@ lines-preserved g c =
       sent = rw text (painted known c.args.out.now c.make_room.new.out before c.lines.pixels c.fill_lines.new.pixels at n (at + n - at) more (omega (arith, room)) held);
     }
 
-pub returns-clause-ok : goal.returns-clause-ok
-returns-clause-ok g c =
+pub returns : goal.returns
+returns g c =
     let end : c.lines.y ≡ (g.S.Samples.head_of c.args.samples.now).height = search rules in
     let sent = rw (end, ← text_is _ (g.S.Samples.shown c.args.samples.now)) at c.lines.invariant.sent in
-    on_ok_map c.write_all.result _ _ (all_written g.W.Write.contents c.args.out.now c.lines.out c.write_all.new.out _ _ sent) c.write_all.ensures.ok
-
-pub returns-clause-err : goal.returns-clause-err
-returns-clause-err g c =
-    let end : c.lines.y ≡ (g.S.Samples.head_of c.args.samples.now).height = search rules in
-    let sent = rw (end, ← text_is _ (g.S.Samples.shown c.args.samples.now)) at c.lines.invariant.sent in
-    on_err_map c.write_all.result _ _ (begun g.W.Write.contents c.args.out.now c.lines.out c.write_all.new.out _ _ sent) c.write_all.ensures.err
+    let all = c.write_all.ensures in
+    rest_sent g.W.Write.contents c.args.out.now c.lines.out c.write_all.new.out c.write_all.result _ _ sent all.ok all.err all.failed
