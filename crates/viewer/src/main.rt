@@ -8,6 +8,7 @@
 mod counting;
 mod frames;
 mod picture;
+mod plane;
 mod watching;
 
 use crate::counting::tell;
