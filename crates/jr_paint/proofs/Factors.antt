@@ -1,7 +1,7 @@
 -- What a lawful head says of the factors of a component.
 use Rattle.std.proofs.Common.{◌≡◌, ℕ, zero, suc, inl, inr, ◌+◌, ◌-◌, ◌*◌, ◌/◌, ◌%◌, ◌<◌, ◌≤◌, arith, ap, ◌∙◌}
 use Rattle.std.specs.Int.{div_ceil}
-use Rattle.std.proofs.Math.Nat.{mul-le-mul_left, mul-le-mul_right, div-add-mod, mul-div-mul_left, add-mul-div_left, div-mul-le_self, zero-div}
+use Rattle.std.proofs.Math.Nat.{mul-le-mul_left, mul-le-mul_right, div-add-mod, mul-div-mul_left, div-mul-le_self}
 use Rattle.std.proofs.lemmas.Nat.{mul-le, div_below}
 use Rattle.std.proofs.lemmas.Bool.{cases_lt}
 use Rattle.std.proofs.lemmas.Grind.{div_ceil_times}
@@ -65,45 +65,15 @@ factor_few a m p h =
     let less : m / a * 1 ≤ m / a * a = mul-le-mul_left (m / a) p in
     omega (arith, low, less)
 
--- a start that is a multiple of 12 is one of each factor
-twelve : (x f : ℕ) → 0 < f → f ≤ 4 → x % 12 ≡ 0 → (q : ℕ) × (x ≡ f * q)
-twelve x zero p h d = absurd (omega (arith, p))
-twelve x (suc zero) p h d = (x, omega arith)
-twelve x (suc (suc zero)) p h d = (6 * (x / 12), omega (arith, div-add-mod x 12))
-twelve x (suc (suc (suc zero))) p h d = (4 * (x / 12), omega (arith, div-add-mod x 12))
-twelve x (suc (suc (suc (suc zero)))) p h d = (3 * (x / 12), omega (arith, div-add-mod x 12))
-twelve x (suc (suc (suc (suc (suc f))))) p h d = absurd (omega (arith, h))
-
-zeroed : (n : ℕ) → n ≡ 0 + n
-zeroed n = omega arith
-
-nothing : (f q : ℕ) → 0 < f → 0 / f + q ≡ q
-nothing f q p = ap (λ n. n + q) (zero-div f) ∙ omega arith
-
-joined : (a b c : ℕ) → c ≡ b → a + b ≡ c + a
-joined a b c e = omega arith
-
--- from such a start on the samples are repeated from the first
-pub repeated : (x k f : ℕ) → 0 < f → f ≤ 4 → x % 12 ≡ 0 → (x + k) / f ≡ x / f + k / f
-repeated x k f p h d =
-    let m = twelve x f p h d in
-    let whole : x + k ≡ k + f * m.0 = omega (arith, m.1) in
-    let first : x / f ≡ m.0 = ap (λ n. n / f) (m.1 ∙ zeroed (f * m.0)) ∙ add-mul-div_left 0 m.0 p ∙ nothing f m.0 p in
-    ap (λ n. n / f) whole ∙ add-mul-div_left k m.0 p ∙ joined (k / f) m.0 (x / f) first
-
 some_count : (n c f : ℕ) → 0 < n → n ≤ c * f → 0 < c
 some_count n zero f p h = absurd (omega (arith, p, h))
 some_count n (suc c) f p h = omega arith
 
-distributed : (q c f : ℕ) → 0 < c → (q + (c - 1)) * f + f ≡ f * q + c * f
-distributed q zero f p = absurd (omega (arith, p))
-distributed q (suc c) f p = let e : suc c - 1 ≡ c = omega arith in rw e (grind arith)
-
 added : (k a : ℕ) → (k + 1) * a ≡ k * a + a
 added k a = grind arith
 
--- the samples that n pixels from x on take, f pixels for each sample
-module _ (x n f : ℕ) (some : 0 < n) (f_some : 0 < f) (f_few : f ≤ 4) (start : x % 12 ≡ 0) where
+-- the samples that n pixels take, f pixels for each sample
+module _ (n f : ℕ) (some : 0 < n) (f_some : 0 < f) where
   pub enough : n ≤ f * div_ceil n f
   enough = let t = div_ceil_times n f f_some in omega (arith, t.0)
 
@@ -121,16 +91,20 @@ module _ (x n f : ℕ) (some : 0 < n) (f_some : 0 < f) (f_few : f ≤ 4) (start 
   pub sample_near : (k : ℕ) → k < n → k / f < div_ceil n f
   sample_near k h = div_below k f (div_ceil n f) f_some (omega (arith, enough))
 
-  pub inside : (w a m : ℕ) → x + n ≤ w → 0 < a → 0 < m → m ≡ a * f → x / f + div_ceil n f ≤ div_ceil (w * a) m
-  inside w a m across p r whole =
-      let q = twelve x f f_some f_few start in
+  pub inside : (a m : ℕ) → 0 < a → 0 < m → m ≡ a * f → div_ceil n f ≤ div_ceil (n * a) m
+  inside a m p r whole =
       let t = div_ceil_times n f f_some in
-      let first : x / f ≡ q.0 = ap (λ k. k / f) (q.1 ∙ zeroed (f * q.0)) ∙ add-mul-div_left 0 q.0 f_some ∙ nothing f q.0 f_some in
       let count = div_ceil n f in
       let one : 0 < count = some_count n count f some t.0 in
-      let z = q.0 + (count - 1) in
-      let near : z * f < w = omega (arith, t.1, q.1, one, distributed q.0 count f one) in
-      let scaled_up : (z * f + 1) * a ≤ w * a = mul-le-mul_right a (omega (arith, near)) in
+      let z = count - 1 in
+      let last : z + 1 ≡ count = omega (arith, one) in
+      let near : z * f < n = omega (arith, t.1, added z f, ap (λ k. k * f) last) in
+      let scaled_up : (z * f + 1) * a ≤ n * a = mul-le-mul_right a (omega (arith, near)) in
       let turned : z * m ≡ z * f * a = ap (λ k. z * k) whole ∙ grind arith in
-      let less : z < div_ceil (w * a) m = in_div_ceil z (w * a) m r (omega (arith, scaled_up, turned, p, added (z * f) a)) in
-      omega (arith, less, first, one)
+      let less : z < div_ceil (n * a) m = in_div_ceil z (n * a) m r (omega (arith, scaled_up, turned, p, added (z * f) a)) in
+      omega (arith, less, one)
+
+-- the samples that a line takes of component c, of which each stands for f pixels, are there
+pub stretched_inside : (h : HeadValue) (c f : ℕ) → IsLawful h → c < components_of h → 0 < f → horizontal_max h ≡ horizontal_of h c * f → div_ceil h.width f ≤ samples_across h c
+stretched_inside h c f l p q whole =
+    inside h.width f (omega (arith, l.wide, l.narrow)) q (horizontal_of h c) (horizontal_max h) (sampled_at h c l p).across l.components.across whole

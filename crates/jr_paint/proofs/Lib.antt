@@ -5,5 +5,6 @@ pub mod Raised
 pub mod Passed
 pub mod Places
 pub mod Factors
+pub mod Held
 pub mod PixelLaws
 pub mod Blocks

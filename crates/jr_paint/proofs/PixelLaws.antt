@@ -8,9 +8,9 @@ use Rattle.jr_head.specs.declared.kind.Kind.{Kind}
 use Rattle.jr_head.specs.declared.kind.Kind.TheVariants.{Grey, Rgb, Ycc}
 use Rattle.jr_paint.specs.Colours.{colour_of}
 use Rattle.jr_paint.specs.Shades.{IsShared}
-use Rattle.std.specs.Prelude.{slice_index}
 use Rattle.jr_head.specs.HeadValue.{HeadValue}
 use Rattle.jr_head.specs.Geometry.{component_count}
+use Rattle.jr_paint.specs.Lines.{IsStretched, line_of, next_lines_of}
 use Rattle.jr_paint.specs.Text.{header_of, value_at, bytes_of, pixel_of, pixels_of, lines_of, text_of}
 
 -- the numbers from a on, and then those from a + m on
@@ -59,100 +59,57 @@ grey_bytes f x (b ∷ bs) h =
     let others = grey_bytes f (x + 1) bs (λ k p. let e : x + 1 + k ≡ x + suc k = omega arith in rw e (h (suc k) (omega arith))) in
     ap₂ (λ y ys. y ∷ ys) first others
 
+pub rgb_is : (kind : Kind) → component_count kind ≡ 3 → (kind ≡ Ycc → ⊥) → Rgb ≡ kind
+rgb_is Grey e not = absurd (omega (arith, e))
+rgb_is Rgb e not = refl
+rgb_is Ycc e not = absurd (not refl)
+
 coloured : (kind : Kind) → component_count kind ≡ 3 → (v : ℕ → ℕ) → colour_of kind (v 0) (v 1) (v 2) ≡ bytes_of kind v
 coloured Grey e v = absurd (omega arith)
 coloured Rgb e v = refl
 coloured Ycc e v = refl
 
-regroup : (p a b r : List ℕ) → p ++ ((a ++ b) ++ r) ≡ ((p ++ a) ++ b) ++ r
-regroup p a b r = simp append_assoc
-
-regroup_two : (p a b c r : List ℕ) → (p ++ (a ++ b)) ++ c ++ r ≡ (p ++ a) ++ (b ++ c) ++ r
-regroup_two p a b c r = simp append_assoc
-
 module _ (h : HeadValue) (f : ℕ → ℕ → ℕ → ℕ) (y : ℕ) where
-  pub pixels_none : (x : ℕ) → pixels_of h f y x 0 ≡ []
-  unfolding pixels_of
-  pixels_none x = refl
-
-  pub pixels-append : (m n : ℕ) → pixels_of h f y 0 (m + n) ≡ pixels_of h f y 0 m ++ pixels_of h f y m n
-  unfolding pixels_of
-  pixels-append m n = let e : 0 + m ≡ m = omega arith in let both = flat_map-range-append (pixel_of h f y) 0 m n in rw e at both
-
-  -- a part of a line stands between what is before it and what is after
-  pub pixels_around : (x n w : ℕ) → x + n ≤ w → pixels_of h f y 0 w ≡ pixels_of h f y 0 x ++ pixels_of h f y x n ++ pixels_of h f y (x + n) (w - (x + n))
-  pixels_around x n w p =
-      let e : w ≡ (x + n) + (w - (x + n)) = omega arith in
-      let whole : pixels_of h f y 0 w ≡ pixels_of h f y 0 ((x + n) + (w - (x + n))) = ap (pixels_of h f y 0) e in
-      whole ∙ pixels-append (x + n) (w - (x + n)) ∙ ap (λ z. z ++ pixels_of h f y (x + n) (w - (x + n))) (pixels-append x n)
-
-  pub pixels_grey : (x n : ℕ) (out : List ℕ) → h.kind ≡ Grey → length out ≡ n → ((k : ℕ) → k < length out → slice_index out k ≡ value_at h f 0 (x + k) y) → out ≡ pixels_of h f y x n
+  pub line_grey : (out : List ℕ) → h.kind ≡ Grey → length out ≡ h.width → IsStretched h f 0 y out → out ≡ line_of h f y
   unfolding pixels_of pixel_of
-  pixels_grey x n out grey long g =
+  line_grey out grey long g =
       let v = λ (k : ℕ). value_at h f 0 k y in
-      let bytes = grey_bytes v x out g in
-      let same = flat_map-moved (λ k. v k ∷ []) (pixel_of h f y) x x (length out) (λ k p. rw grey refl) in
-      let whole : out ≡ pixels_of h f y x (length out) = bytes ∙ same in
-      whole ∙ ap (pixels_of h f y x) long
+      let at : (k : ℕ) → k < length out → get_or out k 0 ≡ v (0 + k) = λ k p. let e : 0 + k ≡ k = omega arith in rw e (g k (omega (arith, p, long))) in
+      let one : (k : ℕ) → k < length out → v (0 + k) ∷ [] ≡ pixel_of h f y (0 + k) = λ k p. rw grey refl in
+      let same = flat_map-moved (λ k. v k ∷ []) (pixel_of h f y) 0 0 (length out) one in
+      grey_bytes v 0 out at ∙ same ∙ ap (pixels_of h f y 0) long
 
-  pub pixels_colours : (x n : ℕ) (a b c : ℕ → ℕ) → component_count h.kind ≡ 3 → ((k : ℕ) → k < n → a k ≡ value_at h f 0 (x + k) y) → ((k : ℕ) → k < n → b k ≡ value_at h f 1 (x + k) y) → ((k : ℕ) → k < n → c k ≡ value_at h f 2 (x + k) y) → flat_map (λ k. colour_of h.kind (a k) (b k) (c k)) (range_with_len 0 n) ≡ pixels_of h f y x n
+  pub line_coloured : (kind : Kind) (n : ℕ) (a b c : ℕ → ℕ) → kind ≡ h.kind → component_count kind ≡ 3 → n ≡ h.width → ((k : ℕ) → k < h.width → a k ≡ value_at h f 0 k y) → ((k : ℕ) → k < h.width → b k ≡ value_at h f 1 k y) → ((k : ℕ) → k < h.width → c k ≡ value_at h f 2 k y) → flat_map (λ k. colour_of kind (a k) (b k) (c k)) (range_with_len 0 n) ≡ line_of h f y
   unfolding pixels_of pixel_of
-  pixels_colours x n a b c three p q r =
-      flat_map-moved (λ k. colour_of h.kind (a k) (b k) (c k)) (pixel_of h f y) 0 x n
-      (λ k l. let e : 0 + k ≡ k = omega arith in rw (e, p k l, q k l, r k l) (coloured h.kind three (λ d. value_at h f d (x + k) y)))
-
--- lines of luminance and of both chrominances, pixel by pixel
-pub pixels_ycc : (h : HeadValue) (f : ℕ → ℕ → ℕ → ℕ) (y n : ℕ) (a b c : ℕ → ℕ) → h.kind ≡ Ycc → ((k : ℕ) → k < n → a k ≡ value_at h f 0 (0 + k) y) → ((k : ℕ) → k < n → b k ≡ value_at h f 1 k y) → ((k : ℕ) → k < n → c k ≡ value_at h f 2 k y) → flat_map (λ k. colour_of Ycc (a k) (b k) (c k)) (range_with_len 0 n) ≡ pixels_of h f y 0 n
-pixels_ycc h f y n a b c kind p q r =
-    let three : component_count h.kind ≡ 3 = rw kind refl in
-    let at : (k : ℕ) → 0 + k ≡ k = λ k. omega arith in
-    ap (λ t. flat_map (λ k. colour_of t (a k) (b k) (c k)) (range_with_len 0 n)) (sym kind)
-    ∙ pixels_colours h f y 0 n a b c three p (λ k l. rw (at k) (q k l)) (λ k l. rw (at k) (r k l))
+  line_coloured kind n a b c is three long p q r =
+      let same : (k : ℕ) → k < n → colour_of kind (a (0 + k)) (b (0 + k)) (c (0 + k)) ≡ pixel_of h f y (0 + k) =
+      λ k l. let e : 0 + k ≡ k = omega arith in let m : k < h.width = omega (arith, l, long) in rw (e, p k m, q k m, r k m, is) (coloured h.kind (rw is at three) (λ d. value_at h f d k y)) in
+      flat_map-moved (λ k. colour_of kind (a k) (b k) (c k)) (pixel_of h f y) 0 0 n same ∙ ap (pixels_of h f y 0) long
 
 -- a sample that the next line takes too
 pub shared_value : (h : HeadValue) (f : ℕ → ℕ → ℕ → ℕ) (c y k : ℕ) → IsShared h c y → value_at h f c k y ≡ value_at h f c k (y + 1)
 shared_value h f c y k e = rw e refl
 
 module _ (h : HeadValue) (f : ℕ → ℕ → ℕ → ℕ) where
-  pub lines_none : lines_of h f 0 ≡ []
+  pub text_none : header_of h ++ lines_of h f 0 ≡ header_of h
   unfolding lines_of
-  lines_none = refl
+  text_none = append-nil (header_of h)
 
-  pub lines_more : (n : ℕ) → lines_of h f (n + 1) ≡ lines_of h f n ++ pixels_of h f n 0 h.width
+  lines_append : (n m : ℕ) → lines_of h f (n + m) ≡ lines_of h f n ++ next_lines_of h f n m
   unfolding lines_of
-  lines_more n = sym (flat_map-range_more (λ y. pixels_of h f y 0 h.width) n)
+  lines_append n m = let e : 0 + n ≡ n = omega arith in let both = flat_map-range-append (line_of h f) 0 n m in rw e at both
 
-  lines-append : (m n : ℕ) → (rest : List ℕ) × (lines_of h f (m + n) ≡ lines_of h f m ++ rest)
-  unfolding lines_of
-  lines-append m n = (flat_map (λ y. pixels_of h f y 0 h.width) (range_with_len (0 + m) n), flat_map-range-append (λ y. pixels_of h f y 0 h.width) 0 m n)
+  -- m lines more
+  pub text_more : (n m : ℕ) → header_of h ++ lines_of h f (n + m) ≡ (header_of h ++ lines_of h f n) ++ next_lines_of h f n m
+  text_more n m = ap (λ z. header_of h ++ z) (lines_append n m) ∙ sym (append_assoc (header_of h) (lines_of h f n) (next_lines_of h f n m))
 
-  -- a line stands after the header and the lines before it
-  pub line_around : (y : ℕ) → y < h.height → (rest : List ℕ) × (text_of h f ≡ (header_of h ++ lines_of h f y) ++ pixels_of h f y 0 h.width ++ rest)
+  -- the header and the first lines are a beginning of the text
+  pub text_begins : (n : ℕ) → n ≤ h.height → (rest : List ℕ) × (text_of h f ≡ (header_of h ++ lines_of h f n) ++ rest)
   unfolding text_of
-  line_around y p =
-      let n = h.height - (y + 1) in
-      let e : h.height ≡ (y + 1) + n = omega arith in
-      let whole = lines-append (y + 1) n in
-      let all : lines_of h f h.height ≡ lines_of h f y ++ pixels_of h f y 0 h.width ++ whole.0 = ap (lines_of h f) e ∙ whole.1 ∙ ap (λ z. z ++ whole.0) (lines_more y) in
-      (whole.0, ap (λ z. header_of h ++ z) all ∙ regroup (header_of h) (lines_of h f y) (pixels_of h f y 0 h.width) whole.0)
+  text_begins n p =
+      let e : h.height ≡ n + (h.height - n) = omega arith in
+      (next_lines_of h f n (h.height - n), ap (λ m. header_of h ++ lines_of h f m) e ∙ text_more n (h.height - n))
 
   pub text_is : text_of h f ≡ header_of h ++ lines_of h f h.height
   unfolding text_of
   text_is = refl
-
-  -- two lines more
-  pub two_lines_more : (n : ℕ) → lines_of h f (2 * (n + 1)) ≡ lines_of h f (2 * n) ++ (pixels_of h f (2 * n) 0 h.width ++ pixels_of h f (2 * n + 1) 0 h.width)
-  two_lines_more n =
-      let e : 2 * (n + 1) ≡ (2 * n + 1) + 1 = omega arith in
-      ap (lines_of h f) e ∙ lines_more (2 * n + 1) ∙ ap (λ z. z ++ pixels_of h f (2 * n + 1) 0 h.width) (lines_more (2 * n))
-      ∙ append_assoc (lines_of h f (2 * n)) (pixels_of h f (2 * n) 0 h.width) (pixels_of h f (2 * n + 1) 0 h.width)
-
-  -- two lines stand after the header and the lines before them
-  pub two_lines_around : (y : ℕ) → y + 1 < h.height → (rest : List ℕ) × (text_of h f ≡ (header_of h ++ lines_of h f y) ++ (pixels_of h f y 0 h.width ++ pixels_of h f (y + 1) 0 h.width) ++ rest)
-  two_lines_around y p =
-      let around = line_around (y + 1) p in
-      let two : lines_of h f (y + 1) ≡ lines_of h f y ++ pixels_of h f y 0 h.width = lines_more y in (
-        around.0,
-        around.1 ∙ ap (λ z. (header_of h ++ z) ++ pixels_of h f (y + 1) 0 h.width ++ around.0) two
-            ∙ regroup_two (header_of h) (lines_of h f y) (pixels_of h f y 0 h.width) (pixels_of h f (y + 1) 0 h.width) around.0,
-      )

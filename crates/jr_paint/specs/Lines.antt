@@ -1,12 +1,12 @@
 -- Lines of samples put together to pixels of three bytes.
-use Rattle.std.specs.Prelude.{ℕ, ◌+◌, ◌/◌, List, [], ◌∷◌, ◌++◌, slice_index}
+use Rattle.std.specs.Prelude.{◌≡◌, ℕ, ◌+◌, ◌*◌, ◌/◌, ◌<◌, List, [], ◌∷◌, ◌++◌, slice_index}
 use Rattle.std.specs.List.{flat_map, range_with_len}
 use Rattle.jr_head.specs.HeadValue.{HeadValue}
 use Rattle.jr_head.specs.declared.kind.Kind.{Kind}
 use Rattle.jr_head.specs.declared.kind.Kind.TheVariants.{Ycc}
 use Rattle.jr_paint.specs.Colours.{colour_of}
 use Rattle.jr_paint.specs.Shades.{lowered}
-use Rattle.jr_paint.specs.Text.{pixels_of}
+use Rattle.jr_paint.specs.Text.{value_at, pixel_size, pixels_of}
 
 -- n pixels from number i on, a sample of each of three lines for each
 abbrev pub colours_of : Kind → List ℕ → List ℕ → List ℕ → ℕ → ℕ → List ℕ
@@ -37,9 +37,13 @@ abbrev pub halved_colours_over : List ℕ → List ℕ → List ℕ → List ℕ
 halved_colours_over luma red green blue i n =
     flat_map (λ k. colour_over (slice_index luma (i + k)) (slice_index red (k / 2)) (slice_index green (k / 2)) (slice_index blue (k / 2))) (range_with_len 0 n)
 
--- the first n pixels of line y and of the next
-abbrev pub pixels_of_two : HeadValue → (ℕ → ℕ → ℕ → ℕ) → ℕ → ℕ → List ℕ
-pixels_of_two h f y n = pixels_of h f y 0 n ++ pixels_of h f (y + 1) 0 n
+-- entry k is the sample of component c that pixel k of line y takes
+abbrev pub IsStretched : HeadValue → (ℕ → ℕ → ℕ → ℕ) → ℕ → ℕ → List ℕ → Type 0
+IsStretched h f c y entries = (k : ℕ) → k < h.width → slice_index entries k ≡ value_at h f c k y
+
+-- the same, of an entry for two pixels
+abbrev pub IsHalfStretched : HeadValue → (ℕ → ℕ → ℕ → ℕ) → ℕ → ℕ → List ℕ → Type 0
+IsHalfStretched h f c y entries = (k : ℕ) → k < h.width → slice_index entries (k / 2) ≡ value_at h f c k y
 
 -- line y
 abbrev pub line_of : HeadValue → (ℕ → ℕ → ℕ → ℕ) → ℕ → List ℕ
@@ -47,4 +51,12 @@ line_of h f y = pixels_of h f y 0 h.width
 
 -- line y and the next
 abbrev pub two_lines_of : HeadValue → (ℕ → ℕ → ℕ → ℕ) → ℕ → List ℕ
-two_lines_of h f y = pixels_of_two h f y h.width
+two_lines_of h f y = line_of h f y ++ line_of h f (y + 1)
+
+-- n lines from line y on
+abbrev pub next_lines_of : HeadValue → (ℕ → ℕ → ℕ → ℕ) → ℕ → ℕ → List ℕ
+next_lines_of h f y n = flat_map (line_of h f) (range_with_len y n)
+
+-- how many bytes a line has
+abbrev pub line_size : HeadValue → ℕ
+line_size h = pixel_size h.kind * h.width

@@ -1,17 +1,18 @@
 //! The Netpbm header: the magic number, width, height and the greatest value.
 
-ghost use Rattle.std.specs.Prelude.{◌≡◌, ◌++◌, is_err, false, decimal, OnOk, OnErr};
-ghost use Rattle.std.specs.Io.KnownBytes.{Appends};
-ghost use Rattle.jr_base.specs.Tally.{AppendsBeginning, has_failed, known_in};
+ghost use Rattle.std.specs.Prelude.{◌≡◌, ◌+◌, ◌≤◌, ◌++◌, length, take, decimal};
+ghost use Rattle.jr_paint.specs.declared.header.TheConstants.{HEADER_ROOM};
 ghost use Rattle.jr_paint.specs.Text.{header_of, magic_of};
 
 use itoa::Buffer;
-use jr_base::{Tally, WriteFault, write_all};
 use jr_head::{Head, Kind};
-use std::io::Write;
+
+/// The longest header has fewer bytes.
+pub(crate) const HEADER_ROOM: usize = 32;
 
 fn magic(kind: Kind) -> &'static [u8]
-    ensures { result.now ≡ magic_of kind }
+    ensures value { result.now ≡ magic_of kind }
+    ensures short { length result.now ≡ 3 }
 {
     match kind {
         Kind::Grey => b"P5\n",
@@ -19,26 +20,36 @@ fn magic(kind: Kind) -> &'static [u8]
     }
 }
 
-/// Writes a number in decimal, and what ends it.
-fn write_number<W: Write>(number: u32, end: &[u8], out: &mut Tally<W>) -> Result<(), WriteFault>
-    requires { has_failed out.old ≡ false }
-    ensures ok { OnOk result (Appends (known_in W.contents out.old) (known_in W.contents out.new) (decimal number ++ end.now)) }
-    ensures err { OnErr result (AppendsBeginning (known_in W.contents out.old) (known_in W.contents out.new) (decimal number ++ end.now)) }
-    ensures failed { has_failed out.new ≡ is_err result }
+/// Puts `part` into `bytes` behind the first `at`: answers where it ends.
+fn put(part: &[u8], bytes: &mut [u8], at: usize) -> usize
+    requires { at + length part.now ≤ length bytes.old }
+    ensures end { result ≡ at + length part.now }
+    ensures front { take result bytes.new ≡ take at bytes.old ++ part.now }
 {
-    let mut digits = Buffer::new();
-    write_all(out, digits.format(number).as_bytes())?;
-    write_all(out, end)
+    let end = at + part.len();
+    bytes[at..end].copy_from_slice(part);
+    end
 }
 
-/// Writes what stands before the pixels.
-pub(crate) fn write_header<W: Write>(head: &Head, out: &mut Tally<W>) -> Result<(), WriteFault>
-    requires { has_failed out.old ≡ false }
-    ensures ok { OnOk result (Appends (known_in W.contents out.old) (known_in W.contents out.new) (header_of head.now)) }
-    ensures err { OnErr result (AppendsBeginning (known_in W.contents out.old) (known_in W.contents out.new) (header_of head.now)) }
-    ensures failed { has_failed out.new ≡ is_err result }
+/// Puts a number in decimal into `bytes` behind the first `at`: answers where it ends.
+fn put_number(number: u32, bytes: &mut [u8], at: usize) -> usize
+    requires { at + 10 ≤ length bytes.old }
+    ensures end { result ≤ at + 10 }
+    ensures front { take result bytes.new ≡ take at bytes.old ++ decimal number }
 {
-    write_all(out, magic(head.kind()))?;
-    write_number(head.width(), b" ", out)?;
-    write_number(head.height(), b"\n255\n", out)
+    let mut digits = Buffer::new();
+    put(digits.format(number).as_bytes(), bytes, at)
+}
+
+/// Puts what stands before the pixels to the front of `bytes`: answers how long it is.
+pub(crate) fn put_header(head: &Head, bytes: &mut [u8]) -> usize
+    requires { HEADER_ROOM ≤ length bytes.old }
+    ensures end { result ≤ HEADER_ROOM }
+    ensures front { take result bytes.new ≡ header_of head.now }
+{
+    let at = put(magic(head.kind()), bytes, 0);
+    let at = put_number(head.width(), bytes, at);
+    let at = put(b" ", bytes, at);
+    let at = put_number(head.height(), bytes, at);
+    put(b"\n255\n", bytes, at)
 }

@@ -6,11 +6,10 @@ mod geometry;
 mod halves;
 mod header;
 mod lanes;
+mod lines;
 mod netpbm;
-mod pairs;
 mod pixels;
 mod samples;
-mod strips;
 mod upsampling;
 
 pub use colours::colour;

@@ -1,81 +1,122 @@
 //! A picture's Netpbm text: PGM for grey pictures, PPM for the others.
 
-ghost use Rattle.std.specs.Prelude.{◌≡◌, ◌+◌, ◌<◌, ◌≤◌, ◌++◌, is_err, false, OnOk, OnErr};
+ghost use Rattle.std.specs.Prelude.{◌≡◌, ◌+◌, ◌*◌, ◌≤◌, ◌++◌, is_err, false, OnOk, OnErr, IfOk, length, take};
 ghost use Rattle.jr_base.specs.Tally.{Writes, WritesBeginning, has_failed};
-ghost use Rattle.jr_paint.specs.Lines.{line_of, two_lines_of};
-ghost use Rattle.jr_paint.specs.Text.{pixel_size, text_of};
+ghost use Rattle.jr_paint.specs.Lines.{line_size};
+ghost use Rattle.jr_paint.specs.Text.{header_of, text_of};
+ghost use Rattle.jr_paint.specs.Written.{WritesUpTo};
+ghost use Rattle.jr_paint.specs.declared.netpbm.TheConstants.{BATCH, TWO_WIDEST};
 
-use crate::header::write_header;
-use crate::pairs::fill_two;
+use crate::header::put_header;
+use crate::lines::{SampleLines, fill_lines, lines_at_once};
 use crate::samples::Samples;
-use crate::strips::fill;
-use crate::upsampling::{STRIP, shares_chroma};
 use jr_base::{Tally, WriteFault, write_all};
-use jr_head::Kind;
+use jr_head::{Head, Kind};
 use std::io::Write;
 
-/// How many bytes a pixel has.
-fn bytes_of_pixel(kind: Kind) -> usize
-    ensures value { result ≡ pixel_size kind }
-    ensures low { 0 < result }
-    ensures high { result ≤ 3 }
+/// The most pixels of a line of most pictures.
+const NARROW: usize = 4096;
+
+/// The most bytes of a write, where two lines have fewer: six lines of 4096 pixels. So a write has enough bytes that its
+/// own cost is small beside theirs, and few enough for a cache.
+const BATCH: usize = 73_728;
+
+/// The most pixels of a line.
+const WIDEST: usize = 65_535;
+
+/// The bytes of two lines of so many pixels.
+const TWO_WIDEST: usize = 393_210;
+
+/// How many bytes a line has.
+fn bytes_of_line(head: &Head) -> usize
+    ensures value { result ≡ line_size head.now }
+    ensures few { result ≤ 3 * head.now.width }
 {
-    match kind {
-        Kind::Grey => 1,
-        Kind::Rgb | Kind::Ycc => 3,
+    let width = head.width() as usize;
+    match head.kind() {
+        Kind::Grey => width,
+        Kind::Rgb | Kind::Ycc => 3 * width,
     }
 }
 
-/// Writes line y, in parts.
-fn write_line<S: Samples, W: Write>(
-    samples: &S,
-    y: u32,
-    room: &mut [u8; 5 * STRIP],
-    pixels: &mut [u8; 6 * STRIP],
+/// Writes what stands in `pixels` up to `filled`, where fewer than `more` bytes are left behind it: answers up to where
+/// bytes stand that are not written yet.
+fn make_room<W: Write>(
+    pixels: &[u8],
+    filled: usize,
+    more: usize,
     out: &mut Tally<W>,
-) -> Result<(), WriteFault>
+) -> Result<usize, WriteFault>
     requires unfailed { has_failed out.old ≡ false }
-    requires down { y < (S.head_of samples.now).height }
-    ensures ok { OnOk result (Writes W.contents out.old out.new (line_of (S.head_of samples.now) (S.shown samples.now) y)) }
-    ensures err { OnErr result (WritesBeginning W.contents out.old out.new (line_of (S.head_of samples.now) (S.shown samples.now) y)) }
+    requires filled { filled ≤ length pixels.now }
+    requires fits { more ≤ length pixels.now }
+    ensures ok { IfOk result (λ held. WritesUpTo W.contents out.old out.new (take filled pixels.now) (take held pixels.now)) }
+    ensures room { IfOk result (λ held. held + more ≤ length pixels.now) }
+    ensures err { OnErr result (WritesBeginning W.contents out.old out.new (take filled pixels.now)) }
     ensures failed { has_failed out.new ≡ is_err result }
 {
-    let width = samples.head().width();
-    let size = bytes_of_pixel(samples.head().kind());
-    let mut x = 0;
-    'strips: while x < width {
-        let n = (width - x).min(STRIP as u32);
-        let part = &mut pixels[..size * n as usize];
-        fill(samples, x, y, n as usize, room, part);
-        write_all(out, part)?;
-        x += n;
+    if pixels.len() - filled >= more {
+        return Ok(filled);
     }
-    Ok(())
+    write_all(out, &pixels[..filled])?;
+    Ok(0)
 }
 
-/// Writes line y and the next, both at once where they take the same samples of chrominance.
-fn write_two<S: Samples, W: Write>(
+/// Writes the picture's text, as much at once as `pixels` has room for, of which the header stands in it up to `filled`.
+fn write_lines<S: Samples, W: Write, const WIDTH: usize>(
     samples: &S,
-    y: u32,
-    room: &mut [u8; 5 * STRIP],
-    pixels: &mut [u8; 6 * STRIP],
+    lines: &mut SampleLines<WIDTH>,
+    pixels: &mut [u8],
+    filled: usize,
     out: &mut Tally<W>,
 ) -> Result<(), WriteFault>
     requires unfailed { has_failed out.old ≡ false }
-    requires down { y + 1 < (S.head_of samples.now).height }
-    ensures ok { OnOk result (Writes W.contents out.old out.new (two_lines_of (S.head_of samples.now) (S.shown samples.now) y)) }
-    ensures err { OnErr result (WritesBeginning W.contents out.old out.new (two_lines_of (S.head_of samples.now) (S.shown samples.now) y)) }
+    requires wide { (S.head_of samples.now).width ≤ WIDTH }
+    requires room { 2 * line_size (S.head_of samples.now) ≤ length pixels.old }
+    requires inside { filled ≤ length pixels.old }
+    requires header { take filled pixels.old ≡ header_of (S.head_of samples.now) }
+    ensures ok { OnOk result (Writes W.contents out.old out.new (text_of (S.head_of samples.now) (S.shown samples.now))) }
+    ensures err { OnErr result (WritesBeginning W.contents out.old out.new (text_of (S.head_of samples.now) (S.shown samples.now))) }
     ensures failed { has_failed out.new ≡ is_err result }
 {
-    samples.head().be_lawful();
-    let width = samples.head().width() as usize;
-    if width <= STRIP && shares_chroma(samples.head(), y) {
-        let both = &mut pixels[..6 * width];
-        fill_two(samples, y, width, room, both);
-        return write_all(out, both);
+    let line = bytes_of_line(samples.head());
+    let height = samples.head().height();
+    let mut filled = filled;
+    let mut y = 0;
+    'lines: while y < height {
+        let count = lines_at_once(samples.head(), y);
+        let size = count as usize * line;
+        filled = make_room(pixels, filled, size, out)?;
+        let end = filled + size;
+        fill_lines(samples, y, count, lines, &mut pixels[filled..end]);
+        filled = end;
+        y += count;
     }
-    write_line(samples, y, room, pixels, out)?;
-    write_line(samples, y + 1, room, pixels, out)
+    write_all(out, &pixels[..filled])
+}
+
+/// Writes the text of a picture of at most that width. A function of its own, so that only a wide picture's stack has
+/// room for two of its lines.
+#[inline(never)]
+fn write_text<S: Samples, W: Write, const WIDTH: usize, const ROOM: usize>(
+    samples: &S,
+    out: &mut Tally<W>,
+) -> Result<(), WriteFault>
+    requires unfailed { has_failed out.old ≡ false }
+    requires wide { (S.head_of samples.now).width ≤ WIDTH }
+    requires room { 6 * WIDTH ≤ ROOM }
+    requires batch { BATCH ≤ ROOM }
+    requires stack { ROOM ≤ TWO_WIDEST }
+    ensures ok { OnOk result (Writes W.contents out.old out.new (text_of (S.head_of samples.now) (S.shown samples.now))) }
+    ensures err { OnErr result (WritesBeginning W.contents out.old out.new (text_of (S.head_of samples.now) (S.shown samples.now))) }
+    ensures failed { has_failed out.new ≡ is_err result }
+{
+    let most = BATCH.max(2 * bytes_of_line(samples.head()));
+    let mut lines = SampleLines::<WIDTH>::new();
+    let mut room = [0; ROOM];
+    let pixels = &mut room[..most];
+    let filled = put_header(samples.head(), pixels);
+    write_lines(samples, &mut lines, pixels, filled, out)
 }
 
 /// Writes the picture's text: `Ok` where all of it was written, a fault where the writer failed behind a
@@ -86,15 +127,10 @@ pub fn write_netpbm<S: Samples, W: Write>(samples: &S, out: &mut Tally<W>) -> Re
     ensures err { OnErr result (WritesBeginning W.contents out.old out.new (text_of (S.head_of samples.now) (S.shown samples.now))) }
     ensures failed { has_failed out.new ≡ is_err result }
 {
-    write_header(samples.head(), out)?;
-    let height = samples.head().height();
-    let mut room = [0; 5 * STRIP];
-    let mut pixels = [0; 6 * STRIP];
-    for pair in 0..height / 2 {
-        write_two(samples, 2 * pair, &mut room, &mut pixels, out)?;
+    samples.head().be_lawful();
+    if samples.head().width() as usize <= NARROW {
+        write_text::<S, W, NARROW, BATCH>(samples, out)
+    } else {
+        write_text::<S, W, WIDEST, TWO_WIDEST>(samples, out)
     }
-    if height % 2 == 1 {
-        write_line(samples, height - 1, &mut room, &mut pixels, out)?;
-    }
-    Ok(())
 }

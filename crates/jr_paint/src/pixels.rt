@@ -99,9 +99,9 @@ pub(crate) fn mix(kind: Kind, first: &[u8], second: &[u8], third: &[u8], out: &m
     requires room { length out.old ≡ 3 * length first.now }
     ensures { out.new ≡ colours_of kind first.now second.now third.now 0 (length first.now) }
 {
-    match kind {
-        Kind::Grey => unreachable!(),
-        Kind::Rgb => interleave(first, second, third, out),
-        Kind::Ycc => convert(first, second, third, out),
+    if kind == Kind::Ycc {
+        convert(first, second, third, out);
+    } else {
+        interleave(first, second, third, out);
     }
 }

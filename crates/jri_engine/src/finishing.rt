@@ -8,30 +8,41 @@ ghost use Rattle.jri_engine.specs.Status.{fault_status, report_status};
 use crate::report::{Fault, Report};
 use jr_base::Tally;
 use jr_scan::ScanEnd;
-use std::io::{Result as IoResult, Write};
+use std::fmt::Display;
+use std::io::{Cursor, Result as IoResult, Write};
+
+/// More bytes than a line has: each is words of at most 60 letters and up to four numbers.
+const LINE_ROOM: usize = 128;
+
+/// Writes a line by one write, so that the lines of several programs on one terminal stay whole. It takes no memory, since
+/// it also says that there is none.
+fn write_line<E: Write, T: Display + Drop>(errors: &mut E, text: T) -> IoResult<()> {
+    let mut line = Cursor::new([0; LINE_ROOM]);
+    writeln!(line, "{text}")?;
+    let length = (line.position() as usize).min(LINE_ROOM);
+    errors.write_all(&line.get_ref()[..length])
+}
 
 fn write_end<E: Write>(errors: &mut E, ended: ScanEnd) -> IoResult<()> {
     match ended {
-        ScanEnd::EndOfImage => writeln!(errors, "scan ended at EOI"),
-        ScanEnd::OtherMarker(code, at) => writeln!(
+        ScanEnd::EndOfImage => write_line(errors, "scan ended at EOI"),
+        ScanEnd::OtherMarker(code, at) => write_line(
             errors,
-            "scan ended at marker {code:02X}, byte {at}"
+            format_args!("scan ended at marker {code:02X}, byte {at}"),
         ),
         ScanEnd::OutOfStep {
             found,
             expected,
             at,
-        } => writeln!(
+        } => write_line(
             errors,
-            "scan ended at RST{found} where RST{expected} was due, byte {at}"
+            format_args!("scan ended at RST{found} where RST{expected} was due, byte {at}"),
         ),
-        ScanEnd::ExtraRestart(at) => {
-            writeln!(
-                errors,
-                "scan ended at a restart marker past the last interval, byte {at}"
-            )
-        }
-        ScanEnd::EndOfFile => writeln!(errors, "scan ended at the end of the file"),
+        ScanEnd::ExtraRestart(at) => write_line(
+            errors,
+            format_args!("scan ended at a restart marker past the last interval, byte {at}"),
+        ),
+        ScanEnd::EndOfFile => write_line(errors, "scan ended at the end of the file"),
     }
 }
 
@@ -43,22 +54,22 @@ fn write_report<E: Write>(errors: &mut E, report: &Report) -> IoResult<()> {
         blank,
         ended,
     } = *report;
-    writeln!(
+    write_line(
         errors,
-        "intervals {intervals} sound {sound} damaged {damaged} blank {blank}"
+        format_args!("intervals {intervals} sound {sound} damaged {damaged} blank {blank}"),
     )?;
     write_end(errors, ended)
 }
 
 fn write_fault<E: Write>(errors: &mut E, fault: Fault) -> IoResult<()> {
     match fault {
-        Fault::NoFile => writeln!(errors, "cannot open the file"),
-        Fault::Read => writeln!(errors, "cannot read the input"),
-        Fault::Write => writeln!(errors, "cannot write the picture"),
-        Fault::Memory => writeln!(errors, "out of memory"),
+        Fault::NoFile => write_line(errors, "cannot open the file"),
+        Fault::Read => write_line(errors, "cannot read the input"),
+        Fault::Write => write_line(errors, "cannot write the picture"),
+        Fault::Memory => write_line(errors, "out of memory"),
         Fault::Refused(refusal) => {
             let number = refusal.number();
-            writeln!(errors, "refused {number}: {refusal}")
+            write_line(errors, format_args!("refused {number}: {refusal}"))
         }
     }
 }

@@ -2,7 +2,9 @@
 
 use crate::files::file;
 use crate::pictures::picture;
+use jr_head::Refusal;
 use jr_paint::Tally;
+use jr_scan::ScanEnd;
 use jr_wall::OpenGate;
 use jri_engine::{Fault, Report, finish, run};
 use std::alloc::Global;
@@ -123,5 +125,90 @@ fn tells_faults_that_no_file_has(rt: HostRuntime) -> Result<(), Fail> {
     let (lines, status) = lines_and_status(rt.alloc(), Err(Fault::Memory));
     assert!(rt; lines.as_slice() == b"out of memory\n".as_slice());
     assert_eq!(rt; status, 1);
+    Ok(())
+}
+
+/// Takes all of each call, and puts a bar behind it.
+#[derive(Drop)]
+struct Barred {
+    bytes: Vec<u8>,
+}
+
+impl Write for Barred {
+    fn write(&mut self, buf: &[u8]) -> IoResult<usize> {
+        self.bytes.extend_from_slice(buf)?;
+        self.bytes.push(b'|')?;
+        Ok(buf.len())
+    }
+
+    fn flush(&mut self) -> IoResult<()> {
+        Ok(())
+    }
+}
+
+/// Whether just these lines are written, each by one call.
+fn is_told(alloc: Global, outcome: Result<Report, Fault>, lines: &str) -> bool {
+    let mut out = Tally::of(Vec::new(alloc));
+    let mut errors = Barred {
+        bytes: Vec::new(alloc),
+    };
+    finish(outcome, &mut out, &mut errors);
+    errors.bytes.as_slice() == lines.as_bytes()
+}
+
+fn report(ended: ScanEnd) -> Report {
+    Report {
+        intervals: 4_294_967_295,
+        sound: 1_234_567_890,
+        damaged: 9,
+        blank: 0,
+        ended,
+    }
+}
+
+/// Each line by one call, the longest among them.
+#[test]
+fn tells_each_line_at_once(rt: HostRuntime) -> Result<(), Fail> {
+    let counts = "intervals 4294967295 sound 1234567890 damaged 9 blank 0\n|";
+    let ends = [
+        (ScanEnd::EndOfImage, "scan ended at EOI\n|"),
+        (ScanEnd::EndOfFile, "scan ended at the end of the file\n|"),
+        (
+            ScanEnd::OtherMarker(10, 7),
+            "scan ended at marker 0A, byte 7\n|",
+        ),
+        (
+            ScanEnd::OutOfStep {
+                found: 1,
+                expected: 2,
+                at: 18_446_744_073_709_551_615,
+            },
+            "scan ended at RST1 where RST2 was due, byte 18446744073709551615\n|",
+        ),
+        (
+            ScanEnd::ExtraRestart(18_446_744_073_709_551_615),
+            "scan ended at a restart marker past the last interval, byte 18446744073709551615\n|",
+        ),
+    ];
+    for (ended, line) in ends {
+        let lines = format!(in rt.alloc(); "{counts}{line}")?;
+        assert!(rt;
+            is_told(rt.alloc(), Ok(report(ended)), lines.as_str()),
+            "{line}"
+        );
+    }
+    let faults = [
+        (Fault::Memory, "out of memory\n|"),
+        (Fault::NoFile, "cannot open the file\n|"),
+        (Fault::Read, "cannot read the input\n|"),
+        (Fault::Write, "cannot write the picture\n|"),
+        (
+            Fault::Refused(Refusal::ExpectedMarker(18_446_744_073_709_551_615)),
+            "refused 3: expected a marker at byte 18446744073709551615\n|",
+        ),
+    ];
+    for (fault, line) in faults {
+        assert!(rt; is_told(rt.alloc(), Err(fault), line), "{line}");
+    }
     Ok(())
 }

@@ -37,6 +37,8 @@ mod limits;
 #[cfg(test)]
 mod long_intervals;
 #[cfg(test)]
+mod long_views;
+#[cfg(test)]
 mod one_byte;
 #[cfg(test)]
 mod paint;

@@ -15,10 +15,11 @@ use std::test::Fail;
 use std::thread::Threads;
 
 /// One interval of 1056 MCUs: twelve, each 8 lighter than the one before, then twelve, each 8 darker, and so on.
-const ONE: &str = "S Q F:0108:0100 D A C 44*618618618618618618596596596596596596 E";
+pub(crate) const ONE: &str = "S Q F:0108:0100 D A C 44*618618618618618618596596596596596596 E";
 
 /// Two such intervals.
-const TWO: &str = "S Q F:0210:0100 D A FF DD 00 04 04 20 C 44*618618618618618618596596596596596596 \
+pub(crate) const TWO: &str =
+    "S Q F:0210:0100 D A FF DD 00 04 04 20 C 44*618618618618618618596596596596596596 \
     FF D0 44*618618618618618618596596596596596596 E";
 
 /// One such interval, and one of 32 MCUs, which is short.
@@ -26,7 +27,7 @@ const LONG_AND_SHORT: &str = "S Q F:0110:0100 D A FF DD 00 04 04 20 \
     C 44*618618618618618618596596596596596596 FF D0 4*618618596596 E";
 
 /// Three components, 1080 MCUs of six data units.
-const COLOURED: &str = "S Q F3:01E0:0240:22 D:00:03:06 A \
+pub(crate) const COLOURED: &str = "S Q F3:01E0:0240:22 D:00:03:06 A \
     C3 108*6000C06000C06000C06000C06000C05800B05800B05800B05800B05800B0 E";
 
 /// How often a gate is passed, and how many MCUs the pieces have that it is shown.

@@ -35,21 +35,18 @@ fn interval_of(alloc: Global, scan: &Scan, number: u32) -> Result<Arc<Interval>,
     Ok(Arc::new(alloc, scan.interval(number)?)?)
 }
 
-/// The three strips of two MCUs or one of the second interval of `TWO`.
-fn strips(alloc: Global) -> Result<[Arc<Strip>; 3], Fail> {
+/// The strip of this place of the second interval of `TWO`, cut into strips of two MCUs.
+fn strip(alloc: Global, place: u32) -> Result<Arc<Strip>, Fail> {
     let scan = scan(alloc, TWO)?;
     let mut reader = StripReader::over(interval_of(alloc, &scan, 1)?);
-    let first = reader.next(alloc, 2)?.ok_or("MCUs 0 and 1")?;
-    let second = reader.next(alloc, 2)?.ok_or("MCUs 2 and 3")?;
-    let third = reader.next(alloc, 2)?.ok_or("MCU 4")?;
-    Ok([
-        Arc::new(alloc, first.decode(alloc)?)?,
-        Arc::new(alloc, second.decode(alloc)?)?,
-        Arc::new(alloc, third.decode(alloc)?)?,
-    ])
+    for _ in 0..place {
+        reader.next(alloc, 2)?.ok_or("a strip before")?;
+    }
+    let coded = reader.next(alloc, 2)?.ok_or("a strip")?;
+    Ok(Arc::new(alloc, coded.decode(alloc)?)?)
 }
 
-/// The cells for them.
+/// The cells for such strips.
 fn cells(alloc: Global) -> Result<StripCells, Fail> {
     let scan = scan(alloc, TWO)?;
     let interval = interval_of(alloc, &scan, 1)?;
@@ -88,16 +85,15 @@ fn look(cells: &StripCells, place: u32, sight: &mut StripSight) -> Option<(u32, 
 fn every_sight_finds_what_is_hung(rt: HostRuntime) -> Result<(), Fail> {
     let cells = cells(rt.alloc())?;
     assert_eq!(rt; (cells.number(), cells.each(), cells.count()), (1, 2, 3));
-    let [first, second, third] = strips(rt.alloc())?;
     let mut one = cells.sight()?;
     let mut two = cells.sight()?;
     assert!(rt; look(&cells, 1, &mut two).is_none());
-    assert!(rt; hang(&cells, second, &mut one).is_ok());
+    assert!(rt; hang(&cells, strip(rt.alloc(), 1)?, &mut one).is_ok());
     assert!(rt; look(&cells, 1, &mut one) == Some((2, 2, 152)));
     assert!(rt; look(&cells, 1, &mut two) == Some((2, 2, 152)));
     assert!(rt; look(&cells, 0, &mut two).is_none());
-    assert!(rt; hang(&cells, third, &mut two).is_ok());
-    assert!(rt; hang(&cells, first, &mut two).is_ok());
+    assert!(rt; hang(&cells, strip(rt.alloc(), 2)?, &mut two).is_ok());
+    assert!(rt; hang(&cells, strip(rt.alloc(), 0)?, &mut two).is_ok());
     assert!(rt; look(&cells, 0, &mut one) == Some((0, 2, 136)));
     assert!(rt; look(&cells, 2, &mut one) == Some((4, 1, 168)));
     cells.agree(&mut one, &mut two);
@@ -108,11 +104,10 @@ fn every_sight_finds_what_is_hung(rt: HostRuntime) -> Result<(), Fail> {
 fn a_full_cell_gives_the_second_strip_back(rt: HostRuntime) -> Result<(), Fail> {
     let cells = cells(rt.alloc())?;
     let mut sight = cells.sight()?;
-    let [_, one, _] = strips(rt.alloc())?;
-    let [_, two, _] = strips(rt.alloc())?;
-    let kept = Arc::try_clone(&two)?;
-    assert!(rt; hang(&cells, one, &mut sight).is_ok());
-    let back = hang(&cells, two, &mut sight).err();
+    let second = strip(rt.alloc(), 1)?;
+    let kept = Arc::try_clone(&second)?;
+    assert!(rt; hang(&cells, strip(rt.alloc(), 1)?, &mut sight).is_ok());
+    let back = hang(&cells, second, &mut sight).err();
     let back = back.ok_or("the cell is full")?;
     assert_eq!(rt; Arc::strong_count(&kept), 2);
     assert_eq!(rt; (back.first(), back.mcus()), (2, 2));

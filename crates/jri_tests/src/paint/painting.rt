@@ -127,8 +127,13 @@ fn samples_of(alloc: Global, shape: &Shape) -> Result<Ruled, Fail> {
     Ok(Ruled { head })
 }
 
-/// Whether the text of this picture is that of the slow painter, by a writer that takes so many bytes a call.
-fn is_painted(alloc: Global, shape: &Shape, most: usize) -> Result<bool, Fail> {
+/// How many calls of a writer that takes so many bytes a call write this picture; none where its text is another.
+fn calls_for(
+    alloc: Global,
+    shape: &Shape,
+    text: &[u8],
+    most: usize,
+) -> Result<Option<usize>, Fail> {
     let samples = samples_of(alloc, shape)?;
     let mut out = Tally::of(Slow {
         bytes: Vec::new(alloc),
@@ -137,7 +142,17 @@ fn is_painted(alloc: Global, shape: &Shape, most: usize) -> Result<bool, Fail> {
         takes_none: false,
     });
     let is_written = write_netpbm(&samples, &mut out) == Ok(()) && !out.failed();
-    Ok(is_written && out.into_inner().bytes.as_slice() == text_of(alloc, shape)?.as_slice())
+    let slow = out.into_inner();
+    if is_written && slow.bytes.as_slice() == text {
+        return Ok(usize::MAX.checked_sub(slow.left));
+    }
+    Ok(None)
+}
+
+/// Whether the text of this picture is that of the slow painter, by a writer that takes so many bytes a call.
+fn is_painted(alloc: Global, shape: &Shape, most: usize) -> Result<bool, Fail> {
+    let text = text_of(alloc, shape)?;
+    Ok(calls_for(alloc, shape, text.as_slice(), most)?.is_some())
 }
 
 /// The factors of the first component, where those of the others are 1: at most ten data units in an MCU.
@@ -217,20 +232,21 @@ fn paints_all_chrominance(rt: HostRuntime) -> Result<(), Fail> {
     Ok(())
 }
 
-/// Lines that are painted in several parts, and the other kinds; some by a writer of one byte a call.
+/// Widths about the greatest of which a picture is painted with little room, and the other kinds; some by a writer of one
+/// byte a call.
 #[test]
 fn paints_other_pictures(rt: HostRuntime) -> Result<(), Fail> {
     let cases = [
-        (Kind::Ycc, 4093, 2, (1, 1)),
-        (Kind::Ycc, 4091, 2, (2, 2)),
-        (Kind::Ycc, 4092, 3, (2, 2)),
-        (Kind::Ycc, 4093, 3, (2, 2)),
+        (Kind::Ycc, 4097, 2, (1, 1)),
+        (Kind::Ycc, 4095, 2, (2, 2)),
+        (Kind::Ycc, 4096, 3, (2, 2)),
+        (Kind::Ycc, 4097, 3, (2, 2)),
         (Kind::Ycc, 8185, 2, (3, 1)),
         (Kind::Ycc, 4095, 2, (4, 1)),
         (Kind::Rgb, 17, 9, (1, 1)),
-        (Kind::Rgb, 4094, 9, (2, 2)),
+        (Kind::Rgb, 4098, 9, (2, 2)),
         (Kind::Grey, 17, 9, (1, 1)),
-        (Kind::Grey, 4093, 2, (1, 1)),
+        (Kind::Grey, 4097, 2, (1, 1)),
         (Kind::Grey, 1, 1, (1, 1)),
     ];
     for (kind, width, height, (across, down)) in cases {
@@ -283,6 +299,76 @@ fn stops_where_the_writer_stops(rt: HostRuntime) -> Result<(), Fail> {
                 assert!(rt; whole.as_slice().starts_with(bytes.as_slice()), "{left}");
             }
         }
+    }
+    Ok(())
+}
+
+/// Narrow, wide and ordinary pictures in colours, whose text takes more than one write.
+const LARGE: [(Kind, u16, u16, (u32, u32)); 8] = [
+    (Kind::Ycc, 4, 30_001, (2, 2)),
+    (Kind::Ycc, 1, 30_000, (1, 1)),
+    (Kind::Ycc, 300, 301, (1, 2)),
+    (Kind::Ycc, 4096, 14, (2, 2)),
+    (Kind::Ycc, 10_923, 4, (1, 1)),
+    (Kind::Ycc, 22_001, 3, (2, 2)),
+    (Kind::Rgb, 22_001, 3, (1, 1)),
+    (Kind::Ycc, 65_535, 2, (2, 2)),
+];
+
+/// A write takes 48 KB on the average, beside the first and the last.
+#[test]
+fn writes_much_at_once(rt: HostRuntime) -> Result<(), Fail> {
+    for (kind, width, height, (across, down)) in LARGE {
+        let shape = Shape {
+            kind,
+            width,
+            height,
+            across,
+            down,
+        };
+        let text = text_of(rt.alloc(), &shape)?;
+        let calls = calls_for(rt.alloc(), &shape, text.as_slice(), usize::MAX)?;
+        let most = (text.len() / 49_152).saturating_add(2);
+        assert!(rt;
+            calls.is_some_and(|calls| calls > 1 && calls <= most),
+            "{width} {height}: {calls:?} of {most}"
+        );
+    }
+    Ok(())
+}
+
+/// A writer that takes all of a call, and stops at each call in turn.
+#[test]
+fn stops_between_large_writes(rt: HostRuntime) -> Result<(), Fail> {
+    let alloc = rt.alloc();
+    let shape = Shape {
+        kind: Kind::Ycc,
+        width: 300,
+        height: 301,
+        across: 2,
+        down: 2,
+    };
+    let samples = samples_of(alloc, &shape)?;
+    let whole = text_of(alloc, &shape)?;
+    let calls = calls_for(alloc, &shape, whole.as_slice(), usize::MAX)?.unwrap_or(0);
+    assert!(rt; calls > 3);
+    let mut before = 0;
+    for left in 0..calls {
+        let mut out = Tally::of(Slow {
+            bytes: Vec::new(alloc),
+            most: usize::MAX,
+            left,
+            takes_none: false,
+        });
+        assert!(rt;
+            write_netpbm(&samples, &mut out) == Err(WriteFault),
+            "{left}"
+        );
+        assert!(rt; out.failed(), "{left}");
+        let bytes = out.into_inner().bytes;
+        assert!(rt; bytes.len() > before || left == 0, "{left}");
+        assert!(rt; whole.as_slice().starts_with(bytes.as_slice()), "{left}");
+        before = bytes.len();
     }
     Ok(())
 }
