@@ -1,6 +1,6 @@
 -- The samples that a view shows.
 use Rattle.std.specs.Prelude.{ℕ, ◌+◌, ◌*◌, ◌/◌, ◌%◌, List, slice_index, slice_get, Option, Some, None}
-use Rattle.viewer.specs.declared.picture.Plane.{Plane}
+use Rattle.viewer.specs.declared.plane.Plane.{Plane}
 
 -- the data unit of a component that holds the sample in column x and line y, where there is one
 abbrev pub unit_of : Option Plane → ℕ → ℕ → Option (List ℕ)

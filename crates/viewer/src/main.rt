@@ -8,6 +8,7 @@
 mod counting;
 mod frames;
 mod picture;
+mod plane;
 mod watching;
 
 use crate::counting::tell;
@@ -42,6 +43,7 @@ fn main(rt: HostRuntime) -> ExitCode {
     let alloc: Global = rt.alloc();
     let (mut out, mut errors) = (Tally::of(rt.stdout()), rt.stderr());
     let Ok((has_frames, file)) = read(&rt) else {
+        let _ = writeln!(errors, "cannot read the file");
         return ExitCode::from(1);
     };
     let head = match read_head(alloc, file.as_slice()) {

@@ -1,9 +1,9 @@
 //! What can be seen of a picture so far.
 
-ghost use Rattle.std.specs.Prelude.{◌≡◌, ◌+◌, ◌*◌, ◌<◌};
 ghost use Rattle.std.specs.Arc.{arc_value};
 ghost use Rattle.viewer.specs.Views.{sample_of};
 
+use crate::plane::{Plane, columns};
 use jr_code::Memory;
 use jr_head::Head;
 use jr_paint::Samples;
@@ -11,34 +11,6 @@ use jr_scan::Scan;
 use jr_wall::{Piece, Strip};
 use std::alloc::Global;
 use std::sync::Arc;
-
-/// The data units of one component, in lines.
-#[derive(Drop)]
-struct Plane {
-    across: u32,
-    units: Vec<[u8; 64]>,
-}
-
-impl Plane {
-    fn of(alloc: Global, across: u32, down: u32) -> Result<Plane, Memory> {
-        let units = vec![in alloc; [128; 64]; across as usize * down as usize]?;
-        Ok(Plane { across, units })
-    }
-
-    /// The number of the data unit in this column and line.
-    fn number(&self, column: u32, line: u32) -> usize
-        ensures { result ≡ line * self.now.across + column }
-    {
-        line as usize * self.across as usize + column as usize
-    }
-
-    fn put(&mut self, column: u32, line: u32, samples: [u8; 64]) {
-        let number = self.number(column, line);
-        if let Some(unit) = self.units.get_mut(number) {
-            *unit = samples;
-        }
-    }
-}
 
 /// A picture's samples as they were seen; those that were not are mid-grey.
 #[derive(Drop)]
@@ -51,14 +23,6 @@ pub struct View {
     unseen: Vec<u32>,
     /// How many rows of MCUs were seen whole.
     rows: u32,
-}
-
-/// How many MCUs stand in a row.
-fn columns(head: &Head) -> u32
-    ensures some { 0 < result }
-    ensures few { result < 65536 }
-{
-    head.width().div_ceil(8 * head.horizontal_max())
 }
 
 impl View {
@@ -144,19 +108,11 @@ impl View {
         requires { F.IsAlwaysCallable block.now }
     {
         let head = self.scan.head();
-        let (column, row) = (mcu % columns(head), mcu / columns(head));
         for c in 0..head.components() {
-            let (across, down) = (head.horizontal(c), head.vertical(c));
-            for j in 0..across * down {
-                if let (Some(plane), Some(samples)) = (self.planes.get_mut(c as usize), block(k)) {
-                    plane.put(
-                        column * across + j % across,
-                        row.saturating_mul(down).saturating_add(j / across),
-                        samples,
-                    );
-                }
-                k = k.saturating_add(1);
+            if let Some(plane) = self.planes.get_mut(c as usize) {
+                plane.show(head, c, mcu, k, block);
             }
+            k = k.saturating_add(head.horizontal(c) * head.vertical(c));
         }
     }
 }
@@ -171,9 +127,8 @@ impl Samples for View {
     }
 
     fn sample(&self, c: u32, x: u32, y: u32) -> u8 {
-        let plane = self.planes.get(c as usize);
-        let unit = match plane {
-            Some(plane) => plane.units.get(plane.number(x / 8, y / 8)),
+        let unit = match self.planes.get(c as usize) {
+            Some(plane) => plane.unit(x / 8, y / 8),
             None => None,
         };
         match unit {
