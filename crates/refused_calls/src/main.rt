@@ -33,6 +33,9 @@ fn main(rt: HostRuntime) -> ExitCode {
         ("Cells::open", caller.open_cells()),
         ("Cells::sight", caller.open_sight()),
         ("Cells::hang", caller.hang()),
+        ("StripCells::open", caller.open_strip_cells()),
+        ("StripCells::sight", caller.open_strip_sight()),
+        ("StripCells::hang", caller.hang_strip()),
         ("Decoding::open", caller.open_decoding()),
         ("Decoding::finish", caller.finish_decoding()),
     ];
