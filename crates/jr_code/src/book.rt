@@ -208,7 +208,7 @@ impl CodeBook {
     }
 
     /// The word that is in front of the last `count` bits of `held` and its extra bits, long ones or ones near the end of
-    /// all bits.
+    /// all bits. By value, so that no address of a reader leaves its loop.
     #[cold]
     #[inline(never)]
     fn rare_pair(&self, held: u64, count: u32) -> Option<Extended>
@@ -244,8 +244,8 @@ impl CodeBook {
         self.entries[register.first_bits(8) as usize]
     }
 
-    /// The word that is in front of the last `count` bits of `held`, a long one or one near the end of all bits. By value,
-    /// so that no address of a reader leaves its loop.
+    /// The word that is in front of the last `count` bits of `held`, a long one or one near the end of all bits. In line
+    /// with what it calls, since the answers of calls go through memory.
     #[inline(always)]
     fn rare_word(&self, held: u64, count: u32) -> Option<(u8, u8)>
         requires { count < 64 }
