@@ -208,7 +208,7 @@ impl CodeBook {
     }
 
     /// The word that is in front of the last `count` bits of `held` and its extra bits, long ones or ones near the end of
-    /// all bits.
+    /// all bits. By value, so that no address of a reader leaves its loop.
     #[cold]
     #[inline(never)]
     fn rare_pair(&self, held: u64, count: u32) -> Option<Extended>
@@ -244,10 +244,9 @@ impl CodeBook {
         self.entries[register.first_bits(8) as usize]
     }
 
-    /// The word that is in front of the last `count` bits of `held`, a long one or one near the end of all bits. By value,
-    /// so that no address of a reader leaves its loop.
-    #[cold]
-    #[inline(never)]
+    /// The word that is in front of the last `count` bits of `held`, a long one or one near the end of all bits. In line
+    /// with what it calls, since the answers of calls go through memory.
+    #[inline(always)]
     fn rare_word(&self, held: u64, count: u32) -> Option<(u8, u8)>
         requires { count < 64 }
         ensures found { IfSome result (λ f. (f.1 ≤ count) × IsWord self.now (take f.1 (bits_of count held)) f.0) }
@@ -266,6 +265,7 @@ impl CodeBook {
     }
 
     /// The word that is in front of the bits where these are as many; where they are fewer there is none.
+    #[inline(always)]
     fn first_word(&self, register: Register) -> Option<(u8, u8)>
         requires { register.rest.now ≡ [] }
         ensures found { IfSome result (λ f. IsFirstWordWhereWhole self.now (bits_in register.entry) f.0 f.1) }

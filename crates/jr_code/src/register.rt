@@ -90,6 +90,7 @@ impl<'a> Register<'a> {
     }
 
     /// The number of the next n bits, where zeros stand for those that are missing.
+    #[inline(always)]
     pub(crate) fn window(self, n: u32) -> u64
         requires short { n ≤ 16 }
         requires all { self.rest.now ≡ [] }

@@ -126,7 +126,7 @@ impl Words {
     }
 
     /// The word of nine bits or more that is in front of sixteen bits.
-    #[inline(never)]
+    #[inline(always)]
     pub(crate) fn long_word(&self, long: &[(u32, u32); 8], window: u16) -> Option<(u8, u8)>
         requires { AreLong self.now long.now }
         ensures found { IfSome result (λ f. (f.1 ≤ 16) × IsWord self.now (take f.1 (bits_of 16 window)) f.0) }

@@ -146,6 +146,56 @@ fn reads_as_the_plain_reader_up_to_each_end(rt: HostRuntime) -> Result<(), Fail>
     Ok(())
 }
 
+/// The symbols 0 to 15 from the one given on, so that each word has another number of extra bits.
+fn symbols_from(first: u8) -> [u8; 16] {
+    let mut symbols = [0; 16];
+    for i in 0..16usize {
+        symbols[i] = first.wrapping_add(i as u8) % 16;
+    }
+    symbols
+}
+
+/// The book with one word of each length reads the word in front and its extra bits as the plain reader does, wherever
+/// the bytes end.
+fn check_up_to_each_end(
+    rt: &impl Abort,
+    book: &CodeBook,
+    symbols: &[u8; 16],
+    bytes: [u8; 8],
+) -> Result<(), Fail> {
+    for end in 0..=8usize {
+        let bytes = &bytes[..end];
+        let plain = extended_word(&EACH_LENGTH, symbols, bytes, 0);
+        let mut bits = bits_of(bytes)?;
+        let all = bits.left();
+        assert_eq!(rt;
+            book.read_extended(&mut bits),
+            plain.map(|(symbol, value, _)| (symbol, value))
+        );
+        let taken = plain.map_or(0, |(_, _, long)| long);
+        assert_eq!(rt; bits.left(), all.saturating_sub(taken as u64));
+    }
+    Ok(())
+}
+
+/// Words of one to sixteen bits, which are ones and then a zero, each with 0 to 15 extra bits of both halves, far from
+/// the end of the bits and near it.
+#[test]
+fn reads_each_length_with_each_number_of_extra_bits(rt: HostRuntime) -> Result<(), Fail> {
+    for first in 0..16u8 {
+        let symbols = symbols_from(first);
+        let book = CodeBook::new(rt.alloc(), &EACH_LENGTH, &symbols)?;
+        for ones in 0..16u32 {
+            let word = !(u32::MAX >> ones);
+            for extra in [0x5A96_C3F1u32, 0xA569_3C0E] {
+                let [a, b, c, d] = (word | (extra >> (ones + 1))).to_be_bytes();
+                check_up_to_each_end(&rt, &book, &symbols, [a, b, c, d, 0x7E, 0x81, 0xFF, 0x00])?;
+            }
+        }
+    }
+    Ok(())
+}
+
 #[test]
 fn reads_extra_bits(rt: HostRuntime) {
     let rows: [(u32, [u8; 2], i32); 11] = [
