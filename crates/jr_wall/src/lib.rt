@@ -30,4 +30,5 @@ pub use jr_piece::{
 };
 pub use laws::one_picture;
 pub use mark::Mark;
+pub use painting::blank_sample;
 pub use workers::{decode_all, work};

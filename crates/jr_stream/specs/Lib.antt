@@ -1,0 +1,5 @@
+pub mod BandValue
+pub mod Bands
+pub mod RowsValue
+pub mod Rows
+pub mod Stream

@@ -1,0 +1,4 @@
+//! A scan's picture, decoded, painted and written in one pass.
+#![tactic(auto)]
+
+mod band;
