@@ -42,3 +42,7 @@ pub record IsOutcome (p : PieceValue) : Type 0 where
   pub sound : p.is_sound ≡ true → IsSound p.interval p.samples
   pub whole : p.is_sound ≡ true → p.front ≡ p.interval.mcus
   pub damaged : p.is_sound ≡ false → IsDamaged p.interval p.front p.samples
+
+-- there is a piece that tells what T.81 gives for the interval
+abbrev pub HasOutcome : IntervalValue → Type 0
+HasOutcome i = (p : PieceValue) × (p.interval ≡ i) × IsOutcome p

@@ -1,12 +1,24 @@
 //! What holds of every piece and of every strip.
 
 ghost use Rattle.std.specs.Prelude.{◌≡◌, Bool};
+ghost use Rattle.jr_scan.specs.IntervalValue.{IntervalValue};
 ghost use Rattle.jr_piece.specs.PieceValue.{PieceValue};
-ghost use Rattle.jr_piece.specs.Outcome.{IsOutcome};
+ghost use Rattle.jr_piece.specs.Outcome.{HasOutcome, IsOutcome};
 ghost use Rattle.jr_piece.specs.StripValue.{StripValue};
 ghost use Rattle.jr_piece.specs.Strips.{Follows, IsStrip, IsWhole, ShowsStrip, TellsSound, joined, piece_of};
 
-use jr_scan::{one_decoding, one_front, shorter_front};
+use jr_scan::{
+    each_interval_decodes_or_not, each_interval_has_a_longest_front, one_decoding, one_front,
+    shorter_front,
+};
+
+/// Each interval has an outcome: its one decoding, or none and a longest decodable front.
+pub fn each_interval_has_an_outcome()
+    ensures { (i : IntervalValue) → HasOutcome i }
+{
+    each_interval_has_a_longest_front();
+    each_interval_decodes_or_not();
+}
 
 /// T.81 gives one outcome for an interval: pieces of one interval are equal.
 pub fn one_outcome()

@@ -16,7 +16,10 @@ mod strip;
 mod strip_reader;
 
 pub use job::Job;
-pub use laws::{one_outcome, one_strip, strip_is_final, strips_meet, whole_strip_is_outcome};
+pub use laws::{
+    each_interval_has_an_outcome, one_outcome, one_strip, strip_is_final, strips_meet,
+    whole_strip_is_outcome,
+};
 pub use one_scan::OneScan;
 pub use piece::{NotInOrder, Piece};
 pub use reading::strip_mcus;

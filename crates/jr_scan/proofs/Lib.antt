@@ -17,3 +17,6 @@ pub mod Unstuffing
 pub mod Scans
 pub mod Runs
 pub mod CutLaw
+pub mod FirstWords
+pub mod FirstBlocks
+pub mod LongestFronts

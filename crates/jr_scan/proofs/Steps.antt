@@ -45,7 +45,7 @@ takes_coef ac symbol size v old mid new w byte is some small x =
     }
 
 pub no_step_at : (ac : Table) → IsPrefixFree ac → (symbol : ℕ) (old mid : List Bool) → TakesWord ac old mid symbol → (symbol ≡ 0 → ⊥) → (symbol ≡ 240 → ⊥)
-    → ((r s : ℕ) (extra rest : List Bool) → symbol ≡ 16 * r + s → 1 ≤ s → s ≤ 10 → length extra ≡ s → mid ≡ extra ++ rest → ⊥) → HasNoStep ac old
+    → ((r s : ℕ) → symbol ≡ 16 * r + s → r < 16 → 1 ≤ s → s ≤ 10 → ⊥) → HasNoStep ac old
 no_step_at ac free symbol old mid w not_0 not_240 none =
     let code : (i : AcCode) (rest : List Bool) → IsAcCode ac i → old ≡ code_bits i ++ rest → ⊥ = λ i rest. go i rest in
     record {
@@ -58,11 +58,15 @@ no_step_at ac free symbol old mid w not_0 not_240 none =
     go (RunAndSize r s u extra) rest h e =
         let whole : w.0 ++ mid ≡ u ++ (extra ++ rest) = sym w.2 ∙ e ∙ append_assoc u extra rest in
         let same = free w.0 u mid (extra ++ rest) symbol (16 * r + s) w.1 h.3 whole in
-        none r s extra rest same.1 h.1 h.2 h.4 (append_cancel_left u mid (extra ++ rest) (subst (λ (x : List Bool). x ++ mid ≡ u ++ (extra ++ rest)) same.0 whole))
+        none r s same.1 h.0 h.1 h.2
 
 pub no_step_size : (ac : Table) → IsPrefixFree ac → (symbol size : ℕ) (old mid : List Bool) → TakesWord ac old mid symbol → size ≡ symbol % 16 → (symbol ≡ 0 → ⊥) → (symbol ≡ 240 → ⊥) → (1 ≤ size → size ≤ 10 → ⊥) → HasNoStep ac old
 no_step_size ac free symbol size old mid w is not_0 not_240 bad =
-    no_step_at ac free symbol old mid w not_0 not_240 (λ r s extra rest e some small count left. let same : size ≡ s = omega (arith, e, small, is) in bad (omega (arith, same, some)) (omega (arith, same, small)))
+    no_step_at ac free symbol old mid w not_0 not_240 (λ r s e low some small. let same : size ≡ s = omega (arith, e, small, is) in bad (omega (arith, same, some)) (omega (arith, same, small)))
+
+-- a symbol of more than eight bits is that of no code
+pub no_step_past : (ac : Table) → IsPrefixFree ac → (symbol : ℕ) (old mid : List Bool) → TakesWord ac old mid symbol → 255 < symbol → HasNoStep ac old
+no_step_past ac free symbol old mid w past = no_step_at ac free symbol old mid w (λ e. omega (arith, e, past)) (λ e. omega (arith, e, past)) (λ r s e low some small. omega (arith, e, low, small, past))
 
 -- ---- a word and its extra bits, read together
 

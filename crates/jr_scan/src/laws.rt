@@ -1,6 +1,6 @@
 //! What holds of every scan and of every interval.
 
-ghost use Rattle.std.specs.Prelude.{◌≡◌, ◌+◌, ◌≤◌, ◌↔◌, ◌*◌, ◌++◌, ℕ, ℤ, List, [], take, length};
+ghost use Rattle.std.specs.Prelude.{◌≡◌, ◌+◌, ◌≤◌, ◌↔◌, ◌⊎◌, ◌*◌, ◌++◌, ℕ, ℤ, List, [], take, length};
 ghost use Rattle.jr_head.specs.Geometry.{IsLawful, order_of};
 ghost use Rattle.jr_scan.specs.declared.place.Place.{Place};
 ghost use Rattle.jr_scan.specs.declared.place.RunEnd.TheVariants.{AllRead};
@@ -8,7 +8,7 @@ ghost use Rattle.jr_scan.specs.Reader.{RunOf};
 ghost use Rattle.jr_scan.specs.Run.{IsRun, IsSoundRun, RunRead, run_from};
 ghost use Rattle.jr_scan.specs.Cut.{Cutting};
 ghost use Rattle.jr_scan.specs.IntervalValue.{IntervalValue};
-ghost use Rattle.jr_scan.specs.Mcus.{Decodes, Front};
+ghost use Rattle.jr_scan.specs.Mcus.{Decodes, HasNoDecoding, Front, LongestFront};
 
 use jr_code::one_word;
 
@@ -40,6 +40,20 @@ pub fn shorter_front()
 pub fn no_front()
     ensures { (i : IntervalValue) → Front i 0 [] }
 {}
+
+/// Each interval has a longest decodable front of whole MCUs.
+pub fn each_interval_has_a_longest_front()
+    ensures { (i : IntervalValue) → (k : ℕ) × (zs : List (List ℤ)) × LongestFront i k zs }
+{
+    one_word();
+}
+
+/// Each interval has a decoding, or has none.
+pub fn each_interval_decodes_or_not()
+    ensures { (i : IntervalValue) → ((zs : List (List ℤ)) × Decodes i zs) ⊎ HasNoDecoding i }
+{
+    one_word();
+}
 
 /// Each place of an interval starts one run of so many MCUs: its blocks, where it ends and why are settled.
 pub fn one_run()

@@ -17,8 +17,8 @@ pub use block::Block;
 pub use front::FrontBlocks;
 pub use interval::Interval;
 pub use laws::{
-    decoding_is_whole_run, no_front, one_cut, one_decoding, one_front, one_run, runs_meet,
-    shorter_front,
+    decoding_is_whole_run, each_interval_decodes_or_not, each_interval_has_a_longest_front,
+    no_front, one_cut, one_decoding, one_front, one_run, runs_meet, shorter_front,
 };
 pub use place::{Place, RunEnd};
 pub use reader::BlockReader;
