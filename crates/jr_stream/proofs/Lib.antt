@@ -1,1 +1,2 @@
 pub mod UnitRows
+pub mod IntervalPlaces
