@@ -1,6 +1,6 @@
 -- A row of MCUs has the lines of the picture.
-use Rattle.std.proofs.Common.{◌≡◌, ℕ, inl, inr, ◌+◌, ◌*◌, ◌/◌, ◌%◌, ◌<◌, ◌≤◌, List, [], length, get_or, Option, Some, None, refl, sym, ap, subst, ◌∙◌, arith}
-use Rattle.std.specs.Prelude.{slice_get, slice_index, slice_index_or}
+use Rattle.std.proofs.Common.{◌≡◌, ℕ, inl, inr, ◌+◌, ◌*◌, ◌/◌, ◌%◌, ◌<◌, ◌≤◌, List, length, get_or, Option, Some, None, refl, sym, ap, ◌∙◌, arith}
+use Rattle.std.specs.Prelude.{slice_index}
 use Rattle.std.proofs.Math.Nat.{div-div-eq-div-mul, mul-div-mul_left}
 use Rattle.std.proofs.lemmas.Bool.{cases_lt}
 use Rattle.std.proofs.lemmas.List.{get_or-replicate, get_or_past}
@@ -24,7 +24,6 @@ use Rattle.jr_wall.specs.Samples.{sample_in, sample_of_piece, samples_of}
 use Rattle.jr_wall.proofs.BoardPictures.{block_there, shown_is}
 use Rattle.jr_wall.proofs.Lines.{spot_along}
 use Rattle.jr_wall.proofs.Pictures.{line_same}
-use Rattle.jr_stream.specs.BandValue.{BandValue}
 use Rattle.jr_stream.specs.Bands.{sample_in_units, sample_in_row, samples_in, unit_shown_of, unit_shown, ShowsMcus}
 use Rattle.jr_stream.proofs.UnitComponents.{component_there}
 

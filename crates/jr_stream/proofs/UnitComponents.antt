@@ -1,5 +1,5 @@
 -- The component of a data unit of an MCU, by its place there (T.81, A.2.3).
-use Rattle.std.proofs.Common.{◌≡◌, ℕ, zero, suc, ◌+◌, ◌*◌, ◌/◌, ◌%◌, ◌<◌, List, [], ◌∷◌, length, take, replicate, get_or, sym, ap, subst, ◌∙◌, arith}
+use Rattle.std.proofs.Common.{◌≡◌, ℕ, zero, suc, ◌+◌, ◌*◌, ◌/◌, ◌%◌, ◌<◌, List, [], ◌∷◌, length, take, replicate, get_or, ap, ◌∙◌, arith}
 use Rattle.std.specs.Prelude.{sum_by}
 use Rattle.std.proofs.Math.Nat.{mod-eq_of_lt}
 use Rattle.std.proofs.lemmas.List.{get_or-append-add, get_or-replicate, get_or_append_left, length-replicate}
@@ -7,7 +7,7 @@ use Rattle.std.proofs.lemmas.List.Sums.{sum_by-cons}
 use Rattle.std.proofs.lemmas.Nat.{mul-add-lt}
 use Rattle.jr_head.specs.declared.component.Component.{Component}
 use Rattle.jr_head.specs.HeadValue.{HeadValue}
-use Rattle.jr_head.specs.Geometry.{IsLawful, no_component, units_of, order_from, order_of, blocks_before, blocks_of, components_of, horizontal_of, vertical_of}
+use Rattle.jr_head.specs.Geometry.{IsLawful, no_component, units_of, order_from, order_of, blocks_before, components_of, horizontal_of, vertical_of}
 use Rattle.jr_head.proofs.SamplingLaws.{length-order}
 use Rattle.jr_paint.proofs.Factors.{sampled_at}
 use Rattle.jr_paint.proofs.Places.{place_of_lies}
