@@ -1,5 +1,2 @@
 pub mod BandValue
 pub mod Bands
-pub mod RowsValue
-pub mod Rows
-pub mod Stream

@@ -52,6 +52,17 @@ fn copy(from: &[u8], out: &mut [u8])
     }
 }
 
+/// The sample at a place of a data unit; zero where there is no such data unit.
+fn sample_in(units: &[[u8; 64]], number: usize, at: usize) -> u8
+    requires { at < 64 }
+    ensures { result ≡ sample_in_units units.now number at }
+{
+    match units.get(number) {
+        None => 0,
+        Some(unit) => unit[at],
+    }
+}
+
 /// Copies samples of a row of a data unit, from its first on; zeros where there is no such data unit.
 fn copy_row(units: &[[u8; 64]], number: usize, row: usize, out: &mut [u8])
     requires row { row < 8 }
@@ -148,6 +159,36 @@ impl<'a> Band<'a> {
     }
 }
 
+/// A line's sample in column x.
+fn sample_at(units: &[[u8; 64]], of: UnitRow, x: u32) -> u8
+    requires column { x < 65536 }
+    requires first { of.first < 16 }
+    requires some { 0 < of.across }
+    requires across { of.across ≤ 4 }
+    requires few { of.per_mcu ≤ 10 }
+    requires row { of.row < 8 }
+    ensures { result ≡ sample_in_row units.now of.per_mcu of.across of.first of.row x }
+{
+    let x = x as usize;
+    let number = of.first + x / 8 / of.across * of.per_mcu + x / 8 % of.across;
+    sample_in(units, number, 8 * of.row + x % 8)
+}
+
+/// Copies the samples of a line, from column x on, one after the other.
+fn copy_samples(units: &[[u8; 64]], of: UnitRow, x: u32, out: &mut [u8])
+    requires short { x + length out.old < 65536 }
+    requires first { of.first < 16 }
+    requires some { 0 < of.across }
+    requires across { of.across ≤ 4 }
+    requires few { of.per_mcu ≤ 10 }
+    requires row { of.row < 8 }
+    ensures { (k : ℕ) → k < length out.new → slice_index out.new k ≡ sample_in_row units.now of.per_mcu of.across of.first of.row (x + k) }
+{
+    for k in 0..out.len() {
+        out[k] = sample_at(units, of, x + k as u32);
+    }
+}
+
 impl Samples for Band<'_> {
     ghost head_of = { λ b. b.head };
 
@@ -158,13 +199,7 @@ impl Samples for Band<'_> {
     }
 
     fn sample(&self, c: u32, x: u32, y: u32) -> u8 {
-        let of = self.unit_row(c, y);
-        let column = x as usize / 8;
-        let number = of.first + column / of.across * of.per_mcu + column % of.across;
-        match self.units.get(number) {
-            None => 0,
-            Some(unit) => unit[8 * of.row + x as usize % 8],
-        }
+        sample_at(self.units, self.unit_row(c, y), x)
     }
 
     fn line(&self, c: u32, x: u32, y: u32, out: &mut [u8]) {
@@ -175,10 +210,6 @@ impl Samples for Band<'_> {
             copy_line(self.units, self.unit_row(c, y), out);
             return;
         }
-        let mut at = x;
-        for entry in out.iter_mut() {
-            *entry = self.sample(c, at, y);
-            at += 1;
-        }
+        copy_samples(self.units, self.unit_row(c, y), x, out);
     }
 }

@@ -1,4 +1,4 @@
-use Rattle.std.proofs.Common.{◌∙◌, ap, subst, arith}
+use Rattle.std.proofs.Common.{rules, arith}
 use Rattle.jr_head.specs.Geometry.{IsLawful}
 use Rattle.jr_paint.proofs.Factors.{samples_across-le}
 use Rattle.jr_stream.proofs.band.Band.unit_row.Goals as goal

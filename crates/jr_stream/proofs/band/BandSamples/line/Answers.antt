@@ -1,5 +1,5 @@
-use Rattle.std.proofs.Common.{rules, ◌≡◌, ◌+◌, ◌∙◌, ap, sym, arith}
-use Rattle.jr_stream.specs.Bands.{samples_in}
+use Rattle.std.proofs.Common.{rules, ◌≡◌, ◌+◌, ◌∙◌, ap, sym, arith, List, ℕ}
+use Rattle.jr_stream.specs.Bands.{samples_in, sample_in_row}
 use Rattle.jr_stream.proofs.UnitRows.{crossed}
 use Rattle.jr_stream.proofs.band.BandSamples.line.Goals as goal
 
@@ -7,5 +7,11 @@ pub returns-then-x-eq0 : goal.returns-then-x-eq0
 returns-then-x-eq0 c k lt =
     let of = c.unit_row.result in
     let at : k ≡ c.args.x + k = omega (arith, c.if-x-eq0.true) in
-    c.copy_line.ensures k lt ∙ crossed c.args.self.now c.args.c k c.args.y of.first of.across of.per_mcu of.row (c.unit_row.ensures.first, c.unit_row.ensures.row) c.unit_row.ensures.across c.unit_row.ensures.per_mcu
-    ∙ ap (λ x. samples_in c.args.self.now c.args.c x c.args.y) at
+    let row = crossed c.args.self.now c.args.c k c.args.y of.first of.across of.per_mcu of.row (c.unit_row.ensures.first, c.unit_row.ensures.row) c.unit_row.ensures.across c.unit_row.ensures.per_mcu in
+    search (rules, c.copy_line.ensures k lt, row, at)
+
+pub returns : goal.returns
+returns c k lt =
+    let of = c.unit_row-2.result in
+    let row = crossed c.args.self.now c.args.c (c.args.x + k) c.args.y of.first of.across of.per_mcu of.row (c.unit_row-2.ensures.first, c.unit_row-2.ensures.row) c.unit_row-2.ensures.across c.unit_row-2.ensures.per_mcu in
+    search (rules, c.copy_samples.ensures k lt, row)
