@@ -1,2 +1,4 @@
 pub mod BandValue
 pub mod Bands
+pub mod RowsValue
+pub mod Rows
