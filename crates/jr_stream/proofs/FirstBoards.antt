@@ -15,10 +15,16 @@ use Rattle.jr_piece.specs.Outcome.{HasOutcome}
 use Rattle.jr_wall.specs.declared.mark.Mark.TheVariants.{Blank, Sound, Damaged}
 use Rattle.jr_wall.specs.BoardValue.{BoardValue}
 use Rattle.jr_wall.specs.Boards.{IsPieceOf, IsLawfulBoard, piece_at, mark_of, marks_of, mark_at}
+use Rattle.jr_wall.specs.Decoded.{least}
 use Rattle.jr_wall.specs.Headline.{AreCounts, ShowsFirst, is_sound, is_damaged}
 use Rattle.jr_wall.specs.Samples.{samples_of}
 use Rattle.jr_wall.proofs.BoardPictures.{first_marked, picture, same_picture}
 use Rattle.jr_stream.specs.Rows.{HasFirst}
+
+-- no more intervals are to be decoded than there are
+pub least_few : (first : Option ℕ) (n : ℕ) → least first n ≤ n
+least_few None n = omega arith
+least_few (Some k) n = omega arith
 
 not_blank : (t : Bool) → cond t Sound Damaged ≢ Blank
 not_blank true e = absurd cc
