@@ -14,6 +14,7 @@ mod progress;
 mod reading;
 mod strip;
 mod strip_reader;
+mod unit_reader;
 
 pub use job::Job;
 pub use laws::{one_outcome, one_strip, strip_is_final, strips_meet, whole_strip_is_outcome};
@@ -22,3 +23,4 @@ pub use piece::{NotInOrder, Piece};
 pub use reading::strip_mcus;
 pub use strip::{CodedStrip, Strip};
 pub use strip_reader::StripReader;
+pub use unit_reader::UnitReader;
