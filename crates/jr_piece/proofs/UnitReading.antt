@@ -239,23 +239,23 @@ module _ (r r' : ReaderValue) (left mcus : ℕ) (units : List (List ℕ)) (row :
   pub row_shows : OneFront → ShorterFront
       → ((i : IntervalValue) (zs : List (List ℤ)) → HasReadOf r' i zs → Front i r'.mcu (first_mcus r' r'.mcu zs))
       → ((i : IntervalValue) (zs : List (List ℤ)) → HasReadAll r' i zs → LongestFront i r'.mcu (first_mcus r' r'.mcu zs))
-      → (from : ℕ) (us : List (List ℕ)) → from ≡ (r'.mcu - mcu) * per → length us ≡ length units
-      → ((k : ℕ) → k < from → get_or us k [] ≡ get_or units k []) → ((k : ℕ) → from ≤ k → k < length us → get_or us k [] ≡ grey_unit)
+      → (us : List (List ℕ)) → length us ≡ length units
+      → ((k : ℕ) → k < (r'.mcu - mcu) * per → get_or us k [] ≡ get_or units k []) → ((k : ℕ) → (r'.mcu - mcu) * per ≤ k → k < length us → get_or us k [] ≡ grey_unit)
       → (p : PieceValue) → IsOutcome p → p.interval ≡ r.run.interval → ShowsUnits p (units_before r.run.interval mcu) us
-  row_shows one shorter front longest from us at long kept grey p o e k lt = elim (cases_lt k from) [
+  row_shows one shorter front longest us long kept grey p o e k lt = elim (cases_lt k ((r'.mcu - mcu) * per)) [
     | inl l ↦
-        let few_units : k < row.count = omega (arith, l, at, split, count) in
+        let few_units : k < row.count = omega (arith, l, split, count) in
         kept k l ∙ row.read.each k few_units ∙ ap (λ (o : RunOf). unit_of o.interval.head zs (length row.kept.blocks + k)) row.run ∙ ap (λ (m : ℕ). unit_of i.head zs (m + k)) before
-        ∙ shown one shorter i p e o r'.mcu zs (subst (λ (m : ℕ). Front i r'.mcu (take (r'.mcu * m) zs)) same (front i zs read)) (mcu * per + k) (omega (arith, l, at, split))
+        ∙ shown one shorter i p e o r'.mcu zs (subst (λ (m : ℕ). Front i r'.mcu (take (r'.mcu * m) zs)) same (front i zs read)) (mcu * per + k) (omega (arith, l, split))
     | inr g ↦
         let not_all : r'.mcu < mcu + mcus = elim (cases_lt r'.mcu (mcu + mcus)) [
           | inl l ↦ l
           | inr all ↦
               let f : r'.mcu ≡ mcu + mcus = omega (arith, all, ends) in
               let s : r'.mcu * per ≡ mcu * per + mcus * per = ap (λ (k : ℕ). k * per) f ∙ omega arith in
-              absurd (omega (arith, s, split, at, g, lt, long, row.room))
+              absurd (omega (arith, s, split, g, lt, long, row.room))
         ] in
-        grey k g lt ∙ behind one shorter i p e o r'.mcu zs (subst (λ (m : ℕ). LongestFront i r'.mcu (take (r'.mcu * m) zs)) same (longest i zs (read, stopped_early not_all))) (mcu * per + k) (omega (arith, g, at, split))
+        grey k g lt ∙ behind one shorter i p e o r'.mcu zs (subst (λ (m : ℕ). LongestFront i r'.mcu (take (r'.mcu * m) zs)) same (longest i zs (read, stopped_early not_all))) (mcu * per + k) (omega (arith, g, split))
   ]
     where
       i : IntervalValue
@@ -270,10 +270,10 @@ module _ (r r' : ReaderValue) (left mcus : ℕ) (units : List (List ℕ)) (row :
 -- what a row shows that lies behind the MCU in which the reader is stuck
 pub row_behind : OneFront → ShorterFront → (r : ReaderValue) (left : ℕ) → IsUnitReader r left → r.mcu < r.run.interval.mcus - left
     → ((i : IntervalValue) (zs : List (List ℤ)) → HasReadAll r i zs → LongestFront i r.mcu (first_mcus r r.mcu zs))
-    → (us : List (List ℕ)) → ((k : ℕ) → 0 ≤ k → k < length us → get_or us k [] ≡ grey_unit)
+    → (us : List (List ℕ)) → ((k : ℕ) → k < length us → get_or us k [] ≡ grey_unit)
     → (p : PieceValue) → IsOutcome p → p.interval ≡ r.run.interval → ShowsUnits p (units_before r.run.interval (r.run.interval.mcus - left)) us
 row_behind one shorter r left kept stuck longest us grey p o e k lt =
     let mcu = r.run.interval.mcus - left in
     let ended : HasEnded r = elim kept.stands [ inl at ↦ let same = at.0 in absurd (omega (arith, same, stuck)) | inr s ↦ s.1 ] in
     let far : r.mcu * per_mcu r ≤ mcu * per_mcu r = mul-le-mul_right (per_mcu r) (omega (arith, stuck)) in
-    grey k (omega arith) lt ∙ behind one shorter r.run.interval p e o r.mcu kept.blocks (longest r.run.interval kept.blocks ((kept.run, kept.read), ended)) (mcu * per_mcu r + k) (omega (arith, far))
+    grey k lt ∙ behind one shorter r.run.interval p e o r.mcu kept.blocks (longest r.run.interval kept.blocks ((kept.run, kept.read), ended)) (mcu * per_mcu r + k) (omega (arith, far))

@@ -35,7 +35,8 @@ returns-then-mcus-first-clause-units c =
     let first = mcu_is _ c.args.self.now c.self.view_is c.mcu-first.result c.mcu-first.ensures in
     let stuck : r.mcu < r.run.interval.mcus - left = omega (arith, first, c.mcus.ensures.value, c.if-mcus-first.true) in
     subst (Shows c.grey_from.new.units) c.self.view_is
-    (row_behind c.one_front.ensures c.shorter_front.ensures r left c.self.invariant stuck (longest_of r c.mcus.result c.mcus.ensures.value c.mcus.ensures.front) c.grey_from.new.units c.grey_from.ensures.grey)
+    (row_behind c.one_front.ensures c.shorter_front.ensures r left c.self.invariant stuck (longest_of r c.mcus.result c.mcus.ensures.value c.mcus.ensures.front) c.grey_from.new.units
+    (λ k lt. c.grey_from.ensures.grey k (omega arith) lt))
 
 pub overflow_sub-whole : goal.overflow_sub-whole
 overflow_sub-whole c =
@@ -83,4 +84,5 @@ returns-clause-units c =
     let order = c.order.ensures.value ∙ ap order_of (c.head.ensures ∙ ap (λ (i : IntervalValue). i.head) c.interval.ensures) in
     let from = whole_units r r' c.mcu-first.result _ c.mcus-2.result c.order.result.now first c.mcus-2.ensures.value c.read_units.ensures.run order in
     subst (Shows c.grey_from-2.new.units) c.self.view_is
-    (row_shows r r' left c.args.mcus units row c.one_front.ensures c.shorter_front.ensures c.be_reader.ensures.front (longest_of r' c.mcus-2.result c.mcus-2.ensures.value c.mcus-2.ensures.front) _ c.grey_from-2.new.units from c.grey_from-2.auto.units c.grey_from-2.ensures.kept c.grey_from-2.ensures.grey)
+    (row_shows r r' left c.args.mcus units row c.one_front.ensures c.shorter_front.ensures c.be_reader.ensures.front (longest_of r' c.mcus-2.result c.mcus-2.ensures.value c.mcus-2.ensures.front) c.grey_from-2.new.units c.grey_from-2.auto.units
+    (λ k lt. c.grey_from-2.ensures.kept k (omega (arith, lt, from))) (λ k le lt. c.grey_from-2.ensures.grey k (omega (arith, le, from)) lt))
