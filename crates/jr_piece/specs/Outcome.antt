@@ -1,5 +1,5 @@
 -- What T.81 gives for an interval: the samples of its data units, or that it has no decoding and how far it goes.
-use Rattle.std.specs.Prelude.{◌≡◌, ℕ, ◌<◌, true, false, List, [], length, replicate, ℤ, slice_index_or}
+use Rattle.std.specs.Prelude.{◌≡◌, ℕ, ◌<◌, true, false, List, [], length, ℤ, slice_index_or}
 use Rattle.jr_head.specs.HeadValue.{HeadValue}
 use Rattle.jr_head.specs.Geometry.{quantiser_of}
 use Rattle.jr_scan.specs.IntervalValue.{IntervalValue}
@@ -10,14 +10,6 @@ use Rattle.jr_piece.specs.PieceValue.{PieceValue}
 -- the samples of data unit n: its block, by the quantisers of its component (T.81, A.3.3, A.3.4 and A.3.6)
 abbrev pub unit_of : HeadValue → List (List ℤ) → ℕ → List ℕ
 unit_of h zs n = samples (block_of zs n) (quantiser_of h (component h n))
-
--- grey
-abbrev pub grey_unit : List ℕ
-grey_unit = replicate 64 128
-
--- data unit n of a piece, grey behind its front
-abbrev pub unit_in_piece : PieceValue → ℕ → List ℕ
-unit_in_piece p n = slice_index_or p.samples n grey_unit
 
 -- these are the samples of the data units whose blocks are zs
 pub record AreSamples (h : HeadValue) (zs : List (List ℤ)) (units : List (List ℕ)) : Type 0 where

@@ -14,6 +14,7 @@ mod progress;
 mod reading;
 mod strip;
 mod strip_reader;
+mod unit_reader;
 
 pub use job::Job;
 pub use laws::{
@@ -25,3 +26,4 @@ pub use piece::{NotInOrder, Piece};
 pub use reading::strip_mcus;
 pub use strip::{CodedStrip, Strip};
 pub use strip_reader::StripReader;
+pub use unit_reader::UnitReader;

@@ -41,8 +41,8 @@ register_at h start zs z registers v c k is room is_first before =
     ]
 
 -- a reader that hasn't read yet
-pub read_none : (run : RunOf) (left : List Bool) (zero' : ℕ) → left ≡ drop run.from.bit (bits run.interval.bytes) → HasRead (record { run = run; left = left; predictions = run.from.predictions; mcu = 0; next_block = 0; stuck = false }) []
-read_none run left z e = record {
+pub read_none : (run : RunOf) (left : List Bool) → left ≡ drop run.from.bit (bits run.interval.bytes) → HasRead (record { run = run; left = left; predictions = run.from.predictions; mcu = 0; next_block = 0; stuck = false }) []
+read_none run left e = record {
   left = left;
   reads = subst (λ (b : List Bool). Reads run.interval.head run.from.predictions b left []) e (reads_none run.interval.head run.from.predictions left);
   count = omega arith;
@@ -165,23 +165,24 @@ damaged one i r zs ys e kept far s (inr all) d =
     let same = reads_all i.head no_predictions (bits i.bytes) s.left zs one (whole_reads i r zs e s) ys d.taken d.padding d.mcus.1 d.spelled l in
     far all (omega (arith, ap length (sym (s.going (not_stuck r kept all)) ∙ same.1), d.short))
 
-pub longest : OneWord → (i : IntervalValue) (r : ReaderValue) (zs : List (List ℤ)) → r.run ≡ whole_run i → IsReader r → HasRead r zs → HasEnded r → LongestFront i r.mcu (take (r.mcu * per_mcu r) zs)
-longest one i r zs e kept s ended =
+-- the whole MCUs that are read are a front
+pub front_so_far : (i : IntervalValue) (r : ReaderValue) (zs : List (List ℤ)) → r.run ≡ whole_run i → IsReader r → HasRead r zs → Front i r.mcu (take (r.mcu * per_mcu r) zs)
+front_so_far i r zs e kept s =
     let m : r.run.mcus ≡ i.mcus = ap (λ (run : RunOf). run.mcus) e in
     let head : per_mcu r ≡ length (order_of i.head) = ap (λ (run : RunOf). length (order_of run.interval.head)) e in
     let reads = whole_reads i r zs e s in
     let room : r.mcu * per_mcu r ≤ length zs = omega (arith, s.count) in
     let b = blocks_front i.head no_predictions zs (bits i.bytes) reads.taken s.left (r.mcu * per_mcu r) reads.blocks reads.split room in
     record {
-      front = record {
-        at_most = omega (arith, below_whole r.mcu r.run.mcus (per_mcu r) r.next_block kept.within kept.few, m);
-        taken = b.0;
-        rest = b.1;
-        mcus = (length-take-le (r.mcu * per_mcu r) zs room ∙ ap (λ (k : ℕ). r.mcu * k) head, b.2);
-        spelled = b.3;
-      };
-      longest = λ j ys f. most j ys f ended;
+      at_most = omega (arith, below_whole r.mcu r.run.mcus (per_mcu r) r.next_block kept.within kept.few, m);
+      taken = b.0;
+      rest = b.1;
+      mcus = (length-take-le (r.mcu * per_mcu r) zs room ∙ ap (λ (k : ℕ). r.mcu * k) head, b.2);
+      spelled = b.3;
     }
+
+pub longest : OneWord → (i : IntervalValue) (r : ReaderValue) (zs : List (List ℤ)) → r.run ≡ whole_run i → IsReader r → HasRead r zs → HasEnded r → LongestFront i r.mcu (take (r.mcu * per_mcu r) zs)
+longest one i r zs e kept s ended = record { front = front_so_far i r zs e kept s; longest = λ j ys f. most j ys f ended }
   where
     most : (j : ℕ) (ys : List (List ℤ)) → Front i j ys → HasEnded r → j ≤ r.mcu
     most j ys f (inr all) = let m : r.run.mcus ≡ i.mcus = ap (λ (run : RunOf). run.mcus) e in omega (arith, f.at_most, all, m)

@@ -4,6 +4,7 @@ ghost use Rattle.std.specs.Prelude.{◌≡◌, ◌↔◌, ◌<◌, ◌≤◌, �
 
 use crate::block::Block;
 use crate::front::FrontBlocks;
+use crate::interval_ref::IntervalRef;
 use crate::reader::BlockReader;
 use crate::span::Span;
 use jr_code::{Memory, one_word};
@@ -92,6 +93,13 @@ impl Interval {
         ensures { result.now ≡ self.now.head }
     {
         &self.head
+    }
+
+    /// The same interval, borrowed.
+    pub fn as_ref(&self) -> IntervalRef<'_>
+        ensures { result ≡ self.now }
+    {
+        IntervalRef::of(self.head(), self.bytes(), self.number, self.mcus)
     }
 
     /// How many whole MCUs the interval can show at most: as many as its head claims, and no more than its bits can code,

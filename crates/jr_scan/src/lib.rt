@@ -5,6 +5,7 @@ mod block;
 mod cut;
 mod front;
 mod interval;
+mod interval_ref;
 mod laws;
 mod place;
 mod reader;
@@ -16,6 +17,7 @@ mod unstuff;
 pub use block::Block;
 pub use front::FrontBlocks;
 pub use interval::Interval;
+pub use interval_ref::IntervalRef;
 pub use laws::{
     decoding_is_whole_run, each_interval_decodes_or_not, each_interval_has_a_longest_front,
     no_front, one_cut, one_decoding, one_front, one_run, runs_meet, shorter_front,

@@ -8,6 +8,7 @@ ghost use Rattle.jr_scan.specs.Step.{TakesBlock, HasNoBlock};
 
 use crate::block::{Block, read_block};
 use crate::interval::Interval;
+use crate::interval_ref::IntervalRef;
 use crate::place::Place;
 use jr_code::{Bits, CodeBook, one_word};
 use std::marker::Model;
@@ -64,7 +65,7 @@ fn bits_from(bytes: &[u8], bit: u64) -> Bits<'_>
 /// Reads the blocks of a run of MCUs one after the other.
 #[derive(Drop)]
 pub struct BlockReader<'a> {
-    interval: &'a Interval,
+    interval: IntervalRef<'a>,
     order: &'a [u8],
     from: Place,
     mcus: u32,
@@ -83,26 +84,35 @@ impl<'a> Model for BlockReader<'a> {
 
     ghost Value = { ReaderValue };
 
-    ghost view = { λ r. record { run = record { interval = r.interval.now; from = r.from; mcus = r.mcus }; left = r.bits; predictions = r.predictions; mcu = r.mcu; next_block = r.next_block; stuck = r.is_stuck } };
+    ghost view = { λ r. record { run = record { interval = r.interval; from = r.from; mcus = r.mcus }; left = r.bits; predictions = r.predictions; mcu = r.mcu; next_block = r.next_block; stuck = r.is_stuck } };
 
-    ghost invariant = { λ r. IsReader (record { run = record { interval = r.interval.now; from = r.from; mcus = r.mcus }; left = r.bits; predictions = r.predictions; mcu = r.mcu; next_block = r.next_block; stuck = r.is_stuck }) × (r.order.now ≡ order_of r.interval.now.head) × All (λ c. c < components_of r.interval.now.head) r.order.now };
+    ghost invariant = { λ r. IsReader (record { run = record { interval = r.interval; from = r.from; mcus = r.mcus }; left = r.bits; predictions = r.predictions; mcu = r.mcu; next_block = r.next_block; stuck = r.is_stuck }) × (r.order.now ≡ order_of r.interval.head) × All (λ c. c < components_of r.interval.head) r.order.now };
 }
 
 impl<'a> BlockReader<'a> {
     ghost use Rattle.jr_head.specs.Geometry.{components_of, order_of};
-    ghost use Rattle.jr_scan.specs.Mcus.{component, Decodes, HasNoDecoding, LongestFront};
+    ghost use Rattle.jr_scan.specs.Mcus.{component, Decodes, HasNoDecoding, Front, LongestFront};
     ghost use Rattle.jr_scan.specs.IntervalValue.{IntervalValue};
     ghost use Rattle.std.specs.Prelude.{◌⊎◌};
     ghost use Rattle.jr_scan.specs.declared.place.RunEnd.TheVariants.{AllRead};
     ghost use Rattle.jr_scan.specs.Run.{HasBlocks, IsRun};
-    ghost use Rattle.jr_scan.specs.Reader.{HasRead, HasReadOf, HasReadAll, HasEnded, whole_run, run_so_far, first_mcus, blocks_left, blocks_read};
+    ghost use Rattle.jr_scan.specs.Reader.{IsReader, HasRead, HasReadOf, HasReadAll, HasEnded, whole_run, run_so_far, first_mcus, blocks_left, blocks_read};
 
     /// A reader of all blocks of an interval.
     pub fn over(interval: &'a Interval) -> BlockReader<'a>
         ensures run { result.run ≡ whole_run interval.now }
         ensures read { HasRead result [] }
     {
-        BlockReader::at(interval, Place::start(), interval.mcus())
+        BlockReader::over_ref(interval.as_ref())
+    }
+
+    /// A reader of all blocks of a borrowed interval.
+    pub fn over_ref(interval: IntervalRef<'a>) -> BlockReader<'a>
+        ensures run { result.run ≡ whole_run interval.entry }
+        ensures read { HasRead result [] }
+    {
+        let mcus = interval.mcus();
+        BlockReader::at_ref(interval, Place::start(), mcus)
     }
 
     /// A reader of so many MCUs from a place of an interval on.
@@ -112,18 +122,36 @@ impl<'a> BlockReader<'a> {
         ensures run { result.run ≡ record { interval = interval.now; from = from; mcus = mcus } }
         ensures read { HasRead result [] }
     {
+        BlockReader::at_ref(interval.as_ref(), from, mcus)
+    }
+
+    fn at_ref(interval: IntervalRef<'a>, from: Place, mcus: u32) -> BlockReader<'a>
+        requires within { from.bit ≤ 8 * length interval.bytes }
+        requires in_range { All IsInDcRange from.predictions }
+        ensures run { result.run ≡ record { interval = interval.entry; from = from; mcus = mcus } }
+        ensures read { HasRead result [] }
+    {
+        let order = interval.head().order();
+        let bits = bits_from(interval.bytes(), from.bit);
         let predictions = from.predictions;
         BlockReader {
             interval,
-            order: interval.head().order(),
+            order,
             from,
             mcus,
-            bits: bits_from(interval.bytes(), from.bit),
+            bits,
             predictions,
             mcu: 0,
             next_block: 0,
             is_stuck: false,
         }
+    }
+
+    /// The interval that it reads.
+    pub fn interval(&self) -> &IntervalRef<'a>
+        ensures { result.now ≡ self.now.run.interval }
+    {
+        &self.interval
     }
 
     /// The component of the next block.
@@ -178,6 +206,15 @@ impl<'a> BlockReader<'a> {
         one_word();
         self.interval.head().be_lawful();
         self.mcu
+    }
+
+    /// What holds of every reader: it stands within its run, and the whole MCUs that it has read are a front of the
+    /// interval, where it reads all of it.
+    pub fn be_reader(&self)
+        ensures reader { IsReader self.now }
+        ensures front { (i : IntervalValue) (zs : List (List ℤ)) → HasReadOf self.now i zs → Front i self.now.mcu (first_mcus self.now self.now.mcu zs) }
+    {
+        let _ = &self.order;
     }
 
     /// Where the next MCU starts. None inside an MCU, and where no block followed.

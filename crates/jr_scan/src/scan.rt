@@ -4,6 +4,7 @@ ghost use Rattle.std.specs.Prelude.{◌≡◌, ◌↔◌, ◌<◌, ◌≤◌, �
 
 use crate::cut::cut;
 use crate::interval::Interval;
+use crate::interval_ref::IntervalRef;
 use crate::scan_end::ScanEnd;
 use crate::span::Span;
 use jr_code::Memory;
@@ -132,10 +133,19 @@ impl Scan {
         Ok(Interval::of(head, unstuffed, span, i, mcus_of(&self.head, i)))
     }
 
+    /// Interval i, borrowed from the scan. It takes no memory.
+    pub fn interval_ref(&self, i: u32) -> IntervalRef<'_>
+        requires { i < length self.now.intervals }
+        ensures { result ≡ interval_of self.now i }
+    {
+        IntervalRef::of(&self.head, self.data(i), i, mcus_of(&self.head, i))
+    }
+
     /// The data of interval i, without stuffing.
     fn data(&self, i: u32) -> &[u8]
         requires { i < length self.now.intervals }
-        ensures { result.now ≡ slice_index_or self.now.intervals i [] }
+        ensures bytes { result.now ≡ slice_index_or self.now.intervals i [] }
+        ensures few { length result.now < 2 ^ 61 }
     {
         let mut span = Span { start: 0, end: 0 };
         if (i as usize) < self.spans.len() {

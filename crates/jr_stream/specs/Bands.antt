@@ -6,7 +6,7 @@ use Rattle.jr_paint.specs.Geometry.{place_of, spot_at}
 use Rattle.jr_paint.specs.declared.geometry.Spot.{Spot}
 use Rattle.jr_scan.specs.Mcus.{component}
 use Rattle.jr_piece.specs.PieceValue.{PieceValue}
-use Rattle.jr_piece.specs.Outcome.{unit_in_piece}
+use Rattle.jr_piece.specs.Units.{unit_in_piece}
 use Rattle.jr_wall.specs.BoardValue.{BoardValue}
 use Rattle.jr_wall.specs.Boards.{piece_at}
 use Rattle.jr_wall.specs.Headline.{blank_of, interval_number, within_interval}

@@ -17,7 +17,7 @@ use Rattle.jr_scan.proofs.reader.BlockReader.next.Goals as goal
 
 pub returns-in_default-clause-kept : goal.returns-in_default-clause-kept
 returns-in_default-clause-kept c = λ zs r.
-    let h = c.self.inside.interval.now.head in
+    let h = c.self.inside.interval.head in
     let k = c.next_component-c.result in
     let is : k ≡ component h (c.self.inside.mcu * length (order_of h) + c.self.inside.next_block) = subst (λ (v : ReaderValue). k ≡ component v.run.interval.head (blocks_read v)) (sym c.self.view_is) c.next_component-c.ensures.value in
     let three : k < 3 = c.next_component-c.ensures.few in
@@ -29,12 +29,12 @@ returns-in_default-clause-kept c = λ zs r.
     let none1 = subst (λ (t : Table). HasNoBlock t c.ac_book-ac.result.now p c.self.inside.bits) dc none0 in
     let none2 = subst (λ (t : Table). HasNoBlock (dc_of h k) t p c.self.inside.bits) ac none1 in
     let old = subst (λ (v : ReaderValue). HasRead v zs) (sym c.self.view_is) r in
-    let old2 = subst (λ (b : Bool). HasRead (record { run = record { interval = c.self.inside.interval.now; from = c.self.inside.from; mcus = c.self.inside.mcus }; left = c.self.inside.bits; predictions = c.self.inside.predictions; mcu = c.self.inside.mcu; next_block = c.self.inside.next_block; stuck = b }) zs) c.if-self.false old in
+    let old2 = subst (λ (b : Bool). HasRead (record { run = record { interval = c.self.inside.interval; from = c.self.inside.from; mcus = c.self.inside.mcus }; left = c.self.inside.bits; predictions = c.self.inside.predictions; mcu = c.self.inside.mcu; next_block = c.self.inside.next_block; stuck = b }) zs) c.if-self.false old in
     read_stop _ c.self.inside.bits _ _ _ _ k zs is three none2 old2
 
 pub invariant_of-self-2 : goal.invariant_of-self-2
 invariant_of-self-2 c =
-    let h = c.self.inside.interval.now.head in
+    let h = c.self.inside.interval.head in
     let k = c.next_component-c.result in
     let is : k ≡ component h (c.self.inside.mcu * length (order_of h) + c.self.inside.next_block) = subst (λ (v : ReaderValue). k ≡ component v.run.interval.head (blocks_read v)) (sym c.self.view_is) c.next_component-c.ensures.value in
     let three : k < 3 = c.next_component-c.ensures.few in
@@ -56,7 +56,7 @@ invariant_of-self-2 c =
 
 pub returns-clause-read : goal.returns-clause-read
 returns-clause-read c = λ zs r.
-    let h = c.self.inside.interval.now.head in
+    let h = c.self.inside.interval.head in
     let k = c.next_component-c.result in
     let is : k ≡ component h (c.self.inside.mcu * length (order_of h) + c.self.inside.next_block) = subst (λ (v : ReaderValue). k ≡ component v.run.interval.head (blocks_read v)) (sym c.self.view_is) c.next_component-c.ensures.value in
     let three : k < 3 = c.next_component-c.ensures.few in
@@ -72,9 +72,9 @@ returns-clause-read c = λ zs r.
     let t2 = subst (λ (t : Table). TakesBlock (dc_of h k) t p c.read_predicted.new.block c.self.inside.bits c.read_predicted.new.bits) ac t1 in
     let next = subst (λ (o : List ℕ). c.following-mcu.result.0 * length o + c.following-mcu.result.1 ≡ c.self.inside.mcu * length o + c.self.inside.next_block + 1) c.self.invariant.1 c.following-mcu.ensures.next in
     let old = subst (λ (v : ReaderValue). HasRead v zs) (sym c.self.view_is) r in
-    let old2 = subst (λ (b : Bool). HasRead (record { run = record { interval = c.self.inside.interval.now; from = c.self.inside.from; mcus = c.self.inside.mcus }; left = c.self.inside.bits; predictions = c.self.inside.predictions; mcu = c.self.inside.mcu; next_block = c.self.inside.next_block; stuck = b }) zs) c.if-self.false old in
+    let old2 = subst (λ (b : Bool). HasRead (record { run = record { interval = c.self.inside.interval; from = c.self.inside.from; mcus = c.self.inside.mcus }; left = c.self.inside.bits; predictions = c.self.inside.predictions; mcu = c.self.inside.mcu; next_block = c.self.inside.next_block; stuck = b }) zs) c.if-self.false old in
     let made = read_more _ c.self.inside.bits c.read_predicted.new.bits c.self.inside.predictions _ c.self.inside.mcu c.self.inside.next_block c.following-mcu.result.0 c.following-mcu.result.1 k c.in-Some.first c.read_predicted.new.block zs is three size t2 c.in-Some.ensures.first wrote next old2 in
-    subst (λ (b : Bool). HasRead (record { run = record { interval = c.self.inside.interval.now; from = c.self.inside.from; mcus = c.self.inside.mcus }; left = c.read_predicted.new.bits; predictions = set c.self.inside.predictions k (to_z w32 (of_z w32 c.in-Some.first)); mcu = c.following-mcu.result.0; next_block = c.following-mcu.result.1; stuck = b }) (zs ++ c.read_predicted.new.block ∷ [])) (sym c.if-self.false) made
+    subst (λ (b : Bool). HasRead (record { run = record { interval = c.self.inside.interval; from = c.self.inside.from; mcus = c.self.inside.mcus }; left = c.read_predicted.new.bits; predictions = set c.self.inside.predictions k (to_z w32 (of_z w32 c.in-Some.first)); mcu = c.following-mcu.result.0; next_block = c.following-mcu.result.1; stuck = b }) (zs ++ c.read_predicted.new.block ∷ [])) (sym c.if-self.false) made
 
 pub returns-clause-component : goal.returns-clause-component
 returns-clause-component c = c.from-component.ensures ∙ c.next_component-c.ensures.value
@@ -94,7 +94,7 @@ invariant_of-self c = (
     start = c.self.invariant.0.start;
     within = c.self.invariant.0.within;
     few = c.self.invariant.0.few;
-    missing = λ _. before c.self.inside.mcu c.self.inside.mcus (length (order_of c.self.inside.interval.now.head)) c.self.inside.next_block c.self.invariant.0.within c.self.invariant.0.few c.if-self-2.false;
+    missing = λ _. before c.self.inside.mcu c.self.inside.mcus (length (order_of c.self.inside.interval.head)) c.self.inside.next_block c.self.invariant.0.within c.self.invariant.0.few c.if-self-2.false;
     three = c.self.invariant.0.three;
     in_range = c.self.invariant.0.in_range;
   },

@@ -1,0 +1,69 @@
+//! An interval whose data stand in its scan.
+
+ghost use Rattle.std.specs.Prelude.{◌≡◌, ◌<◌, ◌^◌, length};
+
+use jr_head::Head;
+use std::marker::Model;
+
+/// A restart interval of which the head and the data are borrowed. To have one takes no memory.
+#[derive(Drop)]
+pub struct IntervalRef<'a> {
+    head: &'a Head,
+    bytes: &'a [u8],
+    number: u32,
+    mcus: u32,
+}
+
+impl<'a> Model for IntervalRef<'a> {
+    ghost use Rattle.std.specs.Prelude.{◌<◌, ◌^◌, length};
+    ghost use Rattle.jr_scan.specs.IntervalValue.{IntervalValue};
+
+    ghost Value = { IntervalValue };
+
+    ghost view = { λ i. record { number = i.number; mcus = i.mcus; bytes = i.bytes.now; head = i.head.now } };
+
+    ghost invariant = { λ i. length i.bytes.now < 2 ^ 61 };
+}
+
+impl<'a> IntervalRef<'a> {
+    pub(crate) fn of(head: &'a Head, bytes: &'a [u8], number: u32, mcus: u32) -> IntervalRef<'a>
+        requires { length bytes.now < 2 ^ 61 }
+        ensures { result ≡ record { number = number; mcus = mcus; bytes = bytes.now; head = head.now } }
+    {
+        IntervalRef {
+            head,
+            bytes,
+            number,
+            mcus,
+        }
+    }
+
+    /// The interval's number in its scan, from 0 on.
+    pub fn number(&self) -> u32
+        ensures { result ≡ self.now.number }
+    {
+        self.number
+    }
+
+    /// How many MCUs the interval codes.
+    pub fn mcus(&self) -> u32
+        ensures { result ≡ self.now.mcus }
+    {
+        self.mcus
+    }
+
+    /// The interval's data, without stuffing.
+    pub fn bytes(&self) -> &'a [u8]
+        ensures bytes { result.now ≡ self.now.bytes }
+        ensures few { length result.now < 2 ^ 61 }
+    {
+        self.bytes
+    }
+
+    /// The head that the interval is read by.
+    pub fn head(&self) -> &'a Head
+        ensures { result.now ≡ self.now.head }
+    {
+        self.head
+    }
+}
