@@ -16,7 +16,7 @@ use Rattle.jr_paint.proofs.PixelLaws.{flat_map-moved}
 use Rattle.jr_paint.proofs.Places.{mcu_inside}
 use Rattle.jr_scan.specs.Mcus.{component}
 use Rattle.jr_piece.specs.PieceValue.{PieceValue}
-use Rattle.jr_piece.specs.Outcome.{grey_unit}
+use Rattle.jr_piece.specs.Units.{grey_unit}
 use Rattle.jr_wall.specs.BoardValue.{BoardValue}
 use Rattle.jr_wall.specs.Boards.{piece_at}
 use Rattle.jr_wall.specs.Headline.{blank_of, interval_number, spot_of, unit_in}

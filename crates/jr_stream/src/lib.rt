@@ -2,3 +2,4 @@
 #![tactic(auto)]
 
 mod band;
+mod shown;
