@@ -1,4 +1,4 @@
-use Rattle.std.proofs.Common.{rules, arith, ap, sym, subst, ◌∙◌, ◌≡◌, ◌+◌, ◌-◌, ◌*◌, ◌/◌, ◌%◌, ◌<◌, ◌≤◌, [], length, slice_index_or}
+use Rattle.std.proofs.Common.{rules, arith, ap, sym, subst, ◌∙◌, ℕ, ◌≡◌, ◌+◌, ◌-◌, ◌*◌, ◌/◌, ◌%◌, ◌<◌, ◌≤◌, [], length, slice_index_or}
 use Rattle.jr_head.specs.Geometry.{blocks_of}
 use Rattle.jr_head.specs.HeadValue.{HeadValue}
 use Rattle.jr_scan.specs.ScanValue.{ScanValue}
@@ -23,7 +23,8 @@ intervals-preserved g c =
       read = search (rules, arith);
       shown = λ b first k lt.
           let same : HasFirst c.intervals.self.scan c.intervals.self.limit b = rw (old.scan, old.limit) first in
-          let behind = rw (from, old.scan, old.read) at (some.ensures.units b same) in
+          let behind = subst (λ (t : ScanValue). (j : ℕ) → j < some.result * blocks_of t.head → slice_index_or some.new.units (c.intervals.done * n + j) [] ≡ unit_shown b (mcus_read c.args.self.now + c.intervals.done + j / blocks_of t.head) (j % blocks_of t.head)) old.scan
+          (rw (from, old.read) at (some.ensures.units b same)) in
           shown_more n c.intervals.done some.result (mcus_read c.args.self.now) (unit_shown b) c.intervals.units some.new.units positive (old.shown b first) kept behind k lt;
     }
 
