@@ -85,12 +85,16 @@ module _ (h : HeadValue) (f : ℕ → ℕ → ℕ → ℕ) (y : ℕ) where
 pub shared_value : (h : HeadValue) (f : ℕ → ℕ → ℕ → ℕ) (c y k : ℕ) → IsShared h c y → value_at h f c k y ≡ value_at h f c k (y + 1)
 shared_value h f c y k e = rw e refl
 
+-- n lines from line y on, and m more
+pub next_lines_more : (h : HeadValue) (f : ℕ → ℕ → ℕ → ℕ) (y n m : ℕ) → next_lines_of h f y (n + m) ≡ next_lines_of h f y n ++ next_lines_of h f (y + n) m
+next_lines_more h f y n m = flat_map-range-append (line_of h f) y n m
+
 module _ (h : HeadValue) (f : ℕ → ℕ → ℕ → ℕ) where
   pub text_none : header_of h ++ lines_of h f 0 ≡ header_of h
   unfolding lines_of
   text_none = append-nil (header_of h)
 
-  lines_append : (n m : ℕ) → lines_of h f (n + m) ≡ lines_of h f n ++ next_lines_of h f n m
+  pub lines_append : (n m : ℕ) → lines_of h f (n + m) ≡ lines_of h f n ++ next_lines_of h f n m
   unfolding lines_of
   lines_append n m = let e : 0 + n ≡ n = omega arith in let both = flat_map-range-append (line_of h f) 0 n m in rw e at both
 

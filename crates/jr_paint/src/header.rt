@@ -8,7 +8,7 @@ use itoa::Buffer;
 use jr_head::{Head, Kind};
 
 /// The longest header has fewer bytes.
-pub(crate) const HEADER_ROOM: usize = 32;
+pub const HEADER_ROOM: usize = 32;
 
 fn magic(kind: Kind) -> &'static [u8]
     ensures value { result.now ≡ magic_of kind }
@@ -42,7 +42,7 @@ fn put_number(number: u32, bytes: &mut [u8], at: usize) -> usize
 }
 
 /// Puts what stands before the pixels to the front of `bytes`: answers how long it is.
-pub(crate) fn put_header(head: &Head, bytes: &mut [u8]) -> usize
+pub fn put_header(head: &Head, bytes: &mut [u8]) -> usize
     requires { HEADER_ROOM ≤ length bytes.old }
     ensures end { result ≤ HEADER_ROOM }
     ensures front { take result bytes.new ≡ header_of head.now }

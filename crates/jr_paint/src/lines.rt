@@ -11,9 +11,9 @@ use crate::samples::Samples;
 use crate::upsampling::{half_count, read_halves, shares_chroma, upsample};
 use jr_head::{Head, Kind};
 
-/// Lines of samples, as many of each as pixels are painted at once.
+/// Lines of samples, as many of each as pixels are painted at once: room for pictures of at most `WIDTH` columns.
 #[derive(Drop)]
-pub(crate) struct SampleLines<const WIDTH: usize> {
+pub struct SampleLines<const WIDTH: usize> {
     /// Samples of a component before they are repeated.
     near: [u8; WIDTH],
     /// The first component of a line: luminance, red or grey.
@@ -27,7 +27,8 @@ pub(crate) struct SampleLines<const WIDTH: usize> {
 }
 
 impl<const WIDTH: usize> SampleLines<WIDTH> {
-    pub(crate) fn new() -> Self {
+    /// Room that is used again for each line.
+    pub fn new() -> Self {
         SampleLines {
             near: [0; WIDTH],
             first: [0; WIDTH],
@@ -139,5 +140,54 @@ pub(crate) fn fill_lines<S: Samples, const WIDTH: usize>(
         fill_two(samples, y, lines, pixels);
     } else {
         fill(samples, y, lines, pixels);
+    }
+}
+
+/// How many bytes a line of pixels has.
+pub fn bytes_of_line(head: &Head) -> usize
+    ensures value { result ≡ line_size head.now }
+    ensures few { result ≤ 3 * head.now.width }
+{
+    let width = head.width() as usize;
+    match head.kind() {
+        Kind::Grey => width,
+        Kind::Rgb | Kind::Ycc => 3 * width,
+    }
+}
+
+/// How many bytes the first lines have with some more, of `count` lines.
+fn bytes_to(painted: u32, more: u32, count: u32, line: usize) -> usize
+    requires within { painted + more ≤ count }
+    requires few { count < 65536 }
+    requires short { line ≤ 196605 }
+    ensures end { result ≡ painted * line + more * line }
+    ensures within { result ≤ count * line }
+{
+    (painted + more) as usize * line
+}
+
+/// The pixels of `count` lines from line y on, a line behind the other, of one byte or three each.
+pub fn paint_lines<S: Samples, const WIDTH: usize>(
+    samples: &S,
+    y: u32,
+    count: u32,
+    lines: &mut SampleLines<WIDTH>,
+    pixels: &mut [u8],
+)
+    requires wide { (S.head_of samples.now).width ≤ WIDTH }
+    requires down { y + count ≤ (S.head_of samples.now).height }
+    requires room { length pixels.old ≡ count * line_size (S.head_of samples.now) }
+    ensures { pixels.new ≡ next_lines_of (S.head_of samples.now) (S.shown samples.now) y count }
+{
+    samples.head().be_lawful();
+    let line = bytes_of_line(samples.head());
+    let mut painted = 0;
+    let mut filled = 0;
+    'lines: while painted < count {
+        let more = lines_at_once(samples.head(), y + painted).min(count - painted);
+        let end = bytes_to(painted, more, count, line);
+        fill_lines(samples, y + painted, more, lines, &mut pixels[filled..end]);
+        filled = end;
+        painted += more;
     }
 }

@@ -8,40 +8,27 @@ ghost use Rattle.jr_paint.specs.Written.{IsSent, WritesUpTo};
 ghost use Rattle.jr_paint.specs.declared.netpbm.TheConstants.{BATCH, TWO_WIDEST};
 
 use crate::header::put_header;
-use crate::lines::{SampleLines, fill_lines, lines_at_once};
+use crate::lines::{SampleLines, bytes_of_line, fill_lines, lines_at_once};
 use crate::samples::Samples;
 use jr_base::{Tally, WriteFault, write_all};
-use jr_head::{Head, Kind};
 use std::io::Write;
 
 /// The most pixels of a line of most pictures.
-const NARROW: usize = 4096;
+pub const NARROW: usize = 4096;
 
 /// The most bytes of a write, where two lines have fewer: six lines of 4096 pixels. So a write has enough bytes that its
 /// own cost is small beside theirs, and few enough for a cache.
-const BATCH: usize = 73_728;
+pub const BATCH: usize = 73_728;
 
 /// The most pixels of a line.
-const WIDEST: usize = 65_535;
+pub const WIDEST: usize = 65_535;
 
 /// The bytes of two lines of so many pixels.
 const TWO_WIDEST: usize = 393_210;
 
-/// How many bytes a line has.
-fn bytes_of_line(head: &Head) -> usize
-    ensures value { result ≡ line_size head.now }
-    ensures few { result ≤ 3 * head.now.width }
-{
-    let width = head.width() as usize;
-    match head.kind() {
-        Kind::Grey => width,
-        Kind::Rgb | Kind::Ycc => 3 * width,
-    }
-}
-
 /// Writes what stands in `pixels` up to `filled`, where fewer than `more` bytes are left behind it: answers up to where
 /// bytes stand that are not written yet.
-fn make_room<W: Write>(
+pub fn make_room<W: Write>(
     pixels: &[u8],
     filled: usize,
     more: usize,
