@@ -44,19 +44,19 @@ enum {
     JRI_END_OF_FILE = 5    /* the end of the file */
 };
 
-/* What a file's head says of its picture. With JRI_REFUSED the refusal's two numbers, and 0 for all else. */
+/* What a file's head says of its picture. With another answer than JRI_SOUND the refusal's two numbers, and 0 for all else. */
 struct jri_measure {
     uint32_t width;      /* in pixels, 1 to 65535 */
     uint32_t height;     /* in lines, 1 to 65535 */
     uint32_t kind;       /* JRI_GREY, JRI_RGB or JRI_YCBCR */
     uint32_t components; /* 1 or 3; a pixel has as many bytes */
     uint32_t intervals;  /* how many restart intervals there are; the marks have as many bytes */
-    uint32_t refusal;    /* the number of the refusal, 1 to 18; 0 where there is none */
+    uint32_t refusal;    /* the number of the refusal, 1 to 18, or 19 with JRI_NO_MEMORY; 0 where there is none */
     uint64_t pixels;     /* how many bytes the pixels have: width * height * components */
     uint64_t detail;     /* what the refusal tells beside its number: an offset or a marker's code */
 };
 
-/* What a decoding tells. With JRI_REFUSED the refusal's two numbers, and 0 for all else. */
+/* What a decoding tells. Without a picture the refusal's two numbers, where there is one, and 0 for all else. */
 struct jri_report {
     uint32_t intervals; /* how many restart intervals there are */
     uint32_t sound;     /* how many have a decoding */
@@ -65,7 +65,7 @@ struct jri_report {
     uint32_t ended;     /* what ended the scan: JRI_END_OF_IMAGE to JRI_END_OF_FILE */
     uint32_t found;     /* see there */
     uint32_t due;       /* see there */
-    uint32_t refusal;   /* the number of the refusal, 1 to 18; 0 where there is none */
+    uint32_t refusal;   /* the number of the refusal, 1 to 18, or 19 with JRI_NO_MEMORY; 0 where there is none */
     uint64_t at;        /* see there */
     uint64_t detail;    /* what the refusal tells beside its number: an offset or a marker's code */
 };
