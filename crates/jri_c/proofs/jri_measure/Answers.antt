@@ -1,4 +1,3 @@
-use Rattle.std.proofs.Common.{rules}
 use Rattle.jri_c.proofs.jri_measure.Goals as goal
 
 pub returns-in-Err-clause-refused : goal.returns-in-Err-clause-refused
