@@ -55,8 +55,8 @@ impl Write for Sink {
 }
 
 /// The fault of a run by one worker whose output fails at a call, or at none where that is 0; and the output.
-fn written(
-    rt: &(impl Threads + Wait + Sync + AllocGlobal),
+fn written<R: Threads + Wait + Sync + AllocGlobal>(
+    rt: &R,
     bytes: &[u8],
     most: usize,
     failing: u32,
@@ -81,10 +81,18 @@ fn check<R: Threads + Wait + Sync + AllocGlobal + Abort>(
     let bytes = made_file(rt.alloc(), shape, 5)?;
     let whole = decode(rt, bytes.as_slice(), 2, None)?.picture;
     let (fault, all) = written(rt, bytes.as_slice(), most, 0);
-    assert!(rt; fault.is_none() && all.bytes == whole, "{} by {most}", shape.frame);
+    assert!(rt;
+        fault.is_none() && all.bytes == whole,
+        "{} by {most}",
+        shape.frame
+    );
     for failing in 1..=all.calls {
         let (fault, sink) = written(rt, bytes.as_slice(), most, failing);
-        assert!(rt; fault == Some(Fault::Write), "{} call {failing}", shape.frame);
+        assert!(rt;
+            fault == Some(Fault::Write),
+            "{} call {failing}",
+            shape.frame
+        );
         assert!(rt; sink.calls == failing, "{} call {failing}", shape.frame);
         let is_front = whole.as_slice().starts_with(sink.bytes.as_slice());
         assert!(rt; is_front, "{} call {failing}", shape.frame);

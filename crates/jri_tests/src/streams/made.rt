@@ -4,8 +4,8 @@ use crate::files::{file, put_parts};
 use std::alloc::Global;
 use std::test::Fail;
 
-/// Twenty-two data units of twelve bits: each is lighter or darker than the one before, and not the same in its columns
-/// nor in its lines. Half of them are one shade lighter, the others darker.
+/// Twenty-two data units of twelve bits, each lighter than the one before, or else darker, eleven times in turn. In none are
+/// all columns the same, or all lines.
 const UNITS: &str = "64875A6DA7DA6CA6C874875865875A74A5CA4CA5584585584484CA4CA5DA4DA4D8";
 
 /// How many bytes these are: two data units are three.

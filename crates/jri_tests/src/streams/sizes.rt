@@ -2,14 +2,13 @@
 
 use super::made::{Shape, colour, grey, made_file, shapes};
 use super::{check, check_firsts};
-use crate::decoding::decode;
 use crate::files::{front, with_byte};
 use std::process::Abort;
 use std::sync::Wait;
 use std::test::Fail;
 use std::thread::Threads;
 
-/// A file whole, of which each interval is sound, cut, and changed at one byte.
+/// A file whole, of which each interval is sound; and without its last bytes, where an interval before has no decoding.
 fn check_file<R: Threads + Wait + Sync + AllocGlobal + Abort>(
     rt: &R,
     shape: &Shape,
@@ -17,13 +16,11 @@ fn check_file<R: Threads + Wait + Sync + AllocGlobal + Abort>(
 ) -> Result<(), Fail> {
     let whole = made_file(rt.alloc(), shape, restart)?;
     let bytes = whole.as_slice();
-    assert!(rt; decode(rt, bytes, 1, None)?.status == 0, "{} {restart}", shape.frame);
-    check(rt, bytes, None, shape.frame)?;
-    let behind = bytes.len().saturating_sub(30);
-    check(rt, front(bytes, behind), Some(2), shape.frame)?;
-    let changed = with_byte(rt.alloc(), bytes, behind, 0xE0)?;
-    check(rt, changed.as_slice(), None, shape.frame)?;
-    check_firsts(rt, changed.as_slice(), shape.frame)
+    let status = check(rt, bytes, None, shape.frame)?;
+    assert!(rt; status == 0, "{} {restart}", shape.frame);
+    let changed = with_byte(rt.alloc(), bytes, bytes.len().saturating_sub(40), 0xE0)?;
+    let cut = front(changed.as_slice(), bytes.len().saturating_sub(12));
+    check_firsts(rt, cut, shape.frame)
 }
 
 /// No restart markers; intervals of one MCU, of a prime number of MCUs, of one less than a row has, of a row, of one more,
@@ -82,18 +79,19 @@ fn check_wide<R: Threads + Wait + Sync + AllocGlobal + Abort>(
     restart: u32,
 ) -> Result<(), Fail> {
     let bytes = made_file(rt.alloc(), shape, restart)?;
-    check(rt, bytes.as_slice(), None, shape.frame)?;
-    check(rt, bytes.as_slice(), Some(1), shape.frame)
+    let status = check(rt, bytes.as_slice(), Some(2), shape.frame)?;
+    assert!(rt; status == 0, "{}", shape.frame);
+    Ok(())
 }
 
-/// As wide as a picture that is painted with little room, one column wider, and the widest.
+/// As wide as a picture that is painted with little room, and one column wider.
 #[test]
 fn writes_wide_pictures(rt: HostRuntime) -> Result<(), Fail> {
     let cases = [
-        (grey("F:0011:1000", 512, 1536), 101),
-        (grey("F:0011:1001", 513, 1539), 0),
+        (grey("F:0009:1000", 512, 1024), 513),
+        (grey("F:0009:1001", 513, 1026), 0),
+        (grey("F:0011:1001", 513, 1539), 701),
         (colour("F3:0011:1001:22", 257, 514, 6), 257),
-        (colour("F3:0009:FFFF:21", 4096, 8192, 4), 4099),
     ];
     for (shape, restart) in cases {
         check_wide(&rt, &shape, restart)?;
