@@ -26,7 +26,7 @@ pub least_few : (first : Option ℕ) (n : ℕ) → least first n ≤ n
 least_few None n = omega arith
 least_few (Some k) n = omega arith
 
-not_blank : (t : Bool) → cond t Sound Damaged ≢ Blank
+pub not_blank : (t : Bool) → cond t Sound Damaged ≢ Blank
 not_blank true e = absurd cc
 not_blank false e = absurd cc
 

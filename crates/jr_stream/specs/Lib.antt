@@ -2,3 +2,4 @@ pub mod BandValue
 pub mod Bands
 pub mod RowsValue
 pub mod Rows
+pub mod Stream

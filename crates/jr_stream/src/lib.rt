@@ -2,4 +2,5 @@
 #![tactic(auto)]
 
 mod band;
+mod rows;
 mod shown;

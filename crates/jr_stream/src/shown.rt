@@ -1,6 +1,6 @@
 //! What is shown of one interval, data unit by data unit.
 
-ghost use Rattle.std.specs.Prelude.{◌≡◌, ℕ, ◌+◌, ◌-◌, ◌*◌, ◌/◌, ◌%◌, ◌<◌, ◌≤◌, length, slice_index_or, [], Option};
+ghost use Rattle.std.specs.Prelude.{◌≡◌, ℕ, ◌+◌, ◌-◌, ◌*◌, ◌%◌, ◌<◌, ◌≤◌, length, slice_index_or, [], Option, None};
 ghost use Rattle.jr_head.specs.Geometry.{blocks_of};
 ghost use Rattle.jr_piece.specs.PieceValue.{PieceValue};
 ghost use Rattle.jr_wall.specs.Boards.{mark_of};
@@ -33,25 +33,29 @@ impl<'a> Model for Shown<'a> {
     ghost invariant = { λ s. (s.mcu ≤ s.reader.interval.mcus) × (s.is_blank ≡ false → s.reader.mcu ≡ s.mcu) };
 }
 
-/// Fills the data units of blank MCUs: black.
-fn fill_blank(head: &Head, units: &mut [[u8; 64]])
-    ensures { (k : ℕ) → k < length units.new → slice_index_or units.new k [] ≡ unit_shown_of head.now (k % blocks_of head.now) None k }
+/// Data unit j of a blank MCU: black.
+fn blank_unit(head: &Head, j: usize) -> [u8; 64]
+    requires { j < blocks_of head.now }
+    ensures { result ≡ unit_shown_of head.now j None 0 }
 {
-    let order = head.order();
-    let mut j = 0;
-    for unit in units.iter_mut() {
-        *unit = [blank_sample(head.kind(), u32::from(order[j])); 64];
-        j += 1;
-        if j == order.len() {
-            j = 0;
-        }
+    let component = head.order()[j];
+    [blank_sample(head.kind(), u32::from(component)); 64]
+}
+
+/// Fills the data units of blank MCUs.
+fn fill_blank(head: &Head, units: &mut [[u8; 64]])
+    ensures { (k : ℕ) → k < length units.new → slice_index_or units.new k [] ≡ unit_shown_of head.now (k % blocks_of head.now) None 0 }
+{
+    let per_mcu = head.order().len();
+    for k in 0..units.len() {
+        units[k] = blank_unit(head, k % per_mcu);
     }
 }
 
 impl<'a> Shown<'a> {
     /// Nothing is shown of the interval yet.
     pub(crate) fn open(interval: IntervalRef<'a>, is_blank: bool) -> Shown<'a>
-        ensures { result ≡ record { interval = interval; is_blank = is_blank; mcu = 0 } }
+        ensures { result ≡ record { interval = interval.entry; is_blank = is_blank; mcu = 0 } }
     {
         Shown {
             reader: UnitReader::over(interval),
@@ -76,12 +80,13 @@ impl<'a> Shown<'a> {
         ensures units { (q : Option PieceValue) → IsPosted self.old q → (k : ℕ) → k < length units.new
             → slice_index_or units.new k [] ≡ unit_shown_of self.old.interval.head (k % blocks_of self.old.interval.head) q (self.old.mcu * blocks_of self.old.interval.head + k) }
     {
+        let left = self.left() - mcus;
         if self.is_blank {
             fill_blank(self.reader.interval().head(), units);
         } else {
             self.reader.fill(mcus, units);
         }
-        self.mcu += mcus;
+        self.mcu = self.reader.interval().mcus() - left;
     }
 
     /// The interval's mark, once all its MCUs are shown.

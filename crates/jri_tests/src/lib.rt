@@ -67,6 +67,8 @@ mod strip_cells;
 #[cfg(test)]
 mod strips;
 #[cfg(test)]
+mod unit_readers;
+#[cfg(test)]
 mod viewers;
 #[cfg(test)]
 mod views;
