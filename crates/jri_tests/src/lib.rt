@@ -63,6 +63,8 @@ mod shares;
 #[cfg(test)]
 mod short_files;
 #[cfg(test)]
+mod streams;
+#[cfg(test)]
 mod strip_cells;
 #[cfg(test)]
 mod strips;

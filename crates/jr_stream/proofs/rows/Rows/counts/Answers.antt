@@ -16,4 +16,5 @@ returns c =
     let last = last_there r.scan.head r.number r.mcu some few pixels c.requires in
     let few : c.counted-sound.result.0 + c.counted-sound.result.1 ≤ r.number + 1 = c.counted-sound.ensures.few in
     let sum : c.counted-sound.result.0 + c.counted-sound.result.1 + (c.intervals-2.result - c.counted-sound.result.0 - c.counted-sound.result.1) ≡ length r.scan.intervals = omega (arith, few, last.0, count, c.intervals-2.ensures.count, all) in
-    counted_all r c.counted-sound.result.0 c.counted-sound.result.1 (c.intervals-2.result - c.counted-sound.result.0 - c.counted-sound.result.1) (last.0 ∙ sym count) c.counted-sound.ensures.counts sum
+    let are = counted_all r c.counted-sound.result.0 c.counted-sound.result.1 (c.intervals-2.result - c.counted-sound.result.0 - c.counted-sound.result.1) (last.0 ∙ sym count) c.counted-sound.ensures.counts sum in
+    search (rules, are)

@@ -1,0 +1,99 @@
+//! One worker writes a picture while it decodes, a row of MCUs after the other. It is the picture, with the report and the
+//! status, that several workers give, who keep all pieces on a board.
+
+ghost use Rattle.std.specs.Prelude.{◌≤◌};
+ghost use Rattle.jr_base.specs.declared.limits.TheConstants.{MAX_WORKERS};
+
+mod devices;
+mod gates;
+mod made;
+mod sizes;
+mod worked;
+
+use crate::decoding::{Outcome, decode};
+use crate::scans::scan_of;
+use jr_paint::{Tally, write_netpbm};
+use jr_scan::Scan;
+use jr_stream::write_scan;
+use jr_wall::{OpenGate, decode_all};
+use std::alloc::Global;
+use std::process::Abort;
+use std::sync::{Arc, Wait};
+use std::test::Fail;
+use std::thread::Threads;
+
+/// Whether two runs gave the same picture, lines and status.
+fn is_same(one: &Outcome, other: &Outcome) -> bool {
+    one.picture == other.picture && one.lines == other.lines && one.status == other.status
+}
+
+/// Holds the outcomes of several workers against that of one, for so many first intervals of a file; gives the status.
+fn check<R: Threads + Wait + Sync + AllocGlobal + Abort>(
+    rt: &R,
+    bytes: &[u8],
+    first: Option<u32>,
+    name: &str,
+) -> Result<u8, Fail> {
+    let one = decode(rt, bytes, 1, first)?;
+    for workers in [2, 3, 4, 64] {
+        let other = decode(rt, bytes, workers, first)?;
+        assert!(rt;
+            is_same(&one, &other),
+            "{name} by {workers} workers, first {first:?}"
+        );
+    }
+    Ok(one.status)
+}
+
+/// A picture's text, and how many of its intervals are sound, damaged and blank.
+#[derive(Drop)]
+struct Written {
+    text: Vec<u8>,
+    counts: (u32, u32, u32),
+}
+
+/// As it is written while a scan is decoded.
+fn streamed(alloc: Global, scan: &Scan, first: Option<u32>) -> Result<Written, Fail> {
+    let mut out = Tally::of(Vec::new(alloc));
+    let counts = write_scan(alloc, scan, first, &OpenGate, &mut out)
+        .ok()
+        .ok_or("a picture that is not written")?;
+    Ok(Written {
+        text: out.into_inner(),
+        counts: (counts.sound, counts.damaged, counts.blank),
+    })
+}
+
+/// As it is written from a board of all that two workers decode.
+fn kept<R: Threads + Wait + Sync + AllocGlobal>(
+    rt: &R,
+    scan: Arc<Scan>,
+    first: Option<u32>,
+) -> Result<Written, Fail> {
+    let board = decode_all(rt, rt.alloc(), scan, 2, first, &OpenGate)?;
+    let mut out = Tally::of(Vec::new(rt.alloc()));
+    write_netpbm(&board, &mut out)
+        .ok()
+        .ok_or("a picture that is not written")?;
+    Ok(Written {
+        text: out.into_inner(),
+        counts: (board.sound(), board.damaged(), board.blank()),
+    })
+}
+
+/// Holds what is written in one pass against what is written from a board, for several numbers of first intervals.
+fn check_firsts<R: Threads + Wait + Sync + AllocGlobal + Abort>(
+    rt: &R,
+    bytes: &[u8],
+    name: &str,
+) -> Result<(), Fail> {
+    let scan = scan_of(rt.alloc(), bytes)?;
+    let scan = Arc::new(rt.alloc(), scan)?;
+    for first in [None, Some(0), Some(1), Some(5)] {
+        let one = streamed(rt.alloc(), &scan, first)?;
+        let other = kept(rt, Arc::try_clone(&scan)?, first)?;
+        let is_same = one.text == other.text && one.counts == other.counts;
+        assert!(rt; is_same, "{name}, first {first:?}");
+    }
+    Ok(())
+}

@@ -1,0 +1,114 @@
+//! Devices that move few bytes a call, and writers that fail at one call, behind some rows of MCUs.
+
+use super::made::{Shape, colour, grey, made_file};
+use crate::decoding::decode;
+use jr_paint::Tally;
+use jr_wall::OpenGate;
+use jri_engine::{Fault, run};
+use std::alloc::Global;
+use std::io::{Error, ErrorKind, Read, Result as IoResult, Write};
+use std::process::Abort;
+use std::sync::Wait;
+use std::test::Fail;
+use std::thread::Threads;
+
+/// Gives a byte a call.
+#[derive(Drop)]
+struct Source<'a> {
+    rest: &'a [u8],
+}
+
+impl Read for Source<'_> {
+    fn read(&mut self, buf: &mut [u8]) -> IoResult<usize> {
+        let (Some((byte, rest)), Some(place)) = (self.rest.split_first(), buf.first_mut()) else {
+            return Ok(0);
+        };
+        *place = *byte;
+        self.rest = rest;
+        Ok(1)
+    }
+}
+
+/// Takes at most so many bytes a call; the call of one number fails, and those behind it go on.
+#[derive(Drop)]
+struct Sink {
+    bytes: Vec<u8>,
+    most: usize,
+    calls: u32,
+    failing: u32,
+}
+
+impl Write for Sink {
+    fn write(&mut self, buf: &[u8]) -> IoResult<usize> {
+        self.calls = self.calls.wrapping_add(1);
+        if self.calls == self.failing {
+            return Err(Error::from(ErrorKind::StorageFull));
+        }
+        let most = buf.len().min(self.most);
+        self.bytes.extend_from_slice(&buf[..most])?;
+        Ok(most)
+    }
+
+    fn flush(&mut self) -> IoResult<()> {
+        Ok(())
+    }
+}
+
+/// The fault of a run by one worker whose output fails at a call, or at none where that is 0; and the output.
+fn written<R: Threads + Wait + Sync + AllocGlobal>(
+    rt: &R,
+    bytes: &[u8],
+    most: usize,
+    failing: u32,
+) -> (Option<Fault>, Sink) {
+    let mut input = Tally::of(Source { rest: bytes });
+    let mut out = Tally::of(Sink {
+        bytes: Vec::new(rt.alloc()),
+        most,
+        calls: 0,
+        failing,
+    });
+    let outcome = run(rt, rt.alloc(), &mut input, &mut out, 1, None, &OpenGate);
+    (outcome.err(), out.into_inner())
+}
+
+/// The whole picture is written where no call fails; else what stands before that call, and none is made behind it.
+fn check<R: Threads + Wait + Sync + AllocGlobal + Abort>(
+    rt: &R,
+    shape: &Shape,
+    most: usize,
+) -> Result<(), Fail> {
+    let bytes = made_file(rt.alloc(), shape, 5)?;
+    let whole = decode(rt, bytes.as_slice(), 2, None)?.picture;
+    let (fault, all) = written(rt, bytes.as_slice(), most, 0);
+    assert!(rt;
+        fault.is_none() && all.bytes == whole,
+        "{} by {most}",
+        shape.frame
+    );
+    for failing in 1..=all.calls {
+        let (fault, sink) = written(rt, bytes.as_slice(), most, failing);
+        assert!(rt;
+            fault == Some(Fault::Write),
+            "{} call {failing}",
+            shape.frame
+        );
+        assert!(rt; sink.calls == failing, "{} call {failing}", shape.frame);
+        let is_front = whole.as_slice().starts_with(sink.bytes.as_slice());
+        assert!(rt; is_front, "{} call {failing}", shape.frame);
+    }
+    Ok(())
+}
+
+#[test]
+fn writes_rows_of_mcus_by_a_byte_a_call(rt: HostRuntime) -> Result<(), Fail> {
+    check(&rt, &grey("F:0011:0009", 2, 6), 1)?;
+    check(&rt, &colour("F3:0011:0005:12", 1, 2, 4), 1)
+}
+
+/// More rows of MCUs than one write takes.
+#[test]
+fn writes_large_pictures_by_larger_calls(rt: HostRuntime) -> Result<(), Fail> {
+    check(&rt, &grey("F:0051:0401", 129, 1419), 10_000)?;
+    check(&rt, &colour("F3:0041:0201:22", 33, 165, 6), 73_728)
+}

@@ -1,0 +1,87 @@
+//! A gate is told each interval that is decoded, once and in their order, and of no piece, since none is made.
+
+use crate::files::{COLOURED, MIXED, TEN, file};
+use crate::scans::scan;
+use jr_paint::Tally;
+use jr_stream::write_scan;
+use jr_wall::{Gate, Piece};
+use jri_engine::run;
+use std::process::Abort;
+use std::sync::Wait;
+use std::sync::atomic::{AtomicU32, Ordering};
+use std::test::Fail;
+use std::thread::Threads;
+
+/// How many intervals have passed; the others wait for none.
+#[derive(Drop)]
+struct Passage {
+    passed: AtomicU32,
+    /// Intervals that passed out of their order, and pieces.
+    wrong: AtomicU32,
+}
+
+impl Passage {
+    fn new() -> Passage {
+        Passage {
+            passed: AtomicU32::new(0),
+            wrong: AtomicU32::new(0),
+        }
+    }
+
+    /// Whether just the first so many passed, in their order.
+    fn has_passed(&self, number: u32) -> bool {
+        self.passed.load(Ordering::SeqCst) == number && self.wrong.load(Ordering::SeqCst) == 0
+    }
+}
+
+impl Gate for Passage {
+    fn pass(&self, number: u32) {
+        if self.passed.fetch_add(1, Ordering::SeqCst) != number {
+            self.wrong.fetch_add(1, Ordering::SeqCst);
+        }
+    }
+
+    fn made(&self, _piece: &Piece) {
+        self.wrong.fetch_add(1, Ordering::SeqCst);
+    }
+}
+
+fn check<R: Threads + Wait + Sync + AllocGlobal + Abort>(
+    rt: &R,
+    words: &str,
+    first: Option<u32>,
+    passed: u32,
+) -> Result<(), Fail> {
+    let gate = Passage::new();
+    let scan = scan(rt.alloc(), words)?;
+    let mut out = Tally::of(Vec::new(rt.alloc()));
+    assert!(rt; write_scan(rt.alloc(), &scan, first, &gate, &mut out).is_ok());
+    assert!(rt; gate.has_passed(passed), "{words} by write_scan");
+    let gate = Passage::new();
+    let bytes = file(rt.alloc(), words)?;
+    let mut input = Tally::of(bytes.as_slice());
+    let mut out = Tally::of(Vec::new(rt.alloc()));
+    assert!(rt; run(rt, rt.alloc(), &mut input, &mut out, 1, first, &gate).is_ok());
+    assert!(rt; gate.has_passed(passed), "{words} by run");
+    Ok(())
+}
+
+#[test]
+fn tells_a_gate_each_of_the_first_intervals_once(rt: HostRuntime) -> Result<(), Fail> {
+    let cases = [
+        (TEN, None, 10),
+        (TEN, Some(0), 0),
+        (TEN, Some(1), 1),
+        (TEN, Some(4), 4),
+        (TEN, Some(4_294_967_295), 10),
+        (MIXED, None, 10),
+        (MIXED, Some(7), 7),
+        (COLOURED, None, 2),
+        ("G 63 E", None, 1),
+        ("G 63 E", Some(0), 0),
+    ];
+    for (words, first, passed) in cases {
+        check(&rt, words, first, passed)?;
+    }
+    Ok(())
+}
