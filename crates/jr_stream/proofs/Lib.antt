@@ -5,3 +5,5 @@ pub mod UnitComponents
 pub mod RowLines
 pub mod FirstBoards
 pub mod ReadRows
+pub mod PaintedRows
+pub mod PictureRows

@@ -1,5 +1,5 @@
 -- What is shown of an interval, by what is posted of it.
-use Rattle.std.proofs.Common.{◌≡◌, ℕ, ◌+◌, ◌*◌, ◌%◌, ◌<◌, true, false, inl, inr, Option, Some, None, List, [], length, replicate, slice_index_or, refl, sym, ap, ◌∙◌, arith}
+use Rattle.std.proofs.Common.{◌≡◌, ℕ, ◌+◌, ◌*◌, ◌%◌, ◌<◌, true, false, Option, Some, None, List, [], length, replicate, slice_index_or, refl, sym, ap, ◌∙◌, arith}
 use Rattle.std.proofs.lemmas.Bool.{true≢false, false≢true}
 use Rattle.std.proofs.Math.Nat.{mod-eq_of_lt}
 use Rattle.jr_head.specs.HeadValue.{HeadValue}
@@ -8,7 +8,6 @@ use Rattle.jr_head.proofs.SamplingLaws.{length-order}
 use Rattle.jr_piece.specs.PieceValue.{PieceValue}
 use Rattle.jr_piece.specs.Outcome.{IsOutcome}
 use Rattle.jr_piece.specs.Units.{ShowsUnits, unit_in_piece}
-use Rattle.jr_wall.specs.declared.mark.Mark.{Mark}
 use Rattle.jr_wall.specs.declared.mark.Mark.TheVariants.{Blank, Sound, Damaged}
 use Rattle.jr_wall.specs.Boards.{mark_of}
 use Rattle.jr_wall.specs.Headline.{blank_of}

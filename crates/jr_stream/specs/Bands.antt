@@ -3,7 +3,6 @@ use Rattle.std.specs.Prelude.{◌≡◌, ℕ, ◌+◌, ◌*◌, ◌/◌, ◌%◌
 use Rattle.jr_head.specs.HeadValue.{HeadValue}
 use Rattle.jr_head.specs.Geometry.{horizontal_of, vertical_of, blocks_of}
 use Rattle.jr_paint.specs.Geometry.{place_of, spot_at}
-use Rattle.jr_paint.specs.declared.geometry.Spot.{Spot}
 use Rattle.jr_scan.specs.Mcus.{component}
 use Rattle.jr_piece.specs.PieceValue.{PieceValue}
 use Rattle.jr_piece.specs.Units.{unit_in_piece}

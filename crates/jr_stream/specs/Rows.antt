@@ -1,6 +1,6 @@
 -- How far the rows of a scan are read.
-use Rattle.std.specs.Prelude.{◌≡◌, ℕ, ◌+◌, ◌*◌, ◌≤◌, ◌<◌, Bool, true, false, nat_le, List, length, take, count_by, Option, Some, None}
-use Rattle.jr_scan.specs.ScanValue.{ScanValue, interval_of, mcus_in}
+use Rattle.std.specs.Prelude.{◌≡◌, ℕ, ◌+◌, ◌*◌, true, false, nat_le, take, count_by, Option, Some, None}
+use Rattle.jr_scan.specs.ScanValue.{ScanValue, interval_of}
 use Rattle.jr_piece.specs.PieceValue.{PieceValue}
 use Rattle.jr_piece.specs.Outcome.{IsOutcome}
 use Rattle.jr_wall.specs.BoardValue.{BoardValue}

@@ -1,5 +1,5 @@
 -- What is written of a scan.
-use Rattle.std.specs.Prelude.{◌≡◌, ℕ, List, Option}
+use Rattle.std.specs.Prelude.{ℕ, List, Option}
 use Rattle.jr_base.specs.declared.tally.Tally.{Tally}
 use Rattle.jr_base.specs.Tally.{Writes, WritesBeginning}
 use Rattle.jr_paint.specs.Text.{text_of}

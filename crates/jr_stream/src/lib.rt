@@ -4,3 +4,6 @@
 mod band;
 mod rows;
 mod shown;
+mod writing;
+
+pub use writing::{Unwritten, write_scan};

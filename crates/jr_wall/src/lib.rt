@@ -31,4 +31,4 @@ pub use jr_piece::{
 pub use laws::one_picture;
 pub use mark::Mark;
 pub use painting::blank_sample;
-pub use workers::{decode_all, work};
+pub use workers::{decode_all, decode_alone, work};

@@ -8,6 +8,7 @@ ghost use Rattle.jr_wall.specs.Decoded.{IsDecoded, least};
 use crate::board::Board;
 use crate::decoding::Decoding;
 use crate::gate::Gate;
+use crate::sweeping::sweep;
 use jr_cells::{Cells, Sight};
 use jr_code::Memory;
 use jr_desk::{Desk, Seat};
@@ -96,4 +97,18 @@ pub fn decode_all<R: Threads + Wait + Sync, G: Gate + Sync>(
     let (decoding, seats) = Decoding::open(alloc, scan, workers, first)?;
     decoding.run_here(rt, seats, gate);
     decoding.finish()
+}
+
+/// Decodes the first intervals of a scan, or all, in the calling thread, without a lock: each of them is marked on the
+/// board that comes back, and no other.
+pub fn decode_alone(alloc: Global, scan: &Arc<Scan>, first: Option<u32>) -> Result<Board, Memory>
+    ensures { IfOk result (λ b. IsDecoded (arc_value scan.now) (least first (length (arc_value scan.now).intervals)) b) }
+{
+    let all = scan.intervals();
+    let n = match first {
+        Some(first) => first.min(all),
+        None => all,
+    };
+    let board = Board::new(alloc, Arc::try_clone(scan)?)?;
+    sweep(alloc, scan, board, n)
 }

@@ -8,6 +8,7 @@ mod finishing;
 mod laws;
 mod reading;
 mod report;
+mod scanning;
 mod status;
 
 pub use answers::{Asked, Unasked};
@@ -16,3 +17,4 @@ pub use engine::run;
 pub use finishing::finish;
 pub use laws::one_text;
 pub use report::{Fault, Report};
+pub use scanning::scan_of_file;

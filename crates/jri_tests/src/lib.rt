@@ -33,6 +33,8 @@ mod head;
 #[cfg(test)]
 mod idct;
 #[cfg(test)]
+mod in_memory;
+#[cfg(test)]
 mod limits;
 #[cfg(test)]
 mod long_intervals;

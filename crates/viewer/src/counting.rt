@@ -61,9 +61,10 @@ pub fn tell<R: Threads + Wait + Clock + Sync, W: Write, E: Write>(
     let mut counter = Counter { errors, seen: 0 };
     let decoding = watch(rt, alloc, Arc::new(alloc, scan)?, &mut counter)?;
     let Count { seen, damaged } = look_over(decoding.cells())?;
+    let plural = if seen == 1 { "" } else { "s" };
     let _ = writeln!(
         out,
-        "{seen} intervals can be seen, {damaged} of them damaged"
+        "{seen} interval{plural} can be seen, {damaged} of them damaged"
     );
     Ok(())
 }

@@ -1,5 +1,4 @@
-use Rattle.std.proofs.Common.{rules, ◌≡◌, ◌+◌, ◌∙◌, ap, sym, arith, List, ℕ}
-use Rattle.jr_stream.specs.Bands.{samples_in, sample_in_row}
+use Rattle.std.proofs.Common.{rules, ◌≡◌, ◌+◌, arith}
 use Rattle.jr_stream.proofs.UnitRows.{crossed}
 use Rattle.jr_stream.proofs.band.BandSamples.line.Goals as goal
 

@@ -1,7 +1,6 @@
 use Rattle.std.proofs.Common.{rules, arith, sym, ◌∙◌, ◌≡◌, ◌+◌, ◌-◌, ◌<◌, ◌≤◌, length}
 use Rattle.jr_head.specs.Geometry.{mcus_of}
 use Rattle.jr_scan.specs.ScanValue.{intervals_of, mcus_in}
-use Rattle.jr_stream.specs.Rows.{mcus_read}
 use Rattle.jr_stream.proofs.IntervalPlaces.{last_there}
 use Rattle.jr_stream.proofs.ReadRows.{counted_all}
 use Rattle.jr_stream.proofs.rows.Rows.counts.Goals as goal

@@ -1,6 +1,5 @@
-use Rattle.std.proofs.Common.{rules, arith, ap, sym, subst, ◌∙◌, ℕ, ◌≡◌, ◌+◌, ◌-◌, ◌*◌, ◌/◌, ◌%◌, ◌<◌, ◌≤◌, [], length, slice_index_or}
+use Rattle.std.proofs.Common.{rules, arith, sym, subst, ℕ, ◌≡◌, ◌+◌, ◌*◌, ◌/◌, ◌%◌, ◌<◌, [], slice_index_or}
 use Rattle.jr_head.specs.Geometry.{blocks_of}
-use Rattle.jr_head.specs.HeadValue.{HeadValue}
 use Rattle.jr_scan.specs.ScanValue.{ScanValue}
 use Rattle.jr_stream.specs.Bands.{unit_shown}
 use Rattle.jr_stream.specs.Rows.{HasFirst, mcus_read}

@@ -1,6 +1,6 @@
 use Rattle.std.proofs.Common.{rules, arith, subst, ◌∙◌, ◌≡◌, ◌+◌, ◌-◌, ◌*◌, ◌<◌, ◌≤◌, [], length}
 use Rattle.jr_head.specs.Geometry.{blocks_of}
-use Rattle.jr_scan.specs.ScanValue.{intervals_of, mcus_in}
+use Rattle.jr_scan.specs.ScanValue.{mcus_in}
 use Rattle.jr_stream.specs.RowsValue.{RowsValue}
 use Rattle.jr_stream.specs.Rows.{HasFirst, IsAt}
 use Rattle.jr_stream.proofs.ShownUnits.{Shows}

@@ -1,6 +1,6 @@
-use Rattle.std.proofs.Common.{rules, arith, ◌≡◌, ◌+◌, ◌<◌, length}
+use Rattle.std.proofs.Common.{rules, ◌≡◌, ◌<◌}
 use Rattle.jr_scan.specs.ScanValue.{intervals_of, mcus_in}
-use Rattle.jr_stream.proofs.IntervalPlaces.{next_there, mcus_in_some}
+use Rattle.jr_stream.proofs.IntervalPlaces.{next_there}
 use Rattle.jr_stream.proofs.rows.Rows.ready.Goals as goal
 
 pub advance-requires-clause-more : goal.advance-requires-clause-more

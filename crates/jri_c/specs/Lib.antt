@@ -1,0 +1,2 @@
+pub mod Calls
+pub use Rattle.jri_engine.specs.Files

@@ -1,0 +1,54 @@
+//! The texts of refusals.
+
+ghost use Rattle.std.specs.Prelude.{◌≡◌, ◌≤◌, ◌<◌, length, drop, IfSome};
+ghost use Rattle.jr_head.specs.Refusal.{number_of};
+
+use jr_head::Refusal;
+use std::io::{Cursor, Write};
+
+/// More bytes than the longest text has.
+const ROOM: usize = 128;
+
+/// The refusal of this number that tells this beside it.
+fn refusal_of(number: u32, detail: u64) -> Option<Refusal>
+    ensures { IfSome result (λ f. number ≡ number_of f) }
+{
+    let code = (detail % 256) as u8;
+    match number {
+        1 => Some(Refusal::NotJpeg),
+        2 => Some(Refusal::EndsEarly),
+        3 => Some(Refusal::ExpectedMarker(detail)),
+        4 => Some(Refusal::UnexpectedMarker(code)),
+        5 => Some(Refusal::NotBaseline(code)),
+        6 => Some(Refusal::BadLength(code)),
+        7 => Some(Refusal::BadQuantTable),
+        8 => Some(Refusal::BadCodeTable),
+        9 => Some(Refusal::SecondFrame),
+        10 => Some(Refusal::BadPrecision),
+        11 => Some(Refusal::BadSize),
+        12 => Some(Refusal::TooManyPixels),
+        13 => Some(Refusal::BadComponents),
+        14 => Some(Refusal::BadSampling),
+        15 => Some(Refusal::BadScanHeader),
+        16 => Some(Refusal::NoFrame),
+        17 => Some(Refusal::MissingTable),
+        18 => Some(Refusal::TooLong),
+        19 => Some(Refusal::Memory),
+        _ => None,
+    }
+}
+
+/// Puts the text of a refusal by its numbers, as much as there is room for; how many bytes. None where there is no such.
+pub(crate) fn put_text(number: u32, detail: u64, text: &mut [u8]) -> usize
+    ensures few { result ≤ length text.new }
+    ensures kept { drop result text.new ≡ drop result text.old }
+{
+    let Some(refusal) = refusal_of(number, detail) else {
+        return 0;
+    };
+    let mut line = Cursor::new([0; ROOM]);
+    let _ = write!(line, "{refusal}");
+    let length = (line.position() as usize).min(ROOM).min(text.len());
+    text[..length].copy_from_slice(&line.get_ref()[..length]);
+    length
+}

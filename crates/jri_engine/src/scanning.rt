@@ -1,0 +1,32 @@
+//! The scan of a file in memory.
+
+ghost use Rattle.std.specs.Prelude.{◌≢◌, IfOk, IfErr};
+ghost use Rattle.std.specs.Arc.{arc_value};
+ghost use Rattle.jr_head.specs.declared.refusal.Refusal.TheVariants as refusal;
+ghost use Rattle.jr_head.specs.Heads.{RefusalOf};
+ghost use Rattle.jri_engine.specs.Files.{IsScanOfFile};
+
+use jr_head::{Refusal, read_head};
+use jr_scan::Scan;
+use std::alloc::Global;
+use std::sync::Arc;
+
+/// The scan of a file, cut into its intervals, of which none is decoded.
+///
+/// # Errors
+///
+/// The file's first fault; `Memory` where memory was refused, which says nothing of the file.
+pub fn scan_of_file(alloc: Global, file: &[u8]) -> Result<Arc<Scan>, Refusal>
+    ensures scan { IfOk result (λ scan. IsScanOfFile file.now (arc_value scan)) }
+    ensures refused { IfErr result (λ f. f ≢ refusal.Memory → RefusalOf file.now f) }
+{
+    let head = read_head(alloc, file)?;
+    head.be_lawful();
+    let Ok(scan) = Scan::cut(alloc, head, file) else {
+        return Err(Refusal::Memory);
+    };
+    match Arc::new(alloc, scan) {
+        Ok(scan) => Ok(scan),
+        Err(_) => Err(Refusal::Memory),
+    }
+}
