@@ -1,6 +1,7 @@
-use Rattle.std.proofs.Common.{refl, sym, subst, ap, rules, arith, ◌≡◌, ◌+◌, ◌*◌, ◌-◌, ◌≤◌, ◌<◌, ◌++◌, ◌∙◌, min, length, take}
+use Rattle.std.proofs.Common.{refl, sym, subst, ap, rules, arith, ◌≡◌, ◌+◌, ◌*◌, ◌-◌, ◌≤◌, ◌<◌, ◌++◌, ◌∙◌, min, length, take, OnOk, OnErr}
 use Rattle.std.proofs.Math.Nat.{add-mul}
 use borrow.Rule.Slice.PartMut.{put_mid}
+use Rattle.jr_base.specs.Tally.{Writes, WritesBeginning}
 use Rattle.jr_base.proofs.Appending.{on_err, front_first}
 use Rattle.jr_head.specs.Geometry.{IsLawful, blocks_of, mcus_across, mcus_down, vertical_max}
 use Rattle.jr_paint.specs.Text.{header_of, lines_of}
@@ -105,5 +106,7 @@ returns-clause-sent g c b first =
     let h = c.args.rows.now.scan.head in
     let end : c.rows.row ≡ mcus_down h = search (rules, arith) in
     let sent = rw (end, all_lines h (search rules), ← text_is h (samples_of b)) at (c.rows.invariant.sent b first) in
-    let all = c.write_all.ensures in
-    rest_sent g.W.Write.contents c.args.out.now c.rows.out c.write_all.new.out c.write_all.result _ _ sent all.ok all.err all.failed
+    let ready = take c.rows.filled c.rows.pixels in
+    let ok : OnOk c.write_all.result (Writes g.W.Write.contents c.rows.out c.write_all.new.out ready) = search (rules, c.write_all.ensures.ok) in
+    let err : OnErr c.write_all.result (WritesBeginning g.W.Write.contents c.rows.out c.write_all.new.out ready) = search (rules, c.write_all.ensures.err) in
+    rest_sent g.W.Write.contents c.args.out.now c.rows.out c.write_all.new.out c.write_all.result _ _ sent ok err c.write_all.ensures.failed
