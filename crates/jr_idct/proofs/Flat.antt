@@ -35,7 +35,7 @@ module _ (v : ℕ → ℤ) (zeros : (k : ℕ) → 0 < k → k < 64 → v k ≡ p
       ∙ ap (λ x. descale 18 (pos 8192 *ℤ x)) (flat_column 0 r (omega arith) h)
       ∙ eighth (v 0)
 
-nothing : (b : ℕ) → pos 0 *ℤ pos b ≡ pos 0
+pub nothing : (b : ℕ) → pos 0 *ℤ pos b ≡ pos 0
 nothing b = omega (arith, ints)
 
 -- the sample of such a block

@@ -1,6 +1,7 @@
 //! Laws of the definitions.
 
-ghost use Rattle.jr_idct.specs.Transform.{FloorsAgree, TablesAgree};
+ghost use Rattle.std.specs.Prelude.{◌≡◌, ℕ, List, pos, replicate};
+ghost use Rattle.jr_idct.specs.Transform.{FloorsAgree, TablesAgree, samples};
 
 /// A law of the definitions: the two zigzag tables undo each other.
 pub fn tables_agree()
@@ -11,4 +12,9 @@ pub fn tables_agree()
 /// there is no other.
 pub fn floors()
     ensures { FloorsAgree }
+{}
+
+/// A law of the definitions: a block of zeros is grey, whatever its quantisers.
+pub fn zeros_are_grey()
+    ensures { (q : List ℕ) → samples (replicate 64 (pos 0)) q ≡ replicate 64 128 }
 {}

@@ -15,5 +15,5 @@ mod zigzag;
 
 pub use block::transform;
 pub use butterfly::{even, odd};
-pub use laws::{floors, tables_agree};
+pub use laws::{floors, tables_agree, zeros_are_grey};
 pub use matrix::matrix_transform;

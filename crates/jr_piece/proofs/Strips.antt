@@ -19,7 +19,7 @@ abbrev pub ShorterFront : Type 0
 ShorterFront = (i : IntervalValue) (j k : ℕ) (zs : List (List ℤ)) → j ≤ k → Front i k zs → Front i j (take (j * length (order_of i.head)) zs)
 
 -- behind whole MCUs the components come as from the start on
-component_on : (h : HeadValue) (k n : ℕ) → component h (k * length (order_of h) + n) ≡ component h n
+pub component_on : (h : HeadValue) (k n : ℕ) → component h (k * length (order_of h) + n) ≡ component h n
 component_on h k n = ap (λ (j : ℕ). get_or (order_of h) j 0) (mul-add-mod_self_right k (length (order_of h)) n)
 
 -- the samples of the blocks behind the first MCUs

@@ -1,23 +1,26 @@
 -- What a reader of data units has read is what each piece of its interval shows.
-use Rattle.std.proofs.Common.{◌≡◌, ℕ, suc, ◌+◌, ◌-◌, ◌*◌, ◌<◌, ◌≤◌, Bool, true, false, List, [], ◌∷◌, ◌++◌, length, get_or, set, take, refl, sym, ap, subst, ◌∙◌, inl, inr, length-append, arith}
+use Rattle.std.proofs.Common.{◌≡◌, ℕ, suc, ◌+◌, ◌-◌, ◌*◌, ◌<◌, ◌≤◌, Bool, true, false, List, [], ◌∷◌, ◌++◌, length, get_or, set, take, refl, sym, ap, subst, ◌∙◌, inl, inr, length-append, pos, arith}
 use Rattle.std.specs.Prelude.{ℤ}
 use Rattle.std.proofs.lemmas.Bool.{cases_lt}
-use Rattle.std.proofs.lemmas.List.{get_or_append_left, get_or_default, get_or_past, get_or-set_other, get_or-set_same, get_or-take}
-use Rattle.std.proofs.Math.Seq.{get_or-append_seam}
+use Rattle.std.proofs.lemmas.Int.{ints}
+use Rattle.std.proofs.lemmas.List.{append_assoc, get_or-append_right, get_or-replicate, get_or-take, get_or_default, get_or_past, length-take-le, take-set, take_more_set}
+use Rattle.std.proofs.lemmas.List.Elements.{All-from_get_or, All-get_or, All-push}
 use Rattle.std.proofs.Math.Nat.{mul-le-mul_right}
+use Rattle.std.specs.List.{All}
 use Rattle.jr_head.specs.HeadValue.{HeadValue}
 use Rattle.jr_head.specs.Geometry.{order_of, quantiser_of}
 use Rattle.jr_scan.specs.IntervalValue.{IntervalValue}
+use Rattle.jr_scan.specs.Block.{IsInRange}
 use Rattle.jr_scan.specs.Mcus.{component, Decodes, HasNoDecoding, Front, LongestFront}
-use Rattle.jr_scan.specs.Reader.{RunOf, ReaderValue, IsReader, HasRead, HasEnded, HasReadOf, HasReadAll, blocks_read, first_mcus, per_mcu, whole_run}
+use Rattle.jr_scan.specs.Reader.{RunOf, ReaderValue, IsReader, HasRead, HasEnded, HasReadOf, HasReadAll, first_mcus, per_mcu, whole_run}
 use Rattle.jr_idct.specs.Transform.{samples}
 use Rattle.jr_piece.specs.PieceValue.{PieceValue}
 use Rattle.jr_piece.specs.UnitReaderValue.{UnitReaderValue}
 use Rattle.jr_piece.specs.Outcome.{IsOutcome, unit_of}
 use Rattle.jr_piece.specs.Strips.{units_before}
-use Rattle.jr_piece.specs.Units.{HasReadUnits, IsUnitReader, ShowsUnits, grey_unit, unit_in_piece}
+use Rattle.jr_piece.specs.Units.{CodesUnits, IsUnitReader, grey_unit, unit_in_piece, zero_block}
 use Rattle.jr_piece.proofs.Outcomes.{OneFront}
-use Rattle.jr_piece.proofs.Strips.{ShorterFront, Fronted, fronted}
+use Rattle.jr_piece.proofs.Strips.{ShorterFront, Fronted, component_on, fronted}
 
 -- how far a reader of blocks has come that stood at MCU `mcu` of n data units each and has read so many more of `most` MCUs
 module _ (mcu most n m b read : ℕ) (place : b < n) (count : m * n + b ≡ mcu * n + read) (few : read ≤ most * n) where
@@ -85,38 +88,52 @@ tells p i zs b same o sound damaged = go p.is_sound b refl refl
     go true false e f = let s = o.sound e in absurd (damaged f s.blocks (subst (λ (v : IntervalValue). Decodes v s.blocks) same s.decodes))
     go false true e f = absurd ((o.damaged e).undecodable zs (subst (λ (v : IntervalValue). Decodes v zs) (sym same) (sound f)))
 
--- one more block, whose samples are put behind those before
-pub more_units : (r r' : ReaderValue) (before : List (List ℤ)) (k c : ℕ) (z : List ℤ) (u q : List ℕ) (units units' : List (List ℕ)) → (w : HasReadUnits r before k units) → r'.run ≡ r.run → HasRead r' (w.blocks ++ z ∷ [])
-    → k < length units → units' ≡ set units k u → u ≡ samples z q → q ≡ quantiser_of r.run.interval.head c → c ≡ component r.run.interval.head (blocks_read r) → HasReadUnits r' before (k + 1) units'
-more_units r r' before k c z u q units units' w run read room put is table at =
-    record { blocks = zs; read = read; count = omega (arith, length-append w.blocks (z ∷ []), w.count); each = λ j lt. each j lt ∙ ap (λ (o : RunOf). unit_of o.interval.head zs (length before + j)) (sym run) }
-  where
-    h : HeadValue
-    h = r.run.interval.head
+-- one more block, put behind those before
+pub more_read : (r : ReaderValue) (before blocks : List (List ℤ)) (k : ℕ) (z : List ℤ) → k < length blocks → HasRead r (before ++ take k blocks ++ z ∷ []) → HasRead r (before ++ take (k + 1) (set blocks k z))
+more_read r before blocks k z room read =
+    subst (HasRead r) (append_assoc before (take k blocks) (z ∷ []) ∙ ap (λ (ys : List (List ℤ)). before ++ ys) (sym (take_more_set blocks k z room))) read
 
-    zs : List (List ℤ)
-    zs = w.blocks ++ z ∷ []
+-- no block follows, whatever the slice holds there
+pub same_read : (r : ReaderValue) (before blocks : List (List ℤ)) (k : ℕ) (z : List ℤ) → HasRead r (before ++ take k blocks) → HasRead r (before ++ take k (set blocks k z))
+same_read r before blocks k z read = subst (HasRead r) (ap (λ (ys : List (List ℤ)). before ++ ys) (sym (take-set blocks k z))) read
 
-    new : (j : ℕ) → j ≡ k → get_or units' j [] ≡ unit_of h zs (length before + j)
-    new j e =
-        let place : length before + j ≡ length w.blocks = omega (arith, e, w.count) in
-        let block : get_or zs (length before + j) [] ≡ z = ap (λ (m : ℕ). get_or zs m []) place ∙ get_or-append_seam w.blocks z [] [] in
-        let quantiser : q ≡ quantiser_of h (component h (length before + j)) = table ∙ ap (quantiser_of h) (at ∙ ap (component h) (sym w.read.count ∙ sym place)) in
-        ap (λ (m : ℕ). get_or units' m []) e ∙ ap (λ (us : List (List ℕ)). get_or us k []) put ∙ get_or-set_same units k u [] room ∙ is ∙ ap (samples z) quantiser
-        ∙ ap (λ (y : List ℤ). samples y (quantiser_of h (component h (length before + j)))) (sym block)
+pub more_in_range : (blocks : List (List ℤ)) (k : ℕ) (z : List ℤ) → k < length blocks → All IsInRange (take k blocks) → IsInRange z → All IsInRange (take (k + 1) (set blocks k z))
+more_in_range blocks k z room all one = subst (All IsInRange) (sym (take_more_set blocks k z room)) (All-push IsInRange (take k blocks) z all one)
 
-    each : (j : ℕ) → j < k + 1 → get_or units' j [] ≡ unit_of h zs (length before + j)
-    each j lt = elim (cases_lt j k) [
+pub same_in_range : (blocks : List (List ℤ)) (k : ℕ) (z : List ℤ) → All IsInRange (take k blocks) → All IsInRange (take k (set blocks k z))
+same_in_range blocks k z all = subst (All IsInRange) (sym (take-set blocks k z)) all
+
+zeros_in_range : IsInRange zero_block
+zeros_in_range =
+    let zero : (k : ℕ) → k < 64 → get_or zero_block k (pos 0) ≡ pos 0 = λ k lt. get_or-replicate 64 k (pos 0) (pos 0) lt in
+    let first = zero 0 (omega arith) in
+    record { count = omega arith; first = (omega (arith, ints, first), omega (arith, ints, first)); others = λ k some lt. let other = zero k lt in (omega (arith, ints, other), omega (arith, ints, other)) }
+
+-- blocks of which the first ones are in range, and the others are zeros
+pub all_in_range : (old new : List (List ℤ)) (whole count : ℕ) → count ≤ length old → whole ≤ count → All IsInRange (take count old)
+    → ((k : ℕ) → k < whole → get_or new k [] ≡ get_or old k []) → ((k : ℕ) → whole ≤ k → k < length new → get_or new k [] ≡ zero_block) → All IsInRange new
+all_in_range old new whole count within few all kept zeros =
+    All-from_get_or IsInRange new [] (λ k lt. elim (cases_lt k whole) [
       | inl l ↦
-          ap (λ (us : List (List ℕ)). get_or us j []) put ∙ get_or-set_other units k j u [] (λ e. omega (arith, l, e)) ∙ w.each j l
-          ∙ ap (λ (y : List ℤ). samples y (quantiser_of h (component h (length before + j)))) (sym (get_or_append_left w.blocks (z ∷ []) [] (length before + j) (omega (arith, l, w.count))))
-      | inr g ↦ new j (omega (arith, g, lt))
-    ]
+          let read : k < count = omega (arith, l, few) in
+          let there : k < length (take count old) = omega (arith, read, length-take-le count old within) in
+          subst IsInRange (get_or-take count old k [] read ∙ sym (kept k l)) (All-get_or IsInRange (take count old) k [] there all)
+      | inr g ↦ subst IsInRange (sym (zeros k g lt)) zeros_in_range
+    ])
 
--- no block follows
-pub same_units : (r r' : ReaderValue) (before : List (List ℤ)) (k : ℕ) (units : List (List ℕ)) → HasReadUnits r before k units → r'.run ≡ r.run → ((zs : List (List ℤ)) → HasRead r zs → HasRead r' zs) → HasReadUnits r' before k units
-same_units r r' before k units w run kept =
-    record { blocks = w.blocks; read = kept w.blocks w.read; count = w.count; each = λ j lt. w.each j lt ∙ ap (λ (o : RunOf). unit_of o.interval.head w.blocks (length before + j)) (sym run) }
+-- the samples of a block of zeros
+abbrev pub ZerosAreGrey : Type 0
+ZerosAreGrey = (q : List ℕ) → samples zero_block q ≡ grey_unit
+
+-- data unit k of blocks, where block k is of zeros
+zero_unit : ZerosAreGrey → (h : HeadValue) (zs : List (List ℤ)) (k : ℕ) → get_or zs k [] ≡ zero_block → unit_of h zs k ≡ grey_unit
+zero_unit grey h zs k zeros = ap (λ (z : List ℤ). samples z (quantiser_of h (component h k))) zeros ∙ grey (quantiser_of h (component h k))
+
+-- data unit k of blocks that follow so many whole MCUs
+later_unit : (h : HeadValue) (zs all : List (List ℤ)) (mcu k : ℕ) → get_or zs k [] ≡ get_or all (mcu * length (order_of h) + k) [] → unit_of h zs k ≡ unit_of h all (mcu * length (order_of h) + k)
+later_unit h zs all mcu k block =
+    ap (λ (z : List ℤ). samples z (quantiser_of h (component h k))) block
+    ∙ ap (λ (c : ℕ). samples (get_or all (mcu * length (order_of h) + k) []) (quantiser_of h c)) (sym (component_on h mcu k))
 
 -- a reader that has read nothing
 pub nothing_read : (r : ReaderValue) (i : IntervalValue) (left : ℕ) → r.run ≡ whole_run i → HasRead r [] → IsReader r → left ≡ i.mcus → IsUnitReader r left
@@ -142,7 +159,7 @@ all_read r left kept all = elim kept.stands [
 ]
 
 -- a row of so many MCUs, of which r' has read what r had not
-pub record RowRead (r r' : ReaderValue) (left mcus : ℕ) (units : List (List ℕ)) : Type 0 where
+pub record RowRead (r r' : ReaderValue) (left mcus : ℕ) (row : List (List ℤ)) : Type 0 where
   pub kept : IsUnitReader r left
   pub few : mcus ≤ left
   pub start : r.mcu ≡ r.run.interval.mcus - left
@@ -150,21 +167,22 @@ pub record RowRead (r r' : ReaderValue) (left mcus : ℕ) (units : List (List �
   pub run : r'.run ≡ r.run
   pub is : IsReader r'
   pub count : ℕ
-  pub read : HasReadUnits r' kept.blocks count units
-  pub within : count ≤ length units
-  pub room : length units ≡ mcus * per_mcu r
-  pub ended : count < length units → HasEnded r'
+  pub read : HasRead r' (kept.blocks ++ take count row)
+  pub within : count ≤ length row
+  pub room : length row ≡ mcus * per_mcu r
+  pub in_range : All IsInRange (take count row)
+  pub ended : count < length row → HasEnded r'
 
 -- where a reader is not stuck before a row, it stands at its start
 pub here : (r : ReaderValue) (left : ℕ) → IsUnitReader r left → r.run.interval.mcus - left ≤ r.mcu → (r.mcu ≡ r.run.interval.mcus - left) × (r.next_block ≡ 0)
 here r left kept not_before = elim kept.stands [ inl at ↦ at | inr stuck ↦ let lt = stuck.0 in absurd (omega (arith, lt, not_before)) ]
 
--- a row that a reader of data units has read
-pub row_read : (r r' : ReaderValue) (left mcus first start count : ℕ) (old units : List (List ℕ)) (u : UnitReaderValue) → record { interval = r.run.interval; mcu = r.run.interval.mcus - left } ≡ u → IsUnitReader r left
+-- a row that a reader of blocks has read
+pub row_read : (r r' : ReaderValue) (left mcus first start count : ℕ) (old blocks : List (List ℤ)) (u : UnitReaderValue) → record { interval = r.run.interval; mcu = r.run.interval.mcus - left } ≡ u → IsUnitReader r left
     → u.mcu + mcus ≤ u.interval.mcus → length old ≡ mcus * length (order_of u.interval.head) → first ≡ u.mcu → start ≡ r.mcu → first ≤ start
-    → r'.run ≡ r.run → IsReader r' → length units ≡ length old → count ≤ length units → ((zs : List (List ℤ)) → HasRead r zs → HasReadUnits r' zs count units) → (count < length units → HasEnded r')
-    → RowRead r r' left mcus units
-row_read r r' left mcus first start count old units u v kept few room from at le run is long within read ended =
+    → r'.run ≡ r.run → IsReader r' → length blocks ≡ length old → count ≤ length blocks → ((zs : List (List ℤ)) → HasRead r zs → HasRead r' (zs ++ take count blocks)) → All IsInRange (take count blocks) → (count < length blocks → HasEnded r')
+    → RowRead r r' left mcus blocks
+row_read r r' left mcus first start count old blocks u v kept few room from at le run is long within read in_range ended =
     let mcu : r.run.interval.mcus - left ≡ u.mcu = ap (λ (x : UnitReaderValue). x.mcu) v in
     let all : r.run.interval.mcus ≡ u.interval.mcus = ap (λ (x : UnitReaderValue). x.interval.mcus) v in
     let start = here r left kept (omega (arith, mcu, from, at, le)) in
@@ -179,15 +197,19 @@ row_read r r' left mcus first start count old units u v kept few room from at le
       read = read kept.blocks kept.read;
       within = within;
       room = long ∙ room ∙ ap (λ (x : UnitReaderValue). mcus * length (order_of x.interval.head)) (sym v);
+      in_range = in_range;
       ended = ended;
     }
 
-module _ (r r' : ReaderValue) (left mcus : ℕ) (units : List (List ℕ)) (row : RowRead r r' left mcus units) where
+module _ (r r' : ReaderValue) (left mcus : ℕ) (units : List (List ℤ)) (row : RowRead r r' left mcus units) where
   abbrev per : ℕ
   per = per_mcu r
 
   abbrev mcu : ℕ
   mcu = r.run.interval.mcus - left
+
+  abbrev blocks : List (List ℤ)
+  blocks = row.kept.blocks ++ take row.count units
 
   same : per_mcu r' ≡ per
   same = ap (λ (o : RunOf). length (order_of o.interval.head)) row.run
@@ -199,7 +221,9 @@ module _ (r r' : ReaderValue) (left mcus : ℕ) (units : List (List ℕ)) (row :
   place = omega (arith, row.is.within, same)
 
   count : r'.mcu * per + r'.next_block ≡ mcu * per + row.count
-  count = ap (λ (k : ℕ). r'.mcu * k + r'.next_block) (sym same) ∙ sym row.read.read.count ∙ row.read.count ∙ ap (λ (k : ℕ). k + row.count) before
+  count =
+      let all : length blocks ≡ length row.kept.blocks + row.count = length-append row.kept.blocks (take row.count units) ∙ ap (λ (k : ℕ). length row.kept.blocks + k) (length-take-le row.count units row.within) in
+      ap (λ (k : ℕ). r'.mcu * k + r'.next_block) (sym same) ∙ sym row.read.count ∙ all ∙ ap (λ (k : ℕ). k + row.count) before
 
   few : row.count ≤ mcus * per
   few = omega (arith, row.within, row.room)
@@ -227,26 +251,41 @@ module _ (r r' : ReaderValue) (left mcus : ℕ) (units : List (List ℕ)) (row :
       record {
         run = row.run ∙ row.kept.run ∙ ap whole_run (sym i);
         few = omega (arith, all, row.kept.few);
-        blocks = row.read.blocks;
-        read = row.read.read;
+        blocks = blocks;
+        read = row.read;
         stands = elim (cases_lt r'.mcu (mcu + mcus)) [
           | inl l ↦ inr (omega (arith, l, to), stopped_early l)
           | inr g ↦ let e : r'.mcu ≡ mcu + mcus = omega (arith, g, ends) in inl (e ∙ sym to, at_end mcu mcus per r'.mcu r'.next_block row.count place count few e)
         ];
       }
 
-  -- what the row shows, where the data units behind the whole MCUs are grey
-  pub row_shows : OneFront → ShorterFront
+  -- the row's blocks stand behind those before
+  block_read : (k : ℕ) → k < row.count → get_or units k [] ≡ get_or blocks (mcu * per + k) []
+  block_read k lt =
+      let there : mcu * per + k - length row.kept.blocks ≡ k = omega (arith, before) in
+      sym (get_or-append_right row.kept.blocks (take row.count units) (length row.kept.blocks) (mcu * per + k) [] refl (omega (arith, before))
+      ∙ ap (λ (m : ℕ). get_or (take row.count units) m []) there
+      ∙ get_or-take row.count units k [] lt)
+
+  few_whole : (r'.mcu - mcu) * per ≤ row.count
+  few_whole = omega (arith, split, count)
+
+  -- the blocks that a row leaves behind are in range, where those behind the whole MCUs are zeros
+  pub row_in_range : (us : List (List ℤ)) → ((k : ℕ) → k < (r'.mcu - mcu) * per → get_or us k [] ≡ get_or units k [])
+      → ((k : ℕ) → (r'.mcu - mcu) * per ≤ k → k < length us → get_or us k [] ≡ zero_block) → All IsInRange us
+  row_in_range us kept zeros = all_in_range units us ((r'.mcu - mcu) * per) row.count row.within few_whole row.in_range kept zeros
+
+  -- what the row codes, where the blocks behind the whole MCUs are zeros
+  pub row_codes : ZerosAreGrey → OneFront → ShorterFront
       → ((i : IntervalValue) (zs : List (List ℤ)) → HasReadOf r' i zs → Front i r'.mcu (first_mcus r' r'.mcu zs))
       → ((i : IntervalValue) (zs : List (List ℤ)) → HasReadAll r' i zs → LongestFront i r'.mcu (first_mcus r' r'.mcu zs))
-      → (us : List (List ℕ)) → length us ≡ length units
-      → ((k : ℕ) → k < (r'.mcu - mcu) * per → get_or us k [] ≡ get_or units k []) → ((k : ℕ) → (r'.mcu - mcu) * per ≤ k → k < length us → get_or us k [] ≡ grey_unit)
-      → (p : PieceValue) → IsOutcome p → p.interval ≡ r.run.interval → ShowsUnits p (units_before r.run.interval mcu) us
-  row_shows one shorter front longest us long kept grey p o e k lt = elim (cases_lt k ((r'.mcu - mcu) * per)) [
+      → (us : List (List ℤ)) → length us ≡ length units
+      → ((k : ℕ) → k < (r'.mcu - mcu) * per → get_or us k [] ≡ get_or units k []) → ((k : ℕ) → (r'.mcu - mcu) * per ≤ k → k < length us → get_or us k [] ≡ zero_block)
+      → (p : PieceValue) → IsOutcome p → p.interval ≡ r.run.interval → CodesUnits p (units_before r.run.interval mcu) us
+  row_codes grey one shorter front longest us long kept zeros p o e k lt = ap (λ (v : IntervalValue). unit_of v.head us k) e ∙ elim (cases_lt k ((r'.mcu - mcu) * per)) [
     | inl l ↦
-        let few_units : k < row.count = omega (arith, l, split, count) in
-        kept k l ∙ row.read.each k few_units ∙ ap (λ (o : RunOf). unit_of o.interval.head zs (length row.kept.blocks + k)) row.run ∙ ap (λ (m : ℕ). unit_of i.head zs (m + k)) before
-        ∙ shown one shorter i p e o r'.mcu zs (subst (λ (m : ℕ). Front i r'.mcu (take (r'.mcu * m) zs)) same (front i zs read)) (mcu * per + k) (omega (arith, l, split))
+        later_unit i.head us blocks mcu k (kept k l ∙ block_read k (omega (arith, l, few_whole)))
+        ∙ shown one shorter i p e o r'.mcu blocks (subst (λ (m : ℕ). Front i r'.mcu (take (r'.mcu * m) blocks)) same (front i blocks read)) (mcu * per + k) (omega (arith, l, split))
     | inr g ↦
         let not_all : r'.mcu < mcu + mcus = elim (cases_lt r'.mcu (mcu + mcus)) [
           | inl l ↦ l
@@ -255,25 +294,28 @@ module _ (r r' : ReaderValue) (left mcus : ℕ) (units : List (List ℕ)) (row :
               let s : r'.mcu * per ≡ mcu * per + mcus * per = ap (λ (k : ℕ). k * per) f ∙ omega arith in
               absurd (omega (arith, s, split, g, lt, long, row.room))
         ] in
-        grey k g lt ∙ behind one shorter i p e o r'.mcu zs (subst (λ (m : ℕ). LongestFront i r'.mcu (take (r'.mcu * m) zs)) same (longest i zs (read, stopped_early not_all))) (mcu * per + k) (omega (arith, g, split))
+        zero_unit grey i.head us k (zeros k g lt)
+        ∙ behind one shorter i p e o r'.mcu blocks (subst (λ (m : ℕ). LongestFront i r'.mcu (take (r'.mcu * m) blocks)) same (longest i blocks (read, stopped_early not_all))) (mcu * per + k) (omega (arith, g, split))
   ]
     where
       i : IntervalValue
       i = r.run.interval
 
-      zs : List (List ℤ)
-      zs = row.read.blocks
+      read : HasReadOf r' i blocks
+      read = (row.run ∙ row.kept.run, row.read)
 
-      read : HasReadOf r' i zs
-      read = (row.run ∙ row.kept.run, row.read.read)
+-- zeros are in range
+pub row_of_zeros : (us : List (List ℤ)) → ((k : ℕ) → k < length us → get_or us k [] ≡ zero_block) → All IsInRange us
+row_of_zeros us zeros = All-from_get_or IsInRange us [] (λ k lt. subst IsInRange (sym (zeros k lt)) zeros_in_range)
 
--- what a row shows that lies behind the MCU in which the reader is stuck
-pub row_behind : OneFront → ShorterFront → (r : ReaderValue) (left : ℕ) → IsUnitReader r left → r.mcu < r.run.interval.mcus - left
+-- what a row codes that lies behind the MCU in which the reader is stuck
+pub row_behind : ZerosAreGrey → OneFront → ShorterFront → (r : ReaderValue) (left : ℕ) → IsUnitReader r left → r.mcu < r.run.interval.mcus - left
     → ((i : IntervalValue) (zs : List (List ℤ)) → HasReadAll r i zs → LongestFront i r.mcu (first_mcus r r.mcu zs))
-    → (us : List (List ℕ)) → ((k : ℕ) → k < length us → get_or us k [] ≡ grey_unit)
-    → (p : PieceValue) → IsOutcome p → p.interval ≡ r.run.interval → ShowsUnits p (units_before r.run.interval (r.run.interval.mcus - left)) us
-row_behind one shorter r left kept stuck longest us grey p o e k lt =
+    → (us : List (List ℤ)) → ((k : ℕ) → k < length us → get_or us k [] ≡ zero_block)
+    → (p : PieceValue) → IsOutcome p → p.interval ≡ r.run.interval → CodesUnits p (units_before r.run.interval (r.run.interval.mcus - left)) us
+row_behind grey one shorter r left kept stuck longest us zeros p o e k lt =
     let mcu = r.run.interval.mcus - left in
     let ended : HasEnded r = elim kept.stands [ inl at ↦ let same = at.0 in absurd (omega (arith, same, stuck)) | inr s ↦ s.1 ] in
     let far : r.mcu * per_mcu r ≤ mcu * per_mcu r = mul-le-mul_right (per_mcu r) (omega (arith, stuck)) in
-    grey k lt ∙ behind one shorter r.run.interval p e o r.mcu kept.blocks (longest r.run.interval kept.blocks ((kept.run, kept.read), ended)) (mcu * per_mcu r + k) (omega (arith, far))
+    zero_unit grey p.interval.head us k (zeros k lt)
+    ∙ behind one shorter r.run.interval p e o r.mcu kept.blocks (longest r.run.interval kept.blocks ((kept.run, kept.read), ended)) (mcu * per_mcu r + k) (omega (arith, far))

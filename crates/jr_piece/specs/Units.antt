@@ -1,8 +1,12 @@
 -- The data units of an interval in their order (T.81, A.2.3), those that its bits give and those that they don't.
-use Rattle.std.specs.Prelude.{◌≡◌, ℕ, ◌+◌, ◌-◌, ◌<◌, ◌≤◌, List, [], length, replicate, ◌⊎◌, ℤ, slice_index_or}
+use Rattle.std.specs.Prelude.{◌≡◌, ℕ, ◌+◌, ◌-◌, ◌<◌, ◌≤◌, List, length, replicate, ◌⊎◌, ℤ, pos, slice_index_or}
 use Rattle.jr_scan.specs.Reader.{ReaderValue, HasRead, HasEnded, whole_run}
 use Rattle.jr_piece.specs.PieceValue.{PieceValue}
 use Rattle.jr_piece.specs.Outcome.{unit_of}
+
+-- a block whose coefficients are all 0
+abbrev pub zero_block : List ℤ
+zero_block = replicate 64 (pos 0)
 
 -- a data unit that is shown where there is none: its samples are those of a block of zeros (T.81, A.3.1)
 abbrev pub grey_unit : List ℕ
@@ -12,16 +16,9 @@ grey_unit = replicate 64 128
 abbrev pub unit_in_piece : PieceValue → ℕ → List ℕ
 unit_in_piece p n = slice_index_or p.samples n grey_unit
 
--- these are the data units of a piece from data unit `first` on
-abbrev pub ShowsUnits : PieceValue → ℕ → List (List ℕ) → Type 0
-ShowsUnits p first units = (k : ℕ) → k < length units → slice_index_or units k [] ≡ unit_in_piece p (first + k)
-
--- a reader has read n more blocks than these, and the first n of the units are theirs
-pub record HasReadUnits (r : ReaderValue) (before : List (List ℤ)) (n : ℕ) (units : List (List ℕ)) : Type 0 where
-  pub blocks : List (List ℤ)
-  pub read : HasRead r blocks
-  pub count : length blocks ≡ length before + n
-  pub each : (k : ℕ) → k < n → slice_index_or units k [] ≡ unit_of r.run.interval.head blocks (length before + k)
+-- the samples of these blocks, which begin with an MCU, are the data units of a piece from data unit `first` on
+abbrev pub CodesUnits : PieceValue → ℕ → List (List ℤ) → Type 0
+CodesUnits p first blocks = (k : ℕ) → k < length blocks → unit_of p.interval.head blocks k ≡ unit_in_piece p (first + k)
 
 -- it stands behind so many whole MCUs, or is stuck in an earlier one
 abbrev pub StandsAt : ReaderValue → ℕ → Type 0

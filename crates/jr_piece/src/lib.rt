@@ -14,6 +14,7 @@ mod progress;
 mod reading;
 mod strip;
 mod strip_reader;
+mod transforming;
 mod unit_reader;
 
 pub use job::Job;
@@ -26,4 +27,5 @@ pub use piece::{NotInOrder, Piece};
 pub use reading::strip_mcus;
 pub use strip::{CodedStrip, Strip};
 pub use strip_reader::StripReader;
+pub use transforming::transform_blocks;
 pub use unit_reader::UnitReader;

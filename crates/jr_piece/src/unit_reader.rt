@@ -1,16 +1,18 @@
-//! The data units of an interval, read in their order into slices.
+//! The blocks of an interval, read in their order into slices.
 
-ghost use Rattle.std.specs.Prelude.{◌≡◌, ◌+◌, ◌*◌, ◌<◌, ◌≤◌, ℕ, ℤ, List, [], length, slice_index_or};
+ghost use Rattle.std.specs.Prelude.{◌≡◌, ◌+◌, ◌*◌, ◌<◌, ◌≤◌, ◌++◌, ℕ, ℤ, List, [], length, take, slice_index_or};
+ghost use Rattle.std.specs.List.{All};
+ghost use Rattle.jr_scan.specs.Block.{IsInRange};
 ghost use Rattle.jr_scan.specs.Reader.{HasRead, HasEnded};
-ghost use Rattle.jr_piece.specs.Units.{HasReadUnits, grey_unit};
+ghost use Rattle.jr_piece.specs.Units.{zero_block};
 
-use jr_idct::transform;
-use jr_scan::{BlockReader, IntervalRef, one_front, shorter_front};
+use jr_idct::zeros_are_grey;
+use jr_scan::{Block, BlockReader, IntervalRef, one_front, shorter_front};
 use std::marker::Model;
 
-/// Reads the data units of an interval from its first MCU on, as many as are asked for at a time, and takes no memory.
+/// Reads the blocks of an interval from its first MCU on, as many as are asked for at a time, and takes no memory.
 ///
-/// They are those of the interval's `Piece`, and grey behind its longest decodable front.
+/// Their samples are the data units of the interval's `Piece`, and grey behind its longest decodable front.
 #[derive(Drop)]
 pub struct UnitReader<'a> {
     reader: BlockReader<'a>,
@@ -29,32 +31,30 @@ impl<'a> Model for UnitReader<'a> {
     ghost invariant = { λ r. IsUnitReader r.reader r.left };
 }
 
-/// Reads the next data units, as many as the slice holds or as follow; tells how many there are.
-fn read_units(reader: &mut BlockReader<'_>, units: &mut [[u8; 64]]) -> usize
+/// Reads the next blocks, as many as the slice holds or as follow; tells how many there are.
+fn read_blocks(reader: &mut BlockReader<'_>, blocks: &mut [Block]) -> usize
     ensures run { reader.new.run ≡ reader.old.run }
-    ensures few { result ≤ length units.new }
-    ensures read { (zs : List (List ℤ)) → HasRead reader.old zs → HasReadUnits reader.new zs result units.new }
-    ensures ended { result < length units.new → HasEnded reader.new }
+    ensures few { result ≤ length blocks.new }
+    ensures read { (zs : List (List ℤ)) → HasRead reader.old zs → HasRead reader.new (zs ++ take result blocks.new) }
+    ensures in_range { All IsInRange (take result blocks.new) }
+    ensures ended { result < length blocks.new → HasEnded reader.new }
 {
-    let head = reader.interval().head();
-    let mut block = [0; 64];
-    for k in 0..units.len() {
-        let Some(component) = reader.next(&mut block) else {
+    for k in 0..blocks.len() {
+        let Some(_component) = reader.next(&mut blocks[k]) else {
             return k;
         };
-        units[k] = transform(&block, head.quantiser(component));
     }
-    units.len()
+    blocks.len()
 }
 
-/// Makes the data units from one on grey.
-fn grey_from(units: &mut [[u8; 64]], first: usize)
-    requires { first ≤ length units.old }
-    ensures kept { (k : ℕ) → k < first → slice_index_or units.new k [] ≡ slice_index_or units.old k [] }
-    ensures grey { (k : ℕ) → first ≤ k → k < length units.new → slice_index_or units.new k [] ≡ grey_unit }
+/// Makes the blocks from one on zeros.
+fn zero_from(blocks: &mut [Block], first: usize)
+    requires { first ≤ length blocks.old }
+    ensures kept { (k : ℕ) → k < first → slice_index_or blocks.new k [] ≡ slice_index_or blocks.old k [] }
+    ensures zeros { (k : ℕ) → first ≤ k → k < length blocks.new → slice_index_or blocks.new k [] ≡ zero_block }
 {
-    for k in first..units.len() {
-        units[k] = [128; 64];
+    for k in first..blocks.len() {
+        blocks[k] = [0; 64];
     }
 }
 
@@ -63,7 +63,7 @@ impl<'a> UnitReader<'a> {
     ghost use Rattle.jr_piece.specs.PieceValue.{PieceValue};
     ghost use Rattle.jr_piece.specs.Outcome.{IsOutcome};
     ghost use Rattle.jr_piece.specs.Strips.{units_before};
-    ghost use Rattle.jr_piece.specs.Units.{ShowsUnits};
+    ghost use Rattle.jr_piece.specs.Units.{CodesUnits};
 
     /// A reader that has read nothing of an interval.
     pub fn over(interval: IntervalRef<'a>) -> UnitReader<'a>
@@ -97,28 +97,30 @@ impl<'a> UnitReader<'a> {
         self.left
     }
 
-    /// The samples of the data units of the next MCUs, each `8 row + column`; the slice has room for just these. Those of
-    /// an MCU that is not whole, and all behind it, are grey.
-    pub fn fill(&mut self, mcus: u32, units: &mut [[u8; 64]])
+    /// The coefficients of the data units of the next MCUs, in zigzag order; the slice has room for just these. Those of
+    /// an MCU that is not whole, and all behind it, are zeros, whose samples are grey.
+    pub fn read(&mut self, mcus: u32, blocks: &mut [Block])
         requires few { self.old.mcu + mcus ≤ self.old.interval.mcus }
-        requires room { length units.old ≡ mcus * length (order_of self.old.interval.head) }
+        requires room { length blocks.old ≡ mcus * length (order_of self.old.interval.head) }
         ensures interval { self.new.interval ≡ self.old.interval }
         ensures mcu { self.new.mcu ≡ self.old.mcu + mcus }
-        ensures units { (p : PieceValue) → IsOutcome p → p.interval ≡ self.old.interval
-            → ShowsUnits p (units_before self.old.interval self.old.mcu) units.new }
+        ensures in_range { All IsInRange blocks.new }
+        ensures blocks { (p : PieceValue) → IsOutcome p → p.interval ≡ self.old.interval
+            → CodesUnits p (units_before self.old.interval self.old.mcu) blocks.new }
     {
         one_front();
         shorter_front();
+        zeros_are_grey();
         let first = self.mcu();
         self.left -= mcus;
         if self.reader.mcus() < first {
-            grey_from(units, 0);
+            zero_from(blocks, 0);
             return;
         }
-        read_units(&mut self.reader, units);
+        read_blocks(&mut self.reader, blocks);
         self.reader.be_reader();
         let whole = (self.reader.mcus() - first) as usize;
-        grey_from(units, whole * self.reader.interval().head().order().len());
+        zero_from(blocks, whole * self.reader.interval().head().order().len());
     }
 
     /// Whether the interval has a decoding, once all its MCUs are read.
