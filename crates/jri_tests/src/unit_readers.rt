@@ -1,8 +1,9 @@
-//! The data units of intervals, read in rows of MCUs, are those of the intervals' pieces, and grey behind their fronts.
+//! The data units of intervals, whose blocks are read in rows of MCUs and then transformed, are those of the intervals'
+//! pieces, and grey behind their fronts.
 
 use crate::files::{COLOURED, COLOURED_DAMAGED, MIXED};
 use crate::scans::{piece, scan};
-use jr_piece::{Piece, UnitReader};
+use jr_piece::{Piece, UnitReader, transform_blocks};
 use jr_scan::{BlockReader, Scan};
 use std::alloc::Global;
 use std::process::Abort;
@@ -14,15 +15,21 @@ type Row = [[u8; 64]; 30];
 /// A value that no data unit of these files has.
 const OLD: u8 = 7;
 
-/// Reads the next MCUs, so many or as many as are left, and tells how many data units they have.
+/// A coefficient that no block of these files has.
+const OLD_COEFFICIENT: i32 = 777;
+
+/// Reads the next MCUs, so many or as many as are left, transforms them, and tells how many data units they have.
 fn fill(reader: &mut UnitReader<'_>, mcus: u32, row: &mut Row) -> Result<usize, Fail> {
     let mcus = mcus.min(reader.left());
-    let blocks = reader.interval().head().order().len();
-    let count = (mcus as usize).checked_mul(blocks).ok_or("a long row")?;
+    let per_mcu = reader.interval().head().order().len();
+    let count = (mcus as usize).checked_mul(per_mcu).ok_or("a long row")?;
     if count > row.len() {
         return Err(Fail::from("a long row"));
     }
-    reader.fill(mcus, &mut row[..count]);
+    let mut room = [[OLD_COEFFICIENT; 64]; 30];
+    let blocks = &mut room[..count];
+    reader.read(mcus, blocks);
+    transform_blocks(reader.interval().head(), blocks, &mut row[..count]);
     Ok(count)
 }
 
