@@ -1,4 +1,4 @@
-use Rattle.std.proofs.Common.{rules, ◌≡◌, [], ◌∷◌, ◌++◌, None, slice_index_or, sym, subst, ap, ◌∙◌}
+use Rattle.std.proofs.Common.{rules, ◌≡◌, [], ◌∷◌, ◌++◌, None, slice_index_or, sym, subst}
 use Rattle.std.specs.Arc.{arc_value}
 use Rattle.jr_piece.specs.Sharing.{IsEmptyOrOf}
 use Rattle.jr_piece.specs.Strips.{AreOf, shared_strips}

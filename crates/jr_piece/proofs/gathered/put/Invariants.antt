@@ -1,4 +1,4 @@
-use Rattle.std.proofs.Common.{◌≡◌, ◌≤◌, ◌<◌, length}
+use Rattle.std.proofs.Common.{◌≡◌, length}
 use Rattle.std.specs.List.{All}
 use Rattle.jr_scan.specs.IntervalValue.{IntervalValue}
 use Rattle.jr_piece.specs.Sharing.{IsEmptyOrOf}

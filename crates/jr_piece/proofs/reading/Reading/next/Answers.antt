@@ -1,6 +1,5 @@
-use Rattle.std.proofs.Common.{rules, ◌≡◌, ◌<◌, sym, subst, ap, ◌∙◌, arith}
+use Rattle.std.proofs.Common.{rules, ◌≡◌, ◌<◌, sym, subst, ap}
 use Rattle.std.specs.Option.{IfNone}
-use Rattle.jr_scan.specs.IntervalValue.{IntervalValue}
 use Rattle.jr_piece.specs.Sharing.{IsOneOf}
 use Rattle.jr_piece.specs.StripValue.{ReadingValue}
 use Rattle.jr_piece.specs.Strips.{HasWholeMcus, TellsEnd}
