@@ -1,0 +1,12 @@
+use Rattle.std.proofs.Common.{rules}
+use Rattle.jri_archive.proofs.damage.damaged_front.Goals as goal
+
+pub returns-else-is_sound-clause-damaged : goal.returns-else-is_sound-clause-damaged
+returns-else-is_sound-clause-damaged c =
+    let r = c.read_all-reader.ensures in
+    c.is_sound.ensures.damaged c.if-is_sound.false c.args.interval r.read.0 ((r.run, r.read.1), r.ended)
+
+pub returns-else-is_sound-clause-front : goal.returns-else-is_sound-clause-front
+returns-else-is_sound-clause-front c =
+    let r = c.read_all-reader.ensures in
+    (_, c.mcus.ensures.front c.args.interval r.read.0 ((r.run, r.read.1), r.ended))

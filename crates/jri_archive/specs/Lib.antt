@@ -1,0 +1,3 @@
+pub mod Damage
+pub mod Lines
+pub mod Verdicts
