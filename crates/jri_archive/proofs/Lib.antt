@@ -1,2 +1,3 @@
 mod Rows
+mod FoundSegments
 mod Verdicts

@@ -1,3 +1,4 @@
 pub mod Damage
 pub mod Lines
 pub mod Verdicts
+pub mod Coded

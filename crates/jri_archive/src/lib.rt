@@ -4,9 +4,11 @@
 mod checking;
 mod damage;
 mod lines;
+mod segments;
 mod verdict;
 
 pub use checking::{Checked, check_file};
 pub use damage::damaged_front;
 pub use lines::{Lines, Mcus, lines_of, mcus_of};
+pub use segments::{CodedSpan, coded_segments};
 pub use verdict::{Verdict, check_scan};
