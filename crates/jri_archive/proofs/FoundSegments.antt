@@ -1,14 +1,14 @@
 -- The segments of a scan, found one after the other in its file.
-use Rattle.std.proofs.Common.{◌≡◌, ◌≢◌, ℕ, zero, suc, ◌+◌, ◌-◌, ◌%◌, ◌<◌, ◌≤◌, ◌⊎◌, List, [], ◌∷◌, ◌++◌, length, take, drop, replicate, get_or, slice_range, refl, sym, ap, subst, ◌∙◌, inl, inr, length-append, length-drop, arith}
+use Rattle.std.proofs.Common.{◌≡◌, ◌≢◌, ℕ, suc, ◌+◌, ◌-◌, ◌%◌, ◌<◌, ◌≤◌, List, [], ◌∷◌, ◌++◌, length, take, drop, replicate, get_or, slice_range, refl, sym, ap, subst, ◌∙◌, inl, inr, length-append, length-drop, arith}
 use Rattle.std.proofs.lemmas.Bool.{cases_lt, cases_eq}
-use Rattle.std.proofs.lemmas.List.{drop-drop, take-append-le, length-replicate, get_or-replicate, get_or_past, get_or-append_right, length-take-le, get_or-drop}
+use Rattle.std.proofs.lemmas.List.{drop-drop, length-replicate, get_or-replicate, get_or_past, get_or-append_right, get_or-drop}
 use Rattle.std.proofs.Math.Seq.{get_or-append_seam, take-append_seam}
 use Rattle.std.proofs.Math.ListN.{get_or-append}
-use Rattle.jr_base.specs.declared.marker.TheConstants.{EOI, PREFIX, RST0, RST7, SOI}
+use Rattle.jr_base.specs.declared.marker.TheConstants.{EOI, PREFIX, RST0, RST7}
 use Rattle.jr_scan.specs.declared.scan_end.ScanEnd.{ScanEnd}
-use Rattle.jr_scan.specs.declared.scan_end.ScanEnd.TheVariants.{EndOfImage, OtherMarker, OutOfStep, ExtraRestart, EndOfFile}
+use Rattle.jr_scan.specs.declared.scan_end.ScanEnd.TheVariants.{EndOfImage, OtherMarker, OutOfStep, ExtraRestart}
 use Rattle.jr_scan.specs.Cut.{IsRaw, IsStop, marker, HasMarker, IsEnding, IsCut}
-use Rattle.jr_scan.specs.ScanValue.{ScanValue, intervals_of, IsScanOf}
+use Rattle.jr_scan.specs.ScanValue.{ScanValue, intervals_of}
 use Rattle.jr_scan.proofs.Cuts.{CutSoFar, so_far_first, SegmentRead, MarkerRead, cut_returns, cut_more, other_code, rest_is, has_marker}
 use Rattle.jr_scan.proofs.CutLaw.{one_cut}
 use Rattle.jri_archive.specs.declared.segments.CodedSpan.{CodedSpan}

@@ -1,5 +1,5 @@
 -- Rows of MCUs, and the lines that they cover.
-use Rattle.std.proofs.Common.{◌≡◌, ℕ, zero, suc, ◌+◌, ◌-◌, ◌*◌, ◌/◌, ◌<◌, ◌≤◌, min, refl, sym, ap, subst, ◌∙◌, inl, inr, arith}
+use Rattle.std.proofs.Common.{◌≡◌, ℕ, suc, ◌+◌, ◌-◌, ◌*◌, ◌/◌, ◌<◌, ◌≤◌, min, refl, ap, inl, inr, arith}
 use Rattle.std.specs.Int.{div_ceil}
 use Rattle.std.proofs.Math.Nat.{div-mul-le_self, lt-div-mul-add, div-lt_iff_lt-mul, le-div_iff_mul-le, mul-div_left, mul-le-mul_right}
 use Rattle.std.proofs.lemmas.Bool.{cases_lt}
@@ -9,7 +9,7 @@ use Rattle.jr_head.specs.Geometry.{horizontal_max, vertical_max, mcus_across, mc
 use Rattle.jr_head.proofs.SamplingLaws.{some_across}
 use Rattle.jr_scan.specs.ScanValue.{mcus_in}
 use Rattle.jri_archive.specs.declared.lines.Lines.{Lines}
-use Rattle.jri_archive.specs.Lines.{first_mcu_of, Touches, IsWithin, AreRows, AreLinesOf}
+use Rattle.jri_archive.specs.Lines.{first_mcu_of, AreRows, AreLinesOf}
 
 -- a greater number has no lesser quotient
 div_le : (a b n : ℕ) → 0 < n → a ≤ b → a / n ≤ b / n

@@ -1,16 +1,18 @@
 -- What is damaged of the first intervals, one more at a time.
-use Rattle.std.proofs.Common.{◌≡◌, ℕ, ◌+◌, ◌<◌, ◌≤◌, ◌⊎◌, cond, min, max, IfSome, IfNone, Bool, true, false, List, [], ◌∷◌, ◌++◌, length, get_or, Option, Some, None, refl, sym, ap, subst, ◌∙◌, inl, inr, length-append, arith}
+use Rattle.std.proofs.Common.{◌≡◌, ℕ, ◌+◌, ◌<◌, ◌⊎◌, cond, min, max, IfSome, IfNone, Bool, true, false, [], ◌∷◌, ◌++◌, length, get_or, Option, Some, None, refl, sym, ap, subst, ◌∙◌, inl, inr, length-append, arith}
 use Rattle.std.specs.List.{count_by}
 use Rattle.std.proofs.lemmas.Bool.{cases_lt}
 use Rattle.std.proofs.lemmas.List.Sums.{sum_by-append}
 use Rattle.std.proofs.Math.Seq.{get_or-append_seam}
 use Rattle.std.proofs.Math.ListN.{get_or-append}
+use Rattle.std.proofs.lemmas.List.{ext_get_or}
+use Rattle.jr_scan.specs.IntervalValue.{IntervalValue}
 use Rattle.jr_scan.specs.Mcus.{HasNoDecoding}
 use Rattle.jr_scan.specs.ScanValue.{ScanValue, interval_of}
 use Rattle.jri_archive.specs.declared.lines.Lines.{Lines}
 use Rattle.jri_archive.specs.declared.verdict.Verdict.{Verdict}
 use Rattle.jri_archive.specs.Damage.{HasDecoding, IsDamaged, CountsDamaged}
-use Rattle.jri_archive.specs.Lines.{Touches, IsWithin, AreLinesOf}
+use Rattle.jri_archive.specs.Lines.{Touches, AreLinesOf}
 use Rattle.jri_archive.specs.Verdicts.{DamageTouches, IsHull, IsTouched, IsVerdictOf}
 
 pub counts_none : (s : ScanValue) → CountsDamaged s 0 0
@@ -105,3 +107,15 @@ pub verdict_damaged : (s : ScanValue) (n count : ℕ) (v : Verdict) (m r : Lines
     → IfNone v.lines (r ≡ m) → IfSome v.lines (λ l. r.first ≡ min l.first m.first) → IfSome v.lines (λ l. r.last ≡ max l.last m.last) → IsVerdictOf s (n + 1) (record { damaged = count; lines = Some r })
 verdict_damaged s n count v m r is d are e none first last =
     record { damaged = counts_more s n v.damaged (n + 1) count true is.damaged d refl (omega (arith, e)); lines = touched_more s n (n + 1) v.lines m r is.lines d are refl none first last; few = omega (arith, e, is.few) }
+
+-- an interval is damaged or it is not, and never both
+one_mark : (i : IntervalValue) (x y : Bool) → IsDamaged i x → IsDamaged i y → x ≡ y
+one_mark i true true p q = refl
+one_mark i false false p q = refl
+one_mark i true false p q = absurd (p q.0 q.1)
+one_mark i false true p q = absurd (q p.0 p.1)
+
+pub one_count : (s : ScanValue) (n a b : ℕ) → CountsDamaged s n a → CountsDamaged s n b → a ≡ b
+one_count s n a b x y =
+    let same : x.marks ≡ y.marks = ext_get_or false x.marks y.marks (x.long ∙ sym y.long) (λ i lt. let few : i < n = omega (arith, lt, x.long) in one_mark (interval_of s i) (get_or x.marks i false) (get_or y.marks i false) (x.each i few) (y.each i few)) in
+    x.counted ∙ ap (count_by (λ (damaged : Bool). damaged)) same ∙ sym y.counted

@@ -3,7 +3,7 @@ use Rattle.std.specs.Prelude.{◌≡◌, ℕ, ◌+◌, ◌*◌, ◌/◌, ◌<◌
 use Rattle.std.specs.Int.{div_ceil}
 use Rattle.jr_head.specs.HeadValue.{HeadValue}
 use Rattle.jr_head.specs.Geometry.{vertical_max, mcus_across}
-use Rattle.jr_scan.specs.ScanValue.{ScanValue, mcus_in}
+use Rattle.jr_scan.specs.ScanValue.{mcus_in}
 use Rattle.jri_archive.specs.declared.lines.Lines.{Lines}
 
 -- the number in its scan of the first MCU of interval i

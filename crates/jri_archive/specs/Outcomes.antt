@@ -1,8 +1,7 @@
 -- What a check of a file comes to.
-use Rattle.std.specs.Prelude.{◌≡◌, ◌≢◌, ℕ, Bool, false, ◌==◌, List, length}
+use Rattle.std.specs.Prelude.{◌≢◌, ℕ, Bool, false, ◌==◌, List, length}
 use Rattle.jr_head.specs.declared.refusal.Refusal.TheVariants as refusal
 use Rattle.jr_head.specs.Heads.{RefusalOf}
-use Rattle.jri_archive.specs.declared.checking.Checked.{Checked}
 use Rattle.jri_archive.specs.declared.outcome.Outcome.{Outcome}
 use Rattle.jri_archive.specs.declared.outcome.Outcome.TheVariants as outcome
 use Rattle.jri_archive.specs.Verdicts.{IsFileScan, IsVerdictOf}

@@ -1,5 +1,5 @@
 -- What a check tells of the first intervals of a scan.
-use Rattle.std.specs.Prelude.{◌≡◌, ℕ, ◌<◌, ◌≤◌, List, Option, Some, None}
+use Rattle.std.specs.Prelude.{ℕ, ◌<◌, ◌≤◌, List, Option, Some, None}
 use Rattle.jr_head.specs.Heads.{HeadOf}
 use Rattle.jr_scan.specs.Mcus.{HasNoDecoding}
 use Rattle.jr_scan.specs.ScanValue.{ScanValue, interval_of, IsScanOf}

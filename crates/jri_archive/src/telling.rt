@@ -1,8 +1,10 @@
 //! The lines that are told of a file.
 
 use crate::checking::Checked;
+use crate::lines::{Lines, Mcus};
 use crate::map::DamagedInterval;
 use crate::outcome::Outcome;
+use crate::segments::CodedSpan;
 use jr_head::Refusal;
 use jr_scan::ScanEnd;
 use std::alloc::AllocError;
@@ -40,17 +42,24 @@ fn put_end(line: &mut String, ended: ScanEnd) -> Result<(), AllocError> {
     }
 }
 
+/// Puts how many intervals there are.
+fn put_intervals(line: &mut String, intervals: u32) -> Result<(), AllocError> {
+    match intervals {
+        1 => line.push_str("1 interval"),
+        _ => write!(line, "{intervals} intervals"),
+    }
+}
+
 fn put_checked(line: &mut String, checked: &Checked) -> Result<(), AllocError> {
-    let intervals = checked.scan.intervals();
-    let damaged = checked.verdict.damaged;
     match checked.verdict.lines {
-        None => write!(line, "sound, {intervals} intervals")?,
-        Some(lines) => {
-            let (first, last) = (lines.first, lines.last);
-            write!(
-                line,
-                "damaged, {damaged} of {intervals} intervals, lines {first} to {last}"
-            )?
+        None => {
+            line.push_str("sound, ")?;
+            put_intervals(line, checked.scan.intervals())?;
+        }
+        Some(Lines { first, last }) => {
+            write!(line, "damaged, {} of ", checked.verdict.damaged)?;
+            put_intervals(line, checked.scan.intervals())?;
+            write!(line, ", lines {first} to {last}")?;
         }
     }
     put_end(line, checked.scan.ended())
@@ -69,7 +78,7 @@ pub fn tell(line: &mut String, name: &str, outcome: &Outcome) -> Result<(), Allo
     line.push_str("\n")
 }
 
-/// Puts the line of a damaged interval, with its end. All is counted from 0, and each last one is told with the first.
+/// Puts the line of a damaged interval, with its end. All is counted from 0, and ranges are told with their last one.
 pub fn tell_map(
     line: &mut String,
     name: &str,
@@ -77,21 +86,18 @@ pub fn tell_map(
 ) -> Result<(), AllocError> {
     put_name(line, name)?;
     let number = damaged.number;
-    let first = damaged.mcus.first;
-    let count = damaged.mcus.count;
-    let decodable = damaged.decodable;
-    write!(
-        line,
-        ": interval {number}, {count} MCUs from {first} on, {decodable} decodable"
-    )?;
-    let (first, last) = (damaged.lines.first, damaged.lines.last);
+    let Mcus { first, count } = damaged.mcus;
+    let last = first.saturating_add(count.saturating_sub(1));
+    write!(line, ": interval {number}, MCUs {first} to {last}")?;
+    let Lines { first, last } = damaged.lines;
     write!(line, ", lines {first} to {last}")?;
     match damaged.bytes {
-        None => line.push_str(", no bytes\n"),
-        Some(span) => {
-            let first = span.start;
-            let last = span.end.saturating_sub(1);
-            writeln!(line, ", bytes {first} to {last}")
+        None => line.push_str(", no bytes")?,
+        Some(CodedSpan { start, end }) => {
+            let last = end.saturating_sub(1);
+            write!(line, ", bytes {start} to {last}")?;
         }
     }
+    let decodable = damaged.decodable;
+    writeln!(line, ", {decodable} of {count} MCUs decodable")
 }

@@ -1,4 +1,3 @@
-use Rattle.std.proofs.Common.{rules}
 use Rattle.jri_archive.proofs.damage.damaged_front.Goals as goal
 
 pub returns-else-is_sound-clause-damaged : goal.returns-else-is_sound-clause-damaged

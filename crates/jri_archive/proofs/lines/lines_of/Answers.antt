@@ -1,6 +1,5 @@
-use Rattle.std.proofs.Common.{◌≡◌, ◌*◌, ap, rules, arith}
+use Rattle.std.proofs.Common.{◌≡◌, ◌*◌, ap, rules}
 use Rattle.jr_head.specs.Geometry.{vertical_max, mcus_across}
-use Rattle.jri_archive.specs.Lines.{AreRows}
 use Rattle.jri_archive.proofs.Rows.{rows_of, lines_are}
 use Rattle.jri_archive.proofs.lines.lines_of.Goals as goal
 

@@ -1,4 +1,4 @@
-use Rattle.std.proofs.Common.{rules, refl, subst}
+use Rattle.std.proofs.Common.{rules, subst}
 use Rattle.jr_scan.specs.Mcus.{HasNoDecoding}
 use Rattle.jri_archive.specs.Damage.{HasLongestFront}
 use Rattle.jri_archive.proofs.map.damaged_interval.Goals as goal

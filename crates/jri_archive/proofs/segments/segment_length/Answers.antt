@@ -1,4 +1,4 @@
-use Rattle.std.proofs.Common.{rules, ◌+◌, ◌<◌, ◌≤◌, ◌++◌, ◌∷◌, [], length, take, drop, refl, ap, length-drop, arith}
+use Rattle.std.proofs.Common.{◌+◌, ◌<◌, ◌≤◌, ◌++◌, ◌∷◌, [], length, take, drop, ap, length-drop, arith}
 use Rattle.jr_base.specs.declared.marker.TheConstants.{PREFIX}
 use Rattle.jr_scan.proofs.Cuts.{stop_end, stop_code, rest_is, fill_full, fill_next, fill_some, raw_stuffed}
 use Rattle.jr_scan.proofs.Unstuffing.{raw_run, plain_each, plain_next}
