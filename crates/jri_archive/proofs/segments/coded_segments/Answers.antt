@@ -24,16 +24,16 @@ returns-then-code_at-file c =
     let len = c.segment_length.result in
     let end = start + len in
     let f = c.fill_count.result in
-    let p = pushed_slice file n h.scan_at c.segments.spans.items c.push.new.self.items start len c.segments.k c.segments.invariant c.segment_length.ensures.within c.segment_length.ensures.data c.segment_length.ensures.stop c.in_ok-push.ensures.items in
+    let p = pushed_slice file n h.scan_at c.segments.spans.items c.push.new.self.items start len c.segments.k c.segments.invariant c.segment_length.ensures.within c.segment_length.ensures.data c.segment_length.ensures.stop (search (rules, c.in_ok-push.ensures.items)) in
     let full = fill_full file end f c.fill_count.ensures.full in
     elim c.then-code_at-file.branch [
-      | then-code_at-file-via-then-code_at-file w ↦ found_all file c.args.scan.now n h.scan_at c.push.new.self.items start end c.segments.k EndOfFile c.requires c.intervals-intervals.ensures.count refl p (all_fill file end f p.within full w.if-code_at-file.true)
+      | then-code_at-file-via-then-code_at-file w ↦ search (rules, found_all file c.args.scan.now n h.scan_at c.push.new.self.items start end c.segments.k EndOfFile c.requires c.intervals-intervals.ensures.count refl p (all_fill file end f p.within full w.if-code_at-file.true))
       | then-code_at-file-via-else-code_at-file+then-not-is_next w ↦
           let lt = w.if-code_at-file.false in
           let not_ff = fill_next file end f lt c.fill_count.ensures.next in
           let m = marker_read file end f p.stop full lt not_ff in
           let ended = found_end file n h.scan_at c.push.new.self.items start end c.segments.k f (let byte = c.type_inv.file (end + f) in omega (arith, byte)) p not_ff m (w.is_next.ensures.end w.if-not-is_next.true) in
-          found_all file c.args.scan.now n h.scan_at c.push.new.self.items start end c.segments.k ended.0 c.requires c.intervals-intervals.ensures.count refl p ended.1
+          search (rules, found_all file c.args.scan.now n h.scan_at c.push.new.self.items start end c.segments.k ended.0 c.requires c.intervals-intervals.ensures.count refl p ended.1)
     ]
 
 pub segments-preserved : goal.segments-preserved
@@ -45,10 +45,10 @@ segments-preserved c =
     let len = c.segment_length.result in
     let end = start + len in
     let f = c.fill_count.result in
-    let p = pushed_slice file n h.scan_at c.segments.spans.items c.push.new.self.items start len c.segments.k c.segments.invariant c.segment_length.ensures.within c.segment_length.ensures.data c.segment_length.ensures.stop c.in_ok-push.ensures.items in
+    let p = pushed_slice file n h.scan_at c.segments.spans.items c.push.new.self.items start len c.segments.k c.segments.invariant c.segment_length.ensures.within c.segment_length.ensures.data c.segment_length.ensures.stop (search (rules, c.in_ok-push.ensures.items)) in
     let full = fill_full file end f c.fill_count.ensures.full in
     let lt = c.if-code_at-file.false in
     let not_ff = fill_next file end f lt c.fill_count.ensures.next in
     let m = marker_read file end f p.stop full lt not_ff in
     let next = c.is_next.ensures.next (search rules) in
-    found_more file n h.scan_at c.push.new.self.items start end c.segments.k f (end + f + 1) (c.segments.k + 1) p m next.0 next.1 lt refl refl
+    search (rules, found_more file n h.scan_at c.push.new.self.items start end c.segments.k f (end + f + 1) (c.segments.k + 1) p m next.0 next.1 lt refl refl)
