@@ -224,13 +224,13 @@ impl<F: Folder + Sync, O: Write + Send + Drop, E: Write + Send + Drop> Sharing<F
 /// for each damaged interval, too. `progress` is told how far it is, where there is one.
 ///
 /// For each worker it takes about twice the memory of the file that it checks: its bytes, and those of its scan without
-/// their stuffing; with `has_map` 16 bytes more for each restart marker, of a file that is told.
+/// their stuffing; with `has_map` 16 bytes more for each restart marker, of a file that is told. It gives `out` back.
 pub fn check_all<
     R: Threads + Wait + Sync,
     F: Folder + Sync + Drop,
     O: Write + Send + Drop,
     E: Write + Send + Drop,
->(rt: &R, alloc: Global, folder: F, asked: Asked, out: O, progress: Option<E>) -> Told {
+>(rt: &R, alloc: Global, folder: F, asked: Asked, out: O, progress: Option<E>) -> (Told, O) {
     let desk = Desk {
         files: asked.files.len(),
         claimed: 0,
@@ -248,5 +248,5 @@ pub fn check_all<
     };
     sharing.run(rt);
     let desk = sharing.desk.into_inner();
-    desk.came_to
+    (desk.came_to, desk.out)
 }

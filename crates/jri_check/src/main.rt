@@ -105,6 +105,6 @@ fn main(rt: HostRuntime) -> ExitCode {
     } else {
         None
     };
-    let told = check_all(&rt, alloc, Disk { rt: &rt }, asked, out, progress);
+    let (told, _) = check_all(&rt, alloc, Disk { rt: &rt }, asked, out, progress);
     ExitCode::from(finish(&mut errors, told))
 }

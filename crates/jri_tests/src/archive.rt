@@ -11,14 +11,54 @@ use std::sync::Wait;
 use std::test::Fail;
 use std::thread::Threads;
 
-/// Files whose names say what is in them, in the notation of files.
+/// A file in memory.
 #[derive(Drop)]
-struct Notation;
+struct Named {
+    name: String,
+    bytes: Vec<u8>,
+}
 
-impl Folder for Notation {
+/// Files in memory.
+#[derive(Drop)]
+struct Shelf {
+    files: Vec<Named>,
+}
+
+impl Folder for Shelf {
     fn read(&self, alloc: Global, name: &str) -> Result<Vec<u8>, Unread> {
-        file(alloc, name).map_err(|_| Unread::Read)
+        for file in &self.files {
+            if file.name.as_str() == name {
+                return file.bytes.to_vec(alloc).map_err(|_| Unread::Memory);
+            }
+        }
+        Err(Unread::Read)
     }
+}
+
+/// The name of a file that is on no shelf.
+const MISSING: &str = "missing";
+
+/// A shelf of files whose names say what is in them, in the notation of files.
+fn shelf_of(alloc: Global, names: &[&str]) -> Result<Shelf, Fail> {
+    let mut files = Vec::new(alloc);
+    for name in names {
+        if *name != MISSING {
+            files.push(Named {
+                name: String::from_str(alloc, name)?,
+                bytes: file(alloc, name)?,
+            })?;
+        }
+    }
+    Ok(Shelf { files })
+}
+
+/// The names as owned text.
+fn owned(alloc: Global, names: &[&str]) -> Result<Vec<String>, Fail> {
+    let mut texts = Vec::new(alloc);
+    for name in names {
+        texts.push(String::from_str(alloc, name)?)?;
+    }
+    Ok(texts)
 }
 
 /// Checks files, with a map, and gives the lines without the files' names.
@@ -27,18 +67,15 @@ fn told<R: Threads + Wait + Sync + AllocGlobal>(
     names: &[&str],
     workers: u32,
 ) -> Result<(Told, String), Fail> {
-    let mut files = Vec::new(rt.alloc());
-    for name in names {
-        files.push(String::from_str(rt.alloc(), name)?)?;
-    }
     let asked = Asked {
         workers,
         has_map: true,
-        files,
+        files: owned(rt.alloc(), names)?,
     };
+    let shelf = shelf_of(rt.alloc(), names)?;
     let nowhere: Option<Vec<u8>> = None;
     let out = Vec::new(rt.alloc());
-    let (told, out) = check_all(rt, rt.alloc(), Notation, asked, out, nowhere);
+    let (told, out) = check_all(rt, rt.alloc(), shelf, asked, out, nowhere);
     let mut lines = String::new(rt.alloc());
     for line in str::from_utf8(out.as_slice())?.lines() {
         let (_, rest) = line.split_once(": ").ok_or("no name")?;
@@ -64,7 +101,11 @@ fn is_told(alloc: Global, case: &Case, line: &str) -> Result<bool, Fail> {
     let mut words = case.intervals.split_whitespace();
     let intervals = words.nth(1).ok_or("no intervals")?;
     let damaged = words.nth(3).ok_or("none damaged")?;
-    let many = if intervals == "1" { "interval" } else { "intervals" };
+    let many = if intervals == "1" {
+        "interval"
+    } else {
+        "intervals"
+    };
     let start = if damaged == "0" {
         format!(in alloc; "sound, {intervals} {many}")?
     } else {
@@ -85,7 +126,11 @@ fn check_cases<R: Threads + Wait + Sync + AllocGlobal + Abort>(
     for case in cases {
         let (came_to, found) = told(rt, &[case.file], 1)?;
         let line = found.as_str().lines().next().ok_or("no line")?;
-        assert!(rt; is_told(rt.alloc(), case, line)?, "{} is told as {line}", case.file);
+        assert!(rt;
+            is_told(rt.alloc(), case, line)?,
+            "{} is told as {line}",
+            case.file
+        );
         let is_sound = came_to == Told::AllSound;
         assert!(rt; is_sound == (case.status == 0), "{}", case.file);
     }
@@ -109,7 +154,7 @@ fn tells_what_has_no_scan(rt: HostRuntime) -> Result<(), Fail> {
     let rows = [
         ("FF D8 FF C2", "refused 5: frame C2 is not baseline\n"),
         ("FF D8 00", "refused 3: expected a marker at byte 2\n"),
-        ("no file", "cannot be read\n"),
+        (MISSING, "cannot be read\n"),
     ];
     check(&rt, &rows)
 }
@@ -164,7 +209,7 @@ fn maps_five_of_ten_intervals(rt: HostRuntime) -> Result<(), Fail> {
 
 #[test]
 fn tells_files_in_their_order(rt: HostRuntime) -> Result<(), Fail> {
-    let names = [TEN, "GI 63 FF D0 63 E", "FF D8 FF C2", COLOURED, "no file"];
+    let names = [TEN, "GI 63 FF D0 63 E", "FF D8 FF C2", COLOURED, MISSING];
     let lines = "sound, 10 intervals\nsound, 2 intervals\nrefused 5: frame C2 is not baseline\n\
                  sound, 2 intervals\ncannot be read\n";
     for workers in [1, 3, 8] {
@@ -179,18 +224,16 @@ fn tells_files_in_their_order(rt: HostRuntime) -> Result<(), Fail> {
 
 #[test]
 fn tells_that_lines_cannot_be_written(rt: HostRuntime) -> Result<(), Fail> {
-    let mut files = Vec::new(rt.alloc());
-    for name in ["G 63 E", "G 63 E"] {
-        files.push(String::from_str(rt.alloc(), name)?)?;
-    }
+    let names = ["G 63 E", "G 63 E"];
     let asked = Asked {
         workers: 2,
         has_map: false,
-        files,
+        files: owned(rt.alloc(), &names)?,
     };
+    let shelf = shelf_of(rt.alloc(), &names)?;
     let nowhere: Option<Vec<u8>> = None;
     let out = Cursor::new([0; 10]);
-    let (came_to, _) = check_all(&rt, rt.alloc(), Notation, asked, out, nowhere);
+    let (came_to, _) = check_all(&rt, rt.alloc(), shelf, asked, out, nowhere);
     assert!(rt; came_to == Told::Unwritten);
     Ok(())
 }
@@ -225,7 +268,13 @@ fn asks_for_checks(rt: HostRuntime) -> Result<(), Fail> {
 
 #[test]
 fn refuses_words_of_no_check(rt: HostRuntime) -> Result<(), Fail> {
-    for line in ["", "--map", "--workers 0 a", "--workers 65 a", "--first 1 a"] {
+    for line in [
+        "",
+        "--map",
+        "--workers 0 a",
+        "--workers 65 a",
+        "--first 1 a",
+    ] {
         let words = words_of(rt.alloc(), line)?;
         let unasked = asked(rt.alloc(), words.as_slice())
             .err()
