@@ -96,21 +96,29 @@ fn check<R: Threads + Wait + Sync + AllocGlobal + Abort>(
     Ok(())
 }
 
+/// The noun behind a number of intervals.
+fn noun_of(intervals: &str) -> &'static str {
+    if intervals == "1" {
+        "interval"
+    } else {
+        "intervals"
+    }
+}
+
+/// What the line of a file with so many intervals begins with.
+fn beginning(alloc: Global, intervals: &str, damaged: &str, noun: &str) -> Result<String, Fail> {
+    if damaged == "0" {
+        return Ok(format!(in alloc; "sound, {intervals} {noun}")?);
+    }
+    Ok(format!(in alloc; "damaged, {damaged} of {intervals} {noun}, lines ")?)
+}
+
 /// Whether a line tells as many intervals and damaged ones as the report of a case, and the same end of the scan.
 fn is_told(alloc: Global, case: &Case, line: &str) -> Result<bool, Fail> {
     let mut words = case.intervals.split_whitespace();
     let intervals = words.nth(1).ok_or("no intervals")?;
     let damaged = words.nth(3).ok_or("none damaged")?;
-    let many = if intervals == "1" {
-        "interval"
-    } else {
-        "intervals"
-    };
-    let start = if damaged == "0" {
-        format!(in alloc; "sound, {intervals} {many}")?
-    } else {
-        format!(in alloc; "damaged, {damaged} of {intervals} {many}, lines ")?
-    };
+    let start = beginning(alloc, intervals, damaged, noun_of(intervals))?;
     let has_end = if case.ended == "scan ended at EOI" {
         !line.contains("scan ended")
     } else {
