@@ -1,3 +1,4 @@
+use Rattle.std.proofs.Common.{rules}
 use Rattle.jr_scan.specs.Reader.{first_mcus}
 use Rattle.jri_archive.proofs.damage.damaged_front.Goals as goal
 
