@@ -3,6 +3,8 @@
 #![tactic(auto)]
 
 #[cfg(test)]
+mod archive;
+#[cfg(test)]
 mod base;
 #[cfg(test)]
 mod boards;

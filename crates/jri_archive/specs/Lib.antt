@@ -1,0 +1,7 @@
+pub mod Damage
+pub mod Lines
+pub mod Verdicts
+pub mod Coded
+pub mod Map
+pub mod Status
+pub mod Outcomes

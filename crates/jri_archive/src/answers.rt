@@ -1,0 +1,47 @@
+//! What the words of a command line ask for, or why they ask for nothing.
+
+ghost use Rattle.std.specs.Prelude.{◌≡◌};
+ghost use Rattle.jri_archive.specs.Status.{unasked_status};
+
+use std::alloc::AllocError;
+
+/// What the words ask for.
+#[derive(Debug, Drop)]
+pub struct Asked {
+    /// How many files are checked at once: 1 to 64.
+    pub workers: u32,
+    /// Whether there is a line for each damaged interval.
+    pub has_map: bool,
+    /// The names of the files.
+    pub files: Vec<String>,
+}
+
+/// Why the words ask for no check.
+#[derive(Debug, Drop)]
+pub enum Unasked {
+    /// They ask for help, which is this text.
+    Help(String),
+    /// They are wrong, as this text says.
+    Wrong(String),
+    /// Memory ran out.
+    Memory,
+}
+
+impl Unasked {
+    /// The exit status: 0 for help, 2 for wrong words, 1 for want of memory.
+    pub fn status(&self) -> u8
+        ensures { result ≡ unasked_status self.now }
+    {
+        match self {
+            Unasked::Help(_) => 0,
+            Unasked::Wrong(_) => 2,
+            Unasked::Memory => 1,
+        }
+    }
+}
+
+impl From<AllocError> for Unasked {
+    fn from(_refused: AllocError) -> Self {
+        Unasked::Memory
+    }
+}

@@ -1,0 +1,36 @@
+//! What is damaged of a file.
+
+ghost use Rattle.std.specs.Prelude.{◌≢◌, length, IfOk, IfErr};
+ghost use Rattle.jr_head.specs.declared.refusal.Refusal.TheVariants as refusal;
+ghost use Rattle.jr_head.specs.Heads.{RefusalOf};
+ghost use Rattle.jri_archive.specs.Verdicts.{IsFileScan, IsVerdictOf};
+
+use crate::verdict::{Verdict, check_scan};
+use jr_head::{Refusal, read_head};
+use jr_scan::Scan;
+use std::alloc::Global;
+
+/// The scan of a file, and what is damaged of it.
+#[derive(Drop)]
+pub struct Checked {
+    pub scan: Scan,
+    pub verdict: Verdict,
+}
+
+/// Reads a file's head, cuts its scan, and reads each of its intervals once.
+///
+/// # Errors
+///
+/// The file's first fault; `Memory` where memory was refused, which says nothing of the file.
+pub fn check_file(alloc: Global, file: &[u8]) -> Result<Checked, Refusal>
+    ensures scan { IfOk result (λ c. IsFileScan file.now c.scan) }
+    ensures verdict { IfOk result (λ c. IsVerdictOf c.scan (length c.scan.intervals) c.verdict) }
+    ensures refused { IfErr result (λ fault. fault ≢ refusal.Memory → RefusalOf file.now fault) }
+{
+    let head = read_head(alloc, file)?;
+    let Ok(scan) = Scan::cut(alloc, head, file) else {
+        return Err(Refusal::Memory);
+    };
+    let verdict = check_scan(&scan);
+    Ok(Checked { scan, verdict })
+}

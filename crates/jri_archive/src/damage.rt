@@ -1,0 +1,39 @@
+//! Whether an interval has a decoding.
+
+ghost use Rattle.std.specs.Prelude.{◌≡◌, ℤ, List, IfSome, OnSome, IfNone};
+ghost use Rattle.jr_scan.specs.Mcus.{HasNoDecoding};
+ghost use Rattle.jr_scan.specs.Reader.{HasRead, HasEnded, whole_run};
+ghost use Rattle.jri_archive.specs.Damage.{HasDecoding, HasLongestFront};
+
+use jr_scan::{BlockReader, IntervalRef};
+
+/// A reader that has read all blocks of an interval, up to its end or to where none follows.
+fn read_all(interval: IntervalRef<'_>) -> BlockReader<'_>
+    ensures run { result.run ≡ whole_run interval.entry }
+    ensures read { (zs : List (List ℤ)) × HasRead result zs }
+    ensures ended { HasEnded result }
+{
+    let mut reader = BlockReader::over_ref(interval);
+    let mut block = [0; 64];
+    'blocks: loop {
+        let Some(_) = reader.next(&mut block) else {
+            return reader;
+        };
+    }
+}
+
+/// `None` where the interval has a decoding (T.81, Annex F). Else how many of its MCUs, from the first on, can be decoded.
+///
+/// It reads the interval's bits once, transforms nothing and takes no memory.
+pub fn damaged_front(interval: IntervalRef<'_>) -> Option<u32>
+    ensures sound { IfNone result (HasDecoding interval.entry) }
+    ensures damaged { OnSome result (HasNoDecoding interval.entry) }
+    ensures front { IfSome result (λ mcus. HasLongestFront interval.entry mcus) }
+{
+    let reader = read_all(interval);
+    if reader.is_sound() {
+        None
+    } else {
+        Some(reader.mcus())
+    }
+}

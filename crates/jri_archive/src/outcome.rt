@@ -1,0 +1,55 @@
+//! What becomes of one file of many.
+
+ghost use Rattle.std.specs.Prelude.{◌≡◌, ◌≢◌, length, IfOk, true};
+ghost use Rattle.jr_head.specs.Heads.{RefusalOf};
+ghost use Rattle.jri_archive.specs.Outcomes.{IsOutcomeOf, is_sound};
+
+use crate::checking::{Checked, check_file};
+use jr_head::Refusal;
+use std::alloc::Global;
+
+/// Why the bytes of a file are not there.
+#[derive(Clone, Copy, Debug, PartialEq, Eq)]
+pub enum Unread {
+    /// It cannot be opened or read.
+    Read,
+    /// Memory ran out.
+    Memory,
+}
+
+/// What a check of a file came to.
+#[derive(Drop)]
+pub enum Outcome {
+    /// Its scan was read.
+    Checked(Checked),
+    /// It is refused, or memory was.
+    Refused(Refusal),
+    /// It cannot be opened or read.
+    Unread,
+}
+
+/// Checks a file whose bytes are there, or are not.
+pub fn outcome_of(alloc: Global, file: &Result<Vec<u8>, Unread>) -> Outcome
+    ensures { IfOk file.now (λ bytes. IsOutcomeOf bytes.items result) }
+{
+    match file {
+        Ok(bytes) => match check_file(alloc, bytes.as_slice()) {
+            Ok(checked) => Outcome::Checked(checked),
+            Err(refusal) => Outcome::Refused(refusal),
+        },
+        Err(Unread::Read) => Outcome::Unread,
+        Err(Unread::Memory) => Outcome::Refused(Refusal::Memory),
+    }
+}
+
+impl Outcome {
+    /// Whether the file has a scan, and no interval of it is damaged.
+    pub fn is_sound(&self) -> bool
+        ensures { result ≡ is_sound self.now }
+    {
+        match self {
+            Outcome::Checked(checked) => checked.verdict.damaged == 0,
+            Outcome::Refused(_) | Outcome::Unread => false,
+        }
+    }
+}

@@ -1,0 +1,252 @@
+//! Many files, checked by several workers and told in their order.
+
+ghost use Rattle.std.specs.Prelude.{IfOk};
+ghost use Rattle.jri_archive.specs.Outcomes.{IsOutcomeOf};
+ghost use Rattle.jri_archive.specs.Verdicts.{IsFileScan};
+
+use crate::answers::Asked;
+use crate::checking::Checked;
+use crate::map::damaged_interval;
+use crate::outcome::{Outcome, Unread, outcome_of};
+use crate::segments::coded_segments;
+use crate::telling::{tell, tell_map};
+use std::alloc::{AllocError, Global};
+use std::io::{Error, Write};
+use std::sync::{Condvar, Mutex, Wait};
+use std::thread;
+use std::thread::Threads;
+
+/// Where the bytes of files come from.
+pub trait Folder {
+    /// The bytes of the file of that name, or one more than a file may have.
+    fn read(&self, alloc: Global, name: &str) -> Result<Vec<u8>, Unread>;
+}
+
+/// What became of all files.
+#[derive(Clone, Copy, Debug, PartialEq, Eq)]
+pub enum Told {
+    /// Each is sound, and each has its line.
+    AllSound,
+    /// Each has its line, and some are not sound.
+    SomeNot,
+    /// The lines could not be written; a beginning of them was.
+    Unwritten,
+    /// Memory ran out for a line.
+    Memory,
+}
+
+/// Why a line is not written.
+#[derive(Debug, Drop)]
+enum Untold {
+    Write,
+    Memory,
+}
+
+impl From<AllocError> for Untold {
+    fn from(_refused: AllocError) -> Self {
+        Untold::Memory
+    }
+}
+
+impl From<Error> for Untold {
+    fn from(_failed: Error) -> Self {
+        Untold::Write
+    }
+}
+
+/// Which file is to be checked next, whose line is due, and where lines go.
+#[derive(Drop)]
+struct Desk<O, E> {
+    files: usize,
+    claimed: usize,
+    told: usize,
+    out: O,
+    progress: Option<E>,
+    came_to: Told,
+}
+
+/// Writes a line for each damaged interval, each by one write.
+fn write_map<O: Write>(
+    alloc: Global,
+    out: &mut O,
+    name: &str,
+    file: &[u8],
+    checked: &Checked,
+) -> Result<(), Untold>
+    requires { IsFileScan file.now checked.now.scan }
+{
+    let Ok(spans) = coded_segments(alloc, file, &checked.scan) else {
+        return Err(Untold::Memory);
+    };
+    let mut line = String::new(alloc);
+    for i in 0..checked.scan.intervals() {
+        if let Some(damaged) = damaged_interval(&checked.scan, spans.as_slice(), i) {
+            line.clear();
+            tell_map(&mut line, name, &damaged)?;
+            out.write_all(line.as_bytes())?;
+        }
+    }
+    Ok(())
+}
+
+/// Writes the line of a file by one write and, where they are asked for, those of its damaged intervals.
+fn write_lines<O: Write>(
+    alloc: Global,
+    out: &mut O,
+    name: &str,
+    file: &Result<Vec<u8>, Unread>,
+    outcome: &Outcome,
+    has_map: bool,
+) -> Result<(), Untold>
+    requires { IfOk file.now (λ bytes. IsOutcomeOf bytes.items outcome.now) }
+{
+    let mut line = String::new(alloc);
+    tell(&mut line, name, outcome)?;
+    out.write_all(line.as_bytes())?;
+    if has_map
+        && let Ok(bytes) = file
+        && let Outcome::Checked(checked) = outcome
+        && checked.verdict.damaged > 0
+    {
+        write_map(alloc, out, name, bytes.as_slice(), checked)?;
+    }
+    Ok(())
+}
+
+impl<O: Write, E: Write> Desk<O, E> {
+    /// The number of a file that nobody has claimed; `None` where there is none, and where lines can no longer be told.
+    fn claim(&mut self) -> Option<usize> {
+        let is_over = matches!(self.came_to, Told::Unwritten | Told::Memory);
+        if is_over || self.claimed >= self.files {
+            return None;
+        }
+        let number = self.claimed;
+        self.claimed += 1;
+        Some(number)
+    }
+
+    /// Erases how far it is, on a terminal, or shows it.
+    fn show_progress(&mut self, is_shown: bool) {
+        let (told, files) = (self.told, self.files);
+        if let Some(errors) = &mut self.progress {
+            let _ = if is_shown && told < files {
+                write!(errors, "\r\x1B[K{told} of {files} files")
+            } else {
+                write!(errors, "\r\x1B[K")
+            };
+            let _ = errors.flush();
+        }
+    }
+
+    /// Notes what became of a file, where all before it could be told.
+    fn note(&mut self, outcome: &Outcome, written: Result<(), Untold>) {
+        match written {
+            Ok(()) if outcome.is_sound() => {}
+            Ok(()) => self.came_to = Told::SomeNot,
+            Err(Untold::Write) => self.came_to = Told::Unwritten,
+            Err(Untold::Memory) => self.came_to = Told::Memory,
+        }
+    }
+
+    /// Tells of the file whose line is due.
+    fn tell(
+        &mut self,
+        alloc: Global,
+        name: &str,
+        file: &Result<Vec<u8>, Unread>,
+        outcome: &Outcome,
+        has_map: bool,
+    )
+        requires { IfOk file.now (λ bytes. IsOutcomeOf bytes.items outcome.now) }
+    {
+        self.show_progress(false);
+        if !matches!(self.came_to, Told::Unwritten | Told::Memory) {
+            let written = write_lines(alloc, &mut self.out, name, file, outcome, has_map);
+            self.note(outcome, written);
+        }
+        self.told = self.told.saturating_add(1);
+        self.show_progress(true);
+    }
+}
+
+/// What the workers share.
+#[derive(Drop)]
+struct Sharing<F, O, E> {
+    alloc: Global,
+    folder: F,
+    asked: Asked,
+    desk: Mutex<Desk<O, E>>,
+    /// Somebody has told of a file.
+    has_told: Condvar,
+}
+
+impl<F: Folder + Sync, O: Write + Send + Drop, E: Write + Send + Drop> Sharing<F, O, E> {
+    /// Claims and checks files until none is left, and tells of each when its line is due.
+    fn work<R: Wait>(&self, rt: &R) {
+        for _ in 0..self.asked.files.len() {
+            let claimed = self.desk.lock(rt).claim();
+            let Some(number) = claimed else {
+                return;
+            };
+            let Some(name) = self.asked.files.get(number) else {
+                return;
+            };
+            let file = self.folder.read(self.alloc, name.as_str());
+            let outcome = outcome_of(self.alloc, &file);
+            let desk = self.desk.lock(rt);
+            let mut desk = self
+                .has_told
+                .wait_while(rt, desk, |desk| desk.told != number);
+            desk.tell(
+                self.alloc,
+                name.as_str(),
+                &file,
+                &outcome,
+                self.asked.has_map,
+            );
+            drop(desk);
+            self.has_told.notify_all();
+        }
+    }
+
+    /// Starts the workers, and works beside them.
+    fn run<R: Threads + Wait + Sync>(&self, rt: &R) {
+        thread::scope(thread::scope_env(), rt, |scope| {
+            for _ in 1..self.asked.workers {
+                let _ = scope.spawn(move || self.work(rt));
+            }
+            self.work(rt);
+        });
+    }
+}
+
+/// Checks each file, so many at once, and writes a line for each, in their order, each by one write; with `has_map` one
+/// for each damaged interval, too. `progress` is told how far it is, where there is one.
+///
+/// For each worker it takes about twice the memory of the file that it checks: its bytes, and those of its scan without
+/// their stuffing; with `has_map` 16 bytes more for each restart marker, of a file that is told. It gives `out` back.
+pub fn check_all<
+    R: Threads + Wait + Sync,
+    F: Folder + Sync + Drop,
+    O: Write + Send + Drop,
+    E: Write + Send + Drop,
+>(rt: &R, alloc: Global, folder: F, asked: Asked, out: O, progress: Option<E>) -> (Told, O) {
+    let desk = Desk {
+        files: asked.files.len(),
+        claimed: 0,
+        told: 0,
+        out,
+        progress,
+        came_to: Told::AllSound,
+    };
+    let sharing = Sharing {
+        alloc,
+        folder,
+        asked,
+        desk: Mutex::new(desk),
+        has_told: Condvar::new(),
+    };
+    sharing.run(rt);
+    let desk = sharing.desk.into_inner();
+    (desk.came_to, desk.out)
+}

@@ -1,0 +1,103 @@
+//! The lines that are told of a file.
+
+use crate::checking::Checked;
+use crate::lines::{Lines, Mcus};
+use crate::map::DamagedInterval;
+use crate::outcome::Outcome;
+use crate::segments::CodedSpan;
+use jr_head::Refusal;
+use jr_scan::ScanEnd;
+use std::alloc::AllocError;
+
+/// Puts a file's name. Characters that would end the line, or move on a terminal, are told as `?`.
+fn put_name(line: &mut String, name: &str) -> Result<(), AllocError> {
+    for c in name.chars() {
+        line.push(if c.is_control() { '?' } else { c })?;
+    }
+    Ok(())
+}
+
+/// Puts what ended the scan, where it isn't EOI.
+fn put_end(line: &mut String, ended: ScanEnd) -> Result<(), AllocError> {
+    match ended {
+        ScanEnd::EndOfImage => Ok(()),
+        ScanEnd::OtherMarker(code, at) => {
+            write!(line, ", scan ended at marker {code:02X}, byte {at}")
+        }
+        ScanEnd::OutOfStep {
+            found,
+            expected,
+            at,
+        } => write!(
+            line,
+            ", scan ended at RST{found} where RST{expected} was due, byte {at}"
+        ),
+        ScanEnd::ExtraRestart(at) => {
+            write!(
+                line,
+                ", scan ended at a restart marker past the last interval, byte {at}"
+            )
+        }
+        ScanEnd::EndOfFile => write!(line, ", scan ended at the end of the file"),
+    }
+}
+
+/// Puts how many intervals there are.
+fn put_intervals(line: &mut String, intervals: u32) -> Result<(), AllocError> {
+    match intervals {
+        1 => line.push_str("1 interval"),
+        _ => write!(line, "{intervals} intervals"),
+    }
+}
+
+fn put_checked(line: &mut String, checked: &Checked) -> Result<(), AllocError> {
+    match checked.verdict.lines {
+        None => {
+            line.push_str("sound, ")?;
+            put_intervals(line, checked.scan.intervals())?;
+        }
+        Some(Lines { first, last }) => {
+            write!(line, "damaged, {} of ", checked.verdict.damaged)?;
+            put_intervals(line, checked.scan.intervals())?;
+            write!(line, ", lines {first} to {last}")?;
+        }
+    }
+    put_end(line, checked.scan.ended())
+}
+
+/// Puts the line of a file, with its end.
+pub fn tell(line: &mut String, name: &str, outcome: &Outcome) -> Result<(), AllocError> {
+    put_name(line, name)?;
+    line.push_str(": ")?;
+    match outcome {
+        Outcome::Checked(checked) => put_checked(line, checked)?,
+        Outcome::Refused(Refusal::Memory) => line.push_str("out of memory")?,
+        Outcome::Refused(refusal) => write!(line, "refused {}: {refusal}", refusal.number())?,
+        Outcome::Unread => line.push_str("cannot be read")?,
+    }
+    line.push_str("\n")
+}
+
+/// Puts the line of a damaged interval, with its end. All is counted from 0, and ranges are told with their last one.
+pub fn tell_map(
+    line: &mut String,
+    name: &str,
+    damaged: &DamagedInterval,
+) -> Result<(), AllocError> {
+    put_name(line, name)?;
+    let number = damaged.number;
+    let Mcus { first, count } = damaged.mcus;
+    let last = first.saturating_add(count.saturating_sub(1));
+    write!(line, ": interval {number}, MCUs {first} to {last}")?;
+    let Lines { first, last } = damaged.lines;
+    write!(line, ", lines {first} to {last}")?;
+    match damaged.bytes {
+        None => line.push_str(", no bytes")?,
+        Some(CodedSpan { start, end }) => {
+            let last = end.saturating_sub(1);
+            write!(line, ", bytes {start} to {last}")?;
+        }
+    }
+    let decodable = damaged.decodable;
+    writeln!(line, ", {decodable} of {count} MCUs decodable")
+}

@@ -1,0 +1,156 @@
+"""A plain reader of baseline scans, bit by bit as ITU-T T.81 has them: which restart intervals have a decoding, how far
+the others go, and where their bytes stand. For comparisons: it shares nothing with jri, and takes only files whose head is
+as cjpeg writes it."""
+
+import re
+
+
+class Undecodable(Exception):
+    """No word or no coefficient begins the bits."""
+
+
+class Bits:
+    """The bits of an interval's bytes."""
+
+    def __init__(self, data):
+        self.text = "".join(format(byte, "08b") for byte in data)
+        self.at = 0
+
+    def take(self, count):
+        if self.at + count > len(self.text):
+            raise Undecodable
+        self.at += count
+        return self.text[self.at - count : self.at]
+
+    def word(self, table):
+        """The symbol of the word that comes next (Annex C)."""
+        for length in range(1, 17):
+            symbol = table.get(self.text[self.at : self.at + length])
+            if symbol is not None and self.at + length <= len(self.text):
+                self.at += length
+                return symbol
+        raise Undecodable
+
+    def value(self, size):
+        """So many extra bits as a signed value (F.2.2.1)."""
+        if size == 0:
+            return 0
+        bits = self.take(size)
+        return int(bits, 2) if bits[0] == "1" else int(bits, 2) - 2**size + 1
+
+
+class Head:
+    """What the markers before the scan say."""
+
+    def __init__(self, data):
+        self.restart, self.tables, self.at = 0, {}, 2
+        while True:
+            code, size = data[self.at + 1], int.from_bytes(data[self.at + 2 : self.at + 4], "big")
+            payload = data[self.at + 4 : self.at + 2 + size]
+            self.at += 2 + size
+            if code == 0xC4:
+                self.add_tables(payload)
+            elif code == 0xC0:
+                self.frame(payload)
+            elif code == 0xDD:
+                self.restart = int.from_bytes(payload, "big")
+            elif code == 0xDA:
+                self.used = [payload[2 + 2 * i] for i in range(payload[0])]
+                return
+
+    def add_tables(self, payload):
+        """Code tables, as the words of symbols (Annex C)."""
+        while payload:
+            kind, counts = payload[0], payload[1:17]
+            symbols, words, word = payload[17 : 17 + sum(counts)], {}, 0
+            for length, count in enumerate(counts, 1):
+                for _ in range(count):
+                    words[format(word, f"0{length}b")] = symbols[len(words)]
+                    word += 1
+                word *= 2
+            self.tables[kind] = words
+            payload = payload[17 + sum(counts) :]
+
+    def frame(self, payload):
+        """Sizes, and the component of each data unit of an MCU (A.2.3)."""
+        self.height, self.width = int.from_bytes(payload[1:3], "big"), int.from_bytes(payload[3:5], "big")
+        factors = [(payload[7 + 3 * c] >> 4, payload[7 + 3 * c] & 15) for c in range(payload[5])]
+        if len(factors) == 1:
+            factors = [(1, 1)]
+        self.high = 8 * max(v for _, v in factors)
+        self.across = -(-self.width // (8 * max(h for h, _ in factors)))
+        self.mcus = self.across * -(-self.height // self.high)
+        self.order = [c for c, (h, v) in enumerate(factors) for _ in range(h * v)]
+
+    def read_block(self, bits, component, prediction):
+        """The DC value of the next block (F.2.2)."""
+        size = bits.word(self.tables[self.used[component] >> 4])
+        if size > 11:
+            raise Undecodable
+        dc = prediction + bits.value(size)
+        if not -32768 <= dc <= 32767:
+            raise Undecodable
+        place = 1
+        while place < 64:
+            symbol = bits.word(self.tables[16 + (self.used[component] & 15)])
+            run, size = symbol >> 4, symbol & 15
+            if symbol == 0:
+                break
+            if symbol == 0xF0:
+                place += 16
+            elif 1 <= size <= 10:
+                bits.value(size)
+                place += run + 1
+            else:
+                raise Undecodable
+            if place > 64:
+                raise Undecodable
+        return dc
+
+    def decodable(self, data, mcus):
+        """How many whole MCUs can be decoded, and whether they are a decoding of the interval."""
+        bits, predictions = Bits(data), [0] * 3
+        for done in range(mcus):
+            try:
+                for component in self.order:
+                    predictions[component] = self.read_block(bits, component, predictions[component])
+            except Undecodable:
+                return done, False
+        return mcus, len(bits.text) - bits.at < 8
+
+
+MARKER = re.compile(rb"\xff+[^\x00\xff]", re.DOTALL)
+
+
+def segments(data, start, intervals):
+    """Where each interval's bytes start and end, for as many as have some; and whether EOI follows."""
+    spans = []
+    while True:
+        found = MARKER.search(data, start)
+        if not found:
+            tail = re.search(rb"\xff*\Z", data[start:])
+            return spans + [(start, start + tail.start())], False
+        spans.append((start, found.start()))
+        code = data[found.end() - 1]
+        if len(spans) == intervals or code != 0xD0 + (len(spans) - 1) % 8:
+            return spans, code == 0xD9
+        start = found.end()
+
+
+def check(data):
+    """How many intervals there are; of each damaged one its number, first and last MCU, first and last line, first and
+    last byte, and how many MCUs can be decoded; and whether EOI follows."""
+    head = Head(data)
+    each = head.restart or head.mcus
+    intervals = -(-head.mcus // each)
+    spans, ended = segments(data, head.at, intervals)
+    damaged = []
+    for number in range(intervals):
+        start, end = spans[number] if number < len(spans) else (0, 0)
+        mcus = min(each, head.mcus - number * each)
+        done, is_sound = head.decodable(re.sub(rb"\xff+\x00", b"\xff", data[start:end]), mcus)
+        if not is_sound:
+            first, last = number * each, number * each + mcus - 1
+            lines = first // head.across * head.high, min((last // head.across + 1) * head.high, head.height) - 1
+            damaged.append((number, (first, last), lines, (start, end - 1) if start < end else None, done, mcus))
+    return intervals, damaged, ended
