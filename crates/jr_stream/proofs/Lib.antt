@@ -1,9 +1,13 @@
 pub mod UnitRows
-pub mod ShownUnits
 pub mod IntervalPlaces
 pub mod UnitComponents
 pub mod RowLines
 pub mod FirstBoards
 pub mod ReadRows
-pub mod PaintedRows
 pub mod PictureRows
+pub mod ShownUnits
+pub mod PaintedRows
+pub mod WholeRows
+pub mod Countings
+pub mod Sendings
+pub mod Sheets

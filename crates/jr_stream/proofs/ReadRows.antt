@@ -1,31 +1,37 @@
--- How far the rows of a scan are read, and what is counted of them.
-use Rattle.std.proofs.Common.{◌≡◌, ℕ, zero, suc, ◌+◌, ◌-◌, ◌*◌, ◌/◌, ◌%◌, ◌<◌, ◌≤◌, Bool, true, false, cond, inl, inr, Option, Some, None, List, [], ◌∷◌, ◌++◌, length, take, get_or, nat_le, slice_index_or, refl, sym, ap, ◌∙◌, arith}
-use Rattle.std.specs.List.{count_by}
+-- What is read of a scan's rows, and what is counted of them.
+use Rattle.std.proofs.Common.{◌≡◌, ℕ, zero, suc, ◌+◌, ◌-◌, ◌*◌, ◌/◌, ◌%◌, ◌<◌, ◌≤◌, Bool, true, false, cond, inl, inr, Option, Some, None, List, [], ◌∷◌, ◌++◌, length, take, get_or, slice_index_or, refl, sym, ap, subst, ◌∙◌, arith}
+use Rattle.std.specs.Prelude.{ℤ}
+use Rattle.std.specs.List.{count_by, All}
 use Rattle.std.proofs.lemmas.Bool.{cases_lt}
 use Rattle.std.proofs.lemmas.List.Sums.{sum_by-cons}
 use Rattle.std.proofs.lemmas.Slice.{take-put_mid}
 use Rattle.std.proofs.lemmas.List.{get_or-take, get_or_append_left, get_or-append_right, length-take-le}
 use borrow.Rule.Slice.PartMut.{put_mid}
-use Rattle.std.proofs.Math.Seq.{take-length}
 use Rattle.std.proofs.Math.Nat.{div-lt_iff_lt-mul, add-mul, mul-add-div_right, mul-add-mod_self_right}
 use Rattle.std.proofs.lemmas.Nat.{div-add-mod'}
 use Rattle.jr_head.specs.HeadValue.{HeadValue}
-use Rattle.jr_head.specs.Geometry.{blocks_of}
+use Rattle.jr_head.specs.Geometry.{order_of, quantiser_of, blocks_of, mcus_of}
+use Rattle.jr_head.proofs.SamplingLaws.{length-order}
 use Rattle.jr_scan.specs.IntervalValue.{IntervalValue}
-use Rattle.jr_scan.specs.ScanValue.{ScanValue, IsSameScan, intervals_of, mcus_in}
+use Rattle.jr_scan.specs.Mcus.{component}
+use Rattle.jr_scan.specs.ScanValue.{ScanValue, IsSameScan, interval_of, intervals_of, mcus_in}
+use Rattle.jr_idct.specs.Transform.{samples}
 use Rattle.jr_piece.specs.PieceValue.{PieceValue}
+use Rattle.jr_piece.specs.Outcome.{IsOutcome, unit_of}
+use Rattle.jr_piece.specs.Strips.{units_before}
+use Rattle.jr_piece.specs.Units.{CodesUnits, unit_in_piece}
 use Rattle.jr_wall.specs.declared.mark.Mark.{Mark}
-use Rattle.jr_wall.specs.declared.mark.Mark.TheVariants.{Blank}
+use Rattle.jr_wall.specs.declared.mark.Mark.TheVariants.{Blank, Sound, Damaged}
 use Rattle.jr_wall.specs.BoardValue.{BoardValue}
 use Rattle.jr_wall.specs.Boards.{piece_at, mark_of, marks_of}
-use Rattle.jr_wall.specs.Headline.{AreCounts, is_sound, is_damaged, interval_number, within_interval}
+use Rattle.jr_wall.specs.Headline.{is_sound, is_damaged, interval_number, within_interval}
 use Rattle.jr_wall.proofs.BoardPictures.{marks_at, interval_is}
-use Rattle.jr_stream.proofs.FirstBoards.{not_blank, marks_there, counts_of}
+use Rattle.jr_stream.proofs.FirstBoards.{marks_there, not_blank}
 use Rattle.jr_stream.proofs.IntervalPlaces.{interval_at}
-use Rattle.jr_stream.proofs.ShownUnits.{Shows}
 use Rattle.jr_stream.specs.Bands.{unit_shown_of, unit_shown}
-use Rattle.jr_stream.specs.RowsValue.{ShownValue, RowsValue}
-use Rattle.jr_stream.specs.Rows.{HasFirst, IsPosted, IsAt, CountsFirst, mcus_read}
+use Rattle.jr_stream.specs.RowsValue.{McusValue}
+use Rattle.jr_stream.specs.Rows.{HasFirst, CountsMarks, GivesBehind, mcus_read}
+use Rattle.jr_stream.specs.declared.marked.Marked.{Marked}
 
 -- a count of one more
 pub count_next : (f : Mark → Bool) (ms : List Mark) (n : ℕ) (m : Mark) → n < length ms → get_or ms n Blank ≡ m → count_by f (take (n + 1) ms) ≡ count_by f (take n ms) + cond (f m) 1 0
@@ -40,27 +46,32 @@ count_next f (x ∷ xs) (suc n) m lt e =
 same_scans : (a s : ScanValue) → a ≡ s → IsSameScan a s
 same_scans a s e = (ap (λ (t : ScanValue). t.head) e, ap (λ (t : ScanValue). t.intervals) e)
 
-le_true : (a b : ℕ) → a ≤ b → nat_le a b ≡ true
-le_true a b h = search (arith, h)
+-- what is posted of a decoded interval
+pub record IsThere (scan : ScanValue) (b : BoardValue) (number : ℕ) : Type 0 where
+  pub piece : PieceValue
+  pub at : piece_at b number ≡ Some piece
+  pub outcome : IsOutcome piece
+  pub interval : piece.interval ≡ interval_of scan number
 
-le_false : (a b : ℕ) → b < a → nat_le a b ≡ false
-le_false a b h = search (arith, h)
+there : (scan : ScanValue) (n : ℕ) (b : BoardValue) → HasFirst scan n b → (number : ℕ) → number < n → (q : Option PieceValue) → piece_at b number ≡ q → IsThere scan b number
+there scan n b first number lt None e = absurd (first.first.marked number lt (marks_at b.pieces number ∙ ap mark_of e))
+there scan n b first number lt (Some p) e = record {
+  piece = p;
+  at = e;
+  outcome = (first.lawful.each number p e).outcome;
+  interval = interval_is b scan number p first.lawful (same_scans b.scan scan first.scan_is) e;
+}
 
--- what is posted of the interval whose MCUs are shown
-pub posted_there : (r : RowsValue) (s : ShownValue) (b : BoardValue) → IsAt r s → HasFirst r.scan r.limit b → (q : Option PieceValue) → piece_at b r.number ≡ q → IsPosted s q
-posted_there r s b at first None e =
-    let mark : get_or (marks_of b) r.number Blank ≡ Blank = marks_at b.pieces r.number ∙ ap mark_of e in
-    elim (cases_lt r.number r.limit) [
-      | inl l ↦ absurd (first.first.marked r.number l mark)
-      | inr le ↦ at.blank ∙ le_true r.limit r.number le
-    ]
-posted_there r s b at first (Some p) e =
-    let mark : get_or (marks_of b) r.number Blank ≡ mark_of (Some p) = marks_at b.pieces r.number ∙ ap mark_of e in
-    let interval : p.interval ≡ s.interval = interval_is b r.scan r.number p first.lawful (same_scans b.scan r.scan first.scan_is) e ∙ sym at.interval in
-    elim (cases_lt r.number r.limit) [
-      | inl l ↦ (at.blank ∙ le_false r.limit r.number l, (first.lawful.each r.number p e).outcome, interval)
-      | inr le ↦ absurd (not_blank p.is_sound (sym mark ∙ first.first.blank r.number le))
-    ]
+pub posted_there : (scan : ScanValue) (n : ℕ) (b : BoardValue) → HasFirst scan n b → (number : ℕ) → number < n → IsThere scan b number
+posted_there scan n b first number lt = there scan n b first number lt (piece_at b number) refl
+
+none : (scan : ScanValue) (n : ℕ) (b : BoardValue) → HasFirst scan n b → (number : ℕ) → n ≤ number → (q : Option PieceValue) → piece_at b number ≡ q → q ≡ None
+none scan n b first number le None e = refl
+none scan n b first number le (Some p) e = absurd (not_blank p.is_sound (sym (marks_at b.pieces number ∙ ap mark_of e) ∙ first.first.blank number le))
+
+-- nothing is posted of the others
+pub none_there : (scan : ScanValue) (n : ℕ) (b : BoardValue) → HasFirst scan n b → (number : ℕ) → n ≤ number → piece_at b number ≡ None
+none_there scan n b first number le = none scan n b first number le (piece_at b number) refl
 
 -- what a part of a list is, behind what is kept before it
 module _ {X : Type 0} (d : X) (a k : ℕ) (xs ys : List X) (inside : a ≤ length xs) where
@@ -75,48 +86,84 @@ module _ {X : Type 0} (d : X) (a k : ℕ) (xs ys : List X) (inside : a ≤ lengt
       let back : a + j - a ≡ j = omega arith in
       front (a + j) (omega (arith, lt)) ∙ get_or-append_right (take a xs) ys a (a + j) d (length-take-le a xs inside) (omega arith) ∙ ap (λ i. get_or ys i d) back
 
--- the counts, with the interval whose MCUs are all shown
-pub counted_more : (r : RowsValue) (s : ShownValue) (m : Mark) (sound damaged : ℕ) → IsAt r s → r.number < length r.scan.intervals → CountsFirst r.scan r.limit r.number sound damaged → ((q : Option PieceValue) → IsPosted s q → m ≡ mark_of q)
-    → (b : BoardValue) → HasFirst r.scan r.limit b → (sound + cond (is_sound m) 1 0 ≡ count_by is_sound (take (r.number + 1) (marks_of b))) × (damaged + cond (is_damaged m) 1 0 ≡ count_by is_damaged (take (r.number + 1) (marks_of b)))
-counted_more r s m sound damaged at some counts mark b first =
-    let there : r.number < length (marks_of b) = omega (arith, some, marks_there r.scan r.limit b first) in
-    let is : get_or (marks_of b) r.number Blank ≡ m = marks_at b.pieces r.number ∙ sym (mark (piece_at b r.number) (posted_there r s b at first (piece_at b r.number) refl)) in
-    let before = counts b first in (
-      ap (λ n. n + cond (is_sound m) 1 0) before.0 ∙ sym (count_next is_sound (marks_of b) r.number m there is),
-      ap (λ n. n + cond (is_damaged m) 1 0) before.1 ∙ sym (count_next is_damaged (marks_of b) r.number m there is),
-    )
+-- no mark
+pub counts_none : (scan : ScanValue) (n from to : ℕ) (m : Marked) → m.sound ≡ 0 → m.damaged ≡ 0 → from ≡ to → CountsMarks scan n from to m
+counts_none scan n from to m s d e = record {
+  few = omega (arith, s, d, e);
+  sound = λ b first. let same = ap (λ (k : ℕ). count_by is_sound (take k (marks_of b))) e in omega (arith, s, same);
+  damaged = λ b first. let same = ap (λ (k : ℕ). count_by is_damaged (take k (marks_of b))) e in omega (arith, d, same);
+}
 
--- the counts, where all intervals are read
-pub counted_all : (r : RowsValue) (sound damaged blank : ℕ) → r.number + 1 ≡ length r.scan.intervals → CountsFirst r.scan r.limit (r.number + 1) sound damaged → sound + damaged + blank ≡ length r.scan.intervals
-    → (b : BoardValue) → HasFirst r.scan r.limit b → AreCounts (marks_of b) sound damaged blank
-counted_all r sound damaged blank last counts sum b first =
-    let all : take (r.number + 1) (marks_of b) ≡ marks_of b = ap (λ n. take n (marks_of b)) (last ∙ sym (marks_there r.scan r.limit b first)) ∙ take-length (marks_of b) in
-    let are = counts b first in
-    counts_of r.scan r.limit b first sound damaged blank (are.0 ∙ ap (λ ms. count_by is_sound ms) all) (are.1 ∙ ap (λ ms. count_by is_damaged ms) all) sum
+-- the mark of one interval
+module _ (scan : ScanValue) (n number : ℕ) (m : Marked) (decoded : number < n) (few : number < length scan.intervals) where
+  one_more : (f : Mark → Bool) (b : BoardValue) (first : HasFirst scan n b) (k : Mark) → mark_of (piece_at b number) ≡ k → count_by f (take (number + 1) (marks_of b)) ≡ count_by f (take number (marks_of b)) + cond (f k) 1 0
+  one_more f b first k e =
+      let inside : number < length (marks_of b) = omega (arith, few, marks_there scan n b first) in
+      count_next f (marks_of b) number k inside (marks_at b.pieces number ∙ e)
 
--- the data units of MCUs of an interval are those of the scan's
-pub shown_there : (r : RowsValue) (s : ShownValue) (mcus : ℕ) (units : List (List ℕ)) → IsAt r s → 0 < blocks_of r.scan.head → r.number < intervals_of r.scan.head → r.mcu + mcus ≤ mcus_in r.scan.head r.number → length units ≡ mcus * blocks_of r.scan.head → Shows s units
-    → (b : BoardValue) → HasFirst r.scan r.limit b → (k : ℕ) → k < length units → slice_index_or units k [] ≡ unit_shown b (mcus_read r + k / blocks_of r.scan.head) (k % blocks_of r.scan.head)
-shown_there r s mcus units at some there few long shows b first k lt =
-    let h = r.scan.head in
-    let n = blocks_of h in
-    let j = k / n in
-    let near : j < mcus = (div-lt_iff_lt-mul some).1 (omega (arith, lt, long)) in
-    let place = interval_at h r.number (r.mcu + j) there (omega (arith, near, few)) in
-    let mcu : mcus_read r + j ≡ r.number * h.restart + (r.mcu + j) = omega arith in
-    let q = piece_at b r.number in
-    let shown = shows q (posted_there r s b at first q refl) k lt in
-    let head : s.interval.head ≡ h = ap (λ (i : IntervalValue). i.head) at.interval in
-    let whole : s.mcu * n + k ≡ (r.mcu + j) * n + k % n = omega (arith, div-add-mod' k n, add-mul r.mcu j n, ap (λ m. m * n) at.mcu) in
-    let here : slice_index_or units k [] ≡ unit_shown_of h (k % n) q (s.mcu * n + k) = rw head at shown in
-    let turned : unit_shown_of h (k % n) q (s.mcu * n + k) ≡ unit_shown_of h (k % n) (piece_at b (interval_number h (mcus_read r + j))) (within_interval h (mcus_read r + j) * n + k % n) =
-    ap (λ m. unit_shown_of h (k % n) q m) whole ∙ ap (λ m. unit_shown_of h (k % n) q (m * n + k % n)) (sym (ap (within_interval h) mcu ∙ place.1))
-    ∙ ap (λ i. unit_shown_of h (k % n) (piece_at b i) (within_interval h (mcus_read r + j) * n + k % n)) (sym (ap (interval_number h) mcu ∙ place.0)) in
-    here ∙ turned ∙ ap (λ (g : HeadValue). unit_shown_of g (k % n) (piece_at b (interval_number g (mcus_read r + j))) (within_interval g (mcus_read r + j) * blocks_of g + k % n)) (ap (λ (t : ScanValue). t.head) (sym first.scan_is))
+  mark_is : (t : Bool) → ((p : PieceValue) → IsOutcome p → p.interval ≡ interval_of scan number → p.is_sound ≡ t) → (b : BoardValue) → HasFirst scan n b → mark_of (piece_at b number) ≡ cond t Sound Damaged
+  mark_is t tells b first =
+      let p = posted_there scan n b first number decoded in
+      ap mark_of p.at ∙ ap (λ (s : Bool). cond s Sound Damaged) (tells p.piece p.outcome p.interval)
+
+  pub counts_one : (t : Bool) → m.sound ≡ cond t 1 0 → m.damaged ≡ cond t 0 1 → ((p : PieceValue) → IsOutcome p → p.interval ≡ interval_of scan number → p.is_sound ≡ t) → CountsMarks scan n number (number + 1) m
+  counts_one true s d tells = record {
+    few = omega (arith, s, d);
+    sound = λ b first. let e = one_more is_sound b first Sound (mark_is true tells b first) in omega (arith, s, e);
+    damaged = λ b first. let e = one_more is_damaged b first Sound (mark_is true tells b first) in omega (arith, d, e);
+  }
+  counts_one false s d tells = record {
+    few = omega (arith, s, d);
+    sound = λ b first. let e = one_more is_sound b first Damaged (mark_is false tells b first) in omega (arith, s, e);
+    damaged = λ b first. let e = one_more is_damaged b first Damaged (mark_is false tells b first) in omega (arith, d, e);
+  }
+
+-- the marks of two parts
+pub counts_both : (scan : ScanValue) (n from at to : ℕ) (k m r : Marked) → CountsMarks scan n from at k → CountsMarks scan n at to m → r.sound ≡ k.sound + m.sound → r.damaged ≡ k.damaged + m.damaged → CountsMarks scan n from to r
+counts_both scan n from at to k m r a c s d = record {
+  few = omega (arith, a.few, c.few, s, d);
+  sound = λ b first. omega (arith, a.sound b first, c.sound b first, s);
+  damaged = λ b first. omega (arith, a.damaged b first, c.damaged b first, d);
+}
+
+-- the blocks of MCUs of an interval give what a board shows of the scan
+module _ (r : McusValue) (mcus done : ℕ) (sub new : List (List ℤ)) (some : 0 < blocks_of r.scan.head) (number : r.number < intervals_of r.scan.head) (decoded : r.number < r.limit) (few : r.mcu + mcus ≤ mcus_in r.scan.head r.number)
+    (long : length sub ≡ mcus * blocks_of r.scan.head)
+    (codes : (p : PieceValue) → IsOutcome p → p.interval ≡ interval_of r.scan r.number → CodesUnits p (units_before (interval_of r.scan r.number) r.mcu) sub)
+    (part : (k : ℕ) → k < length sub → slice_index_or new (done * blocks_of r.scan.head + k) [] ≡ slice_index_or sub k []) where
+  abbrev h : HeadValue
+  h = r.scan.head
+
+  abbrev n : ℕ
+  n = blocks_of h
+
+  same_component : (k : ℕ) → component h (done * n + k) ≡ component h k
+  same_component k =
+      let per : length (order_of h) ≡ n = length-order 0 h.components in
+      ap (λ (j : ℕ). slice_index_or (order_of h) j 0) (ap (λ (m : ℕ). (done * m + k) % length (order_of h)) (sym per) ∙ mul-add-mod_self_right done (length (order_of h)) k)
+
+  pub gives_there : GivesBehind r.scan r.limit (mcus_read r) (done * n) mcus new
+  gives_there b first k lt =
+      let j = k / n in
+      let here : k < length sub = omega (arith, lt, long) in
+      let near : j < mcus = (div-lt_iff_lt-mul some).1 lt in
+      let place = interval_at h r.number (r.mcu + j) number (omega (arith, near, few)) in
+      let mcu : mcus_read r + j ≡ r.number * h.restart + (r.mcu + j) = omega arith in
+      let p = posted_there r.scan r.limit b first r.number decoded in
+      let head : p.piece.interval.head ≡ h = ap (λ (i : IntervalValue). i.head) p.interval in
+      let unit : unit_of h sub k ≡ unit_in_piece p.piece (r.mcu * length (order_of h) + k) = subst (λ (g : HeadValue). unit_of g sub k ≡ unit_in_piece p.piece (r.mcu * length (order_of h) + k)) head (codes p.piece p.outcome p.interval k here) in
+      let per : r.mcu * length (order_of h) + k ≡ (r.mcu + j) * n + k % n = ap (λ (m : ℕ). r.mcu * m + k) (length-order 0 h.components) ∙ omega (arith, div-add-mod' k n, add-mul r.mcu j n) in
+      let turned : unit_shown_of h (k % n) (Some p.piece) ((r.mcu + j) * n + k % n) ≡ unit_shown_of h (k % n) (piece_at b (interval_number h (mcus_read r + j))) (within_interval h (mcus_read r + j) * n + k % n) =
+      ap (λ q. unit_shown_of h (k % n) q ((r.mcu + j) * n + k % n)) (sym p.at)
+      ∙ ap (λ m. unit_shown_of h (k % n) (piece_at b r.number) (m * n + k % n)) (sym (ap (within_interval h) mcu ∙ place.1))
+      ∙ ap (λ i. unit_shown_of h (k % n) (piece_at b i) (within_interval h (mcus_read r + j) * n + k % n)) (sym (ap (interval_number h) mcu ∙ place.0)) in
+      ap (λ z. samples z (quantiser_of h (component h (done * n + k)))) (part k here) ∙ ap (λ c. samples (slice_index_or sub k []) (quantiser_of h c)) (same_component k)
+      ∙ unit ∙ ap (unit_in_piece p.piece) per ∙ turned
+      ∙ ap (λ (g : HeadValue). unit_shown_of g (k % n) (piece_at b (interval_number g (mcus_read r + j))) (within_interval g (mcus_read r + j) * blocks_of g + k % n)) (ap (λ (t : ScanValue). t.head) (sym first.scan_is))
 
 -- the data units of more MCUs behind those of the first
-pub shown_more : (n done some start : ℕ) (f : ℕ → ℕ → List ℕ) (old new : List (List ℕ)) → 0 < n → ((k : ℕ) → k < done * n → slice_index_or old k [] ≡ f (start + k / n) (k % n)) → ((k : ℕ) → k < done * n → slice_index_or new k [] ≡ slice_index_or old k [])
-    → ((k : ℕ) → k < some * n → slice_index_or new (done * n + k) [] ≡ f (start + done + k / n) (k % n)) → (k : ℕ) → k < (done + some) * n → slice_index_or new k [] ≡ f (start + k / n) (k % n)
+pub shown_more : (n done some start : ℕ) (f : ℕ → ℕ → List ℕ) (old new : ℕ → List ℕ) → 0 < n → ((k : ℕ) → k < done * n → old k ≡ f (start + k / n) (k % n)) → ((k : ℕ) → k < done * n → new k ≡ old k)
+    → ((k : ℕ) → k < some * n → new (done * n + k) ≡ f (start + done + k / n) (k % n)) → (k : ℕ) → k < (done + some) * n → new k ≡ f (start + k / n) (k % n)
 shown_more n done some start f old new positive before kept behind k lt = elim (cases_lt k (done * n)) [
   | inl l ↦ kept k l ∙ before k l
   | inr r ↦
@@ -125,5 +172,5 @@ shown_more n done some start f old new positive before kept behind k lt = elim (
       let near : j < some * n = omega (arith, lt, there, add-mul done some n) in
       let number : start + done + j / n ≡ start + k / n = omega (arith, ap (λ m. m / n) there ∙ mul-add-div_right positive done j) in
       let part : j % n ≡ k % n = sym (ap (λ m. m % n) there ∙ mul-add-mod_self_right done n j) in
-      ap (λ m. slice_index_or new m []) there ∙ behind j near ∙ ap (λ m. f m (j % n)) number ∙ ap (f (start + k / n)) part
+      ap new there ∙ behind j near ∙ ap (λ m. f m (j % n)) number ∙ ap (f (start + k / n)) part
 ]

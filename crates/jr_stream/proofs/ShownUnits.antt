@@ -1,19 +1,23 @@
--- What is shown of an interval, by what is posted of it.
-use Rattle.std.proofs.Common.{◌≡◌, ℕ, ◌+◌, ◌*◌, ◌%◌, ◌<◌, true, false, Option, Some, None, List, [], length, replicate, slice_index_or, refl, sym, ap, ◌∙◌, arith}
-use Rattle.std.proofs.lemmas.Bool.{true≢false, false≢true}
-use Rattle.std.proofs.Math.Nat.{mod-eq_of_lt}
+-- What a row of MCUs shows, of which the first ones are decoded and the others blank.
+use Rattle.std.proofs.Common.{◌≡◌, ℕ, ◌+◌, ◌-◌, ◌*◌, ◌/◌, ◌%◌, ◌<◌, ◌≤◌, inl, inr, Option, None, List, [], length, min, replicate, slice_index_or, refl, sym, ap, subst, ◌∙◌, arith}
+use Rattle.std.specs.Prelude.{ℤ}
+use Rattle.std.proofs.lemmas.Bool.{cases_lt}
+use Rattle.std.proofs.lemmas.Nat.{div-add-mod'}
+use Rattle.std.proofs.Math.Nat.{add-mul, mod-eq_of_lt, mul-le-mul_right, div-lt_iff_lt-mul, mul-add-mod_self_right}
 use Rattle.jr_head.specs.HeadValue.{HeadValue}
-use Rattle.jr_head.specs.Geometry.{order_of, blocks_of}
+use Rattle.jr_head.specs.Geometry.{order_of, blocks_of, mcus_across, mcus_down, mcus_of}
 use Rattle.jr_head.proofs.SamplingLaws.{length-order}
+use Rattle.jr_scan.specs.ScanValue.{ScanValue}
 use Rattle.jr_piece.specs.PieceValue.{PieceValue}
-use Rattle.jr_piece.specs.Outcome.{IsOutcome}
-use Rattle.jr_piece.specs.Units.{ShowsUnits, unit_in_piece}
-use Rattle.jr_wall.specs.declared.mark.Mark.TheVariants.{Blank, Sound, Damaged}
-use Rattle.jr_wall.specs.Boards.{mark_of}
-use Rattle.jr_wall.specs.Headline.{blank_of}
-use Rattle.jr_stream.specs.RowsValue.{ShownValue}
-use Rattle.jr_stream.specs.Rows.{IsPosted}
-use Rattle.jr_stream.specs.Bands.{unit_shown_of}
+use Rattle.jr_piece.specs.Outcome.{unit_of}
+use Rattle.jr_wall.specs.BoardValue.{BoardValue}
+use Rattle.jr_wall.specs.Boards.{piece_at}
+use Rattle.jr_wall.specs.Headline.{blank_of, interval_number, within_interval}
+use Rattle.jr_stream.specs.Bands.{ShowsMcus, unit_shown, unit_shown_of}
+use Rattle.jr_stream.specs.Rows.{HasFirst, GivesMcus, coded_before, coded_in, mcus_before}
+use Rattle.jr_stream.proofs.IntervalPlaces.{behind_first}
+use Rattle.jr_stream.proofs.PictureRows.{row_inside}
+use Rattle.jr_stream.proofs.ReadRows.{none_there}
 
 -- a data unit of a blank MCU
 pub black : (h : HeadValue) (j : ℕ) → j < blocks_of h → replicate 64 (blank_of h.kind (slice_index_or (order_of h) j 0)) ≡ unit_shown_of h j None 0
@@ -21,28 +25,47 @@ black h j lt =
     let few : j < length (order_of h) = omega (arith, lt, length-order 0 h.components) in
     ap (λ n. replicate 64 (blank_of h.kind (slice_index_or (order_of h) n 0))) (sym (mod-eq_of_lt few))
 
-module _ (s : ShownValue) (units : List (List ℕ)) where
-  abbrev pub Shows : Type 0
-  Shows = (q : Option PieceValue) → IsPosted s q → (k : ℕ) → k < length units
-      → slice_index_or units k [] ≡ unit_shown_of s.interval.head (k % blocks_of s.interval.head) q (s.mcu * blocks_of s.interval.head + k)
+-- a row of MCUs of a scan, of which the first n intervals are decoded
+module _ (scan : ScanValue) (n row : ℕ) (below : row < mcus_down scan.head) (some : 0 < blocks_of scan.head) where
+  abbrev h : HeadValue
+  h = scan.head
 
-  pub blank_shown : s.is_blank ≡ true → ((k : ℕ) → k < length units → slice_index_or units k [] ≡ unit_shown_of s.interval.head (k % blocks_of s.interval.head) None 0) → Shows
-  blank_shown t all None posted k lt = all k lt
-  blank_shown t all (Some p) posted k lt = absurd (true≢false (sym t ∙ posted.0))
+  abbrev per : ℕ
+  per = blocks_of h
 
-  pub decoded_shown : s.is_blank ≡ false → ((p : PieceValue) → IsOutcome p → p.interval ≡ s.interval → ShowsUnits p (s.mcu * length (order_of s.interval.head)) units) → Shows
-  decoded_shown f each None posted k lt = absurd (false≢true (sym f ∙ posted))
-  decoded_shown f each (Some p) posted k lt =
-      each p posted.1 posted.2 k lt ∙ ap (λ n. unit_in_piece p (s.mcu * n + k)) (length-order 0 s.interval.head.components)
+  -- its decoded MCUs are its first ones
+  first_ones : 0 < coded_in h n row → coded_before h n row ≡ row * mcus_across h
+  first_ones positive = omega (arith, positive, add-mul row 1 (mcus_across h))
 
-  pub blank_mark : s.is_blank ≡ true → (q : Option PieceValue) → IsPosted s q → Blank ≡ mark_of q
-  blank_mark t None posted = refl
-  blank_mark t (Some p) posted = absurd (true≢false (sym t ∙ posted.0))
+  -- the others lie behind all decoded ones
+  behind : (j : ℕ) → coded_in h n row ≤ j → j < mcus_across h → mcus_before h n ≤ row * mcus_across h + j
+  behind j le lt = omega (arith, le, lt, add-mul row 1 (mcus_across h))
 
-  pub sound_mark : s.is_blank ≡ false → ((p : PieceValue) → IsOutcome p → p.interval ≡ s.interval → p.is_sound ≡ true) → (q : Option PieceValue) → IsPosted s q → Sound ≡ mark_of q
-  sound_mark f each None posted = absurd (false≢true (sym f ∙ posted))
-  sound_mark f each (Some p) posted = rw (each p posted.1 posted.2) refl
+  module _ (blocks : List (List ℤ)) (units : List (List ℕ)) (gives : GivesMcus scan n (coded_before h n row) (coded_in h n row) blocks) (long : length units ≡ mcus_across h * per)
+      (decoded : (k : ℕ) → k < coded_in h n row * per → slice_index_or units k [] ≡ unit_of h blocks k)
+      (blank : (k : ℕ) → coded_in h n row * per ≤ k → k < length units → slice_index_or units k [] ≡ unit_shown_of h (k % per) None 0) where
+    each : (b : BoardValue) → HasFirst scan n b → (k : ℕ) → k < length units → slice_index_or units k [] ≡ unit_shown b (row * mcus_across h + k / per) (k % per)
+    each b first k lt = elim (cases_lt k (coded_in h n row * per)) [
+      | inl l ↦
+          let positive : 0 < coded_in h n row = elim (cases_lt 0 (coded_in h n row)) [
+            | inl p ↦ p
+            | inr z ↦ let none : coded_in h n row * per ≤ 0 * per = mul-le-mul_right per z in absurd (omega (arith, none, l))
+          ] in
+          decoded k l ∙ gives b first k l ∙ ap (λ m. unit_shown b (m + k / per) (k % per)) (first_ones positive)
+      | inr g ↦
+          let j = k / per in
+          let near : j < mcus_across h = (div-lt_iff_lt-mul some).1 (omega (arith, lt, long)) in
+          let far : coded_in h n row ≤ j = elim (cases_lt j (coded_in h n row)) [
+            | inl l ↦ absurd (omega (arith, g, (div-lt_iff_lt-mul some).0 l))
+            | inr le ↦ le
+          ] in
+          let mcu : row * mcus_across h + j < mcus_of h = omega (arith, near, row_inside h row below) in
+          let none = none_there scan n b first (interval_number h (row * mcus_across h + j)) (behind_first h n (row * mcus_across h + j) mcu (behind j far near)) in
+          blank k g lt ∙ ap (λ q. unit_shown_of h (k % per) q (within_interval h (row * mcus_across h + j) * per + k % per)) (sym none)
+          ∙ ap (λ (t : ScanValue). unit_shown_of t.head (k % per) (piece_at b (interval_number t.head (row * mcus_across h + j))) (within_interval t.head (row * mcus_across h + j) * blocks_of t.head + k % per)) (sym first.scan_is)
+    ]
 
-  pub damaged_mark : s.is_blank ≡ false → ((p : PieceValue) → IsOutcome p → p.interval ≡ s.interval → p.is_sound ≡ false) → (q : Option PieceValue) → IsPosted s q → Damaged ≡ mark_of q
-  damaged_mark f each None posted = absurd (false≢true (sym f ∙ posted))
-  damaged_mark f each (Some p) posted = rw (each p posted.1 posted.2) refl
+    -- so the row's data units are those of the board
+    pub row_shown : (b : BoardValue) → HasFirst scan n b → ShowsMcus b (row * mcus_across h) units
+    row_shown b first =
+        subst (λ (t : ScanValue). (k : ℕ) → k < length units → slice_index_or units k [] ≡ unit_shown b (row * mcus_across h + k / blocks_of t.head) (k % blocks_of t.head)) (sym first.scan_is) (each b first)

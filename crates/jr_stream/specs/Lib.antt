@@ -3,3 +3,5 @@ pub mod Bands
 pub mod RowsValue
 pub mod Rows
 pub mod Stream
+pub mod CrewValue
+pub mod Crew

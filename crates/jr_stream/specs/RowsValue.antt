@@ -1,17 +1,21 @@
--- What contracts see of what is shown of an interval, and of the rows of a scan, as far as they are read.
-use Rattle.std.specs.Prelude.{ℕ, Bool}
-use Rattle.jr_scan.specs.IntervalValue.{IntervalValue}
+-- What contracts see of the MCUs of a scan, as far as they are read, and of its rows of MCUs.
+use Rattle.std.specs.Prelude.{ℕ, List, ℤ}
 use Rattle.jr_scan.specs.ScanValue.{ScanValue}
 
--- an interval, blank or to be decoded, of which so many MCUs are read
-pub record ShownValue : Type 0 where
-  pub interval : IntervalValue
-  pub is_blank : Bool
-  pub mcu : ℕ
-
 -- a scan, of which the first `limit` intervals are decoded, and interval `number` is read as far as its MCU `mcu`
-pub record RowsValue : Type 0 where
+pub record McusValue : Type 0 where
   pub scan : ScanValue
   pub limit : ℕ
   pub number : ℕ
   pub mcu : ℕ
+
+-- such a scan, and the number of the row of MCUs that comes next
+pub record RowsValue : Type 0 where
+  pub scan : ScanValue
+  pub limit : ℕ
+  pub row : ℕ
+
+-- the blocks and the samples of the data units of a row of MCUs, or of no one yet
+pub record RowValue : Type 0 where
+  pub blocks : List (List ℤ)
+  pub units : List (List ℕ)

@@ -1,12 +1,19 @@
 -- What is written of a scan.
-use Rattle.std.specs.Prelude.{ℕ, List, Option}
+use Rattle.std.specs.Prelude.{◌≡◌, ℕ, List, Option, Result, IfOk, is_err, length}
 use Rattle.jr_base.specs.declared.tally.Tally.{Tally}
-use Rattle.jr_base.specs.Tally.{Writes, WritesBeginning}
+use Rattle.jr_base.specs.declared.writing.WriteFault.{WriteFault}
+use Rattle.jr_base.specs.Tally.{Writes, WritesBeginning, has_failed}
 use Rattle.jr_paint.specs.Text.{text_of}
+use Rattle.jr_paint.specs.Written.{IsSent}
 use Rattle.jr_scan.specs.ScanValue.{ScanValue}
 use Rattle.jr_wall.specs.declared.headline.Counts.{Counts}
 use Rattle.jr_wall.specs.declared.mark.Mark.{Mark}
+use Rattle.jr_wall.specs.BoardValue.{BoardValue}
+use Rattle.jr_wall.specs.Boards.{marks_of}
 use Rattle.jr_wall.specs.Headline.{AreCounts, ShowsFirst}
+use Rattle.jr_wall.specs.Samples.{samples_of}
+use Rattle.jr_stream.specs.Rows.{HasFirst, CountsRows}
+use Rattle.jr_stream.specs.declared.marked.Marked.{Marked}
 
 -- the text of a picture of the scan was written, of which the first n intervals are marked; these are the marks' counts
 pub record WritesPicture {T : Type 0} (known : T → Option (List ℕ)) (old new : Tally T) (scan : ScanValue) (n : ℕ) (counts : Counts) : Type 0 where
@@ -22,3 +29,17 @@ pub record BeginsPicture {T : Type 0} (known : T → Option (List ℕ)) (old new
   pub f : ℕ → ℕ → ℕ → ℕ
   pub shows : ShowsFirst scan n marks f
   pub front : WritesBeginning known old new (text_of scan.head f)
+
+-- of every board of the scan with the first n intervals marked the picture is written, or a beginning of it, and then the writer has failed
+abbrev pub SendsPicture : {T U E : Type 0} → (T → Option (List ℕ)) → Tally T → Tally T → Result U E → ScanValue → ℕ → Type 0
+SendsPicture known old new result scan n = (b : BoardValue) → HasFirst scan n b → IsSent known old new result (text_of scan.head (samples_of b))
+
+-- so many intervals of every such board are sound, damaged and blank
+abbrev pub HasCounts : ScanValue → ℕ → Counts → Type 0
+HasCounts scan n c = (b : BoardValue) → HasFirst scan n b → AreCounts (marks_of b) c.sound c.damaged c.blank
+
+-- the picture of a scan, all of whose intervals are decoded, is sent, and the marks of its intervals are answered
+pub record IsSentBy {T : Type 0} (known : T → Option (List ℕ)) (scan : ScanValue) (old new : Tally T) (result : Result Marked WriteFault) : Type 0 where
+  pub counts : IfOk result (CountsRows scan (length scan.intervals))
+  pub failed : has_failed new ≡ is_err result
+  pub sent : SendsPicture known old new result scan (length scan.intervals)

@@ -1,9 +1,23 @@
 //! A scan's picture, decoded, painted and written in one pass.
 #![tactic(auto)]
 
+mod alone;
+mod announcing;
 mod band;
+mod baton;
+mod beside;
+mod caller;
+mod crew;
+mod marked;
+mod painter;
+mod ring;
+mod row;
 mod rows;
-mod shown;
+mod sending;
+mod shape;
+mod sharing;
+mod sheet;
 mod writing;
 
+pub use sharing::write_scan_by;
 pub use writing::{Unwritten, write_scan};

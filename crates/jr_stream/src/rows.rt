@@ -1,55 +1,37 @@
-//! The MCUs of a scan in their order, interval after interval.
+//! The rows of MCUs of a scan in their order, interval after interval, each as its blocks.
 
-ghost use Rattle.std.specs.Prelude.{◌≡◌, ℕ, ◌+◌, ◌-◌, ◌*◌, ◌/◌, ◌%◌, ◌<◌, ◌≤◌, [], length, slice_index_or};
-ghost use Rattle.jr_head.specs.Geometry.{blocks_of, mcus_of};
+ghost use Rattle.std.specs.Prelude.{◌≡◌, ℕ, ◌+◌, ◌-◌, ◌*◌, ◌<◌, ◌≤◌, [], length, slice_index_or};
+ghost use Rattle.jr_head.specs.Geometry.{blocks_of, mcus_across, mcus_down, mcus_of};
+ghost use Rattle.jr_scan.specs.Block.{IsInRange};
 ghost use Rattle.jr_scan.specs.ScanValue.{intervals_of, mcus_in};
-ghost use Rattle.jr_wall.specs.BoardValue.{BoardValue};
-ghost use Rattle.jr_wall.specs.Boards.{marks_of};
-ghost use Rattle.jr_wall.specs.Headline.{AreCounts};
-ghost use Rattle.jr_stream.specs.Bands.{ShowsMcus, unit_shown};
-ghost use Rattle.jr_stream.specs.Rows.{HasFirst, CountsFirst, IsAt, mcus_read};
+ghost use Rattle.jr_stream.specs.Rows.{AreInRange, CountsMarks, CountsMcus, GivesBehind, GivesMcus, AreRead, CountsRow, coded_before, intervals_before, mcus_before, mcus_read};
 
-use crate::shown::Shown;
+use crate::marked::Marked;
+use crate::shape::{coded_of_row, shape_of};
 use jr_head::Head;
-use jr_scan::Scan;
-use jr_wall::{Counts, Gate, Mark};
+use jr_piece::UnitReader;
+use jr_scan::{Block, Scan};
 use std::marker::Model;
 
-/// A scan, of whose first intervals MCU after MCU is decoded; the others are blank.
+/// A scan, of whose first intervals MCU after MCU is read; the others are blank.
 #[derive(Drop)]
-pub(crate) struct Rows<'a> {
+struct Mcus<'a> {
     scan: &'a Scan,
     limit: u32,
     number: u32,
-    shown: Shown<'a>,
-    /// How many intervals before this one are sound.
-    sound: u32,
-    damaged: u32,
+    reader: UnitReader<'a>,
 }
 
-impl<'a> Model for Rows<'a> {
-    ghost use Rattle.std.specs.Prelude.{◌≡◌, ◌+◌, ◌<◌, ◌≤◌, length};
-    ghost use Rattle.jr_stream.specs.RowsValue.{RowsValue};
-    ghost use Rattle.jr_stream.specs.Rows.{IsAt, CountsFirst};
+impl<'a> Model for Mcus<'a> {
+    ghost use Rattle.std.specs.Prelude.{◌≡◌, ◌<◌, length};
+    ghost use Rattle.jr_scan.specs.ScanValue.{interval_of};
+    ghost use Rattle.jr_stream.specs.RowsValue.{McusValue};
 
-    ghost Value = { RowsValue };
+    ghost Value = { McusValue };
 
-    ghost view = { λ r. record { scan = r.scan.now; limit = r.limit; number = r.number; mcu = r.shown.mcu } };
+    ghost view = { λ r. record { scan = r.scan.now; limit = r.limit; number = r.number; mcu = r.reader.mcu } };
 
-    ghost invariant = { λ r. (r.number < length r.scan.now.intervals) × (r.sound + r.damaged ≤ r.number) × CountsFirst r.scan.now r.limit r.number r.sound r.damaged
-        × IsAt (record { scan = r.scan.now; limit = r.limit; number = r.number; mcu = r.shown.mcu }) r.shown };
-}
-
-/// What is shown of interval i, the first `limit` of which are decoded.
-fn open<'a, G: Gate>(scan: &'a Scan, limit: u32, i: u32, gate: &G) -> Shown<'a>
-    requires { i < length scan.now.intervals }
-    ensures { IsAt (record { scan = scan.now; limit = limit; number = i; mcu = 0 }) result }
-{
-    let is_blank = limit <= i;
-    if !is_blank {
-        gate.pass(i);
-    }
-    Shown::open(scan.interval_ref(i), is_blank)
+    ghost invariant = { λ r. (r.number < length r.scan.now.intervals) × (r.reader.interval ≡ interval_of r.scan.now r.number) };
 }
 
 /// How many data units so many MCUs have, at most `most`.
@@ -63,61 +45,32 @@ fn units_to(mcus: u32, most: u32, per_mcu: usize) -> usize
     mcus as usize * per_mcu
 }
 
-impl<'a> Rows<'a> {
-    /// Nothing is read yet.
-    pub(crate) fn of<G: Gate>(scan: &'a Scan, limit: u32, gate: &G) -> Rows<'a>
-        ensures { result ≡ record { scan = scan.now; limit = limit; number = 0; mcu = 0 } }
+impl<'a> Mcus<'a> {
+    /// Nothing is read yet of interval `number`.
+    fn of(scan: &'a Scan, limit: u32, number: u32) -> Mcus<'a>
+        requires { number < length scan.now.intervals }
+        ensures { result ≡ record { scan = scan.now; limit = limit; number = number; mcu = 0 } }
     {
-        // By its contract a scan has an interval.
-        let _some = scan.intervals();
-        Rows {
+        Mcus {
             scan,
             limit,
-            number: 0,
-            shown: open(scan, limit, 0, gate),
-            sound: 0,
-            damaged: 0,
-        }
-    }
-
-    /// The head of the scan's file.
-    pub(crate) fn head(&self) -> &'a Head
-        ensures { result.now ≡ self.now.scan.head }
-    {
-        self.scan.head()
-    }
-
-    /// How many intervals are sound and damaged, with the one that is read to its end.
-    fn counted(&self) -> (u32, u32)
-        requires { self.now.mcu ≡ mcus_in self.now.scan.head self.now.number }
-        ensures counts { CountsFirst self.now.scan self.now.limit (self.now.number + 1) result.0 result.1 }
-        ensures few { result.0 + result.1 ≤ self.now.number + 1 }
-    {
-        // The counts have room, since there are no more intervals than the number of them can be.
-        let _most = self.scan.intervals();
-        match self.shown.mark() {
-            Mark::Blank => (self.sound, self.damaged),
-            Mark::Sound => (self.sound + 1, self.damaged),
-            Mark::Damaged => (self.sound, self.damaged + 1),
+            number,
+            reader: UnitReader::over(scan.interval_ref(number)),
         }
     }
 
     /// Goes on to the next interval.
-    fn advance<G: Gate>(&mut self, gate: &G)
-        requires ended { self.old.mcu ≡ mcus_in self.old.scan.head self.old.number }
-        requires more { self.old.number + 1 < length self.old.scan.intervals }
+    fn advance(&mut self)
+        requires { self.old.number + 1 < length self.old.scan.intervals }
         ensures { self.new ≡ record self.old { number = self.old.number + 1; mcu = 0 } }
     {
         let _most = self.scan.intervals();
-        let (sound, damaged) = self.counted();
-        self.sound = sound;
-        self.damaged = damaged;
         self.number += 1;
-        self.shown = open(self.scan, self.limit, self.number, gate);
+        self.reader = UnitReader::over(self.scan.interval_ref(self.number));
     }
 
     /// Goes on to the next interval where this one is read to its end: answers how many of its MCUs are left.
-    fn ready<G: Gate>(&mut self, gate: &G) -> u32
+    fn ready(&mut self) -> u32
         requires { mcus_read self.old < mcus_of self.old.scan.head }
         ensures some { 0 < result }
         ensures left { self.new.mcu + result ≡ mcus_in self.new.scan.head self.new.number }
@@ -128,74 +81,152 @@ impl<'a> Rows<'a> {
     {
         // By their contracts a scan has as many intervals as its head says, and a picture has an MCU.
         let _counts = (self.scan.intervals(), self.scan.head().mcus());
-        let left = self.shown.left();
+        let left = self.reader.left();
         if left > 0 {
             return left;
         }
-        self.advance(gate);
-        self.shown.left()
+        self.advance();
+        self.reader.left()
     }
 
-    /// Puts the samples of the data units of the next MCUs, of one interval and at most `most`, behind the first `from`:
-    /// answers how many MCUs.
-    fn fill_some<G: Gate>(
-        &mut self,
-        gate: &G,
-        most: u32,
-        from: usize,
-        units: &mut [[u8; 64]],
-    ) -> u32
-        requires some { 0 < most }
-        requires few { mcus_read self.old + most ≤ mcus_of self.old.scan.head }
-        requires room { from + most * blocks_of self.old.scan.head ≡ length units.old }
-        ensures some { 0 < result }
-        ensures few { result ≤ most }
+    /// The mark of the interval, where it is read to its end.
+    fn marked(&self) -> Marked
+        requires decoded { self.now.number < self.now.limit }
+        requires some { 0 < self.now.mcu }
+        ensures { CountsMarks self.now.scan self.now.limit self.now.number (intervals_before self.now.scan.head (mcus_read self.now)) result }
+    {
+        // By their contracts a scan has as many intervals as its head says, and a picture has an MCU.
+        let _counts = (self.scan.intervals(), self.scan.head().mcus());
+        if self.reader.left() > 0 {
+            return Marked::none();
+        }
+        Marked::one(self.reader.is_sound())
+    }
+
+    /// Puts the blocks of the next MCUs, of one interval, behind those of the first `done` of `mcus`: answers how many
+    /// MCUs, and the mark of the interval where it ends with them.
+    fn read_some(&mut self, done: u32, mcus: u32, blocks: &mut [Block]) -> (u32, Marked)
+        requires some { done < mcus }
+        requires few { mcus_read self.old + (mcus - done) ≤ mcus_before self.old.scan.head self.old.limit }
+        requires room { length blocks.old ≡ mcus * blocks_of self.old.scan.head }
+        ensures some { 0 < result.0 }
+        ensures few { done + result.0 ≤ mcus }
         ensures scan { self.new.scan ≡ self.old.scan }
         ensures limit { self.new.limit ≡ self.old.limit }
-        ensures moved { mcus_read self.new ≡ mcus_read self.old + result }
-        ensures kept { (k : ℕ) → k < from → slice_index_or units.new k [] ≡ slice_index_or units.old k [] }
-        ensures units { (b : BoardValue) → HasFirst self.old.scan self.old.limit b → (k : ℕ) → k < result * blocks_of self.old.scan.head
-            → slice_index_or units.new (from + k) [] ≡ unit_shown b (mcus_read self.old + k / blocks_of self.old.scan.head) (k % blocks_of self.old.scan.head) }
+        ensures moved { mcus_read self.new ≡ mcus_read self.old + result.0 }
+        ensures kept { (k : ℕ) → k < done * blocks_of self.old.scan.head → slice_index_or blocks.new k [] ≡ slice_index_or blocks.old k [] }
+        ensures in_range { (k : ℕ) → k < result.0 * blocks_of self.old.scan.head → IsInRange (slice_index_or blocks.new (done * blocks_of self.old.scan.head + k) []) }
+        ensures gives { GivesBehind self.old.scan self.old.limit (mcus_read self.old) (done * blocks_of self.old.scan.head) result.0 blocks.new }
+        ensures counts { CountsMcus self.old.scan self.old.limit (mcus_read self.old) (mcus_read self.new) result.1 }
     {
-        let mcus = self.ready(gate).min(most);
-        let end = from + units_to(mcus, most, self.scan.head().order().len());
-        self.shown.fill(mcus, &mut units[from..end]);
-        mcus
+        let per_mcu = self.scan.head().order().len();
+        let some = self.ready().min(mcus - done);
+        let from = units_to(done, mcus, per_mcu);
+        let end = units_to(done + some, mcus, per_mcu);
+        self.reader.read(some, &mut blocks[from..end]);
+        (some, self.marked())
     }
 
-    /// The samples of the data units of so many MCUs.
-    pub(crate) fn fill<G: Gate>(&mut self, gate: &G, mcus: u32, units: &mut [[u8; 64]])
-        requires few { mcus_read self.old + mcus ≤ mcus_of self.old.scan.head }
-        requires room { length units.old ≡ mcus * blocks_of self.old.scan.head }
+    /// The blocks of so many MCUs, and the marks of the intervals that end with them.
+    fn read(&mut self, mcus: u32, blocks: &mut [Block]) -> Marked
+        requires few { mcus_read self.old + mcus ≤ mcus_before self.old.scan.head self.old.limit }
+        requires room { length blocks.old ≡ mcus * blocks_of self.old.scan.head }
         ensures scan { self.new.scan ≡ self.old.scan }
         ensures limit { self.new.limit ≡ self.old.limit }
         ensures moved { mcus_read self.new ≡ mcus_read self.old + mcus }
-        ensures units { (b : BoardValue) → HasFirst self.old.scan self.old.limit b → ShowsMcus b (mcus_read self.old) units.new }
+        ensures in_range { AreInRange (mcus * blocks_of self.old.scan.head) blocks.new }
+        ensures gives { GivesMcus self.old.scan self.old.limit (mcus_read self.old) mcus blocks.new }
+        ensures counts { CountsMcus self.old.scan self.old.limit (mcus_read self.old) (mcus_read self.new) result }
     {
-        let per_mcu = self.head().order().len();
+        // By their contracts there is room for the counts of all intervals, and an MCU has a data unit.
+        let _most = self.scan.intervals();
+        let _some = self.scan.head().order().len();
         let mut done = 0;
+        let mut marked = Marked::none();
         'intervals: while done < mcus {
-            let from = units_to(done, mcus, per_mcu);
-            done += self.fill_some(gate, mcus - done, from, units);
+            let (some, more) = self.read_some(done, mcus, blocks);
+            marked = marked.with(more);
+            done += some;
+        }
+        marked
+    }
+}
+
+/// The rows of MCUs of a scan, of whose first intervals one row after the other is read.
+#[derive(Drop)]
+pub(crate) struct Rows<'a> {
+    mcus: Mcus<'a>,
+    row: u32,
+}
+
+impl<'a> Model for Rows<'a> {
+    ghost use Rattle.std.specs.Prelude.{◌≡◌};
+    ghost use Rattle.jr_stream.specs.Rows.{coded_before, mcus_read};
+    ghost use Rattle.jr_stream.specs.RowsValue.{RowsValue};
+
+    ghost Value = { RowsValue };
+
+    ghost view = { λ r. record { scan = r.mcus.scan; limit = r.mcus.limit; row = r.row } };
+
+    ghost invariant = { λ r. mcus_read r.mcus ≡ coded_before r.mcus.scan.head r.mcus.limit r.row };
+}
+
+impl<'a> Rows<'a> {
+    /// No row is read yet.
+    pub(crate) fn of(scan: &'a Scan, limit: u32) -> Rows<'a>
+        ensures { result ≡ record { scan = scan.now; limit = limit; row = 0 } }
+    {
+        // By its contract a scan has an interval.
+        let _some = scan.intervals();
+        Rows {
+            mcus: Mcus::of(scan, limit, 0),
+            row: 0,
         }
     }
 
-    /// How many intervals are sound, damaged and blank, once all MCUs are read.
-    pub(crate) fn counts(&self) -> Counts
-        requires { mcus_read self.now ≡ mcus_of self.now.scan.head }
-        ensures { (b : BoardValue) → HasFirst self.now.scan self.now.limit b → AreCounts (marks_of b) result.sound result.damaged result.blank }
+    /// The rows from this one on, where all intervals are decoded and a row has so many whole ones.
+    pub(crate) fn from(scan: &'a Scan, row: u32, intervals: u32) -> Rows<'a>
+        requires row { row < mcus_down scan.now.head }
+        requires whole { intervals * scan.now.head.restart ≡ mcus_across scan.now.head }
+        ensures { result ≡ record { scan = scan.now; limit = length scan.now.intervals; row = row } }
     {
-        // By their contracts this is the last interval, and read to its end.
-        let _end = (
-            self.scan.intervals(),
-            self.scan.head().mcus(),
-            self.shown.left(),
-        );
-        let (sound, damaged) = self.counted();
-        Counts {
-            sound,
-            damaged,
-            blank: self.scan.intervals() - sound - damaged,
+        // By its contract a picture has an MCU.
+        let _some = scan.head().mcus();
+        let limit = scan.intervals();
+        Rows {
+            mcus: Mcus::of(scan, limit, row * intervals),
+            row,
         }
+    }
+
+    /// The number of the row that comes next.
+    pub(crate) fn row(&self) -> u32
+        ensures { result ≡ self.now.row }
+    {
+        self.row
+    }
+
+    /// The head of the scan's file.
+    pub(crate) fn head(&self) -> &'a Head
+        ensures { result.now ≡ self.now.scan.head }
+    {
+        self.mcus.scan.head()
+    }
+
+    /// Reads the next row: its blocks, of which `blocks` keeps those of the decoded MCUs as its first, and the marks of the
+    /// intervals that end in it.
+    pub(crate) fn read(&mut self, blocks: &mut [Block]) -> Marked
+        requires row { self.old.row < mcus_down self.old.scan.head }
+        requires room { length blocks.old ≡ mcus_across self.old.scan.head * blocks_of self.old.scan.head }
+        ensures moved { self.new ≡ record self.old { row = self.old.row + 1 } }
+        ensures read { AreRead self.old.scan self.old.limit self.old.row blocks.new }
+        ensures counts { CountsRow self.old.scan self.old.limit self.old.row result }
+    {
+        let head = self.head();
+        let coded = coded_of_row(self.mcus.scan, self.mcus.limit, self.row);
+        let end = units_to(coded, shape_of(head).across, head.order().len());
+        let marked = self.mcus.read(coded, &mut blocks[..end]);
+        self.row += 1;
+        marked
     }
 }

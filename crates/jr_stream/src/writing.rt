@@ -1,26 +1,24 @@
 //! A scan's picture, decoded, painted and written in one pass, a row of MCUs after the other.
 
-ghost use Rattle.std.specs.Prelude.{◌≡◌, ◌≢◌, ℕ, ◌+◌, ◌*◌, ◌<◌, ◌≤◌, min, length, take, is_err, true, false, IfOk, OnOk};
-ghost use Rattle.jr_head.specs.Geometry.{blocks_of, mcus_across, mcus_down, mcus_of, vertical_max};
+ghost use Rattle.std.specs.Prelude.{◌≡◌, ◌≢◌, ℕ, ◌+◌, ◌*◌, ◌<◌, ◌≤◌, ◌^◌, min, length, take, is_err, true, false, IfOk, OnOk};
 ghost use Rattle.jr_base.specs.Tally.{has_failed};
+ghost use Rattle.jr_head.specs.Geometry.{vertical_max};
 ghost use Rattle.jr_paint.specs.Lines.{line_size};
 ghost use Rattle.jr_paint.specs.declared.header.TheConstants.{HEADER_ROOM};
-ghost use Rattle.jr_paint.specs.declared.netpbm.TheConstants.{BATCH, WIDEST};
-ghost use Rattle.jr_paint.specs.Text.{text_of};
-ghost use Rattle.jr_paint.specs.Written.{IsSent};
-ghost use Rattle.jr_wall.specs.BoardValue.{BoardValue};
+ghost use Rattle.jr_paint.specs.declared.netpbm.TheConstants.{WIDEST};
+ghost use Rattle.jr_scan.specs.ScanValue.{intervals_of};
 ghost use Rattle.jr_wall.specs.Decoded.{least};
-ghost use Rattle.jr_wall.specs.Samples.{samples_of};
-ghost use Rattle.jr_stream.specs.Rows.{HasFirst, mcus_read};
-ghost use Rattle.jr_stream.specs.Stream.{WritesPicture, BeginsPicture};
+ghost use Rattle.jr_stream.specs.Rows.{CountsRows, HasRowRoom};
+ghost use Rattle.jr_stream.specs.Stream.{WritesPicture, BeginsPicture, SendsPicture, HasCounts};
 
-use crate::band::Band;
-use crate::rows::Rows;
-use jr_base::{Memory, Tally, WriteFault, write_all};
+use crate::alone::Alone;
+use crate::marked::Marked;
+use crate::painter::RowPainter;
+use crate::row::Row;
+use crate::shape::{lines_of, room_for, shape_of};
+use jr_base::{Tally, WriteFault, write_all};
 use jr_head::Head;
-use jr_paint::{
-    BATCH, NARROW, SampleLines, WIDEST, bytes_of_line, make_room, paint_lines, put_header,
-};
+use jr_paint::{NARROW, WIDEST, make_room, put_header};
 use jr_piece::each_interval_has_an_outcome;
 use jr_scan::Scan;
 use jr_wall::{Counts, Gate};
@@ -36,120 +34,42 @@ pub enum Unwritten {
     Write,
 }
 
-/// What a row of MCUs of a picture has.
-#[derive(Clone, Copy)]
-struct Shape {
-    /// How many MCUs.
-    across: u32,
-    /// How many lines of pixels, where the picture doesn't end in it.
-    deep: u32,
-    /// How many such rows the picture has.
-    down: u32,
-    /// How many bytes a line of pixels has.
-    line: usize,
-}
-
-/// What the rows of MCUs of this head's picture have.
-fn shape_of(head: &Head) -> Shape
-    ensures across { result.across ≡ mcus_across head.now }
-    ensures few { result.across < 65536 }
-    ensures deep { result.deep ≡ 8 * vertical_max head.now }
-    ensures some { 0 < result.deep }
-    ensures low { result.deep ≤ 32 }
-    ensures down { result.down ≡ mcus_down head.now }
-    ensures line { result.line ≡ line_size head.now }
-    ensures short { result.line ≤ 196605 }
-{
-    Shape {
-        across: head.width().div_ceil(8 * head.horizontal_max()),
-        deep: 8 * head.vertical_max(),
-        down: head.height().div_ceil(8 * head.vertical_max()),
-        line: bytes_of_line(head),
-    }
-}
-
-/// The first line of pixels of a row of MCUs, and how many lines it has.
-fn lines_of(head: &Head, row: u32) -> (u32, u32)
-    requires { row < mcus_down head.now }
-    ensures first { result.0 ≡ row * (8 * vertical_max head.now) }
-    ensures few { result.1 ≤ 8 * vertical_max head.now }
-    ensures inside { result.0 + result.1 ≤ head.now.height }
-    ensures before { min (row * (8 * vertical_max head.now)) head.now.height ≡ result.0 }
-    ensures next { min ((row + 1) * (8 * vertical_max head.now)) head.now.height ≡ result.0 + result.1 }
-{
-    let deep = 8 * head.vertical_max();
-    let height = head.height();
-    let first = row * deep;
-    (first, deep.min(height - first))
-}
-
-/// Writes the picture of a scan's rows, of at most `WIDTH` columns: `units` has room for the data units of a row of MCUs,
-/// `pixels` for its lines. A function of its own, so that only a wide picture takes the stack for wide lines.
-#[inline(never)]
-fn write_rows<W: Write, G: Gate, const WIDTH: usize>(
-    rows: &mut Rows<'_>,
-    gate: &G,
-    units: &mut [[u8; 64]],
+/// Writes a picture, of which the painter gives row after row; `pixels` has room for the lines of a row. Answers the marks
+/// of its intervals.
+pub(crate) fn write_rows<W: Write, P: RowPainter>(
+    head: &Head,
+    painter: &mut P,
     pixels: &mut [u8],
     out: &mut Tally<W>,
-) -> Result<(), WriteFault>
-    requires stack { WIDTH ≤ WIDEST }
-    requires wide { rows.old.scan.head.width ≤ WIDTH }
+) -> Result<Marked, WriteFault>
+    requires head { head.now ≡ (P.at painter.old).scan.head }
+    requires start { (P.at painter.old).row ≡ 0 }
+    requires few { (P.at painter.old).limit ≤ intervals_of (P.at painter.old).scan.head }
+    requires intervals { intervals_of head.now < 2 ^ 32 }
     requires unfailed { has_failed out.old ≡ false }
-    requires start { mcus_read rows.old ≡ 0 }
-    requires units { length units.old ≡ mcus_across rows.old.scan.head * blocks_of rows.old.scan.head }
-    requires pixels { 8 * vertical_max rows.old.scan.head * line_size rows.old.scan.head ≤ length pixels.old }
+    requires pixels { 8 * vertical_max head.now * line_size head.now ≤ length pixels.old }
     requires header { HEADER_ROOM ≤ length pixels.old }
-    ensures scan { rows.new.scan ≡ rows.old.scan }
-    ensures limit { rows.new.limit ≡ rows.old.limit }
-    ensures read { OnOk result (mcus_read rows.new ≡ mcus_of rows.old.scan.head) }
+    ensures counts { IfOk result (CountsRows (P.at painter.old).scan (P.at painter.old).limit) }
     ensures failed { has_failed out.new ≡ is_err result }
-    ensures sent { (b : BoardValue) → HasFirst rows.old.scan rows.old.limit b → IsSent W.contents out.old out.new result (text_of rows.old.scan.head (samples_of b)) }
+    ensures sent { SendsPicture W.contents out.old out.new result (P.at painter.old).scan (P.at painter.old).limit }
 {
-    let head = rows.head();
     head.be_lawful();
     let shape = shape_of(head);
-    let mut lines = SampleLines::<WIDTH>::new();
     let mut filled = put_header(head, pixels);
+    let mut marked = Marked::none();
     let mut row = 0;
     'rows: while row < shape.down {
-        rows.fill(gate, shape.across, units);
-        let (y, count) = lines_of(head, row);
+        let (_y, count) = lines_of(head, row);
         let size = count as usize * shape.line;
         filled = make_room(pixels, filled, size, out)?;
         let end = filled + size;
-        let band = Band::of(head, units);
-        paint_lines(&band, y, count, &mut lines, &mut pixels[filled..end]);
+        let more = painter.paint(&mut pixels[filled..end]);
+        marked = marked.with(more);
         filled = end;
         row += 1;
     }
-    write_all(out, &pixels[..filled])
-}
-
-/// Writes the picture of a scan's rows.
-fn write_picture<W: Write, G: Gate>(
-    rows: &mut Rows<'_>,
-    gate: &G,
-    units: &mut [[u8; 64]],
-    pixels: &mut [u8],
-    out: &mut Tally<W>,
-) -> Result<(), WriteFault>
-    requires unfailed { has_failed out.old ≡ false }
-    requires start { mcus_read rows.old ≡ 0 }
-    requires units { length units.old ≡ mcus_across rows.old.scan.head * blocks_of rows.old.scan.head }
-    requires pixels { 8 * vertical_max rows.old.scan.head * line_size rows.old.scan.head ≤ length pixels.old }
-    requires header { HEADER_ROOM ≤ length pixels.old }
-    ensures scan { rows.new.scan ≡ rows.old.scan }
-    ensures limit { rows.new.limit ≡ rows.old.limit }
-    ensures read { OnOk result (mcus_read rows.new ≡ mcus_of rows.old.scan.head) }
-    ensures failed { has_failed out.new ≡ is_err result }
-    ensures sent { (b : BoardValue) → HasFirst rows.old.scan rows.old.limit b → IsSent W.contents out.old out.new result (text_of rows.old.scan.head (samples_of b)) }
-{
-    rows.head().be_lawful();
-    if rows.head().width() as usize <= NARROW {
-        return write_rows::<W, G, NARROW>(rows, gate, units, pixels, out);
-    }
-    write_rows::<W, G, WIDEST>(rows, gate, units, pixels, out)
+    write_all(out, &pixels[..filled])?;
+    Ok(marked)
 }
 
 /// How many intervals are decoded: the first of a scan, or all.
@@ -163,13 +83,73 @@ fn limit_of(scan: &Scan, first: Option<u32>) -> u32
     }
 }
 
-/// The bytes that the lines of a row of MCUs take, and enough of them for a write.
-fn room_for(head: &Head) -> usize
-    ensures lines { 8 * vertical_max head.now * line_size head.now ≤ result }
-    ensures batch { BATCH ≤ result }
+/// How many intervals are sound, damaged and blank.
+pub(crate) fn counts_of(scan: &Scan, limit: u32, marked: Marked) -> Counts
+    requires few { limit ≤ length scan.now.intervals }
+    requires counts { CountsRows scan.now limit marked }
+    ensures { HasCounts scan.now limit result }
 {
-    let shape = shape_of(head);
-    BATCH.max(shape.deep as usize * shape.line)
+    // By its contract a picture has an MCU.
+    let _some = scan.head().mcus();
+    let Marked { sound, damaged } = marked;
+    Counts {
+        sound,
+        damaged,
+        blank: scan.intervals() - sound - damaged,
+    }
+}
+
+/// Writes the picture of a scan whose first `limit` intervals are decoded in the calling thread, of at most `WIDTH` columns.
+/// A function of its own, so that only a wide picture takes the stack for wide lines.
+#[inline(never)]
+fn write_alone<W: Write, G: Gate, const WIDTH: usize>(
+    scan: &Scan,
+    limit: u32,
+    work: Row,
+    gate: &G,
+    pixels: &mut [u8],
+    out: &mut Tally<W>,
+) -> Result<Marked, WriteFault>
+    requires stack { WIDTH ≤ WIDEST }
+    requires few { limit ≤ length scan.now.intervals }
+    requires wide { scan.now.head.width ≤ WIDTH }
+    requires room { HasRowRoom scan.now.head work }
+    requires unfailed { has_failed out.old ≡ false }
+    requires pixels { 8 * vertical_max scan.now.head * line_size scan.now.head ≤ length pixels.old }
+    requires header { HEADER_ROOM ≤ length pixels.old }
+    ensures counts { IfOk result (CountsRows scan.now limit) }
+    ensures failed { has_failed out.new ≡ is_err result }
+    ensures sent { SendsPicture W.contents out.old out.new result scan.now limit }
+{
+    // By its contract a scan has as many intervals as its head says.
+    let _all = scan.intervals();
+    let mut painter = Alone::<G, WIDTH>::of(scan, limit, work, gate);
+    write_rows(scan.head(), &mut painter, pixels, out)
+}
+
+/// Writes the picture of a scan whose first `limit` intervals are decoded in the calling thread.
+fn write_picture<W: Write, G: Gate>(
+    scan: &Scan,
+    limit: u32,
+    work: Row,
+    gate: &G,
+    pixels: &mut [u8],
+    out: &mut Tally<W>,
+) -> Result<Marked, WriteFault>
+    requires few { limit ≤ length scan.now.intervals }
+    requires room { HasRowRoom scan.now.head work }
+    requires unfailed { has_failed out.old ≡ false }
+    requires pixels { 8 * vertical_max scan.now.head * line_size scan.now.head ≤ length pixels.old }
+    requires header { HEADER_ROOM ≤ length pixels.old }
+    ensures counts { IfOk result (CountsRows scan.now limit) }
+    ensures failed { has_failed out.new ≡ is_err result }
+    ensures sent { SendsPicture W.contents out.old out.new result scan.now limit }
+{
+    scan.head().be_lawful();
+    if scan.head().width() as usize <= NARROW {
+        return write_alone::<W, G, NARROW>(scan, limit, work, gate, pixels, out);
+    }
+    write_alone::<W, G, WIDEST>(scan, limit, work, gate, pixels, out)
 }
 
 /// Decodes the first intervals of a scan, or all, and writes its picture, a row of MCUs after the other, in the calling
@@ -190,18 +170,16 @@ pub fn write_scan<W: Write, G: Gate>(
     ensures write { result ≡ Err Unwritten.Write → has_failed out.new ≡ true }
 {
     each_interval_has_an_outcome();
-    let head = scan.head();
-    head.be_lawful();
-    let count = shape_of(head).across as usize * head.order().len();
-    let Ok(mut units) = vec![in alloc; [0; 64]; count] else {
+    scan.head().be_lawful();
+    let Ok(work) = Row::open(alloc, scan.head()) else {
         return Err(Unwritten::Memory);
     };
-    let Ok(mut pixels) = vec![in alloc; 0; room_for(head)] else {
+    let Ok(mut pixels) = vec![in alloc; 0; room_for(scan.head())] else {
         return Err(Unwritten::Memory);
     };
-    let mut rows = Rows::of(scan, limit_of(scan, first), gate);
-    match write_picture(&mut rows, gate, &mut units, &mut pixels, out) {
-        Ok(()) => Ok(rows.counts()),
+    let limit = limit_of(scan, first);
+    match write_picture(scan, limit, work, gate, &mut pixels, out) {
+        Ok(marked) => Ok(counts_of(scan, limit, marked)),
         Err(_) => Err(Unwritten::Write),
     }
 }

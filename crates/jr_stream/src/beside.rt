@@ -1,0 +1,62 @@
+//! The threads of a crew, and what the calling thread does meanwhile.
+
+ghost use Rattle.std.specs.Prelude.{◌≤◌};
+ghost use Rattle.std.specs.List.{All};
+ghost use Rattle.jr_paint.specs.declared.netpbm.TheConstants.{WIDEST};
+ghost use Rattle.jr_stream.specs.Rows.{HasRowRoom};
+
+use crate::crew::Crew;
+use crate::row::Row;
+use jr_piece::OneScan;
+use jr_wall::Gate;
+use std::sync::Wait;
+use std::thread;
+use std::thread::Threads;
+
+/// What the calling thread does while the others of a crew decode.
+pub(crate) trait Beside {
+    type Answer;
+
+    ghost may: { Self → Type 0 };
+
+    ghost gives: { Self → Self.Answer → Type 0 };
+
+    /// Does it.
+    fn run(self) -> Self::Answer
+        requires { may self }
+        ensures { gives self result };
+}
+
+/// Starts a thread for each row in work, and runs `beside` in the calling thread. A thread that can't be started is left
+/// out.
+pub(crate) fn run_beside<
+    R: Threads + Wait + Sync,
+    G: Gate + Sync,
+    S: OneScan + Send,
+    B: Beside + Drop,
+    const WIDTH: usize,
+>(crew: &Crew<'_, S>, rt: &R, gate: &G, works: Vec<Row>, beside: B) -> B::Answer
+    requires stack { WIDTH ≤ WIDEST }
+    requires wide { crew.now.head.width ≤ WIDTH }
+    requires works { All (HasRowRoom crew.now.head) works.items }
+    requires beside { B.may beside }
+    ensures { B.gives beside result }
+{
+    thread::scope(
+        thread::scope_env(),
+        rt,
+        |scope| -> B::Answer
+            requires { (WIDTH ≤ WIDEST) × (crew.now.head.width ≤ WIDTH) × All (HasRowRoom crew.now.head) works.items × B.may beside }
+            ensures { B.gives beside result }
+        {
+            for work in works {
+                let _ = scope.spawn(
+                    move ||
+                        requires { (WIDTH ≤ WIDEST) × (crew.now.head.width ≤ WIDTH) × HasRowRoom crew.now.head work }
+                    { crew.work::<R, G, WIDTH>(rt, gate, work) },
+                );
+            }
+            beside.run()
+        },
+    )
+}
