@@ -14,7 +14,7 @@ use crate::decoding::{Outcome, decode};
 use crate::scans::scan_of;
 use jr_paint::{Tally, write_netpbm};
 use jr_scan::Scan;
-use jr_stream::write_scan;
+use jr_stream::{write_scan, write_scan_by};
 use jr_wall::{OpenGate, decode_all};
 use std::alloc::Global;
 use std::process::Abort;
@@ -64,6 +64,25 @@ fn streamed(alloc: Global, scan: &Scan, first: Option<u32>) -> Result<Written, F
     })
 }
 
+/// As several workers write it while they decode.
+fn crewed<R: Threads + Wait + Sync + AllocGlobal>(
+    rt: &R,
+    scan: &Scan,
+    workers: u32,
+) -> Result<Written, Fail>
+    requires some { 1 ≤ workers }
+    requires few { workers ≤ MAX_WORKERS }
+{
+    let mut out = Tally::of(Vec::new(rt.alloc()));
+    let counts = write_scan_by(rt, rt.alloc(), scan, workers, &OpenGate, &mut out)
+        .ok()
+        .ok_or("a picture that is not written")?;
+    Ok(Written {
+        text: out.into_inner(),
+        counts: (counts.sound, counts.damaged, counts.blank),
+    })
+}
+
 /// As it is written from a board of all that two workers decode.
 fn kept<R: Threads + Wait + Sync + AllocGlobal>(
     rt: &R,
@@ -81,6 +100,25 @@ fn kept<R: Threads + Wait + Sync + AllocGlobal>(
     })
 }
 
+/// Holds what several workers write against what one writes.
+fn check_crews<R: Threads + Wait + Sync + AllocGlobal + Abort>(
+    rt: &R,
+    scan: &Scan,
+    name: &str,
+) -> Result<(), Fail> {
+    let one = streamed(rt.alloc(), scan, None)?;
+    let crews = [
+        crewed(rt, scan, 1)?,
+        crewed(rt, scan, 2)?,
+        crewed(rt, scan, 5)?,
+    ];
+    for crew in crews {
+        let is_same = one.text == crew.text && one.counts == crew.counts;
+        assert!(rt; is_same, "{name} by several workers");
+    }
+    Ok(())
+}
+
 /// Holds what is written in one pass against what is written from a board, for several numbers of first intervals.
 fn check_firsts<R: Threads + Wait + Sync + AllocGlobal + Abort>(
     rt: &R,
@@ -95,5 +133,5 @@ fn check_firsts<R: Threads + Wait + Sync + AllocGlobal + Abort>(
         let is_same = one.text == other.text && one.counts == other.counts;
         assert!(rt; is_same, "{name}, first {first:?}");
     }
-    Ok(())
+    check_crews(rt, &scan, name)
 }

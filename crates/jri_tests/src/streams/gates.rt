@@ -1,9 +1,9 @@
-//! A gate is told each interval that is decoded, once and in their order, and of no piece, since none is made.
+//! A gate is told each interval that is decoded, once, by one worker in their order, and of no piece, since none is made.
 
 use crate::files::{COLOURED, MIXED, TEN, file};
 use crate::scans::scan;
 use jr_paint::Tally;
-use jr_stream::write_scan;
+use jr_stream::{write_scan, write_scan_by};
 use jr_wall::{Gate, Piece};
 use jri_engine::run;
 use std::process::Abort;
@@ -46,6 +46,46 @@ impl Gate for Passage {
     }
 }
 
+/// Which of the first 32 intervals have passed, in any order.
+#[derive(Drop)]
+struct Crowd {
+    passed: AtomicU32,
+    /// A bit for each.
+    numbers: AtomicU32,
+}
+
+impl Gate for Crowd {
+    fn pass(&self, number: u32) {
+        self.passed.fetch_add(1, Ordering::SeqCst);
+        self.numbers
+            .fetch_or(1_u32.wrapping_shl(number), Ordering::SeqCst);
+    }
+
+    fn made(&self, _piece: &Piece) {
+        self.passed.fetch_add(100, Ordering::SeqCst);
+    }
+}
+
+/// Several workers that decode row after row tell of each interval once.
+fn check_crew<R: Threads + Wait + Sync + AllocGlobal + Abort>(
+    rt: &R,
+    words: &str,
+    passed: u32,
+) -> Result<(), Fail> {
+    let gate = Crowd {
+        passed: AtomicU32::new(0),
+        numbers: AtomicU32::new(0),
+    };
+    let scan = scan(rt.alloc(), words)?;
+    let mut out = Tally::of(Vec::new(rt.alloc()));
+    assert!(rt; write_scan_by(rt, rt.alloc(), &scan, 3, &gate, &mut out).is_ok());
+    let all = 1_u32.wrapping_shl(passed).wrapping_sub(1);
+    let is_told = gate.passed.load(Ordering::SeqCst) == passed
+        && gate.numbers.load(Ordering::SeqCst) == all;
+    assert!(rt; is_told, "{words} by several workers");
+    Ok(())
+}
+
 fn check<R: Threads + Wait + Sync + AllocGlobal + Abort>(
     rt: &R,
     words: &str,
@@ -84,4 +124,12 @@ fn tells_a_gate_each_of_the_first_intervals_once(rt: HostRuntime) -> Result<(), 
         check(&rt, words, first, passed)?;
     }
     Ok(())
+}
+
+#[test]
+fn crews_tell_a_gate_each_interval_once(rt: HostRuntime) -> Result<(), Fail> {
+    check_crew(&rt, TEN, 10)?;
+    check_crew(&rt, MIXED, 10)?;
+    check_crew(&rt, COLOURED, 2)?;
+    check_crew(&rt, "G 63 E", 1)
 }
