@@ -17,7 +17,7 @@ use crate::marked::Marked;
 use crate::ring::Ring;
 use crate::row::Row;
 use crate::sending::Sending;
-use crate::shape::{bytes_of_row, room_for};
+use crate::shape::{bytes_of_row, intervals_of_row, room_for};
 use crate::sheet::{Painted, Sheet};
 use crate::writing::{Unwritten, counts_of};
 use jr_base::{Memory, Tally, WriteFault};
@@ -34,6 +34,21 @@ use std::thread::Threads;
 
 /// So many sheets for each thread: one that it paints, and one that waits to be written.
 const SHEETS_OF_ONE: u32 = 2;
+
+/// As many threads share rows that are read one after the other: more of them wait for their turn longer than they work.
+const MOST_IN_TURN: u32 = 2;
+
+/// How many of the workers are of use.
+fn useful(head: &Head, workers: u32) -> u32
+    requires { 1 ≤ workers }
+    ensures some { 1 ≤ result }
+    ensures few { result ≤ workers }
+{
+    match intervals_of_row(head) {
+        Some(_) => workers,
+        None => workers.min(MOST_IN_TURN),
+    }
+}
 
 /// Room for a row of MCUs in work, for so many threads.
 fn open_rows(alloc: Global, head: &Head, count: u32) -> Result<Vec<Row>, Memory>
@@ -194,6 +209,7 @@ fn write_as<R: Threads + Wait + Sync, W: Write, G: Gate + Sync, S: OneScan + Sen
 {
     each_interval_has_an_outcome();
     scan.head().be_lawful();
+    let workers = useful(scan.head(), workers);
     let Ok(gear) = open_gear::<S>(alloc, scan, workers) else {
         return Err(Unwritten::Memory);
     };
@@ -214,7 +230,8 @@ fn write_as<R: Threads + Wait + Sync, W: Write, G: Gate + Sync, S: OneScan + Sen
 /// calling thread is one of them, and writes. It takes all memory that it needs before it writes the first byte: for four
 /// rows of MCUs of each worker, and none for the picture. The gate is told each interval; no piece is made.
 ///
-/// Where a row has whole intervals, each worker reads its rows by itself; else rows are read one after the other.
+/// Where a row has whole intervals, each worker reads its rows by itself; else rows are read one after the other, and two
+/// workers share them, however many are asked for.
 pub fn write_scan_by<R: Threads + Wait + Sync, W: Write, G: Gate + Sync>(
     rt: &R,
     alloc: Global,
