@@ -1,17 +1,16 @@
 -- The marks of all rows are those of the picture.
-use Rattle.std.proofs.Common.{◌≡◌, ℕ, zero, suc, ◌+◌, ◌*◌, ◌<◌, ◌≤◌, Bool, true, false, cond, inl, inr, List, [], ◌∷◌, length, take, get_or, min, refl, sym, ap, subst, ◌∙◌, arith}
+use Rattle.std.proofs.Common.{◌≡◌, ℕ, zero, suc, ◌+◌, ◌*◌, ◌<◌, ◌≤◌, Bool, false, cond, List, [], ◌∷◌, length, take, get_or, refl, sym, ap, ◌∙◌, arith}
 use Rattle.std.specs.List.{count_by}
 use Rattle.std.proofs.lemmas.List.Sums.{sum_by-cons}
 use Rattle.jr_head.specs.HeadValue.{HeadValue}
-use Rattle.jr_head.specs.Geometry.{mcus_across, mcus_down, mcus_of}
+use Rattle.jr_head.specs.Geometry.{mcus_down, mcus_of}
 use Rattle.jr_scan.specs.ScanValue.{ScanValue, intervals_of}
 use Rattle.jr_wall.specs.declared.mark.Mark.{Mark}
 use Rattle.jr_wall.specs.declared.mark.Mark.TheVariants.{Blank}
 use Rattle.jr_wall.specs.declared.headline.Counts.{Counts}
-use Rattle.jr_wall.specs.BoardValue.{BoardValue}
 use Rattle.jr_wall.specs.Boards.{marks_of}
 use Rattle.jr_wall.specs.Headline.{is_sound, is_damaged}
-use Rattle.jr_stream.specs.Rows.{HasFirst, CountsRows, coded_before, intervals_before, mcus_before}
+use Rattle.jr_stream.specs.Rows.{CountsRows, coded_before, intervals_before, mcus_before}
 use Rattle.jr_stream.specs.Stream.{HasCounts}
 use Rattle.jr_stream.specs.declared.marked.Marked.{Marked}
 use Rattle.jr_stream.proofs.FirstBoards.{counts_of}

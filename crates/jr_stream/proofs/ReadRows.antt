@@ -1,7 +1,7 @@
 -- What is read of a scan's rows, and what is counted of them.
 use Rattle.std.proofs.Common.{◌≡◌, ℕ, zero, suc, ◌+◌, ◌-◌, ◌*◌, ◌/◌, ◌%◌, ◌<◌, ◌≤◌, Bool, true, false, cond, inl, inr, Option, Some, None, List, [], ◌∷◌, ◌++◌, length, take, get_or, slice_index_or, refl, sym, ap, subst, ◌∙◌, arith}
 use Rattle.std.specs.Prelude.{ℤ}
-use Rattle.std.specs.List.{count_by, All}
+use Rattle.std.specs.List.{count_by}
 use Rattle.std.proofs.lemmas.Bool.{cases_lt}
 use Rattle.std.proofs.lemmas.List.Sums.{sum_by-cons}
 use Rattle.std.proofs.lemmas.Slice.{take-put_mid}
@@ -10,7 +10,7 @@ use borrow.Rule.Slice.PartMut.{put_mid}
 use Rattle.std.proofs.Math.Nat.{div-lt_iff_lt-mul, add-mul, mul-add-div_right, mul-add-mod_self_right}
 use Rattle.std.proofs.lemmas.Nat.{div-add-mod'}
 use Rattle.jr_head.specs.HeadValue.{HeadValue}
-use Rattle.jr_head.specs.Geometry.{order_of, quantiser_of, blocks_of, mcus_of}
+use Rattle.jr_head.specs.Geometry.{order_of, quantiser_of, blocks_of}
 use Rattle.jr_head.proofs.SamplingLaws.{length-order}
 use Rattle.jr_scan.specs.IntervalValue.{IntervalValue}
 use Rattle.jr_scan.specs.Mcus.{component}
@@ -28,7 +28,7 @@ use Rattle.jr_wall.specs.Headline.{is_sound, is_damaged, interval_number, within
 use Rattle.jr_wall.proofs.BoardPictures.{marks_at, interval_is}
 use Rattle.jr_stream.proofs.FirstBoards.{marks_there, not_blank}
 use Rattle.jr_stream.proofs.IntervalPlaces.{interval_at}
-use Rattle.jr_stream.specs.Bands.{unit_shown_of, unit_shown}
+use Rattle.jr_stream.specs.Bands.{unit_shown_of}
 use Rattle.jr_stream.specs.RowsValue.{McusValue}
 use Rattle.jr_stream.specs.Rows.{HasFirst, CountsMarks, GivesBehind, mcus_read}
 use Rattle.jr_stream.specs.declared.marked.Marked.{Marked}

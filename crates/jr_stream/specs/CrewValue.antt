@@ -1,6 +1,18 @@
--- What contracts see of a painted row of MCUs.
+-- What contracts see of the memory for a row of MCUs: empty, read, and painted.
 use Rattle.std.specs.Prelude.{ℕ, List}
+use Rattle.jr_stream.specs.RowsValue.{RowValue}
 use Rattle.jr_stream.specs.declared.marked.Marked.{Marked}
+
+-- room for its blocks and samples, and for its lines
+pub record BenchValue : Type 0 where
+  pub work : RowValue
+  pub pixels : List ℕ
+
+-- its number, the marks of the intervals that end in it, and its blocks
+pub record CodedValue : Type 0 where
+  pub row : ℕ
+  pub marked : Marked
+  pub work : RowValue
 
 -- its number, the marks of the intervals that end in it, and bytes that begin with its lines
 pub record PaintedValue : Type 0 where

@@ -1,18 +1,17 @@
 //! Who reads next.
 
-ghost use Rattle.std.specs.Prelude.{◌≡◌, ◌+◌, ◌<◌, Some, length};
-ghost use Rattle.jr_head.specs.Geometry.{mcus_down};
-ghost use Rattle.jr_stream.specs.Crew.{AreRowsOf};
-ghost use Rattle.jr_stream.specs.Rows.{AreRead, CountsRow, HasRowRoom};
+ghost use Rattle.std.specs.Prelude.{◌≡◌, Some, length};
 
-use crate::marked::Marked;
-use crate::row::Row;
+use crate::announcing::announce;
+use crate::bench::{Bench, Coded};
 use crate::rows::Rows;
+use crate::shape::{intervals_of_row, shape_of};
 use jr_piece::OneScan;
 use jr_scan::Scan;
+use jr_wall::Gate;
 use std::marker::{Model, PhantomData};
 
-/// The reader of the scan's rows, that one thread holds at a time: the one that has claimed the row that comes next.
+/// The reader of a scan's rows from one of them on, that one thread holds at a time.
 #[derive(Drop)]
 pub(crate) struct Baton<'a, S: OneScan> {
     rows: Rows<'a>,
@@ -20,44 +19,64 @@ pub(crate) struct Baton<'a, S: OneScan> {
 }
 
 impl<'a, S: OneScan> Model for Baton<'a, S> {
-    ghost use Rattle.jr_stream.specs.Crew.{AreRowsOf};
+    ghost use Rattle.jr_stream.specs.Crew.{HaveNext};
     ghost use Rattle.jr_stream.specs.RowsValue.{RowsValue};
 
     ghost Value = { RowsValue };
 
     ghost view = { λ b. b.rows };
 
-    ghost invariant = { λ b. AreRowsOf S.scan b.rows };
+    ghost invariant = { λ b. HaveNext S.scan b.rows };
+}
+
+/// These rows, where one is left.
+fn baton_over<'a, S: OneScan>(scan: &Scan, rows: Rows<'a>) -> Option<Baton<'a, S>>
+    requires scan { S.scan ≡ Some scan.now }
+    requires of { rows.scan ≡ scan.now }
+    requires limit { rows.limit ≡ length scan.now.intervals }
+{
+    if rows.row() >= shape_of(scan.head()).down {
+        return None;
+    }
+    Some(Baton {
+        rows,
+        of: PhantomData,
+    })
 }
 
 impl<'a, S: OneScan> Baton<'a, S> {
-    /// Nothing is read yet.
-    pub(crate) fn of(scan: &'a Scan) -> Baton<'a, S>
+    /// All rows of the scan.
+    pub(crate) fn of(scan: &'a Scan) -> Option<Baton<'a, S>>
         requires { S.scan ≡ Some scan.now }
     {
-        Baton {
-            rows: Rows::of(scan, scan.intervals()),
-            of: PhantomData,
+        baton_over(scan, Rows::of(scan, scan.intervals()))
+    }
+
+    /// The rows behind the next one, which can be read before it where rows are whole intervals.
+    pub(crate) fn behind(&self, scan: &'a Scan) -> Option<Baton<'a, S>>
+        requires { S.scan ≡ Some scan.now }
+    {
+        let intervals = intervals_of_row(scan.head())?;
+        let down = shape_of(scan.head()).down;
+        let row = self.rows.row() + 1;
+        if row >= down {
+            return None;
         }
+        baton_over(scan, Rows::from(scan, row, intervals))
     }
 
-    /// The number of the row that comes next.
-    pub(crate) fn row(&self) -> u32
-        ensures { result ≡ self.now.row }
+    /// Tells the gate of the intervals that begin in the next row, and reads it: answers it with those behind it.
+    pub(crate) fn read<G: Gate>(
+        self,
+        scan: &Scan,
+        gate: &G,
+        bench: Bench<S>,
+    ) -> (Coded<S>, Option<Baton<'a, S>>)
+        requires { S.scan ≡ Some scan.now }
     {
-        self.rows.row()
-    }
-
-    /// Reads the next row: answers the marks of the intervals that end in it.
-    pub(crate) fn read(&mut self, scan: &Scan, work: &mut Row) -> Marked
-        requires scan { S.scan ≡ Some scan.now }
-        requires row { self.old.row < mcus_down scan.now.head }
-        requires room { HasRowRoom scan.now.head work.old }
-        ensures room { HasRowRoom scan.now.head work.new }
-        ensures read { AreRead scan.now (length scan.now.intervals) self.old.row work.new.blocks }
-        ensures counts { CountsRow scan.now (length scan.now.intervals) self.old.row result }
-    {
-        let _same = scan.head();
-        work.read(&mut self.rows)
+        let mut rows = self.rows;
+        announce(scan, scan.intervals(), rows.row(), gate);
+        let coded = bench.read(scan, &mut rows);
+        (coded, baton_over(scan, rows))
     }
 }

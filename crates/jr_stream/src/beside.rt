@@ -1,12 +1,9 @@
 //! The threads of a crew, and what the calling thread does meanwhile.
 
 ghost use Rattle.std.specs.Prelude.{◌≤◌};
-ghost use Rattle.std.specs.List.{All};
 ghost use Rattle.jr_paint.specs.declared.netpbm.TheConstants.{WIDEST};
-ghost use Rattle.jr_stream.specs.Rows.{HasRowRoom};
 
 use crate::crew::Crew;
-use crate::row::Row;
 use jr_piece::OneScan;
 use jr_wall::Gate;
 use std::sync::Wait;
@@ -27,18 +24,16 @@ pub(crate) trait Beside {
         ensures { gives self result };
 }
 
-/// Starts a thread for each row in work, and runs `beside` in the calling thread. A thread that can't be started is left
-/// out.
+/// Starts so many threads, and runs `beside` in the calling thread. A thread that can't be started is left out.
 pub(crate) fn run_beside<
     R: Threads + Wait + Sync,
     G: Gate + Sync,
     S: OneScan + Send,
     B: Beside + Drop,
     const WIDTH: usize,
->(crew: &Crew<'_, S>, rt: &R, gate: &G, works: Vec<Row>, beside: B) -> B::Answer
+>(crew: &Crew<'_, S>, rt: &R, gate: &G, others: u32, beside: B) -> B::Answer
     requires stack { WIDTH ≤ WIDEST }
     requires wide { crew.now.head.width ≤ WIDTH }
-    requires works { All (HasRowRoom crew.now.head) works.items }
     requires beside { B.may beside }
     ensures { B.gives beside result }
 {
@@ -46,14 +41,14 @@ pub(crate) fn run_beside<
         thread::scope_env(),
         rt,
         |scope| -> B::Answer
-            requires { (WIDTH ≤ WIDEST) × (crew.now.head.width ≤ WIDTH) × All (HasRowRoom crew.now.head) works.items × B.may beside }
+            requires { (WIDTH ≤ WIDEST) × (crew.now.head.width ≤ WIDTH) × B.may beside }
             ensures { B.gives beside result }
         {
-            for work in works {
+            for _ in 0..others {
                 let _ = scope.spawn(
                     move ||
-                        requires { (WIDTH ≤ WIDEST) × (crew.now.head.width ≤ WIDTH) × HasRowRoom crew.now.head work }
-                    { crew.work::<R, G, WIDTH>(rt, gate, work) },
+                        requires { (WIDTH ≤ WIDEST) × (crew.now.head.width ≤ WIDTH) }
+                    { crew.work::<R, G, WIDTH>(rt, gate) },
                 );
             }
             beside.run()

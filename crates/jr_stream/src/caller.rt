@@ -2,12 +2,10 @@
 
 ghost use Rattle.std.specs.Prelude.{◌≡◌, ◌≤◌, length};
 ghost use Rattle.jr_paint.specs.declared.netpbm.TheConstants.{WIDEST};
-ghost use Rattle.jr_stream.specs.Rows.{HasRowRoom};
 
 use crate::crew::Crew;
 use crate::marked::Marked;
 use crate::painter::RowPainter;
-use crate::row::Row;
 use crate::shape::shape_of;
 use jr_paint::SampleLines;
 use jr_piece::OneScan;
@@ -15,22 +13,20 @@ use jr_wall::Gate;
 use std::marker::Model;
 use std::sync::Wait;
 
-/// The calling thread: it takes row after row from a crew, and decodes one itself where the row that comes next is not
-/// painted yet.
+/// The calling thread: it takes row after row from a crew, and reads and paints where the row that comes next is not painted
+/// yet.
 #[derive(Drop)]
 pub(crate) struct Caller<'a, 'b, R: Wait, G: Gate, S: OneScan, const WIDTH: usize> {
     crew: &'b Crew<'a, S>,
     rt: &'b R,
     gate: &'b G,
     row: u32,
-    work: Row,
     lines: SampleLines<WIDTH>,
 }
 
 impl<'a, 'b, R: Wait, G: Gate, S: OneScan, const WIDTH: usize> Model
     for Caller<'a, 'b, R, G, S, WIDTH> {
     ghost use Rattle.std.specs.Prelude.{◌≡◌, ◌≤◌, Some, length};
-    ghost use Rattle.jr_stream.specs.Rows.{HasRowRoom};
     ghost use Rattle.jr_stream.specs.RowsValue.{RowsValue};
     ghost use Rattle.jr_paint.specs.declared.netpbm.TheConstants.{WIDEST};
 
@@ -38,7 +34,7 @@ impl<'a, 'b, R: Wait, G: Gate, S: OneScan, const WIDTH: usize> Model
 
     ghost view = { λ c. record { scan = c.crew.now; limit = length c.crew.now.intervals; row = c.row } };
 
-    ghost invariant = { λ c. (S.scan ≡ Some c.crew.now) × HasRowRoom c.crew.now.head c.work × (c.crew.now.head.width ≤ WIDTH) × (WIDTH ≤ WIDEST) };
+    ghost invariant = { λ c. (S.scan ≡ Some c.crew.now) × (c.crew.now.head.width ≤ WIDTH) × (WIDTH ≤ WIDEST) };
 }
 
 impl<'a, 'b, R: Wait, G: Gate, S: OneScan, const WIDTH: usize> Caller<'a, 'b, R, G, S, WIDTH> {
@@ -47,9 +43,7 @@ impl<'a, 'b, R: Wait, G: Gate, S: OneScan, const WIDTH: usize> Caller<'a, 'b, R,
         crew: &'b Crew<'a, S>,
         rt: &'b R,
         gate: &'b G,
-        work: Row,
     ) -> Caller<'a, 'b, R, G, S, WIDTH>
-        requires room { HasRowRoom crew.now.head work }
         requires stack { WIDTH ≤ WIDEST }
         requires wide { crew.now.head.width ≤ WIDTH }
         ensures { result ≡ record { scan = crew.now; limit = length crew.now.intervals; row = 0 } }
@@ -61,20 +55,22 @@ impl<'a, 'b, R: Wait, G: Gate, S: OneScan, const WIDTH: usize> Caller<'a, 'b, R,
             rt,
             gate,
             row: 0,
-            work,
             lines: SampleLines::new(),
         }
     }
 
-    /// Decodes a row where the one that is written next is not painted yet.
+    /// Reads and paints until the row that is written next is painted, or others have what is left of it in work.
     fn help(&mut self)
         ensures { self.new ≡ self.old }
     {
-        let (crew, rt, gate) = (self.crew, self.rt, self.gate);
-        let Some((row, sheet)) = crew.claim_before(rt, self.row) else {
-            return;
-        };
-        crew.decode(rt, gate, row, sheet, &mut self.work, &mut self.lines);
+        let (crew, rt, gate, row) = (self.crew, self.rt, self.gate, self.row);
+        let lines = &mut self.lines;
+        for _ in 0..crew.most_tasks() {
+            let Some(task) = crew.task_before(rt, row) else {
+                return;
+            };
+            crew.run(rt, gate, task, lines);
+        }
     }
 }
 
@@ -89,7 +85,7 @@ impl<R: Wait, G: Gate, S: OneScan, const WIDTH: usize> RowPainter
         let _rows = shape_of(crew.scan().head()).down;
         let painted = crew.painted(rt, self.row);
         let marked = painted.copy_to(crew.scan(), pixels);
-        crew.give_back(rt, painted.into_sheet());
+        crew.give_back(rt, painted.into_bench());
         self.row += 1;
         marked
     }

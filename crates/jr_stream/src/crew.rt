@@ -1,19 +1,12 @@
 //! Threads that decode and paint rows of MCUs of one scan, while one of them writes.
 
-ghost use Rattle.std.specs.Prelude.{◌≡◌, ◌<◌, ◌≤◌, Some, IfSome, length};
-ghost use Rattle.jr_head.specs.Geometry.{mcus_down};
+ghost use Rattle.std.specs.Prelude.{◌≡◌, ◌≤◌, Some, length};
 ghost use Rattle.jr_paint.specs.declared.netpbm.TheConstants.{WIDEST};
-ghost use Rattle.jr_stream.specs.Rows.{AreRead, CountsRow, HasRowRoom};
 
-use crate::announcing::announce;
 use crate::baton::Baton;
-use crate::marked::Marked;
-use crate::ring::Ring;
-use crate::row::Row;
-use crate::rows::Rows;
+use crate::bench::{Bench, Coded, Painted};
+use crate::ring::{Ring, Task};
 use crate::shape::{intervals_of_row, shape_of};
-use crate::sheet::{Painted, Sheet};
-use jr_head::Head;
 use jr_paint::SampleLines;
 use jr_piece::OneScan;
 use jr_scan::Scan;
@@ -23,20 +16,18 @@ use std::sync::{Condvar, Mutex, Wait};
 
 /// What the threads share.
 ///
-/// A thread claims a row together with room for its lines, so that no more rows are claimed than fit. It reads the row by
-/// itself where rows are whole intervals, else when the rows before it are read. What it has painted waits for its turn to
-/// be written. The row that is written next is always claimed by somebody who waits for nobody behind it.
+/// A thread takes from the ring what is to be done next, and does it outside of the lock. A row is read on a bench, so that
+/// no more rows are read than there are benches. Where rows are whole intervals, each thread reads rows by itself, and paints
+/// what it has read. Else one thread reads row after row, and what it has read is painted by whoever is free. What is painted
+/// waits for its turn to be written.
 #[derive(Drop)]
 pub(crate) struct Crew<'a, S: OneScan> {
     scan: &'a Scan,
-    ring: Mutex<Ring<S>>,
-    /// Somebody has given back a sheet, or all is over.
-    has_room: Condvar,
-    /// Somebody has painted a row.
-    has_painted: Condvar,
-    baton: Mutex<Baton<'a, S>>,
-    /// Somebody has read a row.
-    has_read: Condvar,
+    ring: Mutex<Ring<'a, S>>,
+    /// Somebody has read a row, or given back a bench, or all is over.
+    has_task: Condvar,
+    /// Somebody has read or painted a row: the calling thread waits for it.
+    has_row: Condvar,
 }
 
 impl<'a, S: OneScan> Model for Crew<'a, S> {
@@ -51,18 +42,16 @@ impl<'a, S: OneScan> Model for Crew<'a, S> {
 }
 
 impl<'a, S: OneScan> Crew<'a, S> {
-    /// Nothing is claimed yet.
-    pub(crate) fn of(scan: &'a Scan, ring: Ring<S>) -> Crew<'a, S>
+    /// Nothing is done yet.
+    pub(crate) fn of(scan: &'a Scan, ring: Ring<'a, S>) -> Crew<'a, S>
         requires { S.scan ≡ Some scan.now }
         ensures { result ≡ scan.now }
     {
         Crew {
             scan,
             ring: Mutex::new(ring),
-            has_room: Condvar::new(),
-            has_painted: Condvar::new(),
-            baton: Mutex::new(Baton::of(scan)),
-            has_read: Condvar::new(),
+            has_task: Condvar::new(),
+            has_row: Condvar::new(),
         }
     }
 
@@ -74,97 +63,96 @@ impl<'a, S: OneScan> Crew<'a, S> {
         self.scan
     }
 
-    /// A row to decode, and room for its lines, once there is some. None where no row is left.
-    fn claim<R: Wait>(&self, rt: &R) -> Option<(u32, Sheet<S>)>
-        ensures { IfSome result (λ r. r.0 < mcus_down self.now.head) }
-    {
-        let rows = shape_of(self.scan.head()).down;
-        let ring = self.ring.lock(rt);
-        let mut ring = self
-            .has_room
-            .wait_while(rt, ring, |ring| ring.has_no_room(rows));
-        ring.claim(rows)
+    /// As many tasks there are at most: each row is read, and painted.
+    pub(crate) fn most_tasks(&self) -> u32 {
+        2 * shape_of(self.scan.head()).down
     }
 
-    /// A row to decode, where this one is not painted yet and there is room.
-    pub(crate) fn claim_before<R: Wait>(&self, rt: &R, row: u32) -> Option<(u32, Sheet<S>)>
-        ensures { IfSome result (λ r. r.0 < mcus_down self.now.head) }
-    {
-        let rows = shape_of(self.scan.head()).down;
-        let mut ring = self.ring.lock(rt);
+    /// What a thread does next, once there is something. None where nothing is left.
+    fn task<R: Wait>(&self, rt: &R) -> Option<Task<'a, S>> {
+        let ring = self.ring.lock(rt);
+        let mut ring = self
+            .has_task
+            .wait_while(rt, ring, |ring| ring.has_no_task());
+        ring.task(self.scan)
+    }
+
+    /// What the calling thread does next, once there is something or this row is painted. None where it is, or nothing is left.
+    pub(crate) fn task_before<R: Wait>(&self, rt: &R, row: u32) -> Option<Task<'a, S>> {
+        let ring = self.ring.lock(rt);
+        let mut ring = self
+            .has_row
+            .wait_while(rt, ring, |ring| !ring.has(row) && ring.has_no_task());
         if ring.has(row) {
             return None;
         }
-        ring.claim(rows)
+        ring.task(self.scan)
     }
 
-    /// Reads a row when those before it are read.
-    fn read_in_turn<R: Wait>(&self, rt: &R, row: u32, work: &mut Row) -> Marked
-        requires row { row < mcus_down self.now.head }
-        requires room { HasRowRoom self.now.head work.old }
-        ensures room { HasRowRoom self.now.head work.new }
-        ensures read { AreRead self.now (length self.now.intervals) row work.new.blocks }
-        ensures counts { CountsRow self.now (length self.now.intervals) row result }
-    {
-        let baton = self.baton.lock(rt);
-        let mut baton = self
-            .has_read
-            .wait_while(rt, baton, |baton| baton.row() != row);
-        let marked = baton.read(self.scan, work);
-        drop(baton);
-        self.has_read.notify_all();
-        marked
-    }
-
-    /// Reads a row, by itself where rows are whole intervals.
-    fn read<R: Wait>(&self, rt: &R, row: u32, work: &mut Row) -> Marked
-        requires row { row < mcus_down self.now.head }
-        requires room { HasRowRoom self.now.head work.old }
-        ensures room { HasRowRoom self.now.head work.new }
-        ensures read { AreRead self.now (length self.now.intervals) row work.new.blocks }
-        ensures counts { CountsRow self.now (length self.now.intervals) row result }
-    {
-        match intervals_of_row(self.scan.head()) {
-            Some(intervals) => work.read(&mut Rows::from(self.scan, row, intervals)),
-            None => self.read_in_turn(rt, row, work),
-        }
-    }
-
-    /// Decodes and paints a row that this thread has claimed.
-    pub(crate) fn decode<R: Wait, G: Gate, const WIDTH: usize>(
+    /// Paints a row that is read.
+    fn paint<R: Wait, const WIDTH: usize>(
         &self,
         rt: &R,
-        gate: &G,
-        row: u32,
-        sheet: Sheet<S>,
-        work: &mut Row,
+        coded: Coded<S>,
         lines: &mut SampleLines<WIDTH>,
     )
         requires stack { WIDTH ≤ WIDEST }
         requires wide { self.now.head.width ≤ WIDTH }
-        requires row { row < mcus_down self.now.head }
-        requires room { HasRowRoom self.now.head work.old }
-        ensures { HasRowRoom self.now.head work.new }
     {
-        announce(self.scan, self.scan.intervals(), row, gate);
-        let marked = self.read(rt, row, work);
-        let painted = sheet.paint(self.scan, row, marked, work, lines);
-        self.ring.lock(rt).put(painted);
-        self.has_painted.notify_one();
+        let painted = coded.paint(self.scan, lines);
+        self.ring.lock(rt).put_painted(painted);
+        self.has_row.notify_one();
     }
 
-    /// Decodes and paints rows until no one is left.
-    pub(crate) fn work<R: Wait, G: Gate, const WIDTH: usize>(&self, rt: &R, gate: &G, mut work: Row)
+    /// Reads a row, and paints it where rows are whole intervals; else it waits for whoever is free.
+    fn read<R: Wait, G: Gate, const WIDTH: usize>(
+        &self,
+        rt: &R,
+        gate: &G,
+        baton: Baton<'a, S>,
+        bench: Bench<S>,
+        lines: &mut SampleLines<WIDTH>,
+    )
         requires stack { WIDTH ≤ WIDEST }
         requires wide { self.now.head.width ≤ WIDTH }
-        requires room { HasRowRoom self.now.head work }
+    {
+        let (coded, behind) = baton.read(self.scan, gate, bench);
+        if intervals_of_row(self.scan.head()).is_some() {
+            return self.paint(rt, coded, lines);
+        }
+        self.ring.lock(rt).put_coded(coded, behind);
+        self.has_task.notify_one();
+        self.has_row.notify_one();
+    }
+
+    /// Does what is to be done.
+    pub(crate) fn run<R: Wait, G: Gate, const WIDTH: usize>(
+        &self,
+        rt: &R,
+        gate: &G,
+        task: Task<'a, S>,
+        lines: &mut SampleLines<WIDTH>,
+    )
+        requires stack { WIDTH ≤ WIDEST }
+        requires wide { self.now.head.width ≤ WIDTH }
+    {
+        match task {
+            Task::Read(baton, bench) => self.read(rt, gate, baton, bench, lines),
+            Task::Paint(coded) => self.paint(rt, coded, lines),
+        }
+    }
+
+    /// Reads and paints rows until no one is left.
+    pub(crate) fn work<R: Wait, G: Gate, const WIDTH: usize>(&self, rt: &R, gate: &G)
+        requires stack { WIDTH ≤ WIDEST }
+        requires wide { self.now.head.width ≤ WIDTH }
     {
         let mut lines = SampleLines::<WIDTH>::new();
-        for _ in 0..shape_of(self.scan.head()).down {
-            let Some((row, sheet)) = self.claim(rt) else {
+        for _ in 0..self.most_tasks() {
+            let Some(task) = self.task(rt) else {
                 return;
             };
-            self.decode(rt, gate, row, sheet, &mut work, &mut lines);
+            self.run(rt, gate, task, &mut lines);
         }
     }
 
@@ -173,19 +161,19 @@ impl<'a, S: OneScan> Crew<'a, S> {
         ensures { result.row ≡ row }
     {
         let ring = self.ring.lock(rt);
-        let mut ring = self.has_painted.wait_while(rt, ring, |ring| !ring.has(row));
+        let mut ring = self.has_row.wait_while(rt, ring, |ring| !ring.has(row));
         ring.take(row)
     }
 
-    /// Gives back a sheet, so that another row can be claimed.
-    pub(crate) fn give_back<R: Wait>(&self, rt: &R, sheet: Sheet<S>) {
-        self.ring.lock(rt).give_back(sheet);
-        self.has_room.notify_one();
+    /// Gives back a bench, so that another row can be read.
+    pub(crate) fn give_back<R: Wait>(&self, rt: &R, bench: Bench<S>) {
+        self.ring.lock(rt).give_back(bench);
+        self.has_task.notify_one();
     }
 
-    /// Lets no row be claimed any more.
+    /// Ends the work.
     pub(crate) fn end<R: Wait>(&self, rt: &R) {
         self.ring.lock(rt).end();
-        self.has_room.notify_all();
+        self.has_task.notify_all();
     }
 }

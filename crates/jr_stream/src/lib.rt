@@ -5,6 +5,7 @@ mod alone;
 mod announcing;
 mod band;
 mod baton;
+mod bench;
 mod beside;
 mod caller;
 mod crew;
@@ -16,7 +17,6 @@ mod rows;
 mod sending;
 mod shape;
 mod sharing;
-mod sheet;
 mod writing;
 
 pub use sharing::write_scan_by;

@@ -1,53 +1,84 @@
-//! Which rows of MCUs are claimed, which are painted, and what room there is for more.
+//! What the threads of a crew do next, and what of it is done.
 
-ghost use Rattle.std.specs.Prelude.{◌≡◌, ◌<◌, IsTrue, IfSome, length};
+ghost use Rattle.std.specs.Prelude.{◌≡◌, ◌<◌, Some, IsTrue, length};
 ghost use Rattle.jr_stream.specs.Crew.{HasRow};
 
-use crate::sheet::{Painted, Sheet};
+use crate::baton::Baton;
+use crate::bench::{Bench, Coded, Painted};
 use jr_piece::OneScan;
+use jr_scan::Scan;
+use std::collections::VecDeque;
 
-/// The rows that are claimed and not yet written, no more than there are sheets.
+/// What a thread does next.
 #[derive(Drop)]
-pub(crate) struct Ring<S: OneScan> {
-    /// The row that is claimed next.
-    next: u32,
-    /// No row is claimed any more.
+pub(crate) enum Task<'a, S: OneScan> {
+    /// Reads the next row.
+    Read(Baton<'a, S>, Bench<S>),
+    /// Paints a row that is read.
+    Paint(Coded<S>),
+}
+
+/// The rows that are read and not yet written, no more than there are benches.
+#[derive(Drop)]
+pub(crate) struct Ring<'a, S: OneScan> {
+    /// None while a thread reads by it, and where no row is left to read.
+    baton: Option<Baton<'a, S>>,
+    /// Nothing is read or painted any more.
     is_over: bool,
-    free: Vec<Sheet<S>>,
-    /// Each row's place is its number modulo how many there are: as many as sheets.
+    free: Vec<Bench<S>>,
+    /// In their order.
+    coded: VecDeque<Coded<S>>,
+    /// Each row's place is its number modulo how many there are: as many as benches.
     painted: Vec<Option<Painted<S>>>,
     ghost some: { 0 < length painted.items },
 }
 
-impl<S: OneScan> Ring<S> {
-    /// No row is claimed yet.
-    pub(crate) fn of(free: Vec<Sheet<S>>, painted: Vec<Option<Painted<S>>>) -> Ring<S>
+impl<'a, S: OneScan> Ring<'a, S> {
+    /// No row is read yet. There is room for as many coded and painted rows as there are benches.
+    pub(crate) fn of(
+        baton: Option<Baton<'a, S>>,
+        free: Vec<Bench<S>>,
+        coded: VecDeque<Coded<S>>,
+        painted: Vec<Option<Painted<S>>>,
+    ) -> Ring<'a, S>
         requires { 0 < length painted.items }
     {
         Ring {
-            next: 0,
+            baton,
             is_over: false,
             free,
+            coded,
             painted,
         }
     }
 
-    /// Whether there are rows to claim, but no room.
-    pub(crate) fn has_no_room(&self, rows: u32) -> bool {
-        !self.is_over && self.next < rows && self.free.is_empty()
+    /// Whether a thread has to wait for what others read, paint or write.
+    pub(crate) fn has_no_task(&self) -> bool {
+        let can_read = self.baton.is_some() && !self.free.is_empty();
+        !self.is_over && !can_read && self.coded.is_empty()
     }
 
-    /// The next row, and room for its lines. None where all are claimed, or there is no room.
-    pub(crate) fn claim(&mut self, rows: u32) -> Option<(u32, Sheet<S>)>
-        ensures { IfSome result (λ r. r.0 < rows) }
+    /// What a thread does next: it reads where it can, so that reading goes on, and paints where it can't.
+    pub(crate) fn task(&mut self, scan: &'a Scan) -> Option<Task<'a, S>>
+        requires { S.scan ≡ Some scan.now }
     {
-        let row = self.next;
-        if self.is_over || row >= rows {
-            return None;
+        if !self.free.is_empty()
+            && let Some(baton) = self.baton.take()
+            && let Some(bench) = self.free.pop()
+        {
+            self.baton = baton.behind(scan);
+            return Some(Task::Read(baton, bench));
         }
-        let sheet = self.free.pop()?;
-        self.next = row + 1;
-        Some((row, sheet))
+        Some(Task::Paint(self.coded.pop_front()?))
+    }
+
+    /// Keeps a row that is read, and the rows behind it.
+    pub(crate) fn put_coded(&mut self, coded: Coded<S>, behind: Option<Baton<'a, S>>) {
+        if self.is_over {
+            return;
+        }
+        let _ = self.coded.push_back(coded);
+        self.baton = behind;
     }
 
     /// Whether a row is painted.
@@ -62,7 +93,7 @@ impl<S: OneScan> Ring<S> {
     }
 
     /// Keeps a painted row.
-    pub(crate) fn put(&mut self, painted: Painted<S>) {
+    pub(crate) fn put_painted(&mut self, painted: Painted<S>) {
         let place = painted.row() as usize % self.painted.len();
         self.painted[place] = Some(painted);
     }
@@ -76,13 +107,15 @@ impl<S: OneScan> Ring<S> {
         self.painted[place].take().unwrap()
     }
 
-    /// Keeps a sheet, to be used again. There is room for it, since it came from here.
-    pub(crate) fn give_back(&mut self, sheet: Sheet<S>) {
-        let _ = self.free.push(sheet);
+    /// Keeps a bench, to be used again. There is room for it, since it came from here.
+    pub(crate) fn give_back(&mut self, bench: Bench<S>) {
+        let _ = self.free.push(bench);
     }
 
-    /// Lets no row be claimed any more.
+    /// Ends the work.
     pub(crate) fn end(&mut self) {
         self.is_over = true;
+        self.baton = None;
+        self.coded.clear();
     }
 }

@@ -6,14 +6,12 @@ ghost use Rattle.jr_head.specs.Geometry.{vertical_max};
 ghost use Rattle.jr_paint.specs.Lines.{line_size};
 ghost use Rattle.jr_paint.specs.declared.header.TheConstants.{HEADER_ROOM};
 ghost use Rattle.jr_paint.specs.declared.netpbm.TheConstants.{WIDEST};
-ghost use Rattle.jr_stream.specs.Rows.{HasRowRoom};
 ghost use Rattle.jr_stream.specs.Stream.{IsSentBy};
 
 use crate::beside::Beside;
 use crate::caller::Caller;
 use crate::crew::Crew;
 use crate::marked::Marked;
-use crate::row::Row;
 use crate::writing::write_rows;
 use jr_base::{Tally, WriteFault};
 use jr_piece::OneScan;
@@ -27,9 +25,8 @@ pub(crate) struct Sending<'s, 'w, 'a, R: Wait, W: Write, G: Gate, S: OneScan, co
     pub(crate) crew: &'s Crew<'a, S>,
     pub(crate) rt: &'s R,
     pub(crate) gate: &'s G,
-    pub(crate) work: Row,
     /// Room for the lines of a row, and for the header.
-    pub(crate) pixels: &'s mut [u8],
+    pub(crate) pixels: Vec<u8>,
     pub(crate) out: &'w mut Tally<W>,
 }
 
@@ -38,7 +35,7 @@ impl<'s, 'w, 'a, R: Wait, W: Write, G: Gate, S: OneScan, const WIDTH: usize> Bes
     /// What is answered, and the writer.
     type Answer = (Result<Marked, WriteFault>, &'w mut Tally<W>);
 
-    ghost may = { λ s. (WIDTH ≤ WIDEST) × (s.crew.now.head.width ≤ WIDTH) × HasRowRoom s.crew.now.head s.work × (has_failed s.out.now ≡ false) × (8 * vertical_max s.crew.now.head * line_size s.crew.now.head ≤ length s.pixels.now) × (HEADER_ROOM ≤ length s.pixels.now) };
+    ghost may = { λ s. (WIDTH ≤ WIDEST) × (s.crew.now.head.width ≤ WIDTH) × (has_failed s.out.now ≡ false) × (8 * vertical_max s.crew.now.head * line_size s.crew.now.head ≤ length s.pixels.items) × (HEADER_ROOM ≤ length s.pixels.items) };
 
     ghost gives = { λ s r. IsSentBy W.contents s.crew.now s.out.now r.1.now r.0 × (r.1.ghost_name ≡ s.out.ghost_name) };
 
@@ -47,15 +44,14 @@ impl<'s, 'w, 'a, R: Wait, W: Write, G: Gate, S: OneScan, const WIDTH: usize> Bes
             crew,
             rt,
             gate,
-            work,
-            pixels,
+            mut pixels,
             out,
         } = self;
         let scan = crew.scan();
         // By its contract a scan has as many intervals as its head says.
         let _all = scan.intervals();
-        let mut caller = Caller::<R, G, S, WIDTH>::of(crew, rt, gate, work);
-        let sent = write_rows(scan.head(), &mut caller, pixels, out);
+        let mut caller = Caller::<R, G, S, WIDTH>::of(crew, rt, gate);
+        let sent = write_rows(scan.head(), &mut caller, &mut pixels, out);
         crew.end(rt);
         (sent, out)
     }

@@ -31,6 +31,7 @@ pub(crate) fn shape_of(head: &Head) -> Shape
     ensures some { 0 < result.deep }
     ensures low { result.deep ≤ 32 }
     ensures down { result.down ≡ mcus_down head.now }
+    ensures finite { result.down < 65536 }
     ensures line { result.line ≡ line_size head.now }
     ensures short { result.line ≤ 196605 }
 {

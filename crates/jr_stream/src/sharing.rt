@@ -1,64 +1,48 @@
 //! A scan's picture, decoded and painted by several threads, and written in one pass.
 
 ghost use Rattle.std.specs.Prelude.{◌≡◌, ◌+◌, ◌*◌, ◌<◌, ◌≤◌, Some, IfOk, OnOk, length, is_err, true, false};
-ghost use Rattle.std.specs.List.{All};
 ghost use Rattle.jr_base.specs.Tally.{has_failed};
 ghost use Rattle.jr_base.specs.declared.limits.TheConstants.{MAX_WORKERS};
 ghost use Rattle.jr_head.specs.Geometry.{vertical_max};
 ghost use Rattle.jr_paint.specs.Lines.{line_size};
 ghost use Rattle.jr_paint.specs.declared.header.TheConstants.{HEADER_ROOM};
 ghost use Rattle.jr_paint.specs.declared.netpbm.TheConstants.{WIDEST};
-ghost use Rattle.jr_stream.specs.Rows.{CountsRows, HasRowRoom};
+ghost use Rattle.jr_stream.specs.Rows.{CountsRows};
 ghost use Rattle.jr_stream.specs.Stream.{WritesPicture, BeginsPicture, SendsPicture};
 
+use crate::baton::Baton;
+use crate::bench::{Bench, Painted};
 use crate::beside::run_beside;
 use crate::crew::Crew;
 use crate::marked::Marked;
 use crate::ring::Ring;
-use crate::row::Row;
 use crate::sending::Sending;
-use crate::shape::{bytes_of_row, intervals_of_row, room_for};
-use crate::sheet::{Painted, Sheet};
+use crate::shape::room_for;
 use crate::writing::{Unwritten, counts_of};
 use jr_base::{Memory, Tally, WriteFault};
-use jr_head::Head;
 use jr_paint::{NARROW, WIDEST};
 use jr_piece::{OneScan, each_interval_has_an_outcome};
 use jr_scan::Scan;
 use jr_wall::{Counts, Gate};
 use std::alloc::Global;
+use std::collections::VecDeque;
 use std::io::Write;
 use std::marker::Brand;
 use std::sync::Wait;
 use std::thread::Threads;
 
-/// So many sheets for each thread: one that it paints, and one that waits to be written.
-const SHEETS_OF_ONE: u32 = 2;
+/// So many benches for each thread: one that it works at, and one that waits to be painted or written.
+const BENCHES_OF_ONE: u32 = 2;
 
-/// As many threads share rows that are read one after the other: more of them wait for their turn longer than they work.
-const MOST_IN_TURN: u32 = 2;
-
-/// How many of the workers are of use.
-fn useful(head: &Head, workers: u32) -> u32
-    requires { 1 ≤ workers }
-    ensures some { 1 ≤ result }
-    ensures few { result ≤ workers }
+/// So many benches.
+fn open_benches<S: OneScan>(alloc: Global, scan: &Scan, count: u32) -> Result<Vec<Bench<S>>, Memory>
+    requires { S.scan ≡ Some scan.now }
 {
-    match intervals_of_row(head) {
-        Some(_) => workers,
-        None => workers.min(MOST_IN_TURN),
-    }
-}
-
-/// Room for a row of MCUs in work, for so many threads.
-fn open_rows(alloc: Global, head: &Head, count: u32) -> Result<Vec<Row>, Memory>
-    ensures { IfOk result (λ v. All (HasRowRoom head.now) v.items) }
-{
-    let mut rows = Vec::new(alloc);
+    let mut benches = Vec::with_capacity(alloc, count as usize)?;
     for _ in 0..count {
-        rows.push(Row::open(alloc, head)?)?;
+        benches.push(Bench::open(alloc, scan)?)?;
     }
-    Ok(rows)
+    Ok(benches)
 }
 
 /// Places for painted rows: so many, and one at least.
@@ -73,21 +57,21 @@ fn open_places<S: OneScan>(alloc: Global, count: u32) -> Result<Vec<Option<Paint
     Ok(places)
 }
 
-/// A ring of so many sheets.
-fn open_ring<S: OneScan>(alloc: Global, scan: &Scan, count: u32) -> Result<Ring<S>, Memory>
-    requires scan { S.scan ≡ Some scan.now }
-    requires some { 0 < count }
+/// A ring of so many benches.
+fn open_ring<'a, S: OneScan>(
+    alloc: Global,
+    scan: &'a Scan,
+    count: u32,
+) -> Result<Ring<'a, S>, Memory>
+    requires { S.scan ≡ Some scan.now }
 {
-    let places = open_places(alloc, count)?;
-    let mut sheets = Vec::with_capacity(alloc, count as usize)?;
-    for _ in 0..count {
-        let pixels = vec![in alloc; 0; bytes_of_row(scan.head())]?;
-        sheets.push(Sheet::of(pixels))?;
-    }
-    Ok(Ring::of(sheets, places))
+    let free = open_benches(alloc, scan, count)?;
+    let coded = VecDeque::with_capacity(alloc, count as usize)?;
+    let painted = open_places(alloc, count)?;
+    Ok(Ring::of(Baton::of(scan), free, coded, painted))
 }
 
-/// Writes what a crew paints: each row in work is one thread's, `own` the calling thread's.
+/// Writes what a crew of so many others paints.
 #[inline(never)]
 fn write_beside<
     's,
@@ -101,18 +85,15 @@ fn write_beside<
     crew: &'s Crew<'a, S>,
     rt: &'s R,
     gate: &'s G,
-    own: Row,
-    works: Vec<Row>,
-    pixels: &'s mut [u8],
+    others: u32,
+    pixels: Vec<u8>,
     out: &mut Tally<W>,
 ) -> Result<Marked, WriteFault>
     requires stack { WIDTH ≤ WIDEST }
     requires wide { crew.now.head.width ≤ WIDTH }
-    requires own { HasRowRoom crew.now.head own }
-    requires works { All (HasRowRoom crew.now.head) works.items }
     requires unfailed { has_failed out.old ≡ false }
-    requires pixels { 8 * vertical_max crew.now.head * line_size crew.now.head ≤ length pixels.old }
-    requires header { HEADER_ROOM ≤ length pixels.old }
+    requires pixels { 8 * vertical_max crew.now.head * line_size crew.now.head ≤ length pixels.items }
+    requires header { HEADER_ROOM ≤ length pixels.items }
     ensures counts { IfOk result (CountsRows crew.now (length crew.now.intervals)) }
     ensures failed { has_failed out.new ≡ is_err result }
     ensures sent { SendsPicture W.contents out.old out.new result crew.now (length crew.now.intervals) }
@@ -121,11 +102,10 @@ fn write_beside<
         crew,
         rt,
         gate,
-        work: own,
         pixels,
         out,
     };
-    let (sent, _out) = run_beside::<R, G, S, _, WIDTH>(crew, rt, gate, works, sending);
+    let (sent, _out) = run_beside::<R, G, S, _, WIDTH>(crew, rt, gate, others, sending);
     sent
 }
 
@@ -134,16 +114,13 @@ fn write_by_crew<R: Threads + Wait + Sync, W: Write, G: Gate + Sync, S: OneScan 
     crew: &Crew<'_, S>,
     rt: &R,
     gate: &G,
-    own: Row,
-    works: Vec<Row>,
-    pixels: &mut [u8],
+    others: u32,
+    pixels: Vec<u8>,
     out: &mut Tally<W>,
 ) -> Result<Marked, WriteFault>
-    requires own { HasRowRoom crew.now.head own }
-    requires works { All (HasRowRoom crew.now.head) works.items }
     requires unfailed { has_failed out.old ≡ false }
-    requires pixels { 8 * vertical_max crew.now.head * line_size crew.now.head ≤ length pixels.old }
-    requires header { HEADER_ROOM ≤ length pixels.old }
+    requires pixels { 8 * vertical_max crew.now.head * line_size crew.now.head ≤ length pixels.items }
+    requires header { HEADER_ROOM ≤ length pixels.items }
     ensures counts { IfOk result (CountsRows crew.now (length crew.now.intervals)) }
     ensures failed { has_failed out.new ≡ is_err result }
     ensures sent { SendsPicture W.contents out.old out.new result crew.now (length crew.now.intervals) }
@@ -151,41 +128,9 @@ fn write_by_crew<R: Threads + Wait + Sync, W: Write, G: Gate + Sync, S: OneScan 
     let head = crew.scan().head();
     head.be_lawful();
     if head.width() as usize <= NARROW {
-        return write_beside::<R, W, G, S, NARROW>(crew, rt, gate, own, works, pixels, out);
+        return write_beside::<R, W, G, S, NARROW>(crew, rt, gate, others, pixels, out);
     }
-    write_beside::<R, W, G, S, WIDEST>(crew, rt, gate, own, works, pixels, out)
-}
-
-/// All memory of a crew.
-#[derive(Drop)]
-struct Gear<S: OneScan> {
-    ring: Ring<S>,
-    own: Row,
-    works: Vec<Row>,
-    /// Room for the lines of a row, and for the header.
-    pixels: Vec<u8>,
-}
-
-/// All memory of a crew of so many workers.
-fn open_gear<S: OneScan>(alloc: Global, scan: &Scan, workers: u32) -> Result<Gear<S>, Memory>
-    requires scan { S.scan ≡ Some scan.now }
-    requires some { 1 ≤ workers }
-    requires few { workers ≤ MAX_WORKERS }
-    ensures own { IfOk result (λ g. HasRowRoom scan.now.head g.own) }
-    ensures works { IfOk result (λ g. All (HasRowRoom scan.now.head) g.works.items) }
-    ensures pixels { IfOk result (λ g. 8 * vertical_max scan.now.head * line_size scan.now.head ≤ length g.pixels.items) }
-    ensures header { IfOk result (λ g. HEADER_ROOM ≤ length g.pixels.items) }
-{
-    let ring = open_ring(alloc, scan, SHEETS_OF_ONE * workers)?;
-    let own = Row::open(alloc, scan.head())?;
-    let works = open_rows(alloc, scan.head(), workers - 1)?;
-    let pixels = vec![in alloc; 0; room_for(scan.head())]?;
-    Ok(Gear {
-        ring,
-        own,
-        works,
-        pixels,
-    })
+    write_beside::<R, W, G, S, WIDEST>(crew, rt, gate, others, pixels, out)
 }
 
 /// `write_scan_by`, where a type stands for the scan, so that what the threads share under locks is known to be of it.
@@ -209,29 +154,25 @@ fn write_as<R: Threads + Wait + Sync, W: Write, G: Gate + Sync, S: OneScan + Sen
 {
     each_interval_has_an_outcome();
     scan.head().be_lawful();
-    let workers = useful(scan.head(), workers);
-    let Ok(gear) = open_gear::<S>(alloc, scan, workers) else {
+    let Ok(ring) = open_ring::<S>(alloc, scan, BENCHES_OF_ONE * workers) else {
         return Err(Unwritten::Memory);
     };
-    let Gear {
-        ring,
-        own,
-        works,
-        mut pixels,
-    } = gear;
+    let Ok(pixels) = vec![in alloc; 0; room_for(scan.head())] else {
+        return Err(Unwritten::Memory);
+    };
     let crew = Crew::of(scan, ring);
-    match write_by_crew(&crew, rt, gate, own, works, &mut pixels, out) {
+    match write_by_crew(&crew, rt, gate, workers - 1, pixels, out) {
         Ok(marked) => Ok(counts_of(scan, scan.intervals(), marked)),
         Err(_) => Err(Unwritten::Write),
     }
 }
 
 /// Decodes all intervals of a scan by so many workers (1 to 64), and writes its picture, a row of MCUs after the other. The
-/// calling thread is one of them, and writes. It takes all memory that it needs before it writes the first byte: for four
-/// rows of MCUs of each worker, and none for the picture. The gate is told each interval; no piece is made.
+/// calling thread is one of them, and writes. It takes all memory that it needs before it writes the first byte: for two rows
+/// of MCUs of each worker, and none for the picture. The gate is told each interval; no piece is made.
 ///
-/// Where a row has whole intervals, each worker reads its rows by itself; else rows are read one after the other, and two
-/// workers share them, however many are asked for.
+/// Where a row has whole intervals, each worker reads its rows by itself; else one reads row after row, and the others
+/// paint what it has read.
 pub fn write_scan_by<R: Threads + Wait + Sync, W: Write, G: Gate + Sync>(
     rt: &R,
     alloc: Global,

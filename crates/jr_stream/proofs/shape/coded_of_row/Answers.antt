@@ -1,4 +1,4 @@
-use Rattle.std.proofs.Common.{rules, arith, ap, ◌≡◌, ℕ, ◌+◌, ◌*◌}
+use Rattle.std.proofs.Common.{rules, arith, ap, ◌≡◌, ℕ, ◌*◌}
 use Rattle.jr_head.specs.Geometry.{mcus_across}
 use Rattle.jr_stream.proofs.PictureRows.{row_inside}
 use Rattle.jr_stream.proofs.shape.coded_of_row.Goals as goal

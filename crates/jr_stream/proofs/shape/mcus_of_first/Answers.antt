@@ -1,4 +1,4 @@
-use Rattle.std.proofs.Common.{rules, arith, ◌≡◌, ◌<◌}
+use Rattle.std.proofs.Common.{rules, arith, ◌<◌}
 use Rattle.jr_head.specs.Geometry.{mcus_of}
 use Rattle.jr_scan.specs.ScanValue.{intervals_of}
 use Rattle.jr_stream.proofs.IntervalPlaces.{first_inside}

@@ -1,4 +1,4 @@
-use Rattle.std.proofs.Common.{rules, subst, arith, ℕ, ◌≡◌, ◌≤◌, length}
+use Rattle.std.proofs.Common.{rules, subst, arith, ℕ, ◌≡◌, length}
 use Rattle.jr_head.specs.Geometry.{IsLawful}
 use Rattle.jr_scan.specs.ScanValue.{ScanValue}
 use Rattle.jr_stream.specs.Stream.{SendsPicture, HasCounts}

@@ -1,6 +1,6 @@
-use Rattle.std.proofs.Common.{refl, sym, subst, ap, rules, arith, ◌≡◌, ℕ, ◌+◌, ◌*◌, ◌-◌, ◌≤◌, ◌<◌, ◌^◌, ◌++◌, ◌∙◌, min, length, take, Ok}
+use Rattle.std.proofs.Common.{refl, sym, subst, ap, rules, arith, ◌≡◌, ℕ, ◌+◌, ◌*◌, ◌-◌, ◌≤◌, ◌++◌, ◌∙◌, min, length, take, Ok}
 use borrow.Rule.Slice.PartMut.{put_mid}
-use Rattle.jr_base.specs.Tally.{Writes, WritesBeginning}
+use Rattle.jr_base.specs.Tally.{Writes}
 use Rattle.jr_base.proofs.Appending.{on_err, front_first}
 use Rattle.jr_head.specs.HeadValue.{HeadValue}
 use Rattle.jr_head.specs.Geometry.{IsLawful, mcus_down, vertical_max}
@@ -10,7 +10,7 @@ use Rattle.jr_paint.specs.Written.{WritesUpTo}
 use Rattle.jr_paint.proofs.Held.{nothing_written, written_on, painted, begun, rest_sent}
 use Rattle.jr_paint.proofs.PixelLaws.{text_none, text_more, text_begins, text_is}
 use Rattle.jr_wall.specs.Samples.{samples_of}
-use Rattle.jr_stream.specs.Rows.{CountsMcus, CountsRow, HasFirst, ShowsLines, coded_before, first_line, line_count}
+use Rattle.jr_stream.specs.Rows.{CountsMcus, CountsRow, ShowsLines, coded_before, first_line, line_count}
 use Rattle.jr_stream.specs.RowsValue.{RowsValue}
 use Rattle.jr_stream.proofs.PictureRows.{no_lines, all_lines}
 use Rattle.jr_stream.proofs.ReadRows.{counts_none, counts_both}

@@ -1,7 +1,6 @@
-use Rattle.std.proofs.Common.{rules, arith, sym, subst, ap, ◌∙◌, ◌≡◌, ℕ, length}
+use Rattle.std.proofs.Common.{rules, subst, ◌≡◌, ℕ, length}
 use Rattle.jr_scan.specs.ScanValue.{ScanValue}
 use Rattle.jr_stream.specs.Rows.{CountsRow, ShowsLines}
-use Rattle.jr_stream.specs.RowsValue.{RowsValue}
 use Rattle.jr_stream.proofs.caller.CallerRowPainter.paint.Goals as goal
 
 pub returns-clause-lines : goal.returns-clause-lines

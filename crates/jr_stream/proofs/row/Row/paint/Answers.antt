@@ -1,4 +1,4 @@
-use Rattle.std.proofs.Common.{rules, arith, sym, subst, ap, ◌∙◌, ◌≡◌, ℕ, ◌+◌, ◌*◌, ◌≤◌, ◌<◌, length}
+use Rattle.std.proofs.Common.{rules, sym, subst, ap, ◌∙◌, ◌≡◌, ℕ, ◌+◌, ◌*◌, ◌≤◌, length}
 use Rattle.jr_head.specs.Geometry.{IsLawful, blocks_of, mcus_across, vertical_max}
 use Rattle.jr_paint.specs.Lines.{next_lines_of}
 use Rattle.jr_wall.specs.Samples.{samples_of}

@@ -1,8 +1,7 @@
-use Rattle.std.proofs.Common.{rules, arith, sym, subst, ap, ◌∙◌, ◌≡◌, ℕ, ◌+◌, ◌*◌, ◌%◌, ◌<◌, ◌≤◌, [], None, ◌++◌, length, take, drop, slice_index_or}
+use Rattle.std.proofs.Common.{rules, arith, sym, subst, ap, ◌∙◌, ◌≡◌, ℕ, ◌+◌, ◌*◌, ◌%◌, ◌<◌, ◌++◌, length, take, drop}
 use Rattle.std.proofs.Math.Seq.{take-append_seam}
 use Rattle.std.proofs.Math.Nat.{mul-add-mod_self_right, zero-mod}
-use Rattle.jr_head.specs.Geometry.{order_of, blocks_of, mcus_across}
-use Rattle.jr_head.proofs.SamplingLaws.{length-order}
+use Rattle.jr_head.specs.Geometry.{blocks_of, mcus_across}
 use Rattle.jr_stream.specs.Bands.{ShowsMcus}
 use Rattle.jr_stream.specs.Rows.{coded_in}
 use Rattle.jr_stream.proofs.ShownUnits.{row_shown}

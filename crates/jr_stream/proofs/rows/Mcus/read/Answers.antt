@@ -1,4 +1,4 @@
-use Rattle.std.proofs.Common.{rules, arith, sym, subst, ap, ◌∙◌, ◌≡◌, ℕ, ◌+◌, ◌-◌, ◌*◌, ◌/◌, ◌%◌, ◌<◌, ◌≤◌, ◌^◌, inl, inr, [], length, slice_index_or}
+use Rattle.std.proofs.Common.{rules, arith, sym, subst, ap, ◌∙◌, ◌≡◌, ℕ, ◌+◌, ◌-◌, ◌*◌, ◌<◌, ◌^◌, inl, inr, [], slice_index_or}
 use Rattle.std.proofs.lemmas.Bool.{cases_lt}
 use Rattle.std.proofs.Math.Nat.{add-mul}
 use Rattle.jr_head.specs.Geometry.{quantiser_of, blocks_of}
@@ -8,9 +8,9 @@ use Rattle.jr_scan.specs.Mcus.{component}
 use Rattle.jr_scan.specs.ScanValue.{ScanValue, intervals_of}
 use Rattle.jr_piece.specs.Outcome.{unit_of}
 use Rattle.jr_stream.specs.Bands.{unit_shown}
-use Rattle.jr_stream.specs.Rows.{CountsMcus, GivesBehind, HasFirst, mcus_read}
+use Rattle.jr_stream.specs.Rows.{CountsMcus, GivesBehind, mcus_read}
 use Rattle.jr_stream.proofs.IntervalPlaces.{ends_few}
-use Rattle.jr_stream.proofs.ReadRows.{counts_both, counts_none, shown_more}
+use Rattle.jr_stream.proofs.ReadRows.{counts_both, shown_more}
 use Rattle.jr_stream.proofs.rows.Mcus.read.Goals as goal
 
 pub with-marked-requires : goal.with-marked-requires

@@ -1,4 +1,4 @@
-use Rattle.std.proofs.Common.{◌≡◌, ℕ, ◌+◌, ◌-◌, ◌*◌, ◌≤◌, length}
+use Rattle.std.proofs.Common.{◌≡◌, ◌+◌, ◌-◌, ◌*◌, ◌≤◌, length}
 use Rattle.jr_head.specs.Geometry.{blocks_of}
 use Rattle.jr_stream.specs.Rows.{AreInRange, CountsMcus, GivesMcus, mcus_read}
 use Rattle.jr_stream.proofs.rows.Mcus.read.Given as goal

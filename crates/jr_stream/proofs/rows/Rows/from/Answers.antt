@@ -1,6 +1,5 @@
-use Rattle.std.proofs.Common.{rules, arith, sym, ap, ◌∙◌, ◌≡◌, ℕ, ◌+◌, ◌*◌, ◌<◌, length}
+use Rattle.std.proofs.Common.{rules, arith, ◌<◌}
 use Rattle.jr_head.specs.Geometry.{mcus_of}
-use Rattle.jr_scan.specs.ScanValue.{intervals_of}
 use Rattle.jr_stream.proofs.WholeRows.{row_there, row_at}
 use Rattle.jr_stream.proofs.rows.Rows.from.Goals as goal
 

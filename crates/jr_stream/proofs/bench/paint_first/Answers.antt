@@ -3,8 +3,8 @@ use Rattle.std.proofs.lemmas.List.{length-take-le}
 use Rattle.std.proofs.Math.Seq.{take-append_seam}
 use Rattle.jr_paint.specs.Lines.{line_size}
 use Rattle.jr_stream.specs.Rows.{AreRead, ShowsLines, line_count}
-use Rattle.jr_stream.proofs.Sheets.{row_fits}
-use Rattle.jr_stream.proofs.sheet.paint_first.Goals as goal
+use Rattle.jr_stream.proofs.Benches.{row_fits}
+use Rattle.jr_stream.proofs.bench.paint_first.Goals as goal
 
 pub paint-requires : goal.paint-requires
 paint-requires g c =

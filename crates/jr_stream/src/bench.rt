@@ -1,18 +1,20 @@
-//! Memory for the lines of a row of MCUs, empty or painted.
+//! Memory for a row of MCUs of a scan: empty, read, or painted.
 
-ghost use Rattle.std.specs.Prelude.{◌≡◌, ◌*◌, ◌<◌, ◌≤◌, Some, length, take};
+ghost use Rattle.std.specs.Prelude.{◌≡◌, ◌+◌, ◌*◌, ◌<◌, ◌≤◌, Some, length, take};
 ghost use Rattle.jr_head.specs.Geometry.{mcus_down, vertical_max};
 ghost use Rattle.jr_paint.specs.Lines.{line_size};
 ghost use Rattle.jr_paint.specs.declared.netpbm.TheConstants.{WIDEST};
-ghost use Rattle.jr_stream.specs.Crew.{HasRoom};
 ghost use Rattle.jr_stream.specs.Rows.{AreRead, CountsRow, HasRowRoom, ShowsLines, line_count};
 
 use crate::marked::Marked;
 use crate::row::Row;
-use crate::shape::{lines_of, shape_of};
+use crate::rows::Rows;
+use crate::shape::{bytes_of_row, lines_of, shape_of};
+use jr_base::Memory;
 use jr_paint::SampleLines;
 use jr_piece::OneScan;
 use jr_scan::Scan;
+use std::alloc::Global;
 use std::marker::{Model, PhantomData};
 
 /// Paints the row that is read, of a scan all of whose intervals are decoded, at the beginning of `pixels`.
@@ -37,60 +39,99 @@ fn paint_first<const WIDTH: usize>(
     work.paint(scan, scan.intervals(), row, lines, &mut pixels[..size]);
 }
 
-/// Room for the lines of a row of MCUs of the scan.
+/// Memory for the blocks, the samples and the lines of a row of MCUs of the scan.
 #[derive(Drop)]
-pub(crate) struct Sheet<S: OneScan> {
+pub(crate) struct Bench<S: OneScan> {
+    work: Row,
     pixels: Vec<u8>,
     of: PhantomData<S>,
 }
 
-impl<S: OneScan> Model for Sheet<S> {
-    ghost use Rattle.std.specs.Prelude.{ℕ, List};
-    ghost use Rattle.jr_stream.specs.Crew.{HasRoom};
+impl<S: OneScan> Model for Bench<S> {
+    ghost use Rattle.jr_stream.specs.CrewValue.{BenchValue};
+    ghost use Rattle.jr_stream.specs.Crew.{HasRoom, HasWork};
 
-    ghost Value = { List ℕ };
+    ghost Value = { BenchValue };
 
-    ghost view = { λ s. s.pixels.items };
+    ghost view = { λ b. record { work = b.work; pixels = b.pixels.items } };
 
-    ghost invariant = { λ s. HasRoom S.scan s.pixels.items };
+    ghost invariant = { λ b. HasWork S.scan b.work × HasRoom S.scan b.pixels.items };
 }
 
-impl<S: OneScan> Sheet<S> {
-    /// An empty sheet.
-    pub(crate) fn of(pixels: Vec<u8>) -> Sheet<S>
-        requires { HasRoom S.scan pixels.items }
-        ensures { result ≡ pixels.items }
+impl<S: OneScan> Bench<S> {
+    /// An empty bench.
+    pub(crate) fn open(alloc: Global, scan: &Scan) -> Result<Bench<S>, Memory>
+        requires { S.scan ≡ Some scan.now }
     {
-        Sheet {
+        let work = Row::open(alloc, scan.head())?;
+        let pixels = vec![in alloc; 0; bytes_of_row(scan.head())]?;
+        Ok(Bench {
+            work,
             pixels,
+            of: PhantomData,
+        })
+    }
+
+    /// Reads the next row of the scan, all of whose intervals are decoded.
+    pub(crate) fn read(self, scan: &Scan, rows: &mut Rows<'_>) -> Coded<S>
+        requires scan { S.scan ≡ Some scan.now }
+        requires of { rows.old.scan ≡ scan.now }
+        requires limit { rows.old.limit ≡ length scan.now.intervals }
+        requires row { rows.old.row < mcus_down scan.now.head }
+        ensures moved { rows.new ≡ record rows.old { row = rows.old.row + 1 } }
+    {
+        let row = rows.row();
+        let mut work = self.work;
+        let marked = work.read(rows);
+        Coded {
+            row,
+            marked,
+            work,
+            pixels: self.pixels,
             of: PhantomData,
         }
     }
+}
 
-    /// Paints the row that is read.
+/// A row of MCUs of the scan, read and not yet painted, and the marks of the intervals that end in it.
+#[derive(Drop)]
+pub(crate) struct Coded<S: OneScan> {
+    row: u32,
+    marked: Marked,
+    work: Row,
+    /// Room for its lines.
+    pixels: Vec<u8>,
+    of: PhantomData<S>,
+}
+
+impl<S: OneScan> Model for Coded<S> {
+    ghost use Rattle.jr_stream.specs.CrewValue.{CodedValue};
+    ghost use Rattle.jr_stream.specs.Crew.{HasRoom, HasWork, IsRead};
+
+    ghost Value = { CodedValue };
+
+    ghost view = { λ c. record { row = c.row; marked = c.marked; work = c.work } };
+
+    ghost invariant = { λ c. HasWork S.scan c.work × HasRoom S.scan c.pixels.items × IsRead S.scan (record { row = c.row; marked = c.marked; work = c.work }) };
+}
+
+impl<S: OneScan> Coded<S> {
+    /// Transforms and paints the row.
     pub(crate) fn paint<const WIDTH: usize>(
         self,
         scan: &Scan,
-        row: u32,
-        marked: Marked,
-        work: &mut Row,
         lines: &mut SampleLines<WIDTH>,
     ) -> Painted<S>
         requires scan { S.scan ≡ Some scan.now }
         requires stack { WIDTH ≤ WIDEST }
         requires wide { scan.now.head.width ≤ WIDTH }
-        requires row { row < mcus_down scan.now.head }
-        requires room { HasRowRoom scan.now.head work.old }
-        requires read { AreRead scan.now (length scan.now.intervals) row work.old.blocks }
-        requires counts { CountsRow scan.now (length scan.now.intervals) row marked }
-        ensures room { HasRowRoom scan.now.head work.new }
-        ensures row { result.row ≡ row }
     {
-        let mut pixels = self.pixels;
-        paint_first(work, scan, row, lines, &mut pixels);
+        let (mut work, mut pixels) = (self.work, self.pixels);
+        paint_first(&mut work, scan, self.row, lines, &mut pixels);
         Painted {
-            row,
-            marked,
+            row: self.row,
+            marked: self.marked,
+            work,
             pixels,
             of: PhantomData,
         }
@@ -102,20 +143,21 @@ impl<S: OneScan> Sheet<S> {
 pub(crate) struct Painted<S: OneScan> {
     row: u32,
     marked: Marked,
-    /// The lines, and what of the sheet they leave.
+    work: Row,
+    /// The lines, and what of their room they leave.
     pixels: Vec<u8>,
     of: PhantomData<S>,
 }
 
 impl<S: OneScan> Model for Painted<S> {
     ghost use Rattle.jr_stream.specs.CrewValue.{PaintedValue};
-    ghost use Rattle.jr_stream.specs.Crew.{HasRoom, IsPainted};
+    ghost use Rattle.jr_stream.specs.Crew.{HasRoom, HasWork, IsPainted};
 
     ghost Value = { PaintedValue };
 
     ghost view = { λ p. record { row = p.row; marked = p.marked; pixels = p.pixels.items } };
 
-    ghost invariant = { λ p. HasRoom S.scan p.pixels.items × IsPainted S.scan (record { row = p.row; marked = p.marked; pixels = p.pixels.items }) };
+    ghost invariant = { λ p. HasWork S.scan p.work × HasRoom S.scan p.pixels.items × IsPainted S.scan (record { row = p.row; marked = p.marked; pixels = p.pixels.items }) };
 }
 
 impl<S: OneScan> Painted<S> {
@@ -137,9 +179,10 @@ impl<S: OneScan> Painted<S> {
         self.marked
     }
 
-    /// The sheet, to be used again.
-    pub(crate) fn into_sheet(self) -> Sheet<S> {
-        Sheet {
+    /// The bench, to be used again.
+    pub(crate) fn into_bench(self) -> Bench<S> {
+        Bench {
+            work: self.work,
             pixels: self.pixels,
             of: PhantomData,
         }
