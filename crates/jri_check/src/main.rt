@@ -55,7 +55,10 @@ fn unasked(alloc: Global, error: &Error) -> Unasked {
     if error.kind() == ErrorKind::OutOfMemory {
         return Unasked::Memory;
     }
-    match String::from_str(alloc, "the words are not text\n") {
+    match String::from_str(
+        alloc,
+        "the words are not text: a file's name has to be UTF-8\n",
+    ) {
         Ok(text) => Unasked::Wrong(text),
         Err(_) => Unasked::Memory,
     }

@@ -9,6 +9,27 @@ use clap::{Arg, ArgAction, Command, Error, value_parser};
 use jr_base::limits::MAX_WORKERS;
 use std::alloc::{AllocError, Global};
 
+/// What the help says behind the options.
+const AFTER_HELP: &str = "\
+The picture goes to standard output, as PGM where it is grey and as PPM where it
+has three components. A report of its restart intervals goes to standard error:
+how many there are, how many are sound, damaged and blank, and what ended the
+scan. A damaged interval shows what of it can be decoded from its start, then
+grey. A blank one, behind the first K, is black.
+
+Exit status:
+  0  the picture is written, and no interval is damaged
+  1  the file could not be read, the picture could not be written, or memory
+     was refused
+  2  the file is refused, or the words are wrong; no picture is written
+  3  the picture is written, and some interval is damaged
+
+More workers help most where the file has restart markers. Where it has none one
+of them reads the data, and the others make pixels of what it has read.
+
+- is a file of that name, and not standard input. A file whose name is not UTF-8
+is decoded by: jri < FILE";
+
 /// `jri [--workers N] [--first K] [FILE]`.
 fn command<'a>(alloc: Global) -> Result<Command<'a>, AllocError> {
     let workers = Arg::new(alloc, "workers")
@@ -30,6 +51,7 @@ fn command<'a>(alloc: Global) -> Result<Command<'a>, AllocError> {
         .help("The JPEG file; standard input where there is none");
     Command::new(alloc, "jri")
         .about("Decodes a baseline JPEG file to a Netpbm picture on standard output")
+        .after_help(AFTER_HELP)
         .no_binary_name(true)
         .arg(workers)?
         .arg(first)?
