@@ -21,4 +21,4 @@ invariant_of-result g c =
     let read = subst (λ (k : Option ScanValue). IsRead k (record { row = row; marked = marked; work = c.self.inside.work })) c.requires.scan c.self.invariant.2 in
     subst (λ (ps : List ℕ). HasWork g.S.OneScan.scan work × HasRoom g.S.OneScan.scan ps × IsPainted g.S.OneScan.scan (record { row = row; marked = marked; pixels = ps })) (sym is)
     (subst (λ (k : Option ScanValue). HasWork k work × HasRoom k new × IsPainted k (record { row = row; marked = marked; pixels = new })) (sym c.requires.scan)
-    (c.paint_first.ensures.room , omega (arith, room, same) , record { row = read.row; lines = c.paint_first.ensures.lines; counts = read.counts }))
+    (c.paint_first.ensures.room, omega (arith, room, same), record { row = read.row; lines = c.paint_first.ensures.lines; counts = read.counts }))
