@@ -11,3 +11,4 @@ pub mod WholeRows
 pub mod Countings
 pub mod Sendings
 pub mod Benches
+pub mod SomeLines

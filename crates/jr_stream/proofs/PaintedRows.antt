@@ -12,11 +12,11 @@ use Rattle.jr_stream.proofs.RowLines.{row_lines}
 
 abbrev pub Painted : BoardValue → ScanValue → Type 0
 Painted b t = IsLawful t.head → (band : BandValue) → band.head ≡ t.head → (r : ℕ) → length band.units ≡ mcus_across t.head * blocks_of t.head → ShowsMcus b (r * mcus_across t.head) band.units
-    → (y n : ℕ) → y ≡ r * (8 * vertical_max t.head) → n ≤ 8 * vertical_max t.head → y + n ≤ t.head.height → next_lines_of band.head (samples_in band) y n ≡ next_lines_of t.head (samples_of b) y n
+    → (y n from : ℕ) → y ≡ r * (8 * vertical_max t.head) + from → from + n ≤ 8 * vertical_max t.head → y + n ≤ t.head.height → next_lines_of band.head (samples_in band) y n ≡ next_lines_of t.head (samples_of b) y n
 
 here : (b : BoardValue) → Painted b b.scan
-here b lawful band same r count shows y n first most inside =
-    ap (λ (g : HeadValue). next_lines_of g (samples_in (record { head = g; units = band.units })) y n) same ∙ row_lines b lawful r band.units count shows y n first most inside
+here b lawful band same r count shows y n from first most inside =
+    ap (λ (g : HeadValue). next_lines_of g (samples_in (record { head = g; units = band.units })) y n) same ∙ row_lines b lawful r band.units count shows y n from first most inside
 
 pub painted_row : (b : BoardValue) (t : ScanValue) → b.scan ≡ t → Painted b t
 painted_row b t e = subst (Painted b) e (here b)

@@ -86,9 +86,9 @@ module _ (b : BoardValue) (l : IsLawful b.scan.head) (r : ℕ) (units : List (Li
       ∙ sym (shown_is b c x y)
 
   -- and so are its lines
-  pub row_lines : (y n : ℕ) → y ≡ r * (8 * vertical_max b.scan.head) → n ≤ 8 * vertical_max b.scan.head → y + n ≤ b.scan.head.height
+  pub row_lines : (y n from : ℕ) → y ≡ r * (8 * vertical_max b.scan.head) + from → from + n ≤ 8 * vertical_max b.scan.head → y + n ≤ b.scan.head.height
       → next_lines_of b.scan.head (samples_in (record { head = b.scan.head; units = units })) y n ≡ next_lines_of b.scan.head (samples_of b) y n
-  row_lines y n first most inside =
+  row_lines y n from first most inside =
       let h = b.scan.head in
       let f = samples_in (record { head = h; units = units }) in
       let g = samples_of b in
@@ -98,5 +98,6 @@ module _ (b : BoardValue) (l : IsLawful b.scan.head) (r : ℕ) (units : List (Li
       let down = vertical_of h c in
       let s = sampled_at h c l p in
       let top = scaled_below (y + k) h.height down (vertical_max h) s.down l.components.down (omega (arith, lt, inside)) in
-      let row = ap (λ (z : ℕ). (z + k) * down / vertical_max h / (8 * down)) first ∙ row_of r k down (vertical_max h) s.down (omega (arith, lt, most)) in
+      let at : y + k ≡ r * (8 * vertical_max h) + (from + k) = omega (arith, first) in
+      let row = ap (λ (z : ℕ). z * down / vertical_max h / (8 * down)) at ∙ row_of r (from + k) down (vertical_max h) s.down (omega (arith, lt, most)) in
       row_samples c x ((y + k) * down / vertical_max h) p left top row))

@@ -13,7 +13,7 @@ use Rattle.jr_stream.specs.Rows.{coded_before, mcus_before}
 use Rattle.jr_stream.proofs.PictureRows.{row_inside}
 
 -- a picture with an MCU has one in a row
-across_some : (h : HeadValue) → 0 < mcus_of h → 0 < mcus_across h
+pub across_some : (h : HeadValue) → 0 < mcus_of h → 0 < mcus_across h
 across_some h some = elim (cases_lt 0 (mcus_across h)) [
   | inl l ↦ l
   | inr z ↦ let none : mcus_of h ≤ 0 * mcus_down h = mul-le-mul_right (mcus_down h) z in absurd (omega (arith, none, some))

@@ -5,3 +5,4 @@ pub mod Rows
 pub mod Stream
 pub mod CrewValue
 pub mod Crew
+pub mod SomeLines

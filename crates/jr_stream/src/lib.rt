@@ -9,6 +9,7 @@ mod bench;
 mod beside;
 mod caller;
 mod crew;
+mod lines;
 mod marked;
 mod painter;
 mod ring;
@@ -19,5 +20,7 @@ mod shape;
 mod sharing;
 mod writing;
 
+pub use lines::paint_scan_lines;
+pub use marked::Marked;
 pub use sharing::write_scan_by;
 pub use writing::{Unwritten, write_scan};

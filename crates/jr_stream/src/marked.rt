@@ -4,9 +4,11 @@ ghost use Rattle.std.specs.Prelude.{◌≡◌, ◌+◌, ◌<◌, ◌^◌, cond};
 
 /// How many intervals of a part of a scan are sound, and how many damaged.
 #[derive(Clone, Copy)]
-pub(crate) struct Marked {
-    pub(crate) sound: u32,
-    pub(crate) damaged: u32,
+pub struct Marked {
+    /// How many are sound.
+    pub sound: u32,
+    /// How many are damaged.
+    pub damaged: u32,
 }
 
 impl Marked {

@@ -2,10 +2,10 @@
 
 ghost use Rattle.std.specs.Prelude.{◌≡◌, ℕ, ◌+◌, ◌*◌, ◌%◌, ◌<◌, ◌≤◌, [], length, slice_index_or, None, IfOk};
 ghost use Rattle.jr_head.specs.Geometry.{blocks_of, mcus_across, mcus_down};
-ghost use Rattle.jr_paint.specs.Lines.{line_size};
+ghost use Rattle.jr_paint.specs.Lines.{line_size, next_lines_of};
 ghost use Rattle.jr_piece.specs.Outcome.{unit_of};
 ghost use Rattle.jr_wall.specs.BoardValue.{BoardValue};
-ghost use Rattle.jr_stream.specs.Bands.{ShowsMcus, unit_shown_of};
+ghost use Rattle.jr_stream.specs.Bands.{ShowsMcus, samples_in, unit_shown_of};
 ghost use Rattle.jr_stream.specs.Rows.{AreInRange, HasFirst, HasRowRoom, AreRead, CountsRow, ShowsLines, line_count};
 
 use crate::band::Band;
@@ -92,8 +92,18 @@ impl Row {
         rows.read(&mut self.blocks)
     }
 
+    /// The rows of MCUs of a scan from this one on, all of whose intervals are decoded.
+    pub(crate) fn rows_at<'a>(&mut self, scan: &'a Scan, row: u32) -> Rows<'a>
+        requires row { row < mcus_down scan.now.head }
+        requires room { HasRowRoom scan.now.head self.old }
+        ensures room { HasRowRoom scan.now.head self.new }
+        ensures rows { result ≡ record { scan = scan.now; limit = length scan.now.intervals; row = row } }
+    {
+        Rows::at(scan, row, &mut self.blocks)
+    }
+
     /// Transforms the decoded MCUs of the row that is read; the others are blank.
-    fn transform(&mut self, scan: &Scan, limit: u32, row: u32)
+    pub(crate) fn transform(&mut self, scan: &Scan, limit: u32, row: u32)
         requires row { row < mcus_down scan.now.head }
         requires room { HasRowRoom scan.now.head self.old }
         requires read { AreRead scan.now limit row self.old.blocks }
@@ -104,6 +114,24 @@ impl Row {
         let head = scan.head();
         let coded = coded_of_row(scan, limit, row) as usize * head.order().len();
         show(head, coded, &self.blocks, &mut self.units);
+    }
+
+    /// Paints lines of the picture of which each row of MCUs has the data units of the row that is transformed.
+    pub(crate) fn paint_some<const WIDTH: usize>(
+        &self,
+        head: &Head,
+        y: u32,
+        count: u32,
+        lines: &mut SampleLines<WIDTH>,
+        pixels: &mut [u8],
+    )
+        requires wide { head.now.width ≤ WIDTH }
+        requires inside { y + count ≤ head.now.height }
+        requires pixels { length pixels.old ≡ count * line_size head.now }
+        ensures { pixels.new ≡ next_lines_of head.now (samples_in (record { head = head.now; units = self.now.units })) y count }
+    {
+        let band = Band::of(head, &self.units);
+        paint_lines(&band, y, count, lines, pixels);
     }
 
     /// Paints the lines of the row that is read, of a scan whose first `limit` intervals are decoded.
@@ -126,7 +154,6 @@ impl Row {
         scan.head().be_lawful();
         self.transform(scan, limit, row);
         let (y, count) = lines_of(scan.head(), row);
-        let band = Band::of(scan.head(), &self.units);
-        paint_lines(&band, y, count, lines, pixels);
+        self.paint_some(scan.head(), y, count, lines, pixels);
     }
 }

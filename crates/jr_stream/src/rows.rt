@@ -4,6 +4,7 @@ ghost use Rattle.std.specs.Prelude.{◌≡◌, ℕ, ◌+◌, ◌-◌, ◌*◌, �
 ghost use Rattle.jr_head.specs.Geometry.{blocks_of, mcus_across, mcus_down, mcus_of};
 ghost use Rattle.jr_scan.specs.Block.{IsInRange};
 ghost use Rattle.jr_scan.specs.ScanValue.{intervals_of, mcus_in};
+ghost use Rattle.jr_wall.specs.Headline.{interval_number, within_interval};
 ghost use Rattle.jr_stream.specs.Rows.{AreInRange, CountsMarks, CountsMcus, GivesBehind, GivesMcus, AreRead, CountsRow, coded_before, intervals_before, mcus_before, mcus_read};
 
 use crate::marked::Marked;
@@ -150,6 +151,36 @@ impl<'a> Mcus<'a> {
         }
         marked
     }
+
+    /// Reads so many MCUs and keeps nothing of them. There is room for the blocks of `most` in `blocks`.
+    fn skip(&mut self, mcus: u32, most: u32, blocks: &mut [Block])
+        requires some { 0 < most }
+        requires few { mcus_read self.old + mcus ≤ mcus_before self.old.scan.head self.old.limit }
+        requires room { length blocks.old ≡ most * blocks_of self.old.scan.head }
+        ensures scan { self.new.scan ≡ self.old.scan }
+        ensures limit { self.new.limit ≡ self.old.limit }
+        ensures moved { mcus_read self.new ≡ mcus_read self.old + mcus }
+    {
+        let per_mcu = self.scan.head().order().len();
+        let mut left = mcus;
+        'mcus: while left > 0 {
+            let some = left.min(most);
+            let end = units_to(some, most, per_mcu);
+            let _marked = self.read(some, &mut blocks[..end]);
+            left -= some;
+        }
+    }
+}
+
+/// The number of the interval that has this MCU, and how many of its MCUs stand before it.
+fn interval_with(head: &Head, mcu: u32) -> (u32, u32)
+    ensures number { result.0 ≡ interval_number head.now mcu }
+    ensures within { result.1 ≡ within_interval head.now mcu }
+{
+    match u32::from(head.restart()) {
+        0 => (0, mcu),
+        restart => (mcu / restart, mcu % restart),
+    }
 }
 
 /// The rows of MCUs of a scan, of whose first intervals one row after the other is read.
@@ -197,6 +228,22 @@ impl<'a> Rows<'a> {
             mcus: Mcus::of(scan, limit, row * intervals),
             row,
         }
+    }
+
+    /// The rows from this one on, where all intervals are decoded. What stands before it in its interval is read, a row's
+    /// MCUs after the other, by help of `blocks`.
+    pub(crate) fn at(scan: &'a Scan, row: u32, blocks: &mut [Block]) -> Rows<'a>
+        requires row { row < mcus_down scan.now.head }
+        requires room { length blocks.old ≡ mcus_across scan.now.head * blocks_of scan.now.head }
+        ensures { result ≡ record { scan = scan.now; limit = length scan.now.intervals; row = row } }
+    {
+        // By its contract a picture has an MCU.
+        let _some = scan.head().mcus();
+        let across = shape_of(scan.head()).across;
+        let (number, before) = interval_with(scan.head(), row * across);
+        let mut mcus = Mcus::of(scan, scan.intervals(), number);
+        mcus.skip(before, across, blocks);
+        Rows { mcus, row }
     }
 
     /// The number of the row that comes next.

@@ -1,0 +1,41 @@
+-- Some lines of a scan's picture.
+use Rattle.std.specs.Prelude.{◌≡◌, ℕ, ◌+◌, ◌*◌, ◌/◌, List, length, take, count_by}
+use Rattle.std.specs.Int.{div_ceil}
+use Rattle.jr_head.specs.HeadValue.{HeadValue}
+use Rattle.jr_head.specs.Geometry.{vertical_max}
+use Rattle.jr_paint.specs.Lines.{next_lines_of}
+use Rattle.jr_scan.specs.ScanValue.{ScanValue}
+use Rattle.jr_wall.specs.declared.mark.Mark.{Mark}
+use Rattle.jr_wall.specs.Headline.{ShowsFirst, is_sound, is_damaged}
+use Rattle.jr_stream.specs.Rows.{CountsMcus, coded_before, intervals_before}
+use Rattle.jr_stream.specs.declared.marked.Marked.{Marked}
+
+-- the row of MCUs that has a line, and the one behind the rows that have the lines before `end`
+abbrev pub row_with : HeadValue → ℕ → ℕ
+row_with h y = y / (8 * vertical_max h)
+
+abbrev pub row_behind : HeadValue → ℕ → ℕ
+row_behind h end = div_ceil end (8 * vertical_max h)
+
+-- the marks of the intervals that end in the rows of MCUs from one on and before another, where all are decoded
+abbrev pub CountsBetween : ScanValue → (from to : ℕ) → Marked → Type 0
+CountsBetween scan from to m =
+    let n = length scan.intervals in CountsMcus scan n (coded_before scan.head n from) (coded_before scan.head n to) m
+
+-- how many intervals end before a row of MCUs
+abbrev pub ended_before : ScanValue → ℕ → ℕ
+ended_before scan row = intervals_before scan.head (coded_before scan.head (length scan.intervals) row)
+
+-- of the intervals that end in the rows of MCUs of these lines, so many are sound and so many damaged
+pub record EndInLines (scan : ScanValue) (first count : ℕ) (marks : List Mark) (sound damaged : ℕ) : Type 0 where
+  pub sound_are : count_by is_sound (take (ended_before scan (row_with scan.head first)) marks) + sound ≡ count_by is_sound (take (ended_before scan (row_behind scan.head (first + count))) marks)
+  pub damaged_are : count_by is_damaged (take (ended_before scan (row_with scan.head first)) marks) + damaged ≡ count_by is_damaged (take (ended_before scan (row_behind scan.head (first + count))) marks)
+
+-- these are lines of the scan's picture, `count` of them from this one on, and so many intervals are sound and damaged that
+-- end in their rows of MCUs
+pub record PaintsLines (scan : ScanValue) (first count : ℕ) (pixels : List ℕ) (m : Marked) : Type 0 where
+  pub marks : List Mark
+  pub f : ℕ → ℕ → ℕ → ℕ
+  pub shows : ShowsFirst scan (length scan.intervals) marks f
+  pub lines : pixels ≡ next_lines_of scan.head f first count
+  pub counted : EndInLines scan first count marks m.sound m.damaged
