@@ -20,13 +20,14 @@ extern "C" {
 /* The number of the calls and structs of this header; jri_version() gives that of the library. */
 #define JRI_VERSION 1
 
-/* What jri_measure and jri_decode answer. */
+/* What jri_measure, jri_decode and jri_decode_lines answer. */
 enum {
     JRI_SOUND = 0,     /* done; of a decoding: each interval has a decoding */
     JRI_NO_MEMORY = 1, /* memory was refused */
     JRI_REFUSED = 2,   /* the file is refused: it is no baseline JPEG file that is decoded here */
     JRI_DAMAGED = 3,   /* done, and some interval has no decoding */
-    JRI_NO_ROOM = 4    /* a buffer has too little room */
+    JRI_NO_ROOM = 4,   /* a buffer has too little room */
+    JRI_NO_LINES = 5   /* the picture has no such lines, or none were asked for */
 };
 
 /* What the samples stand for. */
@@ -89,6 +90,20 @@ uint32_t jri_measure(const uint8_t *file, size_t file_length, struct jri_measure
  */
 uint32_t jri_decode(const uint8_t *file, size_t file_length, uint8_t *pixels, size_t pixels_room, uint8_t *marks,
                     size_t marks_room, struct jri_report *report);
+
+/*
+ * Decodes `count` lines of a file's picture from line `first` on, the top one being line 0: with JRI_SOUND and JRI_DAMAGED the
+ * first bytes of `pixels` are these lines, as jri_decode gives them, and what stands behind them is as it was; with any other
+ * answer all of the buffer is as it was, and with JRI_REFUSED `report` has the file's first fault.
+ *
+ * It takes memory for the scan and for one row of MCUs, whose height is 8, 16, 24 or 32 lines, and none for the picture. The
+ * report's sound and damaged count the intervals that end in the rows of MCUs that have these lines, and JRI_DAMAGED means
+ * that one of them has no decoding; so over calls that share no row of MCUs and leave out none they add up to those of
+ * jri_decode. Each call reads the file anew, and the interval before the lines from its start: a file without restart markers
+ * is read from its first line on, so such a picture is best asked for in few calls of many lines each.
+ */
+uint32_t jri_decode_lines(const uint8_t *file, size_t file_length, uint32_t first, uint32_t count, uint8_t *pixels,
+                          size_t pixels_room, struct jri_report *report);
 
 /*
  * Puts the words for a refusal, by its number and detail, into the first bytes of `text`, as many as it has room for (all

@@ -4,8 +4,8 @@
  *     trials FILE ..
  *
  * Of each file, which jri accepts, it sees that buffers with more room are left as they are behind the picture, that ones with
- * too little are not touched, that each request for memory may be refused, and that many threads may decode at once; and that
- * pointers may be null where nothing is behind them. It ends with 1 where something else is seen, and says what.
+ * too little are not touched, that each request for memory may be refused, that lines decoded alone are those of the picture,
+ * and that many threads may decode at once; and that pointers may be null where nothing is behind them. It ends with 1 where something else is seen, and says what.
  */
 #define _DEFAULT_SOURCE
 #include "jri.h"
@@ -18,6 +18,9 @@
 #include <sys/mman.h>
 
 enum { MORE = 100, FILL = 7, THREADS = 8, TIMES = 3, OF_TEXT = 64, PAGE = 65536 };
+
+/* As many lines as a whole number of rows of MCUs has, whatever their height: 8, 16, 24 or 32. */
+enum { WHOLE_ROWS = 96 };
 
 /* The request for memory that is refused, counted from 0 in this thread; none where it is negative. */
 static _Thread_local long refused = -1;
@@ -109,6 +112,68 @@ static void refuse(const struct trial *t) {
     }
 }
 
+static size_t line_of(const struct trial *t) { return t->measure.pixels / t->measure.height; }
+
+/* Decodes lines into a buffer with more room than they take, while one request for memory is refused. How many requests there were. */
+static long decode_lines(const struct trial *t, uint32_t first, uint32_t count, long k, struct jri_report *report) {
+    size_t size = count * line_of(t);
+    uint8_t *pixels = buffer(size + MORE);
+    requests = 0;
+    refused = k;
+    uint32_t status = jri_decode_lines(t->file, t->length, first, count, pixels, size + MORE, report);
+    long made = requests;
+    refused = -1;
+    if (status == JRI_NO_MEMORY && made > k && k >= 0) {
+        see(is_filled(pixels, size + MORE), t, "lines, a request refused");
+    } else {
+        see(status == (report->damaged ? JRI_DAMAGED : JRI_SOUND), t, "an answer to lines");
+        see(!memcmp(pixels, t->pixels + first * line_of(t), size) && is_filled(pixels + size, MORE), t, "lines");
+        see(report->intervals == t->report.intervals && report->ended == t->report.ended, t, "a report of lines");
+    }
+    release(pixels, size + MORE);
+    return made;
+}
+
+/* Decodes all lines, so many by a call: whole rows of MCUs have the counts of the whole picture. */
+static void decode_by(const struct trial *t, uint32_t step) {
+    uint32_t sound = 0, damaged = 0, height = t->measure.height;
+    for (uint32_t first = 0; first < height; first += step) {
+        struct jri_report report;
+        decode_lines(t, first, height - first < step ? height - first : step, -1, &report);
+        sound += report.sound;
+        damaged += report.damaged;
+    }
+    see(step % WHOLE_ROWS || (sound == t->report.sound && damaged == t->report.damaged), t, "the counts of all lines");
+}
+
+/* Asks for lines that the picture has not. */
+static void no_lines(const struct trial *t, uint32_t first, uint32_t count) {
+    uint8_t *pixels = buffer(t->measure.pixels);
+    struct jri_report report;
+    see(jri_decode_lines(t->file, t->length, first, count, pixels, t->measure.pixels, &report) == JRI_NO_LINES, t, "no such lines");
+    see(is_filled(pixels, t->measure.pixels), t, "no such lines, a buffer touched");
+    release(pixels, t->measure.pixels);
+}
+
+static void try_lines(const struct trial *t) {
+    uint32_t height = t->measure.height;
+    struct jri_report report;
+    decode_by(t, 1);
+    decode_by(t, 5);
+    decode_by(t, WHOLE_ROWS);
+    for (long k = 0; decode_lines(t, height / 2, 1, k, &report) > k; k++)
+        refusals += 1;
+    no_lines(t, 0, 0);
+    no_lines(t, height, 1);
+    no_lines(t, 0, height + 1);
+    no_lines(t, height - 1, 2);
+    no_lines(t, UINT32_MAX, UINT32_MAX);
+    uint8_t *pixels = buffer(line_of(t) - 1);
+    see(jri_decode_lines(t->file, t->length, 0, 1, pixels, line_of(t) - 1, &report) == JRI_NO_ROOM, t, "a byte of a line too few");
+    see(is_filled(pixels, line_of(t) - 1), t, "a byte of a line too few, a buffer touched");
+    release(pixels, line_of(t) - 1);
+}
+
 static void *work(void *argument) {
     const struct trial *t = argument;
     for (int i = 0; i < TIMES; i++)
@@ -131,6 +196,7 @@ static void try_null(void) {
     see(jri_version() == JRI_VERSION, &none, "the version");
     see(jri_measure(NULL, 0, &none.measure) == JRI_REFUSED && none.measure.refusal == 1, &none, "a measure");
     see(jri_decode(NULL, 0, NULL, 0, NULL, 0, &none.report) == JRI_REFUSED && none.report.refusal == 1, &none, "a decoding");
+    see(jri_decode_lines(NULL, 0, 0, 1, NULL, 0, &none.report) == JRI_REFUSED && none.report.refusal == 1, &none, "lines");
     see(jri_refusal_text(1, 0, NULL, 0) == 0 && jri_refusal_text(0, 0, text, OF_TEXT) == 0, &none, "a text");
     see(jri_refusal_text(20, 0, text, OF_TEXT) == 0, &none, "a number past the last");
     see(jri_refusal_text(3, 18446744073709551615u, text, OF_TEXT) == 46, &none, "a long text");
@@ -168,6 +234,7 @@ static void try_file(const char *name) {
     if (count > 1)
         decode(&t, size, count - 1, JRI_NO_ROOM, -1, "a mark too few");
     refuse(&t);
+    try_lines(&t);
     work_at_once(&t);
     release(t.file, t.length);
     release(t.pixels, size);

@@ -15,7 +15,7 @@ use Rattle.jr_scan.specs.ScanValue.{ScanValue}
 use Rattle.jr_wall.specs.BoardValue.{BoardValue}
 use Rattle.jr_wall.specs.Boards.{marks_of}
 use Rattle.jr_wall.specs.Decoded.{IsDecoded}
-use Rattle.jr_wall.specs.Headline.{IsPicture}
+use Rattle.jr_wall.specs.Headline.{IsPicture, ShowsFirst}
 use Rattle.jr_wall.specs.Samples.{samples_of}
 use Rattle.jr_wall.proofs.BoardPictures.{same_picture}
 
@@ -40,3 +40,7 @@ picture_of file scan b is p d = record { is_scan = is; picture = same_picture b.
 -- equal heads have equal lines
 pub same_lines_of : (a h : HeadValue) (f : ℕ → ℕ → ℕ → ℕ) → a ≡ h → lines_of a f a.height ≡ lines_of h f h.height
 same_lines_of a h f e = ap (λ (k : HeadValue). lines_of k f k.height) e
+
+-- what a scan of the file shows, all of whose intervals are marked, is a picture of the file
+pub picture_shown : (file : List ℕ) (scan : ScanValue) (marks : List Mark) (f : ℕ → ℕ → ℕ → ℕ) → IsScanOfFile file scan → ShowsFirst scan (length scan.intervals) marks f → IsPictureOf file None scan marks f
+picture_shown file scan marks f is shows = record { is_scan = is; picture = shows.picture; decoded = shows.first }

@@ -1,12 +1,12 @@
 -- What the calls from C give.
-use Rattle.std.specs.Prelude.{◌≡◌, ℕ, ◌<◌, ◌*◌, List, ◌++◌, length, drop, map, None}
+use Rattle.std.specs.Prelude.{◌≡◌, ◌≢◌, ℕ, ◌<◌, ◌*◌, List, ◌++◌, length, drop, map, None}
 use Rattle.jr_head.specs.declared.refusal.Refusal.{Refusal}
 use Rattle.jr_head.specs.declared.refusal.Refusal.TheVariants as refusal
 use Rattle.jr_head.specs.Refusal.{number_of}
 use Rattle.jr_head.specs.HeadValue.{HeadValue, kind_number}
 use Rattle.jr_head.specs.Heads.{HeadOf, RefusalOf}
 use Rattle.jr_head.specs.Geometry.{components_of}
-use Rattle.jr_paint.specs.Lines.{line_size}
+use Rattle.jr_paint.specs.Lines.{line_size, next_lines_of}
 use Rattle.jr_paint.specs.Text.{lines_of}
 use Rattle.jr_scan.specs.ScanValue.{ScanValue, intervals_of}
 use Rattle.jr_scan.specs.declared.scan_end.ScanEnd.{ScanEnd}
@@ -15,6 +15,9 @@ use Rattle.jr_wall.specs.declared.mark.Mark.{Mark}
 use Rattle.jr_wall.specs.declared.mark.Mark.TheVariants.{Blank, Sound, Damaged}
 use Rattle.jr_wall.specs.Headline.{AreCounts}
 use Rattle.jri_engine.specs.Files.{IsPictureOf}
+use Rattle.jr_stream.specs.SomeLines.{EndInLines}
+use Rattle.jri_c.specs.declared.decode.Undecoded.{Undecoded}
+use Rattle.jri_c.specs.declared.decode.Undecoded.TheVariants.{Refused}
 use Rattle.jri_c.specs.declared.measure.Measure.{Measure}
 use Rattle.jri_c.specs.declared.report.Report.{Report}
 
@@ -96,3 +99,24 @@ pub record Decodes (file old_pixels pixels old_marks marks : List ℕ) (r : Repo
   pub painted : pixels ≡ over (lines_of scan.head f scan.head.height) old_pixels
   pub marked : 0 < length old_marks → marks ≡ over (map mark_byte each) old_marks
   pub reported : IsReportOf scan each r
+
+-- the pixels are lines of the file's picture, `count` of them from this one on; the report counts the intervals that end in
+-- their rows of MCUs
+pub record DecodesLines (file : List ℕ) (first count : ℕ) (old_pixels pixels : List ℕ) (r : Report) : Type 0 where
+  pub scan : ScanValue
+  pub each : List Mark
+  pub f : ℕ → ℕ → ℕ → ℕ
+  pub is : IsPictureOf file None scan each f
+  pub painted : pixels ≡ over (next_lines_of scan.head f first count) old_pixels
+  pub counted : EndInLines scan first count each r.sound r.damaged
+  pub intervals : r.intervals ≡ length scan.intervals
+  pub ended : IsEndOf scan.ended r
+  pub no_fault : r.refusal ≡ 0
+
+-- nothing was decoded since the file is refused, and the report tells of that
+pub record IsRefusal (undecoded : Undecoded) (r : Report) : Type 0 where
+  pub fault : Refusal
+  pub is : undecoded ≡ Refused fault
+  pub other : fault ≢ refusal.Memory
+  pub number_is : r.refusal ≡ number_of fault
+  pub detail_is : r.detail ≡ detail_of fault

@@ -5,9 +5,10 @@
 
 ghost use Rattle.std.specs.Prelude.{◌≡◌, ◌≢◌, ◌<◌, ◌≤◌, length, drop};
 ghost use Rattle.jr_head.specs.declared.refusal.Refusal.TheVariants.{Memory};
-ghost use Rattle.jri_c.specs.Calls.{Decodes, IsMeasureOf, IsFaultOf};
+ghost use Rattle.jri_c.specs.Calls.{Decodes, DecodesLines, IsMeasureOf, IsFaultOf, IsRefusal};
 
 mod decode;
+mod lines;
 mod marks;
 mod measure;
 mod painting;
@@ -15,6 +16,7 @@ mod report;
 mod text;
 
 use crate::decode::{Undecoded, decode};
+use crate::lines::decode_lines;
 use crate::measure::Measure;
 use crate::report::Report;
 use crate::text::put_text;
@@ -35,6 +37,9 @@ const DAMAGED: u32 = 3;
 
 /// A buffer has too little room.
 const NO_ROOM: u32 = 4;
+
+/// The picture has no such lines.
+const NO_LINES: u32 = 5;
 
 /// The number of these calls: it is changed where one of them is.
 const VERSION: u32 = 1;
@@ -88,18 +93,38 @@ pub extern "C" fn jri_decode(
     ensures few { result ≤ 4 }
 {
     match decode(alloc, file, pixels, marks) {
-        Ok(decoded) => {
-            *report = decoded;
-            if decoded.damaged == 0 { DONE } else { DAMAGED }
-        }
-        Err(Undecoded::Refused(refusal)) => {
-            *report = Report::refused(refusal);
-            status_of(refusal)
-        }
-        Err(Undecoded::NoRoom) => {
+        Ok(decoded) => tell(decoded, report),
+        Err(undecoded) => tell_why(undecoded, report),
+    }
+}
+
+/// Decodes `count` lines of a file's picture from line `first` on into the front of `pixels`: 0, or 3 where an interval is
+/// damaged that ends in the rows of MCUs of these lines. With 1 for want of memory, 2 where the file is refused, 4 where
+/// the buffer has too little room, and 5 where the picture has no such lines, it is as it was.
+#[unsafe(no_mangle)]
+pub extern "C" fn jri_decode_lines(
+    alloc: Global,
+    file: &[u8],
+    first: u32,
+    count: u32,
+    pixels: &mut [u8],
+    report: &mut Report,
+) -> u32
+    ensures sound { result ≡ 0 → DecodesLines file.now first count pixels.old pixels.new report.new }
+    ensures damaged { result ≡ 3 → DecodesLines file.now first count pixels.old pixels.new report.new }
+    ensures undamaged { result ≡ 0 → report.new.damaged ≡ 0 }
+    ensures some_damaged { result ≡ 3 → 0 < report.new.damaged }
+    ensures refused { result ≡ 2 → IsFaultOf file.now report.new.refusal report.new.detail }
+    ensures pixels { result ≢ 0 → result ≢ 3 → pixels.new ≡ pixels.old }
+    ensures few { result ≤ 5 }
+{
+    match decode_lines(alloc, file, first, count, pixels) {
+        Ok(Some(decoded)) => tell(decoded, report),
+        Ok(None) => {
             *report = Report::empty();
-            NO_ROOM
+            NO_LINES
         }
+        Err(undecoded) => tell_why(undecoded, report),
     }
 }
 
@@ -111,6 +136,37 @@ pub extern "C" fn jri_refusal_text(number: u32, detail: u64, text: &mut [u8]) ->
     ensures kept { drop result text.new ≡ drop result text.old }
 {
     put_text(number, detail, text) as u64
+}
+
+/// Tells of a decoding, and gives the answer.
+fn tell(decoded: Report, report: &mut Report) -> u32
+    ensures told { report.new ≡ decoded }
+    ensures undamaged { result ≡ 0 → decoded.damaged ≡ 0 }
+    ensures damaged { result ≡ 3 → 0 < decoded.damaged }
+    ensures done { result ≢ 0 → result ≡ 3 }
+    ensures few { result ≤ 3 }
+{
+    *report = decoded;
+    if decoded.damaged == 0 { DONE } else { DAMAGED }
+}
+
+/// Tells why nothing is decoded, and gives the answer.
+fn tell_why(undecoded: Undecoded, report: &mut Report) -> u32
+    ensures undone { result ≢ 0 }
+    ensures undamaged { result ≢ 3 }
+    ensures few { result ≤ 4 }
+    ensures refused { result ≡ 2 → IsRefusal undecoded report.new }
+{
+    match undecoded {
+        Undecoded::Refused(refusal) => {
+            *report = Report::refused(refusal);
+            status_of(refusal)
+        }
+        Undecoded::NoRoom => {
+            *report = Report::empty();
+            NO_ROOM
+        }
+    }
 }
 
 /// The answer to a refusal.
