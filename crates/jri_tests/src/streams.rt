@@ -6,12 +6,14 @@ ghost use Rattle.jr_base.specs.declared.limits.TheConstants.{MAX_WORKERS};
 
 mod devices;
 mod gates;
+mod lines;
 mod made;
 mod sizes;
 mod worked;
 
 use crate::decoding::{Outcome, decode};
 use crate::scans::scan_of;
+use crate::streams::lines::check_lines;
 use jr_paint::{Tally, write_netpbm};
 use jr_scan::Scan;
 use jr_stream::{write_scan, write_scan_by};
@@ -47,9 +49,9 @@ fn check<R: Threads + Wait + Sync + AllocGlobal + Abort>(
 
 /// A picture's text, and how many of its intervals are sound, damaged and blank.
 #[derive(Drop)]
-struct Written {
-    text: Vec<u8>,
-    counts: (u32, u32, u32),
+pub(crate) struct Written {
+    pub(crate) text: Vec<u8>,
+    pub(crate) counts: (u32, u32, u32),
 }
 
 /// As it is written while a scan is decoded.
@@ -107,6 +109,7 @@ fn check_crews<R: Threads + Wait + Sync + AllocGlobal + Abort>(
     name: &str,
 ) -> Result<(), Fail> {
     let one = streamed(rt.alloc(), scan, None)?;
+    check_lines(rt, scan, &one, name)?;
     let crews = [
         crewed(rt, scan, 1)?,
         crewed(rt, scan, 2)?,
