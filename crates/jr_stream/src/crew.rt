@@ -5,7 +5,7 @@ ghost use Rattle.jr_paint.specs.declared.netpbm.TheConstants.{WIDEST};
 
 use crate::baton::Baton;
 use crate::bench::{Bench, Coded, Painted};
-use crate::ring::{Ring, Task};
+use crate::ring::{Ring, Task, Waiter};
 use crate::shape::{intervals_of_row, shape_of};
 use jr_paint::SampleLines;
 use jr_piece::OneScan;
@@ -24,9 +24,9 @@ use std::sync::{Condvar, Mutex, Wait};
 pub(crate) struct Crew<'a, S: OneScan> {
     scan: &'a Scan,
     ring: Mutex<Ring<'a, S>>,
-    /// Somebody has read a row, or given back a bench, or all is over.
+    /// Somebody has read a row, or given back a bench, or all is over. It wakes nobody where nobody waits.
     has_task: Condvar,
-    /// Somebody has read or painted a row: the calling thread waits for it.
+    /// The row is painted that the calling thread waits for, or one is read and nobody else waits for it.
     has_row: Condvar,
 }
 
@@ -70,19 +70,23 @@ impl<'a, S: OneScan> Crew<'a, S> {
 
     /// What a thread does next, once there is something. None where nothing is left.
     fn task<R: Wait>(&self, rt: &R) -> Option<Task<'a, S>> {
-        let ring = self.ring.lock(rt);
+        let mut ring = self.ring.lock(rt);
+        ring.begin_waiting();
         let mut ring = self
             .has_task
             .wait_while(rt, ring, |ring| ring.has_no_task());
+        ring.end_waiting();
         ring.task(self.scan)
     }
 
     /// What the calling thread does next, once there is something or this row is painted. None where it is, or nothing is left.
     pub(crate) fn task_before<R: Wait>(&self, rt: &R, row: u32) -> Option<Task<'a, S>> {
-        let ring = self.ring.lock(rt);
+        let mut ring = self.ring.lock(rt);
+        ring.set_awaited(Some(row));
         let mut ring = self
             .has_row
             .wait_while(rt, ring, |ring| !ring.has(row) && ring.has_no_task());
+        ring.set_awaited(None);
         if ring.has(row) {
             return None;
         }
@@ -100,8 +104,10 @@ impl<'a, S: OneScan> Crew<'a, S> {
         requires wide { self.now.head.width ≤ WIDTH }
     {
         let painted = coded.paint(self.scan, lines);
-        self.ring.lock(rt).put_painted(painted);
-        self.has_row.notify_one();
+        let is_awaited = self.ring.lock(rt).put_painted(painted);
+        if is_awaited {
+            self.has_row.notify_one();
+        }
     }
 
     /// Reads a row, and paints it where rows are whole intervals; else it waits for whoever is free.
@@ -120,9 +126,12 @@ impl<'a, S: OneScan> Crew<'a, S> {
         if intervals_of_row(self.scan.head()).is_some() {
             return self.paint(rt, coded, lines);
         }
-        self.ring.lock(rt).put_coded(coded, behind);
-        self.has_task.notify_one();
-        self.has_row.notify_one();
+        let waiter = self.ring.lock(rt).put_coded(coded, behind);
+        match waiter {
+            Some(Waiter::Worker) => self.has_task.notify_one(),
+            Some(Waiter::Caller) => self.has_row.notify_one(),
+            None => (),
+        }
     }
 
     /// Does what is to be done.
@@ -160,15 +169,19 @@ impl<'a, S: OneScan> Crew<'a, S> {
     pub(crate) fn painted<R: Wait>(&self, rt: &R, row: u32) -> Painted<S>
         ensures { result.row ≡ row }
     {
-        let ring = self.ring.lock(rt);
+        let mut ring = self.ring.lock(rt);
+        ring.set_awaited(Some(row));
         let mut ring = self.has_row.wait_while(rt, ring, |ring| !ring.has(row));
+        ring.set_awaited(None);
         ring.take(row)
     }
 
     /// Gives back a bench, so that another row can be read.
     pub(crate) fn give_back<R: Wait>(&self, rt: &R, bench: Bench<S>) {
-        self.ring.lock(rt).give_back(bench);
-        self.has_task.notify_one();
+        let is_waited_for = self.ring.lock(rt).give_back(bench);
+        if is_waited_for {
+            self.has_task.notify_one();
+        }
     }
 
     /// Ends the work.

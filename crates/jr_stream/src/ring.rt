@@ -18,7 +18,17 @@ pub(crate) enum Task<'a, S: OneScan> {
     Paint(Coded<S>),
 }
 
-/// The rows that are read and not yet written, no more than there are benches.
+/// Who is woken for a row that is read.
+#[derive(Clone, Copy)]
+pub(crate) enum Waiter {
+    /// One of the threads that wait for something to do.
+    Worker,
+    /// The calling thread, where no other waits.
+    Caller,
+}
+
+/// The rows that are read and not yet written, no more than there are benches, and who waits for them: to wake takes longer
+/// than to ask.
 #[derive(Drop)]
 pub(crate) struct Ring<'a, S: OneScan> {
     /// None while a thread reads by it, and where no row is left to read.
@@ -30,6 +40,10 @@ pub(crate) struct Ring<'a, S: OneScan> {
     coded: VecDeque<Coded<S>>,
     /// Each row's place is its number modulo how many there are: as many as benches.
     painted: Vec<Option<Painted<S>>>,
+    /// How many threads wait for something to do.
+    waiting: u32,
+    /// The row that the calling thread waits for.
+    awaited: Option<u32>,
     ghost some: { 0 < length painted.items },
 }
 
@@ -49,7 +63,31 @@ impl<'a, S: OneScan> Ring<'a, S> {
             free,
             coded,
             painted,
+            waiting: 0,
+            awaited: None,
         }
+    }
+
+    /// A thread begins to wait for something to do.
+    pub(crate) fn begin_waiting(&mut self) {
+        self.waiting = self.waiting.saturating_add(1);
+    }
+
+    /// A thread waits no more.
+    pub(crate) fn end_waiting(&mut self) {
+        self.waiting = self.waiting.saturating_sub(1);
+    }
+
+    /// Whether a thread waits for something to do.
+    pub(crate) fn is_waited_for(&self) -> bool {
+        self.waiting > 0
+    }
+
+    /// The calling thread waits for this row, or for none.
+    pub(crate) fn set_awaited(&mut self, row: Option<u32>)
+        ensures { self.new.painted ≡ self.old.painted }
+    {
+        self.awaited = row;
     }
 
     /// Whether a thread has to wait for what others read, paint or write.
@@ -72,13 +110,21 @@ impl<'a, S: OneScan> Ring<'a, S> {
         Some(Task::Paint(self.coded.pop_front()?))
     }
 
-    /// Keeps a row that is read, and the rows behind it.
-    pub(crate) fn put_coded(&mut self, coded: Coded<S>, behind: Option<Baton<'a, S>>) {
+    /// Keeps a row that is read, and the rows behind it. Answers who is to be woken, so that somebody paints it.
+    pub(crate) fn put_coded(
+        &mut self,
+        coded: Coded<S>,
+        behind: Option<Baton<'a, S>>,
+    ) -> Option<Waiter> {
         if self.is_over {
-            return;
+            return None;
         }
         let _ = self.coded.push_back(coded);
         self.baton = behind;
+        if self.is_waited_for() {
+            return Some(Waiter::Worker);
+        }
+        self.awaited.map(|_row| Waiter::Caller)
     }
 
     /// Whether a row is painted.
@@ -92,10 +138,12 @@ impl<'a, S: OneScan> Ring<'a, S> {
         }
     }
 
-    /// Keeps a painted row.
-    pub(crate) fn put_painted(&mut self, painted: Painted<S>) {
-        let place = painted.row() as usize % self.painted.len();
+    /// Keeps a painted row. Answers whether the calling thread waits for it.
+    pub(crate) fn put_painted(&mut self, painted: Painted<S>) -> bool {
+        let row = painted.row();
+        let place = row as usize % self.painted.len();
         self.painted[place] = Some(painted);
+        self.awaited == Some(row)
     }
 
     /// A row that is painted.
@@ -107,9 +155,10 @@ impl<'a, S: OneScan> Ring<'a, S> {
         self.painted[place].take().unwrap()
     }
 
-    /// Keeps a bench, to be used again. There is room for it, since it came from here.
-    pub(crate) fn give_back(&mut self, bench: Bench<S>) {
+    /// Keeps a bench, to be used again. There is room for it, since it came from here. Answers whether a thread waits.
+    pub(crate) fn give_back(&mut self, bench: Bench<S>) -> bool {
         let _ = self.free.push(bench);
+        self.is_waited_for()
     }
 
     /// Ends the work.
