@@ -84,6 +84,7 @@ so_far_first n start bytes some = record {
 pub fill_split : (xs : List ℕ) (n : ℕ) → take n xs ≡ replicate n PREFIX → xs ≡ replicate n PREFIX ++ drop n xs
 fill_split xs n e = sym (take-append-drop n xs) ∙ ap (λ (x : List ℕ). x ++ drop n xs) e
 
+-- the bytes from a place on, as the slice that they are read from
 pub rest_is : (xs : List ℕ) (n : ℕ) → take (length xs - n) (drop n xs) ≡ drop n xs
 rest_is xs n = take_all (length xs - n) (drop n xs) (omega (arith, length-drop n xs))
 
@@ -100,14 +101,8 @@ pub stop_code : (bytes : List ℕ) (at n : ℕ) → take n (drop at bytes) ≡ r
 stop_code bytes at n full h some not_ff not_0 =
     record { more = n; rest = drop n (drop at bytes); spelled = fill_split (drop at bytes) n full; stops = inr (some, get_or bytes (at + n) 0, drop (at + n + 1) bytes, not_0, not_ff, code_at bytes at n h) }
 
--- the fill of a slice is that of the bytes from its place on
-pub fill_full : (bytes : List ℕ) (at n : ℕ) → take n (take (length bytes - at) (drop at bytes)) ≡ replicate n PREFIX → take n (drop at bytes) ≡ replicate n PREFIX
-fill_full bytes at n e = subst (λ (xs : List ℕ). take n xs ≡ replicate n PREFIX) (rest_is bytes at) e
-
-pub fill_next : (bytes : List ℕ) (at n : ℕ) → at + n < length bytes → (n < length (take (length bytes - at) (drop at bytes)) → get_or (take (length bytes - at) (drop at bytes)) n 0 ≢ PREFIX) → get_or bytes (at + n) 0 ≢ PREFIX
-fill_next bytes at n h next =
-    let f = subst (λ (xs : List ℕ). n < length xs → get_or xs n 0 ≢ PREFIX) (rest_is bytes at) next in
-    subst (λ (b : ℕ). b ≢ PREFIX) (get_or-drop at bytes n 0) (f (omega (arith, length-drop at bytes)))
+pub fill_next : (bytes : List ℕ) (at n : ℕ) → at + n < length bytes → (n < length (drop at bytes) → get_or (drop at bytes) n 0 ≢ PREFIX) → get_or bytes (at + n) 0 ≢ PREFIX
+fill_next bytes at n h next = subst (λ (b : ℕ). b ≢ PREFIX) (get_or-drop at bytes n 0) (next (omega (arith, length-drop at bytes)))
 
 pub fill_some : (bytes : List ℕ) (at n : ℕ) → at < length bytes → get_or bytes at 0 ≡ PREFIX → (at + n < length bytes → get_or bytes (at + n) 0 ≢ PREFIX) → 0 < n
 fill_some bytes at zero h ff next = let e : at + 0 ≡ at = omega arith in absurd (next (omega arith) (ap (λ (k : ℕ). get_or bytes k 0) e ∙ ff))
@@ -156,15 +151,12 @@ pub record SegmentRead (bytes found : List ℕ) (at len : ℕ) : Type 0 where
   pub raw : IsRaw (take len (drop at bytes)) found
   pub stop : IsStop (drop (at + len) bytes)
 
-pub segment_read : (bytes found : List ℕ) (at len : ℕ) → at ≤ length bytes → len ≤ length (take (length bytes - at) (drop at bytes)) → IsRaw (take len (take (length bytes - at) (drop at bytes))) found → IsStop (drop len (take (length bytes - at) (drop at bytes)))
-    → SegmentRead bytes found at len
-segment_read bytes found at len h within raw stop =
-    let w = subst (λ (x : List ℕ). len ≤ length x) (rest_is bytes at) within in
-    record {
-      within = omega (arith, w, length-drop at bytes);
-      raw = subst (λ (x : List ℕ). IsRaw (take len x) found) (rest_is bytes at) raw;
-      stop = subst IsStop (ap (drop len) (rest_is bytes at) ∙ drop-drop len at bytes) stop;
-    }
+pub segment_read : (bytes found : List ℕ) (at len : ℕ) → at ≤ length bytes → len ≤ length (drop at bytes) → IsRaw (take len (drop at bytes)) found → IsStop (drop len (drop at bytes)) → SegmentRead bytes found at len
+segment_read bytes found at len h within raw stop = record {
+  within = omega (arith, within, length-drop at bytes);
+  raw = raw;
+  stop = subst IsStop (drop-drop len at bytes) stop;
+}
 
 -- FF bytes and a code where a segment stops
 pub record MarkerRead (bytes : List ℕ) (at n : ℕ) : Type 0 where

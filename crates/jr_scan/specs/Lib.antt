@@ -6,5 +6,6 @@ pub mod Mcus
 pub mod Reader
 pub mod Cut
 pub mod Spans
+pub mod UnstuffingValue
 pub mod ScanValue
 pub mod Run

@@ -1,6 +1,6 @@
 //! How the bytes of a scan fall into intervals.
 
-ghost use Rattle.std.specs.Prelude.{◌≡◌, ◌≢◌, ℕ, ◌+◌, ◌%◌, ◌<◌, ◌≤◌, ◌^◌, List, length, map, IfOk, IfSome, IfNone};
+ghost use Rattle.std.specs.Prelude.{◌≡◌, ◌≢◌, ℕ, ◌+◌, ◌%◌, ◌<◌, ◌≤◌, ◌^◌, List, [], length, map, IfOk, IfSome, IfNone};
 ghost use Rattle.std.specs.List.{All};
 ghost use Rattle.jr_base.specs.declared.marker.TheConstants.{PREFIX, RST0};
 ghost use Rattle.jr_scan.specs.Cut.{HasMarker, IsEnding, IsCut};
@@ -8,7 +8,7 @@ ghost use Rattle.jr_scan.specs.Spans.{segment_data, IsSpanOf};
 
 use crate::scan_end::ScanEnd;
 use crate::span::Span;
-use crate::unstuff::{fill_count, unstuff};
+use crate::unstuff::{Unstuffing, fill_count};
 use jr_base::Memory;
 use jr_base::marker::{EOI, RST0, RST7};
 use std::alloc::Global;
@@ -56,42 +56,45 @@ pub(crate) fn cut(
     alloc: Global,
     intervals: u32,
     start: u64,
-    bytes: &[u8],
+    scan: Unstuffing,
 ) -> Result<CodedSegments, Memory>
     requires some { 0 < intervals }
-    requires fits { start + length bytes.now < 2 ^ 64 }
-    ensures cut { IfOk result (λ p. IsCut intervals start bytes.now (map (segment_data p.unstuffed.items) p.spans.items) p.ended) }
+    requires fits { start + length scan.rest < 2 ^ 64 }
+    requires unread { scan.unstuffed ≡ [] }
+    ensures cut { IfOk result (λ p. IsCut intervals start scan.rest (map (segment_data p.unstuffed.items) p.spans.items) p.ended) }
     ensures within { IfOk result (λ p. All (IsSpanOf p.unstuffed.items) p.spans.items) }
-    ensures few { IfOk result (λ p. length p.unstuffed.items ≤ length bytes.now) }
+    ensures few { IfOk result (λ p. length p.unstuffed.items ≤ length scan.rest) }
 {
-    let mut unstuffed = Vec::with_capacity(alloc, bytes.len())?;
+    let mut bytes = scan;
     let mut spans = Vec::new(alloc);
     let mut at: usize = 0;
     let mut k: u32 = 0;
     'segments: loop {
-        let begin = unstuffed.as_slice().len();
-        let count = unstuff(&bytes[at..], &mut unstuffed)?;
+        let begin = bytes.len();
+        let count = bytes.unstuff();
         spans.push(Span {
             start: begin,
-            end: unstuffed.as_slice().len(),
+            end: bytes.len(),
         })?;
         at += count;
-        let code_at = at + fill_count(&bytes[at..]);
-        if code_at >= bytes.len() {
+        let fill = fill_count(bytes.rest());
+        if fill >= bytes.rest().len() {
             return Ok(CodedSegments {
-                unstuffed,
+                unstuffed: bytes.into_data(),
                 spans,
                 ended: ScanEnd::EndOfFile,
             });
         }
-        if let Some(ended) = end_at(bytes[code_at], start + at as u64, k, intervals) {
+        let code = bytes.rest()[fill];
+        if let Some(ended) = end_at(code, start + at as u64, k, intervals) {
             return Ok(CodedSegments {
-                unstuffed,
+                unstuffed: bytes.into_data(),
                 spans,
                 ended,
             });
         }
-        at = code_at + 1;
+        bytes.skip(fill + 1);
+        at += fill + 1;
         k += 1;
     }
 }

@@ -24,5 +24,5 @@ pub use laws::{
 };
 pub use place::{Place, RunEnd};
 pub use reader::BlockReader;
-pub use scan::Scan;
+pub use scan::{Scan, interval_count};
 pub use scan_end::ScanEnd;

@@ -1,12 +1,13 @@
 //! A scan, cut into its restart intervals.
 
-ghost use Rattle.std.specs.Prelude.{◌≡◌, ◌↔◌, ◌<◌, ◌≤◌, ◌^◌, length, drop, IsTrue, IfOk, slice_index_or, []};
+ghost use Rattle.std.specs.Prelude.{◌≡◌, ◌↔◌, ◌<◌, ◌≤◌, ◌^◌, ℕ, List, length, drop, IsTrue, IfOk, slice_index_or, []};
 
 use crate::cut::cut;
 use crate::interval::Interval;
 use crate::interval_ref::IntervalRef;
 use crate::scan_end::ScanEnd;
 use crate::span::Span;
+use crate::unstuff::Unstuffing;
 use jr_code::Memory;
 use jr_head::Head;
 use std::alloc::Global;
@@ -37,19 +38,27 @@ impl Model for Scan {
     ghost invariant = { λ s. All (IsSpanOf (arc_value s.unstuffed).items) s.spans.items × (length s.spans.items ≤ s.intervals) × (s.intervals ≡ intervals_of (arc_value s.head)) × (0 < s.intervals) × (length (arc_value s.unstuffed).items < 2 ^ 61) };
 }
 
+/// An offset, or the end of the bytes where it is past it.
+fn offset_in(bytes: &[u8], offset: u64) -> usize
+    ensures within { result ≤ length bytes.now }
+    ensures same { drop result bytes.now ≡ drop offset bytes.now }
+{
+    if offset < bytes.len() as u64 {
+        offset as usize
+    } else {
+        bytes.len()
+    }
+}
+
 /// The bytes from an offset on, none where it is past the end.
 fn behind(bytes: &[u8], offset: u64) -> &[u8]
     ensures { result.now ≡ drop offset bytes.now }
 {
-    if offset < bytes.len() as u64 {
-        &bytes[offset as usize..]
-    } else {
-        &bytes[bytes.len()..]
-    }
+    &bytes[offset_in(bytes, offset)..]
 }
 
-/// How many intervals a scan of this head has.
-fn count_of(head: &Head) -> u32
+/// How many restart intervals a scan of this head has (T.81, E.1.4): one where the restart interval is 0.
+pub fn interval_count(head: &Head) -> u32
     ensures value { result ≡ intervals_of head.now }
     ensures some { 0 < result }
 {
@@ -84,9 +93,29 @@ impl Scan {
         ensures head { IfOk result (λ s. s.head ≡ head) }
         ensures cut { IfOk result (λ s. IsScanOf bytes.now s) }
     {
-        let intervals = count_of(&head);
-        let start = head.scan_at();
-        let segments = cut(alloc, intervals, start, behind(bytes, start))?;
+        let scan = behind(bytes, head.scan_at()).to_vec(alloc)?;
+        Scan::of(alloc, head, Unstuffing::of(scan, 0))
+    }
+
+    /// `cut` in the memory of the file's bytes.
+    pub fn cut_in_place(alloc: Global, head: Head, bytes: Vec<u8>) -> Result<Scan, Memory>
+        requires { length bytes.items < 2 ^ 61 }
+        ensures head { IfOk result (λ s. s.head ≡ head) }
+        ensures cut { IfOk result (λ s. IsScanOf bytes.items s) }
+    {
+        let start = offset_in(&bytes, head.scan_at());
+        Scan::of(alloc, head, Unstuffing::of(bytes, start))
+    }
+
+    /// Cuts the bytes of a scan, of which none is read.
+    fn of(alloc: Global, head: Head, scan: Unstuffing) -> Result<Scan, Memory>
+        requires unread { scan.unstuffed ≡ [] }
+        requires few { length scan.rest < 2 ^ 61 }
+        ensures head { IfOk result (λ s. s.head ≡ head) }
+        ensures cut { IfOk result (λ s. (file : List ℕ) → scan.rest ≡ drop head.scan_at file → IsScanOf file s) }
+    {
+        let intervals = interval_count(&head);
+        let segments = cut(alloc, intervals, head.scan_at(), scan)?;
         Ok(Scan {
             head: Arc::new(alloc, head)?,
             unstuffed: Arc::new(alloc, segments.unstuffed)?,

@@ -1,5 +1,5 @@
 -- Rows of MCUs that are whole intervals.
-use Rattle.std.proofs.Common.{◌≡◌, ℕ, ◌+◌, ◌*◌, ◌<◌, ◌≤◌, Bool, true, cond, inl, inr, sym, ap, subst, ◌∙◌, arith}
+use Rattle.std.proofs.Common.{◌≡◌, ℕ, ◌+◌, ◌*◌, ◌<◌, ◌≤◌, Bool, true, false, min, cond, inl, inr, sym, ap, subst, ◌∙◌, arith}
 use Rattle.std.specs.Int.{div_ceil}
 use Rattle.std.proofs.Math.Dec.{leb}
 use Rattle.std.proofs.Math.Nat.{mul_assoc, mul-le-mul_right}
@@ -39,11 +39,33 @@ module _ (h : HeadValue) (row intervals : ℕ) (pixels : 0 < mcus_of h) (below :
         subst (λ (b : Bool). row * intervals < cond b 1 (div_ceil (mcus_of h) h.restart)) (sym f.0) (in_div_ceil (row * intervals) (mcus_of h) h.restart r at)
   ]
 
-  -- the row begins with it
-  pub row_at : row * intervals * h.restart + 0 ≡ coded_before h (intervals_of h) row
-  row_at =
-      let all : mcus_before h (intervals_of h) ≡ mcus_of h = ap (λ (b : Bool). cond b (mcus_of h) (intervals_of h * h.restart)) (le_same (intervals_of h)) in
-      omega (arith, start, inside, all)
+  -- where the first n intervals are decoded, as much is read before the row as its first interval, or the first that isn't decoded, has before it
+  pub row_at : (n : ℕ) → n ≤ intervals_of h → min (row * intervals) n * h.restart + 0 ≡ coded_before h n row
+  row_at n few = elim (cases_lt n (intervals_of h)) [
+    | inl some_blank ↦
+        let before : mcus_before h n ≡ n * h.restart = ap (λ (b : Bool). cond b (mcus_of h) (n * h.restart)) (is_less n (intervals_of h) some_blank) in
+        elim (cases_lt (row * intervals) n) [
+          | inl decoded ↦
+              let least : min (row * intervals) n ≡ row * intervals = omega (arith, decoded) in
+              let times = ap (λ (k : ℕ). k * h.restart) least in
+              let below : row * intervals ≤ n = omega (arith, decoded) in
+              let more = mul-le-mul_right h.restart below in
+              omega (arith, start, before, times, more)
+          | inr blank ↦
+              let least : min (row * intervals) n ≡ n = omega (arith, blank) in
+              let times = ap (λ (k : ℕ). k * h.restart) least in
+              let more = mul-le-mul_right h.restart blank in
+              omega (arith, start, before, times, more)
+        ]
+    | inr none_blank ↦
+        let before : mcus_before h n ≡ mcus_of h = ap (λ (b : Bool). cond b (mcus_of h) (n * h.restart)) (is_most n (intervals_of h) none_blank) in
+        let least : min (row * intervals) n ≡ row * intervals = omega (arith, row_there, none_blank) in
+        let times = ap (λ (k : ℕ). k * h.restart) least in
+        omega (arith, start, inside, before, times)
+  ]
     where
-      le_same : (n : ℕ) → leb n n ≡ true
-      le_same n = search arith
+      is_less : (n all : ℕ) → n < all → leb all n ≡ false
+      is_less n all lt = search (arith, lt)
+
+      is_most : (n all : ℕ) → all ≤ n → leb all n ≡ true
+      is_most n all le = search (arith, le)

@@ -1,5 +1,5 @@
 -- What is written of a scan.
-use Rattle.std.specs.Prelude.{◌≡◌, ℕ, List, Option, Result, IfOk, is_err, length}
+use Rattle.std.specs.Prelude.{◌≡◌, ℕ, List, Option, Result, IfOk, is_err}
 use Rattle.jr_base.specs.declared.tally.Tally.{Tally}
 use Rattle.jr_base.specs.declared.writing.WriteFault.{WriteFault}
 use Rattle.jr_base.specs.Tally.{Writes, WritesBeginning, has_failed}
@@ -12,6 +12,7 @@ use Rattle.jr_wall.specs.BoardValue.{BoardValue}
 use Rattle.jr_wall.specs.Boards.{marks_of}
 use Rattle.jr_wall.specs.Headline.{AreCounts, ShowsFirst}
 use Rattle.jr_wall.specs.Samples.{samples_of}
+use Rattle.jr_stream.specs.PartValue.{PartValue}
 use Rattle.jr_stream.specs.Rows.{HasFirst, CountsRows}
 use Rattle.jr_stream.specs.declared.marked.Marked.{Marked}
 
@@ -38,8 +39,8 @@ SendsPicture known old new result scan n = (b : BoardValue) → HasFirst scan n 
 abbrev pub HasCounts : ScanValue → ℕ → Counts → Type 0
 HasCounts scan n c = (b : BoardValue) → HasFirst scan n b → AreCounts (marks_of b) c.sound c.damaged c.blank
 
--- the picture of a scan, all of whose intervals are decoded, is sent, and the marks of its intervals are answered
-pub record IsSentBy {T : Type 0} (known : T → Option (List ℕ)) (scan : ScanValue) (old new : Tally T) (result : Result Marked WriteFault) : Type 0 where
-  pub counts : IfOk result (CountsRows scan (length scan.intervals))
+-- the picture of a scan, of which this part is decoded, is sent, and the marks of its intervals are answered
+pub record IsSentBy {T : Type 0} (known : T → Option (List ℕ)) (part : PartValue) (old new : Tally T) (result : Result Marked WriteFault) : Type 0 where
+  pub counts : IfOk result (CountsRows part.scan part.limit)
   pub failed : has_failed new ≡ is_err result
-  pub sent : SendsPicture known old new result scan (length scan.intervals)
+  pub sent : SendsPicture known old new result part.scan part.limit

@@ -1,24 +1,23 @@
 //! Who reads next.
 
-ghost use Rattle.std.specs.Prelude.{◌≡◌, Some, length};
+ghost use Rattle.std.specs.Prelude.{◌≡◌, Some};
 
 use crate::announcing::announce;
 use crate::bench::{Bench, Coded};
+use crate::part::{OnePart, Part};
 use crate::rows::Rows;
 use crate::shape::{intervals_of_row, shape_of};
-use jr_piece::OneScan;
-use jr_scan::Scan;
 use jr_wall::Gate;
 use std::marker::{Model, PhantomData};
 
 /// The reader of a scan's rows from one of them on, that one thread holds at a time.
 #[derive(Drop)]
-pub(crate) struct Baton<'a, S: OneScan> {
+pub(crate) struct Baton<'a, S: OnePart> {
     rows: Rows<'a>,
     of: PhantomData<S>,
 }
 
-impl<'a, S: OneScan> Model for Baton<'a, S> {
+impl<'a, S: OnePart> Model for Baton<'a, S> {
     ghost use Rattle.jr_stream.specs.Crew.{HaveNext};
     ghost use Rattle.jr_stream.specs.RowsValue.{RowsValue};
 
@@ -26,16 +25,16 @@ impl<'a, S: OneScan> Model for Baton<'a, S> {
 
     ghost view = { λ b. b.rows };
 
-    ghost invariant = { λ b. HaveNext S.scan b.rows };
+    ghost invariant = { λ b. HaveNext S.part b.rows };
 }
 
 /// These rows, where one is left.
-fn baton_over<'a, S: OneScan>(scan: &Scan, rows: Rows<'a>) -> Option<Baton<'a, S>>
-    requires scan { S.scan ≡ Some scan.now }
-    requires of { rows.scan ≡ scan.now }
-    requires limit { rows.limit ≡ length scan.now.intervals }
+fn baton_over<'a, S: OnePart>(part: &Part<'_>, rows: Rows<'a>) -> Option<Baton<'a, S>>
+    requires part { S.part ≡ Some part.now }
+    requires of { rows.scan ≡ part.now.scan }
+    requires limit { rows.limit ≡ part.now.limit }
 {
-    if rows.row() >= shape_of(scan.head()).down {
+    if rows.row() >= shape_of(part.scan().head()).down {
         return None;
     }
     Some(Baton {
@@ -44,39 +43,40 @@ fn baton_over<'a, S: OneScan>(scan: &Scan, rows: Rows<'a>) -> Option<Baton<'a, S
     })
 }
 
-impl<'a, S: OneScan> Baton<'a, S> {
+impl<'a, S: OnePart> Baton<'a, S> {
     /// All rows of the scan.
-    pub(crate) fn of(scan: &'a Scan) -> Option<Baton<'a, S>>
-        requires { S.scan ≡ Some scan.now }
+    pub(crate) fn of(part: &Part<'a>) -> Option<Baton<'a, S>>
+        requires { S.part ≡ Some part.now }
     {
-        baton_over(scan, Rows::of(scan, scan.intervals()))
+        baton_over(part, Rows::of(part.scan(), part.limit()))
     }
 
     /// The rows behind the next one, which can be read before it where rows are whole intervals.
-    pub(crate) fn behind(&self, scan: &'a Scan) -> Option<Baton<'a, S>>
-        requires { S.scan ≡ Some scan.now }
+    pub(crate) fn behind(&self, part: &Part<'a>) -> Option<Baton<'a, S>>
+        requires { S.part ≡ Some part.now }
     {
-        let intervals = intervals_of_row(scan.head())?;
-        let down = shape_of(scan.head()).down;
+        let head = part.scan().head();
+        let intervals = intervals_of_row(head)?;
+        let down = shape_of(head).down;
         let row = self.rows.row() + 1;
         if row >= down {
             return None;
         }
-        baton_over(scan, Rows::from(scan, row, intervals))
+        baton_over(part, Rows::from(part, row, intervals))
     }
 
     /// Tells the gate of the intervals that begin in the next row, and reads it: answers it with those behind it.
     pub(crate) fn read<G: Gate>(
         self,
-        scan: &Scan,
+        part: &Part<'_>,
         gate: &G,
         bench: Bench<S>,
     ) -> (Coded<S>, Option<Baton<'a, S>>)
-        requires { S.scan ≡ Some scan.now }
+        requires { S.part ≡ Some part.now }
     {
         let mut rows = self.rows;
-        announce(scan, scan.intervals(), rows.row(), gate);
-        let coded = bench.read(scan, &mut rows);
-        (coded, baton_over(scan, rows))
+        announce(part.scan(), part.limit(), rows.row(), gate);
+        let coded = bench.read(part, &mut rows);
+        (coded, baton_over(part, rows))
     }
 }

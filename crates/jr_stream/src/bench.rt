@@ -7,47 +7,47 @@ ghost use Rattle.jr_paint.specs.declared.netpbm.TheConstants.{WIDEST};
 ghost use Rattle.jr_stream.specs.Rows.{AreRead, CountsRow, HasRowRoom, ShowsLines, line_count};
 
 use crate::marked::Marked;
+use crate::part::{OnePart, Part};
 use crate::row::Row;
 use crate::rows::Rows;
 use crate::shape::{bytes_of_row, lines_of, shape_of};
 use jr_base::Memory;
 use jr_paint::SampleLines;
-use jr_piece::OneScan;
-use jr_scan::Scan;
 use std::alloc::Global;
 use std::marker::{Model, PhantomData};
 
-/// Paints the row that is read, of a scan all of whose intervals are decoded, at the beginning of `pixels`.
+/// Paints the row that is read at the beginning of `pixels`.
 fn paint_first<const WIDTH: usize>(
     work: &mut Row,
-    scan: &Scan,
+    part: &Part<'_>,
     row: u32,
     lines: &mut SampleLines<WIDTH>,
     pixels: &mut [u8],
 )
     requires stack { WIDTH ≤ WIDEST }
-    requires wide { scan.now.head.width ≤ WIDTH }
-    requires row { row < mcus_down scan.now.head }
-    requires room { HasRowRoom scan.now.head work.old }
-    requires read { AreRead scan.now (length scan.now.intervals) row work.old.blocks }
-    requires pixels { 8 * vertical_max scan.now.head * line_size scan.now.head ≤ length pixels.old }
-    ensures room { HasRowRoom scan.now.head work.new }
-    ensures lines { ShowsLines scan.now (length scan.now.intervals) row (take (line_count scan.now.head row * line_size scan.now.head) pixels.new) }
+    requires wide { part.now.scan.head.width ≤ WIDTH }
+    requires row { row < mcus_down part.now.scan.head }
+    requires room { HasRowRoom part.now.scan.head work.old }
+    requires read { AreRead part.now.scan part.now.limit row work.old.blocks }
+    requires pixels { 8 * vertical_max part.now.scan.head * line_size part.now.scan.head ≤ length pixels.old }
+    ensures room { HasRowRoom part.now.scan.head work.new }
+    ensures lines { ShowsLines part.now.scan part.now.limit row (take (line_count part.now.scan.head row * line_size part.now.scan.head) pixels.new) }
 {
+    let (scan, limit) = (part.scan(), part.limit());
     let (_y, count) = lines_of(scan.head(), row);
     let size = count as usize * shape_of(scan.head()).line;
-    work.paint(scan, scan.intervals(), row, lines, &mut pixels[..size]);
+    work.paint(scan, limit, row, lines, &mut pixels[..size]);
 }
 
 /// Memory for the blocks, the samples and the lines of a row of MCUs of the scan.
 #[derive(Drop)]
-pub(crate) struct Bench<S: OneScan> {
+pub(crate) struct Bench<S: OnePart> {
     work: Row,
     pixels: Vec<u8>,
     of: PhantomData<S>,
 }
 
-impl<S: OneScan> Model for Bench<S> {
+impl<S: OnePart> Model for Bench<S> {
     ghost use Rattle.jr_stream.specs.CrewValue.{BenchValue};
     ghost use Rattle.jr_stream.specs.Crew.{HasRoom, HasWork};
 
@@ -55,16 +55,17 @@ impl<S: OneScan> Model for Bench<S> {
 
     ghost view = { λ b. record { work = b.work; pixels = b.pixels.items } };
 
-    ghost invariant = { λ b. HasWork S.scan b.work × HasRoom S.scan b.pixels.items };
+    ghost invariant = { λ b. HasWork S.part b.work × HasRoom S.part b.pixels.items };
 }
 
-impl<S: OneScan> Bench<S> {
+impl<S: OnePart> Bench<S> {
     /// An empty bench.
-    pub(crate) fn open(alloc: Global, scan: &Scan) -> Result<Bench<S>, Memory>
-        requires { S.scan ≡ Some scan.now }
+    pub(crate) fn open(alloc: Global, part: &Part<'_>) -> Result<Bench<S>, Memory>
+        requires { S.part ≡ Some part.now }
     {
-        let work = Row::open(alloc, scan.head())?;
-        let pixels = vec![in alloc; 0; bytes_of_row(scan.head())]?;
+        let head = part.scan().head();
+        let work = Row::open(alloc, head)?;
+        let pixels = vec![in alloc; 0; bytes_of_row(head)]?;
         Ok(Bench {
             work,
             pixels,
@@ -72,12 +73,12 @@ impl<S: OneScan> Bench<S> {
         })
     }
 
-    /// Reads the next row of the scan, all of whose intervals are decoded.
-    pub(crate) fn read(self, scan: &Scan, rows: &mut Rows<'_>) -> Coded<S>
-        requires scan { S.scan ≡ Some scan.now }
-        requires of { rows.old.scan ≡ scan.now }
-        requires limit { rows.old.limit ≡ length scan.now.intervals }
-        requires row { rows.old.row < mcus_down scan.now.head }
+    /// Reads the next row of the scan.
+    pub(crate) fn read(self, part: &Part<'_>, rows: &mut Rows<'_>) -> Coded<S>
+        requires part { S.part ≡ Some part.now }
+        requires of { rows.old.scan ≡ part.now.scan }
+        requires limit { rows.old.limit ≡ part.now.limit }
+        requires row { rows.old.row < mcus_down part.now.scan.head }
         ensures moved { rows.new ≡ record rows.old { row = rows.old.row + 1 } }
     {
         let row = rows.row();
@@ -95,7 +96,7 @@ impl<S: OneScan> Bench<S> {
 
 /// A row of MCUs of the scan, read and not yet painted, and the marks of the intervals that end in it.
 #[derive(Drop)]
-pub(crate) struct Coded<S: OneScan> {
+pub(crate) struct Coded<S: OnePart> {
     row: u32,
     marked: Marked,
     work: Row,
@@ -104,7 +105,7 @@ pub(crate) struct Coded<S: OneScan> {
     of: PhantomData<S>,
 }
 
-impl<S: OneScan> Model for Coded<S> {
+impl<S: OnePart> Model for Coded<S> {
     ghost use Rattle.jr_stream.specs.CrewValue.{CodedValue};
     ghost use Rattle.jr_stream.specs.Crew.{HasRoom, HasWork, IsRead};
 
@@ -112,22 +113,22 @@ impl<S: OneScan> Model for Coded<S> {
 
     ghost view = { λ c. record { row = c.row; marked = c.marked; work = c.work } };
 
-    ghost invariant = { λ c. HasWork S.scan c.work × HasRoom S.scan c.pixels.items × IsRead S.scan (record { row = c.row; marked = c.marked; work = c.work }) };
+    ghost invariant = { λ c. HasWork S.part c.work × HasRoom S.part c.pixels.items × IsRead S.part (record { row = c.row; marked = c.marked; work = c.work }) };
 }
 
-impl<S: OneScan> Coded<S> {
+impl<S: OnePart> Coded<S> {
     /// Transforms and paints the row.
     pub(crate) fn paint<const WIDTH: usize>(
         self,
-        scan: &Scan,
+        part: &Part<'_>,
         lines: &mut SampleLines<WIDTH>,
     ) -> Painted<S>
-        requires scan { S.scan ≡ Some scan.now }
+        requires part { S.part ≡ Some part.now }
         requires stack { WIDTH ≤ WIDEST }
-        requires wide { scan.now.head.width ≤ WIDTH }
+        requires wide { part.now.scan.head.width ≤ WIDTH }
     {
         let (mut work, mut pixels) = (self.work, self.pixels);
-        paint_first(&mut work, scan, self.row, lines, &mut pixels);
+        paint_first(&mut work, part, self.row, lines, &mut pixels);
         Painted {
             row: self.row,
             marked: self.marked,
@@ -140,7 +141,7 @@ impl<S: OneScan> Coded<S> {
 
 /// The lines of a row of MCUs of the scan, and the marks of the intervals that end in it.
 #[derive(Drop)]
-pub(crate) struct Painted<S: OneScan> {
+pub(crate) struct Painted<S: OnePart> {
     row: u32,
     marked: Marked,
     work: Row,
@@ -149,7 +150,7 @@ pub(crate) struct Painted<S: OneScan> {
     of: PhantomData<S>,
 }
 
-impl<S: OneScan> Model for Painted<S> {
+impl<S: OnePart> Model for Painted<S> {
     ghost use Rattle.jr_stream.specs.CrewValue.{PaintedValue};
     ghost use Rattle.jr_stream.specs.Crew.{HasRoom, HasWork, IsPainted};
 
@@ -157,10 +158,10 @@ impl<S: OneScan> Model for Painted<S> {
 
     ghost view = { λ p. record { row = p.row; marked = p.marked; pixels = p.pixels.items } };
 
-    ghost invariant = { λ p. HasWork S.scan p.work × HasRoom S.scan p.pixels.items × IsPainted S.scan (record { row = p.row; marked = p.marked; pixels = p.pixels.items }) };
+    ghost invariant = { λ p. HasWork S.part p.work × HasRoom S.part p.pixels.items × IsPainted S.part (record { row = p.row; marked = p.marked; pixels = p.pixels.items }) };
 }
 
-impl<S: OneScan> Painted<S> {
+impl<S: OnePart> Painted<S> {
     /// The row's number.
     pub(crate) fn row(&self) -> u32
         ensures { result ≡ self.now.row }
@@ -169,11 +170,11 @@ impl<S: OneScan> Painted<S> {
     }
 
     /// Copies the lines, for which the slice has room, and answers the marks of the intervals that end in the row.
-    pub(crate) fn copy_to(&self, scan: &Scan, pixels: &mut [u8]) -> Marked
-        requires scan { S.scan ≡ Some scan.now }
-        requires room { length pixels.old ≡ line_count scan.now.head self.now.row * line_size scan.now.head }
-        ensures lines { ShowsLines scan.now (length scan.now.intervals) self.now.row pixels.new }
-        ensures counts { CountsRow scan.now (length scan.now.intervals) self.now.row result }
+    pub(crate) fn copy_to(&self, part: &Part<'_>, pixels: &mut [u8]) -> Marked
+        requires part { S.part ≡ Some part.now }
+        requires room { length pixels.old ≡ line_count part.now.scan.head self.now.row * line_size part.now.scan.head }
+        ensures lines { ShowsLines part.now.scan part.now.limit self.now.row pixels.new }
+        ensures counts { CountsRow part.now.scan part.now.limit self.now.row result }
     {
         pixels.copy_from_slice(&self.pixels[..pixels.len()]);
         self.marked

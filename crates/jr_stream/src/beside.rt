@@ -4,7 +4,7 @@ ghost use Rattle.std.specs.Prelude.{◌≤◌};
 ghost use Rattle.jr_paint.specs.declared.netpbm.TheConstants.{WIDEST};
 
 use crate::crew::Crew;
-use jr_piece::OneScan;
+use crate::part::OnePart;
 use jr_wall::Gate;
 use std::sync::Wait;
 use std::thread;
@@ -28,12 +28,12 @@ pub(crate) trait Beside {
 pub(crate) fn run_beside<
     R: Threads + Wait + Sync,
     G: Gate + Sync,
-    S: OneScan + Send,
+    S: OnePart + Send,
     B: Beside + Drop,
     const WIDTH: usize,
 >(crew: &Crew<'_, S>, rt: &R, gate: &G, others: u32, beside: B) -> B::Answer
     requires stack { WIDTH ≤ WIDEST }
-    requires wide { crew.now.head.width ≤ WIDTH }
+    requires wide { crew.now.scan.head.width ≤ WIDTH }
     requires beside { B.may beside }
     ensures { B.gives beside result }
 {
@@ -41,13 +41,13 @@ pub(crate) fn run_beside<
         thread::scope_env(),
         rt,
         |scope| -> B::Answer
-            requires { (WIDTH ≤ WIDEST) × (crew.now.head.width ≤ WIDTH) × B.may beside }
+            requires { (WIDTH ≤ WIDEST) × (crew.now.scan.head.width ≤ WIDTH) × B.may beside }
             ensures { B.gives beside result }
         {
             for _ in 0..others {
                 let _ = scope.spawn(
                     move ||
-                        requires { (WIDTH ≤ WIDEST) × (crew.now.head.width ≤ WIDTH) }
+                        requires { (WIDTH ≤ WIDEST) × (crew.now.scan.head.width ≤ WIDTH) }
                     { crew.work::<R, G, WIDTH>(rt, gate) },
                 );
             }

@@ -1,14 +1,14 @@
 //! The thread that writes what the others paint.
 
-ghost use Rattle.std.specs.Prelude.{◌≡◌, ◌≤◌, length};
+ghost use Rattle.std.specs.Prelude.{◌≡◌, ◌≤◌};
 ghost use Rattle.jr_paint.specs.declared.netpbm.TheConstants.{WIDEST};
 
 use crate::crew::Crew;
 use crate::marked::Marked;
 use crate::painter::RowPainter;
+use crate::part::OnePart;
 use crate::shape::shape_of;
 use jr_paint::SampleLines;
-use jr_piece::OneScan;
 use jr_wall::Gate;
 use std::marker::Model;
 use std::sync::Wait;
@@ -16,7 +16,7 @@ use std::sync::Wait;
 /// The calling thread: it takes row after row from a crew, and reads and paints where the row that comes next is not painted
 /// yet.
 #[derive(Drop)]
-pub(crate) struct Caller<'a, 'b, R: Wait, G: Gate, S: OneScan, const WIDTH: usize> {
+pub(crate) struct Caller<'a, 'b, R: Wait, G: Gate, S: OnePart, const WIDTH: usize> {
     crew: &'b Crew<'a, S>,
     rt: &'b R,
     gate: &'b G,
@@ -24,20 +24,20 @@ pub(crate) struct Caller<'a, 'b, R: Wait, G: Gate, S: OneScan, const WIDTH: usiz
     lines: SampleLines<WIDTH>,
 }
 
-impl<'a, 'b, R: Wait, G: Gate, S: OneScan, const WIDTH: usize> Model
+impl<'a, 'b, R: Wait, G: Gate, S: OnePart, const WIDTH: usize> Model
     for Caller<'a, 'b, R, G, S, WIDTH> {
-    ghost use Rattle.std.specs.Prelude.{◌≡◌, ◌≤◌, Some, length};
+    ghost use Rattle.std.specs.Prelude.{◌≡◌, ◌≤◌, Some};
     ghost use Rattle.jr_stream.specs.RowsValue.{RowsValue};
     ghost use Rattle.jr_paint.specs.declared.netpbm.TheConstants.{WIDEST};
 
     ghost Value = { RowsValue };
 
-    ghost view = { λ c. record { scan = c.crew.now; limit = length c.crew.now.intervals; row = c.row } };
+    ghost view = { λ c. record { scan = c.crew.now.scan; limit = c.crew.now.limit; row = c.row } };
 
-    ghost invariant = { λ c. (S.scan ≡ Some c.crew.now) × (c.crew.now.head.width ≤ WIDTH) × (WIDTH ≤ WIDEST) };
+    ghost invariant = { λ c. (S.part ≡ Some c.crew.now) × (c.crew.now.scan.head.width ≤ WIDTH) × (WIDTH ≤ WIDEST) };
 }
 
-impl<'a, 'b, R: Wait, G: Gate, S: OneScan, const WIDTH: usize> Caller<'a, 'b, R, G, S, WIDTH> {
+impl<'a, 'b, R: Wait, G: Gate, S: OnePart, const WIDTH: usize> Caller<'a, 'b, R, G, S, WIDTH> {
     /// Nothing is written yet.
     pub(crate) fn of(
         crew: &'b Crew<'a, S>,
@@ -45,11 +45,11 @@ impl<'a, 'b, R: Wait, G: Gate, S: OneScan, const WIDTH: usize> Caller<'a, 'b, R,
         gate: &'b G,
     ) -> Caller<'a, 'b, R, G, S, WIDTH>
         requires stack { WIDTH ≤ WIDEST }
-        requires wide { crew.now.head.width ≤ WIDTH }
-        ensures { result ≡ record { scan = crew.now; limit = length crew.now.intervals; row = 0 } }
+        requires wide { crew.now.scan.head.width ≤ WIDTH }
+        ensures { result ≡ record { scan = crew.now.scan; limit = crew.now.limit; row = 0 } }
     {
-        // By its contract the scan is the one that the type knows of.
-        let _scan = crew.scan();
+        // By its contract the part is the one that the type knows of.
+        let _part = crew.part();
         Caller {
             crew,
             rt,
@@ -74,7 +74,7 @@ impl<'a, 'b, R: Wait, G: Gate, S: OneScan, const WIDTH: usize> Caller<'a, 'b, R,
     }
 }
 
-impl<R: Wait, G: Gate, S: OneScan, const WIDTH: usize> RowPainter
+impl<R: Wait, G: Gate, S: OnePart, const WIDTH: usize> RowPainter
     for Caller<'_, '_, R, G, S, WIDTH> {
     ghost at = { λ c. c };
 
@@ -82,9 +82,9 @@ impl<R: Wait, G: Gate, S: OneScan, const WIDTH: usize> RowPainter
         self.help();
         let (crew, rt) = (self.crew, self.rt);
         // By its contract a row's number has room.
-        let _rows = shape_of(crew.scan().head()).down;
+        let _rows = shape_of(crew.part().scan().head()).down;
         let painted = crew.painted(rt, self.row);
-        let marked = painted.copy_to(crew.scan(), pixels);
+        let marked = painted.copy_to(crew.part(), pixels);
         crew.give_back(rt, painted.into_bench());
         self.row += 1;
         marked

@@ -5,11 +5,10 @@ ghost use Rattle.jr_paint.specs.declared.netpbm.TheConstants.{WIDEST};
 
 use crate::baton::Baton;
 use crate::bench::{Bench, Coded, Painted};
+use crate::part::{OnePart, Part};
 use crate::ring::{Ring, Task, Waiter};
 use crate::shape::{intervals_of_row, shape_of};
 use jr_paint::SampleLines;
-use jr_piece::OneScan;
-use jr_scan::Scan;
 use jr_wall::Gate;
 use std::marker::Model;
 use std::sync::{Condvar, Mutex, Wait};
@@ -21,8 +20,8 @@ use std::sync::{Condvar, Mutex, Wait};
 /// what it has read. Else one thread reads row after row, and what it has read is painted by whoever is free. What is painted
 /// waits for its turn to be written.
 #[derive(Drop)]
-pub(crate) struct Crew<'a, S: OneScan> {
-    scan: &'a Scan,
+pub(crate) struct Crew<'a, S: OnePart> {
+    part: Part<'a>,
     ring: Mutex<Ring<'a, S>>,
     /// Somebody has read a row, or given back a bench, or all is over. It wakes nobody where nobody waits.
     has_task: Condvar,
@@ -30,42 +29,42 @@ pub(crate) struct Crew<'a, S: OneScan> {
     has_row: Condvar,
 }
 
-impl<'a, S: OneScan> Model for Crew<'a, S> {
+impl<'a, S: OnePart> Model for Crew<'a, S> {
     ghost use Rattle.std.specs.Prelude.{◌≡◌, Some};
-    ghost use Rattle.jr_scan.specs.ScanValue.{ScanValue};
+    ghost use Rattle.jr_stream.specs.PartValue.{PartValue};
 
-    ghost Value = { ScanValue };
+    ghost Value = { PartValue };
 
-    ghost view = { λ c. c.scan.now };
+    ghost view = { λ c. c.part };
 
-    ghost invariant = { λ c. S.scan ≡ Some c.scan.now };
+    ghost invariant = { λ c. S.part ≡ Some c.part };
 }
 
-impl<'a, S: OneScan> Crew<'a, S> {
+impl<'a, S: OnePart> Crew<'a, S> {
     /// Nothing is done yet.
-    pub(crate) fn of(scan: &'a Scan, ring: Ring<'a, S>) -> Crew<'a, S>
-        requires { S.scan ≡ Some scan.now }
-        ensures { result ≡ scan.now }
+    pub(crate) fn of(part: Part<'a>, ring: Ring<'a, S>) -> Crew<'a, S>
+        requires { S.part ≡ Some part }
+        ensures { result ≡ part.entry }
     {
         Crew {
-            scan,
+            part,
             ring: Mutex::new(ring),
             has_task: Condvar::new(),
             has_row: Condvar::new(),
         }
     }
 
-    /// The scan that is decoded.
-    pub(crate) fn scan(&self) -> &'a Scan
+    /// What of the scan is decoded.
+    pub(crate) fn part(&self) -> &Part<'a>
         ensures value { result.now ≡ self.now }
-        ensures known { S.scan ≡ Some self.now }
+        ensures known { S.part ≡ Some self.now }
     {
-        self.scan
+        &self.part
     }
 
     /// As many tasks there are at most: each row is read, and painted.
     pub(crate) fn most_tasks(&self) -> u32 {
-        2 * shape_of(self.scan.head()).down
+        2 * shape_of(self.part.scan().head()).down
     }
 
     /// What a thread does next, once there is something. None where nothing is left.
@@ -76,7 +75,7 @@ impl<'a, S: OneScan> Crew<'a, S> {
             .has_task
             .wait_while(rt, ring, |ring| ring.has_no_task());
         ring.end_waiting();
-        ring.task(self.scan)
+        ring.task(&self.part)
     }
 
     /// What the calling thread does next, once there is something or this row is painted. None where it is, or nothing is left.
@@ -90,7 +89,7 @@ impl<'a, S: OneScan> Crew<'a, S> {
         if ring.has(row) {
             return None;
         }
-        ring.task(self.scan)
+        ring.task(&self.part)
     }
 
     /// Paints a row that is read.
@@ -101,9 +100,9 @@ impl<'a, S: OneScan> Crew<'a, S> {
         lines: &mut SampleLines<WIDTH>,
     )
         requires stack { WIDTH ≤ WIDEST }
-        requires wide { self.now.head.width ≤ WIDTH }
+        requires wide { self.now.scan.head.width ≤ WIDTH }
     {
-        let painted = coded.paint(self.scan, lines);
+        let painted = coded.paint(&self.part, lines);
         let is_awaited = self.ring.lock(rt).put_painted(painted);
         if is_awaited {
             self.has_row.notify_one();
@@ -120,10 +119,10 @@ impl<'a, S: OneScan> Crew<'a, S> {
         lines: &mut SampleLines<WIDTH>,
     )
         requires stack { WIDTH ≤ WIDEST }
-        requires wide { self.now.head.width ≤ WIDTH }
+        requires wide { self.now.scan.head.width ≤ WIDTH }
     {
-        let (coded, behind) = baton.read(self.scan, gate, bench);
-        if intervals_of_row(self.scan.head()).is_some() {
+        let (coded, behind) = baton.read(&self.part, gate, bench);
+        if intervals_of_row(self.part.scan().head()).is_some() {
             return self.paint(rt, coded, lines);
         }
         let waiter = self.ring.lock(rt).put_coded(coded, behind);
@@ -143,7 +142,7 @@ impl<'a, S: OneScan> Crew<'a, S> {
         lines: &mut SampleLines<WIDTH>,
     )
         requires stack { WIDTH ≤ WIDEST }
-        requires wide { self.now.head.width ≤ WIDTH }
+        requires wide { self.now.scan.head.width ≤ WIDTH }
     {
         match task {
             Task::Read(baton, bench) => self.read(rt, gate, baton, bench, lines),
@@ -154,7 +153,7 @@ impl<'a, S: OneScan> Crew<'a, S> {
     /// Reads and paints rows until no one is left.
     pub(crate) fn work<R: Wait, G: Gate, const WIDTH: usize>(&self, rt: &R, gate: &G)
         requires stack { WIDTH ≤ WIDEST }
-        requires wide { self.now.head.width ≤ WIDTH }
+        requires wide { self.now.scan.head.width ≤ WIDTH }
     {
         let mut lines = SampleLines::<WIDTH>::new();
         for _ in 0..self.most_tasks() {

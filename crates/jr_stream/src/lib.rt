@@ -12,6 +12,7 @@ mod crew;
 mod lines;
 mod marked;
 mod painter;
+mod part;
 mod ring;
 mod row;
 mod rows;

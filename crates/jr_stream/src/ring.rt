@@ -5,13 +5,12 @@ ghost use Rattle.jr_stream.specs.Crew.{HasRow};
 
 use crate::baton::Baton;
 use crate::bench::{Bench, Coded, Painted};
-use jr_piece::OneScan;
-use jr_scan::Scan;
+use crate::part::{OnePart, Part};
 use std::collections::VecDeque;
 
 /// What a thread does next.
 #[derive(Drop)]
-pub(crate) enum Task<'a, S: OneScan> {
+pub(crate) enum Task<'a, S: OnePart> {
     /// Reads the next row.
     Read(Baton<'a, S>, Bench<S>),
     /// Paints a row that is read.
@@ -30,7 +29,7 @@ pub(crate) enum Waiter {
 /// The rows that are read and not yet written, no more than there are benches, and who waits for them: to wake takes longer
 /// than to ask.
 #[derive(Drop)]
-pub(crate) struct Ring<'a, S: OneScan> {
+pub(crate) struct Ring<'a, S: OnePart> {
     /// None while a thread reads by it, and where no row is left to read.
     baton: Option<Baton<'a, S>>,
     /// Nothing is read or painted any more.
@@ -47,7 +46,7 @@ pub(crate) struct Ring<'a, S: OneScan> {
     ghost some: { 0 < length painted.items },
 }
 
-impl<'a, S: OneScan> Ring<'a, S> {
+impl<'a, S: OnePart> Ring<'a, S> {
     /// No row is read yet. There is room for as many coded and painted rows as there are benches.
     pub(crate) fn of(
         baton: Option<Baton<'a, S>>,
@@ -97,14 +96,14 @@ impl<'a, S: OneScan> Ring<'a, S> {
     }
 
     /// What a thread does next: it reads where it can, so that reading goes on, and paints where it can't.
-    pub(crate) fn task(&mut self, scan: &'a Scan) -> Option<Task<'a, S>>
-        requires { S.scan ≡ Some scan.now }
+    pub(crate) fn task(&mut self, part: &Part<'a>) -> Option<Task<'a, S>>
+        requires { S.part ≡ Some part.now }
     {
         if !self.free.is_empty()
             && let Some(baton) = self.baton.take()
             && let Some(bench) = self.free.pop()
         {
-            self.baton = baton.behind(scan);
+            self.baton = baton.behind(part);
             return Some(Task::Read(baton, bench));
         }
         Some(Task::Paint(self.coded.pop_front()?))

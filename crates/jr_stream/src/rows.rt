@@ -8,6 +8,7 @@ ghost use Rattle.jr_wall.specs.Headline.{interval_number, within_interval};
 ghost use Rattle.jr_stream.specs.Rows.{AreInRange, CountsMarks, CountsMcus, GivesBehind, GivesMcus, AreRead, CountsRow, coded_before, intervals_before, mcus_before, mcus_read};
 
 use crate::marked::Marked;
+use crate::part::Part;
 use crate::shape::{coded_of_row, shape_of};
 use jr_head::Head;
 use jr_piece::UnitReader;
@@ -215,17 +216,18 @@ impl<'a> Rows<'a> {
         }
     }
 
-    /// The rows from this one on, where all intervals are decoded and a row has so many whole ones.
-    pub(crate) fn from(scan: &'a Scan, row: u32, intervals: u32) -> Rows<'a>
-        requires row { row < mcus_down scan.now.head }
-        requires whole { intervals * scan.now.head.restart ≡ mcus_across scan.now.head }
-        ensures { result ≡ record { scan = scan.now; limit = length scan.now.intervals; row = row } }
+    /// The rows from this one on, where a row has so many whole intervals.
+    pub(crate) fn from(part: &Part<'a>, row: u32, intervals: u32) -> Rows<'a>
+        requires row { row < mcus_down part.now.scan.head }
+        requires whole { intervals * part.now.scan.head.restart ≡ mcus_across part.now.scan.head }
+        ensures { result ≡ record { scan = part.now.scan; limit = part.now.limit; row = row } }
     {
-        // By its contract a picture has an MCU.
-        let _some = scan.head().mcus();
-        let limit = scan.intervals();
+        let (scan, limit) = (part.scan(), part.limit());
+        // By their contracts a picture has an MCU, and a scan as many intervals as its head says.
+        let _some = (scan.head().mcus(), scan.intervals());
+        let number = (row * intervals).min(limit);
         Rows {
-            mcus: Mcus::of(scan, limit, row * intervals),
+            mcus: Mcus::of(scan, limit, number),
             row,
         }
     }

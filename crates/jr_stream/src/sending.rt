@@ -12,16 +12,16 @@ use crate::beside::Beside;
 use crate::caller::Caller;
 use crate::crew::Crew;
 use crate::marked::Marked;
+use crate::part::OnePart;
 use crate::writing::write_rows;
 use jr_base::{Tally, WriteFault};
-use jr_piece::OneScan;
 use jr_wall::Gate;
 use std::io::Write;
 use std::sync::Wait;
 
 /// What the calling thread writes by.
 #[derive(Drop)]
-pub(crate) struct Sending<'s, 'w, 'a, R: Wait, W: Write, G: Gate, S: OneScan, const WIDTH: usize> {
+pub(crate) struct Sending<'s, 'w, 'a, R: Wait, W: Write, G: Gate, S: OnePart, const WIDTH: usize> {
     pub(crate) crew: &'s Crew<'a, S>,
     pub(crate) rt: &'s R,
     pub(crate) gate: &'s G,
@@ -30,12 +30,12 @@ pub(crate) struct Sending<'s, 'w, 'a, R: Wait, W: Write, G: Gate, S: OneScan, co
     pub(crate) out: &'w mut Tally<W>,
 }
 
-impl<'s, 'w, 'a, R: Wait, W: Write, G: Gate, S: OneScan, const WIDTH: usize> Beside
+impl<'s, 'w, 'a, R: Wait, W: Write, G: Gate, S: OnePart, const WIDTH: usize> Beside
     for Sending<'s, 'w, 'a, R, W, G, S, WIDTH> {
     /// What is answered, and the writer.
     type Answer = (Result<Marked, WriteFault>, &'w mut Tally<W>);
 
-    ghost may = { λ s. (WIDTH ≤ WIDEST) × (s.crew.now.head.width ≤ WIDTH) × (has_failed s.out.now ≡ false) × (8 * vertical_max s.crew.now.head * line_size s.crew.now.head ≤ length s.pixels.items) × (HEADER_ROOM ≤ length s.pixels.items) };
+    ghost may = { λ s. (WIDTH ≤ WIDEST) × (s.crew.now.scan.head.width ≤ WIDTH) × (has_failed s.out.now ≡ false) × (8 * vertical_max s.crew.now.scan.head * line_size s.crew.now.scan.head ≤ length s.pixels.items) × (HEADER_ROOM ≤ length s.pixels.items) };
 
     ghost gives = { λ s r. IsSentBy W.contents s.crew.now s.out.now r.1.now r.0 × (r.1.ghost_name ≡ s.out.ghost_name) };
 
@@ -47,9 +47,9 @@ impl<'s, 'w, 'a, R: Wait, W: Write, G: Gate, S: OneScan, const WIDTH: usize> Bes
             mut pixels,
             out,
         } = self;
-        let scan = crew.scan();
-        // By its contract a scan has as many intervals as its head says.
-        let _all = scan.intervals();
+        let scan = crew.part().scan();
+        // By their contracts a scan has as many intervals as its head says, and no more are decoded.
+        let _counts = (scan.intervals(), crew.part().limit());
         let mut caller = Caller::<R, G, S, WIDTH>::of(crew, rt, gate);
         let sent = write_rows(scan.head(), &mut caller, &mut pixels, out);
         crew.end(rt);

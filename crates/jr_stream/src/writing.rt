@@ -14,6 +14,7 @@ ghost use Rattle.jr_stream.specs.Stream.{WritesPicture, BeginsPicture, SendsPict
 use crate::alone::Alone;
 use crate::marked::Marked;
 use crate::painter::RowPainter;
+use crate::part::Part;
 use crate::row::Row;
 use crate::shape::{lines_of, room_for, shape_of};
 use jr_base::{Tally, WriteFault, write_all};
@@ -70,17 +71,6 @@ pub(crate) fn write_rows<W: Write, P: RowPainter>(
     }
     write_all(out, &pixels[..filled])?;
     Ok(marked)
-}
-
-/// How many intervals are decoded: the first of a scan, or all.
-fn limit_of(scan: &Scan, first: Option<u32>) -> u32
-    ensures { result ≡ least first (length scan.now.intervals) }
-{
-    let all = scan.intervals();
-    match first {
-        Some(first) => first.min(all),
-        None => all,
-    }
 }
 
 /// How many intervals are sound, damaged and blank.
@@ -177,7 +167,7 @@ pub fn write_scan<W: Write, G: Gate>(
     let Ok(mut pixels) = vec![in alloc; 0; room_for(scan.head())] else {
         return Err(Unwritten::Memory);
     };
-    let limit = limit_of(scan, first);
+    let limit = Part::of(scan, first).limit();
     match write_picture(scan, limit, work, gate, &mut pixels, out) {
         Ok(marked) => Ok(counts_of(scan, limit, marked)),
         Err(_) => Err(Unwritten::Write),

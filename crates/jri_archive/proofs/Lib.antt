@@ -1,3 +1,4 @@
 mod Rows
 mod FoundSegments
+mod Slices
 mod Verdicts

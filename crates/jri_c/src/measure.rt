@@ -10,6 +10,7 @@ ghost use Rattle.jri_c.specs.Calls.{detail_of, picture_size};
 use crate::painting::bytes_of_picture;
 use crate::report::detail;
 use jr_head::{Head, Kind, Refusal};
+use jr_scan::interval_count;
 
 /// What a file's head says of its picture, or the refusal's numbers, and 0 for all else.
 #[repr(C)]
@@ -31,16 +32,6 @@ pub struct Measure {
     pub pixels: u64,
     /// What the refusal tells beside its number: the offset of a missing marker, or a marker's code.
     pub detail: u64,
-}
-
-/// How many intervals a scan of this head has.
-fn interval_count(head: &Head) -> u32
-    ensures { result ≡ intervals_of head.now }
-{
-    match u32::from(head.restart()) {
-        0 => 1,
-        restart => head.mcus().div_ceil(restart),
-    }
 }
 
 /// The number of a kind.

@@ -1,4 +1,4 @@
-use Rattle.std.proofs.Common.{rules, subst, ℕ, length}
+use Rattle.std.proofs.Common.{rules, subst, ◌≡◌, ℕ, length}
 use Rattle.jr_head.specs.Geometry.{IsLawful}
 use Rattle.jr_wall.specs.Decoded.{least}
 use Rattle.jr_stream.specs.Stream.{SendsPicture, HasCounts}
@@ -11,13 +11,15 @@ returns-in-Ok-write_picture-clause-painted g c =
     let t = c.args.scan.now in
     let n = least c.args.first (length t.intervals) in
     let lawful : IsLawful t.head = search (rules, c.be_lawful.ensures) in
-    let sends : SendsPicture g.W.Write.contents c.args.out.now c.write_picture.new.out c.write_picture.result t n = subst (λ (k : ℕ). SendsPicture g.W.Write.contents c.args.out.now c.write_picture.new.out c.write_picture.result t k) c.limit_of-limit.ensures c.write_picture.ensures.sent in
-    painted_picture g.W.Write.contents _ _ c.write_picture.result c.each_interval_has_an_outcome.ensures t lawful n (least_few c.args.first (length t.intervals)) sends _ c.in-Ok-write_picture.is c.counts_of.result (subst (λ (k : ℕ). HasCounts t k c.counts_of.result) c.limit_of-limit.ensures c.counts_of.ensures)
+    let is : c.limit-limit.result ≡ n = search rules in
+    let sends : SendsPicture g.W.Write.contents c.args.out.now c.write_picture.new.out c.write_picture.result t n = subst (λ (k : ℕ). SendsPicture g.W.Write.contents c.args.out.now c.write_picture.new.out c.write_picture.result t k) is c.write_picture.ensures.sent in
+    painted_picture g.W.Write.contents _ _ c.write_picture.result c.each_interval_has_an_outcome.ensures t lawful n (least_few c.args.first (length t.intervals)) sends _ c.in-Ok-write_picture.is c.counts_of.result (subst (λ (k : ℕ). HasCounts t k c.counts_of.result) is c.counts_of.ensures)
 
 pub returns-clause-begun : goal.returns-clause-begun
 returns-clause-begun g c failed =
     let t = c.args.scan.now in
     let n = least c.args.first (length t.intervals) in
     let lawful : IsLawful t.head = search (rules, c.be_lawful.ensures) in
-    let sends : SendsPicture g.W.Write.contents c.args.out.now c.write_picture.new.out c.write_picture.result t n = subst (λ (k : ℕ). SendsPicture g.W.Write.contents c.args.out.now c.write_picture.new.out c.write_picture.result t k) c.limit_of-limit.ensures c.write_picture.ensures.sent in
+    let is : c.limit-limit.result ≡ n = search rules in
+    let sends : SendsPicture g.W.Write.contents c.args.out.now c.write_picture.new.out c.write_picture.result t n = subst (λ (k : ℕ). SendsPicture g.W.Write.contents c.args.out.now c.write_picture.new.out c.write_picture.result t k) is c.write_picture.ensures.sent in
     begun_picture g.W.Write.contents _ _ c.write_picture.result c.each_interval_has_an_outcome.ensures t lawful n (least_few c.args.first (length t.intervals)) sends _ c.in-Err.is

@@ -1,9 +1,10 @@
 use Rattle.std.proofs.Common.{rules, ◌≡◌, ◌+◌, ℕ, List, [], refl, subst, sym, ap, ◌∙◌, arith}
 use Rattle.jr_scan.specs.declared.scan_end.ScanEnd.TheVariants.{EndOfFile}
-use Rattle.jr_scan.proofs.Cuts.{fill_full, fill_next, marker_read, all_fill}
+use Rattle.jr_scan.proofs.Cuts.{marker_read, all_fill}
 use Rattle.jr_head.specs.HeadValue.{HeadValue}
 use Rattle.jri_archive.specs.declared.segments.CodedSpan.{CodedSpan}
 use Rattle.jri_archive.proofs.FoundSegments.{Found, found_none, pushed_slice, found_end, found_all, found_more}
+use Rattle.jri_archive.proofs.Slices.{fill_full, fill_next}
 use Rattle.jri_archive.proofs.segments.coded_segments.Goals as goal
 use Rattle.jri_archive.proofs.segments.coded_segments.Goals.{then-code_at-file-via-then-code_at-file, then-code_at-file-via-else-code_at-file+then-not-is_next}
 

@@ -1,4 +1,4 @@
-use Rattle.std.proofs.Common.{◌≡◌, ℕ, List, length, subst, sym, ap, ◌∙◌, arith, length-drop}
+use Rattle.std.proofs.Common.{◌≡◌, ℕ, List, length, drop, subst, sym, ap, ◌∙◌, arith}
 use Rattle.std.proofs.lemmas.List.{length-map}
 use Rattle.std.specs.Global.{Vec}
 use Rattle.std.specs.List.{All}
@@ -6,19 +6,19 @@ use Rattle.std.specs.Arc.{arc_value}
 use Rattle.jr_scan.specs.ScanValue.{intervals_of}
 use Rattle.jr_scan.specs.Spans.{segment_data, IsSpanOf}
 use Rattle.jr_scan.proofs.Scans.{cut_few, scan_of}
-use Rattle.jr_scan.proofs.scan.Scan.cut.Goals as goal
+use Rattle.jr_scan.proofs.scan.Scan.of.Goals as goal
 
 pub invariant_of-result : goal.invariant_of-result
 invariant_of-result c =
     let e : (arc_value c.in_ok-new-2.field-0).items ≡ c.in_ok-segments.segments.unstuffed.items = ap (λ (v : Vec ℕ). v.items) c.in_ok-new-2.ensures.ok in (
       subst (λ (x : List ℕ). All (IsSpanOf x) c.in_ok-segments.segments.spans.items) (sym e) c.in_ok-segments.ensures.within,
       omega (arith, cut_few _ _ _ _ _ c.in_ok-segments.ensures.cut, length-map c.in_ok-segments.segments.spans.items (segment_data c.in_ok-segments.segments.unstuffed.items)),
-      c.count_of-intervals.ensures.value ∙ ap intervals_of (sym c.in_ok-new.ensures.ok),
-      c.count_of-intervals.ensures.some,
-      omega (arith, ap length e, c.in_ok-segments.ensures.few, ap length c.behind.ensures, length-drop c.scan_at-start.result c.args.bytes.now, c.requires),
+      c.interval_count-intervals.ensures.value ∙ ap intervals_of (sym c.in_ok-new.ensures.ok),
+      c.interval_count-intervals.ensures.some,
+      omega (arith, ap length e, c.in_ok-segments.ensures.few, c.requires.few),
     )
 
 pub returns-clause-cut : goal.returns-clause-cut
 returns-clause-cut c =
     let e : (arc_value c.in_ok-new-2.field-0).items ≡ c.in_ok-segments.segments.unstuffed.items = ap (λ (v : Vec ℕ). v.items) c.in_ok-new-2.ensures.ok in
-    scan_of c.args.head _ c.args.bytes.now _ _ _ _ _ _ _ c.in_ok-new.ensures.ok e c.count_of-intervals.ensures.value c.scan_at-start.ensures.value c.behind.ensures c.in_ok-segments.ensures.cut
+    λ file is. scan_of c.args.head _ file _ _ _ _ _ _ _ c.in_ok-new.ensures.ok e c.interval_count-intervals.ensures.value c.scan_at.ensures.value (is ∙ ap (λ (k : ℕ). drop k file) (sym c.scan_at.ensures.value)) c.in_ok-segments.ensures.cut

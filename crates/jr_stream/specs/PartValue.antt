@@ -1,0 +1,8 @@
+-- What contracts see of the part of a scan that is decoded.
+use Rattle.std.specs.Prelude.{ℕ}
+use Rattle.jr_scan.specs.ScanValue.{ScanValue}
+
+-- a scan, and how many of its intervals are decoded, from the first on
+pub record PartValue : Type 0 where
+  pub scan : ScanValue
+  pub limit : ℕ
