@@ -71,12 +71,13 @@ fn crewed<R: Threads + Wait + Sync + AllocGlobal>(
     rt: &R,
     scan: &Scan,
     workers: u32,
+    first: Option<u32>,
 ) -> Result<Written, Fail>
     requires some { 1 ≤ workers }
     requires few { workers ≤ MAX_WORKERS }
 {
     let mut out = Tally::of(Vec::new(rt.alloc()));
-    let counts = write_scan_by(rt, rt.alloc(), scan, workers, &OpenGate, &mut out)
+    let counts = write_scan_by(rt, rt.alloc(), scan, workers, first, &OpenGate, &mut out)
         .ok()
         .ok_or("a picture that is not written")?;
     Ok(Written {
@@ -106,23 +107,24 @@ fn kept<R: Threads + Wait + Sync + AllocGlobal>(
 fn check_crews<R: Threads + Wait + Sync + AllocGlobal + Abort>(
     rt: &R,
     scan: &Scan,
+    first: Option<u32>,
+    one: &Written,
     name: &str,
 ) -> Result<(), Fail> {
-    let one = streamed(rt.alloc(), scan, None)?;
-    check_lines(rt, scan, &one, name)?;
     let crews = [
-        crewed(rt, scan, 1)?,
-        crewed(rt, scan, 2)?,
-        crewed(rt, scan, 5)?,
+        crewed(rt, scan, 1, first)?,
+        crewed(rt, scan, 2, first)?,
+        crewed(rt, scan, 5, first)?,
     ];
     for crew in crews {
         let is_same = one.text == crew.text && one.counts == crew.counts;
-        assert!(rt; is_same, "{name} by several workers");
+        assert!(rt; is_same, "{name} by several workers, first {first:?}");
     }
     Ok(())
 }
 
-/// Holds what is written in one pass against what is written from a board, for several numbers of first intervals.
+/// Holds what is written in one pass, by one worker and by several, against what is written from a board, for several
+/// numbers of first intervals; and lines that are painted alone against all of them.
 fn check_firsts<R: Threads + Wait + Sync + AllocGlobal + Abort>(
     rt: &R,
     bytes: &[u8],
@@ -135,6 +137,8 @@ fn check_firsts<R: Threads + Wait + Sync + AllocGlobal + Abort>(
         let other = kept(rt, Arc::try_clone(&scan)?, first)?;
         let is_same = one.text == other.text && one.counts == other.counts;
         assert!(rt; is_same, "{name}, first {first:?}");
+        check_crews(rt, &scan, first, &one, name)?;
     }
-    check_crews(rt, &scan, name)
+    let one = streamed(rt.alloc(), &scan, None)?;
+    check_lines(rt, &scan, &one, name)
 }

@@ -19,7 +19,7 @@ fn sees(cells: &Cells, number: u32, sight: &mut Sight) -> bool
 impl<'a> Caller<'a> {
     ghost use Rattle.std.specs.Arc.{arc_value};
 
-    fn piece(&self, number: u32) -> Option<Arc<Piece>>
+    pub(crate) fn piece(&self, number: u32) -> Option<Arc<Piece>>
         ensures { IfSome result (λ piece. (arc_value piece).interval.number ≡ number) }
     {
         let piece = Piece::make(self.alloc, self.interval(number)?).ok()?;
@@ -52,6 +52,20 @@ impl<'a> Caller<'a> {
         let head = read_head(self.alloc, file).ok()?;
         self.begin();
         let answer = Scan::cut(self.alloc, head, file);
+        self.end();
+        let again = answer.ok()?;
+        Some(again.is_same(&self.scan) && again.ended() == ScanEnd::EndOfImage)
+    }
+
+    pub(crate) fn cut_in_place(&mut self) -> Option<bool> {
+        let file = self.file;
+        if file.len() > 1000 {
+            return Some(false);
+        }
+        let head = read_head(self.alloc, file).ok()?;
+        let bytes = file.to_vec(self.alloc).ok()?;
+        self.begin();
+        let answer = Scan::cut_in_place(self.alloc, head, bytes);
         self.end();
         let again = answer.ok()?;
         Some(again.is_same(&self.scan) && again.ended() == ScanEnd::EndOfImage)

@@ -8,6 +8,7 @@ mod caller;
 mod intervals;
 mod keeping;
 mod strips;
+mod writing;
 
 use caller::Caller;
 use std::io::{Read, Write};
@@ -28,6 +29,7 @@ fn main(rt: HostRuntime) -> ExitCode {
         ("StripReader::next", caller.read_strip()),
         ("CodedStrip::decode", caller.decode_strip()),
         ("Scan::cut", caller.cut()),
+        ("Scan::cut_in_place", caller.cut_in_place()),
         ("Board::new", caller.open_board()),
         ("Desk::open", caller.open_desk()),
         ("Cells::open", caller.open_cells()),
@@ -38,6 +40,9 @@ fn main(rt: HostRuntime) -> ExitCode {
         ("StripCells::hang", caller.hang_strip()),
         ("Decoding::open", caller.open_decoding()),
         ("Decoding::finish", caller.finish_decoding()),
+        ("write_scan", caller.write()),
+        ("write_scan_by", caller.write_by(&rt)),
+        ("paint_scan_lines", caller.paint_lines()),
     ];
     for (name, outcome) in outcomes {
         let text = match outcome {

@@ -1,8 +1,8 @@
 //! Scans worked out by hand.
 
 use crate::files::{TEN, file};
-use crate::scans::scan_of;
-use jr_scan::{Block, BlockReader, Interval, Place, ScanEnd};
+use crate::scans::{scan_in_place, scan_of};
+use jr_scan::{Block, BlockReader, Interval, Place, ScanEnd, interval_count};
 use std::alloc::Global;
 use std::process::Abort;
 use std::test::Fail;
@@ -43,11 +43,15 @@ fn check_row(rt: &impl Abort, alloc: Global, row: &Row<'_>) -> Result<(), Fail> 
     let scan = scan_of(alloc, bytes.as_slice())?;
     assert!(rt; scan.ended() == *ended, "{words}");
     assert!(rt; scan.intervals() as usize == intervals.len(), "{words}");
+    assert!(rt; interval_count(scan.head()) == scan.intervals(), "{words}");
     for (i, (firsts, is_sound)) in intervals.iter().enumerate() {
         assert!(rt; i < scan.intervals() as usize);
         let interval = scan.interval(i as u32)?;
         check_interval(rt, alloc, &interval, firsts, *is_sound)?;
     }
+    let in_place = scan_in_place(alloc, bytes)?;
+    assert!(rt; in_place.is_same(&scan), "{words}");
+    assert!(rt; in_place.ended() == *ended, "{words}");
     Ok(())
 }
 

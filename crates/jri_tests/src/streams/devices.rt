@@ -1,5 +1,8 @@
 //! Devices that move few bytes a call, and writers that fail at one call, behind some rows of MCUs.
 
+ghost use Rattle.std.specs.Prelude.{◌≤◌};
+ghost use Rattle.jr_base.specs.declared.limits.TheConstants.{MAX_WORKERS};
+
 use super::made::{Shape, colour, grey, made_file};
 use crate::decoding::decode;
 use jr_paint::Tally;
@@ -54,13 +57,17 @@ impl Write for Sink {
     }
 }
 
-/// The fault of a run by one worker whose output fails at a call, or at none where that is 0; and the output.
+/// The fault of a run by so many workers whose output fails at a call, or at none where that is 0; and the output.
 fn written<R: Threads + Wait + Sync + AllocGlobal>(
     rt: &R,
     bytes: &[u8],
+    workers: u32,
     most: usize,
     failing: u32,
-) -> (Option<Fault>, Sink) {
+) -> (Option<Fault>, Sink)
+    requires some { 1 ≤ workers }
+    requires few { workers ≤ MAX_WORKERS }
+{
     let mut input = Tally::of(Source { rest: bytes });
     let mut out = Tally::of(Sink {
         bytes: Vec::new(rt.alloc()),
@@ -68,7 +75,15 @@ fn written<R: Threads + Wait + Sync + AllocGlobal>(
         calls: 0,
         failing,
     });
-    let outcome = run(rt, rt.alloc(), &mut input, &mut out, 1, None, &OpenGate);
+    let outcome = run(
+        rt,
+        rt.alloc(),
+        &mut input,
+        &mut out,
+        workers,
+        None,
+        &OpenGate,
+    );
     (outcome.err(), out.into_inner())
 }
 
@@ -76,18 +91,22 @@ fn written<R: Threads + Wait + Sync + AllocGlobal>(
 fn check<R: Threads + Wait + Sync + AllocGlobal + Abort>(
     rt: &R,
     shape: &Shape,
+    workers: u32,
     most: usize,
-) -> Result<(), Fail> {
+) -> Result<(), Fail>
+    requires some { 1 ≤ workers }
+    requires few { workers ≤ MAX_WORKERS }
+{
     let bytes = made_file(rt.alloc(), shape, 5)?;
     let whole = decode(rt, bytes.as_slice(), 2, None)?.picture;
-    let (fault, all) = written(rt, bytes.as_slice(), most, 0);
+    let (fault, all) = written(rt, bytes.as_slice(), workers, most, 0);
     assert!(rt;
         fault.is_none() && all.bytes == whole,
         "{} by {most}",
         shape.frame
     );
     for failing in 1..=all.calls {
-        let (fault, sink) = written(rt, bytes.as_slice(), most, failing);
+        let (fault, sink) = written(rt, bytes.as_slice(), workers, most, failing);
         assert!(rt;
             fault == Some(Fault::Write),
             "{} call {failing}",
@@ -102,13 +121,16 @@ fn check<R: Threads + Wait + Sync + AllocGlobal + Abort>(
 
 #[test]
 fn writes_rows_of_mcus_by_a_byte_a_call(rt: HostRuntime) -> Result<(), Fail> {
-    check(&rt, &grey("F:0011:0009", 2, 6), 1)?;
-    check(&rt, &colour("F3:0011:0005:12", 1, 2, 4), 1)
+    check(&rt, &grey("F:0011:0009", 2, 6), 1, 1)?;
+    check(&rt, &colour("F3:0011:0005:12", 1, 2, 4), 1, 1)?;
+    check(&rt, &grey("F:0001:00F9", 32, 32), 3, 1)
 }
 
 /// More rows of MCUs than one write takes.
 #[test]
 fn writes_large_pictures_by_larger_calls(rt: HostRuntime) -> Result<(), Fail> {
-    check(&rt, &grey("F:0051:0401", 129, 1419), 10_000)?;
-    check(&rt, &colour("F3:0041:0201:22", 33, 165, 6), 73_728)
+    check(&rt, &grey("F:0051:0401", 129, 1419), 1, 10_000)?;
+    check(&rt, &grey("F:0051:0401", 129, 1419), 3, 10_000)?;
+    check(&rt, &colour("F3:0041:0201:22", 33, 165, 6), 1, 73_728)?;
+    check(&rt, &colour("F3:0041:0201:22", 33, 165, 6), 3, 73_728)
 }

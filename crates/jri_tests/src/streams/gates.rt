@@ -70,6 +70,7 @@ impl Gate for Crowd {
 fn check_crew<R: Threads + Wait + Sync + AllocGlobal + Abort>(
     rt: &R,
     words: &str,
+    first: Option<u32>,
     passed: u32,
 ) -> Result<(), Fail> {
     let gate = Crowd {
@@ -78,11 +79,11 @@ fn check_crew<R: Threads + Wait + Sync + AllocGlobal + Abort>(
     };
     let scan = scan(rt.alloc(), words)?;
     let mut out = Tally::of(Vec::new(rt.alloc()));
-    assert!(rt; write_scan_by(rt, rt.alloc(), &scan, 3, &gate, &mut out).is_ok());
+    assert!(rt; write_scan_by(rt, rt.alloc(), &scan, 3, first, &gate, &mut out).is_ok());
     let all = 1_u32.wrapping_shl(passed).wrapping_sub(1);
     let is_told = gate.passed.load(Ordering::SeqCst) == passed
         && gate.numbers.load(Ordering::SeqCst) == all;
-    assert!(rt; is_told, "{words} by several workers");
+    assert!(rt; is_told, "{words} by several workers, first {first:?}");
     Ok(())
 }
 
@@ -128,8 +129,19 @@ fn tells_a_gate_each_of_the_first_intervals_once(rt: HostRuntime) -> Result<(), 
 
 #[test]
 fn crews_tell_a_gate_each_interval_once(rt: HostRuntime) -> Result<(), Fail> {
-    check_crew(&rt, TEN, 10)?;
-    check_crew(&rt, MIXED, 10)?;
-    check_crew(&rt, COLOURED, 2)?;
-    check_crew(&rt, "G 63 E", 1)
+    let cases = [
+        (TEN, None, 10),
+        (TEN, Some(0), 0),
+        (TEN, Some(1), 1),
+        (TEN, Some(4), 4),
+        (MIXED, None, 10),
+        (MIXED, Some(7), 7),
+        (COLOURED, None, 2),
+        (COLOURED, Some(1), 1),
+        ("G 63 E", None, 1),
+    ];
+    for (words, first, passed) in cases {
+        check_crew(&rt, words, first, passed)?;
+    }
+    Ok(())
 }
