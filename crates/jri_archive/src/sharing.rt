@@ -1,7 +1,8 @@
 //! Many files, checked by several workers and told in their order.
 
-ghost use Rattle.std.specs.Prelude.{IfOk};
+ghost use Rattle.std.specs.Prelude.{◌≡◌, IfOk};
 ghost use Rattle.jri_archive.specs.Outcomes.{IsOutcomeOf};
+ghost use Rattle.jri_archive.specs.Status.{told_status};
 ghost use Rattle.jri_archive.specs.Verdicts.{IsFileScan};
 
 use crate::answers::Asked;
@@ -33,6 +34,18 @@ pub enum Told {
     Unwritten,
     /// Memory ran out for a line.
     Memory,
+}
+
+impl Told {
+    /// The exit status: 0 where each file is sound and has its line, else 1.
+    pub fn status(&self) -> u8
+        ensures { result ≡ told_status self.now }
+    {
+        match self {
+            Told::AllSound => 0,
+            Told::SomeNot | Told::Unwritten | Told::Memory => 1,
+        }
+    }
 }
 
 /// Why a line is not written.

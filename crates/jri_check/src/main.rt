@@ -74,19 +74,14 @@ fn tell<W: Write, E: Write>(out: &mut W, errors: &mut E, unasked: &Unasked) -> u
     unasked.status()
 }
 
-/// Says why not every file has its line, and answers the exit status: 0 where all files are sound, else 1.
+/// Says why not every file has its line, and answers the exit status.
 fn finish<E: Write>(errors: &mut E, told: Told) -> u8 {
-    match told {
-        Told::AllSound => return 0,
-        Told::SomeNot => {}
-        Told::Unwritten => {
-            let _ = writeln!(errors, "cannot write the lines");
-        }
-        Told::Memory => {
-            let _ = writeln!(errors, "out of memory");
-        }
-    }
-    1
+    let _ = match told {
+        Told::AllSound | Told::SomeNot => Ok(()),
+        Told::Unwritten => writeln!(errors, "cannot write the lines"),
+        Told::Memory => writeln!(errors, "out of memory"),
+    };
+    told.status()
 }
 
 fn main(rt: HostRuntime) -> ExitCode {
