@@ -157,62 +157,65 @@ fn tells_worked_files(rt: HostRuntime) -> Result<(), Fail> {
     check_cases(&rt, &cases::extended_sequential_frames())
 }
 
+const NO_SCANS: [(&str, &str); 3] = [
+    ("FF D8 FF C2", "refused 5: frame C2 is not baseline\n"),
+    ("FF D8 00", "refused 3: expected a marker at byte 2\n"),
+    (MISSING, "cannot be read\n"),
+];
+
 #[test]
 fn tells_what_has_no_scan(rt: HostRuntime) -> Result<(), Fail> {
-    let rows = [
-        ("FF D8 FF C2", "refused 5: frame C2 is not baseline\n"),
-        ("FF D8 00", "refused 3: expected a marker at byte 2\n"),
-        (MISSING, "cannot be read\n"),
-    ];
-    check(&rt, &rows)
+    check(&rt, &NO_SCANS)
 }
+
+const MAPS: [(&str, &str); 5] = [
+    (
+        "GI 63 FF D0 E0 E",
+        "damaged, 1 of 2 intervals, lines 0 to 7\n\
+         interval 1, MCUs 1 to 1, lines 0 to 7, bytes 149 to 149, 0 of 1 MCUs decodable\n",
+    ),
+    (
+        "GI 63 FF FF D0 FF 00 E0 FF",
+        "damaged, 1 of 2 intervals, lines 0 to 7, scan ended at the end of the file\n\
+         interval 1, MCUs 1 to 1, lines 0 to 7, bytes 150 to 152, 0 of 1 MCUs decodable\n",
+    ),
+    (
+        "S Q F:0011:0008 D A I C 63 FF D0 E0 FF D1 FF D9",
+        "damaged, 2 of 3 intervals, lines 8 to 16\n\
+         interval 1, MCUs 1 to 1, lines 8 to 15, bytes 149 to 149, 0 of 1 MCUs decodable\n\
+         interval 2, MCUs 2 to 2, lines 16 to 16, no bytes, 0 of 1 MCUs decodable\n",
+    ),
+    (
+        "S Q F:0010:0018 D A I:0004 C 60 60 FF D0 63 E",
+        "damaged, 2 of 2 intervals, lines 0 to 15\n\
+         interval 0, MCUs 0 to 3, lines 0 to 15, bytes 146 to 147, 2 of 4 MCUs decodable\n\
+         interval 1, MCUs 4 to 5, lines 8 to 15, bytes 150 to 150, 1 of 2 MCUs decodable\n",
+    ),
+    (
+        COLOURED_DAMAGED,
+        "damaged, 1 of 2 intervals, lines 0 to 8\n\
+         interval 1, MCUs 1 to 1, lines 0 to 8, bytes 161 to 161, 0 of 1 MCUs decodable\n",
+    ),
+];
 
 #[test]
 fn maps_damaged_intervals(rt: HostRuntime) -> Result<(), Fail> {
-    let rows = [
-        (
-            "GI 63 FF D0 E0 E",
-            "damaged, 1 of 2 intervals, lines 0 to 7\n\
-             interval 1, MCUs 1 to 1, lines 0 to 7, bytes 149 to 149, 0 of 1 MCUs decodable\n",
-        ),
-        (
-            "GI 63 FF FF D0 FF 00 E0 FF",
-            "damaged, 1 of 2 intervals, lines 0 to 7, scan ended at the end of the file\n\
-             interval 1, MCUs 1 to 1, lines 0 to 7, bytes 150 to 152, 0 of 1 MCUs decodable\n",
-        ),
-        (
-            "S Q F:0011:0008 D A I C 63 FF D0 E0 FF D1 FF D9",
-            "damaged, 2 of 3 intervals, lines 8 to 16\n\
-             interval 1, MCUs 1 to 1, lines 8 to 15, bytes 149 to 149, 0 of 1 MCUs decodable\n\
-             interval 2, MCUs 2 to 2, lines 16 to 16, no bytes, 0 of 1 MCUs decodable\n",
-        ),
-        (
-            "S Q F:0010:0018 D A I:0004 C 60 60 FF D0 63 E",
-            "damaged, 2 of 2 intervals, lines 0 to 15\n\
-             interval 0, MCUs 0 to 3, lines 0 to 15, bytes 146 to 147, 2 of 4 MCUs decodable\n\
-             interval 1, MCUs 4 to 5, lines 8 to 15, bytes 150 to 150, 1 of 2 MCUs decodable\n",
-        ),
-        (
-            COLOURED_DAMAGED,
-            "damaged, 1 of 2 intervals, lines 0 to 8\n\
-             interval 1, MCUs 1 to 1, lines 0 to 8, bytes 161 to 161, 0 of 1 MCUs decodable\n",
-        ),
-    ];
-    check(&rt, &rows)
+    check(&rt, &MAPS)
 }
+
+const FIVE_OF_TEN: [(&str, &str); 1] = [(
+    MIXED,
+    "damaged, 5 of 10 intervals, lines 0 to 7\n\
+     interval 1, MCUs 1 to 1, lines 0 to 7, bytes 149 to 149, 0 of 1 MCUs decodable\n\
+     interval 3, MCUs 3 to 3, lines 0 to 7, bytes 155 to 156, 1 of 1 MCUs decodable\n\
+     interval 4, MCUs 4 to 4, lines 0 to 7, bytes 159 to 159, 0 of 1 MCUs decodable\n\
+     interval 6, MCUs 6 to 6, lines 0 to 7, no bytes, 0 of 1 MCUs decodable\n\
+     interval 8, MCUs 8 to 8, lines 0 to 7, bytes 170 to 170, 0 of 1 MCUs decodable\n",
+)];
 
 #[test]
 fn maps_five_of_ten_intervals(rt: HostRuntime) -> Result<(), Fail> {
-    let rows = [(
-        MIXED,
-        "damaged, 5 of 10 intervals, lines 0 to 7\n\
-         interval 1, MCUs 1 to 1, lines 0 to 7, bytes 149 to 149, 0 of 1 MCUs decodable\n\
-         interval 3, MCUs 3 to 3, lines 0 to 7, bytes 155 to 156, 1 of 1 MCUs decodable\n\
-         interval 4, MCUs 4 to 4, lines 0 to 7, bytes 159 to 159, 0 of 1 MCUs decodable\n\
-         interval 6, MCUs 6 to 6, lines 0 to 7, no bytes, 0 of 1 MCUs decodable\n\
-         interval 8, MCUs 8 to 8, lines 0 to 7, bytes 170 to 170, 0 of 1 MCUs decodable\n",
-    )];
-    check(&rt, &rows)
+    check(&rt, &FIVE_OF_TEN)
 }
 
 #[test]
@@ -255,21 +258,23 @@ fn words_of(alloc: Global, line: &str) -> Result<Vec<String>, Fail> {
     Ok(words)
 }
 
+/// Lines, and what they ask for.
+const CHECKS: [(&str, u32, bool, usize); 3] = [
+    ("a", 4, false, 1),
+    ("--map a b", 4, true, 2),
+    ("a --workers 64 b c", 64, false, 3),
+];
+
 #[test]
 fn asks_for_checks(rt: HostRuntime) -> Result<(), Fail> {
-    let rows = [
-        ("a", 4, false, 1),
-        ("--map a b", 4, true, 2),
-        ("a --workers 64 b c", 64, false, 3),
-    ];
-    for (line, workers, has_map, files) in rows {
+    for (line, workers, has_map, files) in &CHECKS {
         let words = words_of(rt.alloc(), line)?;
         let found = asked(rt.alloc(), words.as_slice())
             .ok()
             .ok_or("words that are refused")?;
-        assert!(rt; found.workers == workers, "workers of {line}");
-        assert!(rt; found.has_map == has_map, "map of {line}");
-        assert!(rt; found.files.len() == files, "files of {line}");
+        assert!(rt; found.workers == *workers, "workers of {line}");
+        assert!(rt; found.has_map == *has_map, "map of {line}");
+        assert!(rt; found.files.len() == *files, "files of {line}");
     }
     Ok(())
 }

@@ -45,24 +45,26 @@ fn bits_of(bytes: &[u8]) -> Result<Bits<'_>, Fail> {
     Ok(Bits::over(bytes))
 }
 
+/// Counts, bytes, the symbol of the word in front of them, and how many bits are left behind it.
+const WORDS: [(&[u8; 16], &[u8], Option<u8>, u64); 9] = [
+    (&LUMINANCE_DC, &[0xFE], Some(10), 0),
+    (&LUMINANCE_DC, &[0xFF, 0x00], Some(11), 7),
+    (&LUMINANCE_DC, &[0xFF], None, 8),
+    (&LUMINANCE_DC, &[0xFF, 0x80], None, 16),
+    (&EACH_LENGTH, &[0xFF, 0xFE], Some(15), 0),
+    (&EACH_LENGTH, &[0xFF, 0xFF], None, 16),
+    (&EACH_LENGTH, &[0x7F], Some(0), 7),
+    (&FULL, &[0xFF, 0xFF], Some(16), 0),
+    (&[0; 16], &[0x00], None, 8),
+];
+
 #[test]
 fn reads_words(rt: HostRuntime) -> Result<(), Fail> {
-    let rows: [(&[u8; 16], &[u8], Option<u8>, u64); 9] = [
-        (&LUMINANCE_DC, &[0xFE], Some(10), 0),
-        (&LUMINANCE_DC, &[0xFF, 0x00], Some(11), 7),
-        (&LUMINANCE_DC, &[0xFF], None, 8),
-        (&LUMINANCE_DC, &[0xFF, 0x80], None, 16),
-        (&EACH_LENGTH, &[0xFF, 0xFE], Some(15), 0),
-        (&EACH_LENGTH, &[0xFF, 0xFF], None, 16),
-        (&EACH_LENGTH, &[0x7F], Some(0), 7),
-        (&FULL, &[0xFF, 0xFF], Some(16), 0),
-        (&[0; 16], &[0x00], None, 8),
-    ];
-    for (counts, bytes, symbol, left) in rows {
+    for (counts, bytes, symbol, left) in &WORDS {
         let book = book_of(rt.alloc(), counts)?;
         let mut bits = bits_of(bytes)?;
-        assert_eq!(rt; book.read(&mut bits), symbol);
-        assert_eq!(rt; bits.left(), left);
+        assert!(rt; book.read(&mut bits) == *symbol);
+        assert!(rt; bits.left() == *left);
     }
     Ok(())
 }
@@ -72,18 +74,18 @@ fn reads_words(rt: HostRuntime) -> Result<(), Fail> {
 fn reads_no_word_behind_the_last(rt: HostRuntime) -> Result<(), Fail> {
     let book = book_of(rt.alloc(), &EACH_LENGTH)?;
     let mut bits = bits_of(&[0x7F])?;
-    assert_eq!(rt; book.read(&mut bits), Some(0));
-    assert_eq!(rt; book.read(&mut bits), None);
-    assert_eq!(rt; bits.left(), 7);
+    assert!(rt; book.read(&mut bits) == Some(0));
+    assert!(rt; book.read(&mut bits) == None);
+    assert!(rt; bits.left() == 7);
     Ok(())
 }
 
 #[test]
 fn looks_up_bytes(rt: HostRuntime) -> Result<(), Fail> {
     let book = book_of(rt.alloc(), &LUMINANCE_DC)?;
-    assert_eq!(rt; book.entries()[0], Some((0, 2)));
-    assert_eq!(rt; book.entries()[0xFE], Some((10, 8)));
-    assert_eq!(rt; book.entries()[0xFF], None);
+    assert!(rt; book.entries()[0] == Some((0, 2)));
+    assert!(rt; book.entries()[0xFE] == Some((10, 8)));
+    assert!(rt; book.entries()[0xFF] == None);
     Ok(())
 }
 
@@ -100,9 +102,9 @@ fn check_words(
     let mut at: usize = 0;
     for _ in 0..=128u32 {
         let plain = word(counts, &symbols, bytes, at);
-        assert_eq!(rt; book.read(&mut bits), plain.map(|(symbol, _)| symbol));
+        assert!(rt; book.read(&mut bits) == plain.map(|(symbol, _)| symbol));
         at = at.saturating_add(plain.map_or(0, |(_, long)| long));
-        assert_eq!(rt; bits.left(), all.saturating_sub(at as u64));
+        assert!(rt; bits.left() == all.saturating_sub(at as u64));
     }
     Ok(())
 }
@@ -120,12 +122,11 @@ fn check_extended_words(
     let mut at: usize = 0;
     for _ in 0..=128u32 {
         let plain = extended_word(counts, &symbols, bytes, at);
-        assert_eq!(rt;
-            book.read_extended(&mut bits),
-            plain.map(|(symbol, value, _)| (symbol, value))
+        assert!(rt;
+            book.read_extended(&mut bits) == plain.map(|(symbol, value, _)| (symbol, value))
         );
         at = at.saturating_add(plain.map_or(0, |(_, _, long)| long));
-        assert_eq!(rt; bits.left(), all.saturating_sub(at as u64));
+        assert!(rt; bits.left() == all.saturating_sub(at as u64));
     }
     Ok(())
 }
@@ -168,12 +169,11 @@ fn check_up_to_each_end(
         let plain = extended_word(&EACH_LENGTH, symbols, bytes, 0);
         let mut bits = bits_of(bytes)?;
         let all = bits.left();
-        assert_eq!(rt;
-            book.read_extended(&mut bits),
-            plain.map(|(symbol, value, _)| (symbol, value))
+        assert!(rt;
+            book.read_extended(&mut bits) == plain.map(|(symbol, value, _)| (symbol, value))
         );
         let taken = plain.map_or(0, |(_, _, long)| long);
-        assert_eq!(rt; bits.left(), all.saturating_sub(taken as u64));
+        assert!(rt; bits.left() == all.saturating_sub(taken as u64));
     }
     Ok(())
 }
@@ -196,67 +196,75 @@ fn reads_each_length_with_each_number_of_extra_bits(rt: HostRuntime) -> Result<(
     Ok(())
 }
 
+/// How many extra bits, two bytes, and what the bits stand for.
+const EXTRA_BITS: [(u32, [u8; 2], i32); 11] = [
+    (0, [0xFF, 0xFF], 0),
+    (1, [0x00, 0x00], -1),
+    (1, [0x80, 0x00], 1),
+    (3, [0x60, 0x00], -4),
+    (3, [0x80, 0x00], 4),
+    (3, [0x00, 0x00], -7),
+    (3, [0xE0, 0x00], 7),
+    (10, [0x00, 0x00], -1023),
+    (10, [0xFF, 0xC0], 1023),
+    (11, [0x00, 0x00], -2047),
+    (11, [0xFF, 0xE0], 2047),
+];
+
 #[test]
 fn reads_extra_bits(rt: HostRuntime) {
-    let rows: [(u32, [u8; 2], i32); 11] = [
-        (0, [0xFF, 0xFF], 0),
-        (1, [0x00, 0x00], -1),
-        (1, [0x80, 0x00], 1),
-        (3, [0x60, 0x00], -4),
-        (3, [0x80, 0x00], 4),
-        (3, [0x00, 0x00], -7),
-        (3, [0xE0, 0x00], 7),
-        (10, [0x00, 0x00], -1023),
-        (10, [0xFF, 0xC0], 1023),
-        (11, [0x00, 0x00], -2047),
-        (11, [0xFF, 0xE0], 2047),
-    ];
-    for (size, bytes, value) in rows {
+    for (size, bytes, value) in &EXTRA_BITS {
+        let size = *size;
         assert!(rt; size <= 15);
-        let mut bits = Bits::over(&bytes);
-        assert_eq!(rt; bits.extra(size), Some(value));
-        assert_eq!(rt; bits.left(), 16 - u64::from(size));
+        let mut bits = Bits::over(bytes);
+        assert!(rt; bits.extra(size) == Some(*value));
+        assert!(rt; bits.left() == 16 - u64::from(size));
     }
 }
+
+/// Bytes, the symbol of the word in front of them and the value of its extra bits, and how many bits are left.
+const EXTENDED_WORDS: [(&[u8], Option<(u8, i32)>, u64); 8] = [
+    (&[0b1001_0100], Some((3, 5)), 2),
+    (&[0b1000_1000], Some((3, -5)), 2),
+    (&[0b0000_0000], Some((0, 0)), 6),
+    (&[0b1001_0100, 0, 0, 0, 0xFF], Some((3, 5)), 34),
+    (&[0b1000_1000, 0, 0, 0, 0xFF], Some((3, -5)), 34),
+    (&[0b1110_1000, 0b0000_0000, 0, 0, 0], Some((6, 32)), 30),
+    (&[0b1110_1000], None, 8),
+    (&[0b1111_1111], None, 8),
+];
 
 /// By the table of Annex K.3 the word of 3 is 100, that of 0 is 00 and that of 6 is 1110.
 #[test]
 fn reads_words_with_extra_bits(rt: HostRuntime) -> Result<(), Fail> {
     let book = book_of(rt.alloc(), &LUMINANCE_DC)?;
-    let rows: [(&[u8], Option<(u8, i32)>, u64); 8] = [
-        (&[0b1001_0100], Some((3, 5)), 2),
-        (&[0b1000_1000], Some((3, -5)), 2),
-        (&[0b0000_0000], Some((0, 0)), 6),
-        (&[0b1001_0100, 0, 0, 0, 0xFF], Some((3, 5)), 34),
-        (&[0b1000_1000, 0, 0, 0, 0xFF], Some((3, -5)), 34),
-        (&[0b1110_1000, 0b0000_0000, 0, 0, 0], Some((6, 32)), 30),
-        (&[0b1110_1000], None, 8),
-        (&[0b1111_1111], None, 8),
-    ];
-    for (bytes, answer, left) in rows {
+    for (bytes, answer, left) in &EXTENDED_WORDS {
         let mut bits = bits_of(bytes)?;
-        assert_eq!(rt; book.read_extended(&mut bits), answer);
-        assert_eq!(rt; bits.left(), left);
+        assert!(rt; book.read_extended(&mut bits) == *answer);
+        assert!(rt; bits.left() == *left);
     }
     Ok(())
 }
 
+/// How many bits, their number, and how many are left.
+const TAKEN: [(u32, Option<u16>, u64); 7] = [
+    (0, Some(0), 40),
+    (4, Some(1), 36),
+    (16, Some(0x2345), 20),
+    (15, Some(0x33C4), 5),
+    (6, None, 5),
+    (5, Some(0x1A), 0),
+    (1, None, 0),
+];
+
 #[test]
 fn takes_bits(rt: HostRuntime) -> Result<(), Fail> {
-    let rows = [
-        (0, Some(0), 40),
-        (4, Some(1), 36),
-        (16, Some(0x2345), 20),
-        (15, Some(0x33C4), 5),
-        (6, None, 5),
-        (5, Some(0x1A), 0),
-        (1, None, 0),
-    ];
     let mut bits = bits_of(&[0x12, 0x34, 0x56, 0x78, 0x9A])?;
-    for (count, number, left) in rows {
+    for (count, number, left) in &TAKEN {
+        let count = *count;
         assert!(rt; count <= 16);
-        assert_eq!(rt; bits.take(count), number);
-        assert_eq!(rt; bits.left(), left);
+        assert!(rt; bits.take(count) == *number);
+        assert!(rt; bits.left() == *left);
     }
     Ok(())
 }
@@ -265,12 +273,12 @@ fn takes_bits(rt: HostRuntime) -> Result<(), Fail> {
 #[test]
 fn keeps_the_bits_once_more(rt: HostRuntime) -> Result<(), Fail> {
     let mut bits = bits_of(&[0x9A])?;
-    assert_eq!(rt; bits.take(3), Some(4));
+    assert!(rt; bits.take(3) == Some(4));
     let again = bits.again();
-    assert_eq!(rt; bits.extra(6), None);
-    assert_eq!(rt; bits.left(), 5);
-    assert_eq!(rt; bits.take(5), Some(0x1A));
-    assert_eq!(rt; (bits.left(), again.left()), (0, 5));
+    assert!(rt; bits.extra(6) == None);
+    assert!(rt; bits.left() == 5);
+    assert!(rt; bits.take(5) == Some(0x1A));
+    assert!(rt; (bits.left(), again.left()) == (0, 5));
     Ok(())
 }
 
@@ -288,7 +296,7 @@ fn refuses_what_is_no_table(rt: HostRuntime) -> Result<(), Fail> {
         (&FULL, &symbols[..17], None),
     ];
     for (counts, symbols, fault) in &rows {
-        assert_eq!(rt; CodeBook::new(rt.alloc(), counts, symbols).err(), *fault);
+        assert!(rt; CodeBook::new(rt.alloc(), counts, symbols).err() == *fault);
     }
     Ok(())
 }

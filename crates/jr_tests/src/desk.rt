@@ -11,19 +11,19 @@ use std::thread::Threads;
 #[test]
 fn hands_out_to_two_seats_in_turn(rt: HostRuntime) -> Result<(), Fail> {
     let (desk, mut seats) = Desk::open(rt.alloc(), 3, 2)?;
-    assert_eq!(rt; seats.len(), 2);
+    assert!(rt; seats.len() == 2);
     let (mut b, mut a) = (seats.remove(1), seats.remove(0));
-    assert_eq!(rt; desk.claim(&mut a), Some(0));
-    assert_eq!(rt; desk.claim(&mut b), Some(1));
-    assert_eq!(rt; desk.claim(&mut a), Some(2));
-    assert_eq!(rt; desk.claim(&mut b), None);
-    assert_eq!(rt; desk.claim(&mut a), None);
-    assert_eq!(rt; desk.claim(&mut a), None);
-    assert_eq!(rt; (a.drawn(), b.drawn()), (2, 1));
+    assert!(rt; desk.claim(&mut a) == Some(0));
+    assert!(rt; desk.claim(&mut b) == Some(1));
+    assert!(rt; desk.claim(&mut a) == Some(2));
+    assert!(rt; desk.claim(&mut b) == None);
+    assert!(rt; desk.claim(&mut a) == None);
+    assert!(rt; desk.claim(&mut a) == None);
+    assert!(rt; (a.drawn(), b.drawn()) == (2, 1));
     let mut ended = Vec::new(rt.alloc());
     ended.push(a)?;
     ended.push(b)?;
-    assert_eq!(rt; desk.gather(ended).total(), 3);
+    assert!(rt; desk.gather(ended).total() == 3);
     Ok(())
 }
 
@@ -31,17 +31,17 @@ fn hands_out_to_two_seats_in_turn(rt: HostRuntime) -> Result<(), Fail> {
 fn hands_out_nothing_below_0(rt: HostRuntime) -> Result<(), Fail> {
     let (desk, mut seats) = Desk::open(rt.alloc(), 0, 1)?;
     let mut seat = seats.remove(0);
-    assert_eq!(rt; desk.claim(&mut seat), None);
-    assert_eq!(rt; seat.drawn(), 0);
+    assert!(rt; desk.claim(&mut seat) == None);
+    assert!(rt; seat.drawn() == 0);
     seats.push(seat)?;
-    assert_eq!(rt; desk.gather(seats).total(), 0);
+    assert!(rt; desk.gather(seats).total() == 0);
     Ok(())
 }
 
 #[test]
 fn gathers_seats_that_drew_nothing(rt: HostRuntime) -> Result<(), Fail> {
     let (desk, seats) = Desk::open(rt.alloc(), 3, 2)?;
-    assert_eq!(rt; desk.gather(seats).total(), 0);
+    assert!(rt; desk.gather(seats).total() == 0);
     Ok(())
 }
 
@@ -121,9 +121,9 @@ fn four_threads_draw_each_number_once(rt: HostRuntime) -> Result<(), Fail> {
     let (desk, seats) = Desk::open(rt.alloc(), 1000, 4)?;
     let turns = claim_in_threads(&rt, rt.alloc(), &desk, seats)?;
     let (ended, mut numbers) = seats_and_numbers(rt.alloc(), &desk, turns)?;
-    assert_eq!(rt; desk.gather(ended).total(), 1000);
+    assert!(rt; desk.gather(ended).total() == 1000);
     numbers.sort()?;
-    assert_eq!(rt; numbers.len(), 1000);
+    assert!(rt; numbers.len() == 1000);
     for (place, number) in numbers.iter().enumerate() {
         assert!(rt; *number as usize == place, "place {place}");
     }

@@ -41,48 +41,48 @@ fn counts(board: &Board) -> (u32, u32, u32) {
 fn takes_a_damaged_piece_before_a_sound_one(rt: HostRuntime) -> Result<(), Fail> {
     let alloc = rt.alloc();
     let (scan, mut board) = blank_board(alloc, DAMAGED)?;
-    assert_eq!(rt; counts(&board), (0, 0, 2));
-    assert_eq!(rt; sample_at(&board, 0, 0), Some(0));
+    assert!(rt; counts(&board) == (0, 0, 2));
+    assert!(rt; sample_at(&board, 0, 0) == Some(0));
     assert!(rt; board.post(piece(alloc, &scan, 1)?).is_ok());
     assert!(rt; marks_of(alloc, &scan, &board)?.as_str() == "-d");
-    assert_eq!(rt;
-        (sample_at(&board, 8, 0), sample_at(&board, 0, 0)),
-        (Some(128), Some(0))
-    );
+    assert!(rt; (sample_at(&board, 8, 0), sample_at(&board, 0, 0)) == (Some(128), Some(0)));
     assert!(rt; board.post(piece(alloc, &scan, 0)?).is_ok());
     assert!(rt; marks_of(alloc, &scan, &board)?.as_str() == "sd");
     assert!(rt; shows(&board, 0, 136) && shows(&board, 8, 128));
-    assert_eq!(rt; counts(&board), (1, 1, 0));
+    assert!(rt; counts(&board) == (1, 1, 0));
     Ok(())
 }
+
+/// The piece that is posted, and the marks behind it.
+const STEPS: [(u32, &str); 10] = [
+    (7, "-------s--"),
+    (2, "--s----s--"),
+    (9, "--s----s-s"),
+    (0, "s-s----s-s"),
+    (8, "s-s----sss"),
+    (1, "sss----sss"),
+    (5, "sss--s-sss"),
+    (6, "sss--sssss"),
+    (3, "ssss-sssss"),
+    (4, "ssssssssss"),
+];
 
 #[test]
 fn takes_pieces_out_of_order(rt: HostRuntime) -> Result<(), Fail> {
     let alloc = rt.alloc();
     let (scan, mut board) = blank_board(alloc, TEN)?;
-    let steps = [
-        (7, "-------s--"),
-        (2, "--s----s--"),
-        (9, "--s----s-s"),
-        (0, "s-s----s-s"),
-        (8, "s-s----sss"),
-        (1, "sss----sss"),
-        (5, "sss--s-sss"),
-        (6, "sss--sssss"),
-        (3, "ssss-sssss"),
-        (4, "ssssssssss"),
-    ];
-    for (number, letters) in steps {
+    for (number, letters) in &STEPS {
+        let number = *number;
         assert!(rt; shows(&board, 8 * number, 0), "before {number}");
         assert!(rt;
             board.post(piece(alloc, &scan, number)?).is_ok(),
             "piece {number}"
         );
         let found = marks_of(alloc, &scan, &board)?;
-        assert!(rt; found.as_str() == letters, "marks after {number}");
+        assert!(rt; found.as_str() == *letters, "marks after {number}");
         assert!(rt; shows(&board, 8 * number, 136), "after {number}");
     }
-    assert_eq!(rt; counts(&board), (10, 0, 0));
+    assert!(rt; counts(&board) == (10, 0, 0));
     Ok(())
 }
 
@@ -99,7 +99,7 @@ fn refuses_a_piece_posted_twice(rt: HostRuntime) -> Result<(), Fail> {
         "posted twice",
     )?;
     assert!(rt; !is_foreign && refused.number() == 0);
-    assert_eq!(rt; counts(&board), (1, 0, 1));
+    assert!(rt; counts(&board) == (1, 0, 1));
     assert!(rt; marks_of(alloc, &scan, &board)?.as_str() == "s-");
     assert!(rt; shows(&board, 0, 136) && shows(&board, 8, 0));
     Ok(())
@@ -115,7 +115,7 @@ fn refuses_a_foreign_piece(rt: HostRuntime) -> Result<(), Fail> {
     assert!(rt; stranger.is_for(&other) && !stranger.is_for(&scan_here));
     let (refused, is_foreign) = piece_back(board.post(stranger)).ok_or("a foreign piece")?;
     assert!(rt; is_foreign && refused.number() == 1 && !refused.is_sound());
-    assert_eq!(rt; counts(&board), (0, 0, 2));
+    assert!(rt; counts(&board) == (0, 0, 2));
     assert!(rt; marks_of(alloc, &scan_here, &board)?.as_str() == "--");
     assert!(rt; shows(&board, 0, 0) && shows(&board, 8, 0));
     Ok(())
@@ -131,7 +131,7 @@ fn refuses_a_piece_past_the_last(rt: HostRuntime) -> Result<(), Fail> {
         "past the last",
     )?;
     assert!(rt; is_foreign && refused.number() == 9);
-    assert_eq!(rt; counts(&board), (0, 0, 2));
+    assert!(rt; counts(&board) == (0, 0, 2));
     Ok(())
 }
 

@@ -99,7 +99,7 @@ fn pieces_of_another_thread_are_found(rt: HostRuntime) -> Result<(), Fail> {
     let pieces = pieces_of(rt.alloc(), RISING)?;
     let shared = &cells;
     let (count, ()) = thread::join(&rt, move || hang_all(shared, pieces), || ());
-    assert_eq!(rt; count, 10);
+    assert!(rt; count == 10);
     assert!(rt; contents_now(&cells)? == contents_of(&RISING_GREYS));
     Ok(())
 }
@@ -114,7 +114,7 @@ fn a_full_cell_gives_the_second_piece_back(rt: HostRuntime) -> Result<(), Fail> 
     assert!(rt; hang(&cells, first, &mut sight).is_ok());
     let back = hang(&cells, second, &mut sight).err();
     let back = back.ok_or("the cell is full")?;
-    assert_eq!(rt; Arc::strong_count(&kept), 2);
+    assert!(rt; Arc::strong_count(&kept) == 2);
     assert!(rt; content_of(&back) == Some((9, true, [114; 64])));
     assert!(rt; look(&cells, 9, &mut sight) == Some((9, true, [160; 64])));
     Ok(())
@@ -123,7 +123,7 @@ fn a_full_cell_gives_the_second_piece_back(rt: HostRuntime) -> Result<(), Fail> 
 #[test]
 fn an_empty_cell_is_empty_until_a_piece_is_hung(rt: HostRuntime) -> Result<(), Fail> {
     let cells = Cells::open(rt.alloc(), 10)?;
-    assert_eq!(rt; cells.count(), 10);
+    assert!(rt; cells.count() == 10);
     let mut one = cells.sight()?;
     let mut two = cells.sight()?;
     let last = last_piece_of(rt.alloc(), RISING)?;
@@ -134,7 +134,7 @@ fn an_empty_cell_is_empty_until_a_piece_is_hung(rt: HostRuntime) -> Result<(), F
     assert!(rt; look(&cells, 9, &mut two) == Some((9, true, [160; 64])));
     assert!(rt; look(&cells, 8, &mut one).is_none());
     cells.agree(&mut one, &mut two);
-    assert_eq!(rt; Cells::open(rt.alloc(), 0)?.count(), 0);
+    assert!(rt; Cells::open(rt.alloc(), 0)?.count() == 0);
     Ok(())
 }
 
@@ -149,7 +149,7 @@ fn hang_and_watch<R: Threads + Abort + Sync>(rt: &R, alloc: Global) -> Result<()
         || watch_twice(rt, shared),
         move || hang_twice(rt, shared, rising, falling),
     );
-    assert_eq!(rt; count, 10);
+    assert!(rt; count == 10);
     let (mut one, mut two) = (one?, two?);
     let last = contents_now(&cells)?;
     assert!(rt; is_full(&last));

@@ -175,8 +175,8 @@ fn sees_each_step_of_a_worker(rt: HostRuntime) -> Result<(), Fail> {
     };
     assert!(rt; desk.limit() <= scan.intervals() && desk.limit() <= cells.count());
     work(&rt, alloc, &scan, &desk, &mut seat, &board, &cells, &gate);
-    assert_eq!(rt; gate.calls.load(Ordering::SeqCst), 20);
-    assert_eq!(rt; gate.wrong.load(Ordering::SeqCst), 0);
+    assert!(rt; gate.calls.load(Ordering::SeqCst) == 20);
+    assert!(rt; gate.wrong.load(Ordering::SeqCst) == 0);
     Ok(())
 }
 
@@ -247,7 +247,7 @@ fn sees_marks_grow_beside_two_workers(rt: HostRuntime) -> Result<(), Fail> {
     assert!(rt; letters_in_cells(alloc, decoding.cells())?.as_str() == "ssssssssss");
     let filled = decoding.finish()?;
     assert!(rt; is_as_marked(&scan, &filled));
-    assert_eq!(rt; filled.sound(), 10);
+    assert!(rt; filled.sound() == 10);
     Ok(())
 }
 
@@ -275,6 +275,9 @@ fn mark_and_sample_seen<R: Wait>(
     Some((seen.mark, seen.sample))
 }
 
+/// Components, the last column of the first MCU and its value, and the first column of the second.
+const COLUMNS: [(u32, u32, u8, u32); 3] = [(0, 15, 128, 16), (1, 7, 128, 8), (2, 7, 200, 8)];
+
 /// Whether the first MCU shows 128, 128 and 200 up to the last of its columns, and the second has this mark and these
 /// samples.
 fn is_coloured<R: Wait>(
@@ -284,12 +287,11 @@ fn is_coloured<R: Wait>(
     mark: Mark,
     samples: [u8; 3],
 ) -> bool {
-    let columns = [(0, 15, 128, 16), (1, 7, 128, 8), (2, 7, 200, 8)];
-    for ((c, last, value, next), sample) in columns.into_iter().zip(samples) {
-        if mark_and_sample_seen(rt, board, scan, c, last) != Some((Mark::Sound, value)) {
+    for ((c, last, value, next), sample) in COLUMNS.iter().zip(samples) {
+        if mark_and_sample_seen(rt, board, scan, *c, *last) != Some((Mark::Sound, *value)) {
             return false;
         }
-        if mark_and_sample_seen(rt, board, scan, c, next) != Some((mark, sample)) {
+        if mark_and_sample_seen(rt, board, scan, *c, *next) != Some((mark, sample)) {
             return false;
         }
     }
@@ -310,15 +312,17 @@ fn decodes_coloured<R: Threads + Wait + Sync + AllocGlobal>(
     Ok(is_coloured(rt, &Mutex::new(board), &scan, mark, samples))
 }
 
+/// Files, how many first intervals are decoded, and what is seen of the second.
+const COLOURS: [(&str, u32, Mark, [u8; 3]); 3] = [
+    (COLOURED, 2, Mark::Sound, [136, 128, 128]),
+    (COLOURED_DAMAGED, 2, Mark::Damaged, [128, 128, 128]),
+    (COLOURED, 1, Mark::Blank, [0, 128, 128]),
+];
+
 #[test]
 fn sees_three_components(rt: HostRuntime) -> Result<(), Fail> {
-    let cases = [
-        (COLOURED, 2, Mark::Sound, [136, 128, 128]),
-        (COLOURED_DAMAGED, 2, Mark::Damaged, [128, 128, 128]),
-        (COLOURED, 1, Mark::Blank, [0, 128, 128]),
-    ];
-    for (words, first, mark, samples) in cases {
-        let is_right = decodes_coloured(&rt, words, first, mark, samples)?;
+    for (words, first, mark, samples) in &COLOURS {
+        let is_right = decodes_coloured(&rt, words, *first, *mark, *samples)?;
         assert!(rt; is_right, "{first} of {words}");
     }
     Ok(())

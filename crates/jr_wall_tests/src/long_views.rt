@@ -102,7 +102,7 @@ fn check_watched<R: Threads + Wait + Sync + AllocGlobal + Abort>(
         )?;
         let is_steady = decoding.run(rt, seats, &OpenGate, |decoding| watch(decoding));
         assert!(rt; is_steady);
-        assert_eq!(rt; find(&decoding, 0, units)?, mcus);
+        assert!(rt; find(&decoding, 0, units)? == mcus);
     }
     Ok(())
 }
@@ -142,9 +142,9 @@ fn own_threads_fill_the_cells_of_strips(rt: HostRuntime) -> Result<(), Fail> {
     };
     work_twice(&rt, &decoding, one, two);
     for number in [0, 1] {
-        assert_eq!(rt; find(&decoding, number, 1)?, 1056);
+        assert!(rt; find(&decoding, number, 1)? == 1056);
     }
-    assert_eq!(rt; decoding.finish()?.sound(), 2);
+    assert!(rt; decoding.finish()?.sound() == 2);
     Ok(())
 }
 

@@ -140,8 +140,8 @@ fn check_strips(
     for coded in strips.iter().rev() {
         let strip = coded.decode(alloc)?;
         strip.be_strip();
-        assert_eq!(rt; strip.number(), piece.number());
-        assert_eq!(rt; strip.first().wrapping_add(strip.mcus()), end);
+        assert!(rt; strip.number() == piece.number());
+        assert!(rt; strip.first().wrapping_add(strip.mcus()) == end);
         assert!(rt;
             strip.mcus() == most || end == piece.front(),
             "a short strip"
@@ -152,7 +152,7 @@ fn check_strips(
         );
         end = strip.first();
     }
-    assert_eq!(rt; end, 0);
+    assert!(rt; end == 0);
     Ok(())
 }
 
@@ -160,15 +160,12 @@ fn check_strips(
 fn check(rt: &impl Abort, alloc: Global, case: &Case) -> Result<(), Fail> {
     let scan = scan(alloc, case.file)?;
     let piece = piece(alloc, &scan, 0)?;
-    assert_eq!(rt;
-        (piece.front(), piece.is_sound()),
-        (case.mcus, case.is_sound)
-    );
+    assert!(rt; (piece.front(), piece.is_sound()) == (case.mcus, case.is_sound));
     for most in [1, 2, 3, 64, u32::MAX] {
         let mut reader = reader(alloc, &scan)?;
         assert!(rt; !reader.is_sound(), "nothing is read");
         let strips = read(rt, alloc, &mut reader, most)?;
-        assert_eq!(rt; reader.is_sound(), case.is_sound);
+        assert!(rt; reader.is_sound() == case.is_sound);
         check_strips(rt, alloc, strips.as_slice(), &piece, case.blocks, most)?;
     }
     Ok(())
@@ -209,7 +206,7 @@ fn no_mcus_are_asked_for(rt: HostRuntime) -> Result<(), Fail> {
         return Err(Fail::from("no strip"));
     };
     let strip = coded.decode(a)?;
-    assert_eq!(rt; (strip.first(), strip.mcus()), (0, 2));
+    assert!(rt; (strip.first(), strip.mcus()) == (0, 2));
     assert!(rt; strip.block(0) == Some(&[136; 64]) && strip.block(1) == Some(&[144; 64]));
     assert!(rt; reader.is_sound());
     Ok(())

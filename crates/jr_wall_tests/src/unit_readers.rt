@@ -61,8 +61,8 @@ fn check_rows(
     if reader.left() > 0 {
         return Err(Fail::from("more MCUs than rows"));
     }
-    assert_eq!(rt; reader.mcu(), reader.interval().mcus());
-    assert_eq!(rt; reader.is_sound(), piece.is_sound());
+    assert!(rt; reader.mcu() == reader.interval().mcus());
+    assert!(rt; reader.is_sound() == piece.is_sound());
     Ok(())
 }
 
@@ -72,44 +72,46 @@ fn check(rt: &impl Abort, alloc: Global, scan: &Scan) -> Result<(), Fail> {
         let piece = piece(alloc, scan, number)?;
         for mcus in [1, 2, 3] {
             let mut reader = UnitReader::over(scan.interval_ref(number));
-            assert_eq!(rt; reader.interval().number(), number);
+            assert!(rt; reader.interval().number() == number);
             check_rows(rt, &mut reader, &piece, mcus)?;
         }
     }
     Ok(())
 }
 
+const GREY: [&str; 8] = [
+    "S Q F:0008:0050 D A C 61 86 18 61 86 18 61 8F E",
+    "S Q F:0008:0050 D A C 61 86 18 61 E",
+    "S Q F:0008:0050 D A C 61 86 38 61 86 18 61 8F E",
+    "S Q F:0008:0050 D A C 61 86 18 61 86 18 61 8F 00 E",
+    "S Q F:0008:0050 D A C E0 E",
+    "S Q F:0008:0050 D A C E",
+    "S Q F:0020:0200 D A C 60 96*00 E",
+    MIXED,
+];
+
 /// Ten MCUs of one data unit; the data whole, cut, changed in one bit and followed by a spare byte.
 #[test]
 fn rows_of_one_component(rt: HostRuntime) -> Result<(), Fail> {
-    let cases = [
-        "S Q F:0008:0050 D A C 61 86 18 61 86 18 61 8F E",
-        "S Q F:0008:0050 D A C 61 86 18 61 E",
-        "S Q F:0008:0050 D A C 61 86 38 61 86 18 61 8F E",
-        "S Q F:0008:0050 D A C 61 86 18 61 86 18 61 8F 00 E",
-        "S Q F:0008:0050 D A C E0 E",
-        "S Q F:0008:0050 D A C E",
-        "S Q F:0020:0200 D A C 60 96*00 E",
-        MIXED,
-    ];
-    for words in cases {
+    for words in &GREY {
         check(&rt, rt.alloc(), &*scan(rt.alloc(), words)?)?;
     }
     Ok(())
 }
 
+const SIX: [&str; 6] = [
+    "S Q F3:0010:0040:22 D:00:03:06 A C3 60 00 C0 60 00 C0 60 00 C0 60 00 C0 E",
+    "S Q F3:0010:0040:22 D:00:03:06 A C3 60 00 C0 60 00 E",
+    "S Q F3:0010:0040:22 D:00:03:06 A C3 60 00 C0 60 00 C0 60 03 C0 60 00 C0 E",
+    "S Q F3:0010:0040:22 D:00:03:06 A C3 E0 E",
+    COLOURED,
+    COLOURED_DAMAGED,
+];
+
 /// MCUs of six data units; the data whole, cut within an MCU, and changed.
 #[test]
 fn rows_of_three_components(rt: HostRuntime) -> Result<(), Fail> {
-    let cases = [
-        "S Q F3:0010:0040:22 D:00:03:06 A C3 60 00 C0 60 00 C0 60 00 C0 60 00 C0 E",
-        "S Q F3:0010:0040:22 D:00:03:06 A C3 60 00 C0 60 00 E",
-        "S Q F3:0010:0040:22 D:00:03:06 A C3 60 00 C0 60 00 C0 60 03 C0 60 00 C0 E",
-        "S Q F3:0010:0040:22 D:00:03:06 A C3 E0 E",
-        COLOURED,
-        COLOURED_DAMAGED,
-    ];
-    for words in cases {
+    for words in &SIX {
         check(&rt, rt.alloc(), &*scan(rt.alloc(), words)?)?;
     }
     Ok(())
@@ -122,6 +124,14 @@ fn check_values(rt: &impl Abort, row: &Row, values: &[u8]) {
     }
 }
 
+/// How many MCUs are read, and the values of the data units of the row.
+const ROWS: [(u32, &[u8]); 4] = [
+    (2, &[136, 144, OLD]),
+    (3, &[152, 128, 128, OLD]),
+    (0, &[OLD]),
+    (3, &[128, 128, 128, OLD]),
+];
+
 /// Worked out by hand: three MCUs decode, each 8 lighter than the one before; behind them no word begins the bits.
 #[test]
 fn grey_behind_the_front(rt: HostRuntime) -> Result<(), Fail> {
@@ -131,18 +141,13 @@ fn grey_behind_the_front(rt: HostRuntime) -> Result<(), Fail> {
         return Err(Fail::from("an interval beside the first"));
     }
     let mut reader = UnitReader::over(scan.interval_ref(0));
-    let rows: [(u32, &[u8]); 4] = [
-        (2, &[136, 144, OLD]),
-        (3, &[152, 128, 128, OLD]),
-        (0, &[OLD]),
-        (3, &[128, 128, 128, OLD]),
-    ];
-    for (mcus, values) in rows {
+    for (mcus, values) in &ROWS {
+        let mcus = *mcus;
         let mut row = [[OLD; 64]; 30];
-        assert_eq!(rt; fill(&mut reader, mcus, &mut row)?, mcus as usize);
+        assert!(rt; fill(&mut reader, mcus, &mut row)? == mcus as usize);
         check_values(&rt, &row, values);
     }
-    assert_eq!(rt; (reader.mcu(), reader.left()), (8, 2));
+    assert!(rt; (reader.mcu(), reader.left()) == (8, 2));
     Ok(())
 }
 
@@ -155,8 +160,8 @@ fn borrowed_intervals(rt: HostRuntime) -> Result<(), Fail> {
         let interval = scan.interval(number)?;
         let borrowed = scan.interval_ref(number);
         let again = interval.as_ref();
-        assert_eq!(rt; (borrowed.number(), borrowed.mcus()), (number, 1));
-        assert_eq!(rt; (again.number(), again.mcus()), (number, 1));
+        assert!(rt; (borrowed.number(), borrowed.mcus()) == (number, 1));
+        assert!(rt; (again.number(), again.mcus()) == (number, 1));
         assert!(rt; borrowed.bytes() == interval.bytes());
         assert!(rt; again.bytes() == interval.bytes());
         assert!(rt; borrowed.head().is_same(scan.head()));
@@ -164,8 +169,8 @@ fn borrowed_intervals(rt: HostRuntime) -> Result<(), Fail> {
         let mut reader = BlockReader::over_ref(borrowed);
         let component = reader.next(&mut block);
         reader.be_reader();
-        assert_eq!(rt; component.is_some(), reader.mcus() == 1);
-        assert_eq!(rt; reader.interval().number(), number);
+        assert!(rt; component.is_some() == (reader.mcus() == 1));
+        assert!(rt; reader.interval().number() == number);
     }
     Ok(())
 }

@@ -50,10 +50,10 @@ fn file_of_length(alloc: Global, words: &str, last: &str, length: usize) -> Resu
 fn accepts_heads_of_many_bytes(rt: HostRuntime) -> Result<(), Fail> {
     for length in LENGTHS {
         let bytes = file_of_length(rt.alloc(), "S Q F D A", "C", length)?;
-        assert_eq!(rt; bytes.len(), length);
+        assert!(rt; bytes.len() == length);
         let head = read_head(rt.alloc(), bytes.as_slice())?;
-        assert_eq!(rt; head.scan_at(), length as u64);
-        assert_eq!(rt; (head.width(), head.height()), (8, 8));
+        assert!(rt; head.scan_at() == length as u64);
+        assert!(rt; (head.width(), head.height()) == (8, 8));
     }
     Ok(())
 }
@@ -65,9 +65,9 @@ fn accepts_scans_of_many_bytes(rt: HostRuntime) -> Result<(), Fail> {
         for _ in bytes.len()..length {
             bytes.push(0)?;
         }
-        assert_eq!(rt; bytes.len(), length);
+        assert!(rt; bytes.len() == length);
         let head = read_head(rt.alloc(), bytes.as_slice())?;
-        assert_eq!(rt; head.scan_at(), 140);
+        assert!(rt; head.scan_at() == 140);
     }
     Ok(())
 }
@@ -82,23 +82,25 @@ fn check_refused(
 ) -> Result<(), Fail> {
     for length in LENGTHS {
         let bytes = file_of_length(alloc, words, last, length)?;
-        assert_eq!(rt; bytes.len(), length);
+        assert!(rt; bytes.len() == length);
         let found = read_head(alloc, bytes.as_slice()).err();
         assert!(rt; found == Some(refusal), "{length} bytes: {found:?}");
     }
     Ok(())
 }
 
+/// The first parts of files, their last ones, and why they are refused.
+const BEHIND: [(&str, &str, Refusal); 4] = [
+    ("S Q F D", "C", Refusal::MissingTable),
+    ("S Q D A", "C", Refusal::NoFrame),
+    ("S Q F D A", "", Refusal::EndsEarly),
+    ("S Q F D A", "E", Refusal::UnexpectedMarker(0xD9)),
+];
+
 #[test]
 fn refuses_what_stands_behind_many_bytes(rt: HostRuntime) -> Result<(), Fail> {
-    let cases = [
-        ("S Q F D", "C", Refusal::MissingTable),
-        ("S Q D A", "C", Refusal::NoFrame),
-        ("S Q F D A", "", Refusal::EndsEarly),
-        ("S Q F D A", "E", Refusal::UnexpectedMarker(0xD9)),
-    ];
-    for (words, last, refusal) in cases {
-        check_refused(&rt, rt.alloc(), words, last, refusal)?;
+    for (words, last, refusal) in &BEHIND {
+        check_refused(&rt, rt.alloc(), words, last, *refusal)?;
     }
     Ok(())
 }
@@ -113,26 +115,28 @@ fn repeated_part(alloc: Global, part: &str, times: u32) -> Result<Vec<u8>, Fail>
     Ok(bytes)
 }
 
+/// A part, how often it stands, and where the scan begins.
+const SEGMENTS: [(&str, u32, u64); 9] = [
+    ("FF FE 00 02", 1500, 6140),
+    ("FF FE 04 00 1022*20", 70, 71_960),
+    ("FF FE FF FF 65533*20", 2, 131_214),
+    ("FF E1 00 12 16*00", 300, 6140),
+    ("J", 300, 5540),
+    ("I:0000", 1000, 6140),
+    ("FF DB 00 43 00 64*11", 100, 7040),
+    ("D:01:02:03", 200, 4940),
+    ("A", 200, 4540),
+];
+
 #[test]
 fn accepts_many_segments(rt: HostRuntime) -> Result<(), Fail> {
-    let cases = [
-        ("FF FE 00 02", 1500, 6140),
-        ("FF FE 04 00 1022*20", 70, 71_960),
-        ("FF FE FF FF 65533*20", 2, 131_214),
-        ("FF E1 00 12 16*00", 300, 6140),
-        ("J", 300, 5540),
-        ("I:0000", 1000, 6140),
-        ("FF DB 00 43 00 64*11", 100, 7040),
-        ("D:01:02:03", 200, 4940),
-        ("A", 200, 4540),
-    ];
     let plain = file(rt.alloc(), "S Q F D A C")?;
     let plain = read_head(rt.alloc(), plain.as_slice())?;
     assert!(rt; 0 < plain.components());
-    for (part, times, length) in cases {
-        let bytes = repeated_part(rt.alloc(), part, times)?;
+    for (part, times, length) in &SEGMENTS {
+        let bytes = repeated_part(rt.alloc(), part, *times)?;
         let head = read_head(rt.alloc(), bytes.as_slice())?;
-        assert!(rt; head.scan_at() == length, "{part} {times} times");
+        assert!(rt; head.scan_at() == *length, "{part} {times} times");
         assert!(rt; 0 < head.components());
         assert!(rt; head.quantiser(0) == plain.quantiser(0));
         assert!(rt; have_same_books(&head, &plain));
@@ -150,7 +154,7 @@ fn accepts_many_quantisers_in_a_segment(rt: HostRuntime) -> Result<(), Fail> {
     }
     put_parts(&mut bytes, "Q F D A C")?;
     let head = read_head(rt.alloc(), bytes.as_slice())?;
-    assert_eq!(rt; head.scan_at(), 4239);
+    assert!(rt; head.scan_at() == 4239);
     Ok(())
 }
 
@@ -159,6 +163,6 @@ fn accepts_tables_of_256_symbols(rt: HostRuntime) -> Result<(), Fail> {
     let words = "S Q F FF C4 01 13 00 7*00 FF 01 7*00 256*03 FF C4 01 13 10 14*00 01 FF 256*00 C";
     let bytes = file(rt.alloc(), words)?;
     let head = read_head(rt.alloc(), bytes.as_slice())?;
-    assert_eq!(rt; head.scan_at(), 648);
+    assert!(rt; head.scan_at() == 648);
     Ok(())
 }

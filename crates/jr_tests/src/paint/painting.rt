@@ -232,30 +232,32 @@ fn paints_all_chrominance(rt: HostRuntime) -> Result<(), Fail> {
     Ok(())
 }
 
+/// Kinds, widths, heights, and the factors of the first component.
+const OTHERS: [(Kind, u16, u16, (u32, u32)); 11] = [
+    (Kind::Ycc, 4097, 2, (1, 1)),
+    (Kind::Ycc, 4095, 2, (2, 2)),
+    (Kind::Ycc, 4096, 3, (2, 2)),
+    (Kind::Ycc, 4097, 3, (2, 2)),
+    (Kind::Ycc, 8185, 2, (3, 1)),
+    (Kind::Ycc, 4095, 2, (4, 1)),
+    (Kind::Rgb, 17, 9, (1, 1)),
+    (Kind::Rgb, 4098, 9, (2, 2)),
+    (Kind::Grey, 17, 9, (1, 1)),
+    (Kind::Grey, 4097, 2, (1, 1)),
+    (Kind::Grey, 1, 1, (1, 1)),
+];
+
 /// Widths about the greatest of which a picture is painted with little room, and the other kinds; some by a writer of one
 /// byte a call.
 #[test]
 fn paints_other_pictures(rt: HostRuntime) -> Result<(), Fail> {
-    let cases = [
-        (Kind::Ycc, 4097, 2, (1, 1)),
-        (Kind::Ycc, 4095, 2, (2, 2)),
-        (Kind::Ycc, 4096, 3, (2, 2)),
-        (Kind::Ycc, 4097, 3, (2, 2)),
-        (Kind::Ycc, 8185, 2, (3, 1)),
-        (Kind::Ycc, 4095, 2, (4, 1)),
-        (Kind::Rgb, 17, 9, (1, 1)),
-        (Kind::Rgb, 4098, 9, (2, 2)),
-        (Kind::Grey, 17, 9, (1, 1)),
-        (Kind::Grey, 4097, 2, (1, 1)),
-        (Kind::Grey, 1, 1, (1, 1)),
-    ];
-    for (kind, width, height, (across, down)) in cases {
+    for (kind, width, height, (across, down)) in &OTHERS {
         let shape = Shape {
-            kind,
-            width,
-            height,
-            across,
-            down,
+            kind: *kind,
+            width: *width,
+            height: *height,
+            across: *across,
+            down: *down,
         };
         for most in [1, 100_000] {
             assert!(rt;

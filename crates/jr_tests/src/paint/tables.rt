@@ -6,19 +6,21 @@ use jr_paint::{Spot, colour, place};
 use std::process::Abort;
 use std::test::Fail;
 
+/// Samples, and their colours.
+const COLOURS: [(Kind, [u8; 3], [u8; 3]); 7] = [
+    (Kind::Ycc, [128, 128, 200], [229, 77, 128]),
+    (Kind::Ycc, [128, 128, 131], [132, 126, 128]),
+    (Kind::Ycc, [128, 128, 125], [124, 130, 128]),
+    (Kind::Ycc, [0, 128, 128], [0, 0, 0]),
+    (Kind::Ycc, [128, 128, 128], [128, 128, 128]),
+    (Kind::Rgb, [136, 128, 128], [136, 128, 128]),
+    (Kind::Grey, [136, 0, 0], [136, 136, 136]),
+];
+
 #[test]
 fn colours_of_samples(rt: HostRuntime) {
-    let cases = [
-        (Kind::Ycc, [128, 128, 200], [229, 77, 128]),
-        (Kind::Ycc, [128, 128, 131], [132, 126, 128]),
-        (Kind::Ycc, [128, 128, 125], [124, 130, 128]),
-        (Kind::Ycc, [0, 128, 128], [0, 0, 0]),
-        (Kind::Ycc, [128, 128, 128], [128, 128, 128]),
-        (Kind::Rgb, [136, 128, 128], [136, 128, 128]),
-        (Kind::Grey, [136, 0, 0], [136, 136, 136]),
-    ];
-    for (kind, [a, b, c], expected) in cases {
-        assert!(rt; colour(kind, a, b, c) == expected, "{a} {b} {c}");
+    for (kind, [a, b, c], expected) in &COLOURS {
+        assert!(rt; colour(*kind, *a, *b, *c) == *expected, "{a} {b} {c}");
     }
 }
 
@@ -38,6 +40,14 @@ fn place_of(head: &Head, c: u32, x: u32, y: u32) -> Option<Spot> {
     }
 }
 
+/// Samples, and where they lie.
+const PLACES: [([u32; 3], [u32; 4]); 4] = [
+    ([0, 16, 0], [1, 0, 0, 0]),
+    ([0, 15, 8], [0, 3, 0, 7]),
+    ([2, 7, 3], [0, 5, 3, 7]),
+    ([1, 8, 4], [1, 4, 4, 0]),
+];
+
 /// Samples of a picture of 17 by 9 pixels, its first component with factors 2 and 2.
 #[test]
 fn places_of_samples(rt: HostRuntime) -> Result<(), Fail> {
@@ -49,20 +59,14 @@ fn places_of_samples(rt: HostRuntime) -> Result<(), Fail> {
         down: 2,
     };
     let head = head_of(rt.alloc(), &shape)?;
-    let cases = [
-        ([0, 16, 0], [1, 0, 0, 0]),
-        ([0, 15, 8], [0, 3, 0, 7]),
-        ([2, 7, 3], [0, 5, 3, 7]),
-        ([1, 8, 4], [1, 4, 4, 0]),
-    ];
-    for ([c, x, y], [mcu, block, row, col]) in cases {
+    for ([c, x, y], [mcu, block, row, col]) in &PLACES {
         let spot = Spot {
-            mcu,
-            block,
-            row,
-            col,
+            mcu: *mcu,
+            block: *block,
+            row: *row,
+            col: *col,
         };
-        assert!(rt; place_of(&head, c, x, y) == Some(spot), "{c} {x} {y}");
+        assert!(rt; place_of(&head, *c, *x, *y) == Some(spot), "{c} {x} {y}");
     }
     for [c, x, y] in [[0, 17, 0], [0, 0, 9], [1, 9, 0], [2, 0, 5], [3, 0, 0]] {
         assert!(rt; place_of(&head, c, x, y).is_none(), "{c} {x} {y}");

@@ -201,15 +201,12 @@ fn check_interval(
     interval: &Interval,
     bytes: &[u8],
 ) -> Result<(), Fail> {
-    assert_eq!(rt; interval.bytes(), bytes);
+    assert!(rt; interval.bytes() == bytes);
     let (blocks, is_sound) = front(alloc, picture, bytes)?;
     let read = interval.read_front(alloc)?;
-    assert_eq!(rt; read.blocks(), blocks.as_slice());
-    assert_eq!(rt; read.is_sound(), is_sound);
-    assert_eq!(rt;
-        (read.mcus() as usize).checked_mul(picture.order.len()),
-        Some(blocks.len())
-    );
+    assert!(rt; read.blocks() == blocks.as_slice());
+    assert!(rt; read.is_sound() == is_sound);
+    assert!(rt; (read.mcus() as usize).checked_mul(picture.order.len()) == Some(blocks.len()));
     Ok(())
 }
 
@@ -223,7 +220,7 @@ fn check_scan(
 ) -> Result<(), Fail> {
     let (segments, end) = segments(alloc, bytes, scan.intervals() as usize)?;
     if let Some(code) = code(scan.ended()) {
-        assert_eq!(rt; code, end);
+        assert!(rt; code == end);
     }
     for i in 0..scan.intervals() {
         let interval = scan.interval(i)?;

@@ -32,8 +32,8 @@ fn check_reader(rt: &impl Abort, interval: &Interval, front: Front) {
         assert!(rt; are_flat(&[block], front.first));
     }
     assert!(rt; reader.next(&mut block).is_none());
-    assert_eq!(rt; reader.mcus(), front.mcus);
-    assert_eq!(rt; reader.is_sound(), front.is_sound);
+    assert!(rt; reader.mcus() == front.mcus);
+    assert!(rt; reader.is_sound() == front.is_sound);
 }
 
 /// Each reader gives the front of the one interval of a file.
@@ -43,14 +43,11 @@ fn check(rt: &impl Abort, alloc: Global, words: &str, front: Front) -> Result<()
     assert!(rt; scan.intervals() == 1);
     let interval = scan.interval(0)?;
     let found = interval.read_front(alloc)?;
-    assert_eq!(rt;
-        (found.mcus(), found.is_sound()),
-        (front.mcus, front.is_sound)
-    );
+    assert!(rt; (found.mcus(), found.is_sound()) == (front.mcus, front.is_sound));
     assert!(rt; found.blocks().len() == front.blocks);
     assert!(rt; are_flat(found.blocks(), front.first));
     let whole = interval.read(alloc)?;
-    assert_eq!(rt; whole.is_some(), front.is_sound);
+    assert!(rt; whole.is_some() == front.is_sound);
     if let Some(whole) = whole {
         assert!(rt; whole.as_slice() == found.blocks());
     }
@@ -58,40 +55,44 @@ fn check(rt: &impl Abort, alloc: Global, words: &str, front: Front) -> Result<()
     Ok(())
 }
 
+/// Files, how many blocks and MCUs their fronts have, and whether they are sound.
+const GREY: [(&str, usize, u32, bool); 3] = [
+    ("S Q F:0200:0200 D A C 60 1536*00", 4096, 4096, true),
+    ("S Q F:0200:0200 D A C 60 1499*00", 3999, 3999, false),
+    ("S Q F:0200:0200 D A C 60 1538*00", 4096, 4096, false),
+];
+
 /// 512 by 512 grey pixels: the first of 4096 MCUs takes six bits, each other three.
 #[test]
 fn reads_thousands_of_mcus_of_one_component(rt: HostRuntime) -> Result<(), Fail> {
-    let cases = [
-        ("S Q F:0200:0200 D A C 60 1536*00", 4096, 4096, true),
-        ("S Q F:0200:0200 D A C 60 1499*00", 3999, 3999, false),
-        ("S Q F:0200:0200 D A C 60 1538*00", 4096, 4096, false),
-    ];
-    for (words, blocks, mcus, is_sound) in cases {
+    for (words, blocks, mcus, is_sound) in &GREY {
         let front = Front {
             first: 4,
-            blocks,
-            mcus,
-            is_sound,
+            blocks: *blocks,
+            mcus: *mcus,
+            is_sound: *is_sound,
         };
         check(&rt, rt.alloc(), words, front)?;
     }
     Ok(())
 }
 
+/// Files, how many blocks and MCUs their fronts have, and whether they are sound.
+const COLOURED: [(&str, usize, u32, bool); 3] = [
+    ("S Q F3:0200:0200:22 D A C3 2304*00", 6144, 1024, true),
+    ("S Q F3:0200:0200:22 D A C3 2295*00", 6120, 1020, false),
+    ("S Q F3:0200:0200:22 D A C3 2305*00", 6144, 1024, false),
+];
+
 /// 1024 MCUs of six data units, each of three bits.
 #[test]
 fn reads_thousands_of_data_units_of_three_components(rt: HostRuntime) -> Result<(), Fail> {
-    let cases = [
-        ("S Q F3:0200:0200:22 D A C3 2304*00", 6144, 1024, true),
-        ("S Q F3:0200:0200:22 D A C3 2295*00", 6120, 1020, false),
-        ("S Q F3:0200:0200:22 D A C3 2305*00", 6144, 1024, false),
-    ];
-    for (words, blocks, mcus, is_sound) in cases {
+    for (words, blocks, mcus, is_sound) in &COLOURED {
         let front = Front {
             first: 0,
-            blocks,
-            mcus,
-            is_sound,
+            blocks: *blocks,
+            mcus: *mcus,
+            is_sound: *is_sound,
         };
         check(&rt, rt.alloc(), words, front)?;
     }
@@ -102,10 +103,7 @@ fn reads_thousands_of_data_units_of_three_components(rt: HostRuntime) -> Result<
 fn reads_thousands_of_intervals(rt: HostRuntime) -> Result<(), Fail> {
     let bytes = file(rt.alloc(), THOUSANDS)?;
     let scan = scan_of(rt.alloc(), bytes.as_slice())?;
-    assert_eq!(rt;
-        (scan.intervals(), scan.ended()),
-        (4096, ScanEnd::EndOfImage)
-    );
+    assert!(rt; (scan.intervals(), scan.ended()) == (4096, ScanEnd::EndOfImage));
     for i in 0..scan.intervals() {
         let blocks = scan.interval(i)?.read(rt.alloc())?;
         let blocks = blocks.ok_or("a sound interval")?;

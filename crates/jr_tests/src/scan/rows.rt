@@ -32,8 +32,8 @@ fn check_interval(
 ) -> Result<(), Fail> {
     let front = interval.read_front(alloc)?;
     assert!(rt; have_firsts(front.blocks(), firsts));
-    assert_eq!(rt; front.is_sound(), is_sound);
-    assert_eq!(rt; interval.read(alloc)?.is_some(), is_sound);
+    assert!(rt; front.is_sound() == is_sound);
+    assert!(rt; interval.read(alloc)?.is_some() == is_sound);
     Ok(())
 }
 
@@ -71,79 +71,84 @@ const FRONT: (&[i32], bool) = (&[4], false);
 /// No data unit.
 const NONE: (&[i32], bool) = (&[], false);
 
+const SKIPPED: ScanEnd = ScanEnd::OutOfStep {
+    found: 1,
+    expected: 0,
+    at: 147,
+};
+
+const CUTS: [Row<'static>; 11] = [
+    ("GI 63 FF D0 63 FF D9", &[SOUND, SOUND], END),
+    ("GI 63 FF D0 E0 FF D9", &[SOUND, NONE], END),
+    ("GI 63 FF D1 63 FF D9", &[SOUND, NONE], SKIPPED),
+    ("GI 63 FF D0", &[SOUND, NONE], END_OF_FILE),
+    ("GI 63 FF", &[SOUND, NONE], END_OF_FILE),
+    ("GI 63", &[SOUND, NONE], END_OF_FILE),
+    ("GI", &[NONE, NONE], END_OF_FILE),
+    ("GI 63 FF D0 63", &[SOUND, SOUND], END_OF_FILE),
+    ("GI 63 FF D0 63 FF", &[SOUND, SOUND], END_OF_FILE),
+    (TEN, &[SOUND; 10], END),
+    (
+        "S Q F:0008:0018 D A I:0002 C 63 FF D0 63 FF D9",
+        &[FRONT, SOUND],
+        END,
+    ),
+];
+
 #[test]
 fn cuts_at_restart_markers(rt: HostRuntime) -> Result<(), Fail> {
-    let skipped = ScanEnd::OutOfStep {
-        found: 1,
-        expected: 0,
-        at: 147,
-    };
-    let rows: [Row; 11] = [
-        ("GI 63 FF D0 63 FF D9", &[SOUND, SOUND], END),
-        ("GI 63 FF D0 E0 FF D9", &[SOUND, NONE], END),
-        ("GI 63 FF D1 63 FF D9", &[SOUND, NONE], skipped),
-        ("GI 63 FF D0", &[SOUND, NONE], END_OF_FILE),
-        ("GI 63 FF", &[SOUND, NONE], END_OF_FILE),
-        ("GI 63", &[SOUND, NONE], END_OF_FILE),
-        ("GI", &[NONE, NONE], END_OF_FILE),
-        ("GI 63 FF D0 63", &[SOUND, SOUND], END_OF_FILE),
-        ("GI 63 FF D0 63 FF", &[SOUND, SOUND], END_OF_FILE),
-        (TEN, &[SOUND; 10], END),
-        (
-            "S Q F:0008:0018 D A I:0002 C 63 FF D0 63 FF D9",
-            &[FRONT, SOUND],
-            END,
-        ),
-    ];
-    check(&rt, rt.alloc(), &rows)
+    check(&rt, rt.alloc(), &CUTS)
 }
+
+const RESTART: ScanEnd = ScanEnd::ExtraRestart(141);
+
+const ENDS: [Row<'static>; 13] = [
+    ("G 63 FF D9", &[SOUND], END),
+    ("G 63 FF FF FF D9", &[SOUND], END),
+    ("G 63 63 FF D9", &[FRONT], END),
+    ("G 63 FF D0 63", &[SOUND], RESTART),
+    ("G 63 FF D3 63", &[SOUND], RESTART),
+    ("G 63 FF FF C4", &[SOUND], ScanEnd::OtherMarker(0xC4, 141)),
+    ("G 63 FF D8", &[SOUND], ScanEnd::OtherMarker(0xD8, 141)),
+    ("G 63 FF 01", &[SOUND], ScanEnd::OtherMarker(0x01, 141)),
+    ("G 00 FF D9", &[(&[0], true)], END),
+    ("G FF FF D9", &[NONE], END),
+    ("G 63 00 D9", &[FRONT], END_OF_FILE),
+    ("G 63 FF 00", &[FRONT], END_OF_FILE),
+    ("G 63 FF FF", &[SOUND], END_OF_FILE),
+];
 
 #[test]
 fn ends_where_the_scan_ends(rt: HostRuntime) -> Result<(), Fail> {
-    let restart = ScanEnd::ExtraRestart(141);
-    let rows: [Row; 13] = [
-        ("G 63 FF D9", &[SOUND], END),
-        ("G 63 FF FF FF D9", &[SOUND], END),
-        ("G 63 63 FF D9", &[FRONT], END),
-        ("G 63 FF D0 63", &[SOUND], restart),
-        ("G 63 FF D3 63", &[SOUND], restart),
-        ("G 63 FF FF C4", &[SOUND], ScanEnd::OtherMarker(0xC4, 141)),
-        ("G 63 FF D8", &[SOUND], ScanEnd::OtherMarker(0xD8, 141)),
-        ("G 63 FF 01", &[SOUND], ScanEnd::OtherMarker(0x01, 141)),
-        ("G 00 FF D9", &[(&[0], true)], END),
-        ("G FF FF D9", &[NONE], END),
-        ("G 63 00 D9", &[FRONT], END_OF_FILE),
-        ("G 63 FF 00", &[FRONT], END_OF_FILE),
-        ("G 63 FF FF", &[SOUND], END_OF_FILE),
-    ];
-    check(&rt, rt.alloc(), &rows)
+    check(&rt, rt.alloc(), &ENDS)
 }
+
+const FIRSTS: [Row<'static>; 8] = [
+    ("G 1F", &[(&[0], true)], END_OF_FILE),
+    ("G 5B", &[(&[-4], true)], END_OF_FILE),
+    ("G A0", &[(&[16], true)], END_OF_FILE),
+    ("G 60", &[SOUND], END_OF_FILE),
+    (
+        "S Q F:0008:0010 D A C 60 7F",
+        &[(&[4, 4], true)],
+        END_OF_FILE,
+    ),
+    (
+        "S Q F:0008:0010 D A C 61 8F",
+        &[(&[4, 8], true)],
+        END_OF_FILE,
+    ),
+    ("S Q F K A C 91", &[SOUND], END_OF_FILE),
+    (
+        "S Q F FF C4 00 15 00 02 15*00 00 03 A C C7",
+        &[SOUND],
+        END_OF_FILE,
+    ),
+];
 
 #[test]
 fn reads_first_coefficients(rt: HostRuntime) -> Result<(), Fail> {
-    let rows: [Row; 8] = [
-        ("G 1F", &[(&[0], true)], END_OF_FILE),
-        ("G 5B", &[(&[-4], true)], END_OF_FILE),
-        ("G A0", &[(&[16], true)], END_OF_FILE),
-        ("G 60", &[SOUND], END_OF_FILE),
-        (
-            "S Q F:0008:0010 D A C 60 7F",
-            &[(&[4, 4], true)],
-            END_OF_FILE,
-        ),
-        (
-            "S Q F:0008:0010 D A C 61 8F",
-            &[(&[4, 8], true)],
-            END_OF_FILE,
-        ),
-        ("S Q F K A C 91", &[SOUND], END_OF_FILE),
-        (
-            "S Q F FF C4 00 15 00 02 15*00 00 03 A C C7",
-            &[SOUND],
-            END_OF_FILE,
-        ),
-    ];
-    check(&rt, rt.alloc(), &rows)
+    check(&rt, rt.alloc(), &FIRSTS)
 }
 
 /// First coefficients that grow by 2047 up to the greatest; four are coded by nine bytes.
@@ -158,48 +163,50 @@ const RISING_AND_LESS: &[i32] = &[
     30705, 32752, 32767, 32766,
 ];
 
+const RANGES: [Row<'static>; 3] = [
+    (
+        "S Q F:0008:0088 D:0B:04:01 A C 4*3FF8FF00E3FF008FFE 7D",
+        &[(RISING, true)],
+        END_OF_FILE,
+    ),
+    (
+        "S Q F:0008:0090 D:0B:04:01 A C 4*3FF8FF00E3FF008FFE 7D 5F",
+        &[(RISING, false)],
+        END_OF_FILE,
+    ),
+    (
+        "S Q F:0008:0090 D:0B:04:01 A C 4*3FF8FF00E3FF008FFE 7D 1F",
+        &[(RISING_AND_LESS, true)],
+        END_OF_FILE,
+    ),
+];
+
 #[test]
 fn keeps_first_coefficients_in_range(rt: HostRuntime) -> Result<(), Fail> {
-    let rows: [Row; 3] = [
-        (
-            "S Q F:0008:0088 D:0B:04:01 A C 4*3FF8FF00E3FF008FFE 7D",
-            &[(RISING, true)],
-            END_OF_FILE,
-        ),
-        (
-            "S Q F:0008:0090 D:0B:04:01 A C 4*3FF8FF00E3FF008FFE 7D 5F",
-            &[(RISING, false)],
-            END_OF_FILE,
-        ),
-        (
-            "S Q F:0008:0090 D:0B:04:01 A C 4*3FF8FF00E3FF008FFE 7D 1F",
-            &[(RISING_AND_LESS, true)],
-            END_OF_FILE,
-        ),
-    ];
-    check(&rt, rt.alloc(), &rows)
+    check(&rt, rt.alloc(), &RANGES)
 }
 
 /// One MCU of six data units.
 const COLOURED: (&[i32], bool) = (&[0, 0, 0, 0, 0, 36], true);
 
+const THREE: [Row<'static>; 4] = [
+    (
+        "S Q F3:0009:0011:22 D:00:03:06 A I C3 00 01 48 FF D0 60 00 07",
+        &[COLOURED, (&[4, 4, 4, 4, 0, 0], true)],
+        END_OF_FILE,
+    ),
+    (
+        "S Q F3:0009:0011:22 D:00:03:06 A I C3 00 01 48 FF D0 E0 00 07",
+        &[COLOURED, NONE],
+        END_OF_FILE,
+    ),
+    ("S Q F3 D A C3 60 0F", &[(&[4, 0, 0], true)], END_OF_FILE),
+    ("S Q F3:0010:0010:22 D A C3 60 00 3F", &[NONE], END_OF_FILE),
+];
+
 #[test]
 fn reads_three_components(rt: HostRuntime) -> Result<(), Fail> {
-    let rows: [Row; 4] = [
-        (
-            "S Q F3:0009:0011:22 D:00:03:06 A I C3 00 01 48 FF D0 60 00 07",
-            &[COLOURED, (&[4, 4, 4, 4, 0, 0], true)],
-            END_OF_FILE,
-        ),
-        (
-            "S Q F3:0009:0011:22 D:00:03:06 A I C3 00 01 48 FF D0 E0 00 07",
-            &[COLOURED, NONE],
-            END_OF_FILE,
-        ),
-        ("S Q F3 D A C3 60 0F", &[(&[4, 0, 0], true)], END_OF_FILE),
-        ("S Q F3:0010:0010:22 D A C3 60 00 3F", &[NONE], END_OF_FILE),
-    ];
-    check(&rt, rt.alloc(), &rows)
+    check(&rt, rt.alloc(), &THREE)
 }
 
 /// The one block of a file; none where its interval has no decoding.
@@ -225,17 +232,19 @@ fn block_with(place: usize, value: i32) -> Block {
     block
 }
 
+/// Files, and the place and value of a coefficient behind the first; none where the interval has no decoding.
+const OTHERS: [(&str, Option<(usize, i32)>); 6] = [
+    ("S Q F D A2:F0:00 C 60 BF", Some((63, 0))),
+    ("S Q F D A2:F0:00 C 60 7F", None),
+    ("S Q F D A2:F0:E1 C 60 BF", Some((63, 1))),
+    ("S Q F D A2:00:0A C 65 FF 00 BF", Some((1, 1023))),
+    ("S Q F D A2:00:0A C 65 FF FF 00 BF", Some((1, 1023))),
+    ("S Q F D A2:00:0B C 65 FF 00 BF", None),
+];
+
 #[test]
 fn reads_other_coefficients(rt: HostRuntime) -> Result<(), Fail> {
-    let rows = [
-        ("S Q F D A2:F0:00 C 60 BF", Some((63, 0))),
-        ("S Q F D A2:F0:00 C 60 7F", None),
-        ("S Q F D A2:F0:E1 C 60 BF", Some((63, 1))),
-        ("S Q F D A2:00:0A C 65 FF 00 BF", Some((1, 1023))),
-        ("S Q F D A2:00:0A C 65 FF FF 00 BF", Some((1, 1023))),
-        ("S Q F D A2:00:0B C 65 FF 00 BF", None),
-    ];
-    for (words, expected) in rows {
+    for (words, expected) in &OTHERS {
         let expected = expected.map(|(place, value)| block_with(place, value));
         assert!(rt; block_of(rt.alloc(), words)? == expected, "{words}");
     }
@@ -246,10 +255,10 @@ fn reads_other_coefficients(rt: HostRuntime) -> Result<(), Fail> {
 fn tells_an_interval_and_its_head(rt: HostRuntime) -> Result<(), Fail> {
     let bytes = file(rt.alloc(), "S Q F:0008:0010 D A C 61 8F")?;
     let scan = scan_of(rt.alloc(), bytes.as_slice())?;
-    assert_eq!(rt; (scan.head().width(), scan.intervals()), (16, 1));
+    assert!(rt; (scan.head().width(), scan.intervals()) == (16, 1));
     let interval = scan.interval(0)?;
-    assert_eq!(rt; interval.head().components(), 1);
-    assert_eq!(rt; (interval.number(), interval.mcus()), (0, 2));
+    assert!(rt; interval.head().components() == 1);
+    assert!(rt; (interval.number(), interval.mcus()) == (0, 2));
     assert!(rt; scan.is_same(&scan) && scan.has(&interval) && interval.is_same(&interval));
     assert!(rt; interval.bytes() == [0x61, 0x8F].as_slice());
     Ok(())
@@ -263,19 +272,19 @@ fn reads_from_a_place(rt: HostRuntime) -> Result<(), Fail> {
     let interval = scan.interval(0)?;
     let mut block = [0; 64];
     let mut reader = BlockReader::over(&interval);
-    assert_eq!(rt; reader.next(&mut block), Some(0));
-    assert_eq!(rt; (block[0], reader.left()), (4, 10));
+    assert!(rt; reader.next(&mut block) == Some(0));
+    assert!(rt; (block[0], reader.left()) == (4, 10));
     let place = reader.place().ok_or("between two MCUs")?;
     let predictions = place.predictions;
-    assert_eq!(rt; (place.bit, predictions[0]), (6, 4));
+    assert!(rt; (place.bit, predictions[0]) == (6, 4));
     let other = Place {
         bit: 6,
         predictions: [5, 0, 0],
     };
     let mut reader = BlockReader::at(&interval, other, 1);
-    assert_eq!(rt; reader.next(&mut block), Some(0));
-    assert_eq!(rt; block[0], 9);
-    assert_eq!(rt; reader.next(&mut block), None);
-    assert_eq!(rt; reader.mcus(), 1);
+    assert!(rt; reader.next(&mut block) == Some(0));
+    assert!(rt; block[0] == 9);
+    assert!(rt; reader.next(&mut block) == None);
+    assert!(rt; reader.mcus() == 1);
     Ok(())
 }
