@@ -116,7 +116,8 @@ const LENGTHS: [usize; 6] = [0, 1, 2, 3, 4096, ROOM];
 
 #[test]
 fn passes_on_calls_of_one_kind(rt: HostRuntime) {
-    for length in LENGTHS {
+    for length in &LENGTHS {
+        let length = *length;
         check_each(&rt, rt.alloc(), [Call::Read(length); 3]);
         check_each(&rt, rt.alloc(), [Call::Write(length); 3]);
     }
@@ -125,8 +126,10 @@ fn passes_on_calls_of_one_kind(rt: HostRuntime) {
 
 #[test]
 fn passes_on_calls_of_each_kind(rt: HostRuntime) {
-    for length in LENGTHS {
-        for other in LENGTHS {
+    for length in &LENGTHS {
+        let length = *length;
+        for other in &LENGTHS {
+            let other = *other;
             let (read, write) = (Call::Read(length), Call::Write(other));
             check_each(&rt, rt.alloc(), [read, write, Call::Flush]);
             check_each(&rt, rt.alloc(), [Call::Flush, write, read]);
@@ -140,7 +143,8 @@ fn passes_on_calls_of_each_kind(rt: HostRuntime) {
 #[test]
 fn tells_failure_from_short_answers(rt: HostRuntime) {
     let none = [Some(0); 3];
-    for length in LENGTHS {
+    for length in &LENGTHS {
+        let length = *length;
         check(&rt, rt.alloc(), [Call::Read(length); 3], none, [false; 3]);
         let has_failed = length > 0;
         check(

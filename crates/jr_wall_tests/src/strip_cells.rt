@@ -117,12 +117,13 @@ fn a_full_cell_gives_the_second_strip_back(rt: HostRuntime) -> Result<(), Fail> 
 
 #[test]
 fn cells_are_as_many_as_the_data_can_code(rt: HostRuntime) -> Result<(), Fail> {
-    for (file, each, count) in COUNTS {
+    for (file, each, count) in &COUNTS {
+        let each = *each;
         let scan = scan(rt.alloc(), file)?;
         let interval = interval_of(rt.alloc(), &scan, 0)?;
         if each > 0 {
             let cells = StripCells::open(rt.alloc(), &interval, each)?;
-            assert!(rt; cells.count() == count, "strips of {each} MCUs");
+            assert!(rt; cells.count() == *count, "strips of {each} MCUs");
         }
     }
     Ok(())

@@ -48,7 +48,8 @@ fn file_of_length(alloc: Global, words: &str, last: &str, length: usize) -> Resu
 
 #[test]
 fn accepts_heads_of_many_bytes(rt: HostRuntime) -> Result<(), Fail> {
-    for length in LENGTHS {
+    for length in &LENGTHS {
+        let length = *length;
         let bytes = file_of_length(rt.alloc(), "S Q F D A", "C", length)?;
         assert!(rt; bytes.len() == length);
         let head = read_head(rt.alloc(), bytes.as_slice())?;
@@ -60,7 +61,8 @@ fn accepts_heads_of_many_bytes(rt: HostRuntime) -> Result<(), Fail> {
 
 #[test]
 fn accepts_scans_of_many_bytes(rt: HostRuntime) -> Result<(), Fail> {
-    for length in LENGTHS {
+    for length in &LENGTHS {
+        let length = *length;
         let mut bytes = file(rt.alloc(), "S Q F D A C")?;
         for _ in bytes.len()..length {
             bytes.push(0)?;
@@ -80,7 +82,8 @@ fn check_refused(
     last: &str,
     refusal: Refusal,
 ) -> Result<(), Fail> {
-    for length in LENGTHS {
+    for length in &LENGTHS {
+        let length = *length;
         let bytes = file_of_length(alloc, words, last, length)?;
         assert!(rt; bytes.len() == length);
         let found = read_head(alloc, bytes.as_slice()).err();

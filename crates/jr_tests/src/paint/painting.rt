@@ -173,15 +173,15 @@ const SAMPLINGS: [(u32, u32); 12] = [
 
 #[test]
 fn paints_small_sizes(rt: HostRuntime) -> Result<(), Fail> {
-    for (across, down) in SAMPLINGS {
+    for (across, down) in &SAMPLINGS {
         for width in 1..18 {
             for height in 1..18 {
                 let shape = Shape {
                     kind: Kind::Ycc,
                     width,
                     height,
-                    across,
-                    down,
+                    across: *across,
+                    down: *down,
                 };
                 assert!(rt;
                     is_painted(rt.alloc(), &shape, 100)?,
@@ -193,18 +193,20 @@ fn paints_small_sizes(rt: HostRuntime) -> Result<(), Fail> {
     Ok(())
 }
 
+const WIDTHS: [u16; 12] = [31, 32, 33, 47, 48, 49, 63, 64, 65, 95, 96, 97];
+
 /// Widths about those that are painted 32 pixels at once.
 #[test]
 fn paints_widths_about_a_block(rt: HostRuntime) -> Result<(), Fail> {
-    for (across, down) in SAMPLINGS {
-        for width in [31, 32, 33, 47, 48, 49, 63, 64, 65, 95, 96, 97] {
+    for (across, down) in &SAMPLINGS {
+        for width in &WIDTHS {
             for height in 1..4 {
                 let shape = Shape {
                     kind: Kind::Ycc,
-                    width,
+                    width: *width,
                     height,
-                    across,
-                    down,
+                    across: *across,
+                    down: *down,
                 };
                 assert!(rt;
                     is_painted(rt.alloc(), &shape, 100)?,
@@ -320,13 +322,13 @@ const LARGE: [(Kind, u16, u16, (u32, u32)); 8] = [
 /// A write takes 48 KB on the average, beside the first and the last.
 #[test]
 fn writes_much_at_once(rt: HostRuntime) -> Result<(), Fail> {
-    for (kind, width, height, (across, down)) in LARGE {
+    for (kind, width, height, (across, down)) in &LARGE {
         let shape = Shape {
-            kind,
-            width,
-            height,
-            across,
-            down,
+            kind: *kind,
+            width: *width,
+            height: *height,
+            across: *across,
+            down: *down,
         };
         let text = text_of(rt.alloc(), &shape)?;
         let calls = calls_for(rt.alloc(), &shape, text.as_slice(), usize::MAX)?;
