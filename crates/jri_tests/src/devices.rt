@@ -76,7 +76,7 @@ fn tells_an_input_that_cannot_be_read(rt: HostRuntime) -> Result<(), Fail> {
     let status = finish(outcome, &mut out, &mut lines);
     assert!(rt; out.into_inner().is_empty());
     assert!(rt; lines.as_slice() == b"cannot read the input\n".as_slice());
-    assert!(rt; status == 1);
+    assert_eq!(rt; status, 1);
     Ok(())
 }
 
@@ -113,7 +113,7 @@ fn tells_a_failed_flush(rt: HostRuntime) -> Result<(), Fail> {
     let mut lines = Vec::new(rt.alloc());
     let status = finish(outcome, &mut out, &mut lines);
     assert!(rt; lines.as_slice() == b"cannot write the picture\n".as_slice());
-    assert!(rt; status == 1);
+    assert_eq!(rt; status, 1);
     Ok(())
 }
 
@@ -121,10 +121,10 @@ fn tells_a_failed_flush(rt: HostRuntime) -> Result<(), Fail> {
 fn tells_faults_that_no_file_has(rt: HostRuntime) -> Result<(), Fail> {
     let (lines, status) = lines_and_status(rt.alloc(), Err(Fault::NoFile));
     assert!(rt; lines.as_slice() == b"cannot open the file\n".as_slice());
-    assert!(rt; status == 1);
+    assert_eq!(rt; status, 1);
     let (lines, status) = lines_and_status(rt.alloc(), Err(Fault::Memory));
     assert!(rt; lines.as_slice() == b"out of memory\n".as_slice());
-    assert!(rt; status == 1);
+    assert_eq!(rt; status, 1);
     Ok(())
 }
 
@@ -166,53 +166,49 @@ fn report(ended: ScanEnd) -> Report {
     }
 }
 
-/// Ends of scans, and their lines.
-const ENDS: [(ScanEnd, &str); 5] = [
-    (ScanEnd::EndOfImage, "scan ended at EOI\n|"),
-    (ScanEnd::EndOfFile, "scan ended at the end of the file\n|"),
-    (
-        ScanEnd::OtherMarker(10, 7),
-        "scan ended at marker 0A, byte 7\n|",
-    ),
-    (
-        ScanEnd::OutOfStep {
-            found: 1,
-            expected: 2,
-            at: 18_446_744_073_709_551_615,
-        },
-        "scan ended at RST1 where RST2 was due, byte 18446744073709551615\n|",
-    ),
-    (
-        ScanEnd::ExtraRestart(18_446_744_073_709_551_615),
-        "scan ended at a restart marker past the last interval, byte 18446744073709551615\n|",
-    ),
-];
-
-/// Faults, and their lines.
-const FAULTS: [(Fault, &str); 5] = [
-    (Fault::Memory, "out of memory\n|"),
-    (Fault::NoFile, "cannot open the file\n|"),
-    (Fault::Read, "cannot read the input\n|"),
-    (Fault::Write, "cannot write the picture\n|"),
-    (
-        Fault::Refused(Refusal::ExpectedMarker(18_446_744_073_709_551_615)),
-        "refused 3: expected a marker at byte 18446744073709551615\n|",
-    ),
-];
-
 /// Each line by one call, the longest among them.
 #[test]
 fn tells_each_line_at_once(rt: HostRuntime) -> Result<(), Fail> {
     let counts = "intervals 4294967295 sound 1234567890 damaged 9 blank 0\n|";
-    for (ended, line) in &ENDS {
+    let ends = [
+        (ScanEnd::EndOfImage, "scan ended at EOI\n|"),
+        (ScanEnd::EndOfFile, "scan ended at the end of the file\n|"),
+        (
+            ScanEnd::OtherMarker(10, 7),
+            "scan ended at marker 0A, byte 7\n|",
+        ),
+        (
+            ScanEnd::OutOfStep {
+                found: 1,
+                expected: 2,
+                at: 18_446_744_073_709_551_615,
+            },
+            "scan ended at RST1 where RST2 was due, byte 18446744073709551615\n|",
+        ),
+        (
+            ScanEnd::ExtraRestart(18_446_744_073_709_551_615),
+            "scan ended at a restart marker past the last interval, byte 18446744073709551615\n|",
+        ),
+    ];
+    for (ended, line) in ends {
         let lines = format!(in rt.alloc(); "{counts}{line}")?;
         assert!(rt;
-            is_told(rt.alloc(), Ok(report(*ended)), lines.as_str()),
+            is_told(rt.alloc(), Ok(report(ended)), lines.as_str()),
             "{line}"
         );
     }
-    for (fault, line) in &FAULTS {
-        assert!(rt; is_told(rt.alloc(), Err(*fault), line), "{line}");
+    let faults = [
+        (Fault::Memory, "out of memory\n|"),
+        (Fault::NoFile, "cannot open the file\n|"),
+        (Fault::Read, "cannot read the input\n|"),
+        (Fault::Write, "cannot write the picture\n|"),
+        (
+            Fault::Refused(Refusal::ExpectedMarker(18_446_744_073_709_551_615)),
+            "refused 3: expected a marker at byte 18446744073709551615\n|",
+        ),
+    ];
+    for (fault, line) in faults {
+        assert!(rt; is_told(rt.alloc(), Err(fault), line), "{line}");
     }
     Ok(())
 }

@@ -170,7 +170,7 @@ fn decodes_by_a_byte_a_call(rt: HostRuntime) -> Result<(), Fail> {
     let mut out = Tally::of(Sink::new(rt.alloc(), 0, Failure::TakesNone));
     let outcome = run(&rt, rt.alloc(), &mut input, &mut out, 1, None, &OpenGate);
     let report = outcome.ok().ok_or("a decoding that failed")?;
-    assert!(rt; (report.sound, report.damaged) == (1, 0));
+    assert_eq!(rt; (report.sound, report.damaged), (1, 0));
     let expected = picture(rt.alloc(), "P5 8 8 : 8*136")?;
     assert!(rt; out.into_inner().bytes.as_slice() == expected.as_slice());
     Ok(())

@@ -83,7 +83,7 @@ fn two_workers_meet(rt: HostRuntime) -> Result<(), Fail> {
     let outcome = run(&rt, rt.alloc(), &mut input, &mut out, 2, None, &gate);
     let report = outcome.ok().ok_or("a decoding that failed")?;
     assert!(rt; gate.is_met());
-    assert!(rt; (report.sound, report.damaged, report.blank) == (2, 0, 0));
+    assert_eq!(rt; (report.sound, report.damaged, report.blank), (2, 0, 0));
     let expected = picture(rt.alloc(), "P5 16 8 : 16*136")?;
     assert!(rt; out.into_inner().as_slice() == expected.as_slice());
     Ok(())

@@ -107,45 +107,41 @@ fn check<R: Threads + Wait + Sync + AllocGlobal + Abort>(
     Ok(())
 }
 
-/// Files, how many first intervals are decoded, and how many pass.
-const ONE_WORKER: [(&str, Option<u32>, u32); 10] = [
-    (TEN, None, 10),
-    (TEN, Some(0), 0),
-    (TEN, Some(1), 1),
-    (TEN, Some(4), 4),
-    (TEN, Some(4_294_967_295), 10),
-    (MIXED, None, 10),
-    (MIXED, Some(7), 7),
-    (COLOURED, None, 2),
-    ("G 63 E", None, 1),
-    ("G 63 E", Some(0), 0),
-];
-
 #[test]
 fn tells_a_gate_each_of_the_first_intervals_once(rt: HostRuntime) -> Result<(), Fail> {
-    for (words, first, passed) in &ONE_WORKER {
-        check(&rt, words, *first, *passed)?;
+    let cases = [
+        (TEN, None, 10),
+        (TEN, Some(0), 0),
+        (TEN, Some(1), 1),
+        (TEN, Some(4), 4),
+        (TEN, Some(4_294_967_295), 10),
+        (MIXED, None, 10),
+        (MIXED, Some(7), 7),
+        (COLOURED, None, 2),
+        ("G 63 E", None, 1),
+        ("G 63 E", Some(0), 0),
+    ];
+    for (words, first, passed) in cases {
+        check(&rt, words, first, passed)?;
     }
     Ok(())
 }
 
-/// The same for several workers.
-const CREWS: [(&str, Option<u32>, u32); 9] = [
-    (TEN, None, 10),
-    (TEN, Some(0), 0),
-    (TEN, Some(1), 1),
-    (TEN, Some(4), 4),
-    (MIXED, None, 10),
-    (MIXED, Some(7), 7),
-    (COLOURED, None, 2),
-    (COLOURED, Some(1), 1),
-    ("G 63 E", None, 1),
-];
-
 #[test]
 fn crews_tell_a_gate_each_interval_once(rt: HostRuntime) -> Result<(), Fail> {
-    for (words, first, passed) in &CREWS {
-        check_crew(&rt, words, *first, *passed)?;
+    let cases = [
+        (TEN, None, 10),
+        (TEN, Some(0), 0),
+        (TEN, Some(1), 1),
+        (TEN, Some(4), 4),
+        (MIXED, None, 10),
+        (MIXED, Some(7), 7),
+        (COLOURED, None, 2),
+        (COLOURED, Some(1), 1),
+        ("G 63 E", None, 1),
+    ];
+    for (words, first, passed) in cases {
+        check_crew(&rt, words, first, passed)?;
     }
     Ok(())
 }

@@ -50,21 +50,19 @@ fn writes_three_components_as_several_workers_do(rt: HostRuntime) -> Result<(), 
 }
 
 /// Intervals without bits, with bits that no word begins, with a whole spare byte, and cut within an MCU.
-const DAMAGED: [&str; 8] = [
-    MIXED,
-    "GI E0 FF D0 63 E",
-    "GI",
-    "GI FF D0 63 E",
-    "S Q F:0008:0050 D A C 61 86 18 61 86 18 61 8F 00 E",
-    "S Q F:0050:0008 D A C 61 86 38 61 86 18 61 8F E",
-    "S Q F3:0040:0010:22 D:00:03:06 A C3 60 00 C0 60 00 E",
-    "S Q F3:0020:0020:22 D:00:03:06 A C3 60 00 C0 60 00 C0 60 03 C0 60 00 C0 E",
-];
-
-/// Intervals without bits, with bits that no word begins, with a whole spare byte, and cut within an MCU.
 #[test]
 fn writes_damaged_intervals_as_several_workers_do(rt: HostRuntime) -> Result<(), Fail> {
-    for words in &DAMAGED {
+    let files = [
+        MIXED,
+        "GI E0 FF D0 63 E",
+        "GI",
+        "GI FF D0 63 E",
+        "S Q F:0008:0050 D A C 61 86 18 61 86 18 61 8F 00 E",
+        "S Q F:0050:0008 D A C 61 86 38 61 86 18 61 8F E",
+        "S Q F3:0040:0010:22 D:00:03:06 A C3 60 00 C0 60 00 E",
+        "S Q F3:0020:0020:22 D:00:03:06 A C3 60 00 C0 60 00 C0 60 03 C0 60 00 C0 E",
+    ];
+    for words in files {
         check_file(&rt, words)?;
     }
     Ok(())
