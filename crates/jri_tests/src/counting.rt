@@ -3,8 +3,6 @@
 ghost use Rattle.std.specs.Prelude.{◌≤◌};
 ghost use Rattle.jr_base.specs.declared.limits.TheConstants.{MAX_WORKERS};
 
-use crate::files::{TEN, file};
-use crate::scans::scan;
 use crate::workers::TURNS;
 use jr_paint::Tally;
 use jr_wall::{Gate, Piece, decode_all};
@@ -15,6 +13,8 @@ use std::sync::atomic::{AtomicU64, Ordering};
 use std::test::Fail;
 use std::thread;
 use std::thread::Threads;
+use test_files::files::{TEN, file};
+use test_files::scans::scan;
 
 /// How often a call looks whether one more worker comes than it waits for.
 const MORE_TURNS: u32 = 10_000;

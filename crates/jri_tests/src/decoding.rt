@@ -3,7 +3,6 @@
 ghost use Rattle.std.specs.Prelude.{◌≤◌};
 ghost use Rattle.jr_base.specs.declared.limits.TheConstants.{MAX_WORKERS};
 
-use crate::pictures::picture;
 use jr_paint::Tally;
 use jr_wall::OpenGate;
 use jri_engine::{finish, run};
@@ -11,6 +10,7 @@ use std::alloc::Global;
 use std::sync::Wait;
 use std::test::Fail;
 use std::thread::Threads;
+use test_files::pictures::picture;
 
 /// What the program writes on standard output and standard error, and its exit status.
 #[derive(Drop)]

@@ -1,7 +1,5 @@
 //! Devices that fail, through `run` and `finish`: what was written, the line, and the exit status.
 
-use crate::files::file;
-use crate::pictures::picture;
 use jr_head::Refusal;
 use jr_paint::Tally;
 use jr_scan::ScanEnd;
@@ -10,6 +8,8 @@ use jri_engine::{Fault, Report, finish, run};
 use std::alloc::Global;
 use std::io::{Error, ErrorKind, Read, Result as IoResult, Write};
 use std::test::Fail;
+use test_files::files::file;
+use test_files::pictures::picture;
 
 /// Takes so many bytes, three a call, and then fails; or fails only when it is flushed.
 #[derive(Drop)]

@@ -1,16 +1,16 @@
 //! Each whole file cut at every length, and changed to FF and to 00 at every byte: it is refused with nothing written,
 //! or its text has the first lines and the size that its head says.
 
-use crate::cases;
-use crate::cases::Case;
 use crate::decoding::{Outcome, decode};
-use crate::files::{file, front, with_byte};
-use crate::pictures::header;
 use jr_head::read_head;
 use std::process::Abort;
 use std::sync::Wait;
 use std::test::Fail;
 use std::thread::Threads;
+use test_files::cases;
+use test_files::cases::Case;
+use test_files::files::{file, front, with_byte};
+use test_files::pictures::header;
 
 fn check<R: Threads + Wait + Sync + AllocGlobal + Abort>(
     rt: &R,

@@ -1,9 +1,5 @@
 //! Files in memory, decoded in the calling thread.
 
-use crate::cases;
-use crate::cases::Case;
-use crate::files::file;
-use crate::pictures::picture;
 use jr_head::Refusal;
 use jr_paint::{Tally, write_netpbm};
 use jr_wall::decode_alone;
@@ -11,6 +7,10 @@ use jri_engine::scan_of_file;
 use std::alloc::Global;
 use std::process::Abort;
 use std::test::Fail;
+use test_files::cases;
+use test_files::cases::Case;
+use test_files::files::file;
+use test_files::pictures::picture;
 
 /// The text of a file's picture; none where it is refused, or memory is.
 fn text_of(alloc: Global, bytes: &[u8]) -> Option<Vec<u8>> {

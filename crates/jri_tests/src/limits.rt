@@ -1,12 +1,12 @@
 //! Files of thousands of MCUs and of thousands of restart intervals: there is memory for each.
 
 use crate::decoding::{Outcome, decode};
-use crate::files::{THOUSANDS, file};
-use crate::pictures::picture;
 use std::process::Abort;
 use std::sync::Wait;
 use std::test::Fail;
 use std::thread::Threads;
+use test_files::files::{THOUSANDS, file};
+use test_files::pictures::picture;
 
 /// A file of 512 by 512 pixels of one grey, all of whose intervals are sound, by 1, 2 and 4 workers.
 fn check<R: Threads + Wait + Sync + AllocGlobal + Abort>(

@@ -5,30 +5,18 @@ ghost use Rattle.std.specs.Prelude.{◌≤◌};
 ghost use Rattle.jr_base.specs.declared.limits.TheConstants.{MAX_WORKERS};
 
 use crate::decoding::{Outcome, decode};
-use crate::files::{file, front, with_byte};
-use crate::scans::scan;
 use jr_wall::{Gate, Piece, decode_all};
 use std::process::Abort;
 use std::sync::Wait;
 use std::sync::atomic::{AtomicU32, Ordering};
 use std::test::Fail;
 use std::thread::Threads;
+use test_files::files::{LONG, LONG_COLOURED, TWO_LONG, file, front, with_byte};
+use test_files::scans::scan;
 
-/// One interval of 1056 MCUs: twelve, each 8 lighter than the one before, then twelve, each 8 darker, and so on.
-pub(crate) const ONE: &str = "S Q F:0108:0100 D A C 44*618618618618618618596596596596596596 E";
-
-/// Two such intervals.
-pub(crate) const TWO: &str =
-    "S Q F:0210:0100 D A FF DD 00 04 04 20 C 44*618618618618618618596596596596596596 \
-    FF D0 44*618618618618618618596596596596596596 E";
-
-/// One such interval, and one of 32 MCUs, which is short.
+/// The long interval of one component, and one of 32 MCUs, which is short.
 const LONG_AND_SHORT: &str = "S Q F:0110:0100 D A FF DD 00 04 04 20 \
     C 44*618618618618618618596596596596596596 FF D0 4*618618596596 E";
-
-/// Three components, 1080 MCUs of six data units.
-pub(crate) const COLOURED: &str = "S Q F3:01E0:0240:22 D:00:03:06 A \
-    C3 108*6000C06000C06000C06000C06000C05800B05800B05800B05800B05800B0 E";
 
 /// How often a gate is passed, and how many MCUs the pieces have that it is shown.
 #[derive(Drop)]
@@ -94,7 +82,7 @@ fn check_all<R: Threads + Wait + Sync + AllocGlobal + Abort>(
 /// A sound interval of 1056 MCUs is reported as such, whoever decodes it.
 #[test]
 fn one_long_interval_is_sound(rt: HostRuntime) -> Result<(), Fail> {
-    let bytes = file(rt.alloc(), ONE)?;
+    let bytes = file(rt.alloc(), LONG)?;
     let outcome = decode(&rt, bytes.as_slice(), 4, None)?;
     assert_eq!(rt; outcome.status, 0);
     let lines = "intervals 1 sound 1 damaged 0 blank 0\n";
@@ -104,12 +92,12 @@ fn one_long_interval_is_sound(rt: HostRuntime) -> Result<(), Fail> {
 
 #[test]
 fn one_long_interval(rt: HostRuntime) -> Result<(), Fail> {
-    check_all(&rt, ONE, 800)
+    check_all(&rt, LONG, 800)
 }
 
 #[test]
 fn two_long_intervals(rt: HostRuntime) -> Result<(), Fail> {
-    check_all(&rt, TWO, 1600)
+    check_all(&rt, TWO_LONG, 1600)
 }
 
 #[test]
@@ -119,7 +107,7 @@ fn a_long_interval_and_a_short_one(rt: HostRuntime) -> Result<(), Fail> {
 
 #[test]
 fn three_components_in_a_long_interval(rt: HostRuntime) -> Result<(), Fail> {
-    check_all(&rt, COLOURED, 3300)
+    check_all(&rt, LONG_COLOURED, 3300)
 }
 
 /// The gate is passed once and shown one piece, whoever decodes its strips.
@@ -130,7 +118,7 @@ fn the_gate_is_told_once(rt: HostRuntime) -> Result<(), Fail> {
             passed: AtomicU32::new(0),
             made: AtomicU32::new(0),
         };
-        let scan = scan(rt.alloc(), ONE)?;
+        let scan = scan(rt.alloc(), LONG)?;
         let board = decode_all(&rt, rt.alloc(), scan, workers, None, &gate)?;
         assert_eq!(rt; board.sound(), 1);
         assert_eq!(rt; gate.passed.load(Ordering::SeqCst), 1);

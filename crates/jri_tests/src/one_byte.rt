@@ -1,7 +1,5 @@
 //! Devices that move one byte a call and fail at one call, through `run`.
 
-use crate::files::file;
-use crate::pictures::picture;
 use jr_paint::Tally;
 use jr_wall::OpenGate;
 use jri_engine::{Fault, run};
@@ -11,6 +9,8 @@ use std::process::Abort;
 use std::sync::Wait;
 use std::test::Fail;
 use std::thread::Threads;
+use test_files::files::file;
+use test_files::pictures::picture;
 
 /// Gives a byte a call; the call of one number fails, and those behind it go on.
 #[derive(Drop)]

@@ -1,12 +1,12 @@
 //! Files that are refused: nothing is written, one line names the fault, and the status is 2.
 
 use crate::decoding::{Outcome, decode};
-use crate::files::file;
 use std::alloc::Global;
 use std::process::Abort;
 use std::sync::Wait;
 use std::test::Fail;
 use std::thread::Threads;
+use test_files::files::file;
 
 fn difference(alloc: Global, found: &Outcome, line: &str) -> Result<&'static str, Fail> {
     let text = format!(in alloc; "refused {line}\n")?;

@@ -1,12 +1,12 @@
 //! Files that are cut short, changed at one byte, or claim far more pixels than they code.
 
 use crate::decoding::{Outcome, decode};
-use crate::files::{file, front, with_byte};
 use jr_head::read_head;
 use std::process::Abort;
 use std::sync::Wait;
 use std::test::Fail;
 use std::thread::Threads;
+use test_files::files::{file, front, with_byte};
 
 /// What becomes of a file.
 #[derive(Clone, Copy)]

@@ -12,7 +12,6 @@ mod sizes;
 mod worked;
 
 use crate::decoding::{Outcome, decode};
-use crate::scans::scan_of;
 use crate::streams::lines::check_lines;
 use jr_paint::{Tally, write_netpbm};
 use jr_scan::Scan;
@@ -23,6 +22,7 @@ use std::process::Abort;
 use std::sync::{Arc, Wait};
 use std::test::Fail;
 use std::thread::Threads;
+use test_files::scans::scan_of;
 
 /// Whether two runs gave the same picture, lines and status.
 fn is_same(one: &Outcome, other: &Outcome) -> bool {

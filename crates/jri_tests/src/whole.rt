@@ -1,14 +1,14 @@
 //! Whole files through `run` and `finish`: the picture, the two lines of the report, and the exit status.
 
-use crate::cases;
-use crate::cases::Case;
 use crate::decoding::{Outcome, decode};
-use crate::files::file;
 use std::alloc::Global;
 use std::process::Abort;
 use std::sync::Wait;
 use std::test::Fail;
 use std::thread::Threads;
+use test_files::cases;
+use test_files::cases::Case;
+use test_files::files::file;
 
 fn difference(alloc: Global, found: &Outcome, case: &Case) -> Result<&'static str, Fail> {
     let (intervals, ended) = (case.intervals, case.ended);

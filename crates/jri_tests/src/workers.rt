@@ -1,13 +1,13 @@
 //! Two workers that meet at a gate.
 
-use crate::files::file;
-use crate::pictures::picture;
 use jr_paint::Tally;
 use jr_wall::{Gate, Piece};
 use jri_engine::run;
 use std::sync::atomic::{AtomicU64, Ordering};
 use std::test::Fail;
 use std::thread;
+use test_files::files::file;
+use test_files::pictures::picture;
 
 /// How often a call looks at most whether others have come.
 pub(crate) const TURNS: u32 = 10_000_000;

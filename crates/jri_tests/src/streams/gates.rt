@@ -1,7 +1,5 @@
 //! A gate is told each interval that is decoded, once, by one worker in their order, and of no piece, since none is made.
 
-use crate::files::{COLOURED, MIXED, TEN, file};
-use crate::scans::scan;
 use jr_paint::Tally;
 use jr_stream::{write_scan, write_scan_by};
 use jr_wall::{Gate, Piece};
@@ -11,6 +9,8 @@ use std::sync::Wait;
 use std::sync::atomic::{AtomicU32, Ordering};
 use std::test::Fail;
 use std::thread::Threads;
+use test_files::files::{COLOURED, MIXED, TEN, file};
+use test_files::scans::scan;
 
 /// How many intervals have passed; the others wait for none.
 #[derive(Drop)]

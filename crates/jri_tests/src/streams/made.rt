@@ -1,8 +1,8 @@
 //! Files whose data units all differ from those beside them, whatever their sampling factors and restart interval.
 
-use crate::files::{file, put_parts};
 use std::alloc::Global;
 use std::test::Fail;
+use test_files::files::{file, put_parts};
 
 /// Twenty-two data units of twelve bits, each lighter than the one before, or else darker, eleven times in turn. In none are
 /// all columns the same, or all lines.

@@ -2,11 +2,11 @@
 
 use super::made::{Shape, colour, grey, made_file, shapes};
 use super::{check, check_firsts};
-use crate::files::{front, with_byte};
 use std::process::Abort;
 use std::sync::Wait;
 use std::test::Fail;
 use std::thread::Threads;
+use test_files::files::{front, with_byte};
 
 /// A file whole, of which each interval is sound; and without its last bytes, where an interval before has no decoding.
 fn check_file<R: Threads + Wait + Sync + AllocGlobal + Abort>(

@@ -1,13 +1,13 @@
 //! The worked files of the other tables, sound and damaged.
 
 use super::{check, check_firsts};
-use crate::cases;
-use crate::cases::Case;
-use crate::files::{MIXED, file};
 use std::process::Abort;
 use std::sync::Wait;
 use std::test::Fail;
 use std::thread::Threads;
+use test_files::cases;
+use test_files::cases::Case;
+use test_files::files::{MIXED, file};
 
 fn check_file<R: Threads + Wait + Sync + AllocGlobal + Abort>(
     rt: &R,

@@ -1,0 +1,312 @@
+//! Bits, and books of code tables beside a plain reader.
+
+mod limits;
+
+use crate::plain::{extended_word, word};
+use jr_code::{Bits, CodeBook, CodeFault};
+use std::alloc::Global;
+use std::process::Abort;
+use std::test::Fail;
+
+/// The luminance DC table of T.81, Annex K.3.
+const LUMINANCE_DC: [u8; 16] = [0, 1, 5, 1, 1, 1, 1, 1, 1, 0, 0, 0, 0, 0, 0, 0];
+
+/// One word of each length.
+const EACH_LENGTH: [u8; 16] = [1; 16];
+
+/// The same with a second word of sixteen bits, so that no room is left.
+const FULL: [u8; 16] = [1, 1, 1, 1, 1, 1, 1, 1, 1, 1, 1, 1, 1, 1, 1, 2];
+
+/// The symbols 0, 1, 2 and so on up to 255.
+fn symbols_up_to_255() -> [u8; 256] {
+    let mut symbols = [0; 256];
+    for i in 0..256usize {
+        symbols[i] = i as u8;
+    }
+    symbols
+}
+
+/// The book of these counts, whose words have the symbols 0, 1, 2 and so on.
+fn book_of(alloc: Global, counts: &[u8; 16]) -> Result<CodeBook, Fail> {
+    let mut words: usize = 0;
+    for count in counts {
+        words = words.saturating_add(usize::from(*count));
+    }
+    let symbols = symbols_up_to_255();
+    let symbols = symbols.get(..words).ok_or("at most 256 words")?;
+    Ok(CodeBook::new(alloc, counts, symbols)?)
+}
+
+/// The bits of at most sixteen bytes.
+fn bits_of(bytes: &[u8]) -> Result<Bits<'_>, Fail> {
+    if bytes.len() > 16 {
+        return Err(Fail::from("at most sixteen bytes"));
+    }
+    Ok(Bits::over(bytes))
+}
+
+/// Counts, bytes, the symbol of the word in front of them, and how many bits are left behind it.
+const WORDS: [(&[u8; 16], &[u8], Option<u8>, u64); 9] = [
+    (&LUMINANCE_DC, &[0xFE], Some(10), 0),
+    (&LUMINANCE_DC, &[0xFF, 0x00], Some(11), 7),
+    (&LUMINANCE_DC, &[0xFF], None, 8),
+    (&LUMINANCE_DC, &[0xFF, 0x80], None, 16),
+    (&EACH_LENGTH, &[0xFF, 0xFE], Some(15), 0),
+    (&EACH_LENGTH, &[0xFF, 0xFF], None, 16),
+    (&EACH_LENGTH, &[0x7F], Some(0), 7),
+    (&FULL, &[0xFF, 0xFF], Some(16), 0),
+    (&[0; 16], &[0x00], None, 8),
+];
+
+#[test]
+fn reads_words(rt: HostRuntime) -> Result<(), Fail> {
+    for (counts, bytes, symbol, left) in &WORDS {
+        let book = book_of(rt.alloc(), counts)?;
+        let mut bits = bits_of(bytes)?;
+        assert!(rt; book.read(&mut bits) == *symbol);
+        assert!(rt; bits.left() == *left);
+    }
+    Ok(())
+}
+
+/// Behind the word 0 seven bits are left, which no word of this table begins.
+#[test]
+fn reads_no_word_behind_the_last(rt: HostRuntime) -> Result<(), Fail> {
+    let book = book_of(rt.alloc(), &EACH_LENGTH)?;
+    let mut bits = bits_of(&[0x7F])?;
+    assert!(rt; book.read(&mut bits) == Some(0));
+    assert!(rt; book.read(&mut bits) == None);
+    assert!(rt; bits.left() == 7);
+    Ok(())
+}
+
+#[test]
+fn looks_up_bytes(rt: HostRuntime) -> Result<(), Fail> {
+    let book = book_of(rt.alloc(), &LUMINANCE_DC)?;
+    assert!(rt; book.entries()[0] == Some((0, 2)));
+    assert!(rt; book.entries()[0xFE] == Some((10, 8)));
+    assert!(rt; book.entries()[0xFF] == None);
+    Ok(())
+}
+
+/// The book of these counts reads each word in front of what is left of the bytes as the plain reader does.
+fn check_words(
+    rt: &impl Abort,
+    book: &CodeBook,
+    counts: &[u8; 16],
+    bytes: &[u8],
+) -> Result<(), Fail> {
+    let symbols = symbols_up_to_255();
+    let mut bits = bits_of(bytes)?;
+    let all = bits.left();
+    let mut at: usize = 0;
+    for _ in 0..=128u32 {
+        let plain = word(counts, &symbols, bytes, at);
+        assert!(rt; book.read(&mut bits) == plain.map(|(symbol, _)| symbol));
+        at = at.saturating_add(plain.map_or(0, |(_, long)| long));
+        assert!(rt; bits.left() == all.saturating_sub(at as u64));
+    }
+    Ok(())
+}
+
+/// The same of words with their extra bits.
+fn check_extended_words(
+    rt: &impl Abort,
+    book: &CodeBook,
+    counts: &[u8; 16],
+    bytes: &[u8],
+) -> Result<(), Fail> {
+    let symbols = symbols_up_to_255();
+    let mut bits = bits_of(bytes)?;
+    let all = bits.left();
+    let mut at: usize = 0;
+    for _ in 0..=128u32 {
+        let plain = extended_word(counts, &symbols, bytes, at);
+        assert!(rt;
+            book.read_extended(&mut bits) == plain.map(|(symbol, value, _)| (symbol, value))
+        );
+        at = at.saturating_add(plain.map_or(0, |(_, _, long)| long));
+        assert!(rt; bits.left() == all.saturating_sub(at as u64));
+    }
+    Ok(())
+}
+
+const BYTES: [u8; 16] = [
+    0x00, 0xFF, 0xFE, 0x5A, 0x37, 0xFF, 0x7F, 0xFC, 0x91, 0x0E, 0xFF, 0xFF, 0x80, 0xE7, 0xFD, 0x24,
+];
+
+#[test]
+fn reads_as_the_plain_reader_up_to_each_end(rt: HostRuntime) -> Result<(), Fail> {
+    for counts in [LUMINANCE_DC, EACH_LENGTH, FULL] {
+        let book = book_of(rt.alloc(), &counts)?;
+        for end in 0..=16usize {
+            check_words(&rt, &book, &counts, &BYTES[..end])?;
+            check_extended_words(&rt, &book, &counts, &BYTES[..end])?;
+        }
+    }
+    Ok(())
+}
+
+/// The symbols 0 to 15 from the one given on, so that each word has another number of extra bits.
+fn symbols_from(first: u8) -> [u8; 16] {
+    let mut symbols = [0; 16];
+    for i in 0..16usize {
+        symbols[i] = first.wrapping_add(i as u8) % 16;
+    }
+    symbols
+}
+
+/// The book with one word of each length reads the word in front and its extra bits as the plain reader does, wherever
+/// the bytes end.
+fn check_up_to_each_end(
+    rt: &impl Abort,
+    book: &CodeBook,
+    symbols: &[u8; 16],
+    bytes: [u8; 8],
+) -> Result<(), Fail> {
+    for end in 0..=8usize {
+        let bytes = &bytes[..end];
+        let plain = extended_word(&EACH_LENGTH, symbols, bytes, 0);
+        let mut bits = bits_of(bytes)?;
+        let all = bits.left();
+        assert!(rt;
+            book.read_extended(&mut bits) == plain.map(|(symbol, value, _)| (symbol, value))
+        );
+        let taken = plain.map_or(0, |(_, _, long)| long);
+        assert!(rt; bits.left() == all.saturating_sub(taken as u64));
+    }
+    Ok(())
+}
+
+/// Words of one to sixteen bits, which are ones and then a zero, each with 0 to 15 extra bits of both halves, far from
+/// the end of the bits and near it.
+#[test]
+fn reads_each_length_with_each_number_of_extra_bits(rt: HostRuntime) -> Result<(), Fail> {
+    for first in 0..16u8 {
+        let symbols = symbols_from(first);
+        let book = CodeBook::new(rt.alloc(), &EACH_LENGTH, &symbols)?;
+        for ones in 0..16u32 {
+            let word = !(u32::MAX >> ones);
+            for extra in [0x5A96_C3F1u32, 0xA569_3C0E] {
+                let [a, b, c, d] = (word | (extra >> (ones + 1))).to_be_bytes();
+                check_up_to_each_end(&rt, &book, &symbols, [a, b, c, d, 0x7E, 0x81, 0xFF, 0x00])?;
+            }
+        }
+    }
+    Ok(())
+}
+
+/// How many extra bits, two bytes, and what the bits stand for.
+const EXTRA_BITS: [(u32, [u8; 2], i32); 11] = [
+    (0, [0xFF, 0xFF], 0),
+    (1, [0x00, 0x00], -1),
+    (1, [0x80, 0x00], 1),
+    (3, [0x60, 0x00], -4),
+    (3, [0x80, 0x00], 4),
+    (3, [0x00, 0x00], -7),
+    (3, [0xE0, 0x00], 7),
+    (10, [0x00, 0x00], -1023),
+    (10, [0xFF, 0xC0], 1023),
+    (11, [0x00, 0x00], -2047),
+    (11, [0xFF, 0xE0], 2047),
+];
+
+#[test]
+fn reads_extra_bits(rt: HostRuntime) {
+    for (size, bytes, value) in &EXTRA_BITS {
+        let size = *size;
+        assert!(rt; size <= 15);
+        let mut bits = Bits::over(bytes);
+        assert!(rt; bits.extra(size) == Some(*value));
+        assert!(rt; bits.left() == 16 - u64::from(size));
+    }
+}
+
+/// Bytes, the symbol of the word in front of them and the value of its extra bits, and how many bits are left.
+const EXTENDED_WORDS: [(&[u8], Option<(u8, i32)>, u64); 8] = [
+    (&[0b1001_0100], Some((3, 5)), 2),
+    (&[0b1000_1000], Some((3, -5)), 2),
+    (&[0b0000_0000], Some((0, 0)), 6),
+    (&[0b1001_0100, 0, 0, 0, 0xFF], Some((3, 5)), 34),
+    (&[0b1000_1000, 0, 0, 0, 0xFF], Some((3, -5)), 34),
+    (&[0b1110_1000, 0b0000_0000, 0, 0, 0], Some((6, 32)), 30),
+    (&[0b1110_1000], None, 8),
+    (&[0b1111_1111], None, 8),
+];
+
+/// By the table of Annex K.3 the word of 3 is 100, that of 0 is 00 and that of 6 is 1110.
+#[test]
+fn reads_words_with_extra_bits(rt: HostRuntime) -> Result<(), Fail> {
+    let book = book_of(rt.alloc(), &LUMINANCE_DC)?;
+    for (bytes, answer, left) in &EXTENDED_WORDS {
+        let mut bits = bits_of(bytes)?;
+        assert!(rt; book.read_extended(&mut bits) == *answer);
+        assert!(rt; bits.left() == *left);
+    }
+    Ok(())
+}
+
+/// How many bits, their number, and how many are left.
+const TAKEN: [(u32, Option<u16>, u64); 7] = [
+    (0, Some(0), 40),
+    (4, Some(1), 36),
+    (16, Some(0x2345), 20),
+    (15, Some(0x33C4), 5),
+    (6, None, 5),
+    (5, Some(0x1A), 0),
+    (1, None, 0),
+];
+
+#[test]
+fn takes_bits(rt: HostRuntime) -> Result<(), Fail> {
+    let mut bits = bits_of(&[0x12, 0x34, 0x56, 0x78, 0x9A])?;
+    for (count, number, left) in &TAKEN {
+        let count = *count;
+        assert!(rt; count <= 16);
+        assert!(rt; bits.take(count) == *number);
+        assert!(rt; bits.left() == *left);
+    }
+    Ok(())
+}
+
+/// What is taken from the bits is not taken from them as they were; too many extra bits are not taken either.
+#[test]
+fn keeps_the_bits_once_more(rt: HostRuntime) -> Result<(), Fail> {
+    let mut bits = bits_of(&[0x9A])?;
+    assert!(rt; bits.take(3) == Some(4));
+    let again = bits.again();
+    assert!(rt; bits.extra(6) == None);
+    assert!(rt; bits.left() == 5);
+    assert!(rt; bits.take(5) == Some(0x1A));
+    assert!(rt; (bits.left(), again.left()) == (0, 5));
+    Ok(())
+}
+
+#[test]
+fn refuses_what_is_no_table(rt: HostRuntime) -> Result<(), Fail> {
+    let two = [2, 0, 0, 0, 0, 0, 0, 0, 0, 0, 0, 0, 0, 0, 0, 0];
+    let three = [3, 0, 0, 0, 0, 0, 0, 0, 0, 0, 0, 0, 0, 0, 0, 0];
+    let most = [0, 0, 0, 0, 0, 0, 0, 0, 0, 0, 0, 0, 0, 0, 2, 255];
+    let symbols = symbols_up_to_255();
+    let rows: [(&[u8; 16], &[u8], Option<CodeFault>); 5] = [
+        (&three, &[0, 1, 2], Some(CodeFault::Overfull)),
+        (&three, &[0, 1], Some(CodeFault::TooMany)),
+        (&most, &[0; 257], Some(CodeFault::TooMany)),
+        (&two, &[5, 5], None),
+        (&FULL, &symbols[..17], None),
+    ];
+    for (counts, symbols, fault) in &rows {
+        assert!(rt; CodeBook::new(rt.alloc(), counts, symbols).err() == *fault);
+    }
+    Ok(())
+}
+
+#[test]
+fn compares_by_counts_and_symbols(rt: HostRuntime) -> Result<(), Fail> {
+    let symbols = symbols_up_to_255();
+    let each = CodeBook::new(rt.alloc(), &EACH_LENGTH, &symbols[..16])?;
+    let others = CodeBook::new(rt.alloc(), &EACH_LENGTH, &symbols[1..17])?;
+    assert!(rt; each == each.try_clone()?);
+    assert!(rt; each != others);
+    Ok(())
+}

@@ -1,0 +1,171 @@
+//! Files of thousands of bytes, and of as many segments: each is accepted, or refused for what is wrong with it.
+
+use crate::head::accepted::have_same_books;
+use jr_head::{Refusal, read_head};
+use std::alloc::Global;
+use std::process::Abort;
+use std::test::Fail;
+use test_files::files::{file, put_parts};
+
+/// Some lengths about those of a page of memory and of the longest segment.
+const LENGTHS: [usize; 8] = [4095, 4096, 4097, 16_384, 65_535, 65_536, 65_537, 70_000];
+
+/// Puts a COM segment of so many bytes in all.
+fn put_comment(bytes: &mut Vec<u8>, length: usize) -> Result<(), Fail> {
+    let payload = length.saturating_sub(2);
+    bytes.extend_from_slice(&[
+        0xFF,
+        0xFE,
+        (payload / 256 % 256) as u8,
+        (payload % 256) as u8,
+    ])?;
+    for _ in 4..length {
+        bytes.push(0x20)?;
+    }
+    Ok(())
+}
+
+/// Puts COM segments up to a length, which is a thousand bytes further on or more.
+fn put_comments(bytes: &mut Vec<u8>, length: usize) -> Result<(), Fail> {
+    for _ in 0..length / 1000 {
+        let left = length.saturating_sub(bytes.len());
+        if left < 2000 {
+            return put_comment(bytes, left);
+        }
+        put_comment(bytes, 1000)?;
+    }
+    Ok(())
+}
+
+/// A file of so many bytes: these parts, COM segments, and the last part.
+fn file_of_length(alloc: Global, words: &str, last: &str, length: usize) -> Result<Vec<u8>, Fail> {
+    let mut bytes = file(alloc, words)?;
+    let last = file(alloc, last)?;
+    put_comments(&mut bytes, length.saturating_sub(last.len()))?;
+    bytes.extend_from_slice(last.as_slice())?;
+    Ok(bytes)
+}
+
+#[test]
+fn accepts_heads_of_many_bytes(rt: HostRuntime) -> Result<(), Fail> {
+    for length in &LENGTHS {
+        let length = *length;
+        let bytes = file_of_length(rt.alloc(), "S Q F D A", "C", length)?;
+        assert!(rt; bytes.len() == length);
+        let head = read_head(rt.alloc(), bytes.as_slice())?;
+        assert!(rt; head.scan_at() == length as u64);
+        assert!(rt; (head.width(), head.height()) == (8, 8));
+    }
+    Ok(())
+}
+
+#[test]
+fn accepts_scans_of_many_bytes(rt: HostRuntime) -> Result<(), Fail> {
+    for length in &LENGTHS {
+        let length = *length;
+        let mut bytes = file(rt.alloc(), "S Q F D A C")?;
+        for _ in bytes.len()..length {
+            bytes.push(0)?;
+        }
+        assert!(rt; bytes.len() == length);
+        let head = read_head(rt.alloc(), bytes.as_slice())?;
+        assert!(rt; head.scan_at() == 140);
+    }
+    Ok(())
+}
+
+/// Files of each length are refused so.
+fn check_refused(
+    rt: &impl Abort,
+    alloc: Global,
+    words: &str,
+    last: &str,
+    refusal: Refusal,
+) -> Result<(), Fail> {
+    for length in &LENGTHS {
+        let length = *length;
+        let bytes = file_of_length(alloc, words, last, length)?;
+        assert!(rt; bytes.len() == length);
+        let found = read_head(alloc, bytes.as_slice()).err();
+        assert!(rt; found == Some(refusal), "{length} bytes: {found:?}");
+    }
+    Ok(())
+}
+
+/// The first parts of files, their last ones, and why they are refused.
+const BEHIND: [(&str, &str, Refusal); 4] = [
+    ("S Q F D", "C", Refusal::MissingTable),
+    ("S Q D A", "C", Refusal::NoFrame),
+    ("S Q F D A", "", Refusal::EndsEarly),
+    ("S Q F D A", "E", Refusal::UnexpectedMarker(0xD9)),
+];
+
+#[test]
+fn refuses_what_stands_behind_many_bytes(rt: HostRuntime) -> Result<(), Fail> {
+    for (words, last, refusal) in &BEHIND {
+        check_refused(&rt, rt.alloc(), words, last, *refusal)?;
+    }
+    Ok(())
+}
+
+/// The file of a part so many times, and then the others.
+fn repeated_part(alloc: Global, part: &str, times: u32) -> Result<Vec<u8>, Fail> {
+    let mut bytes = file(alloc, "S")?;
+    for _ in 0..times {
+        put_parts(&mut bytes, part)?;
+    }
+    put_parts(&mut bytes, "Q F D A C")?;
+    Ok(bytes)
+}
+
+/// A part, how often it stands, and where the scan begins.
+const SEGMENTS: [(&str, u32, u64); 9] = [
+    ("FF FE 00 02", 1500, 6140),
+    ("FF FE 04 00 1022*20", 70, 71_960),
+    ("FF FE FF FF 65533*20", 2, 131_214),
+    ("FF E1 00 12 16*00", 300, 6140),
+    ("J", 300, 5540),
+    ("I:0000", 1000, 6140),
+    ("FF DB 00 43 00 64*11", 100, 7040),
+    ("D:01:02:03", 200, 4940),
+    ("A", 200, 4540),
+];
+
+#[test]
+fn accepts_many_segments(rt: HostRuntime) -> Result<(), Fail> {
+    let plain = file(rt.alloc(), "S Q F D A C")?;
+    let plain = read_head(rt.alloc(), plain.as_slice())?;
+    assert!(rt; 0 < plain.components());
+    for (part, times, length) in &SEGMENTS {
+        let bytes = repeated_part(rt.alloc(), part, *times)?;
+        let head = read_head(rt.alloc(), bytes.as_slice())?;
+        assert!(rt; head.scan_at() == *length, "{part} {times} times");
+        assert!(rt; 0 < head.components());
+        assert!(rt; head.quantiser(0) == plain.quantiser(0));
+        assert!(rt; have_same_books(&head, &plain));
+    }
+    Ok(())
+}
+
+/// One segment of sixty-three tables of sixty-five bytes each, before the table in force.
+#[test]
+fn accepts_many_quantisers_in_a_segment(rt: HostRuntime) -> Result<(), Fail> {
+    let mut bytes = file(rt.alloc(), "S FF DB 10 01")?;
+    for i in 0..63u8 {
+        bytes.push(i % 4)?;
+        bytes.extend_from_slice(&[0x11; 64])?;
+    }
+    put_parts(&mut bytes, "Q F D A C")?;
+    let head = read_head(rt.alloc(), bytes.as_slice())?;
+    assert!(rt; head.scan_at() == 4239);
+    Ok(())
+}
+
+#[test]
+fn accepts_tables_of_256_symbols(rt: HostRuntime) -> Result<(), Fail> {
+    let words = "S Q F FF C4 01 13 00 7*00 FF 01 7*00 256*03 FF C4 01 13 10 14*00 01 FF 256*00 C";
+    let bytes = file(rt.alloc(), words)?;
+    let head = read_head(rt.alloc(), bytes.as_slice())?;
+    assert!(rt; head.scan_at() == 648);
+    Ok(())
+}

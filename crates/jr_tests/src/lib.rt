@@ -1,0 +1,27 @@
+//! Tests of what needs no piece of a picture, through the crates' public calls: devices, bits and code tables, heads,
+//! scans and blocks, the transform, painting, desks, archives; against answers worked out by hand from T.81, and beside
+//! plain readers and painters.
+#![tactic(auto)]
+
+#[cfg(test)]
+mod archive;
+#[cfg(test)]
+mod base;
+#[cfg(test)]
+mod code;
+#[cfg(test)]
+mod desk;
+#[cfg(test)]
+mod files;
+#[cfg(test)]
+mod head;
+#[cfg(test)]
+mod idct;
+#[cfg(test)]
+mod paint;
+#[cfg(test)]
+mod pictures;
+#[cfg(test)]
+mod plain;
+#[cfg(test)]
+mod scan;

@@ -1,0 +1,215 @@
+//! Pieces posted on a board: out of order, twice, and of another file's scan.
+
+use crate::shown::{marks_of, piece, sample_at, shows};
+use jr_paint::Samples;
+use jr_scan::Scan;
+use jr_wall::{Board, Gate, Mark, OpenGate, Piece, Unposted, decode_all};
+use std::alloc::Global;
+use std::process::Abort;
+use std::sync::{Arc, Wait};
+use std::test::Fail;
+use std::thread::Threads;
+use test_files::files::TEN;
+use test_files::scans::scan;
+
+/// Two intervals that have a decoding; the same where the second has none.
+const SOUND: &str = "GI 63 FF D0 63 E";
+
+const DAMAGED: &str = "GI 63 FF D0 E0 E";
+
+/// The scan of a file, and a blank board of it.
+fn blank_board(alloc: Global, words: &str) -> Result<(Arc<Scan>, Board), Fail> {
+    let scan = scan(alloc, words)?;
+    let board = Board::new(alloc, Arc::try_clone(&scan)?)?;
+    Ok((scan, board))
+}
+
+/// The piece that comes back, and whether the board calls it foreign.
+fn piece_back(outcome: Result<(), Unposted>) -> Option<(Arc<Piece>, bool)> {
+    match outcome {
+        Ok(()) => None,
+        Err(Unposted::Foreign(piece)) => Some((piece, true)),
+        Err(Unposted::AlreadyMarked(piece)) => Some((piece, false)),
+    }
+}
+
+fn counts(board: &Board) -> (u32, u32, u32) {
+    (board.sound(), board.damaged(), board.blank())
+}
+
+#[test]
+fn takes_a_damaged_piece_before_a_sound_one(rt: HostRuntime) -> Result<(), Fail> {
+    let alloc = rt.alloc();
+    let (scan, mut board) = blank_board(alloc, DAMAGED)?;
+    assert!(rt; counts(&board) == (0, 0, 2));
+    assert!(rt; sample_at(&board, 0, 0) == Some(0));
+    assert!(rt; board.post(piece(alloc, &scan, 1)?).is_ok());
+    assert!(rt; marks_of(alloc, &scan, &board)?.as_str() == "-d");
+    assert!(rt; (sample_at(&board, 8, 0), sample_at(&board, 0, 0)) == (Some(128), Some(0)));
+    assert!(rt; board.post(piece(alloc, &scan, 0)?).is_ok());
+    assert!(rt; marks_of(alloc, &scan, &board)?.as_str() == "sd");
+    assert!(rt; shows(&board, 0, 136) && shows(&board, 8, 128));
+    assert!(rt; counts(&board) == (1, 1, 0));
+    Ok(())
+}
+
+/// The piece that is posted, and the marks behind it.
+const STEPS: [(u32, &str); 10] = [
+    (7, "-------s--"),
+    (2, "--s----s--"),
+    (9, "--s----s-s"),
+    (0, "s-s----s-s"),
+    (8, "s-s----sss"),
+    (1, "sss----sss"),
+    (5, "sss--s-sss"),
+    (6, "sss--sssss"),
+    (3, "ssss-sssss"),
+    (4, "ssssssssss"),
+];
+
+#[test]
+fn takes_pieces_out_of_order(rt: HostRuntime) -> Result<(), Fail> {
+    let alloc = rt.alloc();
+    let (scan, mut board) = blank_board(alloc, TEN)?;
+    for (number, letters) in &STEPS {
+        let number = *number;
+        assert!(rt; shows(&board, 8 * number, 0), "before {number}");
+        assert!(rt;
+            board.post(piece(alloc, &scan, number)?).is_ok(),
+            "piece {number}"
+        );
+        let found = marks_of(alloc, &scan, &board)?;
+        assert!(rt; found.as_str() == *letters, "marks after {number}");
+        assert!(rt; shows(&board, 8 * number, 136), "after {number}");
+    }
+    assert!(rt; counts(&board) == (10, 0, 0));
+    Ok(())
+}
+
+#[test]
+fn refuses_a_piece_posted_twice(rt: HostRuntime) -> Result<(), Fail> {
+    let alloc = rt.alloc();
+    let (scan, mut board) = blank_board(alloc, SOUND)?;
+    let once = piece(alloc, &scan, 0)?;
+    let again = Arc::try_clone(&once)?;
+    assert!(rt; board.post(once).is_ok());
+    let (refused, is_foreign) = piece_back(board.post(again)).ok_or("posted twice")?;
+    assert!(rt; !is_foreign && refused.number() == 0);
+    let (refused, is_foreign) = piece_back(board.post(piece(alloc, &scan, 0)?)).ok_or(
+        "posted twice",
+    )?;
+    assert!(rt; !is_foreign && refused.number() == 0);
+    assert!(rt; counts(&board) == (1, 0, 1));
+    assert!(rt; marks_of(alloc, &scan, &board)?.as_str() == "s-");
+    assert!(rt; shows(&board, 0, 136) && shows(&board, 8, 0));
+    Ok(())
+}
+
+#[test]
+fn refuses_a_foreign_piece(rt: HostRuntime) -> Result<(), Fail> {
+    let alloc = rt.alloc();
+    let (scan_here, mut board) = blank_board(alloc, SOUND)?;
+    let other = scan(alloc, DAMAGED)?;
+    assert!(rt; board.is_of(&scan_here) && !board.is_of(&other));
+    let stranger = piece(alloc, &other, 1)?;
+    assert!(rt; stranger.is_for(&other) && !stranger.is_for(&scan_here));
+    let (refused, is_foreign) = piece_back(board.post(stranger)).ok_or("a foreign piece")?;
+    assert!(rt; is_foreign && refused.number() == 1 && !refused.is_sound());
+    assert!(rt; counts(&board) == (0, 0, 2));
+    assert!(rt; marks_of(alloc, &scan_here, &board)?.as_str() == "--");
+    assert!(rt; shows(&board, 0, 0) && shows(&board, 8, 0));
+    Ok(())
+}
+
+/// A piece of a number that the board's scan does not have.
+#[test]
+fn refuses_a_piece_past_the_last(rt: HostRuntime) -> Result<(), Fail> {
+    let alloc = rt.alloc();
+    let ten = scan(alloc, TEN)?;
+    let mut board = Board::new(alloc, scan(alloc, SOUND)?)?;
+    let (refused, is_foreign) = piece_back(board.post(piece(alloc, &ten, 9)?)).ok_or(
+        "past the last",
+    )?;
+    assert!(rt; is_foreign && refused.number() == 9);
+    assert!(rt; counts(&board) == (0, 0, 2));
+    Ok(())
+}
+
+/// What a piece shows of its interval.
+#[test]
+fn shows_sound_and_damaged_pieces(rt: HostRuntime) -> Result<(), Fail> {
+    let alloc = rt.alloc();
+    let scan_here = scan(alloc, DAMAGED)?;
+    let first = piece(alloc, &scan_here, 0)?;
+    assert!(rt; first.number() == 0 && first.is_sound() && first.front() == 1);
+    assert!(rt; first.block(0) == Some(&[136; 64]) && first.block(1).is_none());
+    let second = piece(alloc, &scan_here, 1)?;
+    assert!(rt; second.number() == 1 && !second.is_sound() && second.front() == 0);
+    assert!(rt; second.block(0).is_none());
+    // Ten bits are left over, so the interval has no decoding, though its one MCU is shown.
+    let left_over = scan(alloc, "G 63 63 E")?;
+    let piece_here = piece(alloc, &left_over, 0)?;
+    assert!(rt; !piece_here.is_sound() && piece_here.front() == 1);
+    assert!(rt; piece_here.block(0) == Some(&[136; 64]));
+    Ok(())
+}
+
+/// A line of samples that begins and ends within data units.
+fn line<R: Abort>(rt: &R, board: &Board, from: u32) -> [u8; 8] {
+    let mut samples = [1; 8];
+    let head = board.head();
+    assert!(rt; 0 < head.components());
+    let across = (head.width() * head.horizontal(0)).div_ceil(head.horizontal_max());
+    let down = (head.height() * head.vertical(0)).div_ceil(head.vertical_max());
+    assert!(rt; from <= 8 && 16 <= across && 7 < down);
+    board.line(0, from, 7, &mut samples);
+    samples
+}
+
+/// Whether a board of so many first intervals of the file, decoded by workers, has these marks and shows this line.
+fn decodes<R: Threads + Wait + Sync + AllocGlobal + Abort>(
+    rt: &R,
+    first: Option<u32>,
+    letters: &str,
+    samples: [u8; 8],
+) -> Result<bool, Fail> {
+    let scan = scan(rt.alloc(), DAMAGED)?;
+    let shared = Arc::try_clone(&scan)?;
+    let board = decode_all(rt, rt.alloc(), shared, 3, first, &OpenGate)?;
+    let size = (board.head().width(), board.head().height());
+    let is_marked = marks_of(rt.alloc(), &scan, &board)?.as_str() == letters;
+    Ok(is_marked && size == (16, 8) && line(rt, &board, 4) == samples)
+}
+
+#[test]
+fn shows_what_workers_decode(rt: HostRuntime) -> Result<(), Fail> {
+    let both = [136, 136, 136, 136, 128, 128, 128, 128];
+    assert!(rt; decodes(&rt, None, "sd", both)?);
+    let one = [136, 136, 136, 136, 0, 0, 0, 0];
+    assert!(rt; decodes(&rt, Some(1), "s-", one)?);
+    Ok(())
+}
+
+/// Whether a board keeps a sound piece of the first of a scan's intervals alone, which a gate lets pass.
+fn keeps_the_first(board: &Board, scan: &Scan) -> bool {
+    let Some(kept) = board.piece(0) else {
+        return false;
+    };
+    OpenGate.pass(0);
+    OpenGate.made(kept);
+    let is_first = kept.number() == 0 && kept.is_sound() && kept.is_for(scan);
+    is_first && board.piece(1).is_none() && board.piece(2).is_none()
+}
+
+/// The pieces that a board keeps, and a gate that nobody waits at.
+#[test]
+fn keeps_pieces(rt: HostRuntime) -> Result<(), Fail> {
+    let scan = scan(rt.alloc(), SOUND)?;
+    let shared = Arc::try_clone(&scan)?;
+    let board = decode_all(&rt, rt.alloc(), shared, 2, Some(1), &OpenGate)?;
+    assert!(rt; board.is_of(&scan));
+    assert!(rt; scan.intervals() == 2);
+    assert!(rt; keeps_the_first(&board, &scan));
+    assert!(rt; board.mark(2) == Mark::Blank);
+    Ok(())
+}

@@ -1,0 +1,114 @@
+//! Pieces of scans, and what boards and cells show of them.
+
+ghost use Rattle.std.specs.Prelude.{◌≡◌, ◌<◌, IsTrue};
+ghost use Rattle.jr_head.specs.Geometry.{components_of};
+ghost use Rattle.jr_paint.specs.Geometry.{samples_across, samples_down};
+
+use jr_head::Head;
+use jr_paint::Samples;
+use jr_scan::Scan;
+use jr_wall::{Board, Cells, Glimpse, Mark, Piece, glance};
+use std::alloc::Global;
+use std::sync::{Arc, Mutex, Wait};
+use std::test::Fail;
+
+/// The piece of an interval.
+pub(crate) fn piece(alloc: Global, scan: &Scan, number: u32) -> Result<Arc<Piece>, Fail> {
+    if number >= scan.intervals() {
+        return Err(Fail::from("no such interval"));
+    }
+    let interval = scan.interval(number)?;
+    let piece = Piece::make(alloc, interval).ok().ok_or("no memory")?;
+    Ok(Arc::new(alloc, piece)?)
+}
+
+/// The marks of a board of this scan: a letter for each interval.
+pub(crate) fn marks_of(alloc: Global, scan: &Scan, board: &Board) -> Result<String, Fail> {
+    let mut letters = String::new(alloc);
+    if !board.is_of(scan) {
+        return Err(Fail::from("a board of another scan"));
+    }
+    for i in 0..scan.intervals() {
+        letters.push(match board.mark(i) {
+            Mark::Blank => '-',
+            Mark::Sound => 's',
+            Mark::Damaged => 'd',
+        })?;
+    }
+    Ok(letters)
+}
+
+/// What a fresh sight finds in cells: a letter for each, as those of marks, and `?` for a piece of another number.
+pub(crate) fn letters_in_cells(alloc: Global, cells: &Cells) -> Result<String, Fail> {
+    let mut letters = String::new(alloc);
+    let mut sight = cells.sight()?;
+    for i in 0..cells.count() {
+        letters.push(match cells.look(i, &mut sight) {
+            None => '-',
+            Some(piece) if piece.number() != i => '?',
+            Some(piece) if piece.is_sound() => 's',
+            Some(_) => 'd',
+        })?;
+    }
+    Ok(letters)
+}
+
+/// Whether component c has a sample in column x and line y.
+fn has_sample(head: &Head, c: u32, x: u32, y: u32) -> bool
+    ensures component { IsTrue result → c < components_of head.now }
+    ensures column { IsTrue result → x < samples_across head.now c }
+    ensures line { IsTrue result → y < samples_down head.now c }
+{
+    if c >= head.components() {
+        return false;
+    }
+    let across = (head.width() * head.horizontal(c)).div_ceil(head.horizontal_max());
+    let down = (head.height() * head.vertical(c)).div_ceil(head.vertical_max());
+    x < across && y < down
+}
+
+/// The sample of the first component in column x and line y; none outside the picture.
+pub(crate) fn sample_at(board: &Board, x: u32, y: u32) -> Option<u8> {
+    if has_sample(board.head(), 0, x, y) {
+        Some(board.sample(0, x, y))
+    } else {
+        None
+    }
+}
+
+/// A look at the sample of component c in column x and line y; none outside the picture.
+pub(crate) fn look(board: &Board, c: u32, x: u32, y: u32) -> Option<Glimpse> {
+    if has_sample(board.head(), c, x, y) {
+        Some(board.look(c, x, y))
+    } else {
+        None
+    }
+}
+
+/// A glance at the sample of component c in column x and line y; none outside the picture.
+pub(crate) fn glimpse<R: Wait>(
+    rt: &R,
+    board: &Mutex<Board>,
+    scan: &Scan,
+    c: u32,
+    x: u32,
+    y: u32,
+) -> Option<Glimpse> {
+    if has_sample(scan.head(), c, x, y) {
+        glance(rt, board, scan, c, x, y)
+    } else {
+        None
+    }
+}
+
+/// Whether the 8 by 8 samples from column x on have one value.
+pub(crate) fn shows(board: &Board, x: u32, value: u8) -> bool {
+    for y in 0..8 {
+        for column in 0..8 {
+            if sample_at(board, x.saturating_add(column), y) != Some(value) {
+                return false;
+            }
+        }
+    }
+    true
+}

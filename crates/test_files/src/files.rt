@@ -1,0 +1,195 @@
+//! Files in a short notation.
+//!
+//! Words are separated by spaces. These stand for parts of files; two other hexadecimal digits are a byte:
+//!
+//! | word | bytes |
+//! |---|---|
+//! | `S`, `E` | the markers SOI and EOI |
+//! | `Q` | table 0 of quantisers, each 16 |
+//! | `F:0008:0010`, `F` | a baseline frame of one component, 8 lines and 16 columns, or 8 and 8; `F1:0008:0010` for SOF1 |
+//! | `F3:0009:0011:22`, `F3` | of three components, the first with these sampling factors, or 8 by 8 with all factors 1 |
+//! | `D:00:03:05` | DC table 0 with the words 00, 01 and 10 of these symbols; `D` alone is `D:00:03:05` |
+//! | `A` | AC table 0 with the word 0 for the end of a block |
+//! | `A2:00:01` | AC table 0 with the words 0 and 10 of these symbols |
+//! | `K` | the luminance DC table of T.81, Annex K |
+//! | `I:0002` | a restart interval of two MCUs; `I` alone is `I:0001` |
+//! | `C`, `C3` | the header of a scan of one component, or of three |
+//! | `J`, `T`, `T1` | a JFIF mark, and Adobe marks with transform 0 and 1 |
+//! | `64*10` | 64 times the byte 10 |
+
+use std::alloc::Global;
+use std::test::Fail;
+
+/// Files up to their scans' data.
+const GROUPS: [(&str, &str); 4] = [
+    ("G", "S Q F:0008:0008 D A C"),
+    ("GI", "S Q F:0008:0010 D A I C"),
+    ("G1", "S Q F:0001:0001 D A C"),
+    ("GW", "S Q F:0008:0050 D A I C"),
+];
+
+const PARTS: [(&str, &str); 14] = [
+    ("S", "FF D8"),
+    ("E", "FF D9"),
+    ("Q", "FF DB 00 43 00 64*10"),
+    ("F", "FF C0 00 0B 08 00 08 00 08 01 01 11 00"),
+    (
+        "F3",
+        "FF C0 00 11 08 00 08 00 08 03 01 11 00 02 11 00 03 11 00",
+    ),
+    ("D", "FF C4 00 16 00 00 03 14*00 00 03 05"),
+    ("A", "FF C4 00 14 10 01 15*00 00"),
+    ("I", "FF DD 00 04 00 01"),
+    ("C", "FF DA 00 08 01 01 00 00 3F 00"),
+    ("C3", "FF DA 00 0C 03 01 00 02 00 03 00 00 3F 00"),
+    ("J", "FF E0 00 10 4A 46 49 46 00 01 02 00 00 01 00 01 00 00"),
+    ("T", "FF EE 00 0E 41 64 6F 62 65 00 64 00 00 00 00 00"),
+    ("T1", "FF EE 00 0E 41 64 6F 62 65 00 64 00 00 00 00 01"),
+    (
+        "K",
+        "FF C4 00 1F 00 00 01 05 01 01 01 01 01 01 7*00 00 01 02 03 04 05 06 07 08 09 0A 0B",
+    ),
+];
+
+/// A file of ten intervals that have a decoding.
+pub const TEN: &str =
+    "GW 63 FF D0 63 FF D1 63 FF D2 63 FF D3 63 FF D4 63 FF D5 63 FF D6 63 FF D7 63 FF D0 63 E";
+
+/// A file of ten intervals, of which five have a decoding: those with E0 have bits that no word begins, that with 63 63
+/// has ten bits left over behind its data unit, and one has no bytes.
+pub const MIXED: &str =
+    "GW 63 FF D0 E0 FF D1 63 FF D2 63 63 FF D3 E0 FF D4 63 FF D5 FF D6 63 FF D7 E0 FF D0 63 E";
+
+/// A file of 4096 intervals that have a decoding.
+pub const THOUSANDS: &str = "S Q F:0200:0200 D A I C \
+     511*63FFD063FFD163FFD263FFD363FFD463FFD563FFD663FFD7 63FFD063FFD163FFD263FFD363FFD463FFD563FFD663 E";
+
+/// Two intervals of three components; the same where the second has no decoding.
+pub const COLOURED: &str = "S Q F3:0009:0011:22 D:00:03:06 A I C3 00 01 48 FF D0 60 00 07 E";
+
+pub const COLOURED_DAMAGED: &str = "S Q F3:0009:0011:22 D:00:03:06 A I C3 00 01 48 FF D0 E0 E";
+
+/// One interval of 1056 MCUs: twelve, each 8 lighter than the one before, then twelve, each 8 darker, and so on.
+pub const LONG: &str = "S Q F:0108:0100 D A C 44*618618618618618618596596596596596596 E";
+
+/// Two such intervals.
+pub const TWO_LONG: &str =
+    "S Q F:0210:0100 D A FF DD 00 04 04 20 C 44*618618618618618618596596596596596596 \
+    FF D0 44*618618618618618618596596596596596596 E";
+
+/// One interval of three components, 1080 MCUs of six data units.
+pub const LONG_COLOURED: &str = "S Q F3:01E0:0240:22 D:00:03:06 A \
+    C3 108*6000C06000C06000C06000C06000C05800B05800B05800B05800B05800B0 E";
+
+/// Parts with arguments: what stands before each argument, and behind the last.
+const FORMS: [(&str, &str); 6] = [
+    ("F", "FF C0 00 0B 08 | | 01 01 11 00"),
+    ("F1", "FF C1 00 0B 08 | | 01 01 11 00"),
+    ("F3", "FF C0 00 11 08 | | 03 01 | 00 02 11 00 03 11 00"),
+    ("D", "FF C4 00 16 00 00 03 14*00 | | "),
+    ("A2", "FF C4 00 15 10 01 01 14*00 | "),
+    ("I", "FF DD 00 04 |"),
+];
+
+/// The text beside a name in a table.
+fn text_of<'a>(table: &[(&'a str, &'a str)], word: &str) -> Option<&'a str> {
+    for (name, text) in table {
+        if *name == word {
+            return Some(*text);
+        }
+    }
+    None
+}
+
+/// Puts the bytes that pairs of hexadecimal digits write.
+fn put_hex(bytes: &mut Vec<u8>, digits: &str) -> Result<(), Fail> {
+    let mut high = None;
+    for c in digits.chars() {
+        let digit = c.to_digit(16).ok_or("no hexadecimal digit")? as u8;
+        high = match high {
+            None => Some(digit),
+            Some(before) => {
+                bytes.push(u8::wrapping_mul(before, 16).wrapping_add(digit))?;
+                None
+            }
+        };
+    }
+    Ok(())
+}
+
+/// Puts pairs of digits, or so many times a pair.
+fn put_digits(bytes: &mut Vec<u8>, word: &str) -> Result<(), Fail> {
+    match word.split_once('*') {
+        None => put_hex(bytes, word),
+        Some((times, digits)) => {
+            for _ in 0..times.parse::<u32>()? {
+                put_hex(bytes, digits)?;
+            }
+            Ok(())
+        }
+    }
+}
+
+fn put_all_digits(bytes: &mut Vec<u8>, words: &str) -> Result<(), Fail> {
+    for word in words.split_whitespace() {
+        put_digits(bytes, word)?;
+    }
+    Ok(())
+}
+
+/// Puts a part with arguments: each fragment, and the argument behind it.
+fn put_form(bytes: &mut Vec<u8>, fragments: &str, arguments: &str) -> Result<(), Fail> {
+    let mut values = arguments.split(':');
+    for fragment in fragments.split('|') {
+        put_all_digits(bytes, fragment)?;
+        if let Some(value) = values.next() {
+            put_hex(bytes, value)?;
+        }
+    }
+    Ok(())
+}
+
+fn put_part(bytes: &mut Vec<u8>, word: &str) -> Result<(), Fail> {
+    if let Some(words) = text_of(&PARTS, word) {
+        return put_all_digits(bytes, words);
+    }
+    if let Some((name, arguments)) = word.split_once(':') {
+        if let Some(fragments) = text_of(&FORMS, name) {
+            return put_form(bytes, fragments, arguments);
+        }
+    }
+    put_digits(bytes, word)
+}
+
+/// Puts the bytes of words; groups of parts are none of them.
+pub fn put_parts(bytes: &mut Vec<u8>, words: &str) -> Result<(), Fail> {
+    for word in words.split_whitespace() {
+        put_part(bytes, word)?;
+    }
+    Ok(())
+}
+
+/// The bytes of a file in the notation above.
+pub fn file(alloc: Global, words: &str) -> Result<Vec<u8>, Fail> {
+    let mut bytes = Vec::new(alloc);
+    for word in words.split_whitespace() {
+        match text_of(&GROUPS, word) {
+            Some(parts) => put_parts(&mut bytes, parts)?,
+            None => put_part(&mut bytes, word)?,
+        }
+    }
+    Ok(bytes)
+}
+
+/// The first bytes of a file, at most so many.
+pub fn front(bytes: &[u8], length: usize) -> &[u8] {
+    &bytes[..length.min(bytes.len())]
+}
+
+/// The bytes of a file, one of them changed.
+pub fn with_byte(alloc: Global, bytes: &[u8], at: usize, value: u8) -> Result<Vec<u8>, Fail> {
+    let mut bytes = bytes.to_vec(alloc)?;
+    let byte = bytes.get_mut(at).ok_or("no byte there")?;
+    *byte = value;
+    Ok(bytes)
+}
