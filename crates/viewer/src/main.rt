@@ -7,19 +7,18 @@
 
 mod counting;
 mod frames;
-mod picture;
-mod plane;
-mod watching;
 
 use crate::counting::tell;
 use crate::frames::paint;
 use jr_head::read_head;
 use jr_paint::Tally;
 use jr_scan::Scan;
-use std::alloc::Global;
 use std::io::Write;
 use std::process::ExitCode;
 use std::{env, fs};
+
+/// How many threads decode.
+const WORKERS: u32 = 4;
 
 /// The scan of the file of that name; where there is none `errors` is told why, and the exit status is given.
 fn scan_of<E: Write>(rt: &HostRuntime, name: &str, errors: &mut E) -> Result<Scan, u8> {
@@ -38,7 +37,6 @@ fn scan_of<E: Write>(rt: &HostRuntime, name: &str, errors: &mut E) -> Result<Sca
 }
 
 fn main(rt: HostRuntime) -> ExitCode {
-    let alloc: Global = rt.alloc();
     let (mut out, mut errors) = (Tally::of(rt.stdout()), rt.stderr());
     let Ok(words) = env::args(&rt) else {
         return ExitCode::from(1);
@@ -54,9 +52,9 @@ fn main(rt: HostRuntime) -> ExitCode {
             Err(status) => return ExitCode::from(status),
         };
         let done = if has_frames {
-            paint(&rt, alloc, scan, &mut out)
+            paint(&rt, scan, &mut out)
         } else {
-            tell(&rt, alloc, scan, &mut out, &mut errors)
+            tell(&rt, scan, &mut out, &mut errors)
         };
         if done.is_err() || out.failed() {
             return ExitCode::from(1);
