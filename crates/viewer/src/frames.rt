@@ -1,24 +1,20 @@
 //! Writes a picture each time that a further twentieth of it can be seen.
 
-use crate::WORKERS;
-use jr_code::Memory;
 use jr_paint::{Samples, Tally, write_netpbm};
 use jr_piece::{Piece, Strip};
-use jr_scan::Scan;
-use jr_view::{Screen, View, watch};
+use jr_view::{Screen, View};
 use std::io::Write;
-use std::sync::Arc;
 
 /// What can be seen, where its pictures go, and how many twentieths of the rows of MCUs the last one showed.
 #[derive(Drop)]
-struct Frames<'a, W> {
-    view: View,
-    out: &'a mut Tally<W>,
-    twentieths: u64,
+pub struct Frames<'a, W> {
+    pub view: View,
+    pub out: &'a mut Tally<W>,
+    pub twentieths: u64,
 }
 
 /// Writes a picture, unless the writer has failed.
-fn write<S: Samples, W: Write>(picture: &S, out: &mut Tally<W>) {
+pub fn write<S: Samples, W: Write>(picture: &S, out: &mut Tally<W>) {
     if !out.failed() {
         let _ = write_netpbm(picture, out);
         let _ = out.flush();
@@ -50,18 +46,4 @@ impl<W: Write> Screen for Frames<'_, W> {
     fn is_done(&mut self) -> bool {
         self.twentieths == 20 || self.out.failed()
     }
-}
-
-/// Decodes a scan, and writes pictures of what can be seen of it; the last one is finished.
-pub fn paint<W: Write>(rt: &HostRuntime, scan: Scan, out: &mut Tally<W>) -> Result<(), Memory> {
-    let scan = Arc::new(rt.alloc(), scan)?;
-    let mut frames = Frames {
-        view: View::of(rt.alloc(), &scan)?,
-        out,
-        twentieths: 0,
-    };
-    let decoding = watch(rt, rt.alloc(), scan, WORKERS, &mut frames)?;
-    drop(frames);
-    write(&decoding.finish()?, out);
-    Ok(())
 }
