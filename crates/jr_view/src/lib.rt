@@ -6,4 +6,4 @@ mod view;
 mod watching;
 
 pub use view::View;
-pub use watching::{Looker, Screen, watch};
+pub use watching::{Screen, watch};

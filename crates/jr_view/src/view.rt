@@ -166,11 +166,8 @@ impl View {
         } else {
             restart
         };
-        self.show(
-            piece.number() as usize * restart,
-            count,
-            &Shown::OfPiece(piece),
-        );
+        let first = piece.number() as usize * restart;
+        self.show(first, count, &Shown::OfPiece(piece));
     }
 
     /// Shows so many MCUs from `first` on, those that the picture has and that were not seen.

@@ -31,7 +31,7 @@ pub trait Screen {
 
 /// Tells a screen of what can be seen, each strip and each piece once.
 #[derive(Drop)]
-pub struct Looker {
+struct Looker {
     /// Which strips and pieces it has told of, in the order in which it looks for them.
     told: Vec<bool>,
     /// What it looks for next.
@@ -40,7 +40,7 @@ pub struct Looker {
 
 impl Looker {
     /// One that has told of nothing. `Err` where memory is refused.
-    pub fn of(alloc: Global, decoding: &Decoding) -> Result<Looker, Memory> {
+    fn of(alloc: Global, decoding: &Decoding) -> Result<Looker, Memory> {
         let mut count = decoding.cells().count() as usize;
         for i in 0..decoding.cells().count() {
             if let Some(strips) = decoding.strips(i) {
@@ -83,7 +83,7 @@ impl Looker {
     }
 
     /// Tells a screen of each strip and each piece that can be seen by now, and that it was not told of.
-    pub fn look<S: Screen>(&mut self, decoding: &Decoding, screen: &mut S) -> Result<(), Memory> {
+    fn look<S: Screen>(&mut self, decoding: &Decoding, screen: &mut S) -> Result<(), Memory> {
         let cells = decoding.cells();
         let mut sight = cells.sight()?;
         self.next = 0;

@@ -61,6 +61,8 @@ mod scan;
 #[cfg(test)]
 mod scans;
 #[cfg(test)]
+mod seen_views;
+#[cfg(test)]
 mod shares;
 #[cfg(test)]
 mod short_files;

@@ -1,6 +1,6 @@
 use Rattle.std.proofs.Common.{rules, inl, inr, ◌≡◌, ◌+◌, ◌*◌, ◌≤◌, ◌<◌, length, refl, sym, ap, subst, ◌∙◌, arith}
 use Rattle.jr_head.specs.Geometry.{blocks_of, mcus_of}
-use Rattle.jr_view.specs.Views.{ShowsMcus, has_seen, units_of}
+use Rattle.jr_view.specs.Views.{ShowsMcu, ShowsMcus, has_seen, units_of}
 use Rattle.jr_view.proofs.Showing.{show_all, show_more, show_seen, tells}
 use Rattle.jr_view.proofs.view.View.show.Goals as goal
 
@@ -14,7 +14,9 @@ loop-j-preserved c =
     let per : length c.order-per_mcu.result.now ≡ blocks_of old.scan.head = search rules in
     elim (tells (has_seen cur m)) [
       | inl t ↦ subst (ShowsMcus old c.args.first (j + 1) units) (sym (c.show_mcu.ensures.kept t)) (show_seen old cur c.args.first j m units refl c.loop-j.invariant t)
-      | inr f ↦ show_more old cur c.args.first j m units c.show_mcu.new.self (j * length c.order-per_mcu.result.now) refl (ap (λ n. j * n) per) c.loop-j.invariant f (c.show_mcu.ensures.shown f)
+      | inr f ↦
+          let one : ShowsMcu cur m units (j * length c.order-per_mcu.result.now) c.show_mcu.new.self = search (rules, c.show_mcu.ensures.shown f) in
+          show_more old cur c.args.first j m units c.show_mcu.new.self (j * length c.order-per_mcu.result.now) refl (ap (λ n. j * n) per) c.loop-j.invariant f one
     ]
 
 pub returns : goal.returns

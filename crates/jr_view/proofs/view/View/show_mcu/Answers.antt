@@ -41,8 +41,9 @@ invariant_of-self c =
     let wide : 0 < mcus_across of.head = subst (λ (g : HeadValue). 0 < mcus_across g) head c.is_row_whole.ensures.wide in
     let whole = c.is_row_whole.ensures.value ∙ ap (λ (bs : List Bool). is_whole c.head-head.result.now bs (m / mcus_across c.head-head.result.now)) c.deref-2.ensures.value
     ∙ ap (λ (g : HeadValue). is_whole g (set seen m true) (m / mcus_across g)) head in
-    kept_view of c.self.inside.units.items (with_items c.self.inside.units c.put_mcu.new.units).items seen m c.self.inside.rows c.from.result c.self.invariant long wide in_picture unseen
-    (c.from.ensures ∙ byte_is c.is_row_whole.result ∙ ap (λ b. cond b 1 0) whole)
+    let kept = kept_view of c.self.inside.units.items (with_items c.self.inside.units c.put_mcu.new.units).items seen m c.self.inside.rows c.from.result c.self.invariant long wide in_picture unseen
+    (c.from.ensures ∙ byte_is c.is_row_whole.result ∙ ap (λ b. cond b 1 0) whole) in
+    search (rules, kept)
 
 pub returns-clause-shown : goal.returns-clause-shown
 returns-clause-shown c f =

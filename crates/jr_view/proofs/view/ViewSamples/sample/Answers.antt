@@ -29,5 +29,6 @@ returns c =
     let room : length c.self.inside.units.items ≡ mcus_of h * blocks_of h = search (rules, head) in
     let all : mcus_of h * blocks_of h ≡ n * mcus_of h = omega (arith, ap (λ k. mcus_of h * k) per) in
     let place : s.mcu * n + s.block < n * mcus_of h = mul-add-lt s.mcu n s.block (mcus_of h) c.place-spot.ensures.mcu (omega (arith, c.place-spot.ensures.block, per)) in
-    let read = get_or_read c.self.inside.units.items (s.mcu * n + s.block) c.index.result.now (omega (arith, place, room, all)) c.index.ensures grey_unit in
+    let at : c.index.result.now ≡ slice_index_or c.self.inside.units.items (s.mcu * n + s.block) c.index.result.now = search rules in
+    let read = get_or_read c.self.inside.units.items (s.mcu * n + s.block) c.index.result.now (omega (arith, place, room, all)) at grey_unit in
     found c.args.self.now h c.args.c c.args.x c.args.y n s c.index.result.now head c.place-spot.ensures.closed per (read ∙ ap (λ (v : ViewValue). slice_index_or v.units (s.mcu * n + s.block) grey_unit) c.self.view_is)
