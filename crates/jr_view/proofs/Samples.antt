@@ -1,5 +1,5 @@
 -- The samples of a view, by its data units.
-use Rattle.std.proofs.Common.{◌≡◌, ℕ, Bool, false, inl, inr, ◌+◌, ◌*◌, ◌%◌, ◌<◌, ◌≤◌, List, length, get_or, replicate, slice_index, slice_index_or, sym, ap, ◌∙◌, arith}
+use Rattle.std.proofs.Common.{◌≡◌, ℕ, Bool, false, inl, inr, ◌+◌, ◌*◌, ◌%◌, ◌<◌, List, length, get_or, replicate, slice_index, slice_index_or, sym, ap, ◌∙◌, arith}
 use Rattle.std.proofs.lemmas.Bool.{cases_lt}
 use Rattle.std.proofs.lemmas.List.{get_or-replicate, get_or_past, length-replicate}
 use Rattle.std.proofs.lemmas.Nat.{mod_below}

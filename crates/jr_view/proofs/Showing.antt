@@ -1,11 +1,11 @@
 -- What a view shows after one MCU more.
-use Rattle.std.proofs.Common.{◌≡◌, ℕ, Bool, inl, inr, ◌⊎◌, ◌+◌, ◌-◌, ◌*◌, ◌<◌, ◌≤◌, true, false, List, slice_index_or, refl, sym, ap, subst, ◌∙◌, arith}
+use Rattle.std.proofs.Common.{◌≡◌, ℕ, Bool, inl, inr, ◌⊎◌, ◌+◌, ◌-◌, ◌*◌, ◌<◌, ◌≤◌, true, false, List, slice_index_or, refl, sym, ap, ◌∙◌, arith}
 use Rattle.std.proofs.lemmas.Bool.{cases_order}
 use Rattle.jr_head.specs.Geometry.{blocks_of, mcus_of}
 use Rattle.jr_scan.specs.ScanValue.{ScanValue}
 use Rattle.jr_piece.specs.Units.{grey_unit}
 use Rattle.jr_view.specs.ViewValue.{ViewValue}
-use Rattle.jr_view.specs.Views.{IsAmong, IsOutside, IsSameAt, ShowsMcu, ShowsMcus, ShowsUnits, has_seen, unit_at}
+use Rattle.jr_view.specs.Views.{IsSameAt, ShowsMcu, ShowsMcus, has_seen, unit_at}
 
 is_same : (v : ViewValue) (mcu : ℕ) → IsSameAt v v mcu
 is_same v mcu = record { seen = refl; units = λ k lt. refl }

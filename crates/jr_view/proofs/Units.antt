@@ -1,12 +1,12 @@
 -- The data units of an MCU among those of all.
-use Rattle.std.proofs.Common.{◌≡◌, ℕ, inl, inr, ◌⊎◌, ◌++◌, ◌+◌, ◌-◌, ◌*◌, ◌<◌, ◌≤◌, Bool, true, false, List, length, take, drop, get_or, set, refl, sym, ap, ◌∙◌, arith}
+use Rattle.std.proofs.Common.{◌≡◌, ℕ, inl, inr, ◌+◌, ◌*◌, ◌<◌, ◌≤◌, Bool, true, false, List, length, get_or, set, sym, ap, ◌∙◌, arith}
 use Rattle.std.proofs.lemmas.List.{get_or-set_other, get_or-set_same}
 use Rattle.std.proofs.Math.Nat.{add-mul, mul-le-mul_right}
-use Rattle.jr_head.specs.Geometry.{blocks_of, mcus_of}
+use Rattle.jr_head.specs.Geometry.{blocks_of}
 use Rattle.jr_scan.specs.ScanValue.{ScanValue}
 use Rattle.jr_piece.specs.Units.{grey_unit}
 use Rattle.jr_view.specs.ViewValue.{ViewValue}
-use Rattle.jr_view.specs.Views.{IsSameAt, ShowsMcu, has_seen, unit_at}
+use Rattle.jr_view.specs.Views.{ShowsMcu}
 
 -- where the data units of an MCU are written, and it counts as seen, it shows them, and no other MCU is changed
 pub mcu_shown : (old new : ViewValue) (m from per : ℕ) (units us : List (List ℕ)) → per ≡ blocks_of old.scan.head → new.scan ≡ old.scan → new.units ≡ us → new.seen ≡ set old.seen m true → m < length old.seen

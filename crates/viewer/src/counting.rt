@@ -1,7 +1,7 @@
 //! Tells how many intervals can be seen.
 
-use jr_piece::Piece;
 use jr_view::Screen;
+use jr_wall::Piece;
 use std::io::Write;
 
 /// How many of all intervals can be seen, how many of them are damaged, and how many it told of last.

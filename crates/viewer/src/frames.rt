@@ -1,8 +1,8 @@
 //! Writes a picture each time that a further twentieth of it can be seen.
 
 use jr_paint::{Samples, Tally, write_netpbm};
-use jr_piece::{Piece, Strip};
 use jr_view::{Screen, View};
+use jr_wall::{Piece, Strip};
 use std::io::Write;
 
 /// What can be seen, where its pictures go, and how many twentieths of the rows of MCUs the last one showed.

@@ -1,4 +1,4 @@
-use Rattle.std.proofs.Common.{◌≡◌, ◌+◌, ◌*◌, ◌/◌, ◌<◌, ◌≤◌, length, sym, subst, arith}
+use Rattle.std.proofs.Common.{◌+◌, ◌*◌, ◌/◌, ◌<◌, ◌≤◌, length, sym, subst, arith}
 use Rattle.jr_head.specs.Geometry.{mcus_across}
 use Rattle.jr_view.proofs.Rows.{row_within}
 use Rattle.jr_view.proofs.view.is_row_whole.Goals as goal

@@ -1,4 +1,4 @@
-use Rattle.std.proofs.Common.{rules, ◌≡◌, ◌*◌, ◌<◌, false, refl, get_or, length, replicate, ap, ◌∙◌, sym, arith}
+use Rattle.std.proofs.Common.{◌≡◌, ◌*◌, false, length, replicate, ap, ◌∙◌}
 use Rattle.std.specs.Arc.{arc_value}
 use Rattle.jr_head.specs.Geometry.{blocks_of, mcus_of}
 use Rattle.jr_scan.specs.ScanValue.{ScanValue}

@@ -1,4 +1,4 @@
-use Rattle.std.proofs.Common.{rules, inl, inr, ◌≡◌, ◌+◌, ◌*◌, ◌≤◌, ◌<◌, length, refl, sym, ap, subst, ◌∙◌, arith}
+use Rattle.std.proofs.Common.{rules, inl, inr, ◌≡◌, ◌+◌, ◌*◌, ◌≤◌, length, refl, sym, ap, subst, arith}
 use Rattle.jr_head.specs.Geometry.{blocks_of, mcus_of}
 use Rattle.jr_view.specs.Views.{ShowsMcu, ShowsMcus, has_seen, units_of}
 use Rattle.jr_view.proofs.Showing.{show_all, show_more, show_seen, tells}
