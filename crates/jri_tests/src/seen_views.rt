@@ -149,14 +149,11 @@ fn check_watched<R: Threads + Wait + Clock + Sync + AllocGlobal + Abort>(
         mcus: 0,
         pieces: 0,
     };
-    let decoding = watch(
-        rt,
-        rt.alloc(),
-        Arc::try_clone(&scan)?,
-        2,
-        &mut told,
-    )?;
-    assert!(rt; told.pieces == scan.intervals() && told.mcus == mcus, "{words}");
+    let decoding = watch(rt, rt.alloc(), Arc::try_clone(&scan)?, 2, &mut told)?;
+    assert!(rt;
+        told.pieces == scan.intervals() && told.mcus == mcus,
+        "{words}"
+    );
     assert!(rt; shows_all(rt.alloc(), &told.view, &scan)?, "{words}");
     assert!(rt; decoding.finish()?.blank() == 0);
     Ok(())
