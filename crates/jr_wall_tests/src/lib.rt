@@ -17,6 +17,8 @@ mod piece;
 #[cfg(test)]
 mod pieces_of_strips;
 #[cfg(test)]
+mod seen_views;
+#[cfg(test)]
 mod shown;
 #[cfg(test)]
 mod strip_cells;

@@ -1,88 +1,49 @@
 //! Writes a picture each time that a further twentieth of it can be seen.
 
-use crate::picture::View;
-use crate::watching::{Screen, watch};
-use jr_code::Memory;
-use jr_paint::{Tally, write_netpbm};
-use jr_scan::Scan;
-use jr_wall::{Decoding, StripCells};
-use std::alloc::Global;
+use jr_paint::{Samples, Tally, write_netpbm};
+use jr_view::{Screen, View};
+use jr_wall::{Piece, Strip};
 use std::io::Write;
-use std::sync::{Arc, Wait};
-use std::thread::Threads;
-use std::time::Clock;
 
-/// What can be seen, where its pictures go, and how many twentieths the last one showed.
+/// What can be seen, where its pictures go, and how many twentieths of the rows of MCUs the last one showed.
 #[derive(Drop)]
-struct Frames<'a, W> {
-    view: View,
-    out: &'a mut Tally<W>,
-    twentieths: u64,
+pub struct Frames<'a, W> {
+    pub view: View,
+    pub out: &'a mut Tally<W>,
+    pub twentieths: u64,
+}
+
+/// Writes a picture, unless the writer has failed.
+pub fn write<S: Samples, W: Write>(picture: &S, out: &mut Tally<W>) {
+    if !out.failed() {
+        let _ = write_netpbm(picture, out);
+        let _ = out.flush();
+    }
 }
 
 impl<W: Write> Frames<'_, W> {
     /// Writes a picture where a further twentieth can be seen. The finished one is not written here.
     fn write_due(&mut self) {
-        let twentieths = self.view.twentieths();
-        if self.twentieths < twentieths && twentieths < 20 && !self.out.failed() {
-            let _ = write_netpbm(&self.view, self.out);
-            let _ = self.out.flush();
+        let twentieths = 20 * u64::from(self.view.rows()) / u64::from(self.view.mcu_rows());
+        if self.twentieths < twentieths && twentieths < 20 {
+            write(&self.view, self.out);
         }
         self.twentieths = twentieths;
-    }
-
-    /// Shows the strips of a long interval that can be seen by now.
-    fn look_over(&mut self, strips: &StripCells) {
-        let Ok(mut sight) = strips.sight() else {
-            return;
-        };
-        for place in 0..strips.count() {
-            if let Some(strip) = strips.look(place, &mut sight) {
-                self.view.show_strip(strip);
-                self.write_due();
-            }
-        }
     }
 }
 
 impl<W: Write> Screen for Frames<'_, W> {
-    fn refresh(&mut self, decoding: &Decoding) -> bool {
-        let cells = decoding.cells();
-        let Ok(mut sight) = cells.sight() else {
-            return false;
-        };
-        for i in 0..cells.count() {
-            if let Some(strips) = decoding.strips(i) {
-                self.look_over(strips);
-            }
-            if let Some(piece) = cells.look(i, &mut sight) {
-                self.view.show_piece(piece);
-                self.write_due();
-            }
-        }
+    fn show_strip(&mut self, strip: &Strip) {
+        self.view.show_strip(strip);
+        self.write_due();
+    }
+
+    fn show_piece(&mut self, piece: &Piece) {
+        self.view.show_piece(piece);
+        self.write_due();
+    }
+
+    fn is_done(&mut self) -> bool {
         self.twentieths == 20 || self.out.failed()
     }
-}
-
-/// Decodes a scan, and writes pictures of what can be seen of it; the last one is finished.
-pub fn paint<R: Threads + Wait + Clock + Sync, W: Write>(
-    rt: &R,
-    alloc: Global,
-    scan: Scan,
-    out: &mut Tally<W>,
-) -> Result<(), Memory> {
-    let scan = Arc::new(alloc, scan)?;
-    let mut frames = Frames {
-        view: View::of(alloc, &scan)?,
-        out,
-        twentieths: 0,
-    };
-    let decoding = watch(rt, alloc, scan, &mut frames)?;
-    drop(frames);
-    let board = decoding.finish()?;
-    if !out.failed() {
-        let _ = write_netpbm(&board, out);
-        let _ = out.flush();
-    }
-    Ok(())
 }

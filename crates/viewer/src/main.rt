@@ -7,19 +7,24 @@
 
 mod counting;
 mod frames;
-mod picture;
-mod plane;
-mod watching;
 
-use crate::counting::tell;
-use crate::frames::paint;
+use crate::counting::Counter;
+use crate::frames::{Frames, write};
+use jr_code::Memory;
 use jr_head::read_head;
 use jr_paint::Tally;
 use jr_scan::Scan;
+use jr_view::{View, watch};
 use std::alloc::Global;
 use std::io::Write;
 use std::process::ExitCode;
+use std::sync::{Arc, Wait};
+use std::thread::Threads;
+use std::time::Clock;
 use std::{env, fs};
+
+/// How many threads decode.
+const WORKERS: u32 = 4;
 
 /// The scan of the file of that name; where there is none `errors` is told why, and the exit status is given.
 fn scan_of<E: Write>(rt: &HostRuntime, name: &str, errors: &mut E) -> Result<Scan, u8> {
@@ -37,8 +42,41 @@ fn scan_of<E: Write>(rt: &HostRuntime, name: &str, errors: &mut E) -> Result<Sca
     Scan::cut(rt.alloc(), head, file.as_slice()).map_err(|_| 1)
 }
 
+/// Decodes a scan, and shows meanwhile what can be seen of it.
+fn show<R: Threads + Wait + Clock + Sync, W: Write, E: Write>(
+    rt: &R,
+    alloc: Global,
+    scan: Scan,
+    has_frames: bool,
+    out: &mut Tally<W>,
+    errors: &mut E,
+) -> Result<(), Memory> {
+    let scan = Arc::new(alloc, scan)?;
+    if has_frames {
+        let view = View::of(alloc, &scan)?;
+        let mut frames = Frames {
+            view,
+            out,
+            twentieths: 0,
+        };
+        let decoding = watch(rt, alloc, scan, WORKERS, &mut frames)?;
+        drop(frames);
+        write(&decoding.finish()?, out);
+    } else {
+        let mut counter = Counter {
+            errors,
+            all: scan.intervals(),
+            seen: 0,
+            damaged: 0,
+            told: 0,
+        };
+        watch(rt, alloc, scan, WORKERS, &mut counter)?;
+        counter.tell(out);
+    }
+    Ok(())
+}
+
 fn main(rt: HostRuntime) -> ExitCode {
-    let alloc: Global = rt.alloc();
     let (mut out, mut errors) = (Tally::of(rt.stdout()), rt.stderr());
     let Ok(words) = env::args(&rt) else {
         return ExitCode::from(1);
@@ -53,11 +91,7 @@ fn main(rt: HostRuntime) -> ExitCode {
             Ok(scan) => scan,
             Err(status) => return ExitCode::from(status),
         };
-        let done = if has_frames {
-            paint(&rt, alloc, scan, &mut out)
-        } else {
-            tell(&rt, alloc, scan, &mut out, &mut errors)
-        };
+        let done = show(&rt, rt.alloc(), scan, has_frames, &mut out, &mut errors);
         if done.is_err() || out.failed() {
             return ExitCode::from(1);
         }

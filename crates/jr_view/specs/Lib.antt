@@ -1,0 +1,2 @@
+pub mod ViewValue
+pub mod Views

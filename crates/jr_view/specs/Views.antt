@@ -1,0 +1,109 @@
+-- What a view shows of a picture, and what a strip or a piece adds to it.
+use Rattle.std.specs.Prelude.{◌≡◌, ℕ, ◌+◌, ◌-◌, ◌*◌, ◌==◌, ◌<◌, ◌≤◌, ◌⊎◌, Bool, true, false, List, length, count_by, if◌then◌else◌, slice_index, slice_index_or, slice_range}
+use Rattle.std.specs.List.{list_all, range_with_len}
+use Rattle.jr_head.specs.HeadValue.{HeadValue}
+use Rattle.jr_head.specs.Geometry.{blocks_of, mcus_across, mcus_down, mcus_of}
+use Rattle.jr_piece.specs.PieceValue.{PieceValue}
+use Rattle.jr_piece.specs.StripValue.{StripValue}
+use Rattle.jr_piece.specs.Units.{grey_unit}
+use Rattle.jr_wall.specs.Headline.{spot_of, place_in}
+use Rattle.jr_view.specs.declared.shown.Shown.{Shown}
+use Rattle.jr_view.specs.declared.shown.Shown.TheVariants.{OfStrip, OfPiece}
+use Rattle.jr_view.specs.ViewValue.{ViewValue}
+
+-- whether an MCU was seen; none was that the picture does not have
+abbrev pub has_seen : ViewValue → ℕ → Bool
+has_seen v mcu = slice_index_or v.seen mcu false
+
+-- data unit k of an MCU (T.81, A.2.3)
+abbrev pub unit_at : ViewValue → ℕ → ℕ → List ℕ
+unit_at v mcu k = slice_index_or v.units (mcu * blocks_of v.scan.head + k) grey_unit
+
+-- the sample in column x and line y of component c
+unfoldable pub sample_of : ViewValue → ℕ → ℕ → ℕ → ℕ
+sample_of v c x y = let s = spot_of v.scan.head c x y in slice_index (unit_at v s.mcu s.block) (place_in s)
+
+-- whether each MCU of this row of MCUs was seen
+abbrev pub is_whole : HeadValue → List Bool → ℕ → Bool
+is_whole h seen row = list_all (λ b. b) (slice_range seen (row * mcus_across h) ((row + 1) * mcus_across h))
+
+-- how many rows of MCUs were seen whole
+unfoldable pub whole_rows : ViewValue → ℕ
+whole_rows v = count_by (is_whole v.scan.head v.seen) (range_with_len 0 (mcus_down v.scan.head))
+
+-- both views show the same of an MCU
+pub record IsSameAt (a b : ViewValue) (mcu : ℕ) : Type 0 where
+  pub seen : has_seen a mcu ≡ has_seen b mcu
+  pub units : (k : ℕ) → k < blocks_of a.scan.head → unit_at a mcu k ≡ unit_at b mcu k
+
+-- an MCU shows the data units of a list from this one on, grey ones where it has none
+abbrev pub ShowsUnits : ViewValue → ℕ → List (List ℕ) → ℕ → Type 0
+ShowsUnits v mcu units from = (k : ℕ) → k < blocks_of v.scan.head → unit_at v mcu k ≡ slice_index_or units (from + k) grey_unit
+
+-- the picture has this MCU, and it is one of so many from `first` on
+pub record IsAmong (h : HeadValue) (first count mcu : ℕ) : Type 0 where
+  pub picture : mcu < mcus_of h
+  pub from : first ≤ mcu
+  pub before : mcu < first + count
+
+-- it is before or behind them
+abbrev pub IsOutside : (first count mcu : ℕ) → Type 0
+IsOutside first count mcu = (mcu < first) ⊎ (first + count ≤ mcu)
+
+-- the first MCU of interval i, and how many it has, but for the last one, which ends with the picture (E.1.4)
+abbrev pub first_of : HeadValue → ℕ → ℕ
+first_of h i = i * h.restart
+
+abbrev pub size_of : HeadValue → ℕ
+size_of h = if h.restart == 0 then mcus_of h else h.restart
+
+-- the MCU is one of a strip, or none of them
+abbrev pub first_of_strip : HeadValue → StripValue → ℕ
+first_of_strip h s = first_of h s.interval.number + s.first
+
+abbrev pub IsOfStrip : ViewValue → StripValue → ℕ → Type 0
+IsOfStrip v s mcu = IsAmong v.scan.head (first_of_strip v.scan.head s) s.mcus mcu
+
+abbrev pub IsNotOfStrip : ViewValue → StripValue → ℕ → Type 0
+IsNotOfStrip v s mcu = IsOutside (first_of_strip v.scan.head s) s.mcus mcu
+
+-- it shows the strip's data units
+abbrev pub ShowsStrip : ViewValue → StripValue → ℕ → Type 0
+ShowsStrip v s mcu = ShowsUnits v mcu s.samples ((mcu - first_of_strip v.scan.head s) * blocks_of v.scan.head)
+
+-- the MCU is one of a piece's interval, or none of them
+abbrev pub IsOfPiece : ViewValue → PieceValue → ℕ → Type 0
+IsOfPiece v p mcu = IsAmong v.scan.head (first_of v.scan.head p.interval.number) (size_of v.scan.head) mcu
+
+abbrev pub IsNotOfPiece : ViewValue → PieceValue → ℕ → Type 0
+IsNotOfPiece v p mcu = IsOutside (first_of v.scan.head p.interval.number) (size_of v.scan.head) mcu
+
+-- it shows the piece's data units, grey ones behind its front
+abbrev pub ShowsPiece : ViewValue → PieceValue → ℕ → Type 0
+ShowsPiece v p mcu = ShowsUnits v mcu p.samples ((mcu - first_of v.scan.head p.interval.number) * blocks_of v.scan.head)
+
+-- what the fields of a view keep
+pub record IsView (v : ViewValue) (count : ℕ) : Type 0 where
+  pub units : length v.units ≡ mcus_of v.scan.head * blocks_of v.scan.head
+  pub seen : length v.seen ≡ mcus_of v.scan.head
+  pub rows : count ≡ whole_rows v
+
+-- the data units of what a view is shown
+abbrev pub units_of : Shown → List (List ℕ)
+units_of (OfStrip s) = s.now.samples
+units_of (OfPiece p) = p.now.samples
+
+-- MCU `mcu`, which was not seen, shows data units from this one on; the others are as they were
+pub record ShowsMcu (old : ViewValue) (mcu : ℕ) (units : List (List ℕ)) (from : ℕ) (new : ViewValue) : Type 0 where
+  pub scan : new.scan ≡ old.scan
+  pub seen : has_seen new mcu ≡ true
+  pub shown : ShowsUnits new mcu units from
+  pub others : (m : ℕ) → (m < mcu) ⊎ (mcu < m) → IsSameAt old new m
+
+-- those of so many MCUs from `first` on that were not seen show data units; the others are as they were
+pub record ShowsMcus (old : ViewValue) (first count : ℕ) (units : List (List ℕ)) (new : ViewValue) : Type 0 where
+  pub scan : new.scan ≡ old.scan
+  pub seen : (mcu : ℕ) → IsAmong old.scan.head first count mcu → has_seen new mcu ≡ true
+  pub shown : (mcu : ℕ) → IsAmong old.scan.head first count mcu → has_seen old mcu ≡ false → ShowsUnits new mcu units ((mcu - first) * blocks_of old.scan.head)
+  pub kept : (mcu : ℕ) → has_seen old mcu ≡ true → IsSameAt old new mcu
+  pub others : (mcu : ℕ) → IsOutside first count mcu → IsSameAt old new mcu

@@ -1,0 +1,221 @@
+//! What can be seen of a picture so far.
+
+ghost use Rattle.std.specs.Prelude.{◌≡◌, ℕ, ◌*◌, ◌+◌, ◌/◌, ◌<◌, ◌≤◌, ◌^◌, length, replicate, slice_index_or, true, false, IfOk};
+ghost use Rattle.std.specs.Arc.{arc_value};
+ghost use Rattle.jr_head.specs.Geometry.{blocks_of, mcus_across, mcus_down, mcus_of};
+ghost use Rattle.jr_piece.specs.Units.{grey_unit};
+ghost use Rattle.jr_view.specs.Views.{IsNotOfPiece, IsNotOfStrip, IsOfPiece, IsOfStrip, IsSameAt, ShowsMcu, ShowsMcus, ShowsPiece, ShowsStrip, has_seen, is_whole, sample_of, unit_at, units_of, whole_rows};
+
+use crate::shown::{GREY, Shown};
+use jr_code::Memory;
+use jr_head::Head;
+use jr_paint::{Samples, place};
+use jr_piece::{Piece, Strip};
+use jr_scan::Scan;
+use std::alloc::Global;
+use std::marker::Model;
+use std::sync::Arc;
+
+/// A picture's samples as they were seen; those that were not are mid-grey.
+#[derive(Drop)]
+pub struct View {
+    scan: Arc<Scan>,
+    /// The data units of all MCUs, in the order of the scan.
+    units: Vec<[u8; 64]>,
+    /// Whether each MCU was seen.
+    seen: Vec<bool>,
+    /// How many rows of MCUs were seen whole.
+    rows: u32,
+}
+
+impl Model for View {
+    ghost use Rattle.std.specs.Arc.{arc_value};
+    ghost use Rattle.jr_view.specs.ViewValue.{ViewValue};
+    ghost use Rattle.jr_view.specs.Views.{IsView};
+
+    ghost Value = { ViewValue };
+
+    ghost view = { λ v. record { scan = arc_value v.scan; units = v.units.items; seen = v.seen.items } };
+
+    ghost invariant = { λ v. IsView (record { scan = arc_value v.scan; units = v.units.items; seen = v.seen.items }) v.rows };
+}
+
+/// How many MCUs stand in a row of MCUs.
+fn mcu_columns(head: &Head) -> usize
+    ensures value { result ≡ mcus_across head.now }
+    ensures some { 0 < result }
+    ensures few { result < 2 ^ 16 }
+{
+    head.width().div_ceil(8 * head.horizontal_max()) as usize
+}
+
+/// How many rows of MCUs there are.
+fn mcu_lines(head: &Head) -> u32
+    ensures value { result ≡ mcus_down head.now }
+    ensures some { 0 < result }
+    ensures few { result < 2 ^ 16 }
+{
+    head.height().div_ceil(8 * head.vertical_max())
+}
+
+/// So many data units, all grey.
+fn grey_units(alloc: Global, count: usize) -> Result<Vec<[u8; 64]>, Memory>
+    ensures { IfOk result (λ v. v.items ≡ replicate count grey_unit) }
+{
+    let mut units = Vec::with_capacity(alloc, count)?;
+    for _ in 0..count {
+        units.push([GREY; 64])?;
+    }
+    Ok(units)
+}
+
+/// Puts the data units of an MCU, `count` from `start` on.
+fn put_mcu(shown: &Shown<'_>, from: u32, units: &mut [[u8; 64]], start: usize, count: usize)
+    requires few { from + count < 2 ^ 32 }
+    requires room { start + count ≤ length units.old }
+    ensures here { (k : ℕ) → k < count → slice_index_or units.new (start + k) grey_unit ≡ slice_index_or (units_of shown.now) (from + k) grey_unit }
+    ensures before { (k : ℕ) → k < start → slice_index_or units.new k grey_unit ≡ slice_index_or units.old k grey_unit }
+    ensures behind { (k : ℕ) → start + count ≤ k → slice_index_or units.new k grey_unit ≡ slice_index_or units.old k grey_unit }
+{
+    shown.put(from, &mut units[start..start + count]);
+}
+
+/// Whether all MCUs of the row that this one stands in were seen.
+fn is_row_whole(head: &Head, seen: &[bool], mcu: usize) -> bool
+    requires mcu { mcu < mcus_of head.now }
+    requires seen { length seen.now ≡ mcus_of head.now }
+    ensures value { result ≡ is_whole head.now seen.now (mcu / mcus_across head.now) }
+    ensures wide { 0 < mcus_across head.now }
+{
+    let columns = mcu_columns(head);
+    let row = mcu / columns;
+    seen[row * columns..(row + 1) * columns]
+        .iter()
+        .all(|is_seen| *is_seen)
+}
+
+impl View {
+    /// A view of a scan's picture of which nothing was seen. It takes all its memory now, for each pixel that the head
+    /// claims. `Err` where memory is refused.
+    pub fn of(alloc: Global, scan: &Arc<Scan>) -> Result<View, Memory>
+        ensures scan { IfOk result (λ v. v.scan ≡ arc_value scan.now) }
+        ensures unseen { IfOk result (λ v. (mcu : ℕ) → has_seen v mcu ≡ false) }
+        ensures grey { IfOk result (λ v. (mcu k : ℕ) → unit_at v mcu k ≡ grey_unit) }
+        ensures samples { IfOk result (λ v. (c x y : ℕ) → sample_of v c x y ≡ 128) }
+    {
+        let mcus = scan.head().mcus() as usize;
+        let count = mcus * scan.head().order().len();
+        Ok(View {
+            scan: Arc::try_clone(scan)?,
+            units: grey_units(alloc, count)?,
+            seen: vec![in alloc; false; mcus]?,
+            rows: 0,
+        })
+    }
+
+    /// How many rows of MCUs were seen whole.
+    pub fn rows(&self) -> u32
+        ensures { result ≡ whole_rows self.now }
+    {
+        self.rows
+    }
+
+    /// How many rows of MCUs the picture has.
+    pub fn mcu_rows(&self) -> u32
+        ensures value { result ≡ mcus_down self.now.scan.head }
+        ensures some { 0 < result }
+    {
+        mcu_lines(self.scan.head())
+    }
+
+    /// Whether an MCU was seen.
+    pub fn has_seen(&self, mcu: u32) -> bool
+        ensures { result ≡ has_seen self.now mcu }
+    {
+        match self.seen.get(mcu as usize) {
+            Some(is_seen) => *is_seen,
+            None => false,
+        }
+    }
+
+    /// Shows a strip, as far as the picture has its MCUs. Those that were seen before stay as they were.
+    pub fn show_strip(&mut self, strip: &Strip)
+        ensures scan { self.new.scan ≡ self.old.scan }
+        ensures seen { (mcu : ℕ) → IsOfStrip self.old strip.now mcu → has_seen self.new mcu ≡ true }
+        ensures shown { (mcu : ℕ) → IsOfStrip self.old strip.now mcu → has_seen self.old mcu ≡ false → ShowsStrip self.new strip.now mcu }
+        ensures kept { (mcu : ℕ) → has_seen self.old mcu ≡ true → IsSameAt self.old self.new mcu }
+        ensures others { (mcu : ℕ) → IsNotOfStrip self.old strip.now mcu → IsSameAt self.old self.new mcu }
+    {
+        let restart = self.scan.head().restart() as usize;
+        let first = strip.number() as usize * restart + strip.first() as usize;
+        self.show(first, strip.mcus() as usize, &Shown::OfStrip(strip));
+    }
+
+    /// Shows a piece: all MCUs of its interval are seen then, and those behind its front are grey. Those that were seen
+    /// before stay as they were.
+    pub fn show_piece(&mut self, piece: &Piece)
+        ensures scan { self.new.scan ≡ self.old.scan }
+        ensures seen { (mcu : ℕ) → IsOfPiece self.old piece.now mcu → has_seen self.new mcu ≡ true }
+        ensures shown { (mcu : ℕ) → IsOfPiece self.old piece.now mcu → has_seen self.old mcu ≡ false → ShowsPiece self.new piece.now mcu }
+        ensures kept { (mcu : ℕ) → has_seen self.old mcu ≡ true → IsSameAt self.old self.new mcu }
+        ensures others { (mcu : ℕ) → IsNotOfPiece self.old piece.now mcu → IsSameAt self.old self.new mcu }
+    {
+        let restart = self.scan.head().restart() as usize;
+        let count = if restart == 0 {
+            self.scan.head().mcus() as usize
+        } else {
+            restart
+        };
+        let first = piece.number() as usize * restart;
+        self.show(first, count, &Shown::OfPiece(piece));
+    }
+
+    /// Shows so many MCUs from `first` on, those that the picture has and that were not seen.
+    fn show(&mut self, first: usize, count: usize, shown: &Shown<'_>)
+        requires first { first < 2 ^ 60 }
+        requires count { count < 2 ^ 32 }
+        ensures { ShowsMcus self.old first count (units_of shown.now) self.new }
+    {
+        let per_mcu = self.scan.head().order().len();
+        let left = (self.scan.head().mcus() as usize).saturating_sub(first);
+        for j in 0..count.min(left) {
+            self.show_mcu(first + j, shown, j * per_mcu);
+        }
+    }
+
+    /// Shows an MCU that was not seen, by data units from this one on.
+    fn show_mcu(&mut self, mcu: usize, shown: &Shown<'_>, from: usize)
+        requires mcu { mcu < mcus_of self.old.scan.head }
+        requires from { from < 2 ^ 31 }
+        ensures kept { has_seen self.old mcu ≡ true → self.new ≡ self.old }
+        ensures shown { has_seen self.old mcu ≡ false → ShowsMcu self.old mcu (units_of shown.now) from self.new }
+    {
+        if self.seen[mcu] {
+            return;
+        }
+        let head = self.scan.head();
+        let per_mcu = head.order().len();
+        put_mcu(shown, from as u32, &mut self.units, mcu * per_mcu, per_mcu);
+        self.seen[mcu] = true;
+        // By its contract the number of rows has room.
+        let _rows = mcu_lines(head);
+        self.rows += u32::from(is_row_whole(head, &self.seen, mcu));
+    }
+}
+
+impl Samples for View {
+    ghost head_of = { λ v. v.scan.head };
+
+    ghost shown = { sample_of };
+
+    fn head(&self) -> &Head {
+        self.scan.head()
+    }
+
+    fn sample(&self, c: u32, x: u32, y: u32) -> u8 {
+        let head = self.scan.head();
+        let spot = place(head, c, x, y);
+        let number = spot.mcu as usize * head.order().len() + spot.block as usize;
+        self.units[number][(8 * spot.row + spot.col) as usize]
+    }
+}

@@ -1,0 +1,166 @@
+//! What a view shows of strips and pieces, beside the picture of a board.
+
+use crate::shown::piece;
+use jr_paint::{Samples, Tally, write_netpbm};
+use jr_scan::Scan;
+use jr_view::{Screen, View, watch};
+use jr_wall::{Piece, Strip, StripReader, decode_alone};
+use std::alloc::Global;
+use std::process::Abort;
+use std::sync::{Arc, Wait};
+use std::test::Fail;
+use std::thread::Threads;
+use std::time::Clock;
+use test_files::files::{COLOURED_DAMAGED, LONG, LONG_COLOURED, MIXED, TEN};
+use test_files::scans::scan;
+
+/// One interval of four rows of 64 MCUs, all of one grey that is not that of an MCU that was not seen.
+const FOUR_ROWS: &str = "S Q F:0020:0200 D A C 60 96*00 E";
+
+/// The text of a picture.
+fn text_of<S: Samples>(alloc: Global, picture: &S) -> Result<Vec<u8>, Fail> {
+    let mut text = Tally::of(Vec::new(alloc));
+    write_netpbm(picture, &mut text).ok().ok_or("no memory")?;
+    Ok(text.into_inner())
+}
+
+/// Whether a view shows what a board of all intervals does, and all rows of MCUs.
+fn shows_all(alloc: Global, view: &View, scan: &Arc<Scan>) -> Result<bool, Fail> {
+    let board = decode_alone(alloc, scan, None)?;
+    let is_same = text_of(alloc, view)?.as_slice() == text_of(alloc, &board)?.as_slice();
+    Ok(is_same && view.rows() == view.mcu_rows())
+}
+
+/// The strips of the one interval of a scan, of so many MCUs each.
+fn strips_of(alloc: Global, scan: &Scan, each: u32) -> Result<Vec<Strip>, Fail> {
+    if scan.intervals() != 1 {
+        return Err(Fail::from("an interval beside the first"));
+    }
+    let mut reader = StripReader::over(Arc::new(alloc, scan.interval(0)?)?);
+    let mut strips = Vec::new(alloc);
+    for _ in 0..300 {
+        if let Some(strip) = reader.next(alloc, each)? {
+            strips.push(strip.decode(alloc)?)?;
+        }
+    }
+    Ok(strips)
+}
+
+#[test]
+fn shows_sound_and_damaged_pieces_as_a_board(rt: HostRuntime) -> Result<(), Fail> {
+    let alloc = rt.alloc();
+    for words in [TEN, MIXED, COLOURED_DAMAGED] {
+        let scan = scan(alloc, words)?;
+        let mut view = View::of(alloc, &scan)?;
+        assert!(rt; view.rows() == 0);
+        for i in 0..scan.intervals() {
+            let piece = piece(alloc, &scan, i)?;
+            view.show_piece(&piece);
+            assert!(rt; view.has_seen(i));
+        }
+        assert!(rt; shows_all(alloc, &view, &scan)?, "{words}");
+    }
+    Ok(())
+}
+
+#[test]
+fn shows_grey_where_nothing_was_seen(rt: HostRuntime) -> Result<(), Fail> {
+    let alloc = rt.alloc();
+    let scan = scan(alloc, TEN)?;
+    let mut view = View::of(alloc, &scan)?;
+    let piece = piece(alloc, &scan, 3)?;
+    view.show_piece(&piece);
+    assert!(rt; view.has_seen(3) && !view.has_seen(2) && !view.has_seen(4) && !view.has_seen(10));
+    let text = text_of(alloc, &view)?;
+    let line = text.get(text.len().saturating_sub(80)..).ok_or("a line")?;
+    for (x, value) in line.iter().enumerate() {
+        let expected = if x / 8 == 3 { 136 } else { 128 };
+        assert!(rt; *value == expected, "column {x}");
+    }
+    Ok(())
+}
+
+#[test]
+fn counts_rows_that_were_seen_whole(rt: HostRuntime) -> Result<(), Fail> {
+    let alloc = rt.alloc();
+    let scan = scan(alloc, FOUR_ROWS)?;
+    let mut view = View::of(alloc, &scan)?;
+    let strips = strips_of(alloc, &scan, 48)?;
+    assert!(rt; strips.len() == 6 && view.mcu_rows() == 4);
+    for (place, rows) in [(1, 0), (0, 1), (0, 1), (5, 1), (3, 1), (4, 2), (2, 4)] {
+        let strip = strips.get(place).ok_or("a strip")?;
+        view.show_strip(strip);
+        assert!(rt; view.rows() == rows, "behind strip {place}");
+    }
+    Ok(())
+}
+
+#[test]
+fn shows_a_strip_before_its_piece(rt: HostRuntime) -> Result<(), Fail> {
+    let alloc = rt.alloc();
+    for words in [LONG, LONG_COLOURED] {
+        let scan = scan(alloc, words)?;
+        let mut view = View::of(alloc, &scan)?;
+        let strips = strips_of(alloc, &scan, 100)?;
+        let third = strips.get(2).ok_or("a strip")?;
+        view.show_strip(third);
+        assert!(rt; view.has_seen(200) && view.has_seen(299));
+        assert!(rt; !view.has_seen(199) && !view.has_seen(300));
+        let piece = piece(alloc, &scan, 0)?;
+        view.show_piece(&piece);
+        assert!(rt; shows_all(alloc, &view, &scan)?, "{words}");
+    }
+    Ok(())
+}
+
+/// A view, and how many MCUs of strips and how many pieces it was told of.
+#[derive(Drop)]
+struct Told {
+    view: View,
+    mcus: u32,
+    pieces: u32,
+}
+
+impl Screen for Told {
+    fn show_strip(&mut self, strip: &Strip) {
+        self.view.show_strip(strip);
+        self.mcus = self.mcus.saturating_add(strip.mcus());
+    }
+
+    fn show_piece(&mut self, piece: &Piece) {
+        self.view.show_piece(piece);
+        self.pieces = self.pieces.saturating_add(1);
+    }
+
+    fn is_done(&mut self) -> bool {
+        self.view.rows() == self.view.mcu_rows()
+    }
+}
+
+/// Watches a file, and finds that it was told of each piece once, and of strips of so many MCUs.
+fn check_watched<R: Threads + Wait + Clock + Sync + AllocGlobal + Abort>(
+    rt: &R,
+    words: &str,
+    mcus: u32,
+) -> Result<(), Fail> {
+    let scan = scan(rt.alloc(), words)?;
+    let mut told = Told {
+        view: View::of(rt.alloc(), &scan)?,
+        mcus: 0,
+        pieces: 0,
+    };
+    let decoding = watch(rt, rt.alloc(), Arc::try_clone(&scan)?, 2, &mut told)?;
+    assert!(rt;
+        told.pieces == scan.intervals() && told.mcus == mcus,
+        "{words}"
+    );
+    assert!(rt; shows_all(rt.alloc(), &told.view, &scan)?, "{words}");
+    assert!(rt; decoding.finish()?.blank() == 0);
+    Ok(())
+}
+
+#[test]
+fn watches_each_strip_and_each_piece_once(rt: HostRuntime) -> Result<(), Fail> {
+    check_watched(&rt, MIXED, 0)?;
+    check_watched(&rt, LONG, 1056)
+}

@@ -1,2 +1,0 @@
--- What a view shows.
-pub mod Views
