@@ -1,18 +1,17 @@
 -- What a row of MCUs shows, of which the first ones are decoded and the others blank.
-use Rattle.std.proofs.Common.{◌≡◌, ℕ, ◌+◌, ◌*◌, ◌/◌, ◌%◌, ◌<◌, ◌≤◌, inl, inr, None, List, [], length, replicate, slice_index_or, sym, ap, subst, ◌∙◌, arith}
-use Rattle.std.specs.Prelude.{ℤ}
+use Rattle.std.proofs.Common.{◌≡◌, ℕ, ◌+◌, ◌-◌, ◌*◌, ◌/◌, ◌%◌, ◌<◌, ◌≤◌, ◌++◌, inl, inr, None, List, [], length, length-append, replicate, slice_index_or, sym, ap, subst, ◌∙◌, arith}
 use Rattle.std.proofs.lemmas.Bool.{cases_lt}
-use Rattle.std.proofs.Math.Nat.{add-mul, mod-eq_of_lt, mul-le-mul_right, div-lt_iff_lt-mul}
+use Rattle.std.proofs.lemmas.List.{get_or-append_right}
+use Rattle.std.proofs.Math.Nat.{add-mul, mod-eq_of_lt, mul-add-mod_self_right, mul-le-mul_right, div-lt_iff_lt-mul}
 use Rattle.jr_head.specs.HeadValue.{HeadValue}
 use Rattle.jr_head.specs.Geometry.{order_of, blocks_of, mcus_across, mcus_down, mcus_of}
 use Rattle.jr_head.proofs.SamplingLaws.{length-order}
 use Rattle.jr_scan.specs.ScanValue.{ScanValue}
-use Rattle.jr_piece.specs.Outcome.{unit_of}
 use Rattle.jr_wall.specs.BoardValue.{BoardValue}
 use Rattle.jr_wall.specs.Boards.{piece_at}
 use Rattle.jr_wall.specs.Headline.{blank_of, interval_number, within_interval}
 use Rattle.jr_stream.specs.Bands.{ShowsMcus, unit_shown, unit_shown_of}
-use Rattle.jr_stream.specs.Rows.{HasFirst, GivesMcus, coded_before, coded_in, mcus_before}
+use Rattle.jr_stream.specs.Rows.{HasFirst, ShowsFirst, coded_before, coded_in, mcus_before}
 use Rattle.jr_stream.proofs.IntervalPlaces.{behind_first}
 use Rattle.jr_stream.proofs.PictureRows.{row_inside}
 use Rattle.jr_stream.proofs.ReadRows.{none_there}
@@ -22,6 +21,17 @@ pub black : (h : HeadValue) (j : ℕ) → j < blocks_of h → replicate 64 (blan
 black h j lt =
     let few : j < length (order_of h) = omega (arith, lt, length-order 0 h.components) in
     ap (λ n. replicate 64 (blank_of h.kind (slice_index_or (order_of h) n 0))) (sym (mod-eq_of_lt few))
+
+-- the data units of blank MCUs behind those of so many others
+pub blank_behind : (h : HeadValue) (coded : ℕ) (us bs : List (List ℕ)) → length us ≡ coded * blocks_of h → ((k : ℕ) → k < length bs → slice_index_or bs k [] ≡ unit_shown_of h (k % blocks_of h) None 0)
+    → (k : ℕ) → coded * blocks_of h ≤ k → k < length (us ++ bs) → slice_index_or (us ++ bs) k [] ≡ unit_shown_of h (k % blocks_of h) None 0
+blank_behind h coded us bs long blank k le lt =
+    let n = blocks_of h in
+    let j = k - coded * n in
+    let here : j < length bs = omega (arith, le, lt, long, length-append us bs) in
+    let whole : coded * n + j ≡ k = omega (arith, le) in
+    let part : j % n ≡ k % n = sym (mul-add-mod_self_right coded n j) ∙ ap (λ (m : ℕ). m % n) whole in
+    get_or-append_right us bs (coded * n) k [] long le ∙ blank j here ∙ ap (λ (m : ℕ). unit_shown_of h m None 0) part
 
 -- a row of MCUs of a scan, of which the first n intervals are decoded
 module _ (scan : ScanValue) (n row : ℕ) (below : row < mcus_down scan.head) (some : 0 < blocks_of scan.head) where
@@ -39,8 +49,8 @@ module _ (scan : ScanValue) (n row : ℕ) (below : row < mcus_down scan.head) (s
   behind : (j : ℕ) → coded_in h n row ≤ j → j < mcus_across h → mcus_before h n ≤ row * mcus_across h + j
   behind j le lt = omega (arith, le, lt, add-mul row 1 (mcus_across h))
 
-  module _ (blocks : List (List ℤ)) (units : List (List ℕ)) (gives : GivesMcus scan n (coded_before h n row) (coded_in h n row) blocks) (long : length units ≡ mcus_across h * per)
-      (decoded : (k : ℕ) → k < coded_in h n row * per → slice_index_or units k [] ≡ unit_of h blocks k)
+  module _ (units : List (List ℕ)) (long : length units ≡ mcus_across h * per)
+      (decoded : ShowsFirst scan n (coded_before h n row) (coded_in h n row) units)
       (blank : (k : ℕ) → coded_in h n row * per ≤ k → k < length units → slice_index_or units k [] ≡ unit_shown_of h (k % per) None 0) where
     each : (b : BoardValue) → HasFirst scan n b → (k : ℕ) → k < length units → slice_index_or units k [] ≡ unit_shown b (row * mcus_across h + k / per) (k % per)
     each b first k lt = elim (cases_lt k (coded_in h n row * per)) [
@@ -49,7 +59,7 @@ module _ (scan : ScanValue) (n row : ℕ) (below : row < mcus_down scan.head) (s
             | inl p ↦ p
             | inr z ↦ let none : coded_in h n row * per ≤ 0 * per = mul-le-mul_right per z in absurd (omega (arith, none, l))
           ] in
-          decoded k l ∙ gives b first k l ∙ ap (λ m. unit_shown b (m + k / per) (k % per)) (first_ones positive)
+          decoded b first k l ∙ ap (λ m. unit_shown b (m + k / per) (k % per)) (first_ones positive)
       | inr g ↦
           let j = k / per in
           let near : j < mcus_across h = (div-lt_iff_lt-mul some).1 (omega (arith, lt, long)) in

@@ -13,6 +13,7 @@ use Rattle.jr_wall.specs.Samples.{samples_of}
 use Rattle.jr_stream.specs.Bands.{unit_shown}
 use Rattle.jr_stream.specs.RowsValue.{McusValue, RowValue}
 use Rattle.jr_stream.specs.declared.marked.Marked.{Marked}
+use Rattle.jr_stream.specs.declared.shape.TheConstants.{BLOCKS_AT_ONCE}
 
 -- the board of the scan on which the first n intervals are marked, and no other
 pub record HasFirst (scan : ScanValue) (n : ℕ) (b : BoardValue) : Type 0 where
@@ -60,6 +61,20 @@ abbrev pub GivesBehind : ScanValue → (n from before mcus : ℕ) → List (List
 GivesBehind scan n from before mcus blocks = (b : BoardValue) → HasFirst scan n b → (k : ℕ) → k < mcus * blocks_of scan.head
     → unit_of scan.head blocks (before + k) ≡ unit_shown b (from + k / blocks_of scan.head) (k % blocks_of scan.head)
 
+-- the data units of `mcus` MCUs, behind the first `before`, are what every such board shows from MCU `from` on
+abbrev pub ShowsBehind : ScanValue → (n from before mcus : ℕ) → List (List ℕ) → Type 0
+ShowsBehind scan n from before mcus units = (b : BoardValue) → HasFirst scan n b → (k : ℕ) → k < mcus * blocks_of scan.head
+    → slice_index_or units (before + k) [] ≡ unit_shown b (from + k / blocks_of scan.head) (k % blocks_of scan.head)
+
+-- the same of the first ones
+abbrev pub ShowsFirst : ScanValue → (n from mcus : ℕ) → List (List ℕ) → Type 0
+ShowsFirst scan n from mcus units = (b : BoardValue) → HasFirst scan n b → (k : ℕ) → k < mcus * blocks_of scan.head
+    → slice_index_or units k [] ≡ unit_shown b (from + k / blocks_of scan.head) (k % blocks_of scan.head)
+
+-- how many MCUs are read before they are transformed
+abbrev pub mcus_at_once : HeadValue → ℕ
+mcus_at_once h = BLOCKS_AT_ONCE / blocks_of h
+
 -- so many of the blocks, from the first on, are in the ranges that the inverse transform asks for
 abbrev pub AreInRange : ℕ → List (List ℤ) → Type 0
 AreInRange n blocks = (k : ℕ) → k < n → IsInRange (slice_index_or blocks k [])
@@ -80,6 +95,11 @@ CountsRows scan n m = CountsMcus scan n (coded_before scan.head n 0) (coded_befo
 -- there is room for the data units of a row of MCUs
 pub record HasRowRoom (h : HeadValue) (r : RowValue) : Type 0 where
   pub blocks : length r.blocks ≡ mcus_across h * blocks_of h
+  pub units : length r.units ≡ mcus_across h * blocks_of h
+
+-- there is room for the samples of a row of MCUs, and for the blocks of those that are read at once
+pub record HasSampleRoom (h : HeadValue) (r : RowValue) : Type 0 where
+  pub blocks : length r.blocks ≡ mcus_at_once h * blocks_of h
   pub units : length r.units ≡ mcus_across h * blocks_of h
 
 -- the first line of pixels of a row of MCUs, and how many it has

@@ -1,13 +1,13 @@
 //! One thread that decodes and paints row after row.
 
 ghost use Rattle.std.specs.Prelude.{◌≡◌, ◌≤◌, ◌<◌};
-ghost use Rattle.jr_stream.specs.Rows.{HasRowRoom};
+ghost use Rattle.jr_stream.specs.Rows.{HasSampleRoom};
 
 use crate::announcing::announce;
 use crate::marked::Marked;
 use crate::painter::RowPainter;
-use crate::row::Row;
 use crate::rows::Rows;
+use crate::sample_row::SampleRow;
 use jr_paint::SampleLines;
 use jr_scan::Scan;
 use jr_wall::Gate;
@@ -19,27 +19,32 @@ pub(crate) struct Alone<'a, G: Gate, const WIDTH: usize> {
     scan: &'a Scan,
     limit: u32,
     rows: Rows<'a>,
-    work: Row,
+    work: SampleRow,
     lines: SampleLines<WIDTH>,
     gate: &'a G,
 }
 
 impl<'a, G: Gate, const WIDTH: usize> Model for Alone<'a, G, WIDTH> {
     ghost use Rattle.std.specs.Prelude.{◌≡◌, ◌≤◌};
-    ghost use Rattle.jr_stream.specs.Rows.{HasRowRoom};
+    ghost use Rattle.jr_stream.specs.Rows.{HasSampleRoom};
     ghost use Rattle.jr_stream.specs.RowsValue.{RowsValue};
 
     ghost Value = { RowsValue };
 
     ghost view = { λ a. a.rows };
 
-    ghost invariant = { λ a. (a.rows.scan ≡ a.scan.now) × (a.rows.limit ≡ a.limit) × HasRowRoom a.scan.now.head a.work × (a.scan.now.head.width ≤ WIDTH) };
+    ghost invariant = { λ a. (a.rows.scan ≡ a.scan.now) × (a.rows.limit ≡ a.limit) × HasSampleRoom a.scan.now.head a.work × (a.scan.now.head.width ≤ WIDTH) };
 }
 
 impl<'a, G: Gate, const WIDTH: usize> Alone<'a, G, WIDTH> {
     /// Nothing is painted yet of a scan whose first `limit` intervals are decoded.
-    pub(crate) fn of(scan: &'a Scan, limit: u32, work: Row, gate: &'a G) -> Alone<'a, G, WIDTH>
-        requires room { HasRowRoom scan.now.head work }
+    pub(crate) fn of(
+        scan: &'a Scan,
+        limit: u32,
+        work: SampleRow,
+        gate: &'a G,
+    ) -> Alone<'a, G, WIDTH>
+        requires room { HasSampleRoom scan.now.head work }
         requires wide { scan.now.head.width ≤ WIDTH }
         ensures { result ≡ record { scan = scan.now; limit = limit; row = 0 } }
     {
@@ -60,9 +65,6 @@ impl<G: Gate, const WIDTH: usize> RowPainter for Alone<'_, G, WIDTH> {
     fn paint(&mut self, pixels: &mut [u8]) -> Marked {
         let row = self.rows.row();
         announce(self.scan, self.limit, row, self.gate);
-        let marked = self.work.read(&mut self.rows);
-        self.work
-            .paint(self.scan, self.limit, row, &mut self.lines, pixels);
-        marked
+        self.work.paint(&mut self.rows, &mut self.lines, pixels)
     }
 }

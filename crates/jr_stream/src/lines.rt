@@ -6,11 +6,11 @@ ghost use Rattle.jr_paint.specs.Lines.{line_size, next_lines_of};
 ghost use Rattle.jr_paint.specs.declared.netpbm.TheConstants.{WIDEST};
 ghost use Rattle.jr_wall.specs.BoardValue.{BoardValue};
 ghost use Rattle.jr_wall.specs.Samples.{samples_of};
-ghost use Rattle.jr_stream.specs.Rows.{HasFirst, HasRowRoom};
+ghost use Rattle.jr_stream.specs.Rows.{HasFirst, HasSampleRoom};
 ghost use Rattle.jr_stream.specs.SomeLines.{CountsBetween, PaintsLines, row_behind, row_with};
 
 use crate::marked::Marked;
-use crate::row::Row;
+use crate::sample_row::SampleRow;
 use crate::shape::shape_of;
 use jr_base::Memory;
 use jr_head::Head;
@@ -67,7 +67,7 @@ fn bytes_to(lines: u32, all: u32, line: usize) -> usize
 #[inline(never)]
 fn paint_within<const WIDTH: usize>(
     scan: &Scan,
-    work: &mut Row,
+    work: &mut SampleRow,
     first: u32,
     end: u32,
     pixels: &mut [u8],
@@ -76,14 +76,15 @@ fn paint_within<const WIDTH: usize>(
     requires wide { scan.now.head.width ≤ WIDTH }
     requires some { first < end }
     requires inside { end ≤ scan.now.head.height }
-    requires room { HasRowRoom scan.now.head work.old }
+    requires room { HasSampleRoom scan.now.head work.old }
     requires pixels { length pixels.old ≡ (end - first) * line_size scan.now.head }
     ensures lines { (b : BoardValue) → HasFirst scan.now (length scan.now.intervals) b → pixels.new ≡ next_lines_of scan.now.head (samples_of b) first (end - first) }
     ensures counts { CountsBetween scan.now (row_with scan.now.head first) (row_behind scan.now.head end) result }
 {
     let head = scan.head();
     head.be_lawful();
-    let limit = scan.intervals();
+    // By its contract a scan has as many intervals as its head says.
+    let _intervals = scan.intervals();
     let line = shape_of(head).line;
     let (row, behind) = rows_of(head, first, end);
     let mut lines = SampleLines::<WIDTH>::new();
@@ -92,9 +93,8 @@ fn paint_within<const WIDTH: usize>(
     'rows: while rows.row() < behind {
         let row = rows.row();
         let (y, count) = lines_in(head, row, first, end);
-        let more = work.read(&mut rows);
+        let more = work.decode(&mut rows);
         marked = marked.with(more);
-        work.transform(scan, limit, row);
         let from = bytes_to(y - first, end - first, line);
         let to = bytes_to(y - first + count, end - first, line);
         work.paint_some(head, y, count, &mut lines, &mut pixels[from..to]);
@@ -122,7 +122,7 @@ pub fn paint_scan_lines(
 {
     each_interval_has_an_outcome();
     scan.head().be_lawful();
-    let mut work = Row::open(alloc, scan.head())?;
+    let mut work = SampleRow::open(alloc, scan.head())?;
     let end = first + count;
     if scan.head().width() as usize <= NARROW {
         return Ok(paint_within::<NARROW>(scan, &mut work, first, end, pixels));

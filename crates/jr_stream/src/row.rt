@@ -8,16 +8,16 @@ ghost use Rattle.jr_wall.specs.BoardValue.{BoardValue};
 ghost use Rattle.jr_stream.specs.Bands.{ShowsMcus, samples_in, unit_shown_of};
 ghost use Rattle.jr_stream.specs.Rows.{AreInRange, HasFirst, HasRowRoom, AreRead, CountsRow, ShowsLines, line_count};
 
-use crate::band::Band;
+use crate::blank::fill_blank;
 use crate::marked::Marked;
+use crate::painting::paint_row;
 use crate::rows::Rows;
-use crate::shape::{coded_of_row, lines_of, shape_of};
+use crate::shape::{coded_of_row, shape_of};
 use jr_base::Memory;
 use jr_head::Head;
-use jr_paint::{SampleLines, paint_lines};
+use jr_paint::SampleLines;
 use jr_piece::transform_blocks;
 use jr_scan::{Block, Scan};
-use jr_wall::blank_sample;
 use std::alloc::Global;
 use std::marker::Model;
 
@@ -34,25 +34,6 @@ impl Model for Row {
     ghost Value = { RowValue };
 
     ghost view = { λ r. record { blocks = r.blocks.items; units = r.units.items } };
-}
-
-/// Data unit j of a blank MCU: black.
-fn blank_unit(head: &Head, j: usize) -> [u8; 64]
-    requires { j < blocks_of head.now }
-    ensures { result ≡ unit_shown_of head.now j None 0 }
-{
-    let component = head.order()[j];
-    [blank_sample(head.kind(), u32::from(component)); 64]
-}
-
-/// Fills the data units of blank MCUs.
-fn fill_blank(head: &Head, units: &mut [[u8; 64]])
-    ensures { (k : ℕ) → k < length units.new → slice_index_or units.new k [] ≡ unit_shown_of head.now (k % blocks_of head.now) None 0 }
-{
-    let per_mcu = head.order().len();
-    for k in 0..units.len() {
-        units[k] = blank_unit(head, k % per_mcu);
-    }
 }
 
 /// The data units of a row whose first blocks, `coded` of them, are decoded; the others are blank.
@@ -92,18 +73,8 @@ impl Row {
         rows.read(&mut self.blocks)
     }
 
-    /// The rows of MCUs of a scan from this one on, all of whose intervals are decoded.
-    pub(crate) fn rows_at<'a>(&mut self, scan: &'a Scan, row: u32) -> Rows<'a>
-        requires row { row < mcus_down scan.now.head }
-        requires room { HasRowRoom scan.now.head self.old }
-        ensures room { HasRowRoom scan.now.head self.new }
-        ensures rows { result ≡ record { scan = scan.now; limit = length scan.now.intervals; row = row } }
-    {
-        Rows::at(scan, row, &mut self.blocks)
-    }
-
     /// Transforms the decoded MCUs of the row that is read; the others are blank.
-    pub(crate) fn transform(&mut self, scan: &Scan, limit: u32, row: u32)
+    fn transform(&mut self, scan: &Scan, limit: u32, row: u32)
         requires row { row < mcus_down scan.now.head }
         requires room { HasRowRoom scan.now.head self.old }
         requires read { AreRead scan.now limit row self.old.blocks }
@@ -114,24 +85,6 @@ impl Row {
         let head = scan.head();
         let coded = coded_of_row(scan, limit, row) as usize * head.order().len();
         show(head, coded, &self.blocks, &mut self.units);
-    }
-
-    /// Paints lines of the picture of which each row of MCUs has the data units of the row that is transformed.
-    pub(crate) fn paint_some<const WIDTH: usize>(
-        &self,
-        head: &Head,
-        y: u32,
-        count: u32,
-        lines: &mut SampleLines<WIDTH>,
-        pixels: &mut [u8],
-    )
-        requires wide { head.now.width ≤ WIDTH }
-        requires inside { y + count ≤ head.now.height }
-        requires pixels { length pixels.old ≡ count * line_size head.now }
-        ensures { pixels.new ≡ next_lines_of head.now (samples_in (record { head = head.now; units = self.now.units })) y count }
-    {
-        let band = Band::of(head, &self.units);
-        paint_lines(&band, y, count, lines, pixels);
     }
 
     /// Paints the lines of the row that is read, of a scan whose first `limit` intervals are decoded.
@@ -151,9 +104,7 @@ impl Row {
         ensures room { HasRowRoom scan.now.head self.new }
         ensures lines { ShowsLines scan.now limit row pixels.new }
     {
-        scan.head().be_lawful();
         self.transform(scan, limit, row);
-        let (y, count) = lines_of(scan.head(), row);
-        self.paint_some(scan.head(), y, count, lines, pixels);
+        paint_row(scan.head(), &self.units, row, lines, pixels);
     }
 }

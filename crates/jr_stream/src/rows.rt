@@ -5,13 +5,16 @@ ghost use Rattle.jr_head.specs.Geometry.{blocks_of, mcus_across, mcus_down, mcus
 ghost use Rattle.jr_scan.specs.Block.{IsInRange};
 ghost use Rattle.jr_scan.specs.ScanValue.{intervals_of, mcus_in};
 ghost use Rattle.jr_wall.specs.Headline.{interval_number, within_interval};
-ghost use Rattle.jr_stream.specs.Rows.{AreInRange, CountsMarks, CountsMcus, GivesBehind, GivesMcus, AreRead, CountsRow, coded_before, intervals_before, mcus_before, mcus_read};
+ghost use Rattle.jr_wall.specs.BoardValue.{BoardValue};
+ghost use Rattle.jr_stream.specs.Bands.{ShowsMcus};
+ghost use Rattle.jr_stream.specs.Rows.{AreInRange, CountsMarks, CountsMcus, GivesBehind, GivesMcus, HasFirst, ShowsBehind, ShowsFirst, AreRead, CountsRow, coded_before, intervals_before, mcus_at_once, mcus_before, mcus_read};
 
+use crate::blank::fill_blank;
 use crate::marked::Marked;
 use crate::part::Part;
-use crate::shape::{coded_of_row, shape_of};
+use crate::shape::{coded_of_row, mcus_at_once, shape_of};
 use jr_head::Head;
-use jr_piece::UnitReader;
+use jr_piece::{UnitReader, transform_blocks};
 use jr_scan::{Block, Scan};
 use std::marker::Model;
 
@@ -153,6 +156,65 @@ impl<'a> Mcus<'a> {
         marked
     }
 
+    /// Puts the samples of the next MCUs, `some` of them, behind those of the first `done` of `mcus`: answers the marks of
+    /// the intervals that end with them. There is room for the blocks of as many as are read at once.
+    fn decode_some(
+        &mut self,
+        done: u32,
+        some: u32,
+        mcus: u32,
+        blocks: &mut [Block],
+        units: &mut [[u8; 64]],
+    ) -> Marked
+        requires within { done + some ≤ mcus }
+        requires few { some ≤ mcus_at_once self.old.scan.head }
+        requires decoded { mcus_read self.old + some ≤ mcus_before self.old.scan.head self.old.limit }
+        requires near { length blocks.old ≡ mcus_at_once self.old.scan.head * blocks_of self.old.scan.head }
+        requires room { length units.old ≡ mcus * blocks_of self.old.scan.head }
+        ensures scan { self.new.scan ≡ self.old.scan }
+        ensures limit { self.new.limit ≡ self.old.limit }
+        ensures moved { mcus_read self.new ≡ mcus_read self.old + some }
+        ensures kept { (k : ℕ) → k < done * blocks_of self.old.scan.head → slice_index_or units.new k [] ≡ slice_index_or units.old k [] }
+        ensures shows { ShowsBehind self.old.scan self.old.limit (mcus_read self.old) (done * blocks_of self.old.scan.head) some units.new }
+        ensures counts { CountsMcus self.old.scan self.old.limit (mcus_read self.old) (mcus_read self.new) result }
+    {
+        let head = self.scan.head();
+        let per_mcu = head.order().len();
+        let blocks = &mut blocks[..units_to(some, mcus_at_once(head), per_mcu)];
+        let marked = self.read(some, blocks);
+        let start = units_to(done, mcus, per_mcu);
+        let end = units_to(done + some, mcus, per_mcu);
+        transform_blocks(head, blocks, &mut units[start..end]);
+        marked
+    }
+
+    /// The samples of so many MCUs, and the marks of the intervals that end with them. Some MCUs at a time are read into
+    /// `blocks` and transformed.
+    fn decode(&mut self, mcus: u32, blocks: &mut [Block], units: &mut [[u8; 64]]) -> Marked
+        requires few { mcus_read self.old + mcus ≤ mcus_before self.old.scan.head self.old.limit }
+        requires near { length blocks.old ≡ mcus_at_once self.old.scan.head * blocks_of self.old.scan.head }
+        requires room { length units.old ≡ mcus * blocks_of self.old.scan.head }
+        ensures scan { self.new.scan ≡ self.old.scan }
+        ensures limit { self.new.limit ≡ self.old.limit }
+        ensures moved { mcus_read self.new ≡ mcus_read self.old + mcus }
+        ensures shows { ShowsFirst self.old.scan self.old.limit (mcus_read self.old) mcus units.new }
+        ensures counts { CountsMcus self.old.scan self.old.limit (mcus_read self.old) (mcus_read self.new) result }
+    {
+        // By their contracts there is room for the counts of all intervals, and an MCU has a data unit.
+        let _most = self.scan.intervals();
+        let _some = self.scan.head().order().len();
+        let at_once = mcus_at_once(self.scan.head());
+        let mut done = 0;
+        let mut marked = Marked::none();
+        'parts: while done < mcus {
+            let some = at_once.min(mcus - done);
+            let more = self.decode_some(done, some, mcus, blocks, units);
+            marked = marked.with(more);
+            done += some;
+        }
+        marked
+    }
+
     /// Reads so many MCUs and keeps nothing of them. There is room for the blocks of `most` in `blocks`.
     fn skip(&mut self, mcus: u32, most: u32, blocks: &mut [Block])
         requires some { 0 < most }
@@ -232,11 +294,11 @@ impl<'a> Rows<'a> {
         }
     }
 
-    /// The rows from this one on, where all intervals are decoded. What stands before it in its interval is read, a row's
-    /// MCUs after the other, by help of `blocks`.
+    /// The rows from this one on, where all intervals are decoded. What stands before it in its interval is read, some MCUs
+    /// at a time, by help of `blocks`.
     pub(crate) fn at(scan: &'a Scan, row: u32, blocks: &mut [Block]) -> Rows<'a>
         requires row { row < mcus_down scan.now.head }
-        requires room { length blocks.old ≡ mcus_across scan.now.head * blocks_of scan.now.head }
+        requires near { length blocks.old ≡ mcus_at_once scan.now.head * blocks_of scan.now.head }
         ensures { result ≡ record { scan = scan.now; limit = length scan.now.intervals; row = row } }
     {
         // By its contract a picture has an MCU.
@@ -244,7 +306,7 @@ impl<'a> Rows<'a> {
         let across = shape_of(scan.head()).across;
         let (number, before) = interval_with(scan.head(), row * across);
         let mut mcus = Mcus::of(scan, scan.intervals(), number);
-        mcus.skip(before, across, blocks);
+        mcus.skip(before, mcus_at_once(scan.head()), blocks);
         Rows { mcus, row }
     }
 
@@ -275,6 +337,26 @@ impl<'a> Rows<'a> {
         let coded = coded_of_row(self.mcus.scan, self.mcus.limit, self.row);
         let end = units_to(coded, shape_of(head).across, head.order().len());
         let marked = self.mcus.read(coded, &mut blocks[..end]);
+        self.row += 1;
+        marked
+    }
+
+    /// Decodes the next row: the samples of its data units, of which those of MCUs that are not decoded are black, and the
+    /// marks of the intervals that end in it. Some MCUs at a time are read into `blocks`.
+    pub(crate) fn decode(&mut self, blocks: &mut [Block], units: &mut [[u8; 64]]) -> Marked
+        requires row { self.old.row < mcus_down self.old.scan.head }
+        requires near { length blocks.old ≡ mcus_at_once self.old.scan.head * blocks_of self.old.scan.head }
+        requires room { length units.old ≡ mcus_across self.old.scan.head * blocks_of self.old.scan.head }
+        ensures moved { self.new ≡ record self.old { row = self.old.row + 1 } }
+        ensures units { (b : BoardValue) → HasFirst self.old.scan self.old.limit b → ShowsMcus b (self.old.row * mcus_across self.old.scan.head) units.new }
+        ensures counts { CountsRow self.old.scan self.old.limit self.old.row result }
+    {
+        let head = self.head();
+        let coded = coded_of_row(self.mcus.scan, self.mcus.limit, self.row);
+        let end = units_to(coded, shape_of(head).across, head.order().len());
+        let (first, rest) = units.split_at_mut(end);
+        let marked = self.mcus.decode(coded, blocks, first);
+        fill_blank(head, rest);
         self.row += 1;
         marked
     }

@@ -4,11 +4,14 @@ ghost use Rattle.std.specs.Prelude.{◌≡◌, ◌+◌, ◌*◌, ◌<◌, ◌≤
 ghost use Rattle.jr_head.specs.Geometry.{mcus_across, mcus_down, mcus_of, vertical_max};
 ghost use Rattle.jr_paint.specs.Lines.{line_size};
 ghost use Rattle.jr_paint.specs.declared.netpbm.TheConstants.{BATCH};
-ghost use Rattle.jr_stream.specs.Rows.{coded_before, coded_in, mcus_before, first_line, line_count};
+ghost use Rattle.jr_stream.specs.Rows.{coded_before, coded_in, mcus_at_once, mcus_before, first_line, line_count};
 
 use jr_head::Head;
 use jr_paint::{BATCH, bytes_of_line};
 use jr_scan::Scan;
+
+/// How many blocks are read before they are transformed, at most: 16 KB, which stay near.
+pub(crate) const BLOCKS_AT_ONCE: usize = 64;
 
 /// What a row of MCUs of a picture has.
 #[derive(Clone, Copy)]
@@ -41,6 +44,16 @@ pub(crate) fn shape_of(head: &Head) -> Shape
         down: head.height().div_ceil(8 * head.vertical_max()),
         line: bytes_of_line(head),
     }
+}
+
+/// How many MCUs are read before they are transformed.
+pub(crate) fn mcus_at_once(head: &Head) -> u32
+    ensures value { result ≡ mcus_at_once head.now }
+    ensures some { 0 < result }
+    ensures few { result ≤ 64 }
+{
+    head.be_lawful();
+    (BLOCKS_AT_ONCE / head.order().len()) as u32
 }
 
 /// The first line of pixels of a row of MCUs, and how many lines it has.

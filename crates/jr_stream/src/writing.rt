@@ -8,14 +8,14 @@ ghost use Rattle.jr_paint.specs.declared.header.TheConstants.{HEADER_ROOM};
 ghost use Rattle.jr_paint.specs.declared.netpbm.TheConstants.{WIDEST};
 ghost use Rattle.jr_scan.specs.ScanValue.{intervals_of};
 ghost use Rattle.jr_wall.specs.Decoded.{least};
-ghost use Rattle.jr_stream.specs.Rows.{CountsRows, HasRowRoom};
+ghost use Rattle.jr_stream.specs.Rows.{CountsRows, HasSampleRoom};
 ghost use Rattle.jr_stream.specs.Stream.{WritesPicture, BeginsPicture, SendsPicture, HasCounts};
 
 use crate::alone::Alone;
 use crate::marked::Marked;
 use crate::painter::RowPainter;
 use crate::part::Part;
-use crate::row::Row;
+use crate::sample_row::SampleRow;
 use crate::shape::{lines_of, room_for, shape_of};
 use jr_base::{Tally, WriteFault, write_all};
 use jr_head::Head;
@@ -95,7 +95,7 @@ pub(crate) fn counts_of(scan: &Scan, limit: u32, marked: Marked) -> Counts
 fn write_alone<W: Write, G: Gate, const WIDTH: usize>(
     scan: &Scan,
     limit: u32,
-    work: Row,
+    work: SampleRow,
     gate: &G,
     pixels: &mut [u8],
     out: &mut Tally<W>,
@@ -103,7 +103,7 @@ fn write_alone<W: Write, G: Gate, const WIDTH: usize>(
     requires stack { WIDTH ≤ WIDEST }
     requires few { limit ≤ length scan.now.intervals }
     requires wide { scan.now.head.width ≤ WIDTH }
-    requires room { HasRowRoom scan.now.head work }
+    requires room { HasSampleRoom scan.now.head work }
     requires unfailed { has_failed out.old ≡ false }
     requires pixels { 8 * vertical_max scan.now.head * line_size scan.now.head ≤ length pixels.old }
     requires header { HEADER_ROOM ≤ length pixels.old }
@@ -121,13 +121,13 @@ fn write_alone<W: Write, G: Gate, const WIDTH: usize>(
 fn write_picture<W: Write, G: Gate>(
     scan: &Scan,
     limit: u32,
-    work: Row,
+    work: SampleRow,
     gate: &G,
     pixels: &mut [u8],
     out: &mut Tally<W>,
 ) -> Result<Marked, WriteFault>
     requires few { limit ≤ length scan.now.intervals }
-    requires room { HasRowRoom scan.now.head work }
+    requires room { HasSampleRoom scan.now.head work }
     requires unfailed { has_failed out.old ≡ false }
     requires pixels { 8 * vertical_max scan.now.head * line_size scan.now.head ≤ length pixels.old }
     requires header { HEADER_ROOM ≤ length pixels.old }
@@ -161,7 +161,7 @@ pub fn write_scan<W: Write, G: Gate>(
 {
     each_interval_has_an_outcome();
     scan.head().be_lawful();
-    let Ok(work) = Row::open(alloc, scan.head()) else {
+    let Ok(work) = SampleRow::open(alloc, scan.head()) else {
         return Err(Unwritten::Memory);
     };
     let Ok(mut pixels) = vec![in alloc; 0; room_for(scan.head())] else {

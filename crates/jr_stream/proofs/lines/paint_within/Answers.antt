@@ -2,16 +2,17 @@ use Rattle.std.proofs.Common.{rules, arith, refl, sym, subst, ap, ◌∙◌, ◌
 use Rattle.std.proofs.Math.Nat.{add-mul}
 use Rattle.std.proofs.lemmas.Slice.{take-put_mid}
 use borrow.Rule.Slice.PartMut.{put_mid}
+use Rattle.jr_head.specs.HeadValue.{HeadValue}
 use Rattle.jr_head.specs.Geometry.{IsLawful, blocks_of, mcus_across, vertical_max}
 use Rattle.jr_paint.specs.Lines.{line_size, next_lines_of}
 use Rattle.jr_paint.proofs.PixelLaws.{next_lines_more}
-use Rattle.jr_scan.specs.ScanValue.{intervals_of}
+use Rattle.jr_scan.specs.ScanValue.{ScanValue, intervals_of}
 use Rattle.jr_wall.specs.Samples.{samples_of}
-use Rattle.jr_stream.specs.Bands.{ShowsMcus}
-use Rattle.jr_stream.specs.Rows.{CountsRow, HasFirst, coded_before}
+use Rattle.jr_stream.specs.Bands.{ShowsMcus, samples_in}
+use Rattle.jr_stream.specs.Rows.{CountsRow, HasSampleRoom, coded_before}
 use Rattle.jr_stream.specs.SomeLines.{CountsBetween, row_behind, row_with}
 use Rattle.jr_stream.proofs.IntervalPlaces.{ends_few}
-use Rattle.jr_stream.proofs.PaintedRows.{painted_row}
+use Rattle.jr_stream.proofs.PaintedRows.{row_painted}
 use Rattle.jr_stream.proofs.ReadRows.{counts_none, counts_both}
 use Rattle.jr_stream.proofs.SomeLines.{done_lines, next_done}
 use Rattle.jr_stream.proofs.lines.paint_within.Goals as goal
@@ -42,7 +43,7 @@ pub with-marked-requires : goal.with-marked-requires
 with-marked-requires g c =
     let t = c.args.scan.now in
     let keep = c.rows.invariant in
-    let marks : CountsRow t (length t.intervals) c.rows.rows.row c.read-more.result = rw (keep.scan, keep.limit) at c.read-more.ensures.counts in
+    let marks : CountsRow t (length t.intervals) c.rows.rows.row c.decode-more.result = rw (keep.scan, keep.limit) at c.decode-more.ensures.counts in
     let few = ends_few t.head (coded_before t.head (length t.intervals) (c.rows.rows.row + 1)) in
     let room : intervals_of t.head < 2 ^ 32 = search (rules, arith) in
     omega (arith, keep.counts.few, marks.few, few, room)
@@ -56,7 +57,7 @@ rows-preserved g c =
     let row = c.rows.rows.row in
     let y = c.lines_in-y.result.0 in
     let count = c.lines_in-y.result.1 in
-    let work = c.transform.new.self in
+    let work = c.decode-more.new.self in
     let old_done = done_lines h c.args.first c.args.end row in
     let from = c.bytes_to-from.result in
     let to = c.bytes_to-to.result in
@@ -68,7 +69,7 @@ rows-preserved g c =
     let at : y ≡ max c.args.first (row * deep) = search rules in
     let ends : y + count ≡ min c.args.end ((row + 1) * deep) = search rules in
     let done = next_done h c.args.first c.args.end row y count c.requires.some starts keep.reaches at ends in
-    let next_row : c.read-more.new.rows.row ≡ row + 1 = search rules in
+    let next_row : c.decode-more.new.rows.row ≡ row + 1 = search rules in
     let line : c.shape_of-line.result.line ≡ line_size h = search rules in
     let from_is : from ≡ old_done * line_size h = c.bytes_to-from.ensures.value ∙ ap (λ (k : ℕ). (y - c.args.first) * k) line ∙ ap (λ (k : ℕ). k * line_size h) {y = old_done} (omega (arith, done.0)) in
     let to_is : to ≡ (old_done + count) * line_size h = c.bytes_to-to.ensures.value ∙ ap (λ (k : ℕ). (y - c.args.first + count) * k) line ∙ ap (λ (k : ℕ). k * line_size h) {y = old_done + count} (omega (arith, done.0)) in
@@ -76,9 +77,8 @@ rows-preserved g c =
     let size : to - from ≡ count * line_size h = omega (arith, from_is, to_is, sum) in
     let long : length pix ≡ to - from = search (rules, arith, c.paint_some.auto.pixels) in
     let inside : from ≤ length c.rows.pixels = search (rules, arith) in
-    let next : done_lines h c.args.first c.args.end c.read-more.new.rows.row ≡ old_done + count = ap (done_lines h c.args.first c.args.end) next_row ∙ done.1 in
-    let limit : c.intervals-limit.result ≡ n = search rules in
-    let marks : CountsRow t n row c.read-more.result = rw (keep.scan, keep.limit) at c.read-more.ensures.counts in
+    let next : done_lines h c.args.first c.args.end c.decode-more.new.rows.row ≡ old_done + count = ap (done_lines h c.args.first c.args.end) next_row ∙ done.1 in
+    let marks : CountsRow t n row c.decode-more.result = rw (keep.scan, keep.limit) at c.decode-more.ensures.counts in
     record {
       scan = search rules;
       limit = search rules;
@@ -89,14 +89,14 @@ rows-preserved g c =
       front = λ b first.
           let f = samples_of b in
           let before = next_lines_of h f c.args.first old_done in
-          let units : length work.units ≡ mcus_across h * blocks_of h = c.transform.ensures.room.units in
+          let room : HasSampleRoom h work = rw keep.scan at c.decode-more.ensures.room in
           let start : y ≡ row * deep + (y - row * deep) = omega (arith, at) in
           let few : y - row * deep + count ≤ deep = omega (arith, at, ends, add-mul row 1 deep) in
           let down : y + count ≤ h.height = omega (arith, ends, c.requires.inside) in
           let head : c.head-head.result.now ≡ h = search rules in
-          let row_is : c.row-row.result ≡ row = search rules in
-          let shows = subst (λ (k : ℕ). ShowsMcus b (k * mcus_across h) work.units) row_is (c.transform.ensures.units b (subst (λ (k : ℕ). HasFirst t k b) (sym limit) first)) in
-          let shown = painted_row b t first.scan_is lawful (record { head = c.head-head.result.now; units = work.units }) head row units shows y count (y - row * deep) start few down in
+          let shows : ShowsMcus b (row * mcus_across h) work.units = (rw (keep.scan, keep.limit) at c.decode-more.ensures.units) b first in
+          let shown = ap (λ (g : HeadValue). next_lines_of g (samples_in (record { head = g; units = work.units })) y count) head
+          ∙ row_painted b h (ap (λ (s : ScanValue). s.head) first.scan_is) lawful work.units row room.units shows y count (y - row * deep) start few down in
           let lines : pix ≡ next_lines_of h f (c.args.first + old_done) count = c.paint_some.ensures ∙ shown ∙ ap (λ (k : ℕ). next_lines_of h f k count) done.0 in
           ap (λ (k : ℕ). take (k * line_size h) (put_mid from (to - from) c.rows.pixels pix)) next
           ∙ ap (λ (k : ℕ). take k (put_mid from (to - from) c.rows.pixels pix)) (sym to_is)
@@ -105,7 +105,7 @@ rows-preserved g c =
           ∙ ap (λ z. z ++ pix) (keep.front b first) ∙ ap (λ z. before ++ z) lines ∙ sym (next_lines_more h f c.args.first old_done count)
           ∙ ap (next_lines_of h f c.args.first) (sym next);
       counts = subst (λ (k : ℕ). CountsBetween t (row_with h c.args.first) k c.with-marked.result) (sym next_row)
-          (counts_both t n _ _ _ c.rows.marked c.read-more.result c.with-marked.result keep.counts marks c.with-marked.ensures.sound c.with-marked.ensures.damaged);
+          (counts_both t n _ _ _ c.rows.marked c.decode-more.result c.with-marked.result keep.counts marks c.with-marked.ensures.sound c.with-marked.ensures.damaged);
     }
 
 pub paint_some-requires : goal.paint_some-requires

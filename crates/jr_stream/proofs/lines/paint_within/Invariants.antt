@@ -3,7 +3,7 @@ use Rattle.jr_head.specs.Geometry.{vertical_max}
 use Rattle.jr_paint.specs.Lines.{line_size, next_lines_of}
 use Rattle.jr_wall.specs.BoardValue.{BoardValue}
 use Rattle.jr_wall.specs.Samples.{samples_of}
-use Rattle.jr_stream.specs.Rows.{HasFirst, HasRowRoom}
+use Rattle.jr_stream.specs.Rows.{HasFirst, HasSampleRoom}
 use Rattle.jr_stream.specs.SomeLines.{CountsBetween, row_with}
 use Rattle.jr_stream.proofs.SomeLines.{done_lines}
 use Rattle.jr_stream.proofs.lines.paint_within.Given as goal
@@ -18,7 +18,7 @@ invariant-rows g l =
       limit : l.rows.limit ≡ n;
       within : l.rows.row ≤ l.behind;
       reaches : l.fn.first < (l.rows.row + 1) * (8 * vertical_max h);
-      room : HasRowRoom h l.work;
+      room : HasSampleRoom h l.work;
       long : length l.pixels ≡ length l.initial.pixels;
       front : (b : BoardValue) → HasFirst t n b → take (done * line_size h) l.pixels ≡ next_lines_of h (samples_of b) l.fn.first done;
       counts : CountsBetween t (row_with h l.fn.first) l.rows.row l.marked;

@@ -1,6 +1,6 @@
 use Rattle.std.proofs.Common.{rules}
 use Rattle.jr_stream.proofs.ShownUnits.{black}
-use Rattle.jr_stream.proofs.row.blank_unit.Goals as goal
+use Rattle.jr_stream.proofs.blank.blank_unit.Goals as goal
 
 pub returns : goal.returns
 returns c =

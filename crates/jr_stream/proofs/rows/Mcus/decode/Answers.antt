@@ -1,0 +1,49 @@
+use Rattle.std.proofs.Common.{rules, arith, sym, subst, ap, ◌∙◌, ◌≡◌, ℕ, ◌+◌, ◌*◌, ◌<◌, ◌^◌, [], slice_index_or}
+use Rattle.jr_head.specs.Geometry.{blocks_of}
+use Rattle.jr_scan.specs.ScanValue.{ScanValue, intervals_of}
+use Rattle.jr_stream.specs.Bands.{unit_shown}
+use Rattle.jr_stream.specs.Rows.{CountsMcus, ShowsBehind, mcus_read}
+use Rattle.jr_stream.proofs.IntervalPlaces.{ends_few}
+use Rattle.jr_stream.proofs.ReadRows.{counts_both, shown_more}
+use Rattle.jr_stream.proofs.rows.Mcus.decode.Goals as goal
+
+pub with-marked-requires : goal.with-marked-requires
+with-marked-requires c =
+    let at = c.parts.self in
+    let old = c.args.self.now in
+    let keep = c.parts.invariant in
+    let few = ends_few at.scan.head (mcus_read c.decode_some-more.new.self) in
+    let before = subst (λ (t : ScanValue). CountsMcus t old.limit (mcus_read old) (mcus_read at) c.parts.marked) (sym keep.scan) keep.counts in
+    let count : intervals_of at.scan.head ≡ intervals_of old.scan.head = ap (λ (t : ScanValue). intervals_of t.head) keep.scan in
+    let room : intervals_of old.scan.head < 2 ^ 32 = search (rules, arith) in
+    omega (arith, before.few, c.decode_some-more.ensures.counts.few, few, count, room)
+
+pub parts-preserved : goal.parts-preserved
+parts-preserved c =
+    let old = c.args.self.now in
+    let at = c.parts.self in
+    let keep = c.parts.invariant in
+    let some = c.decode_some-more in
+    let done = c.parts.done in
+    let mcus = c.min-some.result in
+    let h = old.scan.head in
+    let n = blocks_of h in
+    let units = c.parts.units in
+    let new = some.new.units in
+    let count = subst (λ (t : ScanValue). CountsMcus t at.limit (mcus_read at) (mcus_read some.new.self) some.result) keep.scan some.ensures.counts in
+    let more = subst (λ (k : ℕ). CountsMcus old.scan k (mcus_read at) (mcus_read some.new.self) some.result) keep.limit count in
+    let show = subst (λ (t : ScanValue). ShowsBehind t at.limit (mcus_read at) (done * blocks_of t.head) mcus new) keep.scan some.ensures.shows in
+    let shows = subst (λ (k : ℕ). ShowsBehind old.scan k (mcus_read at) (done * n) mcus new) keep.limit show in
+    let shown = subst (λ (k : ℕ). ShowsBehind old.scan old.limit k (done * n) mcus new) keep.read shows in
+    let kept : (k : ℕ) → k < done * n → slice_index_or new k [] ≡ slice_index_or units k [] = subst (λ (t : ScanValue). (k : ℕ) → k < done * blocks_of t.head → slice_index_or new k [] ≡ slice_index_or units k []) keep.scan some.ensures.kept in
+    let positive : 0 < n = search (rules, arith) in
+    record {
+      within = search (rules, arith);
+      near = search rules;
+      long = search rules;
+      scan = some.ensures.scan ∙ keep.scan;
+      limit = some.ensures.limit ∙ keep.limit;
+      read = omega (arith, some.ensures.moved, keep.read);
+      shows = λ b first. shown_more n done mcus (mcus_read old) (unit_shown b) (λ k. slice_index_or units k []) (λ k. slice_index_or new k []) positive (keep.shows b first) kept (shown b first);
+      counts = counts_both old.scan old.limit _ _ _ c.parts.marked some.result c.with-marked.result keep.counts more c.with-marked.ensures.sound c.with-marked.ensures.damaged;
+    }
