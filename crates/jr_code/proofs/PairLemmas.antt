@@ -70,6 +70,11 @@ pair_read t w s n m v bs e is size enough is_value short =
     let both : TakesExtended t s v bs (drop (n + m) bs) = taken_apart t bs s n m v is size enough is_value in
     taken_less t (bits_of 10 w) (bits_of 6 (w % 4 * 64)) s (n + m) v (omega (arith, short, length-bits_of 10 w)) (subst (λ b. TakesExtended t s v b (drop (n + m) b)) same both)
 
+-- what is packed of a pair is a pair
+pub pair_packed : (t : Table) (w : ℕ) (looked_up packed : Option Extended) → IfSome packed (λ e. looked_up ≡ Some e) → IsPair t w looked_up → IsPair t w packed
+pair_packed t w looked_up None is p = tt
+pair_packed t w looked_up (Some e) is p = subst (λ r. IsPair t w r) is p
+
 -- the pair of ten bits is in front where there are ten bits and more
 pub pair_word : (t : Table) (bs : List Bool) (w count : ℕ) (r : Option Extended) → bits_of 10 w ≡ window_of 10 bs → 10 ≤ count → count ≤ length bs → IsPair t w r
     → IfSome r (λ x. (x.long ≤ count) × TakesExtended t x.symbol x.value bs (drop x.long bs))

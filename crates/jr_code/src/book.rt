@@ -8,6 +8,7 @@ ghost use Rattle.jr_code.specs.Bits.{bits_of};
 ghost use Rattle.jr_code.specs.Register.{bits_in};
 
 use crate::bits::Bits;
+use crate::packed::Packed;
 use crate::register::Register;
 use crate::words::{Extended, Words};
 use jr_base::Memory;
@@ -37,7 +38,7 @@ pub struct CodeBook {
     /// By eight bits: the symbol and length of the word of at most eight bits in front.
     entries: [Option<(u8, u8)>; 256],
     /// By ten bits: the word in front and its extra bits, where both are within them.
-    pairs: [Option<Extended>; 1024],
+    pairs: [Packed; 1024],
     /// For each length from nine to sixteen bits: the least word, and how many words are shorter.
     long: [(u32, u32); 8],
 }
@@ -204,7 +205,7 @@ impl CodeBook {
         requires { 32 ≤ register.count }
         ensures { IfSome result (λ e. IsInFront self.now e register.entry.count (bits_in register.entry)) }
     {
-        self.pairs[register.first_bits(10) as usize]
+        self.pairs[register.first_bits(10) as usize].extended()
     }
 
     /// The word that is in front of the last `count` bits of `held` and its extra bits, long ones or ones near the end of

@@ -4,6 +4,7 @@
 mod bits;
 mod book;
 mod laws;
+mod packed;
 mod register;
 mod words;
 

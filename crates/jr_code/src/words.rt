@@ -5,6 +5,7 @@ ghost use Rattle.jr_code.specs.Bits.{bits_of};
 ghost use Rattle.jr_code.specs.Code.{same_table, IsWord, HasNoFirstWord, HasShortWordsOnly, AreEntries, ArePairs, IsPair, AreLong, room, space, lengths};
 
 use crate::bits::Bits;
+use crate::packed::Packed;
 use jr_base::Memory;
 use std::marker::Model;
 
@@ -115,12 +116,12 @@ impl Words {
     }
 
     /// What each ten bits look up, by the reader itself.
-    pub(crate) fn pairs(&self) -> [Option<Extended>; 1024]
+    pub(crate) fn pairs(&self) -> [Packed; 1024]
         ensures { ArePairs self.now result }
     {
-        let mut pairs = [None; 1024];
+        let mut pairs = [Packed::NONE; 1024];
         for window in 0..1024usize {
-            pairs[window] = self.pair(window as u16);
+            pairs[window] = Packed::of(self.pair(window as u16));
         }
         pairs
     }

@@ -3,7 +3,7 @@ use Rattle.std.proofs.Common.{◌≡◌, ℕ, zero, suc, ◌+◌, ◌-◌, ◌<�
 use Rattle.std.specs.Prelude.{ℤ, pos}
 use Rattle.std.specs.List.{flat_map, AllByRecursion}
 use Rattle.std.proofs.lemmas.List.{append-nil}
-use Rattle.std.proofs.Math.ListN.{length-replicate, replicate-append-replicate}
+use Rattle.std.proofs.Math.ListN.{length-replicate}
 use Rattle.jr_scan.proofs.Words.{IsPrefixFree}
 use Rattle.jr_code.specs.Code.{Table}
 use Rattle.jr_scan.specs.Block.{AcCode, IsAcCode, code_bits, entries, IsEnd, OthersAt}
@@ -183,20 +183,6 @@ block_written first v done block index run at is count e h =
     let k : (64 - index) - (run + 1) ≡ 64 - (at + 1) = omega arith in
     let lt : run < 64 - index = omega arith in
     ap (λ (b : List ℤ). set b at v) is ∙ ap (λ (q : ℕ). set (first ∷ (done ++ replicate (64 - index) (pos 0))) q v) a ∙ ap (λ (x : List ℤ). first ∷ x) (set_at done (64 - index) run v lt) ∙ ap (λ (q : ℕ). first ∷ ((done ++ (replicate run (pos 0) ++ v ∷ [])) ++ replicate q (pos 0))) k
-
--- the block behind sixteen zeros
-pub block_zeros : (first : ℤ) (done block : List ℤ) (index : ℕ) → block ≡ first ∷ (done ++ replicate (64 - index) (pos 0)) → index + 16 ≤ 64
-    → block ≡ first ∷ ((done ++ replicate 16 (pos 0)) ++ replicate (64 - (index + 16)) (pos 0))
-block_zeros first done block index is h =
-    let k : 64 - index ≡ 16 + (64 - (index + 16)) = omega arith in
-    is ∙ ap (λ (q : ℕ). first ∷ (done ++ replicate q (pos 0))) k ∙ ap (λ (x : List ℤ). first ∷ (done ++ x)) (sym (replicate-append-replicate 16 (64 - (index + 16)) (pos 0))) ∙ ap (λ (x : List ℤ). first ∷ x) (sym (append_assoc done (replicate 16 (pos 0)) (replicate (64 - (index + 16)) (pos 0))))
-
-pub so_far_zeros : (ac : Table) → IsPrefixFree ac → (first : ℤ) (old bits new : List Bool) (block block' : List ℤ) (index place' : ℕ)
-    → IsSoFar ac first old bits block index → index < 64 → TakesAcCode ac (replicate 16 (pos 0)) bits new → block' ≡ block → place' ≡ index + 16 → place' ≤ 64 → IsSoFar ac first old new block' place'
-so_far_zeros ac free first old bits new block block' index place' s room t same next fits =
-    let written : block' ≡ first ∷ ((s.done ++ replicate 16 (pos 0)) ++ replicate (64 - place') (pos 0))
-    = same ∙ block_zeros first s.done block index s.blocks (omega (arith, next, fits)) ∙ ap (λ (q : ℕ). first ∷ ((s.done ++ replicate 16 (pos 0)) ++ replicate (64 - q) (pos 0))) (sym next) in
-    so_far_more ac free first old bits new block block' (replicate 16 (pos 0)) index place' s room t next fits written
 
 pub so_far_coef : (ac : Table) → IsPrefixFree ac → (first v : ℤ) (old bits new : List Bool) (block block' : List ℤ) (index run at place' : ℕ)
     → IsSoFar ac first old bits block index → index < 64 → TakesAcCode ac (replicate run (pos 0) ++ v ∷ []) bits new → at ≡ index + run → at ≤ 63 → block' ≡ set block at v → place' ≡ at + 1 → IsSoFar ac first old new block' place'

@@ -2,6 +2,7 @@
 use Rattle.std.proofs.Common.{◌≡◌, ℕ, ◌+◌, ◌*◌, ◌/◌, ◌%◌, ◌<◌, ◌≤◌, Bool, List, [], ◌∷◌, ◌++◌, length, replicate, refl, sym, ap, subst, ◌∙◌, append_assoc, arith}
 use Rattle.std.specs.Prelude.{ℤ, pos}
 use Rattle.std.proofs.lemmas.List.{append_cancel_left}
+use Rattle.jr_code.specs.Bits.{value}
 use Rattle.jr_code.specs.Code.{Table, IsWord, TakesExtended, HasNoExtended}
 use Rattle.jr_scan.specs.Block.{AcCode, IsAcCode, code_bits, DifferenceAt}
 use Rattle.jr_scan.specs.Block.AcCode.{ZeroRun, RunAndSize}
@@ -82,6 +83,15 @@ no_bits (b ∷ bs) e = absurd (omega (arith, e))
 
 pub word_alone : (t : Table) (s : ℕ) (v : ℤ) (old new : List Bool) → TakesExtended t s v old new → s % 16 ≡ 0 → TakesWord t old new s
 word_alone t s v old new x e = (x.word, x.is, x.split ∙ ap (λ (b : List Bool). x.word ++ (b ++ new)) (no_bits x.extra (x.count ∙ e)))
+
+-- sixteen zeros are one behind fifteen
+pub takes_sixteen : (ac : Table) (s : ℕ) (v : ℤ) (old new : List Bool) → TakesExtended ac s v old new → s ≡ 240 → TakesAcCode ac (replicate (s / 16) (pos 0) ++ v ∷ []) old new
+takes_sixteen ac s v old new x e =
+    let zero : v ≡ pos 0 = x.value_is ∙ ap value (no_bits x.extra (x.count ∙ omega (arith, e))) in
+    let fifteen : s / 16 ≡ 15 = omega (arith, e) in
+    let made : replicate 16 (pos 0) ≡ replicate (s / 16) (pos 0) ++ v ∷ [] =
+    ap (λ (n : ℕ). replicate n (pos 0) ++ pos 0 ∷ []) (sym fifteen) ∙ ap (λ (q : ℤ). replicate (s / 16) (pos 0) ++ q ∷ []) (sym zero) in
+    subst (λ (made : List ℤ). TakesAcCode ac made old new) made (takes_zeros ac s old new (word_alone ac s v old new x (omega (arith, e))) e)
 
 pub takes_difference_of : (dc : Table) (size : ℕ) (d : ℤ) (old new : List Bool) → TakesExtended dc size d old new → size ≤ 11 → TakesDifference dc d old new
 takes_difference_of dc size d old new x small =

@@ -4,7 +4,7 @@ use Rattle.jr_code.specs.Bits.{value}
 use Rattle.jr_code.specs.Code.{Table, IsWord}
 use Rattle.jr_scan.specs.Block.{AcCode, IsAcCode, code_bits, entries, OthersAt, DifferenceAt, CodedAt, BlockAt}
 use Rattle.jr_scan.specs.declared.block.Step.{Step}
-use Rattle.jr_scan.specs.declared.block.Step.TheVariants.{End, Zeros, Coefficient}
+use Rattle.jr_scan.specs.declared.block.Step.TheVariants.{End, Coefficient}
 
 -- old is so many extra bits of that value, and then new
 pub record TakesExtra (size : ℕ) (v : ℤ) (old new : List Bool) : Type 0 where
@@ -28,7 +28,6 @@ pub record TakesEnd (ac : Table) (old new : List Bool) : Type 0 where
 
 abbrev pub TakesStep : Table → Step → List Bool → List Bool → Type 0
 TakesStep ac End old new = TakesEnd ac old new
-TakesStep ac Zeros old new = TakesAcCode ac (replicate 16 (pos 0)) old new
 TakesStep ac (Coefficient run v) old new = TakesAcCode ac (replicate run (pos 0) ++ v ∷ []) old new
 
 -- no code and no end of a block begins these bits

@@ -11,14 +11,15 @@ pub type Block = [i32; 64];
 /// The most extra bits of a coefficient behind the first.
 const MOST_EXTRA: u8 = 10;
 
+/// The symbol of a run of sixteen zeros.
+const SIXTEEN_ZEROS: u8 = 0xF0;
+
 /// What comes next behind the first coefficient of a block.
 #[derive(Clone, Copy, Debug, PartialEq, Eq)]
 enum Step {
     /// The rest of the block is 0.
     End,
-    /// ZeroRun zeros.
-    Zeros,
-    /// A run of zeros and a coefficient.
+    /// A run of zeros and a coefficient. Sixteen zeros are a coefficient of 0 behind fifteen.
     Coefficient(u8, i32),
 }
 
@@ -34,12 +35,10 @@ fn read_step(ac: &CodeBook, bits: &mut Bits<'_>) -> Option<Step>
         if symbol == 0 {
             return Some(Step::End);
         }
-        if symbol == 0xF0 {
-            return Some(Step::Zeros);
+        if symbol != SIXTEEN_ZEROS {
+            return None;
         }
-        return None;
-    }
-    if size > MOST_EXTRA {
+    } else if size > MOST_EXTRA {
         return None;
     }
     Some(Step::Coefficient(symbol / 16, v))
@@ -70,12 +69,6 @@ fn read_others(ac: &CodeBook, bits: &mut Bits<'_>, first: i32, block: &mut Block
     'steps: loop {
         match read_step(ac, bits)? {
             Step::End => return Some(()),
-            Step::Zeros => {
-                if index + 16 > 64 {
-                    return None;
-                }
-                index += 16;
-            }
             Step::Coefficient(run, v) => {
                 let at = index + usize::from(run);
                 if at > 63 {

@@ -1,12 +1,11 @@
-use Rattle.std.proofs.Common.{rules, ◌+◌, [], ◌∷◌, ◌++◌, replicate, subst, arith, length-append, w32, pos, set, ap, ◌∙◌}
+use Rattle.std.proofs.Common.{rules, ◌+◌, [], ◌∷◌, ◌++◌, replicate, refl, subst, arith, length-append, w32, pos, set, ap}
 use mir.Val.{SFits, to_z, of_z}
 use Rattle.std.proofs.Math.ListN.{length-replicate}
 use Rattle.std.proofs.lemmas.Int.{to_z-of_z}
 use Rattle.jr_scan.specs.Step.{TakesStep, TakesAcCode, TakesEnd}
 use Rattle.jr_scan.specs.declared.block.Step.{Step}
-use Rattle.jr_scan.proofs.Rest.{IsSoFar, so_far_none, so_far_zeros, so_far_coef, so_far_all, so_far_end, so_far_stuck, so_far_over}
+use Rattle.jr_scan.proofs.Rest.{IsSoFar, so_far_none, so_far_coef, so_far_all, so_far_end, so_far_stuck, so_far_over}
 use Rattle.jr_scan.proofs.block.read_others.Goals as goal
-use Rattle.jr_scan.proofs.block.read_others.Goals.{in-Zeros+else-index-gt64, in-Coefficient+else-at-gt63}
 
 pub steps-init : goal.steps-init
 steps-init c = (omega arith, so_far_none _ _ _)
@@ -20,11 +19,6 @@ returns-in-End-clause-some c =
     let t : TakesEnd c.args.ac.now c.steps.bits c.read_step.new.bits = subst (λ (st : Step). TakesStep c.args.ac.now st c.steps.bits c.read_step.new.bits) c.in-End.is c.in_ok-read_step.ensures.some in
     so_far_end _ _ _ _ _ _ _ s c.steps.invariant.0 t
 
-pub returns-then-index-gt64-clause-none : goal.returns-then-index-gt64-clause-none
-returns-then-index-gt64-clause-none c =
-    let t : TakesAcCode c.args.ac.now (replicate 16 (pos 0)) c.steps.bits c.read_step.new.bits = subst (λ (st : Step). TakesStep c.args.ac.now st c.steps.bits c.read_step.new.bits) c.in-Zeros.is c.in_ok-read_step.ensures.some in
-    so_far_over _ (c.one_word.ensures _) _ _ _ _ _ (replicate 16 (pos 0)) _ c.steps.invariant.1 c.steps.invariant.0 t (omega (arith, c.if-index-gt64.true))
-
 pub returns-then-at-gt63-clause-none : goal.returns-then-at-gt63-clause-none
 returns-then-at-gt63-clause-none c =
     let run = c.in-Coefficient.run' in
@@ -35,22 +29,14 @@ returns-then-at-gt63-clause-none c =
 pub returns-then-index-eq64-clause-some : goal.returns-then-index-eq64-clause-some
 returns-then-index-eq64-clause-some c =
     let s : IsSoFar c.args.ac.now c.args.first c.args.bits.now c.steps.bits c.steps.block c.steps.index = subst (λ q. IsSoFar c.args.ac.now q c.args.bits.now c.steps.bits c.steps.block c.steps.index) (to_z-of_z w32 c.args.first c.ranges.first) c.steps.invariant.1 in
-    let next : IsSoFar c.args.ac.now c.args.first c.args.bits.now c.read_step.new.bits c.match-branch-2.block c.match-branch-2.index = elim c.match-branch-2.branch [
-      | in-Zeros+else-index-gt64 w ↦
-          so_far_zeros _ (c.one_word.ensures _) _ _ _ _ _ _ _ _ s c.steps.invariant.0 (subst (λ (st : Step). TakesStep c.args.ac.now st c.steps.bits c.read_step.new.bits) w.in-Zeros.is c.in_ok-read_step.ensures.some) w.block-is w.index-is (omega arith)
-      | in-Coefficient+else-at-gt63 w ↦
-          let f : SFits w32 w.in-Coefficient.v = search rules in
-          so_far_coef _ (c.one_word.ensures _) _ w.in-Coefficient.v _ _ _ _ _ _ w.in-Coefficient.run' (c.steps.index + w.from.result) _ s c.steps.invariant.0 (subst (λ (st : Step). TakesStep c.args.ac.now st c.steps.bits c.read_step.new.bits) w.in-Coefficient.is c.in_ok-read_step.ensures.some) (omega (arith, w.from.ensures)) w.if-at-gt63.false (w.block-is ∙ ap (set c.steps.block (c.steps.index + w.from.result)) (to_z-of_z w32 w.in-Coefficient.v f)) w.index-is
-    ] in
-    so_far_all _ _ _ _ _ _ next (omega arith)
+    let f : SFits w32 c.in-Coefficient.v = search rules in
+    let next : IsSoFar c.args.ac.now c.args.first c.args.bits.now c.read_step.new.bits (set c.steps.block (c.steps.index + c.from.result) (to_z w32 (of_z w32 c.in-Coefficient.v))) (c.steps.index + c.from.result + 1) =
+    so_far_coef _ (c.one_word.ensures _) _ c.in-Coefficient.v _ _ _ _ _ _ c.in-Coefficient.run' (c.steps.index + c.from.result) _ s c.steps.invariant.0 (subst (λ (st : Step). TakesStep c.args.ac.now st c.steps.bits c.read_step.new.bits) c.in-Coefficient.is c.in_ok-read_step.ensures.some) (omega (arith, c.from.ensures)) c.if-at-gt63.false (ap (set c.steps.block (c.steps.index + c.from.result)) (to_z-of_z w32 c.in-Coefficient.v f)) refl in
+    so_far_all _ _ _ _ _ _ next (omega (arith, c.if-index-eq64.true))
 
 pub steps-preserved : goal.steps-preserved
 steps-preserved c =
-    let next : IsSoFar c.args.ac.now (to_z w32 (of_z w32 c.args.first)) c.args.bits.now c.read_step.new.bits c.match-branch-2.block c.match-branch-2.index = elim c.match-branch-2.branch [
-      | in-Zeros+else-index-gt64 w ↦
-          so_far_zeros _ (c.one_word.ensures _) _ _ _ _ _ _ _ _ c.steps.invariant.1 c.steps.invariant.0 (subst (λ (st : Step). TakesStep c.args.ac.now st c.steps.bits c.read_step.new.bits) w.in-Zeros.is c.in_ok-read_step.ensures.some) w.block-is w.index-is (omega arith)
-      | in-Coefficient+else-at-gt63 w ↦
-          let f : SFits w32 w.in-Coefficient.v = search rules in
-          so_far_coef _ (c.one_word.ensures _) _ w.in-Coefficient.v _ _ _ _ _ _ w.in-Coefficient.run' (c.steps.index + w.from.result) _ c.steps.invariant.1 c.steps.invariant.0 (subst (λ (st : Step). TakesStep c.args.ac.now st c.steps.bits c.read_step.new.bits) w.in-Coefficient.is c.in_ok-read_step.ensures.some) (omega (arith, w.from.ensures)) w.if-at-gt63.false (w.block-is ∙ ap (set c.steps.block (c.steps.index + w.from.result)) (to_z-of_z w32 w.in-Coefficient.v f)) w.index-is
-    ] in
-    (omega arith, next)
+    let f : SFits w32 c.in-Coefficient.v = search rules in
+    let next : IsSoFar c.args.ac.now (to_z w32 (of_z w32 c.args.first)) c.args.bits.now c.read_step.new.bits (set c.steps.block (c.steps.index + c.from.result) (to_z w32 (of_z w32 c.in-Coefficient.v))) (c.steps.index + c.from.result + 1) =
+    so_far_coef _ (c.one_word.ensures _) _ c.in-Coefficient.v _ _ _ _ _ _ c.in-Coefficient.run' (c.steps.index + c.from.result) _ c.steps.invariant.1 c.steps.invariant.0 (subst (λ (st : Step). TakesStep c.args.ac.now st c.steps.bits c.read_step.new.bits) c.in-Coefficient.is c.in_ok-read_step.ensures.some) (omega (arith, c.from.ensures)) c.if-at-gt63.false (ap (set c.steps.block (c.steps.index + c.from.result)) (to_z-of_z w32 c.in-Coefficient.v f)) refl in
+    (omega (arith, c.if-index-eq64.false, c.if-at-gt63.false), next)
