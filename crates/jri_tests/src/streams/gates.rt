@@ -49,6 +49,7 @@ impl Gate for Passage {
 /// Which of the first 32 intervals have passed, in any order.
 #[derive(Drop)]
 struct Crowd {
+    /// How many have, and a hundred for each piece that is made.
     passed: AtomicU32,
     /// A bit for each.
     numbers: AtomicU32,
@@ -66,6 +67,15 @@ impl Gate for Crowd {
     }
 }
 
+impl Crowd {
+    fn new() -> Crowd {
+        Crowd {
+            passed: AtomicU32::new(0),
+            numbers: AtomicU32::new(0),
+        }
+    }
+}
+
 /// Several workers that decode row after row tell of each interval once.
 fn check_crew<R: Threads + Wait + Sync + AllocGlobal + Abort>(
     rt: &R,
@@ -73,10 +83,7 @@ fn check_crew<R: Threads + Wait + Sync + AllocGlobal + Abort>(
     first: Option<u32>,
     passed: u32,
 ) -> Result<(), Fail> {
-    let gate = Crowd {
-        passed: AtomicU32::new(0),
-        numbers: AtomicU32::new(0),
-    };
+    let gate = Crowd::new();
     let scan = scan(rt.alloc(), words)?;
     let mut out = Tally::of(Vec::new(rt.alloc()));
     assert!(rt; write_scan_by(rt, rt.alloc(), &scan, 3, first, &gate, &mut out).is_ok());
@@ -144,4 +151,28 @@ fn crews_tell_a_gate_each_interval_once(rt: HostRuntime) -> Result<(), Fail> {
         check_crew(&rt, words, first, passed)?;
     }
     Ok(())
+}
+
+/// What a gate is told of a file that two workers decode: an interval counts one, a piece a hundred.
+fn check_told<R: Threads + Wait + Sync + AllocGlobal + Abort>(
+    rt: &R,
+    words: &str,
+    told: u32,
+) -> Result<(), Fail> {
+    let gate = Crowd::new();
+    let bytes = file(rt.alloc(), words)?;
+    let mut input = Tally::of(bytes.as_slice());
+    let mut out = Tally::of(Vec::new(rt.alloc()));
+    assert!(rt; run(rt, rt.alloc(), &mut input, &mut out, 2, None, &gate).is_ok());
+    assert!(rt; gate.passed.load(Ordering::SeqCst) == told, "{words}");
+    Ok(())
+}
+
+/// A small picture is decoded into pieces, and kept; a larger one is not, however narrow it is and whatever its head claims.
+#[test]
+fn makes_pieces_of_small_pictures_alone(rt: HostRuntime) -> Result<(), Fail> {
+    // 1024 MCUs, one below the other, each an interval; one more; and 129 rows of eight
+    check_told(&rt, "S Q F:2000:0008 D A I C 63 E", 1024 * 101)?;
+    check_told(&rt, "S Q F:2008:0008 D A I C 63 E", 1025)?;
+    check_told(&rt, "S Q F:0408:0040 D A I C 63 E", 1032)
 }
