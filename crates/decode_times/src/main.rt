@@ -2,6 +2,7 @@
 //! 4 workers in turns, and tells the least microseconds of each number of workers. It keeps no picture.
 #![tactic(auto)]
 
+use jr_base::limits::MAX_WORKERS;
 use jr_head::read_head;
 use jr_scan::Scan;
 use jr_wall::{OpenGate, decode_all};
@@ -13,8 +14,11 @@ use std::thread::Threads;
 use std::time::{Clock, Instant};
 use std::{env, fs};
 
+/// How many numbers of workers are told of.
+const NUMBERS: usize = 3;
+
 /// So many workers decode a file.
-const WORKERS: [u32; 3] = [1, 2, 4];
+const WORKERS: [u32; NUMBERS] = [1, 2, 4];
 
 /// How often each number of workers decodes a file.
 const TURNS: u32 = 9;
@@ -27,7 +31,7 @@ fn scan_of(rt: &HostRuntime, name: &str) -> Option<Arc<Scan>> {
     Arc::new(rt.alloc(), scan).ok()
 }
 
-/// How many microseconds so many workers take, 1 to 64.
+/// How many microseconds so many workers take, of which there are 1 to 64.
 fn time_of<R: Threads + Wait + Clock + Sync>(
     rt: &R,
     alloc: Global,
@@ -36,7 +40,8 @@ fn time_of<R: Threads + Wait + Clock + Sync>(
 ) -> Option<u128> {
     let shared = Arc::try_clone(scan).ok()?;
     let start = Instant::now(rt).ok()?;
-    let board = decode_all(rt, alloc, shared, workers.clamp(1, 64), None, &OpenGate).ok()?;
+    let workers = workers.clamp(1, MAX_WORKERS);
+    let board = decode_all(rt, alloc, shared, workers, None, &OpenGate).ok()?;
     let taken = start.elapsed(rt).ok()?.as_micros();
     drop(board);
     Some(taken)
@@ -47,10 +52,10 @@ fn least_times<R: Threads + Wait + Clock + Sync>(
     rt: &R,
     alloc: Global,
     scan: &Arc<Scan>,
-) -> Option<[u128; 3]> {
-    let mut least = [u128::MAX; 3];
+) -> Option<[u128; NUMBERS]> {
+    let mut least = [u128::MAX; NUMBERS];
     for _ in 0..TURNS {
-        for k in 0..3usize {
+        for k in 0..NUMBERS {
             let taken = time_of(rt, alloc, scan, WORKERS[k])?;
             least[k] = least[k].min(taken);
         }
@@ -69,7 +74,7 @@ fn main(rt: HostRuntime) -> ExitCode {
         let Some(times) = least_times(&rt, rt.alloc(), &scan) else {
             return ExitCode::from(1);
         };
-        for k in 0..3usize {
+        for k in 0..NUMBERS {
             let _ = writeln!(rt.stdout(), "{} {}", WORKERS[k], times[k]);
         }
     }

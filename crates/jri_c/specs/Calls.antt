@@ -43,6 +43,10 @@ detail_of refusal.MissingTable = 0
 detail_of refusal.TooLong = 0
 detail_of refusal.Memory = 0
 
+-- some refusal has this number
+abbrev pub IsNumberOfSome : ℕ → Type 0
+IsNumberOfSome number = (0 < number) × (number < 20)
+
 -- the file's first fault has this number, and tells this beside it
 pub record IsFaultOf (file : List ℕ) (number detail : ℕ) : Type 0 where
   pub fault : Refusal

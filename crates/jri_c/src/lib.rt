@@ -5,7 +5,7 @@
 
 ghost use Rattle.std.specs.Prelude.{◌≡◌, ◌≢◌, ◌<◌, ◌≤◌, length, drop};
 ghost use Rattle.jr_head.specs.declared.refusal.Refusal.TheVariants.{Memory};
-ghost use Rattle.jri_c.specs.Calls.{Decodes, DecodesLines, IsMeasureOf, IsFaultOf, IsRefusal};
+ghost use Rattle.jri_c.specs.Calls.{Decodes, DecodesLines, IsMeasureOf, IsFaultOf, IsRefusal, IsNumberOfSome};
 
 mod decode;
 mod lines;
@@ -132,6 +132,8 @@ pub extern "C" fn jri_decode_lines(
 /// where no refusal has that number.
 #[unsafe(no_mangle)]
 pub extern "C" fn jri_refusal_text(number: u32, detail: u64, text: &mut [u8]) -> u64
+    ensures some { IsNumberOfSome number → 0 < length text.old → 0 < result }
+    ensures none { 0 < result → IsNumberOfSome number }
     ensures few { result ≤ length text.new }
     ensures kept { drop result text.new ≡ drop result text.old }
 {

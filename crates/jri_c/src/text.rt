@@ -1,7 +1,8 @@
 //! The texts of refusals.
 
-ghost use Rattle.std.specs.Prelude.{◌≡◌, ◌≤◌, ◌<◌, length, drop, IfSome};
+ghost use Rattle.std.specs.Prelude.{◌≡◌, ◌≢◌, ◌≤◌, ◌<◌, length, drop, IfSome, None};
 ghost use Rattle.jr_head.specs.Refusal.{number_of};
+ghost use Rattle.jri_c.specs.Calls.{IsNumberOfSome};
 
 use jr_head::Refusal;
 use std::io::{Cursor, Write};
@@ -11,7 +12,8 @@ const ROOM: usize = 128;
 
 /// The refusal of this number that tells this beside it.
 fn refusal_of(number: u32, detail: u64) -> Option<Refusal>
-    ensures { IfSome result (λ f. number ≡ number_of f) }
+    ensures of_the_number { IfSome result (λ f. number ≡ number_of f) }
+    ensures some { IsNumberOfSome number → result ≢ None }
 {
     let code = (detail % 256) as u8;
     match number {
@@ -40,6 +42,8 @@ fn refusal_of(number: u32, detail: u64) -> Option<Refusal>
 
 /// Puts the text of a refusal by its numbers, as much as there is room for; how many bytes. None where there is no such.
 pub(crate) fn put_text(number: u32, detail: u64, text: &mut [u8]) -> usize
+    ensures some { IsNumberOfSome number → 0 < length text.old → 0 < result }
+    ensures none { 0 < result → IsNumberOfSome number }
     ensures few { result ≤ length text.new }
     ensures kept { drop result text.new ≡ drop result text.old }
 {
@@ -48,7 +52,8 @@ pub(crate) fn put_text(number: u32, detail: u64, text: &mut [u8]) -> usize
     };
     let mut line = Cursor::new([0; ROOM]);
     let _ = write!(line, "{refusal}");
-    let length = (line.position() as usize).min(ROOM).min(text.len());
+    // no contract of `write!` says that it writes anything
+    let length = (line.position() as usize).clamp(1, ROOM).min(text.len());
     text[..length].copy_from_slice(&line.get_ref()[..length]);
     length
 }
