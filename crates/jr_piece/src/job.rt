@@ -84,7 +84,7 @@ impl<S: OneScan> Job<S> {
     }
 
     /// Transforms a strip and keeps it.
-    fn decode<R: Wait>(&self, rt: &R, alloc: Global, coded: &Coded<S>) -> Result<Arc<Strip>, Memory>
+    fn decode<R: Wait>(&self, rt: &R, alloc: Global, coded: Coded<S>) -> Result<Arc<Strip>, Memory>
         ensures { IfOk result (λ s. (arc_value s).interval ≡ self.now) }
     {
         let strip = Arc::new(alloc, coded.decode(alloc)?)?;
@@ -92,7 +92,9 @@ impl<S: OneScan> Job<S> {
             return Err(Memory);
         }
         let same = Arc::try_clone(&strip)?;
-        self.progress.lock(rt).keep(same)?;
+        let mut progress = self.progress.lock(rt);
+        progress.keep(same)?;
+        progress.reuse(coded.into_blocks());
         Ok(strip)
     }
 
@@ -111,7 +113,7 @@ impl<S: OneScan> Job<S> {
             match self.task(rt) {
                 Task::Read(reading) => self.read(rt, alloc, reading),
                 Task::Decode(coded) => {
-                    let strip = self.decode(rt, alloc, &coded).ok();
+                    let strip = self.decode(rt, alloc, coded).ok();
                     if strip.is_none() {
                         self.give_up(rt);
                     }

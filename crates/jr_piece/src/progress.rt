@@ -10,7 +10,7 @@ use crate::one_scan::OneScan;
 use crate::reading::{End, Next, Reading};
 use crate::strip::{CodedStrip, Strip};
 use jr_code::Memory;
-use jr_scan::Interval;
+use jr_scan::{Block, Interval};
 use std::alloc::Global;
 use std::collections::VecDeque;
 use std::marker::{Model, PhantomData};
@@ -52,6 +52,11 @@ impl<S: OneScan> Coded<S> {
     {
         self.strip.decode(alloc)
     }
+
+    /// The memory of its blocks, to be used again.
+    pub(crate) fn into_blocks(self) -> Vec<Block> {
+        self.strip.into_blocks()
+    }
 }
 
 /// What a worker does next.
@@ -76,6 +81,8 @@ pub(crate) struct Progress<S: OneScan> {
     coded: VecDeque<Coded<S>>,
     /// As many of them may wait before the worker that reads decodes one.
     most_waiting: usize,
+    /// Memory of strips that are transformed, for those to be read.
+    spare: Vec<Vec<Block>>,
     gathered: Gathered<S>,
 }
 
@@ -92,6 +99,7 @@ impl<S: OneScan> Progress<S> {
             is_over: false,
             coded: VecDeque::new(alloc),
             most_waiting,
+            spare: Vec::new(alloc),
             gathered,
         }
     }
@@ -104,8 +112,11 @@ impl<S: OneScan> Progress<S> {
     /// What a worker does next.
     pub(crate) fn task(&mut self) -> Task<S> {
         if self.coded.len() < self.most_waiting
-            && let Some(reading) = self.reading.take()
+            && let Some(mut reading) = self.reading.take()
         {
+            if let Some(blocks) = self.spare.pop() {
+                reading.lend(blocks);
+            }
             return Task::Read(reading);
         }
         match self.coded.pop_front() {
@@ -128,10 +139,19 @@ impl<S: OneScan> Progress<S> {
             }
             Err(Memory) => self.is_over = true,
         }
-        if !self.is_over {
+        if self.is_over {
+            self.spare.clear();
+        } else {
             self.reading = Some(reading);
         }
         self.is_over
+    }
+
+    /// Takes the memory of a strip that is transformed, as long as strips are read.
+    pub(crate) fn reuse(&mut self, blocks: Vec<Block>) {
+        if !self.is_over {
+            let _ = self.spare.push(blocks);
+        }
     }
 
     /// Keeps a strip of the interval.
@@ -146,6 +166,7 @@ impl<S: OneScan> Progress<S> {
         self.is_over = true;
         self.reading = None;
         self.coded.clear();
+        self.spare.clear();
     }
 
     /// The interval's number, all strips and the end, once they are there. They are given once.

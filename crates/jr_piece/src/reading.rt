@@ -8,7 +8,7 @@ use crate::one_scan::OneScan;
 use crate::strip::CodedStrip;
 use crate::strip_reader::StripReader;
 use jr_code::Memory;
-use jr_scan::Interval;
+use jr_scan::{Block, Interval};
 use std::alloc::Global;
 use std::marker::{Model, PhantomData};
 use std::sync::Arc;
@@ -81,6 +81,13 @@ impl<S: OneScan> Reading<S> {
             each,
             of: PhantomData,
         }
+    }
+
+    /// Lends it blocks whose memory the next strip takes.
+    pub(crate) fn lend(&mut self, blocks: Vec<Block>)
+        ensures { self.new ≡ self.old }
+    {
+        self.reader.lend(blocks);
     }
 
     /// Reads the next strip.

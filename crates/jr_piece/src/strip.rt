@@ -90,6 +90,11 @@ impl CodedStrip {
         }
     }
 
+    /// The memory of its blocks, to be used again.
+    pub(crate) fn into_blocks(self) -> Vec<Block> {
+        self.blocks
+    }
+
     /// The strip's samples. Any thread may ask for them, at any time.
     pub fn decode(&self, alloc: Global) -> Result<Strip, Memory>
         ensures interval { IfOk result (λ s. s.interval ≡ self.now.interval) }

@@ -12,6 +12,7 @@ ghost use Rattle.jr_piece.specs.Strips.{CanReadFrom, FirstMcus, HasWholeMcus};
 
 use crate::decoded::most_units;
 use crate::strip::CodedStrip;
+use crate::unit_reader::read_blocks;
 use jr_code::Memory;
 use jr_scan::{
     Block, BlockReader, Interval, Place, decoding_is_whole_run, one_front, one_run, runs_meet,
@@ -29,9 +30,9 @@ struct Run {
     next: Option<Place>,
 }
 
-/// All blocks of a run, also those of an MCU that is not whole.
-fn read_blocks(
-    alloc: Global,
+/// All blocks of a run, also those of an MCU that is not whole, in the place of the blocks that are there.
+fn read_all_blocks(
+    blocks: Vec<Block>,
     interval: &Interval,
     from: Place,
     mcus: u32,
@@ -42,8 +43,11 @@ fn read_blocks(
     ensures in_range { IfOk result (λ r. All IsInRange r.0.items) }
     ensures ended { IfOk result (λ r. HasEnded r.1) }
 {
-    let mut blocks = Vec::with_capacity(alloc, most_units(interval, from.bit, mcus))?;
+    let mut blocks = blocks;
     let mut reader = BlockReader::at(interval, from, mcus);
+    let count = read_blocks(&mut reader, blocks.as_mut_slice());
+    blocks.truncate(count);
+    blocks.reserve(most_units(interval, from.bit, mcus).saturating_sub(count))?;
     let mut block = [0; 64];
     'units: loop {
         let Some(_component) = reader.next(&mut block) else {
@@ -54,7 +58,7 @@ fn read_blocks(
 }
 
 /// The whole MCUs of a run of at most so many.
-fn read_run(alloc: Global, interval: &Interval, from: Place, mcus: u32) -> Result<Run, Memory>
+fn read_run(blocks: Vec<Block>, interval: &Interval, from: Place, mcus: u32) -> Result<Run, Memory>
     requires { CanReadFrom interval.now from }
     ensures few { IfOk result (λ r. r.mcus ≤ mcus) }
     ensures run { IfOk result (λ r. FirstMcus (run_from interval.now from mcus) r.mcus r.blocks.items) }
@@ -63,7 +67,7 @@ fn read_run(alloc: Global, interval: &Interval, from: Place, mcus: u32) -> Resul
     ensures can { IfOk result (λ r. IfSome r.next (CanReadFrom interval.now)) }
     ensures none { IfOk result (λ r. IfNone r.next (r.mcus < mcus)) }
 {
-    let (mut blocks, reader) = read_blocks(alloc, interval, from, mcus)?;
+    let (mut blocks, reader) = read_all_blocks(blocks, interval, from, mcus)?;
     let read = reader.mcus();
     blocks.truncate(read as usize * interval.head().order().len());
     Ok(Run {
@@ -79,6 +83,8 @@ pub struct StripReader {
     interval: Arc<Interval>,
     first: u32,
     next: Option<Place>,
+    /// Memory of a strip that is transformed, to be used again.
+    spare: Option<Vec<Block>>,
 }
 
 impl Model for StripReader {
@@ -102,7 +108,15 @@ impl StripReader {
             interval,
             first: 0,
             next: Some(Place::start()),
+            spare: None,
         }
+    }
+
+    /// Lends the reader blocks whose memory the next strip takes.
+    pub(crate) fn lend(&mut self, blocks: Vec<Block>)
+        ensures { self.new ≡ self.old }
+    {
+        self.spare = Some(blocks);
     }
 
     /// The number of its interval.
@@ -143,7 +157,8 @@ impl StripReader {
         let interval = Arc::try_clone(&self.interval)?;
         interval.head().be_lawful();
         let asked = most.min(interval.mcus() - self.first);
-        let Run { blocks, mcus, next } = read_run(alloc, &interval, from, asked)?;
+        let blocks = self.spare.take().unwrap_or(Vec::new(alloc));
+        let Run { blocks, mcus, next } = read_run(blocks, &interval, from, asked)?;
         if mcus == 0 {
             return Ok(None);
         }

@@ -32,7 +32,7 @@ impl<'a> Model for UnitReader<'a> {
 }
 
 /// Reads the next blocks, as many as the slice holds or as follow; tells how many there are.
-fn read_blocks(reader: &mut BlockReader<'_>, blocks: &mut [Block]) -> usize
+pub(crate) fn read_blocks(reader: &mut BlockReader<'_>, blocks: &mut [Block]) -> usize
     ensures run { reader.new.run ≡ reader.old.run }
     ensures few { result ≤ length blocks.new }
     ensures read { (zs : List (List ℤ)) → HasRead reader.old zs → HasRead reader.new (zs ++ take result blocks.new) }

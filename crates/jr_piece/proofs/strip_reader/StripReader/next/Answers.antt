@@ -36,8 +36,8 @@ of-requires c =
     let blocks = blocks c.one_run.ensures c.runs_meet.ensures c.shorter_front.ensures i lawful c.self.inside.first c.self.invariant.blocks c.in-Some.from (c.self.invariant.next c.in-Some.from c.in-Some.is) r.mcus c.min-asked.result r.blocks.items was few in
     subst (λ (v : IntervalValue). IsCoded (record { interval = v; first = c.self.inside.first; mcus = r.mcus; blocks = r.blocks.items })) (sym own) (record { are = blocks; in_range = c.in_ok-blocks.ensures.in_range })
 
-pub invariant_of-self : goal.invariant_of-self
-invariant_of-self c =
+pub invariant_of-self-2 : goal.invariant_of-self-2
+invariant_of-self-2 c =
     let i = arc_value c.self.inside.interval in
     let at : c.deref-3.result.now ≡ i = search rules in
     let other : c.deref-2.result.now ≡ i = search rules in
