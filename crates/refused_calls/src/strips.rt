@@ -3,7 +3,7 @@
 ghost use Rattle.std.specs.Prelude.{◌≡◌, ◌<◌, IfSome, length};
 
 use crate::caller::Caller;
-use jr_wall::{Strip, StripCells, StripReader, StripSight};
+use jr_wall::{CodedStrip, Strip, StripCells, StripReader, StripSight};
 use std::sync::Arc;
 
 /// Whether a strip has these five MCUs, of one data unit each, all of one grey.
@@ -59,8 +59,17 @@ impl<'a> Caller<'a> {
         Some(is_right)
     }
 
+    fn coded_strip(&self) -> Option<CodedStrip> {
+        self.strips()?.next(self.alloc, 9).ok()?
+    }
+
+    fn strip(&self) -> Option<Arc<Strip>> {
+        let strip = self.coded_strip()?.decode(self.alloc).ok()?;
+        Arc::new(self.alloc, strip).ok()
+    }
+
     pub(crate) fn decode_strip(&mut self) -> Option<bool> {
-        let coded = self.strips()?.next(self.alloc, 9).ok()??;
+        let coded = self.coded_strip()?;
         self.begin();
         let answer = coded.decode(self.alloc);
         self.end();
@@ -93,8 +102,7 @@ impl<'a> Caller<'a> {
     pub(crate) fn hang_strip(&mut self) -> Option<bool> {
         let cells = self.strip_cells()?;
         let mut sight = cells.sight().ok()?;
-        let coded = self.strips()?.next(self.alloc, 9).ok()??;
-        let strip = Arc::new(self.alloc, coded.decode(self.alloc).ok()?).ok()?;
+        let strip = self.strip()?;
         self.begin();
         let answer = hang(&cells, strip, &mut sight);
         self.end();
