@@ -1,11 +1,16 @@
 /*
  * libjri: a decoder of baseline JPEG files (ITU-T T.81 | ISO/IEC 10918-1) in memory.
  *
- * It is written in Rattle, and what each call promises here is proved (docs/C.md). The calls take memory by malloc, realloc
- * and free, and keep nothing from one call to the next. They start no threads and wait for nothing: any of them may run at
- * once in any threads, on buffers of their own. The buffers of one call don't overlap; a buffer of length 0 may be NULL, and
- * the structs may not. A call takes 192 KB of stack, and 340 KB for pictures wider than 4096 columns. No call is made from a
- * signal handler.
+ * It is written in Rattle. What stands under "Proved" at a call is its contract, which the prover has accepted for every input
+ * (docs/C.md); what stands under "Tested" is in no contract, and tools/check-library sees it.
+ *
+ * Proved of all calls: each returns, whatever the bytes, and touches nothing but its buffers and structs; none starts a thread,
+ * waits, or keeps anything from one call to the next, so any of them may run at once in any threads, on buffers of their own.
+ * Tested: they take memory by malloc, realloc and free alone, give all of it back, and take 192 KB of stack, and 340 KB for
+ * pictures wider than 4096 columns; leave some room beside that (docs/C.md).
+ *
+ * Callers see to it that pointers lead to as many bytes as their lengths say, that the buffers of one call don't overlap, and
+ * that no call is made from a signal handler. A buffer of length 0 may be NULL, and the structs may not.
  */
 #ifndef JRI_H
 #define JRI_H
@@ -45,7 +50,10 @@ enum {
     JRI_END_OF_FILE = 5    /* the end of the file */
 };
 
-/* What a file's head says of its picture. With another answer than JRI_SOUND the refusal's two numbers, and 0 for all else. */
+/*
+ * What a file's head says of its picture. Tested: with another answer than JRI_SOUND all but the refusal's two numbers is 0, and
+ * with JRI_SOUND these two are.
+ */
 struct jri_measure {
     uint32_t width;      /* in pixels, 1 to 65535 */
     uint32_t height;     /* in lines, 1 to 65535 */
@@ -57,7 +65,10 @@ struct jri_measure {
     uint64_t detail;     /* what the refusal tells beside its number: an offset or a marker's code */
 };
 
-/* What a decoding tells. Without a picture the refusal's two numbers, where there is one, and 0 for all else. */
+/*
+ * What a decoding tells. Tested: without a picture all but the refusal's two numbers is 0, and so is with a picture what its end
+ * of the scan doesn't speak of.
+ */
 struct jri_report {
     uint32_t intervals; /* how many restart intervals there are */
     uint32_t sound;     /* how many have a decoding */
@@ -71,43 +82,57 @@ struct jri_report {
     uint64_t detail;    /* what the refusal tells beside its number: an offset or a marker's code */
 };
 
-/* The number of the library's calls, JRI_VERSION where this header is its own. */
+/* Proved: the number of the library's calls, JRI_VERSION where this header is its own. */
 uint32_t jri_version(void);
 
 /*
- * Reads a file's head and decodes nothing: with JRI_SOUND `measure` has what the head says, with JRI_REFUSED the file's
- * first fault, and the only further answer is JRI_NO_MEMORY.
+ * Reads a file's head and decodes nothing.
+ *
+ * Proved: with JRI_SOUND `measure` has what the head says, with JRI_REFUSED the number and detail of the file's first fault, and
+ * the only further answer is JRI_NO_MEMORY. Tested: that is answered only where memory was refused.
  */
 uint32_t jri_measure(const uint8_t *file, size_t file_length, struct jri_measure *measure);
 
 /*
- * Decodes a file: with JRI_SOUND and JRI_DAMAGED the first bytes of `pixels` are the lines of its picture from the top, each
- * pixel a byte of grey or one each of red, green and blue, those of `marks` are the marks of its intervals unless marks_room
- * is 0, what stands behind them is as it was, and `report` tells of both; with any other answer all of both buffers is as it
- * was, and with JRI_REFUSED `report` has the file's first fault.
+ * Decodes a file.
  *
- * A damaged interval shows its longest decodable front of whole MCUs, and then mid-grey: 128 in all components.
+ * Proved: with JRI_SOUND and JRI_DAMAGED the first bytes of `pixels` are the lines of its picture from the top, each pixel a byte
+ * of grey or one each of red, green and blue, those of `marks` are the marks of its intervals unless marks_room is 0, what stands
+ * behind them is as it was, and `report` tells of both; with any other answer all of both buffers is as it was, and with
+ * JRI_REFUSED `report` has the file's first fault. A damaged interval shows its longest decodable front of whole MCUs, and then
+ * mid-grey: 128 in all components. JRI_SOUND means that no interval is damaged, JRI_DAMAGED that one is.
+ *
+ * Tested: JRI_NO_ROOM is answered only where the pixels have less room than a measure says, or marks that were asked for, and
+ * JRI_NO_MEMORY only where memory was refused.
  */
 uint32_t jri_decode(const uint8_t *file, size_t file_length, uint8_t *pixels, size_t pixels_room, uint8_t *marks,
                     size_t marks_room, struct jri_report *report);
 
 /*
- * Decodes `count` lines of a file's picture from line `first` on, the top one being line 0: with JRI_SOUND and JRI_DAMAGED the
- * first bytes of `pixels` are these lines, as jri_decode gives them, and what stands behind them is as it was; with any other
- * answer all of the buffer is as it was, and with JRI_REFUSED `report` has the file's first fault.
+ * Decodes `count` lines of a file's picture from line `first` on, the top one being line 0. It takes memory for the scan and for
+ * one row of MCUs, whose height is 8, 16, 24 or 32 lines, and none for the picture.
  *
- * It takes memory for the scan and for one row of MCUs, whose height is 8, 16, 24 or 32 lines, and none for the picture. The
- * report's sound and damaged count the intervals that end in the rows of MCUs that have these lines, and JRI_DAMAGED means
- * that one of them has no decoding; so over calls that share no row of MCUs and leave out none they add up to those of
- * jri_decode. Each call reads the file anew, and the interval before the lines from its start: a file without restart markers
- * is read from its first line on, so such a picture is best asked for in few calls of many lines each.
+ * Proved: with JRI_SOUND and JRI_DAMAGED the first bytes of `pixels` are these lines of the picture, as jri_decode gives them, and
+ * what stands behind them is as it was; with any other answer all of the buffer is as it was, and with JRI_REFUSED `report` has
+ * the file's first fault. The report's sound and damaged count the intervals that end in the rows of MCUs that have these lines,
+ * and JRI_DAMAGED means that one of them has no decoding; so over calls that share no row of MCUs and leave out none they add up
+ * to those of jri_decode.
+ *
+ * Tested: JRI_NO_LINES is answered where the picture has not all of these lines, or none were asked for, and only there;
+ * JRI_NO_ROOM only where the pixels have too little room for them, and JRI_NO_MEMORY only where memory was refused.
+ *
+ * Each call reads the file anew, and the interval before the lines from its start: a file without restart markers is read from its
+ * first line on, so such a picture is best asked for in few calls of many lines each.
  */
 uint32_t jri_decode_lines(const uint8_t *file, size_t file_length, uint32_t first, uint32_t count, uint8_t *pixels,
                           size_t pixels_room, struct jri_report *report);
 
 /*
- * Puts the words for a refusal, by its number and detail, into the first bytes of `text`, as many as it has room for (all
- * fit 64) and with no 0 behind them, and gives how many it has put: none where there is no refusal of that number.
+ * Puts the words for a refusal, by its number and detail, into the first bytes of `text`, as many as it has room for and with no
+ * 0 behind them, and gives how many it has put.
+ *
+ * Proved: some where a refusal has that number and the text has room, none where no refusal has it, and no more than there is room
+ * for; what stands behind them is as it was. Tested: the words, which all fit 64 bytes.
  */
 uint64_t jri_refusal_text(uint32_t refusal, uint64_t detail, uint8_t *text, size_t text_room);
 

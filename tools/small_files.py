@@ -66,6 +66,21 @@ def claims(height, width, intervals):
 SOUND = two_greys("63 FF D0 63")
 DAMAGED = two_greys("63 FF D0 E0")
 
+def code_tables(counts, number):
+    """DHT segments with so many code tables of class 1 and destination 3, which no scan of these files names."""
+    table = bytes([0x13]) + bytes(counts) + bytes(sum(counts))
+    a_segment = 65533 // len(table)
+    for left in range(number, 0, -a_segment):
+        tables = table * min(left, a_segment)
+        yield bytes.fromhex("FF C4 %04X" % (2 + len(tables))) + tables
+
+
+def behind_tables(counts, number):
+    """A grey picture of 8 by 8 pixels behind so many code tables, counts[i] words of i + 1 bits in each."""
+    head = START + b"".join(code_tables(counts, number)) + QUANTISERS + grey_frame(8, 8) + dc_table(0, 3, 5) + AC_TABLE
+    return head + GREY_SCAN + bytes.fromhex("63") + END
+
+
 FILES = [
     File("two intervals", SOUND, b"P5\n16 8\n255\n" + bytes([136] * 128), report(2)),
     File("a damaged interval", DAMAGED, b"P5\n16 8\n255\n" + bytes([136] * 8 + [128] * 8) * 8, report(1, 1), 3),

@@ -17,7 +17,7 @@
 #include <string.h>
 #include <sys/mman.h>
 
-enum { MORE = 100, FILL = 7, THREADS = 8, TIMES = 3, OF_TEXT = 64, PAGE = 65536 };
+enum { MORE = 100, FILL = 7, THREADS = 8, TIMES = 3, OF_TEXT = 64, REFUSALS = 19, PAGE = 65536 };
 
 /* As many lines as a whole number of rows of MCUs has, whatever their height: 8, 16, 24 or 32. */
 enum { WHOLE_ROWS = 96 };
@@ -202,6 +202,9 @@ static void try_null(void) {
     see(jri_refusal_text(3, 18446744073709551615u, text, OF_TEXT) == 46, &none, "a long text");
     see(!memcmp(text, "expected a marker at byte 18446744073709551615", 46), &none, "a long text's words");
     see(jri_refusal_text(1, 0, text, 5) == 5 && !memcmp(text, "not ated a marker", 17), &none, "a text without room");
+    uint8_t long_text[OF_TEXT + MORE];
+    for (uint32_t refusal = 1; refusal <= REFUSALS; refusal++)
+        see(jri_refusal_text(refusal, UINT64_MAX, long_text, sizeof long_text) <= OF_TEXT, &none, "a text of more than 64 bytes");
 }
 
 static void read_file(struct trial *t) {
