@@ -1,8 +1,8 @@
 -- The windows that begin with a word, and the words of one length.
-use Rattle.std.proofs.Common.{◌≡◌, ◌≢◌, ℕ, ◌+◌, ◌-◌, ◌*◌, ◌/◌, ◌%◌, ◌^◌, ◌<◌, ◌≤◌, Bool, List, [], ◌++◌, length, drop, take, get_or, replicate, refl, sym, ◌∙◌, ap, arith, subst, length-append, ⊎_elim, get_or-set_same, get_or-set_other}
-use Rattle.std.specs.Prelude.{slice_get, slice_index_or, slice_set, Option, Some, None, IfSome, sum}
+use Rattle.std.proofs.Common.{◌≡◌, ◌≢◌, ℕ, ◌+◌, ◌-◌, ◌*◌, ◌/◌, ◌^◌, ◌<◌, ◌≤◌, Bool, List, [], length, drop, take, get_or, replicate, refl, sym, ◌∙◌, ap, arith, subst, length-append, ⊎_elim, get_or-set_same, get_or-set_other}
+use Rattle.std.specs.Prelude.{slice_get, slice_index_or, slice_set, Option, Some, None, sum}
 use Rattle.std.proofs.lemmas.Nat.{pow-add, pow_pos, shr_high, shr_below}
-use Rattle.std.proofs.lemmas.Bool.{cases_lt, cases_eq}
+use Rattle.std.proofs.lemmas.Bool.{cases_eq}
 use Rattle.std.proofs.lemmas.Option.{slice_get_within}
 use Rattle.std.proofs.lemmas.List.{get_or-replicate, length-take, length-take-le, append-nil, take_all, take-append-drop, take_at}
 use Rattle.std.proofs.Math.Nat.{mul_comm, mul-div_left, mul-le-mul_right, le_of_mul-le-mul_right, add-mul, mod-eq_of_lt}
@@ -11,7 +11,7 @@ use Rattle.jr_code.specs.Code.{Table, IsWord, IsLawfulTable, IsEntryTo, AreEntri
 use Rattle.jr_code.specs.declared.packed.Packed.{Packed}
 use Rattle.jr_code.proofs.BitLemmas.{length-bits_of, number-bits_of, slice_get-append_left, slice_get-append_right}
 use Rattle.jr_code.proofs.RegisterLemmas.{take-held}
-use Rattle.jr_code.proofs.CodeLemmas.{lengths-append, space-append, room_halves, room_all, room_pos, same_times, spelled}
+use Rattle.jr_code.proofs.CodeLemmas.{lengths-append, space-append, room_all, room_pos, same_times, spelled}
 use Rattle.jr_code.proofs.ReadLemmas.{word_found, word_not_empty, full_more}
 
 -- so many of the windows of n bits begin with a word

@@ -1,9 +1,9 @@
 -- A word and its extra bits, read together.
-use Rattle.std.proofs.Common.{◌≡◌, ℕ, ◌+◌, ◌-◌, ◌*◌, ◌/◌, ◌%◌, ◌^◌, ◌∷◌, ◌<◌, ◌≤◌, Bool, List, [], ◌++◌, length, take, drop, refl, sym, ◌∙◌, ap, subst, arith, length-append, append_assoc, ⊎_elim, inl, inr}
+use Rattle.std.proofs.Common.{◌≡◌, ℕ, ◌+◌, ◌-◌, ◌/◌, ◌%◌, ◌^◌, ◌<◌, ◌≤◌, Bool, List, [], ◌++◌, length, take, drop, refl, sym, ◌∙◌, ap, subst, arith, length-append, append_assoc, ⊎_elim, inl, inr}
 use Rattle.std.specs.Prelude.{◌⊎◌, Option, Some, None, IsSome, IfSome, ℤ}
 use Rattle.std.proofs.lemmas.Bool.{cases_lt}
 use Rattle.std.proofs.lemmas.List.{append-nil, append_cancel_left, drop-append-le, drop-drop, length-drop, length-take-le, take-append-drop, take-append-le, take_at}
-use Rattle.jr_code.specs.Bits.{bits, bits_of, extend, number, window_of, value}
+use Rattle.jr_code.specs.Bits.{bits_of, extend, number, window_of, value}
 use Rattle.jr_code.specs.Code.{Table, IsWord, IsPair, IsPrefixFree, HasNoFirstWord, HasNoExtended, TakesExtended}
 use Rattle.jr_code.specs.declared.words.Extended.{Extended}
 use Rattle.jr_code.proofs.BitLemmas.{length-bits_of, number-bits_of}
@@ -32,23 +32,6 @@ taken_more t bs more s n v fits x = record {
   split = ap (λ b. b ++ more) x.split ∙ append_assoc x.word (x.extra ++ drop n bs) more ∙ ap (λ b. x.word ++ b) (append_assoc x.extra (drop n bs) more)
       ∙ ap (λ b. x.word ++ (x.extra ++ b)) (sym (drop-append-le n bs more fits));
 }
-
--- what is in front of all, and within the first bits, is in front of these
-taken_less : (t : Table) (bs more : List Bool) (s n : ℕ) (v : ℤ) → n ≤ length bs → TakesExtended t s v (bs ++ more) (drop n (bs ++ more)) → TakesExtended t s v bs (drop n bs)
-taken_less t bs more s n v fits x =
-    let rest = drop n (bs ++ more) in
-    let long : length (x.word ++ x.extra) ≡ n =
-    omega (arith, fits, ap length x.split, length-append x.word (x.extra ++ rest), length-append x.extra rest, length-append x.word x.extra, length-append bs more, length-drop n (bs ++ more)) in
-    let front : take n bs ≡ x.word ++ x.extra =
-    sym (take-append-le n bs more fits) ∙ ap (λ b. take n b) (x.split ∙ sym (append_assoc x.word x.extra rest)) ∙ take_at (x.word ++ x.extra) rest n long in
-    record {
-      word = x.word;
-      extra = x.extra;
-      is = x.is;
-      count = x.count;
-      value_is = x.value_is;
-      split = sym (take-append-drop n bs) ∙ ap (λ b. b ++ drop n bs) front ∙ append_assoc x.word x.extra (drop n bs);
-    }
 
 -- a word in front of ten bits, and its extra bits, where these hold both
 pub pair_held : (t : Table) (w s n m : ℕ) (v : ℤ) → IsWord t (take n (bits_of 10 w)) s → m ≡ s % 16 → n + m ≤ 10 → v ≡ extend m (w / 2 ^ (10 - (n + m)) % 2 ^ m)

@@ -1,8 +1,6 @@
 //! Code tables as a file defines them.
 
 ghost use Rattle.std.specs.Prelude.{◌≡◌, ◌≢◌, ◌≤◌, ◌↔◌, IsTrue, length, IfOk, OnOk, sum};
-ghost use Rattle.std.proofs.Common.{rules};
-ghost use Rattle.std.specs.Cmp.Rules.{comparing};
 ghost use Rattle.jr_code.specs.Code.{same_table, IsLawfulTable, IsOverfull, space, lengths};
 
 use crate::book::CodeBook;
@@ -25,8 +23,8 @@ pub enum CodeFault {
     Memory,
 }
 
-/// A code table (T.81, Annex C) as it is defined: counts of words by length, and a symbol for each word. What is read by is a
-/// book of it, which takes a hundred times longer to make. Two are equal where their counts and symbols are.
+/// A code table (T.81, Annex C) as it is defined: counts of words by length, and a symbol for each word. What is read
+/// by is a book of it, which takes a hundred times longer to make.
 #[derive(Drop)]
 pub struct CodeTable {
     pub(crate) counts: [u8; 16],
@@ -41,16 +39,6 @@ impl Model for CodeTable {
     ghost view = { λ b. record { counts = b.counts; symbols = b.symbols.items } };
 
     ghost invariant = { λ b. IsLawfulTable b.counts b.symbols.items };
-}
-
-impl PartialEq for CodeTable {
-    ghost eq = { same_table };
-
-    ghost laws = { Prim.search (comparing, rules) };
-
-    fn eq(&self, other: &CodeTable) -> bool {
-        self.is_same(other)
-    }
 }
 
 impl CodeTable {
@@ -87,14 +75,14 @@ impl CodeTable {
     }
 
     /// What holds of every table, for callers that rest on it: it is lawful (T.81, Annex C).
-    pub fn be_lawful(&self)
+    pub(crate) fn be_lawful(&self)
         ensures { IsLawfulTable self.now.counts self.now.symbols }
     {
         let _ = &self.counts;
     }
 
     /// Whether both have the same counts and symbols.
-    pub fn is_same(&self, other: &CodeTable) -> bool
+    pub(crate) fn is_same(&self, other: &CodeTable) -> bool
         ensures tells { result ≡ same_table self.now other.now }
         ensures same { IsTrue result ↔ (self.now ≡ other.now) }
     {

@@ -1,4 +1,4 @@
-use Rattle.std.proofs.Common.{ℕ, ◌≡◌, ◌≤◌, ◌<◌, ◌+◌, length}
+use Rattle.std.proofs.Common.{ℕ, ◌≡◌, ◌≤◌, ◌<◌, length}
 use Rattle.std.specs.Prelude.{slice_index_or, Some, None}
 use Rattle.jr_code.proofs.words.enter_word.Given as goal
 

@@ -1,7 +1,5 @@
-use Rattle.std.proofs.Common.{ℕ, ◌≡◌, ◌≢◌, ◌<◌, ◌+◌, ◌-◌, ◌/◌, ◌^◌, length, get_or, arith, rules, subst, refl}
-use Rattle.std.specs.Prelude.{slice_index_or, None}
+use Rattle.std.proofs.Common.{◌≡◌, ◌+◌, length, get_or, arith, rules}
 use Rattle.std.proofs.lemmas.Option.{slice_get-get_or}
-use Rattle.jr_code.specs.Code.{AreEntriesTo}
 use Rattle.jr_code.proofs.EntryLemmas.{entries_more, passed_more, entries_next}
 use Rattle.jr_code.proofs.table.CodeTable.enter_words.Goals as goal
 
