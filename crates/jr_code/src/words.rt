@@ -19,10 +19,6 @@ pub(crate) struct Extended {
 }
 
 impl CodeTable {
-    ghost use Rattle.std.specs.Prelude.{◌≡◌, ◌≢◌, ◌<◌, ◌≤◌, ◌+◌, ◌-◌, ◌*◌, ◌/◌, ◌%◌, ◌^◌, ℕ, List, Bool, Some, None, slice_get, slice_index_or, length, IfSome, IfNone, take, sum};
-    ghost use Rattle.jr_code.specs.Bits.{bits_of, number};
-    ghost use Rattle.jr_code.specs.Code.{Table, IsWord, HasShortWordsOnly, AreEntries, AreEntriesTo, ArePairs, IsPair, AreLong, room, space, lengths};
-
     /// What each byte looks up: the symbol and length of the word of at most eight bits that it begins with.
     pub(crate) fn entries(&self) -> [Option<(u8, u8)>; 256]
         ensures { AreEntries self.now result }

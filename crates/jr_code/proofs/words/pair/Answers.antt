@@ -1,6 +1,5 @@
-use Rattle.std.proofs.Common.{◌≡◌, ◌+◌, ◌-◌, ◌/◌, ◌%◌, ◌^◌, ◌*◌, ◌∙◌, ap, arith, refl, w16, w32}
+use Rattle.std.proofs.Common.{◌≡◌, ◌+◌, ◌-◌, ◌/◌, ◌%◌, ◌^◌, arith, refl, w16, w32}
 use mir.Val.{SFits}
-use Rattle.std.specs.Prelude.{bit_and}
 use Rattle.std.proofs.lemmas.Int.{to_z-of_z, ints}
 use Rattle.jr_code.specs.Bits.{extend}
 use Rattle.jr_code.proofs.RegisterLemmas.{masked}
@@ -14,6 +13,6 @@ returns c = λ t w.
     let extra = c.args.window / 2 ^ (10 - (c.args.long + c.args.symbol % 16)) in
     let f32 : SFits w32 v = omega (arith, ints, c.extend.ensures.least, c.extend.ensures.greatest) in
     let f16 : SFits w16 v = omega (arith, ints, c.extend.ensures.least, c.extend.ensures.greatest) in
-    let is : v ≡ extend m (extra % 2 ^ m) =
-    c.extend.ensures.value ∙ ap (λ n. extend n (bit_and extra (1 * 2 ^ (c.args.symbol % 16) % 2 ^ 64 - 1))) c.from.ensures ∙ ap (λ x. extend m x) (masked extra m (omega arith)) in
+    let front = masked extra m (omega arith) in
+    let is : v ≡ extend m (extra % 2 ^ m) = grind (arith, front, c.extend.ensures.value, c.from.ensures) in
     rw (to_z-of_z w32 v f32, to_z-of_z w16 v f16) (pair_held t c.args.window c.args.symbol c.args.long m v w refl c.requires.held is)
