@@ -213,7 +213,7 @@ room_inside a z h =
     let e : 16 - a ≡ z + (16 - (a + z)) = omega arith in
     ap (λ n. 2 ^ n) e ∙ pow-add 2 z (16 - (a + z))
 
-room_all : (l : ℕ) → l ≤ 16 → 65536 ≡ 2 ^ l * room l
+pub room_all : (l : ℕ) → l ≤ 16 → 65536 ≡ 2 ^ l * room l
 room_all l h =
     let e : 0 + l ≡ l = omega arith in
     room_inside 0 l (omega arith) ∙ ap (λ n. 2 ^ l * room n) e

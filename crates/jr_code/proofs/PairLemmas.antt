@@ -1,13 +1,13 @@
 -- A word and its extra bits, read together.
-use Rattle.std.proofs.Common.{◌≡◌, ℕ, ◌+◌, ◌*◌, ◌/◌, ◌%◌, ◌^◌, ◌∷◌, ◌<◌, ◌≤◌, Bool, List, [], ◌++◌, length, take, drop, refl, sym, ◌∙◌, ap, subst, arith, length-append, append_assoc, ⊎_elim, inl, inr}
+use Rattle.std.proofs.Common.{◌≡◌, ℕ, ◌+◌, ◌-◌, ◌/◌, ◌%◌, ◌^◌, ◌<◌, ◌≤◌, Bool, List, [], ◌++◌, length, take, drop, refl, sym, ◌∙◌, ap, subst, arith, length-append, append_assoc, ⊎_elim, inl, inr}
 use Rattle.std.specs.Prelude.{◌⊎◌, Option, Some, None, IsSome, IfSome, ℤ}
 use Rattle.std.proofs.lemmas.Bool.{cases_lt}
 use Rattle.std.proofs.lemmas.List.{append-nil, append_cancel_left, drop-append-le, drop-drop, length-drop, length-take-le, take-append-drop, take-append-le, take_at}
-use Rattle.jr_code.specs.Bits.{bits, bits_of, window_of, value}
+use Rattle.jr_code.specs.Bits.{bits_of, extend, number, window_of, value}
 use Rattle.jr_code.specs.Code.{Table, IsWord, IsPair, IsPrefixFree, HasNoFirstWord, HasNoExtended, TakesExtended}
 use Rattle.jr_code.specs.declared.words.Extended.{Extended}
-use Rattle.jr_code.proofs.BitLemmas.{length-bits_of}
-use Rattle.jr_code.proofs.RegisterLemmas.{bits_of-split, bits_of-mod}
+use Rattle.jr_code.proofs.BitLemmas.{length-bits_of, number-bits_of}
+use Rattle.jr_code.proofs.RegisterLemmas.{drop-held, take-held}
 
 -- a word of n bits, and m extra bits behind it
 pub taken_apart : (t : Table) (bs : List Bool) (s n m : ℕ) (v : ℤ) → IsWord t (take n bs) s → m ≡ s % 16 → m ≤ length (drop n bs) → v ≡ value (take m (drop n bs))
@@ -33,42 +33,21 @@ taken_more t bs more s n v fits x = record {
       ∙ ap (λ b. x.word ++ (x.extra ++ b)) (sym (drop-append-le n bs more fits));
 }
 
--- what is in front of all, and within the first bits, is in front of these
-taken_less : (t : Table) (bs more : List Bool) (s n : ℕ) (v : ℤ) → n ≤ length bs → TakesExtended t s v (bs ++ more) (drop n (bs ++ more)) → TakesExtended t s v bs (drop n bs)
-taken_less t bs more s n v fits x =
-    let rest = drop n (bs ++ more) in
-    let long : length (x.word ++ x.extra) ≡ n =
-    omega (arith, fits, ap length x.split, length-append x.word (x.extra ++ rest), length-append x.extra rest, length-append x.word x.extra, length-append bs more, length-drop n (bs ++ more)) in
-    let front : take n bs ≡ x.word ++ x.extra =
-    sym (take-append-le n bs more fits) ∙ ap (λ b. take n b) (x.split ∙ sym (append_assoc x.word x.extra rest)) ∙ take_at (x.word ++ x.extra) rest n long in
-    record {
-      word = x.word;
-      extra = x.extra;
-      is = x.is;
-      count = x.count;
-      value_is = x.value_is;
-      split = sym (take-append-drop n bs) ∙ ap (λ b. b ++ drop n bs) front ∙ append_assoc x.word x.extra (drop n bs);
-    }
-
--- two bytes that begin with the ten bits of w
-ten_bits : (w : ℕ) → bits (w / 4 ∷ w % 4 * 64 ∷ []) ≡ bits_of 10 w ++ bits_of 6 (w % 4 * 64)
-ten_bits w =
-    let low = w % 4 * 64 in
-    let split : bits_of 8 (w % 4 * 64) ≡ bits_of 2 (w % 4 * 64 / 2 ^ 6) ++ bits_of 6 (w % 4 * 64) = bits_of-split 2 6 low in
-    let back : w % 4 * 64 / 2 ^ 6 ≡ w % 2 ^ (0 + 2) = omega arith in
-    let two : bits_of 2 (w % 4 * 64 / 2 ^ 6) ≡ bits_of 2 w = ap (λ n. bits_of 2 n) back ∙ bits_of-mod 0 2 w in
-    let ten : bits_of 10 w ≡ bits_of 8 (w / 4) ++ bits_of 2 w = bits_of-split 8 2 w in
-    ap (λ b. bits_of 8 (w / 4) ++ b) (append-nil (bits_of 8 (w % 4 * 64)) ∙ split ∙ ap (λ b. b ++ bits_of 6 (w % 4 * 64)) two)
-    ∙ sym (append_assoc (bits_of 8 (w / 4)) (bits_of 2 w) (bits_of 6 (w % 4 * 64)))
-    ∙ ap (λ b. b ++ bits_of 6 (w % 4 * 64)) (sym ten)
-
--- what the reader finds in two bytes, and within their first ten bits, is the pair of these
-pub pair_read : (t : Table) (w s n m : ℕ) (v : ℤ) (bs : List Bool) → bs ≡ bits (w / 4 ∷ w % 4 * 64 ∷ []) → IsWord t (take n bs) s → m ≡ s % 16 → m ≤ length (drop n bs)
-    → v ≡ value (take m (drop n bs)) → n + m ≤ 10 → TakesExtended t s v (bits_of 10 w) (drop (n + m) (bits_of 10 w))
-pair_read t w s n m v bs e is size enough is_value short =
-    let same : bs ≡ bits_of 10 w ++ bits_of 6 (w % 4 * 64) = e ∙ ten_bits w in
-    let both : TakesExtended t s v bs (drop (n + m) bs) = taken_apart t bs s n m v is size enough is_value in
-    taken_less t (bits_of 10 w) (bits_of 6 (w % 4 * 64)) s (n + m) v (omega (arith, short, length-bits_of 10 w)) (subst (λ b. TakesExtended t s v b (drop (n + m) b)) same both)
+-- a word in front of ten bits, and its extra bits, where these hold both
+pub pair_held : (t : Table) (w s n m : ℕ) (v : ℤ) → IsWord t (take n (bits_of 10 w)) s → m ≡ s % 16 → n + m ≤ 10 → v ≡ extend m (w / 2 ^ (10 - (n + m)) % 2 ^ m)
+    → (n + m ≤ 10) × TakesExtended t s v (bits_of 10 w) (drop (n + m) (bits_of 10 w))
+pair_held t w s n m v is size short is_value =
+    let behind = 10 - n in
+    let all : bits_of 10 w ++ [] ≡ bits_of 10 w = append-nil (bits_of 10 w) in
+    let left : drop n (bits_of 10 w) ≡ bits_of (10 - n) w ++ [] = ap (λ b. drop n b) (sym all) ∙ sym (drop-held n 10 w [] (omega arith)) in
+    let e : 10 - n - m ≡ 10 - (n + m) = omega arith in
+    let extra : take m (drop n (bits_of 10 w)) ≡ bits_of m (w / 2 ^ (10 - (n + m))) =
+    ap (λ b. take m b) left ∙ take-held m (10 - n) w [] (omega arith) ∙ ap (λ k. bits_of m (w / 2 ^ k)) e in
+    let enough : m ≤ length (drop n (bits_of 10 w)) = omega (arith, length-drop n (bits_of 10 w), length-bits_of 10 w) in
+    let value_is : v ≡ value (take m (drop n (bits_of 10 w))) =
+    is_value ∙ sym (ap value extra ∙ ap (λ l. extend l (number (bits_of m (w / 2 ^ (10 - (n + m)))))) (length-bits_of m (w / 2 ^ (10 - (n + m))))
+    ∙ ap (λ x. extend m x) (number-bits_of m (w / 2 ^ (10 - (n + m))))) in
+    (short, taken_apart t (bits_of 10 w) s n m v is size enough value_is)
 
 -- what is packed of a pair is a pair
 pub pair_packed : (t : Table) (w : ℕ) (looked_up packed : Option Extended) → IfSome packed (λ e. looked_up ≡ Some e) → IsPair t w looked_up → IsPair t w packed

@@ -1,5 +1,5 @@
--- How the words of a code table are read: bit by bit, by a window of eight bits, and by length.
-use Rattle.std.proofs.Common.{false, ◌≢◌, ◌≡◌, ℕ, ◌+◌, ◌-◌, ◌*◌, ◌/◌, ◌%◌, ◌^◌, ◌<◌, ◌≤◌, Bool, List, [], ◌++◌, length, drop, take, get_or, replicate, refl, sym, ◌∙◌, ap, arith, length-append, lit<, ⊎_elim, subst}
+-- How the words of a code table are read: by a window of eight bits, and by length.
+use Rattle.std.proofs.Common.{false, ◌≡◌, ℕ, ◌+◌, ◌-◌, ◌*◌, ◌/◌, ◌%◌, ◌^◌, ◌<◌, ◌≤◌, Bool, List, [], ◌++◌, length, drop, take, get_or, replicate, refl, sym, ◌∙◌, ap, arith, length-append, lit<, ⊎_elim, subst}
 use Rattle.std.specs.Prelude.{◌⊎◌, slice_get, Option, Some, None, IfSome, IfNone, sum}
 use Rattle.std.proofs.lemmas.Bool.{cases_order}
 use Rattle.std.proofs.lemmas.Nat.{mul-le, shr_below}
@@ -9,11 +9,11 @@ use Rattle.std.proofs.lemmas.Option.{slice_get_read}
 use Rattle.std.proofs.Math.Nat.{mul_assoc, mul_comm, le-mul_of_pos_right, pow-le-pow_right, mod-eq_of_lt}
 use Rattle.jr_code.specs.Bits.{number, bits_of, window_of}
 use Rattle.jr_code.specs.Code.{IsEntry, Table, HasNoFirstWord, IsFirstWordWhereWhole, IsWord, IsLawfulTable, lengths_from, lengths, room, space}
-use Rattle.jr_code.proofs.BitLemmas.{number-take_zero, length-bits_of, number-bits_of}
+use Rattle.jr_code.proofs.BitLemmas.{length-bits_of, number-bits_of}
 use Rattle.jr_code.proofs.RegisterLemmas.{take-held}
-use Rattle.jr_code.proofs.CodeLemmas.{lengths-append, space-append, space_more, stands, found, room_halves, doubled, space-nil, whole, room_pos, div_room, same_times, spelled, one_word}
+use Rattle.jr_code.proofs.CodeLemmas.{lengths-append, space-append, space_more, stands, room_halves, doubled, whole, room_pos, div_room, same_times, spelled, one_word}
 
--- ---- bit by bit
+-- ---- the words of one length
 
 -- code is the number of the first i + 1 bits; end is past the greatest word of i bits
 pub word_found : (t : Table) (bs : List Bool) (i code end k s : ℕ) → i < 16 → i < length t.counts → i < length bs
@@ -50,10 +50,6 @@ none_here t bs word rest i code end s full is past w begins longer =
 pub word_not_empty : (t : Table) (word : List Bool) (s : ℕ) → IsWord t word s → 0 < length word
 word_not_empty t word s w = omega (arith, (spelled t word s w).2.long)
 
--- a word that begins what is left is no longer than that
-pub word_fits : (t : Table) (bs word rest : List Bool) (s : ℕ) → bs ≡ word ++ rest → length word ≤ length bs
-word_fits t bs word rest s e = omega (arith, ap length e, length-append word rest)
-
 -- the symbol at a word's place
 pub known_there : (t : Table) (symbols : List ℕ) (i k at s : ℕ) → symbols ≡ t.symbols → sum t.counts ≡ length t.symbols → i < length t.counts
     → k < get_or t.counts i 0 → at ≡ sum (take i t.counts) + k → s ≡ get_or symbols at s → slice_get t.symbols (sum (take i t.counts) + k) ≡ Some s
@@ -80,24 +76,6 @@ shifted count i small h =
     let same : count * 2 ^ (15 - i) ≡ count * room (i + 1) = ap (λ n. count * 2 ^ n) e in
     let le : count * 2 ^ (15 - i) ≤ 255 * 2 ^ 15 = mul-le count (2 ^ (15 - i)) 255 (2 ^ 15) small pow in
     (mod-eq_of_lt (omega arith) ∙ same, omega arith)
-
--- the reader has gone over i bits of code, and no word of them is in front; end is past the greatest word of i bits,
--- index the number of words of at most i bits
-pub record Reached (t : Table) (bs : List Bool) (i code end index : ℕ) : Type 0 where
-  pub code_is : number (take i bs) ≡ code
-  pub full : end * room i ≡ space (lengths (take i t.counts))
-  pub index_is : index ≡ sum (take i t.counts)
-  pub enough : i ≤ length bs
-  pub none : (word rest : List Bool) (s : ℕ) → IsWord t word s → bs ≡ word ++ rest → i < length word
-
-pub reached_none : (t : Table) (bs : List Bool) → Reached t bs 0 0 0 0
-reached_none t bs = record {
-  code_is = number-take_zero bs;
-  full = sym space-nil;
-  index_is = refl;
-  enough = omega arith;
-  none = λ word rest s w e. word_not_empty t word s w;
-}
 
 -- ---- windows: the next n bits, where zeros stand for those that are missing
 
@@ -234,12 +212,3 @@ end_below t i end lawful full =
     ap (λ c. space (lengths c)) (sym (take-append-drop i t.counts)) ∙ ap space (lengths-append 1 (take i t.counts) (drop i t.counts))
     ∙ space-append (lengths (take i t.counts)) (lengths_from (1 + length (take i t.counts)) (drop i t.counts)) in
     omega (arith, lawful.roomy, le-mul_of_pos_right end (room_pos i))
-
--- what the reader finds in a byte alone is its entry
-pub entry_read : (t : Table) (byte : ℕ) (bs : List Bool) (r : Option (ℕ × ℕ)) → bs ≡ bits_of 8 byte ++ []
-    → IfSome r (λ f. (f.1 ≤ length bs) × IsWord t (take f.1 bs) f.0)
-    → IfNone r ((word rest : List Bool) (s : ℕ) → IsWord t word s → bs ≢ word ++ rest) → IsEntry t byte r
-entry_read t byte bs None e found none = rw (e ∙ append-nil (bits_of 8 byte)) at none
-entry_read t byte bs (Some f) e found none =
-    let same : bs ≡ bits_of 8 byte = e ∙ append-nil (bits_of 8 byte) in
-    (omega (arith, found.0, ap length same, length-bits_of 8 byte), rw same at found.1)

@@ -1,6 +1,6 @@
 -- The bits of a register: what a word behind it, a front of it and a rest of it are.
-use Rattle.std.proofs.Common.{false, ◌≡◌, ℕ, zero, suc, ◌+◌, ◌-◌, ◌*◌, ◌/◌, ◌%◌, ◌^◌, ◌<◌, ◌≤◌, ◌==◌, Bool, List, [], ◌∷◌, ◌++◌, length, drop, take, get_or, replicate, refl, sym, ◌∙◌, ap, arith, length-append}
-use Rattle.std.specs.Prelude.{slice_get, Some, bit_and, bit_or}
+use Rattle.std.proofs.Common.{false, ◌≡◌, ℕ, zero, suc, ◌+◌, ◌-◌, ◌*◌, ◌/◌, ◌%◌, ◌^◌, ◌<◌, ◌≤◌, ◌==◌, List, [], ◌∷◌, ◌++◌, length, drop, take, get_or, replicate, refl, sym, ◌∙◌, ap, arith, length-append}
+use Rattle.std.specs.Prelude.{bit_and, bit_or}
 use Rattle.std.specs.Int.{w32, from_be_bytes}
 use Rattle.std.proofs.lemmas.Nat.{and_mask, mod-pow-add, or_shifted, shl-shr, shr_high, mod_low, pow_pos, one_shl}
 use Rattle.std.proofs.lemmas.List.{append_assoc, append-nil, take_at, take_all, take-append-le, take-replicate}
@@ -9,7 +9,7 @@ use Rattle.std.proofs.Math.Pow.{mod-mod-pow}
 use Rattle.std.proofs.Math.Nat.{mul-mod_left, mod-eq_of_lt}
 use Rattle.std.proofs.Math.Seq.{take-append-add, drop-append_seam}
 use Rattle.jr_code.specs.Bits.{number, bits_of, bits, window_of}
-use Rattle.jr_code.proofs.BitLemmas.{same_bits, length-bits_of, length-bits, number-bits_of, number-append, bits_of-number, slice_get-bits_of, slice_get-append_left, slice_get-append_right}
+use Rattle.jr_code.proofs.BitLemmas.{same_bits, length-bits_of, length-bits, number-bits_of, number-append, bits_of-number}
 
 -- bits are those of the number below 2 ^ k
 pub bits_of-congr : (k m n : ℕ) → m % 2 ^ k ≡ n % 2 ^ k → bits_of k m ≡ bits_of k n
@@ -147,15 +147,6 @@ window_cut n count held rest short h none =
     ∙ ap (λ m. take m (bits_of count held ++ replicate n false)) past
     ∙ take-append-add (bits_of count held) (replicate n false) k
     ∙ ap (λ t. bits_of count held ++ t) (take-replicate k n false (omega arith)))
-
--- a bit of what is left, in the register or behind it
-pub bit_held : (count held i : ℕ) (rest : List ℕ) → i < count → slice_get (bits_of count held ++ bits rest) i ≡ Some (held / 2 ^ (count - 1 - i) % 2 == 1)
-bit_held count held i rest h =
-    slice_get-append_left (bits_of count held) (bits rest) i (omega (arith, length-bits_of count held)) ∙ slice_get-bits_of count held i h
-
-pub bit_behind : (count held i : ℕ) (rest : List ℕ) (b : Bool) → count ≤ i → slice_get (bits rest) (i - count) ≡ Some b → slice_get (bits_of count held ++ bits rest) i ≡ Some b
-bit_behind count held i rest b h e =
-    slice_get-append_right (bits_of count held) (bits rest) i (i - count) (omega (arith, length-bits_of count held)) ∙ e
 
 -- a word of the next four bytes more
 pub push_word : (count held word : ℕ) (rest after : List ℕ) → count ≤ 32 → 4 ≤ length rest → after ≡ take (length rest - 4) (drop 4 rest) → word < 2 ^ 32

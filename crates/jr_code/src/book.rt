@@ -10,31 +10,17 @@ ghost use Rattle.jr_code.specs.Register.{bits_in};
 use crate::bits::Bits;
 use crate::packed::Packed;
 use crate::register::Register;
-use crate::words::{Extended, Words};
+use crate::table::{CodeFault, CodeTable, word_count};
+use crate::words::Extended;
 use jr_base::Memory;
 use std::alloc::Global;
 use std::marker::Model;
-use thiserror::Error;
-
-/// Why counts and symbols are no code table, or why there is no room for it.
-#[derive(Debug, Drop, PartialEq, Eq, Error)]
-pub enum CodeFault {
-    /// The counts add up to over 256, or not to the number of symbols.
-    #[error("too many words, or not one symbol for each")]
-    TooMany,
-    /// The sum of `2 ^ (16 - length)` over all words is over 65536.
-    #[error("the words have no room")]
-    Overfull,
-    /// A request for memory was refused.
-    #[error("out of memory")]
-    Memory,
-}
 
 /// A code table (T.81, Annex C), read by eight bits at once and, for longer words, by length. Two are equal where their
 /// counts and symbols are.
 #[derive(Drop)]
 pub struct CodeBook {
-    pub(crate) words: Words,
+    pub(crate) table: CodeTable,
     /// By eight bits: the symbol and length of the word of at most eight bits in front.
     entries: [Option<(u8, u8)>; 256],
     /// By ten bits: the word in front and its extra bits, where both are within them.
@@ -48,9 +34,9 @@ impl Model for CodeBook {
 
     ghost Value = { Table };
 
-    ghost view = { λ b. b.words };
+    ghost view = { λ b. b.table };
 
-    ghost invariant = { λ b. AreEntries b.words b.entries × AreLong b.words b.long × ArePairs b.words b.pairs × IsLawfulTable b.words.counts b.words.symbols };
+    ghost invariant = { λ b. AreEntries b.table b.entries × AreLong b.table b.long × ArePairs b.table b.pairs × IsLawfulTable b.table.counts b.table.symbols };
 }
 
 impl PartialEq for CodeBook {
@@ -59,7 +45,7 @@ impl PartialEq for CodeBook {
     ghost laws = { Prim.search (comparing, rules) };
 
     fn eq(&self, other: &CodeBook) -> bool {
-        self.words.is_same(&other.words)
+        self.table.is_same(&other.table)
     }
 }
 
@@ -68,7 +54,7 @@ impl CodeBook {
     pub fn is_same(&self, other: &CodeBook) -> bool
         ensures { IsTrue result ↔ (self.now ≡ other.now) }
     {
-        self.words.is_same(&other.words)
+        self.table.is_same(&other.table)
     }
 
     /// The table of these counts, `counts[i]` of words of i + 1 bits, and of a symbol for each word in order (T.81, B.2.4.2
@@ -99,23 +85,14 @@ impl CodeBook {
         ensures enough { result ≢ Err CodeFault.TooMany }
         ensures overfull { (result ≡ Err CodeFault.Overfull) ↔ IsOverfull counts.now }
     {
-        let space = space_of(counts);
-        if space > 65536 {
-            return Err(CodeFault::Overfull);
-        }
-        let symbols = Vec::from_slice(alloc, symbols).map_err(|_| CodeFault::Memory)?;
-        let words = Words {
-            counts: *counts,
-            symbols,
-        };
-        Ok(CodeBook::of(words))
+        Ok(CodeBook::of(CodeTable::with_symbols(alloc, counts, symbols)?))
     }
 
     /// What holds of every book, for callers that rest on it: it is a lawful table (T.81, Annex C).
     pub fn be_lawful(&self)
         ensures { IsLawfulTable self.now.counts self.now.symbols }
     {
-        let _ = &self.words;
+        let _ = &self.table;
     }
 
     /// The same table once more.
@@ -123,22 +100,23 @@ impl CodeBook {
         ensures { IfOk result (λ b. b ≡ self.now) }
     {
         Ok(CodeBook {
-            words: self.words.try_clone()?,
+            table: self.table.try_clone()?,
             entries: self.entries,
             pairs: self.pairs,
             long: self.long,
         })
     }
 
-    fn of(words: Words) -> CodeBook
-        requires { IsLawfulTable words.counts words.symbols }
-        ensures { result ≡ words }
+    /// The book of a table.
+    pub(crate) fn of(table: CodeTable) -> CodeBook
+        ensures { result ≡ table }
     {
-        let entries = words.entries();
-        let pairs = words.pairs();
-        let long = words.long();
+        table.be_lawful();
+        let entries = table.entries();
+        let pairs = table.pairs();
+        let long = table.long();
         CodeBook {
-            words,
+            table,
             entries,
             pairs,
             long,
@@ -274,31 +252,7 @@ impl CodeBook {
     {
         match self.entries[register.window(8) as usize] {
             Some(word) => Some(word),
-            None => self.words.long_word(&self.long, register.window(16) as u16),
+            None => self.table.long_word(&self.long, register.window(16) as u16),
         }
     }
-}
-
-/// How many words there are, where `counts[i]` have i + 1 bits.
-pub fn word_count(counts: &[u8; 16]) -> u32
-    ensures value { result ≡ sum counts.now }
-    ensures few { result ≤ 4080 }
-{
-    let mut total: u32 = 0;
-    for count in counts {
-        total += u32::from(*count);
-    }
-    total
-}
-
-/// The rooms of all words together.
-fn space_of(counts: &[u8; 16]) -> u32
-    ensures { result ≡ space (lengths counts.now) }
-{
-    let mut space: u32 = 0;
-    for i in 0..16usize {
-        let count = u32::from(counts[i]);
-        space += count << (15 - i);
-    }
-    space
 }

@@ -6,9 +6,11 @@ mod book;
 mod laws;
 mod packed;
 mod register;
+mod table;
 mod words;
 
 pub use bits::Bits;
-pub use book::{CodeBook, CodeFault, word_count};
+pub use book::CodeBook;
 pub use jr_base::Memory;
 pub use laws::{each_place_has_a_word, one_word, same_table_tells};
+pub use table::{CodeFault, CodeTable, word_count};

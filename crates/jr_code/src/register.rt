@@ -1,6 +1,6 @@
 //! The bits of a byte slice, by way of a register that is refilled by whole words.
 
-ghost use Rattle.std.specs.Prelude.{◌≡◌, ◌<◌, ◌≤◌, ◌+◌, ◌*◌, ◌^◌, ◌⊎◌, ◌↔◌, length, IsSome, IfSome, drop, take, slice_get, Some, [], ◌∷◌, ◌++◌, ℕ};
+ghost use Rattle.std.specs.Prelude.{◌≡◌, ◌<◌, ◌≤◌, ◌+◌, ◌*◌, ◌^◌, ◌⊎◌, ◌↔◌, length, IsSome, IfSome, drop, take, [], ◌∷◌, ◌++◌, ℕ};
 ghost use Rattle.jr_code.specs.Bits.{bits, bits_of, number, window_of};
 
 /// The last `count` bits of `held`, and behind them those of `rest`. Other bits of `held` mean nothing.
@@ -116,19 +116,6 @@ impl<'a> Register<'a> {
             count: self.count - n,
         }
     }
-
-    /// The bit at a place of what is left.
-    pub(crate) fn bit(self, i: u64) -> bool
-        requires { i < length (bits_in self) }
-        ensures { slice_get (bits_in self.entry) i ≡ Some result }
-    {
-        let count = u64::from(self.count);
-        if i < count {
-            (self.held >> (count - 1 - i)) & 1 == 1
-        } else {
-            bit_at(self.rest, i - count)
-        }
-    }
 }
 
 /// The number of four bytes, the first counting most.
@@ -151,13 +138,4 @@ fn followed(held: u64, bytes: &[u8]) -> u64
         held = (held << 8) | u64::from(byte);
     }
     held
-}
-
-/// The bit at a place of the bytes.
-fn bit_at(bytes: &[u8], place: u64) -> bool
-    requires { place < 8 * length bytes.now }
-    ensures { slice_get (bits bytes.now) place ≡ Some result }
-{
-    let byte = bytes[(place / 8) as usize];
-    (byte >> (7 - place % 8)) & 1 == 1
 }

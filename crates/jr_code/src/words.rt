@@ -1,13 +1,12 @@
-//! The words of a code table, read bit by bit, and what a faster reader looks up.
+//! What a reader looks up, filled in by going over the words of a code table.
 
-ghost use Rattle.std.specs.Prelude.{◌≡◌, ◌<◌, ◌≤◌, ◌++◌, ◌*◌, ℕ, List, Bool, IsTrue, ◌↔◌, length, IfSome, IfNone, IfOk, take, sum};
-ghost use Rattle.jr_code.specs.Bits.{bits_of};
-ghost use Rattle.jr_code.specs.Code.{same_table, IsWord, HasNoFirstWord, HasShortWordsOnly, AreEntries, ArePairs, IsPair, AreLong, room, space, lengths};
+ghost use Rattle.std.specs.Prelude.{◌≡◌, ◌≢◌, ◌<◌, ◌≤◌, ◌+◌, ◌-◌, ◌*◌, ◌/◌, ◌%◌, ◌^◌, ℕ, List, Bool, Some, None, slice_get, slice_index_or, length, IfSome, IfNone, take, sum};
+ghost use Rattle.jr_code.specs.Bits.{bits_of, number};
+ghost use Rattle.jr_code.specs.Code.{Table, IsWord, HasShortWordsOnly, AreEntries, AreEntriesTo, ArePairs, IsPair, AreLong, room, space, lengths};
 
-use crate::bits::Bits;
+use crate::bits::extend;
 use crate::packed::Packed;
-use jr_base::Memory;
-use std::marker::Model;
+use crate::table::CodeTable;
 
 /// A word and its extra bits together.
 #[derive(Clone, Copy)]
@@ -19,111 +18,64 @@ pub(crate) struct Extended {
     pub(crate) long: u8,
 }
 
-/// Counts of words by length, and a symbol for each word: read bit by bit.
-#[derive(Drop)]
-pub(crate) struct Words {
-    pub(crate) counts: [u8; 16],
-    pub(crate) symbols: Vec<u8>,
-}
-
-impl Model for Words {
-    ghost use Rattle.jr_code.specs.Code.{Table, IsLawfulTable};
-
-    ghost Value = { Table };
-
-    ghost view = { λ b. record { counts = b.counts; symbols = b.symbols.items } };
-
-    ghost invariant = { λ b. IsLawfulTable b.counts b.symbols.items };
-}
-
-impl Words {
-    pub(crate) fn is_same(&self, other: &Words) -> bool
-        ensures tells { result ≡ same_table self.now other.now }
-        ensures same { IsTrue result ↔ (self.now ≡ other.now) }
-    {
-        self.counts == other.counts && self.symbols.as_slice() == other.symbols.as_slice()
-    }
-
-    pub(crate) fn try_clone(&self) -> Result<Words, Memory>
-        ensures { IfOk result (λ w. w ≡ self.now) }
-    {
-        Ok(Words {
-            counts: self.counts,
-            symbols: self.symbols.clone()?,
-        })
-    }
-
-    /// The word that is in front of the bits, of which there is at most one: its symbol, and how many bits it has.
-    pub(crate) fn first_word(&self, bits: &Bits) -> Option<(u8, u8)>
-        ensures found { IfSome result (λ f. (f.1 ≤ length bits.now) × IsWord self.now (take f.1 bits.now) f.0) }
-        ensures short { IfSome result (λ f. f.1 ≤ 16) }
-        ensures none { IfNone result (HasNoFirstWord self.now bits.now) }
-    {
-        let mut code: u32 = 0;
-        let mut end: u32 = 0;
-        let mut index: u32 = 0;
-        for i in 0..16u8 {
-            let at = u64::from(i);
-            if at >= bits.left() {
-                return None;
-            }
-            code = 2 * code + u32::from(bits.peek(at));
-            end = 2 * end;
-            let count = u32::from(self.counts[i as usize]);
-            if code >= end && code - end < count {
-                let place = (index + (code - end)) as usize;
-                return Some((self.symbols[place], i + 1));
-            }
-            end += count;
-            index += count;
-        }
-        None
-    }
-}
-
-impl Words {
-    /// What each byte looks up, by the reader itself.
+impl CodeTable {
+    /// What each byte looks up: the symbol and length of the word of at most eight bits that it begins with.
     pub(crate) fn entries(&self) -> [Option<(u8, u8)>; 256]
         ensures { AreEntries self.now result }
     {
         let mut entries = [None; 256];
-        for byte in 0..256usize {
-            let one = [byte as u8];
-            entries[byte] = self.first_word(&Bits::over(&one));
+        for i in 0..8u8 {
+            self.enter_words(&mut entries, i);
         }
         entries
     }
 
-    /// The word and its extra bits that begin ten bits, where these hold both.
-    fn pair(&self, window: u16) -> Option<Extended>
-        requires { window < 1024 }
-        ensures { IsPair self.now window result }
+    /// Enters the words of i + 1 bits.
+    fn enter_words(&self, entries: &mut [Option<(u8, u8)>; 256], i: u8)
+        requires short { i < 8 }
+        requires entered { AreEntriesTo self.now i entries.old }
+        ensures { AreEntriesTo self.now (i + 1) entries.new }
     {
-        let bytes = [(window / 4) as u8, (window % 4 * 64) as u8];
-        let mut bits = Bits::over(&bytes);
-        let (symbol, long) = self.first_word(&bits)?;
-        let _ = bits.take(u32::from(long))?;
-        let size = symbol % 16;
-        let value = bits.extra(u32::from(size))?;
-        if long + size > 10 {
-            return None;
+        let (first, symbols) = self.words_of(i as usize);
+        for k in 0..symbols.len() {
+            enter_word(entries, first as usize + k, symbols[k], i + 1);
         }
-        Some(Extended {
-            symbol,
-            value: value as i16,
-            long: long + size,
-        })
     }
 
-    /// What each ten bits look up, by the reader itself.
+    /// What each ten bits look up: the word that they begin with and its extra bits, where they hold both.
     pub(crate) fn pairs(&self) -> [Packed; 1024]
         ensures { ArePairs self.now result }
     {
         let mut pairs = [Packed::NONE; 1024];
-        for window in 0..1024usize {
-            pairs[window] = Packed::of(self.pair(window as u16));
+        for i in 0..10u8 {
+            self.enter_pairs(&mut pairs, i);
         }
         pairs
+    }
+
+    /// Enters the words of i + 1 bits, each with all its extra bits.
+    fn enter_pairs(&self, pairs: &mut [Packed; 1024], i: u8)
+        requires short { i < 10 }
+        requires entered { ArePairs self.now pairs.old }
+        ensures { ArePairs self.now pairs.new }
+    {
+        let (first, symbols) = self.words_of(i as usize);
+        for k in 0..symbols.len() {
+            enter_pair(pairs, first as usize + k, symbols[k], i + 1);
+        }
+    }
+
+    /// The words of i + 1 bits: the number of the first, which the others count on from, and the symbols of all.
+    fn words_of(&self, i: usize) -> (u32, &[u8])
+        requires { i < 16 }
+        ensures each { (k s : ℕ) → slice_get result.1.now k ≡ Some s → IsWord self.now (bits_of (i + 1) (result.0 + k)) s }
+        ensures all { (word : List Bool) (s : ℕ) → IsWord self.now word s → length word ≡ i + 1 → (k : ℕ) × (k < length result.1.now) × (number word ≡ result.0 + k) }
+        ensures fit { result.0 + length result.1.now ≤ 2 ^ (i + 1) }
+    {
+        let (end, shorter) = self.up_to(i);
+        let from = shorter as usize;
+        let count = usize::from(self.counts[i]);
+        (2 * end, &self.symbols[from..from + count])
     }
 
     /// The word of nine bits or more that is in front of sixteen bits.
@@ -171,5 +123,52 @@ impl Words {
             words += count;
         }
         (end, words)
+    }
+}
+
+/// Enters a word: the bytes that begin with it look up its symbol and length.
+fn enter_word(entries: &mut [Option<(u8, u8)>; 256], code: usize, symbol: u8, long: u8)
+    requires short { long ≤ 8 }
+    requires fits { code < 2 ^ long }
+    ensures inside { (byte : ℕ) → byte / 2 ^ (8 - long) ≡ code → slice_index_or entries.new byte None ≡ Some (symbol, long) }
+    ensures outside { (byte : ℕ) → byte / 2 ^ (8 - long) ≢ code → slice_index_or entries.new byte None ≡ slice_index_or entries.old byte None }
+{
+    let each = 256usize >> long;
+    let first = code * each;
+    for byte in first..first + each {
+        entries[byte] = Some((symbol, long));
+    }
+}
+
+/// Enters a word: the ten bits that begin with it look up the word and its extra bits, where they hold both.
+fn enter_pair(pairs: &mut [Packed; 1024], code: usize, symbol: u8, long: u8)
+    requires short { long ≤ 10 }
+    requires fits { code < 2 ^ long }
+    ensures { (t : Table) → IsWord t (bits_of long code) symbol → ArePairs t pairs.old → ArePairs t pairs.new }
+{
+    if long + symbol % 16 > 10 {
+        return;
+    }
+    let each = 1024usize >> long;
+    let first = code * each;
+    for window in first..first + each {
+        pairs[window] = Packed::of(Some(pair(window as u64, symbol, long)));
+    }
+}
+
+/// The word of that symbol and length that ten bits begin with, and its extra bits.
+#[inline(always)]
+fn pair(window: u64, symbol: u8, long: u8) -> Extended
+    requires held { long + symbol % 16 ≤ 10 }
+    requires ten { window < 1024 }
+    ensures { (t : Table) → IsWord t (take long (bits_of 10 window)) symbol → IsPair t window (Some result) }
+{
+    let size = symbol % 16;
+    let both = long + size;
+    let extra = (window >> (10 - both)) & ((1u64 << size) - 1);
+    Extended {
+        symbol,
+        value: extend(u32::from(size), extra as u32) as i16,
+        long: both,
     }
 }

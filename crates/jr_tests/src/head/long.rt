@@ -110,9 +110,10 @@ fn refuses_what_stands_behind_many_bytes(rt: HostRuntime) -> Result<(), Fail> {
 
 /// The file of a part so many times, and then the others.
 fn repeated_part(alloc: Global, part: &str, times: u32) -> Result<Vec<u8>, Fail> {
+    let part = file(alloc, part)?;
     let mut bytes = file(alloc, "S")?;
     for _ in 0..times {
-        put_parts(&mut bytes, part)?;
+        bytes.extend_from_slice(part.as_slice())?;
     }
     put_parts(&mut bytes, "Q F D A C")?;
     Ok(bytes)
@@ -142,6 +143,29 @@ fn accepts_many_segments(rt: HostRuntime) -> Result<(), Fail> {
         assert!(rt; head.scan_at() == *length, "{part} {times} times");
         assert!(rt; 0 < head.components());
         assert!(rt; head.quantiser(0) == plain.quantiser(0));
+        assert!(rt; have_same_books(&head, &plain));
+    }
+    Ok(())
+}
+
+/// Code tables that others replace, and how often each stands: without words, with one, with one of each length, and with
+/// 255 of sixteen bits.
+const TABLES: [(&str, u32); 4] = [
+    ("FF C4 00 13 00 16*00", 1_000_000),
+    ("FF C4 00 14 00 01 15*00 00", 1_000_000),
+    ("FF C4 00 23 10 16*01 16*00", 1_000_000),
+    ("FF C4 01 12 10 15*00 FF 255*00", 200_000),
+];
+
+/// A book of each of these tables would take longer than a test may.
+#[test]
+fn accepts_millions_of_code_tables(rt: HostRuntime) -> Result<(), Fail> {
+    let plain = file(rt.alloc(), "S Q F D A C")?;
+    let plain = read_head(rt.alloc(), plain.as_slice())?;
+    for (part, times) in &TABLES {
+        let bytes = repeated_part(rt.alloc(), part, *times)?;
+        let head = read_head(rt.alloc(), bytes.as_slice())?;
+        assert!(rt; (head.width(), head.height()) == (8, 8), "{part}");
         assert!(rt; have_same_books(&head, &plain));
     }
     Ok(())

@@ -1,0 +1,125 @@
+//! Code tables as a file defines them.
+
+ghost use Rattle.std.specs.Prelude.{◌≡◌, ◌≢◌, ◌≤◌, ◌↔◌, IsTrue, length, IfOk, OnOk, sum};
+ghost use Rattle.jr_code.specs.Code.{same_table, IsLawfulTable, IsOverfull, space, lengths};
+
+use crate::book::CodeBook;
+use jr_base::Memory;
+use std::alloc::Global;
+use std::marker::Model;
+use thiserror::Error;
+
+/// Why counts and symbols are no code table, or why there is no room for it.
+#[derive(Debug, Drop, PartialEq, Eq, Error)]
+pub enum CodeFault {
+    /// The counts add up to over 256, or not to the number of symbols.
+    #[error("too many words, or not one symbol for each")]
+    TooMany,
+    /// The sum of `2 ^ (16 - length)` over all words is over 65536.
+    #[error("the words have no room")]
+    Overfull,
+    /// A request for memory was refused.
+    #[error("out of memory")]
+    Memory,
+}
+
+/// A code table (T.81, Annex C) as it is defined: counts of words by length, and a symbol for each word. What is read
+/// by is a book of it, which takes a hundred times longer to make.
+#[derive(Drop)]
+pub struct CodeTable {
+    pub(crate) counts: [u8; 16],
+    pub(crate) symbols: Vec<u8>,
+}
+
+impl Model for CodeTable {
+    ghost use Rattle.jr_code.specs.Code.{Table, IsLawfulTable};
+
+    ghost Value = { Table };
+
+    ghost view = { λ b. record { counts = b.counts; symbols = b.symbols.items } };
+
+    ghost invariant = { λ b. IsLawfulTable b.counts b.symbols.items };
+}
+
+impl CodeTable {
+    /// The table of these counts, `counts[i]` of words of i + 1 bits, and of one symbol for each word in order (T.81, B.2.4.2 and
+    /// Annex C), for callers that have added up the counts.
+    pub fn with_symbols(
+        alloc: Global,
+        counts: &[u8; 16],
+        symbols: &[u8],
+    ) -> Result<CodeTable, CodeFault>
+        requires each { sum counts.now ≡ length symbols.now }
+        requires few { length symbols.now ≤ 256 }
+        ensures table { IfOk result (λ t. t ≡ record { counts = counts.now; symbols = symbols.now }) }
+        ensures lawful { OnOk result (IsLawfulTable counts.now symbols.now) }
+        ensures enough { result ≢ Err CodeFault.TooMany }
+        ensures overfull { (result ≡ Err CodeFault.Overfull) ↔ IsOverfull counts.now }
+    {
+        let space = space_of(counts);
+        if space > 65536 {
+            return Err(CodeFault::Overfull);
+        }
+        let symbols = Vec::from_slice(alloc, symbols).map_err(|_| CodeFault::Memory)?;
+        Ok(CodeTable {
+            counts: *counts,
+            symbols,
+        })
+    }
+
+    /// The book that words of this table are read by.
+    pub fn book(&self) -> Result<CodeBook, Memory>
+        ensures { IfOk result (λ b. b ≡ self.now) }
+    {
+        Ok(CodeBook::of(self.try_clone()?))
+    }
+
+    /// What holds of every table, for callers that rest on it: it is lawful (T.81, Annex C).
+    pub(crate) fn be_lawful(&self)
+        ensures { IsLawfulTable self.now.counts self.now.symbols }
+    {
+        let _ = &self.counts;
+    }
+
+    /// Whether both have the same counts and symbols.
+    pub(crate) fn is_same(&self, other: &CodeTable) -> bool
+        ensures tells { result ≡ same_table self.now other.now }
+        ensures same { IsTrue result ↔ (self.now ≡ other.now) }
+    {
+        self.counts == other.counts && self.symbols.as_slice() == other.symbols.as_slice()
+    }
+
+    /// The same table once more.
+    pub(crate) fn try_clone(&self) -> Result<CodeTable, Memory>
+        ensures { IfOk result (λ t. t ≡ self.now) }
+    {
+        Ok(CodeTable {
+            counts: self.counts,
+            symbols: self.symbols.clone()?,
+        })
+    }
+}
+
+/// How many words there are, where `counts[i]` have i + 1 bits.
+pub fn word_count(counts: &[u8; 16]) -> u32
+    ensures value { result ≡ sum counts.now }
+    ensures few { result ≤ 4080 }
+{
+    let mut total: u32 = 0;
+    for count in counts {
+        total += u32::from(*count);
+    }
+    total
+}
+
+/// The rooms of all words together.
+fn space_of(counts: &[u8; 16]) -> u32
+    ensures { result ≡ space (lengths counts.now) }
+{
+    let mut space: u32 = 0;
+    for i in 0..16usize {
+        let count = u32::from(counts[i]);
+        space += count << (15 - i);
+    }
+    space
+}
