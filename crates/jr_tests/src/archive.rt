@@ -1,4 +1,5 @@
-//! Files that are checked: their lines, those of their damaged intervals, and what all of them come to.
+//! Files that are checked by several workers, lines that can't be written, and words. What lines a file gets is seen in the
+//! stored run of jri_check.
 
 use jri_archive::{Asked, Folder, Told, Unasked, Unread, asked, check_all};
 use std::alloc::Global;
@@ -7,9 +8,7 @@ use std::process::Abort;
 use std::sync::Wait;
 use std::test::Fail;
 use std::thread::Threads;
-use test_files::cases;
-use test_files::cases::Case;
-use test_files::files::{COLOURED, COLOURED_DAMAGED, MIXED, TEN, file};
+use test_files::files::{COLOURED, TEN, file};
 
 /// A file in memory.
 #[derive(Drop)]
@@ -83,139 +82,6 @@ fn told<R: Threads + Wait + Sync + AllocGlobal>(
         lines.push('\n')?;
     }
     Ok((told, lines))
-}
-
-fn check<R: Threads + Wait + Sync + AllocGlobal + Abort>(
-    rt: &R,
-    rows: &[(&str, &str)],
-) -> Result<(), Fail> {
-    for (name, lines) in rows {
-        let (_, found) = told(rt, &[*name], 1)?;
-        assert!(rt; found.as_str() == *lines, "{name} is told as {found}");
-    }
-    Ok(())
-}
-
-/// The noun behind a number of intervals.
-fn noun_of(intervals: &str) -> &'static str {
-    if intervals == "1" {
-        "interval"
-    } else {
-        "intervals"
-    }
-}
-
-/// What the line of a file with so many intervals begins with.
-fn beginning(alloc: Global, intervals: &str, damaged: &str, noun: &str) -> Result<String, Fail> {
-    if damaged == "0" {
-        return Ok(format!(in alloc; "sound, {intervals} {noun}")?);
-    }
-    Ok(format!(in alloc; "damaged, {damaged} of {intervals} {noun}, lines ")?)
-}
-
-/// Whether a line tells as many intervals and damaged ones as the report of a case, and the same end of the scan.
-fn is_told(alloc: Global, case: &Case, line: &str) -> Result<bool, Fail> {
-    let mut words = case.intervals.split_whitespace();
-    let intervals = words.nth(1).ok_or("no intervals")?;
-    let damaged = words.nth(3).ok_or("none damaged")?;
-    let start = beginning(alloc, intervals, damaged, noun_of(intervals))?;
-    let has_end = if case.ended == "scan ended at EOI" {
-        !line.contains("scan ended")
-    } else {
-        line.ends_with(case.ended)
-    };
-    Ok(line.starts_with(start.as_str()) && has_end)
-}
-
-fn check_cases<R: Threads + Wait + Sync + AllocGlobal + Abort>(
-    rt: &R,
-    cases: &[Case],
-) -> Result<(), Fail> {
-    for case in cases {
-        let (came_to, found) = told(rt, &[case.file], 1)?;
-        let line = found.as_str().lines().next().ok_or("no line")?;
-        assert!(rt;
-            is_told(rt.alloc(), case, line)?,
-            "{} is told as {line}",
-            case.file
-        );
-        let is_sound = came_to == Told::AllSound;
-        assert!(rt; is_sound == (case.status == 0), "{}", case.file);
-    }
-    Ok(())
-}
-
-#[test]
-fn tells_worked_files(rt: HostRuntime) -> Result<(), Fail> {
-    check_cases(&rt, &cases::grey_blocks())?;
-    check_cases(&rt, &cases::spellings_and_tables())?;
-    check_cases(&rt, &cases::runs_of_zeros())?;
-    check_cases(&rt, &cases::restart_intervals())?;
-    check_cases(&rt, &cases::ends_of_scans())?;
-    check_cases(&rt, &cases::greatest_coefficients())?;
-    check_cases(&rt, &cases::three_components())?;
-    check_cases(&rt, &cases::extended_sequential_frames())
-}
-
-const NO_SCANS: [(&str, &str); 3] = [
-    ("FF D8 FF C2", "refused 5: frame C2 is not baseline\n"),
-    ("FF D8 00", "refused 3: expected a marker at byte 2\n"),
-    (MISSING, "cannot be read\n"),
-];
-
-#[test]
-fn tells_what_has_no_scan(rt: HostRuntime) -> Result<(), Fail> {
-    check(&rt, &NO_SCANS)
-}
-
-const MAPS: [(&str, &str); 5] = [
-    (
-        "GI 63 FF D0 E0 E",
-        "damaged, 1 of 2 intervals, lines 0 to 7\n\
-         interval 1, MCUs 1 to 1, lines 0 to 7, bytes 149 to 149, 0 of 1 MCUs decodable\n",
-    ),
-    (
-        "GI 63 FF FF D0 FF 00 E0 FF",
-        "damaged, 1 of 2 intervals, lines 0 to 7, scan ended at the end of the file\n\
-         interval 1, MCUs 1 to 1, lines 0 to 7, bytes 150 to 152, 0 of 1 MCUs decodable\n",
-    ),
-    (
-        "S Q F:0011:0008 D A I C 63 FF D0 E0 FF D1 FF D9",
-        "damaged, 2 of 3 intervals, lines 8 to 16\n\
-         interval 1, MCUs 1 to 1, lines 8 to 15, bytes 149 to 149, 0 of 1 MCUs decodable\n\
-         interval 2, MCUs 2 to 2, lines 16 to 16, no bytes, 0 of 1 MCUs decodable\n",
-    ),
-    (
-        "S Q F:0010:0018 D A I:0004 C 60 60 FF D0 63 E",
-        "damaged, 2 of 2 intervals, lines 0 to 15\n\
-         interval 0, MCUs 0 to 3, lines 0 to 15, bytes 146 to 147, 2 of 4 MCUs decodable\n\
-         interval 1, MCUs 4 to 5, lines 8 to 15, bytes 150 to 150, 1 of 2 MCUs decodable\n",
-    ),
-    (
-        COLOURED_DAMAGED,
-        "damaged, 1 of 2 intervals, lines 0 to 8\n\
-         interval 1, MCUs 1 to 1, lines 0 to 8, bytes 161 to 161, 0 of 1 MCUs decodable\n",
-    ),
-];
-
-#[test]
-fn maps_damaged_intervals(rt: HostRuntime) -> Result<(), Fail> {
-    check(&rt, &MAPS)
-}
-
-const FIVE_OF_TEN: [(&str, &str); 1] = [(
-    MIXED,
-    "damaged, 5 of 10 intervals, lines 0 to 7\n\
-     interval 1, MCUs 1 to 1, lines 0 to 7, bytes 149 to 149, 0 of 1 MCUs decodable\n\
-     interval 3, MCUs 3 to 3, lines 0 to 7, bytes 155 to 156, 1 of 1 MCUs decodable\n\
-     interval 4, MCUs 4 to 4, lines 0 to 7, bytes 159 to 159, 0 of 1 MCUs decodable\n\
-     interval 6, MCUs 6 to 6, lines 0 to 7, no bytes, 0 of 1 MCUs decodable\n\
-     interval 8, MCUs 8 to 8, lines 0 to 7, bytes 170 to 170, 0 of 1 MCUs decodable\n",
-)];
-
-#[test]
-fn maps_five_of_ten_intervals(rt: HostRuntime) -> Result<(), Fail> {
-    check(&rt, &FIVE_OF_TEN)
 }
 
 #[test]
