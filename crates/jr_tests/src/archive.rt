@@ -1,7 +1,7 @@
 //! Files that are checked by several workers, lines that can't be written, and words. What lines a file gets is seen in the
 //! stored run of jri_check.
 
-use jri_archive::{Asked, Folder, Told, Unasked, Unread, asked, check_all};
+use jri_archive::{Asked, Folder, Told, Unread, asked, check_all};
 use std::alloc::Global;
 use std::io::Cursor;
 use std::process::Abort;
@@ -10,104 +10,94 @@ use std::test::Fail;
 use std::thread::Threads;
 use test_files::files::{COLOURED, TEN, file};
 
-/// A file in memory.
-#[derive(Drop)]
-struct Named {
-    name: String,
-    bytes: Vec<u8>,
-}
-
 /// Files in memory.
 #[derive(Drop)]
 struct Shelf {
-    files: Vec<Named>,
+    ten: Vec<u8>,
+    two: Vec<u8>,
+    progressive: Vec<u8>,
+    coloured: Vec<u8>,
 }
 
 impl Folder for Shelf {
     fn read(&self, alloc: Global, name: &str) -> Result<Vec<u8>, Unread> {
-        for file in &self.files {
-            if file.name.as_str() == name {
-                return file.bytes.to_vec(alloc).map_err(|_| Unread::Memory);
-            }
+        let bytes = match name {
+            "ten" => &self.ten,
+            "two" => &self.two,
+            "progressive" => &self.progressive,
+            "coloured" => &self.coloured,
+            _ => return Err(Unread::Read),
+        };
+        match bytes.to_vec(alloc) {
+            Ok(bytes) => Ok(bytes),
+            Err(_) => Err(Unread::Memory),
         }
-        Err(Unread::Read)
     }
 }
 
-/// The name of a file that is on no shelf.
-const MISSING: &str = "missing";
-
-/// A shelf of files whose names say what is in them, in the notation of files.
-fn shelf_of(alloc: Global, names: &[&str]) -> Result<Shelf, Fail> {
-    let mut files = Vec::new(alloc);
-    for name in names {
-        if *name != MISSING {
-            files.push(Named {
-                name: String::from_str(alloc, name)?,
-                bytes: file(alloc, name)?,
-            })?;
-        }
-    }
-    Ok(Shelf { files })
+fn full_shelf(alloc: Global) -> Result<Shelf, Fail> {
+    Ok(Shelf {
+        ten: file(alloc, TEN)?,
+        two: file(alloc, "GI 63 FF D0 63 E")?,
+        progressive: file(alloc, "S FF C2")?,
+        coloured: file(alloc, COLOURED)?,
+    })
 }
 
-/// The names as owned text.
-fn owned(alloc: Global, names: &[&str]) -> Result<Vec<String>, Fail> {
+/// Words as owned text.
+fn owned(alloc: Global, words: &[&str]) -> Result<Vec<String>, Fail> {
     let mut texts = Vec::new(alloc);
-    for name in names {
-        texts.push(String::from_str(alloc, name)?)?;
+    for word in words {
+        texts.push(String::from_str(alloc, word)?)?;
     }
     Ok(texts)
 }
 
-/// Checks files, with a map, and gives the lines without the files' names.
+/// Checks files, with a map, and gives what is written.
 fn told<R: Threads + Wait + Sync + AllocGlobal>(
     rt: &R,
     names: &[&str],
     workers: u32,
-) -> Result<(Told, String), Fail> {
+) -> Result<(Told, Vec<u8>), Fail> {
     let asked = Asked {
         workers,
         has_map: true,
         files: owned(rt.alloc(), names)?,
     };
-    let shelf = shelf_of(rt.alloc(), names)?;
+    let shelf = full_shelf(rt.alloc())?;
     let nowhere: Option<Vec<u8>> = None;
     let out = Vec::new(rt.alloc());
-    let (told, out) = check_all(rt, rt.alloc(), shelf, asked, out, nowhere);
-    let mut lines = String::new(rt.alloc());
-    for line in str::from_utf8(out.as_slice())?.lines() {
-        let (_, rest) = line.split_once(": ").ok_or("no name")?;
-        lines.push_str(rest)?;
-        lines.push('\n')?;
-    }
-    Ok((told, lines))
+    Ok(check_all(rt, rt.alloc(), shelf, asked, out, nowhere))
 }
+
+const NAMES: [&str; 5] = ["ten", "two", "progressive", "coloured", "missing"];
+
+const LINES: &str = "ten: sound, 10 intervals\n\
+                     two: sound, 2 intervals\n\
+                     progressive: refused 5: frame C2 is not baseline\n\
+                     coloured: sound, 2 intervals\n\
+                     missing: cannot be read\n";
 
 #[test]
 fn tells_files_in_their_order(rt: HostRuntime) -> Result<(), Fail> {
-    let names = [TEN, "GI 63 FF D0 63 E", "FF D8 FF C2", COLOURED, MISSING];
-    let lines = "sound, 10 intervals\nsound, 2 intervals\nrefused 5: frame C2 is not baseline\n\
-                 sound, 2 intervals\ncannot be read\n";
     for workers in [1, 3, 8] {
-        let (came_to, found) = told(&rt, &names, workers)?;
+        let (came_to, found) = told(&rt, &NAMES, workers)?;
         assert!(rt; came_to == Told::SomeNot);
-        assert!(rt; found.as_str() == lines, "{workers} workers tell {found}");
+        assert!(rt; found.as_slice() == LINES.as_bytes(), "{workers} workers");
     }
-    let (came_to, _) = told(&rt, &[TEN, COLOURED], 2)?;
+    let (came_to, _) = told(&rt, &["ten", "coloured"], 2)?;
     assert!(rt; came_to == Told::AllSound);
     Ok(())
 }
 
 #[test]
 fn tells_that_lines_cannot_be_written(rt: HostRuntime) -> Result<(), Fail> {
-    let names = ["G 63 E", "G 63 E"];
     let asked = Asked {
         workers: 2,
         has_map: false,
-        files: owned(rt.alloc(), &names)?,
+        files: owned(rt.alloc(), &["two", "two"])?,
     };
-    let shelf = shelf_of(rt.alloc(), &names)?;
+    let shelf = full_shelf(rt.alloc())?;
     let nowhere: Option<Vec<u8>> = None;
     let out = Cursor::new([0; 10]);
     let (came_to, _) = check_all(&rt, rt.alloc(), shelf, asked, out, nowhere);
@@ -115,51 +105,34 @@ fn tells_that_lines_cannot_be_written(rt: HostRuntime) -> Result<(), Fail> {
     Ok(())
 }
 
-/// The words of a line.
-fn words_of(alloc: Global, line: &str) -> Result<Vec<String>, Fail> {
-    let mut words = Vec::new(alloc);
-    for word in line.split_whitespace() {
-        words.push(String::from_str(alloc, word)?)?;
-    }
-    Ok(words)
+/// Workers, a map and the number of files, or the exit status of words that ask for no check.
+type Answer = Result<(u32, bool, usize), u8>;
+
+/// What words ask for.
+fn answer(alloc: Global, words: &[&str]) -> Result<Answer, Fail> {
+    let words = owned(alloc, words)?;
+    Ok(match asked(alloc, words.as_slice()) {
+        Ok(asked) => Ok((asked.workers, asked.has_map, asked.files.len())),
+        Err(unasked) => Err(unasked.status()),
+    })
 }
 
-/// Lines, and what they ask for.
-const CHECKS: [(&str, u32, bool, usize); 3] = [
-    ("a", 4, false, 1),
-    ("--map a b", 4, true, 2),
-    ("a --workers 64 b c", 64, false, 3),
+/// Words, and what they ask for.
+const WORDS: [(&[&str], Answer); 8] = [
+    (&["a"], Ok((4, false, 1))),
+    (&["--map", "a", "b"], Ok((4, true, 2))),
+    (&["a", "--workers", "64", "b", "c"], Ok((64, false, 3))),
+    (&[], Err(2)),
+    (&["--map"], Err(2)),
+    (&["--workers", "0", "a"], Err(2)),
+    (&["--workers", "65", "a"], Err(2)),
+    (&["--first", "1", "a"], Err(2)),
 ];
 
 #[test]
 fn asks_for_checks(rt: HostRuntime) -> Result<(), Fail> {
-    for (line, workers, has_map, files) in &CHECKS {
-        let words = words_of(rt.alloc(), line)?;
-        let found = asked(rt.alloc(), words.as_slice())
-            .ok()
-            .ok_or("words that are refused")?;
-        assert!(rt; found.workers == *workers, "workers of {line}");
-        assert!(rt; found.has_map == *has_map, "map of {line}");
-        assert!(rt; found.files.len() == *files, "files of {line}");
-    }
-    Ok(())
-}
-
-#[test]
-fn refuses_words_of_no_check(rt: HostRuntime) -> Result<(), Fail> {
-    for line in [
-        "",
-        "--map",
-        "--workers 0 a",
-        "--workers 65 a",
-        "--first 1 a",
-    ] {
-        let words = words_of(rt.alloc(), line)?;
-        let unasked = asked(rt.alloc(), words.as_slice())
-            .err()
-            .ok_or("words that are taken")?;
-        assert!(rt; matches!(unasked, Unasked::Wrong(_)), "{line}");
-        assert!(rt; unasked.status() == 2, "status of {line}");
+    for (words, expected) in &WORDS {
+        assert!(rt; answer(rt.alloc(), words)? == *expected);
     }
     Ok(())
 }

@@ -1,6 +1,6 @@
 //! Books of as many words as a table may have.
 
-use super::{bits_of, book_of};
+use super::{bits_of, book_of, read};
 use std::alloc::Global;
 use std::process::Abort;
 use std::test::Fail;
@@ -16,9 +16,8 @@ fn check(rt: &impl Abort, alloc: Global, counts: &[u8; 16], rows: &[Row<'_>]) ->
     for (bytes, symbol, left) in rows {
         let mut bits = bits_of(bytes)?;
         let mut again = bits.again();
-        assert!(rt; book.read(&mut bits) == *symbol);
-        assert!(rt; bits.left() == *left);
-        assert!(rt; clone.read(&mut again) == *symbol);
+        assert!(rt; read(&book, &mut bits) == (*symbol, *left));
+        assert!(rt; read(&clone, &mut again) == (*symbol, *left));
     }
     Ok(())
 }
