@@ -1,9 +1,9 @@
 //! Pieces posted on a board: out of order, twice, and of another file's scan.
 
-use crate::shown::{marks_of, piece, sample_at, shows};
+use crate::shown::{decode, is_flat, marks_of, piece, post, sample_at, shows};
 use jr_paint::Samples;
 use jr_scan::Scan;
-use jr_wall::{Board, Gate, Mark, OpenGate, Piece, Unposted, decode_all};
+use jr_wall::{Board, Gate, Mark, OpenGate};
 use std::alloc::Global;
 use std::process::Abort;
 use std::sync::{Arc, Wait};
@@ -24,15 +24,6 @@ fn blank_board(alloc: Global, words: &str) -> Result<(Arc<Scan>, Board), Fail> {
     Ok((scan, board))
 }
 
-/// The piece that comes back, and whether the board calls it foreign.
-fn piece_back(outcome: Result<(), Unposted>) -> Option<(Arc<Piece>, bool)> {
-    match outcome {
-        Ok(()) => None,
-        Err(Unposted::Foreign(piece)) => Some((piece, true)),
-        Err(Unposted::AlreadyMarked(piece)) => Some((piece, false)),
-    }
-}
-
 fn counts(board: &Board) -> (u32, u32, u32) {
     (board.sound(), board.damaged(), board.blank())
 }
@@ -43,10 +34,10 @@ fn takes_a_damaged_piece_before_a_sound_one(rt: HostRuntime) -> Result<(), Fail>
     let (scan, mut board) = blank_board(alloc, DAMAGED)?;
     assert!(rt; counts(&board) == (0, 0, 2));
     assert!(rt; sample_at(&board, 0, 0) == Some(0));
-    assert!(rt; board.post(piece(alloc, &scan, 1)?).is_ok());
+    assert!(rt; post(&mut board, piece(alloc, &scan, 1)?).is_none());
     assert!(rt; marks_of(alloc, &scan, &board)?.as_str() == "-d");
     assert!(rt; (sample_at(&board, 8, 0), sample_at(&board, 0, 0)) == (Some(128), Some(0)));
-    assert!(rt; board.post(piece(alloc, &scan, 0)?).is_ok());
+    assert!(rt; post(&mut board, piece(alloc, &scan, 0)?).is_none());
     assert!(rt; marks_of(alloc, &scan, &board)?.as_str() == "sd");
     assert!(rt; shows(&board, 0, 136) && shows(&board, 8, 128));
     assert!(rt; counts(&board) == (1, 1, 0));
@@ -75,7 +66,7 @@ fn takes_pieces_out_of_order(rt: HostRuntime) -> Result<(), Fail> {
         let number = *number;
         assert!(rt; shows(&board, 8 * number, 0), "before {number}");
         assert!(rt;
-            board.post(piece(alloc, &scan, number)?).is_ok(),
+            post(&mut board, piece(alloc, &scan, number)?).is_none(),
             "piece {number}"
         );
         let found = marks_of(alloc, &scan, &board)?;
@@ -92,12 +83,11 @@ fn refuses_a_piece_posted_twice(rt: HostRuntime) -> Result<(), Fail> {
     let (scan, mut board) = blank_board(alloc, SOUND)?;
     let once = piece(alloc, &scan, 0)?;
     let again = Arc::try_clone(&once)?;
-    assert!(rt; board.post(once).is_ok());
-    let (refused, is_foreign) = piece_back(board.post(again)).ok_or("posted twice")?;
+    assert!(rt; post(&mut board, once).is_none());
+    let (refused, is_foreign) = post(&mut board, again).ok_or("posted twice")?;
     assert!(rt; !is_foreign && refused.number() == 0);
-    let (refused, is_foreign) = piece_back(board.post(piece(alloc, &scan, 0)?)).ok_or(
-        "posted twice",
-    )?;
+    let third = piece(alloc, &scan, 0)?;
+    let (refused, is_foreign) = post(&mut board, third).ok_or("posted twice")?;
     assert!(rt; !is_foreign && refused.number() == 0);
     assert!(rt; counts(&board) == (1, 0, 1));
     assert!(rt; marks_of(alloc, &scan, &board)?.as_str() == "s-");
@@ -113,7 +103,7 @@ fn refuses_a_foreign_piece(rt: HostRuntime) -> Result<(), Fail> {
     assert!(rt; board.is_of(&scan_here) && !board.is_of(&other));
     let stranger = piece(alloc, &other, 1)?;
     assert!(rt; stranger.is_for(&other) && !stranger.is_for(&scan_here));
-    let (refused, is_foreign) = piece_back(board.post(stranger)).ok_or("a foreign piece")?;
+    let (refused, is_foreign) = post(&mut board, stranger).ok_or("a foreign piece")?;
     assert!(rt; is_foreign && refused.number() == 1 && !refused.is_sound());
     assert!(rt; counts(&board) == (0, 0, 2));
     assert!(rt; marks_of(alloc, &scan_here, &board)?.as_str() == "--");
@@ -127,9 +117,8 @@ fn refuses_a_piece_past_the_last(rt: HostRuntime) -> Result<(), Fail> {
     let alloc = rt.alloc();
     let ten = scan(alloc, TEN)?;
     let mut board = Board::new(alloc, scan(alloc, SOUND)?)?;
-    let (refused, is_foreign) = piece_back(board.post(piece(alloc, &ten, 9)?)).ok_or(
-        "past the last",
-    )?;
+    let last = piece(alloc, &ten, 9)?;
+    let (refused, is_foreign) = post(&mut board, last).ok_or("past the last")?;
     assert!(rt; is_foreign && refused.number() == 9);
     assert!(rt; counts(&board) == (0, 0, 2));
     Ok(())
@@ -142,7 +131,7 @@ fn shows_sound_and_damaged_pieces(rt: HostRuntime) -> Result<(), Fail> {
     let scan_here = scan(alloc, DAMAGED)?;
     let first = piece(alloc, &scan_here, 0)?;
     assert!(rt; first.number() == 0 && first.is_sound() && first.front() == 1);
-    assert!(rt; first.block(0) == Some(&[136; 64]) && first.block(1).is_none());
+    assert!(rt; is_flat(&first, 0, 136) && first.block(1).is_none());
     let second = piece(alloc, &scan_here, 1)?;
     assert!(rt; second.number() == 1 && !second.is_sound() && second.front() == 0);
     assert!(rt; second.block(0).is_none());
@@ -150,7 +139,7 @@ fn shows_sound_and_damaged_pieces(rt: HostRuntime) -> Result<(), Fail> {
     let left_over = scan(alloc, "G 63 63 E")?;
     let piece_here = piece(alloc, &left_over, 0)?;
     assert!(rt; !piece_here.is_sound() && piece_here.front() == 1);
-    assert!(rt; piece_here.block(0) == Some(&[136; 64]));
+    assert!(rt; is_flat(&piece_here, 0, 136));
     Ok(())
 }
 
@@ -174,8 +163,7 @@ fn decodes<R: Threads + Wait + Sync + AllocGlobal + Abort>(
     samples: [u8; 8],
 ) -> Result<bool, Fail> {
     let scan = scan(rt.alloc(), DAMAGED)?;
-    let shared = Arc::try_clone(&scan)?;
-    let board = decode_all(rt, rt.alloc(), shared, 3, first, &OpenGate)?;
+    let board = decode(rt, &scan, 3, first)?;
     let size = (board.head().width(), board.head().height());
     let is_marked = marks_of(rt.alloc(), &scan, &board)?.as_str() == letters;
     Ok(is_marked && size == (16, 8) && line(rt, &board, 4) == samples)
@@ -205,8 +193,7 @@ fn keeps_the_first(board: &Board, scan: &Scan) -> bool {
 #[test]
 fn keeps_pieces(rt: HostRuntime) -> Result<(), Fail> {
     let scan = scan(rt.alloc(), SOUND)?;
-    let shared = Arc::try_clone(&scan)?;
-    let board = decode_all(&rt, rt.alloc(), shared, 2, Some(1), &OpenGate)?;
+    let board = decode(&rt, &scan, 2, Some(1))?;
     assert!(rt; board.is_of(&scan));
     assert!(rt; scan.intervals() == 2);
     assert!(rt; keeps_the_first(&board, &scan));

@@ -1,6 +1,7 @@
 //! What workers leave of damaged intervals: marks, pieces in cells, and calls of the gate.
 
-use crate::shown::{letters_in_cells, marks_of};
+use crate::shown::{letters_in_cells, marks_of, open};
+use jr_scan::Scan;
 use jr_wall::{Decoding, Gate, Piece};
 use std::alloc::{AllocError, Global};
 use std::process::Abort;
@@ -91,6 +92,19 @@ impl Gate for Notes {
     }
 }
 
+/// The decoding of the first intervals, after its two workers.
+fn decode<R: Threads + Wait + Sync>(
+    rt: &R,
+    alloc: Global,
+    scan: &Arc<Scan>,
+    first: usize,
+    gate: &Notes,
+) -> Result<Decoding, Fail> {
+    let (decoding, seats) = open(alloc, scan, 2, Some(u32::try_from(first)?))?;
+    decoding.run(rt, seats, gate, |_| {});
+    Ok(decoding)
+}
+
 /// Two workers decode the first intervals of a file, as many as there are letters: the board, the cells and the gate
 /// tell these.
 fn check<R: Threads + Wait + Sync + Abort>(
@@ -102,9 +116,7 @@ fn check<R: Threads + Wait + Sync + Abort>(
     let scan = scan(alloc, words)?;
     let decoded = letters.trim_end_matches('-');
     let gate = Notes::new(alloc, scan.intervals())?;
-    let first = u32::try_from(decoded.len())?;
-    let (decoding, seats) = Decoding::open(alloc, Arc::try_clone(&scan)?, 2, Some(first))?;
-    decoding.run(rt, seats, &gate, |_| {});
+    let decoding = decode(rt, alloc, &scan, decoded.len(), &gate)?;
     let told = gate.letters(alloc)?;
     assert!(rt; told.as_str() == letters, "the gate was told {told}");
     assert!(rt; number_of(&gate.wrong) == 0);

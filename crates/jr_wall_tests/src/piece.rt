@@ -1,5 +1,6 @@
 //! Pieces of small files, worked out by hand.
 
+use crate::shown::is_flat;
 use jr_piece::Piece;
 use jr_scan::Scan;
 use std::alloc::Global;
@@ -24,7 +25,7 @@ fn check(rt: &impl Abort, piece: &Piece, is_sound: bool, front: u32, values: &[u
     assert!(rt; piece.front() == front);
     let mut k = 0u32;
     for value in values {
-        assert!(rt; piece.block(k) == Some(&[*value; 64]));
+        assert!(rt; is_flat(piece, k, *value));
         k = k.wrapping_add(1);
     }
     assert!(rt; piece.block(k).is_none());
@@ -98,7 +99,7 @@ fn shows_thousands_of_data_units(rt: HostRuntime) -> Result<(), Fail> {
         let piece = piece_of(rt.alloc(), &scan, 0)?;
         assert!(rt; (piece.is_sound(), piece.front()) == (*is_sound, front));
         for k in 0..front {
-            assert!(rt; piece.block(k) == Some(&[136; 64]), "unit {k} of {front}");
+            assert!(rt; is_flat(&piece, k, 136), "unit {k} of {front}");
         }
         assert!(rt; piece.block(front).is_none());
     }

@@ -1,16 +1,20 @@
 //! Pieces of scans, and what boards and cells show of them.
 
-ghost use Rattle.std.specs.Prelude.{◌≡◌, ◌<◌, IsTrue};
+ghost use Rattle.std.specs.Prelude.{◌≡◌, ◌<◌, ◌≤◌, All, IfOk, IsTrue};
 ghost use Rattle.jr_head.specs.Geometry.{components_of};
 ghost use Rattle.jr_paint.specs.Geometry.{samples_across, samples_down};
 
 use jr_head::Head;
 use jr_paint::Samples;
 use jr_scan::Scan;
-use jr_wall::{Board, Cells, Glimpse, Mark, Piece, glance};
+use jr_wall::{
+    Board, Cells, CodedStrip, Decoding, Glimpse, Mark, OpenGate, Piece, Seat, Strip, StripReader,
+    Unposted, decode_all, glance,
+};
 use std::alloc::Global;
 use std::sync::{Arc, Mutex, Wait};
 use std::test::Fail;
+use std::thread::Threads;
 
 /// The piece of an interval.
 pub(crate) fn piece(alloc: Global, scan: &Scan, number: u32) -> Result<Arc<Piece>, Fail> {
@@ -20,6 +24,62 @@ pub(crate) fn piece(alloc: Global, scan: &Scan, number: u32) -> Result<Arc<Piece
     let interval = scan.interval(number)?;
     let piece = Piece::make(alloc, interval).ok().ok_or("no memory")?;
     Ok(Arc::new(alloc, piece)?)
+}
+
+/// Whether the piece shows one value at a data unit.
+pub(crate) fn is_flat(piece: &Piece, k: u32, value: u8) -> bool {
+    piece.block(k) == Some(&[value; 64])
+}
+
+/// What a reader gives of an interval: a strip of so many MCUs at most.
+pub(crate) fn next_strip(
+    alloc: Global,
+    reader: &mut StripReader,
+    most: u32,
+) -> Result<Option<CodedStrip>, Fail> {
+    Ok(reader.next(alloc, most)?)
+}
+
+pub(crate) fn decoded(alloc: Global, coded: &CodedStrip) -> Result<Strip, Fail> {
+    Ok(coded.decode(alloc)?)
+}
+
+/// Posts a piece. None where the board takes it; else it comes back, and whether the board calls it foreign.
+pub(crate) fn post(board: &mut Board, piece: Arc<Piece>) -> Option<(Arc<Piece>, bool)> {
+    match board.post(piece) {
+        Ok(()) => None,
+        Err(Unposted::Foreign(piece)) => Some((piece, true)),
+        Err(Unposted::AlreadyMarked(piece)) => Some((piece, false)),
+    }
+}
+
+/// The board of a scan's first intervals, or of all, by so many workers.
+pub(crate) fn decode<R: Threads + Wait + Sync + AllocGlobal>(
+    rt: &R,
+    scan: &Arc<Scan>,
+    workers: u32,
+    first: Option<u32>,
+) -> Result<Board, Fail>
+    requires some { 1 ≤ workers }
+    requires few { workers ≤ 64 }
+{
+    let shared = Arc::try_clone(scan)?;
+    Ok(decode_all(rt, rt.alloc(), shared, workers, first, &OpenGate)?)
+}
+
+/// A decoding of a scan's first intervals, or of all, and its seats for so many workers.
+pub(crate) fn open(
+    alloc: Global,
+    scan: &Arc<Scan>,
+    workers: u32,
+    first: Option<u32>,
+) -> Result<(Decoding, Vec<Seat>), Fail>
+    requires some { 1 ≤ workers }
+    requires few { workers ≤ 64 }
+    ensures { IfOk result (λ r. All (λ s. s.desk ≡ r.0.desk) r.1.items) }
+{
+    let shared = Arc::try_clone(scan)?;
+    Ok(Decoding::open(alloc, shared, workers, first)?)
 }
 
 /// The marks of a board of this scan: a letter for each interval.

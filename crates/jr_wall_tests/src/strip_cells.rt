@@ -2,6 +2,7 @@
 
 ghost use Rattle.std.specs.Prelude.{◌≡◌};
 
+use crate::shown::{decoded, next_strip};
 use jr_scan::{Interval, Scan};
 use jr_wall::{Strip, StripCells, StripReader, StripSight};
 use std::alloc::Global;
@@ -40,10 +41,10 @@ fn strip(alloc: Global, place: u32) -> Result<Arc<Strip>, Fail> {
     let scan = scan(alloc, TWO)?;
     let mut reader = StripReader::over(interval_of(alloc, &scan, 1)?);
     for _ in 0..place {
-        reader.next(alloc, 2)?.ok_or("a strip before")?;
+        next_strip(alloc, &mut reader, 2)?.ok_or("a strip before")?;
     }
-    let coded = reader.next(alloc, 2)?.ok_or("a strip")?;
-    Ok(Arc::new(alloc, coded.decode(alloc)?)?)
+    let coded = next_strip(alloc, &mut reader, 2)?.ok_or("a strip")?;
+    Ok(Arc::new(alloc, decoded(alloc, &coded)?)?)
 }
 
 /// The cells for such strips.

@@ -2,6 +2,7 @@
 
 ghost use Rattle.std.specs.Prelude.{◌≡◌, All, IfOk};
 
+use crate::shown::open;
 use crate::views::{View, contents_now, contents_of, is_kept, watch_twice};
 use jr_code::Memory;
 use jr_wall::{Decoding, OpenGate, Seat};
@@ -33,7 +34,7 @@ fn work_and_watch<R: Threads + Wait + Sync>(
 #[test]
 fn two_viewers_beside_two_workers(rt: HostRuntime) -> Result<(), Fail> {
     let alloc = rt.alloc();
-    let (decoding, seats) = Decoding::open(alloc, scan(alloc, TEN)?, 2, None)?;
+    let (decoding, seats) = open(alloc, &scan(alloc, TEN)?, 2, None)?;
     let (first, second) = work_and_watch(&rt, &decoding, seats);
     let (mut first, mut second) = (first?, second?);
     let cells = decoding.cells();
