@@ -1,6 +1,6 @@
 //! Pieces posted on a board: out of order, twice, and of another file's scan.
 
-use crate::shown::{decode, is_flat, marks_of, piece, post, sample_at, shows};
+use crate::shown::{decode, has_marks, is_flat, piece, post, sample_at, shows, takes};
 use jr_paint::Samples;
 use jr_scan::Scan;
 use jr_wall::{Board, Gate, Mark, OpenGate};
@@ -34,11 +34,11 @@ fn takes_a_damaged_piece_before_a_sound_one(rt: HostRuntime) -> Result<(), Fail>
     let (scan, mut board) = blank_board(alloc, DAMAGED)?;
     assert!(rt; counts(&board) == (0, 0, 2));
     assert!(rt; sample_at(&board, 0, 0) == Some(0));
-    assert!(rt; post(&mut board, piece(alloc, &scan, 1)?).is_none());
-    assert!(rt; marks_of(alloc, &scan, &board)?.as_str() == "-d");
+    assert!(rt; takes(alloc, &scan, &mut board, 1)?);
+    assert!(rt; has_marks(alloc, &scan, &board, "-d")?);
     assert!(rt; (sample_at(&board, 8, 0), sample_at(&board, 0, 0)) == (Some(128), Some(0)));
-    assert!(rt; post(&mut board, piece(alloc, &scan, 0)?).is_none());
-    assert!(rt; marks_of(alloc, &scan, &board)?.as_str() == "sd");
+    assert!(rt; takes(alloc, &scan, &mut board, 0)?);
+    assert!(rt; has_marks(alloc, &scan, &board, "sd")?);
     assert!(rt; shows(&board, 0, 136) && shows(&board, 8, 128));
     assert!(rt; counts(&board) == (1, 1, 0));
     Ok(())
@@ -65,12 +65,11 @@ fn takes_pieces_out_of_order(rt: HostRuntime) -> Result<(), Fail> {
     for (number, letters) in &STEPS {
         let number = *number;
         assert!(rt; shows(&board, 8 * number, 0), "before {number}");
+        assert!(rt; takes(alloc, &scan, &mut board, number)?, "piece {number}");
         assert!(rt;
-            post(&mut board, piece(alloc, &scan, number)?).is_none(),
-            "piece {number}"
+            has_marks(alloc, &scan, &board, letters)?,
+            "marks after {number}"
         );
-        let found = marks_of(alloc, &scan, &board)?;
-        assert!(rt; found.as_str() == *letters, "marks after {number}");
         assert!(rt; shows(&board, 8 * number, 136), "after {number}");
     }
     assert!(rt; counts(&board) == (10, 0, 0));
@@ -84,13 +83,11 @@ fn refuses_a_piece_posted_twice(rt: HostRuntime) -> Result<(), Fail> {
     let once = piece(alloc, &scan, 0)?;
     let again = Arc::try_clone(&once)?;
     assert!(rt; post(&mut board, once).is_none());
-    let (refused, is_foreign) = post(&mut board, again).ok_or("posted twice")?;
-    assert!(rt; !is_foreign && refused.number() == 0);
+    assert!(rt; post(&mut board, again) == Some((0, true, false)));
     let third = piece(alloc, &scan, 0)?;
-    let (refused, is_foreign) = post(&mut board, third).ok_or("posted twice")?;
-    assert!(rt; !is_foreign && refused.number() == 0);
+    assert!(rt; post(&mut board, third) == Some((0, true, false)));
     assert!(rt; counts(&board) == (1, 0, 1));
-    assert!(rt; marks_of(alloc, &scan, &board)?.as_str() == "s-");
+    assert!(rt; has_marks(alloc, &scan, &board, "s-")?);
     assert!(rt; shows(&board, 0, 136) && shows(&board, 8, 0));
     Ok(())
 }
@@ -103,10 +100,9 @@ fn refuses_a_foreign_piece(rt: HostRuntime) -> Result<(), Fail> {
     assert!(rt; board.is_of(&scan_here) && !board.is_of(&other));
     let stranger = piece(alloc, &other, 1)?;
     assert!(rt; stranger.is_for(&other) && !stranger.is_for(&scan_here));
-    let (refused, is_foreign) = post(&mut board, stranger).ok_or("a foreign piece")?;
-    assert!(rt; is_foreign && refused.number() == 1 && !refused.is_sound());
+    assert!(rt; post(&mut board, stranger) == Some((1, false, true)));
     assert!(rt; counts(&board) == (0, 0, 2));
-    assert!(rt; marks_of(alloc, &scan_here, &board)?.as_str() == "--");
+    assert!(rt; has_marks(alloc, &scan_here, &board, "--")?);
     assert!(rt; shows(&board, 0, 0) && shows(&board, 8, 0));
     Ok(())
 }
@@ -118,8 +114,7 @@ fn refuses_a_piece_past_the_last(rt: HostRuntime) -> Result<(), Fail> {
     let ten = scan(alloc, TEN)?;
     let mut board = Board::new(alloc, scan(alloc, SOUND)?)?;
     let last = piece(alloc, &ten, 9)?;
-    let (refused, is_foreign) = post(&mut board, last).ok_or("past the last")?;
-    assert!(rt; is_foreign && refused.number() == 9);
+    assert!(rt; post(&mut board, last) == Some((9, true, true)));
     assert!(rt; counts(&board) == (0, 0, 2));
     Ok(())
 }
@@ -165,7 +160,7 @@ fn decodes<R: Threads + Wait + Sync + AllocGlobal + Abort>(
     let scan = scan(rt.alloc(), DAMAGED)?;
     let board = decode(rt, &scan, 3, first)?;
     let size = (board.head().width(), board.head().height());
-    let is_marked = marks_of(rt.alloc(), &scan, &board)?.as_str() == letters;
+    let is_marked = has_marks(rt.alloc(), &scan, &board, letters)?;
     Ok(is_marked && size == (16, 8) && line(rt, &board, 4) == samples)
 }
 

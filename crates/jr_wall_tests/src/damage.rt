@@ -1,6 +1,6 @@
 //! What workers leave of damaged intervals: marks, pieces in cells, and calls of the gate.
 
-use crate::shown::{letters_in_cells, marks_of, open};
+use crate::shown::{has_marks, letters_in_cells, open};
 use jr_scan::Scan;
 use jr_wall::{Decoding, Gate, Piece};
 use std::alloc::{AllocError, Global};
@@ -70,6 +70,12 @@ impl Notes {
         }
         Ok(letters)
     }
+
+    /// Whether just the calls of these letters came.
+    fn has_letters(&self, alloc: Global, letters: &str) -> Result<bool, Fail> {
+        let told = self.letters(alloc)?;
+        Ok(told.as_str() == letters && number_of(&self.wrong) == 0)
+    }
 }
 
 impl Gate for Notes {
@@ -90,6 +96,12 @@ impl Gate for Notes {
             _ => count(&self.wrong),
         }
     }
+}
+
+/// Whether the pieces in the cells have these letters.
+fn has_in_cells(alloc: Global, decoding: &Decoding, letters: &str) -> Result<bool, Fail> {
+    let found = letters_in_cells(alloc, decoding.cells())?;
+    Ok(found.as_str() == letters)
 }
 
 /// The decoding of the first intervals, after its two workers.
@@ -117,13 +129,12 @@ fn check<R: Threads + Wait + Sync + Abort>(
     let decoded = letters.trim_end_matches('-');
     let gate = Notes::new(alloc, scan.intervals())?;
     let decoding = decode(rt, alloc, &scan, decoded.len(), &gate)?;
-    let told = gate.letters(alloc)?;
-    assert!(rt; told.as_str() == letters, "the gate was told {told}");
-    assert!(rt; number_of(&gate.wrong) == 0);
-    let found = letters_in_cells(alloc, decoding.cells())?;
-    assert!(rt; found.as_str() == decoded, "in the cells hang {found}");
-    let marks = marks_of(alloc, &scan, &decoding.board().lock(rt))?;
-    assert!(rt; marks.as_str() == letters, "the marks are {marks}");
+    assert!(rt; gate.has_letters(alloc, letters)?, "the gate of {words}");
+    assert!(rt;
+        has_in_cells(alloc, &decoding, decoded)?,
+        "the cells of {words}"
+    );
+    assert!(rt; has_marks(alloc, &scan, &decoding.board().lock(rt), letters)?);
     Ok(())
 }
 

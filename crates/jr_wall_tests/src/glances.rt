@@ -1,6 +1,6 @@
 //! What glances at a board see: before, while and after workers fill it.
 
-use crate::shown::{decode, glimpse, letters_in_cells, look, open, piece, post, shows};
+use crate::shown::{decode, glimpse, letters_in_cells, look, open, shows, takes};
 use jr_scan::Scan;
 use jr_wall::{Board, Cells, Desk, Gate, Glimpse, Mark, OpenGate, Piece, work};
 use std::sync::atomic::{AtomicU64, Ordering};
@@ -119,7 +119,7 @@ fn looks_at_a_board_without_a_lock(rt: HostRuntime) -> Result<(), Fail> {
     let mut board = Board::new(alloc, Arc::try_clone(&scan)?)?;
     for n in 0..10u32 {
         assert!(rt; is_looked_at(&board, n), "before {n}");
-        assert!(rt; post(&mut board, piece(alloc, &scan, n)?).is_none());
+        assert!(rt; takes(alloc, &scan, &mut board, n)?);
     }
     assert!(rt; is_looked_at(&board, 10));
     Ok(())
@@ -155,13 +155,27 @@ impl<R: Wait> Gate for Onlooker<'_, R> {
     }
 }
 
+/// One worker fills the board of ten intervals.
+fn work_alone<R: Wait + AllocGlobal, G: Gate>(
+    rt: &R,
+    scan: &Scan,
+    board: &Mutex<Board>,
+    gate: &G,
+) -> Result<(), Fail> {
+    let (desk, mut seats) = Desk::open(rt.alloc(), 10, 1)?;
+    let mut seat = seats.pop().ok_or("one seat")?;
+    let cells = Cells::open(rt.alloc(), 10)?;
+    if desk.limit() > scan.intervals() || desk.limit() > cells.count() {
+        return Err(Fail::from("fewer intervals"));
+    }
+    work(rt, rt.alloc(), scan, &desk, &mut seat, board, &cells, gate);
+    Ok(())
+}
+
 #[test]
 fn sees_each_step_of_a_worker(rt: HostRuntime) -> Result<(), Fail> {
     let alloc = rt.alloc();
     let scan = scan(alloc, MIXED)?;
-    let (desk, mut seats) = Desk::open(alloc, 10, 1)?;
-    let mut seat = seats.pop().ok_or("one seat")?;
-    let cells = Cells::open(alloc, 10)?;
     let board = Mutex::new(Board::new(alloc, Arc::try_clone(&scan)?)?);
     let gate = Onlooker {
         rt: &rt,
@@ -170,8 +184,7 @@ fn sees_each_step_of_a_worker(rt: HostRuntime) -> Result<(), Fail> {
         calls: AtomicU64::new(0),
         wrong: AtomicU64::new(0),
     };
-    assert!(rt; desk.limit() <= scan.intervals() && desk.limit() <= cells.count());
-    work(&rt, alloc, &scan, &desk, &mut seat, &board, &cells, &gate);
+    work_alone(&rt, &scan, &board, &gate)?;
     assert!(rt; gate.calls.load(Ordering::SeqCst) == 20);
     assert!(rt; gate.wrong.load(Ordering::SeqCst) == 0);
     Ok(())

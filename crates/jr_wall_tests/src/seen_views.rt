@@ -149,6 +149,16 @@ impl Screen for Told {
     }
 }
 
+/// How many intervals are blank behind a decoding that is watched.
+fn blank_behind<R: Threads + Wait + Clock + Sync + AllocGlobal>(
+    rt: &R,
+    scan: &Arc<Scan>,
+    told: &mut Told,
+) -> Result<u32, Fail> {
+    let decoding = watch(rt, rt.alloc(), Arc::try_clone(scan)?, 2, told)?;
+    Ok(decoding.finish()?.blank())
+}
+
 /// Watches a file, and finds that it was told of each piece once, and of strips of so many MCUs.
 fn check_watched<R: Threads + Wait + Clock + Sync + AllocGlobal + Abort>(
     rt: &R,
@@ -161,13 +171,12 @@ fn check_watched<R: Threads + Wait + Clock + Sync + AllocGlobal + Abort>(
         mcus: 0,
         pieces: 0,
     };
-    let decoding = watch(rt, rt.alloc(), Arc::try_clone(&scan)?, 2, &mut told)?;
+    assert!(rt; blank_behind(rt, &scan, &mut told)? == 0);
     assert!(rt;
         told.pieces == scan.intervals() && told.mcus == mcus,
         "{words}"
     );
     assert!(rt; shows_all(rt.alloc(), &told.view, &scan)?, "{words}");
-    assert!(rt; decoding.finish()?.blank() == 0);
     Ok(())
 }
 

@@ -44,13 +44,17 @@ pub(crate) fn decoded(alloc: Global, coded: &CodedStrip) -> Result<Strip, Fail> 
     Ok(coded.decode(alloc)?)
 }
 
-/// Posts a piece. None where the board takes it; else it comes back, and whether the board calls it foreign.
-pub(crate) fn post(board: &mut Board, piece: Arc<Piece>) -> Option<(Arc<Piece>, bool)> {
-    match board.post(piece) {
-        Ok(()) => None,
-        Err(Unposted::Foreign(piece)) => Some((piece, true)),
-        Err(Unposted::AlreadyMarked(piece)) => Some((piece, false)),
-    }
+/// A piece that a board does not take: its number, whether it is sound, and whether the board calls it foreign.
+pub(crate) type Refused = (u32, bool, bool);
+
+/// Posts a piece. None where the board takes it.
+pub(crate) fn post(board: &mut Board, piece: Arc<Piece>) -> Option<Refused> {
+    let (piece, is_foreign) = match board.post(piece) {
+        Ok(()) => return None,
+        Err(Unposted::Foreign(piece)) => (piece, true),
+        Err(Unposted::AlreadyMarked(piece)) => (piece, false),
+    };
+    Some((piece.number(), piece.is_sound(), is_foreign))
 }
 
 /// The board of a scan's first intervals, or of all, by so many workers.
@@ -83,7 +87,7 @@ pub(crate) fn open(
 }
 
 /// The marks of a board of this scan: a letter for each interval.
-pub(crate) fn marks_of(alloc: Global, scan: &Scan, board: &Board) -> Result<String, Fail> {
+fn marks_of(alloc: Global, scan: &Scan, board: &Board) -> Result<String, Fail> {
     let mut letters = String::new(alloc);
     if !board.is_of(scan) {
         return Err(Fail::from("a board of another scan"));
@@ -96,6 +100,28 @@ pub(crate) fn marks_of(alloc: Global, scan: &Scan, board: &Board) -> Result<Stri
         })?;
     }
     Ok(letters)
+}
+
+/// Whether a board of this scan has these marks.
+pub(crate) fn has_marks(
+    alloc: Global,
+    scan: &Scan,
+    board: &Board,
+    letters: &str,
+) -> Result<bool, Fail> {
+    let marks = marks_of(alloc, scan, board)?;
+    Ok(marks.as_str() == letters)
+}
+
+/// Whether a board takes the piece of this number of a scan.
+pub(crate) fn takes(
+    alloc: Global,
+    scan: &Scan,
+    board: &mut Board,
+    number: u32,
+) -> Result<bool, Fail> {
+    let piece = piece(alloc, scan, number)?;
+    Ok(post(board, piece).is_none())
 }
 
 /// What a fresh sight finds in cells: a letter for each, as those of marks, and `?` for a piece of another number.
