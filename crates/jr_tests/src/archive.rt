@@ -10,38 +10,42 @@ use std::test::Fail;
 use std::thread::Threads;
 use test_files::files::{COLOURED, TEN, file};
 
-/// Files in memory.
+/// Files in memory, by their places.
 #[derive(Drop)]
-struct Shelf {
-    ten: Vec<u8>,
-    two: Vec<u8>,
-    progressive: Vec<u8>,
-    coloured: Vec<u8>,
+struct Shelf<'a> {
+    files: &'a [Vec<u8>],
 }
 
-impl Folder for Shelf {
+fn copy(alloc: Global, bytes: &[u8]) -> Result<Vec<u8>, Unread> {
+    match bytes.to_vec(alloc) {
+        Ok(bytes) => Ok(bytes),
+        Err(_) => Err(Unread::Memory),
+    }
+}
+
+impl<'a> Folder for Shelf<'a> {
     fn read(&self, alloc: Global, name: &str) -> Result<Vec<u8>, Unread> {
-        let bytes = match name {
-            "ten" => &self.ten,
-            "two" => &self.two,
-            "progressive" => &self.progressive,
-            "coloured" => &self.coloured,
+        let place = match name {
+            "ten" => 0,
+            "two" => 1,
+            "progressive" => 2,
+            "coloured" => 3,
             _ => return Err(Unread::Read),
         };
-        match bytes.to_vec(alloc) {
-            Ok(bytes) => Ok(bytes),
-            Err(_) => Err(Unread::Memory),
+        match self.files.get(place) {
+            Some(bytes) => copy(alloc, bytes.as_slice()),
+            None => Err(Unread::Read),
         }
     }
 }
 
-fn full_shelf(alloc: Global) -> Result<Shelf, Fail> {
-    Ok(Shelf {
-        ten: file(alloc, TEN)?,
-        two: file(alloc, "GI 63 FF D0 63 E")?,
-        progressive: file(alloc, "S FF C2")?,
-        coloured: file(alloc, COLOURED)?,
-    })
+/// The files in their places.
+fn files(alloc: Global) -> Result<Vec<Vec<u8>>, Fail> {
+    let mut files = Vec::new(alloc);
+    for words in [TEN, "GI 63 FF D0 63 E", "S FF C2", COLOURED] {
+        files.push(file(alloc, words)?)?;
+    }
+    Ok(files)
 }
 
 /// Words as owned text.
@@ -64,7 +68,10 @@ fn told<R: Threads + Wait + Sync + AllocGlobal>(
         has_map: true,
         files: owned(rt.alloc(), names)?,
     };
-    let shelf = full_shelf(rt.alloc())?;
+    let files = files(rt.alloc())?;
+    let shelf = Shelf {
+        files: files.as_slice(),
+    };
     let nowhere: Option<Vec<u8>> = None;
     let out = Vec::new(rt.alloc());
     Ok(check_all(rt, rt.alloc(), shelf, asked, out, nowhere))
@@ -97,7 +104,10 @@ fn tells_that_lines_cannot_be_written(rt: HostRuntime) -> Result<(), Fail> {
         has_map: false,
         files: owned(rt.alloc(), &["two", "two"])?,
     };
-    let shelf = full_shelf(rt.alloc())?;
+    let files = files(rt.alloc())?;
+    let shelf = Shelf {
+        files: files.as_slice(),
+    };
     let nowhere: Option<Vec<u8>> = None;
     let out = Cursor::new([0; 10]);
     let (came_to, _) = check_all(&rt, rt.alloc(), shelf, asked, out, nowhere);

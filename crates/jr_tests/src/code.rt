@@ -342,12 +342,23 @@ fn refuses_what_is_no_table(rt: HostRuntime) -> Result<(), Fail> {
     Ok(())
 }
 
+fn is_its_clone(book: &CodeBook) -> Result<bool, Fail> {
+    let clone = book.try_clone()?;
+    Ok(*book == clone)
+}
+
+/// Whether the book with a word of each length is equal to the one of these symbols.
+fn is_book_of(alloc: Global, book: &CodeBook, symbols: &[u8]) -> Result<bool, Fail> {
+    let other = book_with(alloc, &EACH_LENGTH, symbols)?;
+    Ok(*book == other)
+}
+
 #[test]
 fn compares_by_counts_and_symbols(rt: HostRuntime) -> Result<(), Fail> {
     let symbols = symbols_up_to_255();
     let each = book_with(rt.alloc(), &EACH_LENGTH, &symbols[..16])?;
-    let others = book_with(rt.alloc(), &EACH_LENGTH, &symbols[1..17])?;
-    assert!(rt; each == each.try_clone()?);
-    assert!(rt; each != others);
+    assert!(rt; is_its_clone(&each)?);
+    assert!(rt; is_book_of(rt.alloc(), &each, &symbols[..16])?);
+    assert!(rt; !is_book_of(rt.alloc(), &each, &symbols[1..17])?);
     Ok(())
 }
