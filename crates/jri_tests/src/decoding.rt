@@ -64,16 +64,20 @@ pub(crate) fn outcome_of<
 {
     let mut input = Tally::of(input);
     let mut output = Tally::of(output);
-    let outcome = run(rt, rt.alloc(), &mut input, &mut output, workers, first, gate);
+    let outcome = run(
+        rt,
+        rt.alloc(),
+        &mut input,
+        &mut output,
+        workers,
+        first,
+        gate,
+    );
     (outcome, output)
 }
 
 /// The output of a run that is finished, the lines on standard error, and the exit status.
-pub(crate) fn finished<
-    R: Threads + Wait + Sync + AllocGlobal,
-    I: Read + Drop,
-    O: Write + Drop,
->(
+pub(crate) fn finished<R: Threads + Wait + Sync + AllocGlobal, I: Read + Drop, O: Write + Drop>(
     rt: &R,
     input: I,
     output: O,

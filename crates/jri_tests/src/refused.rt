@@ -25,7 +25,10 @@ const REFUSED: [(&str, &str); 17] = [
         "S Q F:0000:0008 D A C 63 E",
         "refused 11: width or height is 0\n",
     ),
-    ("S Q F:4000:4001 D A C 63 E", "refused 12: too many pixels\n"),
+    (
+        "S Q F:4000:4001 D A C 63 E",
+        "refused 12: too many pixels\n",
+    ),
     (
         "S FF C0 00 08 08 00 08 00 08 02",
         "refused 13: bad components\n",

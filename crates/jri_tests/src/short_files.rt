@@ -65,29 +65,31 @@ const BOTH_SOUND: &str =
 const BOTH_SOUND_TO_EOI: &str = "intervals 2 sound 2 damaged 0 blank 0\nscan ended at EOI\n";
 
 /// The least and the greatest length of a file cut short, and what becomes of it.
-const LENGTHS: [(usize, usize, Answer); 6] = [
-    (0, 1, refusal("refused 1: not a JPEG file\n")),
-    (2, 145, refusal("refused 2: the file ends early\n")),
-    (146, 146, damaged_picture("P5 16 8 : 16*128", BOTH_DAMAGED)),
-    (
-        147,
-        149,
-        damaged_picture("P5 16 8 : 8*136 8*128", ONE_DAMAGED),
-    ),
-    (150, 151, sound_picture("P5 16 8 : 16*136", BOTH_SOUND)),
-    (
-        152,
-        152,
-        sound_picture("P5 16 8 : 16*136", BOTH_SOUND_TO_EOI),
-    ),
-];
+fn lengths() -> [(usize, usize, Answer); 6] {
+    [
+        (0, 1, refusal("refused 1: not a JPEG file\n")),
+        (2, 145, refusal("refused 2: the file ends early\n")),
+        (146, 146, damaged_picture("P5 16 8 : 16*128", BOTH_DAMAGED)),
+        (
+            147,
+            149,
+            damaged_picture("P5 16 8 : 8*136 8*128", ONE_DAMAGED),
+        ),
+        (150, 151, sound_picture("P5 16 8 : 16*136", BOTH_SOUND)),
+        (
+            152,
+            152,
+            sound_picture("P5 16 8 : 16*136", BOTH_SOUND_TO_EOI),
+        ),
+    ]
+}
 
 /// The file of two intervals, cut to every length.
 #[test]
 fn answers_two_intervals_cut_short(rt: HostRuntime) -> Result<(), Fail> {
     let whole = file(rt.alloc(), "GI 63 FF D0 63 E")?;
     assert!(rt; whole.len() == 152);
-    for (least, most, answer) in &LENGTHS {
+    for (least, most, answer) in &lengths() {
         for length in *least..=*most {
             check(&rt, front(whole.as_slice(), length), *answer, length)?;
         }
@@ -106,23 +108,25 @@ const DAMAGED_TO_END: &str =
     "intervals 1 sound 0 damaged 1 blank 0\nscan ended at the end of the file\n";
 
 /// Places, the byte that stands there, and what becomes of the file.
-const CHANGES: [(usize, u8, Answer); 9] = [
-    (0, 0x00, refusal("refused 1: not a JPEG file\n")),
-    (2, 0x00, refusal("refused 3: expected a marker at byte 2\n")),
-    (3, 0x00, refusal("refused 3: expected a marker at byte 3\n")),
-    (3, 0xFF, refusal("refused 3: expected a marker at byte 4\n")),
-    (140, 0x00, sound_picture("P5 8 8 : 8*128", SOUND)),
-    (140, 0xFF, damaged_picture("P5 8 8 : 8*128", DAMAGED)),
-    (141, 0x00, damaged_picture("P5 8 8 : 8*136", DAMAGED_TO_END)),
-    (142, 0x00, damaged_picture("P5 8 8 : 8*136", DAMAGED_TO_END)),
-    (142, 0xFF, sound_picture("P5 8 8 : 8*136", SOUND_TO_END)),
-];
+fn changes() -> [(usize, u8, Answer); 9] {
+    [
+        (0, 0x00, refusal("refused 1: not a JPEG file\n")),
+        (2, 0x00, refusal("refused 3: expected a marker at byte 2\n")),
+        (3, 0x00, refusal("refused 3: expected a marker at byte 3\n")),
+        (3, 0xFF, refusal("refused 3: expected a marker at byte 4\n")),
+        (140, 0x00, sound_picture("P5 8 8 : 8*128", SOUND)),
+        (140, 0xFF, damaged_picture("P5 8 8 : 8*128", DAMAGED)),
+        (141, 0x00, damaged_picture("P5 8 8 : 8*136", DAMAGED_TO_END)),
+        (142, 0x00, damaged_picture("P5 8 8 : 8*136", DAMAGED_TO_END)),
+        (142, 0xFF, sound_picture("P5 8 8 : 8*136", SOUND_TO_END)),
+    ]
+}
 
 /// The smallest grey file with one byte changed.
 #[test]
 fn answers_one_byte_changed(rt: HostRuntime) -> Result<(), Fail> {
     let whole = file(rt.alloc(), "G 63 E")?;
-    for (at, value, answer) in &CHANGES {
+    for (at, value, answer) in &changes() {
         let bytes = with_byte(rt.alloc(), whole.as_slice(), *at, *value)?;
         check(&rt, bytes.as_slice(), *answer, *at)?;
     }

@@ -65,7 +65,10 @@ const LINES: [(&str, u32, Option<u32>, Option<&str>); 7] = [
 fn asks_for_a_decoding(rt: HostRuntime) -> Result<(), Fail> {
     for (line, workers, first, name) in &LINES {
         let found = asked_by(rt.alloc(), line)?;
-        assert!(rt; (found.workers, found.first) == (*workers, *first), "{line}");
+        assert!(rt;
+            (found.workers, found.first) == (*workers, *first),
+            "{line}"
+        );
         assert!(rt; is_named(&found, *name), "file of {line}");
     }
     Ok(())
