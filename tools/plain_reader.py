@@ -1,6 +1,6 @@
 """A plain reader of baseline scans, bit by bit as ITU-T T.81 has them: which restart intervals have a decoding, how far
-the others go, and where their bytes stand. For comparisons: it shares nothing with jri, and takes only files whose head is
-as cjpeg writes it."""
+the others go, and where their bytes stand. For comparisons: it shares nothing with jri, and takes only files whose head
+would be accepted."""
 
 import re
 
@@ -45,12 +45,14 @@ class Head:
     def __init__(self, data):
         self.restart, self.tables, self.at = 0, {}, 2
         while True:
+            while data[self.at + 1] == 0xFF:
+                self.at += 1
             code, size = data[self.at + 1], int.from_bytes(data[self.at + 2 : self.at + 4], "big")
             payload = data[self.at + 4 : self.at + 2 + size]
             self.at += 2 + size
             if code == 0xC4:
                 self.add_tables(payload)
-            elif code == 0xC0:
+            elif code in (0xC0, 0xC1):
                 self.frame(payload)
             elif code == 0xDD:
                 self.restart = int.from_bytes(payload, "big")
@@ -123,23 +125,29 @@ MARKER = re.compile(rb"\xff+[^\x00\xff]", re.DOTALL)
 
 
 def segments(data, start, intervals):
-    """Where each interval's bytes start and end, for as many as have some; and whether EOI follows."""
+    """Where each interval's bytes start and end, for as many as have some; and where the scan ended, if not at EOI."""
     spans = []
     while True:
         found = MARKER.search(data, start)
         if not found:
             tail = re.search(rb"\xff*\Z", data[start:])
-            return spans + [(start, start + tail.start())], False
+            return spans + [(start, start + tail.start())], "the end of the file"
         spans.append((start, found.start()))
-        code = data[found.end() - 1]
-        if len(spans) == intervals or code != 0xD0 + (len(spans) - 1) % 8:
-            return spans, code == 0xD9
+        code, due = data[found.end() - 1], (len(spans) - 1) % 8
+        if code == 0xD9:
+            return spans, ""
+        if not 0xD0 <= code <= 0xD7:
+            return spans, f"marker {code:02X}, byte {found.start()}"
+        if len(spans) == intervals:
+            return spans, f"a restart marker past the last interval, byte {found.start()}"
+        if code != 0xD0 + due:
+            return spans, f"RST{code - 0xD0} where RST{due} was due, byte {found.start()}"
         start = found.end()
 
 
 def check(data):
     """How many intervals there are; of each damaged one its number, first and last MCU, first and last line, first and
-    last byte, and how many MCUs can be decoded; and whether EOI follows."""
+    last byte, and how many MCUs can be decoded; and where the scan ended, if not at EOI."""
     head = Head(data)
     each = head.restart or head.mcus
     intervals = -(-head.mcus // each)
@@ -154,3 +162,21 @@ def check(data):
             lines = first // head.across * head.high, min((last // head.across + 1) * head.high, head.height) - 1
             damaged.append((number, (first, last), lines, (start, end - 1) if start < end else None, done, mcus))
     return intervals, damaged, ended
+
+
+def lines(data):
+    """The lines that a check with a map has of a file."""
+    intervals, damaged, ended = check(data)
+    many = "1 interval" if intervals == 1 else f"{intervals} intervals"
+    end = ended and f", scan ended at {ended}"
+    if not damaged:
+        return [f"sound, {many}{end}"]
+    top, bottom = min(d[2][0] for d in damaged), max(d[2][1] for d in damaged)
+    told = [f"damaged, {len(damaged)} of {many}, lines {top} to {bottom}{end}"]
+    for number, mcus, touched, span, done, count in damaged:
+        place = "no bytes" if span is None else f"bytes {span[0]} to {span[1]}"
+        told.append(
+            f"interval {number}, MCUs {mcus[0]} to {mcus[1]}, lines {touched[0]} to {touched[1]}, {place}, "
+            f"{done} of {count} MCUs decodable"
+        )
+    return told

@@ -62,12 +62,28 @@ impl Write for Device {
 /// The greatest buffer of a call.
 const ROOM: usize = 5000;
 
-/// What a call through a tally answers; 0 for a flush that goes well.
+fn read(tally: &mut Tally<Device>, room: &mut [u8]) -> Option<usize> {
+    tally.read(room).ok()
+}
+
+fn write(tally: &mut Tally<Device>, room: &[u8]) -> Option<usize> {
+    tally.write(room).ok()
+}
+
+/// 0 for a flush that goes well.
+fn flush(tally: &mut Tally<Device>) -> Option<usize> {
+    match tally.flush() {
+        Ok(()) => Some(0),
+        Err(_) => None,
+    }
+}
+
+/// What a call through a tally answers.
 fn answer_of(tally: &mut Tally<Device>, call: Call, room: &mut [u8; ROOM]) -> Option<usize> {
     match call {
-        Call::Read(length) => tally.read(&mut room[..length.min(ROOM)]).ok(),
-        Call::Write(length) => tally.write(&room[..length.min(ROOM)]).ok(),
-        Call::Flush => tally.flush().map(|_| 0).ok(),
+        Call::Read(length) => read(tally, &mut room[..length.min(ROOM)]),
+        Call::Write(length) => write(tally, &room[..length.min(ROOM)]),
+        Call::Flush => flush(tally),
     }
 }
 
@@ -85,8 +101,8 @@ fn check<R: Abort>(
     assert!(rt; !tally.failed());
     for at in 0..3usize {
         let answer = answer_of(&mut tally, calls[at], &mut room);
-        assert!(rt; answer == answers[at], "answer to call {at}");
-        assert!(rt; tally.failed() == failed[at], "failed after call {at}");
+        let outcome = (answer, tally.failed());
+        assert!(rt; outcome == (answers[at], failed[at]), "call {at}");
     }
     let noted = tally.into_inner().calls;
     assert!(rt; noted.as_slice() == calls.as_slice(), "calls of the device");

@@ -37,6 +37,23 @@ fn book_of(alloc: Global, counts: &[u8; 16]) -> Result<CodeBook, Fail> {
     Ok(CodeBook::new(alloc, counts, symbols)?)
 }
 
+/// The book of these counts and symbols.
+fn book_with(alloc: Global, counts: &[u8; 16], symbols: &[u8]) -> Result<CodeBook, Fail> {
+    Ok(CodeBook::new(alloc, counts, symbols)?)
+}
+
+/// The symbol of the word in front of the bits, and how many are left.
+fn read(book: &CodeBook, bits: &mut Bits<'_>) -> (Option<u8>, u64) {
+    let symbol = book.read(bits);
+    (symbol, bits.left())
+}
+
+/// The same with the value of its extra bits.
+fn read_extended(book: &CodeBook, bits: &mut Bits<'_>) -> (Option<(u8, i32)>, u64) {
+    let found = book.read_extended(bits);
+    (found, bits.left())
+}
+
 /// The bits of at most sixteen bytes.
 fn bits_of(bytes: &[u8]) -> Result<Bits<'_>, Fail> {
     if bytes.len() > 16 {
@@ -63,8 +80,7 @@ fn reads_words(rt: HostRuntime) -> Result<(), Fail> {
     for (counts, bytes, symbol, left) in &WORDS {
         let book = book_of(rt.alloc(), counts)?;
         let mut bits = bits_of(bytes)?;
-        assert!(rt; book.read(&mut bits) == *symbol);
-        assert!(rt; bits.left() == *left);
+        assert!(rt; read(&book, &mut bits) == (*symbol, *left));
     }
     Ok(())
 }
@@ -74,19 +90,40 @@ fn reads_words(rt: HostRuntime) -> Result<(), Fail> {
 fn reads_no_word_behind_the_last(rt: HostRuntime) -> Result<(), Fail> {
     let book = book_of(rt.alloc(), &EACH_LENGTH)?;
     let mut bits = bits_of(&[0x7F])?;
-    assert!(rt; book.read(&mut bits) == Some(0));
-    assert!(rt; book.read(&mut bits) == None);
-    assert!(rt; bits.left() == 7);
+    assert!(rt; read(&book, &mut bits) == (Some(0), 7));
+    assert!(rt; read(&book, &mut bits) == (None, 7));
     Ok(())
 }
 
 #[test]
 fn looks_up_bytes(rt: HostRuntime) -> Result<(), Fail> {
     let book = book_of(rt.alloc(), &LUMINANCE_DC)?;
-    assert!(rt; book.entries()[0] == Some((0, 2)));
-    assert!(rt; book.entries()[0xFE] == Some((10, 8)));
-    assert!(rt; book.entries()[0xFF] == None);
+    let entries = book.entries();
+    assert!(rt; entries[0] == Some((0, 2)));
+    assert!(rt; entries[0xFE] == Some((10, 8)));
+    assert!(rt; entries[0xFF] == None);
     Ok(())
+}
+
+/// The plain reader's symbol of the word at a bit, and how many bits it takes.
+fn plain_word(counts: &[u8; 16], symbols: &[u8], bytes: &[u8], at: usize) -> (Option<u8>, usize) {
+    match word(counts, symbols, bytes, at) {
+        Some((symbol, long)) => (Some(symbol), long),
+        None => (None, 0),
+    }
+}
+
+/// The same with the value of its extra bits.
+fn plain_extended_word(
+    counts: &[u8; 16],
+    symbols: &[u8],
+    bytes: &[u8],
+    at: usize,
+) -> (Option<(u8, i32)>, usize) {
+    match extended_word(counts, symbols, bytes, at) {
+        Some((symbol, value, long)) => (Some((symbol, value)), long),
+        None => (None, 0),
+    }
 }
 
 /// The book of these counts reads each word in front of what is left of the bytes as the plain reader does.
@@ -101,10 +138,10 @@ fn check_words(
     let all = bits.left();
     let mut at: usize = 0;
     for _ in 0..=128u32 {
-        let plain = word(counts, &symbols, bytes, at);
-        assert!(rt; book.read(&mut bits) == plain.map(|(symbol, _)| symbol));
-        at = at.saturating_add(plain.map_or(0, |(_, long)| long));
-        assert!(rt; bits.left() == all.saturating_sub(at as u64));
+        let (symbol, long) = plain_word(counts, &symbols, bytes, at);
+        at = at.saturating_add(long);
+        let left = all.saturating_sub(at as u64);
+        assert!(rt; read(book, &mut bits) == (symbol, left));
     }
     Ok(())
 }
@@ -121,12 +158,10 @@ fn check_extended_words(
     let all = bits.left();
     let mut at: usize = 0;
     for _ in 0..=128u32 {
-        let plain = extended_word(counts, &symbols, bytes, at);
-        assert!(rt;
-            book.read_extended(&mut bits) == plain.map(|(symbol, value, _)| (symbol, value))
-        );
-        at = at.saturating_add(plain.map_or(0, |(_, _, long)| long));
-        assert!(rt; bits.left() == all.saturating_sub(at as u64));
+        let (found, long) = plain_extended_word(counts, &symbols, bytes, at);
+        at = at.saturating_add(long);
+        let left = all.saturating_sub(at as u64);
+        assert!(rt; read_extended(book, &mut bits) == (found, left));
     }
     Ok(())
 }
@@ -166,14 +201,10 @@ fn check_up_to_each_end(
 ) -> Result<(), Fail> {
     for end in 0..=8usize {
         let bytes = &bytes[..end];
-        let plain = extended_word(&EACH_LENGTH, symbols, bytes, 0);
+        let (found, taken) = plain_extended_word(&EACH_LENGTH, symbols, bytes, 0);
         let mut bits = bits_of(bytes)?;
-        let all = bits.left();
-        assert!(rt;
-            book.read_extended(&mut bits) == plain.map(|(symbol, value, _)| (symbol, value))
-        );
-        let taken = plain.map_or(0, |(_, _, long)| long);
-        assert!(rt; bits.left() == all.saturating_sub(taken as u64));
+        let left = bits.left().saturating_sub(taken as u64);
+        assert!(rt; read_extended(book, &mut bits) == (found, left));
     }
     Ok(())
 }
@@ -184,7 +215,7 @@ fn check_up_to_each_end(
 fn reads_each_length_with_each_number_of_extra_bits(rt: HostRuntime) -> Result<(), Fail> {
     for first in 0..16u8 {
         let symbols = symbols_from(first);
-        let book = CodeBook::new(rt.alloc(), &EACH_LENGTH, &symbols)?;
+        let book = book_with(rt.alloc(), &EACH_LENGTH, &symbols)?;
         for ones in 0..16u32 {
             let word = !(u32::MAX >> ones);
             for extra in [0x5A96_C3F1u32, 0xA569_3C0E] {
@@ -194,6 +225,12 @@ fn reads_each_length_with_each_number_of_extra_bits(rt: HostRuntime) -> Result<(
         }
     }
     Ok(())
+}
+
+/// The value of so many extra bits, of fifteen at most, and how many are left.
+fn extra(bits: &mut Bits<'_>, size: u32) -> (Option<i32>, u64) {
+    let value = bits.extra(size.min(15));
+    (value, bits.left())
 }
 
 /// How many extra bits, two bytes, and what the bits stand for.
@@ -215,10 +252,9 @@ const EXTRA_BITS: [(u32, [u8; 2], i32); 11] = [
 fn reads_extra_bits(rt: HostRuntime) {
     for (size, bytes, value) in &EXTRA_BITS {
         let size = *size;
-        assert!(rt; size <= 15);
         let mut bits = Bits::over(bytes);
-        assert!(rt; bits.extra(size) == Some(*value));
-        assert!(rt; bits.left() == 16 - u64::from(size));
+        let left = 16u64.saturating_sub(u64::from(size));
+        assert!(rt; extra(&mut bits, size) == (Some(*value), left));
     }
 }
 
@@ -240,10 +276,15 @@ fn reads_words_with_extra_bits(rt: HostRuntime) -> Result<(), Fail> {
     let book = book_of(rt.alloc(), &LUMINANCE_DC)?;
     for (bytes, answer, left) in &EXTENDED_WORDS {
         let mut bits = bits_of(bytes)?;
-        assert!(rt; book.read_extended(&mut bits) == *answer);
-        assert!(rt; bits.left() == *left);
+        assert!(rt; read_extended(&book, &mut bits) == (*answer, *left));
     }
     Ok(())
+}
+
+/// The number of so many bits, of sixteen at most, and how many are left.
+fn take(bits: &mut Bits<'_>, count: u32) -> (Option<u16>, u64) {
+    let number = bits.take(count.min(16));
+    (number, bits.left())
 }
 
 /// How many bits, their number, and how many are left.
@@ -261,10 +302,7 @@ const TAKEN: [(u32, Option<u16>, u64); 7] = [
 fn takes_bits(rt: HostRuntime) -> Result<(), Fail> {
     let mut bits = bits_of(&[0x12, 0x34, 0x56, 0x78, 0x9A])?;
     for (count, number, left) in &TAKEN {
-        let count = *count;
-        assert!(rt; count <= 16);
-        assert!(rt; bits.take(count) == *number);
-        assert!(rt; bits.left() == *left);
+        assert!(rt; take(&mut bits, *count) == (*number, *left));
     }
     Ok(())
 }
@@ -273,13 +311,16 @@ fn takes_bits(rt: HostRuntime) -> Result<(), Fail> {
 #[test]
 fn keeps_the_bits_once_more(rt: HostRuntime) -> Result<(), Fail> {
     let mut bits = bits_of(&[0x9A])?;
-    assert!(rt; bits.take(3) == Some(4));
+    assert!(rt; take(&mut bits, 3) == (Some(4), 5));
     let again = bits.again();
-    assert!(rt; bits.extra(6) == None);
-    assert!(rt; bits.left() == 5);
-    assert!(rt; bits.take(5) == Some(0x1A));
-    assert!(rt; (bits.left(), again.left()) == (0, 5));
+    assert!(rt; extra(&mut bits, 6) == (None, 5));
+    assert!(rt; take(&mut bits, 5) == (Some(0x1A), 0));
+    assert!(rt; again.left() == 5);
     Ok(())
+}
+
+fn fault_of(alloc: Global, counts: &[u8; 16], symbols: &[u8]) -> Option<CodeFault> {
+    CodeBook::new(alloc, counts, symbols).err()
 }
 
 #[test]
@@ -296,17 +337,28 @@ fn refuses_what_is_no_table(rt: HostRuntime) -> Result<(), Fail> {
         (&FULL, &symbols[..17], None),
     ];
     for (counts, symbols, fault) in &rows {
-        assert!(rt; CodeBook::new(rt.alloc(), counts, symbols).err() == *fault);
+        assert!(rt; fault_of(rt.alloc(), counts, symbols) == *fault);
     }
     Ok(())
+}
+
+fn is_its_clone(book: &CodeBook) -> Result<bool, Fail> {
+    let clone = book.try_clone()?;
+    Ok(*book == clone)
+}
+
+/// Whether the book with a word of each length is equal to the one of these symbols.
+fn is_book_of(alloc: Global, book: &CodeBook, symbols: &[u8]) -> Result<bool, Fail> {
+    let other = book_with(alloc, &EACH_LENGTH, symbols)?;
+    Ok(*book == other)
 }
 
 #[test]
 fn compares_by_counts_and_symbols(rt: HostRuntime) -> Result<(), Fail> {
     let symbols = symbols_up_to_255();
-    let each = CodeBook::new(rt.alloc(), &EACH_LENGTH, &symbols[..16])?;
-    let others = CodeBook::new(rt.alloc(), &EACH_LENGTH, &symbols[1..17])?;
-    assert!(rt; each == each.try_clone()?);
-    assert!(rt; each != others);
+    let each = book_with(rt.alloc(), &EACH_LENGTH, &symbols[..16])?;
+    assert!(rt; is_its_clone(&each)?);
+    assert!(rt; is_book_of(rt.alloc(), &each, &symbols[..16])?);
+    assert!(rt; !is_book_of(rt.alloc(), &each, &symbols[1..17])?);
     Ok(())
 }

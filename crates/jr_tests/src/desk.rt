@@ -8,17 +8,38 @@ use std::test::Fail;
 use std::thread;
 use std::thread::Threads;
 
+/// The next number, at a seat of this desk.
+fn claim(desk: &Desk, seat: &mut Seat) -> Option<u32>
+    requires { seat.old.desk ≡ desk.now }
+    ensures { seat.new.desk ≡ seat.old.desk }
+{
+    desk.claim(seat)
+}
+
+/// What two seats get of a desk of three numbers, in turn.
+fn claim_in_turn(desk: &Desk, a: &mut Seat, b: &mut Seat) -> [Option<u32>; 6]
+    requires a { a.old.desk ≡ desk.now }
+    requires b { b.old.desk ≡ desk.now }
+    ensures a { a.new.desk ≡ a.old.desk }
+    ensures b { b.new.desk ≡ b.old.desk }
+{
+    [
+        claim(desk, a),
+        claim(desk, b),
+        claim(desk, a),
+        claim(desk, b),
+        claim(desk, a),
+        claim(desk, a),
+    ]
+}
+
 #[test]
 fn hands_out_to_two_seats_in_turn(rt: HostRuntime) -> Result<(), Fail> {
     let (desk, mut seats) = Desk::open(rt.alloc(), 3, 2)?;
     assert!(rt; seats.len() == 2);
     let (mut b, mut a) = (seats.remove(1), seats.remove(0));
-    assert!(rt; desk.claim(&mut a) == Some(0));
-    assert!(rt; desk.claim(&mut b) == Some(1));
-    assert!(rt; desk.claim(&mut a) == Some(2));
-    assert!(rt; desk.claim(&mut b) == None);
-    assert!(rt; desk.claim(&mut a) == None);
-    assert!(rt; desk.claim(&mut a) == None);
+    let numbers = claim_in_turn(&desk, &mut a, &mut b);
+    assert!(rt; numbers == [Some(0), Some(1), Some(2), None, None, None]);
     assert!(rt; (a.drawn(), b.drawn()) == (2, 1));
     let mut ended = Vec::new(rt.alloc());
     ended.push(a)?;
@@ -31,7 +52,7 @@ fn hands_out_to_two_seats_in_turn(rt: HostRuntime) -> Result<(), Fail> {
 fn hands_out_nothing_below_0(rt: HostRuntime) -> Result<(), Fail> {
     let (desk, mut seats) = Desk::open(rt.alloc(), 0, 1)?;
     let mut seat = seats.remove(0);
-    assert!(rt; desk.claim(&mut seat) == None);
+    assert!(rt; claim(&desk, &mut seat) == None);
     assert!(rt; seat.drawn() == 0);
     seats.push(seat)?;
     assert!(rt; desk.gather(seats).total() == 0);

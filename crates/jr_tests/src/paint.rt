@@ -3,7 +3,8 @@
 mod painting;
 mod tables;
 
-use jr_head::{Head, Kind, read_head};
+use crate::head::head_in;
+use jr_head::{Head, Kind};
 use std::alloc::Global;
 use std::test::Fail;
 use test_files::files::file;
@@ -28,5 +29,5 @@ fn head_of(alloc: Global, shape: &Shape) -> Result<Head, Fail> {
         Kind::Rgb => format!(in alloc; "S T Q F3:{height:04X}:{width:04X}:{across}{down} D A C3")?,
     };
     let bytes = file(alloc, words.as_str())?;
-    Ok(read_head(alloc, bytes.as_slice())?)
+    head_in(alloc, bytes.as_slice())
 }

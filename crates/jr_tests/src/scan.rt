@@ -3,3 +3,17 @@
 mod by_definition;
 mod long;
 mod rows;
+
+use jr_scan::{Block, FrontBlocks, Interval};
+use std::alloc::Global;
+use std::test::Fail;
+
+/// What can be read of an interval.
+fn front_of(alloc: Global, interval: &Interval) -> Result<FrontBlocks, Fail> {
+    Ok(interval.read_front(alloc)?)
+}
+
+/// The blocks of an interval; none where it has no decoding.
+fn blocks_of(alloc: Global, interval: &Interval) -> Result<Option<Vec<Block>>, Fail> {
+    Ok(interval.read(alloc)?)
+}

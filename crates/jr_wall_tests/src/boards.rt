@@ -1,9 +1,9 @@
 //! Pieces posted on a board: out of order, twice, and of another file's scan.
 
-use crate::shown::{marks_of, piece, sample_at, shows};
+use crate::shown::{decode, has_marks, is_flat, piece, post, sample_at, shows, takes};
 use jr_paint::Samples;
 use jr_scan::Scan;
-use jr_wall::{Board, Gate, Mark, OpenGate, Piece, Unposted, decode_all};
+use jr_wall::{Board, Gate, Mark, OpenGate};
 use std::alloc::Global;
 use std::process::Abort;
 use std::sync::{Arc, Wait};
@@ -24,15 +24,6 @@ fn blank_board(alloc: Global, words: &str) -> Result<(Arc<Scan>, Board), Fail> {
     Ok((scan, board))
 }
 
-/// The piece that comes back, and whether the board calls it foreign.
-fn piece_back(outcome: Result<(), Unposted>) -> Option<(Arc<Piece>, bool)> {
-    match outcome {
-        Ok(()) => None,
-        Err(Unposted::Foreign(piece)) => Some((piece, true)),
-        Err(Unposted::AlreadyMarked(piece)) => Some((piece, false)),
-    }
-}
-
 fn counts(board: &Board) -> (u32, u32, u32) {
     (board.sound(), board.damaged(), board.blank())
 }
@@ -43,11 +34,11 @@ fn takes_a_damaged_piece_before_a_sound_one(rt: HostRuntime) -> Result<(), Fail>
     let (scan, mut board) = blank_board(alloc, DAMAGED)?;
     assert!(rt; counts(&board) == (0, 0, 2));
     assert!(rt; sample_at(&board, 0, 0) == Some(0));
-    assert!(rt; board.post(piece(alloc, &scan, 1)?).is_ok());
-    assert!(rt; marks_of(alloc, &scan, &board)?.as_str() == "-d");
+    assert!(rt; takes(alloc, &scan, &mut board, 1)?);
+    assert!(rt; has_marks(alloc, &scan, &board, "-d")?);
     assert!(rt; (sample_at(&board, 8, 0), sample_at(&board, 0, 0)) == (Some(128), Some(0)));
-    assert!(rt; board.post(piece(alloc, &scan, 0)?).is_ok());
-    assert!(rt; marks_of(alloc, &scan, &board)?.as_str() == "sd");
+    assert!(rt; takes(alloc, &scan, &mut board, 0)?);
+    assert!(rt; has_marks(alloc, &scan, &board, "sd")?);
     assert!(rt; shows(&board, 0, 136) && shows(&board, 8, 128));
     assert!(rt; counts(&board) == (1, 1, 0));
     Ok(())
@@ -74,12 +65,11 @@ fn takes_pieces_out_of_order(rt: HostRuntime) -> Result<(), Fail> {
     for (number, letters) in &STEPS {
         let number = *number;
         assert!(rt; shows(&board, 8 * number, 0), "before {number}");
+        assert!(rt; takes(alloc, &scan, &mut board, number)?, "piece {number}");
         assert!(rt;
-            board.post(piece(alloc, &scan, number)?).is_ok(),
-            "piece {number}"
+            has_marks(alloc, &scan, &board, letters)?,
+            "marks after {number}"
         );
-        let found = marks_of(alloc, &scan, &board)?;
-        assert!(rt; found.as_str() == *letters, "marks after {number}");
         assert!(rt; shows(&board, 8 * number, 136), "after {number}");
     }
     assert!(rt; counts(&board) == (10, 0, 0));
@@ -92,15 +82,12 @@ fn refuses_a_piece_posted_twice(rt: HostRuntime) -> Result<(), Fail> {
     let (scan, mut board) = blank_board(alloc, SOUND)?;
     let once = piece(alloc, &scan, 0)?;
     let again = Arc::try_clone(&once)?;
-    assert!(rt; board.post(once).is_ok());
-    let (refused, is_foreign) = piece_back(board.post(again)).ok_or("posted twice")?;
-    assert!(rt; !is_foreign && refused.number() == 0);
-    let (refused, is_foreign) = piece_back(board.post(piece(alloc, &scan, 0)?)).ok_or(
-        "posted twice",
-    )?;
-    assert!(rt; !is_foreign && refused.number() == 0);
+    assert!(rt; post(&mut board, once).is_none());
+    assert!(rt; post(&mut board, again) == Some((0, true, false)));
+    let third = piece(alloc, &scan, 0)?;
+    assert!(rt; post(&mut board, third) == Some((0, true, false)));
     assert!(rt; counts(&board) == (1, 0, 1));
-    assert!(rt; marks_of(alloc, &scan, &board)?.as_str() == "s-");
+    assert!(rt; has_marks(alloc, &scan, &board, "s-")?);
     assert!(rt; shows(&board, 0, 136) && shows(&board, 8, 0));
     Ok(())
 }
@@ -113,10 +100,9 @@ fn refuses_a_foreign_piece(rt: HostRuntime) -> Result<(), Fail> {
     assert!(rt; board.is_of(&scan_here) && !board.is_of(&other));
     let stranger = piece(alloc, &other, 1)?;
     assert!(rt; stranger.is_for(&other) && !stranger.is_for(&scan_here));
-    let (refused, is_foreign) = piece_back(board.post(stranger)).ok_or("a foreign piece")?;
-    assert!(rt; is_foreign && refused.number() == 1 && !refused.is_sound());
+    assert!(rt; post(&mut board, stranger) == Some((1, false, true)));
     assert!(rt; counts(&board) == (0, 0, 2));
-    assert!(rt; marks_of(alloc, &scan_here, &board)?.as_str() == "--");
+    assert!(rt; has_marks(alloc, &scan_here, &board, "--")?);
     assert!(rt; shows(&board, 0, 0) && shows(&board, 8, 0));
     Ok(())
 }
@@ -127,10 +113,8 @@ fn refuses_a_piece_past_the_last(rt: HostRuntime) -> Result<(), Fail> {
     let alloc = rt.alloc();
     let ten = scan(alloc, TEN)?;
     let mut board = Board::new(alloc, scan(alloc, SOUND)?)?;
-    let (refused, is_foreign) = piece_back(board.post(piece(alloc, &ten, 9)?)).ok_or(
-        "past the last",
-    )?;
-    assert!(rt; is_foreign && refused.number() == 9);
+    let last = piece(alloc, &ten, 9)?;
+    assert!(rt; post(&mut board, last) == Some((9, true, true)));
     assert!(rt; counts(&board) == (0, 0, 2));
     Ok(())
 }
@@ -142,7 +126,7 @@ fn shows_sound_and_damaged_pieces(rt: HostRuntime) -> Result<(), Fail> {
     let scan_here = scan(alloc, DAMAGED)?;
     let first = piece(alloc, &scan_here, 0)?;
     assert!(rt; first.number() == 0 && first.is_sound() && first.front() == 1);
-    assert!(rt; first.block(0) == Some(&[136; 64]) && first.block(1).is_none());
+    assert!(rt; is_flat(&first, 0, 136) && first.block(1).is_none());
     let second = piece(alloc, &scan_here, 1)?;
     assert!(rt; second.number() == 1 && !second.is_sound() && second.front() == 0);
     assert!(rt; second.block(0).is_none());
@@ -150,7 +134,7 @@ fn shows_sound_and_damaged_pieces(rt: HostRuntime) -> Result<(), Fail> {
     let left_over = scan(alloc, "G 63 63 E")?;
     let piece_here = piece(alloc, &left_over, 0)?;
     assert!(rt; !piece_here.is_sound() && piece_here.front() == 1);
-    assert!(rt; piece_here.block(0) == Some(&[136; 64]));
+    assert!(rt; is_flat(&piece_here, 0, 136));
     Ok(())
 }
 
@@ -174,10 +158,9 @@ fn decodes<R: Threads + Wait + Sync + AllocGlobal + Abort>(
     samples: [u8; 8],
 ) -> Result<bool, Fail> {
     let scan = scan(rt.alloc(), DAMAGED)?;
-    let shared = Arc::try_clone(&scan)?;
-    let board = decode_all(rt, rt.alloc(), shared, 3, first, &OpenGate)?;
+    let board = decode(rt, &scan, 3, first)?;
     let size = (board.head().width(), board.head().height());
-    let is_marked = marks_of(rt.alloc(), &scan, &board)?.as_str() == letters;
+    let is_marked = has_marks(rt.alloc(), &scan, &board, letters)?;
     Ok(is_marked && size == (16, 8) && line(rt, &board, 4) == samples)
 }
 
@@ -205,8 +188,7 @@ fn keeps_the_first(board: &Board, scan: &Scan) -> bool {
 #[test]
 fn keeps_pieces(rt: HostRuntime) -> Result<(), Fail> {
     let scan = scan(rt.alloc(), SOUND)?;
-    let shared = Arc::try_clone(&scan)?;
-    let board = decode_all(&rt, rt.alloc(), shared, 2, Some(1), &OpenGate)?;
+    let board = decode(&rt, &scan, 2, Some(1))?;
     assert!(rt; board.is_of(&scan));
     assert!(rt; scan.intervals() == 2);
     assert!(rt; keeps_the_first(&board, &scan));

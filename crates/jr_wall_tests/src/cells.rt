@@ -104,18 +104,30 @@ fn pieces_of_another_thread_are_found(rt: HostRuntime) -> Result<(), Fail> {
     Ok(())
 }
 
+/// What comes back where a piece is hung, and whether it is this very piece; none where its cell takes it.
+fn back_of(
+    cells: &Cells,
+    piece: Arc<Piece>,
+    sight: &mut Sight,
+) -> Result<Option<(Content, bool)>, Fail>
+    requires { sight.old.cells ≡ cells.now }
+    ensures { sight.new.cells ≡ sight.old.cells }
+{
+    let kept = Arc::try_clone(&piece)?;
+    let Err(back) = hang(cells, piece, sight) else {
+        return Ok(None);
+    };
+    let content = content_of(&back).ok_or("a data unit")?;
+    Ok(Some((content, Arc::strong_count(&kept) == 2)))
+}
+
 #[test]
 fn a_full_cell_gives_the_second_piece_back(rt: HostRuntime) -> Result<(), Fail> {
     let cells = Cells::open(rt.alloc(), 10)?;
     let mut sight = cells.sight()?;
-    let first = last_piece_of(rt.alloc(), RISING)?;
-    let second = last_piece_of(rt.alloc(), FALLING)?;
-    let kept = Arc::try_clone(&second)?;
-    assert!(rt; hang(&cells, first, &mut sight).is_ok());
-    let back = hang(&cells, second, &mut sight).err();
-    let back = back.ok_or("the cell is full")?;
-    assert!(rt; Arc::strong_count(&kept) == 2);
-    assert!(rt; content_of(&back) == Some((9, true, [114; 64])));
+    assert!(rt; hang(&cells, last_piece_of(rt.alloc(), RISING)?, &mut sight).is_ok());
+    let back = back_of(&cells, last_piece_of(rt.alloc(), FALLING)?, &mut sight)?;
+    assert!(rt; back == Some(((9, true, [114; 64]), true)));
     assert!(rt; look(&cells, 9, &mut sight) == Some((9, true, [160; 64])));
     Ok(())
 }

@@ -1,6 +1,7 @@
 //! What workers leave of damaged intervals: marks, pieces in cells, and calls of the gate.
 
-use crate::shown::{letters_in_cells, marks_of};
+use crate::shown::{has_marks, letters_in_cells, open};
+use jr_scan::Scan;
 use jr_wall::{Decoding, Gate, Piece};
 use std::alloc::{AllocError, Global};
 use std::process::Abort;
@@ -69,6 +70,12 @@ impl Notes {
         }
         Ok(letters)
     }
+
+    /// Whether just the calls of these letters came.
+    fn has_letters(&self, alloc: Global, letters: &str) -> Result<bool, Fail> {
+        let told = self.letters(alloc)?;
+        Ok(told.as_str() == letters && number_of(&self.wrong) == 0)
+    }
 }
 
 impl Gate for Notes {
@@ -91,6 +98,25 @@ impl Gate for Notes {
     }
 }
 
+/// Whether the pieces in the cells have these letters.
+fn has_in_cells(alloc: Global, decoding: &Decoding, letters: &str) -> Result<bool, Fail> {
+    let found = letters_in_cells(alloc, decoding.cells())?;
+    Ok(found.as_str() == letters)
+}
+
+/// The decoding of the first intervals, after its two workers.
+fn decode<R: Threads + Wait + Sync>(
+    rt: &R,
+    alloc: Global,
+    scan: &Arc<Scan>,
+    first: usize,
+    gate: &Notes,
+) -> Result<Decoding, Fail> {
+    let (decoding, seats) = open(alloc, scan, 2, Some(u32::try_from(first)?))?;
+    decoding.run(rt, seats, gate, |_| {});
+    Ok(decoding)
+}
+
 /// Two workers decode the first intervals of a file, as many as there are letters: the board, the cells and the gate
 /// tell these.
 fn check<R: Threads + Wait + Sync + Abort>(
@@ -102,16 +128,13 @@ fn check<R: Threads + Wait + Sync + Abort>(
     let scan = scan(alloc, words)?;
     let decoded = letters.trim_end_matches('-');
     let gate = Notes::new(alloc, scan.intervals())?;
-    let first = u32::try_from(decoded.len())?;
-    let (decoding, seats) = Decoding::open(alloc, Arc::try_clone(&scan)?, 2, Some(first))?;
-    decoding.run(rt, seats, &gate, |_| {});
-    let told = gate.letters(alloc)?;
-    assert!(rt; told.as_str() == letters, "the gate was told {told}");
-    assert!(rt; number_of(&gate.wrong) == 0);
-    let found = letters_in_cells(alloc, decoding.cells())?;
-    assert!(rt; found.as_str() == decoded, "in the cells hang {found}");
-    let marks = marks_of(alloc, &scan, &decoding.board().lock(rt))?;
-    assert!(rt; marks.as_str() == letters, "the marks are {marks}");
+    let decoding = decode(rt, alloc, &scan, decoded.len(), &gate)?;
+    assert!(rt; gate.has_letters(alloc, letters)?, "the gate of {words}");
+    assert!(rt;
+        has_in_cells(alloc, &decoding, decoded)?,
+        "the cells of {words}"
+    );
+    assert!(rt; has_marks(alloc, &scan, &decoding.board().lock(rt), letters)?);
     Ok(())
 }
 

@@ -1,10 +1,8 @@
 //! What glances at a board see: before, while and after workers fill it.
 
-use crate::shown::{glimpse, letters_in_cells, look, piece, shows};
+use crate::shown::{decode, glimpse, letters_in_cells, look, open, shows, takes};
 use jr_scan::Scan;
-use jr_wall::{
-    Board, Cells, Decoding, Desk, Gate, Glimpse, Mark, OpenGate, Piece, decode_all, work,
-};
+use jr_wall::{Board, Cells, Desk, Gate, Glimpse, Mark, OpenGate, Piece, work};
 use std::sync::atomic::{AtomicU64, Ordering};
 use std::sync::{Arc, Mutex, Wait};
 use std::test::Fail;
@@ -84,7 +82,7 @@ fn is_seen_of_a_decoding<R: Threads + Wait + Sync + AllocGlobal>(
     scan: &Arc<Scan>,
     n: u32,
 ) -> Result<bool, Fail> {
-    let (decoding, seats) = Decoding::open(rt.alloc(), Arc::try_clone(scan)?, 2, Some(n))?;
+    let (decoding, seats) = open(rt.alloc(), scan, 2, Some(n))?;
     if !is_seen(rt, scan, decoding.board(), 0) {
         return Ok(false);
     }
@@ -98,8 +96,7 @@ fn is_seen_of_all<R: Threads + Wait + Sync + AllocGlobal>(
     scan: &Arc<Scan>,
     n: u32,
 ) -> Result<bool, Fail> {
-    let shared = Arc::try_clone(scan)?;
-    let board = decode_all(rt, rt.alloc(), shared, 2, Some(n), &OpenGate)?;
+    let board = decode(rt, scan, 2, Some(n))?;
     Ok(is_seen(rt, scan, &Mutex::new(board), n))
 }
 
@@ -122,7 +119,7 @@ fn looks_at_a_board_without_a_lock(rt: HostRuntime) -> Result<(), Fail> {
     let mut board = Board::new(alloc, Arc::try_clone(&scan)?)?;
     for n in 0..10u32 {
         assert!(rt; is_looked_at(&board, n), "before {n}");
-        assert!(rt; board.post(piece(alloc, &scan, n)?).is_ok());
+        assert!(rt; takes(alloc, &scan, &mut board, n)?);
     }
     assert!(rt; is_looked_at(&board, 10));
     Ok(())
@@ -158,13 +155,27 @@ impl<R: Wait> Gate for Onlooker<'_, R> {
     }
 }
 
+/// One worker fills the board of ten intervals.
+fn work_alone<R: Wait + AllocGlobal, G: Gate>(
+    rt: &R,
+    scan: &Scan,
+    board: &Mutex<Board>,
+    gate: &G,
+) -> Result<(), Fail> {
+    let (desk, mut seats) = Desk::open(rt.alloc(), 10, 1)?;
+    let mut seat = seats.pop().ok_or("one seat")?;
+    let cells = Cells::open(rt.alloc(), 10)?;
+    if desk.limit() > scan.intervals() || desk.limit() > cells.count() {
+        return Err(Fail::from("fewer intervals"));
+    }
+    work(rt, rt.alloc(), scan, &desk, &mut seat, board, &cells, gate);
+    Ok(())
+}
+
 #[test]
 fn sees_each_step_of_a_worker(rt: HostRuntime) -> Result<(), Fail> {
     let alloc = rt.alloc();
     let scan = scan(alloc, MIXED)?;
-    let (desk, mut seats) = Desk::open(alloc, 10, 1)?;
-    let mut seat = seats.pop().ok_or("one seat")?;
-    let cells = Cells::open(alloc, 10)?;
     let board = Mutex::new(Board::new(alloc, Arc::try_clone(&scan)?)?);
     let gate = Onlooker {
         rt: &rt,
@@ -173,8 +184,7 @@ fn sees_each_step_of_a_worker(rt: HostRuntime) -> Result<(), Fail> {
         calls: AtomicU64::new(0),
         wrong: AtomicU64::new(0),
     };
-    assert!(rt; desk.limit() <= scan.intervals() && desk.limit() <= cells.count());
-    work(&rt, alloc, &scan, &desk, &mut seat, &board, &cells, &gate);
+    work_alone(&rt, &scan, &board, &gate)?;
     assert!(rt; gate.calls.load(Ordering::SeqCst) == 20);
     assert!(rt; gate.wrong.load(Ordering::SeqCst) == 0);
     Ok(())
@@ -239,7 +249,7 @@ fn view<R: Wait>(rt: &R, scan: &Scan, board: &Mutex<Board>) -> bool {
 fn sees_marks_grow_beside_two_workers(rt: HostRuntime) -> Result<(), Fail> {
     let alloc = rt.alloc();
     let scan = scan(alloc, TEN)?;
-    let (decoding, seats) = Decoding::open(alloc, Arc::try_clone(&scan)?, 2, None)?;
+    let (decoding, seats) = open(alloc, &scan, 2, None)?;
     let is_lawful = decoding.run(&rt, seats, &OpenGate, |decoding| {
         view(&rt, &scan, decoding.board())
     });
@@ -255,7 +265,7 @@ fn sees_marks_grow_beside_two_workers(rt: HostRuntime) -> Result<(), Fail> {
 #[test]
 fn sees_nothing_of_another_scan(rt: HostRuntime) -> Result<(), Fail> {
     let alloc = rt.alloc();
-    let board = Mutex::new(decode_all(&rt, alloc, scan(alloc, TEN)?, 2, None, &OpenGate)?);
+    let board = Mutex::new(decode(&rt, &scan(alloc, TEN)?, 2, None)?);
     let (other, equal) = (scan(alloc, MIXED)?, scan(alloc, TEN)?);
     assert!(rt; glimpse(&rt, &board, &other, 0, 0, 0).is_none());
     let seen = glimpse(&rt, &board, &equal, 0, 0, 0).ok_or("of an equal scan")?;
@@ -307,8 +317,7 @@ fn decodes_coloured<R: Threads + Wait + Sync + AllocGlobal>(
     samples: [u8; 3],
 ) -> Result<bool, Fail> {
     let scan = scan(rt.alloc(), words)?;
-    let shared = Arc::try_clone(&scan)?;
-    let board = decode_all(rt, rt.alloc(), shared, 2, Some(first), &OpenGate)?;
+    let board = decode(rt, &scan, 2, Some(first))?;
     Ok(is_coloured(rt, &Mutex::new(board), &scan, mark, samples))
 }
 

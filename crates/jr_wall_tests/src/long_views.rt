@@ -2,6 +2,8 @@
 
 ghost use Rattle.std.specs.Prelude.{◌≡◌};
 
+use crate::shown::open;
+use jr_code::Memory;
 use jr_wall::{Decoding, OpenGate, Piece, Seat, Strip, StripCells, StripSight};
 use std::process::Abort;
 use std::sync::Wait;
@@ -25,32 +27,36 @@ fn is_shown(strip: &Strip, piece: &Piece, units: u32) -> bool {
     (0..count).all(|k| strip.block(k).copied() == piece.block(first.wrapping_add(k)).copied())
 }
 
-/// How many MCUs a viewer finds in the strips of an interval whose piece is there: those of its front, and each as the
-/// piece shows it.
-fn find(decoding: &Decoding, number: u32, units: u32) -> Result<u32, Fail> {
-    let strips = decoding.strips(number).ok_or("a long interval")?;
+/// How many MCUs a viewer finds in the strips of an interval; none where a strip differs from the piece.
+fn mcus_in(strips: &StripCells, piece: &Piece, units: u32) -> Result<Option<u32>, Memory> {
     let mut sight = strips.sight()?;
-    let mut piece_sight = decoding.cells().sight()?;
-    if number >= decoding.cells().count() {
-        return Err(Fail::from("no such interval"));
-    }
-    let piece = decoding
-        .cells()
-        .look(number, &mut piece_sight)
-        .ok_or("its piece")?;
     let mut found = 0u32;
     for place in 0..strips.count() {
         if let Some(strip) = strips.look(place, &mut sight) {
             if !is_shown(strip, piece, units) {
-                return Err(Fail::from("a strip that differs from the piece"));
+                return Ok(None);
             }
             found = found.saturating_add(strip.mcus());
         }
     }
-    if found != piece.front() {
-        return Err(Fail::from("not all of the front"));
+    Ok(Some(found))
+}
+
+/// How many MCUs a viewer finds in the strips of an interval whose piece is there: those of its front, and each as the
+/// piece shows it.
+fn find(decoding: &Decoding, number: u32, units: u32) -> Result<u32, Fail> {
+    let strips = decoding.strips(number).ok_or("a long interval")?;
+    let cells = decoding.cells();
+    let mut sight = cells.sight()?;
+    if number >= cells.count() {
+        return Err(Fail::from("no such interval"));
     }
-    Ok(found)
+    let piece = cells.look(number, &mut sight).ok_or("its piece")?;
+    let found = mcus_in(strips, piece, units)?;
+    if found != Some(piece.front()) {
+        return Err(Fail::from("not the strips of the front"));
+    }
+    Ok(piece.front())
 }
 
 /// How many strips a viewer sees.
@@ -94,12 +100,8 @@ fn check_watched<R: Threads + Wait + Sync + AllocGlobal + Abort>(
     mcus: u32,
 ) -> Result<(), Fail> {
     for workers in [1, 2, 4] {
-        let (decoding, seats) = Decoding::open(
-            rt.alloc(),
-            scan(rt.alloc(), words)?,
-            workers,
-            None,
-        )?;
+        let scan = scan(rt.alloc(), words)?;
+        let (decoding, seats) = open(rt.alloc(), &scan, workers, None)?;
         let is_steady = decoding.run(rt, seats, &OpenGate, |decoding| watch(decoding));
         assert!(rt; is_steady);
         assert!(rt; find(&decoding, 0, units)? == mcus);

@@ -1,12 +1,13 @@
 //! Pieces of small files, worked out by hand.
 
+use crate::shown::is_flat;
 use jr_piece::Piece;
 use jr_scan::Scan;
 use std::alloc::Global;
 use std::process::Abort;
 use std::test::Fail;
-use test_files::files::{COLOURED, COLOURED_DAMAGED, file};
-use test_files::scans::scan_of;
+use test_files::files::{COLOURED, COLOURED_DAMAGED};
+use test_files::scans::scan;
 
 fn piece_of(alloc: Global, scan: &Scan, i: u32) -> Result<Piece, Fail> {
     if i >= scan.intervals() {
@@ -24,7 +25,7 @@ fn check(rt: &impl Abort, piece: &Piece, is_sound: bool, front: u32, values: &[u
     assert!(rt; piece.front() == front);
     let mut k = 0u32;
     for value in values {
-        assert!(rt; piece.block(k) == Some(&[*value; 64]));
+        assert!(rt; is_flat(piece, k, *value));
         k = k.wrapping_add(1);
     }
     assert!(rt; piece.block(k).is_none());
@@ -43,8 +44,7 @@ const SMALL: [(&str, bool, u32, &[u8]); 4] = [
 #[test]
 fn shows_sound_and_damaged_intervals(rt: HostRuntime) -> Result<(), Fail> {
     for (words, is_sound, front, values) in &SMALL {
-        let bytes = file(rt.alloc(), words)?;
-        let scan = scan_of(rt.alloc(), bytes.as_slice())?;
+        let scan = scan(rt.alloc(), words)?;
         let piece = piece_of(rt.alloc(), &scan, 0)?;
         piece.be_outcome();
         assert!(rt; piece.number() == 0);
@@ -53,32 +53,43 @@ fn shows_sound_and_damaged_intervals(rt: HostRuntime) -> Result<(), Fail> {
     Ok(())
 }
 
+/// Intervals, and the values of their data units.
+const TWO: [(u32, &[u8]); 2] = [
+    (0, &[128, 128, 128, 128, 128, 200]),
+    (1, &[136, 136, 136, 136, 128, 128]),
+];
+
 /// 17 by 9 pixels, chroma at half the size in both directions, an interval for each MCU.
 #[test]
 fn shows_intervals_of_three_components(rt: HostRuntime) -> Result<(), Fail> {
-    let bytes = file(rt.alloc(), COLOURED)?;
-    let scan = scan_of(rt.alloc(), bytes.as_slice())?;
-    let first = piece_of(rt.alloc(), &scan, 0)?;
-    let second = piece_of(rt.alloc(), &scan, 1)?;
-    check(&rt, &first, true, 1, &[128, 128, 128, 128, 128, 200]);
-    check(&rt, &second, true, 1, &[136, 136, 136, 136, 128, 128]);
-    assert!(rt; second.number() == 1);
+    let scan = scan(rt.alloc(), COLOURED)?;
+    for (number, values) in &TWO {
+        let piece = piece_of(rt.alloc(), &scan, *number)?;
+        assert!(rt; piece.number() == *number);
+        check(&rt, &piece, true, 1, values);
+    }
     Ok(())
 }
 
 /// Two scans that differ in their second interval.
 #[test]
 fn is_for_scans_with_its_interval(rt: HostRuntime) -> Result<(), Fail> {
-    let bytes = file(rt.alloc(), COLOURED)?;
-    let scan = scan_of(rt.alloc(), bytes.as_slice())?;
-    let bytes = file(rt.alloc(), COLOURED_DAMAGED)?;
-    let other = scan_of(rt.alloc(), bytes.as_slice())?;
-    let first = piece_of(rt.alloc(), &scan, 0)?;
-    let second = piece_of(rt.alloc(), &scan, 1)?;
-    assert!(rt; first.is_for(&scan) && second.is_for(&scan));
-    assert!(rt; first.is_for(&other));
-    assert!(rt; !second.is_for(&other));
+    let one = scan(rt.alloc(), COLOURED)?;
+    let other = scan(rt.alloc(), COLOURED_DAMAGED)?;
+    for (number, is_for_other) in [(0, true), (1, false)] {
+        let piece = piece_of(rt.alloc(), &one, number)?;
+        assert!(rt; piece.is_for(&one));
+        assert!(rt; piece.is_for(&other) == is_for_other);
+    }
     Ok(())
+}
+
+/// The piece shows so many data units of one grey, and no further one.
+fn check_units(rt: &impl Abort, piece: &Piece, front: u32) {
+    for k in 0..front {
+        assert!(rt; is_flat(piece, k, 136), "unit {k} of {front}");
+    }
+    assert!(rt; piece.block(front).is_none());
 }
 
 /// Files, whether their interval is sound, and its front.
@@ -93,14 +104,10 @@ const LARGE: [(&str, bool, u32); 3] = [
 fn shows_thousands_of_data_units(rt: HostRuntime) -> Result<(), Fail> {
     for (words, is_sound, front) in &LARGE {
         let front = *front;
-        let bytes = file(rt.alloc(), words)?;
-        let scan = scan_of(rt.alloc(), bytes.as_slice())?;
+        let scan = scan(rt.alloc(), words)?;
         let piece = piece_of(rt.alloc(), &scan, 0)?;
         assert!(rt; (piece.is_sound(), piece.front()) == (*is_sound, front));
-        for k in 0..front {
-            assert!(rt; piece.block(k) == Some(&[136; 64]), "unit {k} of {front}");
-        }
-        assert!(rt; piece.block(front).is_none());
+        check_units(&rt, &piece, front);
     }
     Ok(())
 }

@@ -115,6 +115,25 @@ fn is_same(made: &Piece, piece: &Piece, units: u32) -> bool {
     made.block(units).is_none() && made.block(u32::MAX).is_none()
 }
 
+/// Whether a piece is of this scan, and like the other one, whose front has so many data units.
+fn is_like(made: &Piece, scan: &Scan, piece: &Piece, units: u32) -> bool {
+    made.be_outcome();
+    let is_of = made.number() == piece.number() && made.is_for(scan);
+    let has_front = (made.front(), made.is_sound()) == (piece.front(), piece.is_sound());
+    is_of && has_front && is_same(made, piece, units)
+}
+
+/// Whether the piece of strips that are cut so is like the other one.
+fn is_made(alloc: Global, scan: &Scan, cut: Cut, piece: &Piece, units: u32) -> Result<bool, Fail> {
+    if cut.first == 0 || cut.then == 0 {
+        return Ok(false);
+    }
+    match piece_of_strips(alloc, scan, cut)? {
+        Ok(made) => Ok(is_like(&made, scan, piece, units)),
+        Err(_) => Ok(false),
+    }
+}
+
 /// Takes the interval of a file apart, whose front has so many data units.
 fn check(
     rt: &impl Abort,
@@ -127,17 +146,8 @@ fn check(
     let piece = piece(alloc, &scan, 0)?;
     for (first, then) in cuts {
         let cut = strips_of(*first, *then, ALL);
-        if cut.first == 0 || cut.then == 0 {
-            return Err(Fail::from("a strip of no MCUs"));
-        }
-        let Ok(made) = piece_of_strips(alloc, &scan, cut)? else {
-            return Err(Fail::from("strips in order"));
-        };
-        made.be_outcome();
-        assert!(rt; made.number() == piece.number());
-        assert!(rt; (made.front(), made.is_sound()) == (piece.front(), piece.is_sound()));
         assert!(rt;
-            made.is_for(&scan) && is_same(&made, &piece, units),
+            is_made(alloc, &scan, cut, &piece, units)?,
             "strips of {first}"
         );
     }

@@ -1,6 +1,6 @@
 //! What a view shows of strips and pieces, beside the picture of a board.
 
-use crate::shown::piece;
+use crate::shown::{decoded, next_strip, piece};
 use jr_paint::{Samples, Tally, write_netpbm};
 use jr_scan::Scan;
 use jr_view::{Screen, View, watch};
@@ -39,11 +39,23 @@ fn strips_of(alloc: Global, scan: &Scan, each: u32) -> Result<Vec<Strip>, Fail> 
     let mut reader = StripReader::over(Arc::new(alloc, scan.interval(0)?)?);
     let mut strips = Vec::new(alloc);
     for _ in 0..300 {
-        if let Some(strip) = reader.next(alloc, each)? {
-            strips.push(strip.decode(alloc)?)?;
+        if let Some(coded) = next_strip(alloc, &mut reader, each)? {
+            strips.push(decoded(alloc, &coded)?)?;
         }
     }
     Ok(strips)
+}
+
+fn view_of(alloc: Global, scan: &Arc<Scan>) -> Result<View, Fail> {
+    Ok(View::of(alloc, scan)?)
+}
+
+fn show_piece(view: &mut View, piece: &Piece) {
+    view.show_piece(piece);
+}
+
+fn show_strip(view: &mut View, strip: &Strip) {
+    view.show_strip(strip);
 }
 
 #[test]
@@ -51,11 +63,11 @@ fn shows_sound_and_damaged_pieces_as_a_board(rt: HostRuntime) -> Result<(), Fail
     let alloc = rt.alloc();
     for words in [TEN, MIXED, COLOURED_DAMAGED] {
         let scan = scan(alloc, words)?;
-        let mut view = View::of(alloc, &scan)?;
+        let mut view = view_of(alloc, &scan)?;
         assert!(rt; view.rows() == 0);
         for i in 0..scan.intervals() {
             let piece = piece(alloc, &scan, i)?;
-            view.show_piece(&piece);
+            show_piece(&mut view, &piece);
             assert!(rt; view.has_seen(i));
         }
         assert!(rt; shows_all(alloc, &view, &scan)?, "{words}");
@@ -67,9 +79,9 @@ fn shows_sound_and_damaged_pieces_as_a_board(rt: HostRuntime) -> Result<(), Fail
 fn shows_grey_where_nothing_was_seen(rt: HostRuntime) -> Result<(), Fail> {
     let alloc = rt.alloc();
     let scan = scan(alloc, TEN)?;
-    let mut view = View::of(alloc, &scan)?;
+    let mut view = view_of(alloc, &scan)?;
     let piece = piece(alloc, &scan, 3)?;
-    view.show_piece(&piece);
+    show_piece(&mut view, &piece);
     assert!(rt; view.has_seen(3) && !view.has_seen(2) && !view.has_seen(4) && !view.has_seen(10));
     let text = text_of(alloc, &view)?;
     let line = text.get(text.len().saturating_sub(80)..).ok_or("a line")?;
@@ -84,12 +96,12 @@ fn shows_grey_where_nothing_was_seen(rt: HostRuntime) -> Result<(), Fail> {
 fn counts_rows_that_were_seen_whole(rt: HostRuntime) -> Result<(), Fail> {
     let alloc = rt.alloc();
     let scan = scan(alloc, FOUR_ROWS)?;
-    let mut view = View::of(alloc, &scan)?;
+    let mut view = view_of(alloc, &scan)?;
     let strips = strips_of(alloc, &scan, 48)?;
     assert!(rt; strips.len() == 6 && view.mcu_rows() == 4);
     for (place, rows) in [(1, 0), (0, 1), (0, 1), (5, 1), (3, 1), (4, 2), (2, 4)] {
         let strip = strips.get(place).ok_or("a strip")?;
-        view.show_strip(strip);
+        show_strip(&mut view, strip);
         assert!(rt; view.rows() == rows, "behind strip {place}");
     }
     Ok(())
@@ -100,14 +112,14 @@ fn shows_a_strip_before_its_piece(rt: HostRuntime) -> Result<(), Fail> {
     let alloc = rt.alloc();
     for words in [LONG, LONG_COLOURED] {
         let scan = scan(alloc, words)?;
-        let mut view = View::of(alloc, &scan)?;
+        let mut view = view_of(alloc, &scan)?;
         let strips = strips_of(alloc, &scan, 100)?;
         let third = strips.get(2).ok_or("a strip")?;
-        view.show_strip(third);
+        show_strip(&mut view, third);
         assert!(rt; view.has_seen(200) && view.has_seen(299));
         assert!(rt; !view.has_seen(199) && !view.has_seen(300));
         let piece = piece(alloc, &scan, 0)?;
-        view.show_piece(&piece);
+        show_piece(&mut view, &piece);
         assert!(rt; shows_all(alloc, &view, &scan)?, "{words}");
     }
     Ok(())
@@ -123,18 +135,28 @@ struct Told {
 
 impl Screen for Told {
     fn show_strip(&mut self, strip: &Strip) {
-        self.view.show_strip(strip);
+        show_strip(&mut self.view, strip);
         self.mcus = self.mcus.saturating_add(strip.mcus());
     }
 
     fn show_piece(&mut self, piece: &Piece) {
-        self.view.show_piece(piece);
+        show_piece(&mut self.view, piece);
         self.pieces = self.pieces.saturating_add(1);
     }
 
     fn is_done(&mut self) -> bool {
         self.view.rows() == self.view.mcu_rows()
     }
+}
+
+/// How many intervals are blank behind a decoding that is watched.
+fn blank_behind<R: Threads + Wait + Clock + Sync + AllocGlobal>(
+    rt: &R,
+    scan: &Arc<Scan>,
+    told: &mut Told,
+) -> Result<u32, Fail> {
+    let decoding = watch(rt, rt.alloc(), Arc::try_clone(scan)?, 2, told)?;
+    Ok(decoding.finish()?.blank())
 }
 
 /// Watches a file, and finds that it was told of each piece once, and of strips of so many MCUs.
@@ -145,17 +167,16 @@ fn check_watched<R: Threads + Wait + Clock + Sync + AllocGlobal + Abort>(
 ) -> Result<(), Fail> {
     let scan = scan(rt.alloc(), words)?;
     let mut told = Told {
-        view: View::of(rt.alloc(), &scan)?,
+        view: view_of(rt.alloc(), &scan)?,
         mcus: 0,
         pieces: 0,
     };
-    let decoding = watch(rt, rt.alloc(), Arc::try_clone(&scan)?, 2, &mut told)?;
+    assert!(rt; blank_behind(rt, &scan, &mut told)? == 0);
     assert!(rt;
         told.pieces == scan.intervals() && told.mcus == mcus,
         "{words}"
     );
     assert!(rt; shows_all(rt.alloc(), &told.view, &scan)?, "{words}");
-    assert!(rt; decoding.finish()?.blank() == 0);
     Ok(())
 }
 

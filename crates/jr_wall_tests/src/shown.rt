@@ -1,16 +1,20 @@
 //! Pieces of scans, and what boards and cells show of them.
 
-ghost use Rattle.std.specs.Prelude.{◌≡◌, ◌<◌, IsTrue};
+ghost use Rattle.std.specs.Prelude.{◌≡◌, ◌<◌, ◌≤◌, All, IfOk, IsTrue};
 ghost use Rattle.jr_head.specs.Geometry.{components_of};
 ghost use Rattle.jr_paint.specs.Geometry.{samples_across, samples_down};
 
 use jr_head::Head;
 use jr_paint::Samples;
 use jr_scan::Scan;
-use jr_wall::{Board, Cells, Glimpse, Mark, Piece, glance};
+use jr_wall::{
+    Board, Cells, CodedStrip, Decoding, Glimpse, Mark, OpenGate, Piece, Seat, Strip, StripReader,
+    Unposted, decode_all, glance,
+};
 use std::alloc::Global;
 use std::sync::{Arc, Mutex, Wait};
 use std::test::Fail;
+use std::thread::Threads;
 
 /// The piece of an interval.
 pub(crate) fn piece(alloc: Global, scan: &Scan, number: u32) -> Result<Arc<Piece>, Fail> {
@@ -22,8 +26,68 @@ pub(crate) fn piece(alloc: Global, scan: &Scan, number: u32) -> Result<Arc<Piece
     Ok(Arc::new(alloc, piece)?)
 }
 
+/// Whether the piece shows one value at a data unit.
+pub(crate) fn is_flat(piece: &Piece, k: u32, value: u8) -> bool {
+    piece.block(k) == Some(&[value; 64])
+}
+
+/// What a reader gives of an interval: a strip of so many MCUs at most.
+pub(crate) fn next_strip(
+    alloc: Global,
+    reader: &mut StripReader,
+    most: u32,
+) -> Result<Option<CodedStrip>, Fail> {
+    Ok(reader.next(alloc, most)?)
+}
+
+pub(crate) fn decoded(alloc: Global, coded: &CodedStrip) -> Result<Strip, Fail> {
+    Ok(coded.decode(alloc)?)
+}
+
+/// A piece that a board does not take: its number, whether it is sound, and whether the board calls it foreign.
+pub(crate) type Refused = (u32, bool, bool);
+
+/// Posts a piece. None where the board takes it.
+pub(crate) fn post(board: &mut Board, piece: Arc<Piece>) -> Option<Refused> {
+    let (piece, is_foreign) = match board.post(piece) {
+        Ok(()) => return None,
+        Err(Unposted::Foreign(piece)) => (piece, true),
+        Err(Unposted::AlreadyMarked(piece)) => (piece, false),
+    };
+    Some((piece.number(), piece.is_sound(), is_foreign))
+}
+
+/// The board of a scan's first intervals, or of all, by so many workers.
+pub(crate) fn decode<R: Threads + Wait + Sync + AllocGlobal>(
+    rt: &R,
+    scan: &Arc<Scan>,
+    workers: u32,
+    first: Option<u32>,
+) -> Result<Board, Fail>
+    requires some { 1 ≤ workers }
+    requires few { workers ≤ 64 }
+{
+    let shared = Arc::try_clone(scan)?;
+    Ok(decode_all(rt, rt.alloc(), shared, workers, first, &OpenGate)?)
+}
+
+/// A decoding of a scan's first intervals, or of all, and its seats for so many workers.
+pub(crate) fn open(
+    alloc: Global,
+    scan: &Arc<Scan>,
+    workers: u32,
+    first: Option<u32>,
+) -> Result<(Decoding, Vec<Seat>), Fail>
+    requires some { 1 ≤ workers }
+    requires few { workers ≤ 64 }
+    ensures { IfOk result (λ r. All (λ s. s.desk ≡ r.0.desk) r.1.items) }
+{
+    let shared = Arc::try_clone(scan)?;
+    Ok(Decoding::open(alloc, shared, workers, first)?)
+}
+
 /// The marks of a board of this scan: a letter for each interval.
-pub(crate) fn marks_of(alloc: Global, scan: &Scan, board: &Board) -> Result<String, Fail> {
+fn marks_of(alloc: Global, scan: &Scan, board: &Board) -> Result<String, Fail> {
     let mut letters = String::new(alloc);
     if !board.is_of(scan) {
         return Err(Fail::from("a board of another scan"));
@@ -36,6 +100,28 @@ pub(crate) fn marks_of(alloc: Global, scan: &Scan, board: &Board) -> Result<Stri
         })?;
     }
     Ok(letters)
+}
+
+/// Whether a board of this scan has these marks.
+pub(crate) fn has_marks(
+    alloc: Global,
+    scan: &Scan,
+    board: &Board,
+    letters: &str,
+) -> Result<bool, Fail> {
+    let marks = marks_of(alloc, scan, board)?;
+    Ok(marks.as_str() == letters)
+}
+
+/// Whether a board takes the piece of this number of a scan.
+pub(crate) fn takes(
+    alloc: Global,
+    scan: &Scan,
+    board: &mut Board,
+    number: u32,
+) -> Result<bool, Fail> {
+    let piece = piece(alloc, scan, number)?;
+    Ok(post(board, piece).is_none())
 }
 
 /// What a fresh sight finds in cells: a letter for each, as those of marks, and `?` for a piece of another number.

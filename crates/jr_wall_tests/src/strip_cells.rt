@@ -2,6 +2,7 @@
 
 ghost use Rattle.std.specs.Prelude.{◌≡◌};
 
+use crate::shown::{decoded, next_strip};
 use jr_scan::{Interval, Scan};
 use jr_wall::{Strip, StripCells, StripReader, StripSight};
 use std::alloc::Global;
@@ -40,10 +41,10 @@ fn strip(alloc: Global, place: u32) -> Result<Arc<Strip>, Fail> {
     let scan = scan(alloc, TWO)?;
     let mut reader = StripReader::over(interval_of(alloc, &scan, 1)?);
     for _ in 0..place {
-        reader.next(alloc, 2)?.ok_or("a strip before")?;
+        next_strip(alloc, &mut reader, 2)?.ok_or("a strip before")?;
     }
-    let coded = reader.next(alloc, 2)?.ok_or("a strip")?;
-    Ok(Arc::new(alloc, coded.decode(alloc)?)?)
+    let coded = next_strip(alloc, &mut reader, 2)?.ok_or("a strip")?;
+    Ok(Arc::new(alloc, decoded(alloc, &coded)?)?)
 }
 
 /// The cells for such strips.
@@ -68,6 +69,20 @@ fn hang(cells: &StripCells, strip: Arc<Strip>, sight: &mut StripSight) -> Result
     cells.hang(place, strip, sight)
 }
 
+/// Whether the strip of this place finds its cell empty.
+fn hangs(
+    alloc: Global,
+    cells: &StripCells,
+    place: u32,
+    sight: &mut StripSight,
+) -> Result<bool, Fail>
+    requires { sight.old.cells ≡ cells.now }
+    ensures { sight.new.cells ≡ sight.old.cells }
+{
+    let strip = strip(alloc, place)?;
+    Ok(hang(cells, strip, sight).is_ok())
+}
+
 /// Of the strip that a sight finds: its first MCU, how many MCUs it has, and a sample of its first data unit.
 fn look(cells: &StripCells, place: u32, sight: &mut StripSight) -> Option<(u32, u32, u8)>
     requires { sight.old.cells ≡ cells.now }
@@ -88,29 +103,43 @@ fn every_sight_finds_what_is_hung(rt: HostRuntime) -> Result<(), Fail> {
     let mut one = cells.sight()?;
     let mut two = cells.sight()?;
     assert!(rt; look(&cells, 1, &mut two).is_none());
-    assert!(rt; hang(&cells, strip(rt.alloc(), 1)?, &mut one).is_ok());
+    assert!(rt; hangs(rt.alloc(), &cells, 1, &mut one)?);
     assert!(rt; look(&cells, 1, &mut one) == Some((2, 2, 152)));
     assert!(rt; look(&cells, 1, &mut two) == Some((2, 2, 152)));
     assert!(rt; look(&cells, 0, &mut two).is_none());
-    assert!(rt; hang(&cells, strip(rt.alloc(), 2)?, &mut two).is_ok());
-    assert!(rt; hang(&cells, strip(rt.alloc(), 0)?, &mut two).is_ok());
+    assert!(rt; hangs(rt.alloc(), &cells, 2, &mut two)?);
+    assert!(rt; hangs(rt.alloc(), &cells, 0, &mut two)?);
     assert!(rt; look(&cells, 0, &mut one) == Some((0, 2, 136)));
     assert!(rt; look(&cells, 2, &mut one) == Some((4, 1, 168)));
     cells.agree(&mut one, &mut two);
     Ok(())
 }
 
+/// The first MCU and the number of MCUs of what comes back where a strip is hung, and whether it is this very strip; none
+/// where its cell takes it.
+fn back_of(
+    cells: &StripCells,
+    strip: Arc<Strip>,
+    sight: &mut StripSight,
+) -> Result<Option<(u32, u32, bool)>, Fail>
+    requires { sight.old.cells ≡ cells.now }
+    ensures { sight.new.cells ≡ sight.old.cells }
+{
+    let kept = Arc::try_clone(&strip)?;
+    let Err(back) = hang(cells, strip, sight) else {
+        return Ok(None);
+    };
+    let is_same = Arc::strong_count(&kept) == 2;
+    Ok(Some((back.first(), back.mcus(), is_same)))
+}
+
 #[test]
 fn a_full_cell_gives_the_second_strip_back(rt: HostRuntime) -> Result<(), Fail> {
     let cells = cells(rt.alloc())?;
     let mut sight = cells.sight()?;
-    let second = strip(rt.alloc(), 1)?;
-    let kept = Arc::try_clone(&second)?;
-    assert!(rt; hang(&cells, strip(rt.alloc(), 1)?, &mut sight).is_ok());
-    let back = hang(&cells, second, &mut sight).err();
-    let back = back.ok_or("the cell is full")?;
-    assert!(rt; Arc::strong_count(&kept) == 2);
-    assert!(rt; (back.first(), back.mcus()) == (2, 2));
+    assert!(rt; hangs(rt.alloc(), &cells, 1, &mut sight)?);
+    let back = back_of(&cells, strip(rt.alloc(), 1)?, &mut sight)?;
+    assert!(rt; back == Some((2, 2, true)));
     assert!(rt; look(&cells, 1, &mut sight) == Some((2, 2, 152)));
     Ok(())
 }

@@ -1,6 +1,6 @@
 //! The strips of intervals, put one after the other, are the intervals' pieces.
 
-use crate::shown::piece;
+use crate::shown::{decoded, next_strip, piece};
 use jr_scan::Scan;
 use jr_wall::{CodedStrip, Piece, Strip, StripReader};
 use std::alloc::Global;
@@ -103,7 +103,7 @@ fn read(
     let mut strips = Vec::new(alloc);
     let mut has_ended = false;
     for _ in 0..300 {
-        let next = reader.next(alloc, most)?;
+        let next = next_strip(alloc, reader, most)?;
         assert!(rt; !(has_ended && next.is_some()), "a strip behind the last");
         match next {
             Some(strip) => strips.push(strip)?,
@@ -138,7 +138,7 @@ fn check_strips(
 ) -> Result<(), Fail> {
     let mut end = piece.front();
     for coded in strips.iter().rev() {
-        let strip = coded.decode(alloc)?;
+        let strip = decoded(alloc, coded)?;
         strip.be_strip();
         assert!(rt; strip.number() == piece.number());
         assert!(rt; strip.first().wrapping_add(strip.mcus()) == end);
@@ -201,11 +201,11 @@ fn no_mcus_are_asked_for(rt: HostRuntime) -> Result<(), Fail> {
     let a = rt.alloc();
     let scan = scan(a, "S Q F:0008:0010 D A C 61 8F E")?;
     let mut reader = reader(a, &scan)?;
-    assert!(rt; reader.next(a, 0)?.is_none());
-    let Some(coded) = reader.next(a, 9)? else {
+    assert!(rt; next_strip(a, &mut reader, 0)?.is_none());
+    let Some(coded) = next_strip(a, &mut reader, 9)? else {
         return Err(Fail::from("no strip"));
     };
-    let strip = coded.decode(a)?;
+    let strip = decoded(a, &coded)?;
     assert!(rt; (strip.first(), strip.mcus()) == (0, 2));
     assert!(rt; strip.block(0) == Some(&[136; 64]) && strip.block(1) == Some(&[144; 64]));
     assert!(rt; reader.is_sound());

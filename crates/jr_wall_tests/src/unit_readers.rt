@@ -3,7 +3,7 @@
 
 use crate::shown::piece;
 use jr_piece::{Piece, UnitReader, transform_blocks};
-use jr_scan::{BlockReader, Scan};
+use jr_scan::{BlockReader, IntervalRef, Scan};
 use std::alloc::Global;
 use std::process::Abort;
 use std::test::Fail;
@@ -151,26 +151,27 @@ fn grey_behind_the_front(rt: HostRuntime) -> Result<(), Fail> {
     Ok(())
 }
 
+/// Whether a borrowed interval of one data unit has this number and these bytes, and a reader over it tells the same.
+fn is_borrowed(borrowed: IntervalRef<'_>, number: u32, bytes: &[u8]) -> bool {
+    let is_of = (borrowed.number(), borrowed.mcus()) == (number, 1);
+    let has_bytes = borrowed.bytes() == bytes;
+    let mut reader = BlockReader::over_ref(borrowed);
+    let has_block = reader.next(&mut [0; 64]).is_some();
+    reader.be_reader();
+    let is_read = has_block == (reader.mcus() == 1) && reader.interval().number() == number;
+    is_of && has_bytes && is_read
+}
+
 /// A borrowed interval is the interval itself, and its blocks are read without it.
 #[test]
 fn borrowed_intervals(rt: HostRuntime) -> Result<(), Fail> {
-    let a = rt.alloc();
-    let scan = scan(a, MIXED)?;
+    let scan = scan(rt.alloc(), MIXED)?;
     for number in 0..scan.intervals() {
         let interval = scan.interval(number)?;
         let borrowed = scan.interval_ref(number);
-        let again = interval.as_ref();
-        assert!(rt; (borrowed.number(), borrowed.mcus()) == (number, 1));
-        assert!(rt; (again.number(), again.mcus()) == (number, 1));
-        assert!(rt; borrowed.bytes() == interval.bytes());
-        assert!(rt; again.bytes() == interval.bytes());
         assert!(rt; borrowed.head().is_same(scan.head()));
-        let mut block = [0; 64];
-        let mut reader = BlockReader::over_ref(borrowed);
-        let component = reader.next(&mut block);
-        reader.be_reader();
-        assert!(rt; component.is_some() == (reader.mcus() == 1));
-        assert!(rt; reader.interval().number() == number);
+        assert!(rt; is_borrowed(borrowed, number, interval.bytes()));
+        assert!(rt; is_borrowed(interval.as_ref(), number, interval.bytes()));
     }
     Ok(())
 }

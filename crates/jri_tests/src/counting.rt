@@ -3,10 +3,9 @@
 ghost use Rattle.std.specs.Prelude.{◌≤◌};
 ghost use Rattle.jr_base.specs.declared.limits.TheConstants.{MAX_WORKERS};
 
+use crate::decoding::outcome_of;
 use crate::workers::TURNS;
-use jr_paint::Tally;
 use jr_wall::{Gate, Piece, decode_all};
-use jri_engine::run;
 use std::process::Abort;
 use std::sync::Wait;
 use std::sync::atomic::{AtomicU64, Ordering};
@@ -95,23 +94,36 @@ impl Gate for Crowd {
     fn made(&self, _piece: &Piece) {}
 }
 
-/// So many workers come where `run` and where `decode_all` is asked for them.
-fn check<R: Threads + Wait + Sync + AllocGlobal + Abort>(rt: &R, workers: u32) -> Result<(), Fail>
+/// Whether a run goes well, and just so many workers come.
+fn runs_by<R: Threads + Wait + Sync + AllocGlobal>(rt: &R, workers: u32) -> Result<bool, Fail>
     requires some { 1 ≤ workers }
     requires few { workers ≤ MAX_WORKERS }
 {
     let gate = Crowd::of(workers);
     let bytes = file(rt.alloc(), TEN)?;
-    let mut input = Tally::of(bytes.as_slice());
-    let mut out = Tally::of(Vec::new(rt.alloc()));
-    let outcome = run(rt, rt.alloc(), &mut input, &mut out, workers, None, &gate);
-    assert!(rt; outcome.is_ok());
-    assert!(rt; gate.is_exact(), "{workers} workers by run");
+    let out = Vec::new(rt.alloc());
+    let (outcome, _out) = outcome_of(rt, bytes.as_slice(), out, workers, None, &gate);
+    Ok(outcome.is_ok() && gate.is_exact())
+}
+
+/// The same of `decode_all`.
+fn decodes_by<R: Threads + Wait + Sync + AllocGlobal>(rt: &R, workers: u32) -> Result<bool, Fail>
+    requires some { 1 ≤ workers }
+    requires few { workers ≤ MAX_WORKERS }
+{
     let gate = Crowd::of(workers);
     let scan = scan(rt.alloc(), TEN)?;
     let board = decode_all(rt, rt.alloc(), scan, workers, None, &gate)?;
-    assert!(rt; board.sound() == 10);
-    assert!(rt; gate.is_exact(), "{workers} workers by decode_all");
+    Ok(board.sound() == 10 && gate.is_exact())
+}
+
+/// So many workers come where `run` and where `decode_all` is asked for them.
+fn check<R: Threads + Wait + Sync + AllocGlobal + Abort>(rt: &R, workers: u32) -> Result<(), Fail>
+    requires some { 1 ≤ workers }
+    requires few { workers ≤ MAX_WORKERS }
+{
+    assert!(rt; runs_by(rt, workers)?, "{workers} workers by run");
+    assert!(rt; decodes_by(rt, workers)?, "{workers} workers by decode_all");
     Ok(())
 }
 

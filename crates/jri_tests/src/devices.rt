@@ -1,10 +1,10 @@
 //! Devices that fail, through `run` and `finish`: what was written, the line, and the exit status.
 
+use crate::decoding::finished;
 use jr_head::Refusal;
 use jr_paint::Tally;
 use jr_scan::ScanEnd;
-use jr_wall::OpenGate;
-use jri_engine::{Fault, Report, finish, run};
+use jri_engine::{Fault, Report, finish};
 use std::alloc::Global;
 use std::io::{Error, ErrorKind, Read, Result as IoResult, Write};
 use std::test::Fail;
@@ -69,14 +69,10 @@ fn lines_and_status(alloc: Global, outcome: Result<Report, Fault>) -> (Vec<u8>, 
 
 #[test]
 fn tells_an_input_that_cannot_be_read(rt: HostRuntime) -> Result<(), Fail> {
-    let mut input = Tally::of(Unreadable);
-    let mut out = Tally::of(Vec::new(rt.alloc()));
-    let outcome = run(&rt, rt.alloc(), &mut input, &mut out, 1, None, &OpenGate);
-    let mut lines = Vec::new(rt.alloc());
-    let status = finish(outcome, &mut out, &mut lines);
-    assert!(rt; out.into_inner().is_empty());
+    let (picture, lines, status) = finished(&rt, Unreadable, Vec::new(rt.alloc()), 1, None);
+    assert!(rt; picture.is_empty());
     assert!(rt; lines.as_slice() == b"cannot read the input\n".as_slice());
-    assert_eq!(rt; status, 1);
+    assert!(rt; status == 1);
     Ok(())
 }
 
@@ -85,21 +81,12 @@ fn tells_a_full_device(rt: HostRuntime) -> Result<(), Fail> {
     let bytes = file(rt.alloc(), "G 63 E")?;
     let whole = picture(rt.alloc(), "P5 8 8 : 8*136")?;
     for room in 0..whole.len() {
-        let mut input = Tally::of(bytes.as_slice());
-        let mut out = Tally::of(Full::new(rt.alloc(), room, true));
-        let outcome = run(&rt, rt.alloc(), &mut input, &mut out, 1, None, &OpenGate);
-        let mut lines = Vec::new(rt.alloc());
-        let status = finish(outcome, &mut out, &mut lines);
-        let written = out.into_inner().bytes;
-        assert!(rt;
-            whole.as_slice().starts_with(written.as_slice()),
-            "room for {room}"
-        );
-        assert!(rt;
-            lines.as_slice() == b"cannot write the picture\n".as_slice(),
-            "room for {room}"
-        );
-        assert!(rt; status == 1, "room for {room}");
+        let full = Full::new(rt.alloc(), room, true);
+        let (full, lines, status) = finished(&rt, bytes.as_slice(), full, 1, None);
+        let is_front = whole.as_slice().starts_with(full.bytes.as_slice());
+        assert!(rt; is_front, "room for {room}");
+        let is_told = lines.as_slice() == b"cannot write the picture\n".as_slice();
+        assert!(rt; is_told && status == 1, "room for {room}");
     }
     Ok(())
 }
@@ -107,13 +94,10 @@ fn tells_a_full_device(rt: HostRuntime) -> Result<(), Fail> {
 #[test]
 fn tells_a_failed_flush(rt: HostRuntime) -> Result<(), Fail> {
     let bytes = file(rt.alloc(), "G 63 E")?;
-    let mut input = Tally::of(bytes.as_slice());
-    let mut out = Tally::of(Full::new(rt.alloc(), 1000, false));
-    let outcome = run(&rt, rt.alloc(), &mut input, &mut out, 1, None, &OpenGate);
-    let mut lines = Vec::new(rt.alloc());
-    let status = finish(outcome, &mut out, &mut lines);
+    let full = Full::new(rt.alloc(), 1000, false);
+    let (_full, lines, status) = finished(&rt, bytes.as_slice(), full, 1, None);
     assert!(rt; lines.as_slice() == b"cannot write the picture\n".as_slice());
-    assert_eq!(rt; status, 1);
+    assert!(rt; status == 1);
     Ok(())
 }
 
@@ -121,10 +105,10 @@ fn tells_a_failed_flush(rt: HostRuntime) -> Result<(), Fail> {
 fn tells_faults_that_no_file_has(rt: HostRuntime) -> Result<(), Fail> {
     let (lines, status) = lines_and_status(rt.alloc(), Err(Fault::NoFile));
     assert!(rt; lines.as_slice() == b"cannot open the file\n".as_slice());
-    assert_eq!(rt; status, 1);
+    assert!(rt; status == 1);
     let (lines, status) = lines_and_status(rt.alloc(), Err(Fault::Memory));
     assert!(rt; lines.as_slice() == b"out of memory\n".as_slice());
-    assert_eq!(rt; status, 1);
+    assert!(rt; status == 1);
     Ok(())
 }
 
@@ -166,49 +150,51 @@ fn report(ended: ScanEnd) -> Report {
     }
 }
 
+/// Ends of a scan, and their lines.
+const ENDS: [(ScanEnd, &str); 5] = [
+    (ScanEnd::EndOfImage, "scan ended at EOI\n|"),
+    (ScanEnd::EndOfFile, "scan ended at the end of the file\n|"),
+    (
+        ScanEnd::OtherMarker(10, 7),
+        "scan ended at marker 0A, byte 7\n|",
+    ),
+    (
+        ScanEnd::OutOfStep {
+            found: 1,
+            expected: 2,
+            at: 18_446_744_073_709_551_615,
+        },
+        "scan ended at RST1 where RST2 was due, byte 18446744073709551615\n|",
+    ),
+    (
+        ScanEnd::ExtraRestart(18_446_744_073_709_551_615),
+        "scan ended at a restart marker past the last interval, byte 18446744073709551615\n|",
+    ),
+];
+
+/// Faults, and their lines.
+const FAULTS: [(Fault, &str); 5] = [
+    (Fault::Memory, "out of memory\n|"),
+    (Fault::NoFile, "cannot open the file\n|"),
+    (Fault::Read, "cannot read the input\n|"),
+    (Fault::Write, "cannot write the picture\n|"),
+    (
+        Fault::Refused(Refusal::ExpectedMarker(18_446_744_073_709_551_615)),
+        "refused 3: expected a marker at byte 18446744073709551615\n|",
+    ),
+];
+
 /// Each line by one call, the longest among them.
 #[test]
 fn tells_each_line_at_once(rt: HostRuntime) -> Result<(), Fail> {
     let counts = "intervals 4294967295 sound 1234567890 damaged 9 blank 0\n|";
-    let ends = [
-        (ScanEnd::EndOfImage, "scan ended at EOI\n|"),
-        (ScanEnd::EndOfFile, "scan ended at the end of the file\n|"),
-        (
-            ScanEnd::OtherMarker(10, 7),
-            "scan ended at marker 0A, byte 7\n|",
-        ),
-        (
-            ScanEnd::OutOfStep {
-                found: 1,
-                expected: 2,
-                at: 18_446_744_073_709_551_615,
-            },
-            "scan ended at RST1 where RST2 was due, byte 18446744073709551615\n|",
-        ),
-        (
-            ScanEnd::ExtraRestart(18_446_744_073_709_551_615),
-            "scan ended at a restart marker past the last interval, byte 18446744073709551615\n|",
-        ),
-    ];
-    for (ended, line) in ends {
+    for (ended, line) in &ENDS {
         let lines = format!(in rt.alloc(); "{counts}{line}")?;
-        assert!(rt;
-            is_told(rt.alloc(), Ok(report(ended)), lines.as_str()),
-            "{line}"
-        );
+        let outcome = Ok(report(*ended));
+        assert!(rt; is_told(rt.alloc(), outcome, lines.as_str()), "{line}");
     }
-    let faults = [
-        (Fault::Memory, "out of memory\n|"),
-        (Fault::NoFile, "cannot open the file\n|"),
-        (Fault::Read, "cannot read the input\n|"),
-        (Fault::Write, "cannot write the picture\n|"),
-        (
-            Fault::Refused(Refusal::ExpectedMarker(18_446_744_073_709_551_615)),
-            "refused 3: expected a marker at byte 18446744073709551615\n|",
-        ),
-    ];
-    for (fault, line) in faults {
-        assert!(rt; is_told(rt.alloc(), Err(fault), line), "{line}");
+    for (fault, line) in &FAULTS {
+        assert!(rt; is_told(rt.alloc(), Err(*fault), line), "{line}");
     }
     Ok(())
 }

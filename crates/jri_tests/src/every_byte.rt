@@ -2,7 +2,8 @@
 //! or its text has the first lines and the size that its head says.
 
 use crate::decoding::{Outcome, decode};
-use jr_head::read_head;
+use jr_head::{Head, read_head};
+use std::alloc::Global;
 use std::process::Abort;
 use std::sync::Wait;
 use std::test::Fail;
@@ -12,35 +13,47 @@ use test_files::cases::Case;
 use test_files::files::{file, front, with_byte};
 use test_files::pictures::header;
 
+/// Whether nothing is written but a refusal.
+fn is_refused(found: &Outcome) -> bool {
+    let is_told = found.lines.as_slice().starts_with(b"refused ".as_slice());
+    found.picture.is_empty() && is_told && found.status == 2
+}
+
+/// How many bytes the samples of a picture of this head have.
+fn samples_of(head: &Head) -> usize {
+    let pixels = (head.width() as usize) * (head.height() as usize);
+    if head.components() == 1 {
+        pixels
+    } else {
+        pixels * 3
+    }
+}
+
+/// Whether a picture has the first lines and the size that its head says.
+fn is_of_head(alloc: Global, text: &[u8], head: &Head) -> Result<bool, Fail> {
+    let magic = if head.components() == 1 { "P5" } else { "P6" };
+    let first_lines = header(alloc, magic, head.width(), head.height())?;
+    let size = first_lines.len().saturating_add(samples_of(head));
+    Ok(text.starts_with(first_lines.as_bytes()) && text.len() == size)
+}
+
+/// Whether what becomes of a file is right by its head.
+fn is_right(alloc: Global, found: &Outcome, bytes: &[u8]) -> Result<bool, Fail> {
+    let Ok(head) = read_head(alloc, bytes) else {
+        return Ok(is_refused(found));
+    };
+    let is_decoded = found.status == 0 || found.status == 3;
+    Ok(is_decoded && is_of_head(alloc, found.picture.as_slice(), &head)?)
+}
+
 fn check<R: Threads + Wait + Sync + AllocGlobal + Abort>(
     rt: &R,
     bytes: &[u8],
     name: &str,
     at: usize,
 ) -> Result<(), Fail> {
-    let Outcome {
-        picture,
-        lines,
-        status,
-    } = decode(rt, bytes, 1, None)?;
-    let Ok(head) = read_head(rt.alloc(), bytes) else {
-        assert!(rt; picture.is_empty(), "nothing is written of {name} at {at}");
-        let is_told = lines.as_slice().starts_with(b"refused ".as_slice());
-        assert!(rt; is_told && status == 2, "refusal of {name} at {at}");
-        return Ok(());
-    };
-    assert!(rt; status == 0 || status == 3, "status of {name} at {at}");
-    let pixels = (head.width() as usize) * (head.height() as usize);
-    let (magic, of_pixel) = match head.components() {
-        1 => ("P5", 1),
-        _ => ("P6", 3),
-    };
-    let first_lines = header(rt.alloc(), magic, head.width(), head.height())?;
-    let text = picture.as_slice();
-    let is_of_head = text.starts_with(first_lines.as_bytes());
-    assert!(rt; is_of_head, "first lines of {name} at {at}");
-    let size = first_lines.len().saturating_add(pixels * of_pixel);
-    assert!(rt; text.len() == size, "size of {name} at {at}");
+    let found = decode(rt, bytes, 1, None)?;
+    assert!(rt; is_right(rt.alloc(), &found, bytes)?, "{name} at {at}");
     Ok(())
 }
 

@@ -8,6 +8,12 @@ use std::thread::Threads;
 use test_files::files::{THOUSANDS, file};
 use test_files::pictures::picture;
 
+/// Whether just this picture and these lines are written, and the status is 0.
+fn has(found: &Outcome, picture: &[u8], lines: &str) -> bool {
+    let is_picture = found.picture.as_slice() == picture;
+    is_picture && found.lines.as_slice() == lines.as_bytes() && found.status == 0
+}
+
 /// A file of 512 by 512 pixels of one grey, all of whose intervals are sound, by 1, 2 and 4 workers.
 fn check<R: Threads + Wait + Sync + AllocGlobal + Abort>(
     rt: &R,
@@ -21,20 +27,9 @@ fn check<R: Threads + Wait + Sync + AllocGlobal + Abort>(
     )?;
     for workers in [1, 2, 4] {
         assert!(rt; 1 <= workers && workers <= 64);
-        let Outcome {
-            picture: painted,
-            lines,
-            status,
-        } = decode(rt, bytes.as_slice(), workers, None)?;
-        assert!(rt;
-            painted.as_slice() == expected.as_slice(),
-            "picture by {workers} workers"
-        );
-        assert!(rt;
-            lines.as_slice() == text.as_bytes(),
-            "report by {workers} workers"
-        );
-        assert!(rt; status == 0, "status by {workers} workers");
+        let found = decode(rt, bytes.as_slice(), workers, None)?;
+        let is_right = has(&found, expected.as_slice(), text.as_str());
+        assert!(rt; is_right, "{workers} workers");
     }
     Ok(())
 }

@@ -1,8 +1,8 @@
 //! Devices that move one byte a call and fail at one call, through `run`.
 
-use jr_paint::Tally;
+use crate::decoding::outcome_of;
 use jr_wall::OpenGate;
-use jri_engine::{Fault, run};
+use jri_engine::Fault;
 use std::alloc::Global;
 use std::io::{Error, ErrorKind, Read, Result as IoResult, Write};
 use std::process::Abort;
@@ -93,14 +93,14 @@ fn fault_of_input<R: Threads + Wait + Sync + AllocGlobal>(
     failing: u32,
     kind: ErrorKind,
 ) -> (Option<Fault>, Vec<u8>) {
-    let mut input = Tally::of(Source {
+    let input = Source {
         rest: bytes,
         calls: 0,
         failing,
         kind,
-    });
-    let mut out = Tally::of(Vec::new(rt.alloc()));
-    let outcome = run(rt, rt.alloc(), &mut input, &mut out, 1, None, &OpenGate);
+    };
+    let out = Vec::new(rt.alloc());
+    let (outcome, out) = outcome_of(rt, input, out, 1, None, &OpenGate);
     (outcome.err(), out.into_inner())
 }
 
@@ -111,9 +111,8 @@ fn fault_of_output<R: Threads + Wait + Sync + AllocGlobal>(
     failing: u32,
     failure: Failure,
 ) -> (Option<Fault>, Vec<u8>) {
-    let mut input = Tally::of(bytes);
-    let mut out = Tally::of(Sink::new(rt.alloc(), failing, failure));
-    let outcome = run(rt, rt.alloc(), &mut input, &mut out, 1, None, &OpenGate);
+    let out = Sink::new(rt.alloc(), failing, failure);
+    let (outcome, out) = outcome_of(rt, bytes, out, 1, None, &OpenGate);
     (outcome.err(), out.into_inner().bytes)
 }
 
@@ -161,16 +160,16 @@ fn tells_an_output_that_takes_none_of_a_byte(rt: HostRuntime) -> Result<(), Fail
 #[test]
 fn decodes_by_a_byte_a_call(rt: HostRuntime) -> Result<(), Fail> {
     let bytes = file(rt.alloc(), "G 63 E")?;
-    let mut input = Tally::of(Source {
+    let input = Source {
         rest: bytes.as_slice(),
         calls: 0,
         failing: 0,
         kind: ErrorKind::Other,
-    });
-    let mut out = Tally::of(Sink::new(rt.alloc(), 0, Failure::TakesNone));
-    let outcome = run(&rt, rt.alloc(), &mut input, &mut out, 1, None, &OpenGate);
+    };
+    let out = Sink::new(rt.alloc(), 0, Failure::TakesNone);
+    let (outcome, out) = outcome_of(&rt, input, out, 1, None, &OpenGate);
     let report = outcome.ok().ok_or("a decoding that failed")?;
-    assert_eq!(rt; (report.sound, report.damaged), (1, 0));
+    assert!(rt; (report.sound, report.damaged) == (1, 0));
     let expected = picture(rt.alloc(), "P5 8 8 : 8*136")?;
     assert!(rt; out.into_inner().bytes.as_slice() == expected.as_slice());
     Ok(())

@@ -1,6 +1,6 @@
 //! Words of a command line, through `asked`.
 
-use jri_engine::{Unasked, asked};
+use jri_engine::{Asked, Unasked, asked};
 use std::alloc::Global;
 use std::test::Fail;
 
@@ -11,6 +11,29 @@ fn words_of(alloc: Global, line: &str) -> Result<Vec<String>, Fail> {
         words.push(String::from_str(alloc, word)?)?;
     }
     Ok(words)
+}
+
+/// What a line asks for.
+fn asked_by(alloc: Global, line: &str) -> Result<Asked, Fail> {
+    let words = words_of(alloc, line)?;
+    let found = asked(alloc, words.as_slice());
+    Ok(found.ok().ok_or("words that are refused")?)
+}
+
+/// What a line gets that asks for no decoding.
+fn unasked_by(alloc: Global, line: &str) -> Result<Unasked, Fail> {
+    let words = words_of(alloc, line)?;
+    let found = asked(alloc, words.as_slice());
+    Ok(found.err().ok_or("words that are taken")?)
+}
+
+/// Whether a file of this name is asked for, or none.
+fn is_named(asked: &Asked, name: Option<&str>) -> bool {
+    match (&asked.file, name) {
+        (Some(found), Some(name)) => found.as_str() == name,
+        (None, None) => true,
+        _ => false,
+    }
 }
 
 fn wrong_text(unasked: Unasked) -> Option<String> {
@@ -27,52 +50,46 @@ fn help_text(unasked: Unasked) -> Option<String> {
     }
 }
 
+/// Lines, and the workers, the first intervals and the file that they ask for.
+const LINES: [(&str, u32, Option<u32>, Option<&str>); 7] = [
+    ("", 4, None, None),
+    ("--workers 1", 1, None, None),
+    ("--workers 64 photo.jpg", 64, None, Some("photo.jpg")),
+    ("photo.jpg --workers 2", 2, None, Some("photo.jpg")),
+    ("--first 0", 4, Some(0), None),
+    ("--first 4294967295", 4, Some(4294967295), None),
+    ("--first 7 --workers 3 a", 3, Some(7), Some("a")),
+];
+
 #[test]
 fn asks_for_a_decoding(rt: HostRuntime) -> Result<(), Fail> {
-    let cases = [
-        ("", 4, None, None),
-        ("--workers 1", 1, None, None),
-        ("--workers 64 photo.jpg", 64, None, Some("photo.jpg")),
-        ("photo.jpg --workers 2", 2, None, Some("photo.jpg")),
-        ("--first 0", 4, Some(0), None),
-        ("--first 4294967295", 4, Some(4294967295), None),
-        ("--first 7 --workers 3 a", 3, Some(7), Some("a")),
-    ];
-    for (line, workers, first, file) in cases {
-        let words = words_of(rt.alloc(), line)?;
-        let found = asked(rt.alloc(), words.as_slice())
-            .ok()
-            .ok_or("words that are refused")?;
-        assert!(rt; found.workers == workers, "workers of {line}");
-        assert!(rt; found.first == first, "first of {line}");
-        let is_named = match (&found.file, file) {
-            (Some(name), Some(file)) => name.as_str() == file,
-            (None, None) => true,
-            _ => false,
-        };
-        assert!(rt; is_named, "file of {line}");
+    for (line, workers, first, name) in &LINES {
+        let found = asked_by(rt.alloc(), line)?;
+        assert!(rt;
+            (found.workers, found.first) == (*workers, *first),
+            "{line}"
+        );
+        assert!(rt; is_named(&found, *name), "file of {line}");
     }
     Ok(())
 }
 
+const WRONG: [&str; 9] = [
+    "--workers 0",
+    "--workers 65",
+    "--workers x",
+    "--workers -1",
+    "--workers",
+    "--first 4294967296",
+    "--first x",
+    "--nothing",
+    "one two",
+];
+
 #[test]
 fn refuses_wrong_words(rt: HostRuntime) -> Result<(), Fail> {
-    let cases = [
-        "--workers 0",
-        "--workers 65",
-        "--workers x",
-        "--workers -1",
-        "--workers",
-        "--first 4294967296",
-        "--first x",
-        "--nothing",
-        "one two",
-    ];
-    for line in cases {
-        let words = words_of(rt.alloc(), line)?;
-        let unasked = asked(rt.alloc(), words.as_slice())
-            .err()
-            .ok_or("words that are taken")?;
+    for line in &WRONG {
+        let unasked = unasked_by(rt.alloc(), line)?;
         assert!(rt; unasked.status() == 2, "status of {line}");
         let text = wrong_text(unasked).ok_or("no text")?;
         assert!(rt; !text.as_str().is_empty(), "text of {line}");
@@ -82,9 +99,8 @@ fn refuses_wrong_words(rt: HostRuntime) -> Result<(), Fail> {
 
 #[test]
 fn answers_help(rt: HostRuntime) -> Result<(), Fail> {
-    let words = words_of(rt.alloc(), "--help")?;
-    let unasked = asked(rt.alloc(), words.as_slice()).err().ok_or("no help")?;
-    assert_eq!(rt; unasked.status(), 0);
+    let unasked = unasked_by(rt.alloc(), "--help")?;
+    assert!(rt; unasked.status() == 0);
     let text = help_text(unasked).ok_or("no text")?;
     assert!(rt; text.as_str().contains("--workers"));
     assert!(rt; text.as_str().contains("--first"));

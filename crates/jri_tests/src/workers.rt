@@ -1,8 +1,7 @@
 //! Two workers that meet at a gate.
 
-use jr_paint::Tally;
+use crate::decoding::outcome_of;
 use jr_wall::{Gate, Piece};
-use jri_engine::run;
 use std::sync::atomic::{AtomicU64, Ordering};
 use std::test::Fail;
 use std::thread;
@@ -78,12 +77,11 @@ impl Gate for Meeting {
 fn two_workers_meet(rt: HostRuntime) -> Result<(), Fail> {
     let bytes = file(rt.alloc(), "GI 63 FF D0 63 E")?;
     let gate = Meeting::new();
-    let mut input = Tally::of(bytes.as_slice());
-    let mut out = Tally::of(Vec::new(rt.alloc()));
-    let outcome = run(&rt, rt.alloc(), &mut input, &mut out, 2, None, &gate);
+    let out = Vec::new(rt.alloc());
+    let (outcome, out) = outcome_of(&rt, bytes.as_slice(), out, 2, None, &gate);
     let report = outcome.ok().ok_or("a decoding that failed")?;
     assert!(rt; gate.is_met());
-    assert_eq!(rt; (report.sound, report.damaged, report.blank), (2, 0, 0));
+    assert!(rt; (report.sound, report.damaged, report.blank) == (2, 0, 0));
     let expected = picture(rt.alloc(), "P5 16 8 : 16*136")?;
     assert!(rt; out.into_inner().as_slice() == expected.as_slice());
     Ok(())

@@ -1,6 +1,7 @@
 //! Files that are accepted, and what their heads tell.
 
-use jr_head::{Head, Kind, read_head};
+use super::head_in;
+use jr_head::{Head, Kind};
 use std::alloc::Global;
 use std::process::Abort;
 use std::test::Fail;
@@ -9,7 +10,7 @@ use test_files::files::file;
 /// The head of a file in the notation of files.
 fn head_of(alloc: Global, words: &str) -> Result<Head, Fail> {
     let bytes = file(alloc, words)?;
-    Ok(read_head(alloc, bytes.as_slice())?)
+    head_in(alloc, bytes.as_slice())
 }
 
 /// Columns, lines, restart interval, MCUs and the scan's offset.

@@ -1,7 +1,8 @@
 //! Files of thousands of bytes, and of as many segments: each is accepted, or refused for what is wrong with it.
 
+use super::{head_in, refusal_of};
 use crate::head::accepted::have_same_books;
-use jr_head::{Refusal, read_head};
+use jr_head::{Head, Refusal};
 use std::alloc::Global;
 use std::process::Abort;
 use std::test::Fail;
@@ -52,7 +53,7 @@ fn accepts_heads_of_many_bytes(rt: HostRuntime) -> Result<(), Fail> {
         let length = *length;
         let bytes = file_of_length(rt.alloc(), "S Q F D A", "C", length)?;
         assert!(rt; bytes.len() == length);
-        let head = read_head(rt.alloc(), bytes.as_slice())?;
+        let head = head_in(rt.alloc(), bytes.as_slice())?;
         assert!(rt; head.scan_at() == length as u64);
         assert!(rt; (head.width(), head.height()) == (8, 8));
     }
@@ -68,7 +69,7 @@ fn accepts_scans_of_many_bytes(rt: HostRuntime) -> Result<(), Fail> {
             bytes.push(0)?;
         }
         assert!(rt; bytes.len() == length);
-        let head = read_head(rt.alloc(), bytes.as_slice())?;
+        let head = head_in(rt.alloc(), bytes.as_slice())?;
         assert!(rt; head.scan_at() == 140);
     }
     Ok(())
@@ -86,7 +87,7 @@ fn check_refused(
         let length = *length;
         let bytes = file_of_length(alloc, words, last, length)?;
         assert!(rt; bytes.len() == length);
-        let found = read_head(alloc, bytes.as_slice()).err();
+        let found = refusal_of(alloc, bytes.as_slice());
         assert!(rt; found == Some(refusal), "{length} bytes: {found:?}");
     }
     Ok(())
@@ -132,17 +133,20 @@ const SEGMENTS: [(&str, u32, u64); 9] = [
     ("A", 200, 4540),
 ];
 
+/// Whether both heads have one quantiser for their first component.
+fn have_same_quantiser(a: &Head, b: &Head) -> bool {
+    0 < a.components() && 0 < b.components() && a.quantiser(0) == b.quantiser(0)
+}
+
 #[test]
 fn accepts_many_segments(rt: HostRuntime) -> Result<(), Fail> {
     let plain = file(rt.alloc(), "S Q F D A C")?;
-    let plain = read_head(rt.alloc(), plain.as_slice())?;
-    assert!(rt; 0 < plain.components());
+    let plain = head_in(rt.alloc(), plain.as_slice())?;
     for (part, times, length) in &SEGMENTS {
         let bytes = repeated_part(rt.alloc(), part, *times)?;
-        let head = read_head(rt.alloc(), bytes.as_slice())?;
+        let head = head_in(rt.alloc(), bytes.as_slice())?;
         assert!(rt; head.scan_at() == *length, "{part} {times} times");
-        assert!(rt; 0 < head.components());
-        assert!(rt; head.quantiser(0) == plain.quantiser(0));
+        assert!(rt; have_same_quantiser(&head, &plain));
         assert!(rt; have_same_books(&head, &plain));
     }
     Ok(())
@@ -180,7 +184,7 @@ fn accepts_many_quantisers_in_a_segment(rt: HostRuntime) -> Result<(), Fail> {
         bytes.extend_from_slice(&[0x11; 64])?;
     }
     put_parts(&mut bytes, "Q F D A C")?;
-    let head = read_head(rt.alloc(), bytes.as_slice())?;
+    let head = head_in(rt.alloc(), bytes.as_slice())?;
     assert!(rt; head.scan_at() == 4239);
     Ok(())
 }
@@ -189,7 +193,7 @@ fn accepts_many_quantisers_in_a_segment(rt: HostRuntime) -> Result<(), Fail> {
 fn accepts_tables_of_256_symbols(rt: HostRuntime) -> Result<(), Fail> {
     let words = "S Q F FF C4 01 13 00 7*00 FF 01 7*00 256*03 FF C4 01 13 10 14*00 01 FF 256*00 C";
     let bytes = file(rt.alloc(), words)?;
-    let head = read_head(rt.alloc(), bytes.as_slice())?;
+    let head = head_in(rt.alloc(), bytes.as_slice())?;
     assert!(rt; head.scan_at() == 648);
     Ok(())
 }

@@ -1,6 +1,7 @@
 //! Files that are refused, each at its first test that fails.
 
-use jr_head::{Refusal, read_head};
+use super::refusal_of;
+use jr_head::Refusal;
 use std::process::Abort;
 use std::test::Fail;
 use test_files::files::file;
@@ -8,7 +9,7 @@ use test_files::files::file;
 fn check<R: AllocGlobal + Abort>(rt: &R, cases: &[(&str, Refusal)]) -> Result<(), Fail> {
     for (words, refusal) in cases {
         let bytes = file(rt.alloc(), words)?;
-        let found = read_head(rt.alloc(), bytes.as_slice()).err();
+        let found = refusal_of(rt.alloc(), bytes.as_slice());
         assert!(rt; found == Some(*refusal), "{found:?} of {words}");
     }
     Ok(())
@@ -57,7 +58,7 @@ fn refuses_bad_markers(rt: HostRuntime) -> Result<(), Fail> {
     check(&rt, &MARKERS)
 }
 
-const BAD_LENGTHS: [(&str, Refusal); 16] = [
+const BAD_LENGTHS: [(&str, Refusal); 18] = [
     ("S FF DB 00", Refusal::EndsEarly),
     ("S FF DB 00 01", Refusal::BadLength(0xDB)),
     ("S FF FF FF FE 00 00", Refusal::BadLength(0xFE)),
@@ -65,12 +66,14 @@ const BAD_LENGTHS: [(&str, Refusal); 16] = [
     ("S FF E0 00 03", Refusal::EndsEarly),
     ("S FF DB 00 02", Refusal::EndsEarly),
     ("S FF DB 00 03 00", Refusal::BadLength(0xDB)),
+    ("S FF DB 00 03 10", Refusal::BadLength(0xDB)),
     ("S FF FF DB 00 43 10 64*00", Refusal::BadLength(0xDB)),
     ("S FF C4 00 03 00", Refusal::BadLength(0xC4)),
     ("S FF FF C4 00 13 00 15*00 01", Refusal::BadLength(0xC4)),
     ("S FF DD 00 03 00", Refusal::BadLength(0xDD)),
     ("S FF FF DD 00 05 00 00 00", Refusal::BadLength(0xDD)),
     ("S FF C0 00 07 0C 00 00 00 00", Refusal::BadLength(0xC0)),
+    ("S FF C0 00 08 08 00 08 00 08 01", Refusal::BadLength(0xC0)),
     (
         "S FF FF C1 00 08 08 00 08 00 08 01",
         Refusal::BadLength(0xC1),
@@ -101,12 +104,14 @@ fn refuses_bad_and_missing_tables(rt: HostRuntime) -> Result<(), Fail> {
     check(&rt, &TABLES)
 }
 
-const FRAMES: [(&str, Refusal); 14] = [
+const FRAMES: [(&str, Refusal); 16] = [
     ("S FF C0 00 08 0C 00 00 00 00 02", Refusal::BadPrecision),
     ("S FF C1 00 08 0C 00 08 00 08 01", Refusal::BadPrecision),
     ("S FF C0 00 08 08 00 00 00 00 02", Refusal::BadSize),
     ("S FF C0 00 08 08 00 08 00 00 01", Refusal::BadSize),
+    ("S F:0000:0008", Refusal::BadSize),
     ("S FF C0 00 08 08 40 01 40 00 02", Refusal::TooManyPixels),
+    ("S F:4000:4001", Refusal::TooManyPixels),
     ("S FF C0 00 08 08 FF FF FF FF 01", Refusal::TooManyPixels),
     ("S FF C0 00 08 08 00 08 00 08 02", Refusal::BadComponents),
     (
@@ -144,7 +149,7 @@ fn refuses_bad_frames(rt: HostRuntime) -> Result<(), Fail> {
     check(&rt, &FRAMES)
 }
 
-const SCAN_HEADERS: [(&str, Refusal); 11] = [
+const SCAN_HEADERS: [(&str, Refusal); 12] = [
     ("S F FF DA 00 03 02", Refusal::BadScanHeader),
     ("S F FF DA 00 08 01 02 00 00 3F 00", Refusal::BadScanHeader),
     ("S F FF DA 00 08 01 01 20 00 3F 00", Refusal::BadScanHeader),
@@ -153,6 +158,10 @@ const SCAN_HEADERS: [(&str, Refusal); 11] = [
     ("S F FF DA 00 08 01 01 00 00 3E 00", Refusal::BadScanHeader),
     ("S F FF DA 00 08 01 01 00 00 3F 01", Refusal::BadScanHeader),
     ("S F3 C", Refusal::BadScanHeader),
+    (
+        "S Q F FF C4 00 16 03 00 03 14*00 00 03 05 FF C4 00 14 13 01 15*00 00 FF DA 00 08 01 01 33 00 3F 00",
+        Refusal::BadScanHeader,
+    ),
     (
         "S F3 FF DA 00 0C 03 02 00 01 00 03 00 00 3F 00",
         Refusal::BadScanHeader,

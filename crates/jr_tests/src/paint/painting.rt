@@ -4,7 +4,7 @@ ghost use Rattle.std.specs.Prelude.{◌≡◌, ◌+◌, ◌*◌, ◌%◌, ◌==�
 
 use super::{Shape, head_of};
 use jr_head::{Head, Kind};
-use jr_paint::{Samples, Tally, WriteFault, write_netpbm};
+use jr_paint::{Samples, Tally, write_netpbm};
 use std::alloc::Global;
 use std::io::{Error, ErrorKind, Result as IoResult, Write};
 use std::process::Abort;
@@ -127,6 +127,44 @@ fn samples_of(alloc: Global, shape: &Shape) -> Result<Ruled, Fail> {
     Ok(Ruled { head })
 }
 
+/// A writer that takes at most so many bytes a call and fails after so many calls, or takes none.
+fn slow_writer(alloc: Global, most: usize, left: usize, takes_none: bool) -> Slow {
+    Slow {
+        bytes: Vec::new(alloc),
+        most,
+        left,
+        takes_none,
+    }
+}
+
+/// What came of a picture: whether it was written, whether a call failed, and the writer.
+#[derive(Drop)]
+struct Written {
+    is_whole: bool,
+    has_failed: bool,
+    out: Slow,
+}
+
+fn write(samples: &Ruled, out: Slow) -> Written {
+    let mut out = Tally::of(out);
+    let outcome = write_netpbm(samples, &mut out);
+    Written {
+        is_whole: outcome.is_ok(),
+        has_failed: out.failed(),
+        out: out.into_inner(),
+    }
+}
+
+/// How many bytes of this text were written, where the writer failed; none where other ones were.
+fn written_of(samples: &Ruled, text: &[u8], out: Slow) -> Option<usize> {
+    let written = write(samples, out);
+    let bytes = written.out.bytes.as_slice();
+    if written.is_whole || !written.has_failed || !text.starts_with(bytes) {
+        return None;
+    }
+    Some(bytes.len())
+}
+
 /// How many calls of a writer that takes so many bytes a call write this picture; none where its text is another.
 fn calls_for(
     alloc: Global,
@@ -135,16 +173,10 @@ fn calls_for(
     most: usize,
 ) -> Result<Option<usize>, Fail> {
     let samples = samples_of(alloc, shape)?;
-    let mut out = Tally::of(Slow {
-        bytes: Vec::new(alloc),
-        most,
-        left: usize::MAX,
-        takes_none: false,
-    });
-    let is_written = write_netpbm(&samples, &mut out) == Ok(()) && !out.failed();
-    let slow = out.into_inner();
-    if is_written && slow.bytes.as_slice() == text {
-        return Ok(usize::MAX.checked_sub(slow.left));
+    let written = write(&samples, slow_writer(alloc, most, usize::MAX, false));
+    let is_same = written.out.bytes.as_slice() == text;
+    if written.is_whole && !written.has_failed && is_same {
+        return Ok(usize::MAX.checked_sub(written.out.left));
     }
     Ok(None)
 }
@@ -234,39 +266,40 @@ fn paints_all_chrominance(rt: HostRuntime) -> Result<(), Fail> {
     Ok(())
 }
 
-/// Kinds, widths, heights, and the factors of the first component.
-const OTHERS: [(Kind, u16, u16, (u32, u32)); 11] = [
-    (Kind::Ycc, 4097, 2, (1, 1)),
-    (Kind::Ycc, 4095, 2, (2, 2)),
-    (Kind::Ycc, 4096, 3, (2, 2)),
-    (Kind::Ycc, 4097, 3, (2, 2)),
-    (Kind::Ycc, 8185, 2, (3, 1)),
-    (Kind::Ycc, 4095, 2, (4, 1)),
-    (Kind::Rgb, 17, 9, (1, 1)),
-    (Kind::Rgb, 4098, 9, (2, 2)),
-    (Kind::Grey, 17, 9, (1, 1)),
-    (Kind::Grey, 4097, 2, (1, 1)),
-    (Kind::Grey, 1, 1, (1, 1)),
-];
+const fn shape_of(kind: Kind, width: u16, height: u16, across: u32, down: u32) -> Shape {
+    Shape {
+        kind,
+        width,
+        height,
+        across,
+        down,
+    }
+}
+
+fn others() -> [Shape; 11] {
+    [
+        shape_of(Kind::Ycc, 4097, 2, 1, 1),
+        shape_of(Kind::Ycc, 4095, 2, 2, 2),
+        shape_of(Kind::Ycc, 4096, 3, 2, 2),
+        shape_of(Kind::Ycc, 4097, 3, 2, 2),
+        shape_of(Kind::Ycc, 8185, 2, 3, 1),
+        shape_of(Kind::Ycc, 4095, 2, 4, 1),
+        shape_of(Kind::Rgb, 17, 9, 1, 1),
+        shape_of(Kind::Rgb, 4098, 9, 2, 2),
+        shape_of(Kind::Grey, 17, 9, 1, 1),
+        shape_of(Kind::Grey, 4097, 2, 1, 1),
+        shape_of(Kind::Grey, 1, 1, 1, 1),
+    ]
+}
 
 /// Widths about the greatest of which a picture is painted with little room, and the other kinds; some by a writer of one
 /// byte a call.
 #[test]
 fn paints_other_pictures(rt: HostRuntime) -> Result<(), Fail> {
-    for (kind, width, height, (across, down)) in &OTHERS {
-        let shape = Shape {
-            kind: *kind,
-            width: *width,
-            height: *height,
-            across: *across,
-            down: *down,
-        };
-        for most in [1, 100_000] {
-            assert!(rt;
-                is_painted(rt.alloc(), &shape, most)?,
-                "{width} {height} {across} {down}"
-            );
-        }
+    for shape in &others() {
+        let width = shape.width;
+        assert!(rt; is_painted(rt.alloc(), shape, 1)?, "{width}");
+        assert!(rt; is_painted(rt.alloc(), shape, 100_000)?, "{width}");
     }
     Ok(())
 }
@@ -287,20 +320,9 @@ fn stops_where_the_writer_stops(rt: HostRuntime) -> Result<(), Fail> {
         let whole = text_of(alloc, &shape)?;
         for left in 0..whole.len() {
             for takes_none in [false, true] {
-                let mut out = Tally::of(Slow {
-                    bytes: Vec::new(alloc),
-                    most: 1,
-                    left,
-                    takes_none,
-                });
-                assert!(rt;
-                    write_netpbm(&samples, &mut out) == Err(WriteFault),
-                    "{left}"
-                );
-                assert!(rt; out.failed(), "{left}");
-                let bytes = out.into_inner().bytes;
-                assert!(rt; bytes.len() == left, "{left}");
-                assert!(rt; whole.as_slice().starts_with(bytes.as_slice()), "{left}");
+                let out = slow_writer(alloc, 1, left, takes_none);
+                let written = written_of(&samples, whole.as_slice(), out);
+                assert!(rt; written == Some(left), "{left}");
             }
         }
     }
@@ -308,35 +330,28 @@ fn stops_where_the_writer_stops(rt: HostRuntime) -> Result<(), Fail> {
 }
 
 /// Narrow, wide and ordinary pictures in colours, whose text takes more than one write.
-const LARGE: [(Kind, u16, u16, (u32, u32)); 8] = [
-    (Kind::Ycc, 4, 30_001, (2, 2)),
-    (Kind::Ycc, 1, 30_000, (1, 1)),
-    (Kind::Ycc, 300, 301, (1, 2)),
-    (Kind::Ycc, 4096, 14, (2, 2)),
-    (Kind::Ycc, 10_923, 4, (1, 1)),
-    (Kind::Ycc, 22_001, 3, (2, 2)),
-    (Kind::Rgb, 22_001, 3, (1, 1)),
-    (Kind::Ycc, 65_535, 2, (2, 2)),
-];
+fn large() -> [Shape; 8] {
+    [
+        shape_of(Kind::Ycc, 4, 30_001, 2, 2),
+        shape_of(Kind::Ycc, 1, 30_000, 1, 1),
+        shape_of(Kind::Ycc, 300, 301, 1, 2),
+        shape_of(Kind::Ycc, 4096, 14, 2, 2),
+        shape_of(Kind::Ycc, 10_923, 4, 1, 1),
+        shape_of(Kind::Ycc, 22_001, 3, 2, 2),
+        shape_of(Kind::Rgb, 22_001, 3, 1, 1),
+        shape_of(Kind::Ycc, 65_535, 2, 2, 2),
+    ]
+}
 
 /// A write takes 48 KB on the average, beside the first and the last.
 #[test]
 fn writes_much_at_once(rt: HostRuntime) -> Result<(), Fail> {
-    for (kind, width, height, (across, down)) in &LARGE {
-        let shape = Shape {
-            kind: *kind,
-            width: *width,
-            height: *height,
-            across: *across,
-            down: *down,
-        };
-        let text = text_of(rt.alloc(), &shape)?;
-        let calls = calls_for(rt.alloc(), &shape, text.as_slice(), usize::MAX)?;
+    for shape in &large() {
+        let text = text_of(rt.alloc(), shape)?;
+        let calls = calls_for(rt.alloc(), shape, text.as_slice(), usize::MAX)?;
+        let calls = calls.ok_or("another text")?;
         let most = (text.len() / 49_152).saturating_add(2);
-        assert!(rt;
-            calls.is_some_and(|calls| calls > 1 && calls <= most),
-            "{width} {height}: {calls:?} of {most}"
-        );
+        assert!(rt; calls > 1 && calls <= most, "{calls} of {most}");
     }
     Ok(())
 }
@@ -358,21 +373,10 @@ fn stops_between_large_writes(rt: HostRuntime) -> Result<(), Fail> {
     assert!(rt; calls > 3);
     let mut before = 0;
     for left in 0..calls {
-        let mut out = Tally::of(Slow {
-            bytes: Vec::new(alloc),
-            most: usize::MAX,
-            left,
-            takes_none: false,
-        });
-        assert!(rt;
-            write_netpbm(&samples, &mut out) == Err(WriteFault),
-            "{left}"
-        );
-        assert!(rt; out.failed(), "{left}");
-        let bytes = out.into_inner().bytes;
-        assert!(rt; bytes.len() > before || left == 0, "{left}");
-        assert!(rt; whole.as_slice().starts_with(bytes.as_slice()), "{left}");
-        before = bytes.len();
+        let out = slow_writer(alloc, usize::MAX, left, false);
+        let written = written_of(&samples, whole.as_slice(), out).ok_or("other bytes")?;
+        assert!(rt; written > before || left == 0, "{left}");
+        before = written;
     }
     Ok(())
 }

@@ -1,5 +1,6 @@
 //! Intervals of thousands of MCUs, by each reader, and a scan of thousands of intervals.
 
+use super::{blocks_of, front_of};
 use jr_scan::{Block, BlockReader, Interval, ScanEnd};
 use std::alloc::Global;
 use std::process::Abort;
@@ -11,7 +12,18 @@ use test_files::scans::scan_of;
 fn are_flat(blocks: &[Block], first: i32) -> bool {
     let mut flat = [0; 64];
     flat[0] = first;
-    blocks.iter().all(|block| *block == flat)
+    for block in blocks {
+        if *block != flat {
+            return false;
+        }
+    }
+    true
+}
+
+/// Whether the next block is such a one.
+fn is_next(reader: &mut BlockReader<'_>, first: i32) -> bool {
+    let mut block = [0; 64];
+    reader.next(&mut block).is_some() && are_flat(&[block], first)
 }
 
 /// So many blocks, of so many whole MCUs, and whether they are all of their interval.
@@ -26,14 +38,34 @@ struct Front {
 /// `BlockReader` reads the front and no further block.
 fn check_reader(rt: &impl Abort, interval: &Interval, front: Front) {
     let mut reader = BlockReader::over(interval);
-    let mut block = [0; 64];
     for _ in 0..front.blocks {
-        assert!(rt; reader.next(&mut block).is_some());
-        assert!(rt; are_flat(&[block], front.first));
+        assert!(rt; is_next(&mut reader, front.first));
     }
-    assert!(rt; reader.next(&mut block).is_none());
-    assert!(rt; reader.mcus() == front.mcus);
-    assert!(rt; reader.is_sound() == front.is_sound);
+    assert!(rt; reader.next(&mut [0; 64]).is_none());
+    assert!(rt; (reader.mcus(), reader.is_sound()) == (front.mcus, front.is_sound));
+}
+
+/// Whether these are the blocks of a front.
+fn are_of(blocks: &[Block], front: Front) -> bool {
+    blocks.len() == front.blocks && are_flat(blocks, front.first)
+}
+
+/// The front is read, and all blocks where the interval is sound.
+fn check_front(
+    rt: &impl Abort,
+    alloc: Global,
+    interval: &Interval,
+    front: Front,
+) -> Result<(), Fail> {
+    let found = front_of(alloc, interval)?;
+    assert!(rt; (found.mcus(), found.is_sound()) == (front.mcus, front.is_sound));
+    assert!(rt; are_of(found.blocks(), front));
+    let is_whole = match blocks_of(alloc, interval)? {
+        Some(whole) => front.is_sound && are_of(whole.as_slice(), front),
+        None => !front.is_sound,
+    };
+    assert!(rt; is_whole);
+    Ok(())
 }
 
 /// Each reader gives the front of the one interval of a file.
@@ -42,15 +74,7 @@ fn check(rt: &impl Abort, alloc: Global, words: &str, front: Front) -> Result<()
     let scan = scan_of(alloc, bytes.as_slice())?;
     assert!(rt; scan.intervals() == 1);
     let interval = scan.interval(0)?;
-    let found = interval.read_front(alloc)?;
-    assert!(rt; (found.mcus(), found.is_sound()) == (front.mcus, front.is_sound));
-    assert!(rt; found.blocks().len() == front.blocks);
-    assert!(rt; are_flat(found.blocks(), front.first));
-    let whole = interval.read(alloc)?;
-    assert!(rt; whole.is_some() == front.is_sound);
-    if let Some(whole) = whole {
-        assert!(rt; whole.as_slice() == found.blocks());
-    }
+    check_front(rt, alloc, &interval, front)?;
     check_reader(rt, &interval, front);
     Ok(())
 }
@@ -105,7 +129,7 @@ fn reads_thousands_of_intervals(rt: HostRuntime) -> Result<(), Fail> {
     let scan = scan_of(rt.alloc(), bytes.as_slice())?;
     assert!(rt; (scan.intervals(), scan.ended()) == (4096, ScanEnd::EndOfImage));
     for i in 0..scan.intervals() {
-        let blocks = scan.interval(i)?.read(rt.alloc())?;
+        let blocks = blocks_of(rt.alloc(), &scan.interval(i)?)?;
         let blocks = blocks.ok_or("a sound interval")?;
         assert!(rt; blocks.len() == 1, "interval {i}");
         assert!(rt; are_flat(blocks.as_slice(), 4), "interval {i}");

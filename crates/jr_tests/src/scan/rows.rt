@@ -1,6 +1,7 @@
 //! Scans worked out by hand.
 
-use jr_scan::{Block, BlockReader, Interval, Place, ScanEnd, interval_count};
+use super::{blocks_of, front_of};
+use jr_scan::{Block, BlockReader, Interval, Place, Scan, ScanEnd, interval_count};
 use std::alloc::Global;
 use std::process::Abort;
 use std::test::Fail;
@@ -30,28 +31,46 @@ fn check_interval(
     firsts: &[i32],
     is_sound: bool,
 ) -> Result<(), Fail> {
-    let front = interval.read_front(alloc)?;
+    let front = front_of(alloc, interval)?;
     assert!(rt; have_firsts(front.blocks(), firsts));
     assert!(rt; front.is_sound() == is_sound);
-    assert!(rt; interval.read(alloc)?.is_some() == is_sound);
+    assert!(rt; blocks_of(alloc, interval)?.is_some() == is_sound);
     Ok(())
+}
+
+fn check_intervals(
+    rt: &impl Abort,
+    alloc: Global,
+    scan: &Scan,
+    intervals: &[(&[i32], bool)],
+) -> Result<(), Fail> {
+    for (i, (firsts, is_sound)) in intervals.iter().enumerate() {
+        assert!(rt; i < scan.intervals() as usize);
+        let interval = scan.interval(i as u32)?;
+        check_interval(rt, alloc, &interval, firsts, *is_sound)?;
+    }
+    Ok(())
+}
+
+/// Whether a scan has so many intervals, and ends so.
+fn is_cut(scan: &Scan, intervals: usize, ended: ScanEnd) -> bool {
+    let count = scan.intervals();
+    count as usize == intervals && interval_count(scan.head()) == count && scan.ended() == ended
+}
+
+/// Whether the scan is the same that is cut in the memory of the file.
+fn is_cut_in_place(alloc: Global, bytes: Vec<u8>, scan: &Scan) -> Result<bool, Fail> {
+    let in_place = scan_in_place(alloc, bytes)?;
+    Ok(in_place.is_same(scan) && in_place.ended() == scan.ended())
 }
 
 fn check_row(rt: &impl Abort, alloc: Global, row: &Row<'_>) -> Result<(), Fail> {
     let (words, intervals, ended) = row;
     let bytes = file(alloc, words)?;
     let scan = scan_of(alloc, bytes.as_slice())?;
-    assert!(rt; scan.ended() == *ended, "{words}");
-    assert!(rt; scan.intervals() as usize == intervals.len(), "{words}");
-    assert!(rt; interval_count(scan.head()) == scan.intervals(), "{words}");
-    for (i, (firsts, is_sound)) in intervals.iter().enumerate() {
-        assert!(rt; i < scan.intervals() as usize);
-        let interval = scan.interval(i as u32)?;
-        check_interval(rt, alloc, &interval, firsts, *is_sound)?;
-    }
-    let in_place = scan_in_place(alloc, bytes)?;
-    assert!(rt; in_place.is_same(&scan), "{words}");
-    assert!(rt; in_place.ended() == *ended, "{words}");
+    assert!(rt; is_cut(&scan, intervals.len(), *ended), "{words}");
+    check_intervals(rt, alloc, &scan, intervals)?;
+    assert!(rt; is_cut_in_place(alloc, bytes, &scan)?, "{words}");
     Ok(())
 }
 
@@ -216,7 +235,7 @@ fn block_of(alloc: Global, words: &str) -> Result<Option<Block>, Fail> {
     if scan.intervals() == 0 {
         return Ok(None);
     }
-    match scan.interval(0)?.read(alloc)? {
+    match blocks_of(alloc, &scan.interval(0)?)? {
         Some(blocks) => Ok(blocks.as_slice().first().copied()),
         None => Ok(None),
     }
@@ -264,27 +283,47 @@ fn tells_an_interval_and_its_head(rt: HostRuntime) -> Result<(), Fail> {
     Ok(())
 }
 
+/// The component of the next block, and its first coefficient.
+fn next(reader: &mut BlockReader<'_>) -> Option<(u32, i32)> {
+    let mut block = [0; 64];
+    let component = reader.next(&mut block)?;
+    Some((component, block[0]))
+}
+
+/// The bit and the first prediction of the place behind what was read.
+fn place_of(reader: &BlockReader<'_>) -> Option<(u64, i32)> {
+    let place = reader.place()?;
+    let predictions = place.predictions;
+    Some((place.bit, predictions[0]))
+}
+
+/// The one block that is read from bit 6 on with another prediction, and how many MCUs were then read.
+fn read_on(interval: &Interval) -> Option<((u32, i32), u32)> {
+    if interval.bytes().is_empty() {
+        return None;
+    }
+    let from = Place {
+        bit: 6,
+        predictions: [5, 0, 0],
+    };
+    let mut reader = BlockReader::at(interval, from, 1);
+    let block = next(&mut reader)?;
+    if next(&mut reader).is_some() {
+        return None;
+    }
+    Some((block, reader.mcus()))
+}
+
 #[test]
 fn reads_from_a_place(rt: HostRuntime) -> Result<(), Fail> {
     let bytes = file(rt.alloc(), "S Q F:0008:0010 D A C 61 8F")?;
     let scan = scan_of(rt.alloc(), bytes.as_slice())?;
     assert!(rt; 0 < scan.intervals());
     let interval = scan.interval(0)?;
-    let mut block = [0; 64];
     let mut reader = BlockReader::over(&interval);
-    assert!(rt; reader.next(&mut block) == Some(0));
-    assert!(rt; (block[0], reader.left()) == (4, 10));
-    let place = reader.place().ok_or("between two MCUs")?;
-    let predictions = place.predictions;
-    assert!(rt; (place.bit, predictions[0]) == (6, 4));
-    let other = Place {
-        bit: 6,
-        predictions: [5, 0, 0],
-    };
-    let mut reader = BlockReader::at(&interval, other, 1);
-    assert!(rt; reader.next(&mut block) == Some(0));
-    assert!(rt; block[0] == 9);
-    assert!(rt; reader.next(&mut block) == None);
-    assert!(rt; reader.mcus() == 1);
+    assert!(rt; next(&mut reader) == Some((0, 4)));
+    assert!(rt; reader.left() == 10);
+    assert!(rt; place_of(&reader) == Some((6, 4)));
+    assert!(rt; read_on(&interval) == Some(((0, 9), 1)));
     Ok(())
 }

@@ -4,10 +4,9 @@ ghost use Rattle.std.specs.Prelude.{◌≤◌};
 ghost use Rattle.jr_base.specs.declared.limits.TheConstants.{MAX_WORKERS};
 
 use super::made::{Shape, colour, grey, made_file};
-use crate::decoding::decode;
-use jr_paint::Tally;
+use crate::decoding::{decode, outcome_of};
 use jr_wall::OpenGate;
-use jri_engine::{Fault, run};
+use jri_engine::Fault;
 use std::alloc::Global;
 use std::io::{Error, ErrorKind, Read, Result as IoResult, Write};
 use std::process::Abort;
@@ -68,22 +67,13 @@ fn written<R: Threads + Wait + Sync + AllocGlobal>(
     requires some { 1 ≤ workers }
     requires few { workers ≤ MAX_WORKERS }
 {
-    let mut input = Tally::of(Source { rest: bytes });
-    let mut out = Tally::of(Sink {
+    let out = Sink {
         bytes: Vec::new(rt.alloc()),
         most,
         calls: 0,
         failing,
-    });
-    let outcome = run(
-        rt,
-        rt.alloc(),
-        &mut input,
-        &mut out,
-        workers,
-        None,
-        &OpenGate,
-    );
+    };
+    let (outcome, out) = outcome_of(rt, Source { rest: bytes }, out, workers, None, &OpenGate);
     (outcome.err(), out.into_inner())
 }
 

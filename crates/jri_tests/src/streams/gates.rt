@@ -1,9 +1,13 @@
 //! A gate is told each interval that is decoded, once, by one worker in their order, and of no piece, since none is made.
 
+ghost use Rattle.std.specs.Prelude.{◌≤◌};
+ghost use Rattle.jr_base.specs.declared.limits.TheConstants.{MAX_WORKERS};
+
+use crate::decoding::outcome_of;
 use jr_paint::Tally;
 use jr_stream::{write_scan, write_scan_by};
 use jr_wall::{Gate, Piece};
-use jri_engine::run;
+use std::alloc::Global;
 use std::process::Abort;
 use std::sync::Wait;
 use std::sync::atomic::{AtomicU32, Ordering};
@@ -94,6 +98,35 @@ fn check_crew<R: Threads + Wait + Sync + AllocGlobal + Abort>(
     Ok(())
 }
 
+/// Whether `write_scan` writes the picture of a file.
+fn is_written(
+    alloc: Global,
+    words: &str,
+    first: Option<u32>,
+    gate: &Passage,
+) -> Result<bool, Fail> {
+    let scan = scan(alloc, words)?;
+    let mut out = Tally::of(Vec::new(alloc));
+    Ok(write_scan(alloc, &scan, first, gate, &mut out).is_ok())
+}
+
+/// Whether `run` writes the picture of a file.
+fn is_run<R: Threads + Wait + Sync + AllocGlobal, G: Gate + Sync>(
+    rt: &R,
+    words: &str,
+    workers: u32,
+    first: Option<u32>,
+    gate: &G,
+) -> Result<bool, Fail>
+    requires some { 1 ≤ workers }
+    requires few { workers ≤ MAX_WORKERS }
+{
+    let bytes = file(rt.alloc(), words)?;
+    let out = Vec::new(rt.alloc());
+    let (outcome, _out) = outcome_of(rt, bytes.as_slice(), out, workers, first, gate);
+    Ok(outcome.is_ok())
+}
+
 fn check<R: Threads + Wait + Sync + AllocGlobal + Abort>(
     rt: &R,
     words: &str,
@@ -101,54 +134,53 @@ fn check<R: Threads + Wait + Sync + AllocGlobal + Abort>(
     passed: u32,
 ) -> Result<(), Fail> {
     let gate = Passage::new();
-    let scan = scan(rt.alloc(), words)?;
-    let mut out = Tally::of(Vec::new(rt.alloc()));
-    assert!(rt; write_scan(rt.alloc(), &scan, first, &gate, &mut out).is_ok());
+    assert!(rt; is_written(rt.alloc(), words, first, &gate)?);
     assert!(rt; gate.has_passed(passed), "{words} by write_scan");
     let gate = Passage::new();
-    let bytes = file(rt.alloc(), words)?;
-    let mut input = Tally::of(bytes.as_slice());
-    let mut out = Tally::of(Vec::new(rt.alloc()));
-    assert!(rt; run(rt, rt.alloc(), &mut input, &mut out, 1, first, &gate).is_ok());
+    assert!(rt; is_run(rt, words, 1, first, &gate)?);
     assert!(rt; gate.has_passed(passed), "{words} by run");
     Ok(())
 }
 
+/// Files, how many first intervals are decoded, and how many of them pass.
+const CASES: [(&str, Option<u32>, u32); 10] = [
+    (TEN, None, 10),
+    (TEN, Some(0), 0),
+    (TEN, Some(1), 1),
+    (TEN, Some(4), 4),
+    (TEN, Some(4_294_967_295), 10),
+    (MIXED, None, 10),
+    (MIXED, Some(7), 7),
+    (COLOURED, None, 2),
+    ("G 63 E", None, 1),
+    ("G 63 E", Some(0), 0),
+];
+
 #[test]
 fn tells_a_gate_each_of_the_first_intervals_once(rt: HostRuntime) -> Result<(), Fail> {
-    let cases = [
-        (TEN, None, 10),
-        (TEN, Some(0), 0),
-        (TEN, Some(1), 1),
-        (TEN, Some(4), 4),
-        (TEN, Some(4_294_967_295), 10),
-        (MIXED, None, 10),
-        (MIXED, Some(7), 7),
-        (COLOURED, None, 2),
-        ("G 63 E", None, 1),
-        ("G 63 E", Some(0), 0),
-    ];
-    for (words, first, passed) in cases {
-        check(&rt, words, first, passed)?;
+    for (words, first, passed) in &CASES {
+        check(&rt, words, *first, *passed)?;
     }
     Ok(())
 }
 
+/// Files, how many first intervals are decoded, and how many of them pass.
+const CREWS: [(&str, Option<u32>, u32); 9] = [
+    (TEN, None, 10),
+    (TEN, Some(0), 0),
+    (TEN, Some(1), 1),
+    (TEN, Some(4), 4),
+    (MIXED, None, 10),
+    (MIXED, Some(7), 7),
+    (COLOURED, None, 2),
+    (COLOURED, Some(1), 1),
+    ("G 63 E", None, 1),
+];
+
 #[test]
 fn crews_tell_a_gate_each_interval_once(rt: HostRuntime) -> Result<(), Fail> {
-    let cases = [
-        (TEN, None, 10),
-        (TEN, Some(0), 0),
-        (TEN, Some(1), 1),
-        (TEN, Some(4), 4),
-        (MIXED, None, 10),
-        (MIXED, Some(7), 7),
-        (COLOURED, None, 2),
-        (COLOURED, Some(1), 1),
-        ("G 63 E", None, 1),
-    ];
-    for (words, first, passed) in cases {
-        check_crew(&rt, words, first, passed)?;
+    for (words, first, passed) in &CREWS {
+        check_crew(&rt, words, *first, *passed)?;
     }
     Ok(())
 }
@@ -160,10 +192,7 @@ fn check_told<R: Threads + Wait + Sync + AllocGlobal + Abort>(
     told: u32,
 ) -> Result<(), Fail> {
     let gate = Crowd::new();
-    let bytes = file(rt.alloc(), words)?;
-    let mut input = Tally::of(bytes.as_slice());
-    let mut out = Tally::of(Vec::new(rt.alloc()));
-    assert!(rt; run(rt, rt.alloc(), &mut input, &mut out, 2, None, &gate).is_ok());
+    assert!(rt; is_run(rt, words, 2, None, &gate)?);
     assert!(rt; gate.passed.load(Ordering::SeqCst) == told, "{words}");
     Ok(())
 }

@@ -43,11 +43,15 @@ impl<'a> Caller<'a> {
         self.scan.interval(number).ok()
     }
 
+    fn tell(&mut self, line: &[u8]) {
+        let _ = self.errors.write_all(line);
+    }
+
     pub(crate) fn begin(&mut self) {
-        let _ = self.errors.write_all(b"call begins\n");
+        self.tell(b"call begins\n");
     }
 
     pub(crate) fn end(&mut self) {
-        let _ = self.errors.write_all(b"call ends\n");
+        self.tell(b"call ends\n");
     }
 }

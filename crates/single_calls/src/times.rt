@@ -1,18 +1,15 @@
-//! How long `decode_all` takes, for `tools/bench-beside-djpeg --decoding`: `decode_times FILE ..` decodes each file by 1, 2 and
-//! 4 workers in turns, and tells the least microseconds of each number of workers. It keeps no picture.
-#![tactic(auto)]
+//! How long `decode_all` takes by several numbers of workers.
 
 use jr_base::limits::MAX_WORKERS;
 use jr_head::read_head;
 use jr_scan::Scan;
 use jr_wall::{OpenGate, decode_all};
 use std::alloc::Global;
+use std::fs;
 use std::io::Write;
-use std::process::ExitCode;
 use std::sync::{Arc, Wait};
 use std::thread::Threads;
 use std::time::{Clock, Instant};
-use std::{env, fs};
 
 /// How many numbers of workers are told of.
 const NUMBERS: usize = 3;
@@ -24,7 +21,7 @@ const WORKERS: [u32; NUMBERS] = [1, 2, 4];
 const TURNS: u32 = 9;
 
 /// The scan of the file of that name, if there is one.
-fn scan_of(rt: &HostRuntime, name: &str) -> Option<Arc<Scan>> {
+pub(crate) fn scan_of(rt: &HostRuntime, name: &str) -> Option<Arc<Scan>> {
     let file = fs::read(rt, name).ok()?;
     let head = read_head(rt.alloc(), file.as_slice()).ok()?;
     let scan = Scan::cut(rt.alloc(), head, file.as_slice()).ok()?;
@@ -48,7 +45,7 @@ fn time_of<R: Threads + Wait + Clock + Sync>(
 }
 
 /// The least microseconds of each number of workers.
-fn least_times<R: Threads + Wait + Clock + Sync>(
+pub(crate) fn least_times<R: Threads + Wait + Clock + Sync>(
     rt: &R,
     alloc: Global,
     scan: &Arc<Scan>,
@@ -63,20 +60,9 @@ fn least_times<R: Threads + Wait + Clock + Sync>(
     Some(least)
 }
 
-fn main(rt: HostRuntime) -> ExitCode {
-    let Ok(words) = env::args(&rt) else {
-        return ExitCode::from(1);
-    };
-    for name in words.skip(1) {
-        let Some(scan) = scan_of(&rt, name.as_str()) else {
-            return ExitCode::from(2);
-        };
-        let Some(times) = least_times(&rt, rt.alloc(), &scan) else {
-            return ExitCode::from(1);
-        };
-        for k in 0..NUMBERS {
-            let _ = writeln!(rt.stdout(), "{} {}", WORKERS[k], times[k]);
-        }
+/// A line for each number of workers.
+pub(crate) fn tell<W: Write>(out: &mut W, times: &[u128; NUMBERS]) {
+    for k in 0..NUMBERS {
+        let _ = writeln!(out, "{} {}", WORKERS[k], times[k]);
     }
-    ExitCode::SUCCESS
 }
