@@ -165,10 +165,10 @@ const TABLES: [(&str, u32); 4] = [
 #[test]
 fn accepts_millions_of_code_tables(rt: HostRuntime) -> Result<(), Fail> {
     let plain = file(rt.alloc(), "S Q F D A C")?;
-    let plain = read_head(rt.alloc(), plain.as_slice())?;
+    let plain = head_in(rt.alloc(), plain.as_slice())?;
     for (part, times) in &TABLES {
         let bytes = repeated_part(rt.alloc(), part, *times)?;
-        let head = read_head(rt.alloc(), bytes.as_slice())?;
+        let head = head_in(rt.alloc(), bytes.as_slice())?;
         assert!(rt; (head.width(), head.height()) == (8, 8), "{part}");
         assert!(rt; have_same_books(&head, &plain));
     }
