@@ -5,11 +5,11 @@ use Rattle.std.proofs.lemmas.List.Sums.{sum_by-cons}
 use Rattle.jr_head.specs.HeadValue.{HeadValue}
 use Rattle.jr_head.specs.Geometry.{mcus_down, mcus_of}
 use Rattle.jr_scan.specs.ScanValue.{ScanValue, intervals_of}
-use Rattle.jr_wall.specs.declared.mark.Mark.{Mark}
-use Rattle.jr_wall.specs.declared.mark.Mark.TheVariants.{Blank}
-use Rattle.jr_wall.specs.declared.headline.Counts.{Counts}
-use Rattle.jr_wall.specs.Boards.{marks_of}
-use Rattle.jr_wall.specs.Headline.{is_sound, is_damaged}
+use Rattle.jr_picture.specs.declared.mark.Mark.{Mark}
+use Rattle.jr_picture.specs.declared.mark.Mark.TheVariants.{Blank}
+use Rattle.jr_picture.specs.declared.counts.Counts.{Counts}
+use Rattle.jr_picture.specs.Boards.{marks_of}
+use Rattle.jr_picture.specs.Headline.{is_sound, is_damaged}
 use Rattle.jr_stream.specs.Rows.{CountsRows, coded_before, intervals_before, mcus_before}
 use Rattle.jr_stream.specs.Stream.{HasCounts}
 use Rattle.jr_stream.specs.declared.marked.Marked.{Marked}

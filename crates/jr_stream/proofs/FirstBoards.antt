@@ -12,13 +12,13 @@ use Rattle.jr_scan.specs.IntervalValue.{IntervalValue}
 use Rattle.jr_scan.specs.ScanValue.{ScanValue, IsSameScan, interval_of}
 use Rattle.jr_piece.specs.PieceValue.{PieceValue}
 use Rattle.jr_piece.specs.Outcome.{HasOutcome}
-use Rattle.jr_wall.specs.declared.mark.Mark.TheVariants.{Blank, Sound, Damaged}
-use Rattle.jr_wall.specs.BoardValue.{BoardValue}
-use Rattle.jr_wall.specs.Boards.{IsPieceOf, IsLawfulBoard, piece_at, mark_of, marks_of, mark_at}
-use Rattle.jr_wall.specs.Decoded.{least}
-use Rattle.jr_wall.specs.Headline.{AreCounts, ShowsFirst, is_sound, is_damaged}
-use Rattle.jr_wall.specs.Samples.{samples_of}
-use Rattle.jr_wall.proofs.BoardPictures.{first_marked, picture, same_picture}
+use Rattle.jr_picture.specs.declared.mark.Mark.TheVariants.{Blank, Sound, Damaged}
+use Rattle.jr_picture.specs.BoardValue.{BoardValue}
+use Rattle.jr_picture.specs.Boards.{IsPieceOf, IsLawfulBoard, piece_at, mark_of, marks_of, mark_at}
+use Rattle.jr_picture.specs.Headline.{least}
+use Rattle.jr_picture.specs.Headline.{AreCounts, ShowsFirst, is_sound, is_damaged}
+use Rattle.jr_picture.specs.Samples.{samples_of}
+use Rattle.jr_picture.proofs.BoardPictures.{first_marked, picture, same_picture}
 use Rattle.jr_stream.specs.Rows.{HasFirst}
 
 -- no more intervals are to be decoded than there are

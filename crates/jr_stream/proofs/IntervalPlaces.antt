@@ -10,7 +10,7 @@ use Rattle.jr_head.specs.HeadValue.{HeadValue}
 use Rattle.jr_head.specs.Geometry.{mcus_of}
 use Rattle.jr_paint.proofs.Places.{below_div_ceil, in_div_ceil}
 use Rattle.jr_scan.specs.ScanValue.{intervals_of, mcus_in}
-use Rattle.jr_wall.specs.Headline.{interval_number, within_interval}
+use Rattle.jr_picture.specs.Headline.{interval_number, within_interval}
 use Rattle.jr_stream.specs.Rows.{mcus_before, intervals_before}
 
 -- the two cases: one interval, or one for each restart interval

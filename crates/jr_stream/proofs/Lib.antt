@@ -10,5 +10,4 @@ pub mod PaintedRows
 pub mod WholeRows
 pub mod Countings
 pub mod Sendings
-pub mod Benches
 pub mod SomeLines

@@ -20,12 +20,12 @@ use Rattle.jr_piece.specs.PieceValue.{PieceValue}
 use Rattle.jr_piece.specs.Outcome.{IsOutcome, unit_of}
 use Rattle.jr_piece.specs.Strips.{units_before}
 use Rattle.jr_piece.specs.Units.{CodesUnits, unit_in_piece}
-use Rattle.jr_wall.specs.declared.mark.Mark.{Mark}
-use Rattle.jr_wall.specs.declared.mark.Mark.TheVariants.{Blank, Sound, Damaged}
-use Rattle.jr_wall.specs.BoardValue.{BoardValue}
-use Rattle.jr_wall.specs.Boards.{piece_at, mark_of, marks_of}
-use Rattle.jr_wall.specs.Headline.{is_sound, is_damaged, interval_number, within_interval}
-use Rattle.jr_wall.proofs.BoardPictures.{marks_at, interval_is}
+use Rattle.jr_picture.specs.declared.mark.Mark.{Mark}
+use Rattle.jr_picture.specs.declared.mark.Mark.TheVariants.{Blank, Sound, Damaged}
+use Rattle.jr_picture.specs.BoardValue.{BoardValue}
+use Rattle.jr_picture.specs.Boards.{piece_at, mark_of, marks_of}
+use Rattle.jr_picture.specs.Headline.{is_sound, is_damaged, interval_number, within_interval}
+use Rattle.jr_picture.proofs.BoardPictures.{marks_at, interval_is}
 use Rattle.jr_stream.proofs.FirstBoards.{marks_there, not_blank}
 use Rattle.jr_stream.proofs.IntervalPlaces.{interval_at}
 use Rattle.jr_stream.specs.Bands.{unit_shown_of}

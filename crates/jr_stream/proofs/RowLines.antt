@@ -17,13 +17,13 @@ use Rattle.jr_paint.proofs.Places.{mcu_inside}
 use Rattle.jr_scan.specs.Mcus.{component}
 use Rattle.jr_piece.specs.PieceValue.{PieceValue}
 use Rattle.jr_piece.specs.Units.{grey_unit}
-use Rattle.jr_wall.specs.BoardValue.{BoardValue}
-use Rattle.jr_wall.specs.Boards.{piece_at}
-use Rattle.jr_wall.specs.Headline.{blank_of, interval_number, spot_of, unit_in}
-use Rattle.jr_wall.specs.Samples.{sample_in, sample_of_piece, samples_of}
-use Rattle.jr_wall.proofs.BoardPictures.{block_there, shown_is}
-use Rattle.jr_wall.proofs.Lines.{spot_along}
-use Rattle.jr_wall.proofs.Pictures.{line_same}
+use Rattle.jr_picture.specs.BoardValue.{BoardValue}
+use Rattle.jr_picture.specs.Boards.{piece_at}
+use Rattle.jr_picture.specs.Headline.{blank_of, interval_number, spot_of, unit_in}
+use Rattle.jr_picture.specs.Samples.{sample_in, sample_of_piece, samples_of}
+use Rattle.jr_picture.proofs.BoardPictures.{block_there, shown_is}
+use Rattle.jr_picture.proofs.Lines.{spot_along}
+use Rattle.jr_picture.proofs.Pictures.{line_same}
 use Rattle.jr_stream.specs.Bands.{sample_in_units, sample_in_row, samples_in, unit_shown_of, unit_shown, ShowsMcus}
 use Rattle.jr_stream.proofs.UnitComponents.{component_there}
 

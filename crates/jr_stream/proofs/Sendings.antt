@@ -6,9 +6,9 @@ use Rattle.jr_head.specs.Geometry.{IsLawful}
 use Rattle.jr_scan.specs.IntervalValue.{IntervalValue}
 use Rattle.jr_scan.specs.ScanValue.{ScanValue}
 use Rattle.jr_piece.specs.Outcome.{HasOutcome}
-use Rattle.jr_wall.specs.declared.headline.Counts.{Counts}
-use Rattle.jr_wall.specs.Boards.{marks_of}
-use Rattle.jr_wall.specs.Samples.{samples_of}
+use Rattle.jr_picture.specs.declared.counts.Counts.{Counts}
+use Rattle.jr_picture.specs.Boards.{marks_of}
+use Rattle.jr_picture.specs.Samples.{samples_of}
 use Rattle.jr_stream.specs.Stream.{WritesPicture, BeginsPicture, SendsPicture, HasCounts}
 use Rattle.jr_stream.proofs.FirstBoards.{first_board, shows_first}
 use Rattle.jr_stream.proofs.PictureRows.{from_ok}

@@ -7,9 +7,9 @@ use Rattle.jr_head.specs.HeadValue.{HeadValue}
 use Rattle.jr_head.specs.Geometry.{order_of, blocks_of, mcus_across, mcus_down, mcus_of}
 use Rattle.jr_head.proofs.SamplingLaws.{length-order}
 use Rattle.jr_scan.specs.ScanValue.{ScanValue}
-use Rattle.jr_wall.specs.BoardValue.{BoardValue}
-use Rattle.jr_wall.specs.Boards.{piece_at}
-use Rattle.jr_wall.specs.Headline.{blank_of, interval_number, within_interval}
+use Rattle.jr_picture.specs.BoardValue.{BoardValue}
+use Rattle.jr_picture.specs.Boards.{piece_at}
+use Rattle.jr_picture.specs.Headline.{blank_of, interval_number, within_interval}
 use Rattle.jr_stream.specs.Bands.{ShowsMcus, unit_shown, unit_shown_of}
 use Rattle.jr_stream.specs.Rows.{HasFirst, ShowsFirst, coded_before, coded_in, mcus_before}
 use Rattle.jr_stream.proofs.IntervalPlaces.{behind_first}

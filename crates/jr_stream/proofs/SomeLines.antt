@@ -13,10 +13,10 @@ use Rattle.jr_paint.specs.Lines.{next_lines_of}
 use Rattle.jr_scan.specs.IntervalValue.{IntervalValue}
 use Rattle.jr_scan.specs.ScanValue.{ScanValue, intervals_of}
 use Rattle.jr_piece.specs.Outcome.{HasOutcome}
-use Rattle.jr_wall.specs.BoardValue.{BoardValue}
-use Rattle.jr_wall.specs.Boards.{marks_of}
-use Rattle.jr_wall.specs.Headline.{interval_number, within_interval}
-use Rattle.jr_wall.specs.Samples.{samples_of}
+use Rattle.jr_picture.specs.BoardValue.{BoardValue}
+use Rattle.jr_picture.specs.Boards.{marks_of}
+use Rattle.jr_picture.specs.Headline.{interval_number, within_interval}
+use Rattle.jr_picture.specs.Samples.{samples_of}
 use Rattle.jr_stream.specs.Rows.{HasFirst, coded_before, mcus_before}
 use Rattle.jr_stream.specs.SomeLines.{CountsBetween, PaintsLines, row_behind, row_with}
 use Rattle.jr_stream.specs.declared.marked.Marked.{Marked}

@@ -12,8 +12,8 @@ use Rattle.jr_head.proofs.SamplingLaws.{length-order}
 use Rattle.jr_paint.proofs.Factors.{sampled_at}
 use Rattle.jr_paint.proofs.Places.{place_of_lies}
 use Rattle.jr_scan.specs.Mcus.{component}
-use Rattle.jr_wall.specs.Headline.{spot_of}
-use Rattle.jr_wall.proofs.BoardPictures.{block_there}
+use Rattle.jr_picture.specs.Headline.{spot_of}
+use Rattle.jr_picture.proofs.BoardPictures.{block_there}
 
 -- data unit k of those of component c
 in_order : (i : ℕ) (cs : List Component) (c k : ℕ) → c < length cs → k < units_of (get_or cs c no_component) → get_or (order_from i cs) (sum_by units_of (take c cs) + k) 0 ≡ i + c

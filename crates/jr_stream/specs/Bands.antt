@@ -6,9 +6,9 @@ use Rattle.jr_paint.specs.Geometry.{place_of, spot_at}
 use Rattle.jr_scan.specs.Mcus.{component}
 use Rattle.jr_piece.specs.PieceValue.{PieceValue}
 use Rattle.jr_piece.specs.Units.{unit_in_piece}
-use Rattle.jr_wall.specs.BoardValue.{BoardValue}
-use Rattle.jr_wall.specs.Boards.{piece_at}
-use Rattle.jr_wall.specs.Headline.{blank_of, interval_number, within_interval}
+use Rattle.jr_picture.specs.BoardValue.{BoardValue}
+use Rattle.jr_picture.specs.Boards.{piece_at}
+use Rattle.jr_picture.specs.Headline.{blank_of, interval_number, within_interval}
 use Rattle.jr_stream.specs.BandValue.{BandValue}
 
 -- the sample at a place of data unit n

@@ -4,6 +4,4 @@ pub mod PartValue
 pub mod RowsValue
 pub mod Rows
 pub mod Stream
-pub mod CrewValue
-pub mod Crew
 pub mod SomeLines

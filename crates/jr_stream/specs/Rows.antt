@@ -6,10 +6,10 @@ use Rattle.jr_paint.specs.Lines.{next_lines_of}
 use Rattle.jr_scan.specs.Block.{IsInRange}
 use Rattle.jr_scan.specs.ScanValue.{ScanValue, intervals_of}
 use Rattle.jr_piece.specs.Outcome.{unit_of}
-use Rattle.jr_wall.specs.BoardValue.{BoardValue}
-use Rattle.jr_wall.specs.Boards.{IsLawfulBoard, marks_of}
-use Rattle.jr_wall.specs.Headline.{AreFirst, is_sound, is_damaged, interval_number}
-use Rattle.jr_wall.specs.Samples.{samples_of}
+use Rattle.jr_picture.specs.BoardValue.{BoardValue}
+use Rattle.jr_picture.specs.Boards.{IsLawfulBoard, marks_of}
+use Rattle.jr_picture.specs.Headline.{AreFirst, is_sound, is_damaged, interval_number}
+use Rattle.jr_picture.specs.Samples.{samples_of}
 use Rattle.jr_stream.specs.Bands.{unit_shown}
 use Rattle.jr_stream.specs.RowsValue.{McusValue, RowValue}
 use Rattle.jr_stream.specs.declared.marked.Marked.{Marked}

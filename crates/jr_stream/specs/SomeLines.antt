@@ -5,8 +5,8 @@ use Rattle.jr_head.specs.HeadValue.{HeadValue}
 use Rattle.jr_head.specs.Geometry.{vertical_max}
 use Rattle.jr_paint.specs.Lines.{next_lines_of}
 use Rattle.jr_scan.specs.ScanValue.{ScanValue}
-use Rattle.jr_wall.specs.declared.mark.Mark.{Mark}
-use Rattle.jr_wall.specs.Headline.{ShowsFirst, is_sound, is_damaged}
+use Rattle.jr_picture.specs.declared.mark.Mark.{Mark}
+use Rattle.jr_picture.specs.Headline.{ShowsFirst, is_sound, is_damaged}
 use Rattle.jr_stream.specs.Rows.{CountsMcus, coded_before, intervals_before}
 use Rattle.jr_stream.specs.declared.marked.Marked.{Marked}
 

@@ -6,12 +6,12 @@ use Rattle.jr_base.specs.Tally.{Writes, WritesBeginning, has_failed}
 use Rattle.jr_paint.specs.Text.{text_of}
 use Rattle.jr_paint.specs.Written.{IsSent}
 use Rattle.jr_scan.specs.ScanValue.{ScanValue}
-use Rattle.jr_wall.specs.declared.headline.Counts.{Counts}
-use Rattle.jr_wall.specs.declared.mark.Mark.{Mark}
-use Rattle.jr_wall.specs.BoardValue.{BoardValue}
-use Rattle.jr_wall.specs.Boards.{marks_of}
-use Rattle.jr_wall.specs.Headline.{AreCounts, ShowsFirst}
-use Rattle.jr_wall.specs.Samples.{samples_of}
+use Rattle.jr_picture.specs.declared.counts.Counts.{Counts}
+use Rattle.jr_picture.specs.declared.mark.Mark.{Mark}
+use Rattle.jr_picture.specs.BoardValue.{BoardValue}
+use Rattle.jr_picture.specs.Boards.{marks_of}
+use Rattle.jr_picture.specs.Headline.{AreCounts, ShowsFirst}
+use Rattle.jr_picture.specs.Samples.{samples_of}
 use Rattle.jr_stream.specs.PartValue.{PartValue}
 use Rattle.jr_stream.specs.Rows.{HasFirst, CountsRows}
 use Rattle.jr_stream.specs.declared.marked.Marked.{Marked}

@@ -9,8 +9,8 @@ use crate::painter::RowPainter;
 use crate::rows::Rows;
 use crate::sample_row::SampleRow;
 use jr_paint::SampleLines;
+use jr_picture::Gate;
 use jr_scan::Scan;
-use jr_wall::Gate;
 use std::marker::Model;
 
 /// The calling thread's part of a scan: all of it.

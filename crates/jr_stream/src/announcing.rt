@@ -5,8 +5,8 @@ ghost use Rattle.jr_head.specs.Geometry.{mcus_down};
 
 use crate::shape::shape_of;
 use jr_head::Head;
+use jr_picture::Gate;
 use jr_scan::Scan;
-use jr_wall::Gate;
 
 /// How many intervals begin before an MCU.
 fn begun_before(head: &Head, mcu: u32) -> u32 {
@@ -17,7 +17,7 @@ fn begun_before(head: &Head, mcu: u32) -> u32 {
 }
 
 /// Tells the gate of each interval that begins in this row and is one of the first `limit`, before it is decoded.
-pub(crate) fn announce<G: Gate>(scan: &Scan, limit: u32, row: u32, gate: &G)
+pub fn announce<G: Gate>(scan: &Scan, limit: u32, row: u32, gate: &G)
     requires { row < mcus_down scan.now.head }
 {
     let head = scan.head();

@@ -5,7 +5,7 @@ ghost use Rattle.jr_head.specs.Geometry.{blocks_of};
 ghost use Rattle.jr_stream.specs.Bands.{unit_shown_of};
 
 use jr_head::Head;
-use jr_wall::blank_sample;
+use jr_picture::blank_sample;
 
 /// Data unit j of a blank MCU: black.
 fn blank_unit(head: &Head, j: usize) -> [u8; 64]
@@ -17,7 +17,7 @@ fn blank_unit(head: &Head, j: usize) -> [u8; 64]
 }
 
 /// Fills the data units of blank MCUs.
-pub(crate) fn fill_blank(head: &Head, units: &mut [[u8; 64]])
+pub fn fill_blank(head: &Head, units: &mut [[u8; 64]])
     ensures { (k : ℕ) → k < length units.new → slice_index_or units.new k [] ≡ unit_shown_of head.now (k % blocks_of head.now) None 0 }
 {
     let per_mcu = head.order().len();

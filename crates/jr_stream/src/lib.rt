@@ -4,27 +4,26 @@
 mod alone;
 mod announcing;
 mod band;
-mod baton;
-mod bench;
-mod beside;
 mod blank;
-mod caller;
-mod crew;
 mod lines;
 mod marked;
 mod painter;
 mod painting;
 mod part;
-mod ring;
-mod row;
 mod rows;
 mod sample_row;
-mod sending;
 mod shape;
-mod sharing;
 mod writing;
 
+pub use announcing::announce;
+pub use blank::fill_blank;
 pub use lines::paint_scan_lines;
 pub use marked::Marked;
-pub use sharing::write_scan_by;
-pub use writing::{Unwritten, write_scan};
+pub use painter::RowPainter;
+pub use painting::paint_row;
+pub use part::Part;
+pub use rows::Rows;
+pub use shape::{
+    Shape, bytes_of_row, coded_of_row, intervals_of_row, lines_of, room_for, shape_of,
+};
+pub use writing::{Unwritten, counts_of, write_rows, write_scan};

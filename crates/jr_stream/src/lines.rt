@@ -4,8 +4,8 @@ ghost use Rattle.std.specs.Prelude.{◌≡◌, ℕ, ◌+◌, ◌-◌, ◌*◌, �
 ghost use Rattle.jr_head.specs.Geometry.{mcus_down, vertical_max};
 ghost use Rattle.jr_paint.specs.Lines.{line_size, next_lines_of};
 ghost use Rattle.jr_paint.specs.declared.netpbm.TheConstants.{WIDEST};
-ghost use Rattle.jr_wall.specs.BoardValue.{BoardValue};
-ghost use Rattle.jr_wall.specs.Samples.{samples_of};
+ghost use Rattle.jr_picture.specs.BoardValue.{BoardValue};
+ghost use Rattle.jr_picture.specs.Samples.{samples_of};
 ghost use Rattle.jr_stream.specs.Rows.{HasFirst, HasSampleRoom};
 ghost use Rattle.jr_stream.specs.SomeLines.{CountsBetween, PaintsLines, row_behind, row_with};
 

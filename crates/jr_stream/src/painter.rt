@@ -9,7 +9,7 @@ ghost use Rattle.jr_stream.specs.Rows.{CountsRow, ShowsLines, line_count};
 use crate::marked::Marked;
 
 /// Gives the lines of a picture's rows of MCUs in their order.
-pub(crate) trait RowPainter {
+pub trait RowPainter {
     ghost at: { Self → RowsValue };
 
     /// Paints the next row: the slice has room for just its lines. Answers the marks of the intervals that end in it.

@@ -3,8 +3,8 @@
 ghost use Rattle.std.specs.Prelude.{◌≡◌, ◌+◌, ◌*◌, ◌<◌, ◌≤◌, length};
 ghost use Rattle.jr_head.specs.Geometry.{blocks_of, mcus_across, mcus_down};
 ghost use Rattle.jr_paint.specs.Lines.{line_size, next_lines_of};
-ghost use Rattle.jr_wall.specs.BoardValue.{BoardValue};
-ghost use Rattle.jr_wall.specs.Samples.{samples_of};
+ghost use Rattle.jr_picture.specs.BoardValue.{BoardValue};
+ghost use Rattle.jr_picture.specs.Samples.{samples_of};
 ghost use Rattle.jr_stream.specs.Bands.{ShowsMcus, samples_in};
 ghost use Rattle.jr_stream.specs.Rows.{first_line, line_count};
 
@@ -32,7 +32,7 @@ pub(crate) fn paint_some<const WIDTH: usize>(
 }
 
 /// Paints the lines of a row of MCUs that has these data units.
-pub(crate) fn paint_row<const WIDTH: usize>(
+pub fn paint_row<const WIDTH: usize>(
     head: &Head,
     units: &[[u8; 64]],
     row: u32,

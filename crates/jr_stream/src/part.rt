@@ -1,15 +1,15 @@
 //! The part of a scan that is decoded: its first intervals, or all.
 
-ghost use Rattle.std.specs.Prelude.{◌≡◌, ◌≤◌, Option, None, length};
-ghost use Rattle.jr_wall.specs.Decoded.{least};
+ghost use Rattle.std.specs.Prelude.{◌≡◌, ◌≤◌, length};
+ghost use Rattle.jr_picture.specs.Headline.{least};
 ghost use Rattle.jr_stream.specs.PartValue.{PartValue};
 
 use jr_scan::Scan;
-use std::marker::{Brand, Model};
+use std::marker::Model;
 
 /// A scan, of which the first intervals are decoded; the others are blank.
 #[derive(Drop)]
-pub(crate) struct Part<'a> {
+pub struct Part<'a> {
     scan: &'a Scan,
     limit: u32,
 }
@@ -27,7 +27,7 @@ impl<'a> Model for Part<'a> {
 
 impl<'a> Part<'a> {
     /// The first intervals of a scan, or all.
-    pub(crate) fn of(scan: &'a Scan, first: Option<u32>) -> Part<'a>
+    pub fn of(scan: &'a Scan, first: Option<u32>) -> Part<'a>
         ensures { result ≡ record { scan = scan.now; limit = least first (length scan.now.intervals) } }
     {
         let all = scan.intervals();
@@ -39,27 +39,17 @@ impl<'a> Part<'a> {
     }
 
     /// The scan.
-    pub(crate) fn scan(&self) -> &'a Scan
+    pub fn scan(&self) -> &'a Scan
         ensures { result.now ≡ self.now.scan }
     {
         self.scan
     }
 
     /// How many intervals are decoded.
-    pub(crate) fn limit(&self) -> u32
+    pub fn limit(&self) -> u32
         ensures value { result ≡ self.now.limit }
         ensures few { self.now.limit ≤ length self.now.scan.intervals }
     {
         self.limit
     }
-}
-
-/// The part that a proof knows of, as a type: what lies under a lock is known by its type alone, so the type says of which
-/// scan it is, and how much of it is decoded.
-pub(crate) trait OnePart {
-    ghost part: { Option PartValue };
-}
-
-impl OnePart for Brand {
-    ghost part = { None };
 }

@@ -4,8 +4,8 @@ ghost use Rattle.std.specs.Prelude.{◌≡◌, ℕ, ◌+◌, ◌-◌, ◌*◌, �
 ghost use Rattle.jr_head.specs.Geometry.{blocks_of, mcus_across, mcus_down, mcus_of};
 ghost use Rattle.jr_scan.specs.Block.{IsInRange};
 ghost use Rattle.jr_scan.specs.ScanValue.{intervals_of, mcus_in};
-ghost use Rattle.jr_wall.specs.Headline.{interval_number, within_interval};
-ghost use Rattle.jr_wall.specs.BoardValue.{BoardValue};
+ghost use Rattle.jr_picture.specs.Headline.{interval_number, within_interval};
+ghost use Rattle.jr_picture.specs.BoardValue.{BoardValue};
 ghost use Rattle.jr_stream.specs.Bands.{ShowsMcus};
 ghost use Rattle.jr_stream.specs.Rows.{AreInRange, CountsMarks, CountsMcus, GivesBehind, GivesMcus, HasFirst, ShowsBehind, ShowsFirst, AreRead, CountsRow, coded_before, intervals_before, mcus_at_once, mcus_before, mcus_read};
 
@@ -248,7 +248,7 @@ fn interval_with(head: &Head, mcu: u32) -> (u32, u32)
 
 /// The rows of MCUs of a scan, of whose first intervals one row after the other is read.
 #[derive(Drop)]
-pub(crate) struct Rows<'a> {
+pub struct Rows<'a> {
     mcus: Mcus<'a>,
     row: u32,
 }
@@ -267,7 +267,7 @@ impl<'a> Model for Rows<'a> {
 
 impl<'a> Rows<'a> {
     /// No row is read yet.
-    pub(crate) fn of(scan: &'a Scan, limit: u32) -> Rows<'a>
+    pub fn of(scan: &'a Scan, limit: u32) -> Rows<'a>
         ensures { result ≡ record { scan = scan.now; limit = limit; row = 0 } }
     {
         // By its contract a scan has an interval.
@@ -279,7 +279,7 @@ impl<'a> Rows<'a> {
     }
 
     /// The rows from this one on, where a row has so many whole intervals.
-    pub(crate) fn from(part: &Part<'a>, row: u32, intervals: u32) -> Rows<'a>
+    pub fn from(part: &Part<'a>, row: u32, intervals: u32) -> Rows<'a>
         requires row { row < mcus_down part.now.scan.head }
         requires whole { intervals * part.now.scan.head.restart ≡ mcus_across part.now.scan.head }
         ensures { result ≡ record { scan = part.now.scan; limit = part.now.limit; row = row } }
@@ -311,14 +311,14 @@ impl<'a> Rows<'a> {
     }
 
     /// The number of the row that comes next.
-    pub(crate) fn row(&self) -> u32
+    pub fn row(&self) -> u32
         ensures { result ≡ self.now.row }
     {
         self.row
     }
 
     /// The head of the scan's file.
-    pub(crate) fn head(&self) -> &'a Head
+    pub fn head(&self) -> &'a Head
         ensures { result.now ≡ self.now.scan.head }
     {
         self.mcus.scan.head()
@@ -326,7 +326,7 @@ impl<'a> Rows<'a> {
 
     /// Reads the next row: its blocks, of which `blocks` keeps those of the decoded MCUs as its first, and the marks of the
     /// intervals that end in it.
-    pub(crate) fn read(&mut self, blocks: &mut [Block]) -> Marked
+    pub fn read(&mut self, blocks: &mut [Block]) -> Marked
         requires row { self.old.row < mcus_down self.old.scan.head }
         requires room { length blocks.old ≡ mcus_across self.old.scan.head * blocks_of self.old.scan.head }
         ensures moved { self.new ≡ record self.old { row = self.old.row + 1 } }

@@ -3,7 +3,7 @@
 ghost use Rattle.std.specs.Prelude.{◌≡◌, ◌+◌, ◌*◌, ◌<◌, ◌≤◌, length, IfOk};
 ghost use Rattle.jr_head.specs.Geometry.{mcus_across, mcus_down};
 ghost use Rattle.jr_paint.specs.Lines.{line_size, next_lines_of};
-ghost use Rattle.jr_wall.specs.BoardValue.{BoardValue};
+ghost use Rattle.jr_picture.specs.BoardValue.{BoardValue};
 ghost use Rattle.jr_stream.specs.Bands.{ShowsMcus, samples_in};
 ghost use Rattle.jr_stream.specs.Rows.{CountsRow, HasFirst, HasSampleRoom, ShowsLines, line_count};
 

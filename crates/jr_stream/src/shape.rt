@@ -15,19 +15,19 @@ pub(crate) const BLOCKS_AT_ONCE: usize = 64;
 
 /// What a row of MCUs of a picture has.
 #[derive(Clone, Copy)]
-pub(crate) struct Shape {
+pub struct Shape {
     /// How many MCUs.
-    pub(crate) across: u32,
+    pub across: u32,
     /// How many lines of pixels, where the picture doesn't end in it.
-    pub(crate) deep: u32,
+    pub deep: u32,
     /// How many such rows the picture has.
-    pub(crate) down: u32,
+    pub down: u32,
     /// How many bytes a line of pixels has.
-    pub(crate) line: usize,
+    pub line: usize,
 }
 
 /// What the rows of MCUs of this head's picture have.
-pub(crate) fn shape_of(head: &Head) -> Shape
+pub fn shape_of(head: &Head) -> Shape
     ensures across { result.across ≡ mcus_across head.now }
     ensures few { result.across < 65536 }
     ensures deep { result.deep ≡ 8 * vertical_max head.now }
@@ -57,7 +57,7 @@ pub(crate) fn mcus_at_once(head: &Head) -> u32
 }
 
 /// The first line of pixels of a row of MCUs, and how many lines it has.
-pub(crate) fn lines_of(head: &Head, row: u32) -> (u32, u32)
+pub fn lines_of(head: &Head, row: u32) -> (u32, u32)
     requires { row < mcus_down head.now }
     ensures first { result.0 ≡ first_line head.now row }
     ensures count { result.1 ≡ line_count head.now row }
@@ -73,7 +73,7 @@ pub(crate) fn lines_of(head: &Head, row: u32) -> (u32, u32)
 }
 
 /// The bytes that the lines of a row of MCUs take.
-pub(crate) fn bytes_of_row(head: &Head) -> usize
+pub fn bytes_of_row(head: &Head) -> usize
     ensures { result ≡ 8 * vertical_max head.now * line_size head.now }
 {
     let shape = shape_of(head);
@@ -81,7 +81,7 @@ pub(crate) fn bytes_of_row(head: &Head) -> usize
 }
 
 /// The bytes that the lines of a row of MCUs take, and enough of them for a write.
-pub(crate) fn room_for(head: &Head) -> usize
+pub fn room_for(head: &Head) -> usize
     ensures lines { 8 * vertical_max head.now * line_size head.now ≤ result }
     ensures batch { BATCH ≤ result }
 {
@@ -101,7 +101,7 @@ pub(crate) fn mcus_of_first(scan: &Scan, n: u32) -> u32
 }
 
 /// How many MCUs of a row are decoded, where the first n intervals are.
-pub(crate) fn coded_of_row(scan: &Scan, n: u32, row: u32) -> u32
+pub fn coded_of_row(scan: &Scan, n: u32, row: u32) -> u32
     requires { row < mcus_down scan.now.head }
     ensures value { result ≡ coded_in scan.now.head n row }
     ensures moved { coded_before scan.now.head n row + result ≡ coded_before scan.now.head n (row + 1) }
@@ -117,7 +117,7 @@ pub(crate) fn coded_of_row(scan: &Scan, n: u32, row: u32) -> u32
 }
 
 /// How many intervals a row of MCUs has, where rows are whole intervals.
-pub(crate) fn intervals_of_row(head: &Head) -> Option<u32>
+pub fn intervals_of_row(head: &Head) -> Option<u32>
     ensures { IfSome result (λ n. n * head.now.restart ≡ mcus_across head.now) }
 {
     let across = shape_of(head).across;

@@ -7,7 +7,7 @@ ghost use Rattle.jr_paint.specs.Lines.{line_size};
 ghost use Rattle.jr_paint.specs.declared.header.TheConstants.{HEADER_ROOM};
 ghost use Rattle.jr_paint.specs.declared.netpbm.TheConstants.{WIDEST};
 ghost use Rattle.jr_scan.specs.ScanValue.{intervals_of};
-ghost use Rattle.jr_wall.specs.Decoded.{least};
+ghost use Rattle.jr_picture.specs.Headline.{least};
 ghost use Rattle.jr_stream.specs.Rows.{CountsRows, HasSampleRoom};
 ghost use Rattle.jr_stream.specs.Stream.{WritesPicture, BeginsPicture, SendsPicture, HasCounts};
 
@@ -20,9 +20,9 @@ use crate::shape::{lines_of, room_for, shape_of};
 use jr_base::{Tally, WriteFault, write_all};
 use jr_head::Head;
 use jr_paint::{NARROW, WIDEST, make_room, put_header};
+use jr_picture::{Counts, Gate};
 use jr_piece::each_interval_has_an_outcome;
 use jr_scan::Scan;
-use jr_wall::{Counts, Gate};
 use std::alloc::Global;
 use std::io::Write;
 
@@ -37,7 +37,7 @@ pub enum Unwritten {
 
 /// Writes a picture, of which the painter gives row after row; `pixels` has room for the lines of a row. Answers the marks
 /// of its intervals.
-pub(crate) fn write_rows<W: Write, P: RowPainter>(
+pub fn write_rows<W: Write, P: RowPainter>(
     head: &Head,
     painter: &mut P,
     pixels: &mut [u8],
@@ -74,7 +74,7 @@ pub(crate) fn write_rows<W: Write, P: RowPainter>(
 }
 
 /// How many intervals are sound, damaged and blank.
-pub(crate) fn counts_of(scan: &Scan, limit: u32, marked: Marked) -> Counts
+pub fn counts_of(scan: &Scan, limit: u32, marked: Marked) -> Counts
     requires few { limit ≤ length scan.now.intervals }
     requires counts { CountsRows scan.now limit marked }
     ensures { HasCounts scan.now limit result }

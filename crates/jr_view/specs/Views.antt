@@ -6,7 +6,7 @@ use Rattle.jr_head.specs.Geometry.{blocks_of, mcus_across, mcus_down, mcus_of}
 use Rattle.jr_piece.specs.PieceValue.{PieceValue}
 use Rattle.jr_piece.specs.StripValue.{StripValue}
 use Rattle.jr_piece.specs.Units.{grey_unit}
-use Rattle.jr_wall.specs.Headline.{spot_of, place_in}
+use Rattle.jr_picture.specs.Headline.{spot_of, place_in}
 use Rattle.jr_view.specs.declared.shown.Shown.{Shown}
 use Rattle.jr_view.specs.declared.shown.Shown.TheVariants.{OfStrip, OfPiece}
 use Rattle.jr_view.specs.ViewValue.{ViewValue}

@@ -1,4 +1,2 @@
 pub mod Pieces
 pub mod Lines
-pub mod BoardPictures
-pub mod Pictures

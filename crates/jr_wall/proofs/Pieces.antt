@@ -10,9 +10,10 @@ use mir.Val.{bool_byte}
 use native.Mathlib.Decide.{ℕ_discrete}
 use Rattle.jr_scan.specs.ScanValue.{ScanValue}
 use Rattle.jr_piece.specs.PieceValue.{PieceValue}
-use Rattle.jr_wall.specs.BoardValue.{BoardValue}
+use Rattle.jr_picture.specs.BoardValue.{BoardValue}
 use Rattle.jr_piece.specs.Outcome.{IsOutcome}
-use Rattle.jr_wall.specs.Boards.{is_sound_piece, is_damaged_piece, IsFor, IsPieceOf, HasCounts, shared_piece}
+use Rattle.jr_picture.specs.Boards.{is_sound_piece, is_damaged_piece, IsFor, IsPieceOf}
+use Rattle.jr_wall.specs.Kept.{HasCounts, shared_piece}
 
 pub no_piece : (n i : ℕ) → get_or (replicate {A = Option PieceValue} n None) i None ≡ None
 no_piece zero i = refl

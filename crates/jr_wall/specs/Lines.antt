@@ -5,9 +5,9 @@ use Rattle.jr_paint.specs.declared.geometry.Spot.{Spot}
 use Rattle.jr_wall.specs.declared.painting.Unit.{Unit}
 use Rattle.jr_wall.specs.declared.painting.Unit.TheVariants.{Blank, Grey, Decoded}
 use Rattle.jr_wall.specs.declared.painting.Stretch.{Stretch}
-use Rattle.jr_wall.specs.BoardValue.{BoardValue}
-use Rattle.jr_wall.specs.Boards.{piece_at}
-use Rattle.jr_wall.specs.Samples.{sample_in, sample_of_piece, sample_at}
+use Rattle.jr_picture.specs.BoardValue.{BoardValue}
+use Rattle.jr_picture.specs.Boards.{piece_at}
+use Rattle.jr_picture.specs.Samples.{sample_in, sample_of_piece, sample_at, spot_in_line}
 
 -- the sample of a data unit at a place, as a board shows it
 abbrev pub value_in : Unit → ℕ → ℕ
@@ -18,10 +18,6 @@ value_in (Decoded samples) at = slice_index samples.now at
 -- the number in its interval of the data unit of a stretch, j data units on (T.81, A.2.3)
 abbrev pub unit_along : Stretch → ℕ → ℕ
 unit_along s j = s.first + (s.part + j) / s.across * s.per_mcu + (s.part + j) % s.across
-
--- the spot of the sample in column x of a line, from that of its column 0, where an MCU has so many data units across
-abbrev pub spot_in_line : Spot → ℕ → ℕ → Spot
-spot_in_line s across x = record { mcu = s.mcu + x / 8 / across; block = s.block + x / 8 % across; row = s.row; col = x % 8 }
 
 -- sample k of a stretch, whose interval has these samples
 abbrev pub sample_along : List (List ℕ) → Stretch → ℕ → ℕ

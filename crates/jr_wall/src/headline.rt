@@ -1,22 +1,12 @@
 //! The headline: what every board shows, whenever somebody looks.
 
-ghost use Rattle.jr_wall.specs.Boards.{marks_of};
-ghost use Rattle.jr_wall.specs.Headline.{IsPicture, AreCounts};
-ghost use Rattle.jr_wall.specs.Samples.{samples_of};
+ghost use Rattle.jr_picture.specs.Boards.{marks_of};
+ghost use Rattle.jr_picture.specs.Headline.{IsPicture, AreCounts};
+ghost use Rattle.jr_picture.specs.Samples.{samples_of};
 
 use crate::board::Board;
 use jr_paint::Samples;
-
-/// How many intervals of a scan are sound, damaged and blank.
-#[derive(Clone, Copy, Debug, PartialEq, Eq)]
-pub struct Counts {
-    /// How many intervals have a decoding.
-    pub sound: u32,
-    /// How many intervals have none.
-    pub damaged: u32,
-    /// How many intervals are not decoded.
-    pub blank: u32,
-}
+use jr_picture::Counts;
 
 impl Board {
     /// The headline, of this very board: for every component, column and line, an interval marked sound shows the samples

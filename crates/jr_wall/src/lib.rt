@@ -1,17 +1,14 @@
 //! Pieces of a picture, the board that keeps them, and the workers that fill it.
 //!
 //! The headline, that each interval of a board shows what its mark says, is the contract of `Board::headline`; its
-//! definition, `IsPicture`, stands in specs/Headline.antt.
+//! definition, `IsPicture`, stands in `jr_picture`.
 #![tactic(auto)]
 
 mod board;
 mod decoding;
-mod gate;
 mod glimpse;
 mod headline;
 mod jobs;
-mod laws;
-mod mark;
 mod painting;
 mod strips;
 mod sweeping;
@@ -19,16 +16,12 @@ mod workers;
 
 pub use board::{Board, Unposted};
 pub use decoding::Decoding;
-pub use gate::{Gate, OpenGate};
 pub use glimpse::{Glimpse, glance};
-pub use headline::Counts;
 pub use jr_cells::{Cells, Sight, StripCells, StripSight};
 pub use jr_desk::{Desk, Drawn, Seat};
+pub use jr_picture::{Counts, Gate, Mark, OpenGate, blank_sample, one_picture};
 pub use jr_piece::{
     CodedStrip, NotInOrder, Piece, Strip, StripReader, one_outcome, one_strip, strip_is_final,
     strips_meet, whole_strip_is_outcome,
 };
-pub use laws::one_picture;
-pub use mark::Mark;
-pub use painting::blank_sample;
 pub use workers::{decode_all, decode_alone, work};

@@ -2,14 +2,14 @@
 
 ghost use Rattle.std.specs.Prelude.{◌≡◌, ◌≢◌, ◌<◌, ◌≤◌, ℕ, length, IsTrue, IfOk, OnOk};
 ghost use Rattle.std.specs.Arc.{arc_value};
-ghost use Rattle.jr_wall.specs.declared.mark.Mark.TheVariants.{Blank};
+ghost use Rattle.jr_picture.specs.declared.mark.Mark.TheVariants.{Blank};
 ghost use Rattle.jr_scan.specs.ScanValue.{IsSameScan};
-ghost use Rattle.jr_wall.specs.Boards.{mark_at};
+ghost use Rattle.jr_picture.specs.Boards.{mark_at};
 ghost use Rattle.jr_wall.specs.Decoded.{IsDecoded};
 
 use crate::board::Board;
-use crate::mark::Mark;
 use jr_code::Memory;
+use jr_picture::Mark;
 use jr_piece::Piece;
 use jr_scan::Scan;
 use std::alloc::Global;

@@ -3,15 +3,16 @@
 ghost use Rattle.std.specs.Prelude.{◌≡◌, ◌<◌, ◌≤◌, ℕ, ◌++◌, List, length, true, IfOk, IfSome};
 ghost use Rattle.std.specs.Arc.{arc_value};
 ghost use Rattle.jr_base.specs.declared.limits.TheConstants.{MAX_WORKERS};
-ghost use Rattle.jr_wall.specs.Decoded.{IsDecoded, least};
+ghost use Rattle.jr_wall.specs.Decoded.{IsDecoded};
+ghost use Rattle.jr_picture.specs.Headline.{least};
 
 use crate::board::Board;
 use crate::decoding::Decoding;
-use crate::gate::Gate;
 use crate::sweeping::sweep;
 use jr_cells::{Cells, Sight};
 use jr_code::Memory;
 use jr_desk::{Desk, Seat};
+use jr_picture::Gate;
 use jr_piece::Piece;
 use jr_scan::Scan;
 use std::alloc::Global;

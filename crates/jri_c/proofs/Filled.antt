@@ -6,18 +6,18 @@ use Rattle.std.proofs.lemmas.List.{length-map}
 use Rattle.jr_head.specs.HeadValue.{HeadValue}
 use Rattle.jr_paint.specs.Lines.{next_lines_of}
 use Rattle.jr_paint.specs.Text.{lines_of}
-use Rattle.jr_wall.specs.declared.mark.Mark.{Mark}
-use Rattle.jr_wall.specs.declared.mark.Mark.TheVariants.{Blank}
-use Rattle.jr_wall.specs.Headline.{mark_in}
+use Rattle.jr_picture.specs.declared.mark.Mark.{Mark}
+use Rattle.jr_picture.specs.declared.mark.Mark.TheVariants.{Blank}
+use Rattle.jr_picture.specs.Headline.{mark_in}
 use Rattle.jri_c.specs.Calls.{mark_byte, over}
 use Rattle.jri_engine.specs.Files.{IsScanOfFile, IsPictureOf}
 use Rattle.jr_scan.specs.ScanValue.{ScanValue}
-use Rattle.jr_wall.specs.BoardValue.{BoardValue}
-use Rattle.jr_wall.specs.Boards.{marks_of}
+use Rattle.jr_picture.specs.BoardValue.{BoardValue}
+use Rattle.jr_picture.specs.Boards.{marks_of}
 use Rattle.jr_wall.specs.Decoded.{IsDecoded}
-use Rattle.jr_wall.specs.Headline.{IsPicture, ShowsFirst}
-use Rattle.jr_wall.specs.Samples.{samples_of}
-use Rattle.jr_wall.proofs.BoardPictures.{same_picture}
+use Rattle.jr_picture.specs.Headline.{IsPicture, ShowsFirst}
+use Rattle.jr_picture.specs.Samples.{samples_of}
+use Rattle.jr_picture.proofs.BoardPictures.{same_picture}
 
 -- the lines from the first one on
 pub all_lines : (h : HeadValue) (f : ℕ → ℕ → ℕ → ℕ) (n : ℕ) → next_lines_of h f 0 n ≡ lines_of h f n

@@ -11,9 +11,9 @@ use Rattle.jr_paint.specs.Text.{lines_of}
 use Rattle.jr_scan.specs.ScanValue.{ScanValue, intervals_of}
 use Rattle.jr_scan.specs.declared.scan_end.ScanEnd.{ScanEnd}
 use Rattle.jr_scan.specs.declared.scan_end.ScanEnd.TheVariants.{EndOfImage, OtherMarker, OutOfStep, ExtraRestart, EndOfFile}
-use Rattle.jr_wall.specs.declared.mark.Mark.{Mark}
-use Rattle.jr_wall.specs.declared.mark.Mark.TheVariants.{Blank, Sound, Damaged}
-use Rattle.jr_wall.specs.Headline.{AreCounts}
+use Rattle.jr_picture.specs.declared.mark.Mark.{Mark}
+use Rattle.jr_picture.specs.declared.mark.Mark.TheVariants.{Blank, Sound, Damaged}
+use Rattle.jr_picture.specs.Headline.{AreCounts}
 use Rattle.jri_engine.specs.Files.{IsPictureOf}
 use Rattle.jr_stream.specs.SomeLines.{EndInLines}
 use Rattle.jri_c.specs.declared.decode.Undecoded.{Undecoded}

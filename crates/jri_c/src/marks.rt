@@ -1,7 +1,7 @@
 //! The marks of a board in a buffer.
 
 ghost use Rattle.std.specs.Prelude.{◌≡◌, ◌<◌, ◌≤◌, length, map, false};
-ghost use Rattle.jr_wall.specs.Boards.{marks_of};
+ghost use Rattle.jr_picture.specs.Boards.{marks_of};
 ghost use Rattle.jri_c.specs.Calls.{mark_byte, over};
 
 use jr_wall::{Board, Mark};

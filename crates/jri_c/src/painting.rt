@@ -3,7 +3,7 @@
 ghost use Rattle.std.specs.Prelude.{◌≡◌, ◌*◌, ◌≤◌, length};
 ghost use Rattle.jr_paint.specs.declared.netpbm.TheConstants.{WIDEST};
 ghost use Rattle.jr_paint.specs.Text.{lines_of};
-ghost use Rattle.jr_wall.specs.Samples.{samples_of};
+ghost use Rattle.jr_picture.specs.Samples.{samples_of};
 ghost use Rattle.jri_c.specs.Calls.{picture_size};
 
 use jr_head::Head;

@@ -6,9 +6,9 @@ use Rattle.jr_paint.specs.Text.{text_of}
 use Rattle.jr_scan.specs.declared.scan_end.ScanEnd.{ScanEnd}
 use Rattle.jr_scan.specs.Cut.{Cutting, IsCut}
 use Rattle.jr_scan.specs.ScanValue.{ScanValue, IsScanOf, intervals_of}
-use Rattle.jr_wall.specs.declared.mark.Mark.{Mark}
-use Rattle.jr_wall.specs.Decoded.{least}
-use Rattle.jr_wall.specs.Headline.{ShowsFirst, HasOnePicture}
+use Rattle.jr_picture.specs.declared.mark.Mark.{Mark}
+use Rattle.jr_picture.specs.Headline.{least}
+use Rattle.jr_picture.specs.Headline.{ShowsFirst, HasOnePicture}
 use Rattle.jri_engine.specs.Files.{IsPictureOf}
 
 abbrev OneCut : Type 0

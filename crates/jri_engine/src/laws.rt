@@ -3,7 +3,7 @@
 ghost use Rattle.std.specs.Prelude.{◌≡◌, ◌<◌, ℕ, List, Option, All};
 ghost use Rattle.jr_paint.specs.Text.{text_of};
 ghost use Rattle.jr_scan.specs.ScanValue.{ScanValue};
-ghost use Rattle.jr_wall.specs.declared.mark.Mark.{Mark};
+ghost use Rattle.jr_picture.specs.declared.mark.Mark.{Mark};
 ghost use Rattle.jri_engine.specs.Files.{IsPictureOf};
 
 use jr_head::one_head_or_one_fault;

@@ -13,9 +13,10 @@ mod worked;
 
 use crate::decoding::{Outcome, decode};
 use crate::streams::lines::check_lines;
+use jr_crew::write_scan_by;
 use jr_paint::{Tally, write_netpbm};
 use jr_scan::Scan;
-use jr_stream::{write_scan, write_scan_by};
+use jr_stream::write_scan;
 use jr_wall::{OpenGate, decode_all};
 use std::alloc::Global;
 use std::process::Abort;

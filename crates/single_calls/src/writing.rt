@@ -1,8 +1,9 @@
 //! Calls that decode and paint the file without a board, held against the picture that is written from one.
 
 use crate::caller::Caller;
+use jr_crew::write_scan_by;
 use jr_paint::{Tally, bytes_of_line, write_netpbm};
-use jr_stream::{Unwritten, paint_scan_lines, write_scan, write_scan_by};
+use jr_stream::{Unwritten, paint_scan_lines, write_scan};
 use jr_wall::{Board, Counts, OpenGate};
 use std::io::{Result as IoResult, Write};
 use std::sync::{Arc, Wait};

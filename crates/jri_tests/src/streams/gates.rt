@@ -4,8 +4,9 @@ ghost use Rattle.std.specs.Prelude.{◌≤◌};
 ghost use Rattle.jr_base.specs.declared.limits.TheConstants.{MAX_WORKERS};
 
 use crate::decoding::outcome_of;
+use jr_crew::write_scan_by;
 use jr_paint::Tally;
-use jr_stream::{write_scan, write_scan_by};
+use jr_stream::write_scan;
 use jr_wall::{Gate, Piece};
 use std::alloc::Global;
 use std::process::Abort;

@@ -2,7 +2,7 @@ use Rattle.std.proofs.Common.{◌≡◌, ◌+◌, ◌-◌, ◌*◌, ◌/◌, ◌
 use Rattle.std.proofs.Math.Nat.{add-div_right, add-mod_right, add-mul}
 use Rattle.jr_stream.specs.Bands.{sample_in_row}
 use Rattle.jr_stream.proofs.UnitRows.{row_along}
-use Rattle.jr_wall.proofs.Lines.{filled_more, next_part, next_mcu}
+use Rattle.jr_picture.proofs.Lines.{filled_more, next_part, next_mcu}
 use Rattle.jr_stream.proofs.band.copy_rows.Goals as goal
 
 pub units-preserved-then-part-across : goal.units-preserved-then-part-across

@@ -7,7 +7,7 @@ use Rattle.jr_head.specs.Geometry.{IsLawful, blocks_of, mcus_across, vertical_ma
 use Rattle.jr_paint.specs.Lines.{line_size, next_lines_of}
 use Rattle.jr_paint.proofs.PixelLaws.{next_lines_more}
 use Rattle.jr_scan.specs.ScanValue.{ScanValue, intervals_of}
-use Rattle.jr_wall.specs.Samples.{samples_of}
+use Rattle.jr_picture.specs.Samples.{samples_of}
 use Rattle.jr_stream.specs.Bands.{ShowsMcus, samples_in}
 use Rattle.jr_stream.specs.Rows.{CountsRow, HasSampleRoom, coded_before}
 use Rattle.jr_stream.specs.SomeLines.{CountsBetween, row_behind, row_with}

@@ -2,7 +2,7 @@ use Rattle.std.proofs.Common.{rules, arith, ap, ◌∙◌, ◌≡◌, ℕ, ◌+�
 use Rattle.jr_head.specs.HeadValue.{HeadValue}
 use Rattle.jr_head.specs.Geometry.{IsLawful, vertical_max}
 use Rattle.jr_paint.specs.Lines.{next_lines_of}
-use Rattle.jr_wall.specs.Samples.{samples_of}
+use Rattle.jr_picture.specs.Samples.{samples_of}
 use Rattle.jr_stream.specs.Rows.{first_line, line_count}
 use Rattle.jr_stream.proofs.PaintedRows.{row_painted}
 use Rattle.jr_stream.proofs.painting.paint_row.Goals as goal

@@ -3,8 +3,8 @@ use Rattle.jr_base.specs.Tally.{has_failed}
 use Rattle.jr_head.specs.Geometry.{mcus_down, vertical_max}
 use Rattle.jr_paint.specs.Text.{header_of, lines_of}
 use Rattle.jr_paint.specs.Written.{WritesUpTo}
-use Rattle.jr_wall.specs.BoardValue.{BoardValue}
-use Rattle.jr_wall.specs.Samples.{samples_of}
+use Rattle.jr_picture.specs.BoardValue.{BoardValue}
+use Rattle.jr_picture.specs.Samples.{samples_of}
 use Rattle.jr_stream.specs.Rows.{HasFirst, CountsMcus, coded_before}
 use Rattle.jr_stream.proofs.writing.write_rows.Given as goal
 

@@ -1,8 +1,9 @@
 use Rattle.std.proofs.Common.{◌≡◌, ◌+◌, ◌-◌, ◌*◌, ◌/◌, ◌%◌, ◌<◌, ap, sym, ◌∙◌, length, slice_get, arith, rules}
 use Rattle.std.proofs.Math.Nat.{add-div_right, add-mod_right, add-mul}
-use Rattle.jr_wall.specs.Samples.{sample_in}
+use Rattle.jr_picture.specs.Samples.{sample_in}
 use Rattle.jr_wall.specs.Lines.{unit_along}
-use Rattle.jr_wall.proofs.Lines.{filled_more, row_along, next_part, next_mcu}
+use Rattle.jr_wall.proofs.Lines.{row_along}
+use Rattle.jr_picture.proofs.Lines.{filled_more, next_part, next_mcu}
 use Rattle.jr_wall.proofs.painting.copy_rows.Goals as goal
 
 pub units-preserved-then-part-across : goal.units-preserved-then-part-across

@@ -1,5 +1,5 @@
 use Rattle.std.proofs.Common.{◌≡◌, ℕ, ◌+◌, ◌-◌, ◌*◌, ◌/◌, ◌%◌, ◌<◌, ◌≤◌, length, slice_index, slice_get}
-use Rattle.jr_wall.specs.Samples.{sample_in}
+use Rattle.jr_picture.specs.Samples.{sample_in}
 use Rattle.jr_wall.specs.Lines.{unit_along}
 use Rattle.jr_wall.proofs.painting.copy_rows.Given as goal
 

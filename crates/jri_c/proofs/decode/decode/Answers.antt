@@ -1,8 +1,8 @@
 use Rattle.std.proofs.Common.{◌≡◌, ◌∙◌, length, rules, arith}
 use Rattle.std.specs.Arc.{arc_value}
-use Rattle.jr_wall.specs.Boards.{marks_of}
+use Rattle.jr_picture.specs.Boards.{marks_of}
 use Rattle.jr_wall.specs.Decoded.{IsDecoded}
-use Rattle.jr_wall.specs.Samples.{samples_of}
+use Rattle.jr_picture.specs.Samples.{samples_of}
 use Rattle.jri_c.proofs.Filled.{filled, picture_of, same_lines_of}
 use Rattle.jri_c.proofs.decode.decode.Goals as goal
 

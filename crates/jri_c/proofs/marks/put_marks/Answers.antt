@@ -1,5 +1,5 @@
 use Rattle.std.proofs.Common.{◌∙◌, sym, arith}
-use Rattle.jr_wall.specs.Boards.{marks_of}
+use Rattle.jr_picture.specs.Boards.{marks_of}
 use Rattle.jri_c.proofs.Filled.{are_marks}
 use Rattle.jri_c.proofs.marks.put_marks.Goals as goal
 

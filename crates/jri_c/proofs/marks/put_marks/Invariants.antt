@@ -1,6 +1,6 @@
 use Rattle.std.proofs.Common.{◌≡◌, ◌<◌, ℕ, length, get_or}
-use Rattle.jr_wall.specs.Boards.{marks_of}
-use Rattle.jr_wall.specs.Headline.{mark_in}
+use Rattle.jr_picture.specs.Boards.{marks_of}
+use Rattle.jr_picture.specs.Headline.{mark_in}
 use Rattle.jri_c.specs.Calls.{mark_byte}
 use Rattle.jri_c.proofs.marks.put_marks.Given as goal
 

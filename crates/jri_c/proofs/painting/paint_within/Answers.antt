@@ -1,5 +1,5 @@
 use Rattle.std.proofs.Common.{◌∙◌, rules}
-use Rattle.jr_wall.specs.Samples.{samples_of}
+use Rattle.jr_picture.specs.Samples.{samples_of}
 use Rattle.jri_c.proofs.Filled.{all_lines}
 use Rattle.jri_c.proofs.painting.paint_within.Goals as goal
 

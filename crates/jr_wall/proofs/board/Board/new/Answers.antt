@@ -4,7 +4,7 @@ use Rattle.std.specs.declared.alloc.Global.{Global}
 use Rattle.std.specs.Arc.{arc_value}
 use Rattle.jr_scan.specs.ScanValue.{ScanValue}
 use Rattle.jr_piece.specs.PieceValue.{PieceValue}
-use Rattle.jr_wall.specs.Boards.{shared_piece, HasCounts}
+use Rattle.jr_wall.specs.Kept.{shared_piece, HasCounts}
 use Rattle.jr_wall.proofs.Pieces.{kept_new, none_held}
 use Rattle.jr_wall.proofs.board.Board.new.Goals as goal
 

@@ -5,13 +5,14 @@ use Rattle.std.specs.Arc.{arc_value}
 use Rattle.std.proofs.lemmas.List.{map-set, length-map, get_or_default}
 use Rattle.jr_scan.specs.ScanValue.{ScanValue}
 use Rattle.jr_piece.specs.PieceValue.{PieceValue}
-use Rattle.jr_wall.specs.BoardValue.{BoardValue}
+use Rattle.jr_picture.specs.BoardValue.{BoardValue}
 use Rattle.jr_piece.specs.Outcome.{IsOutcome}
-use Rattle.jr_wall.specs.declared.mark.Mark.TheVariants.{Blank, Sound, Damaged}
-use Rattle.jr_wall.specs.Boards.{IsFor, HasCounts, shared_piece, piece_at, mark_of, marks_of}
-use Rattle.jr_wall.specs.Headline.{mark_in}
+use Rattle.jr_picture.specs.declared.mark.Mark.TheVariants.{Blank, Sound, Damaged}
+use Rattle.jr_picture.specs.Boards.{IsFor, piece_at, mark_of, marks_of}
+use Rattle.jr_wall.specs.Kept.{HasCounts, shared_piece}
+use Rattle.jr_picture.specs.Headline.{mark_in}
 use Rattle.jr_wall.proofs.Pieces.{Posted, posts, held_at}
-use Rattle.jr_wall.proofs.BoardPictures.{marks_at}
+use Rattle.jr_picture.proofs.BoardPictures.{marks_at}
 use mir.Val.{bool_byte}
 use Rattle.jr_wall.proofs.board.Board.post.Goals as goal
 

@@ -5,9 +5,10 @@ use Rattle.jr_head.specs.Geometry.{IsLawful, horizontal_of, vertical_of}
 use Rattle.jr_paint.specs.Geometry.{samples_across, place_of, spot_at}
 use Rattle.jr_paint.proofs.Factors.{samples_across-le}
 use Rattle.jr_scan.specs.ScanValue.{ScanValue}
-use Rattle.jr_wall.specs.BoardValue.{BoardValue}
-use Rattle.jr_wall.specs.Samples.{samples_of}
-use Rattle.jr_wall.proofs.Lines.{shown_along, filled_more}
+use Rattle.jr_picture.specs.BoardValue.{BoardValue}
+use Rattle.jr_picture.specs.Samples.{samples_of}
+use Rattle.jr_wall.proofs.Lines.{shown_along}
+use Rattle.jr_picture.proofs.Lines.{filled_more}
 use Rattle.jr_wall.proofs.painting.BoardSamples.line.Goals as goal
 
 few_columns : (b : BoardValue) (h : HeadValue) (c x n : ℕ) → h ≡ b.scan.head → IsLawful h → c < length b.scan.head.components → x + n ≤ samples_across b.scan.head c → x + n < 65536

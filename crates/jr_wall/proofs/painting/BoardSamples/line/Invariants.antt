@@ -1,5 +1,5 @@
 use Rattle.std.proofs.Common.{◌≡◌, ℕ, ◌+◌, ◌-◌, ◌<◌, ◌≤◌, length, slice_index}
-use Rattle.jr_wall.specs.Samples.{samples_of}
+use Rattle.jr_picture.specs.Samples.{samples_of}
 use Rattle.jr_wall.proofs.painting.BoardSamples.line.Given as goal
 
 abbrev pub invariant-runs : goal.invariant-runs

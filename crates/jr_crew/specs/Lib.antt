@@ -1,0 +1,2 @@
+pub mod CrewValue
+pub mod Crew

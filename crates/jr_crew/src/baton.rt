@@ -1,0 +1,80 @@
+//! Who reads next.
+
+ghost use Rattle.std.specs.Prelude.{◌≡◌, Some};
+
+use crate::bench::{Bench, Coded};
+use crate::one_part::OnePart;
+use jr_picture::Gate;
+use jr_stream::{Part, Rows, announce, intervals_of_row, shape_of};
+use std::marker::{Model, PhantomData};
+
+/// The reader of a scan's rows from one of them on, that one thread holds at a time.
+#[derive(Drop)]
+pub(crate) struct Baton<'a, S: OnePart> {
+    rows: Rows<'a>,
+    of: PhantomData<S>,
+}
+
+impl<'a, S: OnePart> Model for Baton<'a, S> {
+    ghost use Rattle.jr_crew.specs.Crew.{HaveNext};
+    ghost use Rattle.jr_stream.specs.RowsValue.{RowsValue};
+
+    ghost Value = { RowsValue };
+
+    ghost view = { λ b. b.rows };
+
+    ghost invariant = { λ b. HaveNext S.part b.rows };
+}
+
+/// These rows, where one is left.
+fn baton_over<'a, S: OnePart>(part: &Part<'_>, rows: Rows<'a>) -> Option<Baton<'a, S>>
+    requires part { S.part ≡ Some part.now }
+    requires of { rows.scan ≡ part.now.scan }
+    requires limit { rows.limit ≡ part.now.limit }
+{
+    if rows.row() >= shape_of(part.scan().head()).down {
+        return None;
+    }
+    Some(Baton {
+        rows,
+        of: PhantomData,
+    })
+}
+
+impl<'a, S: OnePart> Baton<'a, S> {
+    /// All rows of the scan.
+    pub(crate) fn of(part: &Part<'a>) -> Option<Baton<'a, S>>
+        requires { S.part ≡ Some part.now }
+    {
+        baton_over(part, Rows::of(part.scan(), part.limit()))
+    }
+
+    /// The rows behind the next one, which can be read before it where rows are whole intervals.
+    pub(crate) fn behind(&self, part: &Part<'a>) -> Option<Baton<'a, S>>
+        requires { S.part ≡ Some part.now }
+    {
+        let head = part.scan().head();
+        let intervals = intervals_of_row(head)?;
+        let down = shape_of(head).down;
+        let row = self.rows.row() + 1;
+        if row >= down {
+            return None;
+        }
+        baton_over(part, Rows::from(part, row, intervals))
+    }
+
+    /// Tells the gate of the intervals that begin in the next row, and reads it: answers it with those behind it.
+    pub(crate) fn read<G: Gate>(
+        self,
+        part: &Part<'_>,
+        gate: &G,
+        bench: Bench<S>,
+    ) -> (Coded<S>, Option<Baton<'a, S>>)
+        requires { S.part ≡ Some part.now }
+    {
+        let mut rows = self.rows;
+        announce(part.scan(), part.limit(), rows.row(), gate);
+        let coded = bench.read(part, &mut rows);
+        (coded, baton_over(part, rows))
+    }
+}

@@ -1,0 +1,189 @@
+//! Memory for a row of MCUs of a scan: empty, read, or painted.
+
+ghost use Rattle.std.specs.Prelude.{◌≡◌, ◌+◌, ◌*◌, ◌<◌, ◌≤◌, Some, length, take};
+ghost use Rattle.jr_head.specs.Geometry.{mcus_down, vertical_max};
+ghost use Rattle.jr_paint.specs.Lines.{line_size};
+ghost use Rattle.jr_paint.specs.declared.netpbm.TheConstants.{WIDEST};
+ghost use Rattle.jr_stream.specs.Rows.{AreRead, CountsRow, HasRowRoom, ShowsLines, line_count};
+
+use crate::one_part::OnePart;
+use crate::row::Row;
+use jr_base::Memory;
+use jr_paint::SampleLines;
+use jr_stream::{Marked, Part, Rows, bytes_of_row, lines_of, shape_of};
+use std::alloc::Global;
+use std::marker::{Model, PhantomData};
+
+/// Paints the row that is read at the beginning of `pixels`.
+fn paint_first<const WIDTH: usize>(
+    work: &mut Row,
+    part: &Part<'_>,
+    row: u32,
+    lines: &mut SampleLines<WIDTH>,
+    pixels: &mut [u8],
+)
+    requires stack { WIDTH ≤ WIDEST }
+    requires wide { part.now.scan.head.width ≤ WIDTH }
+    requires row { row < mcus_down part.now.scan.head }
+    requires room { HasRowRoom part.now.scan.head work.old }
+    requires read { AreRead part.now.scan part.now.limit row work.old.blocks }
+    requires pixels { 8 * vertical_max part.now.scan.head * line_size part.now.scan.head ≤ length pixels.old }
+    ensures room { HasRowRoom part.now.scan.head work.new }
+    ensures lines { ShowsLines part.now.scan part.now.limit row (take (line_count part.now.scan.head row * line_size part.now.scan.head) pixels.new) }
+{
+    let (scan, limit) = (part.scan(), part.limit());
+    let (_y, count) = lines_of(scan.head(), row);
+    let size = count as usize * shape_of(scan.head()).line;
+    work.paint(scan, limit, row, lines, &mut pixels[..size]);
+}
+
+/// Memory for the blocks, the samples and the lines of a row of MCUs of the scan.
+#[derive(Drop)]
+pub(crate) struct Bench<S: OnePart> {
+    work: Row,
+    pixels: Vec<u8>,
+    of: PhantomData<S>,
+}
+
+impl<S: OnePart> Model for Bench<S> {
+    ghost use Rattle.jr_crew.specs.CrewValue.{BenchValue};
+    ghost use Rattle.jr_crew.specs.Crew.{HasRoom, HasWork};
+
+    ghost Value = { BenchValue };
+
+    ghost view = { λ b. record { work = b.work; pixels = b.pixels.items } };
+
+    ghost invariant = { λ b. HasWork S.part b.work × HasRoom S.part b.pixels.items };
+}
+
+impl<S: OnePart> Bench<S> {
+    /// An empty bench.
+    pub(crate) fn open(alloc: Global, part: &Part<'_>) -> Result<Bench<S>, Memory>
+        requires { S.part ≡ Some part.now }
+    {
+        let head = part.scan().head();
+        let work = Row::open(alloc, head)?;
+        let pixels = vec![in alloc; 0; bytes_of_row(head)]?;
+        Ok(Bench {
+            work,
+            pixels,
+            of: PhantomData,
+        })
+    }
+
+    /// Reads the next row of the scan.
+    pub(crate) fn read(self, part: &Part<'_>, rows: &mut Rows<'_>) -> Coded<S>
+        requires part { S.part ≡ Some part.now }
+        requires of { rows.old.scan ≡ part.now.scan }
+        requires limit { rows.old.limit ≡ part.now.limit }
+        requires row { rows.old.row < mcus_down part.now.scan.head }
+        ensures moved { rows.new ≡ record rows.old { row = rows.old.row + 1 } }
+    {
+        let row = rows.row();
+        let mut work = self.work;
+        let marked = work.read(rows);
+        Coded {
+            row,
+            marked,
+            work,
+            pixels: self.pixels,
+            of: PhantomData,
+        }
+    }
+}
+
+/// A row of MCUs of the scan, read and not yet painted, and the marks of the intervals that end in it.
+#[derive(Drop)]
+pub(crate) struct Coded<S: OnePart> {
+    row: u32,
+    marked: Marked,
+    work: Row,
+    /// Room for its lines.
+    pixels: Vec<u8>,
+    of: PhantomData<S>,
+}
+
+impl<S: OnePart> Model for Coded<S> {
+    ghost use Rattle.jr_crew.specs.CrewValue.{CodedValue};
+    ghost use Rattle.jr_crew.specs.Crew.{HasRoom, HasWork, IsRead};
+
+    ghost Value = { CodedValue };
+
+    ghost view = { λ c. record { row = c.row; marked = c.marked; work = c.work } };
+
+    ghost invariant = { λ c. HasWork S.part c.work × HasRoom S.part c.pixels.items × IsRead S.part (record { row = c.row; marked = c.marked; work = c.work }) };
+}
+
+impl<S: OnePart> Coded<S> {
+    /// Transforms and paints the row.
+    pub(crate) fn paint<const WIDTH: usize>(
+        self,
+        part: &Part<'_>,
+        lines: &mut SampleLines<WIDTH>,
+    ) -> Painted<S>
+        requires part { S.part ≡ Some part.now }
+        requires stack { WIDTH ≤ WIDEST }
+        requires wide { part.now.scan.head.width ≤ WIDTH }
+    {
+        let (mut work, mut pixels) = (self.work, self.pixels);
+        paint_first(&mut work, part, self.row, lines, &mut pixels);
+        Painted {
+            row: self.row,
+            marked: self.marked,
+            work,
+            pixels,
+            of: PhantomData,
+        }
+    }
+}
+
+/// The lines of a row of MCUs of the scan, and the marks of the intervals that end in it.
+#[derive(Drop)]
+pub(crate) struct Painted<S: OnePart> {
+    row: u32,
+    marked: Marked,
+    work: Row,
+    /// The lines, and what of their room they leave.
+    pixels: Vec<u8>,
+    of: PhantomData<S>,
+}
+
+impl<S: OnePart> Model for Painted<S> {
+    ghost use Rattle.jr_crew.specs.CrewValue.{PaintedValue};
+    ghost use Rattle.jr_crew.specs.Crew.{HasRoom, HasWork, IsPainted};
+
+    ghost Value = { PaintedValue };
+
+    ghost view = { λ p. record { row = p.row; marked = p.marked; pixels = p.pixels.items } };
+
+    ghost invariant = { λ p. HasWork S.part p.work × HasRoom S.part p.pixels.items × IsPainted S.part (record { row = p.row; marked = p.marked; pixels = p.pixels.items }) };
+}
+
+impl<S: OnePart> Painted<S> {
+    /// The row's number.
+    pub(crate) fn row(&self) -> u32
+        ensures { result ≡ self.now.row }
+    {
+        self.row
+    }
+
+    /// Copies the lines, for which the slice has room, and answers the marks of the intervals that end in the row.
+    pub(crate) fn copy_to(&self, part: &Part<'_>, pixels: &mut [u8]) -> Marked
+        requires part { S.part ≡ Some part.now }
+        requires room { length pixels.old ≡ line_count part.now.scan.head self.now.row * line_size part.now.scan.head }
+        ensures lines { ShowsLines part.now.scan part.now.limit self.now.row pixels.new }
+        ensures counts { CountsRow part.now.scan part.now.limit self.now.row result }
+    {
+        pixels.copy_from_slice(&self.pixels[..pixels.len()]);
+        self.marked
+    }
+
+    /// The bench, to be used again.
+    pub(crate) fn into_bench(self) -> Bench<S> {
+        Bench {
+            work: self.work,
+            pixels: self.pixels,
+            of: PhantomData,
+        }
+    }
+}

@@ -1,0 +1,90 @@
+//! The thread that writes what the others paint.
+
+ghost use Rattle.std.specs.Prelude.{◌≡◌, ◌≤◌};
+ghost use Rattle.jr_paint.specs.declared.netpbm.TheConstants.{WIDEST};
+
+use crate::crew::Crew;
+use crate::one_part::OnePart;
+use jr_paint::SampleLines;
+use jr_picture::Gate;
+use jr_stream::{Marked, RowPainter, shape_of};
+use std::marker::Model;
+use std::sync::Wait;
+
+/// The calling thread: it takes row after row from a crew, and reads and paints where the row that comes next is not painted
+/// yet.
+#[derive(Drop)]
+pub(crate) struct Caller<'a, 'b, R: Wait, G: Gate, S: OnePart, const WIDTH: usize> {
+    crew: &'b Crew<'a, S>,
+    rt: &'b R,
+    gate: &'b G,
+    row: u32,
+    lines: SampleLines<WIDTH>,
+}
+
+impl<'a, 'b, R: Wait, G: Gate, S: OnePart, const WIDTH: usize> Model
+    for Caller<'a, 'b, R, G, S, WIDTH> {
+    ghost use Rattle.std.specs.Prelude.{◌≡◌, ◌≤◌, Some};
+    ghost use Rattle.jr_stream.specs.RowsValue.{RowsValue};
+    ghost use Rattle.jr_paint.specs.declared.netpbm.TheConstants.{WIDEST};
+
+    ghost Value = { RowsValue };
+
+    ghost view = { λ c. record { scan = c.crew.now.scan; limit = c.crew.now.limit; row = c.row } };
+
+    ghost invariant = { λ c. (S.part ≡ Some c.crew.now) × (c.crew.now.scan.head.width ≤ WIDTH) × (WIDTH ≤ WIDEST) };
+}
+
+impl<'a, 'b, R: Wait, G: Gate, S: OnePart, const WIDTH: usize> Caller<'a, 'b, R, G, S, WIDTH> {
+    /// Nothing is written yet.
+    pub(crate) fn of(
+        crew: &'b Crew<'a, S>,
+        rt: &'b R,
+        gate: &'b G,
+    ) -> Caller<'a, 'b, R, G, S, WIDTH>
+        requires stack { WIDTH ≤ WIDEST }
+        requires wide { crew.now.scan.head.width ≤ WIDTH }
+        ensures { result ≡ record { scan = crew.now.scan; limit = crew.now.limit; row = 0 } }
+    {
+        // By its contract the part is the one that the type knows of.
+        let _part = crew.part();
+        Caller {
+            crew,
+            rt,
+            gate,
+            row: 0,
+            lines: SampleLines::new(),
+        }
+    }
+
+    /// Reads and paints until the row that is written next is painted, or others have what is left of it in work.
+    fn help(&mut self)
+        ensures { self.new ≡ self.old }
+    {
+        let (crew, rt, gate, row) = (self.crew, self.rt, self.gate, self.row);
+        let lines = &mut self.lines;
+        for _ in 0..crew.most_tasks() {
+            let Some(task) = crew.task_before(rt, row) else {
+                return;
+            };
+            crew.run(rt, gate, task, lines);
+        }
+    }
+}
+
+impl<R: Wait, G: Gate, S: OnePart, const WIDTH: usize> RowPainter
+    for Caller<'_, '_, R, G, S, WIDTH> {
+    ghost at = { λ c. c };
+
+    fn paint(&mut self, pixels: &mut [u8]) -> Marked {
+        self.help();
+        let (crew, rt) = (self.crew, self.rt);
+        // By its contract a row's number has room.
+        let _rows = shape_of(crew.part().scan().head()).down;
+        let painted = crew.painted(rt, self.row);
+        let marked = painted.copy_to(crew.part(), pixels);
+        crew.give_back(rt, painted.into_bench());
+        self.row += 1;
+        marked
+    }
+}

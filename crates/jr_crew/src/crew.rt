@@ -1,0 +1,191 @@
+//! Threads that decode and paint rows of MCUs of one scan, while one of them writes.
+
+ghost use Rattle.std.specs.Prelude.{◌≡◌, ◌≤◌, Some, length};
+ghost use Rattle.jr_paint.specs.declared.netpbm.TheConstants.{WIDEST};
+
+use crate::baton::Baton;
+use crate::bench::{Bench, Coded, Painted};
+use crate::one_part::OnePart;
+use crate::ring::{Ring, Task, Waiter};
+use jr_paint::SampleLines;
+use jr_picture::Gate;
+use jr_stream::{Part, intervals_of_row, shape_of};
+use std::marker::Model;
+use std::sync::{Condvar, Mutex, Wait};
+
+/// What the threads share.
+///
+/// A thread takes from the ring what is to be done next, and does it outside of the lock. A row is read on a bench, so that
+/// no more rows are read than there are benches. Where rows are whole intervals, each thread reads rows by itself, and paints
+/// what it has read. Else one thread reads row after row, and what it has read is painted by whoever is free. What is painted
+/// waits for its turn to be written.
+#[derive(Drop)]
+pub(crate) struct Crew<'a, S: OnePart> {
+    part: Part<'a>,
+    ring: Mutex<Ring<'a, S>>,
+    /// Somebody has read a row, or given back a bench, or all is over. It wakes nobody where nobody waits.
+    has_task: Condvar,
+    /// The row is painted that the calling thread waits for, or one is read and nobody else waits for it.
+    has_row: Condvar,
+}
+
+impl<'a, S: OnePart> Model for Crew<'a, S> {
+    ghost use Rattle.std.specs.Prelude.{◌≡◌, Some};
+    ghost use Rattle.jr_stream.specs.PartValue.{PartValue};
+
+    ghost Value = { PartValue };
+
+    ghost view = { λ c. c.part };
+
+    ghost invariant = { λ c. S.part ≡ Some c.part };
+}
+
+impl<'a, S: OnePart> Crew<'a, S> {
+    /// Nothing is done yet.
+    pub(crate) fn of(part: Part<'a>, ring: Ring<'a, S>) -> Crew<'a, S>
+        requires { S.part ≡ Some part }
+        ensures { result ≡ part.entry }
+    {
+        Crew {
+            part,
+            ring: Mutex::new(ring),
+            has_task: Condvar::new(),
+            has_row: Condvar::new(),
+        }
+    }
+
+    /// What of the scan is decoded.
+    pub(crate) fn part(&self) -> &Part<'a>
+        ensures value { result.now ≡ self.now }
+        ensures known { S.part ≡ Some self.now }
+    {
+        &self.part
+    }
+
+    /// As many tasks there are at most: each row is read, and painted.
+    pub(crate) fn most_tasks(&self) -> u32 {
+        2 * shape_of(self.part.scan().head()).down
+    }
+
+    /// What a thread does next, once there is something. None where nothing is left.
+    fn task<R: Wait>(&self, rt: &R) -> Option<Task<'a, S>> {
+        let mut ring = self.ring.lock(rt);
+        ring.begin_waiting();
+        let mut ring = self
+            .has_task
+            .wait_while(rt, ring, |ring| ring.has_no_task());
+        ring.end_waiting();
+        ring.task(&self.part)
+    }
+
+    /// What the calling thread does next, once there is something or this row is painted. None where it is, or nothing is left.
+    pub(crate) fn task_before<R: Wait>(&self, rt: &R, row: u32) -> Option<Task<'a, S>> {
+        let mut ring = self.ring.lock(rt);
+        ring.set_awaited(Some(row));
+        let mut ring = self
+            .has_row
+            .wait_while(rt, ring, |ring| !ring.has(row) && ring.has_no_task());
+        ring.set_awaited(None);
+        if ring.has(row) {
+            return None;
+        }
+        ring.task(&self.part)
+    }
+
+    /// Paints a row that is read.
+    fn paint<R: Wait, const WIDTH: usize>(
+        &self,
+        rt: &R,
+        coded: Coded<S>,
+        lines: &mut SampleLines<WIDTH>,
+    )
+        requires stack { WIDTH ≤ WIDEST }
+        requires wide { self.now.scan.head.width ≤ WIDTH }
+    {
+        let painted = coded.paint(&self.part, lines);
+        let is_awaited = self.ring.lock(rt).put_painted(painted);
+        if is_awaited {
+            self.has_row.notify_one();
+        }
+    }
+
+    /// Reads a row, and paints it where rows are whole intervals; else it waits for whoever is free.
+    fn read<R: Wait, G: Gate, const WIDTH: usize>(
+        &self,
+        rt: &R,
+        gate: &G,
+        baton: Baton<'a, S>,
+        bench: Bench<S>,
+        lines: &mut SampleLines<WIDTH>,
+    )
+        requires stack { WIDTH ≤ WIDEST }
+        requires wide { self.now.scan.head.width ≤ WIDTH }
+    {
+        let (coded, behind) = baton.read(&self.part, gate, bench);
+        if intervals_of_row(self.part.scan().head()).is_some() {
+            return self.paint(rt, coded, lines);
+        }
+        let waiter = self.ring.lock(rt).put_coded(coded, behind);
+        match waiter {
+            Some(Waiter::Worker) => self.has_task.notify_one(),
+            Some(Waiter::Caller) => self.has_row.notify_one(),
+            None => (),
+        }
+    }
+
+    /// Does what is to be done.
+    pub(crate) fn run<R: Wait, G: Gate, const WIDTH: usize>(
+        &self,
+        rt: &R,
+        gate: &G,
+        task: Task<'a, S>,
+        lines: &mut SampleLines<WIDTH>,
+    )
+        requires stack { WIDTH ≤ WIDEST }
+        requires wide { self.now.scan.head.width ≤ WIDTH }
+    {
+        match task {
+            Task::Read(baton, bench) => self.read(rt, gate, baton, bench, lines),
+            Task::Paint(coded) => self.paint(rt, coded, lines),
+        }
+    }
+
+    /// Reads and paints rows until no one is left.
+    pub(crate) fn work<R: Wait, G: Gate, const WIDTH: usize>(&self, rt: &R, gate: &G)
+        requires stack { WIDTH ≤ WIDEST }
+        requires wide { self.now.scan.head.width ≤ WIDTH }
+    {
+        let mut lines = SampleLines::<WIDTH>::new();
+        for _ in 0..self.most_tasks() {
+            let Some(task) = self.task(rt) else {
+                return;
+            };
+            self.run(rt, gate, task, &mut lines);
+        }
+    }
+
+    /// A row, once it is painted.
+    pub(crate) fn painted<R: Wait>(&self, rt: &R, row: u32) -> Painted<S>
+        ensures { result.row ≡ row }
+    {
+        let mut ring = self.ring.lock(rt);
+        ring.set_awaited(Some(row));
+        let mut ring = self.has_row.wait_while(rt, ring, |ring| !ring.has(row));
+        ring.set_awaited(None);
+        ring.take(row)
+    }
+
+    /// Gives back a bench, so that another row can be read.
+    pub(crate) fn give_back<R: Wait>(&self, rt: &R, bench: Bench<S>) {
+        let is_waited_for = self.ring.lock(rt).give_back(bench);
+        if is_waited_for {
+            self.has_task.notify_one();
+        }
+    }
+
+    /// Ends the work.
+    pub(crate) fn end<R: Wait>(&self, rt: &R) {
+        self.ring.lock(rt).end();
+        self.has_task.notify_all();
+    }
+}

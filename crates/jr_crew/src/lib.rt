@@ -1,0 +1,15 @@
+//! A scan's picture, decoded and painted by several threads, and written in one pass.
+#![tactic(auto)]
+
+mod baton;
+mod bench;
+mod beside;
+mod caller;
+mod crew;
+mod one_part;
+mod ring;
+mod row;
+mod sending;
+mod sharing;
+
+pub use sharing::write_scan_by;

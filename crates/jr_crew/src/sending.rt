@@ -1,0 +1,57 @@
+//! What the calling thread does while the others of a crew decode: it writes.
+
+ghost use Rattle.std.specs.Prelude.{◌≡◌, ◌*◌, ◌≤◌, length, false};
+ghost use Rattle.jr_base.specs.Tally.{has_failed};
+ghost use Rattle.jr_head.specs.Geometry.{vertical_max};
+ghost use Rattle.jr_paint.specs.Lines.{line_size};
+ghost use Rattle.jr_paint.specs.declared.header.TheConstants.{HEADER_ROOM};
+ghost use Rattle.jr_paint.specs.declared.netpbm.TheConstants.{WIDEST};
+ghost use Rattle.jr_stream.specs.Stream.{IsSentBy};
+
+use crate::beside::Beside;
+use crate::caller::Caller;
+use crate::crew::Crew;
+use crate::one_part::OnePart;
+use jr_base::{Tally, WriteFault};
+use jr_picture::Gate;
+use jr_stream::{Marked, write_rows};
+use std::io::Write;
+use std::sync::Wait;
+
+/// What the calling thread writes by.
+#[derive(Drop)]
+pub(crate) struct Sending<'s, 'w, 'a, R: Wait, W: Write, G: Gate, S: OnePart, const WIDTH: usize> {
+    pub(crate) crew: &'s Crew<'a, S>,
+    pub(crate) rt: &'s R,
+    pub(crate) gate: &'s G,
+    /// Room for the lines of a row, and for the header.
+    pub(crate) pixels: Vec<u8>,
+    pub(crate) out: &'w mut Tally<W>,
+}
+
+impl<'s, 'w, 'a, R: Wait, W: Write, G: Gate, S: OnePart, const WIDTH: usize> Beside
+    for Sending<'s, 'w, 'a, R, W, G, S, WIDTH> {
+    /// What is answered, and the writer.
+    type Answer = (Result<Marked, WriteFault>, &'w mut Tally<W>);
+
+    ghost may = { λ s. (WIDTH ≤ WIDEST) × (s.crew.now.scan.head.width ≤ WIDTH) × (has_failed s.out.now ≡ false) × (8 * vertical_max s.crew.now.scan.head * line_size s.crew.now.scan.head ≤ length s.pixels.items) × (HEADER_ROOM ≤ length s.pixels.items) };
+
+    ghost gives = { λ s r. IsSentBy W.contents s.crew.now s.out.now r.1.now r.0 × (r.1.ghost_name ≡ s.out.ghost_name) };
+
+    fn run(self) -> (Result<Marked, WriteFault>, &'w mut Tally<W>) {
+        let Sending {
+            crew,
+            rt,
+            gate,
+            mut pixels,
+            out,
+        } = self;
+        let scan = crew.part().scan();
+        // By their contracts a scan has as many intervals as its head says, and no more are decoded.
+        let _counts = (scan.intervals(), crew.part().limit());
+        let mut caller = Caller::<R, G, S, WIDTH>::of(crew, rt, gate);
+        let sent = write_rows(scan.head(), &mut caller, &mut pixels, out);
+        crew.end(rt);
+        (sent, out)
+    }
+}

@@ -1,0 +1,203 @@
+//! A scan's picture, decoded and painted by several threads, and written in one pass.
+
+ghost use Rattle.std.specs.Prelude.{◌≡◌, ◌+◌, ◌*◌, ◌<◌, ◌≤◌, Some, IfOk, OnOk, length, is_err, true, false};
+ghost use Rattle.jr_base.specs.Tally.{has_failed};
+ghost use Rattle.jr_base.specs.declared.limits.TheConstants.{MAX_WORKERS};
+ghost use Rattle.jr_head.specs.Geometry.{vertical_max};
+ghost use Rattle.jr_paint.specs.Lines.{line_size};
+ghost use Rattle.jr_paint.specs.declared.header.TheConstants.{HEADER_ROOM};
+ghost use Rattle.jr_paint.specs.declared.netpbm.TheConstants.{WIDEST};
+ghost use Rattle.jr_picture.specs.Headline.{least};
+ghost use Rattle.jr_stream.specs.Rows.{CountsRows};
+ghost use Rattle.jr_stream.specs.Stream.{WritesPicture, BeginsPicture, SendsPicture};
+
+use crate::baton::Baton;
+use crate::bench::{Bench, Painted};
+use crate::beside::run_beside;
+use crate::crew::Crew;
+use crate::one_part::OnePart;
+use crate::ring::Ring;
+use crate::sending::Sending;
+use jr_base::{Memory, Tally, WriteFault};
+use jr_paint::{NARROW, WIDEST};
+use jr_picture::{Counts, Gate};
+use jr_piece::each_interval_has_an_outcome;
+use jr_scan::Scan;
+use jr_stream::{Marked, Part, Unwritten, counts_of, room_for};
+use std::alloc::Global;
+use std::collections::VecDeque;
+use std::io::Write;
+use std::marker::Brand;
+use std::sync::Wait;
+use std::thread::Threads;
+
+/// So many benches for each thread: one that it works at, and one that waits to be painted or written.
+const BENCHES_OF_ONE: u32 = 2;
+
+/// So many benches.
+fn open_benches<S: OnePart>(
+    alloc: Global,
+    part: &Part<'_>,
+    count: u32,
+) -> Result<Vec<Bench<S>>, Memory>
+    requires { S.part ≡ Some part.now }
+{
+    let mut benches = Vec::with_capacity(alloc, count as usize)?;
+    for _ in 0..count {
+        benches.push(Bench::open(alloc, part)?)?;
+    }
+    Ok(benches)
+}
+
+/// Places for painted rows: so many, and one at least.
+fn open_places<S: OnePart>(alloc: Global, count: u32) -> Result<Vec<Option<Painted<S>>>, Memory>
+    ensures { IfOk result (λ v. 0 < length v.items) }
+{
+    let mut places = Vec::with_capacity(alloc, count as usize)?;
+    places.push(None)?;
+    for _ in 1..count {
+        places.push(None)?;
+    }
+    Ok(places)
+}
+
+/// A ring of so many benches.
+fn open_ring<'a, S: OnePart>(
+    alloc: Global,
+    part: &Part<'a>,
+    count: u32,
+) -> Result<Ring<'a, S>, Memory>
+    requires { S.part ≡ Some part.now }
+{
+    let free = open_benches(alloc, part, count)?;
+    let coded = VecDeque::with_capacity(alloc, count as usize)?;
+    let painted = open_places(alloc, count)?;
+    Ok(Ring::of(Baton::of(part), free, coded, painted))
+}
+
+/// Writes what a crew of so many others paints.
+#[inline(never)]
+fn write_beside<
+    's,
+    'a,
+    R: Threads + Wait + Sync,
+    W: Write,
+    G: Gate + Sync,
+    S: OnePart + Send,
+    const WIDTH: usize,
+>(
+    crew: &'s Crew<'a, S>,
+    rt: &'s R,
+    gate: &'s G,
+    others: u32,
+    pixels: Vec<u8>,
+    out: &mut Tally<W>,
+) -> Result<Marked, WriteFault>
+    requires stack { WIDTH ≤ WIDEST }
+    requires wide { crew.now.scan.head.width ≤ WIDTH }
+    requires unfailed { has_failed out.old ≡ false }
+    requires pixels { 8 * vertical_max crew.now.scan.head * line_size crew.now.scan.head ≤ length pixels.items }
+    requires header { HEADER_ROOM ≤ length pixels.items }
+    ensures counts { IfOk result (CountsRows crew.now.scan crew.now.limit) }
+    ensures failed { has_failed out.new ≡ is_err result }
+    ensures sent { SendsPicture W.contents out.old out.new result crew.now.scan crew.now.limit }
+{
+    let sending = Sending::<R, W, G, S, WIDTH> {
+        crew,
+        rt,
+        gate,
+        pixels,
+        out,
+    };
+    let (sent, _out) = run_beside::<R, G, S, _, WIDTH>(crew, rt, gate, others, sending);
+    sent
+}
+
+/// Writes what a crew paints, of as wide a picture as there is.
+fn write_by_crew<R: Threads + Wait + Sync, W: Write, G: Gate + Sync, S: OnePart + Send>(
+    crew: &Crew<'_, S>,
+    rt: &R,
+    gate: &G,
+    others: u32,
+    pixels: Vec<u8>,
+    out: &mut Tally<W>,
+) -> Result<Marked, WriteFault>
+    requires unfailed { has_failed out.old ≡ false }
+    requires pixels { 8 * vertical_max crew.now.scan.head * line_size crew.now.scan.head ≤ length pixels.items }
+    requires header { HEADER_ROOM ≤ length pixels.items }
+    ensures counts { IfOk result (CountsRows crew.now.scan crew.now.limit) }
+    ensures failed { has_failed out.new ≡ is_err result }
+    ensures sent { SendsPicture W.contents out.old out.new result crew.now.scan crew.now.limit }
+{
+    let head = crew.part().scan().head();
+    head.be_lawful();
+    if head.width() as usize <= NARROW {
+        return write_beside::<R, W, G, S, NARROW>(crew, rt, gate, others, pixels, out);
+    }
+    write_beside::<R, W, G, S, WIDEST>(crew, rt, gate, others, pixels, out)
+}
+
+/// `write_scan_by`, where a type stands for the part that is decoded, so that what the threads share under locks is known to
+/// be of it.
+fn write_as<R: Threads + Wait + Sync, W: Write, G: Gate + Sync, S: OnePart + Send>(
+    rt: &R,
+    alloc: Global,
+    part: Part<'_>,
+    workers: u32,
+    gate: &G,
+    out: &mut Tally<W>,
+) -> Result<Counts, Unwritten>
+    requires part { S.part ≡ Some part }
+    requires unfailed { has_failed out.old ≡ false }
+    requires some { 1 ≤ workers }
+    requires few { workers ≤ MAX_WORKERS }
+    ensures painted { IfOk result (λ c. WritesPicture W.contents out.old out.new part.entry.scan part.entry.limit c) }
+    ensures begun { result ≡ Err Unwritten.Write → BeginsPicture W.contents out.old out.new part.entry.scan part.entry.limit }
+    ensures memory { result ≡ Err Unwritten.Memory → out.new ≡ out.old }
+    ensures written { OnOk result (has_failed out.new ≡ false) }
+    ensures write { result ≡ Err Unwritten.Write → has_failed out.new ≡ true }
+{
+    each_interval_has_an_outcome();
+    let (scan, limit) = (part.scan(), part.limit());
+    scan.head().be_lawful();
+    let Ok(ring) = open_ring::<S>(alloc, &part, BENCHES_OF_ONE * workers) else {
+        return Err(Unwritten::Memory);
+    };
+    let Ok(pixels) = vec![in alloc; 0; room_for(scan.head())] else {
+        return Err(Unwritten::Memory);
+    };
+    let crew = Crew::of(part, ring);
+    match write_by_crew(&crew, rt, gate, workers - 1, pixels, out) {
+        Ok(marked) => Ok(counts_of(scan, limit, marked)),
+        Err(_) => Err(Unwritten::Write),
+    }
+}
+
+/// Decodes the first intervals of a scan, or all, by so many workers (1 to 64), and writes its picture, a row of MCUs after
+/// the other. The calling thread is one of them, and writes. It takes all memory that it needs before it writes the first
+/// byte: for two rows of MCUs of each worker, and none for the picture. The gate is told each interval that is decoded; no
+/// piece is made.
+///
+/// Where a row has whole intervals, each worker reads its rows by itself; else one reads row after row, and the others
+/// paint what it has read.
+pub fn write_scan_by<R: Threads + Wait + Sync, W: Write, G: Gate + Sync>(
+    rt: &R,
+    alloc: Global,
+    scan: &Scan,
+    workers: u32,
+    first: Option<u32>,
+    gate: &G,
+    out: &mut Tally<W>,
+) -> Result<Counts, Unwritten>
+    requires unfailed { has_failed out.old ≡ false }
+    requires some { 1 ≤ workers }
+    requires few { workers ≤ MAX_WORKERS }
+    ensures painted { IfOk result (λ c. WritesPicture W.contents out.old out.new scan.now (least first (length scan.now.intervals)) c) }
+    ensures begun { result ≡ Err Unwritten.Write → BeginsPicture W.contents out.old out.new scan.now (least first (length scan.now.intervals)) }
+    ensures memory { result ≡ Err Unwritten.Memory → out.new ≡ out.old }
+    ensures written { OnOk result (has_failed out.new ≡ false) }
+    ensures write { result ≡ Err Unwritten.Write → has_failed out.new ≡ true }
+{
+    let part = Part::of(scan, first);
+    write_as::<R, W, G, Brand>(rt, alloc, part, workers, gate, out)
+}

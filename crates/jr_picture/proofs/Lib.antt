@@ -1,0 +1,3 @@
+pub mod BoardPictures
+pub mod Pictures
+pub mod Lines

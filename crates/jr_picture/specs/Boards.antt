@@ -1,0 +1,47 @@
+-- The rules of a board.
+use Rattle.std.specs.Prelude.{◌≡◌, ℕ, ◌<◌, ◌^◌, Bool, true, false, cond, length, count_by, map, List, slice_index_or, Option, Some, None}
+use Rattle.jr_scan.specs.IntervalValue.{IntervalValue}
+use Rattle.jr_scan.specs.ScanValue.{ScanValue, HasInterval}
+use Rattle.jr_piece.specs.PieceValue.{PieceValue}
+use Rattle.jr_piece.specs.Outcome.{IsOutcome}
+use Rattle.jr_picture.specs.declared.mark.Mark.{Mark}
+use Rattle.jr_picture.specs.declared.mark.Mark.TheVariants.{Blank, Sound, Damaged}
+use Rattle.jr_picture.specs.BoardValue.{BoardValue}
+
+abbrev pub piece_at : BoardValue → ℕ → Option PieceValue
+piece_at b i = slice_index_or b.pieces i None
+
+-- the mark of a posted piece, or of none
+abbrev pub mark_of : Option PieceValue → Mark
+mark_of None = Blank
+mark_of (Some p) = cond p.is_sound Sound Damaged
+
+-- the marks of a board's intervals
+abbrev pub marks_of : BoardValue → List Mark
+marks_of b = map mark_of b.pieces
+
+abbrev pub mark_at : BoardValue → ℕ → Mark
+mark_at b i = mark_of (piece_at b i)
+
+abbrev pub is_sound_piece : Option PieceValue → Bool
+is_sound_piece None = false
+is_sound_piece (Some p) = p.is_sound
+
+abbrev pub is_damaged_piece : Option PieceValue → Bool
+is_damaged_piece None = false
+is_damaged_piece (Some p) = cond p.is_sound false true
+
+-- the interval is the scan's interval of its number
+abbrev pub IsFor : IntervalValue → ScanValue → Type 0
+IsFor i scan = HasInterval scan i
+
+-- the piece is of interval i of the scan, and tells what T.81 gives for it
+pub record IsPieceOf (scan : ScanValue) (i : ℕ) (p : PieceValue) : Type 0 where
+  pub number : p.interval.number ≡ i
+  pub interval : IsFor p.interval scan
+  pub outcome : IsOutcome p
+
+-- there is a place for each interval, and each piece is that of its place
+pub record IsLawfulBoard (b : BoardValue) : Type 0 where
+  pub places : length b.pieces ≡ length b.scan.intervals
+  pub each : (i : ℕ) (p : PieceValue) → piece_at b i ≡ Some p → IsPieceOf b.scan i p

@@ -1,0 +1,4 @@
+pub mod BoardValue
+pub mod Boards
+pub mod Samples
+pub mod Headline

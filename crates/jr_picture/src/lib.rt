@@ -1,0 +1,16 @@
+//! What a picture of a scan is: the marks of its intervals, and the samples that each shows.
+//!
+//! The headline, that each interval of a picture shows what its mark says, is `IsPicture` in specs/Headline.antt.
+#![tactic(auto)]
+
+mod blank;
+mod counts;
+mod gate;
+mod laws;
+mod mark;
+
+pub use blank::blank_sample;
+pub use counts::Counts;
+pub use gate::{Gate, OpenGate};
+pub use laws::one_picture;
+pub use mark::Mark;

@@ -1,9 +1,0 @@
-use Rattle.std.proofs.Common.{rules, arith, subst, Option}
-use Rattle.jr_stream.specs.PartValue.{PartValue}
-use Rattle.jr_stream.specs.Crew.{HaveNext}
-use Rattle.jr_stream.proofs.baton.Baton.behind.Goals as goal
-
-pub overflow_add-row : goal.overflow_add-row
-overflow_add-row g c =
-    let next = subst (λ (k : Option PartValue). HaveNext k c.self.inside.rows) c.requires c.self.invariant in
-    search (rules, arith, next.row)
