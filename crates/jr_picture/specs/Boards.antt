@@ -1,5 +1,5 @@
 -- The rules of a board.
-use Rattle.std.specs.Prelude.{◌≡◌, ℕ, ◌<◌, ◌^◌, Bool, true, false, cond, length, count_by, map, List, slice_index_or, Option, Some, None}
+use Rattle.std.specs.Prelude.{◌≡◌, ℕ, Bool, true, false, cond, length, map, List, slice_index_or, Option, Some, None}
 use Rattle.jr_scan.specs.IntervalValue.{IntervalValue}
 use Rattle.jr_scan.specs.ScanValue.{ScanValue, HasInterval}
 use Rattle.jr_piece.specs.PieceValue.{PieceValue}
