@@ -16,6 +16,8 @@ pub mod Cuts
 pub mod Unstuffing
 pub mod Scans
 pub mod Runs
+pub mod InMcu
+pub mod McuReaders
 pub mod CutLaw
 pub mod FirstWords
 pub mod FirstBlocks

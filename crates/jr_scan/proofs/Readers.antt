@@ -24,7 +24,7 @@ use Rattle.jr_scan.proofs.McuLaws.{prediction_same, reads_none, reads_more, read
 pub component_at : (h : HeadValue) (mcu place : ℕ) → place < length (order_of h) → component h (mcu * length (order_of h) + place) ≡ get_or (order_of h) place 0
 component_at h mcu place lt = ap (λ (k : ℕ). get_or (order_of h) k 0) (mod-mul-add mcu (length (order_of h)) place lt)
 
-register_at : (h : HeadValue) (start : List ℤ) (zs : List (List ℤ)) (z registers : List ℤ) (v : ℤ) (c k : ℕ) → c ≡ component h (length zs) → c < length registers → v ≡ get_or z 0 (pos 0)
+pub register_at : (h : HeadValue) (start : List ℤ) (zs : List (List ℤ)) (z registers : List ℤ) (v : ℤ) (c k : ℕ) → c ≡ component h (length zs) → c < length registers → v ≡ get_or z 0 (pos 0)
     → get_or registers k (pos 0) ≡ prediction h start zs k (length zs) → get_or (set registers c v) k (pos 0) ≡ prediction h start (zs ++ z ∷ []) k (suc (length zs))
 register_at h start zs z registers v c k is room is_first before =
     let n = length zs in

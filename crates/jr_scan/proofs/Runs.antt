@@ -158,7 +158,7 @@ same_place : (a b : Place) → a.bit ≡ b.bit → a.predictions ≡ b.predictio
 same_place a b p q = ap (λ (k : ℕ). record { bit = k; predictions = a.predictions }) p ∙ ap (λ (k : List ℤ). record { bit = b.bit; predictions = k }) q
 
 -- where no whole MCU follows whole MCUs, no run has more of them
-no_more : OneWord → (r : RunOf) (zs ys : List (List ℤ)) (a b : Place) (e f : RunEnd) → ((n : ℕ) → component r.interval.head n < 3) → (s : IsRun r zs a e) → (t : IsRun r ys b f) → s.count < t.count → ⊥
+pub no_more : OneWord → (r : RunOf) (zs ys : List (List ℤ)) (a b : Place) (e f : RunEnd) → ((n : ℕ) → component r.interval.head n < 3) → (s : IsRun r zs a e) → (t : IsRun r ys b f) → s.count < t.count → ⊥
 no_more one r zs ys a b e f three s t lt = go e s.ends
   where
     go : (e : RunEnd) → EndsAs r s.count a e → ⊥
@@ -237,7 +237,7 @@ run_is_decoding i zs to r short =
       spelled = r.spelled;
     }
 
-three_places : (ps : List ℤ) → length ps ≡ 3 → ps ≡ get_or ps 0 (pos 0) ∷ get_or ps 1 (pos 0) ∷ get_or ps 2 (pos 0) ∷ []
+pub three_places : (ps : List ℤ) → length ps ≡ 3 → ps ≡ get_or ps 0 (pos 0) ∷ get_or ps 1 (pos 0) ∷ get_or ps 2 (pos 0) ∷ []
 three_places [] e = absurd (omega arith)
 three_places (a ∷ []) e = absurd (omega arith)
 three_places (a ∷ b ∷ []) e = absurd (omega arith)

@@ -9,3 +9,4 @@ pub mod Spans
 pub mod UnstuffingValue
 pub mod ScanValue
 pub mod Run
+pub mod McuReader

@@ -20,9 +20,19 @@ left_at i p = drop p.bit (bits i.bytes)
 abbrev pub predicted : HeadValue → List ℤ → List (List ℤ) → List ℤ
 predicted h start zs = prediction h start zs 0 (length zs) ∷ prediction h start zs 1 (length zs) ∷ prediction h start zs 2 (length zs) ∷ []
 
+-- old is the bits of the blocks of one MCU, each component predicted as given, and then new
+pub record TakesMcu (h : HeadValue) (start : List ℤ) (zs : List (List ℤ)) (old new : List Bool) : Type 0 where
+  pub taken : List Bool
+  pub mcu : Mcus h start 1 zs taken
+  pub split : old ≡ taken ++ new
+
+-- no whole MCU begins these bits
+abbrev pub BeginsNoMcu : HeadValue → List ℤ → List Bool → Type 0
+BeginsNoMcu h start old = (ys : List (List ℤ)) (taken rest : List Bool) → Mcus h start 1 ys taken → old ≢ taken ++ rest
+
 -- no whole MCU follows
 abbrev pub HasNoMcu : IntervalValue → Place → Type 0
-HasNoMcu i p = (ys : List (List ℤ)) (taken rest : List Bool) → Mcus i.head p.predictions 1 ys taken → left_at i p ≢ taken ++ rest
+HasNoMcu i p = BeginsNoMcu i.head p.predictions (left_at i p)
 
 -- all MCUs that were asked for are there, or no further one follows
 abbrev pub EndsAs : RunOf → ℕ → Place → RunEnd → Type 0

@@ -6,35 +6,14 @@ ghost use Rattle.jr_code.specs.Bits.{bits};
 ghost use Rattle.jr_scan.specs.Block.{IsInDcRange, IsInRange};
 ghost use Rattle.jr_scan.specs.Step.{TakesBlock, HasNoBlock};
 
-use crate::block::{Block, read_block};
+use crate::block::Block;
 use crate::interval::Interval;
 use crate::interval_ref::IntervalRef;
+use crate::mcu::read_predicted;
+use crate::mcu_reader::bits_from;
 use crate::place::Place;
-use jr_code::{Bits, CodeBook, one_word};
+use jr_code::Bits;
 use std::marker::Model;
-
-/// Takes a block, the prediction added to its first coefficient, which it gives.
-fn read_predicted(
-    dc: &CodeBook,
-    ac: &CodeBook,
-    bits: &mut Bits<'_>,
-    prediction: i32,
-    block: &mut Block,
-) -> Option<i32>
-    requires { IsInDcRange prediction }
-    ensures some { OnSome result (TakesBlock dc.now ac.now prediction block.new bits.old bits.new) }
-    ensures first { IfSome result (λ first. first ≡ slice_index_or block.new 0 (pos 0)) }
-    ensures none { IfNone result (HasNoBlock dc.now ac.now prediction bits.old) }
-{
-    one_word();
-    read_block(dc, ac, bits, block)?;
-    let first = prediction + block[0];
-    if first < -32768 || first > 32767 {
-        return None;
-    }
-    block[0] = first;
-    Some(first)
-}
 
 /// The number of whole MCUs and of the next block in its MCU, behind one more block.
 fn following(mcu: u32, next_block: usize, blocks: usize, mcus: u32) -> (u32, usize)
@@ -49,17 +28,6 @@ fn following(mcu: u32, next_block: usize, blocks: usize, mcus: u32) -> (u32, usi
     } else {
         (mcu, next_block + 1)
     }
-}
-
-/// The bits of the bytes from a place on.
-fn bits_from(bytes: &[u8], bit: u64) -> Bits<'_>
-    requires within { bit ≤ 8 * length bytes.now }
-    requires few { length bytes.now < 2 ^ 61 }
-    ensures { result ≡ drop bit (bits bytes.now) }
-{
-    let mut bits = Bits::over(&bytes[(bit / 8) as usize..]);
-    let _ = bits.take((bit % 8) as u32);
-    bits
 }
 
 /// Reads the blocks of a run of MCUs one after the other.
@@ -203,7 +171,6 @@ impl<'a> BlockReader<'a> {
         // Their blocks are those of the reader's run, which ends somewhere for some reason.
         ensures run { (zs : List (List ℤ)) → HasRead self.now zs → HasEnded self.now → HasBlocks self.now.run (first_mcus self.now result zs) }
     {
-        one_word();
         self.interval.head().be_lawful();
         self.mcu
     }
@@ -247,7 +214,6 @@ impl<'a> BlockReader<'a> {
         ensures sound { IsTrue result → (i : IntervalValue) (zs : List (List ℤ)) → HasReadOf self.now i zs → Decodes i zs }
         ensures damaged { result ≡ false → (i : IntervalValue) (zs : List (List ℤ)) → HasReadAll self.now i zs → HasNoDecoding i }
     {
-        one_word();
         self.mcu == self.mcus && self.bits.left() < 8
     }
 }

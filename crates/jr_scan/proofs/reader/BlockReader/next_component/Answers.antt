@@ -17,5 +17,5 @@ pub returns-clause-few : goal.returns-clause-few
 returns-clause-few c =
     let h = c.self.inside.interval.head in
     let room : c.self.inside.next_block < length c.self.inside.order.now = subst (λ (o : List ℕ). c.self.inside.next_block < length o) (sym c.self.invariant.1) c.self.invariant.0.within in
-    let count : components_of h ≡ component_count h.kind = subst (λ (x : HeadValue). components_of x ≡ component_count x.kind) c.head.ensures c.be_lawful.ensures.components.count in
+    let count : components_of h ≡ component_count h.kind = subst (λ (x : HeadValue). components_of x ≡ component_count x.kind) c.head.ensures.value c.be_lawful.ensures.components.count in
     few_components h h.kind (components_of h) (get_or c.self.inside.order.now c.self.inside.next_block 0) count (c.self.invariant.2 c.self.inside.next_block 0 room)

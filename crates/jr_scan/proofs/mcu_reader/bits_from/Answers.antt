@@ -4,7 +4,7 @@ use Rattle.jr_code.proofs.BitLemmas.{length-bits}
 use Rattle.jr_scan.proofs.Cuts.{rest_is}
 use Rattle.jr_scan.proofs.Options.{taken_any}
 use Rattle.jr_scan.proofs.Runs.{bits_on}
-use Rattle.jr_scan.proofs.reader.bits_from.Goals as goal
+use Rattle.jr_scan.proofs.mcu_reader.bits_from.Goals as goal
 
 pub returns : goal.returns
 returns c =
