@@ -80,7 +80,7 @@ next_samples h zs units all k c u q lt s pushed is table at =
     subst (λ (ys : List (List ℤ)). AreSamples h ys all) (sym (take_more zs k [] lt)) (subst (AreSamples h (take k zs ++ get_or zs k [] ∷ [])) (sym pushed) more)
 
 -- the samples of blocks behind whole MCUs, and of those before them
-appended : (h : HeadValue) (xs ys : List (List ℤ)) (us vs : List (List ℕ)) (k : ℕ) → length xs ≡ k * length (order_of h) → AreSamples h xs us → AreSamples h ys vs → AreSamples h (xs ++ ys) (us ++ vs)
+pub appended : (h : HeadValue) (xs ys : List (List ℤ)) (us vs : List (List ℕ)) (k : ℕ) → length xs ≡ k * length (order_of h) → AreSamples h xs us → AreSamples h ys vs → AreSamples h (xs ++ ys) (us ++ vs)
 appended h xs ys us vs k whole a b =
     record {
       count = omega (arith, length-append xs ys, length-append us vs, a.count, b.count);

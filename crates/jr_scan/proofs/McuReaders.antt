@@ -1,15 +1,16 @@
 -- A reader of whole MCUs goes from place to place, and what its end says of the interval.
-use Rattle.std.proofs.Common.{◌≡◌, ℕ, ◌+◌, ◌-◌, ◌*◌, ◌<◌, ◌≤◌, Bool, List, [], ◌++◌, length, take, drop, length-drop, refl, sym, ap, subst, ◌∙◌, inl, inr, length-append, arith}
+use Rattle.std.proofs.Common.{◌≡◌, ℕ, ◌+◌, ◌-◌, ◌*◌, ◌/◌, ◌<◌, ◌≤◌, Bool, List, [], ◌++◌, length, take, drop, length-drop, refl, sym, ap, subst, ◌∙◌, inl, inr, length-append, arith}
 use Rattle.std.specs.Prelude.{ℤ}
 use Rattle.std.proofs.lemmas.Bool.{cases_lt}
-use Rattle.std.proofs.lemmas.List.{drop-drop}
+use Rattle.std.proofs.lemmas.List.{drop-drop, length-take-le}
+use Rattle.std.proofs.Math.Nat.{le-div_iff_mul-le, mul-le-mul_right}
 use Rattle.std.proofs.lemmas.Slice.{take-put_mid}
 use borrow.Rule.Slice.PartMut.{put_mid}
 use Rattle.std.proofs.Math.Seq.{drop-append_seam}
 use Rattle.jr_code.specs.Bits.{bits}
 use Rattle.jr_code.proofs.BitLemmas.{length-bits}
 use Rattle.jr_code.proofs.CodeLemmas.{one_word}
-use Rattle.jr_head.specs.Geometry.{IsLawful}
+use Rattle.jr_head.specs.Geometry.{order_of, IsLawful}
 use Rattle.jr_scan.specs.declared.place.Place.{Place}
 use Rattle.jr_scan.specs.declared.place.RunEnd.TheVariants.{AllRead, NoMcu}
 use Rattle.jr_scan.specs.IntervalValue.{IntervalValue}
@@ -17,7 +18,8 @@ use Rattle.jr_scan.specs.Mcus.{Mcus, no_predictions, Decodes, HasNoDecoding, Fro
 use Rattle.jr_scan.specs.Reader.{RunOf, start_of_interval, whole_run}
 use Rattle.jr_scan.specs.Run.{run_from, left_at, predicted, TakesMcu, HasNoMcu, IsRun}
 use Rattle.jr_scan.specs.McuReader.{McuReaderValue, HasRead, HasEnded, HasReadOf, HasReadAll, IsMcuReader}
-use Rattle.jr_scan.proofs.McuLaws.{no_blocks}
+use Rattle.jr_scan.proofs.FewMcus.{mcus_long}
+use Rattle.jr_scan.proofs.McuLaws.{blocks_front, no_blocks}
 use Rattle.jr_scan.proofs.Runs.{component_low, decoding_is_run, no_more, one_run, run_is_decoding, runs_meet, three_places}
 
 pub left_is : (i : IntervalValue) (p : Place) → length (left_at i p) ≡ 8 * length i.bytes - p.bit
@@ -74,7 +76,7 @@ read_on r r' k zs ys lawful run mcu few more s =
 pub front_of_run : (i : IntervalValue) (k : ℕ) (zs : List (List ℤ)) (to : Place) → IsRun (run_from i start_of_interval k) zs to AllRead → k ≤ i.mcus → Front i k zs
 front_of_run i k zs to r few = record { at_most = few; taken = r.taken; rest = left_at i to; mcus = subst (λ (n : ℕ). Mcus i.head no_predictions n zs r.taken) r.ends r.mcus; spelled = r.spelled }
 
-run_of_front : (i : IntervalValue) (k : ℕ) (zs : List (List ℤ)) → Front i k zs → (to : Place) × IsRun (run_from i start_of_interval k) zs to AllRead
+pub run_of_front : (i : IntervalValue) (k : ℕ) (zs : List (List ℤ)) → Front i k zs → (to : Place) × IsRun (run_from i start_of_interval k) zs to AllRead
 run_of_front i k zs f =
     let n = length f.taken in
     let left : drop n (bits i.bytes) ≡ f.rest = ap (drop n) f.spelled ∙ drop-append_seam f.taken f.rest in (
@@ -143,3 +145,33 @@ more_held i p q s k per xs ys lawful room long before next =
     let size : (k + 1) * per ≡ k * per + length ys = omega (arith, long) in
     let e : take ((k + 1) * per) (put_mid (k * per) (k * per + per - k * per) xs ys) ≡ take (k * per) xs ++ ys = take-put_mid (k * per) (k * per + per - k * per) xs ys ((k + 1) * per) size (omega (arith, room)) in
     subst (λ (zs : List (List ℤ)). IsRun (run_from i p (k + 1)) zs s AllRead) (sym e) (runs_meet i p q s k 1 (take (k * per) xs) ys AllRead (component_low i.head lawful) before next)
+
+-- where no whole MCU follows a place, no run from there on has one
+pub no_first : (i : IntervalValue) (p q : Place) (k : ℕ) (zs : List (List ℤ)) → HasNoMcu i p → IsRun (run_from i p k) zs q AllRead → k ≡ 0
+no_first i p q k zs none r = elim (cases_lt 0 k) [
+  | inl some ↦
+      let per = length (order_of i.head) in
+      let one : 1 * per ≤ r.count * per = mul-le-mul_right {m = 1} {n = r.count} per (omega (arith, r.ends, some)) in
+      let room : 1 * per ≤ length zs = omega (arith, one, r.mcus.0) in
+      let b = blocks_front i.head p.predictions zs (left_at i p) r.taken (left_at i q) (1 * per) r.mcus.1 r.spelled room in
+      absurd (none (take (1 * per) zs) b.0 b.1 (length-take-le (1 * per) zs room, b.2) b.3)
+  | inr none_read ↦ omega (arith, none_read)
+]
+
+-- where as many MCUs are read as can be, no whole one follows
+pub no_room : (i : IntervalValue) (from to : Place) (n m most : ℕ) (zs : List (List ℤ)) → IsLawful i.head → to.bit ≤ 8 * length i.bytes → IsRun (run_from i from n) zs to AllRead
+    → ((k : ℕ) (ys : List (List ℤ)) (q : Place) → IsRun (run_from i from k) ys q AllRead → k ≤ m → k ≤ most) → most ≤ n → n < m → HasNoMcu i to
+no_room i from to n m most zs lawful within r enough full lt ys taken rest u e =
+    let q : Place = record { bit = 8 * length i.bytes - length rest; predictions = predicted i.head to.predictions ys } in
+    let t : TakesMcu i.head to.predictions ys (left_at i to) rest = record { taken = taken; mcu = u; split = e } in
+    let both = runs_meet i from to q n 1 zs ys AllRead (component_low i.head lawful) r (one_mcu i to q ys rest within t refl refl) in
+    omega (arith, enough (n + 1) (zs ++ ys) q both (omega (arith, lt)), full)
+
+-- each data unit of a run takes two bits or more
+pub run_few : (i : IntervalValue) (from to : Place) (k : ℕ) (zs : List (List ℤ)) → 0 < length (order_of i.head) → IsRun (run_from i from k) zs to AllRead → k ≤ (8 * length i.bytes - from.bit) / (2 * length (order_of i.head))
+run_few i from to k zs some r =
+    let per = length (order_of i.head) in
+    let long = mcus_long i.head from.predictions k zs r.taken (subst (λ (n : ℕ). Mcus i.head from.predictions n zs r.taken) r.ends r.mcus) in
+    let all : length r.taken ≤ 8 * length i.bytes - from.bit = omega (arith, left_is i from, ap length r.spelled, length-append r.taken (left_at i to)) in
+    let twice : k * (2 * per) ≡ 2 * (k * per) = omega arith in
+    (le-div_iff_mul-le (omega (arith, some))).1 (omega (arith, twice, long, all))

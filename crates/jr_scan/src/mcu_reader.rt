@@ -62,6 +62,7 @@ impl<'a> McuReader<'a> {
     /// A reader of all MCUs of an interval.
     pub fn over(interval: IntervalRef<'a>) -> McuReader<'a>
         ensures run { result.run ≡ whole_run interval.entry }
+        ensures mcu { result.mcu ≡ 0 }
         ensures read { HasRead result [] }
     {
         let mcus = interval.mcus();
@@ -72,7 +73,8 @@ impl<'a> McuReader<'a> {
     pub fn at(interval: IntervalRef<'a>, from: Place, mcus: u32) -> McuReader<'a>
         requires within { from.bit ≤ 8 * length interval.bytes }
         requires in_range { All IsInDcRange from.predictions }
-        ensures run { result.run ≡ record { interval = interval.entry; from = from; mcus = mcus } }
+        ensures run { result.run ≡ run_from interval.entry from mcus }
+        ensures mcu { result.mcu ≡ 0 }
         ensures read { HasRead result [] }
     {
         interval.head().be_lawful();
@@ -121,6 +123,7 @@ impl<'a> McuReader<'a> {
         ensures read { (zs : List (List ℤ)) → HasRead self.old zs → HasRead self.new (zs ++ take (result * per_mcu self.old) blocks.new) }
         ensures in_range { All IsInRange (take (result * per_mcu self.old) blocks.new) }
         ensures ended { (result + 1) * per_mcu self.old ≤ length blocks.new → HasEnded self.new }
+        ensures stays { HasEnded self.old → self.new ≡ self.old }
     {
         let per_mcu = self.interval.head().order().len();
         let room = blocks.len() / per_mcu;

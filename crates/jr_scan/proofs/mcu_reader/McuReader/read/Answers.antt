@@ -1,4 +1,4 @@
-use Rattle.std.proofs.Common.{◌≡◌, ◌≤◌, ◌+◌, ◌*◌, ◌-◌, ◌++◌, ℕ, ℤ, List, length, take, refl, ap, sym, subst, ◌∙◌, inr, rules, arith}
+use Rattle.std.proofs.Common.{inl, ◌<◌, ◌≡◌, ◌≤◌, ◌+◌, ◌*◌, ◌-◌, ◌++◌, ℕ, ℤ, List, length, take, refl, ap, sym, subst, ◌∙◌, inr, rules, arith}
 use Rattle.std.specs.List.{All}
 use Rattle.std.proofs.lemmas.Slice.{take-put_mid_below}
 use borrow.Rule.Slice.PartMut.{put_mid}
@@ -9,7 +9,7 @@ use Rattle.jr_scan.specs.Reader.{RunOf}
 use Rattle.jr_scan.specs.Run.{HasNoMcu, IsRun, run_from}
 use Rattle.jr_scan.specs.McuReader.{McuReaderValue, HasRead, per_mcu}
 use Rattle.jr_scan.proofs.InRange.{run_in_range}
-use Rattle.jr_scan.proofs.McuReaders.{more_held, no_run, read_on}
+use Rattle.jr_scan.proofs.McuReaders.{more_held, no_first, no_run, read_on}
 use Rattle.jr_scan.proofs.mcu_reader.McuReader.read.Goals as goal
 
 pub loop-k-init : goal.loop-k-init
@@ -18,7 +18,7 @@ loop-k-init c =
     let i = c.args.self.now.run.interval in
     let p = c.args.self.now.place in
     let none : 0 ≡ 0 * length c.order-per_mcu.result.now = omega arith in
-    record { run = refl; mcu = omega arith; room = refl; whole = subst (λ (n : ℕ). IsRun (run_from i p 0) (take n c.args.blocks.now) p AllRead) none (no_run i p three) }
+    record { run = refl; mcu = omega arith; room = refl; start = λ first. refl; whole = subst (λ (n : ℕ). IsRun (run_from i p 0) (take n c.args.blocks.now) p AllRead) none (no_run i p three) }
 
 pub loop-k-preserved : goal.loop-k-preserved
 loop-k-preserved c =
@@ -35,6 +35,7 @@ loop-k-preserved c =
       run = c.next.ensures.run ∙ c.loop-k.invariant.run;
       mcu = omega (arith, mcu, c.loop-k.invariant.mcu);
       room = search (rules, c.loop-k.invariant.room);
+      start = λ first. absurd (omega (arith, first));
       whole = more_held r.run.interval r.place c.loop-k.self.place c.next.new.self.place k per c.loop-k.blocks c.next.new.blocks lawful room long c.loop-k.invariant.whole next1;
     }
 
@@ -92,3 +93,26 @@ returns-clause-in_range c =
     let all : c.loop-k.k ≡ k = search rules in
     let here : All IsInRange (take (c.loop-k.k * per) c.loop-k.blocks) = run_in_range _ _ _ _ c.loop-k.invariant.whole in
     subst (λ (n : ℕ). All IsInRange (take (k * n) c.loop-k.blocks)) same (subst (λ (j : ℕ). All IsInRange (take (j * per) c.loop-k.blocks)) all here)
+
+pub returns-in_default-clause-stays : goal.returns-in_default-clause-stays
+returns-in_default-clause-stays c = λ ended.
+    let r = c.args.self.now in
+    let k = c.loop-k.k in
+    let kept : c.next.new.self ≡ c.loop-k.self = search (rules, c.in_default.ensures.kept) in
+    let more : r.mcu + k < r.run.mcus = search (rules, arith, c.loop-k.invariant.mcu, ap (λ (o : RunOf). o.mcus) c.loop-k.invariant.run) in
+    let first : k ≡ 0 = elim ended [
+      | inl full ↦ absurd (omega (arith, full, more))
+      | inr none ↦ no_first r.run.interval r.place c.loop-k.self.place k _ none c.loop-k.invariant.whole
+    ] in
+    kept ∙ c.loop-k.invariant.start first
+
+pub returns-clause-stays : goal.returns-clause-stays
+returns-clause-stays c = λ ended.
+    let r = c.args.self.now in
+    let k = c.loop-k.k in
+    let few : r.mcu + k ≤ r.run.mcus = search (rules, arith, c.loop-k.invariant.mcu, ap (λ (o : RunOf). o.mcus) c.loop-k.invariant.run) in
+    let first : k ≡ 0 = elim ended [
+      | inl full ↦ omega (arith, full, few)
+      | inr none ↦ no_first r.run.interval r.place c.loop-k.self.place k _ none c.loop-k.invariant.whole
+    ] in
+    c.loop-k.invariant.start first

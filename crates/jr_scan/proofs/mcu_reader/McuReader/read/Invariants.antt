@@ -8,5 +8,6 @@ invariant-loop-k l = record {
   run : l.self.run ≡ l.fn.self.run;
   mcu : l.self.mcu ≡ l.fn.self.mcu + l.k;
   room : length l.blocks ≡ length l.fn.blocks;
+  start : l.k ≡ 0 → l.self ≡ l.fn.self;
   whole : IsRun (run_from l.fn.self.run.interval l.fn.self.place l.k) (take (l.k * l.per_mcu) l.blocks) l.self.place AllRead;
 }
