@@ -57,6 +57,7 @@ impl<'a> McuReader<'a> {
     ghost use Rattle.jr_scan.specs.Reader.{whole_run};
     ghost use Rattle.jr_scan.specs.Run.{IsRun, HasNoMcu, run_from};
     ghost use Rattle.jr_scan.specs.declared.place.RunEnd.TheVariants.{AllRead};
+    ghost use Rattle.jr_scan.specs.declared.mcu_reader.TheConstants.{MOST_UNITS};
     ghost use Rattle.jr_scan.specs.McuReader.{HasRead, HasReadOf, HasReadAll, HasEnded, per_mcu};
 
     /// A reader of all MCUs of an interval.
@@ -123,6 +124,7 @@ impl<'a> McuReader<'a> {
         ensures read { (zs : List (List ℤ)) → HasRead self.old zs → HasRead self.new (zs ++ take (result * per_mcu self.old) blocks.new) }
         ensures in_range { All IsInRange (take (result * per_mcu self.old) blocks.new) }
         ensures ended { (result + 1) * per_mcu self.old ≤ length blocks.new → HasEnded self.new }
+        ensures none { MOST_UNITS ≤ length blocks.new → result ≡ 0 → HasEnded self.new }
         ensures stays { HasEnded self.old → self.new ≡ self.old }
     {
         let per_mcu = self.interval.head().order().len();

@@ -116,3 +116,8 @@ returns-clause-stays c = λ ended.
       | inr none ↦ no_first r.run.interval r.place c.loop-k.self.place k _ none c.loop-k.invariant.whole
     ] in
     c.loop-k.invariant.start first
+
+pub returns-in_default-clause-none : goal.returns-in_default-clause-none
+returns-in_default-clause-none c = λ room first.
+    let kept : c.next.new.self ≡ c.loop-k.self = search (rules, c.in_default.ensures.kept) in
+    inr (subst (λ (x : McuReaderValue). HasNoMcu x.run.interval x.place) (sym kept) c.in_default.ensures.none)
