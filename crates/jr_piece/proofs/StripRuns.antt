@@ -14,8 +14,7 @@ use Rattle.jr_scan.specs.declared.place.RunEnd.TheVariants.{AllRead, NoMcu}
 use Rattle.jr_scan.specs.Block.{IsInDcRange}
 use Rattle.jr_scan.specs.IntervalValue.{IntervalValue}
 use Rattle.jr_scan.specs.Mcus.{HasNoDecoding, Decodes, Front, LongestFront, no_predictions}
-use Rattle.jr_scan.specs.Reader.{RunOf, start_of_interval, whole_run}
-use Rattle.jr_scan.specs.Run.{run_from, left_at, HasNoMcu, IsRun, RunRead, IsSoundRun}
+use Rattle.jr_scan.specs.Run.{RunOf, start_of_interval, whole_run, run_from, left_at, HasNoMcu, IsRun, RunRead, IsSoundRun}
 use Rattle.jr_scan.specs.McuReader.{McuReaderValue, HasRead, HasEnded, per_mcu}
 use Rattle.jr_scan.proofs.McuLaws.{no_blocks}
 use Rattle.jr_scan.proofs.McuReaders.{front_of_run, left_is, no_room, run_of_front}

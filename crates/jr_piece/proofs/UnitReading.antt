@@ -12,7 +12,7 @@ use Rattle.jr_head.specs.Geometry.{order_of, quantiser_of, IsLawful}
 use Rattle.jr_scan.specs.IntervalValue.{IntervalValue}
 use Rattle.jr_scan.specs.Block.{IsInRange}
 use Rattle.jr_scan.specs.Mcus.{component, Decodes, HasNoDecoding, Front, LongestFront}
-use Rattle.jr_scan.specs.Reader.{RunOf, whole_run}
+use Rattle.jr_scan.specs.Run.{RunOf, whole_run}
 use Rattle.jr_scan.specs.McuReader.{McuReaderValue, HasRead, HasEnded, HasReadOf, per_mcu}
 use Rattle.jr_scan.proofs.McuReaders.{front_read, longest_read}
 use Rattle.jr_idct.specs.Transform.{samples}

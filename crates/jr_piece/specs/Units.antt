@@ -1,6 +1,6 @@
 -- The data units of an interval in their order (T.81, A.2.3), those that its bits give and those that they don't.
 use Rattle.std.specs.Prelude.{◌≡◌, ℕ, ◌+◌, ◌-◌, ◌<◌, ◌≤◌, List, length, replicate, ◌⊎◌, ℤ, pos, slice_index_or}
-use Rattle.jr_scan.specs.Reader.{whole_run}
+use Rattle.jr_scan.specs.Run.{whole_run}
 use Rattle.jr_scan.specs.McuReader.{McuReaderValue, HasRead, HasEnded}
 use Rattle.jr_piece.specs.PieceValue.{PieceValue}
 use Rattle.jr_piece.specs.Outcome.{unit_of}

@@ -1,7 +1,7 @@
 //! The samples of an interval's longest decodable front.
 
 ghost use Rattle.std.specs.Prelude.{◌≡◌, ℤ, List, IfOk};
-ghost use Rattle.jr_scan.specs.Reader.{whole_run};
+ghost use Rattle.jr_scan.specs.Run.{whole_run};
 ghost use Rattle.jr_scan.specs.McuReader.{HasRead, HasEnded};
 ghost use Rattle.jr_piece.specs.Outcome.{AreSamples, IsOutcome};
 

@@ -6,8 +6,7 @@ ghost use Rattle.std.specs.Arc.{arc_value};
 ghost use Rattle.jr_scan.specs.declared.place.RunEnd.TheVariants.{AllRead};
 ghost use Rattle.jr_scan.specs.Block.{IsInRange};
 ghost use Rattle.jr_scan.specs.Mcus.{Decodes, Front, HasNoDecoding};
-ghost use Rattle.jr_scan.specs.Reader.{start_of_interval};
-ghost use Rattle.jr_scan.specs.Run.{IsRun, run_from};
+ghost use Rattle.jr_scan.specs.Run.{start_of_interval, IsRun, run_from};
 ghost use Rattle.jr_piece.specs.Strips.{CanReadFrom, FirstMcus, HasWholeMcus};
 
 use crate::strip::CodedStrip;

@@ -8,8 +8,7 @@ use Rattle.jr_scan.specs.IntervalValue.{IntervalValue}
 use Rattle.jr_scan.specs.Mcus.{Blocks, Decodes, LongestFront}
 use Rattle.jr_scan.specs.declared.place.Place.{Place}
 use Rattle.jr_scan.specs.declared.place.RunEnd.{RunEnd}
-use Rattle.jr_scan.specs.Reader.{RunOf}
-use Rattle.jr_scan.specs.Run.{IsRun}
+use Rattle.jr_scan.specs.Run.{RunOf, IsRun}
 use Rattle.jr_scan.proofs.Ranges.{block_in_range}
 
 blocks_in_range : (h : HeadValue) (start : List ℤ) (zs : List (List ℤ)) (all : List Bool) → Blocks h start zs all → All IsInRange zs

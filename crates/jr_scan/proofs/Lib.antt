@@ -9,7 +9,6 @@ pub mod McuLaws
 pub mod Predicted
 pub mod Ranges
 pub mod InRange
-pub mod Readers
 pub mod Fronts
 pub mod FewMcus
 pub mod Cuts

@@ -14,13 +14,12 @@ use Rattle.jr_head.specs.Geometry.{order_of, IsLawful}
 use Rattle.jr_scan.specs.declared.place.Place.{Place}
 use Rattle.jr_scan.specs.declared.place.RunEnd.TheVariants.{AllRead, NoMcu}
 use Rattle.jr_scan.specs.IntervalValue.{IntervalValue}
-use Rattle.jr_scan.specs.Mcus.{Mcus, no_predictions, Decodes, HasNoDecoding, Front, LongestFront}
-use Rattle.jr_scan.specs.Reader.{RunOf, start_of_interval, whole_run}
-use Rattle.jr_scan.specs.Run.{run_from, left_at, predicted, TakesMcu, HasNoMcu, IsRun}
+use Rattle.jr_scan.specs.Mcus.{Mcus, no_predictions, HasNoDecoding, Front, LongestFront}
+use Rattle.jr_scan.specs.Run.{RunOf, start_of_interval, whole_run, run_from, left_at, predicted, TakesMcu, HasNoMcu, IsRun}
 use Rattle.jr_scan.specs.McuReader.{McuReaderValue, HasRead, HasEnded, HasReadOf, HasReadAll, IsMcuReader}
 use Rattle.jr_scan.proofs.FewMcus.{mcus_long}
 use Rattle.jr_scan.proofs.McuLaws.{blocks_front, no_blocks}
-use Rattle.jr_scan.proofs.Runs.{component_low, decoding_is_run, no_more, one_run, run_is_decoding, runs_meet, three_places}
+use Rattle.jr_scan.proofs.Runs.{component_low, decoding_is_run, no_more, one_run, runs_meet, three_places}
 
 pub left_is : (i : IntervalValue) (p : Place) → length (left_at i p) ≡ 8 * length i.bytes - p.bit
 left_is i p = length-drop p.bit (bits i.bytes) ∙ ap (λ (k : ℕ). k - p.bit) (length-bits i.bytes)
@@ -117,14 +116,6 @@ longest_read r i zs lawful all = record { front = front_read r i zs all.0; longe
           let count : here.count ≡ r.mcu = here.ends in
           absurd (no_more one_word (run_from i start_of_interval j) zs ys r.place there.0 NoMcu AllRead three a there.1 (omega (arith, count, l)))
     ]
-
--- all MCUs are read, and fewer than eight bits are left
-pub sound_read : (r : McuReaderValue) (left : List Bool) (i : IntervalValue) (zs : List (List ℤ)) → IsMcuReader r left → r.mcu ≡ r.run.mcus → length left < 8 → HasReadOf r i zs → Decodes i zs
-sound_read r left i zs kept all short s =
-    let count : r.mcu ≡ i.mcus = all ∙ ap (λ (o : RunOf). o.mcus) s.0 in
-    let run : IsRun (whole_run i) zs r.place AllRead = subst (λ (n : ℕ). IsRun (run_from i start_of_interval n) zs r.place AllRead) count (own_run r i zs s) in
-    let few : length (left_at i r.place) < 8 = omega (arith, short, ap length (kept.bits ∙ ap (λ (o : RunOf). left_at o.interval r.place) s.0)) in
-    run_is_decoding i zs r.place run few
 
 -- where they are not, the interval has no decoding
 pub damaged_read : (r : McuReaderValue) (left : List Bool) (i : IntervalValue) (zs : List (List ℤ)) → IsMcuReader r left → (r.mcu ≡ r.run.mcus → length left < 8 → ⊥) → HasReadAll r i zs → HasNoDecoding i

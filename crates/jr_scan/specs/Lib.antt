@@ -3,7 +3,6 @@ pub mod Step
 pub mod IntervalValue
 pub mod FrontValue
 pub mod Mcus
-pub mod Reader
 pub mod Cut
 pub mod Spans
 pub mod UnstuffingValue

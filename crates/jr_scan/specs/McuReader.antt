@@ -6,8 +6,7 @@ use Rattle.jr_scan.specs.declared.place.Place.{Place}
 use Rattle.jr_scan.specs.declared.place.RunEnd.TheVariants.{AllRead}
 use Rattle.jr_scan.specs.Block.{IsInDcRange}
 use Rattle.jr_scan.specs.IntervalValue.{IntervalValue}
-use Rattle.jr_scan.specs.Reader.{RunOf, whole_run}
-use Rattle.jr_scan.specs.Run.{run_from, left_at, HasNoMcu, IsRun}
+use Rattle.jr_scan.specs.Run.{RunOf, whole_run, run_from, left_at, HasNoMcu, IsRun}
 
 -- a reader: its run, how many of its MCUs it has read, and the place behind them
 pub record McuReaderValue : Type 0 where

@@ -6,8 +6,20 @@ use Rattle.jr_scan.specs.declared.place.Place.{Place}
 use Rattle.jr_scan.specs.declared.place.RunEnd.{RunEnd}
 use Rattle.jr_scan.specs.declared.place.RunEnd.TheVariants.{AllRead, NoMcu}
 use Rattle.jr_scan.specs.IntervalValue.{IntervalValue}
-use Rattle.jr_scan.specs.Mcus.{prediction, Mcus}
-use Rattle.jr_scan.specs.Reader.{RunOf, whole_run}
+use Rattle.jr_scan.specs.Mcus.{prediction, no_predictions, Mcus}
+
+-- a run of MCUs of an interval: where it starts, and how many MCUs it has at most
+pub record RunOf : Type 0 where
+  pub interval : IntervalValue
+  pub from : Place
+  pub mcus : ℕ
+
+abbrev pub start_of_interval : Place
+start_of_interval = record { bit = 0; predictions = no_predictions }
+
+-- all MCUs of an interval
+abbrev pub whole_run : IntervalValue → RunOf
+whole_run i = record { interval = i; from = start_of_interval; mcus = i.mcus }
 
 -- so many MCUs from a place of an interval on
 abbrev pub run_from : IntervalValue → Place → ℕ → RunOf
@@ -56,10 +68,6 @@ pub record RunRead (r : RunOf) : Type 0 where
   pub to : Place
   pub end : RunEnd
   pub is : IsRun r blocks to end
-
--- a run has these blocks, wherever and for whatever reason it ends
-abbrev pub HasBlocks : RunOf → List (List ℤ) → Type 0
-HasBlocks r zs = (to : Place) × (end : RunEnd) × IsRun r zs to end
 
 -- the whole run of an interval has all its MCUs and these blocks, and leaves fewer than eight bits
 abbrev pub IsSoundRun : IntervalValue → List (List ℤ) → Type 0

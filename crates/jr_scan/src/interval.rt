@@ -44,7 +44,7 @@ impl Interval {
     ghost use Rattle.jr_scan.specs.Block.{IsInRange};
     ghost use Rattle.jr_head.specs.Geometry.{order_of};
     ghost use Rattle.jr_scan.specs.Mcus.{Decodes, HasNoDecoding, Front, LongestFront};
-    ghost use Rattle.jr_scan.specs.Reader.{whole_run};
+    ghost use Rattle.jr_scan.specs.Run.{whole_run};
     ghost use Rattle.jr_scan.specs.McuReader.{HasRead, HasEnded};
 
     pub(crate) fn of(

@@ -4,8 +4,7 @@ ghost use Rattle.std.specs.Prelude.{◌≡◌, ◌+◌, ◌≤◌, ◌↔◌, �
 ghost use Rattle.jr_head.specs.Geometry.{IsLawful, order_of};
 ghost use Rattle.jr_scan.specs.declared.place.Place.{Place};
 ghost use Rattle.jr_scan.specs.declared.place.RunEnd.TheVariants.{AllRead};
-ghost use Rattle.jr_scan.specs.Reader.{RunOf};
-ghost use Rattle.jr_scan.specs.Run.{IsRun, IsSoundRun, RunRead, run_from};
+ghost use Rattle.jr_scan.specs.Run.{RunOf, IsRun, IsSoundRun, RunRead, run_from};
 ghost use Rattle.jr_scan.specs.Cut.{Cutting};
 ghost use Rattle.jr_scan.specs.IntervalValue.{IntervalValue};
 ghost use Rattle.jr_scan.specs.Mcus.{Decodes, HasNoDecoding, Front, LongestFront};

@@ -10,7 +10,6 @@ mod laws;
 mod mcu;
 mod mcu_reader;
 mod place;
-mod reader;
 mod scan;
 mod scan_end;
 mod span;
@@ -26,6 +25,5 @@ pub use laws::{
 };
 pub use mcu_reader::{MOST_UNITS, McuReader};
 pub use place::{Place, RunEnd};
-pub use reader::BlockReader;
 pub use scan::{Scan, interval_count};
 pub use scan_end::ScanEnd;

@@ -54,8 +54,7 @@ impl<'a> Model for McuReader<'a> {
 impl<'a> McuReader<'a> {
     ghost use Rattle.jr_scan.specs.IntervalValue.{IntervalValue};
     ghost use Rattle.jr_scan.specs.Mcus.{Decodes, HasNoDecoding, LongestFront};
-    ghost use Rattle.jr_scan.specs.Reader.{whole_run};
-    ghost use Rattle.jr_scan.specs.Run.{IsRun, HasNoMcu, run_from};
+    ghost use Rattle.jr_scan.specs.Run.{whole_run, IsRun, HasNoMcu, run_from};
     ghost use Rattle.jr_scan.specs.declared.place.RunEnd.TheVariants.{AllRead};
     ghost use Rattle.jr_scan.specs.declared.mcu_reader.TheConstants.{MOST_UNITS};
     ghost use Rattle.jr_scan.specs.McuReader.{HasRead, HasReadOf, HasReadAll, HasEnded, per_mcu};

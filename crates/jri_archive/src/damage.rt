@@ -2,7 +2,7 @@
 
 ghost use Rattle.std.specs.Prelude.{◌≡◌, ℤ, List, IfSome, OnSome, IfNone};
 ghost use Rattle.jr_scan.specs.Mcus.{HasNoDecoding};
-ghost use Rattle.jr_scan.specs.Reader.{whole_run};
+ghost use Rattle.jr_scan.specs.Run.{whole_run};
 ghost use Rattle.jr_scan.specs.McuReader.{HasRead, HasEnded};
 ghost use Rattle.jri_archive.specs.Damage.{HasDecoding, HasLongestFront};
 

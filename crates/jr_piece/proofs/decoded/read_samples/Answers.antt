@@ -5,7 +5,7 @@ use Rattle.std.proofs.Math.Seq.{take-append_seam}
 use Rattle.jr_head.specs.HeadValue.{HeadValue}
 use Rattle.jr_head.specs.Geometry.{order_of}
 use Rattle.jr_scan.specs.Block.{IsInRange}
-use Rattle.jr_scan.specs.Reader.{RunOf}
+use Rattle.jr_scan.specs.Run.{RunOf}
 use Rattle.jr_scan.specs.McuReader.{HasRead, per_mcu}
 use Rattle.jr_piece.specs.Outcome.{AreSamples, unit_of}
 use Rattle.jr_piece.proofs.Strips.{appended}

@@ -1,6 +1,6 @@
 use Rattle.std.proofs.Common.{◌≡◌, ◌-◌, length, List}
 use Rattle.std.specs.Prelude.{ℤ}
-use Rattle.jr_scan.specs.Reader.{whole_run}
+use Rattle.jr_scan.specs.Run.{whole_run}
 use Rattle.jr_scan.specs.McuReader.{HasRead}
 use Rattle.jr_piece.specs.Outcome.{AreSamples}
 use Rattle.jr_piece.proofs.decoded.read_samples.Given as goal

@@ -9,8 +9,7 @@ use Rattle.jr_head.specs.Geometry.{components_of, component_count, order_of, dc_
 use Rattle.jr_scan.specs.Step.{TakesBlock, HasNoBlock}
 use Rattle.jr_scan.specs.Mcus.{component}
 use Rattle.jr_scan.proofs.Predicted.{kept_fits}
-use Rattle.jr_scan.proofs.Readers.{few_components}
-use Rattle.jr_scan.proofs.InMcu.{InMcu, component_in, last_in_range, missing, one_more}
+use Rattle.jr_scan.proofs.InMcu.{InMcu, few_components, component_in, last_in_range, missing, one_more}
 use Rattle.jr_scan.proofs.mcu.read_mcu.Goals as goal
 
 -- what is known of the next block, before it is read

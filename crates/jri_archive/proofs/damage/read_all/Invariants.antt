@@ -1,5 +1,5 @@
 use Rattle.std.proofs.Common.{◌≡◌, ◌-◌, ℤ, List, length}
-use Rattle.jr_scan.specs.Reader.{whole_run}
+use Rattle.jr_scan.specs.Run.{whole_run}
 use Rattle.jr_scan.specs.McuReader.{HasRead}
 use Rattle.jri_archive.proofs.damage.read_all.Given as goal
 

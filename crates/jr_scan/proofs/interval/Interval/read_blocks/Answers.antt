@@ -1,7 +1,7 @@
 use Rattle.std.proofs.Common.{◌≡◌, ◌*◌, ◌++◌, ℕ, List, length, take, ap, sym, subst, ◌∙◌, rules, arith}
 use Rattle.std.proofs.lemmas.List.{append-nil}
 use Rattle.jr_head.specs.Geometry.{order_of}
-use Rattle.jr_scan.specs.Reader.{RunOf}
+use Rattle.jr_scan.specs.Run.{RunOf}
 use Rattle.jr_scan.specs.McuReader.{HasRead, per_mcu}
 use Rattle.jr_scan.proofs.interval.Interval.read_blocks.Goals as goal
 

@@ -1,5 +1,5 @@
 use Rattle.std.proofs.Common.{◌≡◌, ◌-◌, length}
-use Rattle.jr_scan.specs.Reader.{whole_run}
+use Rattle.jr_scan.specs.Run.{whole_run}
 use Rattle.jr_scan.specs.McuReader.{HasRead}
 use Rattle.jr_scan.proofs.interval.Interval.read_blocks.Given as goal
 

@@ -5,8 +5,7 @@ use borrow.Rule.Slice.PartMut.{put_mid}
 use Rattle.jr_head.specs.Geometry.{order_of, IsLawful}
 use Rattle.jr_scan.specs.declared.place.RunEnd.TheVariants.{AllRead}
 use Rattle.jr_scan.specs.Block.{IsInRange}
-use Rattle.jr_scan.specs.Reader.{RunOf}
-use Rattle.jr_scan.specs.Run.{HasNoMcu, IsRun, run_from}
+use Rattle.jr_scan.specs.Run.{RunOf, HasNoMcu, IsRun, run_from}
 use Rattle.jr_scan.specs.McuReader.{McuReaderValue, HasRead, per_mcu}
 use Rattle.jr_scan.proofs.InRange.{run_in_range}
 use Rattle.jr_scan.proofs.McuReaders.{more_held, no_first, no_run, read_on}
