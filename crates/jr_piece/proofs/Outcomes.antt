@@ -1,11 +1,11 @@
 -- The samples of an interval's blocks, and the one outcome of an interval.
-use Rattle.std.proofs.Common.{◌≡◌, ℕ, ◌*◌, ◌<◌, min, Bool, true, false, inl, inr, List, [], ◌∷◌, ◌++◌, length, get_or, take, refl, sym, ap, subst, ◌∙◌, arith}
+use Rattle.std.proofs.Common.{◌≡◌, ℕ, ◌<◌, min, Bool, true, false, inl, inr, List, [], ◌∷◌, ◌++◌, length, get_or, take, refl, sym, ap, subst, ◌∙◌, arith}
 use Rattle.std.specs.Prelude.{ℤ}
 use Rattle.std.proofs.lemmas.Bool.{cases_lt}
-use Rattle.std.proofs.lemmas.List.{length-append, length-take, get_or-take, get_or_append_left, take_all, ext_get_or}
+use Rattle.std.proofs.lemmas.List.{length-append, length-take, get_or-take, get_or_append_left, ext_get_or}
 use Rattle.std.proofs.Math.Seq.{get_or-append_seam}
 use Rattle.jr_head.specs.HeadValue.{HeadValue}
-use Rattle.jr_head.specs.Geometry.{order_of, quantiser_of}
+use Rattle.jr_head.specs.Geometry.{quantiser_of}
 use Rattle.jr_scan.specs.IntervalValue.{IntervalValue}
 use Rattle.jr_scan.specs.Mcus.{component, Decodes, HasNoDecoding, Front, LongestFront}
 use Rattle.jr_idct.specs.Transform.{samples}
@@ -49,7 +49,7 @@ same_samples h zs us vs a b = ext_get_or [] us vs (a.count ∙ sym b.count) (λ 
 -- what a reader that has ended tells of its interval
 pub record Ended (i : IntervalValue) (zs : List (List ℤ)) (units : List (List ℕ)) (is_sound : Bool) (front : ℕ) : Type 0 where
   pub samples : AreSamples i.head zs units
-  pub longest : LongestFront i front (take (front * length (order_of i.head)) zs)
+  pub longest : LongestFront i front zs
   pub decodes : is_sound ≡ true → Decodes i zs
   pub none : is_sound ≡ false → HasNoDecoding i
 
@@ -58,18 +58,13 @@ whole_front i zs ys front d f =
     let whole : Front i i.mcus zs = record { at_most = omega arith; taken = d.taken; rest = d.padding; mcus = d.mcus; spelled = d.spelled } in
     omega (arith, f.longest i.mcus zs whole, f.front.at_most)
 
-pub outcome : (i : IntervalValue) (zs : List (List ℤ)) (units : List (List ℕ)) (is_sound : Bool) (front n : ℕ) → Ended i zs units is_sound front → n ≡ front * length (order_of i.head)
-    → IsOutcome (record { interval = i; is_sound = is_sound; front = front; samples = take n units })
-outcome i zs units is_sound front n e is =
-    let m = front * length (order_of i.head) in
-    let shown = subst (λ (k : ℕ). AreSamples i.head (take m zs) (take k units)) (sym is) (first_samples i.head zs units m e.samples) in
+pub outcome : (i : IntervalValue) (zs : List (List ℤ)) (units : List (List ℕ)) (is_sound : Bool) (front : ℕ) → Ended i zs units is_sound front
+    → IsOutcome (record { interval = i; is_sound = is_sound; front = front; samples = units })
+outcome i zs units is_sound front e =
     record {
-      sound = λ t.
-          let d = e.decodes t in
-          let all : take m zs ≡ zs = take_all m zs (omega (arith, d.mcus.0, ap (λ (k : ℕ). k * length (order_of i.head)) (whole_front i zs _ front d e.longest))) in
-          record { blocks = zs; decodes = d; samples = subst (λ (ys : List (List ℤ)). AreSamples i.head ys (take n units)) all shown };
-      whole = λ t. whole_front i zs _ front (e.decodes t) e.longest;
-      damaged = λ f. record { undecodable = e.none f; blocks = take m zs; longest = e.longest; samples = shown };
+      sound = λ t. record { blocks = zs; decodes = e.decodes t; samples = e.samples };
+      whole = λ t. whole_front i zs zs front (e.decodes t) e.longest;
+      damaged = λ f. record { undecodable = e.none f; blocks = zs; longest = e.longest; samples = e.samples };
     }
 
 -- the laws of one decoding and of one front

@@ -1,100 +1,67 @@
 -- Runs of an interval that follow one another, and the fronts that they are.
-use Rattle.std.proofs.Common.{◌≡◌, ℕ, zero, suc, ◌+◌, ◌-◌, ◌*◌, ◌<◌, ◌≤◌, min, inl, inr, Option, Some, None, List, [], ◌∷◌, ◌++◌, length, get_or, take, drop, length-drop, refl, sym, ap, subst, ◌∙◌, arith}
+use Rattle.std.proofs.Common.{◌≡◌, ℕ, zero, suc, ◌+◌, ◌-◌, ◌*◌, ◌<◌, ◌≤◌, min, inl, inr, Option, Some, None, List, [], ◌++◌, length, take, drop, length-append, refl, sym, ap, subst, ◌∙◌, arith}
 use Rattle.std.specs.Prelude.{◌↔◌, ℤ}
 use Rattle.std.specs.Option.{IfSome, IfNone}
 use Rattle.std.specs.List.{All}
 use Rattle.std.proofs.lemmas.Bool.{cases_lt}
-use Rattle.std.proofs.lemmas.List.{length-take-le, take_all}
-use Rattle.std.proofs.lemmas.List.Elements.{All-append}
 use Rattle.std.proofs.Math.Nat.{mul-le-mul_right}
-use Rattle.std.proofs.Math.Seq.{drop-append_seam}
+use Rattle.std.proofs.Math.Seq.{drop-append_seam, take-append_seam}
 use Rattle.jr_code.specs.Bits.{bits}
-use Rattle.jr_code.proofs.BitLemmas.{length-bits}
 use Rattle.jr_head.specs.Geometry.{order_of, IsLawful}
 use Rattle.jr_scan.specs.declared.place.Place.{Place}
 use Rattle.jr_scan.specs.declared.place.RunEnd.{RunEnd}
 use Rattle.jr_scan.specs.declared.place.RunEnd.TheVariants.{AllRead, NoMcu}
-use Rattle.jr_scan.specs.Block.{IsInDcRange, IsInRange}
+use Rattle.jr_scan.specs.Block.{IsInDcRange}
 use Rattle.jr_scan.specs.IntervalValue.{IntervalValue}
-use Rattle.jr_scan.specs.Mcus.{HasNoDecoding, Mcus, Decodes, Front, LongestFront, no_predictions}
-use Rattle.jr_scan.specs.Reader.{RunOf, ReaderValue, start_of_interval, whole_run, per_mcu, HasRead}
-use Rattle.jr_scan.specs.Run.{run_from, left_at, predicted, HasNoMcu, EndsAs, IsRun, RunRead, IsSoundRun}
+use Rattle.jr_scan.specs.Mcus.{HasNoDecoding, Decodes, Front, LongestFront, no_predictions}
+use Rattle.jr_scan.specs.Run.{RunOf, start_of_interval, whole_run, run_from, left_at, HasNoMcu, IsRun, RunRead, IsSoundRun}
+use Rattle.jr_scan.specs.McuReader.{McuReaderValue, HasRead, HasEnded, per_mcu}
 use Rattle.jr_scan.proofs.McuLaws.{no_blocks}
+use Rattle.jr_scan.proofs.McuReaders.{front_of_run, left_is, no_room, run_of_front}
 use Rattle.jr_piece.specs.StripValue.{ReadingValue}
 use Rattle.jr_piece.specs.Strips.{AreBlocks, CanReadFrom, FirstMcus, HasWholeMcus, IsNext, IsReading}
 use Rattle.jr_piece.proofs.Strips.{ShorterFront}
 
-pub in_range_more : (zs : List (List ℤ)) (z : List ℤ) → All IsInRange zs → IsInRange z → All IsInRange (zs ++ z ∷ [])
-in_range_more zs z all one = All-append IsInRange zs (z ∷ []) all (λ k d lt. at k d lt)
-  where
-    at : (k : ℕ) (d : List ℤ) → k < length (z ∷ []) → IsInRange (get_or (z ∷ []) k d)
-    at zero d lt = one
-    at (suc k) d lt = absurd (omega arith)
+-- what stands in a list behind a slice of all of it was written
+pub written : (n : ℕ) (xs ys : List (List ℤ)) → length xs ≡ n → take n (xs ++ ys) ≡ xs
+written n xs ys e = ap (λ (k : ℕ). take k (xs ++ ys)) (sym e) ∙ take-append_seam xs ys
 
-same_count : (c n per : ℕ) → 0 < per → c * per ≡ n * per → c ≡ n
-same_count c n per p e = elim (cases_lt c n) [
-  | inl l ↦ let more : suc c * per ≤ n * per = mul-le-mul_right per l in let next : suc c * per ≡ c * per + per = omega arith in absurd (omega (arith, more, next, e, p))
-  | inr g ↦ elim (cases_lt n c) [
-    | inl l ↦ let more : suc n * per ≤ c * per = mul-le-mul_right per l in let next : suc n * per ≡ n * per + per = omega arith in absurd (omega (arith, more, next, e, p))
-    | inr h ↦ omega arith
-  ]
-]
+-- what a reader of whole MCUs has read, which had read nothing of a run from this place on
+module _ (r r' : McuReaderValue) (j i : IntervalValue) (from : Place) (m n len : ℕ) (held ys : List (List ℤ)) (same : j ≡ i) (run : r.run ≡ run_from j from m) (start : r.mcu ≡ 0) (run' : r'.run ≡ r.run) (mcu : r'.mcu ≡ r.mcu + n)
+    (order : len ≡ length (order_of i.head)) (first : ys ≡ take (n * len) held) (read : HasRead r' (take (n * per_mcu r) held)) where
+  own : r.run ≡ run_from i from m
+  own = run ∙ ap (λ (v : IntervalValue). run_from v from m) same
 
--- a run, by how many MCUs it has
-counted : (i : IntervalValue) (from to : Place) (m n : ℕ) (ys : List (List ℤ)) (end : RunEnd) → (s : IsRun (run_from i from m) ys to end) → s.count ≡ n → FirstMcus (run_from i from m) n ys
-counted i from to m n ys end s e =
-    record {
-      to = to;
-      run = record { count = n; few = omega arith; taken = s.taken; mcus = subst (λ (k : ℕ). Mcus i.head from.predictions k ys s.taken) e s.mcus; spelled = s.spelled; bit = s.bit; predictions = s.predictions; ends = refl };
-      none = λ lt. why end s.ends lt;
-    }
-  where
-    why : (end : RunEnd) → EndsAs (run_from i from m) s.count to end → n < m → HasNoMcu i to
-    why AllRead all lt = absurd (omega (arith, all, e, lt))
-    why NoMcu none lt = none.1
+  per : per_mcu r ≡ len
+  per = ap (λ (o : RunOf). length (order_of o.interval.head)) own ∙ sym order
 
--- the whole MCUs that a reader has read
-module _ (rd : ReaderValue) (i : IntervalValue) (from : Place) (m n len : ℕ) (zs ys : List (List ℤ)) (run : rd.run ≡ run_from i from m) (order : len ≡ length (order_of i.head)) (some : 0 < len) (mcus : n ≡ rd.mcu) (first : ys ≡ take (n * len) zs) (read : HasRead rd zs) where
-  per : per_mcu rd ≡ len
-  per = ap (λ (r : RunOf). length (order_of r.interval.head)) run ∙ sym order
+  pub place : IsRun (run_from i from n) ys r'.place AllRead
+  place =
+      let count : r'.mcu ≡ n = omega (arith, mcu, start) in
+      let s1 = subst (λ (o : RunOf). IsRun (run_from o.interval o.from r'.mcu) (take (n * per_mcu r) held) r'.place AllRead) (run' ∙ own) read.run in
+      let s2 = subst (λ (k : ℕ). IsRun (run_from i from k) (take (n * per_mcu r) held) r'.place AllRead) count s1 in
+      let s3 = subst (λ (k : ℕ). IsRun (run_from i from n) (take (n * k) held) r'.place AllRead) per s2 in
+      subst (λ (zs : List (List ℤ)). IsRun (run_from i from n) zs r'.place AllRead) (sym first) s3
 
-  room : n * len ≤ length zs
-  room = let e : n * len ≡ rd.mcu * per_mcu rd = ap (λ (k : ℕ). k * len) mcus ∙ ap (λ (k : ℕ). rd.mcu * k) (sym per) in omega (arith, e, read.count)
+  -- where they are fewer than may be, none follows: there was room for one more, or the bits can code no more
+  pub part : (most : ℕ) → IsLawful i.head → from.bit ≤ 8 * length i.bytes → length held ≡ most * len → ((n + 1) * per_mcu r ≤ length held → HasEnded r')
+      → ((k : ℕ) (zs : List (List ℤ)) (to : Place) → IsRun (run_from i from k) zs to AllRead → k ≤ m → k ≤ most) → FirstMcus (run_from i from m) n ys
+  part most lawful at room ended enough = record { to = r'.place; run = place; none = none }
+    where
+      within : r'.place.bit ≤ 8 * length i.bytes
+      within = omega (arith, at, place.bit, ap length place.spelled, length-append place.taken (left_at i r'.place), left_is i from)
 
-  count : length ys ≡ n * len
-  count = ap length first ∙ length-take-le (n * len) zs room
-
-  pub part : ((to : Place) × (end : RunEnd) × IsRun rd.run (take (n * per_mcu rd) zs) to end) → FirstMcus (run_from i from m) n ys
-  part there =
-      let same : take (n * per_mcu rd) zs ≡ ys = ap (λ (k : ℕ). take (n * k) zs) per ∙ sym first in
-      let s1 = subst (λ (x : List (List ℤ)). IsRun rd.run x there.0 there.1) same there.2 in
-      let s : IsRun (run_from i from m) ys there.0 there.1 = subst (λ (r : RunOf). IsRun r ys there.0 there.1) run s1 in
-      counted i from there.0 m n ys there.1 s (same_count s.count n len some (ap (λ (k : ℕ). s.count * k) order ∙ sym s.mcus.0 ∙ count))
-
-  -- where the next MCU starts
-  pub place : (p : Place) → IsRun (record { interval = rd.run.interval; from = rd.run.from; mcus = rd.mcu }) zs p AllRead → IsRun (run_from i from n) ys p AllRead
-  place p s =
-      let long : length zs ≡ n * len = s.mcus.0 ∙ ap (λ (k : ℕ). k * per_mcu rd) (s.ends ∙ sym mcus) ∙ ap (λ (k : ℕ). n * k) per in
-      let all : ys ≡ zs = first ∙ take_all (n * len) zs (omega (arith, long)) in
-      let s1 = subst (λ (r : RunOf). IsRun (run_from r.interval r.from rd.mcu) zs p AllRead) run s in
-      let s2 = subst (λ (k : ℕ). IsRun (run_from i from k) zs p AllRead) (sym mcus) s1 in
-      subst (λ (x : List (List ℤ)). IsRun (run_from i from n) x p AllRead) (sym all) s2
-
-pub some_place : {P Q : Place → Type 0} → (o : Option Place) → ((p : Place) → P p → Q p) → IfSome o P → IfSome o Q
-some_place None f h = tt
-some_place (Some p) f h = f p h
-
--- a run from the start is a front
-front_of : (i : IntervalValue) (k : ℕ) (zs : List (List ℤ)) (to : Place) → IsRun (run_from i start_of_interval k) zs to AllRead → k ≤ i.mcus → Front i k zs
-front_of i k zs to r few = record { at_most = few; taken = r.taken; rest = left_at i to; mcus = subst (λ (n : ℕ). Mcus i.head no_predictions n zs r.taken) r.ends r.mcus; spelled = r.spelled }
-
-run_of : (i : IntervalValue) (k : ℕ) (zs : List (List ℤ)) → Front i k zs → (to : Place) × IsRun (run_from i start_of_interval k) zs to AllRead
-run_of i k zs f =
-    let n = length f.taken in
-    let left : drop n (bits i.bytes) ≡ f.rest = ap (drop n) f.spelled ∙ drop-append_seam f.taken f.rest in (
-      record { bit = n; predictions = predicted i.head no_predictions zs },
-      record { count = k; few = omega arith; taken = f.taken; mcus = f.mcus; spelled = f.spelled ∙ ap (λ (w : List _). f.taken ++ w) (sym left); bit = omega arith; predictions = refl; ends = refl },
-    )
+      none : n < m → HasNoMcu i r'.place
+      none lt = elim (cases_lt n most) [
+        | inr g ↦ no_room i from r'.place n m most ys lawful within place enough g lt
+        | inl l ↦
+            let more : (n + 1) * len ≤ most * len = mul-le-mul_right {m = n + 1} {n = most} len (omega (arith, l)) in
+            let fits : (n + 1) * per_mcu r ≤ length held = subst (λ (k : ℕ). (n + 1) * k ≤ length held) (sym per) (omega (arith, more, room)) in
+            elim (ended fits) [
+              | inl full ↦ absurd (omega (arith, full, mcu, start, lt, ap (λ (o : RunOf). o.mcus) (run' ∙ own)))
+              | inr stuck ↦ subst (λ (o : RunOf). HasNoMcu o.interval r'.place) (run' ∙ own) stuck
+            ]
+      ]
 
 abbrev pub OneRun : Type 0
 OneRun = (r : RunOf) (a b : RunRead r) → IsLawful r.interval.head → (a.blocks ≡ b.blocks) × (a.to ≡ b.to) × (a.end ≡ b.end)
@@ -107,13 +74,13 @@ read r zs to end is = record { blocks = zs; to = to; end = end; is = is }
 
 -- where no whole MCU follows, the front is the longest
 stuck : OneRun → ShorterFront → (i : IntervalValue) (k : ℕ) (zs : List (List ℤ)) (to : Place) → IsLawful i.head → IsRun (run_from i start_of_interval k) zs to AllRead → HasNoMcu i to → k ≤ i.mcus → LongestFront i k zs
-stuck one shorter i k zs to lawful r none few = record { front = front_of i k zs to r few; longest = λ j ys f. most j ys f }
+stuck one shorter i k zs to lawful r none few = record { front = front_of_run i k zs to r few; longest = λ j ys f. most j ys f }
   where
     most : (j : ℕ) (ys : List (List ℤ)) → Front i j ys → j ≤ k
     most j ys f = elim (cases_lt k j) [
       | inr g ↦ g
       | inl l ↦
-          let there = run_of i (k + 1) (take ((k + 1) * length (order_of i.head)) ys) (shorter i (k + 1) j ys (omega arith) f) in
+          let there = run_of_front i (k + 1) (take ((k + 1) * length (order_of i.head)) ys) (shorter i (k + 1) j ys (omega arith) f) in
           let count : r.count ≡ k = r.ends in
           let here : IsRun (run_from i start_of_interval (k + 1)) zs to NoMcu = record { count = r.count; few = omega (arith, count); taken = r.taken; mcus = r.mcus; spelled = r.spelled; bit = r.bit; predictions = r.predictions; ends = (omega (arith, count), none) } in
           let more = run_from i start_of_interval (k + 1) in
@@ -156,7 +123,7 @@ module _ (one : OneRun) (meet : RunsMeet) (shorter : ShorterFront) (i : Interval
   joined = meet i start_of_interval first n (read _ zs p AllRead next.run) (read _ ys here.to AllRead here.run) lawful refl
 
   pub front : Front i (first + n) (zs ++ ys)
-  front = front_of i (first + n) (zs ++ ys) here.to joined few
+  front = front_of_run i (first + n) (zs ++ ys) here.to joined few
 
   pub blocks : AreBlocks i first n ys
   blocks =
@@ -185,9 +152,6 @@ module _ (one : OneRun) (meet : RunsMeet) (shorter : ShorterFront) (i : Interval
     | inr g ↦ (zs ++ ys, whole i (first + n) (zs ++ ys) front (omega (arith, f.at_most, few, g, asked, few_read)))
   ]
 
-left_is : (i : IntervalValue) (p : Place) → length (left_at i p) ≡ 8 * length i.bytes - p.bit
-left_is i p = length-drop p.bit (bits i.bytes) ∙ ap (λ (k : ℕ). k - p.bit) (length-bits i.bytes)
-
 abbrev pub OneFront : Type 0
 OneFront = (i : IntervalValue) (k : ℕ) (zs ys : List (List ℤ)) → Front i k zs → Front i k ys → zs ≡ ys
 
@@ -210,7 +174,7 @@ is_damaged one law r lawful k none all_there ys d =
     let i = r.interval in
     let w = (law i ys).0 d in
     let longest = all_there.1 in
-    let there : i.mcus ≤ r.first = longest.longest i.mcus ys (front_of i i.mcus ys w.0 w.1 (omega arith)) in
+    let there : i.mcus ≤ r.first = longest.longest i.mcus ys (front_of_run i i.mcus ys w.0 w.1 (omega arith)) in
     let all : r.first ≡ i.mcus = omega (arith, there, longest.front.at_most) in
     go r.next refl all w.0 w.1 w.2
   where

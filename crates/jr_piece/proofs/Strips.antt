@@ -1,8 +1,8 @@
 -- A strip is final.
-use Rattle.std.proofs.Common.{◌≡◌, ℕ, ◌+◌, ◌-◌, ◌*◌, ◌<◌, ◌≤◌, Bool, true, false, List, [], ◌∷◌, ◌++◌, length, get_or, take, drop, refl, sym, ap, subst, ◌∙◌, inl, inr, arith, length-append, length-drop}
+use Rattle.std.proofs.Common.{◌≡◌, ℕ, ◌+◌, ◌-◌, ◌*◌, ◌<◌, ◌≤◌, Bool, true, false, List, [], ◌++◌, length, get_or, take, drop, refl, sym, ap, subst, ◌∙◌, inl, inr, arith, length-append, length-drop}
 use Rattle.std.specs.Prelude.{ℤ}
 use Rattle.std.proofs.lemmas.Bool.{cases_lt}
-use Rattle.std.proofs.lemmas.List.{get_or-drop, get_or_append_left, get_or-append_right, drop-append-le, take-append-drop, length-take-le, take_more}
+use Rattle.std.proofs.lemmas.List.{get_or-drop, get_or_append_left, get_or-append_right, drop-append-le, take-append-drop}
 use Rattle.std.proofs.Math.Nat.{mul-add-mod_self_right}
 use Rattle.jr_head.specs.HeadValue.{HeadValue}
 use Rattle.jr_head.specs.Geometry.{order_of, quantiser_of}
@@ -13,7 +13,7 @@ use Rattle.jr_piece.specs.PieceValue.{PieceValue}
 use Rattle.jr_piece.specs.Outcome.{AreSamples, IsOutcome, unit_of}
 use Rattle.jr_piece.specs.StripValue.{StripValue}
 use Rattle.jr_piece.specs.Strips.{AreBlocks, Follows, IsStrip, IsWhole, ShowsStrip, TellsSound, joined, piece_of}
-use Rattle.jr_piece.proofs.Outcomes.{first_samples, more_samples, same_samples, OneFront}
+use Rattle.jr_piece.proofs.Outcomes.{first_samples, same_samples, OneFront}
 
 abbrev pub ShorterFront : Type 0
 ShorterFront = (i : IntervalValue) (j k : ℕ) (zs : List (List ℤ)) → j ≤ k → Front i k zs → Front i j (take (j * length (order_of i.head)) zs)
@@ -70,17 +70,8 @@ final one shorter p s e o t =
     let there : AreSamples i.head (drop (s.first * per) all) s.samples = subst (λ (zs : List (List ℤ)). AreSamples i.head zs s.samples) t.are.last t.samples in
     record { few = few; samples = same_samples i.head (drop (s.first * per) all) s.samples (drop (s.first * per) (take (j * per) p.samples)) there last }
 
--- the samples of one more of the blocks
-pub next_samples : (h : HeadValue) (zs : List (List ℤ)) (units all : List (List ℕ)) (k c : ℕ) (u q : List ℕ) → k < length zs → AreSamples h (take k zs) units → all ≡ units ++ u ∷ [] → u ≡ samples (get_or zs k []) q → q ≡ quantiser_of h c → c ≡ component h k
-    → AreSamples h (take (k + 1) zs) all
-next_samples h zs units all k c u q lt s pushed is table at =
-    let long : k ≡ length (take k zs) = sym (length-take-le k zs (omega (arith, lt))) in
-    let unit : u ≡ samples (get_or zs k []) (quantiser_of h (component h (length (take k zs)))) = is ∙ ap (samples (get_or zs k [])) (table ∙ ap (quantiser_of h) at ∙ ap (λ (n : ℕ). quantiser_of h (component h n)) long) in
-    let more = more_samples h (take k zs) units (get_or zs k []) u s unit in
-    subst (λ (ys : List (List ℤ)). AreSamples h ys all) (sym (take_more zs k [] lt)) (subst (AreSamples h (take k zs ++ get_or zs k [] ∷ [])) (sym pushed) more)
-
 -- the samples of blocks behind whole MCUs, and of those before them
-appended : (h : HeadValue) (xs ys : List (List ℤ)) (us vs : List (List ℕ)) (k : ℕ) → length xs ≡ k * length (order_of h) → AreSamples h xs us → AreSamples h ys vs → AreSamples h (xs ++ ys) (us ++ vs)
+pub appended : (h : HeadValue) (xs ys : List (List ℤ)) (us vs : List (List ℕ)) (k : ℕ) → length xs ≡ k * length (order_of h) → AreSamples h xs us → AreSamples h ys vs → AreSamples h (xs ++ ys) (us ++ vs)
 appended h xs ys us vs k whole a b =
     record {
       count = omega (arith, length-append xs ys, length-append us vs, a.count, b.count);

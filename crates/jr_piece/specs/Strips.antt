@@ -10,8 +10,7 @@ use Rattle.jr_scan.specs.declared.place.RunEnd.TheVariants.{AllRead}
 use Rattle.jr_scan.specs.IntervalValue.{IntervalValue}
 use Rattle.jr_scan.specs.Block.{IsInDcRange, IsInRange}
 use Rattle.jr_scan.specs.Mcus.{Decodes, HasNoDecoding, Front, LongestFront}
-use Rattle.jr_scan.specs.Reader.{RunOf, start_of_interval}
-use Rattle.jr_scan.specs.Run.{run_from, HasNoMcu, IsRun}
+use Rattle.jr_scan.specs.Run.{RunOf, start_of_interval, run_from, HasNoMcu, IsRun}
 use Rattle.jr_piece.specs.PieceValue.{PieceValue}
 use Rattle.jr_piece.specs.Outcome.{AreSamples}
 use Rattle.jr_piece.specs.StripValue.{CodedValue, StripValue, ReadingValue}

@@ -1,12 +1,13 @@
 //! The samples of an interval's longest decodable front.
 
-ghost use Rattle.std.specs.Prelude.{◌≡◌, ◌<◌, ℕ, ℤ, List, IfOk, IfSome};
-ghost use Rattle.jr_scan.specs.Reader.{HasRead, HasEnded, whole_run};
+ghost use Rattle.std.specs.Prelude.{◌≡◌, ℤ, List, IfOk};
+ghost use Rattle.jr_scan.specs.Run.{whole_run};
+ghost use Rattle.jr_scan.specs.McuReader.{HasRead, HasEnded};
 ghost use Rattle.jr_piece.specs.Outcome.{AreSamples, IsOutcome};
 
-use jr_code::{Memory, one_word};
-use jr_idct::transform;
-use jr_scan::{BlockReader, Interval};
+use crate::transforming::transform_blocks;
+use jr_code::Memory;
+use jr_scan::{Interval, MOST_UNITS, McuReader};
 use std::alloc::Global;
 
 /// The samples of an interval's front, and whether the front is its decoding.
@@ -17,32 +18,29 @@ pub(crate) struct Decoded {
     pub samples: Vec<[u8; 64]>,
 }
 
-/// How many data units of so many MCUs the bits from one on can code at most: each takes two bits or more.
-pub(crate) fn most_units(interval: &Interval, from: u64, mcus: u32) -> usize {
-    let bits = (8 * interval.bytes().len() as u64).saturating_sub(from);
-    let claimed = mcus as usize * interval.head().order().len();
-    claimed.min((bits / 2) as usize)
-}
-
-/// Reads the blocks of an interval up to its end, or up to where none follows, and transforms each as it comes.
+/// Reads the whole MCUs of an interval, up to its end or to where none follows, and transforms their blocks as they come.
 fn read_samples(
     alloc: Global,
     interval: &Interval,
-) -> Result<(Vec<[u8; 64]>, BlockReader<'_>), Memory>
+) -> Result<(Vec<[u8; 64]>, McuReader<'_>), Memory>
     ensures run { IfOk result (λ r. r.1.run ≡ whole_run interval.now) }
     ensures read { IfOk result (λ r. (zs : List (List ℤ)) × HasRead r.1 zs × AreSamples interval.now.head zs r.0.items) }
     ensures ended { IfOk result (λ r. HasEnded r.1) }
 {
     let head = interval.head();
-    let most = most_units(interval, 0, interval.mcus());
+    let per_mcu = head.order().len();
+    let most = interval.most_mcus() as usize * per_mcu;
     let mut samples = Vec::with_capacity(alloc, most)?;
-    let mut reader = BlockReader::over(interval);
-    let mut block = [0; 64];
-    'units: loop {
-        let Some(component) = reader.next(&mut block) else {
+    let mut reader = McuReader::over(interval.as_ref());
+    let mut blocks = [[0; 64]; MOST_UNITS];
+    let mut units = [[0; 64]; MOST_UNITS];
+    'mcus: loop {
+        let count = reader.read(&mut blocks) as usize * per_mcu;
+        if count == 0 {
             return Ok((samples, reader));
-        };
-        samples.push(transform(&block, head.quantiser(component)))?;
+        }
+        transform_blocks(head, &blocks[..count], &mut units[..count]);
+        samples.extend_from_slice(&units[..count])?;
     }
 }
 
@@ -50,12 +48,10 @@ fn read_samples(
 pub(crate) fn decode(alloc: Global, interval: &Interval) -> Result<Decoded, Memory>
     ensures { IfOk result (λ d. IsOutcome (record { interval = interval.now; is_sound = d.is_sound; front = d.front; samples = d.samples.items })) }
 {
-    let (mut samples, reader) = read_samples(alloc, interval)?;
-    let front = reader.mcus();
-    samples.truncate(front as usize * interval.head().order().len());
+    let (samples, reader) = read_samples(alloc, interval)?;
     Ok(Decoded {
         is_sound: reader.is_sound(),
-        front,
+        front: reader.mcus(),
         samples,
     })
 }

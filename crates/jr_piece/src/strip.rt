@@ -8,9 +8,9 @@ ghost use Rattle.jr_scan.specs.Block.{IsInRange};
 ghost use Rattle.jr_piece.specs.Outcome.{AreSamples};
 ghost use Rattle.jr_piece.specs.Strips.{IsCoded, IsStrip};
 
+use crate::transforming::transform_blocks;
 use jr_code::Memory;
 use jr_head::Head;
-use jr_idct::transform;
 use jr_scan::{Block, Interval};
 use std::alloc::Global;
 use std::marker::Model;
@@ -63,12 +63,8 @@ fn samples_of(alloc: Global, head: &Head, blocks: &[Block]) -> Result<Vec<[u8; 6
     requires { All IsInRange blocks.now }
     ensures { IfOk result (λ v. AreSamples head.now blocks.now v.items) }
 {
-    let order = head.order();
-    let mut samples = Vec::with_capacity(alloc, blocks.len())?;
-    for k in 0..blocks.len() {
-        let component = order[k % order.len()];
-        samples.push(transform(&blocks[k], head.quantiser(u32::from(component))))?;
-    }
+    let mut samples = vec![in alloc; [0; 64]; blocks.len()]?;
+    transform_blocks(head, blocks, samples.as_mut_slice());
     Ok(samples)
 }
 

@@ -1,28 +1,25 @@
 //! An interval, a strip at a time.
 
-ghost use Rattle.std.specs.Prelude.{◌≡◌, ◌≤◌, ◌<◌, ◌+◌, ℤ, List, Option, None, Some, false, IsTrue, IfOk, IfErr, IfSome, IfNone, OnSome};
+ghost use Rattle.std.specs.Prelude.{◌≡◌, ◌≤◌, ◌<◌, ◌+◌, ℕ, ℤ, List, Option, None, Some, false, IsTrue, IfOk, IfErr, IfSome, IfNone, OnSome};
 ghost use Rattle.std.specs.List.{All};
 ghost use Rattle.std.specs.Arc.{arc_value};
 ghost use Rattle.jr_scan.specs.declared.place.RunEnd.TheVariants.{AllRead};
 ghost use Rattle.jr_scan.specs.Block.{IsInRange};
 ghost use Rattle.jr_scan.specs.Mcus.{Decodes, Front, HasNoDecoding};
-ghost use Rattle.jr_scan.specs.Reader.{HasRead, HasEnded, start_of_interval};
-ghost use Rattle.jr_scan.specs.Run.{IsRun, run_from};
+ghost use Rattle.jr_scan.specs.Run.{start_of_interval, IsRun, run_from};
 ghost use Rattle.jr_piece.specs.Strips.{CanReadFrom, FirstMcus, HasWholeMcus};
 
-use crate::decoded::most_units;
 use crate::strip::CodedStrip;
-use crate::unit_reader::read_blocks;
 use jr_code::Memory;
 use jr_scan::{
-    Block, BlockReader, Interval, Place, decoding_is_whole_run, one_front, one_run, runs_meet,
+    Block, Interval, McuReader, Place, decoding_is_whole_run, one_front, one_run, runs_meet,
     shorter_front,
 };
 use std::alloc::Global;
 use std::marker::Model;
 use std::sync::Arc;
 
-/// The whole MCUs of a run, and where the next one starts.
+/// The whole MCUs of a run, and where the next one starts; no place where no whole one follows.
 #[derive(Drop)]
 struct Run {
     blocks: Vec<Block>,
@@ -30,34 +27,17 @@ struct Run {
     next: Option<Place>,
 }
 
-/// All blocks of a run, also those of an MCU that is not whole, in the place of the blocks that are there.
-fn read_all_blocks(
-    blocks: Vec<Block>,
-    interval: &Interval,
-    from: Place,
-    mcus: u32,
-) -> Result<(Vec<Block>, BlockReader<'_>), Memory>
-    requires { CanReadFrom interval.now from }
-    ensures run { IfOk result (λ r. r.1.run ≡ run_from interval.now from mcus) }
-    ensures read { IfOk result (λ r. HasRead r.1 r.0.items) }
-    ensures in_range { IfOk result (λ r. All IsInRange r.0.items) }
-    ensures ended { IfOk result (λ r. HasEnded r.1) }
+/// How many of so many MCUs the bits from a place on can code, where each data unit takes two bits or more.
+fn most_mcus(interval: &Interval, from: Place, mcus: u32) -> u32
+    ensures claimed { result ≤ mcus }
+    ensures enough { (k : ℕ) (zs : List (List ℤ)) (to : Place) → IsRun (run_from interval.now from k) zs to AllRead → k ≤ mcus → k ≤ result }
 {
-    let mut blocks = blocks;
-    let mut reader = BlockReader::at(interval, from, mcus);
-    let count = read_blocks(&mut reader, blocks.as_mut_slice());
-    blocks.truncate(count);
-    blocks.reserve(most_units(interval, from.bit, mcus).saturating_sub(count))?;
-    let mut block = [0; 64];
-    'units: loop {
-        let Some(_component) = reader.next(&mut block) else {
-            return Ok((blocks, reader));
-        };
-        blocks.push(block)?;
-    }
+    let bits = (8 * interval.bytes().len() as u64).saturating_sub(from.bit);
+    let coded = bits / (2 * interval.head().order().len() as u64);
+    coded.min(u64::from(mcus)) as u32
 }
 
-/// The whole MCUs of a run of at most so many.
+/// The whole MCUs of a run of at most so many, in the place of the blocks that are there.
 fn read_run(blocks: Vec<Block>, interval: &Interval, from: Place, mcus: u32) -> Result<Run, Memory>
     requires { CanReadFrom interval.now from }
     ensures few { IfOk result (λ r. r.mcus ≤ mcus) }
@@ -67,13 +47,21 @@ fn read_run(blocks: Vec<Block>, interval: &Interval, from: Place, mcus: u32) -> 
     ensures can { IfOk result (λ r. IfSome r.next (CanReadFrom interval.now)) }
     ensures none { IfOk result (λ r. IfNone r.next (r.mcus < mcus)) }
 {
-    let (mut blocks, reader) = read_all_blocks(blocks, interval, from, mcus)?;
-    let read = reader.mcus();
-    blocks.truncate(read as usize * interval.head().order().len());
+    let per_mcu = interval.head().order().len();
+    let most = most_mcus(interval, from, mcus) as usize;
+    let mut blocks = blocks;
+    blocks.resize(most * per_mcu, [0; 64])?;
+    let mut reader = McuReader::at(interval.as_ref(), from, mcus);
+    let read = reader.read(blocks.as_mut_slice());
+    blocks.truncate(read as usize * per_mcu);
     Ok(Run {
         blocks,
         mcus: read,
-        next: reader.place(),
+        next: if read == mcus {
+            Some(reader.place())
+        } else {
+            None
+        },
     })
 }
 

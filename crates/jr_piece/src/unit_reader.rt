@@ -1,13 +1,12 @@
 //! The blocks of an interval, read in their order into slices.
 
-ghost use Rattle.std.specs.Prelude.{◌≡◌, ◌+◌, ◌*◌, ◌<◌, ◌≤◌, ◌++◌, ℕ, ℤ, List, [], length, take, slice_index_or};
+ghost use Rattle.std.specs.Prelude.{◌≡◌, ◌+◌, ◌*◌, ◌<◌, ◌≤◌, ℕ, [], length, slice_index_or};
 ghost use Rattle.std.specs.List.{All};
 ghost use Rattle.jr_scan.specs.Block.{IsInRange};
-ghost use Rattle.jr_scan.specs.Reader.{HasRead, HasEnded};
 ghost use Rattle.jr_piece.specs.Units.{zero_block};
 
 use jr_idct::zeros_are_grey;
-use jr_scan::{Block, BlockReader, IntervalRef, one_front, shorter_front};
+use jr_scan::{Block, IntervalRef, McuReader};
 use std::marker::Model;
 
 /// Reads the blocks of an interval from its first MCU on, as many as are asked for at a time, and takes no memory.
@@ -15,7 +14,7 @@ use std::marker::Model;
 /// Their samples are the data units of the interval's `Piece`, and grey behind its longest decodable front.
 #[derive(Drop)]
 pub struct UnitReader<'a> {
-    reader: BlockReader<'a>,
+    reader: McuReader<'a>,
     left: u32,
 }
 
@@ -29,22 +28,6 @@ impl<'a> Model for UnitReader<'a> {
     ghost view = { λ r. record { interval = r.reader.run.interval; mcu = r.reader.run.interval.mcus - r.left } };
 
     ghost invariant = { λ r. IsUnitReader r.reader r.left };
-}
-
-/// Reads the next blocks, as many as the slice holds or as follow; tells how many there are.
-pub(crate) fn read_blocks(reader: &mut BlockReader<'_>, blocks: &mut [Block]) -> usize
-    ensures run { reader.new.run ≡ reader.old.run }
-    ensures few { result ≤ length blocks.new }
-    ensures read { (zs : List (List ℤ)) → HasRead reader.old zs → HasRead reader.new (zs ++ take result blocks.new) }
-    ensures in_range { All IsInRange (take result blocks.new) }
-    ensures ended { result < length blocks.new → HasEnded reader.new }
-{
-    for k in 0..blocks.len() {
-        let Some(_component) = reader.next(&mut blocks[k]) else {
-            return k;
-        };
-    }
-    blocks.len()
 }
 
 /// Makes the blocks from one on zeros.
@@ -71,8 +54,7 @@ impl<'a> UnitReader<'a> {
         ensures mcu { result.mcu ≡ 0 }
     {
         let left = interval.mcus();
-        let reader = BlockReader::over_ref(interval);
-        reader.be_reader();
+        let reader = McuReader::over(interval);
         UnitReader { reader, left }
     }
 
@@ -108,18 +90,9 @@ impl<'a> UnitReader<'a> {
         ensures blocks { (p : PieceValue) → IsOutcome p → p.interval ≡ self.old.interval
             → CodesUnits p (units_before self.old.interval self.old.mcu) blocks.new }
     {
-        one_front();
-        shorter_front();
         zeros_are_grey();
-        let first = self.mcu();
         self.left -= mcus;
-        if self.reader.mcus() < first {
-            zero_from(blocks, 0);
-            return;
-        }
-        read_blocks(&mut self.reader, blocks);
-        self.reader.be_reader();
-        let whole = (self.reader.mcus() - first) as usize;
+        let whole = self.reader.read(blocks) as usize;
         zero_from(blocks, whole * self.reader.interval().head().order().len());
     }
 

@@ -5,10 +5,11 @@ use Rattle.std.specs.List.{flat_map, AllByRecursion}
 use Rattle.std.proofs.Math.Nat.{le-div_iff_mul-le}
 use Rattle.jr_code.specs.Code.{Table, IsWord, lengths_from}
 use Rattle.jr_code.proofs.BitLemmas.{length-bits}
+use Rattle.jr_head.specs.HeadValue.{HeadValue}
 use Rattle.jr_head.specs.Geometry.{order_of}
 use Rattle.jr_scan.specs.IntervalValue.{IntervalValue}
 use Rattle.jr_scan.specs.Block.{AcCode, ZeroRun, RunAndSize, IsAcCode, code_bits, entries, IsEnd, DifferenceAt, BlockAt}
-use Rattle.jr_scan.specs.Mcus.{all_bits, Front}
+use Rattle.jr_scan.specs.Mcus.{all_bits, no_predictions, Mcus, Front}
 
 -- no word is shorter than the first length
 word_long : (l : ℕ) (cs : List ℕ) (i n : ℕ) → slice_get (lengths_from l cs) i ≡ Some n → l ≤ n
@@ -44,12 +45,16 @@ parts_long : (parts : List (List Bool)) → ((n : ℕ) → n < length parts → 
 parts_long [] h = omega arith
 parts_long (p ∷ ps) h = omega (arith, h zero (omega arith), parts_long ps (λ n l. h (suc n) (omega (arith, l))), length-append p (all_bits ps))
 
--- a front of so many MCUs takes two bits for each of its data units
+-- so many MCUs take two bits for each of their data units
+pub mcus_long : (h : HeadValue) (start : List ℤ) (k : ℕ) (zs : List (List ℤ)) (taken : List Bool) → Mcus h start k zs taken → 2 * (k * length (order_of h)) ≤ length taken
+mcus_long h start k zs taken m =
+    let b = m.1 in
+    let long = parts_long b.parts (λ n l. block_long _ _ _ _ _ (b.each n (omega (arith, l, b.count)))) in
+    omega (arith, long, b.count, m.0, ap length b.spelled)
+
 front_few : (i : IntervalValue) (k : ℕ) (zs : List (List ℤ)) → Front i k zs → k * length (order_of i.head) ≤ 4 * length i.bytes
 front_few i k zs f =
-    let b = f.mcus.1 in
-    let long = parts_long b.parts (λ n l. block_long _ _ _ _ _ (b.each n (omega (arith, l, b.count)))) in
-    omega (arith, long, b.count, f.mcus.0, ap length b.spelled, ap length f.spelled, length-append f.taken f.rest, length-bits i.bytes)
+    omega (arith, mcus_long i.head no_predictions k zs f.taken f.mcus, ap length f.spelled, length-append f.taken f.rest, length-bits i.bytes)
 
 pub few_mcus : (i : IntervalValue) (k : ℕ) (zs : List (List ℤ)) → 0 < length (order_of i.head) → Front i k zs → k ≤ 4 * length i.bytes / length (order_of i.head)
 few_mcus i k zs some f = (le-div_iff_mul-le some).1 (front_few i k zs f)

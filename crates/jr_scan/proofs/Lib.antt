@@ -9,13 +9,14 @@ pub mod McuLaws
 pub mod Predicted
 pub mod Ranges
 pub mod InRange
-pub mod Readers
 pub mod Fronts
 pub mod FewMcus
 pub mod Cuts
 pub mod Unstuffing
 pub mod Scans
 pub mod Runs
+pub mod InMcu
+pub mod McuReaders
 pub mod CutLaw
 pub mod FirstWords
 pub mod FirstBlocks

@@ -9,10 +9,9 @@ use Rattle.jr_head.specs.HeadValue.{HeadValue}
 use Rattle.jr_head.specs.Geometry.{order_of, dc_of, ac_of}
 use Rattle.jr_scan.specs.IntervalValue.{IntervalValue}
 use Rattle.jr_scan.specs.Mcus.{component, prediction, no_predictions, Decodes, HasNoDecoding, Front, LongestFront}
-use Rattle.jr_scan.specs.Reader.{Reads, HasNoNext}
 use Rattle.jr_scan.proofs.Words.{OneWord}
 use Rattle.jr_scan.proofs.FirstBlocks.{first_block}
-use Rattle.jr_scan.proofs.McuLaws.{reads_none, reads_more, reads_stuck, reads_all, blocks_front, no_blocks}
+use Rattle.jr_scan.proofs.McuLaws.{Reads, HasNoNext, reads_none, reads_more, reads_stuck, reads_all, blocks_front, no_blocks}
 
 -- the blocks in front of the bits, at most so many: they are as many, or no further one follows
 record BlocksInFront (h : HeadValue) (start : List ℤ) (all : List Bool) (most : ℕ) : Type 0 where

@@ -1,7 +1,7 @@
 -- At most one list of blocks for the bits; one more block.
 use Rattle.std.proofs.Common.{◌≡◌, ℕ, zero, suc, ◌*◌, ◌<◌, ◌≤◌, Bool, cond, eqb, List, [], ◌∷◌, ◌++◌, length, get_or, take, drop, refl, sym, ap, subst, ◌∙◌, inl, inr, append_assoc, length-append, arith}
 use Rattle.std.specs.Prelude.{ℤ, pos}
-use Rattle.std.proofs.lemmas.List.{append_cancel_left, append-nil, drop_all, get_or_append_left, take-append-drop, length-take-le, get_or-take, take_all}
+use Rattle.std.proofs.lemmas.List.{append_cancel_left, append-nil, drop_all, get_or_append_left, take-append-drop, length-take-le, get_or-take}
 use Rattle.std.proofs.lemmas.Bool.{cases_lt}
 use Rattle.std.proofs.lemmas.List.Concat.{flat_map-append}
 use Rattle.std.proofs.Math.Seq.{drop-cons, take-append_seam}
@@ -12,11 +12,21 @@ use Rattle.jr_head.specs.HeadValue.{HeadValue}
 use Rattle.jr_head.specs.Geometry.{order_of, dc_of, ac_of}
 use Rattle.jr_scan.specs.Block.{BlockAt}
 use Rattle.jr_scan.specs.IntervalValue.{IntervalValue}
-use Rattle.jr_scan.specs.Step.{TakesBlock}
-use Rattle.jr_scan.specs.Mcus.{component, block_of, prediction, IsBlock, all_bits, Blocks, no_predictions, Decodes, Front, LongestFront}
-use Rattle.jr_scan.specs.Reader.{Reads, HasNoNext}
+use Rattle.jr_scan.specs.Step.{TakesBlock, HasNoBlock}
+use Rattle.jr_scan.specs.Mcus.{component, block_of, prediction, IsBlock, all_bits, Blocks, no_predictions, Decodes, Front}
 use Rattle.jr_scan.proofs.Words.{OneWord}
 use Rattle.jr_scan.proofs.Coded.{same_block}
+
+-- the bits are those of these blocks, and then what is left
+pub record Reads (h : HeadValue) (start : List ℤ) (all left : List Bool) (zs : List (List ℤ)) : Type 0 where
+  pub taken : List Bool
+  pub blocks : Blocks h start zs taken
+  pub split : all ≡ taken ++ left
+
+-- no further block follows
+abbrev pub HasNoNext : HeadValue → List ℤ → List (List ℤ) → List Bool → Type 0
+HasNoNext h start zs left =
+    let c = component h (length zs) in HasNoBlock (dc_of h c) (ac_of h c) (prediction h start zs c (length zs)) left
 
 -- the lists have the same blocks below n
 abbrev pub SameBelow : List (List ℤ) → List (List ℤ) → ℕ → Type 0
@@ -175,14 +185,6 @@ front_less i j k zs le f =
 -- no blocks at all are a front
 pub front_none : (i : IntervalValue) → Front i 0 []
 front_none i = record { at_most = omega arith; taken = []; rest = bits i.bytes; mcus = (omega arith, no_blocks i.head no_predictions); spelled = refl }
-
--- a decoding is the longest front
-pub decoded_front : (i : IntervalValue) (k : ℕ) (zs : List (List ℤ)) → LongestFront i k (take (k * length (order_of i.head)) zs) → Decodes i zs → take (k * length (order_of i.head)) zs ≡ zs
-decoded_front i k zs f d =
-    let whole : Front i i.mcus zs = record { at_most = omega arith; taken = d.taken; rest = d.padding; mcus = d.mcus; spelled = d.spelled } in
-    let least = f.longest i.mcus zs whole in
-    let e : k ≡ i.mcus = omega (arith, least, f.front.at_most) in
-    take_all (k * length (order_of i.head)) zs (omega (arith, d.mcus.0, ap (λ (n : ℕ). n * length (order_of i.head)) e))
 
 -- the first of a list of blocks, by themselves
 pub blocks_before : (h : HeadValue) (start : List ℤ) (zs ys : List (List ℤ)) (w : List Bool) → (b : Blocks h start (zs ++ ys) w) → Blocks h start zs (all_bits (take (length zs) b.parts))

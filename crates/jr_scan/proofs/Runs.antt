@@ -1,5 +1,5 @@
 -- Runs of MCUs: each start has one, and two that meet are one.
-use Rattle.std.proofs.Common.{◌≡◌, ℕ, zero, suc, ◌+◌, ◌-◌, ◌*◌, ◌/◌, ◌%◌, ◌<◌, ◌≤◌, Bool, true, false, cond, eqb, List, [], ◌∷◌, ◌++◌, length, get_or, take, drop, replicate, length-drop, refl, sym, ap, subst, ◌∙◌, inl, inr, append_assoc, length-append, arith}
+use Rattle.std.proofs.Common.{◌≡◌, ℕ, zero, suc, ◌+◌, ◌-◌, ◌*◌, ◌/◌, ◌%◌, ◌<◌, ◌≤◌, Bool, cond, eqb, List, [], ◌∷◌, ◌++◌, length, get_or, take, drop, replicate, length-drop, refl, sym, ap, subst, ◌∙◌, inl, inr, append_assoc, length-append, arith}
 use Rattle.std.specs.Prelude.{ℤ, pos}
 use Rattle.std.proofs.lemmas.List.{get_or_append_left, get_or-append_right, drop-drop, drop_all, get_or-drop, get_or-replicate, length-take-le, take-append-drop}
 use Rattle.std.proofs.Math.ListN.{length-replicate}
@@ -8,7 +8,7 @@ use Rattle.std.proofs.lemmas.Bool.{cases_lt}
 use Rattle.std.proofs.Math.Nat.{mul-add-mod_self_right, mul-le-mul_right}
 use Rattle.std.proofs.Math.Seq.{take-add, drop-append_seam}
 use Rattle.jr_code.specs.Bits.{bits, bits_of}
-use Rattle.jr_code.proofs.BitLemmas.{length-bits, length-bits_of}
+use Rattle.jr_code.proofs.BitLemmas.{length-bits_of}
 use Rattle.jr_head.specs.HeadValue.{HeadValue}
 use Rattle.jr_head.specs.declared.component.Component.{Component}
 use Rattle.jr_head.specs.declared.kind.Kind.{Kind}
@@ -20,11 +20,9 @@ use Rattle.jr_scan.specs.declared.place.RunEnd.TheVariants.{AllRead, NoMcu}
 use Rattle.jr_scan.specs.Block.{BlockAt}
 use Rattle.jr_scan.specs.IntervalValue.{IntervalValue}
 use Rattle.jr_scan.specs.Mcus.{component, block_of, prediction, IsBlock, all_bits, Blocks, Mcus, no_predictions, Decodes}
-use Rattle.jr_scan.specs.Reader.{RunOf, ReaderValue, whole_run, per_mcu, HasRead, HasEnded, IsReader}
-use Rattle.jr_scan.specs.Run.{left_at, predicted, HasNoMcu, EndsAs, IsRun}
+use Rattle.jr_scan.specs.Run.{RunOf, whole_run, left_at, predicted, EndsAs, IsRun}
 use Rattle.jr_scan.proofs.Words.{OneWord}
-use Rattle.jr_scan.proofs.McuLaws.{prediction_same, is_block_same, one_blocks, blocks_front, blocks_before, reads_stuck}
-use Rattle.jr_scan.proofs.Readers.{below_whole}
+use Rattle.jr_scan.proofs.McuLaws.{prediction_same, is_block_same, one_blocks, blocks_front, blocks_before}
 
 -- behind whole MCUs the components come as from the start on
 component_on : (h : HeadValue) (k n : ℕ) → component h (k * length (order_of h) + n) ≡ component h n
@@ -158,7 +156,7 @@ same_place : (a b : Place) → a.bit ≡ b.bit → a.predictions ≡ b.predictio
 same_place a b p q = ap (λ (k : ℕ). record { bit = k; predictions = a.predictions }) p ∙ ap (λ (k : List ℤ). record { bit = b.bit; predictions = k }) q
 
 -- where no whole MCU follows whole MCUs, no run has more of them
-no_more : OneWord → (r : RunOf) (zs ys : List (List ℤ)) (a b : Place) (e f : RunEnd) → ((n : ℕ) → component r.interval.head n < 3) → (s : IsRun r zs a e) → (t : IsRun r ys b f) → s.count < t.count → ⊥
+pub no_more : OneWord → (r : RunOf) (zs ys : List (List ℤ)) (a b : Place) (e f : RunEnd) → ((n : ℕ) → component r.interval.head n < 3) → (s : IsRun r zs a e) → (t : IsRun r ys b f) → s.count < t.count → ⊥
 no_more one r zs ys a b e f three s t lt = go e s.ends
   where
     go : (e : RunEnd) → EndsAs r s.count a e → ⊥
@@ -237,39 +235,12 @@ run_is_decoding i zs to r short =
       spelled = r.spelled;
     }
 
-three_places : (ps : List ℤ) → length ps ≡ 3 → ps ≡ get_or ps 0 (pos 0) ∷ get_or ps 1 (pos 0) ∷ get_or ps 2 (pos 0) ∷ []
+pub three_places : (ps : List ℤ) → length ps ≡ 3 → ps ≡ get_or ps 0 (pos 0) ∷ get_or ps 1 (pos 0) ∷ get_or ps 2 (pos 0) ∷ []
 three_places [] e = absurd (omega arith)
 three_places (a ∷ []) e = absurd (omega arith)
 three_places (a ∷ b ∷ []) e = absurd (omega arith)
 three_places (a ∷ b ∷ c ∷ []) e = refl
 three_places (a ∷ b ∷ c ∷ d ∷ es) e = absurd (omega arith)
-
--- what a reader has read is the run of so many MCUs, where it stands between two of them
-pub read_is_run : (r : ReaderValue) (zs : List (List ℤ)) (bit : ℕ) → IsReader r → r.stuck ≡ false → r.next_block ≡ 0 → length r.predictions ≡ 3 → bit ≡ 8 * length r.run.interval.bytes - length r.left → HasRead r zs
-    → IsRun (record { interval = r.run.interval; from = r.run.from; mcus = r.mcu }) zs (record { bit = bit; predictions = r.predictions }) AllRead
-read_is_run r zs bit kept going place three at s =
-    let i = r.run.interval in
-    let h = i.head in
-    let start = r.run.from.predictions in
-    let left : s.left ≡ r.left = s.going going in
-    let total = length-bits i.bytes in
-    let count : length zs ≡ r.mcu * per_mcu r = omega (arith, s.count, place) in
-    let bits_there : length s.reads.taken + length s.left ≡ 8 * length i.bytes - r.run.from.bit = omega (arith, ap length s.reads.split, length-append s.reads.taken s.left, length-drop r.run.from.bit (bits i.bytes), total) in
-    let where' : bit ≡ r.run.from.bit + length s.reads.taken = omega (arith, bits_there, ap length left, at, kept.start) in
-    let behind : drop bit (bits i.bytes) ≡ s.left = ap (λ (k : ℕ). drop k (bits i.bytes)) where' ∙ sym (drop-drop (length s.reads.taken) r.run.from.bit (bits i.bytes)) ∙ ap (drop (length s.reads.taken)) s.reads.split ∙ drop-append_seam s.reads.taken s.left in
-    record {
-      count = r.mcu;
-      few = omega arith;
-      taken = s.reads.taken;
-      mcus = (count, s.reads.blocks);
-      spelled = s.reads.split ∙ ap (λ (w : List Bool). s.reads.taken ++ w) (sym behind);
-      bit = where';
-      predictions = three_places r.predictions three
-          ∙ ap (λ (x : ℤ). x ∷ get_or r.predictions 1 (pos 0) ∷ get_or r.predictions 2 (pos 0) ∷ []) (s.last 0 (omega arith))
-          ∙ ap (λ (x : ℤ). prediction h start zs 0 (length zs) ∷ x ∷ get_or r.predictions 2 (pos 0) ∷ []) (s.last 1 (omega arith))
-          ∙ ap (λ (x : ℤ). prediction h start zs 0 (length zs) ∷ prediction h start zs 1 (length zs) ∷ x ∷ []) (s.last 2 (omega arith));
-      ends = refl;
-    }
 
 -- the bits of bytes from a bit on
 drop_bytes : (n : ℕ) (bytes : List ℕ) → bits (drop n bytes) ≡ drop (8 * n) (bits bytes)
@@ -283,56 +254,3 @@ drop_bytes (suc n) (b ∷ bs) =
 pub bits_on : (bytes : List ℕ) (bit : ℕ) → drop (bit % 8) (bits (drop (bit / 8) bytes)) ≡ drop bit (bits bytes)
 bits_on bytes bit =
     ap (drop (bit % 8)) (drop_bytes (bit / 8) bytes) ∙ drop-drop (bit % 8) (8 * (bit / 8)) (bits bytes) ∙ ap (λ (k : ℕ). drop k (bits bytes)) (omega arith)
-
--- what a reader has read when it ends has the whole MCUs of its run in front
-pub read_run : OneWord → (r : ReaderValue) (zs : List (List ℤ)) → IsReader r → ((n : ℕ) → component r.run.interval.head n < 3) → HasRead r zs → HasEnded r → (to : Place) × (end : RunEnd) × IsRun r.run (take (r.mcu * per_mcu r) zs) to end
-read_run one r zs kept three s ended = (to, (why ended).0, (why ended).1)
-  where
-    h : HeadValue
-    h = r.run.interval.head
-
-    start : List ℤ
-    start = r.run.from.predictions
-
-    m : ℕ
-    m = r.mcu * per_mcu r
-
-    all : List Bool
-    all = left_at r.run.interval r.run.from
-
-    room : m ≤ length zs
-    room = omega (arith, s.count)
-
-    front : (v y : List Bool) × Blocks h start (take m zs) v × (all ≡ v ++ y)
-    front = blocks_front h start zs all s.reads.taken s.left m s.reads.blocks s.reads.split room
-
-    to : Place
-    to = record { bit = r.run.from.bit + length front.0; predictions = predicted h start (take m zs) }
-
-    behind : left_at r.run.interval to ≡ front.1
-    behind = sym (drop-drop (length front.0) r.run.from.bit (bits r.run.interval.bytes)) ∙ ap (drop (length front.0)) front.3 ∙ drop-append_seam front.0 front.1
-
-    count : length (take m zs) ≡ m
-    count = length-take-le m zs room
-
-    made : (end : RunEnd) → EndsAs r.run r.mcu to end → IsRun r.run (take m zs) to end
-    made end e = record {
-      count = r.mcu;
-      few = below_whole r.mcu r.run.mcus (per_mcu r) r.next_block kept.within kept.few;
-      taken = front.0;
-      mcus = (count, front.2);
-      spelled = front.3 ∙ ap (λ (w : List Bool). front.0 ++ w) (sym behind);
-      bit = refl;
-      predictions = refl;
-      ends = e;
-    }
-
-    none : r.stuck ≡ true → HasNoMcu r.run.interval to
-    none stuck ys w rest u e =
-        let both = blocks_join h start r.mcu (take m zs) ys front.0 w three count front.2 u.1 in
-        let cut : all ≡ (front.0 ++ w) ++ rest = front.3 ∙ ap (λ (x : List Bool). front.0 ++ x) (sym behind ∙ e) ∙ sym (append_assoc front.0 w rest) in
-        reads_stuck h start all s.left zs one s.reads (s.stuck stuck) (take m zs ++ ys) (front.0 ++ w) rest both cut (omega (arith, length-append (take m zs) ys, count, u.0, s.count, kept.within))
-
-    why : HasEnded r → (end : RunEnd) × IsRun r.run (take m zs) to end
-    why (inr full) = (AllRead, made AllRead full)
-    why (inl stuck) = (NoMcu, made NoMcu (kept.missing stuck, none stuck))

@@ -3,9 +3,9 @@ pub mod Step
 pub mod IntervalValue
 pub mod FrontValue
 pub mod Mcus
-pub mod Reader
 pub mod Cut
 pub mod Spans
 pub mod UnstuffingValue
 pub mod ScanValue
 pub mod Run
+pub mod McuReader

@@ -6,8 +6,20 @@ use Rattle.jr_scan.specs.declared.place.Place.{Place}
 use Rattle.jr_scan.specs.declared.place.RunEnd.{RunEnd}
 use Rattle.jr_scan.specs.declared.place.RunEnd.TheVariants.{AllRead, NoMcu}
 use Rattle.jr_scan.specs.IntervalValue.{IntervalValue}
-use Rattle.jr_scan.specs.Mcus.{prediction, Mcus}
-use Rattle.jr_scan.specs.Reader.{RunOf, whole_run}
+use Rattle.jr_scan.specs.Mcus.{prediction, no_predictions, Mcus}
+
+-- a run of MCUs of an interval: where it starts, and how many MCUs it has at most
+pub record RunOf : Type 0 where
+  pub interval : IntervalValue
+  pub from : Place
+  pub mcus : ℕ
+
+abbrev pub start_of_interval : Place
+start_of_interval = record { bit = 0; predictions = no_predictions }
+
+-- all MCUs of an interval
+abbrev pub whole_run : IntervalValue → RunOf
+whole_run i = record { interval = i; from = start_of_interval; mcus = i.mcus }
 
 -- so many MCUs from a place of an interval on
 abbrev pub run_from : IntervalValue → Place → ℕ → RunOf
@@ -20,9 +32,19 @@ left_at i p = drop p.bit (bits i.bytes)
 abbrev pub predicted : HeadValue → List ℤ → List (List ℤ) → List ℤ
 predicted h start zs = prediction h start zs 0 (length zs) ∷ prediction h start zs 1 (length zs) ∷ prediction h start zs 2 (length zs) ∷ []
 
+-- old is the bits of the blocks of one MCU, each component predicted as given, and then new
+pub record TakesMcu (h : HeadValue) (start : List ℤ) (zs : List (List ℤ)) (old new : List Bool) : Type 0 where
+  pub taken : List Bool
+  pub mcu : Mcus h start 1 zs taken
+  pub split : old ≡ taken ++ new
+
+-- no whole MCU begins these bits
+abbrev pub BeginsNoMcu : HeadValue → List ℤ → List Bool → Type 0
+BeginsNoMcu h start old = (ys : List (List ℤ)) (taken rest : List Bool) → Mcus h start 1 ys taken → old ≢ taken ++ rest
+
 -- no whole MCU follows
 abbrev pub HasNoMcu : IntervalValue → Place → Type 0
-HasNoMcu i p = (ys : List (List ℤ)) (taken rest : List Bool) → Mcus i.head p.predictions 1 ys taken → left_at i p ≢ taken ++ rest
+HasNoMcu i p = BeginsNoMcu i.head p.predictions (left_at i p)
 
 -- all MCUs that were asked for are there, or no further one follows
 abbrev pub EndsAs : RunOf → ℕ → Place → RunEnd → Type 0
@@ -46,10 +68,6 @@ pub record RunRead (r : RunOf) : Type 0 where
   pub to : Place
   pub end : RunEnd
   pub is : IsRun r blocks to end
-
--- a run has these blocks, wherever and for whatever reason it ends
-abbrev pub HasBlocks : RunOf → List (List ℤ) → Type 0
-HasBlocks r zs = (to : Place) × (end : RunEnd) × IsRun r zs to end
 
 -- the whole run of an interval has all its MCUs and these blocks, and leaves fewer than eight bits
 abbrev pub IsSoundRun : IntervalValue → List (List ℤ) → Type 0

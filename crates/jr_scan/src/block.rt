@@ -3,7 +3,7 @@
 ghost use Rattle.std.specs.Prelude.{◌≡◌, ℕ, ◌<◌, ◌≤◌, ◌^◌, ℤ, pos, negsuc, ◌≤ℤ◌, ◌∷◌, List, length, IfSome, IfNone};
 ghost use Rattle.jr_scan.specs.Step.{TakesStep, HasNoStep, TakesDifference, HasNoDifference, TakesOthers, HasNoOthers, TakesCoded, HasNoCoded};
 
-use jr_code::{Bits, CodeBook, one_word};
+use jr_code::{Bits, CodeBook};
 
 /// The coefficients of a block, in zigzag order.
 pub type Block = [i32; 64];
@@ -28,7 +28,6 @@ fn read_step(ac: &CodeBook, bits: &mut Bits<'_>) -> Option<Step>
     ensures some { IfSome result (λ step. TakesStep ac.now step bits.old bits.new) }
     ensures none { IfNone result (HasNoStep ac.now bits.old) }
 {
-    one_word();
     let (symbol, v) = ac.read_extended(bits)?;
     let size = symbol % 16;
     if size == 0 {
@@ -49,7 +48,6 @@ fn read_difference(dc: &CodeBook, bits: &mut Bits<'_>) -> Option<i32>
     ensures some { IfSome result (λ d. TakesDifference dc.now d bits.old bits.new) }
     ensures none { IfNone result (HasNoDifference dc.now bits.old) }
 {
-    one_word();
     let (size, v) = dc.read_extended(bits)?;
     if size > 11 {
         return None;
@@ -62,7 +60,6 @@ fn read_others(ac: &CodeBook, bits: &mut Bits<'_>, first: i32, block: &mut Block
     ensures some { IfSome result (λ _. (others : List ℤ) × (block.new ≡ first ∷ others) × TakesOthers ac.now others bits.old bits.new) }
     ensures none { IfNone result (HasNoOthers ac.now bits.old) }
 {
-    one_word();
     *block = [0; 64];
     block[0] = first;
     let mut index: usize = 1;
@@ -94,7 +91,6 @@ pub(crate) fn read_block(
     ensures some { IfSome result (λ _. TakesCoded dc.now ac.now block.new bits.old bits.new) }
     ensures none { IfNone result (HasNoCoded dc.now ac.now bits.old) }
 {
-    one_word();
     let mut left = bits.again();
     let difference = read_difference(dc, &mut left)?;
     read_others(ac, &mut left, difference, block)?;

@@ -1,13 +1,14 @@
 //! An interval of a scan.
 
 ghost use Rattle.std.specs.Prelude.{◌≡◌, ◌↔◌, ◌<◌, ◌≤◌, ◌^◌, ◌*◌, ℕ, ℤ, List, All, length, IsTrue, IfOk, IfSome, IfNone};
+ghost use Rattle.jr_head.specs.Geometry.{IsLawful};
 
 use crate::block::Block;
 use crate::front::FrontBlocks;
 use crate::interval_ref::IntervalRef;
-use crate::reader::BlockReader;
+use crate::mcu_reader::{MOST_UNITS, McuReader};
 use crate::span::Span;
-use jr_code::{Memory, one_word};
+use jr_code::Memory;
 use jr_head::Head;
 use std::alloc::Global;
 use std::marker::Model;
@@ -43,7 +44,8 @@ impl Interval {
     ghost use Rattle.jr_scan.specs.Block.{IsInRange};
     ghost use Rattle.jr_head.specs.Geometry.{order_of};
     ghost use Rattle.jr_scan.specs.Mcus.{Decodes, HasNoDecoding, Front, LongestFront};
-    ghost use Rattle.jr_scan.specs.Reader.{HasRead, HasEnded, whole_run};
+    ghost use Rattle.jr_scan.specs.Run.{whole_run};
+    ghost use Rattle.jr_scan.specs.McuReader.{HasRead, HasEnded};
 
     pub(crate) fn of(
         head: Arc<Head>,
@@ -90,8 +92,10 @@ impl Interval {
 
     /// The head that the interval is read by.
     pub fn head(&self) -> &Head
-        ensures { result.now ≡ self.now.head }
+        ensures value { result.now ≡ self.now.head }
+        ensures lawful { IsLawful result.now }
     {
+        self.head.be_lawful();
         &self.head
     }
 
@@ -132,7 +136,6 @@ impl Interval {
         ensures none { IfOk result (λ answer. IfNone answer (HasNoDecoding self.now)) }
         ensures in_range { IfOk result (λ answer. IfSome answer (λ v. All IsInRange v.items)) }
     {
-        one_word();
         let (blocks, reader) = self.read_blocks(alloc)?;
         if reader.is_sound() {
             Ok(Some(blocks))
@@ -148,27 +151,26 @@ impl Interval {
         ensures damaged { IfOk result (λ f. (ys : List (List ℤ)) → Decodes self.now ys → ys ≡ f.blocks) }
         ensures in_range { IfOk result (λ f. All IsInRange f.blocks) }
     {
-        one_word();
-        let (mut blocks, reader) = self.read_blocks(alloc)?;
-        let mcus = reader.mcus();
-        blocks.truncate(mcus as usize * self.head().order().len());
-        Ok(FrontBlocks::of(mcus, blocks, reader.is_sound()))
+        let (blocks, reader) = self.read_blocks(alloc)?;
+        Ok(FrontBlocks::of(reader.mcus(), blocks, reader.is_sound()))
     }
 
-    /// All blocks up to the end, or up to where none follows.
-    fn read_blocks(&self, alloc: Global) -> Result<(Vec<Block>, BlockReader<'_>), Memory>
+    /// The blocks of all MCUs up to the last, or up to where no whole one follows.
+    fn read_blocks(&self, alloc: Global) -> Result<(Vec<Block>, McuReader<'_>), Memory>
         ensures run { IfOk result (λ r. r.1.run ≡ whole_run self.now) }
         ensures read { IfOk result (λ r. HasRead r.1 r.0.items) }
         ensures ended { IfOk result (λ r. HasEnded r.1) }
     {
-        let mut reader = BlockReader::over(self);
+        let per_mcu = self.head().order().len();
+        let mut reader = McuReader::over(self.as_ref());
         let mut blocks = Vec::new(alloc);
-        let mut block = [0; 64];
-        'blocks: loop {
-            if reader.next(&mut block).is_none() {
+        let mut next = [[0; 64]; MOST_UNITS];
+        'mcus: loop {
+            let count = reader.read(&mut next) as usize;
+            if count == 0 {
                 return Ok((blocks, reader));
             }
-            blocks.push(block)?;
+            blocks.extend_from_slice(&next[..count * per_mcu])?;
         }
     }
 }

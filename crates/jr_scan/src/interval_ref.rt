@@ -1,6 +1,7 @@
 //! An interval whose data stand in its scan.
 
 ghost use Rattle.std.specs.Prelude.{◌≡◌, ◌<◌, ◌^◌, length};
+ghost use Rattle.jr_head.specs.Geometry.{IsLawful};
 
 use jr_head::Head;
 use std::marker::Model;
@@ -62,8 +63,10 @@ impl<'a> IntervalRef<'a> {
 
     /// The head that the interval is read by.
     pub fn head(&self) -> &'a Head
-        ensures { result.now ≡ self.now.head }
+        ensures value { result.now ≡ self.now.head }
+        ensures lawful { IsLawful result.now }
     {
+        self.head.be_lawful();
         self.head
     }
 }

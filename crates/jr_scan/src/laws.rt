@@ -4,13 +4,10 @@ ghost use Rattle.std.specs.Prelude.{◌≡◌, ◌+◌, ◌≤◌, ◌↔◌, �
 ghost use Rattle.jr_head.specs.Geometry.{IsLawful, order_of};
 ghost use Rattle.jr_scan.specs.declared.place.Place.{Place};
 ghost use Rattle.jr_scan.specs.declared.place.RunEnd.TheVariants.{AllRead};
-ghost use Rattle.jr_scan.specs.Reader.{RunOf};
-ghost use Rattle.jr_scan.specs.Run.{IsRun, IsSoundRun, RunRead, run_from};
+ghost use Rattle.jr_scan.specs.Run.{RunOf, IsRun, IsSoundRun, RunRead, run_from};
 ghost use Rattle.jr_scan.specs.Cut.{Cutting};
 ghost use Rattle.jr_scan.specs.IntervalValue.{IntervalValue};
 ghost use Rattle.jr_scan.specs.Mcus.{Decodes, HasNoDecoding, Front, LongestFront};
-
-use jr_code::one_word;
 
 /// A scan's bytes are cut in one way: n intervals, the first byte at an offset of the file.
 pub fn one_cut()
@@ -20,16 +17,12 @@ pub fn one_cut()
 /// An interval has at most one decoding.
 pub fn one_decoding()
     ensures { (i : IntervalValue) (zs ys : List (List ℤ)) → Decodes i zs → Decodes i ys → zs ≡ ys }
-{
-    one_word();
-}
+{}
 
 /// An interval has at most one front of so many MCUs.
 pub fn one_front()
     ensures { (i : IntervalValue) (k : ℕ) (zs ys : List (List ℤ)) → Front i k zs → Front i k ys → zs ≡ ys }
-{
-    one_word();
-}
+{}
 
 /// What a front begins with is a front of fewer MCUs.
 pub fn shorter_front()
@@ -44,23 +37,17 @@ pub fn no_front()
 /// Each interval has a longest decodable front of whole MCUs.
 pub fn each_interval_has_a_longest_front()
     ensures { (i : IntervalValue) → (k : ℕ) × (zs : List (List ℤ)) × LongestFront i k zs }
-{
-    one_word();
-}
+{}
 
 /// Each interval has a decoding, or has none.
 pub fn each_interval_decodes_or_not()
     ensures { (i : IntervalValue) → ((zs : List (List ℤ)) × Decodes i zs) ⊎ HasNoDecoding i }
-{
-    one_word();
-}
+{}
 
 /// Each place of an interval starts one run of so many MCUs: its blocks, where it ends and why are settled.
 pub fn one_run()
     ensures { (r : RunOf) (a b : RunRead r) → IsLawful r.interval.head → (a.blocks ≡ b.blocks) × (a.to ≡ b.to) × (a.end ≡ b.end) }
-{
-    one_word();
-}
+{}
 
 /// Where a run has all its MCUs and another starts at its end, they are one run.
 pub fn runs_meet()

@@ -7,8 +7,9 @@ mod front;
 mod interval;
 mod interval_ref;
 mod laws;
+mod mcu;
+mod mcu_reader;
 mod place;
-mod reader;
 mod scan;
 mod scan_end;
 mod span;
@@ -22,7 +23,7 @@ pub use laws::{
     decoding_is_whole_run, each_interval_decodes_or_not, each_interval_has_a_longest_front,
     no_front, one_cut, one_decoding, one_front, one_run, runs_meet, shorter_front,
 };
+pub use mcu_reader::{MOST_UNITS, McuReader};
 pub use place::{Place, RunEnd};
-pub use reader::BlockReader;
 pub use scan::{Scan, interval_count};
 pub use scan_end::ScanEnd;

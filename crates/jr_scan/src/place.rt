@@ -1,7 +1,7 @@
 //! Where a run of MCUs starts, and how it ends.
 
 ghost use Rattle.std.specs.Prelude.{◌≡◌};
-ghost use Rattle.jr_scan.specs.Reader.{start_of_interval};
+ghost use Rattle.jr_scan.specs.Run.{start_of_interval};
 
 /// A place between two MCUs of an interval: how many bits of its data stand before it, and what the first coefficient
 /// of each component is predicted to be there.

@@ -3,7 +3,7 @@
 
 use crate::shown::piece;
 use jr_piece::{Piece, UnitReader, transform_blocks};
-use jr_scan::{BlockReader, IntervalRef, Scan};
+use jr_scan::{IntervalRef, MOST_UNITS, McuReader, Scan};
 use std::alloc::Global;
 use std::process::Abort;
 use std::test::Fail;
@@ -155,10 +155,9 @@ fn grey_behind_the_front(rt: HostRuntime) -> Result<(), Fail> {
 fn is_borrowed(borrowed: IntervalRef<'_>, number: u32, bytes: &[u8]) -> bool {
     let is_of = (borrowed.number(), borrowed.mcus()) == (number, 1);
     let has_bytes = borrowed.bytes() == bytes;
-    let mut reader = BlockReader::over_ref(borrowed);
-    let has_block = reader.next(&mut [0; 64]).is_some();
-    reader.be_reader();
-    let is_read = has_block == (reader.mcus() == 1) && reader.interval().number() == number;
+    let mut reader = McuReader::over(borrowed);
+    let has_mcu = reader.read(&mut [[0; 64]; MOST_UNITS]) == 1;
+    let is_read = has_mcu == (reader.mcus() == 1) && reader.interval().number() == number;
     is_of && has_bytes && is_read
 }
 

@@ -2,23 +2,24 @@
 
 ghost use Rattle.std.specs.Prelude.{◌≡◌, ℤ, List, IfSome, OnSome, IfNone};
 ghost use Rattle.jr_scan.specs.Mcus.{HasNoDecoding};
-ghost use Rattle.jr_scan.specs.Reader.{HasRead, HasEnded, whole_run};
+ghost use Rattle.jr_scan.specs.Run.{whole_run};
+ghost use Rattle.jr_scan.specs.McuReader.{HasRead, HasEnded};
 ghost use Rattle.jri_archive.specs.Damage.{HasDecoding, HasLongestFront};
 
-use jr_scan::{BlockReader, IntervalRef};
+use jr_scan::{IntervalRef, MOST_UNITS, McuReader};
 
-/// A reader that has read all blocks of an interval, up to its end or to where none follows.
-fn read_all(interval: IntervalRef<'_>) -> BlockReader<'_>
+/// A reader that has read all whole MCUs of an interval, up to its end or to where none follows.
+fn read_all(interval: IntervalRef<'_>) -> McuReader<'_>
     ensures run { result.run ≡ whole_run interval.entry }
     ensures read { (zs : List (List ℤ)) × HasRead result zs }
     ensures ended { HasEnded result }
 {
-    let mut reader = BlockReader::over_ref(interval);
-    let mut block = [0; 64];
-    'blocks: loop {
-        let Some(_) = reader.next(&mut block) else {
+    let mut reader = McuReader::over(interval);
+    let mut blocks = [[0; 64]; MOST_UNITS];
+    'mcus: loop {
+        if reader.read(&mut blocks) == 0 {
             return reader;
-        };
+        }
     }
 }
 

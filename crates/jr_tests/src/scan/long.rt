@@ -1,7 +1,7 @@
 //! Intervals of thousands of MCUs, by each reader, and a scan of thousands of intervals.
 
 use super::{blocks_of, front_of};
-use jr_scan::{Block, BlockReader, Interval, ScanEnd};
+use jr_scan::{Block, Interval, MOST_UNITS, McuReader, ScanEnd};
 use std::alloc::Global;
 use std::process::Abort;
 use std::test::Fail;
@@ -20,10 +20,11 @@ fn are_flat(blocks: &[Block], first: i32) -> bool {
     true
 }
 
-/// Whether the next block is such a one.
-fn is_next(reader: &mut BlockReader<'_>, first: i32) -> bool {
-    let mut block = [0; 64];
-    reader.next(&mut block).is_some() && are_flat(&[block], first)
+/// Whether the blocks of the next MCU are such ones.
+fn is_next(reader: &mut McuReader<'_>, first: i32) -> bool {
+    let per_mcu = reader.interval().head().order().len();
+    let mut blocks = [[0; 64]; MOST_UNITS];
+    reader.read(&mut blocks[..per_mcu]) == 1 && are_flat(&blocks[..per_mcu], first)
 }
 
 /// So many blocks, of so many whole MCUs, and whether they are all of their interval.
@@ -35,13 +36,13 @@ struct Front {
     is_sound: bool,
 }
 
-/// `BlockReader` reads the front and no further block.
+/// `McuReader` reads the front and no further MCU.
 fn check_reader(rt: &impl Abort, interval: &Interval, front: Front) {
-    let mut reader = BlockReader::over(interval);
-    for _ in 0..front.blocks {
+    let mut reader = McuReader::over(interval.as_ref());
+    for _ in 0..front.mcus {
         assert!(rt; is_next(&mut reader, front.first));
     }
-    assert!(rt; reader.next(&mut [0; 64]).is_none());
+    assert!(rt; reader.read(&mut [[0; 64]; MOST_UNITS]) == 0);
     assert!(rt; (reader.mcus(), reader.is_sound()) == (front.mcus, front.is_sound));
 }
 

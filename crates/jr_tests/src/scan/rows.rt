@@ -1,7 +1,7 @@
 //! Scans worked out by hand.
 
 use super::{blocks_of, front_of};
-use jr_scan::{Block, BlockReader, Interval, Place, Scan, ScanEnd, interval_count};
+use jr_scan::{Block, Interval, McuReader, Place, Scan, ScanEnd, interval_count};
 use std::alloc::Global;
 use std::process::Abort;
 use std::test::Fail;
@@ -283,22 +283,25 @@ fn tells_an_interval_and_its_head(rt: HostRuntime) -> Result<(), Fail> {
     Ok(())
 }
 
-/// The component of the next block, and its first coefficient.
-fn next(reader: &mut BlockReader<'_>) -> Option<(u32, i32)> {
-    let mut block = [0; 64];
-    let component = reader.next(&mut block)?;
-    Some((component, block[0]))
+/// The first coefficient of the next MCU, which has one data unit.
+fn next(reader: &mut McuReader<'_>) -> Option<i32> {
+    let mut blocks = [[0; 64]];
+    if reader.read(&mut blocks) == 0 {
+        return None;
+    }
+    let block = blocks[0];
+    Some(block[0])
 }
 
 /// The bit and the first prediction of the place behind what was read.
-fn place_of(reader: &BlockReader<'_>) -> Option<(u64, i32)> {
-    let place = reader.place()?;
+fn place_of(reader: &McuReader<'_>) -> (u64, i32) {
+    let place = reader.place();
     let predictions = place.predictions;
-    Some((place.bit, predictions[0]))
+    (place.bit, predictions[0])
 }
 
-/// The one block that is read from bit 6 on with another prediction, and how many MCUs were then read.
-fn read_on(interval: &Interval) -> Option<((u32, i32), u32)> {
+/// What is read from bit 6 on with another prediction, and how many MCUs were then read.
+fn read_on(interval: &Interval) -> Option<(i32, u32)> {
     if interval.bytes().is_empty() {
         return None;
     }
@@ -306,12 +309,12 @@ fn read_on(interval: &Interval) -> Option<((u32, i32), u32)> {
         bit: 6,
         predictions: [5, 0, 0],
     };
-    let mut reader = BlockReader::at(interval, from, 1);
-    let block = next(&mut reader)?;
+    let mut reader = McuReader::at(interval.as_ref(), from, 1);
+    let first = next(&mut reader)?;
     if next(&mut reader).is_some() {
         return None;
     }
-    Some((block, reader.mcus()))
+    Some((first, reader.mcus()))
 }
 
 #[test]
@@ -320,10 +323,9 @@ fn reads_from_a_place(rt: HostRuntime) -> Result<(), Fail> {
     let scan = scan_of(rt.alloc(), bytes.as_slice())?;
     assert!(rt; 0 < scan.intervals());
     let interval = scan.interval(0)?;
-    let mut reader = BlockReader::over(&interval);
-    assert!(rt; next(&mut reader) == Some((0, 4)));
-    assert!(rt; reader.left() == 10);
-    assert!(rt; place_of(&reader) == Some((6, 4)));
-    assert!(rt; read_on(&interval) == Some(((0, 9), 1)));
+    let mut reader = McuReader::over(interval.as_ref());
+    assert!(rt; next(&mut reader) == Some(4));
+    assert!(rt; place_of(&reader) == (6, 4));
+    assert!(rt; read_on(&interval) == Some((9, 1)));
     Ok(())
 }

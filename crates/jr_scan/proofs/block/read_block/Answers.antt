@@ -1,6 +1,7 @@
 use Rattle.std.proofs.Common.{◌≡◌, ◌∷◌, Bool, List, ℤ, rules, subst, w32}
 use mir.Val.{SFits}
 use Rattle.std.proofs.lemmas.Int.{to_z-of_z}
+use Rattle.jr_code.proofs.CodeLemmas.{one_word}
 use Rattle.jr_scan.specs.Step.{TakesOthers, TakesDifference, HasNoDifference}
 use Rattle.jr_scan.proofs.Coded.{no_coded_first, no_coded_others, takes_coded}
 use Rattle.jr_scan.proofs.block.read_block.Goals as goal
@@ -11,7 +12,7 @@ returns-in_err-difference-clause-none c = rw c.from_residual.ensures (no_coded_f
 pub returns-in_err-read_others-clause-none : goal.returns-in_err-read_others-clause-none
 returns-in_err-read_others-clause-none c =
     let t = subst (λ (b : List Bool). TakesDifference c.args.dc.now c.in_ok-difference.difference b c.read_difference.new.bits) c.again-left.ensures c.in_ok-difference.ensures.some in
-    rw c.from_residual-in_err-read_others.ensures (no_coded_others _ _ (c.one_word.ensures _) _ _ _ t c.in_err-read_others.ensures.none)
+    rw c.from_residual-in_err-read_others.ensures (no_coded_others _ _ (one_word _) _ _ _ t c.in_err-read_others.ensures.none)
 
 pub returns-clause-some : goal.returns-clause-some
 returns-clause-some c =

@@ -1,6 +1,7 @@
 use Rattle.std.proofs.Common.{ℤ, arith, rules, subst, sym, w32}
 use mir.Val.{SFits}
 use Rattle.std.proofs.lemmas.Int.{to_z-of_z}
+use Rattle.jr_code.proofs.CodeLemmas.{one_word}
 use Rattle.jr_scan.specs.Step.{TakesDifference}
 use Rattle.jr_scan.proofs.Steps.{word_of, takes_difference_of, no_difference_far, no_difference_extended}
 use Rattle.jr_scan.proofs.block.read_difference.Goals as goal
@@ -10,7 +11,7 @@ returns-in_err-size-clause-none c = rw c.from_residual.ensures (no_difference_ex
 
 pub returns-then-size-gt11-clause-none : goal.returns-then-size-gt11-clause-none
 returns-then-size-gt11-clause-none c =
-    no_difference_far _ (c.one_word.ensures _) c.in_ok-size.size _ _ (word_of _ _ _ _ _ c.in_ok-size.ensures.found) (omega (arith, c.if-size-gt11.true))
+    no_difference_far _ (one_word _) c.in_ok-size.size _ _ (word_of _ _ _ _ _ c.in_ok-size.ensures.found) (omega (arith, c.if-size-gt11.true))
 
 pub returns-clause-some : goal.returns-clause-some
 returns-clause-some c =

@@ -1,6 +1,7 @@
 use Rattle.std.proofs.Common.{ℤ, ◌/◌, ◌%◌, ◌∷◌, ◌++◌, [], refl, replicate, pos, rules, arith, subst, sym, w32}
 use mir.Val.{SFits}
 use Rattle.std.proofs.lemmas.Int.{to_z-of_z}
+use Rattle.jr_code.proofs.CodeLemmas.{one_word}
 use Rattle.jr_scan.specs.Step.{TakesAcCode}
 use Rattle.jr_scan.proofs.Steps.{word_of, extra_of, takes_sixteen, takes_coef, no_step_extended, no_step_size}
 use Rattle.jr_scan.proofs.block.read_step.Goals as goal
@@ -12,12 +13,12 @@ returns-in_err-symbol-clause-none c = rw c.from_residual.ensures (no_step_extend
 pub returns-then-symbol-clause-none : goal.returns-then-symbol-clause-none
 returns-then-symbol-clause-none c =
     let s = c.in_ok-symbol.symbol in
-    no_step_size _ (c.one_word.ensures _) s (s % 16) _ _ (word_of _ _ _ _ _ c.in_ok-symbol.ensures.found) refl (λ e. c.if-symbol-eq0.false (omega (arith, e))) (λ e. c.if-symbol.true (omega (arith, e))) (λ some few. omega (arith, c.if-size-eq0.true, some))
+    no_step_size _ (one_word _) s (s % 16) _ _ (word_of _ _ _ _ _ c.in_ok-symbol.ensures.found) refl (λ e. c.if-symbol-eq0.false (omega (arith, e))) (λ e. c.if-symbol.true (omega (arith, e))) (λ some few. omega (arith, c.if-size-eq0.true, some))
 
 pub returns-then-size-gt-MOST_EXTRA-clause-none : goal.returns-then-size-gt-MOST_EXTRA-clause-none
 returns-then-size-gt-MOST_EXTRA-clause-none c =
     let s = c.in_ok-symbol.symbol in
-    no_step_size _ (c.one_word.ensures _) s (s % 16) _ _ (word_of _ _ _ _ _ c.in_ok-symbol.ensures.found) refl (λ e. c.if-size-eq0.false (omega (arith, e))) (λ e. c.if-size-eq0.false (omega (arith, e)))
+    no_step_size _ (one_word _) s (s % 16) _ _ (word_of _ _ _ _ _ c.in_ok-symbol.ensures.found) refl (λ e. c.if-size-eq0.false (omega (arith, e))) (λ e. c.if-size-eq0.false (omega (arith, e)))
     (λ some few. omega (arith, c.if-size-gt-MOST_EXTRA.true, few))
 
 pub returns-clause-some : goal.returns-clause-some

@@ -1,5 +1,6 @@
+use Rattle.jr_code.proofs.CodeLemmas.{one_word}
 use Rattle.jr_scan.proofs.McuLaws as laws
 use Rattle.jr_scan.proofs.laws.one_decoding.Goals as goal
 
 pub returns : goal.returns
-returns c = laws.one_decoding c.one_word.ensures
+returns c = laws.one_decoding one_word

@@ -1,5 +1,6 @@
+use Rattle.jr_code.proofs.CodeLemmas.{one_word}
 use Rattle.jr_scan.proofs.McuLaws as laws
 use Rattle.jr_scan.proofs.laws.one_front.Goals as goal
 
 pub returns : goal.returns
-returns c = laws.one_front c.one_word.ensures
+returns c = laws.one_front one_word

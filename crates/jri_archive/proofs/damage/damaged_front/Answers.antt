@@ -1,5 +1,4 @@
 use Rattle.std.proofs.Common.{rules}
-use Rattle.jr_scan.specs.Reader.{first_mcus}
 use Rattle.jri_archive.proofs.damage.damaged_front.Goals as goal
 
 pub returns-else-is_sound-clause-damaged : goal.returns-else-is_sound-clause-damaged
@@ -11,4 +10,4 @@ pub returns-else-is_sound-clause-front : goal.returns-else-is_sound-clause-front
 returns-else-is_sound-clause-front c =
     let r = c.read_all-reader.ensures in
     let front = c.mcus.ensures.front c.args.interval r.read.0 ((r.run, r.read.1), r.ended) in
-    (first_mcus c.read_all-reader.result c.mcus.result r.read.0, search (rules, front))
+    (r.read.0, search (rules, front))

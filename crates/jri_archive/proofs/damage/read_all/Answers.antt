@@ -1,8 +1,17 @@
-use Rattle.std.proofs.Common.{rules, ◌++◌, ◌∷◌, []}
+use Rattle.std.proofs.Common.{◌*◌, ◌++◌, take, rules, ◌∙◌}
+use Rattle.jr_scan.specs.McuReader.{per_mcu}
 use Rattle.jri_archive.proofs.damage.read_all.Goals as goal
 
-pub blocks-2-preserved : goal.blocks-2-preserved
-blocks-2-preserved c = let before = c.blocks-2.invariant.1 in (search rules, (before.0 ++ c.next.new.block ∷ [], c.in-Some.ensures.read before.0 before.1))
+pub returns-then-read-eq0-clause-read : goal.returns-then-read-eq0-clause-read
+returns-then-read-eq0-clause-read c =
+    let before = c.mcus.invariant.read in
+    (before.0 ++ take (c.read.result * per_mcu c.mcus.reader) c.read.new.blocks, c.read.ensures.read before.0 before.1)
 
-pub returns-in_default-clause-read : goal.returns-in_default-clause-read
-returns-in_default-clause-read c = let before = c.blocks-2.invariant.1 in (before.0, c.in_default.ensures.kept before.0 before.1)
+pub mcus-preserved : goal.mcus-preserved
+mcus-preserved c =
+    let before = c.mcus.invariant.read in
+    record {
+      run = c.read.ensures.run ∙ c.mcus.invariant.run;
+      room = search (rules, c.mcus.invariant.room);
+      read = (before.0 ++ take (c.read.result * per_mcu c.mcus.reader) c.read.new.blocks, c.read.ensures.read before.0 before.1);
+    }

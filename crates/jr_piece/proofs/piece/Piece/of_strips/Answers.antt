@@ -21,7 +21,7 @@ of_strips-requires-clause-even c =
     let ss = shared_strips strips in
     let tested = ordered i c.args.front strips c.as_slice.result.now c.are_in_order.result c.as_slice.ensures.value c.if-not-are_in_order.false c.are_in_order.ensures.order.0 c.are_in_order.ensures.strips c.requires.of in
     let each : c.mcus_of_each.result ≡ mcus_of_each ss = c.mcus_of_each.ensures ∙ ap (λ v. mcus_of_each (shared_strips v)) c.as_slice-2.ensures.value in
-    let per : length c.order.result.now ≡ length (order_of i.head) = ap (λ (o : List ℕ). length o) (c.order.ensures.value ∙ ap order_of c.head.ensures) in
+    let per : length c.order.result.now ≡ length (order_of i.head) = ap (λ (o : List ℕ). length o) (c.order.ensures.value ∙ ap order_of c.head.ensures.value) in
     let even : AreEven (mcus_of_each ss * length (order_of i.head)) ss = are_even i c.args.front ss tested in
     search (rules, subst (λ (n : ℕ). AreEven n ss) (sym (ap (λ (n : ℕ). n * length c.order.result.now) each ∙ ap (λ (n : ℕ). mcus_of_each ss * n) per)) even)
 

@@ -20,7 +20,7 @@ pub returns-in_default-clause-damaged : goal.returns-in_default-clause-damaged
 returns-in_default-clause-damaged c = λ _.
     let i = arc_value c.self.inside.interval in
     let own : c.deref.result.now ≡ i = search rules in
-    let lawful : IsLawful i.head = subst IsLawful (c.head.ensures ∙ ap (λ (v : IntervalValue). v.head) own) c.be_lawful.ensures in
+    let lawful : IsLawful i.head = subst IsLawful (c.head.ensures.value ∙ ap (λ (v : IntervalValue). v.head) own) c.be_lawful.ensures in
     let none : c.self.inside.next ≡ None = search rules in
     subst Damaged c.self.view_is (is_damaged c.one_run.ensures c.decoding_is_whole_run.ensures (record { interval = i; first = c.self.inside.first; next = c.self.inside.next }) lawful c.self.invariant (λ p e all few. let z : None ≡ Some p = sym none ∙ e in cc))
 
@@ -36,7 +36,7 @@ pub returns-then-self-mcus-clause-damaged : goal.returns-then-self-mcus-clause-d
 returns-then-self-mcus-clause-damaged c = λ f.
     let i = arc_value c.self.inside.interval in
     let own : c.deref.result.now ≡ i = search rules in
-    let lawful : IsLawful i.head = subst IsLawful (c.head.ensures ∙ ap (λ (v : IntervalValue). v.head) own) c.be_lawful.ensures in
+    let lawful : IsLawful i.head = subst IsLawful (c.head.ensures.value ∙ ap (λ (v : IntervalValue). v.head) own) c.be_lawful.ensures in
     let bytes : c.bytes.result.now ≡ i.bytes = search rules in
     subst Damaged c.self.view_is (is_damaged c.one_run.ensures c.decoding_is_whole_run.ensures (record { interval = i; first = c.self.inside.first; next = c.self.inside.next }) lawful c.self.invariant (λ p e all few.
     let two : Some c.in-Some.place ≡ Some p = sym c.in-Some.is ∙ e in
@@ -48,6 +48,6 @@ pub returns-else-self-mcus-clause-damaged : goal.returns-else-self-mcus-clause-d
 returns-else-self-mcus-clause-damaged c = λ f.
     let i = arc_value c.self.inside.interval in
     let own : c.deref.result.now ≡ i = search rules in
-    let lawful : IsLawful i.head = subst IsLawful (c.head.ensures ∙ ap (λ (v : IntervalValue). v.head) own) c.be_lawful.ensures in
+    let lawful : IsLawful i.head = subst IsLawful (c.head.ensures.value ∙ ap (λ (v : IntervalValue). v.head) own) c.be_lawful.ensures in
     let count : c.mcus.result ≡ i.mcus = search rules in
     subst Damaged c.self.view_is (is_damaged c.one_run.ensures c.decoding_is_whole_run.ensures (record { interval = i; first = c.self.inside.first; next = c.self.inside.next }) lawful c.self.invariant (λ p e all few. c.if-self-mcus.false (all ∙ sym count)))

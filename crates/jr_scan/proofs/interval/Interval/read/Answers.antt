@@ -1,11 +1,12 @@
 use Rattle.std.proofs.Common.{rules}
+use Rattle.jr_code.proofs.CodeLemmas.{one_word}
 use Rattle.jr_scan.proofs.InRange.{decoding_in_range}
 use Rattle.jr_scan.proofs.McuLaws.{one_decoding}
 use Rattle.jr_scan.proofs.interval.Interval.read.Goals as goal
 
 pub returns-then-is_sound-clause-only : goal.returns-then-is_sound-clause-only
 returns-then-is_sound-clause-only c = λ ys d.
-    one_decoding c.one_word.ensures c.args.self.now ys _ d (c.if-is_sound.ensures.sound (search rules) c.args.self.now _ (c.in_ok-blocks.ensures.run, c.in_ok-blocks.ensures.read))
+    one_decoding one_word c.args.self.now ys _ d (c.if-is_sound.ensures.sound (search rules) c.args.self.now _ (c.in_ok-blocks.ensures.run, c.in_ok-blocks.ensures.read))
 
 pub returns-else-is_sound-clause-none : goal.returns-else-is_sound-clause-none
 returns-else-is_sound-clause-none c = λ ys d.

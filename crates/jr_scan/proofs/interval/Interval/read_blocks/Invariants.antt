@@ -1,9 +1,14 @@
-use Rattle.std.proofs.Common.{◌≡◌}
-use Rattle.jr_scan.specs.Reader.{HasRead, whole_run, blocks_left}
+use Rattle.std.proofs.Common.{◌≡◌, ◌-◌, length}
+use Rattle.jr_scan.specs.Run.{whole_run}
+use Rattle.jr_scan.specs.McuReader.{HasRead}
 use Rattle.jr_scan.proofs.interval.Interval.read_blocks.Given as goal
 
-abbrev pub invariant-blocks-2 : goal.invariant-blocks-2
-invariant-blocks-2 l = (l.reader.run ≡ whole_run l.self) × HasRead l.reader l.blocks.items
+abbrev pub invariant-mcus : goal.invariant-mcus
+invariant-mcus l = record {
+  run : l.reader.run ≡ whole_run l.self;
+  room : length l.next ≡ 10;
+  read : HasRead l.reader l.blocks.items;
+}
 
-abbrev pub decreases-blocks-2 : goal.decreases-blocks-2
-decreases-blocks-2 l = blocks_left l.reader
+abbrev pub decreases-mcus : goal.decreases-mcus
+decreases-mcus l = l.reader.run.mcus - l.reader.mcu

@@ -1,0 +1,69 @@
+//! The blocks of one MCU.
+
+ghost use Rattle.std.specs.Prelude.{◌≡◌, length, pos, IfSome, IfNone, OnSome, slice_index_or};
+ghost use Rattle.std.specs.List.{All};
+ghost use Rattle.jr_head.specs.Geometry.{IsLawful, order_of};
+ghost use Rattle.jr_scan.specs.Block.{IsInDcRange};
+ghost use Rattle.jr_scan.specs.Step.{TakesBlock, HasNoBlock};
+ghost use Rattle.jr_scan.specs.Run.{predicted, TakesMcu, BeginsNoMcu};
+
+use crate::block::{Block, read_block};
+use jr_code::{Bits, CodeBook};
+use jr_head::Head;
+
+/// Takes a block, the prediction added to its first coefficient, which it gives.
+pub(crate) fn read_predicted(
+    dc: &CodeBook,
+    ac: &CodeBook,
+    bits: &mut Bits<'_>,
+    prediction: i32,
+    block: &mut Block,
+) -> Option<i32>
+    requires { IsInDcRange prediction }
+    ensures some { OnSome result (TakesBlock dc.now ac.now prediction block.new bits.old bits.new) }
+    ensures first { IfSome result (λ first. first ≡ slice_index_or block.new 0 (pos 0)) }
+    ensures none { IfNone result (HasNoBlock dc.now ac.now prediction bits.old) }
+{
+    read_block(dc, ac, bits, block)?;
+    let first = prediction + block[0];
+    if first < -32768 || first > 32767 {
+        return None;
+    }
+    block[0] = first;
+    Some(first)
+}
+
+/// Takes the blocks of one MCU, in order, and makes of the predictions those behind it. Bits and predictions move only
+/// where all of it is there; else the blocks hold nothing of meaning.
+pub(crate) fn read_mcu(
+    head: &Head,
+    bits: &mut Bits<'_>,
+    predictions: &mut [i32; 3],
+    blocks: &mut [Block],
+) -> Option<()>
+    requires lawful { IsLawful head.now }
+    requires room { length blocks.old ≡ length (order_of head.now) }
+    requires in_range { All IsInDcRange predictions.old }
+    ensures some { OnSome result (TakesMcu head.now predictions.old blocks.new bits.old bits.new) }
+    ensures predicted { OnSome result (predictions.new ≡ predicted head.now predictions.old blocks.new) }
+    ensures in_range { All IsInDcRange predictions.new }
+    ensures none { IfNone result (BeginsNoMcu head.now predictions.old bits.old) }
+    ensures kept { IfNone result ((bits.new ≡ bits.old) × (predictions.new ≡ predictions.old)) }
+{
+    let order = head.order();
+    let mut left = bits.again();
+    let mut last = *predictions;
+    for k in 0..order.len() {
+        let c = order[k];
+        let dc = head.dc_book(u32::from(c));
+        let ac = head.ac_book(u32::from(c));
+        let prediction = last[c as usize];
+        let Some(first) = read_predicted(dc, ac, &mut left, prediction, &mut blocks[k]) else {
+            return None;
+        };
+        last[c as usize] = first;
+    }
+    *bits = left;
+    *predictions = last;
+    Some(())
+}

@@ -1,0 +1,170 @@
+//! The whole MCUs of an interval, one after the other.
+
+ghost use Rattle.std.specs.Prelude.{◌≡◌, ◌<◌, ◌≤◌, ◌+◌, ◌*◌, ◌++◌, ◌^◌, ℕ, ℤ, List, [], length, take, drop, false, IsTrue, IfNone, OnSome};
+ghost use Rattle.std.specs.List.{All};
+ghost use Rattle.jr_code.specs.Bits.{bits};
+ghost use Rattle.jr_scan.specs.Block.{IsInDcRange, IsInRange};
+
+use crate::block::Block;
+use crate::interval_ref::IntervalRef;
+use crate::mcu::read_mcu;
+use crate::place::Place;
+use jr_code::Bits;
+use std::marker::Model;
+
+/// The most data units that an MCU has (T.81, B.2.3): blocks with so much room take a whole one of any head.
+pub const MOST_UNITS: usize = 10;
+
+/// The bits of the bytes from a place on.
+pub(crate) fn bits_from(bytes: &[u8], bit: u64) -> Bits<'_>
+    requires within { bit ≤ 8 * length bytes.now }
+    requires few { length bytes.now < 2 ^ 61 }
+    ensures { result ≡ drop bit (bits bytes.now) }
+{
+    let mut bits = Bits::over(&bytes[(bit / 8) as usize..]);
+    let _ = bits.take((bit % 8) as u32);
+    bits
+}
+
+/// Reads the whole MCUs of a run one after the other. It always stands between two of them: an MCU that is not whole
+/// moves nothing.
+#[derive(Drop)]
+pub struct McuReader<'a> {
+    interval: IntervalRef<'a>,
+    from: Place,
+    mcus: u32,
+    bits: Bits<'a>,
+    predictions: [i32; 3],
+    mcu: u32,
+}
+
+impl<'a> Model for McuReader<'a> {
+    ghost use Rattle.std.specs.Prelude.{◌≡◌, ◌≤◌, ◌*◌, ◌-◌, length};
+    ghost use Rattle.std.specs.List.{All};
+    ghost use Rattle.jr_scan.specs.Block.{IsInDcRange};
+    ghost use Rattle.jr_scan.specs.McuReader.{McuReaderValue, IsMcuReader};
+
+    ghost Value = { McuReaderValue };
+
+    ghost view = { λ r. record { run = record { interval = r.interval; from = r.from; mcus = r.mcus }; mcu = r.mcu; place = record { bit = 8 * length r.interval.bytes - length r.bits; predictions = r.predictions } } };
+
+    ghost invariant = { λ r. IsMcuReader (record { run = record { interval = r.interval; from = r.from; mcus = r.mcus }; mcu = r.mcu; place = record { bit = 8 * length r.interval.bytes - length r.bits; predictions = r.predictions } }) r.bits };
+}
+
+impl<'a> McuReader<'a> {
+    ghost use Rattle.jr_scan.specs.IntervalValue.{IntervalValue};
+    ghost use Rattle.jr_scan.specs.Mcus.{Decodes, HasNoDecoding, LongestFront};
+    ghost use Rattle.jr_scan.specs.Run.{whole_run, IsRun, HasNoMcu, run_from};
+    ghost use Rattle.jr_scan.specs.declared.place.RunEnd.TheVariants.{AllRead};
+    ghost use Rattle.jr_scan.specs.declared.mcu_reader.TheConstants.{MOST_UNITS};
+    ghost use Rattle.jr_scan.specs.McuReader.{HasRead, HasReadOf, HasReadAll, HasEnded, per_mcu};
+
+    /// A reader of all MCUs of an interval.
+    pub fn over(interval: IntervalRef<'a>) -> McuReader<'a>
+        ensures run { result.run ≡ whole_run interval.entry }
+        ensures mcu { result.mcu ≡ 0 }
+        ensures read { HasRead result [] }
+    {
+        let mcus = interval.mcus();
+        McuReader::at(interval, Place::start(), mcus)
+    }
+
+    /// A reader of so many MCUs from a place of an interval on.
+    pub fn at(interval: IntervalRef<'a>, from: Place, mcus: u32) -> McuReader<'a>
+        requires within { from.bit ≤ 8 * length interval.bytes }
+        requires in_range { All IsInDcRange from.predictions }
+        ensures run { result.run ≡ run_from interval.entry from mcus }
+        ensures mcu { result.mcu ≡ 0 }
+        ensures read { HasRead result [] }
+    {
+        interval.head().be_lawful();
+        let bits = bits_from(interval.bytes(), from.bit);
+        let predictions = from.predictions;
+        McuReader {
+            interval,
+            from,
+            mcus,
+            bits,
+            predictions,
+            mcu: 0,
+        }
+    }
+
+    /// The interval that it reads.
+    pub fn interval(&self) -> &IntervalRef<'a>
+        ensures { result.now ≡ self.now.run.interval }
+    {
+        &self.interval
+    }
+
+    /// Reads the next MCU into blocks that have just room for it. None where no whole one follows.
+    fn next(&mut self, blocks: &mut [Block]) -> Option<()>
+        requires more { self.old.mcu < self.old.run.mcus }
+        requires room { length blocks.old ≡ per_mcu self.old }
+        ensures run { self.new.run ≡ self.old.run }
+        ensures mcu { OnSome result (self.new.mcu ≡ self.old.mcu + 1) }
+        ensures some { OnSome result (IsRun (run_from self.old.run.interval self.old.place 1) blocks.new self.new.place AllRead) }
+        ensures none { IfNone result (HasNoMcu self.old.run.interval self.old.place) }
+        ensures kept { IfNone result (self.new ≡ self.old) }
+    {
+        let head = self.interval.head();
+        read_mcu(head, &mut self.bits, &mut self.predictions, blocks)?;
+        self.mcu += 1;
+        Some(())
+    }
+
+    /// Reads the blocks of the next MCUs, as many whole ones as the slice has room for or as follow; tells how many MCUs
+    /// they are. What the slice holds behind them means nothing.
+    pub fn read(&mut self, blocks: &mut [Block]) -> u32
+        ensures run { self.new.run ≡ self.old.run }
+        ensures mcus { self.new.mcu ≡ self.old.mcu + result }
+        ensures few { self.new.mcu ≤ self.new.run.mcus }
+        ensures fits { result * per_mcu self.old ≤ length blocks.new }
+        ensures read { (zs : List (List ℤ)) → HasRead self.old zs → HasRead self.new (zs ++ take (result * per_mcu self.old) blocks.new) }
+        ensures in_range { All IsInRange (take (result * per_mcu self.old) blocks.new) }
+        ensures ended { (result + 1) * per_mcu self.old ≤ length blocks.new → HasEnded self.new }
+        ensures none { MOST_UNITS ≤ length blocks.new → result ≡ 0 → HasEnded self.new }
+        ensures stays { HasEnded self.old → self.new ≡ self.old }
+    {
+        let per_mcu = self.interval.head().order().len();
+        let room = blocks.len() / per_mcu;
+        let most = room.min((self.mcus - self.mcu) as usize) as u32;
+        for k in 0..most {
+            let start = k as usize * per_mcu;
+            let end = start + per_mcu;
+            let Some(()) = self.next(&mut blocks[start..end]) else {
+                return k;
+            };
+        }
+        most
+    }
+
+    /// How many MCUs are read: those of the interval's longest front, once no further one follows.
+    pub fn mcus(&self) -> u32
+        ensures value { result ≡ self.now.mcu }
+        ensures front { (i : IntervalValue) (zs : List (List ℤ)) → HasReadAll self.now i zs → LongestFront i result zs }
+    {
+        self.mcu
+    }
+
+    /// Where the next MCU starts.
+    pub fn place(&self) -> Place
+        ensures value { result ≡ self.now.place }
+        ensures within { result.bit ≤ 8 * length self.now.run.interval.bytes }
+        ensures in_range { All IsInDcRange result.predictions }
+    {
+        let bits = 8 * self.interval.bytes().len() as u64;
+        Place {
+            bit: bits.saturating_sub(self.bits.left()),
+            predictions: self.predictions,
+        }
+    }
+
+    /// Whether all MCUs are read and fewer than eight bits are left.
+    pub fn is_sound(&self) -> bool
+        ensures sound { IsTrue result → (i : IntervalValue) (zs : List (List ℤ)) → HasReadOf self.now i zs → Decodes i zs }
+        ensures damaged { result ≡ false → (i : IntervalValue) (zs : List (List ℤ)) → HasReadAll self.now i zs → HasNoDecoding i }
+    {
+        self.mcu == self.mcus && self.bits.left() < 8
+    }
+}
