@@ -1,7 +1,6 @@
 //! A scan, cut into its restart intervals.
 
 ghost use Rattle.std.specs.Prelude.{◌≡◌, ◌↔◌, ◌<◌, ◌≤◌, ◌^◌, ℕ, List, length, drop, IsTrue, IfOk, slice_index_or, []};
-ghost use Rattle.jr_head.specs.Geometry.{IsLawful};
 
 use crate::cut::cut;
 use crate::interval::Interval;
@@ -128,10 +127,8 @@ impl Scan {
 
     /// The head of the file.
     pub fn head(&self) -> &Head
-        ensures value { result.now ≡ self.now.head }
-        ensures lawful { IsLawful result.now }
+        ensures { result.now ≡ self.now.head }
     {
-        self.head.be_lawful();
         &self.head
     }
 

@@ -18,13 +18,13 @@ few_columns b h c x n e l p q =
 
 pub fill_front-done-requires-clause-short : goal.fill_front-done-requires-clause-short
 fill_front-done-requires-clause-short c =
-    let few = few_columns c.args.self.now c.head-head.result.now c.args.c c.args.x (length c.args.out.now) (c.head-head.ensures.value ∙ ap (λ (s : ScanValue). s.head) c.scan.ensures) c.be_lawful.ensures c.requires.component c.requires.column in
+    let few = few_columns c.args.self.now c.head-head.result.now c.args.c c.args.x (length c.args.out.now) (c.head-head.ensures ∙ ap (λ (s : ScanValue). s.head) c.scan.ensures) c.be_lawful.ensures c.requires.component c.requires.column in
     omega (arith, few, c.runs-test.true, c.runs.auto.out, length-take-le (length c.runs.out - c.runs.done) (drop c.runs.done c.runs.out) (omega (arith, length-drop c.runs.done c.runs.out)))
 
 pub runs-preserved : goal.runs-preserved
 runs-preserved c =
     let b = c.args.self.now in
-    let head = c.head-head.ensures.value ∙ ap (λ (s : ScanValue). s.head) c.scan.ensures in
+    let head = c.head-head.ensures ∙ ap (λ (s : ScanValue). s.head) c.scan.ensures in
     let spot = c.place-start.ensures.closed ∙ ap (λ (h : HeadValue). spot_at h c.args.c (place_of (horizontal_of h c.args.c) (vertical_of h c.args.c) 0 c.args.y)) head in
     let some : 0 < horizontal_of b.scan.head c.args.c = subst (λ (h : HeadValue). 0 < horizontal_of h c.args.c) head (omega (arith, c.place-start.ensures.lies.block_across)) in
     record {
