@@ -7,3 +7,5 @@ pub mod Stream
 pub mod CrewValue
 pub mod Crew
 pub mod SomeLines
+pub mod MarkBytes
+pub mod Whole

@@ -1,5 +1,4 @@
 use Rattle.std.proofs.Common.{rules, arith, ap, ◌∙◌, ◌≡◌, ℕ, ◌+◌, ◌*◌, ◌≤◌}
-use Rattle.jr_head.specs.HeadValue.{HeadValue}
 use Rattle.jr_head.specs.Geometry.{IsLawful, vertical_max}
 use Rattle.jr_paint.specs.Lines.{next_lines_of}
 use Rattle.jr_wall.specs.Samples.{samples_of}

@@ -1,7 +1,5 @@
-use Rattle.std.proofs.Common.{rules, arith, sym, subst, ap, ◌∙◌, ◌≡◌, ℕ, ◌+◌, ◌-◌, ◌*◌, ◌/◌, ◌%◌, ◌<◌, ◌≤◌, ◌++◌, [], None, length, length-append, slice_index_or}
-use Rattle.std.proofs.lemmas.List.{get_or_append_left, get_or-append_right}
-use Rattle.std.proofs.lemmas.Nat.{div-add-mod'}
-use Rattle.std.proofs.Math.Nat.{mul-add-mod_self_right}
+use Rattle.std.proofs.Common.{rules, arith, subst, ap, ◌∙◌, ◌≡◌, ℕ, ◌*◌, ◌<◌, ◌++◌, [], length}
+use Rattle.std.proofs.lemmas.List.{get_or_append_left}
 use Rattle.jr_head.specs.Geometry.{blocks_of, mcus_across}
 use Rattle.jr_scan.specs.ScanValue.{ScanValue}
 use Rattle.jr_stream.specs.RowsValue.{RowsValue}
