@@ -2,7 +2,7 @@
  * libjri: a decoder of baseline JPEG files (ITU-T T.81 | ISO/IEC 10918-1) in memory.
  *
  * It is written in Rattle. What stands under "Proved" at a call is its contract, which the prover has accepted for every input
- * (docs/C.md); what stands under "Tested" is in no contract, and tools/check-library sees it.
+ * (docs/C.md); what stands under "Tested" is in no contract, and a test or tools/check-library sees it.
  *
  * Proved of all calls: each returns, whatever the bytes, and touches nothing but its buffers and structs; none starts a thread,
  * waits, or keeps anything from one call to the next, so any of them may run at once in any threads, on buffers of their own.
@@ -51,7 +51,7 @@ enum {
 };
 
 /*
- * What a file's head says of its picture. Tested: with another answer than JRI_SOUND all but the refusal's two numbers is 0, and
+ * What a file's head says of its picture. Proved: with another answer than JRI_SOUND all but the refusal's two numbers is 0, and
  * with JRI_SOUND these two are.
  */
 struct jri_measure {
@@ -66,8 +66,8 @@ struct jri_measure {
 };
 
 /*
- * What a decoding tells. Tested: without a picture all but the refusal's two numbers is 0, and so is with a picture what its end
- * of the scan doesn't speak of.
+ * What a decoding tells. Proved: without a picture all but the refusal's two numbers is 0; with one these two are, and what its
+ * end of the scan doesn't speak of. With JRI_NO_ROOM and JRI_NO_LINES all is 0.
  */
 struct jri_report {
     uint32_t intervals; /* how many restart intervals there are */
@@ -89,37 +89,38 @@ uint32_t jri_version(void);
  * Reads a file's head and decodes nothing.
  *
  * Proved: with JRI_SOUND `measure` has what the head says, with JRI_REFUSED the number and detail of the file's first fault, and
- * the only further answer is JRI_NO_MEMORY. Tested: that is answered only where memory was refused.
+ * the only further answer is JRI_NO_MEMORY, with refusal 19. Tested: that is answered only where memory was refused.
  */
 uint32_t jri_measure(const uint8_t *file, size_t file_length, struct jri_measure *measure);
 
 /*
- * Decodes a file.
+ * Decodes a file. It takes memory for the scan and for one row of MCUs, whose height is 8, 16, 24 or 32 lines, and none for the
+ * picture.
  *
  * Proved: with JRI_SOUND and JRI_DAMAGED the first bytes of `pixels` are the lines of its picture from the top, each pixel a byte
  * of grey or one each of red, green and blue, those of `marks` are the marks of its intervals unless marks_room is 0, what stands
  * behind them is as it was, and `report` tells of both; with any other answer all of both buffers is as it was, and with
  * JRI_REFUSED `report` has the file's first fault. A damaged interval shows its longest decodable front of whole MCUs, and then
- * mid-grey: 128 in all components. JRI_SOUND means that no interval is damaged, JRI_DAMAGED that one is.
+ * mid-grey: 128 in all components. JRI_SOUND means that no interval is damaged, JRI_DAMAGED that one is. JRI_NO_ROOM is answered
+ * only where the pixels have less room than a measure says, or marks that were asked for; with JRI_NO_MEMORY the refusal is 19.
  *
- * Tested: JRI_NO_ROOM is answered only where the pixels have less room than a measure says, or marks that were asked for, and
- * JRI_NO_MEMORY only where memory was refused.
+ * Tested: JRI_NO_MEMORY is answered only where memory was refused.
  */
 uint32_t jri_decode(const uint8_t *file, size_t file_length, uint8_t *pixels, size_t pixels_room, uint8_t *marks,
                     size_t marks_room, struct jri_report *report);
 
 /*
- * Decodes `count` lines of a file's picture from line `first` on, the top one being line 0. It takes memory for the scan and for
- * one row of MCUs, whose height is 8, 16, 24 or 32 lines, and none for the picture.
+ * Decodes `count` lines of a file's picture from line `first` on, the top one being line 0. It takes as much memory as jri_decode.
  *
  * Proved: with JRI_SOUND and JRI_DAMAGED the first bytes of `pixels` are these lines of the picture, as jri_decode gives them, and
  * what stands behind them is as it was; with any other answer all of the buffer is as it was, and with JRI_REFUSED `report` has
  * the file's first fault. The report's sound and damaged count the intervals that end in the rows of MCUs that have these lines,
  * and JRI_DAMAGED means that one of them has no decoding; so over calls that share no row of MCUs and leave out none they add up
- * to those of jri_decode.
+ * to those of jri_decode. JRI_NO_LINES is answered only where the picture has not all of these lines, or none were asked for;
+ * where that is so, no picture is given. JRI_NO_ROOM is answered only where the pixels have too little room for the lines; with
+ * JRI_NO_MEMORY the refusal is 19.
  *
- * Tested: JRI_NO_LINES is answered where the picture has not all of these lines, or none were asked for, and only there;
- * JRI_NO_ROOM only where the pixels have too little room for them, and JRI_NO_MEMORY only where memory was refused.
+ * Tested: JRI_NO_MEMORY is answered only where memory was refused.
  *
  * Each call reads the file anew, and the interval before the lines from its start: a file without restart markers is read from its
  * first line on, so such a picture is best asked for in few calls of many lines each.
@@ -131,8 +132,8 @@ uint32_t jri_decode_lines(const uint8_t *file, size_t file_length, uint32_t firs
  * Puts the words for a refusal, by its number and detail, into the first bytes of `text`, as many as it has room for and with no
  * 0 behind them, and gives how many it has put.
  *
- * Proved: some where a refusal has that number and the text has room, none where no refusal has it, and no more than there is room
- * for; what stands behind them is as it was. Tested: the words, which all fit 64 bytes.
+ * Proved: some where a refusal has that number and the text has room, none where no refusal has it, at most 64, and no more than
+ * there is room for; what stands behind them is as it was. Tested: the words.
  */
 uint64_t jri_refusal_text(uint32_t refusal, uint64_t detail, uint8_t *text, size_t text_room);
 

@@ -36,12 +36,12 @@ count_first f e (x ∷ xs) (suc n) rest =
     sum_by-cons (λ (t : Mark). cond (f t) 1 0) x (take n xs) ∙ ap (λ (k : ℕ). cond (f x) 1 0 + k) others ∙ sym (sum_by-cons (λ (t : Mark). cond (f t) 1 0) x xs)
 
 -- no interval ends before the first row, and with the last one all that are decoded
-none_first : (h : HeadValue) (n : ℕ) → 0 < mcus_of h → 0 < intervals_of h → intervals_before h (coded_before h n 0) ≡ 0
+pub none_first : (h : HeadValue) (n : ℕ) → 0 < mcus_of h → 0 < intervals_of h → intervals_before h (coded_before h n 0) ≡ 0
 none_first h n some more =
     let start : coded_before h n 0 ≡ 0 * h.restart + 0 = omega arith in
     ap (intervals_before h) start ∙ ends_before h 0 0 more (mcus_in_some h 0 some more)
 
-all_last : (h : HeadValue) (n : ℕ) → 0 < mcus_of h → n ≤ intervals_of h → intervals_before h (coded_before h n (mcus_down h)) ≡ n
+pub all_last : (h : HeadValue) (n : ℕ) → 0 < mcus_of h → n ≤ intervals_of h → intervals_before h (coded_before h n (mcus_down h)) ≡ n
 all_last h n some few =
     let end : coded_before h n (mcus_down h) ≡ mcus_before h n = omega (arith, all_rows h, first_few h n some) in
     ap (intervals_before h) end ∙ first_end h n some few

@@ -4,6 +4,7 @@ pub mod UnitComponents
 pub mod RowLines
 pub mod FirstBoards
 pub mod ReadRows
+pub mod PutMarks
 pub mod PictureRows
 pub mod ShownUnits
 pub mod PaintedRows
@@ -11,3 +12,4 @@ pub mod WholeRows
 pub mod Countings
 pub mod Sendings
 pub mod SomeLines
+pub mod WholePictures

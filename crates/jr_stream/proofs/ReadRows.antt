@@ -94,6 +94,13 @@ counts_none scan n from to m s d e = record {
   damaged = λ b first. let same = ap (λ (k : ℕ). count_by is_damaged (take k (marks_of b))) e in omega (arith, d, same);
 }
 
+-- the mark of a decoded interval on a board, where its outcome is known
+pub mark_there : (scan : ScanValue) (n number : ℕ) → number < n → (t : Bool) → ((p : PieceValue) → IsOutcome p → p.interval ≡ interval_of scan number → p.is_sound ≡ t)
+    → (b : BoardValue) → HasFirst scan n b → mark_of (piece_at b number) ≡ cond t Sound Damaged
+mark_there scan n number decoded t tells b first =
+    let p = posted_there scan n b first number decoded in
+    ap mark_of p.at ∙ ap (λ (s : Bool). cond s Sound Damaged) (tells p.piece p.outcome p.interval)
+
 -- the mark of one interval
 module _ (scan : ScanValue) (n number : ℕ) (m : Marked) (decoded : number < n) (few : number < length scan.intervals) where
   one_more : (f : Mark → Bool) (b : BoardValue) (first : HasFirst scan n b) (k : Mark) → mark_of (piece_at b number) ≡ k → count_by f (take (number + 1) (marks_of b)) ≡ count_by f (take number (marks_of b)) + cond (f k) 1 0
@@ -101,21 +108,16 @@ module _ (scan : ScanValue) (n number : ℕ) (m : Marked) (decoded : number < n)
       let inside : number < length (marks_of b) = omega (arith, few, marks_there scan n b first) in
       count_next f (marks_of b) number k inside (marks_at b.pieces number ∙ e)
 
-  mark_is : (t : Bool) → ((p : PieceValue) → IsOutcome p → p.interval ≡ interval_of scan number → p.is_sound ≡ t) → (b : BoardValue) → HasFirst scan n b → mark_of (piece_at b number) ≡ cond t Sound Damaged
-  mark_is t tells b first =
-      let p = posted_there scan n b first number decoded in
-      ap mark_of p.at ∙ ap (λ (s : Bool). cond s Sound Damaged) (tells p.piece p.outcome p.interval)
-
   pub counts_one : (t : Bool) → m.sound ≡ cond t 1 0 → m.damaged ≡ cond t 0 1 → ((p : PieceValue) → IsOutcome p → p.interval ≡ interval_of scan number → p.is_sound ≡ t) → CountsMarks scan n number (number + 1) m
   counts_one true s d tells = record {
     few = omega (arith, s, d);
-    sound = λ b first. let e = one_more is_sound b first Sound (mark_is true tells b first) in omega (arith, s, e);
-    damaged = λ b first. let e = one_more is_damaged b first Sound (mark_is true tells b first) in omega (arith, d, e);
+    sound = λ b first. let e = one_more is_sound b first Sound (mark_there scan n number decoded true tells b first) in omega (arith, s, e);
+    damaged = λ b first. let e = one_more is_damaged b first Sound (mark_there scan n number decoded true tells b first) in omega (arith, d, e);
   }
   counts_one false s d tells = record {
     few = omega (arith, s, d);
-    sound = λ b first. let e = one_more is_sound b first Damaged (mark_is false tells b first) in omega (arith, s, e);
-    damaged = λ b first. let e = one_more is_damaged b first Damaged (mark_is false tells b first) in omega (arith, d, e);
+    sound = λ b first. let e = one_more is_sound b first Damaged (mark_there scan n number decoded false tells b first) in omega (arith, s, e);
+    damaged = λ b first. let e = one_more is_damaged b first Damaged (mark_there scan n number decoded false tells b first) in omega (arith, d, e);
   }
 
 -- the marks of two parts

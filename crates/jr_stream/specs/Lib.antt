@@ -5,3 +5,5 @@ pub mod RowsValue
 pub mod Rows
 pub mod Stream
 pub mod SomeLines
+pub mod MarkBytes
+pub mod Whole

@@ -6,6 +6,7 @@ mod announcing;
 mod band;
 mod blank;
 mod lines;
+mod mark_bytes;
 mod marked;
 mod painter;
 mod painting;
@@ -13,6 +14,7 @@ mod part;
 mod rows;
 mod sample_row;
 mod shape;
+mod whole;
 mod writing;
 
 pub use announcing::announce;
@@ -27,3 +29,4 @@ pub use shape::{
     Shape, bytes_of_row, coded_of_row, intervals_of_row, lines_of, room_for, shape_of,
 };
 pub use writing::{Unwritten, counts_of, write_rows, write_scan};
+pub use whole::paint_scan;

@@ -6,6 +6,7 @@ ghost use Rattle.jr_paint.specs.Lines.{line_size, next_lines_of};
 ghost use Rattle.jr_paint.specs.declared.netpbm.TheConstants.{WIDEST};
 ghost use Rattle.jr_picture.specs.BoardValue.{BoardValue};
 ghost use Rattle.jr_picture.specs.Samples.{samples_of};
+ghost use Rattle.jr_stream.specs.MarkBytes.{HasMarkRoom, PutsBetween};
 ghost use Rattle.jr_stream.specs.Rows.{HasFirst, HasSampleRoom};
 ghost use Rattle.jr_stream.specs.SomeLines.{CountsBetween, PaintsLines, row_behind, row_with};
 
@@ -62,8 +63,8 @@ fn bytes_to(lines: u32, all: u32, line: usize) -> usize
     lines as usize * line
 }
 
-/// Paints lines `first` to `end` of a scan's picture of at most `WIDTH` columns. A function of its own, so that only a wide
-/// picture takes the stack for wide lines.
+/// Paints lines `first` to `end` of a scan's picture of at most `WIDTH` columns, and puts the marks of the intervals that end in
+/// their rows of MCUs. A function of its own, so that only a wide picture takes the stack for wide lines.
 #[inline(never)]
 fn paint_within<const WIDTH: usize>(
     scan: &Scan,
@@ -71,6 +72,7 @@ fn paint_within<const WIDTH: usize>(
     first: u32,
     end: u32,
     pixels: &mut [u8],
+    marks: &mut [u8],
 ) -> Marked
     requires stack { WIDTH ≤ WIDEST }
     requires wide { scan.now.head.width ≤ WIDTH }
@@ -78,8 +80,10 @@ fn paint_within<const WIDTH: usize>(
     requires inside { end ≤ scan.now.head.height }
     requires room { HasSampleRoom scan.now.head work.old }
     requires pixels { length pixels.old ≡ (end - first) * line_size scan.now.head }
+    requires places { HasMarkRoom scan.now marks.old }
     ensures lines { (b : BoardValue) → HasFirst scan.now (length scan.now.intervals) b → pixels.new ≡ next_lines_of scan.now.head (samples_of b) first (end - first) }
     ensures counts { CountsBetween scan.now (row_with scan.now.head first) (row_behind scan.now.head end) result }
+    ensures puts { PutsBetween scan.now (row_with scan.now.head first) (row_behind scan.now.head end) marks.old marks.new }
 {
     let head = scan.head();
     head.be_lawful();
@@ -93,13 +97,39 @@ fn paint_within<const WIDTH: usize>(
     'rows: while rows.row() < behind {
         let row = rows.row();
         let (y, count) = lines_in(head, row, first, end);
-        let more = work.decode(&mut rows);
+        let more = work.decode(&mut rows, marks);
         marked = marked.with(more);
         let from = bytes_to(y - first, end - first, line);
         let to = bytes_to(y - first + count, end - first, line);
         work.paint_some(head, y, count, &mut lines, &mut pixels[from..to]);
     }
     marked
+}
+
+/// Paints lines `first` to `end` of a scan's picture, and puts the marks of the intervals that end in their rows of MCUs, where
+/// these are asked for.
+pub(crate) fn paint_between(
+    scan: &Scan,
+    work: &mut SampleRow,
+    first: u32,
+    end: u32,
+    pixels: &mut [u8],
+    marks: &mut [u8],
+) -> Marked
+    requires some { first < end }
+    requires inside { end ≤ scan.now.head.height }
+    requires room { HasSampleRoom scan.now.head work.old }
+    requires pixels { length pixels.old ≡ (end - first) * line_size scan.now.head }
+    requires places { HasMarkRoom scan.now marks.old }
+    ensures lines { (b : BoardValue) → HasFirst scan.now (length scan.now.intervals) b → pixels.new ≡ next_lines_of scan.now.head (samples_of b) first (end - first) }
+    ensures counts { CountsBetween scan.now (row_with scan.now.head first) (row_behind scan.now.head end) result }
+    ensures puts { PutsBetween scan.now (row_with scan.now.head first) (row_behind scan.now.head end) marks.old marks.new }
+{
+    scan.head().be_lawful();
+    if scan.head().width() as usize <= NARROW {
+        return paint_within::<NARROW>(scan, work, first, end, pixels, marks);
+    }
+    paint_within::<WIDEST>(scan, work, first, end, pixels, marks)
 }
 
 /// Decodes as much of a scan as `count` lines of its picture from line `first` on take, and paints them, a line behind the
@@ -123,9 +153,6 @@ pub fn paint_scan_lines(
     each_interval_has_an_outcome();
     scan.head().be_lawful();
     let mut work = SampleRow::open(alloc, scan.head())?;
-    let end = first + count;
-    if scan.head().width() as usize <= NARROW {
-        return Ok(paint_within::<NARROW>(scan, &mut work, first, end, pixels));
-    }
-    Ok(paint_within::<WIDEST>(scan, &mut work, first, end, pixels))
+    let marked = paint_between(scan, &mut work, first, first + count, pixels, &mut []);
+    Ok(marked)
 }

@@ -8,8 +8,10 @@ ghost use Rattle.jr_picture.specs.Headline.{interval_number, within_interval};
 ghost use Rattle.jr_picture.specs.BoardValue.{BoardValue};
 ghost use Rattle.jr_stream.specs.Bands.{ShowsMcus};
 ghost use Rattle.jr_stream.specs.Rows.{AreInRange, CountsMarks, CountsMcus, GivesBehind, GivesMcus, HasFirst, ShowsBehind, ShowsFirst, AreRead, CountsRow, coded_before, intervals_before, mcus_at_once, mcus_before, mcus_read};
+ghost use Rattle.jr_stream.specs.MarkBytes.{HasMarkRoom, PutsMarks, PutsMcus, PutsRow};
 
 use crate::blank::fill_blank;
+use crate::mark_bytes::put_mark;
 use crate::marked::Marked;
 use crate::part::Part;
 use crate::shape::{coded_of_row, mcus_at_once, shape_of};
@@ -94,26 +96,37 @@ impl<'a> Mcus<'a> {
         self.reader.left()
     }
 
-    /// The mark of the interval, where it is read to its end.
-    fn marked(&self) -> Marked
+    /// The mark of the interval, where it is read to its end. It is put into its place in `marks`, where these are asked for.
+    fn marked(&self, marks: &mut [u8]) -> Marked
         requires decoded { self.now.number < self.now.limit }
         requires some { 0 < self.now.mcu }
-        ensures { CountsMarks self.now.scan self.now.limit self.now.number (intervals_before self.now.scan.head (mcus_read self.now)) result }
+        requires places { HasMarkRoom self.now.scan marks.old }
+        ensures counts { CountsMarks self.now.scan self.now.limit self.now.number (intervals_before self.now.scan.head (mcus_read self.now)) result }
+        ensures puts { PutsMarks self.now.scan self.now.limit self.now.number (intervals_before self.now.scan.head (mcus_read self.now)) marks.old marks.new }
     {
         // By their contracts a scan has as many intervals as its head says, and a picture has an MCU.
         let _counts = (self.scan.intervals(), self.scan.head().mcus());
         if self.reader.left() > 0 {
             return Marked::none();
         }
-        Marked::one(self.reader.is_sound())
+        let is_sound = self.reader.is_sound();
+        put_mark(is_sound, self.number, marks);
+        Marked::one(is_sound)
     }
 
     /// Puts the blocks of the next MCUs, of one interval, behind those of the first `done` of `mcus`: answers how many
     /// MCUs, and the mark of the interval where it ends with them.
-    fn read_some(&mut self, done: u32, mcus: u32, blocks: &mut [Block]) -> (u32, Marked)
+    fn read_some(
+        &mut self,
+        done: u32,
+        mcus: u32,
+        blocks: &mut [Block],
+        marks: &mut [u8],
+    ) -> (u32, Marked)
         requires some { done < mcus }
         requires few { mcus_read self.old + (mcus - done) ≤ mcus_before self.old.scan.head self.old.limit }
         requires room { length blocks.old ≡ mcus * blocks_of self.old.scan.head }
+        requires places { HasMarkRoom self.old.scan marks.old }
         ensures some { 0 < result.0 }
         ensures few { done + result.0 ≤ mcus }
         ensures scan { self.new.scan ≡ self.old.scan }
@@ -123,25 +136,28 @@ impl<'a> Mcus<'a> {
         ensures in_range { (k : ℕ) → k < result.0 * blocks_of self.old.scan.head → IsInRange (slice_index_or blocks.new (done * blocks_of self.old.scan.head + k) []) }
         ensures gives { GivesBehind self.old.scan self.old.limit (mcus_read self.old) (done * blocks_of self.old.scan.head) result.0 blocks.new }
         ensures counts { CountsMcus self.old.scan self.old.limit (mcus_read self.old) (mcus_read self.new) result.1 }
+        ensures puts { PutsMcus self.old.scan self.old.limit (mcus_read self.old) (mcus_read self.new) marks.old marks.new }
     {
         let per_mcu = self.scan.head().order().len();
         let some = self.ready().min(mcus - done);
         let from = units_to(done, mcus, per_mcu);
         let end = units_to(done + some, mcus, per_mcu);
         self.reader.read(some, &mut blocks[from..end]);
-        (some, self.marked())
+        (some, self.marked(marks))
     }
 
-    /// The blocks of so many MCUs, and the marks of the intervals that end with them.
-    fn read(&mut self, mcus: u32, blocks: &mut [Block]) -> Marked
+    /// The blocks of so many MCUs, and the marks of the intervals that end with them, which are put into `marks`, too.
+    fn read(&mut self, mcus: u32, blocks: &mut [Block], marks: &mut [u8]) -> Marked
         requires few { mcus_read self.old + mcus ≤ mcus_before self.old.scan.head self.old.limit }
         requires room { length blocks.old ≡ mcus * blocks_of self.old.scan.head }
+        requires places { HasMarkRoom self.old.scan marks.old }
         ensures scan { self.new.scan ≡ self.old.scan }
         ensures limit { self.new.limit ≡ self.old.limit }
         ensures moved { mcus_read self.new ≡ mcus_read self.old + mcus }
         ensures in_range { AreInRange (mcus * blocks_of self.old.scan.head) blocks.new }
         ensures gives { GivesMcus self.old.scan self.old.limit (mcus_read self.old) mcus blocks.new }
         ensures counts { CountsMcus self.old.scan self.old.limit (mcus_read self.old) (mcus_read self.new) result }
+        ensures puts { PutsMcus self.old.scan self.old.limit (mcus_read self.old) (mcus_read self.new) marks.old marks.new }
     {
         // By their contracts there is room for the counts of all intervals, and an MCU has a data unit.
         let _most = self.scan.intervals();
@@ -149,7 +165,7 @@ impl<'a> Mcus<'a> {
         let mut done = 0;
         let mut marked = Marked::none();
         'intervals: while done < mcus {
-            let (some, more) = self.read_some(done, mcus, blocks);
+            let (some, more) = self.read_some(done, mcus, blocks, marks);
             marked = marked.with(more);
             done += some;
         }
@@ -165,40 +181,51 @@ impl<'a> Mcus<'a> {
         mcus: u32,
         blocks: &mut [Block],
         units: &mut [[u8; 64]],
+        marks: &mut [u8],
     ) -> Marked
         requires within { done + some ≤ mcus }
         requires few { some ≤ mcus_at_once self.old.scan.head }
         requires decoded { mcus_read self.old + some ≤ mcus_before self.old.scan.head self.old.limit }
         requires near { length blocks.old ≡ mcus_at_once self.old.scan.head * blocks_of self.old.scan.head }
         requires room { length units.old ≡ mcus * blocks_of self.old.scan.head }
+        requires places { HasMarkRoom self.old.scan marks.old }
         ensures scan { self.new.scan ≡ self.old.scan }
         ensures limit { self.new.limit ≡ self.old.limit }
         ensures moved { mcus_read self.new ≡ mcus_read self.old + some }
         ensures kept { (k : ℕ) → k < done * blocks_of self.old.scan.head → slice_index_or units.new k [] ≡ slice_index_or units.old k [] }
         ensures shows { ShowsBehind self.old.scan self.old.limit (mcus_read self.old) (done * blocks_of self.old.scan.head) some units.new }
         ensures counts { CountsMcus self.old.scan self.old.limit (mcus_read self.old) (mcus_read self.new) result }
+        ensures puts { PutsMcus self.old.scan self.old.limit (mcus_read self.old) (mcus_read self.new) marks.old marks.new }
     {
         let head = self.scan.head();
         let per_mcu = head.order().len();
         let blocks = &mut blocks[..units_to(some, mcus_at_once(head), per_mcu)];
-        let marked = self.read(some, blocks);
+        let marked = self.read(some, blocks, marks);
         let start = units_to(done, mcus, per_mcu);
         let end = units_to(done + some, mcus, per_mcu);
         transform_blocks(head, blocks, &mut units[start..end]);
         marked
     }
 
-    /// The samples of so many MCUs, and the marks of the intervals that end with them. Some MCUs at a time are read into
-    /// `blocks` and transformed.
-    fn decode(&mut self, mcus: u32, blocks: &mut [Block], units: &mut [[u8; 64]]) -> Marked
+    /// The samples of so many MCUs, and the marks of the intervals that end with them, which are put into `marks`, too. Some
+    /// MCUs at a time are read into `blocks` and transformed.
+    fn decode(
+        &mut self,
+        mcus: u32,
+        blocks: &mut [Block],
+        units: &mut [[u8; 64]],
+        marks: &mut [u8],
+    ) -> Marked
         requires few { mcus_read self.old + mcus ≤ mcus_before self.old.scan.head self.old.limit }
         requires near { length blocks.old ≡ mcus_at_once self.old.scan.head * blocks_of self.old.scan.head }
         requires room { length units.old ≡ mcus * blocks_of self.old.scan.head }
+        requires places { HasMarkRoom self.old.scan marks.old }
         ensures scan { self.new.scan ≡ self.old.scan }
         ensures limit { self.new.limit ≡ self.old.limit }
         ensures moved { mcus_read self.new ≡ mcus_read self.old + mcus }
         ensures shows { ShowsFirst self.old.scan self.old.limit (mcus_read self.old) mcus units.new }
         ensures counts { CountsMcus self.old.scan self.old.limit (mcus_read self.old) (mcus_read self.new) result }
+        ensures puts { PutsMcus self.old.scan self.old.limit (mcus_read self.old) (mcus_read self.new) marks.old marks.new }
     {
         // By their contracts there is room for the counts of all intervals, and an MCU has a data unit.
         let _most = self.scan.intervals();
@@ -208,7 +235,7 @@ impl<'a> Mcus<'a> {
         let mut marked = Marked::none();
         'parts: while done < mcus {
             let some = at_once.min(mcus - done);
-            let more = self.decode_some(done, some, mcus, blocks, units);
+            let more = self.decode_some(done, some, mcus, blocks, units, marks);
             marked = marked.with(more);
             done += some;
         }
@@ -229,7 +256,7 @@ impl<'a> Mcus<'a> {
         'mcus: while left > 0 {
             let some = left.min(most);
             let end = units_to(some, most, per_mcu);
-            let _marked = self.read(some, &mut blocks[..end]);
+            let _marked = self.read(some, &mut blocks[..end], &mut []);
             left -= some;
         }
     }
@@ -336,26 +363,33 @@ impl<'a> Rows<'a> {
         let head = self.head();
         let coded = coded_of_row(self.mcus.scan, self.mcus.limit, self.row);
         let end = units_to(coded, shape_of(head).across, head.order().len());
-        let marked = self.mcus.read(coded, &mut blocks[..end]);
+        let marked = self.mcus.read(coded, &mut blocks[..end], &mut []);
         self.row += 1;
         marked
     }
 
     /// Decodes the next row: the samples of its data units, of which those of MCUs that are not decoded are black, and the
-    /// marks of the intervals that end in it. Some MCUs at a time are read into `blocks`.
-    pub(crate) fn decode(&mut self, blocks: &mut [Block], units: &mut [[u8; 64]]) -> Marked
+    /// marks of the intervals that end in it, which are put into `marks`, too. Some MCUs at a time are read into `blocks`.
+    pub(crate) fn decode(
+        &mut self,
+        blocks: &mut [Block],
+        units: &mut [[u8; 64]],
+        marks: &mut [u8],
+    ) -> Marked
         requires row { self.old.row < mcus_down self.old.scan.head }
         requires near { length blocks.old ≡ mcus_at_once self.old.scan.head * blocks_of self.old.scan.head }
         requires room { length units.old ≡ mcus_across self.old.scan.head * blocks_of self.old.scan.head }
+        requires places { HasMarkRoom self.old.scan marks.old }
         ensures moved { self.new ≡ record self.old { row = self.old.row + 1 } }
         ensures units { (b : BoardValue) → HasFirst self.old.scan self.old.limit b → ShowsMcus b (self.old.row * mcus_across self.old.scan.head) units.new }
         ensures counts { CountsRow self.old.scan self.old.limit self.old.row result }
+        ensures puts { PutsRow self.old.scan self.old.limit self.old.row marks.old marks.new }
     {
         let head = self.head();
         let coded = coded_of_row(self.mcus.scan, self.mcus.limit, self.row);
         let end = units_to(coded, shape_of(head).across, head.order().len());
         let (first, rest) = units.split_at_mut(end);
-        let marked = self.mcus.decode(coded, blocks, first);
+        let marked = self.mcus.decode(coded, blocks, first, marks);
         fill_blank(head, rest);
         self.row += 1;
         marked

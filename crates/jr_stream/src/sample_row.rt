@@ -5,6 +5,7 @@ ghost use Rattle.jr_head.specs.Geometry.{mcus_across, mcus_down};
 ghost use Rattle.jr_paint.specs.Lines.{line_size, next_lines_of};
 ghost use Rattle.jr_picture.specs.BoardValue.{BoardValue};
 ghost use Rattle.jr_stream.specs.Bands.{ShowsMcus, samples_in};
+ghost use Rattle.jr_stream.specs.MarkBytes.{HasMarkRoom, PutsRow};
 ghost use Rattle.jr_stream.specs.Rows.{CountsRow, HasFirst, HasSampleRoom, ShowsLines, line_count};
 
 use crate::marked::Marked;
@@ -55,16 +56,18 @@ impl SampleRow {
         Rows::at(scan, row, &mut self.blocks)
     }
 
-    /// Decodes the next row: answers the marks of the intervals that end in it.
-    pub(crate) fn decode(&mut self, rows: &mut Rows<'_>) -> Marked
+    /// Decodes the next row: answers the marks of the intervals that end in it, and puts them into `marks`, too.
+    pub(crate) fn decode(&mut self, rows: &mut Rows<'_>, marks: &mut [u8]) -> Marked
         requires row { rows.old.row < mcus_down rows.old.scan.head }
         requires room { HasSampleRoom rows.old.scan.head self.old }
+        requires places { HasMarkRoom rows.old.scan marks.old }
         ensures room { HasSampleRoom rows.old.scan.head self.new }
         ensures moved { rows.new ≡ record rows.old { row = rows.old.row + 1 } }
         ensures units { (b : BoardValue) → HasFirst rows.old.scan rows.old.limit b → ShowsMcus b (rows.old.row * mcus_across rows.old.scan.head) self.new.units }
         ensures counts { CountsRow rows.old.scan rows.old.limit rows.old.row result }
+        ensures puts { PutsRow rows.old.scan rows.old.limit rows.old.row marks.old marks.new }
     {
-        rows.decode(&mut self.blocks, &mut self.units)
+        rows.decode(&mut self.blocks, &mut self.units, marks)
     }
 
     /// Paints lines of the picture of which each row of MCUs has the data units of the row that is decoded.
@@ -101,7 +104,7 @@ impl SampleRow {
         ensures counts { CountsRow rows.old.scan rows.old.limit rows.old.row result }
     {
         let row = rows.row();
-        let marked = self.decode(rows);
+        let marked = self.decode(rows, &mut []);
         paint_row(rows.head(), &self.units, row, lines, pixels);
         marked
     }

@@ -17,6 +17,8 @@ mod limits;
 #[cfg(test)]
 mod long_intervals;
 #[cfg(test)]
+mod memory;
+#[cfg(test)]
 mod one_byte;
 #[cfg(test)]
 mod refused;

@@ -7,7 +7,7 @@ use std::test::Fail;
 use test_files::files::file;
 
 /// A file for each refusal, but that of a file too long and want of memory, and the line that it gets.
-const REFUSED: [(&str, &str); 17] = [
+pub(crate) const REFUSALS: [(&str, &str); 17] = [
     ("", "refused 1: not a JPEG file\n"),
     ("S", "refused 2: the file ends early\n"),
     ("S 00", "refused 3: expected a marker at byte 2\n"),
@@ -44,7 +44,7 @@ const REFUSED: [(&str, &str); 17] = [
 
 #[test]
 fn tells_each_refusal(rt: HostRuntime) -> Result<(), Fail> {
-    for (words, line) in &REFUSED {
+    for (words, line) in &REFUSALS {
         let bytes = file(rt.alloc(), words)?;
         let found = decode(&rt, bytes.as_slice(), 1, None)?;
         let differs = found.difference(rt.alloc(), None, line, 2)?;

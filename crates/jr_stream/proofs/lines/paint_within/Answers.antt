@@ -9,10 +9,12 @@ use Rattle.jr_paint.proofs.PixelLaws.{next_lines_more}
 use Rattle.jr_scan.specs.ScanValue.{ScanValue, intervals_of}
 use Rattle.jr_picture.specs.Samples.{samples_of}
 use Rattle.jr_stream.specs.Bands.{ShowsMcus, samples_in}
+use Rattle.jr_stream.specs.MarkBytes.{PutsBetween, PutsRow}
 use Rattle.jr_stream.specs.Rows.{CountsRow, HasSampleRoom, coded_before}
 use Rattle.jr_stream.specs.SomeLines.{CountsBetween, row_behind, row_with}
 use Rattle.jr_stream.proofs.IntervalPlaces.{ends_few}
 use Rattle.jr_stream.proofs.PaintedRows.{row_painted}
+use Rattle.jr_stream.proofs.PutMarks.{puts_both, puts_none}
 use Rattle.jr_stream.proofs.ReadRows.{counts_none, counts_both}
 use Rattle.jr_stream.proofs.SomeLines.{done_lines, next_done}
 use Rattle.jr_stream.proofs.lines.paint_within.Goals as goal
@@ -37,6 +39,8 @@ rows-init g c =
           let zero : 0 * line_size h ≡ 0 = omega arith in
           ap (λ (k : ℕ). take (k * line_size h) c.args.pixels.now) none_done ∙ ap (λ (k : ℕ). take k c.args.pixels.now) zero ∙ ap (next_lines_of h (samples_of b) c.args.first) (sym none_done);
       counts = rw first_is (counts_none t (length t.intervals) _ _ c.none-marked.result c.none-marked.ensures.sound c.none-marked.ensures.damaged refl);
+      places = c.requires.places;
+      puts = rw first_is (puts_none t (length t.intervals) _ _ c.args.marks.now refl);
     }
 
 pub with-marked-requires : goal.with-marked-requires
@@ -79,6 +83,8 @@ rows-preserved g c =
     let inside : from ≤ length c.rows.pixels = search (rules, arith) in
     let next : done_lines h c.args.first c.args.end c.decode-more.new.rows.row ≡ old_done + count = ap (done_lines h c.args.first c.args.end) next_row ∙ done.1 in
     let marks : CountsRow t n row c.decode-more.result = rw (keep.scan, keep.limit) at c.decode-more.ensures.counts in
+    let bytes = c.decode-more.new.marks in
+    let puts : PutsRow t n row c.rows.marks bytes = rw (keep.scan, keep.limit) at c.decode-more.ensures.puts in
     record {
       scan = search rules;
       limit = search rules;
@@ -106,6 +112,9 @@ rows-preserved g c =
           ∙ ap (next_lines_of h f c.args.first) (sym next);
       counts = subst (λ (k : ℕ). CountsBetween t (row_with h c.args.first) k c.with-marked.result) (sym next_row)
           (counts_both t n _ _ _ c.rows.marked c.decode-more.result c.with-marked.result keep.counts marks c.with-marked.ensures.sound c.with-marked.ensures.damaged);
+      places = λ there. puts.long ∙ keep.places (omega (arith, there, puts.long));
+      puts = subst (λ (k : ℕ). PutsBetween t (row_with h c.args.first) k c.args.marks.now bytes) (sym next_row)
+          (puts_both t n _ _ _ c.args.marks.now c.rows.marks bytes (omega (arith, keep.counts.few)) keep.puts puts);
     }
 
 pub paint_some-requires : goal.paint_some-requires
@@ -135,3 +144,10 @@ returns-clause-counts g c =
     let end : c.rows.rows.row ≡ c.rows_of-row.result.1 = search (rules, arith) in
     let behind : c.rows.rows.row ≡ row_behind t.head c.args.end = search rules in
     subst (λ (r : ℕ). CountsBetween t (row_with t.head c.args.first) r c.rows.marked) behind c.rows.invariant.counts
+
+pub returns-clause-puts : goal.returns-clause-puts
+returns-clause-puts g c =
+    let t = c.args.scan.now in
+    let end : c.rows.rows.row ≡ c.rows_of-row.result.1 = search (rules, arith) in
+    let behind : c.rows.rows.row ≡ row_behind t.head c.args.end = search rules in
+    subst (λ (r : ℕ). PutsBetween t (row_with t.head c.args.first) r c.args.marks.now c.rows.marks) behind c.rows.invariant.puts

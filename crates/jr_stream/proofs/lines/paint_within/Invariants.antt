@@ -3,6 +3,7 @@ use Rattle.jr_head.specs.Geometry.{vertical_max}
 use Rattle.jr_paint.specs.Lines.{line_size, next_lines_of}
 use Rattle.jr_picture.specs.BoardValue.{BoardValue}
 use Rattle.jr_picture.specs.Samples.{samples_of}
+use Rattle.jr_stream.specs.MarkBytes.{HasMarkRoom, PutsBetween}
 use Rattle.jr_stream.specs.Rows.{HasFirst, HasSampleRoom}
 use Rattle.jr_stream.specs.SomeLines.{CountsBetween, row_with}
 use Rattle.jr_stream.proofs.SomeLines.{done_lines}
@@ -22,6 +23,8 @@ invariant-rows g l =
       long : length l.pixels ≡ length l.initial.pixels;
       front : (b : BoardValue) → HasFirst t n b → take (done * line_size h) l.pixels ≡ next_lines_of h (samples_of b) l.fn.first done;
       counts : CountsBetween t (row_with h l.fn.first) l.rows.row l.marked;
+      places : HasMarkRoom t l.marks;
+      puts : PutsBetween t (row_with h l.fn.first) l.rows.row l.initial.marks l.marks;
     }
 
 abbrev pub decreases-rows : goal.decreases-rows

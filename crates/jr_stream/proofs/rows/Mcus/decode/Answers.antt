@@ -2,8 +2,10 @@ use Rattle.std.proofs.Common.{rules, arith, sym, subst, ap, ◌∙◌, ◌≡◌
 use Rattle.jr_head.specs.Geometry.{blocks_of}
 use Rattle.jr_scan.specs.ScanValue.{ScanValue, intervals_of}
 use Rattle.jr_stream.specs.Bands.{unit_shown}
+use Rattle.jr_stream.specs.MarkBytes.{PutsMcus}
 use Rattle.jr_stream.specs.Rows.{CountsMcus, ShowsBehind, mcus_read}
 use Rattle.jr_stream.proofs.IntervalPlaces.{ends_few}
+use Rattle.jr_stream.proofs.PutMarks.{puts_both}
 use Rattle.jr_stream.proofs.ReadRows.{counts_both, shown_more}
 use Rattle.jr_stream.proofs.rows.Mcus.decode.Goals as goal
 
@@ -37,6 +39,9 @@ parts-preserved c =
     let shown = subst (λ (k : ℕ). ShowsBehind old.scan old.limit k (done * n) mcus new) keep.read shows in
     let kept : (k : ℕ) → k < done * n → slice_index_or new k [] ≡ slice_index_or units k [] = subst (λ (t : ScanValue). (k : ℕ) → k < done * blocks_of t.head → slice_index_or new k [] ≡ slice_index_or units k []) keep.scan some.ensures.kept in
     let positive : 0 < n = search (rules, arith) in
+    let bytes = c.parts.marks in
+    let put = subst (λ (t : ScanValue). PutsMcus t at.limit (mcus_read at) (mcus_read some.new.self) bytes some.new.marks) keep.scan some.ensures.puts in
+    let puts = subst (λ (k : ℕ). PutsMcus old.scan k (mcus_read at) (mcus_read some.new.self) bytes some.new.marks) keep.limit put in
     record {
       within = search (rules, arith);
       near = search rules;
@@ -46,4 +51,6 @@ parts-preserved c =
       read = omega (arith, some.ensures.moved, keep.read);
       shows = λ b first. shown_more n done mcus (mcus_read old) (unit_shown b) (λ k. slice_index_or units k []) (λ k. slice_index_or new k []) positive (keep.shows b first) kept (shown b first);
       counts = counts_both old.scan old.limit _ _ _ c.parts.marked some.result c.with-marked.result keep.counts more c.with-marked.ensures.sound c.with-marked.ensures.damaged;
+      places = λ there. puts.long ∙ keep.places (omega (arith, there, puts.long));
+      puts = puts_both old.scan old.limit _ _ _ c.args.marks.now bytes some.new.marks (omega (arith, keep.counts.few)) keep.puts puts;
     }

@@ -1,4 +1,5 @@
 use Rattle.std.proofs.Common.{◌≡◌, ◌+◌, ◌-◌, ◌≤◌, length}
+use Rattle.jr_stream.specs.MarkBytes.{HasMarkRoom, PutsMcus}
 use Rattle.jr_stream.specs.Rows.{CountsMcus, ShowsFirst, mcus_read}
 use Rattle.jr_stream.proofs.rows.Mcus.decode.Given as goal
 
@@ -12,6 +13,8 @@ invariant-parts l = record {
   read : mcus_read l.self ≡ mcus_read l.initial.self + l.done;
   shows : ShowsFirst l.initial.self.scan l.initial.self.limit (mcus_read l.initial.self) l.done l.units;
   counts : CountsMcus l.initial.self.scan l.initial.self.limit (mcus_read l.initial.self) (mcus_read l.self) l.marked;
+  places : HasMarkRoom l.initial.self.scan l.marks;
+  puts : PutsMcus l.initial.self.scan l.initial.self.limit (mcus_read l.initial.self) (mcus_read l.self) l.initial.marks l.marks;
 }
 
 abbrev pub decreases-parts : goal.decreases-parts

@@ -1,28 +1,51 @@
-use Rattle.std.proofs.Common.{rules, arith, sym, subst, ◌∙◌, ◌≡◌, ℕ, ◌<◌, length}
+use Rattle.std.proofs.Common.{rules, arith, sym, subst, ap, ◌∙◌, ◌≡◌, ℕ, ◌<◌, length}
+use Rattle.std.specs.Prelude.{slice_index}
 use Rattle.jr_head.specs.Geometry.{mcus_of}
 use Rattle.jr_scan.specs.ScanValue.{intervals_of, interval_of, mcus_in}
 use Rattle.jr_piece.specs.PieceValue.{PieceValue}
 use Rattle.jr_piece.specs.Outcome.{IsOutcome}
+use Rattle.jr_stream.specs.MarkBytes.{PutsMarks}
 use Rattle.jr_stream.specs.Rows.{CountsMarks}
 use Rattle.jr_stream.proofs.IntervalPlaces.{ends_before, ends_with}
+use Rattle.jr_stream.proofs.PutMarks.{puts_none, puts_one}
 use Rattle.jr_stream.proofs.ReadRows.{counts_none, counts_one}
 use Rattle.jr_stream.proofs.rows.Mcus.marked.Goals as goal
 
-pub returns-then-left-gt0 : goal.returns-then-left-gt0
-returns-then-left-gt0 c =
+pub returns-then-left-gt0-clause-counts : goal.returns-then-left-gt0-clause-counts
+returns-then-left-gt0-clause-counts c =
     let r = c.args.self.now in
     let number : r.number < intervals_of r.scan.head = search rules in
     let few : r.mcu < mcus_in r.scan.head r.number = search (rules, arith) in
     counts_none r.scan r.limit r.number _ _ c.none.ensures.sound c.none.ensures.damaged (sym (ends_before r.scan.head r.number r.mcu number few))
 
-pub returns : goal.returns
-returns c =
+pub returns-then-left-gt0-clause-puts : goal.returns-then-left-gt0-clause-puts
+returns-then-left-gt0-clause-puts c =
+    let r = c.args.self.now in
+    let number : r.number < intervals_of r.scan.head = search rules in
+    let few : r.mcu < mcus_in r.scan.head r.number = search (rules, arith) in
+    puts_none r.scan r.limit r.number _ c.args.marks.now (sym (ends_before r.scan.head r.number r.mcu number few))
+
+pub returns-clause-counts : goal.returns-clause-counts
+returns-clause-counts c =
     let r = c.args.self.now in
     let number : r.number < intervals_of r.scan.head = search rules in
     let there : r.number < length r.scan.intervals = search rules in
     let some : 0 < mcus_of r.scan.head = search (rules, arith) in
     let all : r.mcu ≡ mcus_in r.scan.head r.number = search (rules, arith) in
     let interval : c.self.inside.reader.interval ≡ interval_of r.scan r.number = search rules in
-    let tells : (p : PieceValue) → IsOutcome p → p.interval ≡ interval_of r.scan r.number → p.is_sound ≡ c.is_sound.result = λ p o e. c.is_sound.ensures p o (e ∙ sym interval) in
+    let tells : (p : PieceValue) → IsOutcome p → p.interval ≡ interval_of r.scan r.number → p.is_sound ≡ c.is_sound-is_sound.result = λ p o e. c.is_sound-is_sound.ensures p o (e ∙ sym interval) in
     subst (λ (to : ℕ). CountsMarks r.scan r.limit r.number to c.one.result) (sym (ends_with r.scan.head r.number r.mcu some number all))
-    (counts_one r.scan r.limit r.number c.one.result c.requires.decoded there c.is_sound.result c.one.ensures.sound c.one.ensures.damaged tells)
+    (counts_one r.scan r.limit r.number c.one.result c.requires.decoded there c.is_sound-is_sound.result c.one.ensures.sound c.one.ensures.damaged tells)
+
+pub returns-clause-puts : goal.returns-clause-puts
+returns-clause-puts c =
+    let r = c.args.self.now in
+    let number : r.number < intervals_of r.scan.head = search rules in
+    let some : 0 < mcus_of r.scan.head = search (rules, arith) in
+    let all : r.mcu ≡ mcus_in r.scan.head r.number = search (rules, arith) in
+    let interval : c.self.inside.reader.interval ≡ interval_of r.scan r.number = search rules in
+    let tells : (p : PieceValue) → IsOutcome p → p.interval ≡ interval_of r.scan r.number → p.is_sound ≡ c.is_sound-is_sound.result = λ p o e. c.is_sound-is_sound.ensures p o (e ∙ sym interval) in
+    let number_is : c.self.inside.number ≡ r.number = search rules in
+    subst (λ (to : ℕ). PutsMarks r.scan r.limit r.number to c.args.marks.now c.put_mark.new.marks) (sym (ends_with r.scan.head r.number r.mcu some number all))
+    (puts_one r.scan r.limit r.number c.args.marks.now c.put_mark.new.marks c.requires.decoded c.is_sound-is_sound.result tells c.put_mark.ensures.long
+    (λ there. ap (slice_index c.put_mark.new.marks) (sym number_is) ∙ c.put_mark.ensures.put there) (λ k lt. c.put_mark.ensures.kept k (omega (arith, lt, number_is))))

@@ -8,8 +8,10 @@ use Rattle.jr_scan.specs.Mcus.{component}
 use Rattle.jr_scan.specs.ScanValue.{ScanValue, intervals_of}
 use Rattle.jr_piece.specs.Outcome.{unit_of}
 use Rattle.jr_stream.specs.Bands.{unit_shown}
+use Rattle.jr_stream.specs.MarkBytes.{PutsMcus}
 use Rattle.jr_stream.specs.Rows.{CountsMcus, GivesBehind, mcus_read}
 use Rattle.jr_stream.proofs.IntervalPlaces.{ends_few}
+use Rattle.jr_stream.proofs.PutMarks.{puts_both}
 use Rattle.jr_stream.proofs.ReadRows.{counts_both, shown_more}
 use Rattle.jr_stream.proofs.rows.Mcus.read.Goals as goal
 
@@ -45,6 +47,9 @@ intervals-preserved c =
     let ranged : (k : ℕ) → k < mcus * n → IsInRange (slice_index_or new (done * n + k) []) =
     subst (λ (t : ScanValue). (k : ℕ) → k < mcus * blocks_of t.head → IsInRange (slice_index_or new (done * blocks_of t.head + k) [])) keep.scan some.ensures.in_range in
     let positive : 0 < n = search (rules, arith) in
+    let bytes = c.intervals.marks in
+    let put = subst (λ (t : ScanValue). PutsMcus t at.limit (mcus_read at) (mcus_read some.new.self) bytes some.new.marks) keep.scan some.ensures.puts in
+    let puts = subst (λ (k : ℕ). PutsMcus old.scan k (mcus_read at) (mcus_read some.new.self) bytes some.new.marks) keep.limit put in
     record {
       within = some.ensures.few;
       long = search rules;
@@ -62,6 +67,8 @@ intervals-preserved c =
       gives = λ b first. shown_more n done mcus (mcus_read old) (unit_shown b) (unit_of h blocks) (unit_of h new) positive (keep.gives b first)
           (λ k l. ap (λ z. samples z (quantiser_of h (component h k))) (kept k l)) (gave b first);
       counts = counts_both old.scan old.limit _ _ _ c.intervals.marked some.result.1 c.with-marked.result keep.counts more c.with-marked.ensures.sound c.with-marked.ensures.damaged;
+      places = λ there. puts.long ∙ keep.places (omega (arith, there, puts.long));
+      puts = puts_both old.scan old.limit _ _ _ c.args.marks.now bytes some.new.marks (omega (arith, keep.counts.few)) keep.puts puts;
     }
 
 pub returns-clause-in_range : goal.returns-clause-in_range

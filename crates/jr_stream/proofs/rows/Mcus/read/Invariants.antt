@@ -1,5 +1,6 @@
 use Rattle.std.proofs.Common.{◌≡◌, ◌+◌, ◌-◌, ◌*◌, ◌≤◌, length}
 use Rattle.jr_head.specs.Geometry.{blocks_of}
+use Rattle.jr_stream.specs.MarkBytes.{HasMarkRoom, PutsMcus}
 use Rattle.jr_stream.specs.Rows.{AreInRange, CountsMcus, GivesMcus, mcus_read}
 use Rattle.jr_stream.proofs.rows.Mcus.read.Given as goal
 
@@ -13,6 +14,8 @@ invariant-intervals l = record {
   in_range : AreInRange (l.done * blocks_of l.initial.self.scan.head) l.blocks;
   gives : GivesMcus l.initial.self.scan l.initial.self.limit (mcus_read l.initial.self) l.done l.blocks;
   counts : CountsMcus l.initial.self.scan l.initial.self.limit (mcus_read l.initial.self) (mcus_read l.self) l.marked;
+  places : HasMarkRoom l.initial.self.scan l.marks;
+  puts : PutsMcus l.initial.self.scan l.initial.self.limit (mcus_read l.initial.self) (mcus_read l.self) l.initial.marks l.marks;
 }
 
 abbrev pub decreases-intervals : goal.decreases-intervals

@@ -9,6 +9,7 @@ use Rattle.jr_piece.specs.Outcome.{IsOutcome}
 use Rattle.jr_piece.specs.Strips.{units_before}
 use Rattle.jr_piece.specs.Units.{CodesUnits}
 use Rattle.jr_stream.specs.RowsValue.{McusValue}
+use Rattle.jr_stream.specs.MarkBytes.{PutsMarks}
 use Rattle.jr_stream.specs.Rows.{GivesBehind, CountsMarks, intervals_before, mcus_before, mcus_read}
 use Rattle.jr_stream.proofs.IntervalPlaces.{ends_before, first_few, of_first}
 use Rattle.jr_stream.proofs.ReadRows.{gives_there, put_there}
@@ -80,6 +81,26 @@ returns-clause-counts c =
     let start : intervals_before old.scan.head (mcus_read old) ≡ r.number =
     sym (ap (λ (t : ScanValue). intervals_before t.head (mcus_read r)) c.ready.ensures.scan ∙ ap (intervals_before old.scan.head) c.ready.ensures.read) ∙ ends_before r.scan.head r.number r.mcu number few in
     let from : i.number ≡ intervals_before old.scan.head (mcus_read old) = ap (λ (u : McusValue). u.number) v ∙ sym start in
-    let all = subst (λ (t : ScanValue). CountsMarks t i.limit i.number (intervals_before t.head to) c.marked.result) scan c.marked.ensures in
+    let all = subst (λ (t : ScanValue). CountsMarks t i.limit i.number (intervals_before t.head to) c.marked.result) scan c.marked.ensures.counts in
     let limited = subst (λ (n : ℕ). CountsMarks old.scan n i.number (intervals_before old.scan.head to) c.marked.result) limit all in
     subst (λ (n : ℕ). CountsMarks old.scan old.limit n (intervals_before old.scan.head to) c.marked.result) from limited
+
+pub returns-clause-puts : goal.returns-clause-puts
+returns-clause-puts c =
+    let r = c.ready.new.self in
+    let number : r.number < intervals_of r.scan.head = c.ready.ensures.number in
+    let few : r.mcu < mcus_in r.scan.head r.number = search (rules, arith) in
+    let i = c.self-2.inside in
+    let v = c.self-2.view_is in
+    let old = c.args.self.now in
+    let bytes = c.args.marks.now in
+    let new = c.marked.new.marks in
+    let to = mcus_read (record { scan = i.scan.now; limit = i.limit; number = i.number; mcu = c.read.new.self.mcu }) in
+    let scan : i.scan.now ≡ old.scan = ap (λ (u : McusValue). u.scan) v ∙ c.ready.ensures.scan in
+    let limit : i.limit ≡ old.limit = ap (λ (u : McusValue). u.limit) v ∙ c.ready.ensures.limit in
+    let start : intervals_before old.scan.head (mcus_read old) ≡ r.number =
+    sym (ap (λ (t : ScanValue). intervals_before t.head (mcus_read r)) c.ready.ensures.scan ∙ ap (intervals_before old.scan.head) c.ready.ensures.read) ∙ ends_before r.scan.head r.number r.mcu number few in
+    let from : i.number ≡ intervals_before old.scan.head (mcus_read old) = ap (λ (u : McusValue). u.number) v ∙ sym start in
+    let all = subst (λ (t : ScanValue). PutsMarks t i.limit i.number (intervals_before t.head to) bytes new) scan c.marked.ensures.puts in
+    let limited = subst (λ (n : ℕ). PutsMarks old.scan n i.number (intervals_before old.scan.head to) bytes new) limit all in
+    subst (λ (n : ℕ). PutsMarks old.scan old.limit n (intervals_before old.scan.head to) bytes new) from limited

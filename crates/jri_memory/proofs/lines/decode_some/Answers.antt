@@ -1,0 +1,24 @@
+use Rattle.std.proofs.Common.{◌≡◌, ◌*◌, length, rules, arith}
+use Rattle.std.specs.Arc.{arc_value}
+use Rattle.jr_stream.specs.SomeLines.{PaintsLines}
+use Rattle.jri_memory.proofs.Filled.{filled, picture_shown}
+use Rattle.jri_memory.proofs.lines.decode_some.Goals as goal
+
+pub returns-clause-decoded : goal.returns-clause-decoded
+returns-clause-decoded c =
+    let scan = arc_value c.in-Ok.scan in
+    let m = c.in-Ok-paint_scan_lines.marked in
+    let shown : PaintsLines scan c.args.first c.args.count c.paint_scan_lines.new.pixels m = search (rules, c.in-Ok-paint_scan_lines.ensures.painted) in
+    let long : length c.paint_scan_lines.new.pixels ≡ c.args.count * c.bytes_of_line.result = search (rules, arith, c.paint_scan_lines.auto.pixels) in
+    record {
+      scan = scan;
+      each = shown.marks;
+      f = shown.f;
+      is = picture_shown c.args.file.now scan shown.marks shown.f c.in-Ok.ensures.scan shown.shows;
+      there = search rules;
+      painted = filled _ _ _ _ shown.lines long;
+      counted = search (rules, shown.counted);
+      intervals = search rules;
+      ended = search rules;
+      no_fault = c.of.ensures.no_fault;
+    }

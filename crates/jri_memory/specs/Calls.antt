@@ -1,0 +1,171 @@
+-- What the calls give that decode a file in memory.
+use Rattle.std.specs.Prelude.{◌≡◌, ◌≢◌, ℕ, ◌+◌, ◌*◌, ◌<◌, ◌≤◌, ◌⊎◌, List, ◌++◌, length, drop, map, None}
+use Rattle.jr_head.specs.declared.refusal.Refusal.{Refusal}
+use Rattle.jr_head.specs.declared.refusal.Refusal.TheVariants as refusal
+use Rattle.jr_head.specs.Refusal.{number_of}
+use Rattle.jr_head.specs.HeadValue.{HeadValue, kind_number}
+use Rattle.jr_head.specs.Heads.{HeadOf, RefusalOf}
+use Rattle.jr_head.specs.Geometry.{components_of}
+use Rattle.jr_paint.specs.Lines.{line_size, next_lines_of}
+use Rattle.jr_paint.specs.Text.{lines_of}
+use Rattle.jr_scan.specs.ScanValue.{ScanValue, intervals_of}
+use Rattle.jr_scan.specs.declared.scan_end.ScanEnd.{ScanEnd}
+use Rattle.jr_scan.specs.declared.scan_end.ScanEnd.TheVariants.{EndOfImage, OtherMarker, OutOfStep, ExtraRestart, EndOfFile}
+use Rattle.jr_picture.specs.declared.mark.Mark.{Mark}
+use Rattle.jr_picture.specs.Headline.{AreCounts}
+use Rattle.jri_engine.specs.Files.{IsPictureOf, IsScanOfFile}
+use Rattle.jr_stream.specs.MarkBytes.{mark_byte}
+use Rattle.jr_stream.specs.SomeLines.{EndInLines}
+use Rattle.jri_memory.specs.declared.decode.Undecoded.{Undecoded}
+use Rattle.jri_memory.specs.declared.decode.Undecoded.TheVariants.{Refused}
+use Rattle.jri_memory.specs.declared.measure.Measure.{Measure}
+use Rattle.jri_memory.specs.declared.report.Report.{Report}
+
+-- what a refusal tells beside its number: an offset, or a marker's code
+abbrev pub detail_of : Refusal → ℕ
+detail_of refusal.NotJpeg = 0
+detail_of refusal.EndsEarly = 0
+detail_of (refusal.ExpectedMarker at) = at
+detail_of (refusal.UnexpectedMarker code) = code
+detail_of (refusal.NotBaseline code) = code
+detail_of (refusal.BadLength code) = code
+detail_of refusal.BadQuantTable = 0
+detail_of refusal.BadCodeTable = 0
+detail_of refusal.SecondFrame = 0
+detail_of refusal.BadPrecision = 0
+detail_of refusal.BadSize = 0
+detail_of refusal.TooManyPixels = 0
+detail_of refusal.BadComponents = 0
+detail_of refusal.BadSampling = 0
+detail_of refusal.BadScanHeader = 0
+detail_of refusal.NoFrame = 0
+detail_of refusal.MissingTable = 0
+detail_of refusal.TooLong = 0
+detail_of refusal.Memory = 0
+
+-- some refusal has this number
+abbrev pub IsNumberOfSome : ℕ → Type 0
+IsNumberOfSome number = (0 < number) × (number < 20)
+
+-- the file's first fault has this number, and tells this beside it
+pub record IsFaultOf (file : List ℕ) (number detail : ℕ) : Type 0 where
+  pub fault : Refusal
+  pub is : RefusalOf file fault
+  pub number_is : number ≡ number_of fault
+  pub detail_is : detail ≡ detail_of fault
+
+-- how many bytes the pixels of a picture have
+abbrev pub picture_size : HeadValue → ℕ
+picture_size h = h.height * line_size h
+
+-- what the file's head says of its picture
+pub record IsMeasureOf (file : List ℕ) (m : Measure) : Type 0 where
+  pub head : HeadValue
+  pub is : HeadOf file head
+  pub width : m.width ≡ head.width
+  pub height : m.height ≡ head.height
+  pub kind : m.kind ≡ kind_number head.kind
+  pub components : m.components ≡ components_of head
+  pub intervals : m.intervals ≡ intervals_of head
+  pub pixels : m.pixels ≡ picture_size head
+  pub no_fault : m.refusal ≡ 0
+  pub no_detail : m.detail ≡ 0
+
+-- a measure of no head: 0 for all but the refusal's two numbers
+pub record TellsNoHead (m : Measure) : Type 0 where
+  pub width : m.width ≡ 0
+  pub height : m.height ≡ 0
+  pub kind : m.kind ≡ 0
+  pub components : m.components ≡ 0
+  pub intervals : m.intervals ≡ 0
+  pub pixels : m.pixels ≡ 0
+
+-- what ended the scan, as numbers: 0 for what that end has not
+abbrev pub IsEndOf : ScanEnd → Report → Type 0
+IsEndOf EndOfImage r = (r.ended ≡ 1) × (r.found ≡ 0) × (r.due ≡ 0) × (r.at ≡ 0)
+IsEndOf (OtherMarker code at) r = (r.ended ≡ 2) × (r.found ≡ code) × (r.due ≡ 0) × (r.at ≡ at)
+IsEndOf (OutOfStep found due at) r = (r.ended ≡ 3) × (r.found ≡ found) × (r.due ≡ due) × (r.at ≡ at)
+IsEndOf (ExtraRestart at) r = (r.ended ≡ 4) × (r.found ≡ 0) × (r.due ≡ 0) × (r.at ≡ at)
+IsEndOf EndOfFile r = (r.ended ≡ 5) × (r.found ≡ 0) × (r.due ≡ 0) × (r.at ≡ 0)
+
+-- a report of no refusal
+pub record TellsNoRefusal (r : Report) : Type 0 where
+  pub number : r.refusal ≡ 0
+  pub detail : r.detail ≡ 0
+
+-- a report of no picture: 0 for all but the refusal's two numbers
+pub record TellsNoPicture (r : Report) : Type 0 where
+  pub intervals : r.intervals ≡ 0
+  pub sound : r.sound ≡ 0
+  pub damaged : r.damaged ≡ 0
+  pub blank : r.blank ≡ 0
+  pub ended : r.ended ≡ 0
+  pub found : r.found ≡ 0
+  pub due : r.due ≡ 0
+  pub at : r.at ≡ 0
+
+-- the report's numbers are those of the marks and of the scan
+pub record IsReportOf (scan : ScanValue) (marks : List Mark) (r : Report) : Type 0 where
+  pub intervals : r.intervals ≡ length scan.intervals
+  pub counts : AreCounts marks r.sound r.damaged r.blank
+  pub ended : IsEndOf scan.ended r
+  pub no_fault : TellsNoRefusal r
+
+-- these bytes stand at the front of a buffer, and behind them what stood there before
+abbrev pub over : List ℕ → List ℕ → List ℕ
+over bytes old = bytes ++ drop (length bytes) old
+
+-- the pixels are the lines of the file's picture, from the top; where marks were asked for they are its own; and so is the report
+pub record Decodes (file old_pixels pixels old_marks marks : List ℕ) (r : Report) : Type 0 where
+  pub scan : ScanValue
+  pub each : List Mark
+  pub f : ℕ → ℕ → ℕ → ℕ
+  pub is : IsPictureOf file None scan each f
+  pub painted : pixels ≡ over (lines_of scan.head f scan.head.height) old_pixels
+  pub marked : 0 < length old_marks → marks ≡ over (map mark_byte each) old_marks
+  pub reported : IsReportOf scan each r
+
+-- the pixels of the file's picture have less room than they take, or its marks have, where they are asked for
+pub record LacksRoom (file : List ℕ) (pixels marks : ℕ) : Type 0 where
+  pub scan : ScanValue
+  pub is : IsScanOfFile file scan
+  pub less : (pixels < picture_size scan.head) ⊎ ((0 < marks) × (marks < length scan.intervals))
+
+-- the picture of this head has `count` lines from this one on, and that is some
+pub record HasLines (h : HeadValue) (first count : ℕ) : Type 0 where
+  pub some : 0 < count
+  pub inside : first + count ≤ h.height
+
+-- the file's picture has not those lines
+pub record LacksLines (file : List ℕ) (first count : ℕ) : Type 0 where
+  pub head : HeadValue
+  pub is : HeadOf file head
+  pub less : HasLines head first count → ⊥
+
+-- so many lines of the file's picture have less room than they take
+pub record LacksRoomForLines (file : List ℕ) (count pixels : ℕ) : Type 0 where
+  pub head : HeadValue
+  pub is : HeadOf file head
+  pub less : pixels < count * line_size head
+
+-- the pixels are lines of the file's picture, `count` of them from this one on; the report counts the intervals that end in
+-- their rows of MCUs
+pub record DecodesLines (file : List ℕ) (first count : ℕ) (old_pixels pixels : List ℕ) (r : Report) : Type 0 where
+  pub scan : ScanValue
+  pub each : List Mark
+  pub f : ℕ → ℕ → ℕ → ℕ
+  pub is : IsPictureOf file None scan each f
+  pub there : HasLines scan.head first count
+  pub painted : pixels ≡ over (next_lines_of scan.head f first count) old_pixels
+  pub counted : EndInLines scan first count each r.sound r.damaged
+  pub intervals : r.intervals ≡ length scan.intervals
+  pub ended : IsEndOf scan.ended r
+  pub no_fault : TellsNoRefusal r
+
+-- nothing was decoded since the file is refused, and the report tells of that
+pub record IsRefusal (undecoded : Undecoded) (r : Report) : Type 0 where
+  pub fault : Refusal
+  pub is : undecoded ≡ Refused fault
+  pub other : fault ≢ refusal.Memory
+  pub number_is : r.refusal ≡ number_of fault
+  pub detail_is : r.detail ≡ detail_of fault

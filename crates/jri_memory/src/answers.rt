@@ -1,0 +1,59 @@
+//! What is answered and told of a decoding.
+
+ghost use Rattle.std.specs.Prelude.{◌≡◌, ◌≢◌, ◌<◌, ◌≤◌};
+ghost use Rattle.jr_head.specs.declared.refusal.Refusal.TheVariants.{Memory};
+ghost use Rattle.jri_memory.specs.Calls.{IsRefusal, TellsNoPicture, TellsNoRefusal};
+
+use crate::decode::Undecoded;
+use crate::report::Report;
+use crate::status::{DAMAGED, NO_MEMORY, NO_ROOM, REFUSED, SOUND};
+use jr_head::Refusal;
+
+/// The answer to a refusal.
+pub(crate) fn status_of(refusal: Refusal) -> u32
+    ensures memory { refusal ≡ Memory → result ≡ 1 }
+    ensures refused { refusal ≢ Memory → result ≡ 2 }
+    ensures of_the_file { result ≡ 2 → refusal ≢ Memory }
+    ensures of_memory { result ≡ 1 → refusal ≡ Memory }
+    ensures some { result ≢ 0 }
+    ensures few { result ≤ 2 }
+{
+    match refusal {
+        Refusal::Memory => NO_MEMORY,
+        _ => REFUSED,
+    }
+}
+
+/// Tells of a decoding, and gives the answer.
+pub(crate) fn tell(decoded: Report, report: &mut Report) -> u32
+    ensures told { report.new ≡ decoded }
+    ensures undamaged { result ≡ 0 → decoded.damaged ≡ 0 }
+    ensures damaged { result ≡ 3 → 0 < decoded.damaged }
+    ensures done { result ≢ 0 → result ≡ 3 }
+{
+    *report = decoded;
+    if decoded.damaged == 0 { SOUND } else { DAMAGED }
+}
+
+/// Tells why nothing is decoded, and gives the answer.
+pub(crate) fn tell_why(undecoded: Undecoded, report: &mut Report) -> u32
+    ensures undone { result ≢ 0 }
+    ensures undamaged { result ≢ 3 }
+    ensures few { result ≤ 4 }
+    ensures refused { result ≡ 2 → IsRefusal undecoded report.new }
+    ensures memory { result ≡ 1 → report.new.refusal ≡ 19 }
+    ensures room { result ≡ 4 → undecoded ≡ Undecoded.NoRoom }
+    ensures room_alone { result ≡ 4 → TellsNoRefusal report.new }
+    ensures no_picture { TellsNoPicture report.new }
+{
+    match undecoded {
+        Undecoded::Refused(refusal) => {
+            *report = Report::refused(refusal);
+            status_of(refusal)
+        }
+        Undecoded::NoRoom => {
+            *report = Report::empty();
+            NO_ROOM
+        }
+    }
+}

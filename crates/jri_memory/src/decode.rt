@@ -1,0 +1,52 @@
+//! From the bytes of a file to its pixels and marks, in the caller's buffers.
+
+ghost use Rattle.std.specs.Prelude.{◌≡◌, ◌≢◌, length, IfOk, IfErr};
+ghost use Rattle.jr_head.specs.declared.refusal.Refusal.TheVariants as refusal;
+ghost use Rattle.jr_head.specs.Heads.{RefusalOf};
+ghost use Rattle.jri_memory.specs.Calls.{Decodes, LacksRoom};
+
+use crate::report::Report;
+use crate::room::{asked_for, bytes_of_picture, lacks_room};
+use jr_head::Refusal;
+use jr_stream::paint_scan;
+use jri_engine::scan_of_file;
+use std::alloc::Global;
+
+/// Why nothing is decoded.
+#[derive(Clone, Copy, Debug, PartialEq, Eq)]
+pub(crate) enum Undecoded {
+    /// The file is refused, or memory is.
+    Refused(Refusal),
+    /// A buffer has too little room.
+    NoRoom,
+}
+
+/// Decodes a file: its pixels fill the front of `pixels`, and its marks that of `marks`, unless that has no room at all.
+/// Where it fails nothing is written.
+pub(crate) fn decode(
+    alloc: Global,
+    file: &[u8],
+    pixels: &mut [u8],
+    marks: &mut [u8],
+) -> Result<Report, Undecoded>
+    ensures decoded { IfOk result (λ r. Decodes file.now pixels.old pixels.new marks.old marks.new r) }
+    ensures refused { IfErr result (λ e. (f : Refusal) → e ≡ Undecoded.Refused f → f ≢ refusal.Memory → RefusalOf file.now f) }
+    ensures room { result ≡ Err Undecoded.NoRoom → LacksRoom file.now (length pixels.old) (length marks.old) }
+    ensures pixels { IfErr result (λ _. pixels.new ≡ pixels.old) }
+    ensures marks { IfErr result (λ _. marks.new ≡ marks.old) }
+{
+    let scan = match scan_of_file(alloc, file) {
+        Ok(scan) => scan,
+        Err(refusal) => return Err(Undecoded::Refused(refusal)),
+    };
+    let size = bytes_of_picture(scan.head());
+    let count = scan.intervals();
+    if pixels.len() < size || lacks_room(marks, count) {
+        return Err(Undecoded::NoRoom);
+    }
+    let asked = asked_for(marks, count);
+    let Ok(counts) = paint_scan(alloc, &scan, &mut pixels[..size], &mut marks[..asked]) else {
+        return Err(Undecoded::Refused(Refusal::Memory));
+    };
+    Ok(Report::of(&scan, counts))
+}

@@ -1,0 +1,19 @@
+//! A file in memory decoded into buffers of the caller's: the calls of libjri as a library.
+//!
+//! No call starts a thread, waits, or keeps anything: calls on different buffers may run at once.
+#![tactic(auto)]
+
+mod answers;
+mod calls;
+mod decode;
+mod lines;
+mod measure;
+mod report;
+mod room;
+pub mod status;
+mod text;
+
+pub use calls::{decode_file, decode_lines, measure_file};
+pub use measure::Measure;
+pub use report::Report;
+pub use text::refusal_text;

@@ -1,0 +1,64 @@
+//! From the bytes of a file to some lines of its picture, in the caller's buffer.
+
+ghost use Rattle.std.specs.Prelude.{◌≡◌, ◌≢◌, ◌<◌, ◌≤◌, ◌+◌, length, IfOk, IfErr, IfSome, None, true, false};
+ghost use Rattle.jr_head.specs.declared.refusal.Refusal.TheVariants as refusal;
+ghost use Rattle.jr_head.specs.Heads.{RefusalOf};
+ghost use Rattle.jri_memory.specs.Calls.{DecodesLines, HasLines, LacksLines, LacksRoomForLines};
+
+use crate::decode::Undecoded;
+use crate::report::Report;
+use jr_head::{Head, Refusal};
+use jr_paint::bytes_of_line;
+use jr_stream::paint_scan_lines;
+use jr_picture::Counts;
+use jri_engine::scan_of_file;
+use std::alloc::Global;
+
+/// Whether a picture has these lines, and there is one.
+fn has_lines(head: &Head, first: u32, count: u32) -> bool
+    ensures there { result ≡ true → HasLines head.now first count }
+    ensures not_there { result ≡ false → HasLines head.now first count → ⊥ }
+{
+    let height = head.height();
+    0 < count && count <= height && first <= height - count
+}
+
+/// Decodes what some lines of a file's picture take: their pixels fill the front of `pixels`. None where the picture has no
+/// such lines; then, and where it fails, nothing is written.
+pub(crate) fn decode_some(
+    alloc: Global,
+    file: &[u8],
+    first: u32,
+    count: u32,
+    pixels: &mut [u8],
+) -> Result<Option<Report>, Undecoded>
+    ensures decoded { IfOk result (λ o. IfSome o (λ r. DecodesLines file.now first count pixels.old pixels.new r)) }
+    ensures none { result ≡ Ok None → pixels.new ≡ pixels.old }
+    ensures refused { IfErr result (λ e. (f : Refusal) → e ≡ Undecoded.Refused f → f ≢ refusal.Memory → RefusalOf file.now f) }
+    ensures lines { result ≡ Ok None → LacksLines file.now first count }
+    ensures room { result ≡ Err Undecoded.NoRoom → LacksRoomForLines file.now count (length pixels.old) }
+    ensures pixels { IfErr result (λ _. pixels.new ≡ pixels.old) }
+{
+    let scan = match scan_of_file(alloc, file) {
+        Ok(scan) => scan,
+        Err(refusal) => return Err(Undecoded::Refused(refusal)),
+    };
+    let head = scan.head();
+    head.be_lawful();
+    if !has_lines(head, first, count) {
+        return Ok(None);
+    }
+    let size = count as usize * bytes_of_line(head);
+    if pixels.len() < size {
+        return Err(Undecoded::NoRoom);
+    }
+    let Ok(marked) = paint_scan_lines(alloc, &scan, first, count, &mut pixels[..size]) else {
+        return Err(Undecoded::Refused(Refusal::Memory));
+    };
+    let counts = Counts {
+        sound: marked.sound,
+        damaged: marked.damaged,
+        blank: 0,
+    };
+    Ok(Some(Report::of(&scan, counts)))
+}

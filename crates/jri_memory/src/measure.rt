@@ -1,0 +1,101 @@
+//! What a file's head says of its picture.
+
+ghost use Rattle.std.specs.Prelude.{◌≡◌};
+ghost use Rattle.jr_head.specs.HeadValue.{kind_number};
+ghost use Rattle.jr_head.specs.Geometry.{components_of};
+ghost use Rattle.jr_head.specs.Refusal.{number_of};
+ghost use Rattle.jr_scan.specs.ScanValue.{intervals_of};
+ghost use Rattle.jri_memory.specs.Calls.{TellsNoHead, detail_of, picture_size};
+
+use crate::report::detail;
+use crate::room::bytes_of_picture;
+use jr_head::{Head, Kind, Refusal};
+use jr_scan::interval_count;
+
+/// What a file's head says of its picture, or the refusal's numbers, and 0 for all else.
+#[repr(C)]
+#[derive(Clone, Copy, Debug, PartialEq, Eq)]
+pub struct Measure {
+    /// The picture's width in pixels.
+    pub width: u32,
+    /// The picture's height in lines.
+    pub height: u32,
+    /// 0 for grey, 1 for RGB, 2 for YCbCr, which is decoded to RGB.
+    pub kind: u32,
+    /// How many components there are, 1 or 3; a pixel has as many bytes.
+    pub components: u32,
+    /// How many restart intervals the scan has, and bytes its marks.
+    pub intervals: u32,
+    /// The number of the refusal, from 1 to 19; 0 where there is none.
+    pub refusal: u32,
+    /// How many bytes the pixels have.
+    pub pixels: u64,
+    /// What the refusal tells beside its number: the offset of a missing marker, or a marker's code.
+    pub detail: u64,
+}
+
+/// The number of a kind.
+fn number_of_kind(kind: Kind) -> u32
+    ensures { result ≡ kind_number kind }
+{
+    match kind {
+        Kind::Grey => 0,
+        Kind::Rgb => 1,
+        Kind::Ycc => 2,
+    }
+}
+
+impl Measure {
+    /// Nothing is told.
+    pub(crate) const fn empty() -> Measure
+        ensures no_head { TellsNoHead result }
+        ensures no_fault { result.refusal ≡ 0 }
+        ensures no_detail { result.detail ≡ 0 }
+    {
+        Measure {
+            width: 0,
+            height: 0,
+            kind: 0,
+            components: 0,
+            intervals: 0,
+            refusal: 0,
+            pixels: 0,
+            detail: 0,
+        }
+    }
+
+    /// A refusal.
+    pub(crate) fn refused(refusal: Refusal) -> Measure
+        ensures no_head { TellsNoHead result }
+        ensures number { result.refusal ≡ number_of refusal }
+        ensures detail { result.detail ≡ detail_of refusal }
+    {
+        Measure {
+            refusal: u32::from(refusal.number()),
+            detail: detail(refusal),
+            ..Measure::empty()
+        }
+    }
+
+    /// What a head says.
+    pub(crate) fn of(head: &Head) -> Measure
+        ensures width { result.width ≡ head.now.width }
+        ensures height { result.height ≡ head.now.height }
+        ensures kind { result.kind ≡ kind_number head.now.kind }
+        ensures components { result.components ≡ components_of head.now }
+        ensures intervals { result.intervals ≡ intervals_of head.now }
+        ensures pixels { result.pixels ≡ picture_size head.now }
+        ensures no_fault { result.refusal ≡ 0 }
+        ensures no_detail { result.detail ≡ 0 }
+    {
+        Measure {
+            width: head.width(),
+            height: head.height(),
+            kind: number_of_kind(head.kind()),
+            components: head.components(),
+            intervals: interval_count(head),
+            pixels: bytes_of_picture(head) as u64,
+            ..Measure::empty()
+        }
+    }
+}

@@ -1,0 +1,121 @@
+//! What a decoding tells.
+
+ghost use Rattle.std.specs.Prelude.{◌≡◌, length};
+ghost use Rattle.jr_head.specs.Refusal.{number_of};
+ghost use Rattle.jri_memory.specs.Calls.{IsEndOf, TellsNoPicture, TellsNoRefusal, detail_of};
+
+use jr_head::Refusal;
+use jr_scan::{Scan, ScanEnd};
+use jr_picture::Counts;
+
+/// What a decoding tells; all numbers are 0 that are not said otherwise.
+#[repr(C)]
+#[derive(Clone, Copy, Debug, PartialEq, Eq)]
+pub struct Report {
+    /// How many restart intervals the scan has.
+    pub intervals: u32,
+    /// How many of them have a decoding.
+    pub sound: u32,
+    /// How many of them have none.
+    pub damaged: u32,
+    /// How many of them are not decoded: none where there is a picture.
+    pub blank: u32,
+    /// What ended the scan: 1 EOI, 2 another marker, 3 a restart marker out of step, 4 one past the last interval, 5 the
+    /// end of the file.
+    pub ended: u32,
+    /// The code of that other marker, or the number, 0 to 7, of the restart marker out of step.
+    pub found: u32,
+    /// The number of the restart marker that was due.
+    pub due: u32,
+    /// The number of the refusal, from 1 to 19; 0 where there is none.
+    pub refusal: u32,
+    /// The offset in the file of the marker that ended the scan, with 2, 3 and 4.
+    pub at: u64,
+    /// What the refusal tells beside its number: the offset of a missing marker, or a marker's code.
+    pub detail: u64,
+}
+
+/// What a refusal tells beside its number.
+pub(crate) fn detail(refusal: Refusal) -> u64
+    ensures { result ≡ detail_of refusal }
+{
+    match refusal {
+        Refusal::ExpectedMarker(at) => at,
+        Refusal::UnexpectedMarker(code) | Refusal::NotBaseline(code) | Refusal::BadLength(code) => {
+            u64::from(code)
+        }
+        _ => 0,
+    }
+}
+
+impl Report {
+    /// Nothing is told.
+    pub(crate) const fn empty() -> Report
+        ensures no_picture { TellsNoPicture result }
+        ensures no_fault { TellsNoRefusal result }
+    {
+        Report {
+            intervals: 0,
+            sound: 0,
+            damaged: 0,
+            blank: 0,
+            ended: 0,
+            found: 0,
+            due: 0,
+            refusal: 0,
+            at: 0,
+            detail: 0,
+        }
+    }
+
+    /// A refusal.
+    pub(crate) fn refused(refusal: Refusal) -> Report
+        ensures no_picture { TellsNoPicture result }
+        ensures number { result.refusal ≡ number_of refusal }
+        ensures detail { result.detail ≡ detail_of refusal }
+    {
+        Report {
+            refusal: u32::from(refusal.number()),
+            detail: detail(refusal),
+            ..Report::empty()
+        }
+    }
+
+    /// What ended a scan.
+    fn ended(end: ScanEnd) -> Report
+        ensures end { IsEndOf end result }
+        ensures no_fault { TellsNoRefusal result }
+    {
+        let mut report = Report::empty();
+        (report.ended, report.found, report.due, report.at) = match end {
+            ScanEnd::EndOfImage => (1, 0, 0, 0),
+            ScanEnd::OtherMarker(code, at) => (2, u32::from(code), 0, at),
+            ScanEnd::OutOfStep {
+                found,
+                expected,
+                at,
+            } => (3, u32::from(found), u32::from(expected), at),
+            ScanEnd::ExtraRestart(at) => (4, 0, 0, at),
+            ScanEnd::EndOfFile => (5, 0, 0, 0),
+        };
+        report
+    }
+
+    /// Of a scan, whose intervals are so many sound, damaged and blank.
+    pub(crate) fn of(scan: &Scan, counts: Counts) -> Report
+        ensures intervals { result.intervals ≡ length scan.now.intervals }
+        ensures sound { result.sound ≡ counts.sound }
+        ensures damaged { result.damaged ≡ counts.damaged }
+        ensures blank { result.blank ≡ counts.blank }
+        ensures end { IsEndOf scan.now.ended result }
+        ensures no_fault { TellsNoRefusal result }
+    {
+        Report {
+            intervals: scan.intervals(),
+            sound: counts.sound,
+            damaged: counts.damaged,
+            blank: counts.blank,
+            ..Report::ended(scan.ended())
+        }
+    }
+}

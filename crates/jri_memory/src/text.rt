@@ -1,0 +1,61 @@
+//! The texts of refusals.
+
+ghost use Rattle.std.specs.Prelude.{◌≡◌, ◌≢◌, ◌≤◌, ◌<◌, length, drop, IfSome, None};
+ghost use Rattle.jr_head.specs.Refusal.{number_of};
+ghost use Rattle.jri_memory.specs.Calls.{IsNumberOfSome};
+
+use jr_head::Refusal;
+use std::io::{Cursor, Write};
+
+/// As many bytes as the longest text may have.
+const ROOM: usize = 64;
+
+/// The refusal of this number that tells this beside it.
+fn refusal_of(number: u32, detail: u64) -> Option<Refusal>
+    ensures of_the_number { IfSome result (λ f. number ≡ number_of f) }
+    ensures some { IsNumberOfSome number → result ≢ None }
+{
+    let code = (detail % 256) as u8;
+    match number {
+        1 => Some(Refusal::NotJpeg),
+        2 => Some(Refusal::EndsEarly),
+        3 => Some(Refusal::ExpectedMarker(detail)),
+        4 => Some(Refusal::UnexpectedMarker(code)),
+        5 => Some(Refusal::NotBaseline(code)),
+        6 => Some(Refusal::BadLength(code)),
+        7 => Some(Refusal::BadQuantTable),
+        8 => Some(Refusal::BadCodeTable),
+        9 => Some(Refusal::SecondFrame),
+        10 => Some(Refusal::BadPrecision),
+        11 => Some(Refusal::BadSize),
+        12 => Some(Refusal::TooManyPixels),
+        13 => Some(Refusal::BadComponents),
+        14 => Some(Refusal::BadSampling),
+        15 => Some(Refusal::BadScanHeader),
+        16 => Some(Refusal::NoFrame),
+        17 => Some(Refusal::MissingTable),
+        18 => Some(Refusal::TooLong),
+        19 => Some(Refusal::Memory),
+        _ => None,
+    }
+}
+
+/// Puts the text of a refusal by its numbers, as much as `text` has room for, with no 0 behind it: how many bytes it has. None
+/// where no refusal has that number.
+pub fn refusal_text(number: u32, detail: u64, text: &mut [u8]) -> usize
+    ensures some { IsNumberOfSome number → 0 < length text.old → 0 < result }
+    ensures none { 0 < result → IsNumberOfSome number }
+    ensures few { result ≤ length text.new }
+    ensures most { result ≤ 64 }
+    ensures kept { drop result text.new ≡ drop result text.old }
+{
+    let Some(refusal) = refusal_of(number, detail) else {
+        return 0;
+    };
+    let mut line = Cursor::new([0; ROOM]);
+    let _ = write!(line, "{refusal}");
+    // no contract of `write!` says that it writes anything
+    let length = (line.position() as usize).clamp(1, ROOM).min(text.len());
+    text[..length].copy_from_slice(&line.get_ref()[..length]);
+    length
+}

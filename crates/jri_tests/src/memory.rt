@@ -1,0 +1,376 @@
+//! Files in memory, decoded into buffers that just fit and into smaller ones: what is answered and told, and what the buffers
+//! have then.
+
+use crate::refused::REFUSALS;
+use jri_memory::status::{DAMAGED, NO_LINES, NO_ROOM, REFUSED, SOUND};
+use jri_memory::{Measure, Report, decode_file, decode_lines, measure_file, refusal_text};
+use std::alloc::Global;
+use std::process::Abort;
+use std::test::Fail;
+use test_files::cases;
+use test_files::cases::Case;
+use test_files::files::{COLOURED, MIXED, file};
+use test_files::pictures::picture;
+
+/// What stands in a buffer before a call.
+const BEFORE: u8 = 7;
+
+/// A report of nothing.
+const NONE: Report = Report {
+    intervals: 0,
+    sound: 0,
+    damaged: 0,
+    blank: 0,
+    ended: 0,
+    found: 0,
+    due: 0,
+    refusal: 0,
+    at: 0,
+    detail: 0,
+};
+
+/// A report that no call has written into.
+const UNWRITTEN: Report = Report {
+    intervals: 7,
+    sound: 7,
+    damaged: 7,
+    blank: 7,
+    ended: 7,
+    found: 7,
+    due: 7,
+    refusal: 7,
+    at: 7,
+    detail: 7,
+};
+
+/// Of a file that is refused.
+fn refused(refusal: u32, detail: u64) -> Report {
+    Report {
+        refusal,
+        detail,
+        ..NONE
+    }
+}
+
+/// Of a scan that ended at EOI.
+fn counted(intervals: u32, sound: u32, damaged: u32) -> Report {
+    Report {
+        intervals,
+        sound,
+        damaged,
+        ended: 1,
+        ..NONE
+    }
+}
+
+/// A file of two sound intervals.
+const TWO: &str = "GI 63 FF D0 63 E";
+
+/// A file, the room for its pixels and marks, the answer, and the report.
+fn decodings() -> [(&'static str, usize, usize, u32, Report); 16] {
+    [
+        ("G 63 E", 64, 1, SOUND, counted(1, 1, 0)),
+        ("G 63 E", 65, 2, SOUND, counted(1, 1, 0)),
+        ("G 63 E", 64, 0, SOUND, counted(1, 1, 0)),
+        ("G 63 E", 63, 1, NO_ROOM, NONE),
+        (TWO, 128, 2, SOUND, counted(2, 2, 0)),
+        (TWO, 128, 1, NO_ROOM, NONE),
+        (TWO, 127, 2, NO_ROOM, NONE),
+        (TWO, 127, 0, NO_ROOM, NONE),
+        ("GI 63 FF D0 E0 E", 128, 2, DAMAGED, counted(2, 1, 1)),
+        (
+            "GI 63 FF D1 63 E",
+            128,
+            2,
+            DAMAGED,
+            Report {
+                ended: 3,
+                found: 1,
+                at: 147,
+                ..counted(2, 1, 1)
+            },
+        ),
+        (
+            "GI 63 FF D0",
+            128,
+            2,
+            DAMAGED,
+            Report {
+                ended: 5,
+                ..counted(2, 1, 1)
+            },
+        ),
+        (
+            "G 63 FF D0 63 E",
+            64,
+            1,
+            SOUND,
+            Report {
+                ended: 4,
+                at: 141,
+                ..counted(1, 1, 0)
+            },
+        ),
+        (
+            "G 63 FF FF C4",
+            64,
+            1,
+            SOUND,
+            Report {
+                ended: 2,
+                found: 0xC4,
+                at: 141,
+                ..counted(1, 1, 0)
+            },
+        ),
+        ("", 64, 1, REFUSED, refused(1, 0)),
+        ("S 00", 64, 1, REFUSED, refused(3, 2)),
+        ("S FF D9", 0, 0, REFUSED, refused(4, 0xD9)),
+    ]
+}
+
+/// A file of three rows of MCUs of 8 lines, of which the second is damaged.
+const THREE_ROWS: &str = "S Q F:0018:0008 D A I C 63 FF D0 E0 FF D1 63 E";
+
+/// Of that file the first line and how many, the room for them, the answer, and the report.
+fn lines() -> [(u32, u32, usize, u32, Report); 13] {
+    [
+        (0, 24, 192, DAMAGED, counted(3, 2, 1)),
+        (0, 24, 191, NO_ROOM, NONE),
+        (0, 8, 64, SOUND, counted(3, 1, 0)),
+        (8, 8, 65, DAMAGED, counted(3, 0, 1)),
+        (7, 2, 16, DAMAGED, counted(3, 1, 1)),
+        (23, 1, 8, SOUND, counted(3, 1, 0)),
+        (23, 1, 7, NO_ROOM, NONE),
+        (23, 2, 16, NO_LINES, NONE),
+        (24, 1, 8, NO_LINES, NONE),
+        (0, 25, 200, NO_LINES, NONE),
+        (0, 0, 0, NO_LINES, NONE),
+        (u32::MAX, 1, 8, NO_LINES, NONE),
+        (1, u32::MAX, 8, NO_LINES, NONE),
+    ]
+}
+
+/// Whether all bytes of a buffer are as they were.
+fn is_untouched(bytes: &[u8]) -> bool {
+    bytes.iter().all(|byte| *byte == BEFORE)
+}
+
+/// Whether there is a picture with this answer.
+fn is_picture(answer: u32) -> bool {
+    answer == SOUND || answer == DAMAGED
+}
+
+/// What is answered and told of a file.
+fn told(alloc: Global, bytes: &[u8], pixels: &mut [u8], marks: &mut [u8]) -> (u32, Report) {
+    let mut report = UNWRITTEN;
+    let answer = decode_file(alloc, bytes, pixels, marks, &mut report);
+    (answer, report)
+}
+
+/// What is answered and told of a file with so much room; whether the buffers are as they were where there is no picture.
+fn told_with_room(
+    alloc: Global,
+    words: &str,
+    pixels: usize,
+    marks: usize,
+) -> Result<(u32, Report, bool), Fail> {
+    let bytes = file(alloc, words)?;
+    let mut pixels = vec![in alloc; BEFORE; pixels]?;
+    let mut marks = vec![in alloc; BEFORE; marks]?;
+    let (answer, report) = told(alloc, &bytes, &mut pixels, &mut marks);
+    let is_kept = is_picture(answer) || is_untouched(&pixels) && is_untouched(&marks);
+    Ok((answer, report, is_kept))
+}
+
+#[test]
+fn answers_by_room_and_file(rt: HostRuntime) -> Result<(), Fail> {
+    for (words, pixels, marks, answer, report) in &decodings() {
+        let found = told_with_room(rt.alloc(), words, *pixels, *marks)?;
+        assert!(rt;
+            found == (*answer, *report, true),
+            "{words}: {pixels}, {marks}"
+        );
+    }
+    Ok(())
+}
+
+/// Whether a file's pixels are the picture's, and what stands behind them is as it was.
+fn is_painted(alloc: Global, case: &Case) -> Result<bool, Fail> {
+    let bytes = file(alloc, case.file)?;
+    let text = picture(alloc, case.picture)?;
+    let mut pixels = vec![in alloc; BEFORE; text.len()]?;
+    let (answer, _report) = told(alloc, &bytes, &mut pixels, &mut []);
+    let size = measured(alloc, &bytes).pixels as usize;
+    let (front, behind) = pixels.split_at(size.min(pixels.len()));
+    Ok(is_picture(answer) && text.ends_with(front) && is_untouched(behind))
+}
+
+fn check<R: AllocGlobal + Abort>(rt: &R, cases: &[Case]) -> Result<(), Fail> {
+    for case in cases {
+        let is_right = is_painted(rt.alloc(), case)?;
+        assert!(rt; is_right, "{}", case.file);
+    }
+    Ok(())
+}
+
+#[test]
+fn paints_intervals(rt: HostRuntime) -> Result<(), Fail> {
+    check(&rt, &cases::restart_intervals())
+}
+
+#[test]
+fn paints_colours(rt: HostRuntime) -> Result<(), Fail> {
+    check(&rt, &cases::three_components())
+}
+
+#[test]
+fn puts_marks(rt: HostRuntime) -> Result<(), Fail> {
+    let bytes = file(rt.alloc(), MIXED)?;
+    let mut pixels = [BEFORE; 640];
+    let mut marks = [BEFORE; 11];
+    let (answer, report) = told(rt.alloc(), &bytes, &mut pixels, &mut marks);
+    assert!(rt; (answer, report) == (DAMAGED, counted(10, 5, 5)));
+    assert!(rt; marks == [1, 2, 1, 2, 2, 1, 2, 1, 2, 1, BEFORE]);
+    Ok(())
+}
+
+/// What is answered and told of lines of the file of three rows; whether they are those lines, or as they were.
+fn told_of_lines(
+    alloc: Global,
+    bytes: &[u8],
+    first: u32,
+    count: u32,
+    room: usize,
+) -> Result<(u32, Report, bool), Fail> {
+    let mut pixels = vec![in alloc; BEFORE; room]?;
+    let mut report = UNWRITTEN;
+    let answer = decode_lines(alloc, bytes, first, count, &mut pixels, &mut report);
+    if !is_picture(answer) {
+        return Ok((answer, report, is_untouched(&pixels)));
+    }
+    let mut is_right = true;
+    for (i, pixel) in pixels.iter().enumerate() {
+        let line = i as u64 / 8;
+        let row = u64::wrapping_add(u64::from(first), line) / 8;
+        let sample = if row == 1 { 128 } else { 136 };
+        let expected = if line < u64::from(count) {
+            sample
+        } else {
+            BEFORE
+        };
+        is_right = is_right && *pixel == expected;
+    }
+    Ok((answer, report, is_right))
+}
+
+#[test]
+fn answers_lines(rt: HostRuntime) -> Result<(), Fail> {
+    let bytes = file(rt.alloc(), THREE_ROWS)?;
+    for (first, count, room, answer, report) in &lines() {
+        let found = told_of_lines(rt.alloc(), &bytes, *first, *count, *room)?;
+        assert!(rt;
+            found == (*answer, *report, true),
+            "{first}, {count}, {room}"
+        );
+    }
+    Ok(())
+}
+
+/// A measure of nothing.
+const NO_MEASURE: Measure = Measure {
+    width: 0,
+    height: 0,
+    kind: 0,
+    components: 0,
+    intervals: 0,
+    refusal: 0,
+    pixels: 0,
+    detail: 0,
+};
+
+/// What a file's head says.
+fn measured(alloc: Global, bytes: &[u8]) -> Measure {
+    let mut measure = NO_MEASURE;
+    let _answer = measure_file(alloc, bytes, &mut measure);
+    measure
+}
+
+/// Files, and what their heads say.
+fn measures() -> [(&'static str, Measure); 4] {
+    [
+        (
+            "G 63 E",
+            Measure {
+                width: 8,
+                height: 8,
+                components: 1,
+                intervals: 1,
+                pixels: 64,
+                ..NO_MEASURE
+            },
+        ),
+        (
+            "S T Q F3:0008:0008:11 D A C3 60 0F E",
+            Measure {
+                width: 8,
+                height: 8,
+                kind: 1,
+                components: 3,
+                intervals: 1,
+                pixels: 192,
+                ..NO_MEASURE
+            },
+        ),
+        (
+            COLOURED,
+            Measure {
+                width: 17,
+                height: 9,
+                kind: 2,
+                components: 3,
+                intervals: 2,
+                pixels: 459,
+                ..NO_MEASURE
+            },
+        ),
+        (
+            "S 00",
+            Measure {
+                refusal: 3,
+                detail: 2,
+                ..NO_MEASURE
+            },
+        ),
+    ]
+}
+
+#[test]
+fn measures_heads(rt: HostRuntime) -> Result<(), Fail> {
+    for (words, measure) in &measures() {
+        let bytes = file(rt.alloc(), words)?;
+        let found = measured(rt.alloc(), &bytes);
+        assert!(rt; found == *measure, "{words}");
+    }
+    Ok(())
+}
+
+/// Whether a refusal has this text, and what stands behind it is as it was.
+fn has_text(measure: Measure, expected: &str) -> bool {
+    let mut text = [BEFORE; 64];
+    let length = refusal_text(measure.refusal, measure.detail, &mut text);
+    let (front, behind) = text.split_at(length);
+    front == expected.as_bytes() && is_untouched(behind)
+}
+
+/// The words are those that the program writes.
+#[test]
+fn tells_texts(rt: HostRuntime) -> Result<(), Fail> {
+    for (words, line) in &REFUSALS {
+        let bytes = file(rt.alloc(), words)?;
+        let (_number, text) = line.split_once(": ").ok_or("no text")?;
+        let is_right = has_text(measured(rt.alloc(), &bytes), text.trim_end());
+        assert!(rt; is_right, "{words}");
+    }
+    Ok(())
+}
