@@ -28,5 +28,5 @@ pub use rows::Rows;
 pub use shape::{
     Shape, bytes_of_row, coded_of_row, intervals_of_row, lines_of, room_for, shape_of,
 };
-pub use writing::{Unwritten, counts_of, write_rows, write_scan};
 pub use whole::paint_scan;
+pub use writing::{Unwritten, counts_of, write_rows, write_scan};

@@ -8,9 +8,9 @@ use crate::lines::paint_between;
 use crate::sample_row::SampleRow;
 use crate::writing::counts_of;
 use jr_base::Memory;
+use jr_picture::Counts;
 use jr_piece::each_interval_has_an_outcome;
 use jr_scan::Scan;
-use jr_picture::Counts;
 use std::alloc::Global;
 
 /// Decodes a scan and paints its picture, a line behind the other, of one byte or three a pixel. Where `marks` has room, the

@@ -9,8 +9,8 @@ use crate::decode::Undecoded;
 use crate::report::Report;
 use jr_head::{Head, Refusal};
 use jr_paint::bytes_of_line;
-use jr_stream::paint_scan_lines;
 use jr_picture::Counts;
+use jr_stream::paint_scan_lines;
 use jri_engine::scan_of_file;
 use std::alloc::Global;
 

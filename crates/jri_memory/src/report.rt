@@ -5,8 +5,8 @@ ghost use Rattle.jr_head.specs.Refusal.{number_of};
 ghost use Rattle.jri_memory.specs.Calls.{IsEndOf, TellsNoPicture, TellsNoRefusal, detail_of};
 
 use jr_head::Refusal;
-use jr_scan::{Scan, ScanEnd};
 use jr_picture::Counts;
+use jr_scan::{Scan, ScanEnd};
 
 /// What a decoding tells; all numbers are 0 that are not said otherwise.
 #[repr(C)]
