@@ -1,4 +1,5 @@
 use Rattle.std.proofs.Common.{rules, arith, sym, subst, ap, ◌∙◌, ◌≡◌, ℕ, ◌+◌, ◌*◌, ◌<◌, ◌^◌, [], slice_index_or}
+use Rattle.std.proofs.lemmas.Grind.{common_steps}
 use Rattle.jr_head.specs.Geometry.{blocks_of}
 use Rattle.jr_scan.specs.ScanValue.{ScanValue, intervals_of}
 use Rattle.jr_stream.specs.Bands.{unit_shown}
@@ -47,3 +48,12 @@ parts-preserved c =
       shows = λ b first. shown_more n done mcus (mcus_read old) (unit_shown b) (λ k. slice_index_or units k []) (λ k. slice_index_or new k []) positive (keep.shows b first) kept (shown b first);
       counts = counts_both old.scan old.limit _ _ _ c.parts.marked some.result c.with-marked.result keep.counts more c.with-marked.ensures.sound c.with-marked.ensures.damaged;
     }
+
+pub overflow_add-done : goal.overflow_add-done
+overflow_add-done c = search rules
+
+pub returns-clause-moved : goal.returns-clause-moved
+returns-clause-moved c = search rules
+
+pub returns-clause-shows : goal.returns-clause-shows
+returns-clause-shows c = grind (arith, common_steps)
