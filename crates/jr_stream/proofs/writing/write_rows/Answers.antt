@@ -27,7 +27,9 @@ rows-init g c =
       unfailed = c.requires.unfailed;
       counts = counts_none at.scan at.limit _ _ c.none-marked.result c.none-marked.ensures.sound c.none-marked.ensures.damaged refl;
       sent = λ b first.
-          rw (no_lines h, text_none h (samples_of b), ← (c.put_header-filled.ensures.front ∙ ap header_of c.requires.head)) (nothing_written g.W.Write.contents c.args.out.now _);
+          let header = take c.put_header-filled.result c.put_header-filled.new.bytes in
+          let nothing = nothing_written g.W.Write.contents c.args.out.now header in
+          rw (no_lines h, text_none h (samples_of b), ← (c.put_header-filled.ensures.front ∙ ap header_of c.requires.head)) (search (rules, nothing));
     }
 
 pub returns-in_err-filled-clause-sent : goal.returns-in_err-filled-clause-sent

@@ -23,3 +23,12 @@ returns-clause-begun g c failed =
     let is : c.limit-limit.result ≡ n = search rules in
     let sends : SendsPicture g.W.Write.contents c.args.out.now c.write_picture.new.out c.write_picture.result t n = subst (λ (k : ℕ). SendsPicture g.W.Write.contents c.args.out.now c.write_picture.new.out c.write_picture.result t k) is c.write_picture.ensures.sent in
     begun_picture g.W.Write.contents _ _ c.write_picture.result c.each_interval_has_an_outcome.ensures t lawful n (least_few c.args.first (length t.intervals)) sends _ c.in-Err.is
+
+pub returns-clause-memory : goal.returns-clause-memory
+returns-clause-memory g c = search rules
+
+pub returns-in_default-vec-clause-memory : goal.returns-in_default-vec-clause-memory
+returns-in_default-vec-clause-memory g c = search rules
+
+pub write_picture-requires-clause-unfailed : goal.write_picture-requires-clause-unfailed
+write_picture-requires-clause-unfailed g c = search rules

@@ -1,4 +1,5 @@
 use Rattle.std.proofs.Common.{◌≡◌, ◌≤◌, ◌++◌, ◌∙◌, [], ap, sym, take, drop, subst, length, arith, ⊎_elim, inl, inr}
+use Rattle.std.proofs.lemmas.Grind.{common_steps}
 use Rattle.std.specs.Prelude.{◌⊎◌}
 use Rattle.std.proofs.lemmas.List.{take-append-drop, take-append-le}
 use Rattle.jr_code.specs.Bits.{bits_of, bits}
@@ -41,3 +42,6 @@ returns-2-clause-found c =
 
 pub returns-2-clause-one_word : goal.returns-2-clause-one_word
 returns-2-clause-one_word c = one_word c.args.self.now
+
+pub returns-clause-found : goal.returns-clause-found
+returns-clause-found c = grind (arith, common_steps)

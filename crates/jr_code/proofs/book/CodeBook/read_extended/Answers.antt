@@ -35,3 +35,6 @@ returns-2-clause-found c =
     let f16 : SFits w16 x.value = search rules in
     let is : c.from-value.result ≡ x.value = c.from-value.ensures ∙ to_z-of_z w16 x.value f16 in
     rw (is, to_z-of_z w32 x.value fv, ← rest, ← same) all
+
+pub returns-clause-found : goal.returns-clause-found
+returns-clause-found c = search rules

@@ -1,4 +1,5 @@
-use Rattle.std.proofs.Common.{rules, arith, sym, subst, ap, ◌∙◌, ◌≡◌, ℕ, ◌*◌, ◌<◌, ◌^◌, [], slice_index_or}
+use Rattle.std.proofs.Common.{rules, arith, sym, subst, ap, ◌∙◌, ◌≡◌, ℕ, ◌+◌, ◌*◌, ◌<◌, ◌^◌, [], slice_index_or}
+use Rattle.std.proofs.lemmas.Grind.{common_steps}
 use Rattle.jr_head.specs.Geometry.{blocks_of}
 use Rattle.jr_scan.specs.ScanValue.{ScanValue, intervals_of}
 use Rattle.jr_stream.specs.Bands.{unit_shown}
@@ -54,3 +55,12 @@ parts-preserved c =
       places = λ there. puts.long ∙ keep.places (omega (arith, there, puts.long));
       puts = puts_both old.scan old.limit _ _ _ c.args.marks.now bytes some.new.marks (omega (arith, keep.counts.few)) keep.puts puts;
     }
+
+pub overflow_add-done : goal.overflow_add-done
+overflow_add-done c = search rules
+
+pub returns-clause-moved : goal.returns-clause-moved
+returns-clause-moved c = search rules
+
+pub returns-clause-shows : goal.returns-clause-shows
+returns-clause-shows c = grind (arith, common_steps)

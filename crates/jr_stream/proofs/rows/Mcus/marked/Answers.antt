@@ -1,4 +1,4 @@
-use Rattle.std.proofs.Common.{rules, arith, sym, subst, ap, ◌∙◌, ◌≡◌, ℕ, ◌<◌, length}
+use Rattle.std.proofs.Common.{rules, arith, sym, subst, ap, ◌∙◌, ◌≡◌, ℕ, ◌<◌, cond, length}
 use Rattle.std.specs.Prelude.{slice_index}
 use Rattle.jr_head.specs.Geometry.{mcus_of}
 use Rattle.jr_scan.specs.ScanValue.{intervals_of, interval_of, mcus_in}
@@ -34,8 +34,9 @@ returns-clause-counts c =
     let all : r.mcu ≡ mcus_in r.scan.head r.number = search (rules, arith) in
     let interval : c.self.inside.reader.interval ≡ interval_of r.scan r.number = search rules in
     let tells : (p : PieceValue) → IsOutcome p → p.interval ≡ interval_of r.scan r.number → p.is_sound ≡ c.is_sound-is_sound.result = λ p o e. c.is_sound-is_sound.ensures p o (e ∙ sym interval) in
+    let sound : c.one.result.sound ≡ cond c.is_sound-is_sound.result 1 0 = search rules in
     subst (λ (to : ℕ). CountsMarks r.scan r.limit r.number to c.one.result) (sym (ends_with r.scan.head r.number r.mcu some number all))
-    (counts_one r.scan r.limit r.number c.one.result c.requires.decoded there c.is_sound-is_sound.result c.one.ensures.sound c.one.ensures.damaged tells)
+    (counts_one r.scan r.limit r.number c.one.result c.requires.decoded there c.is_sound-is_sound.result sound c.one.ensures.damaged tells)
 
 pub returns-clause-puts : goal.returns-clause-puts
 returns-clause-puts c =
