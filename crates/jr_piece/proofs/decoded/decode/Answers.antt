@@ -1,3 +1,4 @@
+use Rattle.std.proofs.Common.{rules}
 use Rattle.jr_piece.proofs.Outcomes.{Ended, outcome}
 use Rattle.jr_scan.specs.McuReader.{HasReadAll}
 use Rattle.jr_piece.proofs.decoded.decode.Goals as goal
@@ -13,4 +14,5 @@ returns c =
       decodes = λ t. c.is_sound.ensures.sound t i zs all.0;
       none = λ f ys. c.is_sound.ensures.damaged f i zs all ys;
     } in
-    outcome i zs c.in_ok-samples.samples.items c.is_sound.result c.mcus.result ended
+    let told = outcome i zs c.in_ok-samples.samples.items c.is_sound.result c.mcus.result ended in
+    search (rules, told)

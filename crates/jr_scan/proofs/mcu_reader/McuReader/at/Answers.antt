@@ -18,7 +18,7 @@ invariant_of-result c =
       small = c.ranges.mcus.fits;
       bits = is ∙ ap (λ (k : ℕ). drop k (bits i.bytes)) at;
       three = search rules;
-      in_range = c.requires.in_range;
+      in_range = search (rules, c.requires.in_range);
     }
 
 pub returns-clause-read : goal.returns-clause-read
@@ -30,5 +30,5 @@ returns-clause-read c =
     let three : length from.predictions ≡ 3 = search rules in
     record {
       few = omega arith;
-      run = subst (λ (k : ℕ). IsRun (run_from i from 0) [] (record { bit = k; predictions = from.predictions }) AllRead) at (no_run i from three);
+      run = let told = subst (λ (k : ℕ). IsRun (run_from i from 0) [] (record { bit = k; predictions = from.predictions }) AllRead) at (no_run i from three) in search (rules, told);
     }
