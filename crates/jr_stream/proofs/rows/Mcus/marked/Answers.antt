@@ -4,7 +4,7 @@ use Rattle.jr_head.specs.Geometry.{mcus_of}
 use Rattle.jr_scan.specs.ScanValue.{intervals_of, interval_of, mcus_in}
 use Rattle.jr_piece.specs.PieceValue.{PieceValue}
 use Rattle.jr_piece.specs.Outcome.{IsOutcome}
-use Rattle.jr_wall.specs.declared.mark.Mark.TheVariants.{Sound, Damaged}
+use Rattle.jr_picture.specs.declared.mark.Mark.TheVariants.{Sound, Damaged}
 use Rattle.jr_stream.specs.MarkBytes.{PutsMarks, mark_byte}
 use Rattle.jr_stream.specs.Rows.{CountsMarks}
 use Rattle.jr_stream.proofs.IntervalPlaces.{ends_before, ends_with}
