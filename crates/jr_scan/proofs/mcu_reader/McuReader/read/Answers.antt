@@ -30,12 +30,13 @@ loop-k-preserved c =
     let mcu : c.next.new.self.mcu ≡ c.loop-k.self.mcu + 1 = search (rules, c.in-Some.ensures.mcu) in
     let next0 : IsRun (run_from c.loop-k.self.run.interval c.loop-k.self.place 1) c.next.new.blocks c.next.new.self.place AllRead = search (rules, c.in-Some.ensures.some) in
     let next1 = subst (λ (o : RunOf). IsRun (run_from o.interval c.loop-k.self.place 1) c.next.new.blocks c.next.new.self.place AllRead) c.loop-k.invariant.run next0 in
+    let more = more_held r.run.interval r.place c.loop-k.self.place c.next.new.self.place k per c.loop-k.blocks c.next.new.blocks lawful room long c.loop-k.invariant.whole next1 in
     record {
       run = c.next.ensures.run ∙ c.loop-k.invariant.run;
       mcu = omega (arith, mcu, c.loop-k.invariant.mcu);
       room = search (rules, c.loop-k.invariant.room);
       start = λ first. absurd (omega (arith, first));
-      whole = more_held r.run.interval r.place c.loop-k.self.place c.next.new.self.place k per c.loop-k.blocks c.next.new.blocks lawful room long c.loop-k.invariant.whole next1;
+      whole = search (rules, more);
     }
 
 pub returns-in_default-clause-read : goal.returns-in_default-clause-read
