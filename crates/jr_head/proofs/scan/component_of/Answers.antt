@@ -5,6 +5,6 @@ pub returns-clause-factors : goal.returns-clause-factors
 returns-clause-factors c = record {
   horizontal = c.factor-horizontal.ensures;
   vertical = c.factor-vertical.ensures;
-  elements = c.to_elements.ensures.count;
+  elements = rw c.of.ensures c.to_elements.ensures.count;
   coded = record { dc = search rules; ac = search rules };
 }
