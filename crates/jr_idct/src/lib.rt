@@ -9,9 +9,8 @@ mod block;
 mod butterfly;
 mod laws;
 mod matrix;
-mod narrow;
 mod number;
-mod zigzag;
+mod wide;
 
 pub use block::transform;
 pub use butterfly::{even, odd};

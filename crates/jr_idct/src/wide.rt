@@ -1,43 +1,19 @@
-//! The transform in 32 bits, for blocks with small products, which are nearly all.
+//! The transform in 64 bits, by butterflies: for any products of coefficients and quantisers.
 
-ghost use Rattle.std.specs.Prelude.{◌≡◌, ℕ, ◌+◌, ◌*◌, ◌<◌, pos, ◌+ℤ◌, ◌-ℤ◌, slice_index, IsTrue, ◌↔◌};
-ghost use Rattle.jr_idct.specs.Matrix.{at, descale, narrow_reach, row_weight, transposed, IsWithin};
+ghost use Rattle.std.specs.Prelude.{◌≡◌, ℕ, ◌+◌, ◌*◌, ◌^◌, ◌<◌, pos, ◌+ℤ◌, ◌-ℤ◌, slice_index};
+ghost use Rattle.jr_idct.specs.Matrix.{at, descale, wide_reach, row_weight, transposed, IsWithin};
 ghost use Rattle.jr_idct.specs.Transform.{byte_of, sample_of};
 
 use crate::butterfly::{even_part, odd_part};
 use crate::number::{COLUMN_BITS, Number, ROW_BITS};
 
-/// How large the products may be whose passes fit in 32 bits: the first pass makes numbers up to 34971 of them,
-/// and the sums of the second one, rounded, stay below 2^31.
-const LIMIT: u32 = 1170;
-
-/// Whether a product is no larger than that.
-#[inline]
-fn is_small(product: i32) -> bool
-    ensures { IsTrue result ↔ IsWithin LIMIT product }
-{
-    product.unsigned_abs() <= LIMIT
-}
-
-/// Whether the passes fit in 32 bits. It has no early end, so that it is done by vectors.
-#[inline]
-pub(crate) fn are_small(products: &[i32; 64]) -> bool
-    ensures { IsTrue result ↔ ((k : ℕ) → k < 64 → IsWithin LIMIT (at products.now k)) }
-{
-    let mut small = true;
-    for k in 0..64 {
-        small &= is_small(products[k]);
-    }
-    small
-}
-
 /// The sum and the difference of the two halves, each descaled.
 #[inline]
-fn both_descaled(even: i32, odd: i32, bits: u32) -> (i32, i32)
+fn both_descaled(even: i64, odd: i64, bits: u32) -> (i64, i64)
     requires positive { 0 < bits }
     requires few { bits < 19 }
-    requires small_sum { IsWithin (row_weight * narrow_reach) (even +ℤ odd) }
-    requires small_difference { IsWithin (row_weight * narrow_reach) (even -ℤ odd) }
+    requires small_sum { IsWithin (row_weight * wide_reach) (even +ℤ odd) }
+    requires small_difference { IsWithin (row_weight * wide_reach) (even -ℤ odd) }
     ensures sum { result.0 ≡ descale bits (even +ℤ odd) }
     ensures difference { result.1 ≡ descale bits (even -ℤ odd) }
 {
@@ -48,11 +24,11 @@ fn both_descaled(even: i32, odd: i32, bits: u32) -> (i32, i32)
 
 /// The pass over column c of a table.
 #[inline(always)]
-fn column_pass(table: &[i32; 64], c: usize, bits: u32) -> [i32; 8]
+fn column_pass(table: &[i64; 64], c: usize, bits: u32) -> [i64; 8]
     requires column { c < 8 }
     requires positive { 0 < bits }
     requires few { bits < 19 }
-    requires small { (k : ℕ) → k < 64 → IsWithin narrow_reach (at table.now k) }
+    requires small { (k : ℕ) → k < 64 → IsWithin wide_reach (at table.now k) }
     ensures { (r : ℕ) → r < 8 → at result r ≡ transposed bits table.now (8 * c + r) }
 {
     let (e0, e1, e2, e3) = even_part(table[c], table[c + 16], table[c + 32], table[c + 48]);
@@ -67,8 +43,8 @@ fn column_pass(table: &[i32; 64], c: usize, bits: u32) -> [i32; 8]
 /// The first pass over each column, whose results are the rows of the answer. No step depends on what a column
 /// holds, so that several are done at once, by vectors.
 #[inline]
-fn first_passes(table: &[i32; 64]) -> [i32; 64]
-    requires { (k : ℕ) → k < 64 → IsWithin narrow_reach (at table.now k) }
+fn first_passes(table: &[i64; 64]) -> [i64; 64]
+    requires { (k : ℕ) → k < 64 → IsWithin wide_reach (at table.now k) }
     ensures { (k : ℕ) → k < 64 → at result k ≡ transposed COLUMN_BITS table.now k }
 {
     let mut rows = [0; 64];
@@ -84,8 +60,8 @@ fn first_passes(table: &[i32; 64]) -> [i32; 64]
 /// The second pass over each column of what the first one made, whose results, clamped at once, are the rows of
 /// the answer. Clamped in a loop of their own they would be stored one by one and read back by vectors.
 #[inline]
-fn sample_rows(columns: &[i32; 64]) -> [u8; 64]
-    requires { (k : ℕ) → k < 64 → IsWithin narrow_reach (at columns.now k) }
+fn sample_rows(columns: &[i64; 64]) -> [u8; 64]
+    requires { (k : ℕ) → k < 64 → IsWithin wide_reach (at columns.now k) }
     ensures { (k : ℕ) → k < 64 → slice_index result k ≡ byte_of (transposed ROW_BITS columns.now k +ℤ pos 128) }
 {
     let mut rows = [0; 64];
@@ -98,10 +74,10 @@ fn sample_rows(columns: &[i32; 64]) -> [u8; 64]
     rows
 }
 
-/// The samples of a table of small products in natural order.
+/// The samples of a table of products in natural order.
 #[inline]
-pub(crate) fn narrow_samples(table: &[i32; 64]) -> [u8; 64]
-    requires { (k : ℕ) → k < 64 → IsWithin LIMIT (at table.now k) }
+pub(crate) fn wide_samples(table: &[i64; 64]) -> [u8; 64]
+    requires { (k : ℕ) → k < 64 → IsWithin (2 ^ 31) (at table.now k) }
     ensures { (r c : ℕ) → r < 8 → c < 8 → slice_index result (8 * r + c) ≡ sample_of (at table.now) r c }
 {
     sample_rows(&first_passes(table))

@@ -1,8 +1,8 @@
-use Rattle.std.proofs.Common.{arith, rules, w32, ◌∙◌}
+use Rattle.std.proofs.Common.{arith, rules, w64, ◌∙◌}
 use Rattle.std.proofs.lemmas.Int.{to_z-of_z}
 use Rattle.jr_idct.proofs.Columns.{joined}
 use Rattle.jr_idct.proofs.Passes.{below_eight, entry_from}
-use Rattle.jr_idct.proofs.narrow.column_pass.Goals as goal
+use Rattle.jr_idct.proofs.wide.column_pass.Goals as goal
 
 pub both_descaled-y0-requires : goal.both_descaled-y0-requires
 both_descaled-y0-requires c =
@@ -32,11 +32,11 @@ returns c =
     let j3 = joined c.args.table.now c.requires.small c.args.c c.requires.column 3 (omega arith) _ _ (search rules) (search rules) c.even_part-e0.ensures.entry_3 c.odd_part-o0.ensures.entry_3 in
     let entry = entry_from c.args.bits c.args.table.now c.args.c in
     below_eight _
-    (entry 0 _ _ (omega arith) (to_z-of_z w32 _ (search rules) ∙ c.both_descaled-y0.ensures.sum) j0.sum)
-    (entry 1 _ _ (omega arith) (to_z-of_z w32 _ (search rules) ∙ c.both_descaled-y1.ensures.sum) j1.sum)
-    (entry 2 _ _ (omega arith) (to_z-of_z w32 _ (search rules) ∙ c.both_descaled-y2.ensures.sum) j2.sum)
-    (entry 3 _ _ (omega arith) (to_z-of_z w32 _ (search rules) ∙ c.both_descaled-y3.ensures.sum) j3.sum)
-    (entry 4 _ _ (omega arith) (to_z-of_z w32 _ (search rules) ∙ c.both_descaled-y3.ensures.difference) j3.difference)
-    (entry 5 _ _ (omega arith) (to_z-of_z w32 _ (search rules) ∙ c.both_descaled-y2.ensures.difference) j2.difference)
-    (entry 6 _ _ (omega arith) (to_z-of_z w32 _ (search rules) ∙ c.both_descaled-y1.ensures.difference) j1.difference)
-    (entry 7 _ _ (omega arith) (to_z-of_z w32 _ (search rules) ∙ c.both_descaled-y0.ensures.difference) j0.difference)
+    (entry 0 _ _ (omega arith) (to_z-of_z w64 _ (search rules) ∙ c.both_descaled-y0.ensures.sum) j0.sum)
+    (entry 1 _ _ (omega arith) (to_z-of_z w64 _ (search rules) ∙ c.both_descaled-y1.ensures.sum) j1.sum)
+    (entry 2 _ _ (omega arith) (to_z-of_z w64 _ (search rules) ∙ c.both_descaled-y2.ensures.sum) j2.sum)
+    (entry 3 _ _ (omega arith) (to_z-of_z w64 _ (search rules) ∙ c.both_descaled-y3.ensures.sum) j3.sum)
+    (entry 4 _ _ (omega arith) (to_z-of_z w64 _ (search rules) ∙ c.both_descaled-y3.ensures.difference) j3.difference)
+    (entry 5 _ _ (omega arith) (to_z-of_z w64 _ (search rules) ∙ c.both_descaled-y2.ensures.difference) j2.difference)
+    (entry 6 _ _ (omega arith) (to_z-of_z w64 _ (search rules) ∙ c.both_descaled-y1.ensures.difference) j1.difference)
+    (entry 7 _ _ (omega arith) (to_z-of_z w64 _ (search rules) ∙ c.both_descaled-y0.ensures.difference) j0.difference)
