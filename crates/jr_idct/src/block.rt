@@ -43,3 +43,25 @@ pub(crate) fn samples_of(block: &Coefficients, quantisers: &Quantisers) -> [u8; 
 {
     wide_samples(&products(block.natural(), quantisers.factors()))
 }
+
+/// The samples of a block, at index `8 row + column`: dequantised, transformed and shifted (T.81, A.3.1, A.3.3, A.3.4 and A.3.6).
+pub fn transform_one(block: &Coefficients, quantisers: &Quantisers) -> [u8; 64]
+    ensures { result ≡ samples block.now quantisers.now }
+{
+    samples_of(block, quantisers)
+}
+
+/// The samples of two blocks of one component.
+pub fn transform_two(
+    a: &Coefficients,
+    b: &Coefficients,
+    quantisers: &Quantisers,
+    first: &mut [u8; 64],
+    second: &mut [u8; 64],
+)
+    ensures first { first.new ≡ samples a.now quantisers.now }
+    ensures second { second.new ≡ samples b.now quantisers.now }
+{
+    *first = samples_of(a, quantisers);
+    *second = samples_of(b, quantisers);
+}

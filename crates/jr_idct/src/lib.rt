@@ -12,7 +12,7 @@ mod matrix;
 mod number;
 mod wide;
 
-pub use block::transform;
+pub use block::{transform, transform_one, transform_two};
 pub use butterfly::{even, odd};
 pub use laws::{floors, tables_agree, zeros_are_grey};
 pub use matrix::matrix_transform;
