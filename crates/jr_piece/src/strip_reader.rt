@@ -13,8 +13,7 @@ use crate::strip::CodedStrip;
 use jr_block::Coefficients;
 use jr_code::Memory;
 use jr_scan::{
-    Interval, McuReader, Place, decoding_is_whole_run, one_front, one_run, runs_meet,
-    shorter_front,
+    Interval, McuReader, Place, decoding_is_whole_run, one_front, one_run, runs_meet, shorter_front,
 };
 use std::alloc::Global;
 use std::marker::Model;
@@ -39,7 +38,12 @@ fn most_mcus(interval: &Interval, from: Place, mcus: u32) -> u32
 }
 
 /// The whole MCUs of a run of at most so many, in the place of the blocks that are there.
-fn read_run(blocks: Vec<Coefficients>, interval: &Interval, from: Place, mcus: u32) -> Result<Run, Memory>
+fn read_run(
+    blocks: Vec<Coefficients>,
+    interval: &Interval,
+    from: Place,
+    mcus: u32,
+) -> Result<Run, Memory>
     requires { CanReadFrom interval.now from }
     ensures few { IfOk result (λ r. r.mcus ≤ mcus) }
     ensures run { IfOk result (λ r. FirstMcus (run_from interval.now from mcus) r.mcus r.blocks.items) }

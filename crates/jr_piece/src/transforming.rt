@@ -30,8 +30,13 @@ fn transform_mcus(
     for k in 0..count {
         let quantisers = head.quantisers(u32::from(order[k]));
         if k < second.len() {
-            let (a, b) = (&blocks[k], &blocks[count + k]);
-            transform_two(a, b, quantisers, &mut first[k], &mut second[k]);
+            transform_two(
+                &blocks[k],
+                &blocks[count + k],
+                quantisers,
+                &mut first[k],
+                &mut second[k],
+            );
         } else {
             first[k] = transform_one(&blocks[k], quantisers);
         }
