@@ -29,6 +29,7 @@ impl Model for Coefficients {
 
 impl Coefficients {
     /// Coefficients that are all 0.
+    #[inline(always)]
     pub fn zeros() -> Coefficients
         ensures { result ≡ replicate 64 (pos 0) }
     {

@@ -121,6 +121,6 @@ impl PartialEq for Quantisers {
     ghost laws = { Prim.search (comparing, rules) };
 
     fn eq(&self, other: &Quantisers) -> bool {
-        self.elements == other.elements
+        self.is_same(other)
     }
 }

@@ -1,4 +1,4 @@
-// The desk and its seats.
+//! The desk and its seats.
 ghost use Rattle.std.specs.Prelude.{◌≡◌, ℕ, ◌+◌, ◌-◌, ◌<◌, ◌≤◌, ◌^◌, [], ◌∷◌, ◌++◌, true, false, length, map, cond, All, IfOk, IfSome, IfNone, OnSome, MatchOption};
 ghost use Rattle.std.specs.List.{range_with_len};
 ghost use Rattle.jr_base.specs.declared.limits.TheConstants.{MAX_WORKERS};

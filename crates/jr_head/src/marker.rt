@@ -5,7 +5,7 @@
 pub enum Marker {
     /// Start of frame 0: baseline DCT.
     Sof0,
-    /// Start of frame 1: extended sequential DCT with Huffman huffman_table.
+    /// Start of frame 1: extended sequential DCT with Huffman tables.
     Sof1,
     /// Define Huffman tables.
     Dht,

@@ -18,7 +18,7 @@ abbrev pub code_bits : AcCode → List Bool
 code_bits (ZeroRun word) = word
 code_bits (RunAndSize run size word extra) = word ++ extra
 
--- the coefficients that an code stands for: as many as its span
+-- the coefficients that a code stands for: as many as its span
 abbrev pub entries : AcCode → List ℤ
 entries (ZeroRun word) = replicate 16 (pos 0)
 entries (RunAndSize run size word extra) = replicate run (pos 0) ++ value extra ∷ []

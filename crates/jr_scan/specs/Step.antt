@@ -13,7 +13,7 @@ pub record TakesExtra (size : ℕ) (v : ℤ) (old new : List Bool) : Type 0 wher
   pub count : length bits ≡ size
   pub is : v ≡ value bits
 
--- old is an code that gives these coefficients, and then new
+-- old is a code that gives these coefficients, and then new
 pub record TakesAcCode (ac : Table) (made : List ℤ) (old new : List Bool) : Type 0 where
   pub code : AcCode
   pub is : IsAcCode ac code
