@@ -7,6 +7,7 @@
 
 mod block;
 mod butterfly;
+mod lanes;
 mod laws;
 mod matrix;
 mod narrow;
