@@ -1,6 +1,6 @@
 -- Lanes of vectors that hold a row of each of two blocks: eight numbers of the first, then eight of the second.
-use Rattle.std.specs.Prelude.{ℕ, ◌+◌, ◌*◌, ◌/◌, Bool, cond, ℤ, pos, List, [], slice_index_or}
-use Rattle.jr_idct.specs.Matrix.{at}
+use Rattle.std.specs.Prelude.{ℕ, ◌+◌, ◌-◌, ◌*◌, ◌/◌, ◌^◌, ◌<◌, Bool, cond, ℤ, ◌+ℤ◌, ◌-ℤ◌, List, [], slice_index_or}
+use Rattle.jr_idct.specs.Matrix.{at, floor_div, IsWithin}
 
 -- which of the sixteen lanes is lane j of a half of them: of the lower halves of both rows, or of the upper ones
 abbrev pub half_lane : Bool → ℕ → ℕ
@@ -9,3 +9,11 @@ half_lane upper j = j + 4 * (j / 4) + cond upper 4 0
 -- lane p of row i
 abbrev pub lane : List (List ℤ) → ℕ → ℕ → ℤ
 lane rows i p = at (slice_index_or rows i []) p
+
+-- z fits in 32 bits, and without its last bits in 16
+abbrev pub IsShort : ℕ → ℤ → Type 0
+IsShort bits z = IsWithin (2 ^ 31 - 1) z × IsWithin 32767 (floor_div z (2 ^ bits))
+
+-- of even and odd parts in eight lanes, the sums and the differences are short
+abbrev pub AreShort : ℕ → (even odd : List ℤ) → Type 0
+AreShort bits even odd = (j : ℕ) → j < 8 → IsShort bits (at even j +ℤ at odd j) × IsShort bits (at even j -ℤ at odd j)

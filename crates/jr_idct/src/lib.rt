@@ -7,11 +7,13 @@
 
 mod block;
 mod butterfly;
+
 mod lanes;
 mod laws;
 mod matrix;
 mod narrow;
 mod number;
+mod pass;
 mod zigzag;
 
 pub use block::transform;
