@@ -101,6 +101,13 @@ all_at n (j ∷ ks) (suc k) h l = all_at n ks k (rest (nat_lt j n) (all_below n 
     rest true b e = e
     rest false b e = cc
 
+all_rest : (n k : ℕ) (ks : List ℕ) → all_below n (k ∷ ks) ≡ true → all_below n ks ≡ true
+all_rest n k ks h = rest (nat_lt k n) (all_below n ks) h
+  where
+    rest : (a b : Bool) → (a && b) ≡ true → b ≡ true
+    rest true b e = e
+    rest false b e = cc
+
 pub lanes_pick : (w : Width) (n m : ℕ) (xs ks : List ℕ) (f : ℕ → ℤ) → Lanes w n xs f → all_below n ks ≡ true → length ks ≡ m → Lanes w m (pick_l 0 xs ks) (λ k. f (get_or ks k 0))
 lanes_pick w n m xs ks f p small long = record {
   long = length-map ks (λ k. get_or xs k 0) ∙ long;
@@ -116,3 +123,22 @@ unchanged w n xs vs h =
     let long : length (map (to_z w) (map (of_z w) xs)) ≡ length xs = length-map (map (of_z w) xs) (to_z w) ∙ length-map xs (of_z w) in
     ext_get_or (pos 0) (map (to_z w) (map (of_z w) xs)) xs long
     (λ k l. lanes_read w n _ _ g k (let e = h.1.0.1 in omega (arith, l, long, e)))
+
+-- the lanes at positions in two vectors that are passed
+module _ (w : Width) (n m : ℕ) (a b : List ℤ) (vs us : List Val) (g : shadow (in_array ℤ (SInt w).own_val n a vs)) (h : shadow (in_array ℤ (SInt w).own_val m b us)) where
+  at_joined : (k : ℕ) → at (a ++ b) k ≡ joined n (at a) (at b) k
+  at_joined k =
+      let long : length a ≡ n = g.1.0.1 in
+      elim (cases_lt k n) [
+        | inl l ↦ rw (lt-ltb k n l) (get_or_append_left a b (pos 0) k (omega (arith, l, long)))
+        | inr o ↦
+            let there : length a + (k - n) ≡ k = omega (arith, o, long) in
+            rw (le-ltb k n o) (ap (λ j. get_or (a ++ b) j (pos 0)) (sym there) ∙ get_or-append-add a b (k - n) (pos 0))
+      ]
+
+  pub picked : (ks : List ℕ) → all_below (n + m) ks ≡ true → map (to_z w) (pick_l 0 (map (of_z w) a ++ map (of_z w) b) ks) ≡ pick_l (pos 0) (a ++ b) ks
+  picked [] e = refl
+  picked (k ∷ ks) e =
+      let both = lanes_join w n m _ _ (at a) (at b) (lanes_given w n a vs g) (lanes_given w m b us h) in
+      let r = read_lane w (n + m) _ _ both k (all_at (n + m) (k ∷ ks) 0 e (omega arith)) ∙ sym (at_joined k) in
+      λ i. r i ∷ picked ks (all_rest (n + m) k ks e) i

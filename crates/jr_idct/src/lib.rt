@@ -14,6 +14,7 @@ mod matrix;
 mod narrow;
 mod number;
 mod pass;
+mod turned;
 mod zigzag;
 
 pub use block::transform;
