@@ -13,6 +13,7 @@ mod laws;
 mod matrix;
 mod narrow;
 mod number;
+mod pair;
 mod pass;
 mod turned;
 mod zigzag;

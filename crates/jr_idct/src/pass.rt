@@ -94,7 +94,7 @@ fn ends(lower_even: i32x8, lower_odd: i32x8, upper_even: i32x8, upper_odd: i32x8
 
 /// The pass over each column: row i holds entry i of each, of its sum and a constant without the last bits.
 #[inline(always)]
-pub(crate) fn pass(x: Rows, constant: i32, bits: u32) -> Rows
+pub(crate) fn entries(x: Rows, constant: i32, bits: u32) -> Rows
     requires constant { IsWithin (2 ^ 26) constant }
     requires few { bits < 19 }
     requires short { (i p : ℕ) → i < 8 → p < 16 → IsShort bits (row_sum i (λ k. lane (x.0 ∷ x.1 ∷ x.2 ∷ x.3 ∷ x.4 ∷ x.5 ∷ x.6 ∷ x.7 ∷ []) k p) +ℤ constant) }

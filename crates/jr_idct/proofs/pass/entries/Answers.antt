@@ -5,7 +5,7 @@ use Rattle.jr_idct.specs.Matrix.{at, even_sum, floor_div, odd_sum, row_sum, IsWi
 use Rattle.jr_idct.proofs.Parts.{by_halves, sum_of_parts, difference_of_parts, short_parts}
 use Rattle.jr_idct.proofs.Passes.{below_eight}
 use Rattle.jr_idct.proofs.Vectors.{unchanged}
-use Rattle.jr_idct.proofs.pass.pass.Goals as goal
+use Rattle.jr_idct.proofs.pass.entries.Goals as goal
 
 fits : (z : ℤ) → IsWithin (2 ^ 26) z → FitsSigned w32 z
 fits z w = omega (arith, ints, w)
