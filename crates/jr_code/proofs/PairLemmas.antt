@@ -1,13 +1,14 @@
 -- A word and its extra bits, read together.
 use Rattle.std.proofs.Common.{◌≡◌, ℕ, ◌+◌, ◌-◌, ◌/◌, ◌%◌, ◌^◌, ◌<◌, ◌≤◌, Bool, List, [], ◌++◌, length, take, drop, refl, sym, ◌∙◌, ap, subst, arith, length-append, append_assoc, ⊎_elim, inl, inr}
-use Rattle.std.specs.Prelude.{◌⊎◌, Option, Some, None, IsSome, IfSome, ℤ}
+use Rattle.std.specs.Prelude.{◌⊎◌, Option, Some, None, IsSome, ℤ}
 use Rattle.std.proofs.lemmas.Bool.{cases_lt}
-use Rattle.std.proofs.lemmas.List.{append-nil, append_cancel_left, drop-append-le, drop-drop, length-drop, length-take-le, take-append-drop, take-append-le, take_at}
-use Rattle.jr_code.specs.Bits.{bits_of, extend, number, window_of, value}
-use Rattle.jr_code.specs.Code.{Table, IsWord, IsPair, IsPrefixFree, HasNoFirstWord, HasNoExtended, TakesExtended}
+use Rattle.std.proofs.lemmas.List.{append-nil, append_cancel_left, append_cancel_right, drop-append-le, drop-drop, length-drop, length-take-le, take-append-drop, take-append-le, take-take, take_at}
+use Rattle.jr_code.specs.Bits.{bits_of, extend, number, value}
+use Rattle.jr_code.specs.Code.{Table, IsWord, IsInFront, IsPair, IsPrefixFree, HasNoFirstWord, HasNoExtended, TakesExtended}
+use Rattle.jr_code.specs.Register.{first_of}
 use Rattle.jr_code.specs.declared.words.Extended.{Extended}
 use Rattle.jr_code.proofs.BitLemmas.{length-bits_of, number-bits_of}
-use Rattle.jr_code.proofs.RegisterLemmas.{drop-held, take-held}
+use Rattle.jr_code.proofs.RegisterLemmas.{drop-held, first_is, take-front, take-held}
 
 -- a word of n bits, and m extra bits behind it
 pub taken_apart : (t : Table) (bs : List Bool) (s n m : ℕ) (v : ℤ) → IsWord t (take n bs) s → m ≡ s % 16 → m ≤ length (drop n bs) → v ≡ value (take m (drop n bs))
@@ -49,22 +50,30 @@ pair_held t w s n m v is size short is_value =
     ∙ ap (λ x. extend m x) (number-bits_of m (w / 2 ^ (10 - (n + m))))) in
     (short, taken_apart t (bits_of 10 w) s n m v is size enough value_is)
 
--- what is packed of a pair is a pair
-pub pair_packed : (t : Table) (w : ℕ) (looked_up packed : Option Extended) → IfSome packed (λ e. looked_up ≡ Some e) → IsPair t w looked_up → IsPair t w packed
-pair_packed t w looked_up None is p = tt
-pair_packed t w looked_up (Some e) is p = subst (λ r. IsPair t w r) is p
+-- what is in front of bits is in front of others that begin with as many of the same
+pub taken_from : (t : Table) (bs cs : List Bool) (s n : ℕ) (v : ℤ) → n ≤ length bs → take n cs ≡ take n bs → TakesExtended t s v bs (drop n bs) → TakesExtended t s v cs (drop n cs)
+taken_from t bs cs s n v fits same x =
+    let front : take n bs ≡ x.word ++ x.extra =
+    append_cancel_right (take n bs) (x.word ++ x.extra) (drop n bs)
+    (take-append-drop n bs ∙ x.split ∙ sym (append_assoc x.word x.extra (drop n bs))) in
+    record {
+      word = x.word;
+      extra = x.extra;
+      is = x.is;
+      count = x.count;
+      value_is = x.value_is;
+      split = sym (take-append-drop n cs) ∙ ap (λ f. f ++ drop n cs) (same ∙ front) ∙ append_assoc x.word x.extra (drop n cs);
+    }
 
--- the pair of ten bits is in front where there are ten bits and more
-pub pair_word : (t : Table) (bs : List Bool) (w count : ℕ) (r : Option Extended) → bits_of 10 w ≡ window_of 10 bs → 10 ≤ count → count ≤ length bs → IsPair t w r
-    → IfSome r (λ x. (x.long ≤ count) × TakesExtended t x.symbol x.value bs (drop x.long bs))
-pair_word t bs w count None e many all p = tt
-pair_word t bs w count (Some x) e many all p =
-    let front : bits_of 10 w ≡ take 10 bs = e ∙ take-append-le 10 bs _ (omega (arith, many, all)) in
-    let whole : bits_of 10 w ++ drop 10 bs ≡ bs = ap (λ b. b ++ drop 10 bs) front ∙ take-append-drop 10 bs in
-    let fits : x.long ≤ length (bits_of 10 w) = omega (arith, p.0, length-bits_of 10 w) in (
-      omega (arith, p.0, many),
-      subst (λ b. TakesExtended t x.symbol x.value b (drop x.long b)) whole (taken_more t (bits_of 10 w) (drop 10 bs) x.symbol x.long x.value fits p.1),
-    )
+-- what ten bits look up is in front where the register has as many
+pub pair_front : (t : Table) (count held : ℕ) (more : List Bool) (e : Extended) → count < 64 → IsPair t (held / 2 ^ 54) e → e.long ≤ count
+    → IsInFront t e count (first_of count held ++ more)
+pair_front t count held more e few pair long =
+    let is = pair (omega (arith, few, long)) in
+    let ten : bits_of 10 (held / 2 ^ 54) ≡ first_of 10 held = sym (first_is 10 held (omega arith)) in
+    let same : take e.long (first_of count held ++ more) ≡ take e.long (bits_of 10 (held / 2 ^ 54)) =
+    take-front e.long count held more long (omega (arith, few)) ∙ sym (ap (λ b. take e.long b) ten ∙ take-take e.long 10 (bits_of 64 held) is.0) in
+    (long, taken_from t (bits_of 10 (held / 2 ^ 54)) (first_of count held ++ more) e.symbol e.long e.value (omega (arith, is.0, length-bits_of 10 (held / 2 ^ 54))) same is.1)
 
 -- without a word there is none with its extra bits
 pub no_word_none : (t : Table) (bs : List Bool) → HasNoFirstWord t bs → HasNoExtended t bs

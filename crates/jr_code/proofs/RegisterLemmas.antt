@@ -1,14 +1,16 @@
 -- The bits of a register: what a word behind it, a front of it and a rest of it are.
-use Rattle.std.proofs.Common.{false, ◌≡◌, ℕ, zero, suc, ◌+◌, ◌-◌, ◌*◌, ◌/◌, ◌%◌, ◌^◌, ◌<◌, ◌≤◌, ◌==◌, List, [], ◌∷◌, ◌++◌, length, drop, take, get_or, replicate, refl, sym, ◌∙◌, ap, arith, length-append}
+use Rattle.std.proofs.Common.{Bool, false, ◌≡◌, ℕ, zero, suc, ◌+◌, ◌-◌, ◌*◌, ◌/◌, ◌%◌, ◌^◌, ◌<◌, ◌≤◌, ◌==◌, List, [], ◌∷◌, ◌++◌, length, drop, take, get_or, replicate, refl, sym, ◌∙◌, ap, arith, length-append, ⊎_elim}
 use Rattle.std.specs.Prelude.{bit_and, bit_or}
 use Rattle.std.specs.Int.{w32, from_be_bytes}
-use Rattle.std.proofs.lemmas.Nat.{and_mask, mod-pow-add, or_shifted, shl-shr, shr_high, mod_low, pow_pos, one_shl}
-use Rattle.std.proofs.lemmas.List.{append_assoc, append-nil, take_at, take_all, take-append-le, take-replicate}
+use Rattle.std.proofs.lemmas.Nat.{and_mask, div-add-mod', field_of, mod-pow-add, mod_low, one_shl, or_shifted, pow-add, pow_pos, shl-shr, shl_below, shl_whole, shr-shr, shr_below, shr_high}
+use Rattle.std.proofs.lemmas.Bool.{cases_lt}
+use Rattle.std.proofs.lemmas.List.{append_assoc, append-nil, length-drop, length-take-le, take-append-drop, take-append-le, take-replicate, take-take, take_all, take_at}
 use Rattle.std.proofs.lemmas.List.Concat.{flat_map-append}
 use Rattle.std.proofs.Math.Pow.{mod-mod-pow}
-use Rattle.std.proofs.Math.Nat.{mul-mod_left, mod-eq_of_lt}
-use Rattle.std.proofs.Math.Seq.{take-append-add, drop-append_seam}
+use Rattle.std.proofs.Math.Nat.{add-mul, mul_assoc, mul-mod_left, mod-eq_of_lt}
+use Rattle.std.proofs.Math.Seq.{drop-append_seam}
 use Rattle.jr_code.specs.Bits.{number, bits_of, bits, window_of}
+use Rattle.jr_code.specs.Register.{first_of}
 use Rattle.jr_code.proofs.BitLemmas.{same_bits, length-bits_of, length-bits, number-bits_of, number-append, bits_of-number}
 
 -- bits are those of the number below 2 ^ k
@@ -99,23 +101,6 @@ mask_of n h = one_shl n 64 (omega arith)
 pub masked : (v n : ℕ) → n ≤ 16 → bit_and v (1 * 2 ^ n % 2 ^ 64 - 1) ≡ v % 2 ^ n
 masked v n h = ap (λ m. bit_and v (m - 1)) (mask_of n h) ∙ and_mask v n
 
-pub number_front : (n count held : ℕ) (rest : List ℕ) → n ≤ 16 → n ≤ count
-    → bit_and (held / 2 ^ (count - n)) (1 * 2 ^ n % 2 ^ 64 - 1) ≡ number (take n (bits_of count held ++ bits rest))
-number_front n count held rest short h =
-    masked (held / 2 ^ (count - n)) n short ∙ sym (ap number (take-held n count held rest h) ∙ number-bits_of n (held / 2 ^ (count - n)))
-
-pub length-held : (count held : ℕ) (rest : List ℕ) → length (bits_of count held ++ bits rest) ≡ count + 8 * length rest
-length-held count held rest = omega (arith, length-append (bits_of count held) (bits rest), length-bits_of count held, length-bits rest)
-
--- a window that is whole
-pub window_whole : (n v count held : ℕ) (rest : List ℕ) → n ≤ count → v ≡ number (take n (bits_of count held ++ bits rest))
-    → bits_of n v ≡ window_of n (bits_of count held ++ bits rest)
-window_whole n v count held rest h e =
-    let bs = bits_of count held ++ bits rest in
-    let enough : n ≤ length bs = omega (arith, length-held count held rest) in
-    let long : length (take n bs) ≡ n = ap length (take-held n count held rest h) ∙ length-bits_of n (held / 2 ^ (count - n)) in
-    ap (λ m. bits_of n m) e ∙ bits_of-number n (take n bs) long ∙ sym (take-append-le n bs (replicate n false) enough)
-
 bits_of-zero : (k : ℕ) → bits_of k 0 ≡ replicate k false
 unfolding bits_of
 bits_of-zero zero = refl
@@ -123,43 +108,232 @@ bits_of-zero (suc k) =
     let z : 0 / 2 ^ k ≡ 0 = omega arith in
     ap (λ n. (n % 2 == 1) ∷ bits_of k 0) z ∙ ap (λ t. false ∷ t) (bits_of-zero k)
 
--- a window of which the last bits are missing
-pub window_cut : (n count held : ℕ) (rest : List ℕ) → n ≤ 16 → count < n → rest ≡ []
-    → bits_of n (bit_and (held * 2 ^ (n - count) % 2 ^ 64) (1 * 2 ^ n % 2 ^ 64 - 1)) ≡ window_of n (bits_of count held ++ bits rest)
-window_cut n count held rest short h none =
-    let k = n - count in
-    let e : count + k ≡ n = omega arith in
-    let f : 64 - n + n ≡ 64 = omega arith in
-    let g : 0 + n ≡ n = omega arith in
-    let z : held * 2 ^ k ≡ held * 2 ^ k + 0 = omega arith in
-    let all : bits_of count held ++ bits rest ≡ bits_of count held = ap (λ r. bits_of count held ++ bits r) none ∙ append-nil (bits_of count held) in
-    let past : n ≡ length (bits_of count held) + k = omega (arith, length-bits_of count held) in
-    ap (λ m. bits_of n m) (masked (held * 2 ^ k % 2 ^ 64) n short)
-    ∙ ap (λ m. bits_of n (held * 2 ^ k % 2 ^ 64 % 2 ^ m)) (sym g)
-    ∙ bits_of-mod 0 n (held * 2 ^ k % 2 ^ 64)
-    ∙ ap (λ m. bits_of n (held * 2 ^ k % 2 ^ m)) (sym f)
-    ∙ bits_of-mod (64 - n) n (held * 2 ^ k)
-    ∙ ap (λ m. bits_of m (held * 2 ^ k)) (sym e)
-    ∙ ap (λ m. bits_of (count + k) m) z
-    ∙ bits_of-join count k held 0 (pow_pos k)
-    ∙ ap (λ t. bits_of count held ++ t) (bits_of-zero k)
-    ∙ sym (ap (λ t. take n (t ++ replicate n false)) all
-    ∙ ap (λ m. take m (bits_of count held ++ replicate n false)) past
-    ∙ take-append-add (bits_of count held) (replicate n false) k
-    ∙ ap (λ t. bits_of count held ++ t) (take-replicate k n false (omega arith)))
+-- ---- the first bits of a number of 64
+
+pub first_is : (k n : ℕ) → k ≤ 64 → first_of k n ≡ bits_of k (n / 2 ^ (64 - k))
+first_is k n h = ap (λ t. take k t) (sym (append-nil (bits_of 64 n))) ∙ take-held k 64 n [] h
+
+pub length-first : (k n : ℕ) → k ≤ 64 → length (first_of k n) ≡ k
+length-first k n h = ap length (first_is k n h) ∙ length-bits_of k (n / 2 ^ (64 - k))
+
+pub length-held : (count held : ℕ) (rest : List ℕ) → count ≤ 64 → length (first_of count held ++ bits rest) ≡ count + 8 * length rest
+length-held count held rest h = omega (arith, length-append (first_of count held) (bits rest), length-first count held h, length-bits rest)
+
+pub take-front : (n count held : ℕ) (more : List Bool) → n ≤ count → count ≤ 64 → take n (first_of count held ++ more) ≡ first_of n held
+take-front n count held more h few =
+    take-append-le n (first_of count held) more (omega (arith, h, length-first count held few)) ∙ take-take n count (bits_of 64 held) h
+
+pub number_front : (n count held : ℕ) (rest : List ℕ) → n ≤ count → count ≤ 64 → held < 2 ^ 64
+    → held / 2 ^ (64 - n) ≡ number (take n (first_of count held ++ bits rest))
+number_front n count held rest h few small =
+    let e : n + (64 - n) ≡ 64 = omega arith in
+    let below : held / 2 ^ (64 - n) < 2 ^ n = shr_below held n (64 - n) (omega (arith, small, ap (λ k. 2 ^ k) e)) in
+    sym (ap number (take-front n count held (bits rest) h few ∙ first_is n held (omega (arith, h, few))) ∙ number-bits_of n (held / 2 ^ (64 - n)) ∙ mod-eq_of_lt below)
+
+-- a window that is whole
+pub window_whole : (n v count held : ℕ) (rest : List ℕ) → n ≤ count → count ≤ 64 → v ≡ number (take n (first_of count held ++ bits rest))
+    → bits_of n v ≡ window_of n (first_of count held ++ bits rest)
+window_whole n v count held rest h few e =
+    let bs = first_of count held ++ bits rest in
+    let enough : n ≤ length bs = omega (arith, h, length-held count held rest few) in
+    let long : length (take n bs) ≡ n = length-take-le n bs enough in
+    ap (λ m. bits_of n m) e ∙ bits_of-number n (take n bs) long ∙ sym (take-append-le n bs (replicate n false) enough)
+
+zeros_behind : (count held : ℕ) → count ≤ 64 → held % 2 ^ (64 - count) ≡ 0 → drop count (bits_of 64 held) ≡ replicate (64 - count) false
+zeros_behind count held few clean =
+    let none : 0 % 2 ^ (64 - count) ≡ 0 = mod-eq_of_lt (pow_pos (64 - count)) in
+    ap (λ t. drop count t) (sym (append-nil (bits_of 64 held))) ∙ sym (drop-held count 64 held [] few)
+    ∙ append-nil (bits_of (64 - count) held) ∙ bits_of-congr (64 - count) held 0 (clean ∙ sym none) ∙ bits_of-zero (64 - count)
+
+take_zeros : (xs : List Bool) (n a b : ℕ) → n ≤ length xs + a → n ≤ length xs + b → take n (xs ++ replicate a false) ≡ take n (xs ++ replicate b false)
+take_zeros [] n a b h k = take-replicate n a false (omega (arith, h)) ∙ sym (take-replicate n b false (omega (arith, k)))
+take_zeros (x ∷ xs) zero a b h k = refl
+take_zeros (x ∷ xs) (suc n) a b h k = ap (λ t. x ∷ t) (take_zeros xs n a b (omega (arith, h)) (omega (arith, k)))
+
+-- a window at the end of all bits
+pub window_is : (n count held : ℕ) (rest : List ℕ) → n ≤ 16 → count ≤ 64 → held % 2 ^ (64 - count) ≡ 0 → rest ≡ []
+    → bits_of n (held / 2 ^ (64 - n)) ≡ window_of n (first_of count held ++ bits rest)
+window_is n count held rest short few clean none =
+    let all : first_of count held ++ bits rest ≡ first_of count held = ap (λ r. first_of count held ++ bits r) none ∙ append-nil (first_of count held) in
+    let whole : bits_of 64 held ≡ first_of count held ++ replicate (64 - count) false =
+    sym (take-append-drop count (bits_of 64 held)) ∙ ap (λ t. first_of count held ++ t) (zeros_behind count held few clean) in
+    sym (first_is n held (omega (arith, short)))
+    ∙ ap (λ t. take n t) whole
+    ∙ take_zeros (first_of count held) n (64 - count) n (omega (arith, length-first count held few, short, few)) (omega arith)
+    ∙ ap (λ t. take n (t ++ replicate n false)) (sym all)
+
+-- ---- bits that are taken
+
+shifted_out : (n count held : ℕ) → n ≤ count → count ≤ 64 → held * 2 ^ n % 2 ^ 64 / 2 ^ (64 - (count - n)) ≡ held / 2 ^ (64 - count) % 2 ^ (count - n)
+shifted_out n count held h few =
+    let whole : count - n + (64 - (count - n)) ≡ 64 = omega arith in
+    let more : n + (64 - count) ≡ 64 - (count - n) = omega arith in
+    ap (λ k. held * 2 ^ n % 2 ^ k / 2 ^ (64 - (count - n))) (sym whole)
+    ∙ field_of (held * 2 ^ n) (count - n) (64 - (count - n))
+    ∙ ap (λ k. held * 2 ^ n / 2 ^ k % 2 ^ (count - n)) (sym more)
+    ∙ ap (λ m. m % 2 ^ (count - n)) (sym (shr-shr (held * 2 ^ n) n (64 - count)) ∙ ap (λ m. m / 2 ^ (64 - count)) (shl-shr held n))
+
+pub front_behind : (n count held : ℕ) (rest : List ℕ) → n ≤ count → count ≤ 64
+    → first_of (count - n) (held * 2 ^ n % 2 ^ 64) ++ bits rest ≡ drop n (first_of count held ++ bits rest)
+front_behind n count held rest h few =
+    let g : 0 + (count - n) ≡ count - n = omega arith in
+    let left : first_of (count - n) (held * 2 ^ n % 2 ^ 64) ≡ bits_of (count - n) (held / 2 ^ (64 - count)) =
+    first_is (count - n) (held * 2 ^ n % 2 ^ 64) (omega (arith, few))
+    ∙ ap (λ m. bits_of (count - n) m) (shifted_out n count held h few)
+    ∙ ap (λ k. bits_of (count - n) (held / 2 ^ (64 - count) % 2 ^ k)) (sym g)
+    ∙ bits_of-mod 0 (count - n) (held / 2 ^ (64 - count)) in
+    ap (λ t. t ++ bits rest) left
+    ∙ drop-held n count (held / 2 ^ (64 - count)) rest h
+    ∙ ap (λ t. drop n (t ++ bits rest)) (sym (first_is count held few))
+
+pub clean_behind : (n count held : ℕ) → n ≤ count → count ≤ 64 → held % 2 ^ (64 - count) ≡ 0 → held * 2 ^ n % 2 ^ 64 % 2 ^ (64 - (count - n)) ≡ 0
+clean_behind n count held h few clean =
+    let whole : count - n + (64 - (count - n)) ≡ 64 = omega arith in
+    let more : 64 - count + n ≡ 64 - (count - n) = omega arith in
+    ap (λ k. held * 2 ^ n % 2 ^ k % 2 ^ (64 - (count - n))) (sym whole)
+    ∙ mod-mod-pow (held * 2 ^ n) (count - n) (64 - (count - n))
+    ∙ ap (λ k. held * 2 ^ n % 2 ^ k) (sym more)
+    ∙ mod-pow-add (held * 2 ^ n) (64 - count) n
+    ∙ ap (λ m. m % 2 ^ (64 - count) * 2 ^ n + held * 2 ^ n % 2 ^ n) (shl-shr held n)
+    ∙ ap (λ m. m * 2 ^ n + held * 2 ^ n % 2 ^ n) clean
+    ∙ ap (λ m. 0 * 2 ^ n + m) (mul-mod_left held (2 ^ n)) ∙ omega arith
+
+-- ---- bits that are added
+
+held_is : (count held : ℕ) → held % 2 ^ (64 - count) ≡ 0 → held ≡ held / 2 ^ (64 - count) * 2 ^ (64 - count)
+held_is count held clean = omega (arith, div-add-mod' held (2 ^ (64 - count)), clean)
+
+-- a word behind fewer than 32 bits
+with_word : (count held word : ℕ) → count < 32 → held % 2 ^ (64 - count) ≡ 0
+    → held + word * 2 ^ (32 - count) ≡ (held / 2 ^ (64 - count) * 2 ^ 32 + word) * 2 ^ (32 - count)
+with_word count held word few clean =
+    let x = held / 2 ^ (64 - count) in
+    let e : 32 + (32 - count) ≡ 64 - count = omega arith in
+    let pow : 2 ^ (64 - count) ≡ 2 ^ 32 * 2 ^ (32 - count) = ap (λ k. 2 ^ k) (sym e) ∙ pow-add 2 32 (32 - count) in
+    ap (λ h. h + word * 2 ^ (32 - count)) (held_is count held clean ∙ ap (λ p. held / 2 ^ (64 - count) * p) pow ∙ sym (mul_assoc (held / 2 ^ (64 - count)) (2 ^ 32) (2 ^ (32 - count))))
+    ∙ sym (add-mul (held / 2 ^ (64 - count) * 2 ^ 32) word (2 ^ (32 - count)))
+
+-- it is put there by a shift; nothing is put there by a shift of 0
+pub word_or : (count held word words : ℕ) → count < 32 → held % 2 ^ (64 - count) ≡ 0 → word < 2 ^ 32 → words ≡ 1
+    → bit_or held (word * words * 2 ^ 32 % 2 ^ 64 / 2 ^ count) ≡ held + word * 2 ^ (32 - count)
+word_or count held word words few clean small is =
+    let one : word * words ≡ word = ap (λ m. word * m) is ∙ omega arith in
+    let top : word * 2 ^ 32 % 2 ^ 64 ≡ word * 2 ^ 32 = shl_whole word 32 32 64 small (omega arith) in
+    let e : 32 - count + count ≡ 32 = omega arith in
+    let f : 32 + (32 - count) ≡ 64 - count = omega arith in
+    let down : word * 2 ^ 32 / 2 ^ count ≡ word * 2 ^ (32 - count) =
+    ap (λ k. word * 2 ^ k / 2 ^ count) (sym e) ∙ ap (λ p. word * p / 2 ^ count) (pow-add 2 (32 - count) count)
+    ∙ ap (λ m. m / 2 ^ count) (sym (mul_assoc word (2 ^ (32 - count)) (2 ^ count))) ∙ shl-shr (word * 2 ^ (32 - count)) count in
+    let below : word * 2 ^ (32 - count) < 2 ^ (64 - count) = omega (arith, shl_below word 32 (32 - count) small, ap (λ k. 2 ^ k) f) in
+    ap (λ m. bit_or held (m * 2 ^ 32 % 2 ^ 64 / 2 ^ count)) one
+    ∙ ap (λ m. bit_or held (m / 2 ^ count)) top
+    ∙ ap (λ m. bit_or held m) down
+    ∙ ap (λ h. bit_or h (word * 2 ^ (32 - count))) (held_is count held clean)
+    ∙ or_shifted (held / 2 ^ (64 - count)) (64 - count) (word * 2 ^ (32 - count)) below
+    ∙ ap (λ h. h + word * 2 ^ (32 - count)) (sym (held_is count held clean))
+
+pub word_none : (count held word words : ℕ) → words ≡ 0 → bit_or held (word * words * 2 ^ 32 % 2 ^ 64 / 2 ^ count) ≡ held
+word_none count held word words is =
+    let none : word * words ≡ 0 = ap (λ m. word * m) is ∙ omega arith in
+    let nothing : 0 / 2 ^ count ≡ 0 = omega arith in
+    let same : held ≡ held * 2 ^ 0 = omega arith in
+    ap (λ m. bit_or held (m * 2 ^ 32 % 2 ^ 64 / 2 ^ count)) none
+    ∙ ap (λ m. bit_or held m) nothing
+    ∙ ap (λ h. bit_or h 0) same
+    ∙ or_shifted held 0 0 (omega arith) ∙ omega arith
+
+pub word_clean : (count held word : ℕ) → count < 32 → held % 2 ^ (64 - count) ≡ 0 → (held + word * 2 ^ (32 - count)) % 2 ^ (32 - count) ≡ 0
+word_clean count held word few clean =
+    ap (λ m. m % 2 ^ (32 - count)) (with_word count held word few clean) ∙ mul-mod_left (held / 2 ^ (64 - count) * 2 ^ 32 + word) (2 ^ (32 - count))
+
+word_front : (count held word : ℕ) → count < 32 → held % 2 ^ (64 - count) ≡ 0 → word < 2 ^ 32
+    → first_of (count + 32) (held + word * 2 ^ (32 - count)) ≡ first_of count held ++ bits_of 32 word
+word_front count held word few clean small =
+    let x = held / 2 ^ (64 - count) in
+    let k : 64 - (count + 32) ≡ 32 - count = omega arith in
+    first_is (count + 32) (held + word * 2 ^ (32 - count)) (omega (arith, few))
+    ∙ ap (λ n. bits_of (count + 32) ((held + word * 2 ^ (32 - count)) / 2 ^ n)) k
+    ∙ ap (λ m. bits_of (count + 32) (m / 2 ^ (32 - count))) (with_word count held word few clean)
+    ∙ ap (λ m. bits_of (count + 32) m) (shl-shr (held / 2 ^ (64 - count) * 2 ^ 32 + word) (32 - count))
+    ∙ bits_of-join count 32 (held / 2 ^ (64 - count)) word small
+    ∙ ap (λ t. t ++ bits_of 32 word) (sym (first_is count held (omega (arith, few))))
 
 -- a word of the next four bytes more
-pub push_word : (count held word : ℕ) (rest after : List ℕ) → count ≤ 32 → 4 ≤ length rest → after ≡ take (length rest - 4) (drop 4 rest) → word < 2 ^ 32
+pub push_word : (count held word : ℕ) (rest : List ℕ) → count < 32 → held % 2 ^ (64 - count) ≡ 0 → 4 ≤ length rest → word < 2 ^ 32
     → bits_of 32 word ≡ bits (get_or rest 0 0 ∷ get_or rest 1 0 ∷ get_or rest 2 0 ∷ get_or rest 3 0 ∷ [])
-    → bits_of (count + 32) (bit_or (held * 2 ^ 32 % 2 ^ 64) word) ++ bits after ≡ bits_of count held ++ bits rest
-push_word count held word (a ∷ b ∷ c ∷ d ∷ rest) after few long e small is =
-    let four = a ∷ b ∷ c ∷ d ∷ [] in
-    ap (λ t. t ++ bits after) (bits_of-push count 32 held word (omega arith) small)
-    ∙ append_assoc (bits_of count held) (bits_of 32 word) (bits after)
-    ∙ ap (λ t. bits_of count held ++ (bits_of 32 word ++ bits t)) (e ∙ take_all (length (a ∷ b ∷ c ∷ d ∷ rest) - 4) rest (omega arith))
-    ∙ ap (λ t. bits_of count held ++ (t ++ bits rest)) is
-    ∙ ap (λ t. bits_of count held ++ t) (sym (flat_map-append (bits_of 8) (a ∷ b ∷ c ∷ d ∷ []) rest))
-push_word count held word [] after few long e small is = absurd (omega (arith, long))
-push_word count held word (a ∷ []) after few long e small is = absurd (omega (arith, long))
-push_word count held word (a ∷ b ∷ []) after few long e small is = absurd (omega (arith, long))
-push_word count held word (a ∷ b ∷ c ∷ []) after few long e small is = absurd (omega (arith, long))
+    → first_of (count + 32) (held + word * 2 ^ (32 - count)) ++ bits (drop 4 rest) ≡ first_of count held ++ bits rest
+push_word count held word (a ∷ b ∷ c ∷ d ∷ rest) few clean long small is =
+    ap (λ t. t ++ bits rest) (word_front count held word few clean small)
+    ∙ append_assoc (first_of count held) (bits_of 32 word) (bits rest)
+    ∙ ap (λ t. first_of count held ++ (t ++ bits rest)) is
+    ∙ ap (λ t. first_of count held ++ t) (sym (flat_map-append (bits_of 8) (a ∷ b ∷ c ∷ d ∷ []) rest))
+push_word count held word [] few clean long small is = absurd (omega (arith, long))
+push_word count held word (a ∷ []) few clean long small is = absurd (omega (arith, long))
+push_word count held word (a ∷ b ∷ []) few clean long small is = absurd (omega (arith, long))
+push_word count held word (a ∷ b ∷ c ∷ []) few clean long small is = absurd (omega (arith, long))
+
+-- the last bytes more
+pub push_last : (count all held number : ℕ) (rest : List ℕ) → count < 32 → all ≡ count + 8 * length rest → all ≤ 64
+    → ((k : ℕ) → k ≤ 32 → bits_of (k + 8 * length rest) number ≡ bits_of k (held / 2 ^ 32 / 2 ^ (32 - count)) ++ bits rest)
+    → first_of all (number * 2 ^ (64 - all) % 2 ^ 64) ++ bits [] ≡ first_of count held ++ bits rest
+push_last count all held number rest few e fits is =
+    let whole : all + (64 - all) ≡ 64 = omega arith in
+    let f : 32 + (32 - count) ≡ 64 - count = omega arith in
+    let g : 0 + all ≡ all = omega arith in
+    append-nil (first_of all (number * 2 ^ (64 - all) % 2 ^ 64))
+    ∙ first_is all (number * 2 ^ (64 - all) % 2 ^ 64) fits
+    ∙ ap (λ k. bits_of all (number * 2 ^ (64 - all) % 2 ^ k / 2 ^ (64 - all))) (sym whole)
+    ∙ ap (λ m. bits_of all m) (field_of (number * 2 ^ (64 - all)) all (64 - all))
+    ∙ ap (λ m. bits_of all (m % 2 ^ all)) (shl-shr number (64 - all))
+    ∙ ap (λ k. bits_of all (number % 2 ^ k)) (sym g)
+    ∙ bits_of-mod 0 all number
+    ∙ ap (λ k. bits_of k number) e
+    ∙ is count (omega (arith, few))
+    ∙ ap (λ m. bits_of count m ++ bits rest) (shr-shr held 32 (32 - count) ∙ ap (λ k. held / 2 ^ k) f)
+    ∙ ap (λ t. t ++ bits rest) (sym (first_is count held (omega (arith, few))))
+
+pub last_clean : (all number : ℕ) → all ≤ 64 → number * 2 ^ (64 - all) % 2 ^ 64 % 2 ^ (64 - all) ≡ 0
+last_clean all number fits =
+    let whole : all + (64 - all) ≡ 64 = omega arith in
+    ap (λ k. number * 2 ^ (64 - all) % 2 ^ k % 2 ^ (64 - all)) (sym whole)
+    ∙ mod-mod-pow (number * 2 ^ (64 - all)) all (64 - all)
+    ∙ mul-mod_left number (2 ^ (64 - all))
+
+-- a register refilled: where it holds fewer than 32 bits by a word more, and else not at all
+pub refilled_bits : (count held word words after_held : ℕ) (rest after : List ℕ) → count < 64 → held % 2 ^ (64 - count) ≡ 0 → 4 ≤ length rest → word < 2 ^ 32
+    → bits_of 32 word ≡ bits (get_or rest 0 0 ∷ get_or rest 1 0 ∷ get_or rest 2 0 ∷ get_or rest 3 0 ∷ [])
+    → words ≡ (63 - count) / 32 → after ≡ take (length rest - 4 * words) (drop (4 * words) rest)
+    → (count < 32 → after_held ≡ held + word * 2 ^ (32 - count)) → (32 ≤ count → after_held ≡ held)
+    → first_of (count % 32 + 32) after_held ++ bits after ≡ first_of count held ++ bits rest
+refilled_bits count held word words after_held rest after short clean long small is words_is after_is one none =
+    ⊎_elim
+    (λ few.
+    let w : words ≡ 1 = omega (arith, words_is, few) in
+    let all : count % 32 + 32 ≡ count + 32 = omega (arith, few) in
+    let left : after ≡ drop 4 rest =
+    after_is ∙ ap (λ n. take (length rest - 4 * n) (drop (4 * n) rest)) w ∙ take_all (length rest - 4) (drop 4 rest) (omega (arith, length-drop 4 rest)) in
+    ap (λ n. first_of n after_held ++ bits after) all
+    ∙ ap (λ h. first_of (count + 32) h ++ bits after) (one few)
+    ∙ ap (λ r. first_of (count + 32) (held + word * 2 ^ (32 - count)) ++ bits r) left
+    ∙ push_word count held word rest few clean long small is)
+    (λ many.
+    let w : words ≡ 0 = omega (arith, words_is, many) in
+    let all : count % 32 + 32 ≡ count = omega (arith, many, short) in
+    let left : after ≡ rest =
+    after_is ∙ ap (λ n. take (length rest - 4 * n) (drop (4 * n) rest)) w ∙ take_all (length rest - 0) rest (omega arith) in
+    ap (λ n. first_of n after_held ++ bits after) all
+    ∙ ap (λ h. first_of count h ++ bits after) (none many)
+    ∙ ap (λ r. first_of count held ++ bits r) left)
+    (cases_lt count 32)
+
+pub refilled_clean : (count held word after_held : ℕ) → count < 64 → held % 2 ^ (64 - count) ≡ 0
+    → (count < 32 → after_held ≡ held + word * 2 ^ (32 - count)) → (32 ≤ count → after_held ≡ held) → after_held % 2 ^ (64 - (count % 32 + 32)) ≡ 0
+refilled_clean count held word after_held short clean one none =
+    ⊎_elim
+    (λ few.
+    let all : 64 - (count % 32 + 32) ≡ 32 - count = omega (arith, few) in
+    ap (λ n. after_held % 2 ^ n) all ∙ ap (λ h. h % 2 ^ (32 - count)) (one few) ∙ word_clean count held word few clean)
+    (λ many.
+    let all : 64 - (count % 32 + 32) ≡ 64 - count = omega (arith, many, short) in
+    ap (λ n. after_held % 2 ^ n) all ∙ ap (λ h. h % 2 ^ (64 - count)) (none many) ∙ clean)
+    (cases_lt count 32)

@@ -1,11 +1,10 @@
 //! Code tables of a JPEG file.
 
-ghost use Rattle.std.specs.Prelude.{◌≡◌, ◌≢◌, ◌<◌, ◌≤◌, ◌↔◌, ◌++◌, ℕ, List, Bool, IsTrue, [], length, IfSome, IfNone, IfOk, OnOk, take, drop, sum};
+ghost use Rattle.std.specs.Prelude.{◌≡◌, ◌≢◌, ◌<◌, ◌≤◌, ◌-◌, ◌%◌, ◌^◌, ◌↔◌, ◌++◌, ℕ, List, Bool, IsTrue, [], length, IfSome, IfNone, IfOk, OnOk, take, drop, sum};
 ghost use Rattle.std.proofs.Common.{rules};
 ghost use Rattle.std.specs.Cmp.Rules.{comparing};
-ghost use Rattle.jr_code.specs.Code.{same_table, Table, IsWord, IsLawfulTable, HasTooMany, IsOverfull, space, lengths, AreEntries, ArePairs, AreLong, IsFirstWordWhereWhole, HasNoFirstWord, TakesExtended, HasNoExtended, IsInFront, IsPrefixFree};
-ghost use Rattle.jr_code.specs.Bits.{bits_of};
-ghost use Rattle.jr_code.specs.Register.{bits_in};
+ghost use Rattle.jr_code.specs.Code.{same_table, Table, IsWord, IsLawfulTable, HasTooMany, IsOverfull, space, lengths, AreEntries, ArePairs, AreLong, IsFirstWordWhereWhole, HasNoFirstWord, TakesExtended, HasNoExtended, IsInFront, IsPrefixFree, unpacked};
+ghost use Rattle.jr_code.specs.Register.{bits_in, first_of};
 
 use crate::bits::Bits;
 use crate::packed::Packed;
@@ -163,12 +162,12 @@ impl CodeBook {
         ensures none { IfNone result (HasNoExtended self.now bits.old) }
         ensures unmoved { IfNone result (bits.new ≡ bits.old) }
     {
+        // Looked up before the refill, which then goes on beside it.
+        let both = self.pair(bits.register);
         let register = bits.register.refilled();
-        if register.count >= 32
-            && let Some(both) = self.short_pair(register)
-        {
-            bits.register = register.behind(u32::from(both.long));
-            return Some((both.symbol, i32::from(both.value)));
+        if both.long() <= bits.register.count {
+            bits.register = register.behind(both.long());
+            return Some((both.symbol(), i32::from(both.value())));
         }
         let both = self.rare_pair(register.held, register.count)?;
         let count = u32::from(both.long);
@@ -177,23 +176,24 @@ impl CodeBook {
         Some((both.symbol, value))
     }
 
-    /// The word in front of the bits and its extra bits, where both are within ten bits.
+    /// What the next ten bits look up, where zeros stand for those that the register hasn't: the word in front of the bits
+    /// and its extra bits, where the register has them all.
     #[inline(always)]
-    fn short_pair(&self, register: Register) -> Option<Extended>
-        requires { 32 ≤ register.count }
-        ensures { IfSome result (λ e. IsInFront self.now e register.entry.count (bits_in register.entry)) }
+    fn pair(&self, register: Register) -> Packed
+        ensures { (unpacked result).long ≤ register.entry.count → IsInFront self.now (unpacked result) register.entry.count (bits_in register.entry) }
     {
-        self.pairs[register.first_bits(10) as usize].extended()
+        self.pairs[register.upper(10) as usize]
     }
 
-    /// The word that is in front of the last `count` bits of `held` and its extra bits, long ones or ones near the end of
+    /// The word that is in front of the first `count` bits of `held` and its extra bits, long ones or ones near the end of
     /// all bits. By value, so that no address of a reader leaves its loop.
     #[cold]
     #[inline(never)]
     fn rare_pair(&self, held: u64, count: u32) -> Option<Extended>
-        requires { count < 64 }
-        ensures found { IfSome result (λ e. IsInFront self.now e count (bits_of count held)) }
-        ensures none { IfNone result (HasNoExtended self.now (bits_of count held)) }
+        requires few { count < 64 }
+        requires clean { held % 2 ^ (64 - count) ≡ 0 }
+        ensures found { IfSome result (λ e. IsInFront self.now e count (first_of count held)) }
+        ensures none { IfNone result (HasNoExtended self.now (first_of count held)) }
     {
         let (symbol, long) = self.rare_word(held, count)?;
         let register = Register {
@@ -223,13 +223,14 @@ impl CodeBook {
         self.entries[register.first_bits(8) as usize]
     }
 
-    /// The word that is in front of the last `count` bits of `held`, a long one or one near the end of all bits. In line
+    /// The word that is in front of the first `count` bits of `held`, a long one or one near the end of all bits. In line
     /// with what it calls, since the answers of calls go through memory.
     #[inline(always)]
     fn rare_word(&self, held: u64, count: u32) -> Option<(u8, u8)>
-        requires { count < 64 }
-        ensures found { IfSome result (λ f. (f.1 ≤ count) × IsWord self.now (take f.1 (bits_of count held)) f.0) }
-        ensures none { IfNone result (HasNoFirstWord self.now (bits_of count held)) }
+        requires few { count < 64 }
+        requires clean { held % 2 ^ (64 - count) ≡ 0 }
+        ensures found { IfSome result (λ f. (f.1 ≤ count) × IsWord self.now (take f.1 (first_of count held)) f.0) }
+        ensures none { IfNone result (HasNoFirstWord self.now (first_of count held)) }
     {
         let register = Register {
             rest: &[],

@@ -1,12 +1,13 @@
 //! A word and its extra bits in one number, so that one load gives both.
 
-ghost use Rattle.std.specs.Prelude.{◌≡◌, Some, IfSome};
+ghost use Rattle.std.specs.Prelude.{◌≡◌, ◌/◌, ◌%◌, ◌<◌};
+ghost use Rattle.std.specs.Int.{w16, cast_signed};
 ghost use Rattle.jr_code.specs.Code.{unpacked};
 
 use crate::words::Extended;
 
 /// What a table looks up: in the lowest byte how many bits both have, in the next one the symbol, and in the upper half
-/// 32768 more than the value. It is 0 where there is nothing.
+/// the value, as an `i16` has it. Where there is nothing the lowest byte is 255, longer than any register.
 #[derive(Clone, Copy)]
 pub(crate) struct Packed {
     number: u32,
@@ -14,33 +15,39 @@ pub(crate) struct Packed {
 
 impl Packed {
     /// Nothing.
-    pub(crate) const NONE: Packed = Packed { number: 0 };
+    pub(crate) const NONE: Packed = Packed { number: 255 };
 
-    /// What is looked up, if anything.
-    pub(crate) fn of(looked_up: Option<Extended>) -> Packed
-        ensures { IfSome (unpacked result) (λ e. looked_up ≡ Some e) }
+    /// What is looked up.
+    pub(crate) fn of(both: Extended) -> Packed
+        ensures { unpacked result ≡ both }
     {
-        let Some(both) = looked_up else {
-            return Packed::NONE;
-        };
-        let value = (i32::from(both.value) + 32768) as u32;
+        let value = u32::from(both.value.cast_unsigned());
         Packed {
             number: value * 65536 + u32::from(both.symbol) * 256 + u32::from(both.long),
         }
     }
 
-    /// The word and its extra bits, if any.
+    /// How many bits the word and its extra bits have.
     #[inline(always)]
-    pub(crate) fn extended(self) -> Option<Extended>
-        ensures { result ≡ unpacked self }
+    pub(crate) fn long(self) -> u32
+        ensures { result ≡ (unpacked self).long }
     {
-        if self.number == 0 {
-            return None;
-        }
-        Some(Extended {
-            symbol: (self.number / 256 % 256) as u8,
-            value: ((self.number / 65536) as i32 - 32768) as i16,
-            long: (self.number % 256) as u8,
-        })
+        self.number % 256
+    }
+
+    /// The symbol of the word.
+    #[inline(always)]
+    pub(crate) fn symbol(self) -> u8
+        ensures { result ≡ (unpacked self).symbol }
+    {
+        (self.number / 256 % 256) as u8
+    }
+
+    /// What the extra bits stand for.
+    #[inline(always)]
+    pub(crate) fn value(self) -> i16
+        ensures { result ≡ (unpacked self).value }
+    {
+        ((self.number / 65536) as u16).cast_signed()
     }
 }

@@ -1,15 +1,16 @@
 //! The bits of a byte slice, by way of a register that is refilled by whole words.
 
-ghost use Rattle.std.specs.Prelude.{◌≡◌, ◌<◌, ◌≤◌, ◌+◌, ◌*◌, ◌^◌, ◌⊎◌, ◌↔◌, length, IsSome, IfSome, drop, take, [], ◌∷◌, ◌++◌, ℕ};
+ghost use Rattle.std.specs.Prelude.{◌≡◌, ◌<◌, ◌≤◌, ◌+◌, ◌-◌, ◌*◌, ◌/◌, ◌%◌, ◌^◌, ◌⊎◌, ◌↔◌, length, IsSome, IfSome, drop, take, [], ◌∷◌, ◌++◌, ℕ};
 ghost use Rattle.jr_code.specs.Bits.{bits, bits_of, number, window_of};
 
-/// The last `count` bits of `held`, and behind them those of `rest`. Other bits of `held` mean nothing.
+/// The first `count` bits of `held`, which has zeros behind them, and then those of `rest`.
 #[derive(Clone, Copy)]
 pub(crate) struct Register<'a> {
     pub(crate) rest: &'a [u8],
     pub(crate) held: u64,
     pub(crate) count: u32,
     ghost few: { count < 64 },
+    ghost clean: { held % 2 ^ (64 - count) ≡ 0 },
     ghost within: { 8 * length rest.now + count < 2 ^ 64 },
 }
 
@@ -36,26 +37,42 @@ impl<'a> Register<'a> {
         8 * self.rest.len() as u64 + u64::from(self.count)
     }
 
-    /// The same bits, of which the register then holds at least 32, or all that are left.
+    /// The same bits, of which the register then holds at least 32, or all that are left, and no fewer than before. Without
+    /// a branch on how many it holds, which nobody could foretell.
     #[inline(always)]
     pub(crate) fn refilled(self) -> Register<'a>
         ensures same { bits_in result ≡ bits_in self.entry }
         ensures full { (32 ≤ result.count) ⊎ (result.rest.now ≡ []) }
+        ensures more { self.entry.count ≤ result.count }
     {
-        if self.count >= 32 {
+        let &[a, b, c, d, ..] = self.rest else {
+            return self.ended();
+        };
+        let words = (63 - self.count) / 32;
+        Register {
+            rest: &self.rest[4 * words as usize..],
+            held: with_words(self.held, self.count, word(a, b, c, d), words),
+            count: self.count % 32 + 32,
+        }
+    }
+
+    /// The same bits, of which the register then holds at least 32, or all: at most three bytes are behind it.
+    #[inline(always)]
+    fn ended(self) -> Register<'a>
+        requires { length self.rest.now < 4 }
+        ensures same { bits_in result ≡ bits_in self.entry }
+        ensures full { (32 ≤ result.count) ⊎ (result.rest.now ≡ []) }
+        ensures more { self.entry.count ≤ result.count }
+    {
+        if self.count >= 32 || self.rest.is_empty() {
             return self;
         }
-        let &[a, b, c, d, ref rest @ ..] = self.rest else {
-            return Register {
-                rest: &[],
-                held: followed(self.held, self.rest),
-                count: self.count + 8 * self.rest.len() as u32,
-            };
-        };
+        let count = self.count + 8 * self.rest.len() as u32;
+        let number = followed(self.held >> 32 >> (32 - self.count), self.rest);
         Register {
-            rest,
-            held: (self.held << 32) | u64::from(word(a, b, c, d)),
-            count: self.count + 32,
+            rest: &[],
+            held: number << (64 - count),
+            count,
         }
     }
 
@@ -78,6 +95,16 @@ impl<'a> Register<'a> {
         }
     }
 
+    /// The number of the first n bits of `held`.
+    #[inline(always)]
+    pub(crate) fn upper(self, n: u32) -> u64
+        requires { n ≤ 16 }
+        ensures number { result ≡ self.entry.held / 2 ^ (64 - n) }
+        ensures small { result < 2 ^ n }
+    {
+        self.held >> 32 >> (32 - n)
+    }
+
     /// The number of the next n bits.
     #[inline(always)]
     pub(crate) fn first_bits(self, n: u32) -> u64
@@ -86,7 +113,7 @@ impl<'a> Register<'a> {
         ensures number { result ≡ number (take n (bits_in self.entry)) }
         ensures small { result < 2 ^ n }
     {
-        (self.held >> (self.count - n)) & ((1 << n) - 1)
+        self.upper(n)
     }
 
     /// The number of the next n bits, where zeros stand for those that are missing.
@@ -97,11 +124,7 @@ impl<'a> Register<'a> {
         ensures front { bits_of n result ≡ window_of n (bits_in self.entry) }
         ensures small { result < 2 ^ n }
     {
-        if n <= self.count {
-            self.first_bits(n)
-        } else {
-            (self.held << (n - self.count)) & ((1 << n) - 1)
-        }
+        self.upper(n)
     }
 
     /// The bits behind the next n.
@@ -112,10 +135,23 @@ impl<'a> Register<'a> {
     {
         Register {
             rest: self.rest,
-            held: self.held,
+            held: self.held << n,
             count: self.count - n,
         }
     }
+}
+
+/// A register's number with a word behind its first `count` bits where these are fewer than 32, and else as it is: `words`
+/// is 1 or 0.
+#[inline(always)]
+fn with_words(held: u64, count: u32, word: u32, words: u32) -> u64
+    requires few { count < 64 }
+    requires clean { held % 2 ^ (64 - count) ≡ 0 }
+    requires words { words ≡ (63 - count) / 32 }
+    ensures one { count < 32 → result ≡ held + word * 2 ^ (32 - count) }
+    ensures none { 32 ≤ count → result ≡ held }
+{
+    held | (u64::from(word) * u64::from(words)) << 32 >> count
 }
 
 /// The number of four bytes, the first counting most.

@@ -152,7 +152,7 @@ fn enter_pair(pairs: &mut [Packed; 1024], code: usize, symbol: u8, long: u8)
     let each = 1024usize >> long;
     let first = code * each;
     for window in first..first + each {
-        pairs[window] = Packed::of(Some(pair(window as u64, symbol, long)));
+        pairs[window] = Packed::of(pair(window as u64, symbol, long));
     }
 }
 
@@ -161,7 +161,7 @@ fn enter_pair(pairs: &mut [Packed; 1024], code: usize, symbol: u8, long: u8)
 fn pair(window: u64, symbol: u8, long: u8) -> Extended
     requires held { long + symbol % 16 ≤ 10 }
     requires ten { window < 1024 }
-    ensures { (t : Table) → IsWord t (take long (bits_of 10 window)) symbol → IsPair t window (Some result) }
+    ensures { (t : Table) → IsWord t (take long (bits_of 10 window)) symbol → IsPair t window result }
 {
     let size = symbol % 16;
     let both = long + size;

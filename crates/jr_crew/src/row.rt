@@ -9,10 +9,11 @@ ghost use Rattle.jr_stream.specs.Bands.{ShowsMcus, samples_in, unit_shown_of};
 ghost use Rattle.jr_stream.specs.Rows.{AreInRange, HasFirst, HasRowRoom, AreRead, CountsRow, ShowsLines, line_count};
 
 use jr_base::Memory;
+use jr_block::Coefficients;
 use jr_head::Head;
 use jr_paint::SampleLines;
 use jr_piece::transform_blocks;
-use jr_scan::{Block, Scan};
+use jr_scan::Scan;
 use jr_stream::{Marked, Rows, coded_of_row, fill_blank, paint_row, shape_of};
 use std::alloc::Global;
 use std::marker::Model;
@@ -20,7 +21,7 @@ use std::marker::Model;
 /// Memory for the data units of a row of MCUs, used again for row after row.
 #[derive(Drop)]
 pub(crate) struct Row {
-    blocks: Vec<Block>,
+    blocks: Vec<Coefficients>,
     units: Vec<[u8; 64]>,
 }
 
@@ -33,7 +34,7 @@ impl Model for Row {
 }
 
 /// The data units of a row whose first blocks, `coded` of them, are decoded; the others are blank.
-fn show(head: &Head, coded: usize, blocks: &[Block], units: &mut [[u8; 64]])
+fn show(head: &Head, coded: usize, blocks: &[Coefficients], units: &mut [[u8; 64]])
     requires few { coded ≤ length units.old }
     requires whole { coded % blocks_of head.now ≡ 0 }
     requires room { length blocks.now ≡ length units.old }
@@ -52,7 +53,7 @@ impl Row {
         ensures { IfOk result (HasRowRoom head.now) }
     {
         let count = shape_of(head).across as usize * head.order().len();
-        let blocks = vec![in alloc; [0; 64]; count]?;
+        let blocks = vec![in alloc; Coefficients::zeros(); count]?;
         let units = vec![in alloc; [0; 64]; count]?;
         Ok(Row { blocks, units })
     }

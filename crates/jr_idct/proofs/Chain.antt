@@ -33,7 +33,6 @@ module _ (x y z w t : List (List ℤ))
     (turned : (i p : ℕ) → i < 8 → p < 16 → lane z i p ≡ lane y (p % 8) (8 * (p / 8) + i))
     (second : (i p : ℕ) → i < 8 → p < 16 → lane w i p ≡ floor_div (row_sum i (λ k. lane z k p) +ℤ pos 33685504) (2 ^ 18))
     (back : (i p : ℕ) → i < 8 → p < 16 → lane t i p ≡ lane w (p % 8) (8 * (p / 8) + i)) where
-
   -- where number i of a row of the block stands
   module _ (place : ℕ → ℕ) (below : (i : ℕ) → i < 8 → place i < 16) (column : (i : ℕ) → i < 8 → place i % 8 ≡ i) (block : (i k : ℕ) → i < 8 → k < 8 → 8 * (place i / 8) + k ≡ place k)
       (v : ℕ → ℤ) (is_x : (j k : ℕ) → j < 8 → k < 8 → lane x j (place k) ≡ v (8 * j + k)) where

@@ -36,6 +36,7 @@ sample_at s qs t0 t1 t2 t3 t4 t5 t6 t7 is_q bytes is_bytes r c h g =
     below : (s : Bool) (n : ℕ) → n < 16 → n + cond s 16 0 < 32
     below true n l = omega (arith, l)
     below false n l = omega (arith, l)
+
     at_place : (s : Bool) → lane (t0 ∷ t1 ∷ t2 ∷ t3 ∷ t4 ∷ t5 ∷ t6 ∷ t7 ∷ []) (2 * ((8 * r + c) / 16) + ((8 * r + c) % 16 + cond s 16 0) / 8 % 2) (8 * (((8 * r + c) % 16 + cond s 16 0) / 16) + ((8 * r + c) % 16 + cond s 16 0) % 8) ≡ lane (t0 ∷ t1 ∷ t2 ∷ t3 ∷ t4 ∷ t5 ∷ t6 ∷ t7 ∷ []) r (place_in s c)
     at_place true =
         let e : 2 * ((8 * r + c) / 16) + ((8 * r + c) % 16 + 16) / 8 % 2 ≡ r = omega (arith, h, g) in

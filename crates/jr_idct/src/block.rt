@@ -1,35 +1,16 @@
-//! The transform of a block: which of the paths it takes.
+//! The transform of blocks.
 
-ghost use Rattle.std.specs.Prelude.{◌≡◌, ℕ, ◌+◌, ◌*◌, ◌<◌, ◌≤◌, pos, ◌+ℤ◌, slice_index, IsTrue, ◌↔◌};
-ghost use Rattle.jr_idct.specs.Matrix.{at, floor_div, IsWithin};
-ghost use Rattle.jr_idct.specs.Transform.{byte_of, sample, samples};
+ghost use Rattle.std.specs.Prelude.{◌≡◌, ℕ, ◌+◌, ◌*◌, ◌<◌, pos, slice_index};
+ghost use Rattle.std.proofs.Math.IntN.{◌*ℤ◌};
+ghost use Rattle.jr_idct.specs.Matrix.{at, IsWithin};
+ghost use Rattle.jr_idct.specs.Transform.{product_at, sample, samples};
 
-use crate::matrix::matrix_transform;
-use crate::narrow::{are_small, narrow_samples};
-use crate::number::Number;
-use crate::zigzag::{natural_order, products};
-
-/// Whether all coefficients but the first are 0. It ends at the first that is not.
-#[inline]
-fn is_flat(coefficients: &[i32; 64]) -> bool
-    ensures { IsTrue result ↔ ((k : ℕ) → 0 < k → k < 64 → at coefficients.now k ≡ pos 0) }
-{
-    for k in 1..64 {
-        if coefficients[k] != 0 {
-            return false;
-        }
-    }
-    true
-}
-
-/// The samples of a block that is only its first coefficient, given its product: all are equal.
-#[inline]
-fn flat_samples(product: i32) -> [u8; 64]
-    requires { IsWithin (32768 * 65535) product }
-    ensures { (n : ℕ) → n < 64 → slice_index result n ≡ byte_of (floor_div (product +ℤ pos 4) 8 +ℤ pos 128) }
-{
-    [((product + 4) >> 3).clamped(); 64]
-}
+use crate::first_only::flat_block;
+use crate::matrix::dequantised;
+use crate::pair::pair_samples;
+use crate::small::{is_flat, is_small};
+use crate::wide::wide_samples;
+use jr_block::{Coefficients, MOST_PRODUCT, Quantisers};
 
 /// The 64 samples of a block: dequantised, put in natural order, transformed and shifted (T.81, A.3.1,
 /// A.3.3, A.3.4 and A.3.6).
@@ -42,13 +23,73 @@ pub fn transform(coefficients: &[i32; 64], quantisers: &[u16; 64]) -> [u8; 64]
     ensures by_place { (r c : ℕ) → r < 8 → c < 8 → slice_index result (8 * r + c) ≡ sample coefficients.now quantisers.now r c }
     ensures whole { result ≡ samples coefficients.now quantisers.now }
 {
-    if is_flat(coefficients) {
-        return flat_samples(coefficients[0] * i32::from(quantisers[0]));
+    wide_samples(&dequantised(coefficients, quantisers))
+}
+
+/// The products of coefficients and quantisers, both in natural order.
+fn products(natural: &[i16; 64], factors: &[u16; 64]) -> [i64; 64]
+    ensures values { (n : ℕ) → n < 64 → at result n ≡ at natural.now n *ℤ pos (slice_index factors.now n) }
+    ensures small { (n : ℕ) → n < 64 → IsWithin (32768 * 65535) (at result n) }
+{
+    let mut table = [0; 64];
+    for n in 0..64 {
+        table[n] = i64::from(natural[n]) * i64::from(factors[n]);
     }
-    let dequantised = products(coefficients, quantisers);
-    if are_small(&dequantised) {
-        narrow_samples(&natural_order(&dequantised))
+    table
+}
+
+/// The samples of a block of any size, at index `8 row + column`.
+#[inline(never)]
+#[cold]
+pub(crate) fn samples_of(block: &Coefficients, quantisers: &Quantisers) -> [u8; 64]
+    ensures { result ≡ samples block.now quantisers.now }
+{
+    wide_samples(&products(block.natural(), quantisers.factors()))
+}
+
+/// The samples of two blocks with small products, at index `8 row + column`.
+#[inline(always)]
+fn small_blocks(a: &Coefficients, b: &Coefficients, quantisers: &Quantisers) -> ([u8; 64], [u8; 64])
+    requires small_a { (n : ℕ) → n < 64 → IsWithin MOST_PRODUCT (product_at a.now quantisers.now n) }
+    requires small_b { (n : ℕ) → n < 64 → IsWithin MOST_PRODUCT (product_at b.now quantisers.now n) }
+    ensures first { result.0 ≡ samples a.now quantisers.now }
+    ensures second { result.1 ≡ samples b.now quantisers.now }
+{
+    pair_samples(a.natural(), b.natural(), quantisers.factors())
+}
+
+/// The samples of a block, at index `8 row + column`: dequantised, transformed and shifted (T.81, A.3.1, A.3.3, A.3.4 and A.3.6).
+pub fn transform_one(block: &Coefficients, quantisers: &Quantisers) -> [u8; 64]
+    ensures { result ≡ samples block.now quantisers.now }
+{
+    if is_flat(block) {
+        return flat_block(block, quantisers);
+    }
+    if is_small(block, quantisers) {
+        let (samples, _) = small_blocks(block, block, quantisers);
+        return samples;
+    }
+    samples_of(block, quantisers)
+}
+
+/// The samples of two blocks of one component.
+pub fn transform_two(
+    a: &Coefficients,
+    b: &Coefficients,
+    quantisers: &Quantisers,
+    first: &mut [u8; 64],
+    second: &mut [u8; 64],
+)
+    ensures first { first.new ≡ samples a.now quantisers.now }
+    ensures second { second.new ≡ samples b.now quantisers.now }
+{
+    if is_flat(a) && is_flat(b) {
+        *first = flat_block(a, quantisers);
+        *second = flat_block(b, quantisers);
+    } else if is_small(a, quantisers) && is_small(b, quantisers) {
+        (*first, *second) = small_blocks(a, b, quantisers);
     } else {
-        matrix_transform(coefficients, quantisers)
+        *first = samples_of(a, quantisers);
+        *second = samples_of(b, quantisers);
     }
 }

@@ -7,18 +7,18 @@
 
 mod block;
 mod butterfly;
-
+mod first_only;
 mod lanes;
 mod laws;
 mod matrix;
-mod narrow;
 mod number;
 mod pair;
 mod pass;
+mod small;
 mod turned;
-mod zigzag;
+mod wide;
 
-pub use block::transform;
+pub use block::{transform, transform_one, transform_two};
 pub use butterfly::{even, odd};
 pub use laws::{floors, tables_agree, zeros_are_grey};
 pub use matrix::matrix_transform;

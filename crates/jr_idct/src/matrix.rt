@@ -45,8 +45,8 @@ fn weight_at(i: usize, k: usize) -> i16
     MATRIX[i][k]
 }
 
-/// The products of a block in natural order.
-fn dequantised(coefficients: &[i32; 64], quantisers: &[u16; 64]) -> [i64; 64]
+/// The products of a block in natural order, where both come in zigzag order.
+pub(crate) fn dequantised(coefficients: &[i32; 64], quantisers: &[u16; 64]) -> [i64; 64]
     ensures { (n : ℕ) → n < 64 → at result n ≡ product_at coefficients.now quantisers.now n }
 {
     let mut table = [0; 64];

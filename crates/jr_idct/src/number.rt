@@ -1,8 +1,8 @@
-//! The two widths of numbers that a pass reckons in, under one contract.
+//! Numbers of 64 bits that a pass reckons in.
 
-ghost use Rattle.std.specs.Prelude.{◌≡◌, ℕ, ℤ, ◌+◌, ◌*◌, ◌^◌, ◌<◌, pos, ◌+ℤ◌, ◌-ℤ◌};
+ghost use Rattle.std.specs.Prelude.{◌≡◌, ℕ, ℤ, ◌+◌, ◌*◌, ◌<◌, pos, ◌+ℤ◌, ◌-ℤ◌};
 ghost use Rattle.std.proofs.Math.IntN.{◌*ℤ◌};
-ghost use Rattle.jr_idct.specs.Matrix.{descale, narrow_reach, row_weight, IsInRoom, IsWithin};
+ghost use Rattle.jr_idct.specs.Matrix.{descale, wide_reach, row_weight, IsInRoom, IsWithin};
 ghost use Rattle.jr_idct.specs.Transform.{byte_of};
 
 /// How many bits the pass over columns drops: the 13 of the constants, less two that are kept.
@@ -47,41 +47,10 @@ pub(crate) trait Number: Copy {
         ensures { result ≡ byte_of (value self +ℤ pos 128) };
 }
 
-impl Number for i32 {
-    ghost value = { λ x. x };
-
-    ghost reach = { narrow_reach };
-
-    #[inline]
-    fn plus(self, other: Self) -> Self {
-        self + other
-    }
-
-    #[inline]
-    fn minus(self, other: Self) -> Self {
-        self - other
-    }
-
-    #[inline]
-    fn times(self, constant: i16) -> Self {
-        constant as i32 * self
-    }
-
-    #[inline]
-    fn descaled(self, bits: u32) -> Self {
-        (self + (1_i32 << (bits - 1))) >> bits
-    }
-
-    #[inline]
-    fn clamped(self) -> u8 {
-        (self + 128).clamp(0, 255) as u8
-    }
-}
-
 impl Number for i64 {
     ghost value = { λ x. x };
 
-    ghost reach = { 2 ^ 44 };
+    ghost reach = { wide_reach };
 
     #[inline]
     fn plus(self, other: Self) -> Self {

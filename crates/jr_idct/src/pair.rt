@@ -121,7 +121,6 @@ fn gathered(q0: u8x32, q1: u8x32, q2: u8x32, q3: u8x32, second: bool) -> [u8; 64
     all.to_array()
 }
 
-
 /// The rows of two blocks side by side.
 #[inline(always)]
 fn rows_of(a: &[i16; 64], b: &[i16; 64]) -> Rows
@@ -178,7 +177,11 @@ fn samples_of(t: Rows) -> ([u8; 64], [u8; 64])
 
 /// The samples of two blocks of one component, given their coefficients and quantisers in natural order.
 #[inline(always)]
-pub(crate) fn pair_samples(a: &[i16; 64], b: &[i16; 64], factors: &[u16; 64]) -> ([u8; 64], [u8; 64])
+pub(crate) fn pair_samples(
+    a: &[i16; 64],
+    b: &[i16; 64],
+    factors: &[u16; 64],
+) -> ([u8; 64], [u8; 64])
     requires small_a { (n : ℕ) → n < 64 → IsWithin LIMIT (at a.now n *ℤ pos (slice_index factors.now n)) }
     requires small_b { (n : ℕ) → n < 64 → IsWithin LIMIT (at b.now n *ℤ pos (slice_index factors.now n)) }
     ensures first { (r c : ℕ) → r < 8 → c < 8 → slice_index result.0 (8 * r + c) ≡ sample_of (λ n. at a.now n *ℤ pos (slice_index factors.now n)) r c }

@@ -21,7 +21,14 @@ pub(crate) type Rows = (
 
 /// The part of entries 0 to 3 that numbers 0, 2, 4 and 6 of the columns of a half make, and a constant.
 #[inline(always)]
-fn even_lanes(x0: i16x16, x2: i16x16, x4: i16x16, x6: i16x16, constant: i32, upper: bool) -> (i32x8, i32x8, i32x8, i32x8)
+fn even_lanes(
+    x0: i16x16,
+    x2: i16x16,
+    x4: i16x16,
+    x6: i16x16,
+    constant: i32,
+    upper: bool,
+) -> (i32x8, i32x8, i32x8, i32x8)
     requires { IsWithin (2 ^ 26) constant }
     ensures entry_0 { (j : ℕ) → j < 8 → at result.0 j ≡ even_sum 0 (at x0 (half_lane upper j) ∷ at x2 (half_lane upper j) ∷ at x4 (half_lane upper j) ∷ at x6 (half_lane upper j) ∷ []) +ℤ constant }
     ensures entry_1 { (j : ℕ) → j < 8 → at result.1 j ≡ even_sum 1 (at x0 (half_lane upper j) ∷ at x2 (half_lane upper j) ∷ at x4 (half_lane upper j) ∷ at x6 (half_lane upper j) ∷ []) +ℤ constant }
@@ -45,7 +52,13 @@ fn even_lanes(x0: i16x16, x2: i16x16, x4: i16x16, x6: i16x16, constant: i32, upp
 
 /// The part of entries 0 to 3 that numbers 1, 3, 5 and 7 of the columns of a half make.
 #[inline(always)]
-fn odd_lanes(x1: i16x16, x3: i16x16, x5: i16x16, x7: i16x16, upper: bool) -> (i32x8, i32x8, i32x8, i32x8)
+fn odd_lanes(
+    x1: i16x16,
+    x3: i16x16,
+    x5: i16x16,
+    x7: i16x16,
+    upper: bool,
+) -> (i32x8, i32x8, i32x8, i32x8)
     ensures entry_0 { (j : ℕ) → j < 8 → at result.0 j ≡ odd_sum 0 (at x1 (half_lane upper j) ∷ at x3 (half_lane upper j) ∷ at x5 (half_lane upper j) ∷ at x7 (half_lane upper j) ∷ []) }
     ensures entry_1 { (j : ℕ) → j < 8 → at result.1 j ≡ odd_sum 1 (at x1 (half_lane upper j) ∷ at x3 (half_lane upper j) ∷ at x5 (half_lane upper j) ∷ at x7 (half_lane upper j) ∷ []) }
     ensures entry_2 { (j : ℕ) → j < 8 → at result.2 j ≡ odd_sum 2 (at x1 (half_lane upper j) ∷ at x3 (half_lane upper j) ∷ at x5 (half_lane upper j) ∷ at x7 (half_lane upper j) ∷ []) }
@@ -76,7 +89,13 @@ fn shifted(even: i32x8, odd: i32x8, bits: u32) -> (i32x8, i32x8)
 
 /// Entries i and 7 - i of the columns of both halves, from their parts.
 #[inline(always)]
-fn ends(lower_even: i32x8, lower_odd: i32x8, upper_even: i32x8, upper_odd: i32x8, bits: u32) -> (i16x16, i16x16)
+fn ends(
+    lower_even: i32x8,
+    lower_odd: i32x8,
+    upper_even: i32x8,
+    upper_odd: i32x8,
+    bits: u32,
+) -> (i16x16, i16x16)
     requires few { bits < 19 }
     requires lower { AreShort bits lower_even lower_odd }
     requires upper { AreShort bits upper_even upper_odd }

@@ -6,9 +6,11 @@ ghost use Rattle.jr_scan.specs.McuReader.{HasRead, HasEnded};
 ghost use Rattle.jr_piece.specs.Outcome.{AreSamples, IsOutcome};
 
 use crate::transforming::transform_blocks;
+use jr_block::Coefficients;
 use jr_code::Memory;
 use jr_scan::{Interval, MOST_UNITS, McuReader};
 use std::alloc::Global;
+use std::array;
 
 /// The samples of an interval's front, and whether the front is its decoding.
 #[derive(Drop)]
@@ -32,7 +34,7 @@ fn read_samples(
     let most = interval.most_mcus() as usize * per_mcu;
     let mut samples = Vec::with_capacity(alloc, most)?;
     let mut reader = McuReader::over(interval.as_ref());
-    let mut blocks = [[0; 64]; MOST_UNITS];
+    let mut blocks: [Coefficients; MOST_UNITS] = array::from_fn(|_| Coefficients::zeros());
     let mut units = [[0; 64]; MOST_UNITS];
     'mcus: loop {
         let count = reader.read(&mut blocks) as usize * per_mcu;

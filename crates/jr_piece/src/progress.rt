@@ -9,8 +9,9 @@ use crate::gathered::Gathered;
 use crate::one_scan::OneScan;
 use crate::reading::{End, Next, Reading};
 use crate::strip::{CodedStrip, Strip};
+use jr_block::Coefficients;
 use jr_code::Memory;
-use jr_scan::{Block, Interval};
+use jr_scan::Interval;
 use std::alloc::Global;
 use std::collections::VecDeque;
 use std::marker::{Model, PhantomData};
@@ -54,7 +55,7 @@ impl<S: OneScan> Coded<S> {
     }
 
     /// The memory of its blocks, to be used again.
-    pub(crate) fn into_blocks(self) -> Vec<Block> {
+    pub(crate) fn into_blocks(self) -> Vec<Coefficients> {
         self.strip.into_blocks()
     }
 }
@@ -82,7 +83,7 @@ pub(crate) struct Progress<S: OneScan> {
     /// As many of them may wait before the worker that reads decodes one.
     most_waiting: usize,
     /// Memory of strips that are transformed, for those to be read.
-    spare: Vec<Vec<Block>>,
+    spare: Vec<Vec<Coefficients>>,
     gathered: Gathered<S>,
 }
 
@@ -148,7 +149,7 @@ impl<S: OneScan> Progress<S> {
     }
 
     /// Takes the memory of a strip that is transformed, as long as strips are read.
-    pub(crate) fn reuse(&mut self, blocks: Vec<Block>) {
+    pub(crate) fn reuse(&mut self, blocks: Vec<Coefficients>) {
         if !self.is_over {
             let _ = self.spare.push(blocks);
         }

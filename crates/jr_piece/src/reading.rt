@@ -7,8 +7,9 @@ ghost use Rattle.jr_piece.specs.Sharing.{IsOneOf, IsNextOf};
 use crate::one_scan::OneScan;
 use crate::strip::CodedStrip;
 use crate::strip_reader::StripReader;
+use jr_block::Coefficients;
 use jr_code::Memory;
-use jr_scan::{Block, Interval};
+use jr_scan::Interval;
 use std::alloc::Global;
 use std::marker::{Model, PhantomData};
 use std::sync::Arc;
@@ -84,7 +85,7 @@ impl<S: OneScan> Reading<S> {
     }
 
     /// Lends it blocks whose memory the next strip takes.
-    pub(crate) fn lend(&mut self, blocks: Vec<Block>)
+    pub(crate) fn lend(&mut self, blocks: Vec<Coefficients>)
         ensures { self.new ≡ self.old }
     {
         self.reader.lend(blocks);

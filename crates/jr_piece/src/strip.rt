@@ -9,9 +9,10 @@ ghost use Rattle.jr_piece.specs.Outcome.{AreSamples};
 ghost use Rattle.jr_piece.specs.Strips.{IsCoded, IsStrip};
 
 use crate::transforming::transform_blocks;
+use jr_block::Coefficients;
 use jr_code::Memory;
 use jr_head::Head;
-use jr_scan::{Block, Interval};
+use jr_scan::Interval;
 use std::alloc::Global;
 use std::marker::Model;
 use std::sync::Arc;
@@ -22,7 +23,7 @@ pub struct CodedStrip {
     interval: Arc<Interval>,
     first: u32,
     mcus: u32,
-    blocks: Vec<Block>,
+    blocks: Vec<Coefficients>,
 }
 
 impl Model for CodedStrip {
@@ -59,7 +60,7 @@ impl Model for Strip {
 }
 
 /// The samples of blocks that begin with an MCU.
-fn samples_of(alloc: Global, head: &Head, blocks: &[Block]) -> Result<Vec<[u8; 64]>, Memory>
+fn samples_of(alloc: Global, head: &Head, blocks: &[Coefficients]) -> Result<Vec<[u8; 64]>, Memory>
     requires { All IsInRange blocks.now }
     ensures { IfOk result (λ v. AreSamples head.now blocks.now v.items) }
 {
@@ -73,7 +74,7 @@ impl CodedStrip {
         interval: Arc<Interval>,
         first: u32,
         mcus: u32,
-        blocks: Vec<Block>,
+        blocks: Vec<Coefficients>,
     ) -> CodedStrip
         requires { IsCoded (record { interval = arc_value interval; first = first; mcus = mcus; blocks = blocks.items }) }
         ensures { result ≡ record { interval = arc_value interval; first = first; mcus = mcus; blocks = blocks.items } }
@@ -87,7 +88,7 @@ impl CodedStrip {
     }
 
     /// The memory of its blocks, to be used again.
-    pub(crate) fn into_blocks(self) -> Vec<Block> {
+    pub(crate) fn into_blocks(self) -> Vec<Coefficients> {
         self.blocks
     }
 

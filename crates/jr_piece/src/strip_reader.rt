@@ -10,10 +10,10 @@ ghost use Rattle.jr_scan.specs.Run.{start_of_interval, IsRun, run_from};
 ghost use Rattle.jr_piece.specs.Strips.{CanReadFrom, FirstMcus, HasWholeMcus};
 
 use crate::strip::CodedStrip;
+use jr_block::Coefficients;
 use jr_code::Memory;
 use jr_scan::{
-    Block, Interval, McuReader, Place, decoding_is_whole_run, one_front, one_run, runs_meet,
-    shorter_front,
+    Interval, McuReader, Place, decoding_is_whole_run, one_front, one_run, runs_meet, shorter_front,
 };
 use std::alloc::Global;
 use std::marker::Model;
@@ -22,7 +22,7 @@ use std::sync::Arc;
 /// The whole MCUs of a run, and where the next one starts; no place where no whole one follows.
 #[derive(Drop)]
 struct Run {
-    blocks: Vec<Block>,
+    blocks: Vec<Coefficients>,
     mcus: u32,
     next: Option<Place>,
 }
@@ -38,7 +38,12 @@ fn most_mcus(interval: &Interval, from: Place, mcus: u32) -> u32
 }
 
 /// The whole MCUs of a run of at most so many, in the place of the blocks that are there.
-fn read_run(blocks: Vec<Block>, interval: &Interval, from: Place, mcus: u32) -> Result<Run, Memory>
+fn read_run(
+    blocks: Vec<Coefficients>,
+    interval: &Interval,
+    from: Place,
+    mcus: u32,
+) -> Result<Run, Memory>
     requires { CanReadFrom interval.now from }
     ensures few { IfOk result (λ r. r.mcus ≤ mcus) }
     ensures run { IfOk result (λ r. FirstMcus (run_from interval.now from mcus) r.mcus r.blocks.items) }
@@ -50,7 +55,7 @@ fn read_run(blocks: Vec<Block>, interval: &Interval, from: Place, mcus: u32) -> 
     let per_mcu = interval.head().order().len();
     let most = most_mcus(interval, from, mcus) as usize;
     let mut blocks = blocks;
-    blocks.resize(most * per_mcu, [0; 64])?;
+    blocks.resize(most * per_mcu, Coefficients::zeros())?;
     let mut reader = McuReader::at(interval.as_ref(), from, mcus);
     let read = reader.read(blocks.as_mut_slice());
     blocks.truncate(read as usize * per_mcu);
@@ -72,7 +77,7 @@ pub struct StripReader {
     first: u32,
     next: Option<Place>,
     /// Memory of a strip that is transformed, to be used again.
-    spare: Option<Vec<Block>>,
+    spare: Option<Vec<Coefficients>>,
 }
 
 impl Model for StripReader {
@@ -101,7 +106,7 @@ impl StripReader {
     }
 
     /// Lends the reader blocks whose memory the next strip takes.
-    pub(crate) fn lend(&mut self, blocks: Vec<Block>)
+    pub(crate) fn lend(&mut self, blocks: Vec<Coefficients>)
         ensures { self.new ≡ self.old }
     {
         self.spare = Some(blocks);

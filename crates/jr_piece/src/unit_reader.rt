@@ -5,8 +5,9 @@ ghost use Rattle.std.specs.List.{All};
 ghost use Rattle.jr_scan.specs.Block.{IsInRange};
 ghost use Rattle.jr_piece.specs.Units.{zero_block};
 
+use jr_block::Coefficients;
 use jr_idct::zeros_are_grey;
-use jr_scan::{Block, IntervalRef, McuReader};
+use jr_scan::{IntervalRef, McuReader};
 use std::marker::Model;
 
 /// Reads the blocks of an interval from its first MCU on, as many as are asked for at a time, and takes no memory.
@@ -31,13 +32,13 @@ impl<'a> Model for UnitReader<'a> {
 }
 
 /// Makes the blocks from one on zeros.
-fn zero_from(blocks: &mut [Block], first: usize)
+fn zero_from(blocks: &mut [Coefficients], first: usize)
     requires { first ≤ length blocks.old }
     ensures kept { (k : ℕ) → k < first → slice_index_or blocks.new k [] ≡ slice_index_or blocks.old k [] }
     ensures zeros { (k : ℕ) → first ≤ k → k < length blocks.new → slice_index_or blocks.new k [] ≡ zero_block }
 {
     for k in first..blocks.len() {
-        blocks[k] = [0; 64];
+        blocks[k] = Coefficients::zeros();
     }
 }
 
@@ -81,7 +82,7 @@ impl<'a> UnitReader<'a> {
 
     /// The coefficients of the data units of the next MCUs, in zigzag order; the slice has room for just these. Those of
     /// an MCU that is not whole, and all behind it, are zeros, whose samples are grey.
-    pub fn read(&mut self, mcus: u32, blocks: &mut [Block])
+    pub fn read(&mut self, mcus: u32, blocks: &mut [Coefficients])
         requires few { self.old.mcu + mcus ≤ self.old.interval.mcus }
         requires room { length blocks.old ≡ mcus * length (order_of self.old.interval.head) }
         ensures interval { self.new.interval ≡ self.old.interval }

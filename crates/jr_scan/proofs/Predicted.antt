@@ -1,7 +1,7 @@
 -- A block with its prediction, from a block as it is coded.
 use Rattle.std.proofs.Common.{◌≡◌, Bool, List, ◌∷◌, get_or, set, sym, ap, subst, ◌∙◌, arith}
 use Rattle.std.specs.Prelude.{ℤ, pos, ◌+ℤ◌, ◌≤ℤ◌}
-use Rattle.std.proofs.Common.{w32}
+use Rattle.std.proofs.Common.{w16, w32}
 use mir.Val.{SFits, to_z, of_z}
 use Rattle.std.proofs.lemmas.Int.{ints, to_z-of_z}
 use Rattle.jr_code.specs.Code.{Table}
@@ -34,24 +34,9 @@ no_block_far dc ac dfree afree p first z old new t is far z' bits rest b e =
     let same : p +ℤ b.difference ≡ first = ap (λ (x : ℤ). p +ℤ x) (sym s.1) ∙ sym (is ∙ ap (λ (x : List ℤ). p +ℤ get_or x 0 (pos 0)) t.values) in
     far (subst IsInDcRange same b.in_range)
 
--- the sum of a prediction and a difference, as the code makes it
-pub sum_fits : (p d : ℤ) → IsInDcRange p → d ≤ℤ pos 2047 → pos 0 ≤ℤ (d +ℤ pos 2047) → SFits w32 (to_z w32 (of_z w32 p) +ℤ to_z w32 (of_z w32 d))
-sum_fits p d within dhigh dlow =
-    let low = within.0 in
-    let high = within.1 in
-    let fp : SFits w32 p = grind (arith, ints) in
-    let fd : SFits w32 d = grind (arith, ints) in
-    let ep = to_z-of_z w32 p fp in
-    let ed = to_z-of_z w32 d fd in
-    rw (ep, ed) (grind (arith, ints))
-
-pub sum_is : (p d : ℤ) → IsInDcRange p → d ≤ℤ pos 2047 → pos 0 ≤ℤ (d +ℤ pos 2047) → to_z w32 (of_z w32 (to_z w32 (of_z w32 p) +ℤ to_z w32 (of_z w32 d))) ≡ p +ℤ d
-sum_is p d within dhigh dlow =
-    let low = within.0 in
-    let high = within.1 in
-    let fp : SFits w32 p = grind (arith, ints) in
-    let fd : SFits w32 d = grind (arith, ints) in
-    to_z-of_z w32 _ (sum_fits p d within dhigh dlow) ∙ ap (λ (x : ℤ). x +ℤ to_z w32 (of_z w32 d)) (to_z-of_z w32 p fp) ∙ ap (λ (x : ℤ). p +ℤ x) (to_z-of_z w32 d fd)
-
 pub kept_fits : (p : ℤ) → IsInDcRange p → SFits w32 p
 kept_fits p within = let low = within.0 in let high = within.1 in grind (arith, ints)
+
+-- the sum of a prediction and a difference, as they are passed on
+pub sum_kept : (p d first : ℤ) → SFits w32 p → SFits w16 d → d ≡ first → to_z w32 (of_z w32 p) +ℤ to_z w16 (of_z w16 d) ≡ p +ℤ first
+sum_kept p d first fp fd e = ap (λ (x : ℤ). x +ℤ to_z w16 (of_z w16 d)) (to_z-of_z w32 p fp) ∙ ap (λ (x : ℤ). p +ℤ x) (to_z-of_z w16 d fd ∙ e)

@@ -1,13 +1,14 @@
 -- The coefficients of a block are in range.
-use Rattle.std.proofs.Common.{◌≡◌, ℕ, zero, suc, ◌+◌, ◌-◌, ◌*◌, ◌<◌, ◌≤◌, ◌^◌, Bool, List, [], ◌∷◌, ◌++◌, length, get_or, replicate, sym, ap, subst, inl, inr, length-append, arith}
+use Rattle.std.proofs.Common.{◌≡◌, ℕ, zero, suc, ◌+◌, ◌-◌, ◌*◌, ◌<◌, ◌≤◌, ◌^◌, Bool, List, [], ◌∷◌, ◌++◌, length, get_or, replicate, sym, ap, subst, inl, inr, length-append, arith, ◌∙◌, w16, w32}
 use Rattle.std.specs.Prelude.{ℤ, pos, ◌+ℤ◌, ◌≤ℤ◌}
 use Rattle.std.specs.List.{flat_map, AllByRecursion}
 use Rattle.std.proofs.Math.ListN.{length-replicate}
 use Rattle.std.proofs.Math.Pow.{pow_mono}
-use Rattle.std.proofs.lemmas.Int.{ints}
+use mir.Val.{SFits, to_z, of_z}
+use Rattle.std.proofs.lemmas.Int.{ints, to_z-of_z}
 use Rattle.std.proofs.lemmas.Bool.{cases_lt}
 use Rattle.jr_code.specs.Bits.{number, extend, value}
-use Rattle.jr_code.specs.Code.{Table}
+use Rattle.jr_code.specs.Code.{Table, TakesExtended}
 use Rattle.jr_code.proofs.BitLemmas.{number_below}
 use Rattle.jr_scan.specs.Block.{AcCode, IsAcCode, entries, DifferenceAt, OthersAt, CodedAt, BlockAt, IsInDcRange, IsInRange}
 use Rattle.jr_scan.specs.Block.AcCode.{ZeroRun, RunAndSize}
@@ -41,6 +42,23 @@ pub value_within : (w : List Bool) (k m : ℕ) → length w ≤ k → 2 ^ k ≤ 
 value_within w k m few fits =
     let mono : 2 ^ length w ≤ 2 ^ k = pow_mono few in
     extended_within (length w) (number w) m (number_below w) (omega arith)
+
+-- extra bits stand for a number of sixteen bits
+pub extended_fits : (t : Table) (symbol : ℕ) (v : ℤ) (old new : List Bool) → TakesExtended t symbol v old new → SFits w16 v
+extended_fits t symbol v old new e =
+    let w : Within 32767 v = subst (Within 32767) (sym e.value_is) (value_within e.extra 15 32767 (omega (arith, e.count)) (omega arith)) in
+    omega (arith, ints, w.0, w.1)
+
+-- such a number stays as it is where it is cast from 32 bits to sixteen
+pub cast_is : (v : ℤ) → SFits w16 v → to_z w16 (of_z w16 (to_z w32 (of_z w32 v))) ≡ v
+cast_is v f =
+    let g : SFits w32 v = omega (arith, ints, f) in
+    ap (λ (q : ℤ). to_z w16 (of_z w16 q)) (to_z-of_z w32 v g) ∙ to_z-of_z w16 v f
+
+pub cast_fits : (v : ℤ) → SFits w16 v → SFits w16 (to_z w32 (of_z w32 v))
+cast_fits v f =
+    let g : SFits w32 v = omega (arith, ints, f) in
+    subst (SFits w16) (sym (to_z-of_z w32 v g)) f
 
 within_append : (m : ℕ) (xs ys : List ℤ) → ((k : ℕ) → Within m (get_or xs k (pos 0))) → ((k : ℕ) → Within m (get_or ys k (pos 0))) → (k : ℕ) → Within m (get_or (xs ++ ys) k (pos 0))
 within_append m [] ys hx hy k = hy k

@@ -3,10 +3,8 @@
 ghost use Rattle.std.specs.Prelude.{◌≡◌, ℕ, ◌<◌, ◌≤◌, ◌^◌, ℤ, pos, negsuc, ◌≤ℤ◌, ◌∷◌, List, length, IfSome, IfNone};
 ghost use Rattle.jr_scan.specs.Step.{TakesStep, HasNoStep, TakesDifference, HasNoDifference, TakesOthers, HasNoOthers, TakesCoded, HasNoCoded};
 
+use jr_block::Coefficients;
 use jr_code::{Bits, CodeBook};
-
-/// The coefficients of a block, in zigzag order.
-pub type Block = [i32; 64];
 
 /// The most extra bits of a coefficient behind the first.
 const MOST_EXTRA: u8 = 10;
@@ -20,7 +18,7 @@ enum Step {
     /// The rest of the block is 0.
     End,
     /// A run of zeros and a coefficient. Sixteen zeros are a coefficient of 0 behind fifteen.
-    Coefficient(u8, i32),
+    Coefficient(u8, i16),
 }
 
 /// Takes what comes next behind the first coefficient (T.81, F.1.2.2).
@@ -40,11 +38,11 @@ fn read_step(ac: &CodeBook, bits: &mut Bits<'_>) -> Option<Step>
     } else if size > MOST_EXTRA {
         return None;
     }
-    Some(Step::Coefficient(symbol / 16, v))
+    Some(Step::Coefficient(symbol / 16, v as i16))
 }
 
 /// Takes the first coefficient's difference to its prediction (T.81, F.1.2.1).
-fn read_difference(dc: &CodeBook, bits: &mut Bits<'_>) -> Option<i32>
+fn read_difference(dc: &CodeBook, bits: &mut Bits<'_>) -> Option<i16>
     ensures some { IfSome result (λ d. TakesDifference dc.now d bits.old bits.new) }
     ensures none { IfNone result (HasNoDifference dc.now bits.old) }
 {
@@ -52,16 +50,21 @@ fn read_difference(dc: &CodeBook, bits: &mut Bits<'_>) -> Option<i32>
     if size > 11 {
         return None;
     }
-    Some(v)
+    Some(v as i16)
 }
 
 /// Takes the coefficients behind the first into a block.
-fn read_others(ac: &CodeBook, bits: &mut Bits<'_>, first: i32, block: &mut Block) -> Option<()>
+fn read_others(
+    ac: &CodeBook,
+    bits: &mut Bits<'_>,
+    first: i16,
+    block: &mut Coefficients,
+) -> Option<()>
     ensures some { IfSome result (λ _. (others : List ℤ) × (block.new ≡ first ∷ others) × TakesOthers ac.now others bits.old bits.new) }
     ensures none { IfNone result (HasNoOthers ac.now bits.old) }
 {
-    *block = [0; 64];
-    block[0] = first;
+    *block = Coefficients::zeros();
+    block.set(0, first);
     let mut index: usize = 1;
     'steps: loop {
         match read_step(ac, bits)? {
@@ -71,7 +74,7 @@ fn read_others(ac: &CodeBook, bits: &mut Bits<'_>, first: i32, block: &mut Block
                 if at > 63 {
                     return None;
                 }
-                block[at] = v;
+                block.set(at, v);
                 index = at + 1;
             }
         }
@@ -81,12 +84,12 @@ fn read_others(ac: &CodeBook, bits: &mut Bits<'_>, first: i32, block: &mut Block
     }
 }
 
-/// Takes a block into the caller's array, the difference of its first coefficient in place 0.
+/// Takes a block into the caller's memory, the difference of its first coefficient in place of it.
 pub(crate) fn read_block(
     dc: &CodeBook,
     ac: &CodeBook,
     bits: &mut Bits<'_>,
-    block: &mut Block,
+    block: &mut Coefficients,
 ) -> Option<()>
     ensures some { IfSome result (λ _. TakesCoded dc.now ac.now block.new bits.old bits.new) }
     ensures none { IfNone result (HasNoCoded dc.now ac.now bits.old) }

@@ -2,7 +2,7 @@
 
 ghost use Rattle.std.specs.Prelude.{◌≡◌};
 
-use crate::block::Block;
+use crate::interval::Block;
 use std::marker::Model;
 
 /// The blocks of the whole MCUs that an interval's bits begin with.

@@ -1,18 +1,22 @@
 //! An interval of a scan.
 
-ghost use Rattle.std.specs.Prelude.{◌≡◌, ◌↔◌, ◌<◌, ◌≤◌, ◌^◌, ◌*◌, ℕ, ℤ, List, All, length, IsTrue, IfOk, IfSome, IfNone};
+ghost use Rattle.std.specs.Prelude.{◌≡◌, ◌↔◌, ◌<◌, ◌≤◌, ◌^◌, ◌*◌, ℕ, ℤ, List, All, ◌++◌, length, IsTrue, IfOk, OnOk, IfSome, IfNone};
 ghost use Rattle.jr_head.specs.Geometry.{IsLawful};
 
-use crate::block::Block;
 use crate::front::FrontBlocks;
 use crate::interval_ref::IntervalRef;
 use crate::mcu_reader::{MOST_UNITS, McuReader};
 use crate::span::Span;
+use jr_block::Coefficients;
 use jr_code::Memory;
 use jr_head::Head;
 use std::alloc::Global;
+use std::array;
 use std::marker::Model;
 use std::sync::Arc;
+
+/// The coefficients of a block, in zigzag order.
+pub type Block = [i32; 64];
 
 /// A restart interval of a scan: so many MCUs, and the bytes that code them without stuffing.
 #[derive(Drop)]
@@ -36,6 +40,16 @@ impl Model for Interval {
     ghost view = { λ i. record { number = i.number; mcus = i.mcus; bytes = slice_range (arc_value i.unstuffed).items i.start i.end; head = arc_value i.head } };
 
     ghost invariant = { λ i. (i.start ≤ i.end) × (i.end ≤ length (arc_value i.unstuffed).items) × (length (arc_value i.unstuffed).items < 2 ^ 61) };
+}
+
+/// Puts more blocks behind those that are there, in zigzag order.
+fn push_zigzag(blocks: &mut Vec<Block>, more: &[Coefficients]) -> Result<(), Memory>
+    ensures { OnOk result (blocks.new.items ≡ blocks.old.items ++ more.now) }
+{
+    for k in 0..more.len() {
+        blocks.push(more[k].to_zigzag())?;
+    }
+    Ok(())
 }
 
 impl Interval {
@@ -164,13 +178,13 @@ impl Interval {
         let per_mcu = self.head().order().len();
         let mut reader = McuReader::over(self.as_ref());
         let mut blocks = Vec::new(alloc);
-        let mut next = [[0; 64]; MOST_UNITS];
+        let mut next: [Coefficients; MOST_UNITS] = array::from_fn(|_| Coefficients::zeros());
         'mcus: loop {
             let count = reader.read(&mut next) as usize;
             if count == 0 {
                 return Ok((blocks, reader));
             }
-            blocks.extend_from_slice(&next[..count * per_mcu])?;
+            push_zigzag(&mut blocks, &next[..count * per_mcu])?;
         }
     }
 }

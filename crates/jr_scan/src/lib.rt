@@ -15,9 +15,8 @@ mod scan_end;
 mod span;
 mod unstuff;
 
-pub use block::Block;
 pub use front::FrontBlocks;
-pub use interval::Interval;
+pub use interval::{Block, Interval};
 pub use interval_ref::IntervalRef;
 pub use laws::{
     decoding_is_whole_run, each_interval_decodes_or_not, each_interval_has_a_longest_front,

@@ -1,15 +1,29 @@
 //! The blocks of one MCU.
 
-ghost use Rattle.std.specs.Prelude.{◌≡◌, length, pos, IfSome, IfNone, OnSome, slice_index_or};
+ghost use Rattle.std.specs.Prelude.{◌≡◌, length, pos, IfSome, IfNone, OnSome, slice_index_or, ◌+ℤ◌};
 ghost use Rattle.std.specs.List.{All};
 ghost use Rattle.jr_head.specs.Geometry.{IsLawful, order_of};
 ghost use Rattle.jr_scan.specs.Block.{IsInDcRange};
 ghost use Rattle.jr_scan.specs.Step.{TakesBlock, HasNoBlock};
 ghost use Rattle.jr_scan.specs.Run.{predicted, TakesMcu, BeginsNoMcu};
 
-use crate::block::{Block, read_block};
+use crate::block::read_block;
+use jr_block::Coefficients;
 use jr_code::{Bits, CodeBook};
 use jr_head::Head;
+
+/// What a prediction and a difference make a first coefficient, where sixteen bits hold it.
+fn predicted_first(prediction: i32, difference: i16) -> Option<i16>
+    requires { IsInDcRange prediction }
+    ensures some { IfSome result (λ first. first ≡ prediction +ℤ difference) }
+    ensures none { IfNone result (IsInDcRange (prediction +ℤ difference) → ⊥) }
+{
+    let first = prediction + i32::from(difference);
+    if first < -32768 || first > 32767 {
+        return None;
+    }
+    Some(first as i16)
+}
 
 /// Takes a block, the prediction added to its first coefficient, which it gives.
 pub(crate) fn read_predicted(
@@ -17,7 +31,7 @@ pub(crate) fn read_predicted(
     ac: &CodeBook,
     bits: &mut Bits<'_>,
     prediction: i32,
-    block: &mut Block,
+    block: &mut Coefficients,
 ) -> Option<i32>
     requires { IsInDcRange prediction }
     ensures some { OnSome result (TakesBlock dc.now ac.now prediction block.new bits.old bits.new) }
@@ -25,12 +39,9 @@ pub(crate) fn read_predicted(
     ensures none { IfNone result (HasNoBlock dc.now ac.now prediction bits.old) }
 {
     read_block(dc, ac, bits, block)?;
-    let first = prediction + block[0];
-    if first < -32768 || first > 32767 {
-        return None;
-    }
-    block[0] = first;
-    Some(first)
+    let first = predicted_first(prediction, block.first())?;
+    block.set(0, first);
+    Some(i32::from(first))
 }
 
 /// Takes the blocks of one MCU, in order, and makes of the predictions those behind it. Bits and predictions move only
@@ -39,7 +50,7 @@ pub(crate) fn read_mcu(
     head: &Head,
     bits: &mut Bits<'_>,
     predictions: &mut [i32; 3],
-    blocks: &mut [Block],
+    blocks: &mut [Coefficients],
 ) -> Option<()>
     requires lawful { IsLawful head.now }
     requires room { length blocks.old ≡ length (order_of head.now) }

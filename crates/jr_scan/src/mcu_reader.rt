@@ -5,10 +5,10 @@ ghost use Rattle.std.specs.List.{All};
 ghost use Rattle.jr_code.specs.Bits.{bits};
 ghost use Rattle.jr_scan.specs.Block.{IsInDcRange, IsInRange};
 
-use crate::block::Block;
 use crate::interval_ref::IntervalRef;
 use crate::mcu::read_mcu;
 use crate::place::Place;
+use jr_block::Coefficients;
 use jr_code::Bits;
 use std::marker::Model;
 
@@ -98,7 +98,7 @@ impl<'a> McuReader<'a> {
     }
 
     /// Reads the next MCU into blocks that have just room for it. None where no whole one follows.
-    fn next(&mut self, blocks: &mut [Block]) -> Option<()>
+    fn next(&mut self, blocks: &mut [Coefficients]) -> Option<()>
         requires more { self.old.mcu < self.old.run.mcus }
         requires room { length blocks.old ≡ per_mcu self.old }
         ensures run { self.new.run ≡ self.old.run }
@@ -115,7 +115,7 @@ impl<'a> McuReader<'a> {
 
     /// Reads the blocks of the next MCUs, as many whole ones as the slice has room for or as follow; tells how many MCUs
     /// they are. What the slice holds behind them means nothing.
-    pub fn read(&mut self, blocks: &mut [Block]) -> u32
+    pub fn read(&mut self, blocks: &mut [Coefficients]) -> u32
         ensures run { self.new.run ≡ self.old.run }
         ensures mcus { self.new.mcu ≡ self.old.mcu + result }
         ensures few { self.new.mcu ≤ self.new.run.mcus }

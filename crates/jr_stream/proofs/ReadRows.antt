@@ -4,9 +4,6 @@ use Rattle.std.specs.Prelude.{ℤ}
 use Rattle.std.specs.List.{count_by}
 use Rattle.std.proofs.lemmas.Bool.{cases_lt}
 use Rattle.std.proofs.lemmas.List.Sums.{sum_by-cons}
-use Rattle.std.proofs.lemmas.Slice.{take-put_mid}
-use Rattle.std.proofs.lemmas.List.{get_or-take, get_or_append_left, get_or-append_right, length-take-le}
-use borrow.Rule.Slice.PartMut.{put_mid}
 use Rattle.std.proofs.Math.Nat.{div-lt_iff_lt-mul, add-mul, mul-add-div_right, mul-add-mod_self_right}
 use Rattle.std.proofs.lemmas.Nat.{div-add-mod'}
 use Rattle.jr_head.specs.HeadValue.{HeadValue}
@@ -72,19 +69,6 @@ none scan n b first number le (Some p) e = absurd (not_blank p.is_sound (sym (ma
 -- nothing is posted of the others
 pub none_there : (scan : ScanValue) (n : ℕ) (b : BoardValue) → HasFirst scan n b → (number : ℕ) → n ≤ number → piece_at b number ≡ None
 none_there scan n b first number le = none scan n b first number le (piece_at b number) refl
-
--- what a part of a list is, behind what is kept before it
-module _ {X : Type 0} (d : X) (a k : ℕ) (xs ys : List X) (inside : a ≤ length xs) where
-  front : (i : ℕ) → i < a + length ys → get_or (put_mid a k xs ys) i d ≡ get_or (take a xs ++ ys) i d
-  front i lt = sym (get_or-take (a + length ys) (put_mid a k xs ys) i d lt) ∙ ap (λ (l : List X). get_or l i d) (take-put_mid a k xs ys (a + length ys) refl inside)
-
-  pub kept_before : (i : ℕ) → i < a → get_or (put_mid a k xs ys) i d ≡ get_or xs i d
-  kept_before i lt = front i (omega (arith, lt)) ∙ get_or_append_left (take a xs) ys d i (omega (arith, lt, length-take-le a xs inside)) ∙ get_or-take a xs i d lt
-
-  pub put_there : (j : ℕ) → j < length ys → get_or (put_mid a k xs ys) (a + j) d ≡ get_or ys j d
-  put_there j lt =
-      let back : a + j - a ≡ j = omega arith in
-      front (a + j) (omega (arith, lt)) ∙ get_or-append_right (take a xs) ys a (a + j) d (length-take-le a xs inside) (omega arith) ∙ ap (λ i. get_or ys i d) back
 
 -- no mark
 pub counts_none : (scan : ScanValue) (n from to : ℕ) (m : Marked) → m.sound ≡ 0 → m.damaged ≡ 0 → from ≡ to → CountsMarks scan n from to m

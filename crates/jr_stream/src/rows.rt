@@ -15,9 +15,10 @@ use crate::mark_bytes::put_mark;
 use crate::marked::Marked;
 use crate::part::Part;
 use crate::shape::{coded_of_row, mcus_at_once, shape_of};
+use jr_block::Coefficients;
 use jr_head::Head;
 use jr_piece::{UnitReader, transform_blocks};
-use jr_scan::{Block, Scan};
+use jr_scan::Scan;
 use std::marker::Model;
 
 /// A scan, of whose first intervals MCU after MCU is read; the others are blank.
@@ -120,7 +121,7 @@ impl<'a> Mcus<'a> {
         &mut self,
         done: u32,
         mcus: u32,
-        blocks: &mut [Block],
+        blocks: &mut [Coefficients],
         marks: &mut [u8],
     ) -> (u32, Marked)
         requires some { done < mcus }
@@ -147,7 +148,7 @@ impl<'a> Mcus<'a> {
     }
 
     /// The blocks of so many MCUs, and the marks of the intervals that end with them, which are put into `marks`, too.
-    fn read(&mut self, mcus: u32, blocks: &mut [Block], marks: &mut [u8]) -> Marked
+    fn read(&mut self, mcus: u32, blocks: &mut [Coefficients], marks: &mut [u8]) -> Marked
         requires few { mcus_read self.old + mcus ≤ mcus_before self.old.scan.head self.old.limit }
         requires room { length blocks.old ≡ mcus * blocks_of self.old.scan.head }
         requires places { HasMarkRoom self.old.scan marks.old }
@@ -179,7 +180,7 @@ impl<'a> Mcus<'a> {
         done: u32,
         some: u32,
         mcus: u32,
-        blocks: &mut [Block],
+        blocks: &mut [Coefficients],
         units: &mut [[u8; 64]],
         marks: &mut [u8],
     ) -> Marked
@@ -212,7 +213,7 @@ impl<'a> Mcus<'a> {
     fn decode(
         &mut self,
         mcus: u32,
-        blocks: &mut [Block],
+        blocks: &mut [Coefficients],
         units: &mut [[u8; 64]],
         marks: &mut [u8],
     ) -> Marked
@@ -243,7 +244,7 @@ impl<'a> Mcus<'a> {
     }
 
     /// Reads so many MCUs and keeps nothing of them. There is room for the blocks of `most` in `blocks`.
-    fn skip(&mut self, mcus: u32, most: u32, blocks: &mut [Block])
+    fn skip(&mut self, mcus: u32, most: u32, blocks: &mut [Coefficients])
         requires some { 0 < most }
         requires few { mcus_read self.old + mcus ≤ mcus_before self.old.scan.head self.old.limit }
         requires room { length blocks.old ≡ most * blocks_of self.old.scan.head }
@@ -323,7 +324,7 @@ impl<'a> Rows<'a> {
 
     /// The rows from this one on, where all intervals are decoded. What stands before it in its interval is read, some MCUs
     /// at a time, by help of `blocks`.
-    pub(crate) fn at(scan: &'a Scan, row: u32, blocks: &mut [Block]) -> Rows<'a>
+    pub(crate) fn at(scan: &'a Scan, row: u32, blocks: &mut [Coefficients]) -> Rows<'a>
         requires row { row < mcus_down scan.now.head }
         requires near { length blocks.old ≡ mcus_at_once scan.now.head * blocks_of scan.now.head }
         ensures { result ≡ record { scan = scan.now; limit = length scan.now.intervals; row = row } }
@@ -353,7 +354,7 @@ impl<'a> Rows<'a> {
 
     /// Reads the next row: its blocks, of which `blocks` keeps those of the decoded MCUs as its first, and the marks of the
     /// intervals that end in it.
-    pub fn read(&mut self, blocks: &mut [Block]) -> Marked
+    pub fn read(&mut self, blocks: &mut [Coefficients]) -> Marked
         requires row { self.old.row < mcus_down self.old.scan.head }
         requires room { length blocks.old ≡ mcus_across self.old.scan.head * blocks_of self.old.scan.head }
         ensures moved { self.new ≡ record self.old { row = self.old.row + 1 } }
@@ -372,7 +373,7 @@ impl<'a> Rows<'a> {
     /// marks of the intervals that end in it, which are put into `marks`, too. Some MCUs at a time are read into `blocks`.
     pub(crate) fn decode(
         &mut self,
-        blocks: &mut [Block],
+        blocks: &mut [Coefficients],
         units: &mut [[u8; 64]],
         marks: &mut [u8],
     ) -> Marked

@@ -13,9 +13,10 @@ use crate::painting::{paint_row, paint_some};
 use crate::rows::Rows;
 use crate::shape::{mcus_at_once, shape_of};
 use jr_base::Memory;
+use jr_block::Coefficients;
 use jr_head::Head;
 use jr_paint::SampleLines;
-use jr_scan::{Block, Scan};
+use jr_scan::Scan;
 use std::alloc::Global;
 use std::marker::Model;
 
@@ -23,7 +24,7 @@ use std::marker::Model;
 /// transformed while they are near.
 #[derive(Drop)]
 pub(crate) struct SampleRow {
-    blocks: Vec<Block>,
+    blocks: Vec<Coefficients>,
     units: Vec<[u8; 64]>,
 }
 
@@ -41,7 +42,7 @@ impl SampleRow {
         ensures { IfOk result (HasSampleRoom head.now) }
     {
         let per_mcu = head.order().len();
-        let blocks = vec![in alloc; [0; 64]; mcus_at_once(head) as usize * per_mcu]?;
+        let blocks = vec![in alloc; Coefficients::zeros(); mcus_at_once(head) as usize * per_mcu]?;
         let units = vec![in alloc; [0; 64]; shape_of(head).across as usize * per_mcu]?;
         Ok(SampleRow { blocks, units })
     }

@@ -10,7 +10,7 @@ use jr_head::Head;
 use jr_paint::{BATCH, bytes_of_line};
 use jr_scan::Scan;
 
-/// How many blocks are read before they are transformed, at most: 16 KB, which stay near.
+/// How many blocks are read before they are transformed, at most: 8 KB, which stay near.
 pub(crate) const BLOCKS_AT_ONCE: usize = 64;
 
 /// What a row of MCUs of a picture has.

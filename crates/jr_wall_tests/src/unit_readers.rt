@@ -2,9 +2,11 @@
 //! pieces, and grey behind their fronts.
 
 use crate::shown::piece;
+use jr_block::Coefficients;
 use jr_piece::{Piece, UnitReader, transform_blocks};
 use jr_scan::{IntervalRef, MOST_UNITS, McuReader, Scan};
 use std::alloc::Global;
+use std::array;
 use std::process::Abort;
 use std::test::Fail;
 use test_files::files::{COLOURED, COLOURED_DAMAGED, MIXED};
@@ -17,7 +19,15 @@ type Row = [[u8; 64]; 30];
 const OLD: u8 = 7;
 
 /// A coefficient that no block of these files has.
-const OLD_COEFFICIENT: i32 = 777;
+const OLD_COEFFICIENT: i16 = 777;
+
+/// A block with such coefficients.
+fn old_block() -> Coefficients {
+    let mut block = Coefficients::zeros();
+    block.set(0, OLD_COEFFICIENT);
+    block.set(63, OLD_COEFFICIENT);
+    block
+}
 
 /// Reads the next MCUs, so many or as many as are left, transforms them, and tells how many data units they have.
 fn fill(reader: &mut UnitReader<'_>, mcus: u32, row: &mut Row) -> Result<usize, Fail> {
@@ -27,7 +37,7 @@ fn fill(reader: &mut UnitReader<'_>, mcus: u32, row: &mut Row) -> Result<usize, 
     if count > row.len() {
         return Err(Fail::from("a long row"));
     }
-    let mut room = [[OLD_COEFFICIENT; 64]; 30];
+    let mut room: [Coefficients; 30] = array::from_fn(|_| old_block());
     let blocks = &mut room[..count];
     reader.read(mcus, blocks);
     transform_blocks(reader.interval().head(), blocks, &mut row[..count]);
@@ -156,7 +166,8 @@ fn is_borrowed(borrowed: IntervalRef<'_>, number: u32, bytes: &[u8]) -> bool {
     let is_of = (borrowed.number(), borrowed.mcus()) == (number, 1);
     let has_bytes = borrowed.bytes() == bytes;
     let mut reader = McuReader::over(borrowed);
-    let has_mcu = reader.read(&mut [[0; 64]; MOST_UNITS]) == 1;
+    let mut room: [Coefficients; MOST_UNITS] = array::from_fn(|_| old_block());
+    let has_mcu = reader.read(&mut room) == 1;
     let is_read = has_mcu == (reader.mcus() == 1) && reader.interval().number() == number;
     is_of && has_bytes && is_read
 }

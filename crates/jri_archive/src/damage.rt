@@ -6,7 +6,9 @@ ghost use Rattle.jr_scan.specs.Run.{whole_run};
 ghost use Rattle.jr_scan.specs.McuReader.{HasRead, HasEnded};
 ghost use Rattle.jri_archive.specs.Damage.{HasDecoding, HasLongestFront};
 
+use jr_block::Coefficients;
 use jr_scan::{IntervalRef, MOST_UNITS, McuReader};
+use std::array;
 
 /// A reader that has read all whole MCUs of an interval, up to its end or to where none follows.
 fn read_all(interval: IntervalRef<'_>) -> McuReader<'_>
@@ -15,7 +17,7 @@ fn read_all(interval: IntervalRef<'_>) -> McuReader<'_>
     ensures ended { HasEnded result }
 {
     let mut reader = McuReader::over(interval);
-    let mut blocks = [[0; 64]; MOST_UNITS];
+    let mut blocks: [Coefficients; MOST_UNITS] = array::from_fn(|_| Coefficients::zeros());
     'mcus: loop {
         if reader.read(&mut blocks) == 0 {
             return reader;

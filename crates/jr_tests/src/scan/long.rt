@@ -1,8 +1,10 @@
 //! Intervals of thousands of MCUs, by each reader, and a scan of thousands of intervals.
 
 use super::{blocks_of, front_of};
+use jr_block::Coefficients;
 use jr_scan::{Block, Interval, MOST_UNITS, McuReader, ScanEnd};
 use std::alloc::Global;
+use std::array;
 use std::process::Abort;
 use std::test::Fail;
 use test_files::files::{THOUSANDS, file};
@@ -20,11 +22,28 @@ fn are_flat(blocks: &[Block], first: i32) -> bool {
     true
 }
 
+/// The same of blocks as a reader gives them.
+fn are_all_flat(blocks: &[Coefficients], first: i32) -> bool {
+    let mut flat = [0; 64];
+    flat[0] = first;
+    for block in blocks {
+        if block.to_zigzag() != flat {
+            return false;
+        }
+    }
+    true
+}
+
+/// Memory for the blocks of an MCU.
+fn room() -> [Coefficients; MOST_UNITS] {
+    array::from_fn(|_| Coefficients::zeros())
+}
+
 /// Whether the blocks of the next MCU are such ones.
 fn is_next(reader: &mut McuReader<'_>, first: i32) -> bool {
     let per_mcu = reader.interval().head().order().len();
-    let mut blocks = [[0; 64]; MOST_UNITS];
-    reader.read(&mut blocks[..per_mcu]) == 1 && are_flat(&blocks[..per_mcu], first)
+    let mut blocks = room();
+    reader.read(&mut blocks[..per_mcu]) == 1 && are_all_flat(&blocks[..per_mcu], first)
 }
 
 /// So many blocks, of so many whole MCUs, and whether they are all of their interval.
@@ -42,7 +61,7 @@ fn check_reader(rt: &impl Abort, interval: &Interval, front: Front) {
     for _ in 0..front.mcus {
         assert!(rt; is_next(&mut reader, front.first));
     }
-    assert!(rt; reader.read(&mut [[0; 64]; MOST_UNITS]) == 0);
+    assert!(rt; reader.read(&mut room()) == 0);
     assert!(rt; (reader.mcus(), reader.is_sound()) == (front.mcus, front.is_sound));
 }
 

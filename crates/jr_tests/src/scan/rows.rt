@@ -1,6 +1,7 @@
 //! Scans worked out by hand.
 
 use super::{blocks_of, front_of};
+use jr_block::Coefficients;
 use jr_scan::{Block, Interval, McuReader, Place, Scan, ScanEnd, interval_count};
 use std::alloc::Global;
 use std::process::Abort;
@@ -285,12 +286,11 @@ fn tells_an_interval_and_its_head(rt: HostRuntime) -> Result<(), Fail> {
 
 /// The first coefficient of the next MCU, which has one data unit.
 fn next(reader: &mut McuReader<'_>) -> Option<i32> {
-    let mut blocks = [[0; 64]];
+    let mut blocks = [Coefficients::zeros()];
     if reader.read(&mut blocks) == 0 {
         return None;
     }
-    let block = blocks[0];
-    Some(block[0])
+    Some(i32::from(blocks[0].first()))
 }
 
 /// The bit and the first prediction of the place behind what was read.

@@ -7,7 +7,7 @@ use Rattle.jr_code.proofs.PairLemmas.{pair_held}
 use Rattle.jr_code.proofs.words.pair.Goals as goal
 
 pub returns : goal.returns
-returns c = λ t w.
+returns c = λ t w _.
     let m = c.args.symbol % 16 in
     let v = c.extend.result in
     let extra = c.args.window / 2 ^ (10 - (c.args.long + c.args.symbol % 16)) in

@@ -1,4 +1,4 @@
-use Rattle.std.proofs.Common.{◌≡◌, ◌∷◌, Bool, List, ℤ, rules, subst, w32}
+use Rattle.std.proofs.Common.{◌≡◌, ◌∷◌, Bool, List, ℤ, rules, subst, w16}
 use mir.Val.{SFits}
 use Rattle.std.proofs.lemmas.Int.{to_z-of_z}
 use Rattle.jr_code.proofs.CodeLemmas.{one_word}
@@ -17,6 +17,6 @@ returns-in_err-read_others-clause-none c =
 pub returns-clause-some : goal.returns-clause-some
 returns-clause-some c =
     let d = c.in_ok-difference.difference in
-    let fits : SFits w32 d = search rules in
+    let fits : SFits w16 d = search rules in
     let t = subst (λ (b : List Bool). TakesDifference c.args.dc.now d b c.read_difference.new.bits) c.again-left.ensures c.in_ok-difference.ensures.some in
-    takes_coded _ _ d _ _ _ _ t (subst (λ (q : ℤ). (others : List ℤ) × (c.read_others.new.block ≡ q ∷ others) × TakesOthers c.args.ac.now others c.read_difference.new.bits c.read_others.new.bits) (to_z-of_z w32 d fits) c.in_ok-read_others.ensures.some)
+    takes_coded _ _ d _ _ _ _ t (subst (λ (q : ℤ). (others : List ℤ) × (c.read_others.new.block ≡ q ∷ others) × TakesOthers c.args.ac.now others c.read_difference.new.bits c.read_others.new.bits) (to_z-of_z w16 d fits) c.in_ok-read_others.ensures.some)

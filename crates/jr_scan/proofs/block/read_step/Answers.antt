@@ -1,9 +1,8 @@
-use Rattle.std.proofs.Common.{ℤ, ◌/◌, ◌%◌, ◌∷◌, ◌++◌, [], refl, replicate, pos, rules, arith, subst, sym, w32}
-use mir.Val.{SFits}
-use Rattle.std.proofs.lemmas.Int.{to_z-of_z}
+use Rattle.std.proofs.Common.{ℤ, ◌/◌, ◌%◌, ◌∷◌, ◌++◌, [], refl, replicate, pos, rules, arith, subst, sym}
 use Rattle.jr_code.proofs.CodeLemmas.{one_word}
 use Rattle.jr_scan.specs.Step.{TakesAcCode}
 use Rattle.jr_scan.proofs.Steps.{word_of, extra_of, takes_sixteen, takes_coef, no_step_extended, no_step_size}
+use Rattle.jr_scan.proofs.Ranges.{extended_fits, cast_is, cast_fits}
 use Rattle.jr_scan.proofs.block.read_step.Goals as goal
 use Rattle.jr_scan.proofs.block.read_step.Goals.{then-size-eq0+else-symbol-eq0+else-symbol, else-size-eq0+else-size-gt-MOST_EXTRA}
 
@@ -21,6 +20,9 @@ returns-then-size-gt-MOST_EXTRA-clause-none c =
     no_step_size _ (one_word _) s (s % 16) _ _ (word_of _ _ _ _ _ c.in_ok-symbol.ensures.found) refl (λ e. c.if-size-eq0.false (omega (arith, e))) (λ e. c.if-size-eq0.false (omega (arith, e)))
     (λ some few. omega (arith, c.if-size-gt-MOST_EXTRA.true, few))
 
+pub overflow_cast-result : goal.overflow_cast-result
+overflow_cast-result c = cast_fits c.in_ok-symbol.v (extended_fits _ _ _ _ _ c.in_ok-symbol.ensures.found)
+
 pub returns-clause-some : goal.returns-clause-some
 returns-clause-some c =
     let s = c.in_ok-symbol.symbol in
@@ -30,5 +32,5 @@ returns-clause-some c =
       | then-size-eq0+else-symbol-eq0+else-symbol w ↦ takes_sixteen _ s v _ _ f (omega (arith, w.if-symbol.false))
       | else-size-eq0+else-size-gt-MOST_EXTRA w ↦ takes_coef _ s (s % 16) v _ _ _ (word_of _ _ _ _ _ f) (omega arith) refl w.if-size-eq0.false w.if-size-gt-MOST_EXTRA.false (extra_of _ _ _ _ _ f)
     ] in
-    let fits : SFits w32 v = search rules in
-    search (rules, subst (λ (v : ℤ). TakesAcCode c.args.ac.now (replicate (s / 16) (pos 0) ++ v ∷ []) c.args.bits.now c.read_extended.new.bits) (sym (to_z-of_z w32 v fits)) t)
+    let is = cast_is v (extended_fits _ _ _ _ _ f) in
+    search (rules, subst (λ (v : ℤ). TakesAcCode c.args.ac.now (replicate (s / 16) (pos 0) ++ v ∷ []) c.args.bits.now c.read_extended.new.bits) (sym is) t)

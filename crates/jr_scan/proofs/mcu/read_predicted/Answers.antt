@@ -1,31 +1,29 @@
-use Rattle.std.proofs.Common.{pos, get_or, arith, refl}
-use Rattle.std.proofs.lemmas.Int.{ints}
+use Rattle.std.proofs.Common.{◌≡◌, ℤ, List, pos, get_or, arith, refl, subst, sym, ap, ◌∙◌, rules, w16, set, ◌+ℤ◌}
+use mir.Val.{SFits, to_z, of_z}
+use Rattle.std.proofs.lemmas.Int.{ints, to_z-of_z}
 use Rattle.jr_code.proofs.CodeLemmas.{one_word}
-use Rattle.jr_scan.proofs.Ranges.{coded_first}
-use Rattle.jr_scan.proofs.Predicted.{takes_block, no_block_coded, no_block_far, sum_fits, sum_is}
+use Rattle.jr_scan.proofs.Predicted.{takes_block, no_block_coded, no_block_far, kept_fits, sum_kept}
 use Rattle.jr_scan.proofs.mcu.read_predicted.Goals as goal
-use Rattle.jr_scan.proofs.mcu.read_predicted.Goals.{then-first-ltminus32768-via-then-first-ltminus32768, then-first-ltminus32768-via-else-first-ltminus32768+then-first-gt32767}
 
 pub returns-in_err-read_block-clause-none : goal.returns-in_err-read_block-clause-none
 returns-in_err-read_block-clause-none c = rw c.from_residual.ensures (no_block_coded _ _ _ _ c.in_err-read_block.ensures.none)
 
-pub overflow_add-first : goal.overflow_add-first
-overflow_add-first c =
-    let w = (coded_first _ _ _ _ _ c.in_ok-read_block.ensures.some).0 in
-    sum_fits c.args.prediction (get_or c.read_block.new.block 0 (pos 0)) c.requires w.0 w.1
-
-pub returns-then-first-ltminus32768-clause-none : goal.returns-then-first-ltminus32768-clause-none
-returns-then-first-ltminus32768-clause-none c =
-    let w = (coded_first _ _ _ _ _ c.in_ok-read_block.ensures.some).0 in
-    let is = sum_is c.args.prediction (get_or c.read_block.new.block 0 (pos 0)) c.requires w.0 w.1 in
-    no_block_far _ _ (one_word _) (one_word _) c.args.prediction _ c.read_block.new.block _ _ c.in_ok-read_block.ensures.some is
-    (λ within. let low = within.0 in let high = within.1 in elim c.then-first-ltminus32768.branch [
-      | then-first-ltminus32768-via-then-first-ltminus32768 w ↦ let lt = w.if-first-ltminus32768.true in omega (arith, ints)
-      | then-first-ltminus32768-via-else-first-ltminus32768+then-first-gt32767 w ↦ let lt = w.if-first-gt32767.true in omega (arith, ints)
-    ])
+pub returns-in_err-first-clause-none : goal.returns-in_err-first-clause-none
+returns-in_err-first-clause-none c =
+    let z = c.read_block.new.block in
+    let p = c.args.prediction in
+    let is = sum_kept p c.first.result (get_or z 0 (pos 0)) (kept_fits p c.requires) (search rules) c.first.ensures in
+    rw c.from_residual-in_err-first.ensures (no_block_far _ _ (one_word _) (one_word _) p _ z _ _ c.in_ok-read_block.ensures.some is c.in_err-first.ensures.none)
 
 pub returns-clause-some : goal.returns-clause-some
 returns-clause-some c =
-    let w = (coded_first _ _ _ _ _ c.in_ok-read_block.ensures.some).0 in
-    let is = sum_is c.args.prediction (get_or c.read_block.new.block 0 (pos 0)) c.requires w.0 w.1 in
-    takes_block _ _ c.args.prediction _ c.read_block.new.block _ _ _ c.in_ok-read_block.ensures.some is (grind (arith, ints), grind (arith, ints)) refl
+    let z = c.read_block.new.block in
+    let p = c.args.prediction in
+    let first = c.in_ok-first.first in
+    let fits : SFits w16 first = search rules in
+    let is = c.in_ok-first.ensures.some ∙ sum_kept p c.first.result (get_or z 0 (pos 0)) (kept_fits p c.requires) (search rules) c.first.ensures in
+    let wrote = c.set.ensures ∙ ap (set z 0) (to_z-of_z w16 first fits) in
+    takes_block _ _ p first z _ _ _ c.in_ok-read_block.ensures.some is (omega (arith, ints, fits), omega (arith, ints, fits)) wrote
+
+pub returns-clause-first : goal.returns-clause-first
+returns-clause-first c = search (rules, c.set.ensures, c.from.ensures)

@@ -8,6 +8,6 @@ use Rattle.jr_code.proofs.book.CodeBook.short_word.Goals as goal
 pub returns : goal.returns
 returns c =
     let r = c.args.register in
-    let window = window_whole 8 c.first_bits.result r.count r.held r.rest.now (omega arith) c.first_bits.ensures.number in
+    let window = window_whole 8 c.first_bits.result r.count r.held r.rest.now (omega arith) (omega arith) c.first_bits.ensures.number in
     rw (← c.self.view_is) (entry_word c.self.inside.table (bits_in c.args.register) c.first_bits.result c.args.register.count (get_or c.self.inside.entries c.first_bits.result None)
-    window (omega arith) (omega (arith, length-held r.count r.held r.rest.now)) (c.self.invariant.0 c.first_bits.result (omega arith)))
+    window (omega arith) (omega (arith, length-held r.count r.held r.rest.now (omega arith))) (c.self.invariant.0 c.first_bits.result (omega arith)))

@@ -1,9 +1,12 @@
-use Rattle.std.proofs.Common.{◌∙◌, ap, arith, refl}
-use Rattle.jr_code.specs.Bits.{bits_of}
-use Rattle.jr_code.proofs.RegisterLemmas.{push_word}
+use Rattle.std.proofs.Common.{◌-◌, ◌/◌, arith, refl}
+use Rattle.jr_code.proofs.RegisterLemmas.{refilled_bits, refilled_clean}
 use Rattle.jr_code.proofs.register.Register.refilled.Goals as goal
+
+pub invariant_of-result-clause-clean : goal.invariant_of-result-clause-clean
+invariant_of-result-clause-clean c =
+    refilled_clean c.args.self.count c.args.self.held c.word.result c.with_words.result (omega arith) c.args.self.clean c.with_words.ensures.one c.with_words.ensures.none
 
 pub returns-clause-same : goal.returns-clause-same
 returns-clause-same c =
-    push_word c.args.self.count c.args.self.held c.from.result c.args.self.rest.now _ (omega arith) (omega arith) refl (omega arith)
-    (ap (λ n. bits_of 32 n) c.from.ensures ∙ c.word.ensures)
+    refilled_bits c.args.self.count c.args.self.held c.word.result ((63 - c.args.self.count) / 32) c.with_words.result c.args.self.rest.now _ (omega arith) c.args.self.clean
+    (omega arith) (omega arith) c.word.ensures refl refl c.with_words.ensures.one c.with_words.ensures.none

@@ -18,7 +18,7 @@ mcus-preserved c =
     let per : per_mcu c.mcus.reader ≡ length c.order-per_mcu.result.now = ap (λ (r : RunOf). length (order_of r.interval.head)) c.mcus.invariant.run ∙ ap (λ (o : List ℕ). length o) (sym (c.order-per_mcu.ensures.value ∙ ap order_of c.head.ensures.value)) in
     let read = c.read-count.ensures.read zs c.mcus.invariant.read in
     let here = subst (λ (k : ℕ). HasRead c.read-count.new.self (zs ++ take (c.read-count.result * k) c.read-count.new.blocks)) per read in
-    let added : c.extend_from_slice.new.self.items ≡ zs ++ take (c.read-count.result * length c.order-per_mcu.result.now) c.read-count.new.blocks = search (rules, c.in_ok-extend_from_slice.ensures.items) in
+    let added : c.push_zigzag.new.blocks.items ≡ zs ++ take (c.read-count.result * length c.order-per_mcu.result.now) c.read-count.new.blocks = search (rules, c.in_ok-push_zigzag.ensures) in
     record {
       run = c.read-count.ensures.run ∙ c.mcus.invariant.run;
       room = search (rules, c.mcus.invariant.room);

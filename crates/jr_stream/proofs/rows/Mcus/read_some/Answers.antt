@@ -12,7 +12,8 @@ use Rattle.jr_stream.specs.RowsValue.{McusValue}
 use Rattle.jr_stream.specs.MarkBytes.{PutsMarks}
 use Rattle.jr_stream.specs.Rows.{GivesBehind, CountsMarks, intervals_before, mcus_before, mcus_read}
 use Rattle.jr_stream.proofs.IntervalPlaces.{ends_before, first_few, of_first}
-use Rattle.jr_stream.proofs.ReadRows.{gives_there, put_there}
+use Rattle.jr_piece.proofs.Parts.{put_there}
+use Rattle.jr_stream.proofs.ReadRows.{gives_there}
 use Rattle.jr_stream.proofs.rows.Mcus.read_some.Goals as goal
 
 pub ready-requires : goal.ready-requires
