@@ -3,11 +3,14 @@
 ghost use Rattle.std.specs.Prelude.{◌≡◌, ℕ, ◌+◌, ◌*◌, ◌<◌, pos, slice_index};
 ghost use Rattle.std.proofs.Math.IntN.{◌*ℤ◌};
 ghost use Rattle.jr_idct.specs.Matrix.{at, IsWithin};
-ghost use Rattle.jr_idct.specs.Transform.{sample, samples};
+ghost use Rattle.jr_idct.specs.Transform.{product_at, sample, samples};
 
+use crate::first_only::flat_block;
 use crate::matrix::dequantised;
+use crate::pair::pair_samples;
+use crate::small::{is_flat, is_small};
 use crate::wide::wide_samples;
-use jr_block::{Coefficients, Quantisers};
+use jr_block::{Coefficients, MOST_PRODUCT, Quantisers};
 
 /// The 64 samples of a block: dequantised, put in natural order, transformed and shifted (T.81, A.3.1,
 /// A.3.3, A.3.4 and A.3.6).
@@ -44,10 +47,28 @@ pub(crate) fn samples_of(block: &Coefficients, quantisers: &Quantisers) -> [u8; 
     wide_samples(&products(block.natural(), quantisers.factors()))
 }
 
+/// The samples of two blocks with small products, at index `8 row + column`.
+#[inline(always)]
+fn small_blocks(a: &Coefficients, b: &Coefficients, quantisers: &Quantisers) -> ([u8; 64], [u8; 64])
+    requires small_a { (n : ℕ) → n < 64 → IsWithin MOST_PRODUCT (product_at a.now quantisers.now n) }
+    requires small_b { (n : ℕ) → n < 64 → IsWithin MOST_PRODUCT (product_at b.now quantisers.now n) }
+    ensures first { result.0 ≡ samples a.now quantisers.now }
+    ensures second { result.1 ≡ samples b.now quantisers.now }
+{
+    pair_samples(a.natural(), b.natural(), quantisers.factors())
+}
+
 /// The samples of a block, at index `8 row + column`: dequantised, transformed and shifted (T.81, A.3.1, A.3.3, A.3.4 and A.3.6).
 pub fn transform_one(block: &Coefficients, quantisers: &Quantisers) -> [u8; 64]
     ensures { result ≡ samples block.now quantisers.now }
 {
+    if is_flat(block) {
+        return flat_block(block, quantisers);
+    }
+    if is_small(block, quantisers) {
+        let (samples, _) = small_blocks(block, block, quantisers);
+        return samples;
+    }
     samples_of(block, quantisers)
 }
 
@@ -62,6 +83,13 @@ pub fn transform_two(
     ensures first { first.new ≡ samples a.now quantisers.now }
     ensures second { second.new ≡ samples b.now quantisers.now }
 {
-    *first = samples_of(a, quantisers);
-    *second = samples_of(b, quantisers);
+    if is_flat(a) && is_flat(b) {
+        *first = flat_block(a, quantisers);
+        *second = flat_block(b, quantisers);
+    } else if is_small(a, quantisers) && is_small(b, quantisers) {
+        (*first, *second) = small_blocks(a, b, quantisers);
+    } else {
+        *first = samples_of(a, quantisers);
+        *second = samples_of(b, quantisers);
+    }
 }

@@ -7,9 +7,15 @@
 
 mod block;
 mod butterfly;
+mod first_only;
+mod lanes;
 mod laws;
 mod matrix;
 mod number;
+mod pair;
+mod pass;
+mod small;
+mod turned;
 mod wide;
 
 pub use block::{transform, transform_one, transform_two};

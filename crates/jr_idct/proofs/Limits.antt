@@ -1,0 +1,54 @@
+-- Coefficients within limits.
+use Rattle.std.proofs.Common.{◌≡◌, ℕ, zero, suc, ◌+◌, ◌*◌, ◌<◌, ◌≤◌, ℤ, pos, List, [], ◌∷◌, map, refl, arith, ap, sym, ◌∙◌, replicate, get_or}
+use Rattle.std.proofs.Math.IntN.{◌*ℤ◌}
+use Rattle.std.proofs.lemmas.Int.{ints, unsigned_abs-mul}
+use Rattle.std.proofs.lemmas.List.{get_or-map, get_or-replicate}
+use Rattle.std.proofs.lemmas.Nat.{mul-le}
+use Rattle.std.specs.Prelude.{slice_index, unsigned_abs}
+use Rattle.jr_block.specs.Blocks.{AreFactors, AreLimits}
+use Rattle.jr_block.specs.Zigzag.{natural_index, places, zigzag_place}
+use Rattle.jr_block.proofs.Orders.{place_of_natural, natural_below}
+use Rattle.jr_idct.specs.Matrix.{at, IsWithin}
+use Rattle.jr_idct.proofs.Tables.{zigzag_place_0}
+
+-- the product of a coefficient that is within its limit
+limited : (z : ℤ) (l f : ℕ) → unsigned_abs z ≤ l → l * f ≤ 1096 → IsWithin 1096 (z *ℤ pos f)
+limited z l f a b =
+    let p : unsigned_abs (z *ℤ pos f) ≤ l * f = rw (unsigned_abs-mul z (pos f)) (mul-le (unsigned_abs z) f l f a (omega arith)) in
+    (omega (arith, ints, p, b), omega (arith, ints, p, b))
+
+-- a table's elements in natural order
+factors_of : List ℕ → List ℕ
+factors_of q = map (slice_index q) places
+
+are_factors : (q : List ℕ) → AreFactors q (factors_of q)
+unfolding zigzag_place factors_of
+are_factors q n h = get_or-map (slice_index q) places n 0 0 h
+
+pub small_products : (z q : List ℤ) (elements limits : List ℕ) → ((n : ℕ) → n < 64 → at q n ≡ at z (zigzag_place n)) → ((factors : List ℕ) → AreFactors elements factors → AreLimits factors limits)
+    → ((n : ℕ) → n < 64 → unsigned_abs (at q n) ≤ slice_index limits n) → (n : ℕ) → n < 64 → IsWithin 1096 (at z (zigzag_place n) *ℤ pos (slice_index elements (zigzag_place n)))
+small_products z natural elements limits is_natural are_limits within n h =
+    rw (sym (is_natural n h), sym (are_factors elements n h))
+    (limited (at natural n) (slice_index limits n) (slice_index (factors_of elements) n) (within n h) (are_limits (factors_of elements) (are_factors elements) n h))
+
+none : (z : ℤ) → unsigned_abs z ≤ 0 → z ≡ pos 0
+none z h = omega (arith, ints, h)
+
+no_limit_behind : (n : ℕ) → 0 < n → n < 64 → slice_index (65535 ∷ replicate 63 0) n ≡ 0
+no_limit_behind zero p h = absurd (omega (arith, p))
+no_limit_behind (suc n) p h = get_or-replicate 63 n 0 0 (omega (arith, h))
+
+-- where all coefficients but the first have limit 0
+pub only_first : (z natural : List ℤ) → ((n : ℕ) → n < 64 → at natural n ≡ at z (zigzag_place n)) → ((n : ℕ) → n < 64 → unsigned_abs (at natural n) ≤ slice_index (65535 ∷ replicate 63 0) n)
+    → (k : ℕ) → 0 < k → k < 64 → at z k ≡ pos 0
+only_first z natural is_natural within k p h =
+    let n = natural_index k in
+    let below = natural_below k h in
+    let place = place_of_natural k h in
+    let some : 0 < n = positive n place in
+    let e : at natural n ≡ pos 0 = none (at natural n) (let w = within n below in let l = no_limit_behind n some below in omega (arith, w, l)) in
+    sym (is_natural n below ∙ ap (at z) place) ∙ e
+  where
+    positive : (n : ℕ) → zigzag_place n ≡ k → 0 < n
+    positive zero e = absurd (let f = zigzag_place_0 in omega (arith, p, e, f))
+    positive (suc n) e = omega arith

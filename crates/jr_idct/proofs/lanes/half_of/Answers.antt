@@ -1,0 +1,20 @@
+use Rattle.std.proofs.Common.{◌≡◌, ℕ, ◌+◌, ◌*◌, ◌<◌, ◌++◌, ℤ, List, map, lit<, true, false, w16, to_z, of_z, get_or}
+use Rattle.jr_idct.specs.Lanes.{half_lane}
+use Rattle.jr_idct.specs.Matrix.{at}
+use Rattle.jr_idct.proofs.Passes.{below_eight}
+use Rattle.jr_idct.proofs.Vectors.{Lanes, joined, lanes_given, lanes_join, read_lane}
+use Rattle.jr_idct.proofs.lanes.half_of.Goals as goal
+
+pub returns-then-upper : goal.returns-then-upper
+returns-then-upper c =
+    let v = lanes_join w16 16 16 _ _ (at c.args.a) (at c.args.a) (lanes_given w16 16 c.args.a _ c.well_formed.0) (lanes_given w16 16 c.args.a _ c.well_formed.0) in
+    let read : (k : ℕ) → k < 32 → to_z w16 (get_or (map (of_z w16) c.args.a ++ map (of_z w16) c.args.a) k 0) ≡ joined 16 (at c.args.a) (at c.args.a) k = read_lane w16 32 _ _ v in
+    rw c.if-upper.true
+    (below_eight _ (read 4 (lit< tt)) (read 5 (lit< tt)) (read 6 (lit< tt)) (read 7 (lit< tt)) (read 12 (lit< tt)) (read 13 (lit< tt)) (read 14 (lit< tt)) (read 15 (lit< tt)))
+
+pub returns : goal.returns
+returns c =
+    let v = lanes_join w16 16 16 _ _ (at c.args.a) (at c.args.a) (lanes_given w16 16 c.args.a _ c.well_formed.0) (lanes_given w16 16 c.args.a _ c.well_formed.0) in
+    let read : (k : ℕ) → k < 32 → to_z w16 (get_or (map (of_z w16) c.args.a ++ map (of_z w16) c.args.a) k 0) ≡ joined 16 (at c.args.a) (at c.args.a) k = read_lane w16 32 _ _ v in
+    rw c.if-upper.false
+    (below_eight _ (read 0 (lit< tt)) (read 1 (lit< tt)) (read 2 (lit< tt)) (read 3 (lit< tt)) (read 8 (lit< tt)) (read 9 (lit< tt)) (read 10 (lit< tt)) (read 11 (lit< tt)))

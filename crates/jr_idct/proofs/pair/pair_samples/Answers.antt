@@ -1,0 +1,33 @@
+use Rattle.std.proofs.Common.{◌≡◌, ℕ, ◌+◌, ◌-◌, ◌*◌, ◌/◌, ◌%◌, ◌<◌, pos, ◌+ℤ◌, ℤ, inl, inr, [], ◌∷◌, slice_index, arith, subst, ap, sym, ◌∙◌}
+use Rattle.std.proofs.Math.IntN.{◌*ℤ◌}
+use Rattle.std.proofs.lemmas.Bool.{cases_lt}
+use Rattle.jr_idct.specs.Lanes.{lane}
+use Rattle.jr_idct.specs.Matrix.{at, IsWithin}
+use Rattle.jr_idct.specs.Transform.{byte_of}
+use Rattle.jr_idct.proofs.pair.pair_samples.Goals as goal
+
+pub rows_of-x-requires : goal.rows_of-x-requires
+rows_of-x-requires c = record {
+  small_a = λ n h. rw (c.small_products-products_a.ensures n h) (c.requires.small_a n h);
+  small_b = λ n h. rw (c.small_products-products_b.ensures n h) (c.requires.small_b n h);
+}
+
+pub values-t-requires : goal.values-t-requires
+values-t-requires c k p h g =
+    elim (cases_lt p 8) [
+      | inl l ↦ rw (c.rows_of-x.ensures.first k p h l ∙ c.small_products-products_a.ensures (8 * k + p) (omega (arith, h, l))) (c.requires.small_a (8 * k + p) (omega (arith, h, l)))
+      | inr o ↦
+          let e : 8 + (p - 8) ≡ p = omega (arith, o) in
+          subst (λ p. IsWithin 1096 (lane (c.rows_of-x.result.0 ∷ c.rows_of-x.result.1 ∷ c.rows_of-x.result.2 ∷ c.rows_of-x.result.3 ∷ c.rows_of-x.result.4 ∷ c.rows_of-x.result.5 ∷ c.rows_of-x.result.6 ∷ c.rows_of-x.result.7 ∷ []) k p)) e
+          (rw (c.rows_of-x.ensures.second k (p - 8) h (omega (arith, o, g)) ∙ c.small_products-products_b.ensures (8 * k + (p - 8)) (omega (arith, h, o, g))) (c.requires.small_b (8 * k + (p - 8)) (omega (arith, h, o, g))))
+    ]
+
+pub returns-clause-first : goal.returns-clause-first
+returns-clause-first c r k h g =
+    c.samples_of.ensures.first r k h g
+    ∙ ap byte_of (c.values-t.ensures.first (λ n. at c.args.a.now n *ℤ pos (slice_index c.args.factors.now n)) (λ j i b d. c.rows_of-x.ensures.first j i b d ∙ c.small_products-products_a.ensures (8 * j + i) (omega (arith, b, d))) r k h g)
+
+pub returns-clause-second : goal.returns-clause-second
+returns-clause-second c r k h g =
+    c.samples_of.ensures.second r k h g
+    ∙ ap byte_of (c.values-t.ensures.second (λ n. at c.args.b.now n *ℤ pos (slice_index c.args.factors.now n)) (λ j i b d. c.rows_of-x.ensures.second j i b d ∙ c.small_products-products_b.ensures (8 * j + i) (omega (arith, b, d))) r k h g)

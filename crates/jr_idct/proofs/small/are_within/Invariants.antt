@@ -1,0 +1,7 @@
+use Rattle.std.proofs.Common.{ℕ, ◌<◌, ◌≤◌, IsTrue, ◌↔◌, slice_index}
+use Rattle.std.specs.Prelude.{unsigned_abs}
+use Rattle.jr_idct.specs.Matrix.{at}
+use Rattle.jr_idct.proofs.small.are_within.Given as goal
+
+abbrev pub invariant-loop-n : goal.invariant-loop-n
+invariant-loop-n l = IsTrue l.within ↔ ((j : ℕ) → j < l.n → unsigned_abs (at l.natural j) ≤ slice_index l.limits j)

@@ -1,0 +1,30 @@
+-- Lanes of vectors that hold a row of each of two blocks: eight numbers of the first, then eight of the second.
+use Rattle.std.specs.Prelude.{ℕ, ◌+◌, ◌-◌, ◌*◌, ◌/◌, ◌^◌, ◌<◌, Bool, cond, ℤ, ◌+ℤ◌, ◌-ℤ◌, List, [], ◌∷◌, slice_index_or}
+use Rattle.jr_idct.specs.Matrix.{at, floor_div, IsWithin}
+
+-- which of the sixteen lanes is lane j of a half of them: of the lower halves of both rows, or of the upper ones
+abbrev pub half_lane : Bool → ℕ → ℕ
+half_lane upper j = j + 4 * (j / 4) + cond upper 4 0
+
+-- lane p of row i
+abbrev pub lane : List (List ℤ) → ℕ → ℕ → ℤ
+lane rows i p = at (slice_index_or rows i []) p
+
+-- z fits in 32 bits, and without its last bits in 16
+abbrev pub IsShort : ℕ → ℤ → Type 0
+IsShort bits z = IsWithin (2 ^ 31 - 1) z × IsWithin 32767 (floor_div z (2 ^ bits))
+
+-- of even and odd parts in eight lanes, the sums and the differences are short
+abbrev pub AreShort : ℕ → (even odd : List ℤ) → Type 0
+AreShort bits even odd = (j : ℕ) → j < 8 → IsShort bits (at even j +ℤ at odd j) × IsShort bits (at even j -ℤ at odd j)
+
+-- of two vectors of sixteen lanes, which lanes are taken by turns from the lower or from the upper parts of both halves:
+-- one at a time, two, or four
+abbrev pub words : Bool → List ℕ
+words upper = cond upper (4 ∷ 20 ∷ 5 ∷ 21 ∷ 6 ∷ 22 ∷ 7 ∷ 23 ∷ 12 ∷ 28 ∷ 13 ∷ 29 ∷ 14 ∷ 30 ∷ 15 ∷ 31 ∷ []) (0 ∷ 16 ∷ 1 ∷ 17 ∷ 2 ∷ 18 ∷ 3 ∷ 19 ∷ 8 ∷ 24 ∷ 9 ∷ 25 ∷ 10 ∷ 26 ∷ 11 ∷ 27 ∷ [])
+
+abbrev pub doubles : Bool → List ℕ
+doubles upper = cond upper (4 ∷ 5 ∷ 20 ∷ 21 ∷ 6 ∷ 7 ∷ 22 ∷ 23 ∷ 12 ∷ 13 ∷ 28 ∷ 29 ∷ 14 ∷ 15 ∷ 30 ∷ 31 ∷ []) (0 ∷ 1 ∷ 16 ∷ 17 ∷ 2 ∷ 3 ∷ 18 ∷ 19 ∷ 8 ∷ 9 ∷ 24 ∷ 25 ∷ 10 ∷ 11 ∷ 26 ∷ 27 ∷ [])
+
+abbrev pub quads : Bool → List ℕ
+quads upper = cond upper (4 ∷ 5 ∷ 6 ∷ 7 ∷ 20 ∷ 21 ∷ 22 ∷ 23 ∷ 12 ∷ 13 ∷ 14 ∷ 15 ∷ 28 ∷ 29 ∷ 30 ∷ 31 ∷ []) (0 ∷ 1 ∷ 2 ∷ 3 ∷ 16 ∷ 17 ∷ 18 ∷ 19 ∷ 8 ∷ 9 ∷ 10 ∷ 11 ∷ 24 ∷ 25 ∷ 26 ∷ 27 ∷ [])

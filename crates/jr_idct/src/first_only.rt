@@ -1,0 +1,26 @@
+//! Blocks that are only their first coefficient.
+
+ghost use Rattle.std.specs.Prelude.{◌≡◌, ◌<◌, ◌*◌, ◌+ℤ◌, ℕ, pos, slice_index};
+ghost use Rattle.jr_idct.specs.Matrix.{at, floor_div, IsWithin};
+ghost use Rattle.jr_idct.specs.Transform.{byte_of, samples};
+
+use crate::number::Number;
+use jr_block::{Coefficients, Quantisers};
+
+/// The samples of a block that is only its first coefficient, given its product: all are equal.
+#[inline(always)]
+fn flat_samples(product: i64) -> [u8; 64]
+    requires { IsWithin (32768 * 65535) product }
+    ensures { (n : ℕ) → n < 64 → slice_index result n ≡ byte_of (floor_div (product +ℤ pos 4) 8 +ℤ pos 128) }
+{
+    [((product + 4) >> 3).clamped(); 64]
+}
+
+/// The samples of such a block.
+#[inline(always)]
+pub(crate) fn flat_block(block: &Coefficients, quantisers: &Quantisers) -> [u8; 64]
+    requires { (k : ℕ) → 0 < k → k < 64 → at block.now k ≡ pos 0 }
+    ensures { result ≡ samples block.now quantisers.now }
+{
+    flat_samples(i64::from(block.first()) * i64::from(quantisers.factors()[0]))
+}
