@@ -1,12 +1,12 @@
 -- Lanes of 16 bits held between 0 and 255, as bytes.
-use Rattle.std.proofs.Common.{◌≡◌, ℕ, ◌+◌, ◌-◌, ◌*◌, ◌/◌, ◌%◌, ◌<◌, ◌++◌, ℤ, pos, negsuc, min, cond, inl, inr, List, [], ◌∷◌, map, get_or, length, refl, arith, lit<, subst, sym, ◌∙◌, ap, w8, w16, to_z, of_z, Fits, T}
+use Rattle.std.proofs.Common.{◌≡◌, ℕ, ◌+◌, ◌-◌, ◌*◌, ◌/◌, ◌%◌, ◌<◌, ◌++◌, ℤ, pos, negsuc, min, cond, inl, inr, List, [], ◌∷◌, map, get_or, length, refl, arith, subst, ◌∙◌, ap, w8, w16, to_z, of_z, Fits, T}
 use mir.Val.{Val}
 use denote.Array.{in_array}
 use denote.Shadow.{shadow}
 use denote.Signed.{SInt}
 use Rattle.std.proofs.lemmas.Bool.{cases_lt, lt-ltb, le-ltb}
 use Rattle.std.proofs.lemmas.Int.{ints}
-use Rattle.std.proofs.lemmas.List.{get_or-map, length-map}
+use Rattle.std.proofs.lemmas.List.{get_or-map}
 use Rattle.std.proofs.lemmas.Simd.{Each1-from_get_or}
 use Rattle.std.specs.Int.Signed.{lt_z, non_neg}
 use Rattle.std.specs.Prelude.{unsigned_abs}

@@ -1,9 +1,8 @@
 -- Two passes in lanes, each with rows and columns exchanged behind it.
-use Rattle.std.proofs.Common.{◌≡◌, ℕ, ◌+◌, ◌-◌, ◌*◌, ◌/◌, ◌%◌, ◌^◌, ◌<◌, pos, ◌+ℤ◌, ℤ, List, [], ◌∷◌, arith, lit<, ap, sym, ◌∙◌}
-use Rattle.std.proofs.Math.IntN.{◌*ℤ◌}
+use Rattle.std.proofs.Common.{◌≡◌, ℕ, ◌+◌, ◌*◌, ◌/◌, ◌%◌, ◌^◌, ◌<◌, pos, ◌+ℤ◌, ℤ, List, arith, ap, sym, ◌∙◌}
 use Rattle.std.proofs.lemmas.Int.{ints}
 use Rattle.jr_idct.specs.Lanes.{lane, IsShort}
-use Rattle.jr_idct.specs.Matrix.{at, floor_div, pass, row_sum, IsWithin}
+use Rattle.jr_idct.specs.Matrix.{floor_div, pass, row_sum, IsWithin}
 use Rattle.jr_idct.specs.Transform.{column_pass}
 use Rattle.jr_idct.proofs.FloorLaws.{floor_below, floor_above, floor_is}
 use Rattle.jr_idct.proofs.Passes.{pass_same, row_sum_within, shr_within_2048, shr_within_262144, sum_same}

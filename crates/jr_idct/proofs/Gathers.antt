@@ -1,5 +1,5 @@
 -- Bytes of two blocks, each gathered.
-use Rattle.std.proofs.Common.{◌≡◌, ℕ, zero, suc, ◌+◌, ◌-◌, ◌*◌, ◌/◌, ◌%◌, ◌<◌, ◌++◌, Bool, true, false, cond, inl, inr, List, [], ◌∷◌, length, get_or, refl, arith, lit<, subst, sym, ◌∙◌, ap, ap₂}
+use Rattle.std.proofs.Common.{◌≡◌, ℕ, zero, suc, ◌+◌, ◌-◌, ◌/◌, ◌%◌, ◌<◌, ◌++◌, Bool, true, false, cond, inl, inr, List, [], ◌∷◌, length, get_or, refl, arith, subst, sym, ◌∙◌, ap, ap₂}
 use Rattle.std.specs.List.{range_with_len}
 use Rattle.std.specs.Prelude.{slice_index, slice_index_or}
 use Rattle.std.specs.Simd.Lanes.{pick_l}

@@ -1,5 +1,5 @@
 -- Sums and differences of vectors of eight lanes of 32 bits.
-use Rattle.std.proofs.Common.{◌≡◌, ℕ, ◌+◌, ◌-◌, ◌*◌, ◌/◌, ◌%◌, ◌^◌, ◌<◌, ◌+ℤ◌, ◌-ℤ◌, ℤ, Bool, true, false, List, map, replicate, subst, sym, arith, w16, w32, to_z, of_z, FitsSigned}
+use Rattle.std.proofs.Common.{◌≡◌, ℕ, ◌+◌, ◌-◌, ◌%◌, ◌^◌, ◌<◌, ◌+ℤ◌, ◌-ℤ◌, ℤ, Bool, true, false, List, map, replicate, subst, sym, arith, w16, w32, to_z, of_z, FitsSigned}
 use mir.Val.{Val}
 use denote.Array.{in_array}
 use denote.Shadow.{shadow}

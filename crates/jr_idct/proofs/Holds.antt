@@ -1,5 +1,5 @@
 -- What the bits of a lane hold, read as a signed number, through the operations on lanes.
-use Rattle.std.proofs.Common.{◌≡◌, ℕ, ◌+◌, ◌-◌, ◌*◌, ◌%◌, ◌^◌, ◌<◌, ℤ, pos, ◌+ℤ◌, ◌-ℤ◌, arith, ap, sym, ◌∙◌, w16, w32, to_z, of_z, FitsSigned}
+use Rattle.std.proofs.Common.{◌≡◌, ℕ, ◌+◌, ◌-◌, ◌*◌, ◌%◌, ◌^◌, ◌<◌, ℤ, ◌+ℤ◌, ◌-ℤ◌, arith, sym, ◌∙◌, w16, w32, to_z, of_z, FitsSigned}
 use mir.Syntax.{Width}
 use mir.Val.{bits}
 use Rattle.std.proofs.Math.IntN.{◌*ℤ◌}

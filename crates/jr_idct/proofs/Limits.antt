@@ -1,5 +1,5 @@
 -- Coefficients within limits.
-use Rattle.std.proofs.Common.{◌≡◌, ℕ, zero, suc, ◌+◌, ◌*◌, ◌<◌, ◌≤◌, ℤ, pos, List, [], ◌∷◌, map, refl, arith, ap, sym, ◌∙◌, replicate, get_or}
+use Rattle.std.proofs.Common.{◌≡◌, ℕ, zero, suc, ◌*◌, ◌<◌, ◌≤◌, ℤ, pos, List, ◌∷◌, map, arith, ap, sym, ◌∙◌, replicate}
 use Rattle.std.proofs.Math.IntN.{◌*ℤ◌}
 use Rattle.std.proofs.lemmas.Int.{ints, unsigned_abs-mul}
 use Rattle.std.proofs.lemmas.List.{get_or-map, get_or-replicate}

@@ -1,5 +1,5 @@
 -- A lane that fits in 16 bits is not changed where it is held between the ends of their range.
-use Rattle.std.proofs.Common.{◌≡◌, ℕ, ◌<◌, ◌≤◌, ◌*◌, ◌+◌, ◌++◌, ℤ, pos, negsuc, cond, Bool, true, false, inl, inr, List, [], ◌∷◌, map, get_or, length, refl, arith, lit<, subst, sym, ◌∙◌, ap, w16, w32, to_z, of_z, FitsSigned}
+use Rattle.std.proofs.Common.{◌≡◌, ℕ, ◌<◌, ◌++◌, ℤ, pos, negsuc, cond, true, false, inl, inr, List, [], ◌∷◌, map, get_or, refl, arith, lit<, ◌∙◌, w16, w32, to_z, of_z, FitsSigned}
 use mir.Val.{Val, SFits}
 use denote.Array.{in_array}
 use denote.Shadow.{shadow}
@@ -11,7 +11,7 @@ use Rattle.std.specs.Int.Signed.{lt_z}
 use Rattle.std.specs.Simd.Lanes.{top, pick_l, Each1}
 use Rattle.jr_idct.specs.Lanes.{half_lane}
 use Rattle.jr_idct.specs.Matrix.{IsWithin, at}
-use Rattle.jr_idct.proofs.Holds.{Holds, holds_given, holds_fits}
+use Rattle.jr_idct.proofs.Holds.{Holds, holds_given}
 use Rattle.jr_idct.proofs.PairSums.{below_sixteen}
 use Rattle.jr_idct.proofs.Passes.{below_eight}
 use Rattle.jr_idct.proofs.Vectors.{Lanes, joined, lanes_given, lanes_join, lanes_pick, lanes_map, lanes_read}

@@ -1,5 +1,5 @@
 -- Products with two constants by turns, summed in pairs.
-use Rattle.std.proofs.Common.{◌≡◌, ℕ, ◌+◌, ◌-◌, ◌*◌, ◌%◌, ◌^◌, ◌<◌, ◌++◌, subst, inl, inr, get_or, ◌+ℤ◌, ℤ, Bool, cond, nat_eq, List, [], ◌∷◌, map, refl, arith, ap₂, ◌∙◌, w16, w32, to_z, of_z, FitsSigned, lit<}
+use Rattle.std.proofs.Common.{◌≡◌, ℕ, ◌+◌, ◌-◌, ◌*◌, ◌%◌, ◌^◌, ◌<◌, ◌++◌, subst, inl, inr, get_or, ◌+ℤ◌, ℤ, cond, nat_eq, List, [], ◌∷◌, map, refl, arith, ◌∙◌, w16, w32, to_z, of_z, FitsSigned, lit<}
 use mir.Val.{Val}
 use denote.Array.{in_array}
 use denote.Shadow.{shadow}

@@ -1,8 +1,8 @@
 -- Entries of a pass from their even and odd parts, a lane at a time.
-use Rattle.std.proofs.Common.{◌≡◌, ℕ, ◌+◌, ◌-◌, ◌*◌, ◌/◌, ◌^◌, ◌<◌, ◌+ℤ◌, ◌-ℤ◌, ℤ, Bool, true, false, List, [], ◌∷◌, arith, lit<, ap, ◌∙◌}
+use Rattle.std.proofs.Common.{◌≡◌, ℕ, ◌-◌, ◌<◌, ◌+ℤ◌, ◌-ℤ◌, ℤ, Bool, true, false, List, [], ◌∷◌, arith, lit<}
 use Rattle.std.proofs.lemmas.Int.{ints}
 use Rattle.jr_idct.specs.Lanes.{half_lane, lane, AreShort, IsShort}
-use Rattle.jr_idct.specs.Matrix.{at, even_sum, floor_div, odd_sum, row_sum}
+use Rattle.jr_idct.specs.Matrix.{at, even_sum, odd_sum, row_sum}
 use Rattle.jr_idct.proofs.Halves.{half_lane_below}
 use Rattle.jr_idct.proofs.PairSums.{below_sixteen}
 use Rattle.jr_idct.proofs.Passes.{sum_is_row, difference_is_row}

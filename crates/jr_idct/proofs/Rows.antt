@@ -1,5 +1,5 @@
 -- Samples of a block from bytes of two rows of both.
-use Rattle.std.proofs.Common.{◌≡◌, ℕ, zero, suc, ◌+◌, ◌*◌, ◌/◌, ◌%◌, ◌<◌, ℤ, Bool, true, false, cond, List, [], ◌∷◌, refl, arith, ap, sym, ◌∙◌}
+use Rattle.std.proofs.Common.{◌≡◌, ℕ, zero, suc, ◌+◌, ◌*◌, ◌/◌, ◌%◌, ◌<◌, ℤ, Bool, true, false, cond, List, [], ◌∷◌, refl, arith, ap, ◌∙◌}
 use Rattle.std.specs.Prelude.{slice_index, slice_index_or}
 use Rattle.jr_idct.specs.Lanes.{lane}
 use Rattle.jr_idct.specs.Transform.{byte_of}

@@ -1,4 +1,4 @@
-use Rattle.std.proofs.Common.{arith, refl, sym, pos, slice_index, ◌∙◌}
+use Rattle.std.proofs.Common.{arith, refl, pos, slice_index, ◌∙◌}
 use Rattle.std.proofs.Math.IntN.{◌*ℤ◌}
 use Rattle.jr_idct.specs.Matrix.{at}
 use Rattle.jr_idct.specs.Transform.{product_at}

@@ -1,7 +1,7 @@
 use Rattle.std.proofs.Common.{arith, rules, ap, ap₂, ◌≡◌, ◌<◌, ◌∙◌, ◌+◌, ◌*◌, pos, ◌+ℤ◌, slice_index, w16, w32, FitsSigned}
 use Rattle.std.proofs.Math.IntN.{◌*ℤ◌}
 use Rattle.std.proofs.lemmas.Int.{ints}
-use Rattle.jr_idct.specs.Matrix.{at, floor_div}
+use Rattle.jr_idct.specs.Matrix.{floor_div}
 use Rattle.jr_idct.specs.Transform.{byte_of}
 use Rattle.jr_idct.proofs.Flat.{flat_is}
 use Rattle.jr_idct.proofs.Tables.{product_stored, zigzag_place_0}

@@ -1,4 +1,4 @@
-use Rattle.std.proofs.Common.{◌≡◌, ◌∙◌, ap, ap₂, ◌+ℤ◌, w16}
+use Rattle.std.proofs.Common.{◌∙◌, ap, ap₂, ◌+ℤ◌, w16}
 use Rattle.std.proofs.Math.IntN.{◌*ℤ◌}
 use Rattle.jr_idct.specs.Lanes.{half_lane}
 use Rattle.jr_idct.specs.Matrix.{at}

@@ -1,8 +1,7 @@
-use Rattle.std.proofs.Common.{◌≡◌, ℕ, ◌+◌, ◌*◌, ◌<◌, ◌++◌, ℤ, List, map, lit<, true, false, w16, to_z, of_z, get_or}
-use Rattle.jr_idct.specs.Lanes.{half_lane}
+use Rattle.std.proofs.Common.{◌≡◌, ℕ, ◌<◌, ◌++◌, map, lit<, w16, to_z, of_z, get_or}
 use Rattle.jr_idct.specs.Matrix.{at}
 use Rattle.jr_idct.proofs.Passes.{below_eight}
-use Rattle.jr_idct.proofs.Vectors.{Lanes, joined, lanes_given, lanes_join, read_lane}
+use Rattle.jr_idct.proofs.Vectors.{joined, lanes_given, lanes_join, read_lane}
 use Rattle.jr_idct.proofs.lanes.paired.Goals as goal
 
 pub returns-then-upper-clause-first : goal.returns-then-upper-clause-first

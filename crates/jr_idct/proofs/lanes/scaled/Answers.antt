@@ -1,4 +1,4 @@
-use Rattle.std.proofs.Common.{◌≡◌, ◌∙◌, ap, pos, arith, w16, w32, FitsSigned, to_z}
+use Rattle.std.proofs.Common.{◌∙◌, ap, pos, arith, w16, w32}
 use Rattle.std.proofs.Math.IntN.{◌*ℤ◌}
 use Rattle.std.proofs.lemmas.Int.{ints}
 use Rattle.jr_idct.specs.Lanes.{half_lane}

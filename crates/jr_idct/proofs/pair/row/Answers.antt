@@ -1,4 +1,4 @@
-use Rattle.std.proofs.Common.{◌≡◌, ℕ, ◌+◌, ◌<◌, ◌∙◌, refl, arith, List, [], ◌∷◌, get_or, w16}
+use Rattle.std.proofs.Common.{◌≡◌, ℕ, ◌+◌, ◌∙◌, refl, arith, List, [], ◌∷◌, get_or, w16}
 use Rattle.jr_idct.specs.Matrix.{at}
 use Rattle.jr_idct.proofs.Passes.{below_eight}
 use Rattle.jr_idct.proofs.Vectors.{joined, lanes_given, lanes_join, lanes_pick, lanes_read}

@@ -1,4 +1,4 @@
-use Rattle.std.proofs.Common.{◌≡◌, ℕ, ◌+◌, ◌*◌, ◌<◌, List, [], ◌∷◌, w16}
+use Rattle.std.proofs.Common.{◌≡◌, ℕ, ◌+◌, ◌*◌, ◌<◌, [], ◌∷◌, w16}
 use Rattle.jr_idct.specs.Lanes.{lane}
 use Rattle.jr_idct.specs.Matrix.{at}
 use Rattle.jr_idct.proofs.Passes.{below_eight}

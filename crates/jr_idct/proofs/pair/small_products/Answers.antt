@@ -1,4 +1,4 @@
-use Rattle.std.proofs.Common.{arith, rules, ap, ℕ, ◌≡◌, ◌<◌, ◌∙◌, length, pos, slice_index, w16, FitsSigned}
+use Rattle.std.proofs.Common.{arith, rules, ap, ℕ, ◌<◌, ◌∙◌, length, pos, slice_index, w16, FitsSigned}
 use Rattle.std.proofs.Math.IntN.{◌*ℤ◌}
 use Rattle.std.proofs.Math.ListN.{length-set}
 use Rattle.std.proofs.lemmas.Int.{to_z-of_z}

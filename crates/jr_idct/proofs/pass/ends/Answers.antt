@@ -1,5 +1,5 @@
 use Rattle.std.proofs.Common.{◌≡◌, ℕ, ◌^◌, ◌<◌, ◌+ℤ◌, ◌-ℤ◌, ap, ap₂, ◌∙◌, w16, w32}
-use Rattle.jr_idct.specs.Matrix.{at, floor_div, IsWithin}
+use Rattle.jr_idct.specs.Matrix.{at, floor_div}
 use Rattle.jr_idct.proofs.Vectors.{unchanged}
 use Rattle.jr_idct.proofs.pass.ends.Goals as goal
 

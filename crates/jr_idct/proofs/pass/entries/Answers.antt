@@ -1,6 +1,6 @@
 use Rattle.std.proofs.Common.{◌≡◌, ℕ, ◌-◌, ◌^◌, ◌<◌, ◌+ℤ◌, ◌-ℤ◌, ℤ, Bool, true, false, List, [], ◌∷◌, arith, ap, ap₂, ◌∙◌, lit<, w16, w32, to_z, of_z, map, FitsSigned}
 use Rattle.std.proofs.lemmas.Int.{ints, to_z-of_z}
-use Rattle.jr_idct.specs.Lanes.{half_lane, lane, AreShort}
+use Rattle.jr_idct.specs.Lanes.{half_lane, lane}
 use Rattle.jr_idct.specs.Matrix.{at, even_sum, floor_div, odd_sum, row_sum, IsWithin}
 use Rattle.jr_idct.proofs.Parts.{by_halves, sum_of_parts, difference_of_parts, short_parts}
 use Rattle.jr_idct.proofs.Passes.{below_eight}

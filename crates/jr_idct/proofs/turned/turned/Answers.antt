@@ -1,5 +1,4 @@
-use Rattle.std.proofs.Common.{◌≡◌, ◌++◌, true, false, pos, List, ℤ, ap₂, ◌∙◌, w16}
-use Rattle.std.specs.Simd.Lanes.{pick_l}
+use Rattle.std.proofs.Common.{◌≡◌, true, false, ap₂, ◌∙◌, w16}
 use Rattle.jr_idct.specs.Lanes.{doubles, quads, words}
 use Rattle.jr_idct.proofs.Turns.{by, turns}
 use Rattle.jr_idct.proofs.Vectors.{unchanged}
