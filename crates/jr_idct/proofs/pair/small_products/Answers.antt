@@ -10,7 +10,8 @@ pub product-requires : goal.product-requires
 product-requires c =
     let n = c.loop-n.n in
     let f : FitsSigned w16 (at c.args.block.now n) = search rules in
-    rw (to_z-of_z w16 (at c.args.block.now n) f) (c.requires n (omega arith))
+    let s = c.requires n (omega arith) in
+    rw (to_z-of_z w16 (at c.args.block.now n) f) (search (rules, s))
 
 pub loop-n-preserved : goal.loop-n-preserved
 loop-n-preserved c =

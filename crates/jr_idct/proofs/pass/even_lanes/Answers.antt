@@ -1,4 +1,4 @@
-use Rattle.std.proofs.Common.{◌≡◌, ℕ, ◌^◌, ◌<◌, ◌+ℤ◌, ℤ, pos, negsuc, List, arith, ap, ap₂, ◌∙◌, w16}
+use Rattle.std.proofs.Common.{rules, ◌≡◌, ℕ, ◌^◌, ◌<◌, ◌+ℤ◌, ℤ, pos, negsuc, List, arith, ap, ◌∙◌, w16}
 use Rattle.std.proofs.Math.IntN.{◌*ℤ◌}
 use Rattle.std.proofs.lemmas.Int.{ints}
 use Rattle.jr_idct.specs.Lanes.{half_lane}
@@ -28,8 +28,8 @@ returns-clause-entry_0 c j l =
     let wx6 : (k : ℕ) → k < 8 → IsWithin 32768 (at c.args.x6 (half_lane u k)) = lane_within c.args.x6 _ c.well_formed.1.1.1.0 u in
     let is_s0 : (k : ℕ) → k < 8 → at s0 k ≡ pos 8192 *ℤ at c.args.x0 (half_lane u k) = λ k h. c.scaled-s0.ensures k h ∙ ap (λ z. pos 8192 *ℤ z) (passed _ _ (half_lane u k) ex0) in
     let is_s4 : (k : ℕ) → k < 8 → at s4 k ≡ pos 8192 *ℤ at c.args.x4 (half_lane u k) = λ k h. c.scaled-s4.ensures k h ∙ ap (λ z. pos 8192 *ℤ z) (passed _ _ (half_lane u k) ex4) in
-    let is_outer : (k : ℕ) → k < 8 → at outer k ≡ (pos 10703) *ℤ at c.args.x2 (half_lane u k) +ℤ (pos 4433) *ℤ at c.args.x6 (half_lane u k) = λ k h. c.pair_sum-outer.ensures k h ∙ ap₂ (λ y z. (pos 10703) *ℤ y +ℤ (pos 4433) *ℤ z) (passed _ _ (half_lane u k) ex2) (passed _ _ (half_lane u k) ex6) in
-    let is_inner : (k : ℕ) → k < 8 → at inner k ≡ (pos 4433) *ℤ at c.args.x2 (half_lane u k) +ℤ (negsuc 10703) *ℤ at c.args.x6 (half_lane u k) = λ k h. c.pair_sum-inner.ensures k h ∙ ap₂ (λ y z. (pos 4433) *ℤ y +ℤ (negsuc 10703) *ℤ z) (passed _ _ (half_lane u k) ex2) (passed _ _ (half_lane u k) ex6) in
+    let is_outer : (k : ℕ) → k < 8 → at outer k ≡ (pos 10703) *ℤ at c.args.x2 (half_lane u k) +ℤ (pos 4433) *ℤ at c.args.x6 (half_lane u k) = λ k h. search (rules, (rw (ex2, ex6) at (c.pair_sum-outer.ensures k h))) in
+    let is_inner : (k : ℕ) → k < 8 → at inner k ≡ (pos 4433) *ℤ at c.args.x2 (half_lane u k) +ℤ (negsuc 10703) *ℤ at c.args.x6 (half_lane u k) = λ k h. search (rules, (rw (ex2, ex6) at (c.pair_sum-inner.ensures k h))) in
     let small_s0 : (k : ℕ) → k < 8 → IsWithin (2 ^ 28) (at s0 k) = λ k h. (let w = wx0 k h in rw (is_s0 k h) (omega (arith, ints, w), omega (arith, ints, w))) in
     let small_s4 : (k : ℕ) → k < 8 → IsWithin (2 ^ 28) (at s4 k) = λ k h. (let w = wx4 k h in rw (is_s4 k h) (omega (arith, ints, w), omega (arith, ints, w))) in
     let small_outer : (k : ℕ) → k < 8 → IsWithin (2 ^ 29) (at outer k) = λ k h. (let v = wx2 k h in let w = wx6 k h in rw (is_outer k h) (omega (arith, ints, v, w), omega (arith, ints, v, w))) in
@@ -54,8 +54,8 @@ returns-clause-entry_1 c j l =
     let wx6 : (k : ℕ) → k < 8 → IsWithin 32768 (at c.args.x6 (half_lane u k)) = lane_within c.args.x6 _ c.well_formed.1.1.1.0 u in
     let is_s0 : (k : ℕ) → k < 8 → at s0 k ≡ pos 8192 *ℤ at c.args.x0 (half_lane u k) = λ k h. c.scaled-s0.ensures k h ∙ ap (λ z. pos 8192 *ℤ z) (passed _ _ (half_lane u k) ex0) in
     let is_s4 : (k : ℕ) → k < 8 → at s4 k ≡ pos 8192 *ℤ at c.args.x4 (half_lane u k) = λ k h. c.scaled-s4.ensures k h ∙ ap (λ z. pos 8192 *ℤ z) (passed _ _ (half_lane u k) ex4) in
-    let is_outer : (k : ℕ) → k < 8 → at outer k ≡ (pos 10703) *ℤ at c.args.x2 (half_lane u k) +ℤ (pos 4433) *ℤ at c.args.x6 (half_lane u k) = λ k h. c.pair_sum-outer.ensures k h ∙ ap₂ (λ y z. (pos 10703) *ℤ y +ℤ (pos 4433) *ℤ z) (passed _ _ (half_lane u k) ex2) (passed _ _ (half_lane u k) ex6) in
-    let is_inner : (k : ℕ) → k < 8 → at inner k ≡ (pos 4433) *ℤ at c.args.x2 (half_lane u k) +ℤ (negsuc 10703) *ℤ at c.args.x6 (half_lane u k) = λ k h. c.pair_sum-inner.ensures k h ∙ ap₂ (λ y z. (pos 4433) *ℤ y +ℤ (negsuc 10703) *ℤ z) (passed _ _ (half_lane u k) ex2) (passed _ _ (half_lane u k) ex6) in
+    let is_outer : (k : ℕ) → k < 8 → at outer k ≡ (pos 10703) *ℤ at c.args.x2 (half_lane u k) +ℤ (pos 4433) *ℤ at c.args.x6 (half_lane u k) = λ k h. search (rules, (rw (ex2, ex6) at (c.pair_sum-outer.ensures k h))) in
+    let is_inner : (k : ℕ) → k < 8 → at inner k ≡ (pos 4433) *ℤ at c.args.x2 (half_lane u k) +ℤ (negsuc 10703) *ℤ at c.args.x6 (half_lane u k) = λ k h. search (rules, (rw (ex2, ex6) at (c.pair_sum-inner.ensures k h))) in
     let small_s0 : (k : ℕ) → k < 8 → IsWithin (2 ^ 28) (at s0 k) = λ k h. (let w = wx0 k h in rw (is_s0 k h) (omega (arith, ints, w), omega (arith, ints, w))) in
     let small_s4 : (k : ℕ) → k < 8 → IsWithin (2 ^ 28) (at s4 k) = λ k h. (let w = wx4 k h in rw (is_s4 k h) (omega (arith, ints, w), omega (arith, ints, w))) in
     let small_outer : (k : ℕ) → k < 8 → IsWithin (2 ^ 29) (at outer k) = λ k h. (let v = wx2 k h in let w = wx6 k h in rw (is_outer k h) (omega (arith, ints, v, w), omega (arith, ints, v, w))) in
@@ -80,8 +80,8 @@ returns-clause-entry_2 c j l =
     let wx6 : (k : ℕ) → k < 8 → IsWithin 32768 (at c.args.x6 (half_lane u k)) = lane_within c.args.x6 _ c.well_formed.1.1.1.0 u in
     let is_s0 : (k : ℕ) → k < 8 → at s0 k ≡ pos 8192 *ℤ at c.args.x0 (half_lane u k) = λ k h. c.scaled-s0.ensures k h ∙ ap (λ z. pos 8192 *ℤ z) (passed _ _ (half_lane u k) ex0) in
     let is_s4 : (k : ℕ) → k < 8 → at s4 k ≡ pos 8192 *ℤ at c.args.x4 (half_lane u k) = λ k h. c.scaled-s4.ensures k h ∙ ap (λ z. pos 8192 *ℤ z) (passed _ _ (half_lane u k) ex4) in
-    let is_outer : (k : ℕ) → k < 8 → at outer k ≡ (pos 10703) *ℤ at c.args.x2 (half_lane u k) +ℤ (pos 4433) *ℤ at c.args.x6 (half_lane u k) = λ k h. c.pair_sum-outer.ensures k h ∙ ap₂ (λ y z. (pos 10703) *ℤ y +ℤ (pos 4433) *ℤ z) (passed _ _ (half_lane u k) ex2) (passed _ _ (half_lane u k) ex6) in
-    let is_inner : (k : ℕ) → k < 8 → at inner k ≡ (pos 4433) *ℤ at c.args.x2 (half_lane u k) +ℤ (negsuc 10703) *ℤ at c.args.x6 (half_lane u k) = λ k h. c.pair_sum-inner.ensures k h ∙ ap₂ (λ y z. (pos 4433) *ℤ y +ℤ (negsuc 10703) *ℤ z) (passed _ _ (half_lane u k) ex2) (passed _ _ (half_lane u k) ex6) in
+    let is_outer : (k : ℕ) → k < 8 → at outer k ≡ (pos 10703) *ℤ at c.args.x2 (half_lane u k) +ℤ (pos 4433) *ℤ at c.args.x6 (half_lane u k) = λ k h. search (rules, (rw (ex2, ex6) at (c.pair_sum-outer.ensures k h))) in
+    let is_inner : (k : ℕ) → k < 8 → at inner k ≡ (pos 4433) *ℤ at c.args.x2 (half_lane u k) +ℤ (negsuc 10703) *ℤ at c.args.x6 (half_lane u k) = λ k h. search (rules, (rw (ex2, ex6) at (c.pair_sum-inner.ensures k h))) in
     let small_s0 : (k : ℕ) → k < 8 → IsWithin (2 ^ 28) (at s0 k) = λ k h. (let w = wx0 k h in rw (is_s0 k h) (omega (arith, ints, w), omega (arith, ints, w))) in
     let small_s4 : (k : ℕ) → k < 8 → IsWithin (2 ^ 28) (at s4 k) = λ k h. (let w = wx4 k h in rw (is_s4 k h) (omega (arith, ints, w), omega (arith, ints, w))) in
     let small_outer : (k : ℕ) → k < 8 → IsWithin (2 ^ 29) (at outer k) = λ k h. (let v = wx2 k h in let w = wx6 k h in rw (is_outer k h) (omega (arith, ints, v, w), omega (arith, ints, v, w))) in
@@ -106,8 +106,8 @@ returns-clause-entry_3 c j l =
     let wx6 : (k : ℕ) → k < 8 → IsWithin 32768 (at c.args.x6 (half_lane u k)) = lane_within c.args.x6 _ c.well_formed.1.1.1.0 u in
     let is_s0 : (k : ℕ) → k < 8 → at s0 k ≡ pos 8192 *ℤ at c.args.x0 (half_lane u k) = λ k h. c.scaled-s0.ensures k h ∙ ap (λ z. pos 8192 *ℤ z) (passed _ _ (half_lane u k) ex0) in
     let is_s4 : (k : ℕ) → k < 8 → at s4 k ≡ pos 8192 *ℤ at c.args.x4 (half_lane u k) = λ k h. c.scaled-s4.ensures k h ∙ ap (λ z. pos 8192 *ℤ z) (passed _ _ (half_lane u k) ex4) in
-    let is_outer : (k : ℕ) → k < 8 → at outer k ≡ (pos 10703) *ℤ at c.args.x2 (half_lane u k) +ℤ (pos 4433) *ℤ at c.args.x6 (half_lane u k) = λ k h. c.pair_sum-outer.ensures k h ∙ ap₂ (λ y z. (pos 10703) *ℤ y +ℤ (pos 4433) *ℤ z) (passed _ _ (half_lane u k) ex2) (passed _ _ (half_lane u k) ex6) in
-    let is_inner : (k : ℕ) → k < 8 → at inner k ≡ (pos 4433) *ℤ at c.args.x2 (half_lane u k) +ℤ (negsuc 10703) *ℤ at c.args.x6 (half_lane u k) = λ k h. c.pair_sum-inner.ensures k h ∙ ap₂ (λ y z. (pos 4433) *ℤ y +ℤ (negsuc 10703) *ℤ z) (passed _ _ (half_lane u k) ex2) (passed _ _ (half_lane u k) ex6) in
+    let is_outer : (k : ℕ) → k < 8 → at outer k ≡ (pos 10703) *ℤ at c.args.x2 (half_lane u k) +ℤ (pos 4433) *ℤ at c.args.x6 (half_lane u k) = λ k h. search (rules, (rw (ex2, ex6) at (c.pair_sum-outer.ensures k h))) in
+    let is_inner : (k : ℕ) → k < 8 → at inner k ≡ (pos 4433) *ℤ at c.args.x2 (half_lane u k) +ℤ (negsuc 10703) *ℤ at c.args.x6 (half_lane u k) = λ k h. search (rules, (rw (ex2, ex6) at (c.pair_sum-inner.ensures k h))) in
     let small_s0 : (k : ℕ) → k < 8 → IsWithin (2 ^ 28) (at s0 k) = λ k h. (let w = wx0 k h in rw (is_s0 k h) (omega (arith, ints, w), omega (arith, ints, w))) in
     let small_s4 : (k : ℕ) → k < 8 → IsWithin (2 ^ 28) (at s4 k) = λ k h. (let w = wx4 k h in rw (is_s4 k h) (omega (arith, ints, w), omega (arith, ints, w))) in
     let small_outer : (k : ℕ) → k < 8 → IsWithin (2 ^ 29) (at outer k) = λ k h. (let v = wx2 k h in let w = wx6 k h in rw (is_outer k h) (omega (arith, ints, v, w), omega (arith, ints, v, w))) in
