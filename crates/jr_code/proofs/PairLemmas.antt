@@ -3,9 +3,8 @@ use Rattle.std.proofs.Common.{◌≡◌, ℕ, ◌+◌, ◌-◌, ◌/◌, ◌%◌
 use Rattle.std.specs.Prelude.{◌⊎◌, Option, Some, None, IsSome, ℤ}
 use Rattle.std.proofs.lemmas.Bool.{cases_lt}
 use Rattle.std.proofs.lemmas.List.{append-nil, append_cancel_left, append_cancel_right, drop-append-le, drop-drop, length-drop, length-take-le, take-append-drop, take-append-le, take-take, take_at}
-use Rattle.jr_code.specs.Bits.{bits_of, extend, number, value}
+use Rattle.jr_code.specs.Bits.{bits_of, extend, number, value, upper_bits}
 use Rattle.jr_code.specs.Code.{Table, IsWord, IsInFront, IsPair, IsPrefixFree, HasNoFirstWord, HasNoExtended, TakesExtended}
-use Rattle.jr_code.specs.Register.{first_of}
 use Rattle.jr_code.specs.declared.words.Extended.{Extended}
 use Rattle.jr_code.proofs.BitLemmas.{length-bits_of, number-bits_of}
 use Rattle.jr_code.proofs.RegisterLemmas.{drop-held, first_is, take-front, take-held}
@@ -67,13 +66,13 @@ taken_from t bs cs s n v fits same x =
 
 -- what ten bits look up is in front where the register has as many
 pub pair_front : (t : Table) (count held : ℕ) (more : List Bool) (e : Extended) → count < 64 → IsPair t (held / 2 ^ 54) e → e.long ≤ count
-    → IsInFront t e count (first_of count held ++ more)
+    → IsInFront t e count (upper_bits count held ++ more)
 pair_front t count held more e few pair long =
     let is = pair (omega (arith, few, long)) in
-    let ten : bits_of 10 (held / 2 ^ 54) ≡ first_of 10 held = sym (first_is 10 held (omega arith)) in
-    let same : take e.long (first_of count held ++ more) ≡ take e.long (bits_of 10 (held / 2 ^ 54)) =
+    let ten : bits_of 10 (held / 2 ^ 54) ≡ upper_bits 10 held = sym (first_is 10 held (omega arith)) in
+    let same : take e.long (upper_bits count held ++ more) ≡ take e.long (bits_of 10 (held / 2 ^ 54)) =
     take-front e.long count held more long (omega (arith, few)) ∙ sym (ap (λ b. take e.long b) ten ∙ take-take e.long 10 (bits_of 64 held) is.0) in
-    (long, taken_from t (bits_of 10 (held / 2 ^ 54)) (first_of count held ++ more) e.symbol e.long e.value (omega (arith, is.0, length-bits_of 10 (held / 2 ^ 54))) same is.1)
+    (long, taken_from t (bits_of 10 (held / 2 ^ 54)) (upper_bits count held ++ more) e.symbol e.long e.value (omega (arith, is.0, length-bits_of 10 (held / 2 ^ 54))) same is.1)
 
 -- without a word there is none with its extra bits
 pub no_word_none : (t : Table) (bs : List Bool) → HasNoFirstWord t bs → HasNoExtended t bs

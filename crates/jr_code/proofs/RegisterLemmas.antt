@@ -9,8 +9,7 @@ use Rattle.std.proofs.lemmas.List.Concat.{flat_map-append}
 use Rattle.std.proofs.Math.Pow.{mod-mod-pow}
 use Rattle.std.proofs.Math.Nat.{add-mul, mul_assoc, mul-mod_left, mod-eq_of_lt}
 use Rattle.std.proofs.Math.Seq.{drop-append_seam}
-use Rattle.jr_code.specs.Bits.{number, bits_of, bits, window_of}
-use Rattle.jr_code.specs.Register.{first_of}
+use Rattle.jr_code.specs.Bits.{number, bits_of, bits, upper_bits, window_of}
 use Rattle.jr_code.proofs.BitLemmas.{same_bits, length-bits_of, length-bits, number-bits_of, number-append, bits_of-number}
 
 -- bits are those of the number below 2 ^ k
@@ -110,31 +109,31 @@ bits_of-zero (suc k) =
 
 -- ---- the first bits of a number of 64
 
-pub first_is : (k n : ℕ) → k ≤ 64 → first_of k n ≡ bits_of k (n / 2 ^ (64 - k))
+pub first_is : (k n : ℕ) → k ≤ 64 → upper_bits k n ≡ bits_of k (n / 2 ^ (64 - k))
 first_is k n h = ap (λ t. take k t) (sym (append-nil (bits_of 64 n))) ∙ take-held k 64 n [] h
 
-pub length-first : (k n : ℕ) → k ≤ 64 → length (first_of k n) ≡ k
+pub length-first : (k n : ℕ) → k ≤ 64 → length (upper_bits k n) ≡ k
 length-first k n h = ap length (first_is k n h) ∙ length-bits_of k (n / 2 ^ (64 - k))
 
-pub length-held : (count held : ℕ) (rest : List ℕ) → count ≤ 64 → length (first_of count held ++ bits rest) ≡ count + 8 * length rest
-length-held count held rest h = omega (arith, length-append (first_of count held) (bits rest), length-first count held h, length-bits rest)
+pub length-held : (count held : ℕ) (rest : List ℕ) → count ≤ 64 → length (upper_bits count held ++ bits rest) ≡ count + 8 * length rest
+length-held count held rest h = omega (arith, length-append (upper_bits count held) (bits rest), length-first count held h, length-bits rest)
 
-pub take-front : (n count held : ℕ) (more : List Bool) → n ≤ count → count ≤ 64 → take n (first_of count held ++ more) ≡ first_of n held
+pub take-front : (n count held : ℕ) (more : List Bool) → n ≤ count → count ≤ 64 → take n (upper_bits count held ++ more) ≡ upper_bits n held
 take-front n count held more h few =
-    take-append-le n (first_of count held) more (omega (arith, h, length-first count held few)) ∙ take-take n count (bits_of 64 held) h
+    take-append-le n (upper_bits count held) more (omega (arith, h, length-first count held few)) ∙ take-take n count (bits_of 64 held) h
 
 pub number_front : (n count held : ℕ) (rest : List ℕ) → n ≤ count → count ≤ 64 → held < 2 ^ 64
-    → held / 2 ^ (64 - n) ≡ number (take n (first_of count held ++ bits rest))
+    → held / 2 ^ (64 - n) ≡ number (take n (upper_bits count held ++ bits rest))
 number_front n count held rest h few small =
     let e : n + (64 - n) ≡ 64 = omega arith in
     let below : held / 2 ^ (64 - n) < 2 ^ n = shr_below held n (64 - n) (omega (arith, small, ap (λ k. 2 ^ k) e)) in
     sym (ap number (take-front n count held (bits rest) h few ∙ first_is n held (omega (arith, h, few))) ∙ number-bits_of n (held / 2 ^ (64 - n)) ∙ mod-eq_of_lt below)
 
 -- a window that is whole
-pub window_whole : (n v count held : ℕ) (rest : List ℕ) → n ≤ count → count ≤ 64 → v ≡ number (take n (first_of count held ++ bits rest))
-    → bits_of n v ≡ window_of n (first_of count held ++ bits rest)
+pub window_whole : (n v count held : ℕ) (rest : List ℕ) → n ≤ count → count ≤ 64 → v ≡ number (take n (upper_bits count held ++ bits rest))
+    → bits_of n v ≡ window_of n (upper_bits count held ++ bits rest)
 window_whole n v count held rest h few e =
-    let bs = first_of count held ++ bits rest in
+    let bs = upper_bits count held ++ bits rest in
     let enough : n ≤ length bs = omega (arith, h, length-held count held rest few) in
     let long : length (take n bs) ≡ n = length-take-le n bs enough in
     ap (λ m. bits_of n m) e ∙ bits_of-number n (take n bs) long ∙ sym (take-append-le n bs (replicate n false) enough)
@@ -152,14 +151,14 @@ take_zeros (x ∷ xs) (suc n) a b h k = ap (λ t. x ∷ t) (take_zeros xs n a b 
 
 -- a window at the end of all bits
 pub window_is : (n count held : ℕ) (rest : List ℕ) → n ≤ 16 → count ≤ 64 → held % 2 ^ (64 - count) ≡ 0 → rest ≡ []
-    → bits_of n (held / 2 ^ (64 - n)) ≡ window_of n (first_of count held ++ bits rest)
+    → bits_of n (held / 2 ^ (64 - n)) ≡ window_of n (upper_bits count held ++ bits rest)
 window_is n count held rest short few clean none =
-    let all : first_of count held ++ bits rest ≡ first_of count held = ap (λ r. first_of count held ++ bits r) none ∙ append-nil (first_of count held) in
-    let whole : bits_of 64 held ≡ first_of count held ++ replicate (64 - count) false =
-    sym (take-append-drop count (bits_of 64 held)) ∙ ap (λ t. first_of count held ++ t) (zeros_behind count held few clean) in
+    let all : upper_bits count held ++ bits rest ≡ upper_bits count held = ap (λ r. upper_bits count held ++ bits r) none ∙ append-nil (upper_bits count held) in
+    let whole : bits_of 64 held ≡ upper_bits count held ++ replicate (64 - count) false =
+    sym (take-append-drop count (bits_of 64 held)) ∙ ap (λ t. upper_bits count held ++ t) (zeros_behind count held few clean) in
     sym (first_is n held (omega (arith, short)))
     ∙ ap (λ t. take n t) whole
-    ∙ take_zeros (first_of count held) n (64 - count) n (omega (arith, length-first count held few, short, few)) (omega arith)
+    ∙ take_zeros (upper_bits count held) n (64 - count) n (omega (arith, length-first count held few, short, few)) (omega arith)
     ∙ ap (λ t. take n (t ++ replicate n false)) (sym all)
 
 -- ---- bits that are taken
@@ -174,10 +173,10 @@ shifted_out n count held h few =
     ∙ ap (λ m. m % 2 ^ (count - n)) (sym (shr-shr (held * 2 ^ n) n (64 - count)) ∙ ap (λ m. m / 2 ^ (64 - count)) (shl-shr held n))
 
 pub front_behind : (n count held : ℕ) (rest : List ℕ) → n ≤ count → count ≤ 64
-    → first_of (count - n) (held * 2 ^ n % 2 ^ 64) ++ bits rest ≡ drop n (first_of count held ++ bits rest)
+    → upper_bits (count - n) (held * 2 ^ n % 2 ^ 64) ++ bits rest ≡ drop n (upper_bits count held ++ bits rest)
 front_behind n count held rest h few =
     let g : 0 + (count - n) ≡ count - n = omega arith in
-    let left : first_of (count - n) (held * 2 ^ n % 2 ^ 64) ≡ bits_of (count - n) (held / 2 ^ (64 - count)) =
+    let left : upper_bits (count - n) (held * 2 ^ n % 2 ^ 64) ≡ bits_of (count - n) (held / 2 ^ (64 - count)) =
     first_is (count - n) (held * 2 ^ n % 2 ^ 64) (omega (arith, few))
     ∙ ap (λ m. bits_of (count - n) m) (shifted_out n count held h few)
     ∙ ap (λ k. bits_of (count - n) (held / 2 ^ (64 - count) % 2 ^ k)) (sym g)
@@ -247,7 +246,7 @@ word_clean count held word few clean =
     ap (λ m. m % 2 ^ (32 - count)) (with_word count held word few clean) ∙ mul-mod_left (held / 2 ^ (64 - count) * 2 ^ 32 + word) (2 ^ (32 - count))
 
 word_front : (count held word : ℕ) → count < 32 → held % 2 ^ (64 - count) ≡ 0 → word < 2 ^ 32
-    → first_of (count + 32) (held + word * 2 ^ (32 - count)) ≡ first_of count held ++ bits_of 32 word
+    → upper_bits (count + 32) (held + word * 2 ^ (32 - count)) ≡ upper_bits count held ++ bits_of 32 word
 word_front count held word few clean small =
     let x = held / 2 ^ (64 - count) in
     let k : 64 - (count + 32) ≡ 32 - count = omega arith in
@@ -261,12 +260,12 @@ word_front count held word few clean small =
 -- a word of the next four bytes more
 pub push_word : (count held word : ℕ) (rest : List ℕ) → count < 32 → held % 2 ^ (64 - count) ≡ 0 → 4 ≤ length rest → word < 2 ^ 32
     → bits_of 32 word ≡ bits (get_or rest 0 0 ∷ get_or rest 1 0 ∷ get_or rest 2 0 ∷ get_or rest 3 0 ∷ [])
-    → first_of (count + 32) (held + word * 2 ^ (32 - count)) ++ bits (drop 4 rest) ≡ first_of count held ++ bits rest
+    → upper_bits (count + 32) (held + word * 2 ^ (32 - count)) ++ bits (drop 4 rest) ≡ upper_bits count held ++ bits rest
 push_word count held word (a ∷ b ∷ c ∷ d ∷ rest) few clean long small is =
     ap (λ t. t ++ bits rest) (word_front count held word few clean small)
-    ∙ append_assoc (first_of count held) (bits_of 32 word) (bits rest)
-    ∙ ap (λ t. first_of count held ++ (t ++ bits rest)) is
-    ∙ ap (λ t. first_of count held ++ t) (sym (flat_map-append (bits_of 8) (a ∷ b ∷ c ∷ d ∷ []) rest))
+    ∙ append_assoc (upper_bits count held) (bits_of 32 word) (bits rest)
+    ∙ ap (λ t. upper_bits count held ++ (t ++ bits rest)) is
+    ∙ ap (λ t. upper_bits count held ++ t) (sym (flat_map-append (bits_of 8) (a ∷ b ∷ c ∷ d ∷ []) rest))
 push_word count held word [] few clean long small is = absurd (omega (arith, long))
 push_word count held word (a ∷ []) few clean long small is = absurd (omega (arith, long))
 push_word count held word (a ∷ b ∷ []) few clean long small is = absurd (omega (arith, long))
@@ -275,12 +274,12 @@ push_word count held word (a ∷ b ∷ c ∷ []) few clean long small is = absur
 -- the last bytes more
 pub push_last : (count all held number : ℕ) (rest : List ℕ) → count < 32 → all ≡ count + 8 * length rest → all ≤ 64
     → ((k : ℕ) → k ≤ 32 → bits_of (k + 8 * length rest) number ≡ bits_of k (held / 2 ^ 32 / 2 ^ (32 - count)) ++ bits rest)
-    → first_of all (number * 2 ^ (64 - all) % 2 ^ 64) ++ bits [] ≡ first_of count held ++ bits rest
+    → upper_bits all (number * 2 ^ (64 - all) % 2 ^ 64) ++ bits [] ≡ upper_bits count held ++ bits rest
 push_last count all held number rest few e fits is =
     let whole : all + (64 - all) ≡ 64 = omega arith in
     let f : 32 + (32 - count) ≡ 64 - count = omega arith in
     let g : 0 + all ≡ all = omega arith in
-    append-nil (first_of all (number * 2 ^ (64 - all) % 2 ^ 64))
+    append-nil (upper_bits all (number * 2 ^ (64 - all) % 2 ^ 64))
     ∙ first_is all (number * 2 ^ (64 - all) % 2 ^ 64) fits
     ∙ ap (λ k. bits_of all (number * 2 ^ (64 - all) % 2 ^ k / 2 ^ (64 - all))) (sym whole)
     ∙ ap (λ m. bits_of all m) (field_of (number * 2 ^ (64 - all)) all (64 - all))
@@ -304,7 +303,7 @@ pub refilled_bits : (count held word words after_held : ℕ) (rest after : List 
     → bits_of 32 word ≡ bits (get_or rest 0 0 ∷ get_or rest 1 0 ∷ get_or rest 2 0 ∷ get_or rest 3 0 ∷ [])
     → words ≡ (63 - count) / 32 → after ≡ take (length rest - 4 * words) (drop (4 * words) rest)
     → (count < 32 → after_held ≡ held + word * 2 ^ (32 - count)) → (32 ≤ count → after_held ≡ held)
-    → first_of (count % 32 + 32) after_held ++ bits after ≡ first_of count held ++ bits rest
+    → upper_bits (count % 32 + 32) after_held ++ bits after ≡ upper_bits count held ++ bits rest
 refilled_bits count held word words after_held rest after short clean long small is words_is after_is one none =
     ⊎_elim
     (λ few.
@@ -312,18 +311,18 @@ refilled_bits count held word words after_held rest after short clean long small
     let all : count % 32 + 32 ≡ count + 32 = omega (arith, few) in
     let left : after ≡ drop 4 rest =
     after_is ∙ ap (λ n. take (length rest - 4 * n) (drop (4 * n) rest)) w ∙ take_all (length rest - 4) (drop 4 rest) (omega (arith, length-drop 4 rest)) in
-    ap (λ n. first_of n after_held ++ bits after) all
-    ∙ ap (λ h. first_of (count + 32) h ++ bits after) (one few)
-    ∙ ap (λ r. first_of (count + 32) (held + word * 2 ^ (32 - count)) ++ bits r) left
+    ap (λ n. upper_bits n after_held ++ bits after) all
+    ∙ ap (λ h. upper_bits (count + 32) h ++ bits after) (one few)
+    ∙ ap (λ r. upper_bits (count + 32) (held + word * 2 ^ (32 - count)) ++ bits r) left
     ∙ push_word count held word rest few clean long small is)
     (λ many.
     let w : words ≡ 0 = omega (arith, words_is, many) in
     let all : count % 32 + 32 ≡ count = omega (arith, many, short) in
     let left : after ≡ rest =
     after_is ∙ ap (λ n. take (length rest - 4 * n) (drop (4 * n) rest)) w ∙ take_all (length rest - 0) rest (omega arith) in
-    ap (λ n. first_of n after_held ++ bits after) all
-    ∙ ap (λ h. first_of count h ++ bits after) (none many)
-    ∙ ap (λ r. first_of count held ++ bits r) left)
+    ap (λ n. upper_bits n after_held ++ bits after) all
+    ∙ ap (λ h. upper_bits count h ++ bits after) (none many)
+    ∙ ap (λ r. upper_bits count held ++ bits r) left)
     (cases_lt count 32)
 
 pub refilled_clean : (count held word after_held : ℕ) → count < 64 → held % 2 ^ (64 - count) ≡ 0

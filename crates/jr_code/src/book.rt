@@ -4,7 +4,8 @@ ghost use Rattle.std.specs.Prelude.{◌≡◌, ◌≢◌, ◌<◌, ◌≤◌, �
 ghost use Rattle.std.proofs.Common.{rules};
 ghost use Rattle.std.specs.Cmp.Rules.{comparing};
 ghost use Rattle.jr_code.specs.Code.{same_table, Table, IsWord, IsLawfulTable, HasTooMany, IsOverfull, space, lengths, AreEntries, ArePairs, AreLong, IsFirstWordWhereWhole, HasNoFirstWord, TakesExtended, HasNoExtended, IsInFront, IsPrefixFree, unpacked};
-ghost use Rattle.jr_code.specs.Register.{bits_in, first_of};
+ghost use Rattle.jr_code.specs.Bits.{upper_bits};
+ghost use Rattle.jr_code.specs.Register.{bits_in};
 
 use crate::bits::Bits;
 use crate::packed::Packed;
@@ -192,8 +193,8 @@ impl CodeBook {
     fn rare_pair(&self, held: u64, count: u32) -> Option<Extended>
         requires few { count < 64 }
         requires clean { held % 2 ^ (64 - count) ≡ 0 }
-        ensures found { IfSome result (λ e. IsInFront self.now e count (first_of count held)) }
-        ensures none { IfNone result (HasNoExtended self.now (first_of count held)) }
+        ensures found { IfSome result (λ e. IsInFront self.now e count (upper_bits count held)) }
+        ensures none { IfNone result (HasNoExtended self.now (upper_bits count held)) }
     {
         let (symbol, long) = self.rare_word(held, count)?;
         let register = Register {
@@ -229,8 +230,8 @@ impl CodeBook {
     fn rare_word(&self, held: u64, count: u32) -> Option<(u8, u8)>
         requires few { count < 64 }
         requires clean { held % 2 ^ (64 - count) ≡ 0 }
-        ensures found { IfSome result (λ f. (f.1 ≤ count) × IsWord self.now (take f.1 (first_of count held)) f.0) }
-        ensures none { IfNone result (HasNoFirstWord self.now (first_of count held)) }
+        ensures found { IfSome result (λ f. (f.1 ≤ count) × IsWord self.now (take f.1 (upper_bits count held)) f.0) }
+        ensures none { IfNone result (HasNoFirstWord self.now (upper_bits count held)) }
     {
         let register = Register {
             rest: &[],

@@ -2,9 +2,9 @@ use Rattle.std.proofs.Common.{◌≡◌, ◌≤◌, ◌++◌, ◌∙◌, [], ap,
 use Rattle.std.proofs.lemmas.Grind.{common_steps}
 use Rattle.std.specs.Prelude.{◌⊎◌}
 use Rattle.std.proofs.lemmas.List.{take-append-drop, take-append-le}
-use Rattle.jr_code.specs.Bits.{bits}
+use Rattle.jr_code.specs.Bits.{bits, upper_bits}
 use Rattle.jr_code.specs.Code.{HasNoFirstWord, IsWord}
-use Rattle.jr_code.specs.Register.{bits_in, first_of}
+use Rattle.jr_code.specs.Register.{bits_in}
 use Rattle.jr_code.proofs.CodeLemmas.{one_word}
 use Rattle.jr_code.proofs.ReadLemmas.{if_none, held_none}
 use Rattle.jr_code.proofs.RegisterLemmas.{length-first}
@@ -16,7 +16,7 @@ returns-clause-one_word c = one_word c.args.self.now
 pub returns-in_err-symbol-clause-none : goal.returns-in_err-symbol-clause-none
 returns-in_err-symbol-clause-none c =
     let r = c.refilled-register.result in
-    let held = first_of c.refilled-register.result.count c.refilled-register.result.held in
+    let held = upper_bits c.refilled-register.result.count c.refilled-register.result.held in
     let many : (16 ≤ length held) ⊎ (bits r.rest.now ≡ []) = ⊎_elim
     (λ enough. inl (omega (arith, length-first r.count r.held (omega arith))))
     (λ none. inr (ap bits none))
@@ -32,7 +32,7 @@ pub returns-2-clause-found : goal.returns-2-clause-found
 returns-2-clause-found c =
     let r = c.refilled-register.result in
     let long = c.in_ok-symbol.long in
-    let held = first_of c.refilled-register.result.count c.refilled-register.result.held in
+    let held = upper_bits c.refilled-register.result.count c.refilled-register.result.held in
     let bs = bits_in c.refilled-register.result in
     let same : bits_in c.refilled-register.result ≡ c.args.bits.now = c.refilled-register.ensures.same ∙ c.bits.view_is in
     let front : take long bs ≡ take long held = take-append-le long held (bits r.rest.now) (omega (arith, c.in_ok-symbol.ensures.found.0, length-first r.count r.held (omega arith))) in
