@@ -11,3 +11,6 @@ returns-else-is_sound-clause-front c =
     let r = c.read_all-reader.ensures in
     let front = c.mcus.ensures.front c.args.interval r.read.0 ((r.run, r.read.1), r.ended) in
     (r.read.0, search (rules, front))
+
+pub returns-else-is_sound-clause-sound : goal.returns-else-is_sound-clause-sound
+returns-else-is_sound-clause-sound c = search rules

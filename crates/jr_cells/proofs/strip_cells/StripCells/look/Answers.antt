@@ -36,3 +36,6 @@ returns-clause-some c =
     let first : (arc_value s).first ≡ c.args.place * c.sight.inside.each = search (rules, of.1) in
     let known = known_strip c.sight.inside.number c.sight.inside.each c.get_cell.new.notes.items c.args.place s (search (rules, c.in_ok-get_cell.ensures.some)) number first in
     search (rules, known)
+
+pub returns-clause-first : goal.returns-clause-first
+returns-clause-first c = search rules
