@@ -1,5 +1,6 @@
 //! Bits, and books of code tables beside a plain reader.
 
+mod ends;
 mod limits;
 
 use crate::plain::{extended_word, word};
@@ -54,10 +55,10 @@ fn read_extended(book: &CodeBook, bits: &mut Bits<'_>) -> (Option<(u8, i32)>, u6
     (found, bits.left())
 }
 
-/// The bits of at most sixteen bytes.
+/// The bits of at most seventeen bytes.
 fn bits_of(bytes: &[u8]) -> Result<Bits<'_>, Fail> {
-    if bytes.len() > 16 {
-        return Err(Fail::from("at most sixteen bytes"));
+    if bytes.len() > 17 {
+        return Err(Fail::from("at most seventeen bytes"));
     }
     Ok(Bits::over(bytes))
 }
@@ -137,7 +138,7 @@ fn check_words(
     let mut bits = bits_of(bytes)?;
     let all = bits.left();
     let mut at: usize = 0;
-    for _ in 0..=128u32 {
+    for _ in 0..=136u32 {
         let (symbol, long) = plain_word(counts, &symbols, bytes, at);
         at = at.saturating_add(long);
         let left = all.saturating_sub(at as u64);
@@ -157,7 +158,7 @@ fn check_extended_words(
     let mut bits = bits_of(bytes)?;
     let all = bits.left();
     let mut at: usize = 0;
-    for _ in 0..=128u32 {
+    for _ in 0..=136u32 {
         let (found, long) = plain_extended_word(counts, &symbols, bytes, at);
         at = at.saturating_add(long);
         let left = all.saturating_sub(at as u64);
