@@ -3,7 +3,10 @@
 ghost use Rattle.std.specs.Prelude.{ℕ, ◌<◌};
 ghost use Rattle.jr_idct.specs.Matrix.{at, IsWithin};
 
-use jr_idct::{even, floors, matrix_transform, odd, tables_agree, transform};
+use jr_block::{Coefficients, Quantisers};
+use jr_idct::{
+    even, floors, matrix_transform, odd, tables_agree, transform, transform_one, transform_two,
+};
 use std::process::Abort;
 use std::test::Fail;
 
@@ -39,6 +42,41 @@ fn check_as_the_matrix(rt: &impl Abort, place: usize, value: i32)
         let samples = transform(&coefficients, &quantisers);
         assert!(rt; samples == matrix_transform(&coefficients, &quantisers));
     }
+}
+
+/// The same block as `block_with` makes, in the form that blocks are read into.
+fn coefficients_with(first: i16, place: usize, value: i16) -> Coefficients
+    requires { place < 64 }
+{
+    let mut coefficients = Coefficients::zeros();
+    coefficients.set(0, first);
+    coefficients.set(place, value);
+    coefficients
+}
+
+/// Two blocks beside each other, and each of them alone, give what the matrix gives.
+fn check_two(rt: &impl Abort, quantiser: u16, first: (i16, usize, i16), second: (i16, usize, i16))
+    requires first { first.1 < 64 }
+    requires second { second.1 < 64 }
+{
+    let elements = [quantiser; 64];
+    let left = matrix_transform(
+        &block_with(i32::from(first.0), first.1, i32::from(first.2)),
+        &elements,
+    );
+    let right = matrix_transform(
+        &block_with(i32::from(second.0), second.1, i32::from(second.2)),
+        &elements,
+    );
+    let a = coefficients_with(first.0, first.1, first.2);
+    let b = coefficients_with(second.0, second.1, second.2);
+    let quantisers = Quantisers::of(elements);
+    let (mut of_a, mut of_b) = ([0; 64], [0; 64]);
+    transform_two(&a, &b, &quantisers, &mut of_a, &mut of_b);
+    assert!(rt; of_a == left);
+    assert!(rt; of_b == right);
+    assert!(rt; transform_one(&a, &quantisers) == left);
+    assert!(rt; transform_one(&b, &quantisers) == right);
 }
 
 #[test]
@@ -88,8 +126,6 @@ fn transforms_as_the_matrix(rt: HostRuntime) -> Result<(), Fail> {
         check_as_the_matrix(&rt, place, -1);
         check_as_the_matrix(&rt, place, 1023);
         check_as_the_matrix(&rt, place, -1023);
-        check_as_the_matrix(&rt, place, 1170);
-        check_as_the_matrix(&rt, place, -1170);
         check_as_the_matrix(&rt, place, 32768);
         check_as_the_matrix(&rt, place, -32768);
     }
@@ -97,8 +133,8 @@ fn transforms_as_the_matrix(rt: HostRuntime) -> Result<(), Fail> {
 }
 
 #[test]
-fn transforms_at_the_limit_of_32_bits(rt: HostRuntime) -> Result<(), Fail> {
-    for value in [1170, 1171, -1170, -1171] {
+fn transforms_at_the_limit_of_lanes(rt: HostRuntime) -> Result<(), Fail> {
+    for value in [1096, 1097, -1096, -1097] {
         let samples = transform(&flat_block(value), &[1; 64]);
         assert!(rt; samples == matrix_transform(&flat_block(value), &[1; 64]));
     }
@@ -114,6 +150,48 @@ fn transforms_greatest_coefficients(rt: HostRuntime) -> Result<(), Fail> {
     assert!(rt; low == matrix_transform(&flat_block(-32768), &quantisers));
     assert!(rt; high[0] == 255);
     assert!(rt; low[0] == 0);
+    Ok(())
+}
+
+/// Quantisers and coefficients whose products reach 1096, pass it by one, or are as large as they can be.
+const AT_LIMITS: [(u16, i16); 16] = [
+    (1, 1096),
+    (1, 1097),
+    (1, -1096),
+    (1, -1097),
+    (8, 137),
+    (8, 138),
+    (1096, 1),
+    (1096, -1),
+    (1097, 1),
+    (65535, 1),
+    (65535, -1),
+    (0, 32767),
+    (0, -32768),
+    (1, 32767),
+    (1, -32768),
+    (65535, -32768),
+];
+
+#[test]
+fn transforms_two_at_the_limits_of_each_coefficient(rt: HostRuntime) -> Result<(), Fail> {
+    for (quantiser, value) in AT_LIMITS {
+        for place in 0..64 {
+            check_two(&rt, quantiser, (0, place, value), (1, 63, -1));
+            check_two(&rt, quantiser, (1, 1, 1), (-1, place, value));
+        }
+    }
+    Ok(())
+}
+
+#[test]
+fn transforms_two_of_which_some_are_flat(rt: HostRuntime) -> Result<(), Fail> {
+    for (quantiser, value) in AT_LIMITS {
+        check_two(&rt, quantiser, (value, 0, value), (value, 0, value));
+        check_two(&rt, quantiser, (value, 0, value), (0, 0, 0));
+        check_two(&rt, quantiser, (value, 0, value), (value, 63, 1));
+        check_two(&rt, quantiser, (value, 1, 1), (value, 0, value));
+    }
     Ok(())
 }
 
