@@ -14,3 +14,8 @@ returns-else-is_sound-clause-front c =
 
 pub returns-else-is_sound-clause-sound : goal.returns-else-is_sound-clause-sound
 returns-else-is_sound-clause-sound c = search rules
+
+pub returns-then-is_sound-clause-sound : goal.returns-then-is_sound-clause-sound
+returns-then-is_sound-clause-sound c =
+    let r = c.read_all-reader.ensures in
+    (r.read.0, c.is_sound.ensures.sound c.if-is_sound.true c.args.interval r.read.0 (r.run, r.read.1))
