@@ -6,8 +6,8 @@ use Rattle.jr_head.specs.Geometry.{vertical_max}
 use Rattle.jr_paint.specs.Lines.{line_size}
 use Rattle.jr_scan.specs.ScanValue.{ScanValue}
 use Rattle.jr_crew.specs.Crew.{HasRoom}
-use Rattle.jr_stream.specs.PartValue.{PartValue}
-use Rattle.jr_stream.specs.Rows.{line_count}
+use Rattle.jr_rows.specs.PartValue.{PartValue}
+use Rattle.jr_rows.specs.Rows.{line_count}
 
 pub row_fits : (scan : ScanValue) (row : ℕ) (pixels : List ℕ) → 8 * vertical_max scan.head * line_size scan.head ≤ length pixels → line_count scan.head row * line_size scan.head ≤ length pixels
 row_fits scan row pixels room =

@@ -2,10 +2,10 @@
 use Rattle.std.specs.Prelude.{◌≡◌, ℕ, ◌*◌, ◌%◌, ◌<◌, ◌≤◌, List, length, take, slice_get, Option, Some, None}
 use Rattle.jr_head.specs.Geometry.{mcus_down, vertical_max}
 use Rattle.jr_paint.specs.Lines.{line_size}
-use Rattle.jr_stream.specs.PartValue.{PartValue}
+use Rattle.jr_rows.specs.PartValue.{PartValue}
 use Rattle.jr_crew.specs.CrewValue.{CodedValue, PaintedValue}
-use Rattle.jr_stream.specs.Rows.{AreRead, CountsRow, HasRowRoom, ShowsLines, line_count}
-use Rattle.jr_stream.specs.RowsValue.{RowValue, RowsValue}
+use Rattle.jr_rows.specs.Rows.{AreRead, CountsRow, HasRowRoom, ShowsLines, line_count}
+use Rattle.jr_rows.specs.RowsValue.{RowValue, RowsValue}
 
 -- of the part that a proof knows of this holds
 abbrev pub OfPart : Option PartValue → (PartValue → Type 0) → Type 0

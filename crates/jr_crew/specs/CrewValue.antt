@@ -1,7 +1,7 @@
 -- What contracts see of the memory for a row of MCUs: empty, read, and painted.
 use Rattle.std.specs.Prelude.{ℕ, List}
-use Rattle.jr_stream.specs.RowsValue.{RowValue}
-use Rattle.jr_stream.specs.declared.marked.Marked.{Marked}
+use Rattle.jr_rows.specs.RowsValue.{RowValue}
+use Rattle.jr_rows.specs.declared.marked.Marked.{Marked}
 
 -- room for its blocks and samples, and for its lines
 pub record BenchValue : Type 0 where

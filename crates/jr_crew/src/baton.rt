@@ -5,7 +5,8 @@ ghost use Rattle.std.specs.Prelude.{◌≡◌, Some};
 use crate::bench::{Bench, Coded};
 use crate::one_part::OnePart;
 use jr_picture::Gate;
-use jr_stream::{Part, Rows, announce, intervals_of_row, shape_of};
+use jr_rows::{Part, Rows, intervals_of_row, shape_of};
+use jr_stream::announce;
 use std::marker::{Model, PhantomData};
 
 /// The reader of a scan's rows from one of them on, that one thread holds at a time.
@@ -17,7 +18,7 @@ pub(crate) struct Baton<'a, S: OnePart> {
 
 impl<'a, S: OnePart> Model for Baton<'a, S> {
     ghost use Rattle.jr_crew.specs.Crew.{HaveNext};
-    ghost use Rattle.jr_stream.specs.RowsValue.{RowsValue};
+    ghost use Rattle.jr_rows.specs.RowsValue.{RowsValue};
 
     ghost Value = { RowsValue };
 

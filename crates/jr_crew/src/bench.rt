@@ -4,13 +4,13 @@ ghost use Rattle.std.specs.Prelude.{◌≡◌, ◌+◌, ◌*◌, ◌<◌, ◌≤
 ghost use Rattle.jr_head.specs.Geometry.{mcus_down, vertical_max};
 ghost use Rattle.jr_paint.specs.Lines.{line_size};
 ghost use Rattle.jr_paint.specs.declared.netpbm.TheConstants.{WIDEST};
-ghost use Rattle.jr_stream.specs.Rows.{AreRead, CountsRow, HasRowRoom, ShowsLines, line_count};
+ghost use Rattle.jr_rows.specs.Rows.{AreRead, CountsRow, HasRowRoom, ShowsLines, line_count};
 
 use crate::one_part::OnePart;
 use crate::row::Row;
 use jr_base::Memory;
 use jr_paint::SampleLines;
-use jr_stream::{Marked, Part, Rows, bytes_of_row, lines_of, shape_of};
+use jr_rows::{Marked, Part, Rows, bytes_of_row, lines_of, shape_of};
 use std::alloc::Global;
 use std::marker::{Model, PhantomData};
 

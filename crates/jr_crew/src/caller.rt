@@ -7,7 +7,8 @@ use crate::crew::Crew;
 use crate::one_part::OnePart;
 use jr_paint::SampleLines;
 use jr_picture::Gate;
-use jr_stream::{Marked, RowPainter, shape_of};
+use jr_rows::{Marked, shape_of};
+use jr_stream::RowPainter;
 use std::marker::Model;
 use std::sync::Wait;
 
@@ -25,7 +26,7 @@ pub(crate) struct Caller<'a, 'b, R: Wait, G: Gate, S: OnePart, const WIDTH: usiz
 impl<'a, 'b, R: Wait, G: Gate, S: OnePart, const WIDTH: usize> Model
     for Caller<'a, 'b, R, G, S, WIDTH> {
     ghost use Rattle.std.specs.Prelude.{◌≡◌, ◌≤◌, Some};
-    ghost use Rattle.jr_stream.specs.RowsValue.{RowsValue};
+    ghost use Rattle.jr_rows.specs.RowsValue.{RowsValue};
     ghost use Rattle.jr_paint.specs.declared.netpbm.TheConstants.{WIDEST};
 
     ghost Value = { RowsValue };

@@ -9,7 +9,7 @@ use crate::one_part::OnePart;
 use crate::ring::{Ring, Task, Waiter};
 use jr_paint::SampleLines;
 use jr_picture::Gate;
-use jr_stream::{Part, intervals_of_row, shape_of};
+use jr_rows::{Part, intervals_of_row, shape_of};
 use std::marker::Model;
 use std::sync::{Condvar, Mutex, Wait};
 
@@ -31,7 +31,7 @@ pub(crate) struct Crew<'a, S: OnePart> {
 
 impl<'a, S: OnePart> Model for Crew<'a, S> {
     ghost use Rattle.std.specs.Prelude.{◌≡◌, Some};
-    ghost use Rattle.jr_stream.specs.PartValue.{PartValue};
+    ghost use Rattle.jr_rows.specs.PartValue.{PartValue};
 
     ghost Value = { PartValue };
 

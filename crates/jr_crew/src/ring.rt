@@ -6,7 +6,7 @@ ghost use Rattle.jr_crew.specs.Crew.{HasRow};
 use crate::baton::Baton;
 use crate::bench::{Bench, Coded, Painted};
 use crate::one_part::OnePart;
-use jr_stream::Part;
+use jr_rows::Part;
 use std::collections::VecDeque;
 
 /// What a thread does next.

@@ -5,8 +5,8 @@ ghost use Rattle.jr_head.specs.Geometry.{blocks_of, mcus_across, mcus_down};
 ghost use Rattle.jr_paint.specs.Lines.{line_size, next_lines_of};
 ghost use Rattle.jr_piece.specs.Outcome.{unit_of};
 ghost use Rattle.jr_picture.specs.BoardValue.{BoardValue};
-ghost use Rattle.jr_stream.specs.Bands.{ShowsMcus, samples_in, unit_shown_of};
-ghost use Rattle.jr_stream.specs.Rows.{AreInRange, HasFirst, HasRowRoom, AreRead, CountsRow, ShowsLines, line_count};
+ghost use Rattle.jr_rows.specs.Bands.{ShowsMcus, samples_in, unit_shown_of};
+ghost use Rattle.jr_rows.specs.Rows.{AreInRange, HasFirst, HasRowRoom, AreRead, CountsRow, ShowsLines, line_count};
 
 use jr_base::Memory;
 use jr_block::Coefficients;
@@ -14,7 +14,7 @@ use jr_head::Head;
 use jr_paint::SampleLines;
 use jr_piece::transform_blocks;
 use jr_scan::Scan;
-use jr_stream::{Marked, Rows, coded_of_row, fill_blank, paint_row, shape_of};
+use jr_rows::{Marked, Rows, coded_of_row, fill_blank, paint_row, shape_of};
 use std::alloc::Global;
 use std::marker::Model;
 
@@ -26,7 +26,7 @@ pub(crate) struct Row {
 }
 
 impl Model for Row {
-    ghost use Rattle.jr_stream.specs.RowsValue.{RowValue};
+    ghost use Rattle.jr_rows.specs.RowsValue.{RowValue};
 
     ghost Value = { RowValue };
 

@@ -14,7 +14,8 @@ use crate::crew::Crew;
 use crate::one_part::OnePart;
 use jr_base::{Tally, WriteFault};
 use jr_picture::Gate;
-use jr_stream::{Marked, write_rows};
+use jr_rows::Marked;
+use jr_stream::write_rows;
 use std::io::Write;
 use std::sync::Wait;
 

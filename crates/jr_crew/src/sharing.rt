@@ -8,7 +8,7 @@ ghost use Rattle.jr_paint.specs.Lines.{line_size};
 ghost use Rattle.jr_paint.specs.declared.header.TheConstants.{HEADER_ROOM};
 ghost use Rattle.jr_paint.specs.declared.netpbm.TheConstants.{WIDEST};
 ghost use Rattle.jr_picture.specs.Headline.{least};
-ghost use Rattle.jr_stream.specs.Rows.{CountsRows};
+ghost use Rattle.jr_rows.specs.Rows.{CountsRows};
 ghost use Rattle.jr_stream.specs.Stream.{WritesPicture, BeginsPicture, SendsPicture};
 
 use crate::baton::Baton;
@@ -23,7 +23,8 @@ use jr_paint::{NARROW, WIDEST};
 use jr_picture::{Counts, Gate};
 use jr_piece::each_interval_has_an_outcome;
 use jr_scan::Scan;
-use jr_stream::{Marked, Part, Unwritten, counts_of, room_for};
+use jr_rows::{Marked, Part, room_for};
+use jr_stream::{Unwritten, counts_of};
 use std::alloc::Global;
 use std::collections::VecDeque;
 use std::io::Write;

@@ -10,12 +10,12 @@ use Rattle.jr_picture.specs.declared.mark.Mark.TheVariants.{Blank}
 use Rattle.jr_picture.specs.declared.counts.Counts.{Counts}
 use Rattle.jr_picture.specs.Boards.{marks_of}
 use Rattle.jr_picture.specs.Headline.{is_sound, is_damaged}
-use Rattle.jr_stream.specs.Rows.{CountsRows, coded_before, intervals_before, mcus_before}
+use Rattle.jr_rows.specs.Rows.{CountsRows, coded_before, intervals_before, mcus_before}
 use Rattle.jr_stream.specs.Stream.{HasCounts}
-use Rattle.jr_stream.specs.declared.marked.Marked.{Marked}
-use Rattle.jr_stream.proofs.FirstBoards.{counts_of}
-use Rattle.jr_stream.proofs.IntervalPlaces.{ends_before, first_end, first_few, mcus_in_some}
-use Rattle.jr_stream.proofs.PictureRows.{all_rows}
+use Rattle.jr_rows.specs.declared.marked.Marked.{Marked}
+use Rattle.jr_rows.proofs.FirstBoards.{counts_of}
+use Rattle.jr_rows.proofs.IntervalPlaces.{ends_before, first_end, first_few, mcus_in_some}
+use Rattle.jr_rows.proofs.PictureRows.{all_rows}
 
 -- where the others are blank, the first ones have the whole count
 count_first : (f : Mark → Bool) → f Blank ≡ false → (ms : List Mark) (n : ℕ) → ((i : ℕ) → n ≤ i → get_or ms i Blank ≡ Blank) → count_by f (take n ms) ≡ count_by f ms

@@ -10,8 +10,8 @@ use Rattle.jr_picture.specs.declared.counts.Counts.{Counts}
 use Rattle.jr_picture.specs.Boards.{marks_of}
 use Rattle.jr_picture.specs.Samples.{samples_of}
 use Rattle.jr_stream.specs.Stream.{WritesPicture, BeginsPicture, SendsPicture, HasCounts}
-use Rattle.jr_stream.proofs.FirstBoards.{first_board, shows_first}
-use Rattle.jr_stream.proofs.PictureRows.{from_ok}
+use Rattle.jr_rows.proofs.FirstBoards.{first_board, shows_first}
+use Rattle.jr_rows.proofs.PictureRows.{from_ok}
 
 module _ {T U E : Type 0} (known : T → Option (List ℕ)) (old new : Tally T) (r : Result U E) (each : (i : IntervalValue) → HasOutcome i) (scan : ScanValue) (lawful : IsLawful scan.head) (n : ℕ) (few : n ≤ length scan.intervals) (sends : SendsPicture known old new r scan n) where
   pub painted_picture : (m : U) → r ≡ Ok m → (c : Counts) → HasCounts scan n c → WritesPicture known old new scan n c

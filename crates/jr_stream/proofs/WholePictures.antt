@@ -11,14 +11,14 @@ use Rattle.jr_picture.specs.declared.counts.Counts.{Counts}
 use Rattle.jr_picture.specs.BoardValue.{BoardValue}
 use Rattle.jr_picture.specs.Boards.{marks_of}
 use Rattle.jr_picture.specs.Samples.{samples_of}
-use Rattle.jr_stream.specs.MarkBytes.{HasMarkRoom, PutsBetween, mark_byte}
-use Rattle.jr_stream.specs.Rows.{HasFirst}
+use Rattle.jr_rows.specs.MarkBytes.{HasMarkRoom, PutsBetween, mark_byte}
+use Rattle.jr_rows.specs.Rows.{HasFirst}
 use Rattle.jr_stream.specs.SomeLines.{row_with}
 use Rattle.jr_stream.specs.Stream.{HasCounts}
 use Rattle.jr_stream.specs.Whole.{PaintsWhole}
 use Rattle.jr_stream.proofs.Countings.{all_last, none_first}
-use Rattle.jr_stream.proofs.FirstBoards.{first_board, marks_there, shows_first}
-use Rattle.jr_stream.proofs.PutMarks.{are_marks}
+use Rattle.jr_rows.proofs.FirstBoards.{first_board, marks_there, shows_first}
+use Rattle.jr_rows.proofs.PutMarks.{are_marks}
 
 -- the row of MCUs that has the first line
 pub first_row : (h : HeadValue) → row_with h 0 ≡ 0

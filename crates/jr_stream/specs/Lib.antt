@@ -1,9 +1,3 @@
-pub mod BandValue
-pub mod Bands
-pub mod PartValue
-pub mod RowsValue
-pub mod Rows
 pub mod Stream
 pub mod SomeLines
-pub mod MarkBytes
 pub mod Whole

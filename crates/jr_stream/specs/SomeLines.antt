@@ -7,8 +7,8 @@ use Rattle.jr_paint.specs.Lines.{next_lines_of}
 use Rattle.jr_scan.specs.ScanValue.{ScanValue}
 use Rattle.jr_picture.specs.declared.mark.Mark.{Mark}
 use Rattle.jr_picture.specs.Headline.{ShowsFirst, is_sound, is_damaged}
-use Rattle.jr_stream.specs.Rows.{CountsMcus, coded_before, intervals_before}
-use Rattle.jr_stream.specs.declared.marked.Marked.{Marked}
+use Rattle.jr_rows.specs.Rows.{CountsMcus, coded_before, intervals_before}
+use Rattle.jr_rows.specs.declared.marked.Marked.{Marked}
 
 -- the row of MCUs that has a line, and the one behind the rows that have the lines before `end`
 abbrev pub row_with : HeadValue → ℕ → ℕ

@@ -12,9 +12,9 @@ use Rattle.jr_picture.specs.BoardValue.{BoardValue}
 use Rattle.jr_picture.specs.Boards.{marks_of}
 use Rattle.jr_picture.specs.Headline.{AreCounts, ShowsFirst}
 use Rattle.jr_picture.specs.Samples.{samples_of}
-use Rattle.jr_stream.specs.PartValue.{PartValue}
-use Rattle.jr_stream.specs.Rows.{HasFirst, CountsRows}
-use Rattle.jr_stream.specs.declared.marked.Marked.{Marked}
+use Rattle.jr_rows.specs.PartValue.{PartValue}
+use Rattle.jr_rows.specs.Rows.{HasFirst, CountsRows}
+use Rattle.jr_rows.specs.declared.marked.Marked.{Marked}
 
 -- the text of a picture of the scan was written, of which the first n intervals are marked; these are the marks' counts
 pub record WritesPicture {T : Type 0} (known : T → Option (List ℕ)) (old new : Tally T) (scan : ScanValue) (n : ℕ) (counts : Counts) : Type 0 where

@@ -5,7 +5,7 @@ use Rattle.jr_scan.specs.ScanValue.{ScanValue}
 use Rattle.jr_picture.specs.declared.counts.Counts.{Counts}
 use Rattle.jr_picture.specs.declared.mark.Mark.{Mark}
 use Rattle.jr_picture.specs.Headline.{AreCounts, ShowsFirst}
-use Rattle.jr_stream.specs.MarkBytes.{mark_byte}
+use Rattle.jr_rows.specs.MarkBytes.{mark_byte}
 
 -- these are the lines of the scan's picture, all of whose intervals are marked; where marks were asked for, the bytes are its
 -- marks; and these are their counts

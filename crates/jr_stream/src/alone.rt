@@ -1,15 +1,13 @@
 //! One thread that decodes and paints row after row.
 
 ghost use Rattle.std.specs.Prelude.{◌≡◌, ◌≤◌, ◌<◌};
-ghost use Rattle.jr_stream.specs.Rows.{HasSampleRoom};
+ghost use Rattle.jr_rows.specs.Rows.{HasSampleRoom};
 
 use crate::announcing::announce;
-use crate::marked::Marked;
 use crate::painter::RowPainter;
-use crate::rows::Rows;
-use crate::sample_row::SampleRow;
 use jr_paint::SampleLines;
 use jr_picture::Gate;
+use jr_rows::{Marked, Rows, SampleRow};
 use jr_scan::Scan;
 use std::marker::Model;
 
@@ -26,8 +24,8 @@ pub(crate) struct Alone<'a, G: Gate, const WIDTH: usize> {
 
 impl<'a, G: Gate, const WIDTH: usize> Model for Alone<'a, G, WIDTH> {
     ghost use Rattle.std.specs.Prelude.{◌≡◌, ◌≤◌};
-    ghost use Rattle.jr_stream.specs.Rows.{HasSampleRoom};
-    ghost use Rattle.jr_stream.specs.RowsValue.{RowsValue};
+    ghost use Rattle.jr_rows.specs.Rows.{HasSampleRoom};
+    ghost use Rattle.jr_rows.specs.RowsValue.{RowsValue};
 
     ghost Value = { RowsValue };
 

@@ -3,9 +3,9 @@
 ghost use Rattle.std.specs.Prelude.{◌<◌};
 ghost use Rattle.jr_head.specs.Geometry.{mcus_down};
 
-use crate::shape::shape_of;
 use jr_head::Head;
 use jr_picture::Gate;
+use jr_rows::shape_of;
 use jr_scan::Scan;
 
 /// How many intervals begin before an MCU.

@@ -6,17 +6,15 @@ ghost use Rattle.jr_paint.specs.Lines.{line_size, next_lines_of};
 ghost use Rattle.jr_paint.specs.declared.netpbm.TheConstants.{WIDEST};
 ghost use Rattle.jr_picture.specs.BoardValue.{BoardValue};
 ghost use Rattle.jr_picture.specs.Samples.{samples_of};
-ghost use Rattle.jr_stream.specs.MarkBytes.{HasMarkRoom, PutsBetween};
-ghost use Rattle.jr_stream.specs.Rows.{HasFirst, HasSampleRoom};
+ghost use Rattle.jr_rows.specs.MarkBytes.{HasMarkRoom, PutsBetween};
+ghost use Rattle.jr_rows.specs.Rows.{HasFirst, HasSampleRoom};
 ghost use Rattle.jr_stream.specs.SomeLines.{CountsBetween, PaintsLines, row_behind, row_with};
 
-use crate::marked::Marked;
-use crate::sample_row::SampleRow;
-use crate::shape::shape_of;
 use jr_base::Memory;
 use jr_head::Head;
 use jr_paint::{NARROW, SampleLines, WIDEST};
 use jr_piece::each_interval_has_an_outcome;
+use jr_rows::{Marked, SampleRow, shape_of};
 use jr_scan::Scan;
 use std::alloc::Global;
 

@@ -3,10 +3,10 @@
 ghost use Rattle.std.specs.Prelude.{◌≡◌, ◌+◌, ◌*◌, ◌<◌, length};
 ghost use Rattle.jr_head.specs.Geometry.{mcus_down};
 ghost use Rattle.jr_paint.specs.Lines.{line_size};
-ghost use Rattle.jr_stream.specs.RowsValue.{RowsValue};
-ghost use Rattle.jr_stream.specs.Rows.{CountsRow, ShowsLines, line_count};
+ghost use Rattle.jr_rows.specs.RowsValue.{RowsValue};
+ghost use Rattle.jr_rows.specs.Rows.{CountsRow, ShowsLines, line_count};
 
-use crate::marked::Marked;
+use jr_rows::Marked;
 
 /// Gives the lines of a picture's rows of MCUs in their order.
 pub trait RowPainter {

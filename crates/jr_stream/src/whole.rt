@@ -5,11 +5,11 @@ ghost use Rattle.jr_paint.specs.Lines.{line_size};
 ghost use Rattle.jr_stream.specs.Whole.{PaintsWhole};
 
 use crate::lines::paint_between;
-use crate::sample_row::SampleRow;
 use crate::writing::counts_of;
 use jr_base::Memory;
 use jr_picture::Counts;
 use jr_piece::each_interval_has_an_outcome;
+use jr_rows::SampleRow;
 use jr_scan::Scan;
 use std::alloc::Global;
 

@@ -14,7 +14,7 @@ use Rattle.jr_scan.specs.declared.scan_end.ScanEnd.TheVariants.{EndOfImage, Othe
 use Rattle.jr_picture.specs.declared.mark.Mark.{Mark}
 use Rattle.jr_picture.specs.Headline.{AreCounts}
 use Rattle.jri_engine.specs.Files.{IsPictureOf, IsScanOfFile}
-use Rattle.jr_stream.specs.MarkBytes.{mark_byte}
+use Rattle.jr_rows.specs.MarkBytes.{mark_byte}
 use Rattle.jr_stream.specs.SomeLines.{EndInLines}
 use Rattle.jri_memory.specs.declared.decode.Undecoded.{Undecoded}
 use Rattle.jri_memory.specs.declared.decode.Undecoded.TheVariants.{Refused}

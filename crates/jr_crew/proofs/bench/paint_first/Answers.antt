@@ -4,7 +4,7 @@ use Rattle.std.proofs.Math.Seq.{take-append_seam}
 use Rattle.jr_head.specs.Geometry.{mcus_down}
 use Rattle.jr_paint.specs.Lines.{line_size}
 use Rattle.jr_scan.specs.ScanValue.{ScanValue}
-use Rattle.jr_stream.specs.Rows.{AreRead, HasRowRoom, ShowsLines, line_count}
+use Rattle.jr_rows.specs.Rows.{AreRead, HasRowRoom, ShowsLines, line_count}
 use Rattle.jr_crew.proofs.Benches.{row_fits}
 use Rattle.jr_crew.proofs.bench.paint_first.Goals as goal
 

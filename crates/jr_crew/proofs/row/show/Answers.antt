@@ -3,7 +3,7 @@ use Rattle.std.proofs.lemmas.List.{get_or-append_right}
 use Rattle.std.proofs.lemmas.Nat.{div-add-mod'}
 use Rattle.std.proofs.Math.Nat.{mul-add-mod_self_right}
 use Rattle.jr_head.specs.Geometry.{blocks_of}
-use Rattle.jr_stream.specs.Bands.{unit_shown_of}
+use Rattle.jr_rows.specs.Bands.{unit_shown_of}
 use Rattle.jr_crew.proofs.row.show.Goals as goal
 
 pub returns-clause-blank : goal.returns-clause-blank

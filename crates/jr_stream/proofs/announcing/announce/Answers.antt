@@ -1,6 +1,6 @@
 use Rattle.std.proofs.Common.{rules, arith, ap, ◌≡◌, ℕ, ◌*◌}
 use Rattle.jr_head.specs.Geometry.{mcus_across}
-use Rattle.jr_stream.proofs.PictureRows.{row_inside}
+use Rattle.jr_rows.proofs.PictureRows.{row_inside}
 use Rattle.jr_stream.proofs.announcing.announce.Goals as goal
 
 pub overflow_mul-row : goal.overflow_mul-row

@@ -8,14 +8,14 @@ use Rattle.jr_paint.specs.Lines.{line_size, next_lines_of}
 use Rattle.jr_paint.proofs.PixelLaws.{next_lines_more}
 use Rattle.jr_scan.specs.ScanValue.{ScanValue, intervals_of}
 use Rattle.jr_picture.specs.Samples.{samples_of}
-use Rattle.jr_stream.specs.Bands.{ShowsMcus, samples_in}
-use Rattle.jr_stream.specs.MarkBytes.{PutsBetween, PutsRow}
-use Rattle.jr_stream.specs.Rows.{CountsRow, HasSampleRoom, coded_before}
+use Rattle.jr_rows.specs.Bands.{ShowsMcus, samples_in}
+use Rattle.jr_rows.specs.MarkBytes.{PutsBetween, PutsRow}
+use Rattle.jr_rows.specs.Rows.{CountsRow, HasSampleRoom, coded_before}
 use Rattle.jr_stream.specs.SomeLines.{CountsBetween, row_behind, row_with}
-use Rattle.jr_stream.proofs.IntervalPlaces.{ends_few}
-use Rattle.jr_stream.proofs.PaintedRows.{row_painted}
-use Rattle.jr_stream.proofs.PutMarks.{puts_both, puts_none}
-use Rattle.jr_stream.proofs.ReadRows.{counts_none, counts_both}
+use Rattle.jr_rows.proofs.IntervalPlaces.{ends_few}
+use Rattle.jr_rows.proofs.PaintedRows.{row_painted}
+use Rattle.jr_rows.proofs.PutMarks.{puts_both, puts_none}
+use Rattle.jr_rows.proofs.ReadRows.{counts_none, counts_both}
 use Rattle.jr_stream.proofs.SomeLines.{done_lines, next_done}
 use Rattle.jr_stream.proofs.lines.paint_within.Goals as goal
 

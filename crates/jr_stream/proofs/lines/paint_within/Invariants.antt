@@ -3,8 +3,8 @@ use Rattle.jr_head.specs.Geometry.{vertical_max}
 use Rattle.jr_paint.specs.Lines.{line_size, next_lines_of}
 use Rattle.jr_picture.specs.BoardValue.{BoardValue}
 use Rattle.jr_picture.specs.Samples.{samples_of}
-use Rattle.jr_stream.specs.MarkBytes.{HasMarkRoom, PutsBetween}
-use Rattle.jr_stream.specs.Rows.{HasFirst, HasSampleRoom}
+use Rattle.jr_rows.specs.MarkBytes.{HasMarkRoom, PutsBetween}
+use Rattle.jr_rows.specs.Rows.{HasFirst, HasSampleRoom}
 use Rattle.jr_stream.specs.SomeLines.{CountsBetween, row_with}
 use Rattle.jr_stream.proofs.SomeLines.{done_lines}
 use Rattle.jr_stream.proofs.lines.paint_within.Given as goal

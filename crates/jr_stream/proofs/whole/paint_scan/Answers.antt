@@ -4,8 +4,8 @@ use Rattle.jr_paint.specs.Lines.{next_lines_of}
 use Rattle.jr_scan.specs.ScanValue.{intervals_of}
 use Rattle.jr_picture.specs.BoardValue.{BoardValue}
 use Rattle.jr_picture.specs.Samples.{samples_of}
-use Rattle.jr_stream.specs.MarkBytes.{PutsBetween}
-use Rattle.jr_stream.specs.Rows.{CountsRows, HasFirst}
+use Rattle.jr_rows.specs.MarkBytes.{PutsBetween}
+use Rattle.jr_rows.specs.Rows.{CountsRows, HasFirst}
 use Rattle.jr_stream.specs.SomeLines.{CountsBetween, row_behind, row_with}
 use Rattle.jr_stream.specs.Stream.{HasCounts}
 use Rattle.jr_stream.proofs.WholePictures.{first_row, painted_whole}

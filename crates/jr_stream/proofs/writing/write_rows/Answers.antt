@@ -10,10 +10,10 @@ use Rattle.jr_paint.specs.Written.{WritesUpTo}
 use Rattle.jr_paint.proofs.Held.{nothing_written, written_on, painted, begun, rest_sent}
 use Rattle.jr_paint.proofs.PixelLaws.{text_none, text_more, text_begins, text_is}
 use Rattle.jr_picture.specs.Samples.{samples_of}
-use Rattle.jr_stream.specs.Rows.{CountsMcus, CountsRow, ShowsLines, coded_before, first_line, line_count}
-use Rattle.jr_stream.specs.RowsValue.{RowsValue}
-use Rattle.jr_stream.proofs.PictureRows.{no_lines, all_lines}
-use Rattle.jr_stream.proofs.ReadRows.{counts_none, counts_both}
+use Rattle.jr_rows.specs.Rows.{CountsMcus, CountsRow, ShowsLines, coded_before, first_line, line_count}
+use Rattle.jr_rows.specs.RowsValue.{RowsValue}
+use Rattle.jr_rows.proofs.PictureRows.{no_lines, all_lines}
+use Rattle.jr_rows.proofs.ReadRows.{counts_none, counts_both}
 use Rattle.jr_stream.proofs.writing.write_rows.Goals as goal
 
 pub rows-init : goal.rows-init

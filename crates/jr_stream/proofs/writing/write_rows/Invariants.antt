@@ -5,7 +5,7 @@ use Rattle.jr_paint.specs.Text.{header_of, lines_of}
 use Rattle.jr_paint.specs.Written.{WritesUpTo}
 use Rattle.jr_picture.specs.BoardValue.{BoardValue}
 use Rattle.jr_picture.specs.Samples.{samples_of}
-use Rattle.jr_stream.specs.Rows.{HasFirst, CountsMcus, coded_before}
+use Rattle.jr_rows.specs.Rows.{HasFirst, CountsMcus, coded_before}
 use Rattle.jr_stream.proofs.writing.write_rows.Given as goal
 
 abbrev pub invariant-rows : goal.invariant-rows

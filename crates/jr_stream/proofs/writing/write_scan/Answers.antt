@@ -2,7 +2,7 @@ use Rattle.std.proofs.Common.{rules, subst, ◌≡◌, ℕ, length}
 use Rattle.jr_head.specs.Geometry.{IsLawful}
 use Rattle.jr_picture.specs.Headline.{least}
 use Rattle.jr_stream.specs.Stream.{SendsPicture, HasCounts}
-use Rattle.jr_stream.proofs.FirstBoards.{least_few}
+use Rattle.jr_rows.proofs.FirstBoards.{least_few}
 use Rattle.jr_stream.proofs.Sendings.{painted_picture, begun_picture}
 use Rattle.jr_stream.proofs.writing.write_scan.Goals as goal
 

@@ -1,6 +1,6 @@
 use Rattle.std.proofs.Common.{rules, subst, ◌≡◌, ℕ}
-use Rattle.jr_stream.specs.PartValue.{PartValue}
-use Rattle.jr_stream.specs.Rows.{CountsRow, ShowsLines}
+use Rattle.jr_rows.specs.PartValue.{PartValue}
+use Rattle.jr_rows.specs.Rows.{CountsRow, ShowsLines}
 use Rattle.jr_crew.proofs.caller.CallerRowPainter.paint.Goals as goal
 
 pub returns-clause-lines : goal.returns-clause-lines

@@ -2,9 +2,9 @@ use Rattle.std.proofs.Common.{rules, arith, sym, subst, ap, ◌∙◌, ◌≡◌
 use Rattle.std.proofs.Math.Seq.{take-append_seam}
 use Rattle.std.proofs.Math.Nat.{mul-add-mod_self_right, zero-mod}
 use Rattle.jr_head.specs.Geometry.{blocks_of, mcus_across}
-use Rattle.jr_stream.specs.Bands.{ShowsMcus}
-use Rattle.jr_stream.specs.Rows.{coded_in}
-use Rattle.jr_stream.proofs.ShownUnits.{row_shown}
+use Rattle.jr_rows.specs.Bands.{ShowsMcus}
+use Rattle.jr_rows.specs.Rows.{coded_in}
+use Rattle.jr_rows.proofs.ShownUnits.{row_shown}
 use Rattle.jr_crew.proofs.row.Row.transform.Goals as goal
 
 pub show-requires-clause-whole : goal.show-requires-clause-whole

@@ -1,0 +1,12 @@
+pub mod UnitRows
+pub mod IntervalPlaces
+pub mod UnitComponents
+pub mod RowLines
+pub mod FirstBoards
+pub mod ReadRows
+pub mod PutMarks
+pub mod PictureRows
+pub mod ShownUnits
+pub mod PaintedRows
+pub mod WholeRows
+pub mod RowStarts

@@ -1,0 +1,21 @@
+use Rattle.std.proofs.Common.{◌≡◌, ◌+◌, ◌-◌, ◌≤◌, length}
+use Rattle.jr_rows.specs.MarkBytes.{HasMarkRoom, PutsMcus}
+use Rattle.jr_rows.specs.Rows.{CountsMcus, ShowsFirst, mcus_read}
+use Rattle.jr_rows.proofs.rows.Mcus.decode.Given as goal
+
+abbrev pub invariant-parts : goal.invariant-parts
+invariant-parts l = record {
+  within : l.done ≤ l.fn.mcus;
+  near : length l.blocks ≡ length l.initial.blocks;
+  long : length l.units ≡ length l.initial.units;
+  scan : l.self.scan ≡ l.initial.self.scan;
+  limit : l.self.limit ≡ l.initial.self.limit;
+  read : mcus_read l.self ≡ mcus_read l.initial.self + l.done;
+  shows : ShowsFirst l.initial.self.scan l.initial.self.limit (mcus_read l.initial.self) l.done l.units;
+  counts : CountsMcus l.initial.self.scan l.initial.self.limit (mcus_read l.initial.self) (mcus_read l.self) l.marked;
+  places : HasMarkRoom l.initial.self.scan l.marks;
+  puts : PutsMcus l.initial.self.scan l.initial.self.limit (mcus_read l.initial.self) (mcus_read l.self) l.initial.marks l.marks;
+}
+
+abbrev pub decreases-parts : goal.decreases-parts
+decreases-parts l = l.fn.mcus - l.done

@@ -1,0 +1,115 @@
+-- The rows of MCUs of a scan, of which the first intervals are decoded, and what is known of each.
+use Rattle.std.specs.Prelude.{◌≡◌, ℕ, ◌+◌, ◌-◌, ◌*◌, ◌/◌, ◌%◌, ◌<◌, ◌≤◌, List, [], length, min, nat_le, take, count_by, if◌then◌else◌, slice_index_or, ℤ}
+use Rattle.jr_head.specs.HeadValue.{HeadValue}
+use Rattle.jr_head.specs.Geometry.{blocks_of, mcus_across, mcus_down, mcus_of, vertical_max}
+use Rattle.jr_paint.specs.Lines.{next_lines_of}
+use Rattle.jr_scan.specs.Block.{IsInRange}
+use Rattle.jr_scan.specs.ScanValue.{ScanValue, intervals_of}
+use Rattle.jr_piece.specs.Outcome.{unit_of}
+use Rattle.jr_picture.specs.BoardValue.{BoardValue}
+use Rattle.jr_picture.specs.Boards.{IsLawfulBoard, marks_of}
+use Rattle.jr_picture.specs.Headline.{AreFirst, is_sound, is_damaged, interval_number}
+use Rattle.jr_picture.specs.Samples.{samples_of}
+use Rattle.jr_rows.specs.Bands.{unit_shown}
+use Rattle.jr_rows.specs.RowsValue.{McusValue, RowValue}
+use Rattle.jr_rows.specs.declared.marked.Marked.{Marked}
+use Rattle.jr_rows.specs.declared.shape.TheConstants.{BLOCKS_AT_ONCE}
+
+-- the board of the scan on which the first n intervals are marked, and no other
+pub record HasFirst (scan : ScanValue) (n : ℕ) (b : BoardValue) : Type 0 where
+  pub scan_is : b.scan ≡ scan
+  pub lawful : IsLawfulBoard b
+  pub first : AreFirst n (marks_of b)
+
+-- how many MCUs of the scan are read
+abbrev pub mcus_read : McusValue → ℕ
+mcus_read r = r.number * r.scan.head.restart + r.mcu
+
+-- the MCUs of the first n intervals
+abbrev pub mcus_before : HeadValue → ℕ → ℕ
+mcus_before h n = if nat_le (intervals_of h) n then mcus_of h else n * h.restart
+
+-- the intervals that end among the first m MCUs
+abbrev pub intervals_before : HeadValue → ℕ → ℕ
+intervals_before h m = if nat_le (mcus_of h) m then intervals_of h else interval_number h m
+
+-- how many MCUs are decoded before a row of MCUs, where the first n intervals are
+abbrev pub coded_before : HeadValue → (n row : ℕ) → ℕ
+coded_before h n row = min (row * mcus_across h) (mcus_before h n)
+
+-- how many of a row's MCUs are decoded: its first ones
+abbrev pub coded_in : HeadValue → (n row : ℕ) → ℕ
+coded_in h n row = coded_before h n (row + 1) - coded_before h n row
+
+-- among the intervals from number `from` on and before `to`, so many are sound and so many damaged, on every such board
+pub record CountsMarks (scan : ScanValue) (n from to : ℕ) (m : Marked) : Type 0 where
+  pub few : from + (m.sound + m.damaged) ≤ to
+  pub sound : (b : BoardValue) → HasFirst scan n b → count_by is_sound (take from (marks_of b)) + m.sound ≡ count_by is_sound (take to (marks_of b))
+  pub damaged : (b : BoardValue) → HasFirst scan n b → count_by is_damaged (take from (marks_of b)) + m.damaged ≡ count_by is_damaged (take to (marks_of b))
+
+-- the marks of the intervals that end among MCUs `from` to `to`
+abbrev pub CountsMcus : ScanValue → (n from to : ℕ) → Marked → Type 0
+CountsMcus scan n from to m = CountsMarks scan n (intervals_before scan.head from) (intervals_before scan.head to) m
+
+-- the samples of the first `mcus` MCUs of these blocks are what every such board shows from MCU `from` on
+abbrev pub GivesMcus : ScanValue → (n from mcus : ℕ) → List (List ℤ) → Type 0
+GivesMcus scan n from mcus blocks = (b : BoardValue) → HasFirst scan n b → (k : ℕ) → k < mcus * blocks_of scan.head
+    → unit_of scan.head blocks k ≡ unit_shown b (from + k / blocks_of scan.head) (k % blocks_of scan.head)
+
+-- the same of the blocks behind the first `before`
+abbrev pub GivesBehind : ScanValue → (n from before mcus : ℕ) → List (List ℤ) → Type 0
+GivesBehind scan n from before mcus blocks = (b : BoardValue) → HasFirst scan n b → (k : ℕ) → k < mcus * blocks_of scan.head
+    → unit_of scan.head blocks (before + k) ≡ unit_shown b (from + k / blocks_of scan.head) (k % blocks_of scan.head)
+
+-- the data units of `mcus` MCUs, behind the first `before`, are what every such board shows from MCU `from` on
+abbrev pub ShowsBehind : ScanValue → (n from before mcus : ℕ) → List (List ℕ) → Type 0
+ShowsBehind scan n from before mcus units = (b : BoardValue) → HasFirst scan n b → (k : ℕ) → k < mcus * blocks_of scan.head
+    → slice_index_or units (before + k) [] ≡ unit_shown b (from + k / blocks_of scan.head) (k % blocks_of scan.head)
+
+-- the same of the first ones
+abbrev pub ShowsFirst : ScanValue → (n from mcus : ℕ) → List (List ℕ) → Type 0
+ShowsFirst scan n from mcus units = (b : BoardValue) → HasFirst scan n b → (k : ℕ) → k < mcus * blocks_of scan.head
+    → slice_index_or units k [] ≡ unit_shown b (from + k / blocks_of scan.head) (k % blocks_of scan.head)
+
+-- how many MCUs are read before they are transformed
+abbrev pub mcus_at_once : HeadValue → ℕ
+mcus_at_once h = BLOCKS_AT_ONCE / blocks_of h
+
+-- so many of the blocks, from the first on, are in the ranges that the inverse transform asks for
+abbrev pub AreInRange : ℕ → List (List ℤ) → Type 0
+AreInRange n blocks = (k : ℕ) → k < n → IsInRange (slice_index_or blocks k [])
+
+-- the blocks of a row's decoded MCUs are read
+pub record AreRead (scan : ScanValue) (n row : ℕ) (blocks : List (List ℤ)) : Type 0 where
+  pub in_range : AreInRange (coded_in scan.head n row * blocks_of scan.head) blocks
+  pub gives : GivesMcus scan n (coded_before scan.head n row) (coded_in scan.head n row) blocks
+
+-- the marks of the intervals that end in a row of MCUs
+abbrev pub CountsRow : ScanValue → (n row : ℕ) → Marked → Type 0
+CountsRow scan n row m = CountsMcus scan n (coded_before scan.head n row) (coded_before scan.head n (row + 1)) m
+
+-- the marks of the intervals that end in all rows
+abbrev pub CountsRows : ScanValue → (n : ℕ) → Marked → Type 0
+CountsRows scan n m = CountsMcus scan n (coded_before scan.head n 0) (coded_before scan.head n (mcus_down scan.head)) m
+
+-- there is room for the data units of a row of MCUs
+pub record HasRowRoom (h : HeadValue) (r : RowValue) : Type 0 where
+  pub blocks : length r.blocks ≡ mcus_across h * blocks_of h
+  pub units : length r.units ≡ mcus_across h * blocks_of h
+
+-- there is room for the samples of a row of MCUs, and for the blocks of those that are read at once
+pub record HasSampleRoom (h : HeadValue) (r : RowValue) : Type 0 where
+  pub blocks : length r.blocks ≡ mcus_at_once h * blocks_of h
+  pub units : length r.units ≡ mcus_across h * blocks_of h
+
+-- the first line of pixels of a row of MCUs, and how many it has
+abbrev pub first_line : HeadValue → ℕ → ℕ
+first_line h row = row * (8 * vertical_max h)
+
+abbrev pub line_count : HeadValue → ℕ → ℕ
+line_count h row = min (8 * vertical_max h) (h.height - first_line h row)
+
+-- these are the lines of a row of MCUs, as every such board shows them
+abbrev pub ShowsLines : ScanValue → (n row : ℕ) → List ℕ → Type 0
+ShowsLines scan n row pixels = (b : BoardValue) → HasFirst scan n b
+    → pixels ≡ next_lines_of scan.head (samples_of b) (first_line scan.head row) (line_count scan.head row)

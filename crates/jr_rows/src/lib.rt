@@ -1,0 +1,22 @@
+//! The rows of MCUs of a scan in their order: read, decoded and painted one after the other.
+#![tactic(auto)]
+
+mod band;
+mod blank;
+mod mark_bytes;
+mod marked;
+mod painting;
+mod part;
+mod rows;
+mod sample_row;
+mod shape;
+
+pub use blank::fill_blank;
+pub use marked::Marked;
+pub use painting::paint_row;
+pub use part::Part;
+pub use rows::Rows;
+pub use sample_row::SampleRow;
+pub use shape::{
+    Shape, bytes_of_row, coded_of_row, intervals_of_row, lines_of, room_for, shape_of,
+};

@@ -1,0 +1,48 @@
+//! How many intervals are sound and damaged.
+
+ghost use Rattle.std.specs.Prelude.{◌≡◌, ◌+◌, ◌<◌, ◌^◌, cond};
+
+/// How many intervals of a part of a scan are sound, and how many damaged.
+#[derive(Clone, Copy)]
+pub struct Marked {
+    /// How many are sound.
+    pub sound: u32,
+    /// How many are damaged.
+    pub damaged: u32,
+}
+
+impl Marked {
+    /// No interval.
+    pub fn none() -> Marked
+        ensures sound { result.sound ≡ 0 }
+        ensures damaged { result.damaged ≡ 0 }
+    {
+        Marked {
+            sound: 0,
+            damaged: 0,
+        }
+    }
+
+    /// One interval.
+    pub fn one(is_sound: bool) -> Marked
+        ensures sound { result.sound ≡ cond is_sound 1 0 }
+        ensures damaged { result.damaged ≡ cond is_sound 0 1 }
+    {
+        Marked {
+            sound: u32::from(is_sound),
+            damaged: u32::from(!is_sound),
+        }
+    }
+
+    /// Those of two parts.
+    pub fn with(self, more: Marked) -> Marked
+        requires { self.sound + self.damaged + (more.sound + more.damaged) < 2 ^ 32 }
+        ensures sound { result.sound ≡ self.sound + more.sound }
+        ensures damaged { result.damaged ≡ self.damaged + more.damaged }
+    {
+        Marked {
+            sound: self.sound + more.sound,
+            damaged: self.damaged + more.damaged,
+        }
+    }
+}

@@ -1,0 +1,398 @@
+//! The rows of MCUs of a scan in their order, interval after interval, each as its blocks.
+
+ghost use Rattle.std.specs.Prelude.{◌≡◌, ℕ, ◌+◌, ◌-◌, ◌*◌, ◌<◌, ◌≤◌, [], length, slice_index_or};
+ghost use Rattle.jr_head.specs.Geometry.{blocks_of, mcus_across, mcus_down, mcus_of};
+ghost use Rattle.jr_scan.specs.Block.{IsInRange};
+ghost use Rattle.jr_scan.specs.ScanValue.{intervals_of, mcus_in};
+ghost use Rattle.jr_picture.specs.Headline.{interval_number, within_interval};
+ghost use Rattle.jr_picture.specs.BoardValue.{BoardValue};
+ghost use Rattle.jr_rows.specs.Bands.{ShowsMcus};
+ghost use Rattle.jr_rows.specs.Rows.{AreInRange, CountsMarks, CountsMcus, GivesBehind, GivesMcus, HasFirst, ShowsBehind, ShowsFirst, AreRead, CountsRow, coded_before, intervals_before, mcus_at_once, mcus_before, mcus_read};
+ghost use Rattle.jr_rows.specs.MarkBytes.{HasMarkRoom, PutsMarks, PutsMcus, PutsRow};
+
+use crate::blank::fill_blank;
+use crate::mark_bytes::put_mark;
+use crate::marked::Marked;
+use crate::part::Part;
+use crate::shape::{coded_of_row, mcus_at_once, shape_of};
+use jr_block::Coefficients;
+use jr_head::Head;
+use jr_piece::{UnitReader, transform_blocks};
+use jr_scan::Scan;
+use std::marker::Model;
+
+/// A scan, of whose first intervals MCU after MCU is read; the others are blank.
+#[derive(Drop)]
+struct Mcus<'a> {
+    scan: &'a Scan,
+    limit: u32,
+    number: u32,
+    reader: UnitReader<'a>,
+}
+
+impl<'a> Model for Mcus<'a> {
+    ghost use Rattle.std.specs.Prelude.{◌≡◌, ◌<◌, length};
+    ghost use Rattle.jr_scan.specs.ScanValue.{interval_of};
+    ghost use Rattle.jr_rows.specs.RowsValue.{McusValue};
+
+    ghost Value = { McusValue };
+
+    ghost view = { λ r. record { scan = r.scan.now; limit = r.limit; number = r.number; mcu = r.reader.mcu } };
+
+    ghost invariant = { λ r. (r.number < length r.scan.now.intervals) × (r.reader.interval ≡ interval_of r.scan.now r.number) };
+}
+
+/// How many data units so many MCUs have, at most `most`.
+fn units_to(mcus: u32, most: u32, per_mcu: usize) -> usize
+    requires few { mcus ≤ most }
+    requires short { per_mcu ≤ 10 }
+    ensures value { result ≡ mcus * per_mcu }
+    ensures within { result ≤ most * per_mcu }
+    ensures rest { result + (most - mcus) * per_mcu ≡ most * per_mcu }
+{
+    mcus as usize * per_mcu
+}
+
+impl<'a> Mcus<'a> {
+    /// Nothing is read yet of interval `number`.
+    fn of(scan: &'a Scan, limit: u32, number: u32) -> Mcus<'a>
+        requires { number < length scan.now.intervals }
+        ensures { result ≡ record { scan = scan.now; limit = limit; number = number; mcu = 0 } }
+    {
+        Mcus {
+            scan,
+            limit,
+            number,
+            reader: UnitReader::over(scan.interval_ref(number)),
+        }
+    }
+
+    /// Goes on to the next interval.
+    fn advance(&mut self)
+        requires { self.old.number + 1 < length self.old.scan.intervals }
+        ensures { self.new ≡ record self.old { number = self.old.number + 1; mcu = 0 } }
+    {
+        let _most = self.scan.intervals();
+        self.number += 1;
+        self.reader = UnitReader::over(self.scan.interval_ref(self.number));
+    }
+
+    /// Goes on to the next interval where this one is read to its end: answers how many of its MCUs are left.
+    fn ready(&mut self) -> u32
+        requires { mcus_read self.old < mcus_of self.old.scan.head }
+        ensures some { 0 < result }
+        ensures left { self.new.mcu + result ≡ mcus_in self.new.scan.head self.new.number }
+        ensures number { self.new.number < intervals_of self.new.scan.head }
+        ensures scan { self.new.scan ≡ self.old.scan }
+        ensures limit { self.new.limit ≡ self.old.limit }
+        ensures read { mcus_read self.new ≡ mcus_read self.old }
+    {
+        // By their contracts a scan has as many intervals as its head says, and a picture has an MCU.
+        let _counts = (self.scan.intervals(), self.scan.head().mcus());
+        let left = self.reader.left();
+        if left > 0 {
+            return left;
+        }
+        self.advance();
+        self.reader.left()
+    }
+
+    /// The mark of the interval, where it is read to its end. It is put into its place in `marks`, where these are asked for.
+    fn marked(&self, marks: &mut [u8]) -> Marked
+        requires decoded { self.now.number < self.now.limit }
+        requires some { 0 < self.now.mcu }
+        requires places { HasMarkRoom self.now.scan marks.old }
+        ensures counts { CountsMarks self.now.scan self.now.limit self.now.number (intervals_before self.now.scan.head (mcus_read self.now)) result }
+        ensures puts { PutsMarks self.now.scan self.now.limit self.now.number (intervals_before self.now.scan.head (mcus_read self.now)) marks.old marks.new }
+    {
+        // By their contracts a scan has as many intervals as its head says, and a picture has an MCU.
+        let _counts = (self.scan.intervals(), self.scan.head().mcus());
+        if self.reader.left() > 0 {
+            return Marked::none();
+        }
+        let is_sound = self.reader.is_sound();
+        put_mark(is_sound, self.number, marks);
+        Marked::one(is_sound)
+    }
+
+    /// Puts the blocks of the next MCUs, of one interval, behind those of the first `done` of `mcus`: answers how many
+    /// MCUs, and the mark of the interval where it ends with them.
+    fn read_some(
+        &mut self,
+        done: u32,
+        mcus: u32,
+        blocks: &mut [Coefficients],
+        marks: &mut [u8],
+    ) -> (u32, Marked)
+        requires some { done < mcus }
+        requires few { mcus_read self.old + (mcus - done) ≤ mcus_before self.old.scan.head self.old.limit }
+        requires room { length blocks.old ≡ mcus * blocks_of self.old.scan.head }
+        requires places { HasMarkRoom self.old.scan marks.old }
+        ensures some { 0 < result.0 }
+        ensures few { done + result.0 ≤ mcus }
+        ensures scan { self.new.scan ≡ self.old.scan }
+        ensures limit { self.new.limit ≡ self.old.limit }
+        ensures moved { mcus_read self.new ≡ mcus_read self.old + result.0 }
+        ensures kept { (k : ℕ) → k < done * blocks_of self.old.scan.head → slice_index_or blocks.new k [] ≡ slice_index_or blocks.old k [] }
+        ensures in_range { (k : ℕ) → k < result.0 * blocks_of self.old.scan.head → IsInRange (slice_index_or blocks.new (done * blocks_of self.old.scan.head + k) []) }
+        ensures gives { GivesBehind self.old.scan self.old.limit (mcus_read self.old) (done * blocks_of self.old.scan.head) result.0 blocks.new }
+        ensures counts { CountsMcus self.old.scan self.old.limit (mcus_read self.old) (mcus_read self.new) result.1 }
+        ensures puts { PutsMcus self.old.scan self.old.limit (mcus_read self.old) (mcus_read self.new) marks.old marks.new }
+    {
+        let per_mcu = self.scan.head().order().len();
+        let some = self.ready().min(mcus - done);
+        let from = units_to(done, mcus, per_mcu);
+        let end = units_to(done + some, mcus, per_mcu);
+        self.reader.read(some, &mut blocks[from..end]);
+        (some, self.marked(marks))
+    }
+
+    /// The blocks of so many MCUs, and the marks of the intervals that end with them, which are put into `marks`, too.
+    fn read(&mut self, mcus: u32, blocks: &mut [Coefficients], marks: &mut [u8]) -> Marked
+        requires few { mcus_read self.old + mcus ≤ mcus_before self.old.scan.head self.old.limit }
+        requires room { length blocks.old ≡ mcus * blocks_of self.old.scan.head }
+        requires places { HasMarkRoom self.old.scan marks.old }
+        ensures scan { self.new.scan ≡ self.old.scan }
+        ensures limit { self.new.limit ≡ self.old.limit }
+        ensures moved { mcus_read self.new ≡ mcus_read self.old + mcus }
+        ensures in_range { AreInRange (mcus * blocks_of self.old.scan.head) blocks.new }
+        ensures gives { GivesMcus self.old.scan self.old.limit (mcus_read self.old) mcus blocks.new }
+        ensures counts { CountsMcus self.old.scan self.old.limit (mcus_read self.old) (mcus_read self.new) result }
+        ensures puts { PutsMcus self.old.scan self.old.limit (mcus_read self.old) (mcus_read self.new) marks.old marks.new }
+    {
+        // By their contracts there is room for the counts of all intervals, and an MCU has a data unit.
+        let _most = self.scan.intervals();
+        let _some = self.scan.head().order().len();
+        let mut done = 0;
+        let mut marked = Marked::none();
+        'intervals: while done < mcus {
+            let (some, more) = self.read_some(done, mcus, blocks, marks);
+            marked = marked.with(more);
+            done += some;
+        }
+        marked
+    }
+
+    /// Puts the samples of the next MCUs, `some` of them, behind those of the first `done` of `mcus`: answers the marks of
+    /// the intervals that end with them. There is room for the blocks of as many as are read at once.
+    fn decode_some(
+        &mut self,
+        done: u32,
+        some: u32,
+        mcus: u32,
+        blocks: &mut [Coefficients],
+        units: &mut [[u8; 64]],
+        marks: &mut [u8],
+    ) -> Marked
+        requires within { done + some ≤ mcus }
+        requires few { some ≤ mcus_at_once self.old.scan.head }
+        requires decoded { mcus_read self.old + some ≤ mcus_before self.old.scan.head self.old.limit }
+        requires near { length blocks.old ≡ mcus_at_once self.old.scan.head * blocks_of self.old.scan.head }
+        requires room { length units.old ≡ mcus * blocks_of self.old.scan.head }
+        requires places { HasMarkRoom self.old.scan marks.old }
+        ensures scan { self.new.scan ≡ self.old.scan }
+        ensures limit { self.new.limit ≡ self.old.limit }
+        ensures moved { mcus_read self.new ≡ mcus_read self.old + some }
+        ensures kept { (k : ℕ) → k < done * blocks_of self.old.scan.head → slice_index_or units.new k [] ≡ slice_index_or units.old k [] }
+        ensures shows { ShowsBehind self.old.scan self.old.limit (mcus_read self.old) (done * blocks_of self.old.scan.head) some units.new }
+        ensures counts { CountsMcus self.old.scan self.old.limit (mcus_read self.old) (mcus_read self.new) result }
+        ensures puts { PutsMcus self.old.scan self.old.limit (mcus_read self.old) (mcus_read self.new) marks.old marks.new }
+    {
+        let head = self.scan.head();
+        let per_mcu = head.order().len();
+        let blocks = &mut blocks[..units_to(some, mcus_at_once(head), per_mcu)];
+        let marked = self.read(some, blocks, marks);
+        let start = units_to(done, mcus, per_mcu);
+        let end = units_to(done + some, mcus, per_mcu);
+        transform_blocks(head, blocks, &mut units[start..end]);
+        marked
+    }
+
+    /// The samples of so many MCUs, and the marks of the intervals that end with them, which are put into `marks`, too. Some
+    /// MCUs at a time are read into `blocks` and transformed.
+    fn decode(
+        &mut self,
+        mcus: u32,
+        blocks: &mut [Coefficients],
+        units: &mut [[u8; 64]],
+        marks: &mut [u8],
+    ) -> Marked
+        requires few { mcus_read self.old + mcus ≤ mcus_before self.old.scan.head self.old.limit }
+        requires near { length blocks.old ≡ mcus_at_once self.old.scan.head * blocks_of self.old.scan.head }
+        requires room { length units.old ≡ mcus * blocks_of self.old.scan.head }
+        requires places { HasMarkRoom self.old.scan marks.old }
+        ensures scan { self.new.scan ≡ self.old.scan }
+        ensures limit { self.new.limit ≡ self.old.limit }
+        ensures moved { mcus_read self.new ≡ mcus_read self.old + mcus }
+        ensures shows { ShowsFirst self.old.scan self.old.limit (mcus_read self.old) mcus units.new }
+        ensures counts { CountsMcus self.old.scan self.old.limit (mcus_read self.old) (mcus_read self.new) result }
+        ensures puts { PutsMcus self.old.scan self.old.limit (mcus_read self.old) (mcus_read self.new) marks.old marks.new }
+    {
+        // By their contracts there is room for the counts of all intervals, and an MCU has a data unit.
+        let _most = self.scan.intervals();
+        let _some = self.scan.head().order().len();
+        let at_once = mcus_at_once(self.scan.head());
+        let mut done = 0;
+        let mut marked = Marked::none();
+        'parts: while done < mcus {
+            let some = at_once.min(mcus - done);
+            let more = self.decode_some(done, some, mcus, blocks, units, marks);
+            marked = marked.with(more);
+            done += some;
+        }
+        marked
+    }
+
+    /// Reads so many MCUs and keeps nothing of them. There is room for the blocks of `most` in `blocks`.
+    fn skip(&mut self, mcus: u32, most: u32, blocks: &mut [Coefficients])
+        requires some { 0 < most }
+        requires few { mcus_read self.old + mcus ≤ mcus_before self.old.scan.head self.old.limit }
+        requires room { length blocks.old ≡ most * blocks_of self.old.scan.head }
+        ensures scan { self.new.scan ≡ self.old.scan }
+        ensures limit { self.new.limit ≡ self.old.limit }
+        ensures moved { mcus_read self.new ≡ mcus_read self.old + mcus }
+    {
+        let per_mcu = self.scan.head().order().len();
+        let mut left = mcus;
+        'mcus: while left > 0 {
+            let some = left.min(most);
+            let end = units_to(some, most, per_mcu);
+            let _marked = self.read(some, &mut blocks[..end], &mut []);
+            left -= some;
+        }
+    }
+}
+
+/// The number of the interval that has this MCU, and how many of its MCUs stand before it.
+fn interval_with(head: &Head, mcu: u32) -> (u32, u32)
+    ensures number { result.0 ≡ interval_number head.now mcu }
+    ensures within { result.1 ≡ within_interval head.now mcu }
+{
+    match u32::from(head.restart()) {
+        0 => (0, mcu),
+        restart => (mcu / restart, mcu % restart),
+    }
+}
+
+/// The rows of MCUs of a scan, of whose first intervals one row after the other is read.
+#[derive(Drop)]
+pub struct Rows<'a> {
+    mcus: Mcus<'a>,
+    row: u32,
+}
+
+impl<'a> Model for Rows<'a> {
+    ghost use Rattle.std.specs.Prelude.{◌≡◌};
+    ghost use Rattle.jr_rows.specs.Rows.{coded_before, mcus_read};
+    ghost use Rattle.jr_rows.specs.RowsValue.{RowsValue};
+
+    ghost Value = { RowsValue };
+
+    ghost view = { λ r. record { scan = r.mcus.scan; limit = r.mcus.limit; row = r.row } };
+
+    ghost invariant = { λ r. mcus_read r.mcus ≡ coded_before r.mcus.scan.head r.mcus.limit r.row };
+}
+
+impl<'a> Rows<'a> {
+    /// No row is read yet.
+    pub fn of(scan: &'a Scan, limit: u32) -> Rows<'a>
+        ensures { result ≡ record { scan = scan.now; limit = limit; row = 0 } }
+    {
+        // By its contract a scan has an interval.
+        let _some = scan.intervals();
+        Rows {
+            mcus: Mcus::of(scan, limit, 0),
+            row: 0,
+        }
+    }
+
+    /// The rows from this one on, where a row has so many whole intervals.
+    pub fn from(part: &Part<'a>, row: u32, intervals: u32) -> Rows<'a>
+        requires row { row < mcus_down part.now.scan.head }
+        requires whole { intervals * part.now.scan.head.restart ≡ mcus_across part.now.scan.head }
+        ensures { result ≡ record { scan = part.now.scan; limit = part.now.limit; row = row } }
+    {
+        let (scan, limit) = (part.scan(), part.limit());
+        // By their contracts a picture has an MCU, and a scan as many intervals as its head says.
+        let _some = (scan.head().mcus(), scan.intervals());
+        let number = (row * intervals).min(limit);
+        Rows {
+            mcus: Mcus::of(scan, limit, number),
+            row,
+        }
+    }
+
+    /// The rows from this one on, where all intervals are decoded. What stands before it in its interval is read, some MCUs
+    /// at a time, by help of `blocks`.
+    pub(crate) fn at(scan: &'a Scan, row: u32, blocks: &mut [Coefficients]) -> Rows<'a>
+        requires row { row < mcus_down scan.now.head }
+        requires near { length blocks.old ≡ mcus_at_once scan.now.head * blocks_of scan.now.head }
+        ensures { result ≡ record { scan = scan.now; limit = length scan.now.intervals; row = row } }
+    {
+        // By its contract a picture has an MCU.
+        let _some = scan.head().mcus();
+        let across = shape_of(scan.head()).across;
+        let (number, before) = interval_with(scan.head(), row * across);
+        let mut mcus = Mcus::of(scan, scan.intervals(), number);
+        mcus.skip(before, mcus_at_once(scan.head()), blocks);
+        Rows { mcus, row }
+    }
+
+    /// The number of the row that comes next.
+    pub fn row(&self) -> u32
+        ensures { result ≡ self.now.row }
+    {
+        self.row
+    }
+
+    /// The head of the scan's file.
+    pub fn head(&self) -> &'a Head
+        ensures { result.now ≡ self.now.scan.head }
+    {
+        self.mcus.scan.head()
+    }
+
+    /// Reads the next row: its blocks, of which `blocks` keeps those of the decoded MCUs as its first, and the marks of the
+    /// intervals that end in it.
+    pub fn read(&mut self, blocks: &mut [Coefficients]) -> Marked
+        requires row { self.old.row < mcus_down self.old.scan.head }
+        requires room { length blocks.old ≡ mcus_across self.old.scan.head * blocks_of self.old.scan.head }
+        ensures moved { self.new ≡ record self.old { row = self.old.row + 1 } }
+        ensures read { AreRead self.old.scan self.old.limit self.old.row blocks.new }
+        ensures counts { CountsRow self.old.scan self.old.limit self.old.row result }
+    {
+        let head = self.head();
+        let coded = coded_of_row(self.mcus.scan, self.mcus.limit, self.row);
+        let end = units_to(coded, shape_of(head).across, head.order().len());
+        let marked = self.mcus.read(coded, &mut blocks[..end], &mut []);
+        self.row += 1;
+        marked
+    }
+
+    /// Decodes the next row: the samples of its data units, of which those of MCUs that are not decoded are black, and the
+    /// marks of the intervals that end in it, which are put into `marks`, too. Some MCUs at a time are read into `blocks`.
+    pub(crate) fn decode(
+        &mut self,
+        blocks: &mut [Coefficients],
+        units: &mut [[u8; 64]],
+        marks: &mut [u8],
+    ) -> Marked
+        requires row { self.old.row < mcus_down self.old.scan.head }
+        requires near { length blocks.old ≡ mcus_at_once self.old.scan.head * blocks_of self.old.scan.head }
+        requires room { length units.old ≡ mcus_across self.old.scan.head * blocks_of self.old.scan.head }
+        requires places { HasMarkRoom self.old.scan marks.old }
+        ensures moved { self.new ≡ record self.old { row = self.old.row + 1 } }
+        ensures units { (b : BoardValue) → HasFirst self.old.scan self.old.limit b → ShowsMcus b (self.old.row * mcus_across self.old.scan.head) units.new }
+        ensures counts { CountsRow self.old.scan self.old.limit self.old.row result }
+        ensures puts { PutsRow self.old.scan self.old.limit self.old.row marks.old marks.new }
+    {
+        let head = self.head();
+        let coded = coded_of_row(self.mcus.scan, self.mcus.limit, self.row);
+        let end = units_to(coded, shape_of(head).across, head.order().len());
+        let (first, rest) = units.split_at_mut(end);
+        let marked = self.mcus.decode(coded, blocks, first, marks);
+        fill_blank(head, rest);
+        self.row += 1;
+        marked
+    }
+}

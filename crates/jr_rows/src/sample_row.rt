@@ -1,0 +1,112 @@
+//! A row of MCUs that one thread decodes and paints by itself.
+
+ghost use Rattle.std.specs.Prelude.{◌≡◌, ◌+◌, ◌*◌, ◌<◌, ◌≤◌, length, IfOk};
+ghost use Rattle.jr_head.specs.Geometry.{mcus_across, mcus_down};
+ghost use Rattle.jr_paint.specs.Lines.{line_size, next_lines_of};
+ghost use Rattle.jr_picture.specs.BoardValue.{BoardValue};
+ghost use Rattle.jr_rows.specs.Bands.{ShowsMcus, samples_in};
+ghost use Rattle.jr_rows.specs.MarkBytes.{HasMarkRoom, PutsRow};
+ghost use Rattle.jr_rows.specs.Rows.{CountsRow, HasFirst, HasSampleRoom, ShowsLines, line_count};
+
+use crate::marked::Marked;
+use crate::painting::{paint_row, paint_some};
+use crate::rows::Rows;
+use crate::shape::{mcus_at_once, shape_of};
+use jr_base::Memory;
+use jr_block::Coefficients;
+use jr_head::Head;
+use jr_paint::SampleLines;
+use jr_scan::Scan;
+use std::alloc::Global;
+use std::marker::Model;
+
+/// Memory for the samples of a row of MCUs, used again for row after row, and for the blocks of a few MCUs, which are
+/// transformed while they are near.
+#[derive(Drop)]
+pub struct SampleRow {
+    blocks: Vec<Coefficients>,
+    units: Vec<[u8; 64]>,
+}
+
+impl Model for SampleRow {
+    ghost use Rattle.jr_rows.specs.RowsValue.{RowValue};
+
+    ghost Value = { RowValue };
+
+    ghost view = { λ r. record { blocks = r.blocks.items; units = r.units.items } };
+}
+
+impl SampleRow {
+    /// Room for a row of this head's picture.
+    pub fn open(alloc: Global, head: &Head) -> Result<SampleRow, Memory>
+        ensures { IfOk result (HasSampleRoom head.now) }
+    {
+        let per_mcu = head.order().len();
+        let blocks = vec![in alloc; Coefficients::zeros(); mcus_at_once(head) as usize * per_mcu]?;
+        let units = vec![in alloc; [0; 64]; shape_of(head).across as usize * per_mcu]?;
+        Ok(SampleRow { blocks, units })
+    }
+
+    /// The rows of MCUs of a scan from this one on, all of whose intervals are decoded.
+    pub fn rows_at<'a>(&mut self, scan: &'a Scan, row: u32) -> Rows<'a>
+        requires row { row < mcus_down scan.now.head }
+        requires room { HasSampleRoom scan.now.head self.old }
+        ensures room { HasSampleRoom scan.now.head self.new }
+        ensures rows { result ≡ record { scan = scan.now; limit = length scan.now.intervals; row = row } }
+    {
+        Rows::at(scan, row, &mut self.blocks)
+    }
+
+    /// Decodes the next row: answers the marks of the intervals that end in it, and puts them into `marks`, too.
+    pub fn decode(&mut self, rows: &mut Rows<'_>, marks: &mut [u8]) -> Marked
+        requires row { rows.old.row < mcus_down rows.old.scan.head }
+        requires room { HasSampleRoom rows.old.scan.head self.old }
+        requires places { HasMarkRoom rows.old.scan marks.old }
+        ensures room { HasSampleRoom rows.old.scan.head self.new }
+        ensures moved { rows.new ≡ record rows.old { row = rows.old.row + 1 } }
+        ensures units { (b : BoardValue) → HasFirst rows.old.scan rows.old.limit b → ShowsMcus b (rows.old.row * mcus_across rows.old.scan.head) self.new.units }
+        ensures counts { CountsRow rows.old.scan rows.old.limit rows.old.row result }
+        ensures puts { PutsRow rows.old.scan rows.old.limit rows.old.row marks.old marks.new }
+    {
+        rows.decode(&mut self.blocks, &mut self.units, marks)
+    }
+
+    /// Paints lines of the picture of which each row of MCUs has the data units of the row that is decoded.
+    pub fn paint_some<const WIDTH: usize>(
+        &self,
+        head: &Head,
+        y: u32,
+        count: u32,
+        lines: &mut SampleLines<WIDTH>,
+        pixels: &mut [u8],
+    )
+        requires wide { head.now.width ≤ WIDTH }
+        requires inside { y + count ≤ head.now.height }
+        requires pixels { length pixels.old ≡ count * line_size head.now }
+        ensures { pixels.new ≡ next_lines_of head.now (samples_in (record { head = head.now; units = self.now.units })) y count }
+    {
+        paint_some(head, &self.units, y, count, lines, pixels);
+    }
+
+    /// Decodes the next row, and paints its lines: answers the marks of the intervals that end in it.
+    pub fn paint<const WIDTH: usize>(
+        &mut self,
+        rows: &mut Rows<'_>,
+        lines: &mut SampleLines<WIDTH>,
+        pixels: &mut [u8],
+    ) -> Marked
+        requires wide { rows.old.scan.head.width ≤ WIDTH }
+        requires row { rows.old.row < mcus_down rows.old.scan.head }
+        requires room { HasSampleRoom rows.old.scan.head self.old }
+        requires pixels { length pixels.old ≡ line_count rows.old.scan.head rows.old.row * line_size rows.old.scan.head }
+        ensures room { HasSampleRoom rows.old.scan.head self.new }
+        ensures moved { rows.new ≡ record rows.old { row = rows.old.row + 1 } }
+        ensures lines { ShowsLines rows.old.scan rows.old.limit rows.old.row pixels.new }
+        ensures counts { CountsRow rows.old.scan rows.old.limit rows.old.row result }
+    {
+        let row = rows.row();
+        let marked = self.decode(rows, &mut []);
+        paint_row(rows.head(), &self.units, row, lines, pixels);
+        marked
+    }
+}

@@ -1,0 +1,131 @@
+//! The rows of MCUs of a picture, in numbers.
+
+ghost use Rattle.std.specs.Prelude.{◌≡◌, ◌+◌, ◌*◌, ◌<◌, ◌≤◌, min, Option, Some, OnSome, IfSome};
+ghost use Rattle.jr_head.specs.Geometry.{mcus_across, mcus_down, mcus_of, vertical_max};
+ghost use Rattle.jr_paint.specs.Lines.{line_size};
+ghost use Rattle.jr_paint.specs.declared.netpbm.TheConstants.{BATCH};
+ghost use Rattle.jr_rows.specs.Rows.{coded_before, coded_in, mcus_at_once, mcus_before, first_line, line_count};
+
+use jr_head::Head;
+use jr_paint::{BATCH, bytes_of_line};
+use jr_scan::Scan;
+
+/// How many blocks are read before they are transformed, at most: 8 KB, which stay near.
+pub(crate) const BLOCKS_AT_ONCE: usize = 64;
+
+/// What a row of MCUs of a picture has.
+#[derive(Clone, Copy)]
+pub struct Shape {
+    /// How many MCUs.
+    pub across: u32,
+    /// How many lines of pixels, where the picture doesn't end in it.
+    pub deep: u32,
+    /// How many such rows the picture has.
+    pub down: u32,
+    /// How many bytes a line of pixels has.
+    pub line: usize,
+}
+
+/// What the rows of MCUs of this head's picture have.
+pub fn shape_of(head: &Head) -> Shape
+    ensures across { result.across ≡ mcus_across head.now }
+    ensures few { result.across < 65536 }
+    ensures deep { result.deep ≡ 8 * vertical_max head.now }
+    ensures some { 0 < result.deep }
+    ensures low { result.deep ≤ 32 }
+    ensures down { result.down ≡ mcus_down head.now }
+    ensures finite { result.down < 65536 }
+    ensures line { result.line ≡ line_size head.now }
+    ensures short { result.line ≤ 196605 }
+{
+    Shape {
+        across: head.width().div_ceil(8 * head.horizontal_max()),
+        deep: 8 * head.vertical_max(),
+        down: head.height().div_ceil(8 * head.vertical_max()),
+        line: bytes_of_line(head),
+    }
+}
+
+/// How many MCUs are read before they are transformed.
+pub(crate) fn mcus_at_once(head: &Head) -> u32
+    ensures value { result ≡ mcus_at_once head.now }
+    ensures some { 0 < result }
+    ensures few { result ≤ 64 }
+{
+    head.be_lawful();
+    (BLOCKS_AT_ONCE / head.order().len()) as u32
+}
+
+/// The first line of pixels of a row of MCUs, and how many lines it has.
+pub fn lines_of(head: &Head, row: u32) -> (u32, u32)
+    requires { row < mcus_down head.now }
+    ensures first { result.0 ≡ first_line head.now row }
+    ensures count { result.1 ≡ line_count head.now row }
+    ensures few { result.1 ≤ 8 * vertical_max head.now }
+    ensures inside { result.0 + result.1 ≤ head.now.height }
+    ensures before { min (row * (8 * vertical_max head.now)) head.now.height ≡ result.0 }
+    ensures next { min ((row + 1) * (8 * vertical_max head.now)) head.now.height ≡ result.0 + result.1 }
+{
+    let deep = 8 * head.vertical_max();
+    let height = head.height();
+    let first = row * deep;
+    (first, deep.min(height - first))
+}
+
+/// The bytes that the lines of a row of MCUs take.
+pub fn bytes_of_row(head: &Head) -> usize
+    ensures { result ≡ 8 * vertical_max head.now * line_size head.now }
+{
+    let shape = shape_of(head);
+    shape.deep as usize * shape.line
+}
+
+/// The bytes that the lines of a row of MCUs take, and enough of them for a write.
+pub fn room_for(head: &Head) -> usize
+    ensures lines { 8 * vertical_max head.now * line_size head.now ≤ result }
+    ensures batch { BATCH ≤ result }
+{
+    BATCH.max(bytes_of_row(head))
+}
+
+/// How many MCUs the first n intervals of a scan have.
+pub(crate) fn mcus_of_first(scan: &Scan, n: u32) -> u32
+    ensures value { result ≡ mcus_before scan.now.head n }
+    ensures within { result ≤ mcus_of scan.now.head }
+{
+    let all = scan.head().mcus();
+    if n >= scan.intervals() {
+        return all;
+    }
+    n * u32::from(scan.head().restart())
+}
+
+/// How many MCUs of a row are decoded, where the first n intervals are.
+pub fn coded_of_row(scan: &Scan, n: u32, row: u32) -> u32
+    requires { row < mcus_down scan.now.head }
+    ensures value { result ≡ coded_in scan.now.head n row }
+    ensures moved { coded_before scan.now.head n row + result ≡ coded_before scan.now.head n (row + 1) }
+    ensures inside { coded_before scan.now.head n row + result ≤ mcus_before scan.now.head n }
+    ensures few { result ≤ mcus_across scan.now.head }
+{
+    // By its contract a picture has so few MCUs that their numbers have room.
+    let _most = scan.head().mcus();
+    let all = mcus_of_first(scan, n);
+    let across = shape_of(scan.head()).across;
+    let start = row * across;
+    (start + across).min(all) - start.min(all)
+}
+
+/// How many intervals a row of MCUs has, where rows are whole intervals.
+pub fn intervals_of_row(head: &Head) -> Option<u32>
+    ensures { IfSome result (λ n. n * head.now.restart ≡ mcus_across head.now) }
+{
+    let across = shape_of(head).across;
+    let restart = u32::from(head.restart());
+    let count = across.checked_div(restart)?;
+    if count * restart == across {
+        Some(count)
+    } else {
+        None
+    }
+}

@@ -1,8 +1,0 @@
-use Rattle.std.proofs.Common.{rules}
-use Rattle.jr_stream.proofs.ShownUnits.{black}
-use Rattle.jr_stream.proofs.blank.blank_unit.Goals as goal
-
-pub returns : goal.returns
-returns c =
-    let black = black c.args.head.now c.args.j c.requires in
-    search (rules, black)
