@@ -9,33 +9,20 @@ use Rattle.std.proofs.lemmas.List.Elements.{All-from_recursion}
 use Rattle.std.proofs.lemmas.List.Sums.{sum_by-cons}
 use Rattle.std.proofs.lemmas.Slice.Zip.{AllZip-long}
 use Rattle.jr_head.specs.declared.component.Component.{Component}
-use Rattle.jr_head.specs.declared.frame.Frame.{Frame}
-use Rattle.jr_head.specs.declared.frame.FrameComponent.{FrameComponent}
-use Rattle.jr_head.specs.declared.kind.Kind.{Kind}
-use Rattle.jr_head.specs.declared.kind.Kind.TheVariants.{Grey, Rgb, Ycc}
-use Rattle.jr_head.specs.Bytes.{byte}
-use Rattle.jr_head.specs.Frames.{components_in, components, is_factor, have_factors, divides, is_ill_sampled, blocks, IsAccepted}
-use Rattle.jr_head.specs.Frames.{greatest_horizontal as frame_across, greatest_vertical as frame_down}
+use Rattle.jr_segments.specs.declared.frame.Frame.{Frame}
+use Rattle.jr_segments.specs.declared.frame.FrameComponent.{FrameComponent}
+use Rattle.jr_segments.specs.declared.kind.Kind.{Kind}
+use Rattle.jr_segments.specs.declared.kind.Kind.TheVariants.{Grey, Rgb, Ycc}
+use Rattle.jr_segments.specs.Bytes.{byte}
+use Rattle.jr_segments.specs.Frames.{components_in, components, is_factor, have_factors, divides, is_ill_sampled, blocks, IsAccepted}
+use Rattle.jr_segments.specs.Frames.{greatest_horizontal as frame_across, greatest_vertical as frame_down}
 use Rattle.jr_head.specs.Geometry.{no_component, units_of, component_count, greatest_across, greatest_down, IsSampled, IsSubsampled, IsCoded, AreLawful}
-use Rattle.jr_head.specs.Marks.{kind_by}
+use Rattle.jr_segments.specs.Marks.{kind_by}
 use Rattle.jr_head.specs.Definitions.{HasFactors, HaveFactors}
 use Rattle.jr_head.specs.Scans.{selectors_in, selectors}
 use Rattle.jr_head.proofs.SamplingLaws.{within_most, most_small, most_some}
 
--- ---- how many entries a header has
-
-components_count : (n : ℕ) (s : List ℕ) → length s ≡ 3 * n → length (components_in s) ≡ n
-unfolding components_in
-components_count zero [] h = refl
-components_count zero (a ∷ s) h = absurd (omega (arith, h))
-components_count (suc n) [] h = absurd (omega (arith, h))
-components_count (suc n) (a ∷ []) h = absurd (omega (arith, h))
-components_count (suc n) (a ∷ b ∷ []) h = absurd (omega (arith, h))
-components_count (suc n) (a ∷ b ∷ c ∷ s) h = ap suc (components_count n s (omega (arith, h)))
-
-pub frame_count : (p : List ℕ) → (length p ≡ 9) ⊎ (length p ≡ 15) → (length (components p) ≡ 1) ⊎ (length (components p) ≡ 3)
-frame_count p (inl h) = inl (components_count 1 (drop 6 p) (omega (arith, h, length-drop 6 p)))
-frame_count p (inr h) = inr (components_count 3 (drop 6 p) (omega (arith, h, length-drop 6 p)))
+-- ---- how many entries a scan header has
 
 pairs_count : (n : ℕ) (s : List ℕ) → length s ≡ 2 * n → length (selectors_in s) ≡ n
 unfolding selectors_in

@@ -10,25 +10,25 @@ use Rattle.std.proofs.lemmas.Grind.{flat_map-append}
 use Rattle.std.proofs.lemmas.List.Folds.{list_any-append}
 use Rattle.jr_code.specs.Code.{space, lengths}
 use Rattle.jr_base.specs.declared.marker.TheConstants.{DHT, DQT, DRI, SOF0, SOF1, SOS}
-use Rattle.jr_head.specs.Restart.{restart_tests}
-use Rattle.jr_head.specs.declared.frame.FrameComponent.{FrameComponent}
-use Rattle.jr_head.specs.declared.quantiser.Quantiser.{Quantiser}
-use Rattle.jr_head.specs.declared.refusal.Refusal.{Refusal}
-use Rattle.jr_head.specs.declared.refusal.Refusal.TheVariants.{BadLength, BadQuantTable, BadCodeTable, BadScanHeader, MissingTable, NotBaseline, SecondFrame, NoFrame, UnexpectedMarker}
+use Rattle.jr_segments.specs.Restart.{restart_tests}
+use Rattle.jr_segments.specs.declared.frame.FrameComponent.{FrameComponent}
+use Rattle.jr_segments.specs.declared.quantiser.Quantiser.{Quantiser}
+use Rattle.jr_segments.specs.declared.refusal.Refusal.{Refusal}
+use Rattle.jr_segments.specs.declared.refusal.Refusal.TheVariants.{BadLength, BadQuantTable, BadCodeTable, BadScanHeader, MissingTable, NotBaseline, SecondFrame, NoFrame, UnexpectedMarker}
 use Rattle.jr_head.specs.declared.scan.Selector.{Selector}
 use Rattle.jr_head.specs.Baseline.{baseline_code_tests, baseline_quantisation_tests, baseline_huffman_table_tests, baseline_scan_tests, baseline_payload_tests, is_ill_selected_baseline, PassesBaseline, IsBaselineChain, BaselineHeadOf}
-use Rattle.jr_head.specs.Bytes.{byte, high, low}
-use Rattle.jr_head.specs.HuffmanTables.{HuffmanTable, huffman_table_len, huffman_table_tests, huffman_tables_tests}
-use Rattle.jr_head.specs.Frames.{frame_tests, components}
+use Rattle.jr_segments.specs.Bytes.{byte, high, low}
+use Rattle.jr_segments.specs.HuffmanTables.{HuffmanTable, huffman_table_len, huffman_table_tests, huffman_tables_tests}
+use Rattle.jr_segments.specs.Frames.{frame_tests, components}
 use Rattle.jr_head.specs.HeadValue.{HeadValue}
 use Rattle.jr_head.specs.Heads.{Passes, IsChain, HeadOf, payload_tests}
-use Rattle.jr_head.specs.Segments.{Segment, code_tests, frame_in, has_frame, is_frame, is_known, is_other, is_not_baseline}
-use Rattle.jr_head.specs.Quantisers.{Quantisation, quantisation, quantisations, quantisation_tests, quantisations_tests, quantiser_for, elements_len}
+use Rattle.jr_segments.specs.Segments.{Segment, code_tests, frame_in, has_frame, is_frame, is_known, is_other, is_not_baseline}
+use Rattle.jr_segments.specs.Quantisers.{Quantisation, quantisation, quantisations, quantisation_tests, quantisations_tests, quantiser_for, elements_len}
 use Rattle.jr_head.specs.Scans.{all_quantisations, all_huffman_tables, frame_segment, scan_components, is_missing, is_whole, has_wide, is_ill_selected, header_tests, table_tests, scan_tests}
-use Rattle.jr_head.specs.Tables.{tables, tables_after, last_where}
-use Rattle.jr_head.specs.Tests.{Test, ◌when◌, first_fault}
-use Rattle.jr_head.proofs.TableLaws.{last_push}
-use Rattle.jr_head.proofs.TestLaws.{passes_parts, passes_first, none_both}
+use Rattle.jr_segments.specs.Tables.{tables, tables_after, last_where}
+use Rattle.jr_segments.specs.Tests.{Test, ◌when◌, first_fault}
+use Rattle.jr_segments.proofs.TableLaws.{last_push}
+use Rattle.jr_segments.proofs.TestLaws.{passes_parts, passes_first, none_both}
 
 no_one : (b c : Bool) → (b || c) ≡ false → (b ≡ false) × (c ≡ false)
 no_one true c h = absurd cc

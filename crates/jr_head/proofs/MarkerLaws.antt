@@ -2,10 +2,10 @@
 use Rattle.std.proofs.Common.{◌≡◌, ◌≢◌, ℕ, ◌+◌, List, [], ◌∷◌, ◌++◌, refl, arith}
 use Rattle.jr_base.specs.declared.marker.TheConstants.{APP0, COM, SOS}
 use Rattle.jr_head.specs.declared.definitions.Definitions.{Definitions}
-use Rattle.jr_head.specs.declared.marker.Marker.{Marker}
-use Rattle.jr_head.specs.declared.marker.Marker.TheVariants.{Sof0, Sof1, Dht, Dqt, Dri, Sos, App, Com}
-use Rattle.jr_head.specs.Segments.{Segment}
-use Rattle.jr_head.specs.Marker.{code_of}
+use Rattle.jr_segments.specs.declared.marker.Marker.{Marker}
+use Rattle.jr_segments.specs.declared.marker.Marker.TheVariants.{Sof0, Sof1, Dht, Dqt, Dri, Sos, App, Com}
+use Rattle.jr_segments.specs.Segments.{Segment}
+use Rattle.jr_segments.specs.Marker.{code_of}
 use Rattle.jr_head.specs.Definitions.{InForce}
 use Rattle.jr_head.proofs.DefinitionLaws.{IsSilent, silent, silent_in_force}
 

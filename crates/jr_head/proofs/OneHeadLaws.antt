@@ -10,28 +10,28 @@ use Rattle.jr_code.specs.Code.{Table}
 use Rattle.jr_base.specs.declared.limits.TheConstants.{MAX_FILE_BYTES}
 use Rattle.jr_base.specs.declared.marker.TheConstants.{PREFIX, SOF0, SOI, SOS}
 use Rattle.jr_head.specs.declared.component.Component.{Component}
-use Rattle.jr_head.specs.declared.frame.FrameComponent.{FrameComponent}
-use Rattle.jr_head.specs.declared.kind.Kind.{Kind}
-use Rattle.jr_head.specs.declared.quantiser.Quantiser.{Quantiser}
-use Rattle.jr_head.specs.declared.refusal.Refusal.{Refusal}
-use Rattle.jr_head.specs.declared.refusal.Refusal.TheVariants.{TooLong, NotJpeg, MissingTable, BadQuantTable}
+use Rattle.jr_segments.specs.declared.frame.FrameComponent.{FrameComponent}
+use Rattle.jr_segments.specs.declared.kind.Kind.{Kind}
+use Rattle.jr_segments.specs.declared.quantiser.Quantiser.{Quantiser}
+use Rattle.jr_segments.specs.declared.refusal.Refusal.{Refusal}
+use Rattle.jr_segments.specs.declared.refusal.Refusal.TheVariants.{TooLong, NotJpeg, MissingTable, BadQuantTable}
 use Rattle.jr_head.specs.declared.scan.Selector.{Selector}
-use Rattle.jr_head.specs.Bytes.{byte}
-use Rattle.jr_head.specs.HuffmanTables.{HuffmanTable, huffman_table_for}
+use Rattle.jr_segments.specs.Bytes.{byte}
+use Rattle.jr_segments.specs.HuffmanTables.{HuffmanTable, huffman_table_for}
 use Rattle.jr_head.specs.Definitions.{IsComponent, restart_of}
-use Rattle.jr_head.specs.Frames.{components, width, height}
+use Rattle.jr_segments.specs.Frames.{components, width, height}
 use Rattle.jr_head.specs.HeadValue.{HeadValue}
 use Rattle.jr_head.specs.Heads.{Passes, IsChain, Defines, HeadOf, EndsWith, RefusalOf, segment_tests, payload_tests, start_of_image, start_tests, is_single, HasOneHead, HasOneFault}
-use Rattle.jr_head.specs.Segments.{Segment, segment_bytes, segment_at, behind_segment, has_frame, framing_tests}
-use Rattle.jr_head.specs.Marks.{kind_of}
-use Rattle.jr_head.specs.Quantisers.{Quantisation, quantiser_for}
+use Rattle.jr_segments.specs.Segments.{Segment, segment_bytes, segment_at, behind_segment, has_frame, framing_tests}
+use Rattle.jr_segments.specs.Marks.{kind_of}
+use Rattle.jr_segments.specs.Quantisers.{Quantisation, quantiser_for}
 use Rattle.jr_head.specs.Scans.{all_quantisations, all_huffman_tables, frame_segment, scan_components, is_missing, has_wide, header_tests, table_tests, scan_tests}
-use Rattle.jr_head.specs.Tests.{◌when◌, first_fault}
-use Rattle.jr_head.proofs.SegmentLaws.{IsBytes, IsBytes-drop, framed_is}
+use Rattle.jr_segments.specs.Tests.{◌when◌, first_fault}
+use Rattle.jr_segments.proofs.SegmentLaws.{IsBytes, IsBytes-drop, framed_is}
 use Rattle.jr_head.proofs.NumberLaws.{fault_number}
 use Rattle.jr_head.proofs.ReadLaws.{rest_bytes}
 use Rattle.jr_head.proofs.StepLaws.{next_is}
-use Rattle.jr_head.proofs.TestLaws.{passes_parts, passes_first}
+use Rattle.jr_segments.proofs.TestLaws.{passes_parts, passes_first}
 
 -- ---- the segments define one head
 

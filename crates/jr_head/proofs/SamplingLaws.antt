@@ -13,8 +13,8 @@ use Rattle.std.proofs.lemmas.List.Sums.{sum_by-cons}
 use Rattle.std.proofs.lemmas.List.Elements.{All-append, All-replicate, recursion_from_All, All-nil}
 use Rattle.jr_base.specs.declared.limits.TheConstants.{MAX_MCUS_ACROSS}
 use Rattle.jr_head.specs.declared.component.Component.{Component}
-use Rattle.jr_head.specs.declared.kind.Kind.{Kind}
-use Rattle.jr_head.specs.declared.kind.Kind.TheVariants.{Grey, Rgb, Ycc}
+use Rattle.jr_segments.specs.declared.kind.Kind.{Kind}
+use Rattle.jr_segments.specs.declared.kind.Kind.TheVariants.{Grey, Rgb, Ycc}
 use Rattle.jr_head.specs.Geometry.{no_component, units_of, order_from, component_count, IsSampled}
 
 from_start : (f : Component → ℕ) (m : ℕ) (cs : List Component) → m ≤ fold (λ n c. max n (f c)) m cs

@@ -6,13 +6,13 @@ use Rattle.std.proofs.lemmas.Bool.{eqb-true, le-ltb}
 use Rattle.std.proofs.lemmas.List.{length-append, length-replicate, length-take-le}
 use Rattle.byteorder.specs.Endian.{big_bytes}
 use Rattle.jr_base.specs.declared.marker.TheConstants.{PREFIX, SOS}
-use Rattle.jr_head.specs.declared.refusal.Refusal.{Refusal}
-use Rattle.jr_head.specs.declared.refusal.Refusal.TheVariants.{EndsEarly, ExpectedMarker, UnexpectedMarker, NotBaseline, BadLength, SecondFrame, NoFrame}
-use Rattle.jr_head.specs.Bytes.{byte, word}
-use Rattle.jr_head.specs.Tests.{◌when◌, first_fault}
-use Rattle.jr_head.specs.Segments.{Segment, segment_bytes, segment_at, behind_segment, fill_count, at_code, is_frame, is_known, is_not_baseline, has_frame, marker_tests, code_tests, length_tests, framing_tests}
+use Rattle.jr_segments.specs.declared.refusal.Refusal.{Refusal}
+use Rattle.jr_segments.specs.declared.refusal.Refusal.TheVariants.{EndsEarly, ExpectedMarker, UnexpectedMarker, NotBaseline, BadLength, SecondFrame, NoFrame}
+use Rattle.jr_segments.specs.Bytes.{byte, word}
+use Rattle.jr_segments.specs.Tests.{◌when◌, first_fault}
+use Rattle.jr_segments.specs.Segments.{Segment, segment_bytes, segment_at, behind_segment, fill_count, at_code, is_frame, is_known, is_not_baseline, has_frame, marker_tests, code_tests, length_tests, framing_tests}
 use Rattle.jr_head.specs.Heads.{Passes, segment_tests, payload_tests}
-use Rattle.jr_head.proofs.TestLaws.{none_both}
+use Rattle.jr_segments.proofs.TestLaws.{none_both}
 
 -- ---- fill_count bytes
 

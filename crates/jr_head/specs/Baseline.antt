@@ -4,20 +4,20 @@ use Rattle.std.specs.List.{flat_map, list_any}
 use Rattle.jr_code.specs.Code.{space, lengths}
 use Rattle.jr_base.specs.declared.limits.TheConstants.{MAX_FILE_BYTES}
 use Rattle.jr_base.specs.declared.marker.TheConstants.{DHT, DQT, DRI, SOF0, SOF1, SOS}
-use Rattle.jr_head.specs.declared.frame.FrameComponent.{FrameComponent}
-use Rattle.jr_head.specs.declared.refusal.Refusal.TheVariants.{BadLength, BadQuantTable, BadCodeTable, BadScanHeader, MissingTable, NotBaseline, SecondFrame, NoFrame, UnexpectedMarker}
+use Rattle.jr_segments.specs.declared.frame.FrameComponent.{FrameComponent}
+use Rattle.jr_segments.specs.declared.refusal.Refusal.TheVariants.{BadLength, BadQuantTable, BadCodeTable, BadScanHeader, MissingTable, NotBaseline, SecondFrame, NoFrame, UnexpectedMarker}
 use Rattle.jr_head.specs.declared.scan.Selector.{Selector}
-use Rattle.jr_head.specs.Bytes.{byte, high, low}
-use Rattle.jr_head.specs.HuffmanTables.{HuffmanTable, huffman_table_len}
-use Rattle.jr_head.specs.Frames.{frame_tests, components}
+use Rattle.jr_segments.specs.Bytes.{byte, high, low}
+use Rattle.jr_segments.specs.HuffmanTables.{HuffmanTable, huffman_table_len}
+use Rattle.jr_segments.specs.Frames.{frame_tests, components}
 use Rattle.jr_head.specs.HeadValue.{HeadValue}
 use Rattle.jr_head.specs.Heads.{Defines, start_of_image}
-use Rattle.jr_head.specs.Segments.{Segment, segment_bytes, is_not_baseline, is_other, has_frame}
-use Rattle.jr_head.specs.Restart.{restart_tests}
-use Rattle.jr_head.specs.Quantisers.{Quantisation}
+use Rattle.jr_segments.specs.Segments.{Segment, segment_bytes, is_not_baseline, is_other, has_frame}
+use Rattle.jr_segments.specs.Restart.{restart_tests}
+use Rattle.jr_segments.specs.Quantisers.{Quantisation}
 use Rattle.jr_head.specs.Scans.{all_quantisations, all_huffman_tables, frame_segment, scan_components, is_missing, is_whole}
-use Rattle.jr_head.specs.Tables.{tables}
-use Rattle.jr_head.specs.Tests.{Test, ◌when◌, first_fault}
+use Rattle.jr_segments.specs.Tables.{tables}
+use Rattle.jr_segments.specs.Tests.{Test, ◌when◌, first_fault}
 
 -- SOF1 is no frame of this reader
 unfoldable pub baseline_code_tests : Bool → ℕ → List Test

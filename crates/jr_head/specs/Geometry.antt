@@ -6,8 +6,8 @@ use Rattle.jr_code.specs.Code.{Table}
 use Rattle.jr_code.specs.Code as codes
 use Rattle.jr_base.specs.declared.limits.TheConstants.{MAX_FILE_BYTES, MAX_PIXELS}
 use Rattle.jr_head.specs.declared.component.Component.{Component}
-use Rattle.jr_head.specs.declared.kind.Kind.{Kind}
-use Rattle.jr_head.specs.declared.kind.Kind.TheVariants.{Grey, Rgb, Ycc}
+use Rattle.jr_segments.specs.declared.kind.Kind.{Kind}
+use Rattle.jr_segments.specs.declared.kind.Kind.TheVariants.{Grey, Rgb, Ycc}
 use Rattle.jr_head.specs.HeadValue.{HeadValue}
 
 -- how many components a picture of this kind has

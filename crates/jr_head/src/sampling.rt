@@ -5,7 +5,6 @@ ghost use Rattle.std.specs.List.{fold};
 ghost use Rattle.jr_head.specs.Geometry.{order_from, IsSampled, greatest_across, greatest_down};
 
 use crate::component::Component;
-use crate::kind::Kind;
 use std::alloc::{AllocError, Global};
 
 /// Puts a component's number into the order, once for each of its data units.

@@ -7,7 +7,7 @@ use Rattle.std.proofs.lemmas.Int.{ints}
 use Rattle.std.proofs.lemmas.Simd.{take_more_put_chunk}
 use Rattle.std.specs.List.{flat_map, range_with_len}
 use Rattle.std.specs.Simd.Lanes.{put_chunk}
-use Rattle.jr_head.specs.declared.kind.Kind.TheVariants.{Ycc}
+use Rattle.jr_segments.specs.declared.kind.Kind.TheVariants.{Ycc}
 use Rattle.jr_paint.specs.Colours.{byte_of, colour_of}
 use Rattle.jr_paint.specs.Shades.{IsRaised, lowered, red_over_of, green_over_of, blue_over_of}
 use Rattle.jr_paint.proofs.Shuffled.{put_chunks}

@@ -2,7 +2,7 @@
 use Rattle.std.specs.Prelude.{◌≡◌, ℕ, ◌+◌, ◌-◌, ◌*◌, ◌/◌, ◌<◌, min, ℤ, pos, neg_ℤ, ◌+ℤ◌, ◌-ℤ◌}
 use Rattle.std.proofs.Math.IntN.{◌*ℤ◌}
 use Rattle.jr_head.specs.HeadValue.{HeadValue}
-use Rattle.jr_head.specs.declared.kind.Kind.TheVariants.{Ycc}
+use Rattle.jr_segments.specs.declared.kind.Kind.TheVariants.{Ycc}
 use Rattle.jr_head.specs.Geometry.{horizontal_of, horizontal_max, vertical_of, vertical_max}
 use Rattle.jr_paint.specs.Colours.{floor_div, off}
 

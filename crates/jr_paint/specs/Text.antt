@@ -2,8 +2,8 @@
 use Rattle.std.specs.Prelude.{ℕ, ◌*◌, ◌/◌, List, [], ◌∷◌, ◌++◌, codes, decimal}
 use Rattle.std.specs.List.{flat_map, range_with_len}
 use Rattle.jr_head.specs.HeadValue.{HeadValue}
-use Rattle.jr_head.specs.declared.kind.Kind.{Kind}
-use Rattle.jr_head.specs.declared.kind.Kind.TheVariants.{Grey, Rgb, Ycc}
+use Rattle.jr_segments.specs.declared.kind.Kind.{Kind}
+use Rattle.jr_segments.specs.declared.kind.Kind.TheVariants.{Grey, Rgb, Ycc}
 use Rattle.jr_head.specs.Geometry.{horizontal_of, vertical_of, horizontal_max, vertical_max}
 use Rattle.jr_paint.specs.Colours.{colour_of}
 

@@ -1,7 +1,7 @@
 //! Colours in fixed point (JFIF 1.02, "Conversion to and from RGB"), a pixel at a time.
 
 ghost use Rattle.std.specs.Prelude.{◌≡◌, ℕ, ◌^◌, pos, ◌+ℤ◌, ℤ};
-ghost use Rattle.jr_head.specs.declared.kind.Kind.TheVariants.{Ycc};
+ghost use Rattle.jr_segments.specs.declared.kind.Kind.TheVariants.{Ycc};
 ghost use Rattle.jr_paint.specs.Colours.{colour_of, floor_div, byte_of, off, shade, IsWithin};
 
 use jr_head::Kind;

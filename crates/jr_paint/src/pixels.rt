@@ -2,7 +2,7 @@
 
 ghost use Rattle.std.specs.Prelude.{◌≡◌, ◌+◌, ◌*◌, ◌≤◌, length, take};
 ghost use Rattle.std.specs.Simd.Lanes.{put_chunk};
-ghost use Rattle.jr_head.specs.declared.kind.Kind.TheVariants.{Rgb, Ycc};
+ghost use Rattle.jr_segments.specs.declared.kind.Kind.TheVariants.{Rgb, Ycc};
 ghost use Rattle.jr_head.specs.Geometry.{component_count};
 ghost use Rattle.jr_paint.specs.Lines.{colours_of};
 

@@ -3,8 +3,8 @@ use Rattle.std.proofs.Common.{◌≡◌, ℕ, ◌+◌, ◌*◌, ◌/◌, ◌<◌
 use Rattle.std.specs.Prelude.{ℤ}
 use Rattle.std.proofs.lemmas.Bool.{cases_lt}
 use Rattle.std.proofs.lemmas.List.{ext_get_or}
-use Rattle.jr_head.specs.declared.kind.Kind.{Kind}
-use Rattle.jr_head.specs.declared.kind.Kind.TheVariants.{Grey, Rgb, Ycc}
+use Rattle.jr_segments.specs.declared.kind.Kind.{Kind}
+use Rattle.jr_segments.specs.declared.kind.Kind.TheVariants.{Grey, Rgb, Ycc}
 use Rattle.jr_head.specs.HeadValue.{HeadValue}
 use Rattle.jr_head.specs.Geometry.{IsLawful, component_count, components_of, horizontal_of, vertical_of, horizontal_max, vertical_max}
 use Rattle.jr_paint.specs.Colours.{colour_of}

@@ -1,7 +1,7 @@
 -- What a picture of a scan shows, by the marks of its intervals. f says its samples by component, column and line.
 use Rattle.std.specs.Prelude.{◌≡◌, ◌≢◌, ℕ, ◌+◌, ◌*◌, ◌/◌, ◌%◌, ◌<◌, ◌≤◌, ◌==◌, Bool, true, false, List, length, count_by, ℤ, slice_index, slice_index_or, if◌then◌else◌, min, Option, Some, None}
-use Rattle.jr_head.specs.declared.kind.Kind.{Kind}
-use Rattle.jr_head.specs.declared.kind.Kind.TheVariants.{Grey, Rgb, Ycc}
+use Rattle.jr_segments.specs.declared.kind.Kind.{Kind}
+use Rattle.jr_segments.specs.declared.kind.Kind.TheVariants.{Grey, Rgb, Ycc}
 use Rattle.jr_head.specs.HeadValue.{HeadValue}
 use Rattle.jr_head.specs.Geometry.{components_of, horizontal_of, vertical_of, blocks_of}
 use Rattle.jr_head.specs.Geometry as heads

@@ -1,6 +1,6 @@
 -- What a board shows at a place.
 use Rattle.std.specs.Prelude.{ℕ, ◌+◌, ◌*◌, ◌/◌, ◌%◌, List, slice_index, slice_get, Option, Some, None}
-use Rattle.jr_head.specs.declared.kind.Kind.{Kind}
+use Rattle.jr_segments.specs.declared.kind.Kind.{Kind}
 use Rattle.jr_head.specs.Geometry.{horizontal_of, vertical_of, blocks_of}
 use Rattle.jr_paint.specs.Geometry.{place_of, spot_at}
 use Rattle.jr_paint.specs.declared.geometry.Spot.{Spot}

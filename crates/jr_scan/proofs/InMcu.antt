@@ -9,8 +9,8 @@ use Rattle.std.proofs.Math.Seq.{get_or-append_seam}
 use Rattle.std.proofs.lemmas.List.{get_or-set_same, get_or-set_other, get_or_append_left, length-set}
 use Rattle.std.proofs.lemmas.List.Elements.{All-from_get_or}
 use Rattle.jr_head.specs.HeadValue.{HeadValue}
-use Rattle.jr_head.specs.declared.kind.Kind.{Kind}
-use Rattle.jr_head.specs.declared.kind.Kind.TheVariants.{Grey, Rgb, Ycc}
+use Rattle.jr_segments.specs.declared.kind.Kind.{Kind}
+use Rattle.jr_segments.specs.declared.kind.Kind.TheVariants.{Grey, Rgb, Ycc}
 use Rattle.jr_head.specs.Geometry.{component_count, order_of, dc_of, ac_of}
 use Rattle.jr_scan.specs.Block.{IsInDcRange}
 use Rattle.jr_scan.specs.Step.{TakesBlock, HasNoBlock}

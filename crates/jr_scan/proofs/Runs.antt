@@ -11,8 +11,8 @@ use Rattle.jr_code.specs.Bits.{bits, bits_of}
 use Rattle.jr_code.proofs.BitLemmas.{length-bits_of}
 use Rattle.jr_head.specs.HeadValue.{HeadValue}
 use Rattle.jr_head.specs.declared.component.Component.{Component}
-use Rattle.jr_head.specs.declared.kind.Kind.{Kind}
-use Rattle.jr_head.specs.declared.kind.Kind.TheVariants.{Grey, Rgb, Ycc}
+use Rattle.jr_segments.specs.declared.kind.Kind.{Kind}
+use Rattle.jr_segments.specs.declared.kind.Kind.TheVariants.{Grey, Rgb, Ycc}
 use Rattle.jr_head.specs.Geometry.{order_of, order_from, units_of, dc_of, ac_of, component_count, IsLawful}
 use Rattle.jr_scan.specs.declared.place.Place.{Place}
 use Rattle.jr_scan.specs.declared.place.RunEnd.{RunEnd}

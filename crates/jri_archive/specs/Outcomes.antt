@@ -1,6 +1,6 @@
 -- What a check of a file comes to.
 use Rattle.std.specs.Prelude.{◌≢◌, ℕ, Bool, false, ◌==◌, List, length}
-use Rattle.jr_head.specs.declared.refusal.Refusal.TheVariants as refusal
+use Rattle.jr_segments.specs.declared.refusal.Refusal.TheVariants as refusal
 use Rattle.jr_head.specs.Heads.{RefusalOf}
 use Rattle.jri_archive.specs.declared.outcome.Outcome.{Outcome}
 use Rattle.jri_archive.specs.declared.outcome.Outcome.TheVariants as outcome

@@ -1,7 +1,7 @@
 //! What is damaged of a file.
 
 ghost use Rattle.std.specs.Prelude.{◌≢◌, length, IfOk, IfErr};
-ghost use Rattle.jr_head.specs.declared.refusal.Refusal.TheVariants as refusal;
+ghost use Rattle.jr_segments.specs.declared.refusal.Refusal.TheVariants as refusal;
 ghost use Rattle.jr_head.specs.Heads.{RefusalOf};
 ghost use Rattle.jri_archive.specs.Verdicts.{IsFileScan, IsVerdictOf};
 

@@ -1,8 +1,8 @@
 -- What the calls give that decode a file in memory.
 use Rattle.std.specs.Prelude.{◌≡◌, ◌≢◌, ℕ, ◌+◌, ◌*◌, ◌<◌, ◌≤◌, ◌⊎◌, List, ◌++◌, length, drop, map, None}
-use Rattle.jr_head.specs.declared.refusal.Refusal.{Refusal}
-use Rattle.jr_head.specs.declared.refusal.Refusal.TheVariants as refusal
-use Rattle.jr_head.specs.Refusal.{number_of}
+use Rattle.jr_segments.specs.declared.refusal.Refusal.{Refusal}
+use Rattle.jr_segments.specs.declared.refusal.Refusal.TheVariants as refusal
+use Rattle.jr_segments.specs.Refusal.{number_of}
 use Rattle.jr_head.specs.HeadValue.{HeadValue, kind_number}
 use Rattle.jr_head.specs.Heads.{HeadOf, RefusalOf}
 use Rattle.jr_head.specs.Geometry.{components_of}

@@ -1,7 +1,7 @@
 //! What is answered and told of a decoding.
 
 ghost use Rattle.std.specs.Prelude.{◌≡◌, ◌≢◌, ◌<◌, ◌≤◌};
-ghost use Rattle.jr_head.specs.declared.refusal.Refusal.TheVariants.{Memory};
+ghost use Rattle.jr_segments.specs.declared.refusal.Refusal.TheVariants.{Memory};
 ghost use Rattle.jri_memory.specs.Calls.{IsRefusal, TellsNoPicture, TellsNoRefusal};
 
 use crate::decode::Undecoded;

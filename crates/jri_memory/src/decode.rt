@@ -1,7 +1,7 @@
 //! From the bytes of a file to its pixels and marks, in the caller's buffers.
 
 ghost use Rattle.std.specs.Prelude.{◌≡◌, ◌≢◌, length, IfOk, IfErr};
-ghost use Rattle.jr_head.specs.declared.refusal.Refusal.TheVariants as refusal;
+ghost use Rattle.jr_segments.specs.declared.refusal.Refusal.TheVariants as refusal;
 ghost use Rattle.jr_head.specs.Heads.{RefusalOf};
 ghost use Rattle.jri_memory.specs.Calls.{Decodes, LacksRoom};
 

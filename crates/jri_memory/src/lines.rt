@@ -1,7 +1,7 @@
 //! From the bytes of a file to some lines of its picture, in the caller's buffer.
 
 ghost use Rattle.std.specs.Prelude.{◌≡◌, ◌≢◌, ◌<◌, ◌≤◌, ◌+◌, length, IfOk, IfErr, IfSome, None, true, false};
-ghost use Rattle.jr_head.specs.declared.refusal.Refusal.TheVariants as refusal;
+ghost use Rattle.jr_segments.specs.declared.refusal.Refusal.TheVariants as refusal;
 ghost use Rattle.jr_head.specs.Heads.{RefusalOf};
 ghost use Rattle.jri_memory.specs.Calls.{DecodesLines, HasLines, LacksLines, LacksRoomForLines};
 

@@ -3,7 +3,7 @@
 ghost use Rattle.std.specs.Prelude.{◌≡◌};
 ghost use Rattle.jr_head.specs.HeadValue.{kind_number};
 ghost use Rattle.jr_head.specs.Geometry.{components_of};
-ghost use Rattle.jr_head.specs.Refusal.{number_of};
+ghost use Rattle.jr_segments.specs.Refusal.{number_of};
 ghost use Rattle.jr_scan.specs.ScanValue.{intervals_of};
 ghost use Rattle.jri_memory.specs.Calls.{TellsNoHead, detail_of, picture_size};
 

@@ -1,7 +1,7 @@
 //! What a decoding tells.
 
 ghost use Rattle.std.specs.Prelude.{◌≡◌, length};
-ghost use Rattle.jr_head.specs.Refusal.{number_of};
+ghost use Rattle.jr_segments.specs.Refusal.{number_of};
 ghost use Rattle.jri_memory.specs.Calls.{IsEndOf, TellsNoPicture, TellsNoRefusal, detail_of};
 
 use jr_head::Refusal;

@@ -1,7 +1,7 @@
 //! The texts of refusals.
 
 ghost use Rattle.std.specs.Prelude.{◌≡◌, ◌≢◌, ◌≤◌, ◌<◌, length, drop, IfSome, None};
-ghost use Rattle.jr_head.specs.Refusal.{number_of};
+ghost use Rattle.jr_segments.specs.Refusal.{number_of};
 ghost use Rattle.jri_memory.specs.Calls.{IsNumberOfSome};
 
 use jr_head::Refusal;

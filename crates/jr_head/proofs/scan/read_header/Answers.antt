@@ -1,5 +1,5 @@
 use Rattle.std.proofs.Common.{◌≡◌, ◌+◌, ◌*◌, ◌∙◌, length, arith}
-use Rattle.jr_head.specs.Bytes.{byte}
+use Rattle.jr_segments.specs.Bytes.{byte}
 use Rattle.jr_head.proofs.AcceptedLaws.{selectors_count}
 use Rattle.jr_head.proofs.scan.read_header.Goals as goal
 

@@ -1,5 +1,5 @@
 use Rattle.std.proofs.Common.{◌≡◌, ◌/◌, ◌∷◌, [], slice_index, arith, rules}
-use Rattle.jr_head.specs.declared.kind.Kind.TheVariants.{Ycc}
+use Rattle.jr_segments.specs.declared.kind.Kind.TheVariants.{Ycc}
 use Rattle.jr_paint.specs.Colours.{colour_of}
 use Rattle.jr_paint.proofs.PixelLaws.{three_more}
 use Rattle.jr_paint.proofs.halves.convert_two.Goals as goal

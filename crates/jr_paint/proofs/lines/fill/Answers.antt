@@ -1,5 +1,5 @@
 use Rattle.std.proofs.Common.{◌≡◌, rules, arith, length}
-use Rattle.jr_head.specs.declared.kind.Kind.TheVariants.{Grey}
+use Rattle.jr_segments.specs.declared.kind.Kind.TheVariants.{Grey}
 use Rattle.jr_paint.proofs.PixelLaws.{line_grey}
 use Rattle.jr_paint.proofs.lines.fill.Goals as goal
 

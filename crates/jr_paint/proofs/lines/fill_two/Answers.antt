@@ -1,5 +1,5 @@
 use Rattle.std.proofs.Common.{◌≡◌, ◌∙◌, ◌++◌, ◌+◌, ◌/◌, ◌<◌, ℕ, sym, rules, refl, ap₂, length, slice_index, arith}
-use Rattle.jr_head.specs.declared.kind.Kind.TheVariants.{Ycc}
+use Rattle.jr_segments.specs.declared.kind.Kind.TheVariants.{Ycc}
 use Rattle.jr_paint.specs.Text.{value_at}
 use Rattle.jr_paint.proofs.PixelLaws.{line_coloured, shared_value}
 use Rattle.jr_paint.proofs.lines.fill_two.Goals as goal

@@ -1,6 +1,6 @@
 use Rattle.std.proofs.Common.{rules, ◌≡◌, ◌+◌, ◌*◌, ◌∷◌, [], slice_index, ap, ◌∙◌, arith}
 use Rattle.std.specs.Simd.Lanes.{put_chunk}
-use Rattle.jr_head.specs.declared.kind.Kind.TheVariants.{Ycc}
+use Rattle.jr_segments.specs.declared.kind.Kind.TheVariants.{Ycc}
 use Rattle.jr_paint.specs.Colours.{colour_of}
 use Rattle.jr_paint.specs.Shades.{lowered}
 use Rattle.jr_paint.proofs.Blocks.{pixel_is}

@@ -1,7 +1,7 @@
 use Rattle.std.proofs.Common.{ℕ, List, ◌+◌, ◌*◌, slice_index, refl, ap, ◌∙◌}
 use Rattle.std.specs.List.{flat_map, range_with_len}
 use Rattle.std.specs.Simd.Lanes.{put_chunk}
-use Rattle.jr_head.specs.declared.kind.Kind.TheVariants.{Ycc}
+use Rattle.jr_segments.specs.declared.kind.Kind.TheVariants.{Ycc}
 use Rattle.jr_paint.specs.Colours.{colour_of}
 use Rattle.jr_paint.proofs.Blocks.{next_block}
 use Rattle.jr_paint.proofs.pixels.convert_blocks.Goals as goal

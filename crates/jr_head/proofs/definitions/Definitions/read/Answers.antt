@@ -1,6 +1,6 @@
 use Rattle.std.proofs.Common.{refl, inl, inr, sym, ap, ◌∙◌, arith}
 use Rattle.std.proofs.lemmas.Result.{on_ok_weaker}
-use Rattle.jr_head.specs.Marker.{code_of}
+use Rattle.jr_segments.specs.Marker.{code_of}
 use Rattle.jr_head.proofs.DefinitionLaws.{quantisers_in_force, books_in_force, restart_in_force, jfif_in_force, adobe_in_force, at_frame, both_ok, adobe_some, adobe_none}
 use Rattle.jr_head.proofs.MarkerLaws.{app_in_force, com_in_force}
 use Rattle.jr_head.proofs.definitions.Definitions.read.Goals as goal

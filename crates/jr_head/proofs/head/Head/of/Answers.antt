@@ -1,6 +1,6 @@
 -- An accepted frame gives a lawful head.
 use Rattle.std.proofs.Common.{◌∙◌, ap}
-use Rattle.jr_head.specs.Frames.{IsAccepted}
+use Rattle.jr_segments.specs.Frames.{IsAccepted}
 use Rattle.jr_head.specs.Geometry.{AreLawful, order_from, greatest_across, greatest_down}
 use Rattle.jr_head.proofs.AcceptedLaws.{lawful, few_there}
 use Rattle.jr_head.proofs.head.Head.of.Goals as goal

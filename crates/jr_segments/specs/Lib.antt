@@ -1,0 +1,11 @@
+pub mod Tests
+pub mod Refusal
+pub mod Bytes
+pub mod Tables
+pub mod Quantisers
+pub mod HuffmanTables
+pub mod Frames
+pub mod Segments
+pub mod Marker
+pub mod Restart
+pub mod Marks
