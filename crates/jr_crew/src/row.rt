@@ -13,8 +13,8 @@ use jr_block::Coefficients;
 use jr_head::Head;
 use jr_paint::SampleLines;
 use jr_piece::transform_blocks;
-use jr_scan::Scan;
 use jr_rows::{Marked, Rows, coded_of_row, fill_blank, paint_row, shape_of};
+use jr_scan::Scan;
 use std::alloc::Global;
 use std::marker::Model;
 

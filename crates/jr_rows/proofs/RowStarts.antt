@@ -7,20 +7,11 @@ use Rattle.std.proofs.lemmas.Bool.Decides.{eqb_tells}
 use Rattle.std.proofs.lemmas.Grind.{div_ceil_times}
 use Rattle.std.proofs.lemmas.Nat.{div-add-mod', mod_below}
 use Rattle.jr_head.specs.HeadValue.{HeadValue}
-use Rattle.jr_head.specs.Geometry.{IsLawful, mcus_across, mcus_down, mcus_of, vertical_max}
-use Rattle.jr_paint.proofs.Places.{below_div_ceil, in_div_ceil}
-use Rattle.jr_paint.specs.Lines.{next_lines_of}
-use Rattle.jr_scan.specs.IntervalValue.{IntervalValue}
-use Rattle.jr_scan.specs.ScanValue.{ScanValue, intervals_of}
-use Rattle.jr_piece.specs.Outcome.{HasOutcome}
-use Rattle.jr_picture.specs.BoardValue.{BoardValue}
-use Rattle.jr_picture.specs.Boards.{marks_of}
+use Rattle.jr_head.specs.Geometry.{mcus_across, mcus_down, mcus_of}
+use Rattle.jr_paint.proofs.Places.{in_div_ceil}
+use Rattle.jr_scan.specs.ScanValue.{intervals_of}
 use Rattle.jr_picture.specs.Headline.{interval_number, within_interval}
-use Rattle.jr_picture.specs.Samples.{samples_of}
-use Rattle.jr_rows.specs.Rows.{HasFirst, coded_before, mcus_before}
-use Rattle.jr_stream.specs.SomeLines.{CountsBetween, PaintsLines, row_behind, row_with}
-use Rattle.jr_rows.specs.declared.marked.Marked.{Marked}
-use Rattle.jr_rows.proofs.FirstBoards.{first_board, shows_first}
+use Rattle.jr_rows.specs.Rows.{coded_before, mcus_before}
 use Rattle.jr_rows.proofs.PictureRows.{row_inside}
 use Rattle.jr_rows.proofs.WholeRows.{across_some}
 

@@ -1,10 +1,10 @@
 -- The entries of a frame header, one after the other.
-use Rattle.std.proofs.Common.{◌≡◌, ℕ, ◌+◌, ◌-◌, ◌/◌, ◌%◌, ◌<◌, ◌≤◌, Bool, false, ◌||◌, List, [], ◌∷◌, ◌++◌, length, get_or, take, drop, refl, sym, ap, ◌∙◌, append_assoc, arith}
+use Rattle.std.proofs.Common.{◌≡◌, ◌⊎◌, inl, inr, ℕ, zero, suc, ◌+◌, ◌-◌, ◌*◌, ◌/◌, ◌%◌, ◌<◌, ◌≤◌, Bool, false, ◌||◌, List, [], ◌∷◌, ◌++◌, length, get_or, take, drop, refl, sym, ap, ◌∙◌, append_assoc, arith}
 use Rattle.std.specs.Prelude.{◌==◌}
 use Rattle.std.specs.List.{list_any}
 use Rattle.std.proofs.lemmas.List.{take_all, append-nil, drop_more, drop_all, length-drop}
 use Rattle.jr_segments.specs.declared.frame.FrameComponent.{FrameComponent}
-use Rattle.jr_segments.specs.Frames.{components_in, has_repeats}
+use Rattle.jr_segments.specs.Frames.{components, components_in, has_repeats}
 
 -- three bytes are a component
 abbrev pub component_of : List ℕ → FrameComponent

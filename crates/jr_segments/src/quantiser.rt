@@ -109,10 +109,7 @@ fn read_quantisation(head: u8, bytes: &[u8]) -> Result<(Quantisation, &[u8]), Re
 /// # Errors
 ///
 /// Those of `read_quantisation`, for the first table that has one.
-pub fn define_quantisers(
-    places: &mut [Option<Quantiser>; 4],
-    payload: &[u8],
-) -> Result<(), Refusal>
+pub fn define_quantisers(places: &mut [Option<Quantiser>; 4], payload: &[u8]) -> Result<(), Refusal>
     ensures obeys { Obeys result (quantisations_tests payload.now) }
     ensures defined { OnOk result (DefinesQuantisers payload.now places.old places.new) }
 {
