@@ -6,7 +6,7 @@ use Rattle.jr_head.specs.Geometry.{vertical_max}
 use Rattle.jr_paint.specs.Lines.{line_size}
 use Rattle.jr_scan.specs.ScanValue.{ScanValue}
 use Rattle.jr_crew.specs.Crew.{HasRoom}
-use Rattle.jr_rows.specs.PartValue.{PartValue}
+use Rattle.jr_rows.specs.PartValue.{FirstIntervalsValue}
 use Rattle.jr_rows.specs.Rows.{line_count}
 
 pub row_fits : (scan : ScanValue) (row : ℕ) (pixels : List ℕ) → 8 * vertical_max scan.head * line_size scan.head ≤ length pixels → line_count scan.head row * line_size scan.head ≤ length pixels
@@ -15,7 +15,7 @@ row_fits scan row pixels room =
     let fits = mul-le-mul_right (line_size scan.head) few in
     omega (arith, fits, room)
 
-pub first_bytes : (known : Option PartValue) (part : PartValue) (row n : ℕ) (pixels : List ℕ) → known ≡ Some part → HasRoom known pixels → n ≡ line_count part.scan.head row * line_size part.scan.head → n ≡ length (take n pixels)
+pub first_bytes : (known : Option FirstIntervalsValue) (part : FirstIntervalsValue) (row n : ℕ) (pixels : List ℕ) → known ≡ Some part → HasRoom known pixels → n ≡ line_count part.scan.head row * line_size part.scan.head → n ≡ length (take n pixels)
 first_bytes known part row n pixels is room e =
-    let fits = row_fits part.scan row pixels (subst (λ (k : Option PartValue). HasRoom k pixels) is room) in
+    let fits = row_fits part.scan row pixels (subst (λ (k : Option FirstIntervalsValue). HasRoom k pixels) is room) in
     sym (length-take-le n pixels (omega (arith, fits, e)))

@@ -9,7 +9,7 @@ pub record BenchValue : Type 0 where
   pub pixels : List ℕ
 
 -- its number, the marks of the intervals that end in it, and its blocks
-pub record CodedValue : Type 0 where
+pub record CodedRowValue : Type 0 where
   pub row : ℕ
   pub marked : Marked
   pub work : RowValue

@@ -2,21 +2,21 @@
 
 ghost use Rattle.std.specs.Prelude.{◌≡◌, Some};
 
-use crate::bench::{Bench, Coded};
-use crate::one_part::OnePart;
+use crate::bench::{Bench, CodedRow};
+use crate::one_first_intervals::OneFirstIntervals;
 use jr_picture::Gate;
-use jr_rows::{Part, Rows, intervals_of_row, shape_of};
+use jr_rows::{FirstIntervals, Rows, intervals_of_row, shape_of};
 use jr_stream::announce;
 use std::marker::{Model, PhantomData};
 
 /// The reader of a scan's rows from one of them on, that one thread holds at a time.
 #[derive(Drop)]
-pub(crate) struct Baton<'a, S: OnePart> {
+pub(crate) struct Baton<'a, S: OneFirstIntervals> {
     rows: Rows<'a>,
     of: PhantomData<S>,
 }
 
-impl<'a, S: OnePart> Model for Baton<'a, S> {
+impl<'a, S: OneFirstIntervals> Model for Baton<'a, S> {
     ghost use Rattle.jr_crew.specs.Crew.{HaveNext};
     ghost use Rattle.jr_rows.specs.RowsValue.{RowsValue};
 
@@ -28,7 +28,7 @@ impl<'a, S: OnePart> Model for Baton<'a, S> {
 }
 
 /// These rows, where one is left.
-fn baton_over<'a, S: OnePart>(part: &Part<'_>, rows: Rows<'a>) -> Option<Baton<'a, S>>
+fn baton_over<'a, S: OneFirstIntervals>(part: &FirstIntervals<'_>, rows: Rows<'a>) -> Option<Baton<'a, S>>
     requires part { S.part ≡ Some part.now }
     requires of { rows.scan ≡ part.now.scan }
     requires limit { rows.limit ≡ part.now.limit }
@@ -42,16 +42,16 @@ fn baton_over<'a, S: OnePart>(part: &Part<'_>, rows: Rows<'a>) -> Option<Baton<'
     })
 }
 
-impl<'a, S: OnePart> Baton<'a, S> {
+impl<'a, S: OneFirstIntervals> Baton<'a, S> {
     /// All rows of the scan.
-    pub(crate) fn of(part: &Part<'a>) -> Option<Baton<'a, S>>
+    pub(crate) fn of(part: &FirstIntervals<'a>) -> Option<Baton<'a, S>>
         requires { S.part ≡ Some part.now }
     {
         baton_over(part, Rows::of(part.scan(), part.limit()))
     }
 
     /// The rows behind the next one, which can be read before it where rows are whole intervals.
-    pub(crate) fn behind(&self, part: &Part<'a>) -> Option<Baton<'a, S>>
+    pub(crate) fn behind(&self, part: &FirstIntervals<'a>) -> Option<Baton<'a, S>>
         requires { S.part ≡ Some part.now }
     {
         let head = part.scan().head();
@@ -67,10 +67,10 @@ impl<'a, S: OnePart> Baton<'a, S> {
     /// Tells the gate of the intervals that begin in the next row, and reads it: answers it with those behind it.
     pub(crate) fn read<G: Gate>(
         self,
-        part: &Part<'_>,
+        part: &FirstIntervals<'_>,
         gate: &G,
         bench: Bench<S>,
-    ) -> (Coded<S>, Option<Baton<'a, S>>)
+    ) -> (CodedRow<S>, Option<Baton<'a, S>>)
         requires { S.part ≡ Some part.now }
     {
         let mut rows = self.rows;

@@ -6,18 +6,18 @@ ghost use Rattle.jr_paint.specs.Lines.{line_size};
 ghost use Rattle.jr_paint.specs.declared.netpbm.TheConstants.{WIDEST};
 ghost use Rattle.jr_rows.specs.Rows.{AreRead, CountsRow, HasRowRoom, ShowsLines, line_count};
 
-use crate::one_part::OnePart;
+use crate::one_first_intervals::OneFirstIntervals;
 use crate::row::Row;
 use jr_base::Memory;
 use jr_paint::SampleLines;
-use jr_rows::{Marked, Part, Rows, bytes_of_row, lines_of, shape_of};
+use jr_rows::{Marked, FirstIntervals, Rows, bytes_of_row, lines_of, shape_of};
 use std::alloc::Global;
 use std::marker::{Model, PhantomData};
 
 /// Paints the row that is read at the beginning of `pixels`.
 fn paint_first<const WIDTH: usize>(
     work: &mut Row,
-    part: &Part<'_>,
+    part: &FirstIntervals<'_>,
     row: u32,
     lines: &mut SampleLines<WIDTH>,
     pixels: &mut [u8],
@@ -39,13 +39,13 @@ fn paint_first<const WIDTH: usize>(
 
 /// Memory for the blocks, the samples and the lines of a row of MCUs of the scan.
 #[derive(Drop)]
-pub(crate) struct Bench<S: OnePart> {
+pub(crate) struct Bench<S: OneFirstIntervals> {
     work: Row,
     pixels: Vec<u8>,
     of: PhantomData<S>,
 }
 
-impl<S: OnePart> Model for Bench<S> {
+impl<S: OneFirstIntervals> Model for Bench<S> {
     ghost use Rattle.jr_crew.specs.CrewValue.{BenchValue};
     ghost use Rattle.jr_crew.specs.Crew.{HasRoom, HasWork};
 
@@ -56,9 +56,9 @@ impl<S: OnePart> Model for Bench<S> {
     ghost invariant = { λ b. HasWork S.part b.work × HasRoom S.part b.pixels.items };
 }
 
-impl<S: OnePart> Bench<S> {
+impl<S: OneFirstIntervals> Bench<S> {
     /// An empty bench.
-    pub(crate) fn open(alloc: Global, part: &Part<'_>) -> Result<Bench<S>, Memory>
+    pub(crate) fn open(alloc: Global, part: &FirstIntervals<'_>) -> Result<Bench<S>, Memory>
         requires { S.part ≡ Some part.now }
     {
         let head = part.scan().head();
@@ -72,7 +72,7 @@ impl<S: OnePart> Bench<S> {
     }
 
     /// Reads the next row of the scan.
-    pub(crate) fn read(self, part: &Part<'_>, rows: &mut Rows<'_>) -> Coded<S>
+    pub(crate) fn read(self, part: &FirstIntervals<'_>, rows: &mut Rows<'_>) -> CodedRow<S>
         requires part { S.part ≡ Some part.now }
         requires of { rows.old.scan ≡ part.now.scan }
         requires limit { rows.old.limit ≡ part.now.limit }
@@ -82,7 +82,7 @@ impl<S: OnePart> Bench<S> {
         let row = rows.row();
         let mut work = self.work;
         let marked = work.read(rows);
-        Coded {
+        CodedRow {
             row,
             marked,
             work,
@@ -94,7 +94,7 @@ impl<S: OnePart> Bench<S> {
 
 /// A row of MCUs of the scan, read and not yet painted, and the marks of the intervals that end in it.
 #[derive(Drop)]
-pub(crate) struct Coded<S: OnePart> {
+pub(crate) struct CodedRow<S: OneFirstIntervals> {
     row: u32,
     marked: Marked,
     work: Row,
@@ -103,22 +103,22 @@ pub(crate) struct Coded<S: OnePart> {
     of: PhantomData<S>,
 }
 
-impl<S: OnePart> Model for Coded<S> {
-    ghost use Rattle.jr_crew.specs.CrewValue.{CodedValue};
+impl<S: OneFirstIntervals> Model for CodedRow<S> {
+    ghost use Rattle.jr_crew.specs.CrewValue.{CodedRowValue};
     ghost use Rattle.jr_crew.specs.Crew.{HasRoom, HasWork, IsRead};
 
-    ghost Value = { CodedValue };
+    ghost Value = { CodedRowValue };
 
     ghost view = { λ c. record { row = c.row; marked = c.marked; work = c.work } };
 
     ghost invariant = { λ c. HasWork S.part c.work × HasRoom S.part c.pixels.items × IsRead S.part (record { row = c.row; marked = c.marked; work = c.work }) };
 }
 
-impl<S: OnePart> Coded<S> {
+impl<S: OneFirstIntervals> CodedRow<S> {
     /// Transforms and paints the row.
     pub(crate) fn paint<const WIDTH: usize>(
         self,
-        part: &Part<'_>,
+        part: &FirstIntervals<'_>,
         lines: &mut SampleLines<WIDTH>,
     ) -> Painted<S>
         requires part { S.part ≡ Some part.now }
@@ -139,7 +139,7 @@ impl<S: OnePart> Coded<S> {
 
 /// The lines of a row of MCUs of the scan, and the marks of the intervals that end in it.
 #[derive(Drop)]
-pub(crate) struct Painted<S: OnePart> {
+pub(crate) struct Painted<S: OneFirstIntervals> {
     row: u32,
     marked: Marked,
     work: Row,
@@ -148,7 +148,7 @@ pub(crate) struct Painted<S: OnePart> {
     of: PhantomData<S>,
 }
 
-impl<S: OnePart> Model for Painted<S> {
+impl<S: OneFirstIntervals> Model for Painted<S> {
     ghost use Rattle.jr_crew.specs.CrewValue.{PaintedValue};
     ghost use Rattle.jr_crew.specs.Crew.{HasRoom, HasWork, IsPainted};
 
@@ -159,7 +159,7 @@ impl<S: OnePart> Model for Painted<S> {
     ghost invariant = { λ p. HasWork S.part p.work × HasRoom S.part p.pixels.items × IsPainted S.part (record { row = p.row; marked = p.marked; pixels = p.pixels.items }) };
 }
 
-impl<S: OnePart> Painted<S> {
+impl<S: OneFirstIntervals> Painted<S> {
     /// The row's number.
     pub(crate) fn row(&self) -> u32
         ensures { result ≡ self.now.row }
@@ -168,7 +168,7 @@ impl<S: OnePart> Painted<S> {
     }
 
     /// Copies the lines, for which the slice has room, and answers the marks of the intervals that end in the row.
-    pub(crate) fn copy_to(&self, part: &Part<'_>, pixels: &mut [u8]) -> Marked
+    pub(crate) fn copy_to(&self, part: &FirstIntervals<'_>, pixels: &mut [u8]) -> Marked
         requires part { S.part ≡ Some part.now }
         requires room { length pixels.old ≡ line_count part.now.scan.head self.now.row * line_size part.now.scan.head }
         ensures lines { ShowsLines part.now.scan part.now.limit self.now.row pixels.new }

@@ -4,7 +4,7 @@ ghost use Rattle.std.specs.Prelude.{◌≤◌};
 ghost use Rattle.jr_paint.specs.declared.netpbm.TheConstants.{WIDEST};
 
 use crate::crew::Crew;
-use crate::one_part::OnePart;
+use crate::one_first_intervals::OneFirstIntervals;
 use jr_picture::Gate;
 use std::sync::Wait;
 use std::thread;
@@ -28,7 +28,7 @@ pub(crate) trait Beside {
 pub(crate) fn run_beside<
     R: Threads + Wait + Sync,
     G: Gate + Sync,
-    S: OnePart + Send,
+    S: OneFirstIntervals + Send,
     B: Beside + Drop,
     const WIDTH: usize,
 >(crew: &Crew<'_, S>, rt: &R, gate: &G, others: u32, beside: B) -> B::Answer

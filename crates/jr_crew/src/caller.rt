@@ -4,7 +4,7 @@ ghost use Rattle.std.specs.Prelude.{◌≡◌, ◌≤◌};
 ghost use Rattle.jr_paint.specs.declared.netpbm.TheConstants.{WIDEST};
 
 use crate::crew::Crew;
-use crate::one_part::OnePart;
+use crate::one_first_intervals::OneFirstIntervals;
 use jr_paint::SampleLines;
 use jr_picture::Gate;
 use jr_rows::{Marked, shape_of};
@@ -15,7 +15,7 @@ use std::sync::Wait;
 /// The calling thread: it takes row after row from a crew, and reads and paints where the row that comes next is not painted
 /// yet.
 #[derive(Drop)]
-pub(crate) struct Caller<'a, 'b, R: Wait, G: Gate, S: OnePart, const WIDTH: usize> {
+pub(crate) struct Caller<'a, 'b, R: Wait, G: Gate, S: OneFirstIntervals, const WIDTH: usize> {
     crew: &'b Crew<'a, S>,
     rt: &'b R,
     gate: &'b G,
@@ -23,7 +23,7 @@ pub(crate) struct Caller<'a, 'b, R: Wait, G: Gate, S: OnePart, const WIDTH: usiz
     lines: SampleLines<WIDTH>,
 }
 
-impl<'a, 'b, R: Wait, G: Gate, S: OnePart, const WIDTH: usize> Model
+impl<'a, 'b, R: Wait, G: Gate, S: OneFirstIntervals, const WIDTH: usize> Model
     for Caller<'a, 'b, R, G, S, WIDTH> {
     ghost use Rattle.std.specs.Prelude.{◌≡◌, ◌≤◌, Some};
     ghost use Rattle.jr_rows.specs.RowsValue.{RowsValue};
@@ -36,7 +36,7 @@ impl<'a, 'b, R: Wait, G: Gate, S: OnePart, const WIDTH: usize> Model
     ghost invariant = { λ c. (S.part ≡ Some c.crew.now) × (c.crew.now.scan.head.width ≤ WIDTH) × (WIDTH ≤ WIDEST) };
 }
 
-impl<'a, 'b, R: Wait, G: Gate, S: OnePart, const WIDTH: usize> Caller<'a, 'b, R, G, S, WIDTH> {
+impl<'a, 'b, R: Wait, G: Gate, S: OneFirstIntervals, const WIDTH: usize> Caller<'a, 'b, R, G, S, WIDTH> {
     /// Nothing is written yet.
     pub(crate) fn of(
         crew: &'b Crew<'a, S>,
@@ -73,7 +73,7 @@ impl<'a, 'b, R: Wait, G: Gate, S: OnePart, const WIDTH: usize> Caller<'a, 'b, R,
     }
 }
 
-impl<R: Wait, G: Gate, S: OnePart, const WIDTH: usize> RowPainter
+impl<R: Wait, G: Gate, S: OneFirstIntervals, const WIDTH: usize> RowPainter
     for Caller<'_, '_, R, G, S, WIDTH> {
     ghost at = { λ c. c };
 

@@ -4,58 +4,58 @@ ghost use Rattle.std.specs.Prelude.{◌≡◌, ◌≤◌, Some, length};
 ghost use Rattle.jr_paint.specs.declared.netpbm.TheConstants.{WIDEST};
 
 use crate::baton::Baton;
-use crate::bench::{Bench, Coded, Painted};
-use crate::one_part::OnePart;
-use crate::ring::{Ring, Task, Waiter};
+use crate::bench::{Bench, CodedRow, Painted};
+use crate::one_first_intervals::OneFirstIntervals;
+use crate::row_queue::{RowQueue, RowTask, Waiter};
 use jr_paint::SampleLines;
 use jr_picture::Gate;
-use jr_rows::{Part, intervals_of_row, shape_of};
+use jr_rows::{FirstIntervals, intervals_of_row, shape_of};
 use std::marker::Model;
 use std::sync::{Condvar, Mutex, Wait};
 
 /// What the threads share.
 ///
-/// A thread takes from the ring what is to be done next, and does it outside of the lock. A row is read on a bench, so that
+/// A thread takes from the queue what is to be done next, and does it outside of the lock. A row is read on a bench, so that
 /// no more rows are read than there are benches. Where rows are whole intervals, each thread reads rows by itself, and paints
 /// what it has read. Else one thread reads row after row, and what it has read is painted by whoever is free. What is painted
 /// waits for its turn to be written.
 #[derive(Drop)]
-pub(crate) struct Crew<'a, S: OnePart> {
-    part: Part<'a>,
-    ring: Mutex<Ring<'a, S>>,
+pub(crate) struct Crew<'a, S: OneFirstIntervals> {
+    part: FirstIntervals<'a>,
+    queue: Mutex<RowQueue<'a, S>>,
     /// Somebody has read a row, or given back a bench, or all is over. It wakes nobody where nobody waits.
     has_task: Condvar,
     /// The row is painted that the calling thread waits for, or one is read and nobody else waits for it.
     has_row: Condvar,
 }
 
-impl<'a, S: OnePart> Model for Crew<'a, S> {
+impl<'a, S: OneFirstIntervals> Model for Crew<'a, S> {
     ghost use Rattle.std.specs.Prelude.{◌≡◌, Some};
-    ghost use Rattle.jr_rows.specs.PartValue.{PartValue};
+    ghost use Rattle.jr_rows.specs.PartValue.{FirstIntervalsValue};
 
-    ghost Value = { PartValue };
+    ghost Value = { FirstIntervalsValue };
 
     ghost view = { λ c. c.part };
 
     ghost invariant = { λ c. S.part ≡ Some c.part };
 }
 
-impl<'a, S: OnePart> Crew<'a, S> {
+impl<'a, S: OneFirstIntervals> Crew<'a, S> {
     /// Nothing is done yet.
-    pub(crate) fn of(part: Part<'a>, ring: Ring<'a, S>) -> Crew<'a, S>
+    pub(crate) fn of(part: FirstIntervals<'a>, queue: RowQueue<'a, S>) -> Crew<'a, S>
         requires { S.part ≡ Some part }
         ensures { result ≡ part.entry }
     {
         Crew {
             part,
-            ring: Mutex::new(ring),
+            queue: Mutex::new(queue),
             has_task: Condvar::new(),
             has_row: Condvar::new(),
         }
     }
 
     /// What of the scan is decoded.
-    pub(crate) fn part(&self) -> &Part<'a>
+    pub(crate) fn part(&self) -> &FirstIntervals<'a>
         ensures value { result.now ≡ self.now }
         ensures known { S.part ≡ Some self.now }
     {
@@ -68,42 +68,42 @@ impl<'a, S: OnePart> Crew<'a, S> {
     }
 
     /// What a thread does next, once there is something. None where nothing is left.
-    fn task<R: Wait>(&self, rt: &R) -> Option<Task<'a, S>> {
-        let mut ring = self.ring.lock(rt);
-        ring.begin_waiting();
-        let mut ring = self
+    fn task<R: Wait>(&self, rt: &R) -> Option<RowTask<'a, S>> {
+        let mut queue = self.queue.lock(rt);
+        queue.begin_waiting();
+        let mut queue = self
             .has_task
-            .wait_while(rt, ring, |ring| ring.has_no_task());
-        ring.end_waiting();
-        ring.task(&self.part)
+            .wait_while(rt, queue, |queue| queue.has_no_task());
+        queue.end_waiting();
+        queue.task(&self.part)
     }
 
     /// What the calling thread does next, once there is something or this row is painted. None where it is, or nothing is left.
-    pub(crate) fn task_before<R: Wait>(&self, rt: &R, row: u32) -> Option<Task<'a, S>> {
-        let mut ring = self.ring.lock(rt);
-        ring.set_awaited(Some(row));
-        let mut ring = self
+    pub(crate) fn task_before<R: Wait>(&self, rt: &R, row: u32) -> Option<RowTask<'a, S>> {
+        let mut queue = self.queue.lock(rt);
+        queue.set_awaited(Some(row));
+        let mut queue = self
             .has_row
-            .wait_while(rt, ring, |ring| !ring.has(row) && ring.has_no_task());
-        ring.set_awaited(None);
-        if ring.has(row) {
+            .wait_while(rt, queue, |queue| !queue.has(row) && queue.has_no_task());
+        queue.set_awaited(None);
+        if queue.has(row) {
             return None;
         }
-        ring.task(&self.part)
+        queue.task(&self.part)
     }
 
     /// Paints a row that is read.
     fn paint<R: Wait, const WIDTH: usize>(
         &self,
         rt: &R,
-        coded: Coded<S>,
+        coded: CodedRow<S>,
         lines: &mut SampleLines<WIDTH>,
     )
         requires stack { WIDTH ≤ WIDEST }
         requires wide { self.now.scan.head.width ≤ WIDTH }
     {
         let painted = coded.paint(&self.part, lines);
-        let is_awaited = self.ring.lock(rt).put_painted(painted);
+        let is_awaited = self.queue.lock(rt).put_painted(painted);
         if is_awaited {
             self.has_row.notify_one();
         }
@@ -125,7 +125,7 @@ impl<'a, S: OnePart> Crew<'a, S> {
         if intervals_of_row(self.part.scan().head()).is_some() {
             return self.paint(rt, coded, lines);
         }
-        let waiter = self.ring.lock(rt).put_coded(coded, behind);
+        let waiter = self.queue.lock(rt).put_coded(coded, behind);
         match waiter {
             Some(Waiter::Worker) => self.has_task.notify_one(),
             Some(Waiter::Caller) => self.has_row.notify_one(),
@@ -138,15 +138,15 @@ impl<'a, S: OnePart> Crew<'a, S> {
         &self,
         rt: &R,
         gate: &G,
-        task: Task<'a, S>,
+        task: RowTask<'a, S>,
         lines: &mut SampleLines<WIDTH>,
     )
         requires stack { WIDTH ≤ WIDEST }
         requires wide { self.now.scan.head.width ≤ WIDTH }
     {
         match task {
-            Task::Read(baton, bench) => self.read(rt, gate, baton, bench, lines),
-            Task::Paint(coded) => self.paint(rt, coded, lines),
+            RowTask::Read(baton, bench) => self.read(rt, gate, baton, bench, lines),
+            RowTask::Paint(coded) => self.paint(rt, coded, lines),
         }
     }
 
@@ -168,16 +168,16 @@ impl<'a, S: OnePart> Crew<'a, S> {
     pub(crate) fn painted<R: Wait>(&self, rt: &R, row: u32) -> Painted<S>
         ensures { result.row ≡ row }
     {
-        let mut ring = self.ring.lock(rt);
-        ring.set_awaited(Some(row));
-        let mut ring = self.has_row.wait_while(rt, ring, |ring| !ring.has(row));
-        ring.set_awaited(None);
-        ring.take(row)
+        let mut queue = self.queue.lock(rt);
+        queue.set_awaited(Some(row));
+        let mut queue = self.has_row.wait_while(rt, queue, |queue| !queue.has(row));
+        queue.set_awaited(None);
+        queue.take(row)
     }
 
     /// Gives back a bench, so that another row can be read.
     pub(crate) fn give_back<R: Wait>(&self, rt: &R, bench: Bench<S>) {
-        let is_waited_for = self.ring.lock(rt).give_back(bench);
+        let is_waited_for = self.queue.lock(rt).give_back(bench);
         if is_waited_for {
             self.has_task.notify_one();
         }
@@ -185,7 +185,7 @@ impl<'a, S: OnePart> Crew<'a, S> {
 
     /// Ends the work.
     pub(crate) fn end<R: Wait>(&self, rt: &R) {
-        self.ring.lock(rt).end();
+        self.queue.lock(rt).end();
         self.has_task.notify_all();
     }
 }

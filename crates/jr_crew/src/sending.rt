@@ -11,7 +11,7 @@ ghost use Rattle.jr_stream.specs.Stream.{IsSentBy};
 use crate::beside::Beside;
 use crate::caller::Caller;
 use crate::crew::Crew;
-use crate::one_part::OnePart;
+use crate::one_first_intervals::OneFirstIntervals;
 use jr_base::{Tally, WriteFault};
 use jr_picture::Gate;
 use jr_rows::Marked;
@@ -21,7 +21,7 @@ use std::sync::Wait;
 
 /// What the calling thread writes by.
 #[derive(Drop)]
-pub(crate) struct Sending<'s, 'w, 'a, R: Wait, W: Write, G: Gate, S: OnePart, const WIDTH: usize> {
+pub(crate) struct Sending<'s, 'w, 'a, R: Wait, W: Write, G: Gate, S: OneFirstIntervals, const WIDTH: usize> {
     pub(crate) crew: &'s Crew<'a, S>,
     pub(crate) rt: &'s R,
     pub(crate) gate: &'s G,
@@ -30,7 +30,7 @@ pub(crate) struct Sending<'s, 'w, 'a, R: Wait, W: Write, G: Gate, S: OnePart, co
     pub(crate) out: &'w mut Tally<W>,
 }
 
-impl<'s, 'w, 'a, R: Wait, W: Write, G: Gate, S: OnePart, const WIDTH: usize> Beside
+impl<'s, 'w, 'a, R: Wait, W: Write, G: Gate, S: OneFirstIntervals, const WIDTH: usize> Beside
     for Sending<'s, 'w, 'a, R, W, G, S, WIDTH> {
     /// What is answered, and the writer.
     type Answer = (Result<Marked, WriteFault>, &'w mut Tally<W>);

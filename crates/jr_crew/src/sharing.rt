@@ -15,16 +15,16 @@ use crate::baton::Baton;
 use crate::bench::{Bench, Painted};
 use crate::beside::run_beside;
 use crate::crew::Crew;
-use crate::one_part::OnePart;
-use crate::ring::Ring;
+use crate::one_first_intervals::OneFirstIntervals;
+use crate::row_queue::RowQueue;
 use crate::sending::Sending;
 use jr_base::{Memory, Tally, WriteFault};
 use jr_paint::{NARROW, WIDEST};
 use jr_picture::{Counts, Gate};
 use jr_piece::each_interval_has_an_outcome;
-use jr_rows::{Marked, Part, room_for};
+use jr_rows::{Marked, FirstIntervals, room_for};
 use jr_scan::Scan;
-use jr_stream::{Unwritten, counts_of};
+use jr_stream::{PictureError, counts_of};
 use std::alloc::Global;
 use std::collections::VecDeque;
 use std::io::Write;
@@ -36,9 +36,9 @@ use std::thread::Threads;
 const BENCHES_OF_ONE: u32 = 2;
 
 /// So many benches.
-fn open_benches<S: OnePart>(
+fn open_benches<S: OneFirstIntervals>(
     alloc: Global,
-    part: &Part<'_>,
+    part: &FirstIntervals<'_>,
     count: u32,
 ) -> Result<Vec<Bench<S>>, Memory>
     requires { S.part ≡ Some part.now }
@@ -51,7 +51,7 @@ fn open_benches<S: OnePart>(
 }
 
 /// Places for painted rows: so many, and one at least.
-fn open_places<S: OnePart>(alloc: Global, count: u32) -> Result<Vec<Option<Painted<S>>>, Memory>
+fn open_places<S: OneFirstIntervals>(alloc: Global, count: u32) -> Result<Vec<Option<Painted<S>>>, Memory>
     ensures { IfOk result (λ v. 0 < length v.items) }
 {
     let mut places = Vec::with_capacity(alloc, count as usize)?;
@@ -62,18 +62,18 @@ fn open_places<S: OnePart>(alloc: Global, count: u32) -> Result<Vec<Option<Paint
     Ok(places)
 }
 
-/// A ring of so many benches.
-fn open_ring<'a, S: OnePart>(
+/// A queue of so many benches.
+fn open_queue<'a, S: OneFirstIntervals>(
     alloc: Global,
-    part: &Part<'a>,
+    part: &FirstIntervals<'a>,
     count: u32,
-) -> Result<Ring<'a, S>, Memory>
+) -> Result<RowQueue<'a, S>, Memory>
     requires { S.part ≡ Some part.now }
 {
     let free = open_benches(alloc, part, count)?;
     let coded = VecDeque::with_capacity(alloc, count as usize)?;
     let painted = open_places(alloc, count)?;
-    Ok(Ring::of(Baton::of(part), free, coded, painted))
+    Ok(RowQueue::of(Baton::of(part), free, coded, painted))
 }
 
 /// Writes what a crew of so many others paints.
@@ -84,7 +84,7 @@ fn write_beside<
     R: Threads + Wait + Sync,
     W: Write,
     G: Gate + Sync,
-    S: OnePart + Send,
+    S: OneFirstIntervals + Send,
     const WIDTH: usize,
 >(
     crew: &'s Crew<'a, S>,
@@ -115,7 +115,7 @@ fn write_beside<
 }
 
 /// Writes what a crew paints, of as wide a picture as there is.
-fn write_by_crew<R: Threads + Wait + Sync, W: Write, G: Gate + Sync, S: OnePart + Send>(
+fn write_by_crew<R: Threads + Wait + Sync, W: Write, G: Gate + Sync, S: OneFirstIntervals + Send>(
     crew: &Crew<'_, S>,
     rt: &R,
     gate: &G,
@@ -140,37 +140,37 @@ fn write_by_crew<R: Threads + Wait + Sync, W: Write, G: Gate + Sync, S: OnePart 
 
 /// `write_scan_by`, where a type stands for the part that is decoded, so that what the threads share under locks is known to
 /// be of it.
-fn write_as<R: Threads + Wait + Sync, W: Write, G: Gate + Sync, S: OnePart + Send>(
+fn write_as<R: Threads + Wait + Sync, W: Write, G: Gate + Sync, S: OneFirstIntervals + Send>(
     rt: &R,
     alloc: Global,
-    part: Part<'_>,
+    part: FirstIntervals<'_>,
     workers: u32,
     gate: &G,
     out: &mut Tally<W>,
-) -> Result<Counts, Unwritten>
+) -> Result<Counts, PictureError>
     requires part { S.part ≡ Some part }
     requires unfailed { has_failed out.old ≡ false }
     requires some { 1 ≤ workers }
     requires few { workers ≤ MAX_WORKERS }
     ensures painted { IfOk result (λ c. WritesPicture W.contents out.old out.new part.entry.scan part.entry.limit c) }
-    ensures begun { result ≡ Err Unwritten.Write → BeginsPicture W.contents out.old out.new part.entry.scan part.entry.limit }
-    ensures memory { result ≡ Err Unwritten.Memory → out.new ≡ out.old }
+    ensures begun { result ≡ Err PictureError.Write → BeginsPicture W.contents out.old out.new part.entry.scan part.entry.limit }
+    ensures memory { result ≡ Err PictureError.Memory → out.new ≡ out.old }
     ensures written { OnOk result (has_failed out.new ≡ false) }
-    ensures write { result ≡ Err Unwritten.Write → has_failed out.new ≡ true }
+    ensures write { result ≡ Err PictureError.Write → has_failed out.new ≡ true }
 {
     each_interval_has_an_outcome();
     let (scan, limit) = (part.scan(), part.limit());
     scan.head().be_lawful();
-    let Ok(ring) = open_ring::<S>(alloc, &part, BENCHES_OF_ONE * workers) else {
-        return Err(Unwritten::Memory);
+    let Ok(queue) = open_queue::<S>(alloc, &part, BENCHES_OF_ONE * workers) else {
+        return Err(PictureError::Memory);
     };
     let Ok(pixels) = vec![in alloc; 0; room_for(scan.head())] else {
-        return Err(Unwritten::Memory);
+        return Err(PictureError::Memory);
     };
-    let crew = Crew::of(part, ring);
+    let crew = Crew::of(part, queue);
     match write_by_crew(&crew, rt, gate, workers - 1, pixels, out) {
         Ok(marked) => Ok(counts_of(scan, limit, marked)),
-        Err(_) => Err(Unwritten::Write),
+        Err(_) => Err(PictureError::Write),
     }
 }
 
@@ -189,16 +189,16 @@ pub fn write_scan_by<R: Threads + Wait + Sync, W: Write, G: Gate + Sync>(
     first: Option<u32>,
     gate: &G,
     out: &mut Tally<W>,
-) -> Result<Counts, Unwritten>
+) -> Result<Counts, PictureError>
     requires unfailed { has_failed out.old ≡ false }
     requires some { 1 ≤ workers }
     requires few { workers ≤ MAX_WORKERS }
     ensures painted { IfOk result (λ c. WritesPicture W.contents out.old out.new scan.now (least first (length scan.now.intervals)) c) }
-    ensures begun { result ≡ Err Unwritten.Write → BeginsPicture W.contents out.old out.new scan.now (least first (length scan.now.intervals)) }
-    ensures memory { result ≡ Err Unwritten.Memory → out.new ≡ out.old }
+    ensures begun { result ≡ Err PictureError.Write → BeginsPicture W.contents out.old out.new scan.now (least first (length scan.now.intervals)) }
+    ensures memory { result ≡ Err PictureError.Memory → out.new ≡ out.old }
     ensures written { OnOk result (has_failed out.new ≡ false) }
-    ensures write { result ≡ Err Unwritten.Write → has_failed out.new ≡ true }
+    ensures write { result ≡ Err PictureError.Write → has_failed out.new ≡ true }
 {
-    let part = Part::of(scan, first);
+    let part = FirstIntervals::of(scan, first);
     write_as::<R, W, G, Brand>(rt, alloc, part, workers, gate, out)
 }

@@ -13,7 +13,7 @@ use std::collections::LinkedList;
 use std::marker::Model;
 
 // What a seat of the table knows. No value of it is made.
-pub struct View {
+pub struct SeatView {
     pub limit: u64,
     pub all: u64,
     pub drawn: LinkedList<u64>,
@@ -24,7 +24,7 @@ pub struct View {
 // How many numbers and seats the desk has.
 pub struct Rules;
 
-impl TableRule<(), View, (u64, u64)> for Rules {
+impl TableRule<(), SeatView, (u64, u64)> for Rules {
     ghost use Rattle.std.specs.Prelude.{[]};
     ghost use Rattle.jr_desk.specs.Draws.{Dealt, view};
 
@@ -36,7 +36,7 @@ impl TableRule<(), View, (u64, u64)> for Rules {
 // One claim.
 pub struct Claim;
 
-impl Play<(), View> for Claim {
+impl Play<(), SeatView> for Claim {
     ghost use Rattle.jr_desk.specs.Draws.{Told};
 
     ghost then = { Told };
@@ -45,7 +45,7 @@ impl Play<(), View> for Claim {
 // One seat is cut off.
 pub struct Cut;
 
-impl Split<View> for Cut {
+impl Split<SeatView> for Cut {
     ghost use Rattle.std.specs.Prelude.{[], ◌-◌};
     ghost use Rattle.jr_desk.specs.Draws.{view};
 
@@ -56,7 +56,7 @@ impl Split<View> for Cut {
 
 pub struct Both;
 
-impl Join<View> for Both {
+impl Join<SeatView> for Both {
     ghost use Rattle.std.specs.Prelude.{[], ◌+◌, ◌++◌};
     ghost use Rattle.jr_desk.specs.Draws.{view};
 
@@ -65,12 +65,12 @@ impl Join<View> for Both {
     ghost spent = { view 0 0 [] 0 0 };
 }
 
-type Pass = atomic_table::Seat<(), View>;
+type Pass = atomic_table::Seat<(), SeatView>;
 
 /// Hands out each number below its limit once.
 #[derive(Drop)]
 pub struct Desk {
-    table: Table<(), View, (u64, u64), Rules, Global>,
+    table: Table<(), SeatView, (u64, u64), Rules, Global>,
     limit: u32,
     seats: u32,
 }
@@ -144,12 +144,12 @@ impl Drawn {
     }
 }
 
-type Tables = Shared<(), View, (u64, u64), Rules>;
+type SharedTable = Shared<(), SeatView, (u64, u64), Rules>;
 
 // A seat for each place, of which the first view is cut.
 fn deal(
     alloc: Global,
-    table: &Tables,
+    table: &SharedTable,
     mut rest: Pass,
     limit: u32,
     seats: u32,
@@ -179,7 +179,7 @@ fn deal(
 }
 
 // One pass that knows what all these seats know.
-fn merged(table: &Tables, mut seats: Vec<Seat>) -> Option<Pass>
+fn merged(table: &SharedTable, mut seats: Vec<Seat>) -> Option<Pass>
     requires words { table.now.table_id.words ≡ 2 }
     requires seats { All (λ s. s.desk ≡ desk_of table.now.table_id table.now.key.0 table.now.key.1) seats.items }
     ensures none { MatchOption result (seats.items ≡ []) (λ p. p.table_id ≡ table.now.table_id) }

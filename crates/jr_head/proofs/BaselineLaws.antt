@@ -18,13 +18,15 @@ use Rattle.jr_segments.specs.declared.refusal.Refusal.TheVariants.{BadLength, Ba
 use Rattle.jr_head.specs.declared.scan.Selector.{Selector}
 use Rattle.jr_head.specs.Baseline.{baseline_code_tests, baseline_quantisation_tests, baseline_huffman_table_tests, baseline_scan_tests, baseline_payload_tests, is_ill_selected_baseline, PassesBaseline, IsBaselineChain, BaselineHeadOf}
 use Rattle.jr_segments.specs.Bytes.{byte, high, low}
-use Rattle.jr_segments.specs.HuffmanTables.{HuffmanTable, huffman_table_len, huffman_table_tests, huffman_tables_tests}
+use Rattle.jr_segments.specs.HuffmanTables.{huffman_table_len, huffman_table_tests, huffman_tables_tests}
+use Rattle.jr_segments.specs.declared.huffman_table.HuffmanTable.{HuffmanTable}
 use Rattle.jr_segments.specs.Frames.{frame_tests, components}
 use Rattle.jr_head.specs.HeadValue.{HeadValue}
 use Rattle.jr_head.specs.Heads.{Passes, IsChain, HeadOf, payload_tests}
 use Rattle.jr_segments.specs.Segments.{Segment, code_tests, frame_in, has_frame, is_frame, is_known, is_other, is_not_baseline}
-use Rattle.jr_segments.specs.Quantisers.{Quantisation, quantisation, quantisations, quantisation_tests, quantisations_tests, quantiser_for, elements_len}
-use Rattle.jr_head.specs.Scans.{all_quantisations, all_huffman_tables, frame_segment, scan_components, is_missing, is_whole, has_wide, is_ill_selected, header_tests, table_tests, scan_tests}
+use Rattle.jr_segments.specs.Quantisers.{quantisation, quantisations, quantisation_tests, quantisations_tests, quantiser_for, elements_len}
+use Rattle.jr_segments.specs.declared.quantiser.Quantisation.{Quantisation}
+use Rattle.jr_head.specs.Scans.{all_quantisations, all_huffman_tables, frame_segment, scan_components, is_missing, has_all_coefficients, has_wide, is_ill_selected, header_tests, table_tests, scan_tests}
 use Rattle.jr_segments.specs.Tables.{tables, tables_after, last_where}
 use Rattle.jr_segments.specs.Tests.{Test, ◌when◌, first_fault}
 use Rattle.jr_segments.proofs.TableLaws.{last_push}
@@ -168,7 +170,7 @@ scan_pass code cs qs ds p c narrow h =
     ∷ (BadScanHeader when not (byte 0 p == length cs))
     ∷ (BadLength SOS when not (length p == 4 + 2 * byte 0 p))
     ∷ (BadScanHeader when is_ill_selected_baseline us)
-    ∷ (BadScanHeader when not (is_whole p))
+    ∷ (BadScanHeader when not (has_all_coefficients p))
     ∷ [] in
     let both = passes_parts header ((MissingTable when list_any (is_missing qs ds) us) ∷ []) h in
     let missing = passes_first (MissingTable when list_any (is_missing qs ds) us) [] both.1 in

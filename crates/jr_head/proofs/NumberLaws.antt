@@ -8,11 +8,13 @@ use Rattle.jr_segments.specs.Restart.{restart_tests}
 use Rattle.jr_segments.specs.declared.frame.FrameComponent.{FrameComponent}
 use Rattle.jr_segments.specs.declared.refusal.Refusal.{Refusal}
 use Rattle.jr_segments.specs.Bytes.{byte}
-use Rattle.jr_segments.specs.HuffmanTables.{HuffmanTable, huffman_table_len, huffman_table_tests, huffman_tables_tests}
+use Rattle.jr_segments.specs.HuffmanTables.{huffman_table_len, huffman_table_tests, huffman_tables_tests}
+use Rattle.jr_segments.specs.declared.huffman_table.HuffmanTable.{HuffmanTable}
 use Rattle.jr_segments.specs.Frames.{components, size_tests, component_tests, frame_tests}
 use Rattle.jr_head.specs.Heads.{segment_tests, payload_tests, start_tests, RefusalOf}
 use Rattle.jr_segments.specs.Segments.{Segment, at_code, has_frame, is_frame, segment_at, marker_tests, code_tests, length_tests, framing_tests}
-use Rattle.jr_segments.specs.Quantisers.{Quantisation, elements_len, quantisation_tests, quantisations_tests}
+use Rattle.jr_segments.specs.Quantisers.{elements_len, quantisation_tests, quantisations_tests}
+use Rattle.jr_segments.specs.declared.quantiser.Quantisation.{Quantisation}
 use Rattle.jr_segments.specs.Refusal.{number_of}
 use Rattle.jr_head.specs.Scans.{all_quantisations, all_huffman_tables, frame_segment, header_tests, table_tests, scan_tests}
 use Rattle.jr_segments.specs.Tables.{tables}

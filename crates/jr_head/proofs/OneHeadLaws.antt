@@ -17,14 +17,16 @@ use Rattle.jr_segments.specs.declared.refusal.Refusal.{Refusal}
 use Rattle.jr_segments.specs.declared.refusal.Refusal.TheVariants.{TooLong, NotJpeg, MissingTable, BadQuantTable}
 use Rattle.jr_head.specs.declared.scan.Selector.{Selector}
 use Rattle.jr_segments.specs.Bytes.{byte}
-use Rattle.jr_segments.specs.HuffmanTables.{HuffmanTable, huffman_table_for}
+use Rattle.jr_segments.specs.HuffmanTables.{huffman_table_for}
+use Rattle.jr_segments.specs.declared.huffman_table.HuffmanTable.{HuffmanTable}
 use Rattle.jr_head.specs.Definitions.{IsComponent, restart_of}
 use Rattle.jr_segments.specs.Frames.{components, width, height}
 use Rattle.jr_head.specs.HeadValue.{HeadValue}
 use Rattle.jr_head.specs.Heads.{Passes, IsChain, Defines, HeadOf, EndsWith, RefusalOf, segment_tests, payload_tests, start_of_image, start_tests, is_single, HasOneHead, HasOneFault}
 use Rattle.jr_segments.specs.Segments.{Segment, segment_bytes, segment_at, behind_segment, has_frame, framing_tests}
 use Rattle.jr_segments.specs.Marks.{kind_of}
-use Rattle.jr_segments.specs.Quantisers.{Quantisation, quantiser_for}
+use Rattle.jr_segments.specs.Quantisers.{quantiser_for}
+use Rattle.jr_segments.specs.declared.quantiser.Quantisation.{Quantisation}
 use Rattle.jr_head.specs.Scans.{all_quantisations, all_huffman_tables, frame_segment, scan_components, is_missing, has_wide, header_tests, table_tests, scan_tests}
 use Rattle.jr_segments.specs.Tests.{◌when◌, first_fault}
 use Rattle.jr_segments.proofs.SegmentLaws.{IsBytes, IsBytes-drop, framed_is}

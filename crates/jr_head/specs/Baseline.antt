@@ -8,14 +8,15 @@ use Rattle.jr_segments.specs.declared.frame.FrameComponent.{FrameComponent}
 use Rattle.jr_segments.specs.declared.refusal.Refusal.TheVariants.{BadLength, BadQuantTable, BadCodeTable, BadScanHeader, MissingTable, NotBaseline, SecondFrame, NoFrame, UnexpectedMarker}
 use Rattle.jr_head.specs.declared.scan.Selector.{Selector}
 use Rattle.jr_segments.specs.Bytes.{byte, high, low}
-use Rattle.jr_segments.specs.HuffmanTables.{HuffmanTable, huffman_table_len}
+use Rattle.jr_segments.specs.HuffmanTables.{huffman_table_len}
+use Rattle.jr_segments.specs.declared.huffman_table.HuffmanTable.{HuffmanTable}
 use Rattle.jr_segments.specs.Frames.{frame_tests, components}
 use Rattle.jr_head.specs.HeadValue.{HeadValue}
 use Rattle.jr_head.specs.Heads.{Defines, start_of_image}
 use Rattle.jr_segments.specs.Segments.{Segment, segment_bytes, is_not_baseline, is_other, has_frame}
 use Rattle.jr_segments.specs.Restart.{restart_tests}
-use Rattle.jr_segments.specs.Quantisers.{Quantisation}
-use Rattle.jr_head.specs.Scans.{all_quantisations, all_huffman_tables, frame_segment, scan_components, is_missing, is_whole}
+use Rattle.jr_segments.specs.declared.quantiser.Quantisation.{Quantisation}
+use Rattle.jr_head.specs.Scans.{all_quantisations, all_huffman_tables, frame_segment, scan_components, is_missing, has_all_coefficients}
 use Rattle.jr_segments.specs.Tables.{tables}
 use Rattle.jr_segments.specs.Tests.{Test, ◌when◌, first_fault}
 
@@ -54,7 +55,7 @@ baseline_scan_tests cs qs ds p =
     ∷ (BadScanHeader when not (byte 0 p == length cs))
     ∷ (BadLength SOS when not (length p == 4 + 2 * byte 0 p))
     ∷ (BadScanHeader when is_ill_selected_baseline (scan_components cs p))
-    ∷ (BadScanHeader when not (is_whole p))
+    ∷ (BadScanHeader when not (has_all_coefficients p))
     ∷ (MissingTable when list_any (is_missing qs ds) (scan_components cs p))
     ∷ []
 

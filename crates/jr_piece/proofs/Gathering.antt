@@ -9,8 +9,8 @@ use Rattle.std.proofs.lemmas.List.Elements.{All-append}
 use Rattle.std.proofs.lemmas.List.{map-append}
 use Rattle.jr_scan.specs.IntervalValue.{IntervalValue}
 use Rattle.jr_piece.specs.StripValue.{StripValue}
-use Rattle.jr_scan.specs.Mcus.{Decodes, Front, HasNoDecoding}
-use Rattle.jr_piece.specs.Strips.{AreOf, HasWholeMcus, TellsEnd, shared_strips}
+use Rattle.jr_scan.specs.Mcus.{Decodes, Front, HasNoDecoding, HasLongestFront}
+use Rattle.jr_piece.specs.Strips.{AreOf, TellsEnd, shared_strips}
 
 -- one more strip of the interval
 pub one_more_of : (i : IntervalValue) (xs : List (Arc StripValue Global)) (x : Arc StripValue Global) → AreOf i (shared_strips xs) → (arc_value x).interval ≡ i → AreOf i (shared_strips (xs ++ x ∷ []))
@@ -24,6 +24,6 @@ one_more_of i xs x all one = subst (All of) (sym (map-append arc_value xs (x ∷
     at (suc k) d lt = absurd (omega arith)
 
 -- what a reader tells at its end
-pub tells_end : (b : Bool) (i : IntervalValue) (k : ℕ) → (IsTrue b → (zs : List (List ℤ)) → Front i k zs → Decodes i zs) → (b ≡ false → HasWholeMcus i k → HasNoDecoding i) → HasWholeMcus i k → TellsEnd i k b
+pub tells_end : (b : Bool) (i : IntervalValue) (k : ℕ) → (IsTrue b → (zs : List (List ℤ)) → Front i k zs → Decodes i zs) → (b ≡ false → HasLongestFront i k → HasNoDecoding i) → HasLongestFront i k → TellsEnd i k b
 tells_end true i k sound damaged w = (w, (w.0, sound refl w.0 w.1.front))
 tells_end false i k sound damaged w = (w, damaged refl w)

@@ -13,7 +13,7 @@ use Rattle.jr_scan.specs.Mcus.{Front}
 use Rattle.jr_piece.specs.StripValue.{StripValue}
 use Rattle.jr_piece.specs.Outcome.{IsOutcome}
 use Rattle.jr_piece.specs.Strips.{AreInOrder, AreOf, Follows, IsStrip, IsStripAt, IsWhole, TellsEnd, TellsSound, joined, mcus_of_each, piece_of, shared_strips}
-use Rattle.jr_piece.specs.DataUnits.{AreEven, units_of}
+use Rattle.jr_piece.specs.DataUnits.{AreEven, units_of_strips}
 use Rattle.jr_piece.proofs.Outcomes.{no_samples}
 
 -- the laws of strips
@@ -67,7 +67,7 @@ strip_of i first mcus us = record { interval = i; first = first; mcus = mcus; sa
 
 -- the MCUs from an MCU to the front, as one strip
 abbrev strip_to : IntervalValue → ℕ → ℕ → List StripValue → StripValue
-strip_to i front first ss = strip_of i first (front - first) (units_of ss)
+strip_to i front first ss = strip_of i first (front - first) (units_of_strips ss)
 
 -- no MCUs at the front
 none : (i : IntervalValue) (front : ℕ) (zs : List (List ℤ)) → Front i front zs → IsStrip (strip_to i front front [])
@@ -94,7 +94,7 @@ together meet i each front zs f (s ∷ more) k from all =
     let within : next ≤ front = omega arith in
     let mcus : s.mcus + (front - next) ≡ front - s.first = omega (arith, end, within) in
     let both = meet s (strip_to i front next more) (one.of, end) one.is rest in
-    let whole : joined s (strip_to i front next more) ≡ strip_to i front (min front (k * each)) (s ∷ more) = same s.interval i s.first (min front (k * each)) (s.mcus + (front - next)) one.of start (mcus ∙ ap (λ (n : ℕ). front - n) start) (s.samples ++ units_of more) in
+    let whole : joined s (strip_to i front next more) ≡ strip_to i front (min front (k * each)) (s ∷ more) = same s.interval i s.first (min front (k * each)) (s.mcus + (front - next)) one.of start (mcus ∙ ap (λ (n : ℕ). front - n) start) (s.samples ++ units_of_strips more) in
     subst IsStrip whole both
   where
     same : (a b : IntervalValue) (p q m : ℕ) → a ≡ b → p ≡ q → m ≡ front - q → (us : List (List ℕ)) → strip_of a p m us ≡ strip_of b q (front - q) us
@@ -130,12 +130,12 @@ pub are_even : (i : IntervalValue) (front : ℕ) (ss : List StripValue) → Orde
 are_even i front ss o = even i (mcus_of_each ss) front 0 ss (from_all i front ss o.of o.are o.order)
 
 pub tell_outcome : StripsMeet → WholeIsOutcome → (i : IntervalValue) (front : ℕ) (is_sound : Bool) (ss : List StripValue) → Ordered i front ss → TellsEnd i front is_sound
-    → IsOutcome (record { interval = i; is_sound = is_sound; front = front; samples = units_of ss })
+    → IsOutcome (record { interval = i; is_sound = is_sound; front = front; samples = units_of_strips ss })
 tell_outcome meet whole i front is_sound ss o tells =
     let each = mcus_of_each ss in
     let long : length ss ≡ 0 + length ss = omega arith in
     let one : IsStrip (strip_to i front (min front (0 * each)) ss) = together meet i each front tells.0.0 tells.0.1.front ss 0 (from_all i front ss o.of o.are o.order) (subst (λ (n : ℕ). front ≤ n * each) long o.order.all) in
     let start : min front (0 * each) ≡ 0 = omega arith in
     let mcus : front - 0 ≡ front = omega arith in
-    let all : IsStrip (strip_of i 0 front (units_of ss)) = subst (λ (n : ℕ). IsStrip (strip_of i 0 n (units_of ss))) mcus (subst (λ (n : ℕ). IsStrip (strip_to i front n ss)) start one) in
-    whole (strip_of i 0 front (units_of ss)) is_sound all (refl, tells.0) tells.1
+    let all : IsStrip (strip_of i 0 front (units_of_strips ss)) = subst (λ (n : ℕ). IsStrip (strip_of i 0 n (units_of_strips ss))) mcus (subst (λ (n : ℕ). IsStrip (strip_to i front n ss)) start one) in
+    whole (strip_of i 0 front (units_of_strips ss)) is_sound all (refl, tells.0) tells.1

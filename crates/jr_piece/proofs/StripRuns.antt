@@ -13,13 +13,13 @@ use Rattle.jr_scan.specs.declared.place.RunEnd.{RunEnd}
 use Rattle.jr_scan.specs.declared.place.RunEnd.TheVariants.{AllRead, NoMcu}
 use Rattle.jr_scan.specs.Block.{IsInDcRange}
 use Rattle.jr_scan.specs.IntervalValue.{IntervalValue}
-use Rattle.jr_scan.specs.Mcus.{HasNoDecoding, Decodes, Front, LongestFront, no_predictions}
+use Rattle.jr_scan.specs.Mcus.{HasNoDecoding, Decodes, Front, LongestFront, no_predictions, HasLongestFront}
 use Rattle.jr_scan.specs.Run.{RunOf, start_of_interval, whole_run, run_from, left_at, HasNoMcu, IsRun, RunRead, IsSoundRun}
 use Rattle.jr_scan.specs.McuReader.{McuReaderValue, HasRead, HasEnded, per_mcu}
 use Rattle.jr_scan.proofs.McuLaws.{no_blocks}
 use Rattle.jr_scan.proofs.McuReaders.{front_of_run, left_is, no_room, run_of_front}
 use Rattle.jr_piece.specs.StripValue.{ReadingValue}
-use Rattle.jr_piece.specs.Strips.{AreBlocks, CanReadFrom, FirstMcus, HasWholeMcus, IsNext, IsReading}
+use Rattle.jr_piece.specs.Strips.{AreBlocks, CanReadFrom, FirstMcus, IsNext, IsReading}
 use Rattle.jr_piece.proofs.Strips.{ShorterFront}
 
 -- what stands in a list behind a slice of all of it was written
@@ -146,7 +146,7 @@ module _ (one : OneRun) (meet : RunsMeet) (shorter : ShorterFront) (i : Interval
   }
 
   -- fewer than are asked for are read only where no further one follows
-  pub ended : (most : ℕ) → Front i first zs → m ≡ min most (i.mcus - first) → n < most → HasWholeMcus i (first + n)
+  pub ended : (most : ℕ) → Front i first zs → m ≡ min most (i.mcus - first) → n < most → HasLongestFront i (first + n)
   ended most f asked few_read = elim (cases_lt n m) [
     | inl l ↦ (zs ++ ys, longest l)
     | inr g ↦ (zs ++ ys, whole i (first + n) (zs ++ ys) front (omega (arith, f.at_most, few, g, asked, few_read)))
@@ -159,8 +159,8 @@ abbrev pub WholeRun : Type 0
 WholeRun = (i : IntervalValue) (zs : List (List ℤ)) → Decodes i zs ↔ IsSoundRun i zs
 
 -- all MCUs are read, and fewer than eight bits are left
-pub is_whole : OneFront → WholeRun → (r : ReadingValue) (p : Place) → IsReading r → r.next ≡ Some p → r.first ≡ r.interval.mcus → 8 * length r.interval.bytes - p.bit < 8 → (zs : List (List ℤ)) → Front r.interval r.first zs → Decodes r.interval zs
-is_whole one law r p k e all few zs f =
+pub whole_strip : OneFront → WholeRun → (r : ReadingValue) (p : Place) → IsReading r → r.next ≡ Some p → r.first ≡ r.interval.mcus → 8 * length r.interval.bytes - p.bit < 8 → (zs : List (List ℤ)) → Front r.interval r.first zs → Decodes r.interval zs
+whole_strip one law r p k e all few zs f =
     let i = r.interval in
     let same : k.blocks ≡ zs = one i r.first k.blocks zs k.front f in
     let n = k.next p e in
@@ -169,7 +169,7 @@ is_whole one law r p k e all few zs f =
 
 -- where they are not, the interval has no decoding
 pub is_damaged : OneRun → WholeRun → (r : ReadingValue) → IsLawful r.interval.head → IsReading r → ((p : Place) → r.next ≡ Some p → r.first ≡ r.interval.mcus → 8 * length r.interval.bytes - p.bit < 8 → ⊥)
-    → HasWholeMcus r.interval r.first → HasNoDecoding r.interval
+    → HasLongestFront r.interval r.first → HasNoDecoding r.interval
 is_damaged one law r lawful k none all_there ys d =
     let i = r.interval in
     let w = (law i ys).0 d in

@@ -7,8 +7,8 @@ use Rattle.jr_piece.specs.StripValue.{StripValue}
 use Rattle.jr_piece.specs.Strips.{shared_strips}
 
 -- the data units of strips, one strip after the other
-abbrev pub units_of : List StripValue → List (List ℕ)
-units_of strips = flat_map (λ s. s.samples) strips
+abbrev pub units_of_strips : List StripValue → List (List ℕ)
+units_of_strips strips = flat_map (λ s. s.samples) strips
 
 -- each strip has so many data units but for the last, which may have fewer
 abbrev pub AreEven : ℕ → List StripValue → Type 0
@@ -18,7 +18,7 @@ AreEven n (s ∷ (t ∷ more)) = (length s.samples ≡ n) × AreEven n (t ∷ mo
 
 abbrev pub units_held : Held → List (List ℕ)
 units_held (InList units) = units.items
-units_held (InStrips strips each) = units_of (shared_strips strips.items)
+units_held (InStrips strips each) = units_of_strips (shared_strips strips.items)
 
 -- where strips hold them, data unit k is found by k / each and k % each
 abbrev pub AreFound : Held → Type 0

@@ -4,7 +4,7 @@ use Rattle.jr_scan.specs.declared.place.Place.{Place}
 use Rattle.jr_scan.specs.IntervalValue.{IntervalValue}
 
 -- so many MCUs of an interval from MCU `first` on, and the blocks of their data units
-pub record CodedValue : Type 0 where
+pub record CodedStripValue : Type 0 where
   pub interval : IntervalValue
   pub first : ℕ
   pub mcus : ℕ

@@ -9,11 +9,11 @@ use Rattle.jr_scan.specs.declared.place.Place.{Place}
 use Rattle.jr_scan.specs.declared.place.RunEnd.TheVariants.{AllRead}
 use Rattle.jr_scan.specs.IntervalValue.{IntervalValue}
 use Rattle.jr_scan.specs.Block.{IsInDcRange, IsInRange}
-use Rattle.jr_scan.specs.Mcus.{Decodes, HasNoDecoding, Front, LongestFront}
+use Rattle.jr_scan.specs.Mcus.{HasDecoding, HasNoDecoding, Front, HasLongestFront, LongestFront}
 use Rattle.jr_scan.specs.Run.{RunOf, start_of_interval, run_from, HasNoMcu, IsRun}
 use Rattle.jr_piece.specs.PieceValue.{PieceValue}
 use Rattle.jr_piece.specs.Outcome.{AreSamples}
-use Rattle.jr_piece.specs.StripValue.{CodedValue, StripValue, ReadingValue}
+use Rattle.jr_piece.specs.StripValue.{CodedStripValue, StripValue, ReadingValue}
 
 -- the data units of the first k MCUs of an interval
 abbrev pub units_before : IntervalValue → ℕ → ℕ
@@ -32,7 +32,7 @@ pub record IsStrip (s : StripValue) : Type 0 where
   pub samples : AreSamples s.interval.head blocks s.samples
 
 -- a coded strip holds such blocks, in the ranges that the inverse transform asks for
-pub record IsCoded (s : CodedValue) : Type 0 where
+pub record HasItsBlocks (s : CodedStripValue) : Type 0 where
   pub are : AreBlocks s.interval s.first s.mcus s.blocks
   pub in_range : All IsInRange s.blocks
 
@@ -49,17 +49,13 @@ Follows a b = (a.interval ≡ b.interval) × (b.first ≡ a.first + a.mcus)
 abbrev pub joined : StripValue → StripValue → StripValue
 joined a b = record { interval = a.interval; first = a.first; mcus = a.mcus + b.mcus; samples = a.samples ++ b.samples }
 
--- so many whole MCUs are all that the interval's bits begin with
-abbrev pub HasWholeMcus : IntervalValue → ℕ → Type 0
-HasWholeMcus i k = (zs : List (List ℤ)) × LongestFront i k zs
-
 -- the strip has them all
 abbrev pub IsWhole : StripValue → Type 0
-IsWhole s = (s.first ≡ 0) × HasWholeMcus s.interval s.mcus
+IsWhole s = (s.first ≡ 0) × HasLongestFront s.interval s.mcus
 
 -- whether the interval has a decoding
 abbrev pub TellsSound : Bool → IntervalValue → Type 0
-TellsSound true i = (zs : List (List ℤ)) × Decodes i zs
+TellsSound true i = HasDecoding i
 TellsSound false i = HasNoDecoding i
 
 -- the strip as a piece
@@ -115,4 +111,4 @@ pub record AreInOrder (front : ℕ) (strips : List StripValue) : Type 0 where
 
 -- so many whole MCUs are all that the interval's bits begin with, and this tells whether it has a decoding
 abbrev pub TellsEnd : IntervalValue → ℕ → Bool → Type 0
-TellsEnd i front is_sound = HasWholeMcus i front × TellsSound is_sound i
+TellsEnd i front is_sound = HasLongestFront i front × TellsSound is_sound i

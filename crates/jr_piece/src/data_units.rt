@@ -3,7 +3,7 @@
 ghost use Rattle.std.specs.Prelude.{◌≡◌, ◌<◌, ◌^◌, slice_get};
 ghost use Rattle.std.specs.Option.{option_copied};
 ghost use Rattle.jr_piece.specs.Strips.{shared_strips};
-ghost use Rattle.jr_piece.specs.DataUnits.{AreEven, units_of};
+ghost use Rattle.jr_piece.specs.DataUnits.{AreEven, units_of_strips};
 
 use crate::strip::Strip;
 use std::marker::Model;
@@ -41,7 +41,7 @@ fn get_of(strips: &[Arc<Strip>], each: usize, k: usize) -> Option<&[u8; 64]>
     requires few { k < 2 ^ 32 }
     requires some { 0 < each }
     requires even { AreEven each (shared_strips strips.now) }
-    ensures { option_copied result ≡ slice_get (units_of (shared_strips strips.now)) k }
+    ensures { option_copied result ≡ slice_get (units_of_strips (shared_strips strips.now)) k }
 {
     match strips.get(k / each) {
         None => None,
@@ -63,7 +63,7 @@ impl DataUnits {
     pub(crate) fn of_strips(strips: Vec<Arc<Strip>>, each: usize) -> DataUnits
         requires some { 0 < each }
         requires even { AreEven each (shared_strips strips.items) }
-        ensures { result ≡ units_of (shared_strips strips.items) }
+        ensures { result ≡ units_of_strips (shared_strips strips.items) }
     {
         DataUnits {
             held: Held::InStrips(strips, each),

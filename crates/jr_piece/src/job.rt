@@ -7,7 +7,7 @@ ghost use Rattle.jr_piece.specs.Sharing.{IsOneOf};
 use crate::gathered::Gathered;
 use crate::one_scan::OneScan;
 use crate::piece::Piece;
-use crate::progress::{Coded, Progress, Task};
+use crate::progress::{CodedStrip, Progress, StripTask};
 use crate::reading::Reading;
 use crate::strip::Strip;
 use jr_code::Memory;
@@ -64,7 +64,7 @@ impl<S: OneScan> Job<S> {
     }
 
     /// What to do next, once there is something.
-    fn task<R: Wait>(&self, rt: &R) -> Task<S> {
+    fn task<R: Wait>(&self, rt: &R) -> StripTask<S> {
         let progress = self.progress.lock(rt);
         let mut progress = self
             .has_read
@@ -84,7 +84,7 @@ impl<S: OneScan> Job<S> {
     }
 
     /// Transforms a strip and keeps it.
-    fn decode<R: Wait>(&self, rt: &R, alloc: Global, coded: Coded<S>) -> Result<Arc<Strip>, Memory>
+    fn decode<R: Wait>(&self, rt: &R, alloc: Global, coded: CodedStrip<S>) -> Result<Arc<Strip>, Memory>
         ensures { IfOk result (λ s. (arc_value s).interval ≡ self.now) }
     {
         let strip = Arc::new(alloc, coded.decode(alloc)?)?;
@@ -111,15 +111,15 @@ impl<S: OneScan> Job<S> {
     {
         for _ in 0..=self.interval.mcus() {
             match self.task(rt) {
-                Task::Read(reading) => self.read(rt, alloc, reading),
-                Task::Decode(coded) => {
+                StripTask::Read(reading) => self.read(rt, alloc, reading),
+                StripTask::Decode(coded) => {
                     let strip = self.decode(rt, alloc, coded).ok();
                     if strip.is_none() {
                         self.give_up(rt);
                     }
                     return strip;
                 }
-                Task::Leave => return None,
+                StripTask::Leave => return None,
             }
         }
         None

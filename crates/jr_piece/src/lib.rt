@@ -23,7 +23,7 @@ pub use laws::{
     whole_strip_is_outcome,
 };
 pub use one_scan::OneScan;
-pub use piece::{NotInOrder, Piece};
+pub use piece::{OrderError, Piece};
 pub use reading::strip_mcus;
 pub use strip::{CodedStrip, Strip};
 pub use strip_reader::StripReader;

@@ -39,7 +39,7 @@ impl Model for Piece {
 
 /// Why strips are not a piece: they are not all strips of their interval in order. They and the interval come back.
 #[derive(Drop)]
-pub struct NotInOrder {
+pub struct OrderError {
     /// The interval.
     pub interval: Interval,
     /// The strips.
@@ -73,7 +73,7 @@ impl Piece {
         strips: Vec<Arc<Strip>>,
         front: u32,
         is_sound: bool,
-    ) -> Result<Piece, NotInOrder>
+    ) -> Result<Piece, OrderError>
         requires of { AreOf interval (shared_strips strips.items) }
         requires tells { TellsEnd interval front is_sound }
         ensures ok { IfOk result (λ p. p.interval ≡ interval) }
@@ -85,7 +85,7 @@ impl Piece {
         strips_meet();
         whole_strip_is_outcome();
         if !are_in_order(strips.as_slice(), front) {
-            return Err(NotInOrder { interval, strips });
+            return Err(OrderError { interval, strips });
         }
         let each = mcus_of_each(strips.as_slice()) as usize * interval.head().order().len();
         Ok(Piece {

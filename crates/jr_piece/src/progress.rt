@@ -19,28 +19,28 @@ use std::sync::Arc;
 
 /// A strip of an interval of the scan, read and not yet transformed.
 #[derive(Drop)]
-pub(crate) struct Coded<S: OneScan> {
+pub(crate) struct CodedStrip<S: OneScan> {
     strip: CodedStrip,
     of: PhantomData<S>,
 }
 
-impl<S: OneScan> Model for Coded<S> {
-    ghost use Rattle.jr_piece.specs.StripValue.{CodedValue};
+impl<S: OneScan> Model for CodedStrip<S> {
+    ghost use Rattle.jr_piece.specs.StripValue.{CodedStripValue};
     ghost use Rattle.jr_piece.specs.Sharing.{IsOneOf};
 
-    ghost Value = { CodedValue };
+    ghost Value = { CodedStripValue };
 
     ghost view = { λ c. c.strip };
 
     ghost invariant = { λ c. IsOneOf S.scan c.strip.interval };
 }
 
-impl<S: OneScan> Coded<S> {
-    fn of(strip: CodedStrip) -> Coded<S>
+impl<S: OneScan> CodedStrip<S> {
+    fn of(strip: CodedStrip) -> CodedStrip<S>
         requires { IsOneOf S.scan strip.interval }
         ensures { result ≡ strip }
     {
-        Coded {
+        CodedStrip {
             strip,
             of: PhantomData,
         }
@@ -62,11 +62,11 @@ impl<S: OneScan> Coded<S> {
 
 /// What a worker does next.
 #[derive(Drop)]
-pub(crate) enum Task<S: OneScan> {
+pub(crate) enum StripTask<S: OneScan> {
     /// Read the next strip.
     Read(Reading<S>),
     /// Transform a strip that is read.
-    Decode(Coded<S>),
+    Decode(CodedStrip<S>),
     /// Nothing: all is read, and others decode what is left.
     Leave,
 }
@@ -79,7 +79,7 @@ pub(crate) struct Progress<S: OneScan> {
     /// Nothing will be read any more.
     is_over: bool,
     /// In the order in which they were read.
-    coded: VecDeque<Coded<S>>,
+    coded: VecDeque<CodedStrip<S>>,
     /// As many of them may wait before the worker that reads decodes one.
     most_waiting: usize,
     /// Memory of strips that are transformed, for those to be read.
@@ -111,18 +111,18 @@ impl<S: OneScan> Progress<S> {
     }
 
     /// What a worker does next.
-    pub(crate) fn task(&mut self) -> Task<S> {
+    pub(crate) fn task(&mut self) -> StripTask<S> {
         if self.coded.len() < self.most_waiting
             && let Some(mut reading) = self.reading.take()
         {
             if let Some(blocks) = self.spare.pop() {
                 reading.lend(blocks);
             }
-            return Task::Read(reading);
+            return StripTask::Read(reading);
         }
         match self.coded.pop_front() {
-            Some(strip) => Task::Decode(strip),
-            None => Task::Leave,
+            Some(strip) => StripTask::Decode(strip),
+            None => StripTask::Leave,
         }
     }
 
@@ -132,7 +132,7 @@ impl<S: OneScan> Progress<S> {
     {
         match next {
             Ok(Next::Strip(strip)) => {
-                self.is_over |= self.coded.push_back(Coded::of(strip)).is_err();
+                self.is_over |= self.coded.push_back(CodedStrip::of(strip)).is_err();
             }
             Ok(Next::End(end)) => {
                 self.gathered.close(end);

@@ -6,7 +6,7 @@ ghost use Rattle.std.specs.List.{All};
 ghost use Rattle.std.specs.Arc.{arc_value};
 ghost use Rattle.jr_scan.specs.Block.{IsInRange};
 ghost use Rattle.jr_piece.specs.Outcome.{AreSamples};
-ghost use Rattle.jr_piece.specs.Strips.{IsCoded, IsStrip};
+ghost use Rattle.jr_piece.specs.Strips.{HasItsBlocks, IsStrip};
 
 use crate::transforming::transform_blocks;
 use jr_block::Coefficients;
@@ -28,14 +28,14 @@ pub struct CodedStrip {
 
 impl Model for CodedStrip {
     ghost use Rattle.std.specs.Arc.{arc_value};
-    ghost use Rattle.jr_piece.specs.StripValue.{CodedValue};
-    ghost use Rattle.jr_piece.specs.Strips.{IsCoded};
+    ghost use Rattle.jr_piece.specs.StripValue.{CodedStripValue};
+    ghost use Rattle.jr_piece.specs.Strips.{HasItsBlocks};
 
-    ghost Value = { CodedValue };
+    ghost Value = { CodedStripValue };
 
     ghost view = { λ s. record { interval = arc_value s.interval; first = s.first; mcus = s.mcus; blocks = s.blocks.items } };
 
-    ghost invariant = { λ s. IsCoded (record { interval = arc_value s.interval; first = s.first; mcus = s.mcus; blocks = s.blocks.items }) };
+    ghost invariant = { λ s. HasItsBlocks (record { interval = arc_value s.interval; first = s.first; mcus = s.mcus; blocks = s.blocks.items }) };
 }
 
 /// The samples of MCUs of an interval that follow one another.
@@ -76,7 +76,7 @@ impl CodedStrip {
         mcus: u32,
         blocks: Vec<Coefficients>,
     ) -> CodedStrip
-        requires { IsCoded (record { interval = arc_value interval; first = first; mcus = mcus; blocks = blocks.items }) }
+        requires { HasItsBlocks (record { interval = arc_value interval; first = first; mcus = mcus; blocks = blocks.items }) }
         ensures { result ≡ record { interval = arc_value interval; first = first; mcus = mcus; blocks = blocks.items } }
     {
         CodedStrip {

@@ -5,9 +5,9 @@ ghost use Rattle.std.specs.List.{All};
 ghost use Rattle.std.specs.Arc.{arc_value};
 ghost use Rattle.jr_scan.specs.declared.place.RunEnd.TheVariants.{AllRead};
 ghost use Rattle.jr_scan.specs.Block.{IsInRange};
-ghost use Rattle.jr_scan.specs.Mcus.{Decodes, Front, HasNoDecoding};
+ghost use Rattle.jr_scan.specs.Mcus.{Decodes, Front, HasNoDecoding, HasLongestFront};
 ghost use Rattle.jr_scan.specs.Run.{start_of_interval, IsRun, run_from};
-ghost use Rattle.jr_piece.specs.Strips.{CanReadFrom, FirstMcus, HasWholeMcus};
+ghost use Rattle.jr_piece.specs.Strips.{CanReadFrom, FirstMcus};
 
 use crate::strip::CodedStrip;
 use jr_block::Coefficients;
@@ -136,8 +136,8 @@ impl StripReader {
         ensures few { IfOk result (λ o. IfSome o (λ s. s.mcus ≤ most)) }
         ensures on { IfOk result (λ o. IfSome o (λ s. self.new.first ≡ s.first + s.mcus)) }
         ensures within { IfOk result (λ o. OnSome o (self.new.first ≤ self.old.interval.mcus)) }
-        ensures last { IfOk result (λ o. IfSome o (λ s. s.mcus < most → HasWholeMcus self.new.interval self.new.first)) }
-        ensures none { IfOk result (λ o. IfNone o (0 < most → HasWholeMcus self.old.interval self.old.first)) }
+        ensures last { IfOk result (λ o. IfSome o (λ s. s.mcus < most → HasLongestFront self.new.interval self.new.first)) }
+        ensures none { IfOk result (λ o. IfNone o (0 < most → HasLongestFront self.old.interval self.old.first)) }
         ensures same { IfOk result (λ o. IfNone o (self.new ≡ self.old)) }
         ensures err { IfErr result (λ _. self.new ≡ self.old) }
     {
@@ -165,7 +165,7 @@ impl StripReader {
     /// no further MCU follows and it is false, the interval has none.
     pub fn is_sound(&self) -> bool
         ensures sound { IsTrue result → (zs : List (List ℤ)) → Front self.now.interval self.now.first zs → Decodes self.now.interval zs }
-        ensures damaged { result ≡ false → HasWholeMcus self.now.interval self.now.first → HasNoDecoding self.now.interval }
+        ensures damaged { result ≡ false → HasLongestFront self.now.interval self.now.first → HasNoDecoding self.now.interval }
     {
         one_run();
         one_front();

@@ -26,7 +26,7 @@ use Rattle.jr_picture.proofs.BoardPictures.{marks_at, interval_is}
 use Rattle.jr_rows.proofs.FirstBoards.{marks_there, not_blank}
 use Rattle.jr_rows.proofs.IntervalPlaces.{interval_at}
 use Rattle.jr_rows.specs.Bands.{unit_shown_of}
-use Rattle.jr_rows.specs.RowsValue.{McusValue}
+use Rattle.jr_rows.specs.RowsValue.{ScanMcusValue}
 use Rattle.jr_rows.specs.Rows.{HasFirst, CountsMarks, GivesBehind, mcus_read}
 use Rattle.jr_rows.specs.declared.marked.Marked.{Marked}
 
@@ -113,7 +113,7 @@ counts_both scan n from at to k m r a c s d = record {
 }
 
 -- the blocks of MCUs of an interval give what a board shows of the scan
-module _ (r : McusValue) (mcus done : ℕ) (sub new : List (List ℤ)) (some : 0 < blocks_of r.scan.head) (number : r.number < intervals_of r.scan.head) (decoded : r.number < r.limit) (few : r.mcu + mcus ≤ mcus_in r.scan.head r.number)
+module _ (r : ScanMcusValue) (mcus done : ℕ) (sub new : List (List ℤ)) (some : 0 < blocks_of r.scan.head) (number : r.number < intervals_of r.scan.head) (decoded : r.number < r.limit) (few : r.mcu + mcus ≤ mcus_in r.scan.head r.number)
     (long : length sub ≡ mcus * blocks_of r.scan.head)
     (codes : (p : PieceValue) → IsOutcome p → p.interval ≡ interval_of r.scan r.number → CodesUnits p (units_before (interval_of r.scan r.number) r.mcu) sub)
     (part : (k : ℕ) → k < length sub → slice_index_or new (done * blocks_of r.scan.head + k) [] ≡ slice_index_or sub k []) where

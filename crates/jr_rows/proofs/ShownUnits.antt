@@ -11,7 +11,7 @@ use Rattle.jr_picture.specs.BoardValue.{BoardValue}
 use Rattle.jr_picture.specs.Boards.{piece_at}
 use Rattle.jr_picture.specs.Headline.{blank_of, interval_number, within_interval}
 use Rattle.jr_rows.specs.Bands.{ShowsMcus, unit_shown, unit_shown_of}
-use Rattle.jr_rows.specs.Rows.{HasFirst, ShowsFirst, coded_before, coded_in, mcus_before}
+use Rattle.jr_rows.specs.Rows.{HasFirst, ShowsFirstUnits, coded_before, coded_in, mcus_before}
 use Rattle.jr_rows.proofs.IntervalPlaces.{behind_first}
 use Rattle.jr_rows.proofs.PictureRows.{row_inside}
 use Rattle.jr_rows.proofs.ReadRows.{none_there}
@@ -50,7 +50,7 @@ module _ (scan : ScanValue) (n row : ℕ) (below : row < mcus_down scan.head) (s
   behind j le lt = omega (arith, le, lt, add-mul row 1 (mcus_across h))
 
   module _ (units : List (List ℕ)) (long : length units ≡ mcus_across h * per)
-      (decoded : ShowsFirst scan n (coded_before h n row) (coded_in h n row) units)
+      (decoded : ShowsFirstUnits scan n (coded_before h n row) (coded_in h n row) units)
       (blank : (k : ℕ) → coded_in h n row * per ≤ k → k < length units → slice_index_or units k [] ≡ unit_shown_of h (k % per) None 0) where
     each : (b : BoardValue) → HasFirst scan n b → (k : ℕ) → k < length units → slice_index_or units k [] ≡ unit_shown b (row * mcus_across h + k / per) (k % per)
     each b first k lt = elim (cases_lt k (coded_in h n row * per)) [

@@ -1,6 +1,6 @@
 pub mod BandValue
 pub mod Bands
-pub mod PartValue
+pub mod FirstIntervalsValue
 pub mod RowsValue
 pub mod Rows
 pub mod MarkBytes

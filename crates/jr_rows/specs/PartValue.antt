@@ -3,6 +3,6 @@ use Rattle.std.specs.Prelude.{ℕ}
 use Rattle.jr_scan.specs.ScanValue.{ScanValue}
 
 -- a scan, and how many of its intervals are decoded, from the first on
-pub record PartValue : Type 0 where
+pub record FirstIntervalsValue : Type 0 where
   pub scan : ScanValue
   pub limit : ℕ

@@ -11,7 +11,7 @@ use Rattle.jr_picture.specs.Boards.{IsLawfulBoard, marks_of}
 use Rattle.jr_picture.specs.Headline.{AreFirst, is_sound, is_damaged, interval_number}
 use Rattle.jr_picture.specs.Samples.{samples_of}
 use Rattle.jr_rows.specs.Bands.{unit_shown}
-use Rattle.jr_rows.specs.RowsValue.{McusValue, RowValue}
+use Rattle.jr_rows.specs.RowsValue.{ScanMcusValue, RowValue}
 use Rattle.jr_rows.specs.declared.marked.Marked.{Marked}
 use Rattle.jr_rows.specs.declared.shape.TheConstants.{BLOCKS_AT_ONCE}
 
@@ -22,7 +22,7 @@ pub record HasFirst (scan : ScanValue) (n : ℕ) (b : BoardValue) : Type 0 where
   pub first : AreFirst n (marks_of b)
 
 -- how many MCUs of the scan are read
-abbrev pub mcus_read : McusValue → ℕ
+abbrev pub mcus_read : ScanMcusValue → ℕ
 mcus_read r = r.number * r.scan.head.restart + r.mcu
 
 -- the MCUs of the first n intervals
@@ -67,8 +67,8 @@ ShowsBehind scan n from before mcus units = (b : BoardValue) → HasFirst scan n
     → slice_index_or units (before + k) [] ≡ unit_shown b (from + k / blocks_of scan.head) (k % blocks_of scan.head)
 
 -- the same of the first ones
-abbrev pub ShowsFirst : ScanValue → (n from mcus : ℕ) → List (List ℕ) → Type 0
-ShowsFirst scan n from mcus units = (b : BoardValue) → HasFirst scan n b → (k : ℕ) → k < mcus * blocks_of scan.head
+abbrev pub ShowsFirstUnits : ScanValue → (n from mcus : ℕ) → List (List ℕ) → Type 0
+ShowsFirstUnits scan n from mcus units = (b : BoardValue) → HasFirst scan n b → (k : ℕ) → k < mcus * blocks_of scan.head
     → slice_index_or units k [] ≡ unit_shown b (from + k / blocks_of scan.head) (k % blocks_of scan.head)
 
 -- how many MCUs are read before they are transformed

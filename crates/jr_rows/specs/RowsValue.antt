@@ -3,7 +3,7 @@ use Rattle.std.specs.Prelude.{ℕ, List, ℤ}
 use Rattle.jr_scan.specs.ScanValue.{ScanValue}
 
 -- a scan, of which the first `limit` intervals are decoded, and interval `number` is read as far as its MCU `mcu`
-pub record McusValue : Type 0 where
+pub record ScanMcusValue : Type 0 where
   pub scan : ScanValue
   pub limit : ℕ
   pub number : ℕ

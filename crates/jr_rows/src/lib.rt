@@ -6,7 +6,7 @@ mod blank;
 mod mark_bytes;
 mod marked;
 mod painting;
-mod part;
+mod first_intervals;
 mod rows;
 mod sample_row;
 mod shape;
@@ -14,7 +14,7 @@ mod shape;
 pub use blank::fill_blank;
 pub use marked::Marked;
 pub use painting::paint_row;
-pub use part::Part;
+pub use first_intervals::FirstIntervals;
 pub use rows::Rows;
 pub use sample_row::SampleRow;
 pub use shape::{

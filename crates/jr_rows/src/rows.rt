@@ -7,13 +7,13 @@ ghost use Rattle.jr_scan.specs.ScanValue.{intervals_of, mcus_in};
 ghost use Rattle.jr_picture.specs.Headline.{interval_number, within_interval};
 ghost use Rattle.jr_picture.specs.BoardValue.{BoardValue};
 ghost use Rattle.jr_rows.specs.Bands.{ShowsMcus};
-ghost use Rattle.jr_rows.specs.Rows.{AreInRange, CountsMarks, CountsMcus, GivesBehind, GivesMcus, HasFirst, ShowsBehind, ShowsFirst, AreRead, CountsRow, coded_before, intervals_before, mcus_at_once, mcus_before, mcus_read};
+ghost use Rattle.jr_rows.specs.Rows.{AreInRange, CountsMarks, CountsMcus, GivesBehind, GivesMcus, HasFirst, ShowsBehind, ShowsFirstUnits, AreRead, CountsRow, coded_before, intervals_before, mcus_at_once, mcus_before, mcus_read};
 ghost use Rattle.jr_rows.specs.MarkBytes.{HasMarkRoom, PutsMarks, PutsMcus, PutsRow};
 
 use crate::blank::fill_blank;
 use crate::mark_bytes::put_mark;
 use crate::marked::Marked;
-use crate::part::Part;
+use crate::first_intervals::FirstIntervals;
 use crate::shape::{coded_of_row, mcus_at_once, shape_of};
 use jr_block::Coefficients;
 use jr_head::Head;
@@ -23,19 +23,19 @@ use std::marker::Model;
 
 /// A scan, of whose first intervals MCU after MCU is read; the others are blank.
 #[derive(Drop)]
-struct Mcus<'a> {
+struct ScanMcus<'a> {
     scan: &'a Scan,
     limit: u32,
     number: u32,
     reader: UnitReader<'a>,
 }
 
-impl<'a> Model for Mcus<'a> {
+impl<'a> Model for ScanMcus<'a> {
     ghost use Rattle.std.specs.Prelude.{◌≡◌, ◌<◌, length};
     ghost use Rattle.jr_scan.specs.ScanValue.{interval_of};
-    ghost use Rattle.jr_rows.specs.RowsValue.{McusValue};
+    ghost use Rattle.jr_rows.specs.RowsValue.{ScanMcusValue};
 
-    ghost Value = { McusValue };
+    ghost Value = { ScanMcusValue };
 
     ghost view = { λ r. record { scan = r.scan.now; limit = r.limit; number = r.number; mcu = r.reader.mcu } };
 
@@ -53,13 +53,13 @@ fn units_to(mcus: u32, most: u32, per_mcu: usize) -> usize
     mcus as usize * per_mcu
 }
 
-impl<'a> Mcus<'a> {
+impl<'a> ScanMcus<'a> {
     /// Nothing is read yet of interval `number`.
-    fn of(scan: &'a Scan, limit: u32, number: u32) -> Mcus<'a>
+    fn of(scan: &'a Scan, limit: u32, number: u32) -> ScanMcus<'a>
         requires { number < length scan.now.intervals }
         ensures { result ≡ record { scan = scan.now; limit = limit; number = number; mcu = 0 } }
     {
-        Mcus {
+        ScanMcus {
             scan,
             limit,
             number,
@@ -224,7 +224,7 @@ impl<'a> Mcus<'a> {
         ensures scan { self.new.scan ≡ self.old.scan }
         ensures limit { self.new.limit ≡ self.old.limit }
         ensures moved { mcus_read self.new ≡ mcus_read self.old + mcus }
-        ensures shows { ShowsFirst self.old.scan self.old.limit (mcus_read self.old) mcus units.new }
+        ensures shows { ShowsFirstUnits self.old.scan self.old.limit (mcus_read self.old) mcus units.new }
         ensures counts { CountsMcus self.old.scan self.old.limit (mcus_read self.old) (mcus_read self.new) result }
         ensures puts { PutsMcus self.old.scan self.old.limit (mcus_read self.old) (mcus_read self.new) marks.old marks.new }
     {
@@ -277,7 +277,7 @@ fn interval_with(head: &Head, mcu: u32) -> (u32, u32)
 /// The rows of MCUs of a scan, of whose first intervals one row after the other is read.
 #[derive(Drop)]
 pub struct Rows<'a> {
-    mcus: Mcus<'a>,
+    mcus: ScanMcus<'a>,
     row: u32,
 }
 
@@ -301,13 +301,13 @@ impl<'a> Rows<'a> {
         // By its contract a scan has an interval.
         let _some = scan.intervals();
         Rows {
-            mcus: Mcus::of(scan, limit, 0),
+            mcus: ScanMcus::of(scan, limit, 0),
             row: 0,
         }
     }
 
     /// The rows from this one on, where a row has so many whole intervals.
-    pub fn from(part: &Part<'a>, row: u32, intervals: u32) -> Rows<'a>
+    pub fn from(part: &FirstIntervals<'a>, row: u32, intervals: u32) -> Rows<'a>
         requires row { row < mcus_down part.now.scan.head }
         requires whole { intervals * part.now.scan.head.restart ≡ mcus_across part.now.scan.head }
         ensures { result ≡ record { scan = part.now.scan; limit = part.now.limit; row = row } }
@@ -317,7 +317,7 @@ impl<'a> Rows<'a> {
         let _some = (scan.head().mcus(), scan.intervals());
         let number = (row * intervals).min(limit);
         Rows {
-            mcus: Mcus::of(scan, limit, number),
+            mcus: ScanMcus::of(scan, limit, number),
             row,
         }
     }
@@ -333,7 +333,7 @@ impl<'a> Rows<'a> {
         let _some = scan.head().mcus();
         let across = shape_of(scan.head()).across;
         let (number, before) = interval_with(scan.head(), row * across);
-        let mut mcus = Mcus::of(scan, scan.intervals(), number);
+        let mut mcus = ScanMcus::of(scan, scan.intervals(), number);
         mcus.skip(before, mcus_at_once(scan.head()), blocks);
         Rows { mcus, row }
     }

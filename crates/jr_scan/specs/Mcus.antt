@@ -51,6 +51,10 @@ pub record Decodes (i : IntervalValue) (zs : List (List ℤ)) : Type 0 where
   pub short : length padding < 8
   pub spelled : bits i.bytes ≡ taken ++ padding
 
+-- some blocks are the interval's decoding
+abbrev pub HasDecoding : IntervalValue → Type 0
+HasDecoding i = (zs : List (List ℤ)) × Decodes i zs
+
 -- no blocks are the interval's decoding
 abbrev pub HasNoDecoding : IntervalValue → Type 0
 HasNoDecoding i = (zs : List (List ℤ)) → Decodes i zs → ⊥
@@ -67,3 +71,7 @@ pub record Front (i : IntervalValue) (k : ℕ) (zs : List (List ℤ)) : Type 0 w
 pub record LongestFront (i : IntervalValue) (k : ℕ) (zs : List (List ℤ)) : Type 0 where
   pub front : Front i k zs
   pub longest : (j : ℕ) (ys : List (List ℤ)) → Front i j ys → j ≤ k
+
+-- so many whole MCUs are all that the interval's bits begin with
+abbrev pub HasLongestFront : IntervalValue → ℕ → Type 0
+HasLongestFront i k = (zs : List (List ℤ)) × LongestFront i k zs

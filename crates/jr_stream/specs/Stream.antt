@@ -12,7 +12,7 @@ use Rattle.jr_picture.specs.BoardValue.{BoardValue}
 use Rattle.jr_picture.specs.Boards.{marks_of}
 use Rattle.jr_picture.specs.Headline.{AreCounts, ShowsFirst}
 use Rattle.jr_picture.specs.Samples.{samples_of}
-use Rattle.jr_rows.specs.PartValue.{PartValue}
+use Rattle.jr_rows.specs.PartValue.{FirstIntervalsValue}
 use Rattle.jr_rows.specs.Rows.{HasFirst, CountsRows}
 use Rattle.jr_rows.specs.declared.marked.Marked.{Marked}
 
@@ -40,7 +40,7 @@ abbrev pub HasCounts : ScanValue → ℕ → Counts → Type 0
 HasCounts scan n c = (b : BoardValue) → HasFirst scan n b → AreCounts (marks_of b) c.sound c.damaged c.blank
 
 -- the picture of a scan, of which this part is decoded, is sent, and the marks of its intervals are answered
-pub record IsSentBy {T : Type 0} (known : T → Option (List ℕ)) (part : PartValue) (old new : Tally T) (result : Result Marked WriteFault) : Type 0 where
+pub record IsSentBy {T : Type 0} (known : T → Option (List ℕ)) (part : FirstIntervalsValue) (old new : Tally T) (result : Result Marked WriteFault) : Type 0 where
   pub counts : IfOk result (CountsRows part.scan part.limit)
   pub failed : has_failed new ≡ is_err result
   pub sent : SendsPicture known old new result part.scan part.limit

@@ -13,4 +13,4 @@ pub use jr_rows::Marked;
 pub use lines::paint_scan_lines;
 pub use painter::RowPainter;
 pub use whole::paint_scan;
-pub use writing::{Unwritten, counts_of, write_rows, write_scan};
+pub use writing::{PictureError, counts_of, write_rows, write_scan};

@@ -18,14 +18,14 @@ use jr_head::Head;
 use jr_paint::{NARROW, WIDEST, make_room, put_header};
 use jr_picture::{Counts, Gate};
 use jr_piece::each_interval_has_an_outcome;
-use jr_rows::{Marked, Part, SampleRow, lines_of, room_for, shape_of};
+use jr_rows::{Marked, FirstIntervals, SampleRow, lines_of, room_for, shape_of};
 use jr_scan::Scan;
 use std::alloc::Global;
 use std::io::Write;
 
 /// Why a picture is not written whole.
 #[derive(Clone, Copy, Debug, PartialEq, Eq)]
-pub enum Unwritten {
+pub enum PictureError {
     /// Memory was refused; nothing is written.
     Memory,
     /// The writer failed behind a beginning of the picture.
@@ -148,25 +148,25 @@ pub fn write_scan<W: Write, G: Gate>(
     first: Option<u32>,
     gate: &G,
     out: &mut Tally<W>,
-) -> Result<Counts, Unwritten>
+) -> Result<Counts, PictureError>
     requires { has_failed out.old ≡ false }
     ensures painted { IfOk result (λ c. WritesPicture W.contents out.old out.new scan.now (least first (length scan.now.intervals)) c) }
-    ensures begun { result ≡ Err Unwritten.Write → BeginsPicture W.contents out.old out.new scan.now (least first (length scan.now.intervals)) }
-    ensures memory { result ≡ Err Unwritten.Memory → out.new ≡ out.old }
+    ensures begun { result ≡ Err PictureError.Write → BeginsPicture W.contents out.old out.new scan.now (least first (length scan.now.intervals)) }
+    ensures memory { result ≡ Err PictureError.Memory → out.new ≡ out.old }
     ensures written { OnOk result (has_failed out.new ≡ false) }
-    ensures write { result ≡ Err Unwritten.Write → has_failed out.new ≡ true }
+    ensures write { result ≡ Err PictureError.Write → has_failed out.new ≡ true }
 {
     each_interval_has_an_outcome();
     scan.head().be_lawful();
     let Ok(work) = SampleRow::open(alloc, scan.head()) else {
-        return Err(Unwritten::Memory);
+        return Err(PictureError::Memory);
     };
     let Ok(mut pixels) = vec![in alloc; 0; room_for(scan.head())] else {
-        return Err(Unwritten::Memory);
+        return Err(PictureError::Memory);
     };
-    let limit = Part::of(scan, first).limit();
+    let limit = FirstIntervals::of(scan, first).limit();
     match write_picture(scan, limit, work, gate, &mut pixels, out) {
         Ok(marked) => Ok(counts_of(scan, limit, marked)),
-        Err(_) => Err(Unwritten::Write),
+        Err(_) => Err(PictureError::Write),
     }
 }

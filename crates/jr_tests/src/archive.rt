@@ -1,7 +1,7 @@
 //! Files that are checked by several workers, lines that can't be written, and words. What lines a file gets is seen in the
 //! stored run of jri_check.
 
-use jri_archive::{Asked, Folder, Told, Unread, asked, check_all};
+use jri_archive::{CheckRequest, Folder, Told, ReadError, asked, check_all};
 use std::alloc::Global;
 use std::io::Cursor;
 use std::process::Abort;
@@ -16,25 +16,25 @@ struct Shelf<'a> {
     files: &'a [Vec<u8>],
 }
 
-fn copy(alloc: Global, bytes: &[u8]) -> Result<Vec<u8>, Unread> {
+fn copy(alloc: Global, bytes: &[u8]) -> Result<Vec<u8>, ReadError> {
     match bytes.to_vec(alloc) {
         Ok(bytes) => Ok(bytes),
-        Err(_) => Err(Unread::Memory),
+        Err(_) => Err(ReadError::Memory),
     }
 }
 
 impl<'a> Folder for Shelf<'a> {
-    fn read(&self, alloc: Global, name: &str) -> Result<Vec<u8>, Unread> {
+    fn read(&self, alloc: Global, name: &str) -> Result<Vec<u8>, ReadError> {
         let place = match name {
             "ten" => 0,
             "two" => 1,
             "progressive" => 2,
             "coloured" => 3,
-            _ => return Err(Unread::Read),
+            _ => return Err(ReadError::Read),
         };
         match self.files.get(place) {
             Some(bytes) => copy(alloc, bytes.as_slice()),
-            None => Err(Unread::Read),
+            None => Err(ReadError::Read),
         }
     }
 }
@@ -63,7 +63,7 @@ fn told<R: Threads + Wait + Sync + AllocGlobal>(
     names: &[&str],
     workers: u32,
 ) -> Result<(Told, Vec<u8>), Fail> {
-    let asked = Asked {
+    let asked = CheckRequest {
         workers,
         has_map: true,
         files: owned(rt.alloc(), names)?,
@@ -99,7 +99,7 @@ fn tells_files_in_their_order(rt: HostRuntime) -> Result<(), Fail> {
 
 #[test]
 fn tells_that_lines_cannot_be_written(rt: HostRuntime) -> Result<(), Fail> {
-    let asked = Asked {
+    let asked = CheckRequest {
         workers: 2,
         has_map: false,
         files: owned(rt.alloc(), &["two", "two"])?,

@@ -15,7 +15,7 @@ use Rattle.jr_head.specs.HeadValue.{HeadValue}
 use Rattle.jr_head.specs.Geometry.{mcus_across, mcus_down, mcus_of}
 use Rattle.jr_scan.specs.ScanValue.{ScanValue}
 use Rattle.jr_view.specs.ViewValue.{ViewValue}
-use Rattle.jr_view.specs.Views.{IsView, is_whole, whole_rows}
+use Rattle.jr_view.specs.Views.{IsView, has_seen_row, whole_rows}
 
 abbrev weight : Bool → ℕ
 weight b = cond b 1 0
@@ -73,7 +73,7 @@ other_row across m r some s =
     ]
 
 -- a row is not whole before its MCU is seen
-not_whole : (h : HeadValue) (seen : List Bool) (m : ℕ) → 0 < mcus_across h → length seen ≡ mcus_of h → m < mcus_of h → get_or seen m false ≡ false → is_whole h seen (m / mcus_across h) ≡ false
+not_whole : (h : HeadValue) (seen : List Bool) (m : ℕ) → 0 < mcus_across h → length seen ≡ mcus_of h → m < mcus_of h → get_or seen m false ≡ false → has_seen_row h seen (m / mcus_across h) ≡ false
 not_whole h seen m some long lt none =
     let a = mcus_across h in
     let row = m / a in
@@ -90,12 +90,12 @@ not_whole h seen m some long lt none =
 
 -- the rows that are whole once an MCU is seen: those that were, and maybe its own
 pub rows_more : (h : HeadValue) (seen : List Bool) (m : ℕ) → 0 < mcus_across h → length seen ≡ mcus_of h → m < mcus_of h → get_or seen m false ≡ false
-    → count_by (is_whole h (set seen m true)) (range_with_len 0 (mcus_down h)) ≡ count_by (is_whole h seen) (range_with_len 0 (mcus_down h)) + cond (is_whole h (set seen m true) (m / mcus_across h)) 1 0
+    → count_by (has_seen_row h (set seen m true)) (range_with_len 0 (mcus_down h)) ≡ count_by (has_seen_row h seen) (range_with_len 0 (mcus_down h)) + cond (has_seen_row h (set seen m true) (m / mcus_across h)) 1 0
 rows_more h seen m some long lt none =
     let a = mcus_across h in
     let turned : mcus_of h ≡ mcus_down h * a = omega arith in
     let below : m / a < mcus_down h = div_below m a (mcus_down h) some (omega (arith, lt, turned)) in
-    more_count (is_whole h seen) (is_whole h (set seen m true)) (m / a) 0 (mcus_down h)
+    more_count (has_seen_row h seen) (has_seen_row h (set seen m true)) (m / a) 0 (mcus_down h)
     (λ r s. ap (list_all (λ (b : Bool). b)) (apart seen m (r * a) ((r + 1) * a) (other_row a m r some s)))
     (not_whole h seen m some long lt none) (omega arith) (omega (arith, below))
 
@@ -112,17 +112,17 @@ some_of zero b p = absurd (omega (arith, p))
 some_of (suc a) b p = omega arith
 
 -- no row is whole where no MCU was seen
-pub no_rows : (h : HeadValue) (seen : List Bool) → 0 < mcus_of h → length seen ≡ mcus_of h → ((m : ℕ) → get_or seen m false ≡ false) → count_by (is_whole h seen) (range_with_len 0 (mcus_down h)) ≡ 0
+pub no_rows : (h : HeadValue) (seen : List Bool) → 0 < mcus_of h → length seen ≡ mcus_of h → ((m : ℕ) → get_or seen m false ≡ false) → count_by (has_seen_row h seen) (range_with_len 0 (mcus_down h)) ≡ 0
 no_rows h seen some long none =
     let a = mcus_across h in
     let wide : 0 < a = some_of a (mcus_down h) some in
-    no_count (is_whole h seen) 0 (mcus_down h) (λ r le lt.
+    no_count (has_seen_row h seen) 0 (mcus_down h) (λ r le lt.
     let turned : mcus_of h ≡ mcus_down h * a = omega arith in
     let one : (r + 1) * a ≡ r * a + 1 * a = add-mul r 1 a in
     let most : (r + 1) * a ≤ mcus_down h * a = mul-le-mul_right a (omega (arith, lt)) in
     let zero_in : r * a + 0 ≡ r * a = omega arith in
     let row : r * a / a ≡ r = ap (λ k. k / a) (sym zero_in) ∙ div-mul-add r a 0 wide in
-    sym (ap (λ k. is_whole h seen k) row) ∙ not_whole h seen (r * a) wide long (omega (arith, turned, one, most, wide)) (none (r * a)))
+    sym (ap (λ k. has_seen_row h seen k) row) ∙ not_whole h seen (r * a) wide long (omega (arith, turned, one, most, wide)) (none (r * a)))
 
 -- the row of an MCU ends within the picture
 pub row_within : (h : HeadValue) (m : ℕ) → 0 < mcus_across h → m < mcus_of h → (m / mcus_across h + 1) * mcus_across h ≤ mcus_of h
@@ -143,11 +143,11 @@ pub few_rows : (v : ViewValue) → whole_rows v ≤ mcus_down v.scan.head
 unfolding whole_rows
 few_rows v =
     let n = mcus_down v.scan.head in
-    omega (arith, count_by-le-length (is_whole v.scan.head v.seen) (range_with_len 0 n), length-range_with_len 0 n)
+    omega (arith, count_by-le-length (has_seen_row v.scan.head v.seen) (range_with_len 0 n), length-range_with_len 0 n)
 
 -- what a view keeps once an MCU more is seen
 pub kept_view : (of : ScanValue) (us vs : List (List ℕ)) (seen : List Bool) (m rows more : ℕ) → IsView (record { scan = of; units = us; seen = seen }) rows → length vs ≡ length us → 0 < mcus_across of.head → m < mcus_of of.head
-    → get_or seen m false ≡ false → more ≡ cond (is_whole of.head (set seen m true) (m / mcus_across of.head)) 1 0 → IsView (record { scan = of; units = vs; seen = set seen m true }) (rows + more)
+    → get_or seen m false ≡ false → more ≡ cond (has_seen_row of.head (set seen m true) (m / mcus_across of.head)) 1 0 → IsView (record { scan = of; units = vs; seen = set seen m true }) (rows + more)
 unfolding whole_rows
 kept_view of us vs seen m rows more is long wide lt none one = record {
   units = long ∙ is.units;

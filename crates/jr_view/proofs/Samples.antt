@@ -10,7 +10,7 @@ use Rattle.jr_paint.specs.declared.geometry.Spot.{Spot}
 use Rattle.jr_piece.specs.Units.{grey_unit}
 use Rattle.jr_view.specs.ViewValue.{ViewValue}
 use Rattle.jr_scan.specs.ScanValue.{ScanValue}
-use Rattle.jr_view.specs.Views.{IsView, sample_of, unit_at, whole_rows}
+use Rattle.jr_view.specs.Views.{IsView, sample_in_view, unit_at, whole_rows}
 use Rattle.jr_view.proofs.Rows.{no_rows}
 
 -- each data unit of grey ones is grey, and so is what is behind them
@@ -21,8 +21,8 @@ each_grey n i = elim (cases_lt i n) [
 ]
 
 -- where each data unit is grey each sample is
-pub grey_samples : (v : ViewValue) → ((mcu k : ℕ) → unit_at v mcu k ≡ grey_unit) → (c x y : ℕ) → sample_of v c x y ≡ 128
-unfolding sample_of
+pub grey_samples : (v : ViewValue) → ((mcu k : ℕ) → unit_at v mcu k ≡ grey_unit) → (c x y : ℕ) → sample_in_view v c x y ≡ 128
+unfolding sample_in_view
 grey_samples v grey c x y =
     let h = v.scan.head in
     let s = spot_at h c (place_of (horizontal_of h c) (vertical_of h c) x y) in
@@ -31,8 +31,8 @@ grey_samples v grey c x y =
 
 -- what is found at a sample's spot is the view's sample
 pub found : (v : ViewValue) (h : HeadValue) (c x y n : ℕ) (s : Spot) (u : List ℕ) → h ≡ v.scan.head → s ≡ spot_at h c (place_of (horizontal_of h c) (vertical_of h c) x y) → n ≡ blocks_of h
-    → u ≡ slice_index_or v.units (s.mcu * n + s.block) grey_unit → slice_index u (8 * s.row + s.col) ≡ sample_of v c x y
-unfolding sample_of
+    → u ≡ slice_index_or v.units (s.mcu * n + s.block) grey_unit → slice_index u (8 * s.row + s.col) ≡ sample_in_view v c x y
+unfolding sample_in_view
 found v h c x y n s u e at per is =
     let n_is = per ∙ ap blocks_of e in
     let s_is = at ∙ ap (λ (g : HeadValue). spot_at g c (place_of (horizontal_of g c) (vertical_of g c) x y)) e in

@@ -5,7 +5,7 @@ use Rattle.jr_head.specs.Geometry.{blocks_of, mcus_of}
 use Rattle.jr_scan.specs.ScanValue.{ScanValue}
 use Rattle.jr_piece.specs.Units.{grey_unit}
 use Rattle.jr_view.specs.ViewValue.{ViewValue}
-use Rattle.jr_view.specs.Views.{IsSameAt, ShowsMcu, ShowsMcus, has_seen, unit_at}
+use Rattle.jr_view.specs.Views.{IsSameAt, AddsMcu, AddsMcus, has_seen, unit_at}
 
 is_same : (v : ViewValue) (mcu : ℕ) → IsSameAt v v mcu
 is_same v mcu = record { seen = refl; units = λ k lt. refl }
@@ -26,7 +26,7 @@ tells true = inl refl
 tells false = inr refl
 
 -- nothing is shown yet
-pub show_none : (v : ViewValue) (first count : ℕ) (units : List (List ℕ)) → count ≡ 0 → ShowsMcus v first count units v
+pub show_none : (v : ViewValue) (first count : ℕ) (units : List (List ℕ)) → count ≡ 0 → AddsMcus v first count units v
 show_none v first count units e = record {
   scan = refl;
   seen = λ mcu a. absurd (omega (arith, a.from, a.before, e));
@@ -37,7 +37,7 @@ show_none v first count units e = record {
 
 module _ (old cur : ViewValue) (first d m : ℕ) (units : List (List ℕ)) where
   -- the next one was seen before
-  pub show_seen : m ≡ first + d → ShowsMcus old first d units cur → has_seen cur m ≡ true → ShowsMcus old first (d + 1) units cur
+  pub show_seen : m ≡ first + d → AddsMcus old first d units cur → has_seen cur m ≡ true → AddsMcus old first (d + 1) units cur
   show_seen le s here =
       let was : has_seen old m ≡ true = (s.others m (inr (omega arith))).seen ∙ here in
       record {
@@ -66,8 +66,8 @@ module _ (old cur : ViewValue) (first d m : ℕ) (units : List (List ℕ)) where
       }
 
   -- the next one is shown now
-  pub show_more : (new : ViewValue) (from : ℕ) → m ≡ first + d → from ≡ d * blocks_of old.scan.head → ShowsMcus old first d units cur → has_seen cur m ≡ false → ShowsMcu cur m units from new
-      → ShowsMcus old first (d + 1) units new
+  pub show_more : (new : ViewValue) (from : ℕ) → m ≡ first + d → from ≡ d * blocks_of old.scan.head → AddsMcus old first d units cur → has_seen cur m ≡ false → AddsMcu cur m units from new
+      → AddsMcus old first (d + 1) units new
   show_more new from le at s none t =
       let blocks = same_blocks old cur s.scan in
       let blocks_new = same_blocks cur new t.scan in
@@ -103,7 +103,7 @@ module _ (old cur : ViewValue) (first d m : ℕ) (units : List (List ℕ)) where
       }
 
 -- all that the picture has are shown
-pub show_all : (old new : ViewValue) (first count done : ℕ) (units : List (List ℕ)) → done ≤ count → (done < count → mcus_of old.scan.head ≤ first + done) → ShowsMcus old first done units new → ShowsMcus old first count units new
+pub show_all : (old new : ViewValue) (first count done : ℕ) (units : List (List ℕ)) → done ≤ count → (done < count → mcus_of old.scan.head ≤ first + done) → AddsMcus old first done units new → AddsMcus old first count units new
 show_all old new first count done units le end s = record {
   scan = s.scan;
   seen = λ mcu a. s.seen mcu (record { picture = a.picture; from = a.from; before = grind (arith, a.picture, a.before, end) });

@@ -6,13 +6,13 @@ use Rattle.jr_head.specs.Geometry.{blocks_of}
 use Rattle.jr_scan.specs.ScanValue.{ScanValue}
 use Rattle.jr_piece.specs.Units.{grey_unit}
 use Rattle.jr_view.specs.ViewValue.{ViewValue}
-use Rattle.jr_view.specs.Views.{ShowsMcu}
+use Rattle.jr_view.specs.Views.{AddsMcu}
 
 -- where the data units of an MCU are written, and it counts as seen, it shows them, and no other MCU is changed
 pub mcu_shown : (old new : ViewValue) (m from per : ℕ) (units us : List (List ℕ)) → per ≡ blocks_of old.scan.head → new.scan ≡ old.scan → new.units ≡ us → new.seen ≡ set old.seen m true → m < length old.seen
     → ((k : ℕ) → k < per → get_or us (m * per + k) grey_unit ≡ get_or units (from + k) grey_unit)
     → ((k : ℕ) → k < m * per → get_or us k grey_unit ≡ get_or old.units k grey_unit)
-    → ((k : ℕ) → m * per + per ≤ k → get_or us k grey_unit ≡ get_or old.units k grey_unit) → ShowsMcu old m units from new
+    → ((k : ℕ) → m * per + per ≤ k → get_or us k grey_unit ≡ get_or old.units k grey_unit) → AddsMcu old m units from new
 mcu_shown old new m from per units us blocks scan written marked lt here before behind =
     let n = blocks_of old.scan.head in
     let same : blocks_of new.scan.head ≡ n = ap (λ (s : ScanValue). blocks_of s.head) scan in

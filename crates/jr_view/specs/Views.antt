@@ -20,16 +20,16 @@ abbrev pub unit_at : ViewValue → ℕ → ℕ → List ℕ
 unit_at v mcu k = slice_index_or v.units (mcu * blocks_of v.scan.head + k) grey_unit
 
 -- the sample in column x and line y of component c
-unfoldable pub sample_of : ViewValue → ℕ → ℕ → ℕ → ℕ
-sample_of v c x y = let s = spot_of v.scan.head c x y in slice_index (unit_at v s.mcu s.block) (place_in s)
+unfoldable pub sample_in_view : ViewValue → ℕ → ℕ → ℕ → ℕ
+sample_in_view v c x y = let s = spot_of v.scan.head c x y in slice_index (unit_at v s.mcu s.block) (place_in s)
 
 -- whether each MCU of this row of MCUs was seen
-abbrev pub is_whole : HeadValue → List Bool → ℕ → Bool
-is_whole h seen row = list_all (λ b. b) (slice_range seen (row * mcus_across h) ((row + 1) * mcus_across h))
+abbrev pub has_seen_row : HeadValue → List Bool → ℕ → Bool
+has_seen_row h seen row = list_all (λ b. b) (slice_range seen (row * mcus_across h) ((row + 1) * mcus_across h))
 
 -- how many rows of MCUs were seen whole
 unfoldable pub whole_rows : ViewValue → ℕ
-whole_rows v = count_by (is_whole v.scan.head v.seen) (range_with_len 0 (mcus_down v.scan.head))
+whole_rows v = count_by (has_seen_row v.scan.head v.seen) (range_with_len 0 (mcus_down v.scan.head))
 
 -- both views show the same of an MCU
 pub record IsSameAt (a b : ViewValue) (mcu : ℕ) : Type 0 where
@@ -68,8 +68,8 @@ abbrev pub IsNotOfStrip : ViewValue → StripValue → ℕ → Type 0
 IsNotOfStrip v s mcu = IsOutside (first_of_strip v.scan.head s) s.mcus mcu
 
 -- it shows the strip's data units
-abbrev pub ShowsStrip : ViewValue → StripValue → ℕ → Type 0
-ShowsStrip v s mcu = ShowsUnits v mcu s.samples ((mcu - first_of_strip v.scan.head s) * blocks_of v.scan.head)
+abbrev pub ShowsStripUnits : ViewValue → StripValue → ℕ → Type 0
+ShowsStripUnits v s mcu = ShowsUnits v mcu s.samples ((mcu - first_of_strip v.scan.head s) * blocks_of v.scan.head)
 
 -- the MCU is one of a piece's interval, or none of them
 abbrev pub IsOfPiece : ViewValue → PieceValue → ℕ → Type 0
@@ -89,19 +89,19 @@ pub record IsView (v : ViewValue) (count : ℕ) : Type 0 where
   pub rows : count ≡ whole_rows v
 
 -- the data units of what a view is shown
-abbrev pub units_of : Shown → List (List ℕ)
-units_of (OfStrip s) = s.now.samples
-units_of (OfPiece p) = p.now.samples
+abbrev pub units_shown : Shown → List (List ℕ)
+units_shown (OfStrip s) = s.now.samples
+units_shown (OfPiece p) = p.now.samples
 
 -- MCU `mcu`, which was not seen, shows data units from this one on; the others are as they were
-pub record ShowsMcu (old : ViewValue) (mcu : ℕ) (units : List (List ℕ)) (from : ℕ) (new : ViewValue) : Type 0 where
+pub record AddsMcu (old : ViewValue) (mcu : ℕ) (units : List (List ℕ)) (from : ℕ) (new : ViewValue) : Type 0 where
   pub scan : new.scan ≡ old.scan
   pub seen : has_seen new mcu ≡ true
   pub shown : ShowsUnits new mcu units from
   pub others : (m : ℕ) → (m < mcu) ⊎ (mcu < m) → IsSameAt old new m
 
 -- those of so many MCUs from `first` on that were not seen show data units; the others are as they were
-pub record ShowsMcus (old : ViewValue) (first count : ℕ) (units : List (List ℕ)) (new : ViewValue) : Type 0 where
+pub record AddsMcus (old : ViewValue) (first count : ℕ) (units : List (List ℕ)) (new : ViewValue) : Type 0 where
   pub scan : new.scan ≡ old.scan
   pub seen : (mcu : ℕ) → IsAmong old.scan.head first count mcu → has_seen new mcu ≡ true
   pub shown : (mcu : ℕ) → IsAmong old.scan.head first count mcu → has_seen old mcu ≡ false → ShowsUnits new mcu units ((mcu - first) * blocks_of old.scan.head)

@@ -3,7 +3,7 @@
 ghost use Rattle.std.specs.Prelude.{◌≡◌, ℕ, ◌+◌, ◌<◌, ◌^◌, length, slice_get, slice_index_or};
 ghost use Rattle.std.specs.Option.{option_copied};
 ghost use Rattle.jr_piece.specs.Units.{grey_unit};
-ghost use Rattle.jr_view.specs.Views.{units_of};
+ghost use Rattle.jr_view.specs.Views.{units_shown};
 
 use jr_piece::{Piece, Strip};
 
@@ -22,7 +22,7 @@ pub(crate) enum Shown<'a> {
 impl Shown<'_> {
     /// Data unit k; none past the last.
     fn block(&self, k: u32) -> Option<&[u8; 64]>
-        ensures { option_copied result ≡ slice_get (units_of self.now) k }
+        ensures { option_copied result ≡ slice_get (units_shown self.now) k }
     {
         match self {
             Shown::OfStrip(strip) => strip.block(k),
@@ -32,7 +32,7 @@ impl Shown<'_> {
 
     /// Data unit k; grey where there is none.
     fn unit(&self, k: u32) -> [u8; 64]
-        ensures { result ≡ slice_index_or (units_of self.now) k grey_unit }
+        ensures { result ≡ slice_index_or (units_shown self.now) k grey_unit }
     {
         match self.block(k) {
             Some(samples) => *samples,
@@ -43,7 +43,7 @@ impl Shown<'_> {
     /// Puts the data units from this one on, as many as there is room for.
     pub(crate) fn put(&self, from: u32, out: &mut [[u8; 64]])
         requires { from + length out.old < 2 ^ 32 }
-        ensures { (k : ℕ) → k < length out.new → slice_index_or out.new k grey_unit ≡ slice_index_or (units_of self.now) (from + k) grey_unit }
+        ensures { (k : ℕ) → k < length out.new → slice_index_or out.new k grey_unit ≡ slice_index_or (units_shown self.now) (from + k) grey_unit }
     {
         for k in 0..out.len() {
             out[k] = self.unit(from + k as u32);

@@ -4,7 +4,7 @@ ghost use Rattle.std.specs.Prelude.{◌≡◌, ℕ, ◌*◌, ◌+◌, ◌/◌, �
 ghost use Rattle.std.specs.Arc.{arc_value};
 ghost use Rattle.jr_head.specs.Geometry.{blocks_of, mcus_across, mcus_down, mcus_of};
 ghost use Rattle.jr_piece.specs.Units.{grey_unit};
-ghost use Rattle.jr_view.specs.Views.{IsNotOfPiece, IsNotOfStrip, IsOfPiece, IsOfStrip, IsSameAt, ShowsMcu, ShowsMcus, ShowsPiece, ShowsStrip, has_seen, is_whole, sample_of, unit_at, units_of, whole_rows};
+ghost use Rattle.jr_view.specs.Views.{IsNotOfPiece, IsNotOfStrip, IsOfPiece, IsOfStrip, IsSameAt, AddsMcu, AddsMcus, ShowsPiece, ShowsStripUnits, has_seen, has_seen_row, sample_in_view, unit_at, units_shown, whole_rows};
 
 use crate::shown::{GREY, Shown};
 use jr_code::Memory;
@@ -73,7 +73,7 @@ fn grey_units(alloc: Global, count: usize) -> Result<Vec<[u8; 64]>, Memory>
 fn put_mcu(shown: &Shown<'_>, from: u32, units: &mut [[u8; 64]], start: usize, count: usize)
     requires few { from + count < 2 ^ 32 }
     requires room { start + count ≤ length units.old }
-    ensures here { (k : ℕ) → k < count → slice_index_or units.new (start + k) grey_unit ≡ slice_index_or (units_of shown.now) (from + k) grey_unit }
+    ensures here { (k : ℕ) → k < count → slice_index_or units.new (start + k) grey_unit ≡ slice_index_or (units_shown shown.now) (from + k) grey_unit }
     ensures before { (k : ℕ) → k < start → slice_index_or units.new k grey_unit ≡ slice_index_or units.old k grey_unit }
     ensures behind { (k : ℕ) → start + count ≤ k → slice_index_or units.new k grey_unit ≡ slice_index_or units.old k grey_unit }
 {
@@ -84,7 +84,7 @@ fn put_mcu(shown: &Shown<'_>, from: u32, units: &mut [[u8; 64]], start: usize, c
 fn is_row_whole(head: &Head, seen: &[bool], mcu: usize) -> bool
     requires mcu { mcu < mcus_of head.now }
     requires seen { length seen.now ≡ mcus_of head.now }
-    ensures value { result ≡ is_whole head.now seen.now (mcu / mcus_across head.now) }
+    ensures value { result ≡ has_seen_row head.now seen.now (mcu / mcus_across head.now) }
     ensures wide { 0 < mcus_across head.now }
 {
     let columns = mcu_columns(head);
@@ -101,7 +101,7 @@ impl View {
         ensures scan { IfOk result (λ v. v.scan ≡ arc_value scan.now) }
         ensures unseen { IfOk result (λ v. (mcu : ℕ) → has_seen v mcu ≡ false) }
         ensures grey { IfOk result (λ v. (mcu k : ℕ) → unit_at v mcu k ≡ grey_unit) }
-        ensures samples { IfOk result (λ v. (c x y : ℕ) → sample_of v c x y ≡ 128) }
+        ensures samples { IfOk result (λ v. (c x y : ℕ) → sample_in_view v c x y ≡ 128) }
     {
         let mcus = scan.head().mcus() as usize;
         let count = mcus * scan.head().order().len();
@@ -142,7 +142,7 @@ impl View {
     pub fn show_strip(&mut self, strip: &Strip)
         ensures scan { self.new.scan ≡ self.old.scan }
         ensures seen { (mcu : ℕ) → IsOfStrip self.old strip.now mcu → has_seen self.new mcu ≡ true }
-        ensures shown { (mcu : ℕ) → IsOfStrip self.old strip.now mcu → has_seen self.old mcu ≡ false → ShowsStrip self.new strip.now mcu }
+        ensures shown { (mcu : ℕ) → IsOfStrip self.old strip.now mcu → has_seen self.old mcu ≡ false → ShowsStripUnits self.new strip.now mcu }
         ensures kept { (mcu : ℕ) → has_seen self.old mcu ≡ true → IsSameAt self.old self.new mcu }
         ensures others { (mcu : ℕ) → IsNotOfStrip self.old strip.now mcu → IsSameAt self.old self.new mcu }
     {
@@ -174,7 +174,7 @@ impl View {
     fn show(&mut self, first: usize, count: usize, shown: &Shown<'_>)
         requires first { first < 2 ^ 60 }
         requires count { count < 2 ^ 32 }
-        ensures { ShowsMcus self.old first count (units_of shown.now) self.new }
+        ensures { AddsMcus self.old first count (units_shown shown.now) self.new }
     {
         let per_mcu = self.scan.head().order().len();
         let left = (self.scan.head().mcus() as usize).saturating_sub(first);
@@ -188,7 +188,7 @@ impl View {
         requires mcu { mcu < mcus_of self.old.scan.head }
         requires from { from < 2 ^ 31 }
         ensures kept { has_seen self.old mcu ≡ true → self.new ≡ self.old }
-        ensures shown { has_seen self.old mcu ≡ false → ShowsMcu self.old mcu (units_of shown.now) from self.new }
+        ensures shown { has_seen self.old mcu ≡ false → AddsMcu self.old mcu (units_shown shown.now) from self.new }
     {
         if self.seen[mcu] {
             return;
@@ -206,7 +206,7 @@ impl View {
 impl Samples for View {
     ghost head_of = { λ v. v.scan.head };
 
-    ghost shown = { sample_of };
+    ghost shown = { sample_in_view };
 
     fn head(&self) -> &Head {
         self.scan.head()

@@ -13,7 +13,7 @@ use Rattle.jr_piece.specs.PieceValue.{PieceValue}
 use Rattle.jr_picture.specs.BoardValue.{BoardValue}
 use Rattle.jr_piece.specs.Outcome.{IsOutcome}
 use Rattle.jr_picture.specs.Boards.{is_sound_piece, is_damaged_piece, IsFor, IsPieceOf}
-use Rattle.jr_wall.specs.Kept.{HasCounts, shared_piece}
+use Rattle.jr_wall.specs.Kept.{KeepsCounts, shared_piece}
 
 pub no_piece : (n i : ℕ) → get_or (replicate {A = Option PieceValue} n None) i None ≡ None
 no_piece zero i = refl
@@ -28,7 +28,7 @@ none_counted : (test : Option PieceValue → Bool) (n : ℕ) → test None ≡ f
 none_counted test zero e = refl
 none_counted test (suc n) e = sum_by-cons (λ (p : Option PieceValue). cond (test p) 1 0) None (replicate n None) ∙ rw e (zero-add _ ∙ none_counted test n e)
 
-pub kept_new : (scan : ScanValue) (n : ℕ) → n ≡ length scan.intervals → n < 2 ^ 32 → HasCounts (record { scan = scan; pieces = map shared_piece (replicate n None) }) 0 0
+pub kept_new : (scan : ScanValue) (n : ℕ) → n ≡ length scan.intervals → n < 2 ^ 32 → KeepsCounts (record { scan = scan; pieces = map shared_piece (replicate n None) }) 0 0
 kept_new scan n e small =
     rw none_held (record {
       lawful = record { places = length-replicate {A = Option PieceValue} n None ∙ e; each = λ i p h. let z : None ≡ Some p = sym (no_piece n i) ∙ h in cc };
@@ -46,7 +46,7 @@ count_set test ps n p h none e =
 
 -- one more piece: its mark counts, and there is room for the counts
 pub record Posted (b : BoardValue) (n : ℕ) (p : PieceValue) (sound damaged : ℕ) : Type 0 where
-  pub kept : HasCounts (record { scan = b.scan; pieces = set b.pieces n (Some p) }) sound damaged
+  pub kept : KeepsCounts (record { scan = b.scan; pieces = set b.pieces n (Some p) }) sound damaged
   pub sound_fits : sound < 2 ^ 32
   pub damaged_fits : damaged < 2 ^ 32
 
@@ -58,7 +58,7 @@ turned : (b : Bool) → let n : ℕ = cond (cond b false true) 1 0 in n ≡ bool
 turned true = refl
 turned false = refl
 
-pub posts : (b : BoardValue) (n : ℕ) (p : PieceValue) (sound damaged more less : ℕ) → HasCounts b sound damaged → n ≡ p.interval.number → IsFor p.interval b.scan → IsOutcome p → get_or b.pieces n None ≡ None
+pub posts : (b : BoardValue) (n : ℕ) (p : PieceValue) (sound damaged more less : ℕ) → KeepsCounts b sound damaged → n ≡ p.interval.number → IsFor p.interval b.scan → IsOutcome p → get_or b.pieces n None ≡ None
     → more ≡ bool_byte p.is_sound → less ≡ bool_byte (not p.is_sound) → Posted b n p (sound + more) (damaged + less)
 posts b n p sound damaged more less k is for outcome none m l =
     let places = k.lawful.places in

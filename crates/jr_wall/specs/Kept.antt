@@ -13,7 +13,7 @@ shared_piece None = None
 shared_piece (Some p) = Some (arc_value p)
 
 -- what the fields of a board keep
-pub record HasCounts (b : BoardValue) (sound damaged : ℕ) : Type 0 where
+pub record KeepsCounts (b : BoardValue) (sound damaged : ℕ) : Type 0 where
   pub lawful : IsLawfulBoard b
   pub few : length b.pieces < 2 ^ 32
   pub sound_is : sound ≡ count_by is_sound_piece b.pieces

@@ -2,11 +2,12 @@
 
 ghost use Rattle.std.specs.Prelude.{◌≡◌, ◌<◌, IfOk, OnOk};
 ghost use Rattle.jr_scan.specs.IntervalValue.{IntervalValue};
-ghost use Rattle.jr_piece.specs.Strips.{AreOf, HasWholeMcus, shared_strips};
+ghost use Rattle.jr_scan.specs.Mcus.{HasLongestFront};
+ghost use Rattle.jr_piece.specs.Strips.{AreOf, shared_strips};
 
 use crate::shown::piece;
 use jr_scan::Scan;
-use jr_wall::{NotInOrder, Piece, Strip, StripReader};
+use jr_wall::{OrderError, Piece, Strip, StripReader};
 use std::alloc::Global;
 use std::process::Abort;
 use std::sync::Arc;
@@ -73,7 +74,7 @@ fn gather(alloc: Global, reader: &mut StripReader, cut: Cut) -> Result<Gathered,
     ensures interval { reader.new.interval ≡ reader.old.interval }
     ensures of { IfOk result (λ g. AreOf reader.old.interval (shared_strips g.strips.items)) }
     ensures front { IfOk result (λ g. g.front ≡ reader.new.first) }
-    ensures whole { IfOk result (λ g. HasWholeMcus reader.old.interval g.front) }
+    ensures whole { IfOk result (λ g. HasLongestFront reader.old.interval g.front) }
 {
     let mut strips = Vec::new(alloc);
     let mut front = 0;
@@ -93,7 +94,7 @@ fn gather(alloc: Global, reader: &mut StripReader, cut: Cut) -> Result<Gathered,
 }
 
 /// The piece of the first interval, made of its strips.
-fn piece_of_strips(alloc: Global, scan: &Scan, cut: Cut) -> Result<Result<Piece, NotInOrder>, Fail>
+fn piece_of_strips(alloc: Global, scan: &Scan, cut: Cut) -> Result<Result<Piece, OrderError>, Fail>
     requires first { 0 < cut.first }
     requires then { 0 < cut.then }
 {

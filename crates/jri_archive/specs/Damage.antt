@@ -1,25 +1,17 @@
 -- Which intervals of a scan have a decoding, and how far the others can be decoded.
-use Rattle.std.specs.Prelude.{◌≡◌, ℕ, ◌<◌, Bool, true, false, List, length, count_by, ℤ, slice_index_or}
+use Rattle.std.specs.Prelude.{◌≡◌, ℕ, ◌<◌, Bool, true, false, List, length, count_by, slice_index_or}
 use Rattle.jr_scan.specs.IntervalValue.{IntervalValue}
 use Rattle.jr_scan.specs.ScanValue.{ScanValue, interval_of}
-use Rattle.jr_scan.specs.Mcus.{Decodes, HasNoDecoding, LongestFront}
-
--- some blocks are the interval's decoding
-abbrev pub HasDecoding : IntervalValue → Type 0
-HasDecoding i = (zs : List (List ℤ)) × Decodes i zs
-
--- the interval's bits begin with those of so many whole MCUs, and of no more
-abbrev pub HasLongestFront : IntervalValue → ℕ → Type 0
-HasLongestFront i k = (zs : List (List ℤ)) × LongestFront i k zs
+use Rattle.jr_scan.specs.Mcus.{HasDecoding, HasNoDecoding}
 
 -- the interval is damaged, or it is not
-abbrev pub IsDamaged : IntervalValue → Bool → Type 0
-IsDamaged i true = HasNoDecoding i
-IsDamaged i false = HasDecoding i
+abbrev pub TellsDamage : IntervalValue → Bool → Type 0
+TellsDamage i true = HasNoDecoding i
+TellsDamage i false = HasDecoding i
 
 -- of the first n intervals of a scan so many are damaged; marks tells for each whether it is
 pub record CountsDamaged (s : ScanValue) (n count : ℕ) : Type 0 where
   pub marks : List Bool
   pub long : length marks ≡ n
-  pub each : (i : ℕ) → i < n → IsDamaged (interval_of s i) (slice_index_or marks i false)
+  pub each : (i : ℕ) → i < n → TellsDamage (interval_of s i) (slice_index_or marks i false)
   pub counted : count ≡ count_by (λ (damaged : Bool). damaged) marks

@@ -23,13 +23,13 @@ pub record Touches (h : HeadValue) (i line : ℕ) : Type 0 where
   pub covers : Covers h mcu line
 
 -- from one line to another
-abbrev pub IsWithin : Lines → ℕ → Type 0
-IsWithin l line = (l.first ≤ line) × (line ≤ l.last)
+abbrev pub HasLine : Lines → ℕ → Type 0
+HasLine l line = (l.first ≤ line) × (line ≤ l.last)
 
 -- interval i touches these lines of the picture, and no other
 pub record AreLinesOf (h : HeadValue) (i : ℕ) (l : Lines) : Type 0 where
-  pub within : (line : ℕ) → Touches h i line → IsWithin l line
-  pub touched : (line : ℕ) → IsWithin l line → Touches h i line
+  pub within : (line : ℕ) → Touches h i line → HasLine l line
+  pub touched : (line : ℕ) → HasLine l line → Touches h i line
   pub some : l.first ≤ l.last
 
 -- some MCUs that follow one another stand in rows of so many MCUs, each so many lines high, which cover a picture

@@ -1,11 +1,10 @@
 -- What a map tells of a damaged interval.
 use Rattle.std.specs.Prelude.{◌≡◌, ℕ, ◌<◌, ◌≤◌, ◌⊎◌, List, length, Option, Some, None}
-use Rattle.jr_scan.specs.Mcus.{HasNoDecoding}
+use Rattle.jr_scan.specs.Mcus.{HasNoDecoding, HasLongestFront}
 use Rattle.jr_scan.specs.ScanValue.{ScanValue, interval_of, mcus_in}
 use Rattle.jri_archive.specs.declared.map.DamagedInterval.{DamagedInterval}
 use Rattle.jri_archive.specs.declared.segments.CodedSpan.{CodedSpan}
 use Rattle.jri_archive.specs.Coded.{span_at}
-use Rattle.jri_archive.specs.Damage.{HasLongestFront}
 use Rattle.jri_archive.specs.Lines.{first_mcu_of, AreLinesOf}
 
 -- the bytes of segment i, or none where it has none or is not there

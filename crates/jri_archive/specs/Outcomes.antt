@@ -13,7 +13,7 @@ IsOutcomeOf file (outcome.Refused fault) = fault ≢ refusal.Memory → RefusalO
 IsOutcomeOf file outcome.Unread = ⊥
 
 -- there is a scan, and no interval of it is damaged
-abbrev pub is_sound : Outcome → Bool
-is_sound (outcome.Checked c) = c.verdict.damaged == 0
-is_sound (outcome.Refused fault) = false
-is_sound outcome.Unread = false
+abbrev pub is_all_sound : Outcome → Bool
+is_all_sound (outcome.Checked c) = c.verdict.damaged == 0
+is_all_sound (outcome.Refused fault) = false
+is_all_sound outcome.Unread = false

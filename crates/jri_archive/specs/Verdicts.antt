@@ -6,7 +6,7 @@ use Rattle.jr_scan.specs.ScanValue.{ScanValue, interval_of, IsScanOf}
 use Rattle.jri_archive.specs.declared.lines.Lines.{Lines}
 use Rattle.jri_archive.specs.declared.verdict.Verdict.{Verdict}
 use Rattle.jri_archive.specs.Damage.{CountsDamaged}
-use Rattle.jri_archive.specs.Lines.{Touches, IsWithin}
+use Rattle.jri_archive.specs.Lines.{Touches, HasLine}
 
 -- a damaged one of the first n intervals touches the line
 pub record DamageTouches (s : ScanValue) (n line : ℕ) : Type 0 where
@@ -19,7 +19,7 @@ pub record DamageTouches (s : ScanValue) (n line : ℕ) : Type 0 where
 pub record IsHull (s : ScanValue) (n : ℕ) (l : Lines) : Type 0 where
   pub first : DamageTouches s n l.first
   pub last : DamageTouches s n l.last
-  pub each : (line : ℕ) → DamageTouches s n line → IsWithin l line
+  pub each : (line : ℕ) → DamageTouches s n line → HasLine l line
 
 -- the same where they may touch none
 abbrev pub IsTouched : ScanValue → ℕ → Option Lines → Type 0

@@ -1,13 +1,13 @@
 //! What the words of a command line ask for, or why they ask for nothing.
 
 ghost use Rattle.std.specs.Prelude.{◌≡◌};
-ghost use Rattle.jri_archive.specs.Status.{unasked_status};
+ghost use Rattle.jri_archive.specs.Status.{request_error_status};
 
 use std::alloc::AllocError;
 
 /// What the words ask for.
 #[derive(Debug, Drop)]
-pub struct Asked {
+pub struct CheckRequest {
     /// How many files are checked at once: 1 to 64.
     pub workers: u32,
     /// Whether there is a line for each damaged interval.
@@ -18,7 +18,7 @@ pub struct Asked {
 
 /// Why the words ask for no check.
 #[derive(Debug, Drop)]
-pub enum Unasked {
+pub enum RequestError {
     /// They ask for help, which is this text.
     Help(String),
     /// They are wrong, as this text says.
@@ -27,21 +27,21 @@ pub enum Unasked {
     Memory,
 }
 
-impl Unasked {
+impl RequestError {
     /// The exit status: 0 for help, 2 for wrong words, 1 for want of memory.
     pub fn status(&self) -> u8
-        ensures { result ≡ unasked_status self.now }
+        ensures { result ≡ request_error_status self.now }
     {
         match self {
-            Unasked::Help(_) => 0,
-            Unasked::Wrong(_) => 2,
-            Unasked::Memory => 1,
+            RequestError::Help(_) => 0,
+            RequestError::Wrong(_) => 2,
+            RequestError::Memory => 1,
         }
     }
 }
 
-impl From<AllocError> for Unasked {
+impl From<AllocError> for RequestError {
     fn from(_refused: AllocError) -> Self {
-        Unasked::Memory
+        RequestError::Memory
     }
 }

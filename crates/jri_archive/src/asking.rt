@@ -3,7 +3,7 @@
 ghost use Rattle.std.specs.Prelude.{◌≤◌, IfOk};
 ghost use Rattle.jr_base.specs.declared.limits.TheConstants.{MAX_WORKERS};
 
-use crate::answers::{Asked, Unasked};
+use crate::answers::{CheckRequest, RequestError};
 use clap::error::ErrorKind;
 use clap::{Arg, ArgAction, Command, Error, value_parser};
 use jr_base::limits::MAX_WORKERS;
@@ -36,14 +36,14 @@ fn command<'a>(alloc: Global) -> Result<Command<'a>, AllocError> {
         .arg(files)
 }
 
-fn refusal(alloc: Global, error: &Error) -> Unasked {
+fn refusal(alloc: Global, error: &Error) -> RequestError {
     if error.kind() == ErrorKind::OutOfMemory {
-        return Unasked::Memory;
+        return RequestError::Memory;
     }
     match error.to_string(alloc) {
-        Ok(text) if error.kind() == ErrorKind::DisplayHelp => Unasked::Help(text),
-        Ok(text) => Unasked::Wrong(text),
-        Err(_) => Unasked::Memory,
+        Ok(text) if error.kind() == ErrorKind::DisplayHelp => RequestError::Help(text),
+        Ok(text) => RequestError::Wrong(text),
+        Err(_) => RequestError::Memory,
     }
 }
 
@@ -57,8 +57,8 @@ fn copied(alloc: Global, words: &[&str]) -> Result<Vec<String>, AllocError> {
 }
 
 /// What the words after the program's name ask for: `--map`; `--workers` from 1 to 64, 4 where it isn't there; and one
-/// file or more. `Unasked` has the text to print where they ask for help or are wrong.
-pub fn asked<'a>(alloc: Global, words: &'a [String]) -> Result<Asked, Unasked>
+/// file or more. `RequestError` has the text to print where they ask for help or are wrong.
+pub fn asked<'a>(alloc: Global, words: &'a [String]) -> Result<CheckRequest, RequestError>
     ensures some { IfOk result (λ a. 1 ≤ a.workers) }
     ensures few { IfOk result (λ a. a.workers ≤ MAX_WORKERS) }
 {
@@ -72,11 +72,11 @@ pub fn asked<'a>(alloc: Global, words: &'a [String]) -> Result<Asked, Unasked>
     };
     match matches.get_one::<u32>("workers") {
         // the range of the argument's values, which the parser's contract does not repeat
-        Some(workers) if (1..=MAX_WORKERS).contains(&workers) => Ok(Asked {
+        Some(workers) if (1..=MAX_WORKERS).contains(&workers) => Ok(CheckRequest {
             workers,
             has_map: matches.get_flag("map"),
             files,
         }),
-        _ => Err(Unasked::Wrong(String::new(alloc))),
+        _ => Err(RequestError::Wrong(String::new(alloc))),
     }
 }

@@ -1,10 +1,9 @@
 //! Whether an interval has a decoding.
 
 ghost use Rattle.std.specs.Prelude.{◌≡◌, ℤ, List, IfSome, OnSome, IfNone};
-ghost use Rattle.jr_scan.specs.Mcus.{HasNoDecoding};
+ghost use Rattle.jr_scan.specs.Mcus.{HasNoDecoding, HasDecoding, HasLongestFront};
 ghost use Rattle.jr_scan.specs.Run.{whole_run};
 ghost use Rattle.jr_scan.specs.McuReader.{HasRead, HasEnded};
-ghost use Rattle.jri_archive.specs.Damage.{HasDecoding, HasLongestFront};
 
 use jr_block::Coefficients;
 use jr_scan::{IntervalRef, MOST_UNITS, McuReader};

@@ -14,14 +14,14 @@ mod sharing;
 mod telling;
 mod verdict;
 
-pub use answers::{Asked, Unasked};
+pub use answers::{CheckRequest, RequestError};
 pub use asking::asked;
 pub use checking::{Checked, check_file};
 pub use damage::damaged_front;
 pub use laws::one_count;
-pub use lines::{Lines, Mcus, lines_of, mcus_of};
+pub use lines::{Lines, McuRange, lines_of, mcus_of};
 pub use map::{DamagedInterval, damaged_interval};
-pub use outcome::{Outcome, Unread, outcome_of};
+pub use outcome::{Outcome, ReadError, outcome_of};
 pub use segments::{CodedSpan, coded_segments};
 pub use sharing::{Folder, Told, check_all};
 pub use telling::{tell, tell_map};

@@ -10,7 +10,7 @@ use jr_head::Head;
 
 /// MCUs that follow one another, the first by its number in the scan, from 0 on.
 #[derive(Clone, Copy, Debug, PartialEq, Eq)]
-pub struct Mcus {
+pub struct McuRange {
     pub first: u32,
     pub count: u32,
 }
@@ -23,7 +23,7 @@ pub struct Lines {
 }
 
 /// The MCUs of interval i (T.81, E.1.4).
-pub fn mcus_of(head: &Head, i: u32) -> Mcus
+pub fn mcus_of(head: &Head, i: u32) -> McuRange
     requires { i < intervals_of head.now }
     ensures first { result.first ≡ first_mcu_of head.now i }
     ensures count { result.count ≡ mcus_in head.now i }
@@ -34,20 +34,20 @@ pub fn mcus_of(head: &Head, i: u32) -> Mcus
     let restart = u32::from(head.restart());
     let mcus = head.mcus();
     if restart == 0 {
-        return Mcus {
+        return McuRange {
             first: 0,
             count: mcus,
         };
     }
     let first = i * restart;
-    Mcus {
+    McuRange {
         first,
         count: restart.min(mcus - first),
     }
 }
 
 /// The lines of rows of MCUs, so many MCUs in each, of which so many are taken from the first one on.
-fn lines_of_rows(mcus: Mcus, across: u32, high: u32, height: u32) -> Lines
+fn lines_of_rows(mcus: McuRange, across: u32, high: u32, height: u32) -> Lines
     requires rows { AreRows across high height mcus.first mcus.count }
     requires few { mcus.first + mcus.count ≤ MAX_MCUS }
     requires low { height < 65536 }

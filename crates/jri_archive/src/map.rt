@@ -2,11 +2,11 @@
 
 ghost use Rattle.std.specs.Prelude.{◌<◌, length, IfSome, IfNone};
 ghost use Rattle.jr_scan.specs.ScanValue.{interval_of, intervals_of};
-ghost use Rattle.jri_archive.specs.Damage.{HasDecoding};
+ghost use Rattle.jr_scan.specs.Mcus.{HasDecoding};
 ghost use Rattle.jri_archive.specs.Map.{AreBytesOf, IsDamageOf};
 
 use crate::damage::damaged_front;
-use crate::lines::{Lines, Mcus, lines_of, mcus_of};
+use crate::lines::{Lines, McuRange, lines_of, mcus_of};
 use crate::segments::CodedSpan;
 use jr_scan::Scan;
 
@@ -15,7 +15,7 @@ use jr_scan::Scan;
 pub struct DamagedInterval {
     /// Its number in the scan, from 0 on.
     pub number: u32,
-    pub mcus: Mcus,
+    pub mcus: McuRange,
     /// How many of its MCUs, from the first on, can be decoded.
     pub decodable: u32,
     /// The lines of the picture that its MCUs cover.

@@ -2,7 +2,7 @@
 
 ghost use Rattle.std.specs.Prelude.{◌≡◌, ◌≢◌, length, IfOk, true};
 ghost use Rattle.jr_head.specs.Heads.{RefusalOf};
-ghost use Rattle.jri_archive.specs.Outcomes.{IsOutcomeOf, is_sound};
+ghost use Rattle.jri_archive.specs.Outcomes.{IsOutcomeOf, is_all_sound};
 
 use crate::checking::{Checked, check_file};
 use jr_head::Refusal;
@@ -10,7 +10,7 @@ use std::alloc::Global;
 
 /// Why the bytes of a file are not there.
 #[derive(Clone, Copy, Debug, PartialEq, Eq)]
-pub enum Unread {
+pub enum ReadError {
     /// It cannot be opened or read.
     Read,
     /// Memory ran out.
@@ -29,7 +29,7 @@ pub enum Outcome {
 }
 
 /// Checks a file whose bytes are there, or are not.
-pub fn outcome_of(alloc: Global, file: &Result<Vec<u8>, Unread>) -> Outcome
+pub fn outcome_of(alloc: Global, file: &Result<Vec<u8>, ReadError>) -> Outcome
     ensures { IfOk file.now (λ bytes. IsOutcomeOf bytes.items result) }
 {
     match file {
@@ -37,15 +37,15 @@ pub fn outcome_of(alloc: Global, file: &Result<Vec<u8>, Unread>) -> Outcome
             Ok(checked) => Outcome::Checked(checked),
             Err(refusal) => Outcome::Refused(refusal),
         },
-        Err(Unread::Read) => Outcome::Unread,
-        Err(Unread::Memory) => Outcome::Refused(Refusal::Memory),
+        Err(ReadError::Read) => Outcome::Unread,
+        Err(ReadError::Memory) => Outcome::Refused(Refusal::Memory),
     }
 }
 
 impl Outcome {
     /// Whether the file has a scan, and no interval of it is damaged.
     pub fn is_sound(&self) -> bool
-        ensures { result ≡ is_sound self.now }
+        ensures { result ≡ is_all_sound self.now }
     {
         match self {
             Outcome::Checked(checked) => checked.verdict.damaged == 0,

@@ -5,10 +5,10 @@ ghost use Rattle.jri_archive.specs.Outcomes.{IsOutcomeOf};
 ghost use Rattle.jri_archive.specs.Status.{told_status};
 ghost use Rattle.jri_archive.specs.Verdicts.{IsFileScan};
 
-use crate::answers::Asked;
+use crate::answers::CheckRequest;
 use crate::checking::Checked;
 use crate::map::damaged_interval;
-use crate::outcome::{Outcome, Unread, outcome_of};
+use crate::outcome::{Outcome, ReadError, outcome_of};
 use crate::segments::coded_segments;
 use crate::telling::{tell, tell_map};
 use std::alloc::{AllocError, Global};
@@ -20,7 +20,7 @@ use std::thread::Threads;
 /// Where the bytes of files come from.
 pub trait Folder {
     /// The bytes of the file of that name, or one more than a file may have.
-    fn read(&self, alloc: Global, name: &str) -> Result<Vec<u8>, Unread>;
+    fn read(&self, alloc: Global, name: &str) -> Result<Vec<u8>, ReadError>;
 }
 
 /// What became of all files.
@@ -50,26 +50,26 @@ impl Told {
 
 /// Why a line is not written.
 #[derive(Debug, Drop)]
-enum Untold {
+enum TellError {
     Write,
     Memory,
 }
 
-impl From<AllocError> for Untold {
+impl From<AllocError> for TellError {
     fn from(_refused: AllocError) -> Self {
-        Untold::Memory
+        TellError::Memory
     }
 }
 
-impl From<Error> for Untold {
+impl From<Error> for TellError {
     fn from(_failed: Error) -> Self {
-        Untold::Write
+        TellError::Write
     }
 }
 
 /// Which file is to be checked next, whose line is due, and where lines go.
 #[derive(Drop)]
-struct Desk<O, E> {
+struct FileQueue<O, E> {
     files: usize,
     claimed: usize,
     told: usize,
@@ -85,11 +85,11 @@ fn write_map<O: Write>(
     name: &str,
     file: &[u8],
     checked: &Checked,
-) -> Result<(), Untold>
+) -> Result<(), TellError>
     requires { IsFileScan file.now checked.now.scan }
 {
     let Ok(spans) = coded_segments(alloc, file, &checked.scan) else {
-        return Err(Untold::Memory);
+        return Err(TellError::Memory);
     };
     let mut line = String::new(alloc);
     for i in 0..checked.scan.intervals() {
@@ -107,10 +107,10 @@ fn write_lines<O: Write>(
     alloc: Global,
     out: &mut O,
     name: &str,
-    file: &Result<Vec<u8>, Unread>,
+    file: &Result<Vec<u8>, ReadError>,
     outcome: &Outcome,
     has_map: bool,
-) -> Result<(), Untold>
+) -> Result<(), TellError>
     requires { IfOk file.now (λ bytes. IsOutcomeOf bytes.items outcome.now) }
 {
     let mut line = String::new(alloc);
@@ -126,7 +126,7 @@ fn write_lines<O: Write>(
     Ok(())
 }
 
-impl<O: Write, E: Write> Desk<O, E> {
+impl<O: Write, E: Write> FileQueue<O, E> {
     /// The number of a file that nobody has claimed; `None` where there is none, and where lines can no longer be told.
     fn claim(&mut self) -> Option<usize> {
         let is_over = matches!(self.came_to, Told::Unwritten | Told::Memory);
@@ -152,12 +152,12 @@ impl<O: Write, E: Write> Desk<O, E> {
     }
 
     /// Notes what became of a file, where all before it could be told.
-    fn note(&mut self, outcome: &Outcome, written: Result<(), Untold>) {
+    fn note(&mut self, outcome: &Outcome, written: Result<(), TellError>) {
         match written {
             Ok(()) if outcome.is_sound() => {}
             Ok(()) => self.came_to = Told::SomeNot,
-            Err(Untold::Write) => self.came_to = Told::Unwritten,
-            Err(Untold::Memory) => self.came_to = Told::Memory,
+            Err(TellError::Write) => self.came_to = Told::Unwritten,
+            Err(TellError::Memory) => self.came_to = Told::Memory,
         }
     }
 
@@ -166,7 +166,7 @@ impl<O: Write, E: Write> Desk<O, E> {
         &mut self,
         alloc: Global,
         name: &str,
-        file: &Result<Vec<u8>, Unread>,
+        file: &Result<Vec<u8>, ReadError>,
         outcome: &Outcome,
         has_map: bool,
     )
@@ -187,8 +187,8 @@ impl<O: Write, E: Write> Desk<O, E> {
 struct Sharing<F, O, E> {
     alloc: Global,
     folder: F,
-    asked: Asked,
-    desk: Mutex<Desk<O, E>>,
+    asked: CheckRequest,
+    desk: Mutex<FileQueue<O, E>>,
     /// Somebody has told of a file.
     has_told: Condvar,
 }
@@ -243,8 +243,8 @@ pub fn check_all<
     F: Folder + Sync + Drop,
     O: Write + Send + Drop,
     E: Write + Send + Drop,
->(rt: &R, alloc: Global, folder: F, asked: Asked, out: O, progress: Option<E>) -> (Told, O) {
-    let desk = Desk {
+>(rt: &R, alloc: Global, folder: F, asked: CheckRequest, out: O, progress: Option<E>) -> (Told, O) {
+    let desk = FileQueue {
         files: asked.files.len(),
         claimed: 0,
         told: 0,

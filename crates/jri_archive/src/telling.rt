@@ -1,7 +1,7 @@
 //! The lines that are told of a file.
 
 use crate::checking::Checked;
-use crate::lines::{Lines, Mcus};
+use crate::lines::{Lines, McuRange};
 use crate::map::DamagedInterval;
 use crate::outcome::Outcome;
 use crate::segments::CodedSpan;
@@ -86,7 +86,7 @@ pub fn tell_map(
 ) -> Result<(), AllocError> {
     put_name(line, name)?;
     let number = damaged.number;
-    let Mcus { first, count } = damaged.mcus;
+    let McuRange { first, count } = damaged.mcus;
     let last = first.saturating_add(count.saturating_sub(1));
     write!(line, ": interval {number}, MCUs {first} to {last}")?;
     let Lines { first, last } = damaged.lines;

@@ -2,7 +2,7 @@
 #![tactic(auto)]
 
 use jr_base::limits::MAX_FILE_BYTES;
-use jri_archive::{Folder, Told, Unasked, Unread, asked, check_all};
+use jri_archive::{Folder, Told, RequestError, ReadError, asked, check_all};
 use std::alloc::Global;
 use std::io::{Error, ErrorKind, IsTerminal, Read, Result as IoResult, Write};
 use std::process::ExitCode;
@@ -19,16 +19,16 @@ struct Disk<'a> {
 }
 
 /// Why bytes are not there.
-fn unread(error: &Error) -> Unread {
+fn unread(error: &Error) -> ReadError {
     if error.kind() == ErrorKind::OutOfMemory {
-        Unread::Memory
+        ReadError::Memory
     } else {
-        Unread::Read
+        ReadError::Read
     }
 }
 
 impl<'a> Folder for Disk<'a> {
-    fn read(&self, alloc: Global, name: &str) -> Result<Vec<u8>, Unread> {
+    fn read(&self, alloc: Global, name: &str) -> Result<Vec<u8>, ReadError> {
         let file = match fs::open(self.rt, name) {
             Ok(file) => file,
             Err(error) => return Err(unread(&error)),
@@ -51,25 +51,25 @@ fn words<R: Env + AllocGlobal>(rt: &R) -> IoResult<Vec<String>> {
 }
 
 /// Why there are no words.
-fn unasked(alloc: Global, error: &Error) -> Unasked {
+fn unasked(alloc: Global, error: &Error) -> RequestError {
     if error.kind() == ErrorKind::OutOfMemory {
-        return Unasked::Memory;
+        return RequestError::Memory;
     }
     match String::from_str(
         alloc,
         "the words are not text: a file's name has to be UTF-8\n",
     ) {
-        Ok(text) => Unasked::Wrong(text),
-        Err(_) => Unasked::Memory,
+        Ok(text) => RequestError::Wrong(text),
+        Err(_) => RequestError::Memory,
     }
 }
 
 /// Writes what the words get in place of a check, and answers the exit status.
-fn tell<W: Write, E: Write>(out: &mut W, errors: &mut E, unasked: &Unasked) -> u8 {
+fn tell<W: Write, E: Write>(out: &mut W, errors: &mut E, unasked: &RequestError) -> u8 {
     let _ = match unasked {
-        Unasked::Help(text) => write!(out, "{text}"),
-        Unasked::Wrong(text) => write!(errors, "{text}"),
-        Unasked::Memory => writeln!(errors, "out of memory"),
+        RequestError::Help(text) => write!(out, "{text}"),
+        RequestError::Wrong(text) => write!(errors, "{text}"),
+        RequestError::Memory => writeln!(errors, "out of memory"),
     };
     unasked.status()
 }

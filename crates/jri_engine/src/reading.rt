@@ -11,7 +11,7 @@ use std::io::Read;
 
 /// Why the input's bytes are not there.
 #[derive(Clone, Copy, PartialEq, Eq, Debug)]
-pub(crate) enum Unread {
+pub(crate) enum InputError {
     Read,
     Memory,
 }
@@ -27,13 +27,13 @@ pub(crate) fn read_at_most<R: Read>(
     alloc: Global,
     input: &mut Tally<R>,
     limit: usize,
-) -> Result<Vec<u8>, Unread>
+) -> Result<Vec<u8>, InputError>
     requires { has_failed input.old ≡ false }
     ensures bytes { IfOk result (λ v. IfSome (known_in R.remaining input.old) (λ xs. v.items ≡ take limit xs)) }
     ensures few { IfOk result (λ v. vec_len v ≤ limit) }
     ensures unfailed { OnOk result (has_failed input.new ≡ false) }
-    ensures failed { result ≡ Err Unread.Read → has_failed input.new ≡ true }
-    ensures memory { result ≡ Err Unread.Memory → has_failed input.new ≡ false }
+    ensures failed { result ≡ Err InputError.Read → has_failed input.new ≡ true }
+    ensures memory { result ≡ Err InputError.Memory → has_failed input.new ≡ false }
 {
     let mut bytes = Vec::new(alloc);
     let mut part = [0; PART];
@@ -44,10 +44,10 @@ pub(crate) fn read_at_most<R: Read>(
             Ok(0) => return Ok(bytes),
             Ok(n) => {
                 if bytes.extend_from_slice(&part[..n]).is_err() {
-                    return Err(Unread::Memory);
+                    return Err(InputError::Memory);
                 }
             }
-            Err(_) => return Err(Unread::Read),
+            Err(_) => return Err(InputError::Read),
         }
     }
     Ok(bytes)

@@ -16,10 +16,10 @@ use Rattle.jr_picture.specs.Headline.{AreCounts}
 use Rattle.jri_engine.specs.Files.{IsPictureOf, IsScanOfFile}
 use Rattle.jr_rows.specs.MarkBytes.{mark_byte}
 use Rattle.jr_stream.specs.SomeLines.{EndInLines}
-use Rattle.jri_memory.specs.declared.decode.Undecoded.{Undecoded}
-use Rattle.jri_memory.specs.declared.decode.Undecoded.TheVariants.{Refused}
+use Rattle.jri_memory.specs.declared.decode.DecodeError.{DecodeError}
+use Rattle.jri_memory.specs.declared.decode.DecodeError.TheVariants.{Refused}
 use Rattle.jri_memory.specs.declared.measure.Measure.{Measure}
-use Rattle.jri_memory.specs.declared.report.Report.{Report}
+use Rattle.jri_memory.specs.declared.report.DecodeReport.{DecodeReport}
 
 -- what a refusal tells beside its number: an offset, or a marker's code
 abbrev pub detail_of : Refusal → ℕ
@@ -48,7 +48,7 @@ abbrev pub IsNumberOfSome : ℕ → Type 0
 IsNumberOfSome number = (0 < number) × (number < 20)
 
 -- the file's first fault has this number, and tells this beside it
-pub record IsFaultOf (file : List ℕ) (number detail : ℕ) : Type 0 where
+pub record TellsFault (file : List ℕ) (number detail : ℕ) : Type 0 where
   pub fault : Refusal
   pub is : RefusalOf file fault
   pub number_is : number ≡ number_of fault
@@ -81,20 +81,20 @@ pub record TellsNoHead (m : Measure) : Type 0 where
   pub pixels : m.pixels ≡ 0
 
 -- what ended the scan, as numbers: 0 for what that end has not
-abbrev pub IsEndOf : ScanEnd → Report → Type 0
-IsEndOf EndOfImage r = (r.ended ≡ 1) × (r.found ≡ 0) × (r.due ≡ 0) × (r.at ≡ 0)
-IsEndOf (OtherMarker code at) r = (r.ended ≡ 2) × (r.found ≡ code) × (r.due ≡ 0) × (r.at ≡ at)
-IsEndOf (OutOfStep found due at) r = (r.ended ≡ 3) × (r.found ≡ found) × (r.due ≡ due) × (r.at ≡ at)
-IsEndOf (ExtraRestart at) r = (r.ended ≡ 4) × (r.found ≡ 0) × (r.due ≡ 0) × (r.at ≡ at)
-IsEndOf EndOfFile r = (r.ended ≡ 5) × (r.found ≡ 0) × (r.due ≡ 0) × (r.at ≡ 0)
+abbrev pub TellsEnd : ScanEnd → DecodeReport → Type 0
+TellsEnd EndOfImage r = (r.ended ≡ 1) × (r.found ≡ 0) × (r.due ≡ 0) × (r.at ≡ 0)
+TellsEnd (OtherMarker code at) r = (r.ended ≡ 2) × (r.found ≡ code) × (r.due ≡ 0) × (r.at ≡ at)
+TellsEnd (OutOfStep found due at) r = (r.ended ≡ 3) × (r.found ≡ found) × (r.due ≡ due) × (r.at ≡ at)
+TellsEnd (ExtraRestart at) r = (r.ended ≡ 4) × (r.found ≡ 0) × (r.due ≡ 0) × (r.at ≡ at)
+TellsEnd EndOfFile r = (r.ended ≡ 5) × (r.found ≡ 0) × (r.due ≡ 0) × (r.at ≡ 0)
 
 -- a report of no refusal
-pub record TellsNoRefusal (r : Report) : Type 0 where
+pub record TellsNoRefusal (r : DecodeReport) : Type 0 where
   pub number : r.refusal ≡ 0
   pub detail : r.detail ≡ 0
 
 -- a report of no picture: 0 for all but the refusal's two numbers
-pub record TellsNoPicture (r : Report) : Type 0 where
+pub record TellsNoPicture (r : DecodeReport) : Type 0 where
   pub intervals : r.intervals ≡ 0
   pub sound : r.sound ≡ 0
   pub damaged : r.damaged ≡ 0
@@ -105,10 +105,10 @@ pub record TellsNoPicture (r : Report) : Type 0 where
   pub at : r.at ≡ 0
 
 -- the report's numbers are those of the marks and of the scan
-pub record IsReportOf (scan : ScanValue) (marks : List Mark) (r : Report) : Type 0 where
+pub record TellsReport (scan : ScanValue) (marks : List Mark) (r : DecodeReport) : Type 0 where
   pub intervals : r.intervals ≡ length scan.intervals
   pub counts : AreCounts marks r.sound r.damaged r.blank
-  pub ended : IsEndOf scan.ended r
+  pub ended : TellsEnd scan.ended r
   pub no_fault : TellsNoRefusal r
 
 -- these bytes stand at the front of a buffer, and behind them what stood there before
@@ -116,14 +116,14 @@ abbrev pub over : List ℕ → List ℕ → List ℕ
 over bytes old = bytes ++ drop (length bytes) old
 
 -- the pixels are the lines of the file's picture, from the top; where marks were asked for they are its own; and so is the report
-pub record Decodes (file old_pixels pixels old_marks marks : List ℕ) (r : Report) : Type 0 where
+pub record DecodesFile (file old_pixels pixels old_marks marks : List ℕ) (r : DecodeReport) : Type 0 where
   pub scan : ScanValue
   pub each : List Mark
   pub f : ℕ → ℕ → ℕ → ℕ
   pub is : IsPictureOf file None scan each f
   pub painted : pixels ≡ over (lines_of scan.head f scan.head.height) old_pixels
   pub marked : 0 < length old_marks → marks ≡ over (map mark_byte each) old_marks
-  pub reported : IsReportOf scan each r
+  pub reported : TellsReport scan each r
 
 -- the pixels of the file's picture have less room than they take, or its marks have, where they are asked for
 pub record LacksRoom (file : List ℕ) (pixels marks : ℕ) : Type 0 where
@@ -150,7 +150,7 @@ pub record LacksRoomForLines (file : List ℕ) (count pixels : ℕ) : Type 0 whe
 
 -- the pixels are lines of the file's picture, `count` of them from this one on; the report counts the intervals that end in
 -- their rows of MCUs
-pub record DecodesLines (file : List ℕ) (first count : ℕ) (old_pixels pixels : List ℕ) (r : Report) : Type 0 where
+pub record DecodesLines (file : List ℕ) (first count : ℕ) (old_pixels pixels : List ℕ) (r : DecodeReport) : Type 0 where
   pub scan : ScanValue
   pub each : List Mark
   pub f : ℕ → ℕ → ℕ → ℕ
@@ -159,11 +159,11 @@ pub record DecodesLines (file : List ℕ) (first count : ℕ) (old_pixels pixels
   pub painted : pixels ≡ over (next_lines_of scan.head f first count) old_pixels
   pub counted : EndInLines scan first count each r.sound r.damaged
   pub intervals : r.intervals ≡ length scan.intervals
-  pub ended : IsEndOf scan.ended r
+  pub ended : TellsEnd scan.ended r
   pub no_fault : TellsNoRefusal r
 
 -- nothing was decoded since the file is refused, and the report tells of that
-pub record IsRefusal (undecoded : Undecoded) (r : Report) : Type 0 where
+pub record IsRefusal (undecoded : DecodeError) (r : DecodeReport) : Type 0 where
   pub fault : Refusal
   pub is : undecoded ≡ Refused fault
   pub other : fault ≢ refusal.Memory

@@ -4,8 +4,8 @@ ghost use Rattle.std.specs.Prelude.{◌≡◌, ◌≢◌, ◌<◌, ◌≤◌};
 ghost use Rattle.jr_segments.specs.declared.refusal.Refusal.TheVariants.{Memory};
 ghost use Rattle.jri_memory.specs.Calls.{IsRefusal, TellsNoPicture, TellsNoRefusal};
 
-use crate::decode::Undecoded;
-use crate::report::Report;
+use crate::decode::DecodeError;
+use crate::report::DecodeReport;
 use crate::status::{DAMAGED, NO_MEMORY, NO_ROOM, REFUSED, SOUND};
 use jr_head::Refusal;
 
@@ -25,7 +25,7 @@ pub(crate) fn status_of(refusal: Refusal) -> u32
 }
 
 /// Tells of a decoding, and gives the answer.
-pub(crate) fn tell(decoded: Report, report: &mut Report) -> u32
+pub(crate) fn tell(decoded: DecodeReport, report: &mut DecodeReport) -> u32
     ensures told { report.new ≡ decoded }
     ensures undamaged { result ≡ 0 → decoded.damaged ≡ 0 }
     ensures damaged { result ≡ 3 → 0 < decoded.damaged }
@@ -36,23 +36,23 @@ pub(crate) fn tell(decoded: Report, report: &mut Report) -> u32
 }
 
 /// Tells why nothing is decoded, and gives the answer.
-pub(crate) fn tell_why(undecoded: Undecoded, report: &mut Report) -> u32
+pub(crate) fn tell_why(undecoded: DecodeError, report: &mut DecodeReport) -> u32
     ensures undone { result ≢ 0 }
     ensures undamaged { result ≢ 3 }
     ensures few { result ≤ 4 }
     ensures refused { result ≡ 2 → IsRefusal undecoded report.new }
     ensures memory { result ≡ 1 → report.new.refusal ≡ 19 }
-    ensures room { result ≡ 4 → undecoded ≡ Undecoded.NoRoom }
+    ensures room { result ≡ 4 → undecoded ≡ DecodeError.NoRoom }
     ensures room_alone { result ≡ 4 → TellsNoRefusal report.new }
     ensures no_picture { TellsNoPicture report.new }
 {
     match undecoded {
-        Undecoded::Refused(refusal) => {
-            *report = Report::refused(refusal);
+        DecodeError::Refused(refusal) => {
+            *report = DecodeReport::refused(refusal);
             status_of(refusal)
         }
-        Undecoded::NoRoom => {
-            *report = Report::empty();
+        DecodeError::NoRoom => {
+            *report = DecodeReport::empty();
             NO_ROOM
         }
     }

@@ -1,13 +1,13 @@
 //! The calls: a file's head, its picture, and some lines of it.
 
 ghost use Rattle.std.specs.Prelude.{◌≡◌, ◌≢◌, ◌<◌, ◌≤◌, length};
-ghost use Rattle.jri_memory.specs.Calls.{Decodes, DecodesLines, IsFaultOf, IsMeasureOf, LacksLines, LacksRoom, LacksRoomForLines, TellsNoHead, TellsNoPicture, TellsNoRefusal};
+ghost use Rattle.jri_memory.specs.Calls.{DecodesFile, DecodesLines, TellsFault, IsMeasureOf, LacksLines, LacksRoom, LacksRoomForLines, TellsNoHead, TellsNoPicture, TellsNoRefusal};
 
 use crate::answers::{status_of, tell, tell_why};
 use crate::decode::decode;
 use crate::lines::decode_some;
 use crate::measure::Measure;
-use crate::report::Report;
+use crate::report::DecodeReport;
 use crate::status::{NO_LINES, SOUND};
 use jr_head::read_head;
 use std::alloc::Global;
@@ -16,7 +16,7 @@ use std::alloc::Global;
 /// is refused.
 pub fn measure_file(alloc: Global, file: &[u8], measure: &mut Measure) -> u32
     ensures measured { result ≡ 0 → IsMeasureOf file.now measure.new }
-    ensures refused { result ≡ 2 → IsFaultOf file.now measure.new.refusal measure.new.detail }
+    ensures refused { result ≡ 2 → TellsFault file.now measure.new.refusal measure.new.detail }
     ensures memory { result ≡ 1 → measure.new.refusal ≡ 19 }
     ensures no_head { result ≢ 0 → TellsNoHead measure.new }
     ensures few { result ≤ 2 }
@@ -33,7 +33,7 @@ pub fn measure_file(alloc: Global, file: &[u8], measure: &mut Measure) -> u32
     }
 }
 
-/// Decodes a file into the front of `pixels`, and its marks into that of `marks`, unless that has no room at all: 0, or 3
+/// DecodesFile a file into the front of `pixels`, and its marks into that of `marks`, unless that has no room at all: 0, or 3
 /// where an interval is damaged. With 1 for want of memory, 2 where the file is refused, and 4 where a buffer has too
 /// little room, both are as they were.
 pub fn decode_file(
@@ -41,13 +41,13 @@ pub fn decode_file(
     file: &[u8],
     pixels: &mut [u8],
     marks: &mut [u8],
-    report: &mut Report,
+    report: &mut DecodeReport,
 ) -> u32
-    ensures sound { result ≡ 0 → Decodes file.now pixels.old pixels.new marks.old marks.new report.new }
-    ensures damaged { result ≡ 3 → Decodes file.now pixels.old pixels.new marks.old marks.new report.new }
+    ensures sound { result ≡ 0 → DecodesFile file.now pixels.old pixels.new marks.old marks.new report.new }
+    ensures damaged { result ≡ 3 → DecodesFile file.now pixels.old pixels.new marks.old marks.new report.new }
     ensures undamaged { result ≡ 0 → report.new.damaged ≡ 0 }
     ensures some_damaged { result ≡ 3 → 0 < report.new.damaged }
-    ensures refused { result ≡ 2 → IsFaultOf file.now report.new.refusal report.new.detail }
+    ensures refused { result ≡ 2 → TellsFault file.now report.new.refusal report.new.detail }
     ensures memory { result ≡ 1 → report.new.refusal ≡ 19 }
     ensures room { result ≡ 4 → LacksRoom file.now (length pixels.old) (length marks.old) }
     ensures room_alone { result ≡ 4 → TellsNoRefusal report.new }
@@ -62,7 +62,7 @@ pub fn decode_file(
     }
 }
 
-/// Decodes `count` lines of a file's picture from line `first` on into the front of `pixels`: 0, or 3 where an interval is
+/// DecodesFile `count` lines of a file's picture from line `first` on into the front of `pixels`: 0, or 3 where an interval is
 /// damaged that ends in the rows of MCUs of these lines. With 1 for want of memory, 2 where the file is refused, 4 where
 /// the buffer has too little room, and 5 where the picture has no such lines, it is as it was.
 pub fn decode_lines(
@@ -71,13 +71,13 @@ pub fn decode_lines(
     first: u32,
     count: u32,
     pixels: &mut [u8],
-    report: &mut Report,
+    report: &mut DecodeReport,
 ) -> u32
     ensures sound { result ≡ 0 → DecodesLines file.now first count pixels.old pixels.new report.new }
     ensures damaged { result ≡ 3 → DecodesLines file.now first count pixels.old pixels.new report.new }
     ensures undamaged { result ≡ 0 → report.new.damaged ≡ 0 }
     ensures some_damaged { result ≡ 3 → 0 < report.new.damaged }
-    ensures refused { result ≡ 2 → IsFaultOf file.now report.new.refusal report.new.detail }
+    ensures refused { result ≡ 2 → TellsFault file.now report.new.refusal report.new.detail }
     ensures memory { result ≡ 1 → report.new.refusal ≡ 19 }
     ensures room { result ≡ 4 → LacksRoomForLines file.now count (length pixels.old) }
     ensures room_alone { result ≡ 4 → TellsNoRefusal report.new }
@@ -90,7 +90,7 @@ pub fn decode_lines(
     match decode_some(alloc, file, first, count, pixels) {
         Ok(Some(decoded)) => tell(decoded, report),
         Ok(None) => {
-            *report = Report::empty();
+            *report = DecodeReport::empty();
             NO_LINES
         }
         Err(undecoded) => tell_why(undecoded, report),

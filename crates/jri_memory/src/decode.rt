@@ -3,9 +3,9 @@
 ghost use Rattle.std.specs.Prelude.{◌≡◌, ◌≢◌, length, IfOk, IfErr};
 ghost use Rattle.jr_segments.specs.declared.refusal.Refusal.TheVariants as refusal;
 ghost use Rattle.jr_head.specs.Heads.{RefusalOf};
-ghost use Rattle.jri_memory.specs.Calls.{Decodes, LacksRoom};
+ghost use Rattle.jri_memory.specs.Calls.{DecodesFile, LacksRoom};
 
-use crate::report::Report;
+use crate::report::DecodeReport;
 use crate::room::{asked_for, bytes_of_picture, lacks_room};
 use jr_head::Refusal;
 use jr_stream::paint_scan;
@@ -14,39 +14,39 @@ use std::alloc::Global;
 
 /// Why nothing is decoded.
 #[derive(Clone, Copy, Debug, PartialEq, Eq)]
-pub(crate) enum Undecoded {
+pub(crate) enum DecodeError {
     /// The file is refused, or memory is.
     Refused(Refusal),
     /// A buffer has too little room.
     NoRoom,
 }
 
-/// Decodes a file: its pixels fill the front of `pixels`, and its marks that of `marks`, unless that has no room at all.
+/// DecodesFile a file: its pixels fill the front of `pixels`, and its marks that of `marks`, unless that has no room at all.
 /// Where it fails nothing is written.
 pub(crate) fn decode(
     alloc: Global,
     file: &[u8],
     pixels: &mut [u8],
     marks: &mut [u8],
-) -> Result<Report, Undecoded>
-    ensures decoded { IfOk result (λ r. Decodes file.now pixels.old pixels.new marks.old marks.new r) }
-    ensures refused { IfErr result (λ e. (f : Refusal) → e ≡ Undecoded.Refused f → f ≢ refusal.Memory → RefusalOf file.now f) }
-    ensures room { result ≡ Err Undecoded.NoRoom → LacksRoom file.now (length pixels.old) (length marks.old) }
+) -> Result<DecodeReport, DecodeError>
+    ensures decoded { IfOk result (λ r. DecodesFile file.now pixels.old pixels.new marks.old marks.new r) }
+    ensures refused { IfErr result (λ e. (f : Refusal) → e ≡ DecodeError.Refused f → f ≢ refusal.Memory → RefusalOf file.now f) }
+    ensures room { result ≡ Err DecodeError.NoRoom → LacksRoom file.now (length pixels.old) (length marks.old) }
     ensures pixels { IfErr result (λ _. pixels.new ≡ pixels.old) }
     ensures marks { IfErr result (λ _. marks.new ≡ marks.old) }
 {
     let scan = match scan_of_file(alloc, file) {
         Ok(scan) => scan,
-        Err(refusal) => return Err(Undecoded::Refused(refusal)),
+        Err(refusal) => return Err(DecodeError::Refused(refusal)),
     };
     let size = bytes_of_picture(scan.head());
     let count = scan.intervals();
     if pixels.len() < size || lacks_room(marks, count) {
-        return Err(Undecoded::NoRoom);
+        return Err(DecodeError::NoRoom);
     }
     let asked = asked_for(marks, count);
     let Ok(counts) = paint_scan(alloc, &scan, &mut pixels[..size], &mut marks[..asked]) else {
-        return Err(Undecoded::Refused(Refusal::Memory));
+        return Err(DecodeError::Refused(Refusal::Memory));
     };
-    Ok(Report::of(&scan, counts))
+    Ok(DecodeReport::of(&scan, counts))
 }

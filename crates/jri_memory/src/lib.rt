@@ -15,5 +15,5 @@ mod text;
 
 pub use calls::{decode_file, decode_lines, measure_file};
 pub use measure::Measure;
-pub use report::Report;
+pub use report::DecodeReport;
 pub use text::refusal_text;

@@ -5,8 +5,8 @@ ghost use Rattle.jr_segments.specs.declared.refusal.Refusal.TheVariants as refus
 ghost use Rattle.jr_head.specs.Heads.{RefusalOf};
 ghost use Rattle.jri_memory.specs.Calls.{DecodesLines, HasLines, LacksLines, LacksRoomForLines};
 
-use crate::decode::Undecoded;
-use crate::report::Report;
+use crate::decode::DecodeError;
+use crate::report::DecodeReport;
 use jr_head::{Head, Refusal};
 use jr_paint::bytes_of_line;
 use jr_picture::Counts;
@@ -23,7 +23,7 @@ fn has_lines(head: &Head, first: u32, count: u32) -> bool
     0 < count && count <= height && first <= height - count
 }
 
-/// Decodes what some lines of a file's picture take: their pixels fill the front of `pixels`. None where the picture has no
+/// DecodesFile what some lines of a file's picture take: their pixels fill the front of `pixels`. None where the picture has no
 /// such lines; then, and where it fails, nothing is written.
 pub(crate) fn decode_some(
     alloc: Global,
@@ -31,17 +31,17 @@ pub(crate) fn decode_some(
     first: u32,
     count: u32,
     pixels: &mut [u8],
-) -> Result<Option<Report>, Undecoded>
+) -> Result<Option<DecodeReport>, DecodeError>
     ensures decoded { IfOk result (λ o. IfSome o (λ r. DecodesLines file.now first count pixels.old pixels.new r)) }
     ensures none { result ≡ Ok None → pixels.new ≡ pixels.old }
-    ensures refused { IfErr result (λ e. (f : Refusal) → e ≡ Undecoded.Refused f → f ≢ refusal.Memory → RefusalOf file.now f) }
+    ensures refused { IfErr result (λ e. (f : Refusal) → e ≡ DecodeError.Refused f → f ≢ refusal.Memory → RefusalOf file.now f) }
     ensures lines { result ≡ Ok None → LacksLines file.now first count }
-    ensures room { result ≡ Err Undecoded.NoRoom → LacksRoomForLines file.now count (length pixels.old) }
+    ensures room { result ≡ Err DecodeError.NoRoom → LacksRoomForLines file.now count (length pixels.old) }
     ensures pixels { IfErr result (λ _. pixels.new ≡ pixels.old) }
 {
     let scan = match scan_of_file(alloc, file) {
         Ok(scan) => scan,
-        Err(refusal) => return Err(Undecoded::Refused(refusal)),
+        Err(refusal) => return Err(DecodeError::Refused(refusal)),
     };
     let head = scan.head();
     head.be_lawful();
@@ -50,15 +50,15 @@ pub(crate) fn decode_some(
     }
     let size = count as usize * bytes_of_line(head);
     if pixels.len() < size {
-        return Err(Undecoded::NoRoom);
+        return Err(DecodeError::NoRoom);
     }
     let Ok(marked) = paint_scan_lines(alloc, &scan, first, count, &mut pixels[..size]) else {
-        return Err(Undecoded::Refused(Refusal::Memory));
+        return Err(DecodeError::Refused(Refusal::Memory));
     };
     let counts = Counts {
         sound: marked.sound,
         damaged: marked.damaged,
         blank: 0,
     };
-    Ok(Some(Report::of(&scan, counts)))
+    Ok(Some(DecodeReport::of(&scan, counts)))
 }

@@ -2,7 +2,7 @@
 
 ghost use Rattle.std.specs.Prelude.{◌≡◌, length};
 ghost use Rattle.jr_segments.specs.Refusal.{number_of};
-ghost use Rattle.jri_memory.specs.Calls.{IsEndOf, TellsNoPicture, TellsNoRefusal, detail_of};
+ghost use Rattle.jri_memory.specs.Calls.{TellsEnd, TellsNoPicture, TellsNoRefusal, detail_of};
 
 use jr_head::Refusal;
 use jr_picture::Counts;
@@ -11,7 +11,7 @@ use jr_scan::{Scan, ScanEnd};
 /// What a decoding tells; all numbers are 0 that are not said otherwise.
 #[repr(C)]
 #[derive(Clone, Copy, Debug, PartialEq, Eq)]
-pub struct Report {
+pub struct DecodeReport {
     /// How many restart intervals the scan has.
     pub intervals: u32,
     /// How many of them have a decoding.
@@ -48,13 +48,13 @@ pub(crate) fn detail(refusal: Refusal) -> u64
     }
 }
 
-impl Report {
+impl DecodeReport {
     /// Nothing is told.
-    pub(crate) const fn empty() -> Report
+    pub(crate) const fn empty() -> DecodeReport
         ensures no_picture { TellsNoPicture result }
         ensures no_fault { TellsNoRefusal result }
     {
-        Report {
+        DecodeReport {
             intervals: 0,
             sound: 0,
             damaged: 0,
@@ -69,24 +69,24 @@ impl Report {
     }
 
     /// A refusal.
-    pub(crate) fn refused(refusal: Refusal) -> Report
+    pub(crate) fn refused(refusal: Refusal) -> DecodeReport
         ensures no_picture { TellsNoPicture result }
         ensures number { result.refusal ≡ number_of refusal }
         ensures detail { result.detail ≡ detail_of refusal }
     {
-        Report {
+        DecodeReport {
             refusal: u32::from(refusal.number()),
             detail: detail(refusal),
-            ..Report::empty()
+            ..DecodeReport::empty()
         }
     }
 
     /// What ended a scan.
-    fn ended(end: ScanEnd) -> Report
-        ensures end { IsEndOf end result }
+    fn ended(end: ScanEnd) -> DecodeReport
+        ensures end { TellsEnd end result }
         ensures no_fault { TellsNoRefusal result }
     {
-        let mut report = Report::empty();
+        let mut report = DecodeReport::empty();
         (report.ended, report.found, report.due, report.at) = match end {
             ScanEnd::EndOfImage => (1, 0, 0, 0),
             ScanEnd::OtherMarker(code, at) => (2, u32::from(code), 0, at),
@@ -102,20 +102,20 @@ impl Report {
     }
 
     /// Of a scan, whose intervals are so many sound, damaged and blank.
-    pub(crate) fn of(scan: &Scan, counts: Counts) -> Report
+    pub(crate) fn of(scan: &Scan, counts: Counts) -> DecodeReport
         ensures intervals { result.intervals ≡ length scan.now.intervals }
         ensures sound { result.sound ≡ counts.sound }
         ensures damaged { result.damaged ≡ counts.damaged }
         ensures blank { result.blank ≡ counts.blank }
-        ensures end { IsEndOf scan.now.ended result }
+        ensures end { TellsEnd scan.now.ended result }
         ensures no_fault { TellsNoRefusal result }
     {
-        Report {
+        DecodeReport {
             intervals: scan.intervals(),
             sound: counts.sound,
             damaged: counts.damaged,
             blank: counts.blank,
-            ..Report::ended(scan.ended())
+            ..DecodeReport::ended(scan.ended())
         }
     }
 }

@@ -3,7 +3,7 @@
 
 use crate::refused::REFUSALS;
 use jri_memory::status::{DAMAGED, NO_LINES, NO_ROOM, REFUSED, SOUND};
-use jri_memory::{Measure, Report, decode_file, decode_lines, measure_file, refusal_text};
+use jri_memory::{Measure, DecodeReport, decode_file, decode_lines, measure_file, refusal_text};
 use std::alloc::Global;
 use std::process::Abort;
 use std::test::Fail;
@@ -16,7 +16,7 @@ use test_files::pictures::picture;
 const BEFORE: u8 = 7;
 
 /// A report of nothing.
-const NONE: Report = Report {
+const NONE: DecodeReport = DecodeReport {
     intervals: 0,
     sound: 0,
     damaged: 0,
@@ -30,7 +30,7 @@ const NONE: Report = Report {
 };
 
 /// A report that no call has written into.
-const UNWRITTEN: Report = Report {
+const UNWRITTEN: DecodeReport = DecodeReport {
     intervals: 7,
     sound: 7,
     damaged: 7,
@@ -44,8 +44,8 @@ const UNWRITTEN: Report = Report {
 };
 
 /// Of a file that is refused.
-fn refused(refusal: u32, detail: u64) -> Report {
-    Report {
+fn refused(refusal: u32, detail: u64) -> DecodeReport {
+    DecodeReport {
         refusal,
         detail,
         ..NONE
@@ -53,8 +53,8 @@ fn refused(refusal: u32, detail: u64) -> Report {
 }
 
 /// Of a scan that ended at EOI.
-fn counted(intervals: u32, sound: u32, damaged: u32) -> Report {
-    Report {
+fn counted(intervals: u32, sound: u32, damaged: u32) -> DecodeReport {
+    DecodeReport {
         intervals,
         sound,
         damaged,
@@ -67,7 +67,7 @@ fn counted(intervals: u32, sound: u32, damaged: u32) -> Report {
 const TWO: &str = "GI 63 FF D0 63 E";
 
 /// A file, the room for its pixels and marks, the answer, and the report.
-fn decodings() -> [(&'static str, usize, usize, u32, Report); 16] {
+fn decodings() -> [(&'static str, usize, usize, u32, DecodeReport); 16] {
     [
         ("G 63 E", 64, 1, SOUND, counted(1, 1, 0)),
         ("G 63 E", 65, 2, SOUND, counted(1, 1, 0)),
@@ -83,7 +83,7 @@ fn decodings() -> [(&'static str, usize, usize, u32, Report); 16] {
             128,
             2,
             DAMAGED,
-            Report {
+            DecodeReport {
                 ended: 3,
                 found: 1,
                 at: 147,
@@ -95,7 +95,7 @@ fn decodings() -> [(&'static str, usize, usize, u32, Report); 16] {
             128,
             2,
             DAMAGED,
-            Report {
+            DecodeReport {
                 ended: 5,
                 ..counted(2, 1, 1)
             },
@@ -105,7 +105,7 @@ fn decodings() -> [(&'static str, usize, usize, u32, Report); 16] {
             64,
             1,
             SOUND,
-            Report {
+            DecodeReport {
                 ended: 4,
                 at: 141,
                 ..counted(1, 1, 0)
@@ -116,7 +116,7 @@ fn decodings() -> [(&'static str, usize, usize, u32, Report); 16] {
             64,
             1,
             SOUND,
-            Report {
+            DecodeReport {
                 ended: 2,
                 found: 0xC4,
                 at: 141,
@@ -133,7 +133,7 @@ fn decodings() -> [(&'static str, usize, usize, u32, Report); 16] {
 const THREE_ROWS: &str = "S Q F:0018:0008 D A I C 63 FF D0 E0 FF D1 63 E";
 
 /// Of that file the first line and how many, the room for them, the answer, and the report.
-fn lines() -> [(u32, u32, usize, u32, Report); 13] {
+fn lines() -> [(u32, u32, usize, u32, DecodeReport); 13] {
     [
         (0, 24, 192, DAMAGED, counted(3, 2, 1)),
         (0, 24, 191, NO_ROOM, NONE),
@@ -162,7 +162,7 @@ fn is_picture(answer: u32) -> bool {
 }
 
 /// What is answered and told of a file.
-fn told(alloc: Global, bytes: &[u8], pixels: &mut [u8], marks: &mut [u8]) -> (u32, Report) {
+fn told(alloc: Global, bytes: &[u8], pixels: &mut [u8], marks: &mut [u8]) -> (u32, DecodeReport) {
     let mut report = UNWRITTEN;
     let answer = decode_file(alloc, bytes, pixels, marks, &mut report);
     (answer, report)
@@ -174,7 +174,7 @@ fn told_with_room(
     words: &str,
     pixels: usize,
     marks: usize,
-) -> Result<(u32, Report, bool), Fail> {
+) -> Result<(u32, DecodeReport, bool), Fail> {
     let bytes = file(alloc, words)?;
     let mut pixels = vec![in alloc; BEFORE; pixels]?;
     let mut marks = vec![in alloc; BEFORE; marks]?;
@@ -242,7 +242,7 @@ fn told_of_lines(
     first: u32,
     count: u32,
     room: usize,
-) -> Result<(u32, Report, bool), Fail> {
+) -> Result<(u32, DecodeReport, bool), Fail> {
     let mut pixels = vec![in alloc; BEFORE; room]?;
     let mut report = UNWRITTEN;
     let answer = decode_lines(alloc, bytes, first, count, &mut pixels, &mut report);

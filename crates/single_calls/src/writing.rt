@@ -3,7 +3,7 @@
 use crate::caller::Caller;
 use jr_crew::write_scan_by;
 use jr_paint::{Tally, bytes_of_line, write_netpbm};
-use jr_stream::{Unwritten, paint_scan_lines, write_scan};
+use jr_stream::{PictureError, paint_scan_lines, write_scan};
 use jr_wall::{Board, Counts, OpenGate};
 use std::io::{Result as IoResult, Write};
 use std::sync::{Arc, Wait};
@@ -32,15 +32,15 @@ impl Write for Reader<'_> {
 }
 
 /// Whether the whole picture was written, of a sound interval and a damaged one; where memory was refused, nothing was.
-fn judge(outcome: Result<Counts, Unwritten>, written: &Reader<'_>, whole: usize) -> Option<bool> {
+fn judge(outcome: Result<Counts, PictureError>, written: &Reader<'_>, whole: usize) -> Option<bool> {
     let left = written.rest.len();
     match outcome {
         Ok(counts) => {
             let is_right = (counts.sound, counts.damaged, counts.blank) == (1, 1, 0);
             Some(is_right && written.is_same && left == 0)
         }
-        Err(Unwritten::Memory) => (!written.is_same || left != whole).then_some(false),
-        Err(Unwritten::Write) => Some(false),
+        Err(PictureError::Memory) => (!written.is_same || left != whole).then_some(false),
+        Err(PictureError::Write) => Some(false),
     }
 }
 

@@ -1,7 +1,7 @@
 use Rattle.std.proofs.Common.{rules, subst, ◌≡◌, ℕ}
 use Rattle.jr_head.specs.Geometry.{IsLawful}
 use Rattle.jr_scan.specs.ScanValue.{ScanValue}
-use Rattle.jr_rows.specs.PartValue.{PartValue}
+use Rattle.jr_rows.specs.PartValue.{FirstIntervalsValue}
 use Rattle.jr_stream.specs.Stream.{SendsPicture, HasCounts}
 use Rattle.jr_stream.proofs.Sendings.{painted_picture, begun_picture}
 use Rattle.jr_crew.proofs.sharing.write_as.Goals as goal
@@ -13,7 +13,7 @@ returns-in-Ok-write_by_crew-clause-painted g c =
     let lawful : IsLawful t.head = search (rules, c.be_lawful.ensures) in
     let crew : c.of-crew.result ≡ c.args.part = search rules in
     let sends : SendsPicture g.W.Write.contents c.args.out.now c.write_by_crew.new.out c.write_by_crew.result t n =
-    subst (λ (p : PartValue). SendsPicture g.W.Write.contents c.args.out.now c.write_by_crew.new.out c.write_by_crew.result p.scan p.limit) crew c.write_by_crew.ensures.sent in
+    subst (λ (p : FirstIntervalsValue). SendsPicture g.W.Write.contents c.args.out.now c.write_by_crew.new.out c.write_by_crew.result p.scan p.limit) crew c.write_by_crew.ensures.sent in
     let counts : HasCounts t n c.counts_of.result = subst (λ (k : ℕ). HasCounts t k c.counts_of.result) c.limit-limit.ensures.value (subst (λ (s : ScanValue). HasCounts s c.limit-limit.result c.counts_of.result) c.scan-scan.ensures c.counts_of.ensures) in
     painted_picture g.W.Write.contents _ _ c.write_by_crew.result c.each_interval_has_an_outcome.ensures t lawful n c.limit-limit.ensures.few sends _ c.in-Ok-write_by_crew.is c.counts_of.result counts
 
@@ -24,5 +24,5 @@ returns-clause-begun g c failed =
     let lawful : IsLawful t.head = search (rules, c.be_lawful.ensures) in
     let crew : c.of-crew.result ≡ c.args.part = search rules in
     let sends : SendsPicture g.W.Write.contents c.args.out.now c.write_by_crew.new.out c.write_by_crew.result t n =
-    subst (λ (p : PartValue). SendsPicture g.W.Write.contents c.args.out.now c.write_by_crew.new.out c.write_by_crew.result p.scan p.limit) crew c.write_by_crew.ensures.sent in
+    subst (λ (p : FirstIntervalsValue). SendsPicture g.W.Write.contents c.args.out.now c.write_by_crew.new.out c.write_by_crew.result p.scan p.limit) crew c.write_by_crew.ensures.sent in
     begun_picture g.W.Write.contents _ _ c.write_by_crew.result c.each_interval_has_an_outcome.ensures t lawful n c.limit-limit.ensures.few sends _ c.in-Err.is

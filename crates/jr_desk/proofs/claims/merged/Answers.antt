@@ -1,6 +1,6 @@
 use Rattle.std.proofs.Common.{rules, Bool, ◌≡◌, ℕ, [], ◌∷◌, cond, length, length-append, ap, ◌∙◌, arith}
 use Rattle.std.proofs.lemmas.List.Elements.{All-pop}
-use Rattle.jr_desk.specs.declared.claims.View.{View}
+use Rattle.jr_desk.specs.declared.claims.SeatView.{SeatView}
 use Rattle.jr_desk.specs.Values.{SeatValue, DeskValue, desk_of}
 use Rattle.jr_desk.specs.Count.{total, times}
 use Rattle.jr_desk.proofs.Rule.{joins, times-append, total_snoc}
@@ -51,8 +51,8 @@ loop-seat-preserved c =
     record {
       rest = a.0;
       table = j.0 ∙ i.table;
-      held = let e = ap (λ (w : View). w.seats) me in let h = i.held in omega arith;
-      drawn = λ x. let t = sum (λ s. times x s.drawn) in let e = ap (λ (s : SeatValue). times x s.drawn) v in let f = ap (λ (w : View). times x w.drawn) me in let g = times-append x c.loop-seat.pass.me.0.drawn c.seat.inside.pass.me.0.drawn in let h = i.drawn x in omega arith;
-      seats = let t = ap length items ∙ length-append c.pop-in-loop-seat.new.self.items (c.in-Some-pop.seat ∷ []) in let e = ap (λ (w : View). w.seats) me in let h = i.seats in omega arith;
-      ended = let t = sum (λ s. cond s.ended 1 0) in let e : flag c.seat.inside.ended ≡ flag c.in-Some-pop.seat.ended = ap (λ (s : SeatValue). flag s.ended) v in let f = ap (λ (w : View). w.ended) me in let k = c.seat.invariant.2 in let h = i.ended in omega arith;
+      held = let e = ap (λ (w : SeatView). w.seats) me in let h = i.held in omega arith;
+      drawn = λ x. let t = sum (λ s. times x s.drawn) in let e = ap (λ (s : SeatValue). times x s.drawn) v in let f = ap (λ (w : SeatView). times x w.drawn) me in let g = times-append x c.loop-seat.pass.me.0.drawn c.seat.inside.pass.me.0.drawn in let h = i.drawn x in omega arith;
+      seats = let t = ap length items ∙ length-append c.pop-in-loop-seat.new.self.items (c.in-Some-pop.seat ∷ []) in let e = ap (λ (w : SeatView). w.seats) me in let h = i.seats in omega arith;
+      ended = let t = sum (λ s. cond s.ended 1 0) in let e : flag c.seat.inside.ended ≡ flag c.in-Some-pop.seat.ended = ap (λ (s : SeatValue). flag s.ended) v in let f = ap (λ (w : SeatView). w.ended) me in let k = c.seat.invariant.2 in let h = i.ended in omega arith;
     }

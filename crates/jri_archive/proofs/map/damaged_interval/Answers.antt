@@ -1,6 +1,5 @@
 use Rattle.std.proofs.Common.{rules, subst}
-use Rattle.jr_scan.specs.Mcus.{HasNoDecoding}
-use Rattle.jri_archive.specs.Damage.{HasLongestFront}
+use Rattle.jr_scan.specs.Mcus.{HasNoDecoding, HasLongestFront}
 use Rattle.jri_archive.proofs.map.damaged_interval.Goals as goal
 
 pub returns-clause-damaged : goal.returns-clause-damaged

@@ -1,5 +1,5 @@
 use Rattle.std.proofs.Common.{rules, subst, ◌≡◌, ℕ}
-use Rattle.jr_rows.specs.PartValue.{PartValue}
+use Rattle.jr_rows.specs.PartValue.{FirstIntervalsValue}
 use Rattle.jr_rows.specs.Rows.{CountsRow, ShowsLines}
 use Rattle.jr_crew.proofs.caller.CallerRowPainter.paint.Goals as goal
 
@@ -9,7 +9,7 @@ returns-clause-lines g c =
     let pix = c.copy_to-marked.new.pixels in
     let part : c.part-2.result.now ≡ record { scan = old.scan; limit = old.limit } = search rules in
     let row : c.painted-painted.result.row ≡ old.row = search rules in
-    subst (λ (r : ℕ). ShowsLines old.scan old.limit r pix) row (subst (λ (p : PartValue). ShowsLines p.scan p.limit c.painted-painted.result.row pix) part c.copy_to-marked.ensures.lines)
+    subst (λ (r : ℕ). ShowsLines old.scan old.limit r pix) row (subst (λ (p : FirstIntervalsValue). ShowsLines p.scan p.limit c.painted-painted.result.row pix) part c.copy_to-marked.ensures.lines)
 
 pub returns-clause-counts : goal.returns-clause-counts
 returns-clause-counts g c =
@@ -17,4 +17,4 @@ returns-clause-counts g c =
     let m = c.copy_to-marked.result in
     let part : c.part-2.result.now ≡ record { scan = old.scan; limit = old.limit } = search rules in
     let row : c.painted-painted.result.row ≡ old.row = search rules in
-    subst (λ (r : ℕ). CountsRow old.scan old.limit r m) row (subst (λ (p : PartValue). CountsRow p.scan p.limit c.painted-painted.result.row m) part c.copy_to-marked.ensures.counts)
+    subst (λ (r : ℕ). CountsRow old.scan old.limit r m) row (subst (λ (p : FirstIntervalsValue). CountsRow p.scan p.limit c.painted-painted.result.row m) part c.copy_to-marked.ensures.counts)

@@ -4,17 +4,16 @@ use Rattle.std.specs.Arc.{arc_value}
 use Rattle.jr_head.specs.Geometry.{IsLawful}
 use Rattle.jr_scan.specs.declared.place.Place.{Place}
 use Rattle.jr_scan.specs.IntervalValue.{IntervalValue}
-use Rattle.jr_scan.specs.Mcus.{HasNoDecoding, Decodes, Front}
+use Rattle.jr_scan.specs.Mcus.{HasNoDecoding, Decodes, Front, HasLongestFront}
 use Rattle.jr_piece.specs.StripValue.{ReadingValue}
-use Rattle.jr_piece.specs.Strips.{HasWholeMcus}
-use Rattle.jr_piece.proofs.StripRuns.{is_whole, is_damaged}
+use Rattle.jr_piece.proofs.StripRuns.{whole_strip, is_damaged}
 use Rattle.jr_piece.proofs.strip_reader.StripReader.is_sound.Goals as goal
 
 abbrev Sound : ReadingValue → Type 0
 Sound r = (zs : List (List ℤ)) → Front r.interval r.first zs → Decodes r.interval zs
 
 abbrev Damaged : ReadingValue → Type 0
-Damaged r = HasWholeMcus r.interval r.first → HasNoDecoding r.interval
+Damaged r = HasLongestFront r.interval r.first → HasNoDecoding r.interval
 
 pub returns-in_default-clause-damaged : goal.returns-in_default-clause-damaged
 returns-in_default-clause-damaged c = λ _.
@@ -30,7 +29,7 @@ returns-then-self-mcus-clause-sound c = λ t.
     let bytes : c.bytes.result.now ≡ i.bytes = search rules in
     let count : c.mcus.result ≡ i.mcus = search rules in
     let few : c.saturating_sub.result < 8 = grind (arith, rules) in
-    subst Sound c.self.view_is (is_whole c.one_front.ensures c.decoding_is_whole_run.ensures (record { interval = i; first = c.self.inside.first; next = c.self.inside.next }) c.in-Some.place c.self.invariant c.in-Some.is (omega (arith, c.if-self-mcus.true, count)) (omega (arith, few, c.saturating_sub.ensures, ap (λ (l : List ℕ). length l) bytes)))
+    subst Sound c.self.view_is (whole_strip c.one_front.ensures c.decoding_is_whole_run.ensures (record { interval = i; first = c.self.inside.first; next = c.self.inside.next }) c.in-Some.place c.self.invariant c.in-Some.is (omega (arith, c.if-self-mcus.true, count)) (omega (arith, few, c.saturating_sub.ensures, ap (λ (l : List ℕ). length l) bytes)))
 
 pub returns-then-self-mcus-clause-damaged : goal.returns-then-self-mcus-clause-damaged
 returns-then-self-mcus-clause-damaged c = λ f.

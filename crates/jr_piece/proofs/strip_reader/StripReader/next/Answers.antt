@@ -6,8 +6,9 @@ use Rattle.jr_scan.specs.declared.place.Place.{Place}
 use Rattle.jr_scan.specs.declared.place.RunEnd.TheVariants.{AllRead}
 use Rattle.jr_scan.specs.IntervalValue.{IntervalValue}
 use Rattle.jr_scan.specs.Run.{IsRun, run_from}
-use Rattle.jr_piece.specs.StripValue.{CodedValue, ReadingValue}
-use Rattle.jr_piece.specs.Strips.{CanReadFrom, FirstMcus, HasWholeMcus, IsCoded}
+use Rattle.jr_scan.specs.Mcus.{HasLongestFront}
+use Rattle.jr_piece.specs.StripValue.{CodedStripValue, ReadingValue}
+use Rattle.jr_piece.specs.Strips.{CanReadFrom, FirstMcus, HasItsBlocks}
 use Rattle.jr_piece.proofs.StripRuns.{blocks, reading, ended}
 use Rattle.jr_piece.proofs.strip_reader.StripReader.next.Goals as goal
 
@@ -34,7 +35,7 @@ of-requires c =
     let least : c.min-asked.result ≡ min c.args.most (c.mcus.result - c.self.inside.first) = search (rules, c.min-asked.ensures) in
     let few = room i c.deref-2.result.now c.self.inside.first r.mcus c.min-asked.result c.args.most c.mcus.result other c.in_ok-blocks.ensures.few least c.mcus.ensures c.self.invariant.front.at_most in
     let blocks = blocks c.one_run.ensures c.runs_meet.ensures c.shorter_front.ensures i lawful c.self.inside.first c.self.invariant.blocks c.in-Some.from (c.self.invariant.next c.in-Some.from c.in-Some.is) r.mcus c.min-asked.result r.blocks.items was few in
-    subst (λ (v : IntervalValue). IsCoded (record { interval = v; first = c.self.inside.first; mcus = r.mcus; blocks = r.blocks.items })) (sym own) (record { are = blocks; in_range = c.in_ok-blocks.ensures.in_range })
+    subst (λ (v : IntervalValue). HasItsBlocks (record { interval = v; first = c.self.inside.first; mcus = r.mcus; blocks = r.blocks.items })) (sym own) (record { are = blocks; in_range = c.in_ok-blocks.ensures.in_range })
 
 pub invariant_of-self-2 : goal.invariant_of-self-2
 invariant_of-self-2 c =
@@ -69,8 +70,8 @@ returns-then-mcus-eq0-clause-none c = λ some.
     let asked = least ∙ ap (λ (k : ℕ). min c.args.most (k - c.self.inside.first)) (c.mcus.ensures ∙ ap (λ (v : IntervalValue). v.mcus) other) in
     let last = ended c.one_run.ensures c.runs_meet.ensures c.shorter_front.ensures i lawful c.self.inside.first c.self.invariant.blocks c.in-Some.from (c.self.invariant.next c.in-Some.from c.in-Some.is) r.mcus c.min-asked.result r.blocks.items was few
     c.args.most c.self.invariant.front asked (omega (arith, c.if-mcus-eq0.true, some)) in
-    let here = subst (λ (k : ℕ). HasWholeMcus i k) (omega (arith, c.if-mcus-eq0.true)) last in
-    subst (λ (v : ReadingValue). HasWholeMcus v.interval v.first) c.self.view_is here
+    let here = subst (λ (k : ℕ). HasLongestFront i k) (omega (arith, c.if-mcus-eq0.true)) last in
+    subst (λ (v : ReadingValue). HasLongestFront v.interval v.first) c.self.view_is here
 
 pub returns-clause-last : goal.returns-clause-last
 returns-clause-last c = λ lt.
@@ -86,7 +87,7 @@ returns-clause-last c = λ lt.
     let few = room i c.deref-2.result.now c.self.inside.first r.mcus c.min-asked.result c.args.most c.mcus.result other c.in_ok-blocks.ensures.few least c.mcus.ensures c.self.invariant.front.at_most in
     let asked = least ∙ ap (λ (k : ℕ). min c.args.most (k - c.self.inside.first)) (c.mcus.ensures ∙ ap (λ (v : IntervalValue). v.mcus) other) in
     ended c.one_run.ensures c.runs_meet.ensures c.shorter_front.ensures i lawful c.self.inside.first c.self.invariant.blocks c.in-Some.from (c.self.invariant.next c.in-Some.from c.in-Some.is) r.mcus c.min-asked.result r.blocks.items was few
-    c.args.most c.self.invariant.front asked (omega (arith, ap (λ (s : CodedValue). s.mcus) c.of.ensures, lt))
+    c.args.most c.self.invariant.front asked (omega (arith, ap (λ (s : CodedStripValue). s.mcus) c.of.ensures, lt))
 
 pub returns-clause-within : goal.returns-clause-within
 returns-clause-within c =

@@ -3,7 +3,7 @@ use Rattle.std.proofs.lemmas.List.{get_or_append_left}
 use Rattle.jr_head.specs.Geometry.{blocks_of, mcus_across}
 use Rattle.jr_scan.specs.ScanValue.{ScanValue}
 use Rattle.jr_rows.specs.RowsValue.{RowsValue}
-use Rattle.jr_rows.specs.Rows.{ShowsFirst, coded_before, coded_in, mcus_read}
+use Rattle.jr_rows.specs.Rows.{ShowsFirstUnits, coded_before, coded_in, mcus_read}
 use Rattle.jr_rows.proofs.ShownUnits.{row_shown, blank_behind}
 use Rattle.jr_rows.proofs.rows.Rows.decode.Goals as goal
 
@@ -26,10 +26,10 @@ returns-clause-units c =
     let scan : i.mcus.scan ≡ t = ap (λ (u : RowsValue). u.scan) c.self.view_is in
     let limit : i.mcus.limit ≡ n = ap (λ (u : RowsValue). u.limit) c.self.view_is in
     let at : mcus_read i.mcus ≡ coded_before h n r.row = search rules in
-    let of_scan = subst (λ (s : ScanValue). ShowsFirst s i.mcus.limit (mcus_read i.mcus) coded us) scan c.decode-marked.ensures.shows in
-    let of_first = subst (λ (k : ℕ). ShowsFirst t k (mcus_read i.mcus) coded us) limit of_scan in
-    let from = subst (λ (k : ℕ). ShowsFirst t n k coded us) at of_first in
-    let shows : ShowsFirst t n (coded_before h n r.row) (coded_in h n r.row) us = subst (λ (k : ℕ). ShowsFirst t n (coded_before h n r.row) k us) coded_is from in
+    let of_scan = subst (λ (s : ScanValue). ShowsFirstUnits s i.mcus.limit (mcus_read i.mcus) coded us) scan c.decode-marked.ensures.shows in
+    let of_first = subst (λ (k : ℕ). ShowsFirstUnits t k (mcus_read i.mcus) coded us) limit of_scan in
+    let from = subst (λ (k : ℕ). ShowsFirstUnits t n k coded us) at of_first in
+    let shows : ShowsFirstUnits t n (coded_before h n r.row) (coded_in h n r.row) us = subst (λ (k : ℕ). ShowsFirstUnits t n (coded_before h n r.row) k us) coded_is from in
     let head : c.head-head.result.now ≡ h = search rules in
     let blank = rw head at c.fill_blank.ensures in
     row_shown t n r.row c.requires.row some (us ++ bs) all

@@ -7,7 +7,7 @@ use Rattle.jr_head.specs.Geometry.{blocks_of, mcus_across, mcus_of}
 use Rattle.jr_scan.specs.ScanValue.{ScanValue}
 use Rattle.jr_piece.specs.Units.{grey_unit}
 use Rattle.jr_view.specs.ViewValue.{ViewValue}
-use Rattle.jr_view.specs.Views.{is_whole, units_of}
+use Rattle.jr_view.specs.Views.{has_seen_row, units_shown}
 use Rattle.jr_view.proofs.Rows.{byte_is, few_rows, kept_view}
 use Rattle.jr_view.proofs.Units.{mcu_shown, room}
 use Rattle.jr_view.proofs.view.View.show_mcu.Goals as goal
@@ -39,8 +39,8 @@ invariant_of-self c =
     let long : length (with_items c.self.inside.units c.put_mcu.new.units).items ≡ length c.self.inside.units.items = ap length is ∙ c.put_mcu.auto.units ∙ ap length c.deref_mut.ensures.value in
     let unseen = sym (get_or_read seen m c.index.result.now within c.index.ensures false) ∙ c.if-index.false in
     let wide : 0 < mcus_across of.head = subst (λ (g : HeadValue). 0 < mcus_across g) head c.is_row_whole.ensures.wide in
-    let whole = c.is_row_whole.ensures.value ∙ ap (λ (bs : List Bool). is_whole c.head-head.result.now bs (m / mcus_across c.head-head.result.now)) c.deref-2.ensures.value
-    ∙ ap (λ (g : HeadValue). is_whole g (set seen m true) (m / mcus_across g)) head in
+    let whole = c.is_row_whole.ensures.value ∙ ap (λ (bs : List Bool). has_seen_row c.head-head.result.now bs (m / mcus_across c.head-head.result.now)) c.deref-2.ensures.value
+    ∙ ap (λ (g : HeadValue). has_seen_row g (set seen m true) (m / mcus_across g)) head in
     let kept = kept_view of c.self.inside.units.items (with_items c.self.inside.units c.put_mcu.new.units).items seen m c.self.inside.rows c.from.result c.self.invariant long wide in_picture unseen
     (c.from.ensures ∙ byte_is c.is_row_whole.result ∙ ap (λ b. cond b 1 0) whole) in
     search (rules, kept)
@@ -57,7 +57,7 @@ returns-clause-shown c f =
     let all : mcus_of of.head ≡ mcus_of old.scan.head = ap (λ (v : ViewValue). mcus_of v.scan.head) c.self.view_is in
     let within : m < length old.seen = omega (arith, c.requires.mcu, c.self.invariant.seen, long, all) in
     let was = c.deref_mut.ensures.value ∙ ap (λ (v : ViewValue). v.units) c.self.view_is in
-    mcu_shown old _ m c.args.from (length c.order-per_mcu.result.now) (units_of c.args.shown.now) us per (ap (λ (v : ViewValue). v.scan) c.self.view_is)
+    mcu_shown old _ m c.args.from (length c.order-per_mcu.result.now) (units_shown c.args.shown.now) us per (ap (λ (v : ViewValue). v.scan) c.self.view_is)
     (with_items_is c.self.inside.units us (c.put_mcu.auto.units ∙ c.deref_mut.ensures.len)) (ap (λ (v : ViewValue). set v.seen m true) c.self.view_is) within
     c.put_mcu.ensures.here
     (λ k lt. c.put_mcu.ensures.before k lt ∙ ap (λ (vs : List (List ℕ)). get_or vs k grey_unit) was)

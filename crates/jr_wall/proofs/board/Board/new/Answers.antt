@@ -4,7 +4,7 @@ use Rattle.std.specs.declared.alloc.Global.{Global}
 use Rattle.std.specs.Arc.{arc_value}
 use Rattle.jr_scan.specs.ScanValue.{ScanValue}
 use Rattle.jr_piece.specs.PieceValue.{PieceValue}
-use Rattle.jr_wall.specs.Kept.{shared_piece, HasCounts}
+use Rattle.jr_wall.specs.Kept.{shared_piece, KeepsCounts}
 use Rattle.jr_wall.proofs.Pieces.{kept_new, none_held}
 use Rattle.jr_wall.proofs.board.Board.new.Goals as goal
 
@@ -12,7 +12,7 @@ pub invariant_of-result : goal.invariant_of-result
 invariant_of-result c =
     let n : c.loop.counter ≡ length (arc_value c.args.scan).intervals = omega (arith, c.intervals-n.ensures.value, ap (λ (s : ScanValue). length s.intervals) c.deref.ensures) in
     let kept = kept_new (arc_value c.args.scan) c.loop.counter n (omega (arith, c.intervals-n.type_inv)) in
-    subst (λ (ps : List (Option (Arc PieceValue Global))). HasCounts (record { scan = arc_value c.args.scan; pieces = map shared_piece ps }) 0 0) (sym c.loop.invariant) kept
+    subst (λ (ps : List (Option (Arc PieceValue Global))). KeepsCounts (record { scan = arc_value c.args.scan; pieces = map shared_piece ps }) 0 0) (sym c.loop.invariant) kept
 
 pub returns-clause-blank : goal.returns-clause-blank
 returns-clause-blank c =

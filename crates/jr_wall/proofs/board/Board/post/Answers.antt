@@ -9,7 +9,7 @@ use Rattle.jr_picture.specs.BoardValue.{BoardValue}
 use Rattle.jr_piece.specs.Outcome.{IsOutcome}
 use Rattle.jr_picture.specs.declared.mark.Mark.TheVariants.{Blank, Sound, Damaged}
 use Rattle.jr_picture.specs.Boards.{IsFor, piece_at, mark_of, marks_of}
-use Rattle.jr_wall.specs.Kept.{HasCounts, shared_piece}
+use Rattle.jr_wall.specs.Kept.{KeepsCounts, shared_piece}
 use Rattle.jr_picture.specs.Headline.{mark_in}
 use Rattle.jr_wall.proofs.Pieces.{Posted, posts, held_at}
 use Rattle.jr_picture.proofs.BoardPictures.{marks_at}
@@ -18,7 +18,7 @@ use Rattle.jr_wall.proofs.board.Board.post.Goals as goal
 
 -- posts, by the fields
 fields_post : (scan : ScanValue) (items : List (Option (Arc PieceValue Global))) (n : ℕ) (p : PieceValue) (q : PieceValue) (b : Bool) (sound damaged more less : ℕ)
-    → HasCounts (record { scan = scan; pieces = map shared_piece items }) sound damaged → n ≡ p.interval.number → IsFor p.interval scan → IsOutcome p → get_or items n None ≡ None → q ≡ p → b ≡ q.is_sound
+    → KeepsCounts (record { scan = scan; pieces = map shared_piece items }) sound damaged → n ≡ p.interval.number → IsFor p.interval scan → IsOutcome p → get_or items n None ≡ None → q ≡ p → b ≡ q.is_sound
     → more ≡ bool_byte b → less ≡ bool_byte (not b) → Posted (record { scan = scan; pieces = map shared_piece items }) n p (sound + more) (damaged + less)
 fields_post scan items n p q b sound damaged more less k is for outcome none same sound_is m l =
     let s : b ≡ p.is_sound = sound_is ∙ ap (λ (x : PieceValue). x.is_sound) same in
@@ -52,7 +52,7 @@ invariant_of-self c =
     let none : get_or c.self.inside.pieces.items c.number-number.result None ≡ None = search rules in
     let p = fields_post (arc_value c.self.inside.scan) c.self.inside.pieces.items c.number-number.result (arc_value c.args.piece) c.deref-5.result.now c.is_sound-is_sound.result c.self.inside.sound c.self.inside.damaged c.from.result c.from-2.result
     c.self.invariant n for (search rules) none c.deref-5.ensures c.is_sound-is_sound.ensures c.from.ensures c.from-2.ensures in
-    subst (λ (ps : List (Option PieceValue)). HasCounts (record { scan = arc_value c.self.inside.scan; pieces = ps }) (c.self.inside.sound + c.from.result) (c.self.inside.damaged + c.from-2.result))
+    subst (λ (ps : List (Option PieceValue)). KeepsCounts (record { scan = arc_value c.self.inside.scan; pieces = ps }) (c.self.inside.sound + c.from.result) (c.self.inside.damaged + c.from-2.result))
     (sym (map-set shared_piece c.self.inside.pieces.items c.number-number.result (Some c.args.piece))) p.kept
 
 pub returns-clause-ok : goal.returns-clause-ok

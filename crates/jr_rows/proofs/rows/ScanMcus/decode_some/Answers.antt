@@ -6,7 +6,7 @@ use Rattle.jr_head.specs.Geometry.{blocks_of}
 use Rattle.jr_scan.specs.Block.{IsInRange}
 use Rattle.jr_piece.specs.Outcome.{unit_of}
 use Rattle.jr_piece.proofs.Parts.{put_there}
-use Rattle.jr_rows.proofs.rows.Mcus.decode_some.Goals as goal
+use Rattle.jr_rows.proofs.rows.ScanMcus.decode_some.Goals as goal
 
 pub transform_blocks-requires-clause-in_range : goal.transform_blocks-requires-clause-in_range
 transform_blocks-requires-clause-in_range c k d lt =

@@ -4,18 +4,18 @@ ghost use Rattle.std.specs.Prelude.{◌≡◌, ◌<◌, Some, IsTrue, length};
 ghost use Rattle.jr_crew.specs.Crew.{HasRow};
 
 use crate::baton::Baton;
-use crate::bench::{Bench, Coded, Painted};
-use crate::one_part::OnePart;
-use jr_rows::Part;
+use crate::bench::{Bench, CodedRow, Painted};
+use crate::one_first_intervals::OneFirstIntervals;
+use jr_rows::FirstIntervals;
 use std::collections::VecDeque;
 
 /// What a thread does next.
 #[derive(Drop)]
-pub(crate) enum Task<'a, S: OnePart> {
+pub(crate) enum RowTask<'a, S: OneFirstIntervals> {
     /// Reads the next row.
     Read(Baton<'a, S>, Bench<S>),
     /// Paints a row that is read.
-    Paint(Coded<S>),
+    Paint(CodedRow<S>),
 }
 
 /// Who is woken for a row that is read.
@@ -30,14 +30,14 @@ pub(crate) enum Waiter {
 /// The rows that are read and not yet written, no more than there are benches, and who waits for them: to wake takes longer
 /// than to ask.
 #[derive(Drop)]
-pub(crate) struct Ring<'a, S: OnePart> {
+pub(crate) struct RowQueue<'a, S: OneFirstIntervals> {
     /// None while a thread reads by it, and where no row is left to read.
     baton: Option<Baton<'a, S>>,
     /// Nothing is read or painted any more.
     is_over: bool,
     free: Vec<Bench<S>>,
     /// In their order.
-    coded: VecDeque<Coded<S>>,
+    coded: VecDeque<CodedRow<S>>,
     /// Each row's place is its number modulo how many there are: as many as benches.
     painted: Vec<Option<Painted<S>>>,
     /// How many threads wait for something to do.
@@ -47,17 +47,17 @@ pub(crate) struct Ring<'a, S: OnePart> {
     ghost some: { 0 < length painted.items },
 }
 
-impl<'a, S: OnePart> Ring<'a, S> {
+impl<'a, S: OneFirstIntervals> RowQueue<'a, S> {
     /// No row is read yet. There is room for as many coded and painted rows as there are benches.
     pub(crate) fn of(
         baton: Option<Baton<'a, S>>,
         free: Vec<Bench<S>>,
-        coded: VecDeque<Coded<S>>,
+        coded: VecDeque<CodedRow<S>>,
         painted: Vec<Option<Painted<S>>>,
-    ) -> Ring<'a, S>
+    ) -> RowQueue<'a, S>
         requires { 0 < length painted.items }
     {
-        Ring {
+        RowQueue {
             baton,
             is_over: false,
             free,
@@ -97,7 +97,7 @@ impl<'a, S: OnePart> Ring<'a, S> {
     }
 
     /// What a thread does next: it reads where it can, so that reading goes on, and paints where it can't.
-    pub(crate) fn task(&mut self, part: &Part<'a>) -> Option<Task<'a, S>>
+    pub(crate) fn task(&mut self, part: &FirstIntervals<'a>) -> Option<RowTask<'a, S>>
         requires { S.part ≡ Some part.now }
     {
         if !self.free.is_empty()
@@ -105,15 +105,15 @@ impl<'a, S: OnePart> Ring<'a, S> {
             && let Some(bench) = self.free.pop()
         {
             self.baton = baton.behind(part);
-            return Some(Task::Read(baton, bench));
+            return Some(RowTask::Read(baton, bench));
         }
-        Some(Task::Paint(self.coded.pop_front()?))
+        Some(RowTask::Paint(self.coded.pop_front()?))
     }
 
     /// Keeps a row that is read, and the rows behind it. Answers who is to be woken, so that somebody paints it.
     pub(crate) fn put_coded(
         &mut self,
-        coded: Coded<S>,
+        coded: CodedRow<S>,
         behind: Option<Baton<'a, S>>,
     ) -> Option<Waiter> {
         if self.is_over {

@@ -1,6 +1,6 @@
 use Rattle.std.proofs.Common.{◌≡◌, ◌+◌, ◌-◌, ◌≤◌, length}
 use Rattle.jr_rows.specs.Rows.{mcus_read}
-use Rattle.jr_rows.proofs.rows.Mcus.skip.Given as goal
+use Rattle.jr_rows.proofs.rows.ScanMcus.skip.Given as goal
 
 abbrev pub invariant-mcus : goal.invariant-mcus
 invariant-mcus l = record {

@@ -1,5 +1,5 @@
 use Rattle.std.proofs.Common.{rules}
-use Rattle.jr_rows.proofs.rows.Mcus.advance.Goals as goal
+use Rattle.jr_rows.proofs.rows.ScanMcus.advance.Goals as goal
 
 pub invariant_of-self : goal.invariant_of-self
 invariant_of-self c = search rules

@@ -1,7 +1,7 @@
 use Rattle.std.proofs.Common.{rules, ◌≡◌, ◌<◌}
 use Rattle.jr_scan.specs.ScanValue.{intervals_of, mcus_in}
 use Rattle.jr_rows.proofs.IntervalPlaces.{next_there}
-use Rattle.jr_rows.proofs.rows.Mcus.ready.Goals as goal
+use Rattle.jr_rows.proofs.rows.ScanMcus.ready.Goals as goal
 
 pub advance-requires : goal.advance-requires
 advance-requires c =

@@ -2,9 +2,9 @@ use Rattle.std.proofs.Common.{rules, arith, sym, subst, ap, ◌∙◌, ◌≡◌
 use Rattle.std.proofs.Math.Seq.{take-append_seam}
 use Rattle.jr_head.specs.Geometry.{vertical_max}
 use Rattle.jr_paint.specs.Lines.{line_size}
-use Rattle.jr_rows.specs.PartValue.{PartValue}
+use Rattle.jr_rows.specs.PartValue.{FirstIntervalsValue}
 use Rattle.jr_crew.specs.Crew.{HasRoom, HasWork, IsPainted, IsRead}
-use Rattle.jr_crew.proofs.bench.Coded.paint.Goals as goal
+use Rattle.jr_crew.proofs.bench.CodedRow.paint.Goals as goal
 
 pub invariant_of-result : goal.invariant_of-result
 invariant_of-result g c =
@@ -17,8 +17,8 @@ invariant_of-result g c =
     let same : length new ≡ length old.items = search (rules, c.paint_first.auto.pixels) in
     let long : old.len ≡ length new = search (rules, c.paint_first.auto.pixels) in
     let is = ap (λ (n : ℕ). take n (new ++ drop (length new) old.items)) long ∙ take-append_seam new (drop (length new) old.items) in
-    let room : 8 * vertical_max t.head * line_size t.head ≤ length old.items = subst (λ (k : Option PartValue). HasRoom k old.items) c.requires.part c.self.invariant.1 in
-    let read = subst (λ (k : Option PartValue). IsRead k (record { row = row; marked = marked; work = c.self.inside.work })) c.requires.part c.self.invariant.2 in
-    subst (λ (ps : List ℕ). HasWork g.S.OnePart.part work × HasRoom g.S.OnePart.part ps × IsPainted g.S.OnePart.part (record { row = row; marked = marked; pixels = ps })) (sym is)
-    (subst (λ (k : Option PartValue). HasWork k work × HasRoom k new × IsPainted k (record { row = row; marked = marked; pixels = new })) (sym c.requires.part)
+    let room : 8 * vertical_max t.head * line_size t.head ≤ length old.items = subst (λ (k : Option FirstIntervalsValue). HasRoom k old.items) c.requires.part c.self.invariant.1 in
+    let read = subst (λ (k : Option FirstIntervalsValue). IsRead k (record { row = row; marked = marked; work = c.self.inside.work })) c.requires.part c.self.invariant.2 in
+    subst (λ (ps : List ℕ). HasWork g.S.OneFirstIntervals.part work × HasRoom g.S.OneFirstIntervals.part ps × IsPainted g.S.OneFirstIntervals.part (record { row = row; marked = marked; pixels = ps })) (sym is)
+    (subst (λ (k : Option FirstIntervalsValue). HasWork k work × HasRoom k new × IsPainted k (record { row = row; marked = marked; pixels = new })) (sym c.requires.part)
     (c.paint_first.ensures.room, omega (arith, room, same), record { row = read.row; lines = c.paint_first.ensures.lines; counts = read.counts }))

@@ -8,7 +8,7 @@ use Rattle.jr_rows.specs.Rows.{CountsMcus, ShowsBehind, mcus_read}
 use Rattle.jr_rows.proofs.IntervalPlaces.{ends_few}
 use Rattle.jr_rows.proofs.PutMarks.{puts_both}
 use Rattle.jr_rows.proofs.ReadRows.{counts_both, shown_more}
-use Rattle.jr_rows.proofs.rows.Mcus.decode.Goals as goal
+use Rattle.jr_rows.proofs.rows.ScanMcus.decode.Goals as goal
 
 pub with-marked-requires : goal.with-marked-requires
 with-marked-requires c =

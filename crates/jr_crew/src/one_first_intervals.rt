@@ -1,16 +1,16 @@
 //! The part of a scan that is decoded, as a type.
 
 ghost use Rattle.std.specs.Prelude.{Option, None};
-ghost use Rattle.jr_rows.specs.PartValue.{PartValue};
+ghost use Rattle.jr_rows.specs.PartValue.{FirstIntervalsValue};
 
 use std::marker::Brand;
 
 /// The part that a proof knows of, as a type: what lies under a lock is known by its type alone, so the type says of which
 /// scan it is, and how much of it is decoded.
-pub(crate) trait OnePart {
-    ghost part: { Option PartValue };
+pub(crate) trait OneFirstIntervals {
+    ghost part: { Option FirstIntervalsValue };
 }
 
-impl OnePart for Brand {
+impl OneFirstIntervals for Brand {
     ghost part = { None };
 }

@@ -2,32 +2,32 @@
 
 ghost use Rattle.std.specs.Prelude.{◌≡◌, ◌≤◌, length};
 ghost use Rattle.jr_picture.specs.Headline.{least};
-ghost use Rattle.jr_rows.specs.PartValue.{PartValue};
+ghost use Rattle.jr_rows.specs.PartValue.{FirstIntervalsValue};
 
 use jr_scan::Scan;
 use std::marker::Model;
 
 /// A scan, of which the first intervals are decoded; the others are blank.
 #[derive(Drop)]
-pub struct Part<'a> {
+pub struct FirstIntervals<'a> {
     scan: &'a Scan,
     limit: u32,
 }
 
-impl<'a> Model for Part<'a> {
+impl<'a> Model for FirstIntervals<'a> {
     ghost use Rattle.std.specs.Prelude.{◌≤◌, length};
-    ghost use Rattle.jr_rows.specs.PartValue.{PartValue};
+    ghost use Rattle.jr_rows.specs.PartValue.{FirstIntervalsValue};
 
-    ghost Value = { PartValue };
+    ghost Value = { FirstIntervalsValue };
 
     ghost view = { λ p. record { scan = p.scan.now; limit = p.limit } };
 
     ghost invariant = { λ p. p.limit ≤ length p.scan.now.intervals };
 }
 
-impl<'a> Part<'a> {
+impl<'a> FirstIntervals<'a> {
     /// The first intervals of a scan, or all.
-    pub fn of(scan: &'a Scan, first: Option<u32>) -> Part<'a>
+    pub fn of(scan: &'a Scan, first: Option<u32>) -> FirstIntervals<'a>
         ensures { result ≡ record { scan = scan.now; limit = least first (length scan.now.intervals) } }
     {
         let all = scan.intervals();
@@ -35,7 +35,7 @@ impl<'a> Part<'a> {
             Some(first) => first.min(all),
             None => all,
         };
-        Part { scan, limit }
+        FirstIntervals { scan, limit }
     }
 
     /// The scan.

@@ -1,7 +1,7 @@
 use Rattle.std.proofs.Common.{◌≡◌, ◌+◌, ◌-◌, ◌≤◌, length}
 use Rattle.jr_rows.specs.MarkBytes.{HasMarkRoom, PutsMcus}
-use Rattle.jr_rows.specs.Rows.{CountsMcus, ShowsFirst, mcus_read}
-use Rattle.jr_rows.proofs.rows.Mcus.decode.Given as goal
+use Rattle.jr_rows.specs.Rows.{CountsMcus, ShowsFirstUnits, mcus_read}
+use Rattle.jr_rows.proofs.rows.ScanMcus.decode.Given as goal
 
 abbrev pub invariant-parts : goal.invariant-parts
 invariant-parts l = record {
@@ -11,7 +11,7 @@ invariant-parts l = record {
   scan : l.self.scan ≡ l.initial.self.scan;
   limit : l.self.limit ≡ l.initial.self.limit;
   read : mcus_read l.self ≡ mcus_read l.initial.self + l.done;
-  shows : ShowsFirst l.initial.self.scan l.initial.self.limit (mcus_read l.initial.self) l.done l.units;
+  shows : ShowsFirstUnits l.initial.self.scan l.initial.self.limit (mcus_read l.initial.self) l.done l.units;
   counts : CountsMcus l.initial.self.scan l.initial.self.limit (mcus_read l.initial.self) (mcus_read l.self) l.marked;
   places : HasMarkRoom l.initial.self.scan l.marks;
   puts : PutsMcus l.initial.self.scan l.initial.self.limit (mcus_read l.initial.self) (mcus_read l.self) l.initial.marks l.marks;

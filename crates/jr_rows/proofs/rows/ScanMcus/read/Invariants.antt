@@ -2,7 +2,7 @@ use Rattle.std.proofs.Common.{◌≡◌, ◌+◌, ◌-◌, ◌*◌, ◌≤◌, l
 use Rattle.jr_head.specs.Geometry.{blocks_of}
 use Rattle.jr_rows.specs.MarkBytes.{HasMarkRoom, PutsMcus}
 use Rattle.jr_rows.specs.Rows.{AreInRange, CountsMcus, GivesMcus, mcus_read}
-use Rattle.jr_rows.proofs.rows.Mcus.read.Given as goal
+use Rattle.jr_rows.proofs.rows.ScanMcus.read.Given as goal
 
 abbrev pub invariant-intervals : goal.invariant-intervals
 invariant-intervals l = record {

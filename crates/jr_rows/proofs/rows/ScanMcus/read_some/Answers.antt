@@ -8,13 +8,13 @@ use Rattle.jr_piece.specs.PieceValue.{PieceValue}
 use Rattle.jr_piece.specs.Outcome.{IsOutcome}
 use Rattle.jr_piece.specs.Strips.{units_before}
 use Rattle.jr_piece.specs.Units.{CodesUnits}
-use Rattle.jr_rows.specs.RowsValue.{McusValue}
+use Rattle.jr_rows.specs.RowsValue.{ScanMcusValue}
 use Rattle.jr_rows.specs.MarkBytes.{PutsMarks}
 use Rattle.jr_rows.specs.Rows.{GivesBehind, CountsMarks, intervals_before, mcus_before, mcus_read}
 use Rattle.jr_rows.proofs.IntervalPlaces.{ends_before, first_few, of_first}
 use Rattle.jr_piece.proofs.Parts.{put_there}
 use Rattle.jr_rows.proofs.ReadRows.{gives_there}
-use Rattle.jr_rows.proofs.rows.Mcus.read_some.Goals as goal
+use Rattle.jr_rows.proofs.rows.ScanMcus.read_some.Goals as goal
 
 pub ready-requires : goal.ready-requires
 ready-requires c =
@@ -55,8 +55,8 @@ returns-clause-gives c =
     let inside : c.units_to-from.result ≤ length c.args.blocks.now = search (rules, arith) in
     let i = c.self-2.inside in
     let v = c.self-2.view_is in
-    let interval : i.reader.interval ≡ interval_of r.scan r.number = subst (λ (u : McusValue). i.reader.interval ≡ interval_of u.scan u.number) v c.self-2.invariant.1 in
-    let mcu : i.reader.mcu ≡ r.mcu = ap (λ (u : McusValue). u.mcu) v in
+    let interval : i.reader.interval ≡ interval_of r.scan r.number = subst (λ (u : ScanMcusValue). i.reader.interval ≡ interval_of u.scan u.number) v c.self-2.invariant.1 in
+    let mcu : i.reader.mcu ≡ r.mcu = ap (λ (u : ScanMcusValue). u.mcu) v in
     let codes : (p : PieceValue) → IsOutcome p → p.interval ≡ interval_of r.scan r.number → CodesUnits p (units_before (interval_of r.scan r.number) r.mcu) c.read.new.blocks =
     λ p o e. subst (λ (j : IntervalValue). CodesUnits p (units_before j r.mcu) c.read.new.blocks) interval
     (subst (λ (n : ℕ). CodesUnits p (units_before i.reader.interval n) c.read.new.blocks) mcu (c.read.ensures.blocks p o (e ∙ sym interval))) in
@@ -77,11 +77,11 @@ returns-clause-counts c =
     let v = c.self-2.view_is in
     let old = c.args.self.now in
     let to = mcus_read (record { scan = i.scan.now; limit = i.limit; number = i.number; mcu = c.read.new.self.mcu }) in
-    let scan : i.scan.now ≡ old.scan = ap (λ (u : McusValue). u.scan) v ∙ c.ready.ensures.scan in
-    let limit : i.limit ≡ old.limit = ap (λ (u : McusValue). u.limit) v ∙ c.ready.ensures.limit in
+    let scan : i.scan.now ≡ old.scan = ap (λ (u : ScanMcusValue). u.scan) v ∙ c.ready.ensures.scan in
+    let limit : i.limit ≡ old.limit = ap (λ (u : ScanMcusValue). u.limit) v ∙ c.ready.ensures.limit in
     let start : intervals_before old.scan.head (mcus_read old) ≡ r.number =
     sym (ap (λ (t : ScanValue). intervals_before t.head (mcus_read r)) c.ready.ensures.scan ∙ ap (intervals_before old.scan.head) c.ready.ensures.read) ∙ ends_before r.scan.head r.number r.mcu number few in
-    let from : i.number ≡ intervals_before old.scan.head (mcus_read old) = ap (λ (u : McusValue). u.number) v ∙ sym start in
+    let from : i.number ≡ intervals_before old.scan.head (mcus_read old) = ap (λ (u : ScanMcusValue). u.number) v ∙ sym start in
     let all = subst (λ (t : ScanValue). CountsMarks t i.limit i.number (intervals_before t.head to) c.marked.result) scan c.marked.ensures.counts in
     let limited = subst (λ (n : ℕ). CountsMarks old.scan n i.number (intervals_before old.scan.head to) c.marked.result) limit all in
     subst (λ (n : ℕ). CountsMarks old.scan old.limit n (intervals_before old.scan.head to) c.marked.result) from limited
@@ -97,11 +97,11 @@ returns-clause-puts c =
     let bytes = c.args.marks.now in
     let new = c.marked.new.marks in
     let to = mcus_read (record { scan = i.scan.now; limit = i.limit; number = i.number; mcu = c.read.new.self.mcu }) in
-    let scan : i.scan.now ≡ old.scan = ap (λ (u : McusValue). u.scan) v ∙ c.ready.ensures.scan in
-    let limit : i.limit ≡ old.limit = ap (λ (u : McusValue). u.limit) v ∙ c.ready.ensures.limit in
+    let scan : i.scan.now ≡ old.scan = ap (λ (u : ScanMcusValue). u.scan) v ∙ c.ready.ensures.scan in
+    let limit : i.limit ≡ old.limit = ap (λ (u : ScanMcusValue). u.limit) v ∙ c.ready.ensures.limit in
     let start : intervals_before old.scan.head (mcus_read old) ≡ r.number =
     sym (ap (λ (t : ScanValue). intervals_before t.head (mcus_read r)) c.ready.ensures.scan ∙ ap (intervals_before old.scan.head) c.ready.ensures.read) ∙ ends_before r.scan.head r.number r.mcu number few in
-    let from : i.number ≡ intervals_before old.scan.head (mcus_read old) = ap (λ (u : McusValue). u.number) v ∙ sym start in
+    let from : i.number ≡ intervals_before old.scan.head (mcus_read old) = ap (λ (u : ScanMcusValue). u.number) v ∙ sym start in
     let all = subst (λ (t : ScanValue). PutsMarks t i.limit i.number (intervals_before t.head to) bytes new) scan c.marked.ensures.puts in
     let limited = subst (λ (n : ℕ). PutsMarks old.scan n i.number (intervals_before old.scan.head to) bytes new) limit all in
     subst (λ (n : ℕ). PutsMarks old.scan old.limit n (intervals_before old.scan.head to) bytes new) from limited

@@ -10,7 +10,7 @@ use Rattle.jr_rows.specs.Rows.{CountsMarks}
 use Rattle.jr_rows.proofs.IntervalPlaces.{ends_before, ends_with}
 use Rattle.jr_rows.proofs.PutMarks.{puts_none, puts_one}
 use Rattle.jr_rows.proofs.ReadRows.{counts_none, counts_one}
-use Rattle.jr_rows.proofs.rows.Mcus.marked.Goals as goal
+use Rattle.jr_rows.proofs.rows.ScanMcus.marked.Goals as goal
 
 pub returns-then-left-gt0-clause-counts : goal.returns-then-left-gt0-clause-counts
 returns-then-left-gt0-clause-counts c =
