@@ -1,4 +1,4 @@
-use Rattle.std.proofs.Common.{arith, refl}
+use Rattle.std.proofs.Common.{◌*◌, ◌+◌, arith, length, refl, rules}
 use Rattle.jr_code.proofs.RegisterLemmas.{last_clean, push_last}
 use Rattle.jr_code.proofs.register.Register.ended.Goals as goal
 
@@ -7,4 +7,6 @@ invariant_of-result-clause-clean c = last_clean _ c.followed-number.result (omeg
 
 pub returns-clause-same : goal.returns-clause-same
 returns-clause-same c =
-    push_last c.args.self.count _ c.args.self.held c.followed-number.result c.args.self.rest.now (omega arith) refl (omega arith) c.followed-number.ensures
+    let all = c.args.self.count + 8 * length c.args.self.rest.now in
+    let same = push_last c.args.self.count all c.args.self.held c.followed-number.result c.args.self.rest.now (omega arith) refl (omega arith) c.followed-number.ensures in
+    search (rules, same)
