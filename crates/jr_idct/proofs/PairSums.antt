@@ -1,5 +1,5 @@
 -- Products with two constants by turns, summed in pairs.
-use Rattle.std.proofs.Common.{◌≡◌, ℕ, ◌+◌, ◌-◌, ◌*◌, ◌%◌, ◌^◌, ◌<◌, ◌++◌, subst, inl, inr, get_or, ◌+ℤ◌, ℤ, cond, nat_eq, List, [], ◌∷◌, map, refl, arith, ◌∙◌, w16, w32, to_z, of_z, FitsSigned, lit<}
+use Rattle.std.proofs.Common.{◌≡◌, ℕ, ◌+◌, ◌-◌, ◌*◌, ◌%◌, ◌^◌, ◌<◌, ◌++◌, subst, inl, inr, get_or, ◌+ℤ◌, ℤ, pos, Bool, true, false, cond, nat_eq, List, [], ◌∷◌, map, refl, arith, ◌∙◌, w16, w32, to_z, of_z, FitsSigned, lit<}
 use mir.Val.{Val}
 use denote.Array.{in_array}
 use denote.Shadow.{shadow}
@@ -7,10 +7,11 @@ use denote.Signed.{SInt}
 use Rattle.std.proofs.Math.IntN.{◌*ℤ◌}
 use Rattle.std.proofs.lemmas.Int.{ints}
 use Rattle.std.specs.Simd.Lanes.{zip2, pick_l}
+use Rattle.jr_idct.specs.Lanes.{half_lane, words}
 use Rattle.jr_idct.specs.Matrix.{at, IsWithin}
 use Rattle.jr_idct.proofs.Holds.{Holds, holds_given, holds_wide, holds_add, holds_mul}
 use Rattle.jr_idct.proofs.Passes.{below_eight}
-use Rattle.jr_idct.proofs.Vectors.{Lanes, joined, lanes_fit, lanes_given, lanes_map, lanes_zip, lanes_join, lanes_pick, lanes_read}
+use Rattle.jr_idct.proofs.Vectors.{Lanes, joined, at_joined, lanes_fit, lanes_given, lanes_map, lanes_zip, lanes_join, lanes_pick, lanes_read}
 use Rattle.jr_idct.proofs.Whole.{product_within}
 use Rattle.std.proofs.lemmas.Bool.{cases_lt}
 
@@ -22,6 +23,19 @@ below_sixteen P p0 p1 p2 p3 p4 p5 p6 p7 p8 p9 p10 p11 p12 p13 p14 p15 i h =
           let e : 8 + (i - 8) ≡ i = omega (arith, b) in
           subst P e (below_eight (λ k. P (8 + k)) p8 p9 p10 p11 p12 p13 p14 p15 (i - 8) (omega (arith, b, h)))
     ]
+
+-- lanes of two vectors by turns
+module _ (a b : List ℤ) (vs us : List Val) (g : shadow (in_array ℤ (SInt w16).own_val 16 a vs)) (h : shadow (in_array ℤ (SInt w16).own_val 16 b us)) where
+  lane_of : (k : ℕ) → at (a ++ b) k ≡ joined 16 (at a) (at b) k
+  lane_of = at_joined w16 16 16 a b vs us g h
+
+  pub words_first : (u : Bool) (j : ℕ) → j < 8 → at (pick_l (pos 0) (a ++ b) (words u)) (2 * j) ≡ at a (half_lane u j)
+  words_first true = below_eight (λ j. at (pick_l (pos 0) (a ++ b) (words true)) (2 * j) ≡ at a (half_lane true j)) (lane_of 4) (lane_of 5) (lane_of 6) (lane_of 7) (lane_of 12) (lane_of 13) (lane_of 14) (lane_of 15)
+  words_first false = below_eight (λ j. at (pick_l (pos 0) (a ++ b) (words false)) (2 * j) ≡ at a (half_lane false j)) (lane_of 0) (lane_of 1) (lane_of 2) (lane_of 3) (lane_of 8) (lane_of 9) (lane_of 10) (lane_of 11)
+
+  pub words_second : (u : Bool) (j : ℕ) → j < 8 → at (pick_l (pos 0) (a ++ b) (words u)) (2 * j + 1) ≡ at b (half_lane u j)
+  words_second true = below_eight (λ j. at (pick_l (pos 0) (a ++ b) (words true)) (2 * j + 1) ≡ at b (half_lane true j)) (lane_of 20) (lane_of 21) (lane_of 22) (lane_of 23) (lane_of 28) (lane_of 29) (lane_of 30) (lane_of 31)
+  words_second false = below_eight (λ j. at (pick_l (pos 0) (a ++ b) (words false)) (2 * j + 1) ≡ at b (half_lane false j)) (lane_of 16) (lane_of 17) (lane_of 18) (lane_of 19) (lane_of 24) (lane_of 25) (lane_of 26) (lane_of 27)
 
 -- the constants by turns
 abbrev turns : ℤ → ℤ → ℕ → ℤ

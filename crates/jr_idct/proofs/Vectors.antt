@@ -126,7 +126,7 @@ unchanged w n xs vs h =
 
 -- the lanes at positions in two vectors that are passed
 module _ (w : Width) (n m : ℕ) (a b : List ℤ) (vs us : List Val) (g : shadow (in_array ℤ (SInt w).own_val n a vs)) (h : shadow (in_array ℤ (SInt w).own_val m b us)) where
-  at_joined : (k : ℕ) → at (a ++ b) k ≡ joined n (at a) (at b) k
+  pub at_joined : (k : ℕ) → at (a ++ b) k ≡ joined n (at a) (at b) k
   at_joined k =
       let long : length a ≡ n = g.1.0.1 in
       elim (cases_lt k n) [

@@ -1,18 +1,18 @@
 //! Sums of products in lanes. A vector of sixteen lanes holds a row of each of two blocks; its products, of 32 bits, are
 //! reckoned a half at a time, so that no lane leaves its half of the registers.
 
-ghost use Rattle.std.specs.Prelude.{◌≡◌, ℕ, ◌+◌, ◌*◌, ◌^◌, ◌<◌, pos, ◌+ℤ◌, true, false};
+ghost use Rattle.std.specs.Prelude.{◌≡◌, ℕ, ◌^◌, ◌<◌, ◌++◌, pos, ◌+ℤ◌, true, false};
+ghost use Rattle.std.specs.Simd.Lanes.{pick_l};
 ghost use Rattle.std.proofs.Math.IntN.{◌*ℤ◌};
-ghost use Rattle.jr_idct.specs.Lanes.{half_lane};
+ghost use Rattle.jr_idct.specs.Lanes.{half_lane, words};
 ghost use Rattle.jr_idct.specs.Matrix.{at, IsWithin};
 
 use std::simd::prelude::*;
 
-/// The lanes of a half of two rows, by turns.
+/// Lanes of both halves of two rows, one of each by turns.
 #[inline(always)]
-fn paired(a: i16x16, b: i16x16, upper: bool) -> i16x16
-    ensures first { (j : ℕ) → j < 8 → at result (2 * j) ≡ at a (half_lane upper j) }
-    ensures second { (j : ℕ) → j < 8 → at result (2 * j + 1) ≡ at b (half_lane upper j) }
+pub(crate) fn by_words(a: i16x16, b: i16x16, upper: bool) -> i16x16
+    ensures { result ≡ pick_l (pos 0) (a ++ b) (words upper) }
 {
     if upper {
         return a.shuffle(
@@ -33,7 +33,7 @@ pub(crate) fn pair_sum(a: i16x16, b: i16x16, x: i16, y: i16, upper: bool) -> i32
     requires y { IsWithin (2 ^ 14) y }
     ensures { (j : ℕ) → j < 8 → at result j ≡ x *ℤ at a (half_lane upper j) +ℤ y *ℤ at b (half_lane upper j) }
 {
-    let pairs = paired(a, b, upper).cast::<i32>();
+    let pairs = by_words(a, b, upper).cast::<i32>();
     let constants = i16x16::from_array([x, y, x, y, x, y, x, y, x, y, x, y, x, y, x, y]);
     let products = constants.cast::<i32>() * pairs;
     let first: i32x8 = products.swizzle([0, 2, 4, 6, 8, 10, 12, 14]);

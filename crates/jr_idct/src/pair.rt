@@ -2,6 +2,7 @@
 
 ghost use Rattle.std.specs.Prelude.{◌≡◌, ℕ, ℤ, ◌+◌, ◌*◌, ◌/◌, ◌%◌, ◌<◌, pos, ◌+ℤ◌, slice_index, slice_index_or, cond, [], ◌∷◌};
 ghost use Rattle.std.proofs.Math.IntN.{◌*ℤ◌};
+ghost use Rattle.jr_block.specs.declared.quantisers.TheConstants.{MOST_PRODUCT};
 ghost use Rattle.jr_idct.specs.Lanes.{lane};
 ghost use Rattle.jr_idct.specs.Matrix.{at, pass, IsWithin};
 ghost use Rattle.jr_idct.specs.Transform.{byte_of, column_pass, sample_of};
@@ -11,13 +12,10 @@ use crate::pass::{Rows, entries};
 use crate::turned::turned;
 use std::simd::prelude::*;
 
-/// How large products may be: the first pass makes numbers of 16 bits of them.
-const LIMIT: u32 = 1096;
-
 /// The product of a coefficient and its quantiser.
 #[inline(always)]
 fn product(coefficient: i16, factor: u16) -> i16
-    requires { IsWithin LIMIT (coefficient *ℤ pos factor) }
+    requires { IsWithin MOST_PRODUCT (coefficient *ℤ pos factor) }
     ensures { result ≡ coefficient *ℤ pos factor }
 {
     (i32::from(coefficient) * i32::from(factor)) as i16
@@ -26,7 +24,7 @@ fn product(coefficient: i16, factor: u16) -> i16
 /// Dequantisation (T.81, A.3.4) of a block in natural order.
 #[inline(always)]
 fn small_products(block: &[i16; 64], factors: &[u16; 64]) -> [i16; 64]
-    requires { (n : ℕ) → n < 64 → IsWithin LIMIT (at block.now n *ℤ pos (slice_index factors.now n)) }
+    requires { (n : ℕ) → n < 64 → IsWithin MOST_PRODUCT (at block.now n *ℤ pos (slice_index factors.now n)) }
     ensures { (n : ℕ) → n < 64 → at result n ≡ at block.now n *ℤ pos (slice_index factors.now n) }
 {
     let mut table = [0; 64];
@@ -40,7 +38,7 @@ fn small_products(block: &[i16; 64], factors: &[u16; 64]) -> [i16; 64]
 #[inline(always)]
 fn load(block: &[i16; 64], r: usize) -> i16x8
     requires row { r < 8 }
-    requires small { (n : ℕ) → n < 64 → IsWithin LIMIT (at block.now n) }
+    requires small { (n : ℕ) → n < 64 → IsWithin MOST_PRODUCT (at block.now n) }
     ensures { (c : ℕ) → c < 8 → at result c ≡ at block.now (8 * r + c) }
 {
     i16x8::from_slice(&block[8 * r..])
@@ -50,8 +48,8 @@ fn load(block: &[i16; 64], r: usize) -> i16x8
 #[inline(always)]
 fn row(a: &[i16; 64], b: &[i16; 64], r: usize) -> i16x16
     requires row { r < 8 }
-    requires small_a { (n : ℕ) → n < 64 → IsWithin LIMIT (at a.now n) }
-    requires small_b { (n : ℕ) → n < 64 → IsWithin LIMIT (at b.now n) }
+    requires small_a { (n : ℕ) → n < 64 → IsWithin MOST_PRODUCT (at a.now n) }
+    requires small_b { (n : ℕ) → n < 64 → IsWithin MOST_PRODUCT (at b.now n) }
     ensures first { (c : ℕ) → c < 8 → at result c ≡ at a.now (8 * r + c) }
     ensures second { (c : ℕ) → c < 8 → at result (8 + c) ≡ at b.now (8 * r + c) }
 {
@@ -124,8 +122,8 @@ fn gathered(q0: u8x32, q1: u8x32, q2: u8x32, q3: u8x32, second: bool) -> [u8; 64
 /// The rows of two blocks side by side.
 #[inline(always)]
 fn rows_of(a: &[i16; 64], b: &[i16; 64]) -> Rows
-    requires small_a { (n : ℕ) → n < 64 → IsWithin LIMIT (at a.now n) }
-    requires small_b { (n : ℕ) → n < 64 → IsWithin LIMIT (at b.now n) }
+    requires small_a { (n : ℕ) → n < 64 → IsWithin MOST_PRODUCT (at a.now n) }
+    requires small_b { (n : ℕ) → n < 64 → IsWithin MOST_PRODUCT (at b.now n) }
     ensures first { (r c : ℕ) → r < 8 → c < 8 → lane (result.0 ∷ result.1 ∷ result.2 ∷ result.3 ∷ result.4 ∷ result.5 ∷ result.6 ∷ result.7 ∷ []) r c ≡ at a.now (8 * r + c) }
     ensures second { (r c : ℕ) → r < 8 → c < 8 → lane (result.0 ∷ result.1 ∷ result.2 ∷ result.3 ∷ result.4 ∷ result.5 ∷ result.6 ∷ result.7 ∷ []) r (8 + c) ≡ at b.now (8 * r + c) }
 {
@@ -149,7 +147,7 @@ const ROW_CONSTANT: i32 = 33_685_504;
 /// Both passes and the level shift.
 #[inline(always)]
 fn values(x: Rows) -> Rows
-    requires { (k p : ℕ) → k < 8 → p < 16 → IsWithin LIMIT (lane (x.0 ∷ x.1 ∷ x.2 ∷ x.3 ∷ x.4 ∷ x.5 ∷ x.6 ∷ x.7 ∷ []) k p) }
+    requires { (k p : ℕ) → k < 8 → p < 16 → IsWithin MOST_PRODUCT (lane (x.0 ∷ x.1 ∷ x.2 ∷ x.3 ∷ x.4 ∷ x.5 ∷ x.6 ∷ x.7 ∷ []) k p) }
     ensures first { (v : ℕ → ℤ) → ((j k : ℕ) → j < 8 → k < 8 → lane (x.0 ∷ x.1 ∷ x.2 ∷ x.3 ∷ x.4 ∷ x.5 ∷ x.6 ∷ x.7 ∷ []) j k ≡ v (8 * j + k)) → (r c : ℕ) → r < 8 → c < 8 → lane (result.0 ∷ result.1 ∷ result.2 ∷ result.3 ∷ result.4 ∷ result.5 ∷ result.6 ∷ result.7 ∷ []) r c ≡ pass 18 (λ k. column_pass v k r) c +ℤ pos 128 }
     ensures second { (v : ℕ → ℤ) → ((j k : ℕ) → j < 8 → k < 8 → lane (x.0 ∷ x.1 ∷ x.2 ∷ x.3 ∷ x.4 ∷ x.5 ∷ x.6 ∷ x.7 ∷ []) j (8 + k) ≡ v (8 * j + k)) → (r c : ℕ) → r < 8 → c < 8 → lane (result.0 ∷ result.1 ∷ result.2 ∷ result.3 ∷ result.4 ∷ result.5 ∷ result.6 ∷ result.7 ∷ []) r (8 + c) ≡ pass 18 (λ k. column_pass v k r) c +ℤ pos 128 }
 {
@@ -182,8 +180,8 @@ pub(crate) fn pair_samples(
     b: &[i16; 64],
     factors: &[u16; 64],
 ) -> ([u8; 64], [u8; 64])
-    requires small_a { (n : ℕ) → n < 64 → IsWithin LIMIT (at a.now n *ℤ pos (slice_index factors.now n)) }
-    requires small_b { (n : ℕ) → n < 64 → IsWithin LIMIT (at b.now n *ℤ pos (slice_index factors.now n)) }
+    requires small_a { (n : ℕ) → n < 64 → IsWithin MOST_PRODUCT (at a.now n *ℤ pos (slice_index factors.now n)) }
+    requires small_b { (n : ℕ) → n < 64 → IsWithin MOST_PRODUCT (at b.now n *ℤ pos (slice_index factors.now n)) }
     ensures first { (r c : ℕ) → r < 8 → c < 8 → slice_index result.0 (8 * r + c) ≡ sample_of (λ n. at a.now n *ℤ pos (slice_index factors.now n)) r c }
     ensures second { (r c : ℕ) → r < 8 → c < 8 → slice_index result.1 (8 * r + c) ≡ sample_of (λ n. at b.now n *ℤ pos (slice_index factors.now n)) r c }
 {

@@ -2,29 +2,13 @@
 
 ghost use Rattle.std.specs.Prelude.{◌≡◌, ℕ, ◌+◌, ◌*◌, ◌/◌, ◌%◌, ◌<◌, pos, [], ◌∷◌, ◌++◌};
 ghost use Rattle.std.specs.Simd.Lanes.{pick_l};
-ghost use Rattle.jr_idct.specs.Lanes.{doubles, lane, quads, words};
+ghost use Rattle.jr_idct.specs.Lanes.{doubles, lane, quads};
 
+use crate::lanes::by_words;
 use crate::pass::Rows;
 use std::simd::prelude::*;
 
-/// Lanes of both halves of two rows, one of each by turns.
-#[inline(always)]
-fn by_words(a: i16x16, b: i16x16, upper: bool) -> i16x16
-    ensures { result ≡ pick_l (pos 0) (a ++ b) (words upper) }
-{
-    if upper {
-        return a.shuffle(
-            b,
-            [4, 20, 5, 21, 6, 22, 7, 23, 12, 28, 13, 29, 14, 30, 15, 31],
-        );
-    }
-    a.shuffle(
-        b,
-        [0, 16, 1, 17, 2, 18, 3, 19, 8, 24, 9, 25, 10, 26, 11, 27],
-    )
-}
-
-/// The same, two of each by turns.
+/// Lanes of both halves of two rows, two of each by turns.
 #[inline(always)]
 fn by_doubles(a: i16x16, b: i16x16, upper: bool) -> i16x16
     ensures { result ≡ pick_l (pos 0) (a ++ b) (doubles upper) }
