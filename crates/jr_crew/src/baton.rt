@@ -28,7 +28,10 @@ impl<'a, S: OneFirstIntervals> Model for Baton<'a, S> {
 }
 
 /// These rows, where one is left.
-fn baton_over<'a, S: OneFirstIntervals>(part: &FirstIntervals<'_>, rows: Rows<'a>) -> Option<Baton<'a, S>>
+fn baton_over<'a, S: OneFirstIntervals>(
+    part: &FirstIntervals<'_>,
+    rows: Rows<'a>,
+) -> Option<Baton<'a, S>>
     requires part { S.part ≡ Some part.now }
     requires of { rows.scan ≡ part.now.scan }
     requires limit { rows.limit ≡ part.now.limit }

@@ -10,7 +10,7 @@ use crate::one_first_intervals::OneFirstIntervals;
 use crate::row::Row;
 use jr_base::Memory;
 use jr_paint::SampleLines;
-use jr_rows::{Marked, FirstIntervals, Rows, bytes_of_row, lines_of, shape_of};
+use jr_rows::{FirstIntervals, Marked, Rows, bytes_of_row, lines_of, shape_of};
 use std::alloc::Global;
 use std::marker::{Model, PhantomData};
 

@@ -36,7 +36,14 @@ impl<'a, 'b, R: Wait, G: Gate, S: OneFirstIntervals, const WIDTH: usize> Model
     ghost invariant = { λ c. (S.part ≡ Some c.crew.now) × (c.crew.now.scan.head.width ≤ WIDTH) × (WIDTH ≤ WIDEST) };
 }
 
-impl<'a, 'b, R: Wait, G: Gate, S: OneFirstIntervals, const WIDTH: usize> Caller<'a, 'b, R, G, S, WIDTH> {
+impl<'a, 'b, R: Wait, G: Gate, S: OneFirstIntervals, const WIDTH: usize> Caller<
+    'a,
+    'b,
+    R,
+    G,
+    S,
+    WIDTH,
+> {
     /// Nothing is written yet.
     pub(crate) fn of(
         crew: &'b Crew<'a, S>,

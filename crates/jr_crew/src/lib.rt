@@ -7,8 +7,8 @@ mod beside;
 mod caller;
 mod crew;
 mod one_first_intervals;
-mod row_queue;
 mod row;
+mod row_queue;
 mod sending;
 mod sharing;
 

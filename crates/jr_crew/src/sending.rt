@@ -21,7 +21,16 @@ use std::sync::Wait;
 
 /// What the calling thread writes by.
 #[derive(Drop)]
-pub(crate) struct Sending<'s, 'w, 'a, R: Wait, W: Write, G: Gate, S: OneFirstIntervals, const WIDTH: usize> {
+pub(crate) struct Sending<
+    's,
+    'w,
+    'a,
+    R: Wait,
+    W: Write,
+    G: Gate,
+    S: OneFirstIntervals,
+    const WIDTH: usize,
+> {
     pub(crate) crew: &'s Crew<'a, S>,
     pub(crate) rt: &'s R,
     pub(crate) gate: &'s G,

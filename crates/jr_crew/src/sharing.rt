@@ -22,7 +22,7 @@ use jr_base::{Memory, Tally, WriteFault};
 use jr_paint::{NARROW, WIDEST};
 use jr_picture::{Counts, Gate};
 use jr_piece::each_interval_has_an_outcome;
-use jr_rows::{Marked, FirstIntervals, room_for};
+use jr_rows::{FirstIntervals, Marked, room_for};
 use jr_scan::Scan;
 use jr_stream::{PictureError, counts_of};
 use std::alloc::Global;
@@ -51,7 +51,10 @@ fn open_benches<S: OneFirstIntervals>(
 }
 
 /// Places for painted rows: so many, and one at least.
-fn open_places<S: OneFirstIntervals>(alloc: Global, count: u32) -> Result<Vec<Option<Painted<S>>>, Memory>
+fn open_places<S: OneFirstIntervals>(
+    alloc: Global,
+    count: u32,
+) -> Result<Vec<Option<Painted<S>>>, Memory>
     ensures { IfOk result (λ v. 0 < length v.items) }
 {
     let mut places = Vec::with_capacity(alloc, count as usize)?;

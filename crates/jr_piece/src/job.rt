@@ -84,7 +84,12 @@ impl<S: OneScan> Job<S> {
     }
 
     /// Transforms a strip and keeps it.
-    fn decode<R: Wait>(&self, rt: &R, alloc: Global, coded: CodedStrip<S>) -> Result<Arc<Strip>, Memory>
+    fn decode<R: Wait>(
+        &self,
+        rt: &R,
+        alloc: Global,
+        coded: CodedStrip<S>,
+    ) -> Result<Arc<Strip>, Memory>
         ensures { IfOk result (λ s. (arc_value s).interval ≡ self.now) }
     {
         let strip = Arc::new(alloc, coded.decode(alloc)?)?;

@@ -11,9 +11,9 @@ ghost use Rattle.jr_rows.specs.Rows.{AreInRange, CountsMarks, CountsMcus, GivesB
 ghost use Rattle.jr_rows.specs.MarkBytes.{HasMarkRoom, PutsMarks, PutsMcus, PutsRow};
 
 use crate::blank::fill_blank;
+use crate::first_intervals::FirstIntervals;
 use crate::mark_bytes::put_mark;
 use crate::marked::Marked;
-use crate::first_intervals::FirstIntervals;
 use crate::shape::{coded_of_row, mcus_at_once, shape_of};
 use jr_block::Coefficients;
 use jr_head::Head;

@@ -18,7 +18,7 @@ use jr_head::Head;
 use jr_paint::{NARROW, WIDEST, make_room, put_header};
 use jr_picture::{Counts, Gate};
 use jr_piece::each_interval_has_an_outcome;
-use jr_rows::{Marked, FirstIntervals, SampleRow, lines_of, room_for, shape_of};
+use jr_rows::{FirstIntervals, Marked, SampleRow, lines_of, room_for, shape_of};
 use jr_scan::Scan;
 use std::alloc::Global;
 use std::io::Write;

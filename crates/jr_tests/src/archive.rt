@@ -1,7 +1,7 @@
 //! Files that are checked by several workers, lines that can't be written, and words. What lines a file gets is seen in the
 //! stored run of jri_check.
 
-use jri_archive::{CheckRequest, Folder, Told, ReadError, asked, check_all};
+use jri_archive::{CheckRequest, Folder, ReadError, Told, asked, check_all};
 use std::alloc::Global;
 use std::io::Cursor;
 use std::process::Abort;

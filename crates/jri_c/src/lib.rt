@@ -6,7 +6,7 @@
 ghost use Rattle.std.specs.Prelude.{◌≡◌, ◌≢◌, ◌<◌, ◌≤◌, length, drop};
 ghost use Rattle.jri_memory.specs.Calls.{DecodesFile, DecodesLines, TellsFault, IsMeasureOf, IsNumberOfSome, LacksLines, LacksRoom, LacksRoomForLines, TellsNoHead, TellsNoPicture, TellsNoRefusal};
 
-use jri_memory::{Measure, DecodeReport, decode_file, decode_lines, measure_file, refusal_text};
+use jri_memory::{DecodeReport, Measure, decode_file, decode_lines, measure_file, refusal_text};
 use std::alloc::Global;
 
 /// The number of these calls: it is changed where one of them is.

@@ -2,7 +2,7 @@
 #![tactic(auto)]
 
 use jr_base::limits::MAX_FILE_BYTES;
-use jri_archive::{Folder, Told, RequestError, ReadError, asked, check_all};
+use jri_archive::{Folder, ReadError, RequestError, Told, asked, check_all};
 use std::alloc::Global;
 use std::io::{Error, ErrorKind, IsTerminal, Read, Result as IoResult, Write};
 use std::process::ExitCode;

@@ -32,7 +32,11 @@ impl Write for Reader<'_> {
 }
 
 /// Whether the whole picture was written, of a sound interval and a damaged one; where memory was refused, nothing was.
-fn judge(outcome: Result<Counts, PictureError>, written: &Reader<'_>, whole: usize) -> Option<bool> {
+fn judge(
+    outcome: Result<Counts, PictureError>,
+    written: &Reader<'_>,
+    whole: usize,
+) -> Option<bool> {
     let left = written.rest.len();
     match outcome {
         Ok(counts) => {
