@@ -7,7 +7,7 @@ ghost use Rattle.jr_piece.specs.Sharing.{IsOneOf};
 use crate::gathered::Gathered;
 use crate::one_scan::OneScan;
 use crate::piece::Piece;
-use crate::progress::{CodedStrip, Progress, StripTask};
+use crate::progress::{Progress, ScanStrip, StripTask};
 use crate::reading::Reading;
 use crate::strip::Strip;
 use jr_code::Memory;
@@ -88,7 +88,7 @@ impl<S: OneScan> Job<S> {
         &self,
         rt: &R,
         alloc: Global,
-        coded: CodedStrip<S>,
+        coded: ScanStrip<S>,
     ) -> Result<Arc<Strip>, Memory>
         ensures { IfOk result (λ s. (arc_value s).interval ≡ self.now) }
     {

@@ -19,12 +19,12 @@ use std::sync::Arc;
 
 /// A strip of an interval of the scan, read and not yet transformed.
 #[derive(Drop)]
-pub(crate) struct CodedStrip<S: OneScan> {
+pub(crate) struct ScanStrip<S: OneScan> {
     strip: CodedStrip,
     of: PhantomData<S>,
 }
 
-impl<S: OneScan> Model for CodedStrip<S> {
+impl<S: OneScan> Model for ScanStrip<S> {
     ghost use Rattle.jr_piece.specs.StripValue.{CodedStripValue};
     ghost use Rattle.jr_piece.specs.Sharing.{IsOneOf};
 
@@ -35,12 +35,12 @@ impl<S: OneScan> Model for CodedStrip<S> {
     ghost invariant = { λ c. IsOneOf S.scan c.strip.interval };
 }
 
-impl<S: OneScan> CodedStrip<S> {
-    fn of(strip: CodedStrip) -> CodedStrip<S>
+impl<S: OneScan> ScanStrip<S> {
+    fn of(strip: CodedStrip) -> ScanStrip<S>
         requires { IsOneOf S.scan strip.interval }
         ensures { result ≡ strip }
     {
-        CodedStrip {
+        ScanStrip {
             strip,
             of: PhantomData,
         }
@@ -66,7 +66,7 @@ pub(crate) enum StripTask<S: OneScan> {
     /// Read the next strip.
     Read(Reading<S>),
     /// Transform a strip that is read.
-    Decode(CodedStrip<S>),
+    Decode(ScanStrip<S>),
     /// Nothing: all is read, and others decode what is left.
     Leave,
 }
@@ -79,7 +79,7 @@ pub(crate) struct Progress<S: OneScan> {
     /// Nothing will be read any more.
     is_over: bool,
     /// In the order in which they were read.
-    coded: VecDeque<CodedStrip<S>>,
+    coded: VecDeque<ScanStrip<S>>,
     /// As many of them may wait before the worker that reads decodes one.
     most_waiting: usize,
     /// Memory of strips that are transformed, for those to be read.
@@ -132,7 +132,7 @@ impl<S: OneScan> Progress<S> {
     {
         match next {
             Ok(Next::Strip(strip)) => {
-                self.is_over |= self.coded.push_back(CodedStrip::of(strip)).is_err();
+                self.is_over |= self.coded.push_back(ScanStrip::of(strip)).is_err();
             }
             Ok(Next::End(end)) => {
                 self.gathered.close(end);
