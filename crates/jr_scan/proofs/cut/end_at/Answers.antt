@@ -7,3 +7,6 @@ pub returns-then-k-intervals-clause-ended : goal.returns-then-k-intervals-clause
 returns-then-k-intervals-clause-ended c = λ tail m.
     let e : c.args.code ≡ RST0 + (c.args.code - RST0) = omega arith in
     (c.args.code - RST0, omega arith, subst (HasMarker tail) e m, c.if-k-intervals.true, refl)
+
+pub returns-clause-number : goal.returns-clause-number
+returns-clause-number c = omega arith

@@ -69,3 +69,6 @@ loop-k-preserved c =
 
 pub returns-clause-in_range : goal.returns-clause-in_range
 returns-clause-in_range c = last_in_range c.args.head.now c.args.predictions.now c.loop-k.last c.args.bits.now c.loop-k.left _ c.loop-k.invariant.taken
+
+pub returns-in_default-clause-kept : goal.returns-in_default-clause-kept
+returns-in_default-clause-kept c = search rules

@@ -1,5 +1,5 @@
-use Rattle.std.proofs.Common.{◌≡◌, ℤ, List, pos, get_or, arith, refl, subst, sym, ap, ◌∙◌, rules, w16, set, ◌+ℤ◌}
-use mir.Val.{SFits, to_z, of_z}
+use Rattle.std.proofs.Common.{pos, get_or, arith, ap, ◌∙◌, rules, w16, set}
+use mir.Val.{SFits}
 use Rattle.std.proofs.lemmas.Int.{ints, to_z-of_z}
 use Rattle.jr_code.proofs.CodeLemmas.{one_word}
 use Rattle.jr_scan.proofs.Predicted.{takes_block, no_block_coded, no_block_far, kept_fits, sum_kept}

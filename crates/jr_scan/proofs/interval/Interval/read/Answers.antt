@@ -15,3 +15,12 @@ returns-else-is_sound-clause-none c = λ ys d.
 pub returns-then-is_sound-clause-in_range : goal.returns-then-is_sound-clause-in_range
 returns-then-is_sound-clause-in_range c =
     decoding_in_range c.args.self.now _ (c.if-is_sound.ensures.sound (search rules) c.args.self.now _ (c.in_ok-blocks.ensures.run, c.in_ok-blocks.ensures.read))
+
+pub returns-else-is_sound-clause-some : goal.returns-else-is_sound-clause-some
+returns-else-is_sound-clause-some c = search rules
+
+pub returns-else-is_sound-clause-only : goal.returns-else-is_sound-clause-only
+returns-else-is_sound-clause-only c = search rules
+
+pub returns-else-is_sound-clause-in_range : goal.returns-else-is_sound-clause-in_range
+returns-else-is_sound-clause-in_range c = search rules

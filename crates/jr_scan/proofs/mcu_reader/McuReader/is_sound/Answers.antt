@@ -13,3 +13,6 @@ returns-else-self-clause-damaged c = λ f i zs all.
     let left = c.self.inside.bits in
     damaged_read c.args.self.now left i zs (subst (λ (r : McuReaderValue). IsMcuReader r left) c.self.view_is c.self.invariant)
     (λ e short. c.if-self.false (ap (λ (r : McuReaderValue). r.mcu) c.self.view_is ∙ e ∙ ap (λ (r : McuReaderValue). r.run.mcus) (sym c.self.view_is))) all
+
+pub returns-then-self-clause-sound : goal.returns-then-self-clause-sound
+returns-then-self-clause-sound c = search rules

@@ -121,3 +121,12 @@ pub returns-in_default-clause-none : goal.returns-in_default-clause-none
 returns-in_default-clause-none c = λ room first.
     let kept : c.next.new.self ≡ c.loop-k.self = search (rules, c.in_default.ensures.kept) in
     inr (subst (λ (x : McuReaderValue). HasNoMcu x.run.interval x.place) (sym kept) c.in_default.ensures.none)
+
+pub returns-in_default-clause-mcus : goal.returns-in_default-clause-mcus
+returns-in_default-clause-mcus c = search rules
+
+pub returns-clause-ended : goal.returns-clause-ended
+returns-clause-ended c = search rules
+
+pub returns-clause-none : goal.returns-clause-none
+returns-clause-none c = search rules
