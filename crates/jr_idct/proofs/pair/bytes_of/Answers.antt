@@ -5,7 +5,7 @@ use Rattle.jr_idct.specs.Transform.{byte_of}
 use Rattle.jr_idct.proofs.Passes.{below_four}
 use Rattle.jr_idct.proofs.Rows.{sample_at}
 use Rattle.jr_idct.proofs.Vectors.{unchanged}
-use Rattle.jr_idct.proofs.pair.samples_of.Goals as goal
+use Rattle.jr_idct.proofs.pair.bytes_of.Goals as goal
 
 pub returns-clause-first : goal.returns-clause-first
 returns-clause-first c =
