@@ -42,7 +42,7 @@ fn products(natural: &[i16; 64], factors: &[u16; 64]) -> [i64; 64]
 /// The samples of a block of any size, at index `8 row + column`.
 #[inline(never)]
 #[cold]
-pub(crate) fn samples_of(block: &Coefficients, quantisers: &Quantisers) -> [u8; 64]
+fn any_block(block: &Coefficients, quantisers: &Quantisers) -> [u8; 64]
     ensures { result ≡ samples block.now quantisers.now }
 {
     wide_samples(&products(block.natural(), quantisers.factors()))
@@ -70,7 +70,7 @@ pub fn transform_one(block: &Coefficients, quantisers: &Quantisers) -> [u8; 64]
         let (samples, _) = small_blocks(block, block, quantisers);
         return samples;
     }
-    samples_of(block, quantisers)
+    any_block(block, quantisers)
 }
 
 /// The samples of two blocks of one component.
@@ -90,7 +90,7 @@ pub fn transform_two(
     } else if is_small(a, quantisers) && is_small(b, quantisers) {
         (*first, *second) = small_blocks(a, b, quantisers);
     } else {
-        *first = samples_of(a, quantisers);
-        *second = samples_of(b, quantisers);
+        *first = any_block(a, quantisers);
+        *second = any_block(b, quantisers);
     }
 }

@@ -4,7 +4,7 @@ ghost use Rattle.std.specs.Prelude.{◌≡◌, ◌<◌, ◌*◌, ◌+ℤ◌, ℕ
 ghost use Rattle.jr_idct.specs.Matrix.{at, floor_div, IsWithin};
 ghost use Rattle.jr_idct.specs.Transform.{byte_of, samples};
 
-use crate::number::Number;
+use crate::number::clamped;
 use jr_block::{Coefficients, Quantisers};
 
 /// The samples of a block that is only its first coefficient, given its product: all are equal.
@@ -13,7 +13,7 @@ fn flat_samples(product: i64) -> [u8; 64]
     requires { IsWithin (32768 * 65535) product }
     ensures { (n : ℕ) → n < 64 → slice_index result n ≡ byte_of (floor_div (product +ℤ pos 4) 8 +ℤ pos 128) }
 {
-    [((product + 4) >> 3).clamped(); 64]
+    [clamped((product + 4) >> 3); 64]
 }
 
 /// The samples of such a block.

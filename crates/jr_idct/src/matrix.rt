@@ -5,7 +5,7 @@ ghost use Rattle.std.proofs.Math.IntN.{◌*ℤ◌};
 ghost use Rattle.jr_idct.specs.Matrix.{at, weight, row_sum, transposed, IsWithin};
 ghost use Rattle.jr_idct.specs.Transform.{zigzag_place, product_at, sample, samples};
 
-use crate::number::{COLUMN_BITS, Number, ROW_BITS};
+use crate::number::{COLUMN_BITS, Number, ROW_BITS, clamped, descaled};
 
 /// The zigzag place of each natural index, `8 row + column`.
 static PLACES: [u8; 64] = [
@@ -80,7 +80,7 @@ fn plain_passes(table: &[i64; 64], bits: u32) -> [i64; 64]
 {
     let mut rows = [0; 64];
     for n in 0..64 {
-        rows[n] = plain_sum(table, n / 8, n % 8).descaled(bits);
+        rows[n] = descaled(plain_sum(table, n / 8, n % 8), bits);
     }
     rows
 }
@@ -100,7 +100,7 @@ pub fn matrix_transform(coefficients: &[i32; 64], quantisers: &[u16; 64]) -> [u8
     let values = plain_passes(&columns, ROW_BITS);
     let mut samples = [0; 64];
     for k in 0..64 {
-        samples[k] = values[k].clamped();
+        samples[k] = clamped(values[k]);
     }
     samples
 }

@@ -12,6 +12,8 @@ pub(crate) const COLUMN_BITS: u32 = 11;
 pub(crate) const ROW_BITS: u32 = 18;
 
 /// A signed number. What a pass makes of numbers within its reach is exact.
+///
+/// It is a trait, though one type has it, since a proof over any `Number` meets no step from bits to numbers and back.
 pub(crate) trait Number: Copy {
     // the whole number it stands for
     ghost value: { Self → ℤ };
@@ -33,18 +35,6 @@ pub(crate) trait Number: Copy {
     fn times(self, constant: i16) -> Self
         requires { IsInRoom reach (constant *ℤ value self) }
         ensures { value result ≡ constant *ℤ value self };
-
-    /// The number without its last bits, rounded; halves go up.
-    fn descaled(self, bits: u32) -> Self
-        requires positive { 0 < bits }
-        requires few { bits < 19 }
-        requires small { IsWithin (row_weight * reach) (value self) }
-        ensures { value result ≡ descale bits (value self) };
-
-    /// The sample of a value: the level shift of T.81, A.3.1, and the nearest number of eight bits.
-    fn clamped(self) -> u8
-        requires { IsInRoom reach (value self) }
-        ensures { result ≡ byte_of (value self +ℤ pos 128) };
 }
 
 impl Number for i64 {
@@ -66,14 +56,24 @@ impl Number for i64 {
     fn times(self, constant: i16) -> Self {
         constant as i64 * self
     }
+}
 
-    #[inline]
-    fn descaled(self, bits: u32) -> Self {
-        (self + (1_i64 << (bits - 1))) >> bits
-    }
+/// The number without its last bits, rounded; halves go up.
+#[inline]
+pub(crate) fn descaled(number: i64, bits: u32) -> i64
+    requires positive { 0 < bits }
+    requires few { bits < 19 }
+    requires small { IsWithin (row_weight * wide_reach) number }
+    ensures { result ≡ descale bits number }
+{
+    (number + (1_i64 << (bits - 1))) >> bits
+}
 
-    #[inline]
-    fn clamped(self) -> u8 {
-        (self + 128).clamp(0, 255) as u8
-    }
+/// The sample of a value: the level shift of T.81, A.3.1, and the nearest number of eight bits.
+#[inline]
+pub(crate) fn clamped(value: i64) -> u8
+    requires { IsInRoom wide_reach value }
+    ensures { result ≡ byte_of (value +ℤ pos 128) }
+{
+    (value + 128).clamp(0, 255) as u8
 }

@@ -160,7 +160,7 @@ fn values(x: Rows) -> Rows
 
 /// The nearest bytes to the rows of both blocks.
 #[inline(always)]
-fn samples_of(t: Rows) -> ([u8; 64], [u8; 64])
+fn bytes_of(t: Rows) -> ([u8; 64], [u8; 64])
     ensures first { (r c : ℕ) → r < 8 → c < 8 → slice_index result.0 (8 * r + c) ≡ byte_of (lane (t.0 ∷ t.1 ∷ t.2 ∷ t.3 ∷ t.4 ∷ t.5 ∷ t.6 ∷ t.7 ∷ []) r c) }
     ensures second { (r c : ℕ) → r < 8 → c < 8 → slice_index result.1 (8 * r + c) ≡ byte_of (lane (t.0 ∷ t.1 ∷ t.2 ∷ t.3 ∷ t.4 ∷ t.5 ∷ t.6 ∷ t.7 ∷ []) r (8 + c)) }
 {
@@ -189,5 +189,5 @@ pub(crate) fn pair_samples(
     let products_b = small_products(b, factors);
     let x = rows_of(&products_a, &products_b);
     let t = values(x);
-    samples_of(t)
+    bytes_of(t)
 }

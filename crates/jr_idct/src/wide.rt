@@ -5,7 +5,7 @@ ghost use Rattle.jr_idct.specs.Matrix.{at, descale, wide_reach, row_weight, tran
 ghost use Rattle.jr_idct.specs.Transform.{byte_of, sample_of};
 
 use crate::butterfly::{even_part, odd_part};
-use crate::number::{COLUMN_BITS, Number, ROW_BITS};
+use crate::number::{COLUMN_BITS, ROW_BITS, clamped, descaled};
 
 /// The sum and the difference of the two halves, each descaled.
 #[inline]
@@ -17,8 +17,8 @@ fn both_descaled(even: i64, odd: i64, bits: u32) -> (i64, i64)
     ensures sum { result.0 ≡ descale bits (even +ℤ odd) }
     ensures difference { result.1 ≡ descale bits (even -ℤ odd) }
 {
-    let sum = (even + odd).descaled(bits);
-    let difference = (even - odd).descaled(bits);
+    let sum = descaled(even + odd, bits);
+    let difference = descaled(even - odd, bits);
     (sum, difference)
 }
 
@@ -68,7 +68,7 @@ fn sample_rows(columns: &[i64; 64]) -> [u8; 64]
     for c in 0..8 {
         let row = column_pass(columns, c, ROW_BITS);
         for r in 0..8 {
-            rows[8 * c + r] = row[r].clamped();
+            rows[8 * c + r] = clamped(row[r]);
         }
     }
     rows

@@ -25,10 +25,10 @@ values-t-requires c k p h g =
 
 pub returns-clause-first : goal.returns-clause-first
 returns-clause-first c r k h g =
-    c.samples_of.ensures.first r k h g
+    c.bytes_of.ensures.first r k h g
     ∙ ap byte_of (c.values-t.ensures.first (λ n. at c.args.a.now n *ℤ pos (slice_index c.args.factors.now n)) (λ j i b d. c.rows_of-x.ensures.first j i b d ∙ c.small_products-products_a.ensures (8 * j + i) (omega (arith, b, d))) r k h g)
 
 pub returns-clause-second : goal.returns-clause-second
 returns-clause-second c r k h g =
-    c.samples_of.ensures.second r k h g
+    c.bytes_of.ensures.second r k h g
     ∙ ap byte_of (c.values-t.ensures.second (λ n. at c.args.b.now n *ℤ pos (slice_index c.args.factors.now n)) (λ j i b d. c.rows_of-x.ensures.second j i b d ∙ c.small_products-products_b.ensures (8 * j + i) (omega (arith, b, d))) r k h g)

@@ -3,7 +3,7 @@ use Rattle.std.proofs.lemmas.Int.{ints}
 use Rattle.jr_idct.specs.Matrix.{at}
 use Rattle.jr_idct.specs.Transform.{product_at}
 use Rattle.jr_idct.proofs.Whole.{sample_same, whole_from}
-use Rattle.jr_idct.proofs.block.samples_of.Goals as goal
+use Rattle.jr_idct.proofs.block.any_block.Goals as goal
 
 pub wide_samples-requires : goal.wide_samples-requires
 wide_samples-requires c = λ n b. let s = c.products.ensures.small n b in (omega (arith, ints, s.0), omega (arith, ints, s.1))

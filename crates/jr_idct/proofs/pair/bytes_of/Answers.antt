@@ -1,0 +1,28 @@
+use Rattle.std.proofs.Common.{rules, ◌≡◌, ℕ, ◌+◌, ◌*◌, ◌/◌, ◌%◌, ◌<◌, true, false, [], ◌∷◌, w16}
+use Rattle.std.specs.Prelude.{slice_index, slice_index_or}
+use Rattle.jr_idct.specs.Lanes.{lane}
+use Rattle.jr_idct.specs.Transform.{byte_of}
+use Rattle.jr_idct.proofs.Passes.{below_four}
+use Rattle.jr_idct.proofs.Rows.{sample_at}
+use Rattle.jr_idct.proofs.Vectors.{unchanged}
+use Rattle.jr_idct.proofs.pair.bytes_of.Goals as goal
+
+pub returns : goal.returns
+returns c =
+    let u0 = unchanged w16 16 c.args.t.0 _ c.well_formed.0.1.1.0 in
+    let u1 = unchanged w16 16 c.args.t.1 _ c.well_formed.0.1.1.1.0 in
+    let u2 = unchanged w16 16 c.args.t.2 _ c.well_formed.0.1.1.1.1.0 in
+    let u3 = unchanged w16 16 c.args.t.3 _ c.well_formed.0.1.1.1.1.1.0 in
+    let u4 = unchanged w16 16 c.args.t.4 _ c.well_formed.0.1.1.1.1.1.1.0 in
+    let u5 = unchanged w16 16 c.args.t.5 _ c.well_formed.0.1.1.1.1.1.1.1.0 in
+    let u6 = unchanged w16 16 c.args.t.6 _ c.well_formed.0.1.1.1.1.1.1.1.1.0 in
+    let u7 = unchanged w16 16 c.args.t.7 _ c.well_formed.0.1.1.1.1.1.1.1.1.1.0 in
+    let q0 : (q : ℕ) → q < 32 → slice_index c.two_rows-q0.result q ≡ byte_of (lane (c.args.t.0 ∷ c.args.t.1 ∷ []) (q / 8 % 2) (8 * (q / 16) + q % 8)) = λ q h. search (rules, (rw (u0, u1) at c.two_rows-q0.ensures) q h) in
+    let q1 : (q : ℕ) → q < 32 → slice_index c.two_rows-q1.result q ≡ byte_of (lane (c.args.t.2 ∷ c.args.t.3 ∷ []) (q / 8 % 2) (8 * (q / 16) + q % 8)) = λ q h. search (rules, (rw (u2, u3) at c.two_rows-q1.ensures) q h) in
+    let q2 : (q : ℕ) → q < 32 → slice_index c.two_rows-q2.result q ≡ byte_of (lane (c.args.t.4 ∷ c.args.t.5 ∷ []) (q / 8 % 2) (8 * (q / 16) + q % 8)) = λ q h. search (rules, (rw (u4, u5) at c.two_rows-q2.ensures) q h) in
+    let q3 : (q : ℕ) → q < 32 → slice_index c.two_rows-q3.result q ≡ byte_of (lane (c.args.t.6 ∷ c.args.t.7 ∷ []) (q / 8 % 2) (8 * (q / 16) + q % 8)) = λ q h. search (rules, (rw (u6, u7) at c.two_rows-q3.ensures) q h) in
+    let rows = below_four (λ m. (q : ℕ) → q < 32 → slice_index (slice_index_or (c.two_rows-q0.result ∷ c.two_rows-q1.result ∷ c.two_rows-q2.result ∷ c.two_rows-q3.result ∷ []) m []) q ≡ byte_of (lane (slice_index_or (c.args.t.0 ∷ c.args.t.1 ∷ c.args.t.2 ∷ c.args.t.3 ∷ c.args.t.4 ∷ c.args.t.5 ∷ c.args.t.6 ∷ c.args.t.7 ∷ []) (2 * m) [] ∷ slice_index_or (c.args.t.0 ∷ c.args.t.1 ∷ c.args.t.2 ∷ c.args.t.3 ∷ c.args.t.4 ∷ c.args.t.5 ∷ c.args.t.6 ∷ c.args.t.7 ∷ []) (2 * m + 1) [] ∷ []) (q / 8 % 2) (8 * (q / 16) + q % 8))) q0 q1 q2 q3 in
+    record {
+      first = sample_at false (c.two_rows-q0.result ∷ c.two_rows-q1.result ∷ c.two_rows-q2.result ∷ c.two_rows-q3.result ∷ []) c.args.t.0 c.args.t.1 c.args.t.2 c.args.t.3 c.args.t.4 c.args.t.5 c.args.t.6 c.args.t.7 rows c.gathered-first.result (λ k h. search (rules, c.gathered-first.ensures k h));
+      second = sample_at true (c.two_rows-q0.result ∷ c.two_rows-q1.result ∷ c.two_rows-q2.result ∷ c.two_rows-q3.result ∷ []) c.args.t.0 c.args.t.1 c.args.t.2 c.args.t.3 c.args.t.4 c.args.t.5 c.args.t.6 c.args.t.7 rows c.gathered-second.result (λ k h. search (rules, c.gathered-second.ensures k h));
+    }
