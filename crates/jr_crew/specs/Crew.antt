@@ -2,7 +2,7 @@
 use Rattle.std.specs.Prelude.{◌≡◌, ℕ, ◌*◌, ◌%◌, ◌<◌, ◌≤◌, List, length, take, slice_get, Option, Some, None}
 use Rattle.jr_head.specs.Geometry.{mcus_down, vertical_max}
 use Rattle.jr_paint.specs.Lines.{line_size}
-use Rattle.jr_rows.specs.PartValue.{FirstIntervalsValue}
+use Rattle.jr_rows.specs.FirstIntervalsValue.{FirstIntervalsValue}
 use Rattle.jr_crew.specs.CrewValue.{CodedRowValue, PaintedValue}
 use Rattle.jr_rows.specs.Rows.{AreRead, CountsRow, HasRowRoom, ShowsLines, line_count}
 use Rattle.jr_rows.specs.RowsValue.{RowValue, RowsValue}

@@ -31,7 +31,7 @@ pub(crate) struct Crew<'a, S: OneFirstIntervals> {
 
 impl<'a, S: OneFirstIntervals> Model for Crew<'a, S> {
     ghost use Rattle.std.specs.Prelude.{◌≡◌, Some};
-    ghost use Rattle.jr_rows.specs.PartValue.{FirstIntervalsValue};
+    ghost use Rattle.jr_rows.specs.FirstIntervalsValue.{FirstIntervalsValue};
 
     ghost Value = { FirstIntervalsValue };
 

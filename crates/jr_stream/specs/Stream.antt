@@ -12,7 +12,7 @@ use Rattle.jr_picture.specs.BoardValue.{BoardValue}
 use Rattle.jr_picture.specs.Boards.{marks_of}
 use Rattle.jr_picture.specs.Headline.{AreCounts, ShowsFirst}
 use Rattle.jr_picture.specs.Samples.{samples_of}
-use Rattle.jr_rows.specs.PartValue.{FirstIntervalsValue}
+use Rattle.jr_rows.specs.FirstIntervalsValue.{FirstIntervalsValue}
 use Rattle.jr_rows.specs.Rows.{HasFirst, CountsRows}
 use Rattle.jr_rows.specs.declared.marked.Marked.{Marked}
 

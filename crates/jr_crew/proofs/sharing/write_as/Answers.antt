@@ -1,7 +1,7 @@
 use Rattle.std.proofs.Common.{rules, subst, ◌≡◌, ℕ}
 use Rattle.jr_head.specs.Geometry.{IsLawful}
 use Rattle.jr_scan.specs.ScanValue.{ScanValue}
-use Rattle.jr_rows.specs.PartValue.{FirstIntervalsValue}
+use Rattle.jr_rows.specs.FirstIntervalsValue.{FirstIntervalsValue}
 use Rattle.jr_stream.specs.Stream.{SendsPicture, HasCounts}
 use Rattle.jr_stream.proofs.Sendings.{painted_picture, begun_picture}
 use Rattle.jr_crew.proofs.sharing.write_as.Goals as goal

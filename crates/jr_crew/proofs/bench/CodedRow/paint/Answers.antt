@@ -2,7 +2,7 @@ use Rattle.std.proofs.Common.{rules, arith, sym, subst, ap, ◌∙◌, ◌≡◌
 use Rattle.std.proofs.Math.Seq.{take-append_seam}
 use Rattle.jr_head.specs.Geometry.{vertical_max}
 use Rattle.jr_paint.specs.Lines.{line_size}
-use Rattle.jr_rows.specs.PartValue.{FirstIntervalsValue}
+use Rattle.jr_rows.specs.FirstIntervalsValue.{FirstIntervalsValue}
 use Rattle.jr_crew.specs.Crew.{HasRoom, HasWork, IsPainted, IsRead}
 use Rattle.jr_crew.proofs.bench.CodedRow.paint.Goals as goal
 
