@@ -2,11 +2,11 @@
 
 ghost use Rattle.std.specs.Prelude.{◌≡◌, ℕ, ◌+◌, ◌*◌, ◌%◌, ◌<◌, ◌≤◌, [], length, slice_index_or, None, IfOk};
 ghost use Rattle.jr_head.specs.Geometry.{blocks_of, mcus_across, mcus_down};
-ghost use Rattle.jr_paint.specs.Lines.{line_size, next_lines_of};
+ghost use Rattle.jr_paint.specs.Lines.{line_size};
 ghost use Rattle.jr_piece.specs.Outcome.{unit_of};
 ghost use Rattle.jr_picture.specs.BoardValue.{BoardValue};
-ghost use Rattle.jr_rows.specs.Bands.{ShowsMcus, samples_in, unit_shown_of};
-ghost use Rattle.jr_rows.specs.Rows.{AreInRange, HasFirst, HasRowRoom, AreRead, CountsRow, ShowsLines, line_count};
+ghost use Rattle.jr_rows.specs.Bands.{ShowsMcus, unit_shown_of};
+ghost use Rattle.jr_rows.specs.Rows.{HasFirst, HasRowRoom, AreRead, CountsRow, ShowsLines, line_count};
 
 use jr_base::Memory;
 use jr_block::Coefficients;
@@ -38,7 +38,6 @@ fn show(head: &Head, coded: usize, blocks: &[Coefficients], units: &mut [[u8; 64
     requires few { coded ≤ length units.old }
     requires whole { coded % blocks_of head.now ≡ 0 }
     requires room { length blocks.now ≡ length units.old }
-    requires in_range { AreInRange coded blocks.now }
     ensures decoded { (k : ℕ) → k < coded → slice_index_or units.new k [] ≡ unit_of head.now blocks.now k }
     ensures blank { (k : ℕ) → coded ≤ k → k < length units.new → slice_index_or units.new k [] ≡ unit_shown_of head.now (k % blocks_of head.now) None 0 }
 {

@@ -3,14 +3,11 @@ use Rattle.std.proofs.Common.{◌≡◌, ℕ, ◌+◌, ◌-◌, ◌*◌, ◌<◌
 use Rattle.std.specs.Prelude.{ℤ}
 use Rattle.std.proofs.lemmas.Bool.{cases_lt}
 use Rattle.std.proofs.lemmas.Int.{ints}
-use Rattle.std.proofs.lemmas.List.{get_or-append_right, get_or-replicate, get_or-take, get_or_default, get_or_past, length-take-le}
-use Rattle.std.proofs.lemmas.List.Elements.{All-from_get_or, All-get_or}
+use Rattle.std.proofs.lemmas.List.{get_or-append_right, get_or-take, get_or_default, get_or_past}
 use Rattle.std.proofs.Math.Nat.{le_of_mul-le-mul_right, mul-le-mul_right}
-use Rattle.std.specs.List.{All}
 use Rattle.jr_head.specs.HeadValue.{HeadValue}
 use Rattle.jr_head.specs.Geometry.{order_of, quantiser_of, IsLawful}
 use Rattle.jr_scan.specs.IntervalValue.{IntervalValue}
-use Rattle.jr_scan.specs.Block.{IsInRange}
 use Rattle.jr_scan.specs.Mcus.{component, Decodes, HasNoDecoding, Front, LongestFront}
 use Rattle.jr_scan.specs.Run.{RunOf, whole_run}
 use Rattle.jr_scan.specs.McuReader.{McuReaderValue, HasRead, HasEnded, HasReadOf, per_mcu}
@@ -55,24 +52,6 @@ tells p i zs b same o sound damaged = go p.is_sound b refl refl
     go false false e f = e ∙ sym f
     go true false e f = let s = o.sound e in absurd (damaged f s.blocks (subst (λ (v : IntervalValue). Decodes v s.blocks) same s.decodes))
     go false true e f = absurd ((o.damaged e).undecodable zs (subst (λ (v : IntervalValue). Decodes v zs) (sym same) (sound f)))
-
-zeros_in_range : IsInRange zero_block
-zeros_in_range =
-    let zero : (k : ℕ) → k < 64 → get_or zero_block k (pos 0) ≡ pos 0 = λ k lt. get_or-replicate 64 k (pos 0) (pos 0) lt in
-    let first = zero 0 (omega arith) in
-    record { count = omega arith; first = (omega (arith, ints, first), omega (arith, ints, first)); others = λ k some lt. let other = zero k lt in (omega (arith, ints, other), omega (arith, ints, other)) }
-
--- blocks of which the first ones are in range, and the others are zeros
-pub all_in_range : (old new : List (List ℤ)) (whole count : ℕ) → count ≤ length old → whole ≤ count → All IsInRange (take count old)
-    → ((k : ℕ) → k < whole → get_or new k [] ≡ get_or old k []) → ((k : ℕ) → whole ≤ k → k < length new → get_or new k [] ≡ zero_block) → All IsInRange new
-all_in_range old new whole count within few all kept zeros =
-    All-from_get_or IsInRange new [] (λ k lt. elim (cases_lt k whole) [
-      | inl l ↦
-          let read : k < count = omega (arith, l, few) in
-          let there : k < length (take count old) = omega (arith, read, length-take-le count old within) in
-          subst IsInRange (get_or-take count old k [] read ∙ sym (kept k l)) (All-get_or IsInRange (take count old) k [] there all)
-      | inr g ↦ subst IsInRange (sym (zeros k g lt)) zeros_in_range
-    ])
 
 -- the samples of a block of zeros
 abbrev pub ZerosAreGrey : Type 0
@@ -119,7 +98,6 @@ pub record RowRead (r r' : McuReaderValue) (left mcus n : ℕ) (row : List (List
   pub mcu : r'.mcu ≡ r.mcu + n
   pub fits : n * per_mcu r ≤ length row
   pub read : (zs : List (List ℤ)) → HasRead r zs → HasRead r' (zs ++ take (n * per_mcu r) row)
-  pub in_range : All IsInRange (take (n * per_mcu r) row)
   pub ended : (n + 1) * per_mcu r ≤ length row → HasEnded r'
   pub stays : HasEnded r → r' ≡ r
 
@@ -169,10 +147,6 @@ module _ (r r' : McuReaderValue) (left mcus n : ℕ) (units : List (List ℤ)) (
       sym (get_or-append_right row.kept.blocks (take (n * per) units) (length row.kept.blocks) (first * per + k) [] refl (omega (arith, long))
       ∙ ap (λ (m : ℕ). get_or (take (n * per) units) m []) there
       ∙ get_or-take (n * per) units k [] lt)
-
-  -- the blocks that a row leaves behind are in range, where those behind the whole MCUs are zeros
-  pub row_in_range : (us : List (List ℤ)) → ((k : ℕ) → k < n * per → get_or us k [] ≡ get_or units k []) → ((k : ℕ) → n * per ≤ k → k < length us → get_or us k [] ≡ zero_block) → All IsInRange us
-  row_in_range us kept zeros = all_in_range units us (n * per) (n * per) row.fits (omega arith) row.in_range kept zeros
 
   of_interval : HasReadOf r' r.run.interval blocks
   of_interval = (row.run ∙ row.kept.run, row.read row.kept.blocks row.kept.read)

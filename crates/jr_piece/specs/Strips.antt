@@ -8,7 +8,7 @@ use Rattle.jr_head.specs.Geometry.{order_of}
 use Rattle.jr_scan.specs.declared.place.Place.{Place}
 use Rattle.jr_scan.specs.declared.place.RunEnd.TheVariants.{AllRead}
 use Rattle.jr_scan.specs.IntervalValue.{IntervalValue}
-use Rattle.jr_scan.specs.Block.{IsInDcRange, IsInRange}
+use Rattle.jr_scan.specs.Block.{IsInDcRange}
 use Rattle.jr_scan.specs.Mcus.{HasDecoding, HasNoDecoding, Front, HasLongestFront, LongestFront}
 use Rattle.jr_scan.specs.Run.{RunOf, start_of_interval, run_from, HasNoMcu, IsRun}
 use Rattle.jr_piece.specs.PieceValue.{PieceValue}
@@ -31,10 +31,9 @@ pub record IsStrip (s : StripValue) : Type 0 where
   pub are : AreBlocks s.interval s.first s.mcus blocks
   pub samples : AreSamples s.interval.head blocks s.samples
 
--- a coded strip holds such blocks, in the ranges that the inverse transform asks for
-pub record HasItsBlocks (s : CodedStripValue) : Type 0 where
-  pub are : AreBlocks s.interval s.first s.mcus s.blocks
-  pub in_range : All IsInRange s.blocks
+-- a coded strip holds such blocks
+abbrev pub HasItsBlocks : CodedStripValue → Type 0
+HasItsBlocks s = AreBlocks s.interval s.first s.mcus s.blocks
 
 -- a piece shows the strip's MCUs, and at their data units the strip's samples
 pub record ShowsStrip (p : PieceValue) (s : StripValue) : Type 0 where

@@ -2,9 +2,7 @@
 
 ghost use Rattle.std.specs.Prelude.{◌≡◌, IfOk, slice_get};
 ghost use Rattle.std.specs.Option.{option_copied};
-ghost use Rattle.std.specs.List.{All};
 ghost use Rattle.std.specs.Arc.{arc_value};
-ghost use Rattle.jr_scan.specs.Block.{IsInRange};
 ghost use Rattle.jr_piece.specs.Outcome.{AreSamples};
 ghost use Rattle.jr_piece.specs.Strips.{HasItsBlocks, IsStrip};
 
@@ -61,7 +59,6 @@ impl Model for Strip {
 
 /// The samples of blocks that begin with an MCU.
 fn samples_of(alloc: Global, head: &Head, blocks: &[Coefficients]) -> Result<Vec<[u8; 64]>, Memory>
-    requires { All IsInRange blocks.now }
     ensures { IfOk result (λ v. AreSamples head.now blocks.now v.items) }
 {
     let mut samples = vec![in alloc; [0; 64]; blocks.len()]?;

@@ -1,10 +1,8 @@
 //! An interval, a strip at a time.
 
 ghost use Rattle.std.specs.Prelude.{◌≡◌, ◌≤◌, ◌<◌, ◌+◌, ℕ, ℤ, List, Option, None, Some, false, IsTrue, IfOk, IfErr, IfSome, IfNone, OnSome};
-ghost use Rattle.std.specs.List.{All};
 ghost use Rattle.std.specs.Arc.{arc_value};
 ghost use Rattle.jr_scan.specs.declared.place.RunEnd.TheVariants.{AllRead};
-ghost use Rattle.jr_scan.specs.Block.{IsInRange};
 ghost use Rattle.jr_scan.specs.Mcus.{Decodes, Front, HasNoDecoding, HasLongestFront};
 ghost use Rattle.jr_scan.specs.Run.{start_of_interval, IsRun, run_from};
 ghost use Rattle.jr_piece.specs.Strips.{CanReadFrom, FirstMcus};
@@ -47,7 +45,6 @@ fn read_run(
     requires { CanReadFrom interval.now from }
     ensures few { IfOk result (λ r. r.mcus ≤ mcus) }
     ensures run { IfOk result (λ r. FirstMcus (run_from interval.now from mcus) r.mcus r.blocks.items) }
-    ensures in_range { IfOk result (λ r. All IsInRange r.blocks.items) }
     ensures next { IfOk result (λ r. IfSome r.next (λ p. IsRun (run_from interval.now from r.mcus) r.blocks.items p AllRead)) }
     ensures can { IfOk result (λ r. IfSome r.next (CanReadFrom interval.now)) }
     ensures none { IfOk result (λ r. IfNone r.next (r.mcus < mcus)) }

@@ -1,9 +1,7 @@
 //! The samples of blocks, made apart from reading them.
 
 ghost use Rattle.std.specs.Prelude.{◌≡◌, ◌+◌, ◌<◌, ◌≤◌, ◌*◌, ℕ, [], length, slice_index_or};
-ghost use Rattle.std.specs.List.{All};
 ghost use Rattle.jr_head.specs.Geometry.{order_of};
-ghost use Rattle.jr_scan.specs.Block.{IsInRange};
 ghost use Rattle.jr_piece.specs.Outcome.{unit_of};
 
 use jr_block::Coefficients;
@@ -59,7 +57,6 @@ fn transform_some(head: &Head, blocks: &[Coefficients], units: &mut [[u8; 64]])
 ///
 /// A data unit has its samples at `8 row + column`. Any thread may transform what another one has read.
 pub fn transform_blocks(head: &Head, blocks: &[Coefficients], units: &mut [[u8; 64]])
-    requires in_range { All IsInRange blocks.now }
     requires room { length units.old ≡ length blocks.now }
     ensures { (k : ℕ) → k < length units.new → slice_index_or units.new k [] ≡ unit_of head.now blocks.now k }
 {

@@ -1,8 +1,6 @@
 //! The blocks of an interval, read in their order into slices.
 
 ghost use Rattle.std.specs.Prelude.{◌≡◌, ◌+◌, ◌*◌, ◌<◌, ◌≤◌, ℕ, [], length, slice_index_or};
-ghost use Rattle.std.specs.List.{All};
-ghost use Rattle.jr_scan.specs.Block.{IsInRange};
 ghost use Rattle.jr_piece.specs.Units.{zero_block};
 
 use jr_block::Coefficients;
@@ -87,7 +85,6 @@ impl<'a> UnitReader<'a> {
         requires room { length blocks.old ≡ mcus * length (order_of self.old.interval.head) }
         ensures interval { self.new.interval ≡ self.old.interval }
         ensures mcu { self.new.mcu ≡ self.old.mcu + mcus }
-        ensures in_range { All IsInRange blocks.new }
         ensures blocks { (p : PieceValue) → IsOutcome p → p.interval ≡ self.old.interval
             → CodesUnits p (units_before self.old.interval self.old.mcu) blocks.new }
     {

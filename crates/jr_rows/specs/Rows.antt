@@ -3,7 +3,6 @@ use Rattle.std.specs.Prelude.{◌≡◌, ℕ, ◌+◌, ◌-◌, ◌*◌, ◌/◌
 use Rattle.jr_head.specs.HeadValue.{HeadValue}
 use Rattle.jr_head.specs.Geometry.{blocks_of, mcus_across, mcus_down, mcus_of, vertical_max}
 use Rattle.jr_paint.specs.Lines.{next_lines_of}
-use Rattle.jr_scan.specs.Block.{IsInRange}
 use Rattle.jr_scan.specs.ScanValue.{ScanValue, intervals_of}
 use Rattle.jr_piece.specs.Outcome.{unit_of}
 use Rattle.jr_picture.specs.BoardValue.{BoardValue}
@@ -75,14 +74,9 @@ ShowsFirstUnits scan n from mcus units = (b : BoardValue) → HasFirst scan n b 
 abbrev pub mcus_at_once : HeadValue → ℕ
 mcus_at_once h = BLOCKS_AT_ONCE / blocks_of h
 
--- so many of the blocks, from the first on, are in the ranges that the inverse transform asks for
-abbrev pub AreInRange : ℕ → List (List ℤ) → Type 0
-AreInRange n blocks = (k : ℕ) → k < n → IsInRange (slice_index_or blocks k [])
-
 -- the blocks of a row's decoded MCUs are read
-pub record AreRead (scan : ScanValue) (n row : ℕ) (blocks : List (List ℤ)) : Type 0 where
-  pub in_range : AreInRange (coded_in scan.head n row * blocks_of scan.head) blocks
-  pub gives : GivesMcus scan n (coded_before scan.head n row) (coded_in scan.head n row) blocks
+abbrev pub AreRead : ScanValue → (n row : ℕ) → List (List ℤ) → Type 0
+AreRead scan n row blocks = GivesMcus scan n (coded_before scan.head n row) (coded_in scan.head n row) blocks
 
 -- the marks of the intervals that end in a row of MCUs
 abbrev pub CountsRow : ScanValue → (n row : ℕ) → Marked → Type 0

@@ -2,12 +2,11 @@
 
 ghost use Rattle.std.specs.Prelude.{◌≡◌, ℕ, ◌+◌, ◌-◌, ◌*◌, ◌<◌, ◌≤◌, [], length, slice_index_or};
 ghost use Rattle.jr_head.specs.Geometry.{blocks_of, mcus_across, mcus_down, mcus_of};
-ghost use Rattle.jr_scan.specs.Block.{IsInRange};
 ghost use Rattle.jr_scan.specs.ScanValue.{intervals_of, mcus_in};
 ghost use Rattle.jr_picture.specs.Headline.{interval_number, within_interval};
 ghost use Rattle.jr_picture.specs.BoardValue.{BoardValue};
 ghost use Rattle.jr_rows.specs.Bands.{ShowsMcus};
-ghost use Rattle.jr_rows.specs.Rows.{AreInRange, CountsMarks, CountsMcus, GivesBehind, GivesMcus, HasFirst, ShowsBehind, ShowsFirstUnits, AreRead, CountsRow, coded_before, intervals_before, mcus_at_once, mcus_before, mcus_read};
+ghost use Rattle.jr_rows.specs.Rows.{CountsMarks, CountsMcus, GivesBehind, GivesMcus, HasFirst, ShowsBehind, ShowsFirstUnits, AreRead, CountsRow, coded_before, intervals_before, mcus_at_once, mcus_before, mcus_read};
 ghost use Rattle.jr_rows.specs.MarkBytes.{HasMarkRoom, PutsMarks, PutsMcus, PutsRow};
 
 use crate::blank::fill_blank;
@@ -134,7 +133,6 @@ impl<'a> ScanMcus<'a> {
         ensures limit { self.new.limit ≡ self.old.limit }
         ensures moved { mcus_read self.new ≡ mcus_read self.old + result.0 }
         ensures kept { (k : ℕ) → k < done * blocks_of self.old.scan.head → slice_index_or blocks.new k [] ≡ slice_index_or blocks.old k [] }
-        ensures in_range { (k : ℕ) → k < result.0 * blocks_of self.old.scan.head → IsInRange (slice_index_or blocks.new (done * blocks_of self.old.scan.head + k) []) }
         ensures gives { GivesBehind self.old.scan self.old.limit (mcus_read self.old) (done * blocks_of self.old.scan.head) result.0 blocks.new }
         ensures counts { CountsMcus self.old.scan self.old.limit (mcus_read self.old) (mcus_read self.new) result.1 }
         ensures puts { PutsMcus self.old.scan self.old.limit (mcus_read self.old) (mcus_read self.new) marks.old marks.new }
@@ -155,7 +153,6 @@ impl<'a> ScanMcus<'a> {
         ensures scan { self.new.scan ≡ self.old.scan }
         ensures limit { self.new.limit ≡ self.old.limit }
         ensures moved { mcus_read self.new ≡ mcus_read self.old + mcus }
-        ensures in_range { AreInRange (mcus * blocks_of self.old.scan.head) blocks.new }
         ensures gives { GivesMcus self.old.scan self.old.limit (mcus_read self.old) mcus blocks.new }
         ensures counts { CountsMcus self.old.scan self.old.limit (mcus_read self.old) (mcus_read self.new) result }
         ensures puts { PutsMcus self.old.scan self.old.limit (mcus_read self.old) (mcus_read self.new) marks.old marks.new }

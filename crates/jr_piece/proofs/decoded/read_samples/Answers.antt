@@ -1,10 +1,8 @@
 use Rattle.std.proofs.Common.{◌≡◌, ◌*◌, ◌++◌, ℕ, List, length, take, drop, sym, ap, subst, ◌∙◌, arith, rules}
-use Rattle.std.specs.List.{All}
 use Rattle.std.proofs.lemmas.List.{append-nil}
 use Rattle.std.proofs.Math.Seq.{take-append_seam}
 use Rattle.jr_head.specs.HeadValue.{HeadValue}
 use Rattle.jr_head.specs.Geometry.{order_of}
-use Rattle.jr_scan.specs.Block.{IsInRange}
 use Rattle.jr_scan.specs.Run.{RunOf}
 use Rattle.jr_scan.specs.McuReader.{HasRead, per_mcu}
 use Rattle.jr_piece.specs.Outcome.{AreSamples, unit_of}
@@ -19,11 +17,6 @@ returns-then-count-eq0-clause-read c =
     let none : c.read.result * per_mcu c.mcus.reader ≡ 0 = ap (λ (k : ℕ). c.read.result * k) (sym order) ∙ c.if-count-eq0.true in
     let read = c.read.ensures.read zs before.1 in
     (zs, subst (HasRead c.read.new.self) (append-nil zs) (subst (λ (k : ℕ). HasRead c.read.new.self (zs ++ take k c.read.new.blocks)) none read), before.2)
-
-pub transform_blocks-requires-clause-in_range : goal.transform_blocks-requires-clause-in_range
-transform_blocks-requires-clause-in_range c =
-    let order : length c.order-per_mcu.result.now ≡ per_mcu c.mcus.reader = ap (λ (o : List ℕ). length o) (c.order-per_mcu.ensures.value ∙ ap order_of c.head-head.ensures.value) ∙ sym (ap (λ (r : RunOf). length (order_of r.interval.head)) c.mcus.invariant.run) in
-    subst (λ (k : ℕ). All IsInRange (take (c.read.result * k) c.read.new.blocks)) (sym order) c.read.ensures.in_range
 
 pub mcus-preserved : goal.mcus-preserved
 mcus-preserved c =

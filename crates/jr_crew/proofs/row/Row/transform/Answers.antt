@@ -32,4 +32,4 @@ returns-clause-units c =
     let units : length us ≡ mcus_across h * blocks_of h = search rules in
     let decoded = rw (coded, head, blocks) at c.show.ensures.decoded in
     let blank = rw (coded, head) at c.show.ensures.blank in
-    λ b first. subst (ShowsMcus b (row * mcus_across h)) (sym is) (row_shown t n row c.requires.row some us units (λ b first k lt. decoded k lt ∙ c.requires.read.gives b first k lt) blank b first)
+    λ b first. subst (ShowsMcus b (row * mcus_across h)) (sym is) (row_shown t n row c.requires.row some us units (λ b first k lt. decoded k lt ∙ c.requires.read b first k lt) blank b first)

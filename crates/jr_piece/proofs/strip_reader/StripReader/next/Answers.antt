@@ -35,7 +35,7 @@ of-requires c =
     let least : c.min-asked.result ≡ min c.args.most (c.mcus.result - c.self.inside.first) = search (rules, c.min-asked.ensures) in
     let few = room i c.deref-2.result.now c.self.inside.first r.mcus c.min-asked.result c.args.most c.mcus.result other c.in_ok-blocks.ensures.few least c.mcus.ensures c.self.invariant.front.at_most in
     let blocks = blocks c.one_run.ensures c.runs_meet.ensures c.shorter_front.ensures i lawful c.self.inside.first c.self.invariant.blocks c.in-Some.from (c.self.invariant.next c.in-Some.from c.in-Some.is) r.mcus c.min-asked.result r.blocks.items was few in
-    subst (λ (v : IntervalValue). HasItsBlocks (record { interval = v; first = c.self.inside.first; mcus = r.mcus; blocks = r.blocks.items })) (sym own) (record { are = blocks; in_range = c.in_ok-blocks.ensures.in_range })
+    subst (λ (v : IntervalValue). HasItsBlocks (record { interval = v; first = c.self.inside.first; mcus = r.mcus; blocks = r.blocks.items })) (sym own) blocks
 
 pub invariant_of-self-2 : goal.invariant_of-self-2
 invariant_of-self-2 c =

@@ -11,7 +11,7 @@ use Rattle.jr_piece.specs.Outcome.{IsOutcome}
 use Rattle.jr_piece.specs.UnitReaderValue.{UnitReaderValue}
 use Rattle.jr_piece.specs.Strips.{units_before}
 use Rattle.jr_piece.specs.Units.{CodesUnits}
-use Rattle.jr_piece.proofs.UnitReading.{RowRead, after, row_codes, row_in_range}
+use Rattle.jr_piece.proofs.UnitReading.{RowRead, after, row_codes}
 use Rattle.jr_piece.proofs.unit_reader.UnitReader.read.Goals as goal
 
 abbrev Codes : List (List ℤ) → UnitReaderValue → Type 0
@@ -37,7 +37,6 @@ row c =
       mcu = c.read-whole.ensures.mcus;
       fits = c.read-whole.ensures.fits;
       read = c.read-whole.ensures.read;
-      in_range = c.read-whole.ensures.in_range;
       ended = c.read-whole.ensures.ended;
       stays = c.read-whole.ensures.stays;
     }
@@ -47,11 +46,6 @@ whole c = ap (λ (n : ℕ). c.read-whole.result * n) (per_is c)
 
 pub invariant_of-self : goal.invariant_of-self
 invariant_of-self c = after c.self.inside.reader c.read-whole.new.self c.self.inside.left c.args.mcus c.read-whole.result c.read-whole.new.blocks (row c)
-
-pub returns-clause-in_range : goal.returns-clause-in_range
-returns-clause-in_range c =
-    row_in_range c.self.inside.reader c.read-whole.new.self c.self.inside.left c.args.mcus c.read-whole.result c.read-whole.new.blocks (row c) c.zero_from.new.blocks (λ k lt. c.zero_from.ensures.kept k (omega (arith, lt, whole c)))
-    (λ k le lt. c.zero_from.ensures.zeros k (omega (arith, le, whole c)) lt)
 
 pub returns-clause-blocks : goal.returns-clause-blocks
 returns-clause-blocks c =

@@ -1,18 +1,10 @@
 use Rattle.std.proofs.Common.{rules, arith, sym, subst, ap, ◌∙◌, ◌≡◌, ℕ, ◌+◌, ◌-◌, ◌*◌, ◌<◌, ◌≤◌, [], length, slice_index_or}
 use borrow.Rule.Slice.PartMut.{put_mid}
-use Rattle.std.proofs.lemmas.List.{get_or_default}
 use Rattle.jr_head.specs.HeadValue.{HeadValue}
 use Rattle.jr_head.specs.Geometry.{blocks_of}
-use Rattle.jr_scan.specs.Block.{IsInRange}
 use Rattle.jr_piece.specs.Outcome.{unit_of}
 use Rattle.jr_piece.proofs.Parts.{put_there}
 use Rattle.jr_rows.proofs.rows.ScanMcus.decode_some.Goals as goal
-
-pub transform_blocks-requires-clause-in_range : goal.transform_blocks-requires-clause-in_range
-transform_blocks-requires-clause-in_range c k d lt =
-    let blocks = c.read-marked.new.blocks in
-    let long : length blocks ≡ c.args.some * blocks_of c.args.self.now.scan.head = search (rules, arith) in
-    subst IsInRange (get_or_default blocks k [] d lt) (c.read-marked.ensures.in_range k (omega (arith, lt, long)))
 
 pub returns-clause-shows : goal.returns-clause-shows
 returns-clause-shows c b first k lt =

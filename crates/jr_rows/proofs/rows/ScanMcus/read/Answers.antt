@@ -1,9 +1,6 @@
 use Rattle.std.proofs.Common.{rules, arith, sym, subst, ap, ◌∙◌, ◌≡◌, ℕ, ◌+◌, ◌-◌, ◌*◌, ◌<◌, ◌^◌, inl, inr, [], slice_index_or}
-use Rattle.std.proofs.lemmas.Bool.{cases_lt}
-use Rattle.std.proofs.Math.Nat.{add-mul}
 use Rattle.jr_head.specs.Geometry.{quantiser_of, blocks_of}
 use Rattle.jr_idct.specs.Transform.{samples}
-use Rattle.jr_scan.specs.Block.{IsInRange}
 use Rattle.jr_scan.specs.Mcus.{component}
 use Rattle.jr_scan.specs.ScanValue.{ScanValue, intervals_of}
 use Rattle.jr_piece.specs.Outcome.{unit_of}
@@ -44,8 +41,6 @@ intervals-preserved c =
     let gives = subst (λ (k : ℕ). GivesBehind old.scan k (mcus_read at) (done * n) mcus new) keep.limit give in
     let gave = subst (λ (k : ℕ). GivesBehind old.scan old.limit k (done * n) mcus new) keep.read gives in
     let kept : (k : ℕ) → k < done * n → slice_index_or new k [] ≡ slice_index_or blocks k [] = subst (λ (t : ScanValue). (k : ℕ) → k < done * blocks_of t.head → slice_index_or new k [] ≡ slice_index_or blocks k []) keep.scan some.ensures.kept in
-    let ranged : (k : ℕ) → k < mcus * n → IsInRange (slice_index_or new (done * n + k) []) =
-    subst (λ (t : ScanValue). (k : ℕ) → k < mcus * blocks_of t.head → IsInRange (slice_index_or new (done * blocks_of t.head + k) [])) keep.scan some.ensures.in_range in
     let positive : 0 < n = search (rules, arith) in
     let bytes = c.intervals.marks in
     let put = subst (λ (t : ScanValue). PutsMcus t at.limit (mcus_read at) (mcus_read some.new.self) bytes some.new.marks) keep.scan some.ensures.puts in
@@ -56,22 +51,9 @@ intervals-preserved c =
       scan = some.ensures.scan ∙ keep.scan;
       limit = some.ensures.limit ∙ keep.limit;
       read = omega (arith, some.ensures.moved, keep.read);
-      in_range = λ k lt. elim (cases_lt k (done * n)) [
-        | inl l ↦ subst IsInRange (sym (kept k l)) (keep.in_range k l)
-        | inr r ↦
-            let j = k - done * n in
-            let near : j < mcus * n = omega (arith, r, lt, add-mul done mcus n) in
-            let there : done * n + j ≡ k = omega (arith, r) in
-            subst (λ (m : ℕ). IsInRange (slice_index_or new m [])) there (ranged j near)
-      ];
       gives = λ b first. shown_more n done mcus (mcus_read old) (unit_shown b) (unit_of h blocks) (unit_of h new) positive (keep.gives b first)
           (λ k l. ap (λ z. samples z (quantiser_of h (component h k))) (kept k l)) (gave b first);
       counts = counts_both old.scan old.limit _ _ _ c.intervals.marked some.result.1 c.with-marked.result keep.counts more c.with-marked.ensures.sound c.with-marked.ensures.damaged;
       places = λ there. puts.long ∙ keep.places (omega (arith, there, puts.long));
       puts = puts_both old.scan old.limit _ _ _ c.args.marks.now bytes some.new.marks (omega (arith, keep.counts.few)) keep.puts puts;
     }
-
-pub returns-clause-in_range : goal.returns-clause-in_range
-returns-clause-in_range c k lt =
-    let all : c.intervals.done ≡ c.args.mcus = search (rules, arith) in
-    c.intervals.invariant.in_range k (rw all lt)

@@ -1,7 +1,6 @@
 use Rattle.std.proofs.Common.{◌≡◌, ◌+◌, ◌-◌, ◌*◌, ◌≤◌, length}
-use Rattle.jr_head.specs.Geometry.{blocks_of}
 use Rattle.jr_rows.specs.MarkBytes.{HasMarkRoom, PutsMcus}
-use Rattle.jr_rows.specs.Rows.{AreInRange, CountsMcus, GivesMcus, mcus_read}
+use Rattle.jr_rows.specs.Rows.{CountsMcus, GivesMcus, mcus_read}
 use Rattle.jr_rows.proofs.rows.ScanMcus.read.Given as goal
 
 abbrev pub invariant-intervals : goal.invariant-intervals
@@ -11,7 +10,6 @@ invariant-intervals l = record {
   scan : l.self.scan ≡ l.initial.self.scan;
   limit : l.self.limit ≡ l.initial.self.limit;
   read : mcus_read l.self ≡ mcus_read l.initial.self + l.done;
-  in_range : AreInRange (l.done * blocks_of l.initial.self.scan.head) l.blocks;
   gives : GivesMcus l.initial.self.scan l.initial.self.limit (mcus_read l.initial.self) l.done l.blocks;
   counts : CountsMcus l.initial.self.scan l.initial.self.limit (mcus_read l.initial.self) (mcus_read l.self) l.marked;
   places : HasMarkRoom l.initial.self.scan l.marks;

@@ -1,7 +1,6 @@
 use Rattle.std.proofs.Common.{rules, arith, sym, subst, ap, ◌∙◌, ◌≡◌, ℕ, ◌+◌, ◌-◌, ◌*◌, ◌<◌, ◌≤◌, [], length, slice_index_or}
 use borrow.Rule.Slice.PartMut.{put_mid}
 use Rattle.jr_head.specs.Geometry.{blocks_of, mcus_of}
-use Rattle.jr_scan.specs.Block.{IsInRange}
 use Rattle.jr_scan.specs.IntervalValue.{IntervalValue}
 use Rattle.jr_scan.specs.ScanValue.{ScanValue, intervals_of, interval_of, mcus_in}
 use Rattle.jr_piece.specs.PieceValue.{PieceValue}
@@ -30,15 +29,6 @@ marked-requires-clause-decoded c =
     let some : 0 < c.min-some.result = search (rules, arith) in
     let decoded = of_first r.scan.head r.limit r.number r.mcu c.min-some.result c.ready.ensures.number some few in
     search (rules, decoded)
-
-pub returns-clause-in_range : goal.returns-clause-in_range
-returns-clause-in_range c k lt =
-    let from : c.units_to-from.result ≡ c.args.done * blocks_of c.args.self.now.scan.head = search rules in
-    let long : length c.read.new.blocks ≡ c.min-some.result * blocks_of c.args.self.now.scan.head = search (rules, arith) in
-    let inside : c.units_to-from.result ≤ length c.args.blocks.now = search (rules, arith) in
-    let here : k < length c.read.new.blocks = rw long lt in
-    let at = put_there [] c.units_to-from.result (c.units_to-end.result - c.units_to-from.result) c.args.blocks.now c.read.new.blocks inside k here in
-    subst IsInRange (sym at ∙ ap (λ (n : ℕ). slice_index_or (put_mid c.units_to-from.result (c.units_to-end.result - c.units_to-from.result) c.args.blocks.now c.read.new.blocks) (n + k) []) from) (c.read.ensures.in_range k [] here)
 
 pub returns-clause-gives : goal.returns-clause-gives
 returns-clause-gives c =
