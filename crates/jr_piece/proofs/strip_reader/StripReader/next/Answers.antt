@@ -35,7 +35,9 @@ of-requires c =
     let least : c.min-asked.result ≡ min c.args.most (c.mcus.result - c.self.inside.first) = search (rules, c.min-asked.ensures) in
     let few = room i c.deref-2.result.now c.self.inside.first r.mcus c.min-asked.result c.args.most c.mcus.result other c.in_ok-blocks.ensures.few least c.mcus.ensures c.self.invariant.front.at_most in
     let blocks = blocks c.one_run.ensures c.runs_meet.ensures c.shorter_front.ensures i lawful c.self.inside.first c.self.invariant.blocks c.in-Some.from (c.self.invariant.next c.in-Some.from c.in-Some.is) r.mcus c.min-asked.result r.blocks.items was few in
-    subst (λ (v : IntervalValue). HasItsBlocks (record { interval = v; first = c.self.inside.first; mcus = r.mcus; blocks = r.blocks.items })) (sym own) blocks
+    let coded =
+    subst (λ (v : IntervalValue). HasItsBlocks (record { interval = v; first = c.self.inside.first; mcus = r.mcus; blocks = r.blocks.items })) (sym own) blocks in
+    search coded
 
 pub invariant_of-self-2 : goal.invariant_of-self-2
 invariant_of-self-2 c =
@@ -96,3 +98,9 @@ returns-clause-within c =
     let least : c.min-asked.result ≡ min c.args.most (c.mcus.result - c.self.inside.first) = search (rules, c.min-asked.ensures) in
     let told = room i c.deref-2.result.now c.self.inside.first c.in_ok-blocks.field-0.mcus c.min-asked.result c.args.most c.mcus.result other c.in_ok-blocks.ensures.few least c.mcus.ensures c.self.invariant.front.at_most in
     subst (λ (v : ReadingValue). c.self.inside.first + c.in_ok-blocks.field-0.mcus ≤ v.interval.mcus) c.self.view_is told
+
+pub returns-clause-first : goal.returns-clause-first
+returns-clause-first c = search (ap (λ (s : CodedValue). s.first) c.of.ensures, ap (λ (r : ReadingValue). r.first) c.self.view_is)
+
+pub returns-clause-on : goal.returns-clause-on
+returns-clause-on c = omega (arith, ap (λ (s : CodedValue). s.first) c.of.ensures, ap (λ (s : CodedValue). s.mcus) c.of.ensures)

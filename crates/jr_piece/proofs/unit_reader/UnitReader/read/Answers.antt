@@ -53,3 +53,6 @@ returns-clause-blocks c =
     subst (Codes c.zero_from.new.blocks) c.self.view_is
     (row_codes c.self.inside.reader c.read-whole.new.self c.self.inside.left c.args.mcus c.read-whole.result c.read-whole.new.blocks (row c) c.zeros_are_grey.ensures (one_front one_word) front_less c.zero_from.new.blocks long
     (λ k lt. c.zero_from.ensures.kept k (omega (arith, lt, whole c))) (λ k le lt. c.zero_from.ensures.zeros k (omega (arith, le, whole c)) lt))
+
+pub returns-clause-mcu : goal.returns-clause-mcu
+returns-clause-mcu c = search rules
