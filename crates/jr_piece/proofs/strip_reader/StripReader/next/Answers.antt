@@ -100,7 +100,7 @@ returns-clause-within c =
     subst (λ (v : ReadingValue). c.self.inside.first + c.in_ok-blocks.field-0.mcus ≤ v.interval.mcus) c.self.view_is told
 
 pub returns-clause-first : goal.returns-clause-first
-returns-clause-first c = search (ap (λ (s : CodedValue). s.first) c.of.ensures, ap (λ (r : ReadingValue). r.first) c.self.view_is)
+returns-clause-first c = search (ap (λ (s : CodedStripValue). s.first) c.of.ensures, ap (λ (r : ReadingValue). r.first) c.self.view_is)
 
 pub returns-clause-on : goal.returns-clause-on
-returns-clause-on c = omega (arith, ap (λ (s : CodedValue). s.first) c.of.ensures, ap (λ (s : CodedValue). s.mcus) c.of.ensures)
+returns-clause-on c = omega (arith, ap (λ (s : CodedStripValue). s.first) c.of.ensures, ap (λ (s : CodedStripValue). s.mcus) c.of.ensures)
