@@ -1,6 +1,8 @@
 //! One decoding by several workers: what they share, and what is left to do when they have ended.
 
-ghost use Rattle.std.specs.Prelude.{◌≡◌, ◌<◌, ◌≤◌, ◌++◌, ℕ, List, length, true, All, Some, IfOk, IfSome};
+ghost use Rattle.std.specs.Prelude.{◌≡◌, ◌<◌, ◌≤◌, ◌++◌, ℕ, List, length, map, true, All, Some, IfOk, IfSome};
+ghost use Rattle.jr_desk.specs.Values.{fresh};
+ghost use Rattle.std.specs.List.{range_with_len};
 ghost use Rattle.std.specs.Option.{option_copied};
 ghost use Rattle.std.specs.Arc.{arc_value};
 ghost use Rattle.std.specs.Fn.{FnOnceReturnsAt};
@@ -69,6 +71,7 @@ impl Decoding {
         ensures cells { IfOk result (λ r. length r.0.cells ≡ r.0.desk.limit) }
         ensures seats { IfOk result (λ r. length r.1.items ≡ workers) }
         ensures each { IfOk result (λ r. All (λ s. s.desk ≡ r.0.desk) r.1.items) }
+        ensures fresh { IfOk result (λ r. r.1.items ≡ map (fresh r.0.desk) (range_with_len 0 workers)) }
     {
         let all = scan.intervals();
         let limit = match first {

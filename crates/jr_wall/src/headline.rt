@@ -1,5 +1,8 @@
 //! The headline: what every board shows, whenever somebody looks.
 
+ghost use Rattle.std.specs.Prelude.{ℕ, List};
+ghost use Rattle.jr_scan.specs.ScanValue.{IsSameScan, ScanValue};
+ghost use Rattle.jr_picture.specs.declared.mark.Mark.{Mark};
 ghost use Rattle.jr_picture.specs.Boards.{marks_of};
 ghost use Rattle.jr_picture.specs.Headline.{IsPicture, AreCounts};
 ghost use Rattle.jr_picture.specs.Samples.{samples_of};
@@ -25,3 +28,9 @@ impl Board {
         }
     }
 }
+
+/// A picture of a scan is one of each scan with the same head and intervals: so the board that `decode_all` makes of a scan
+/// has the picture of that very scan.
+pub fn same_scan_has_the_picture()
+    ensures { (s t : ScanValue) (marks : List Mark) (f : ℕ → ℕ → ℕ → ℕ) → IsSameScan s t → IsPicture s marks f → IsPicture t marks f }
+{}

@@ -17,6 +17,7 @@ mod workers;
 pub use board::{Board, Unposted};
 pub use decoding::Decoding;
 pub use glimpse::{Glimpse, glance};
+pub use headline::same_scan_has_the_picture;
 pub use jr_cells::{Cells, Sight, StripCells, StripSight};
 pub use jr_desk::{Desk, Drawn, Seat};
 pub use jr_picture::{Counts, Gate, Mark, OpenGate, blank_sample, one_picture};

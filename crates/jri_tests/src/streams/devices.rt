@@ -124,3 +124,18 @@ fn writes_large_pictures_by_larger_calls(rt: HostRuntime) -> Result<(), Fail> {
     check(&rt, &colour("F3:0041:0201:22", 33, 165, 6), 1, 73_728)?;
     check(&rt, &colour("F3:0041:0201:22", 33, 165, 6), 3, 73_728)
 }
+
+/// A picture of 33 rows of MCUs and 98 KB takes few writes: a write has the lines of many rows.
+#[test]
+fn writes_many_rows_by_a_call(rt: HostRuntime) -> Result<(), Fail> {
+    let bytes = made_file(rt.alloc(), &colour("F3:0041:0201:22", 33, 165, 6), 5)?;
+    for workers in 1..=3 {
+        let (fault, all) = written(&rt, bytes.as_slice(), workers, 100_000, 0);
+        assert!(rt;
+            fault.is_none() && all.calls <= 4,
+            "{workers} workers, {} calls",
+            all.calls
+        );
+    }
+    Ok(())
+}
