@@ -1,7 +1,10 @@
-pub mod UnitRows
 pub mod IntervalPlaces
 pub mod UnitComponents
-pub mod RowLines
+pub mod GroupNumbers
+pub mod GroupLists
+pub mod GroupSamples
+pub mod BandLines
+pub mod PictureLines
 pub mod FirstBoards
 pub mod ReadRows
 pub mod PutMarks

@@ -1,8 +1,7 @@
 -- What a row of MCUs shows, of which the first ones are decoded and the others blank.
-use Rattle.std.proofs.Common.{◌≡◌, ℕ, ◌+◌, ◌-◌, ◌*◌, ◌/◌, ◌%◌, ◌<◌, ◌≤◌, ◌++◌, inl, inr, None, List, [], length, length-append, replicate, slice_index_or, sym, ap, subst, ◌∙◌, arith}
+use Rattle.std.proofs.Common.{◌≡◌, ℕ, ◌+◌, ◌*◌, ◌/◌, ◌%◌, ◌<◌, ◌≤◌, inl, inr, None, List, [], length, replicate, slice_index_or, sym, ap, subst, ◌∙◌, arith}
 use Rattle.std.proofs.lemmas.Bool.{cases_lt}
-use Rattle.std.proofs.lemmas.List.{get_or-append_right}
-use Rattle.std.proofs.Math.Nat.{add-mul, mod-eq_of_lt, mul-add-mod_self_right, mul-le-mul_right, div-lt_iff_lt-mul}
+use Rattle.std.proofs.Math.Nat.{add-mul, mod-eq_of_lt, mul-le-mul_right, div-lt_iff_lt-mul}
 use Rattle.jr_head.specs.HeadValue.{HeadValue}
 use Rattle.jr_head.specs.Geometry.{order_of, blocks_of, mcus_across, mcus_down, mcus_of}
 use Rattle.jr_head.proofs.SamplingLaws.{length-order}
@@ -21,17 +20,6 @@ pub black : (h : HeadValue) (j : ℕ) → j < blocks_of h → replicate 64 (blan
 black h j lt =
     let few : j < length (order_of h) = omega (arith, lt, length-order 0 h.components) in
     ap (λ n. replicate 64 (blank_of h.kind (slice_index_or (order_of h) n 0))) (sym (mod-eq_of_lt few))
-
--- the data units of blank MCUs behind those of so many others
-pub blank_behind : (h : HeadValue) (coded : ℕ) (us bs : List (List ℕ)) → length us ≡ coded * blocks_of h → ((k : ℕ) → k < length bs → slice_index_or bs k [] ≡ unit_shown_of h (k % blocks_of h) None 0)
-    → (k : ℕ) → coded * blocks_of h ≤ k → k < length (us ++ bs) → slice_index_or (us ++ bs) k [] ≡ unit_shown_of h (k % blocks_of h) None 0
-blank_behind h coded us bs long blank k le lt =
-    let n = blocks_of h in
-    let j = k - coded * n in
-    let here : j < length bs = omega (arith, le, lt, long, length-append us bs) in
-    let whole : coded * n + j ≡ k = omega (arith, le) in
-    let part : j % n ≡ k % n = sym (mul-add-mod_self_right coded n j) ∙ ap (λ (m : ℕ). m % n) whole in
-    get_or-append_right us bs (coded * n) k [] long le ∙ blank j here ∙ ap (λ (m : ℕ). unit_shown_of h m None 0) part
 
 -- a row of MCUs of a scan, of which the first n intervals are decoded
 module _ (scan : ScanValue) (n row : ℕ) (below : row < mcus_down scan.head) (some : 0 < blocks_of scan.head) where

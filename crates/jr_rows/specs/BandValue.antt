@@ -1,7 +1,7 @@
--- What contracts see of a band: the head of a file, and the samples of the data units of one row of its MCUs.
+-- What contracts see of a band: the head of a file, and the lines of one row of its MCUs.
 use Rattle.std.specs.Prelude.{ℕ, List}
 use Rattle.jr_head.specs.HeadValue.{HeadValue}
 
 pub record BandValue : Type 0 where
   pub head : HeadValue
-  pub units : List (List ℕ)
+  pub groups : List (List ℕ)

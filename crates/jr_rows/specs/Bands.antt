@@ -1,8 +1,7 @@
 -- A row of MCUs, by the samples of its data units (T.81, A.2.3).
 use Rattle.std.specs.Prelude.{◌≡◌, ℕ, ◌+◌, ◌*◌, ◌/◌, ◌%◌, ◌<◌, List, [], length, replicate, slice_index, slice_index_or, Option, Some, None}
 use Rattle.jr_head.specs.HeadValue.{HeadValue}
-use Rattle.jr_head.specs.Geometry.{horizontal_of, vertical_of, blocks_of}
-use Rattle.jr_paint.specs.Geometry.{place_of, spot_at}
+use Rattle.jr_head.specs.Geometry.{vertical_of, blocks_of}
 use Rattle.jr_scan.specs.Mcus.{component}
 use Rattle.jr_piece.specs.PieceValue.{PieceValue}
 use Rattle.jr_piece.specs.Units.{unit_in_piece}
@@ -10,22 +9,16 @@ use Rattle.jr_picture.specs.BoardValue.{BoardValue}
 use Rattle.jr_picture.specs.Boards.{piece_at}
 use Rattle.jr_picture.specs.Headline.{blank_of, interval_number, within_interval}
 use Rattle.jr_rows.specs.BandValue.{BandValue}
+use Rattle.jr_rows.specs.Groups.{groups_across, lines_before}
 
--- the sample at a place of data unit n
-abbrev pub sample_in_units : List (List ℕ) → ℕ → ℕ → ℕ
-sample_in_units units n place = slice_index (slice_index_or units n []) place
+-- sample n of groups of eight
+abbrev pub sample_in_groups : List (List ℕ) → ℕ → ℕ
+sample_in_groups groups n = slice_index (slice_index_or groups (n / 8) []) (n % 8)
 
--- the sample in column x of a row of samples, from the data unit and the row of column 0, where an MCU has `across` of
--- the component's data units in a row, and `per_mcu` of all
-abbrev pub sample_in_row : List (List ℕ) → (per_mcu across first row x : ℕ) → ℕ
-sample_in_row units per_mcu across first row x =
-    sample_in_units units (first + x / 8 / across * per_mcu + x / 8 % across) (8 * row + x % 8)
-
--- the picture of which each row of MCUs has these data units
+-- the picture of which each row of MCUs has these lines
 unfoldable pub samples_in : BandValue → ℕ → ℕ → ℕ → ℕ
 samples_in b c x y =
-    let s = spot_at b.head c (place_of (horizontal_of b.head c) (vertical_of b.head c) 0 y) in
-    sample_in_row b.units (blocks_of b.head) (horizontal_of b.head c) s.block s.row x
+    sample_in_groups b.groups (8 * ((lines_before b.head c + y % (8 * vertical_of b.head c)) * groups_across b.head) + x)
 
 -- data unit j of an MCU, n of its interval, whose piece is posted or not
 abbrev pub unit_shown_of : HeadValue → ℕ → Option PieceValue → ℕ → List ℕ

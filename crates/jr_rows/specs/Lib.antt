@@ -1,6 +1,9 @@
+pub mod Groups
 pub mod BandValue
 pub mod Bands
 pub mod FirstIntervalsValue
+pub mod RowLinesValue
+pub mod RowLines
 pub mod RowsValue
 pub mod Rows
 pub mod MarkBytes

@@ -10,9 +10,9 @@ use Rattle.jr_picture.specs.Boards.{IsLawfulBoard, marks_of}
 use Rattle.jr_picture.specs.Headline.{AreFirst, is_sound, is_damaged, interval_number}
 use Rattle.jr_picture.specs.Samples.{samples_of}
 use Rattle.jr_rows.specs.Bands.{unit_shown}
+use Rattle.jr_rows.specs.RowLines.{HasLines, mcus_at_once}
 use Rattle.jr_rows.specs.RowsValue.{ScanMcusValue, RowValue}
 use Rattle.jr_rows.specs.declared.marked.Marked.{Marked}
-use Rattle.jr_rows.specs.declared.shape.TheConstants.{BLOCKS_AT_ONCE}
 
 -- the board of the scan on which the first n intervals are marked, and no other
 pub record HasFirst (scan : ScanValue) (n : ℕ) (b : BoardValue) : Type 0 where
@@ -70,10 +70,6 @@ abbrev pub ShowsFirstUnits : ScanValue → (n from mcus : ℕ) → List (List �
 ShowsFirstUnits scan n from mcus units = (b : BoardValue) → HasFirst scan n b → (k : ℕ) → k < mcus * blocks_of scan.head
     → slice_index_or units k [] ≡ unit_shown b (from + k / blocks_of scan.head) (k % blocks_of scan.head)
 
--- how many MCUs are read before they are transformed
-abbrev pub mcus_at_once : HeadValue → ℕ
-mcus_at_once h = BLOCKS_AT_ONCE / blocks_of h
-
 -- the blocks of a row's decoded MCUs are read
 abbrev pub AreRead : ScanValue → (n row : ℕ) → List (List ℤ) → Type 0
 AreRead scan n row blocks = GivesMcus scan n (coded_before scan.head n row) (coded_in scan.head n row) blocks
@@ -86,15 +82,15 @@ CountsRow scan n row m = CountsMcus scan n (coded_before scan.head n row) (coded
 abbrev pub CountsRows : ScanValue → (n : ℕ) → Marked → Type 0
 CountsRows scan n m = CountsMcus scan n (coded_before scan.head n 0) (coded_before scan.head n (mcus_down scan.head)) m
 
--- there is room for the data units of a row of MCUs
+-- there is room for the blocks and the samples of a row of MCUs
 pub record HasRowRoom (h : HeadValue) (r : RowValue) : Type 0 where
   pub blocks : length r.blocks ≡ mcus_across h * blocks_of h
-  pub units : length r.units ≡ mcus_across h * blocks_of h
+  pub lines : HasLines h r.lines
 
 -- there is room for the samples of a row of MCUs, and for the blocks of those that are read at once
 pub record HasSampleRoom (h : HeadValue) (r : RowValue) : Type 0 where
   pub blocks : length r.blocks ≡ mcus_at_once h * blocks_of h
-  pub units : length r.units ≡ mcus_across h * blocks_of h
+  pub lines : HasLines h r.lines
 
 -- the first line of pixels of a row of MCUs, and how many it has
 abbrev pub first_line : HeadValue → ℕ → ℕ

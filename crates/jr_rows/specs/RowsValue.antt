@@ -1,6 +1,7 @@
 -- What contracts see of the MCUs of a scan, as far as they are read, and of its rows of MCUs.
 use Rattle.std.specs.Prelude.{ℕ, List, ℤ}
 use Rattle.jr_scan.specs.ScanValue.{ScanValue}
+use Rattle.jr_rows.specs.RowLinesValue.{RowLinesValue}
 
 -- a scan, of which the first `limit` intervals are decoded, and interval `number` is read as far as its MCU `mcu`
 pub record ScanMcusValue : Type 0 where
@@ -15,7 +16,7 @@ pub record RowsValue : Type 0 where
   pub limit : ℕ
   pub row : ℕ
 
--- the blocks and the samples of the data units of a row of MCUs, or of no one yet
+-- the blocks and the samples of a row of MCUs, or of no one yet
 pub record RowValue : Type 0 where
   pub blocks : List (List ℤ)
-  pub units : List (List ℕ)
+  pub lines : RowLinesValue

@@ -17,7 +17,7 @@ fn blank_unit(head: &Head, j: usize) -> [u8; 64]
 }
 
 /// Fills the data units of blank MCUs.
-pub fn fill_blank(head: &Head, units: &mut [[u8; 64]])
+pub(crate) fn fill_blank(head: &Head, units: &mut [[u8; 64]])
     ensures { (k : ℕ) → k < length units.new → slice_index_or units.new k [] ≡ unit_shown_of head.now (k % blocks_of head.now) None 0 }
 {
     let per_mcu = head.order().len();

@@ -7,14 +7,15 @@ mod first_intervals;
 mod mark_bytes;
 mod marked;
 mod painting;
+mod row_lines;
 mod rows;
 mod sample_row;
 mod shape;
 
-pub use blank::fill_blank;
 pub use first_intervals::FirstIntervals;
 pub use marked::Marked;
 pub use painting::paint_row;
+pub use row_lines::RowLines;
 pub use rows::Rows;
 pub use sample_row::SampleRow;
 pub use shape::{

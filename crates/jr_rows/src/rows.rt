@@ -6,17 +6,19 @@ ghost use Rattle.jr_scan.specs.ScanValue.{intervals_of, mcus_in};
 ghost use Rattle.jr_picture.specs.Headline.{interval_number, within_interval};
 ghost use Rattle.jr_picture.specs.BoardValue.{BoardValue};
 ghost use Rattle.jr_rows.specs.Bands.{ShowsMcus};
-ghost use Rattle.jr_rows.specs.Rows.{CountsMarks, CountsMcus, GivesBehind, GivesMcus, HasFirst, ShowsBehind, ShowsFirstUnits, AreRead, CountsRow, coded_before, intervals_before, mcus_at_once, mcus_before, mcus_read};
+ghost use Rattle.jr_rows.specs.Groups.{units_in};
+ghost use Rattle.jr_rows.specs.Rows.{CountsMarks, CountsMcus, GivesBehind, GivesMcus, HasFirst, ShowsBehind, ShowsFirstUnits, AreRead, CountsRow, coded_before, intervals_before, mcus_before, mcus_read};
+ghost use Rattle.jr_rows.specs.RowLines.{HasLines, mcus_at_once};
 ghost use Rattle.jr_rows.specs.MarkBytes.{HasMarkRoom, PutsMarks, PutsMcus, PutsRow};
 
-use crate::blank::fill_blank;
 use crate::first_intervals::FirstIntervals;
 use crate::mark_bytes::put_mark;
 use crate::marked::Marked;
-use crate::shape::{coded_of_row, mcus_at_once, shape_of};
+use crate::row_lines::RowLines;
+use crate::shape::{coded_of_row, mcus_at_once, shape_of, units_to};
 use jr_block::Coefficients;
 use jr_head::Head;
-use jr_piece::{UnitReader, transform_blocks};
+use jr_piece::UnitReader;
 use jr_scan::Scan;
 use std::marker::Model;
 
@@ -39,17 +41,6 @@ impl<'a> Model for ScanMcus<'a> {
     ghost view = { λ r. record { scan = r.scan.now; limit = r.limit; number = r.number; mcu = r.reader.mcu } };
 
     ghost invariant = { λ r. (r.number < length r.scan.now.intervals) × (r.reader.interval ≡ interval_of r.scan.now r.number) };
-}
-
-/// How many data units so many MCUs have, at most `most`.
-fn units_to(mcus: u32, most: u32, per_mcu: usize) -> usize
-    requires few { mcus ≤ most }
-    requires short { per_mcu ≤ 10 }
-    ensures value { result ≡ mcus * per_mcu }
-    ensures within { result ≤ most * per_mcu }
-    ensures rest { result + (most - mcus) * per_mcu ≡ most * per_mcu }
-{
-    mcus as usize * per_mcu
 }
 
 impl<'a> ScanMcus<'a> {
@@ -170,28 +161,28 @@ impl<'a> ScanMcus<'a> {
         marked
     }
 
-    /// Puts the samples of the next MCUs, `some` of them, behind those of the first `done` of `mcus`: answers the marks of
+    /// Puts the samples of the next MCUs, `some` of them, behind those of the first `done` of a row: answers the marks of
     /// the intervals that end with them. There is room for the blocks of as many as are read at once.
     fn decode_some(
         &mut self,
         done: u32,
         some: u32,
-        mcus: u32,
         blocks: &mut [Coefficients],
-        units: &mut [[u8; 64]],
+        lines: &mut RowLines,
         marks: &mut [u8],
     ) -> Marked
-        requires within { done + some ≤ mcus }
+        requires within { done + some ≤ mcus_across self.old.scan.head }
         requires few { some ≤ mcus_at_once self.old.scan.head }
         requires decoded { mcus_read self.old + some ≤ mcus_before self.old.scan.head self.old.limit }
         requires near { length blocks.old ≡ mcus_at_once self.old.scan.head * blocks_of self.old.scan.head }
-        requires room { length units.old ≡ mcus * blocks_of self.old.scan.head }
+        requires room { HasLines self.old.scan.head lines.old }
         requires places { HasMarkRoom self.old.scan marks.old }
+        ensures room { HasLines self.old.scan.head lines.new }
         ensures scan { self.new.scan ≡ self.old.scan }
         ensures limit { self.new.limit ≡ self.old.limit }
         ensures moved { mcus_read self.new ≡ mcus_read self.old + some }
-        ensures kept { (k : ℕ) → k < done * blocks_of self.old.scan.head → slice_index_or units.new k [] ≡ slice_index_or units.old k [] }
-        ensures shows { ShowsBehind self.old.scan self.old.limit (mcus_read self.old) (done * blocks_of self.old.scan.head) some units.new }
+        ensures kept { (k : ℕ) → k < done * blocks_of self.old.scan.head → slice_index_or (units_in self.old.scan.head lines.new.groups) k [] ≡ slice_index_or (units_in self.old.scan.head lines.old.groups) k [] }
+        ensures shows { ShowsBehind self.old.scan self.old.limit (mcus_read self.old) (done * blocks_of self.old.scan.head) some (units_in self.old.scan.head lines.new.groups) }
         ensures counts { CountsMcus self.old.scan self.old.limit (mcus_read self.old) (mcus_read self.new) result }
         ensures puts { PutsMcus self.old.scan self.old.limit (mcus_read self.old) (mcus_read self.new) marks.old marks.new }
     {
@@ -199,29 +190,29 @@ impl<'a> ScanMcus<'a> {
         let per_mcu = head.order().len();
         let blocks = &mut blocks[..units_to(some, mcus_at_once(head), per_mcu)];
         let marked = self.read(some, blocks, marks);
-        let start = units_to(done, mcus, per_mcu);
-        let end = units_to(done + some, mcus, per_mcu);
-        transform_blocks(head, blocks, &mut units[start..end]);
+        lines.transform(head, done, some, blocks);
         marked
     }
 
-    /// The samples of so many MCUs, and the marks of the intervals that end with them, which are put into `marks`, too. Some
+    /// The samples of the first so many MCUs of a row, and the marks of the intervals that end with them, which are put into `marks`, too. Some
     /// MCUs at a time are read into `blocks` and transformed.
     fn decode(
         &mut self,
         mcus: u32,
         blocks: &mut [Coefficients],
-        units: &mut [[u8; 64]],
+        lines: &mut RowLines,
         marks: &mut [u8],
     ) -> Marked
+        requires within { mcus ≤ mcus_across self.old.scan.head }
         requires few { mcus_read self.old + mcus ≤ mcus_before self.old.scan.head self.old.limit }
         requires near { length blocks.old ≡ mcus_at_once self.old.scan.head * blocks_of self.old.scan.head }
-        requires room { length units.old ≡ mcus * blocks_of self.old.scan.head }
+        requires room { HasLines self.old.scan.head lines.old }
         requires places { HasMarkRoom self.old.scan marks.old }
         ensures scan { self.new.scan ≡ self.old.scan }
         ensures limit { self.new.limit ≡ self.old.limit }
         ensures moved { mcus_read self.new ≡ mcus_read self.old + mcus }
-        ensures shows { ShowsFirstUnits self.old.scan self.old.limit (mcus_read self.old) mcus units.new }
+        ensures room { HasLines self.old.scan.head lines.new }
+        ensures shows { ShowsFirstUnits self.old.scan self.old.limit (mcus_read self.old) mcus (units_in self.old.scan.head lines.new.groups) }
         ensures counts { CountsMcus self.old.scan self.old.limit (mcus_read self.old) (mcus_read self.new) result }
         ensures puts { PutsMcus self.old.scan self.old.limit (mcus_read self.old) (mcus_read self.new) marks.old marks.new }
     {
@@ -233,7 +224,7 @@ impl<'a> ScanMcus<'a> {
         let mut marked = Marked::none();
         'parts: while done < mcus {
             let some = at_once.min(mcus - done);
-            let more = self.decode_some(done, some, mcus, blocks, units, marks);
+            let more = self.decode_some(done, some, blocks, lines, marks);
             marked = marked.with(more);
             done += some;
         }
@@ -366,29 +357,30 @@ impl<'a> Rows<'a> {
         marked
     }
 
-    /// Decodes the next row: the samples of its data units, of which those of MCUs that are not decoded are black, and the
+    /// Decodes the next row: its samples, of which those of MCUs that are not decoded are black, and the
     /// marks of the intervals that end in it, which are put into `marks`, too. Some MCUs at a time are read into `blocks`.
     pub(crate) fn decode(
         &mut self,
         blocks: &mut [Coefficients],
-        units: &mut [[u8; 64]],
+        lines: &mut RowLines,
         marks: &mut [u8],
     ) -> Marked
         requires row { self.old.row < mcus_down self.old.scan.head }
         requires near { length blocks.old ≡ mcus_at_once self.old.scan.head * blocks_of self.old.scan.head }
-        requires room { length units.old ≡ mcus_across self.old.scan.head * blocks_of self.old.scan.head }
+        requires room { HasLines self.old.scan.head lines.old }
         requires places { HasMarkRoom self.old.scan marks.old }
         ensures moved { self.new ≡ record self.old { row = self.old.row + 1 } }
-        ensures units { (b : BoardValue) → HasFirst self.old.scan self.old.limit b → ShowsMcus b (self.old.row * mcus_across self.old.scan.head) units.new }
+        ensures room { HasLines self.old.scan.head lines.new }
+        ensures units { (b : BoardValue) → HasFirst self.old.scan self.old.limit b → ShowsMcus b (self.old.row * mcus_across self.old.scan.head) (units_in self.old.scan.head lines.new.groups) }
         ensures counts { CountsRow self.old.scan self.old.limit self.old.row result }
         ensures puts { PutsRow self.old.scan self.old.limit self.old.row marks.old marks.new }
     {
         let head = self.head();
         let coded = coded_of_row(self.mcus.scan, self.mcus.limit, self.row);
-        let end = units_to(coded, shape_of(head).across, head.order().len());
-        let (first, rest) = units.split_at_mut(end);
-        let marked = self.mcus.decode(coded, blocks, first, marks);
-        fill_blank(head, rest);
+        // By their contracts there are few rows, and an MCU has a data unit.
+        let _counts = (shape_of(head), head.order().len());
+        let marked = self.mcus.decode(coded, blocks, lines, marks);
+        lines.fill_blank(head, coded);
         self.row += 1;
         marked
     }

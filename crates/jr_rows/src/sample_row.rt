@@ -5,13 +5,15 @@ ghost use Rattle.jr_head.specs.Geometry.{mcus_across, mcus_down};
 ghost use Rattle.jr_paint.specs.Lines.{line_size, next_lines_of};
 ghost use Rattle.jr_picture.specs.BoardValue.{BoardValue};
 ghost use Rattle.jr_rows.specs.Bands.{ShowsMcus, samples_in};
+ghost use Rattle.jr_rows.specs.Groups.{units_in};
 ghost use Rattle.jr_rows.specs.MarkBytes.{HasMarkRoom, PutsRow};
 ghost use Rattle.jr_rows.specs.Rows.{CountsRow, HasFirst, HasSampleRoom, ShowsLines, line_count};
 
 use crate::marked::Marked;
 use crate::painting::{paint_row, paint_some};
+use crate::row_lines::RowLines;
 use crate::rows::Rows;
-use crate::shape::{mcus_at_once, shape_of};
+use crate::shape::mcus_at_once;
 use jr_base::Memory;
 use jr_block::Coefficients;
 use jr_head::Head;
@@ -25,7 +27,7 @@ use std::marker::Model;
 #[derive(Drop)]
 pub struct SampleRow {
     blocks: Vec<Coefficients>,
-    units: Vec<[u8; 64]>,
+    lines: RowLines,
 }
 
 impl Model for SampleRow {
@@ -33,7 +35,7 @@ impl Model for SampleRow {
 
     ghost Value = { RowValue };
 
-    ghost view = { λ r. record { blocks = r.blocks.items; units = r.units.items } };
+    ghost view = { λ r. record { blocks = r.blocks.items; lines = r.lines } };
 }
 
 impl SampleRow {
@@ -43,8 +45,8 @@ impl SampleRow {
     {
         let per_mcu = head.order().len();
         let blocks = vec![in alloc; Coefficients::zeros(); mcus_at_once(head) as usize * per_mcu]?;
-        let units = vec![in alloc; [0; 64]; shape_of(head).across as usize * per_mcu]?;
-        Ok(SampleRow { blocks, units })
+        let lines = RowLines::open(alloc, head)?;
+        Ok(SampleRow { blocks, lines })
     }
 
     /// The rows of MCUs of a scan from this one on, all of whose intervals are decoded.
@@ -64,14 +66,14 @@ impl SampleRow {
         requires places { HasMarkRoom rows.old.scan marks.old }
         ensures room { HasSampleRoom rows.old.scan.head self.new }
         ensures moved { rows.new ≡ record rows.old { row = rows.old.row + 1 } }
-        ensures units { (b : BoardValue) → HasFirst rows.old.scan rows.old.limit b → ShowsMcus b (rows.old.row * mcus_across rows.old.scan.head) self.new.units }
+        ensures units { (b : BoardValue) → HasFirst rows.old.scan rows.old.limit b → ShowsMcus b (rows.old.row * mcus_across rows.old.scan.head) (units_in rows.old.scan.head self.new.lines.groups) }
         ensures counts { CountsRow rows.old.scan rows.old.limit rows.old.row result }
         ensures puts { PutsRow rows.old.scan rows.old.limit rows.old.row marks.old marks.new }
     {
-        rows.decode(&mut self.blocks, &mut self.units, marks)
+        rows.decode(&mut self.blocks, &mut self.lines, marks)
     }
 
-    /// Paints lines of the picture of which each row of MCUs has the data units of the row that is decoded.
+    /// Paints lines of the picture of which each row of MCUs has the samples of the row that is decoded.
     pub fn paint_some<const WIDTH: usize>(
         &self,
         head: &Head,
@@ -80,12 +82,13 @@ impl SampleRow {
         lines: &mut SampleLines<WIDTH>,
         pixels: &mut [u8],
     )
+        requires room { HasSampleRoom head.now self.now }
         requires wide { head.now.width ≤ WIDTH }
         requires inside { y + count ≤ head.now.height }
         requires pixels { length pixels.old ≡ count * line_size head.now }
-        ensures { pixels.new ≡ next_lines_of head.now (samples_in (record { head = head.now; units = self.now.units })) y count }
+        ensures { pixels.new ≡ next_lines_of head.now (samples_in (record { head = head.now; groups = self.now.lines.groups })) y count }
     {
-        paint_some(head, &self.units, y, count, lines, pixels);
+        paint_some(head, &self.lines, y, count, lines, pixels);
     }
 
     /// Decodes the next row, and paints its lines: answers the marks of the intervals that end in it.
@@ -106,7 +109,7 @@ impl SampleRow {
     {
         let row = rows.row();
         let marked = self.decode(rows, &mut []);
-        paint_row(rows.head(), &self.units, row, lines, pixels);
+        paint_row(rows.head(), &self.lines, row, lines, pixels);
         marked
     }
 }

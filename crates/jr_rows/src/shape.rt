@@ -1,10 +1,11 @@
 //! The rows of MCUs of a picture, in numbers.
 
-ghost use Rattle.std.specs.Prelude.{◌≡◌, ◌+◌, ◌*◌, ◌<◌, ◌≤◌, min, Option, Some, OnSome, IfSome};
+ghost use Rattle.std.specs.Prelude.{◌≡◌, ◌+◌, ◌-◌, ◌*◌, ◌<◌, ◌≤◌, min, Option, Some, OnSome, IfSome};
 ghost use Rattle.jr_head.specs.Geometry.{mcus_across, mcus_down, mcus_of, vertical_max};
 ghost use Rattle.jr_paint.specs.Lines.{line_size};
 ghost use Rattle.jr_paint.specs.declared.netpbm.TheConstants.{BATCH};
-ghost use Rattle.jr_rows.specs.Rows.{coded_before, coded_in, mcus_at_once, mcus_before, first_line, line_count};
+ghost use Rattle.jr_rows.specs.Rows.{coded_before, coded_in, mcus_before, first_line, line_count};
+ghost use Rattle.jr_rows.specs.RowLines.{mcus_at_once};
 
 use jr_head::Head;
 use jr_paint::{BATCH, bytes_of_line};
@@ -44,6 +45,17 @@ pub fn shape_of(head: &Head) -> Shape
         down: head.height().div_ceil(8 * head.vertical_max()),
         line: bytes_of_line(head),
     }
+}
+
+/// How many data units so many MCUs have, at most `most`.
+pub(crate) fn units_to(mcus: u32, most: u32, per_mcu: usize) -> usize
+    requires few { mcus ≤ most }
+    requires short { per_mcu ≤ 10 }
+    ensures value { result ≡ mcus * per_mcu }
+    ensures within { result ≤ most * per_mcu }
+    ensures rest { result + (most - mcus) * per_mcu ≡ most * per_mcu }
+{
+    mcus as usize * per_mcu
 }
 
 /// How many MCUs are read before they are transformed.

@@ -19,5 +19,5 @@ returns g c b same shows =
     let most : count ≤ 8 * vertical_max h = search rules in
     let few : 0 + count ≤ 8 * vertical_max h = omega (arith, most) in
     let inside : y + count ≤ h.height = search rules in
-    c.paint_some.ensures ∙ row_painted b h same lawful c.args.units.now row c.requires.units shows y count 0 start few inside
+    c.paint_some.ensures ∙ row_painted b h same lawful c.args.samples.now.groups row shows y count 0 start few inside
     ∙ ap (λ (k : ℕ). next_lines_of h (samples_of b) k count) first_is ∙ ap (next_lines_of h (samples_of b) (first_line h row)) lines

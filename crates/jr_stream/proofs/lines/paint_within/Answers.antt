@@ -9,8 +9,9 @@ use Rattle.jr_paint.proofs.PixelLaws.{next_lines_more}
 use Rattle.jr_scan.specs.ScanValue.{ScanValue, intervals_of}
 use Rattle.jr_picture.specs.Samples.{samples_of}
 use Rattle.jr_rows.specs.Bands.{ShowsMcus, samples_in}
+use Rattle.jr_rows.specs.Groups.{units_in}
 use Rattle.jr_rows.specs.MarkBytes.{PutsBetween, PutsRow}
-use Rattle.jr_rows.specs.Rows.{CountsRow, HasSampleRoom, coded_before}
+use Rattle.jr_rows.specs.Rows.{CountsRow, coded_before}
 use Rattle.jr_stream.specs.SomeLines.{CountsBetween, row_behind, row_with}
 use Rattle.jr_rows.proofs.IntervalPlaces.{ends_few}
 use Rattle.jr_rows.proofs.PaintedRows.{row_painted}
@@ -80,6 +81,7 @@ rows-preserved g c =
     let sum = add-mul old_done count (line_size h) in
     let size : to - from ≡ count * line_size h = omega (arith, from_is, to_is, sum) in
     let long : length pix ≡ to - from = search (rules, arith, c.paint_some.auto.pixels) in
+    let end_is : to ≡ from + length pix = omega (arith, long, from_is, to_is, sum) in
     let inside : from ≤ length c.rows.pixels = search (rules, arith) in
     let next : done_lines h c.args.first c.args.end c.decode-more.new.rows.row ≡ old_done + count = ap (done_lines h c.args.first c.args.end) next_row ∙ done.1 in
     let marks : CountsRow t n row c.decode-more.result = rw (keep.scan, keep.limit) at c.decode-more.ensures.counts in
@@ -95,18 +97,17 @@ rows-preserved g c =
       front = λ b first.
           let f = samples_of b in
           let before = next_lines_of h f c.args.first old_done in
-          let room : HasSampleRoom h work = rw keep.scan at c.decode-more.ensures.room in
           let start : y ≡ row * deep + (y - row * deep) = omega (arith, at) in
           let few : y - row * deep + count ≤ deep = omega (arith, at, ends, add-mul row 1 deep) in
           let down : y + count ≤ h.height = omega (arith, ends, c.requires.inside) in
           let head : c.head-head.result.now ≡ h = search rules in
-          let shows : ShowsMcus b (row * mcus_across h) work.units = (rw (keep.scan, keep.limit) at c.decode-more.ensures.units) b first in
-          let shown = ap (λ (g : HeadValue). next_lines_of g (samples_in (record { head = g; units = work.units })) y count) head
-          ∙ row_painted b h (ap (λ (s : ScanValue). s.head) first.scan_is) lawful work.units row room.units shows y count (y - row * deep) start few down in
+          let shows : ShowsMcus b (row * mcus_across h) (units_in h work.lines.groups) = (rw (keep.scan, keep.limit) at c.decode-more.ensures.units) b first in
+          let shown = ap (λ (g : HeadValue). next_lines_of g (samples_in (record { head = g; groups = work.lines.groups })) y count) head
+          ∙ row_painted b h (ap (λ (s : ScanValue). s.head) first.scan_is) lawful work.lines.groups row shows y count (y - row * deep) start few down in
           let lines : pix ≡ next_lines_of h f (c.args.first + old_done) count = c.paint_some.ensures ∙ shown ∙ ap (λ (k : ℕ). next_lines_of h f k count) done.0 in
           ap (λ (k : ℕ). take (k * line_size h) (put_mid from (to - from) c.rows.pixels pix)) next
           ∙ ap (λ (k : ℕ). take k (put_mid from (to - from) c.rows.pixels pix)) (sym to_is)
-          ∙ take-put_mid from (to - from) c.rows.pixels pix to (omega (arith, long, from_is, to_is, sum)) inside
+          ∙ take-put_mid from (to - from) c.rows.pixels pix to end_is inside
           ∙ ap (λ (k : ℕ). take k c.rows.pixels ++ pix) from_is
           ∙ ap (λ z. z ++ pix) (keep.front b first) ∙ ap (λ z. before ++ z) lines ∙ sym (next_lines_more h f c.args.first old_done count)
           ∙ ap (next_lines_of h f c.args.first) (sym next);

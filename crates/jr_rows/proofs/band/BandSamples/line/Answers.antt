@@ -1,16 +1,19 @@
-use Rattle.std.proofs.Common.{rules, ◌≡◌, ◌+◌, arith}
-use Rattle.jr_rows.proofs.UnitRows.{crossed}
+use Rattle.std.proofs.Common.{◌+◌, ◌<◌, ◌∙◌, length, rules, arith}
+use Rattle.jr_rows.proofs.BandLines.{shown, within}
 use Rattle.jr_rows.proofs.band.BandSamples.line.Goals as goal
 
-pub returns-then-x-eq0 : goal.returns-then-x-eq0
-returns-then-x-eq0 c k lt =
-    let of = c.unit_row.result in
-    let at : k ≡ c.args.x + k = omega (arith, c.if-x-eq0.true) in
-    let row = crossed c.args.self.now c.args.c k c.args.y of.first of.across of.per_mcu of.row (c.unit_row.ensures.first, c.unit_row.ensures.row) c.unit_row.ensures.across c.unit_row.ensures.per_mcu in
-    search (rules, c.copy_line.ensures k lt, row, at)
+pub overflow_add-start : goal.overflow_add-start
+overflow_add-start c =
+    let some : 0 < length c.args.out.now = search (rules, arith) in
+    let all = within (record { head = c.self.inside.head.now; groups = c.self.inside.lines.now.groups }) c.args.self.now c.self.view_is c.be_lawful.ensures c.self.invariant c.groups-groups.result.now c.groups-groups.ensures c.args.c c.args.y c.args.x (length c.args.out.now) c.start.result c.requires.component c.start.ensures some c.requires.column in
+    search (rules, arith, all)
+
+pub copy_samples-requires : goal.copy_samples-requires
+copy_samples-requires c =
+    let some : 0 < length c.args.out.now = search (rules, arith) in
+    let all = within (record { head = c.self.inside.head.now; groups = c.self.inside.lines.now.groups }) c.args.self.now c.self.view_is c.be_lawful.ensures c.self.invariant c.groups-groups.result.now c.groups-groups.ensures c.args.c c.args.y c.args.x (length c.args.out.now) c.start.result c.requires.component c.start.ensures some c.requires.column in
+    search (rules, arith, all)
 
 pub returns : goal.returns
 returns c k lt =
-    let of = c.unit_row-2.result in
-    let row = crossed c.args.self.now c.args.c (c.args.x + k) c.args.y of.first of.across of.per_mcu of.row (c.unit_row-2.ensures.first, c.unit_row-2.ensures.row) c.unit_row-2.ensures.across c.unit_row-2.ensures.per_mcu in
-    search (rules, c.copy_samples.ensures k lt, row)
+    c.copy_samples.ensures k lt ∙ shown (record { head = c.self.inside.head.now; groups = c.self.inside.lines.now.groups }) c.args.self.now c.self.view_is c.groups-groups.result.now c.groups-groups.ensures c.args.c (c.args.x + k) c.args.y (c.start.result + c.args.x + k) (omega (arith, c.start.ensures))

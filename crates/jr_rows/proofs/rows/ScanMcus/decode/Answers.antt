@@ -1,9 +1,11 @@
-use Rattle.std.proofs.Common.{rules, arith, sym, subst, ap, ◌∙◌, ◌≡◌, ℕ, ◌+◌, ◌*◌, ◌<◌, ◌^◌, [], slice_index_or}
+use Rattle.std.proofs.Common.{rules, arith, sym, subst, ap, ◌∙◌, ◌≡◌, ℕ, ◌*◌, ◌<◌, ◌^◌, [], slice_index_or}
 use Rattle.std.proofs.lemmas.Grind.{common_steps}
 use Rattle.jr_head.specs.Geometry.{blocks_of}
 use Rattle.jr_scan.specs.ScanValue.{ScanValue, intervals_of}
 use Rattle.jr_rows.specs.Bands.{unit_shown}
+use Rattle.jr_rows.specs.Groups.{units_in}
 use Rattle.jr_rows.specs.MarkBytes.{PutsMcus}
+use Rattle.jr_rows.specs.RowLines.{HasLines}
 use Rattle.jr_rows.specs.Rows.{CountsMcus, ShowsBehind, mcus_read}
 use Rattle.jr_rows.proofs.IntervalPlaces.{ends_few}
 use Rattle.jr_rows.proofs.PutMarks.{puts_both}
@@ -31,14 +33,14 @@ parts-preserved c =
     let mcus = c.min-some.result in
     let h = old.scan.head in
     let n = blocks_of h in
-    let units = c.parts.units in
-    let new = some.new.units in
+    let units = units_in h c.parts.lines.groups in
+    let new = units_in h some.new.lines.groups in
     let count = subst (λ (t : ScanValue). CountsMcus t at.limit (mcus_read at) (mcus_read some.new.self) some.result) keep.scan some.ensures.counts in
     let more = subst (λ (k : ℕ). CountsMcus old.scan k (mcus_read at) (mcus_read some.new.self) some.result) keep.limit count in
-    let show = subst (λ (t : ScanValue). ShowsBehind t at.limit (mcus_read at) (done * blocks_of t.head) mcus new) keep.scan some.ensures.shows in
+    let show = subst (λ (t : ScanValue). ShowsBehind t at.limit (mcus_read at) (done * blocks_of t.head) mcus (units_in t.head some.new.lines.groups)) keep.scan some.ensures.shows in
     let shows = subst (λ (k : ℕ). ShowsBehind old.scan k (mcus_read at) (done * n) mcus new) keep.limit show in
     let shown = subst (λ (k : ℕ). ShowsBehind old.scan old.limit k (done * n) mcus new) keep.read shows in
-    let kept : (k : ℕ) → k < done * n → slice_index_or new k [] ≡ slice_index_or units k [] = subst (λ (t : ScanValue). (k : ℕ) → k < done * blocks_of t.head → slice_index_or new k [] ≡ slice_index_or units k []) keep.scan some.ensures.kept in
+    let kept : (k : ℕ) → k < done * n → slice_index_or new k [] ≡ slice_index_or units k [] = subst (λ (t : ScanValue). (k : ℕ) → k < done * blocks_of t.head → slice_index_or (units_in t.head some.new.lines.groups) k [] ≡ slice_index_or (units_in t.head c.parts.lines.groups) k []) keep.scan some.ensures.kept in
     let positive : 0 < n = search (rules, arith) in
     let bytes = c.parts.marks in
     let put = subst (λ (t : ScanValue). PutsMcus t at.limit (mcus_read at) (mcus_read some.new.self) bytes some.new.marks) keep.scan some.ensures.puts in
@@ -46,7 +48,7 @@ parts-preserved c =
     record {
       within = search (rules, arith);
       near = search rules;
-      long = search rules;
+      room = subst (λ (t : ScanValue). HasLines t.head some.new.lines) keep.scan some.ensures.room;
       scan = some.ensures.scan ∙ keep.scan;
       limit = some.ensures.limit ∙ keep.limit;
       read = omega (arith, some.ensures.moved, keep.read);

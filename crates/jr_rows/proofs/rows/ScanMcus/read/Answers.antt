@@ -1,4 +1,4 @@
-use Rattle.std.proofs.Common.{rules, arith, sym, subst, ap, ◌∙◌, ◌≡◌, ℕ, ◌+◌, ◌-◌, ◌*◌, ◌<◌, ◌^◌, inl, inr, [], slice_index_or}
+use Rattle.std.proofs.Common.{rules, arith, sym, subst, ap, ◌∙◌, ◌≡◌, ℕ, ◌*◌, ◌<◌, ◌^◌, [], slice_index_or}
 use Rattle.jr_head.specs.Geometry.{quantiser_of, blocks_of}
 use Rattle.jr_idct.specs.Transform.{samples}
 use Rattle.jr_scan.specs.Mcus.{component}

@@ -1,4 +1,4 @@
-use Rattle.std.proofs.Common.{◌≡◌, ◌+◌, ◌-◌, ◌*◌, ◌≤◌, length}
+use Rattle.std.proofs.Common.{◌≡◌, ◌+◌, ◌-◌, ◌≤◌, length}
 use Rattle.jr_rows.specs.MarkBytes.{HasMarkRoom, PutsMcus}
 use Rattle.jr_rows.specs.Rows.{CountsMcus, GivesMcus, mcus_read}
 use Rattle.jr_rows.proofs.rows.ScanMcus.read.Given as goal

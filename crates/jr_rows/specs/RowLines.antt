@@ -1,0 +1,34 @@
+-- The lines of a row of MCUs of a picture, as they are kept.
+use Rattle.std.specs.Prelude.{◌≡◌, ℕ, ◌*◌, ◌/◌, ◌<◌, List, length, slice_index_or}
+use Rattle.jr_head.specs.HeadValue.{HeadValue}
+use Rattle.jr_head.specs.Geometry.{blocks_of, horizontal_of}
+use Rattle.jr_scan.specs.Mcus.{component}
+use Rattle.jr_rows.specs.declared.row_lines.UnitStart.{UnitStart}
+use Rattle.jr_rows.specs.Groups.{all_lines, group_of, groups_across}
+use Rattle.jr_rows.specs.RowLinesValue.{RowLinesValue}
+use Rattle.jr_rows.specs.declared.shape.TheConstants.{BLOCKS_AT_ONCE}
+
+-- how many MCUs are read before they are transformed
+abbrev pub mcus_at_once : HeadValue → ℕ
+mcus_at_once h = BLOCKS_AT_ONCE / blocks_of h
+
+-- there is room for the lines of a row
+pub record HasGroups (h : HeadValue) (across : ℕ) (groups : List (List ℕ)) : Type 0 where
+  pub across_is : across ≡ groups_across h
+  pub long : length groups ≡ all_lines h * groups_across h
+
+-- data unit j of an MCU stands there
+pub record IsStartOf (h : HeadValue) (j : ℕ) (p : UnitStart) : Type 0 where
+  pub first_is : p.first ≡ group_of h 0 j 0
+  pub step_is : p.step ≡ horizontal_of h (component h j)
+
+-- and so do all of them
+pub record AreStarts (h : HeadValue) (starts : List UnitStart) : Type 0 where
+  pub long : length starts ≡ blocks_of h
+  pub each : (j : ℕ) (d : UnitStart) → j < blocks_of h → IsStartOf h j (slice_index_or starts j d)
+
+-- these are the lines of a row of MCUs of this head's picture
+pub record HasLines (h : HeadValue) (v : RowLinesValue) : Type 0 where
+  pub room : HasGroups h (groups_across h) v.groups
+  pub starts : AreStarts h v.starts
+  pub near : length v.near ≡ mcus_at_once h * blocks_of h

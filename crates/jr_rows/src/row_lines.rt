@@ -1,0 +1,319 @@
+//! The samples of a row of MCUs as lines of its components.
+
+ghost use Rattle.std.specs.Prelude.{◌≡◌, ◌≢◌, ℕ, ◌+◌, ◌*◌, ◌/◌, ◌%◌, ◌<◌, ◌≤◌, ◌^◌, [], length, slice_index, slice_index_or, None, IfOk};
+ghost use Rattle.jr_head.specs.Geometry.{blocks_before, blocks_of, components_of, mcus_across};
+ghost use Rattle.jr_piece.specs.Outcome.{unit_of};
+ghost use Rattle.jr_rows.specs.Bands.{unit_shown_of};
+ghost use Rattle.jr_rows.specs.Groups.{all_lines, group_of, groups_across, lines_before, unit_in, units_in};
+ghost use Rattle.jr_rows.specs.RowLines.{AreStarts, HasGroups, HasLines, IsStartOf, mcus_at_once};
+
+use crate::blank::fill_blank;
+use crate::shape::{mcus_at_once, shape_of, units_to};
+use jr_base::Memory;
+use jr_block::Coefficients;
+use jr_head::Head;
+use jr_paint::place;
+use jr_piece::transform_blocks;
+use std::alloc::Global;
+use std::marker::Model;
+
+/// Where the data units of one number in an MCU stand in a row's lines.
+#[derive(Clone, Copy)]
+pub struct UnitStart {
+    /// The group of the first row of samples of the one of the first MCU.
+    pub first: usize,
+    /// How many groups further that of the next MCU stands.
+    pub step: usize,
+}
+
+/// The samples of a row of MCUs: for each component its lines from the top, eight samples a group, and a line behind the
+/// other. Data units are put into it, and the picture's lines are painted from it.
+#[derive(Drop)]
+pub struct RowLines {
+    groups: Vec<[u8; 8]>,
+    starts: Vec<UnitStart>,
+    /// Room for the data units of as many MCUs as are transformed at once.
+    near: Vec<[u8; 64]>,
+}
+
+impl Model for RowLines {
+    ghost use Rattle.jr_rows.specs.RowLinesValue.{RowLinesValue};
+
+    ghost Value = { RowLinesValue };
+
+    ghost view = { λ r. record { groups = r.groups.items; starts = r.starts.items; near = r.near.items } };
+}
+
+/// A row of samples of a data unit.
+fn row_of(unit: &[u8; 64], row: usize) -> [u8; 8]
+    requires { row < 8 }
+    ensures { (k : ℕ) → k < 8 → slice_index result k ≡ slice_index unit.now (8 * row + k) }
+{
+    let mut samples = [0; 8];
+    samples.copy_from_slice(&unit[8 * row..8 * row + 8]);
+    samples
+}
+
+/// Puts the rows of samples of a data unit into groups that stand in lines below one another.
+fn put_rows(groups: &mut [[u8; 8]], at: usize, across: usize, unit: &[u8; 64])
+    requires some { 0 < across }
+    requires room { at + 7 * across < length groups.old }
+    ensures rows { (row k : ℕ) → row < 8 → k < 8 → slice_index (slice_index_or groups.new (at + row * across) []) k ≡ slice_index unit.now (8 * row + k) }
+    ensures others { (n : ℕ) → ((row : ℕ) → row < 8 → n ≢ at + row * across) → slice_index_or groups.new n [] ≡ slice_index_or groups.old n [] }
+{
+    for row in 0..8 {
+        groups[at + row * across] = row_of(unit, row);
+    }
+}
+
+/// Puts data unit j of an MCU.
+fn put_unit(
+    head: &Head,
+    groups: &mut [[u8; 8]],
+    across: usize,
+    starts: &[UnitStart],
+    mcu: usize,
+    j: usize,
+    unit: &[u8; 64],
+)
+    requires room { HasGroups head.now across groups.old }
+    requires starts { AreStarts head.now starts.now }
+    requires mcu { mcu < mcus_across head.now }
+    requires unit { j < blocks_of head.now }
+    ensures here { unit_in head.now groups.new mcu j ≡ unit.now }
+    ensures others { (m i : ℕ) → m < mcus_across head.now → i < blocks_of head.now → (m ≡ mcu → i ≡ j → ⊥) → unit_in head.now groups.new m i ≡ unit_in head.now groups.old m i }
+{
+    head.be_lawful();
+    let start = starts[j];
+    put_rows(groups, start.first + mcu * start.step, across, unit);
+}
+
+/// Puts the data units of an MCU.
+fn put_mcu(
+    head: &Head,
+    groups: &mut [[u8; 8]],
+    across: usize,
+    starts: &[UnitStart],
+    mcu: usize,
+    units: &[[u8; 64]],
+)
+    requires room { HasGroups head.now across groups.old }
+    requires starts { AreStarts head.now starts.now }
+    requires mcu { mcu < mcus_across head.now }
+    requires units { length units.now ≡ blocks_of head.now }
+    ensures here { (j : ℕ) → j < blocks_of head.now → unit_in head.now groups.new mcu j ≡ slice_index_or units.now j [] }
+    ensures others { (m j : ℕ) → m < mcus_across head.now → j < blocks_of head.now → m ≢ mcu → unit_in head.now groups.new m j ≡ unit_in head.now groups.old m j }
+{
+    for j in 0..units.len() {
+        put_unit(head, groups, across, starts, mcu, j, &units[j]);
+    }
+}
+
+/// Puts the data units of so many MCUs.
+fn put_mcus(
+    head: &Head,
+    groups: &mut [[u8; 8]],
+    across: usize,
+    starts: &[UnitStart],
+    first: usize,
+    count: usize,
+    units: &[[u8; 64]],
+)
+    requires room { HasGroups head.now across groups.old }
+    requires starts { AreStarts head.now starts.now }
+    requires inside { first + count ≤ mcus_across head.now }
+    requires units { length units.now ≡ count * blocks_of head.now }
+    ensures here { (k : ℕ) → k < length units.now → unit_in head.now groups.new (first + k / blocks_of head.now) (k % blocks_of head.now) ≡ slice_index_or units.now k [] }
+    ensures kept { (m j : ℕ) → m < first → j < blocks_of head.now → unit_in head.now groups.new m j ≡ unit_in head.now groups.old m j }
+{
+    let per_mcu = head.order().len();
+    for mcu in 0..count {
+        let units = &units[mcu * per_mcu..mcu * per_mcu + per_mcu];
+        put_mcu(head, groups, across, starts, first + mcu, units);
+    }
+}
+
+/// How many groups a line has room for.
+pub(crate) fn groups_across(head: &Head) -> u32
+    ensures value { result ≡ groups_across head.now }
+    ensures few { result < 2 ^ 18 }
+{
+    head.be_lawful();
+    shape_of(head).across * head.horizontal_max()
+}
+
+/// Makes the samples of so many MCUs from their blocks, and puts them. There is room for their data units in `near`.
+fn transform_mcus(
+    head: &Head,
+    groups: &mut [[u8; 8]],
+    starts: &[UnitStart],
+    first: usize,
+    count: usize,
+    blocks: &[Coefficients],
+    near: &mut [[u8; 64]],
+)
+    requires room { HasGroups head.now (groups_across head.now) groups.old }
+    requires starts { AreStarts head.now starts.now }
+    requires inside { first + count ≤ mcus_across head.now }
+    requires blocks { length blocks.now ≡ count * blocks_of head.now }
+    requires near { length blocks.now ≤ length near.old }
+    ensures here { (k : ℕ) → k < length blocks.now → unit_in head.now groups.new (first + k / blocks_of head.now) (k % blocks_of head.now) ≡ unit_of head.now blocks.now k }
+    ensures kept { (m j : ℕ) → m < first → j < blocks_of head.now → unit_in head.now groups.new m j ≡ unit_in head.now groups.old m j }
+{
+    let near = &mut near[..blocks.len()];
+    transform_blocks(head, blocks, near);
+    let across = groups_across(head) as usize;
+    put_mcus(head, groups, across, starts, first, count, near);
+}
+
+/// Makes each MCU from one on black. There is room for the data units of one in `near`.
+fn blank_mcus(
+    head: &Head,
+    groups: &mut [[u8; 8]],
+    starts: &[UnitStart],
+    first: usize,
+    near: &mut [[u8; 64]],
+)
+    requires room { HasGroups head.now (groups_across head.now) groups.old }
+    requires starts { AreStarts head.now starts.now }
+    requires near { blocks_of head.now ≤ length near.old }
+    ensures here { (m j : ℕ) → first ≤ m → m < mcus_across head.now → j < blocks_of head.now → unit_in head.now groups.new m j ≡ unit_shown_of head.now j None 0 }
+    ensures kept { (m j : ℕ) → m < first → m < mcus_across head.now → j < blocks_of head.now → unit_in head.now groups.new m j ≡ unit_in head.now groups.old m j }
+{
+    let near = &mut near[..head.order().len()];
+    fill_blank(head, near);
+    let across = groups_across(head) as usize;
+    let mcus = shape_of(head).across as usize;
+    for mcu in first..mcus {
+        put_mcu(head, groups, across, starts, mcu, near);
+    }
+}
+
+/// How many lines the components before c have in a row of MCUs.
+pub(crate) fn lines_before(head: &Head, c: u32) -> u32
+    requires { c ≤ components_of head.now }
+    ensures value { result ≡ lines_before head.now c }
+    ensures few { result ≤ 32 * c }
+{
+    head.be_lawful();
+    let mut lines = 0;
+    for k in 0..c {
+        lines += 8 * head.vertical(k);
+    }
+    lines
+}
+
+/// How many data units of an MCU those before component c are.
+fn units_before(head: &Head, c: u32) -> u32
+    requires { c < components_of head.now }
+    ensures value { result ≡ blocks_before head.now c }
+{
+    head.be_lawful();
+    place(head, c, 0, 0).block
+}
+
+/// Where data unit j of an MCU stands, where a line has room for so many groups.
+fn start_of(head: &Head, across: u32, j: u32) -> UnitStart
+    requires across { across ≡ groups_across head.now }
+    requires few { across < 2 ^ 18 }
+    requires unit { j < blocks_of head.now }
+    ensures { IsStartOf head.now j result }
+{
+    head.be_lawful();
+    let c = u32::from(head.order()[j as usize]);
+    let step = head.horizontal(c);
+    let unit = j - units_before(head, c);
+    let line = lines_before(head, c) + 8 * (unit / step);
+    UnitStart {
+        first: (line * across + unit % step) as usize,
+        step: step as usize,
+    }
+}
+
+impl RowLines {
+    /// Room for a row of this head's picture.
+    pub fn open(alloc: Global, head: &Head) -> Result<RowLines, Memory>
+        ensures { IfOk result (HasLines head.now) }
+    {
+        let count = head.order().len();
+        let across = groups_across(head);
+        let lines = lines_before(head, head.components());
+        let mut starts = Vec::new(alloc);
+        for j in 0..count {
+            starts.push(start_of(head, across, j as u32))?;
+        }
+        Ok(RowLines {
+            groups: vec![in alloc; [0; 8]; lines as usize * across as usize]?,
+            starts,
+            near: vec![in alloc; [0; 64]; mcus_at_once(head) as usize * count]?,
+        })
+    }
+
+    /// The groups of eight samples.
+    pub(crate) fn groups(&self) -> &[[u8; 8]]
+        ensures { result.now ≡ self.now.groups }
+    {
+        self.groups.as_slice()
+    }
+
+    /// Makes the samples of some MCUs of the row from their blocks; those of the MCUs before are kept.
+    pub fn transform(&mut self, head: &Head, first: u32, count: u32, blocks: &[Coefficients])
+        requires room { HasLines head.now self.old }
+        requires few { count ≤ mcus_at_once head.now }
+        requires inside { first + count ≤ mcus_across head.now }
+        requires blocks { length blocks.now ≡ count * blocks_of head.now }
+        ensures room { HasLines head.now self.new }
+        ensures kept { (k : ℕ) → k < first * blocks_of head.now → slice_index_or (units_in head.now self.new.groups) k [] ≡ slice_index_or (units_in head.now self.old.groups) k [] }
+        ensures here { (k : ℕ) → k < length blocks.now → slice_index_or (units_in head.now self.new.groups) (first * blocks_of head.now + k) [] ≡ unit_of head.now blocks.now k }
+    {
+        transform_mcus(
+            head,
+            &mut self.groups,
+            &self.starts,
+            first as usize,
+            count as usize,
+            blocks,
+            &mut self.near,
+        );
+    }
+
+    /// Makes the samples of a row, of whose MCUs the first `coded` have these blocks; the others are black.
+    pub fn decode(&mut self, head: &Head, coded: u32, blocks: &[Coefficients])
+        requires room { HasLines head.now self.old }
+        requires few { coded ≤ mcus_across head.now }
+        requires blocks { coded * blocks_of head.now ≤ length blocks.now }
+        ensures room { HasLines head.now self.new }
+        ensures decoded { (k : ℕ) → k < coded * blocks_of head.now → slice_index_or (units_in head.now self.new.groups) k [] ≡ unit_of head.now blocks.now k }
+        ensures blank { (k : ℕ) → coded * blocks_of head.now ≤ k → k < mcus_across head.now * blocks_of head.now → slice_index_or (units_in head.now self.new.groups) k [] ≡ unit_shown_of head.now (k % blocks_of head.now) None 0 }
+    {
+        let per_mcu = head.order().len();
+        let at_once = mcus_at_once(head);
+        let mut done = 0;
+        'parts: while done < coded {
+            let some = at_once.min(coded - done);
+            let from = units_to(done, coded, per_mcu);
+            let end = units_to(done + some, coded, per_mcu);
+            self.transform(head, done, some, &blocks[from..end]);
+            done += some;
+        }
+        self.fill_blank(head, coded);
+    }
+
+    /// Makes the MCUs of the row from one on black; those before are kept.
+    pub fn fill_blank(&mut self, head: &Head, first: u32)
+        requires room { HasLines head.now self.old }
+        ensures room { HasLines head.now self.new }
+        ensures kept { (k : ℕ) → k < first * blocks_of head.now → k < mcus_across head.now * blocks_of head.now → slice_index_or (units_in head.now self.new.groups) k [] ≡ slice_index_or (units_in head.now self.old.groups) k [] }
+        ensures blank { (k : ℕ) → first * blocks_of head.now ≤ k → k < mcus_across head.now * blocks_of head.now → slice_index_or (units_in head.now self.new.groups) k [] ≡ unit_shown_of head.now (k % blocks_of head.now) None 0 }
+    {
+        // By its contract an MCU has a data unit.
+        let _some = head.order().len();
+        blank_mcus(
+            head,
+            &mut self.groups,
+            &self.starts,
+            first as usize,
+            &mut self.near,
+        );
+    }
+}
