@@ -7,7 +7,7 @@ use Rattle.std.proofs.lemmas.Option.{slice_get_within}
 use Rattle.std.proofs.lemmas.List.{get_or-replicate, length-take, length-take-le, append-nil, take_all, take-append-drop, take_at}
 use Rattle.std.proofs.Math.Nat.{mul_comm, mul-div_left, mul-le-mul_right, le_of_mul-le-mul_right, add-mul, mod-eq_of_lt}
 use Rattle.jr_code.specs.Bits.{number, bits_of}
-use Rattle.jr_code.specs.Code.{Table, IsWord, IsLawfulTable, IsEntryTo, AreEntriesTo, AreEntries, IsEntry, ArePairs, IsPair, nothing, outside, unpacked, lengths_from, lengths, room, space}
+use Rattle.jr_code.specs.Code.{Table, IsWord, IsLawfulTable, IsEntryTo, AreEntriesTo, AreEntries, IsEntry, ArePairs, IsPackedPair, nothing, outside, lengths_from, lengths, room, space}
 use Rattle.jr_code.specs.declared.packed.Packed.{Packed}
 use Rattle.jr_code.proofs.BitLemmas.{length-bits_of, number-bits_of, slice_get-append_left, slice_get-append_right}
 use Rattle.jr_code.proofs.RegisterLemmas.{take-held}
@@ -163,13 +163,13 @@ entries_all t entries entered = λ b h. entry_all t b (slice_index_or entries b 
 -- ---- what ten bits look up
 
 pub pairs_none : (t : Table) → ArePairs t (replicate 1024 nothing)
-pairs_none t = λ window h. rw (get_or-replicate 1024 window nothing outside h) (λ short. absurd (omega (arith, short)))
+pairs_none t = λ window h. rw (get_or-replicate 1024 window nothing outside h) ((λ short. absurd (omega (arith, short))), (λ short. absurd (omega (arith, short))))
 
-pub pairs_more : (t : Table) (pairs : List Packed) (i : ℕ) (p : Packed) → length pairs ≡ 1024 → i < 1024 → IsPair t i (unpacked p) → ArePairs t pairs → ArePairs t (slice_set pairs i p)
+pub pairs_more : (t : Table) (pairs : List Packed) (i : ℕ) (p : Packed) → length pairs ≡ 1024 → i < 1024 → IsPackedPair t i p → ArePairs t pairs → ArePairs t (slice_set pairs i p)
 pairs_more t pairs i p all within pair entered = λ window h. ⊎_elim
     (λ same.
     let lt : i < length pairs = omega arith in
-    subst (λ n. IsPair t n (unpacked (slice_index_or (slice_set pairs i p) n outside))) (sym same) (rw (get_or-set_same pairs i p outside lt) pair))
+    subst (λ n. IsPackedPair t n (slice_index_or (slice_set pairs i p) n outside)) (sym same) (rw (get_or-set_same pairs i p outside lt) pair))
     (λ ne. rw (get_or-set_other pairs i window p outside ne) (entered window h))
     (cases_eq window i)
 

@@ -1,12 +1,13 @@
 -- A word and its extra bits, read together.
-use Rattle.std.proofs.Common.{◌≡◌, ℕ, ◌+◌, ◌-◌, ◌/◌, ◌%◌, ◌^◌, ◌<◌, ◌≤◌, Bool, List, [], ◌++◌, length, take, drop, refl, sym, ◌∙◌, ap, subst, arith, length-append, append_assoc, ⊎_elim, inl, inr}
-use Rattle.std.specs.Prelude.{◌⊎◌, Option, Some, None, IsSome, ℤ}
+use Rattle.std.proofs.Common.{◌≡◌, ◌≢◌, ℕ, ◌+◌, ◌-◌, ◌/◌, ◌%◌, ◌^◌, ◌<◌, ◌≤◌, Bool, List, [], ◌++◌, length, take, drop, refl, sym, ◌∙◌, ap, subst, arith, length-append, append_assoc, ⊎_elim, inl, inr}
+use Rattle.std.specs.Prelude.{◌⊎◌, Option, Some, None, IsSome, ℤ, ⊤}
 use Rattle.std.proofs.lemmas.Bool.{cases_lt}
 use Rattle.std.proofs.lemmas.List.{append-nil, append_cancel_left, append_cancel_right, drop-append-le, drop-drop, length-drop, length-take-le, take-append-drop, take-append-le, take-take, take_at}
 use Rattle.jr_code.specs.Bits.{bits_of, extend, number, value, upper_bits}
-use Rattle.jr_code.specs.Code.{Table, IsWord, IsInFront, IsPair, IsPrefixFree, HasNoFirstWord, HasNoExtended, TakesExtended}
+use Rattle.jr_code.specs.Code.{Table, IsWord, IsInFront, IsPair, IsPrefixFree, HasNoFirstWord, HasNoExtended, HasNoPlaces, GoesOn, TakesExtended}
 use Rattle.jr_code.specs.declared.words.Extended.{Extended}
 use Rattle.jr_code.proofs.BitLemmas.{length-bits_of, number-bits_of}
+use Rattle.jr_code.proofs.ValueLemmas.{Within, value_within}
 use Rattle.jr_code.proofs.RegisterLemmas.{drop-held, first_is, take-front, take-held}
 
 -- a word of n bits, and m extra bits behind it
@@ -104,8 +105,9 @@ held_short t free bs mid s n w left short =
     short_none t free bs (drop n bs) (take n bs) s w (sym (take-append-drop n bs)) (omega (arith, short, ap length e))
 
 -- what is not in front of the bits of a register is not in front of all, where these are as many as the longest has or all there are
-pub held_none : (t : Table) (bs rest : List Bool) → (32 ≤ length bs) ⊎ (rest ≡ []) → HasNoExtended t bs → HasNoExtended t (bs ++ rest)
-held_none t bs rest many none = λ word extra after s w count begins.
+held_none_of : (P : ℕ → Type 0) (t : Table) (bs rest : List Bool) → (32 ≤ length bs) ⊎ (rest ≡ []) → ((word extra after : List Bool) (s : ℕ) → IsWord t word s → P s → length extra ≡ s % 16 → bs ≢ word ++ (extra ++ after))
+    → (word extra after : List Bool) (s : ℕ) → IsWord t word s → P s → length extra ≡ s % 16 → bs ++ rest ≢ word ++ (extra ++ after)
+held_none_of P t bs rest many none = λ word extra after s w is count begins.
     ⊎_elim
     (λ enough.
     let both = word ++ extra in
@@ -113,7 +115,33 @@ held_none t bs rest many none = λ word extra after s w count begins.
     let fits : length (word ++ extra) ≤ length bs = omega (arith, w.short, count, long, enough) in
     let front : take (length (word ++ extra)) bs ≡ word ++ extra =
     sym (take-append-le (length (word ++ extra)) bs rest fits) ∙ ap (λ b. take (length (word ++ extra)) b) (begins ∙ sym (append_assoc word extra after)) ∙ take_at (word ++ extra) after (length (word ++ extra)) refl in
-    none word extra (drop (length (word ++ extra)) bs) s w count
+    none word extra (drop (length (word ++ extra)) bs) s w is count
     (sym (take-append-drop (length (word ++ extra)) bs) ∙ ap (λ f. f ++ drop (length (word ++ extra)) bs) front ∙ append_assoc word extra (drop (length (word ++ extra)) bs)))
-    (λ empty. none word extra after s w count (sym (append-nil bs) ∙ ap (λ r. bs ++ r) (sym empty) ∙ begins))
+    (λ empty. none word extra after s w is count (sym (append-nil bs) ∙ ap (λ r. bs ++ r) (sym empty) ∙ begins))
     many
+
+pub held_none : (t : Table) (bs rest : List Bool) → (32 ≤ length bs) ⊎ (rest ≡ []) → HasNoExtended t bs → HasNoExtended t (bs ++ rest)
+held_none t bs rest many none = λ word extra after s w. held_none_of (λ s. ⊤) t bs rest many (λ word extra after s w _. none word extra after s w) word extra after s w tt
+
+pub held_no_places : (t : Table) (bs rest : List Bool) → (32 ≤ length bs) ⊎ (rest ≡ []) → HasNoPlaces t bs → HasNoPlaces t (bs ++ rest)
+held_no_places t bs rest many none = λ word extra after s n w goes.
+    held_none_of (λ s. (n : ℕ) × GoesOn s n) t bs rest many (λ word extra after s w is. none word extra after s is.0 w is.1) word extra after s w (n, goes)
+
+-- without a word and its extra bits there is no code of a coefficient
+pub none_no_places : (t : Table) (bs : List Bool) → HasNoExtended t bs → HasNoPlaces t bs
+none_no_places t bs none = λ word extra rest s n w goes. none word extra rest s w
+
+-- the one word in front is that of no such code
+pub other_no_places : (t : Table) → IsPrefixFree t → (s : ℕ) (v : ℤ) (old new : List Bool) → TakesExtended t s v old new → ((n : ℕ) → GoesOn s n → ⊥) → HasNoPlaces t old
+other_no_places t free s v old new x other = λ word extra rest s' n w goes count e.
+    let same = free x.word word (x.extra ++ new) (extra ++ rest) s s' x.is w (sym x.split ∙ e) in
+    other n (subst (λ q. GoesOn q n) (sym same.1) goes)
+
+-- such a code has ten extra bits at most
+pub few_extra : (s n : ℕ) → GoesOn s n → s % 16 ≤ 10
+few_extra s n (inl end) = omega (arith, end.0)
+few_extra s n (inr (inl zeros)) = omega (arith, zeros.0)
+few_extra s n (inr (inr some)) = some.1
+
+pub places_value : (t : Table) (s n : ℕ) (v : ℤ) (old new : List Bool) → TakesExtended t s v old new → GoesOn s n → Within 1023 v
+places_value t s n v old new x goes = subst (Within 1023) (sym x.value_is) (value_within x.extra 10 1023 (omega (arith, x.count, few_extra s n goes)) (omega arith))

@@ -213,10 +213,9 @@ with_word count held word few clean =
     ∙ sym (add-mul (held / 2 ^ (64 - count) * 2 ^ 32) word (2 ^ (32 - count)))
 
 -- it is put there by a shift; nothing is put there by a shift of 0
-pub word_or : (count held word words : ℕ) → count < 32 → held % 2 ^ (64 - count) ≡ 0 → word < 2 ^ 32 → words ≡ 1
-    → bit_or held (word * words * 2 ^ 32 % 2 ^ 64 / 2 ^ count) ≡ held + word * 2 ^ (32 - count)
-word_or count held word words few clean small is =
-    let one : word * words ≡ word = ap (λ m. word * m) is ∙ omega arith in
+pub word_or : (count held word : ℕ) → count < 32 → held % 2 ^ (64 - count) ≡ 0 → word < 2 ^ 32
+    → bit_or held (word * 2 ^ 32 % 2 ^ 64 / 2 ^ count) ≡ held + word * 2 ^ (32 - count)
+word_or count held word few clean small =
     let top : word * 2 ^ 32 % 2 ^ 64 ≡ word * 2 ^ 32 = shl_whole word 32 32 64 small (omega arith) in
     let e : 32 - count + count ≡ 32 = omega arith in
     let f : 32 + (32 - count) ≡ 64 - count = omega arith in
@@ -224,20 +223,17 @@ word_or count held word words few clean small is =
     ap (λ k. word * 2 ^ k / 2 ^ count) (sym e) ∙ ap (λ p. word * p / 2 ^ count) (pow-add 2 (32 - count) count)
     ∙ ap (λ m. m / 2 ^ count) (sym (mul_assoc word (2 ^ (32 - count)) (2 ^ count))) ∙ shl-shr (word * 2 ^ (32 - count)) count in
     let below : word * 2 ^ (32 - count) < 2 ^ (64 - count) = omega (arith, shl_below word 32 (32 - count) small, ap (λ k. 2 ^ k) f) in
-    ap (λ m. bit_or held (m * 2 ^ 32 % 2 ^ 64 / 2 ^ count)) one
-    ∙ ap (λ m. bit_or held (m / 2 ^ count)) top
+    ap (λ m. bit_or held (m / 2 ^ count)) top
     ∙ ap (λ m. bit_or held m) down
     ∙ ap (λ h. bit_or h (word * 2 ^ (32 - count))) (held_is count held clean)
     ∙ or_shifted (held / 2 ^ (64 - count)) (64 - count) (word * 2 ^ (32 - count)) below
     ∙ ap (λ h. h + word * 2 ^ (32 - count)) (sym (held_is count held clean))
 
-pub word_none : (count held word words : ℕ) → words ≡ 0 → bit_or held (word * words * 2 ^ 32 % 2 ^ 64 / 2 ^ count) ≡ held
-word_none count held word words is =
-    let none : word * words ≡ 0 = ap (λ m. word * m) is ∙ omega arith in
+pub word_none : (count held : ℕ) → bit_or held (0 * 2 ^ 32 % 2 ^ 64 / 2 ^ count) ≡ held
+word_none count held =
     let nothing : 0 / 2 ^ count ≡ 0 = omega arith in
     let same : held ≡ held * 2 ^ 0 = omega arith in
-    ap (λ m. bit_or held (m * 2 ^ 32 % 2 ^ 64 / 2 ^ count)) none
-    ∙ ap (λ m. bit_or held m) nothing
+    ap (λ m. bit_or held m) nothing
     ∙ ap (λ h. bit_or h 0) same
     ∙ or_shifted held 0 0 (omega arith) ∙ omega arith
 

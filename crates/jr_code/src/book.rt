@@ -3,12 +3,12 @@
 ghost use Rattle.std.specs.Prelude.{◌≡◌, ◌≢◌, ◌<◌, ◌≤◌, ◌-◌, ◌%◌, ◌^◌, ◌↔◌, ◌++◌, ℕ, List, Bool, IsTrue, [], length, IfSome, IfNone, IfOk, OnOk, take, drop, sum};
 ghost use Rattle.std.proofs.Common.{rules};
 ghost use Rattle.std.specs.Cmp.Rules.{comparing};
-ghost use Rattle.jr_code.specs.Code.{same_table, Table, IsWord, IsLawfulTable, HasTooMany, IsOverfull, space, lengths, AreEntries, ArePairs, AreLong, IsFirstWordWhereWhole, HasNoFirstWord, TakesExtended, HasNoExtended, IsInFront, IsPrefixFree, unpacked};
+ghost use Rattle.jr_code.specs.Code.{same_table, Table, IsWord, IsLawfulTable, HasTooMany, IsOverfull, space, lengths, AreEntries, ArePairs, AreLong, IsFirstWordWhereWhole, HasNoFirstWord, TakesExtended, HasNoExtended, TakesPlaces, HasNoPlaces, GoesOn, IsInFront, IsPrefixFree, unpacked, places_in};
 ghost use Rattle.jr_code.specs.Bits.{upper_bits};
 ghost use Rattle.jr_code.specs.Register.{bits_in};
 
 use crate::bits::Bits;
-use crate::packed::Packed;
+use crate::packed::{Packed, places_of};
 use crate::register::Register;
 use crate::table::{CodeFault, CodeTable, word_count};
 use crate::words::Extended;
@@ -177,11 +177,49 @@ impl CodeBook {
         Some((both.symbol, value))
     }
 
+    /// Takes the code of a coefficient behind the first, or of the end of a block (T.81, F.1.2.2): a word and its extra bits.
+    /// Where no such is in front it gives None, and nothing moves. It refills only where it must.
+    #[inline(always)]
+    pub fn read_places(&self, bits: &mut Bits) -> Option<Packed>
+        ensures found { IfSome result (λ p. TakesPlaces self.now p bits.old bits.new) }
+        ensures none { IfNone result (HasNoPlaces self.now bits.old) }
+        ensures unmoved { IfNone result (bits.new ≡ bits.old) }
+    {
+        let code = self.pair(bits.register);
+        if code.long() <= bits.register.count {
+            bits.register = bits.register.behind(code.long());
+            return Some(code);
+        }
+        let register = bits.register.refilled();
+        let code = self.rare_places(register.held, register.count)?;
+        bits.register = register.behind(code.long());
+        Some(code)
+    }
+
+    /// The same with a refill, which goes on beside the look-up and lasts for one more code of at most ten bits.
+    #[inline(always)]
+    pub fn read_places_and_refill(&self, bits: &mut Bits) -> Option<Packed>
+        ensures found { IfSome result (λ p. TakesPlaces self.now p bits.old bits.new) }
+        ensures none { IfNone result (HasNoPlaces self.now bits.old) }
+        ensures unmoved { IfNone result (bits.new ≡ bits.old) }
+    {
+        let next = self.pair(bits.register);
+        let register = bits.register.refilled();
+        if next.long() <= bits.register.count {
+            bits.register = register.behind(next.long());
+            return Some(next);
+        }
+        let next = self.rare_places(register.held, register.count)?;
+        bits.register = register.behind(next.long());
+        Some(next)
+    }
+
     /// What the next ten bits look up, where zeros stand for those that the register hasn't: the word in front of the bits
     /// and its extra bits, where the register has them all.
     #[inline(always)]
     fn pair(&self, register: Register) -> Packed
-        ensures { (unpacked result).long ≤ register.entry.count → IsInFront self.now (unpacked result) register.entry.count (bits_in register.entry) }
+        ensures front { (unpacked result).long ≤ register.entry.count → IsInFront self.now (unpacked result) register.entry.count (bits_in register.entry) }
+        ensures goes { (unpacked result).long ≤ register.entry.count → GoesOn (unpacked result).symbol (places_in result) }
     {
         self.pairs[register.upper(10) as usize]
     }
@@ -213,6 +251,21 @@ impl CodeBook {
             value: value as i16,
             long: long + size,
         })
+    }
+
+    /// The same of the code of a coefficient behind the first, or of the end of a block.
+    #[cold]
+    #[inline(never)]
+    fn rare_places(&self, held: u64, count: u32) -> Option<Packed>
+        requires few { count < 64 }
+        requires clean { held % 2 ^ (64 - count) ≡ 0 }
+        ensures found { IfSome result (λ p. IsInFront self.now (unpacked p) count (upper_bits count held)) }
+        ensures goes { IfSome result (λ p. GoesOn (unpacked p).symbol (places_in p)) }
+        ensures none { IfNone result (HasNoPlaces self.now (upper_bits count held)) }
+    {
+        let both = self.rare_pair(held, count)?;
+        let places = places_of(both.symbol)?;
+        Some(Packed::of(both, places))
     }
 
     /// The word of at most eight bits that is in front of the bits.

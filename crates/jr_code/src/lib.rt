@@ -13,4 +13,5 @@ pub use bits::Bits;
 pub use book::CodeBook;
 pub use jr_base::Memory;
 pub use laws::{each_place_has_a_word, one_word, same_table_tells};
+pub use packed::Packed;
 pub use table::{CodeFault, CodeTable, word_count};

@@ -1,15 +1,24 @@
 //! A word and its extra bits in one number, so that one load gives both.
 
-ghost use Rattle.std.specs.Prelude.{◌≡◌, ◌/◌, ◌%◌, ◌<◌};
-ghost use Rattle.std.specs.Int.{w16, cast_signed};
-ghost use Rattle.jr_code.specs.Code.{unpacked};
+ghost use Rattle.std.specs.Prelude.{◌≡◌, ◌<◌, ◌≤ℤ◌, ℕ, pos, negsuc, IfSome, IfNone};
+ghost use Rattle.jr_code.specs.Code.{unpacked, places_in, GoesOn};
 
 use crate::words::Extended;
 
-/// What a table looks up: in the lowest byte how many bits both have, in the next one the symbol, and in the upper half
-/// the value, as an `i16` has it. Where there is nothing the lowest byte is 255, longer than any register.
+/// The places that stand for the end of a block: no block has as many.
+const TO_THE_END: u8 = 128;
+
+/// The symbol of a run of sixteen zeros.
+const SIXTEEN_ZEROS: u8 = 0xF0;
+
+/// The most extra bits of a coefficient behind the first.
+const MOST_EXTRA: u8 = 10;
+
+/// What a table looks up. In the lowest byte it has how many bits the word and its extra bits have, in the next one how many
+/// places of a block they go on, in the lower half of the third the number of the extra bits, and in the upper eleven bits
+/// their value. Where there is nothing the lowest byte is 255, longer than any register.
 #[derive(Clone, Copy)]
-pub(crate) struct Packed {
+pub struct Packed {
     number: u32,
 }
 
@@ -17,13 +26,18 @@ impl Packed {
     /// Nothing.
     pub(crate) const NONE: Packed = Packed { number: 255 };
 
-    /// What is looked up.
-    pub(crate) fn of(both: Extended) -> Packed
-        ensures { unpacked result ≡ both }
+    /// What is looked up: a word, its extra bits, and how many places they go on.
+    pub(crate) fn of(both: Extended, places: u8) -> Packed
+        requires places { GoesOn both.symbol places }
+        requires least { negsuc 1023 ≤ℤ both.value }
+        requires greatest { both.value ≤ℤ pos 1023 }
+        ensures both { unpacked result ≡ both }
+        ensures places { places_in result ≡ places }
     {
-        let value = u32::from(both.value.cast_unsigned());
+        let value = u32::from(both.value.cast_unsigned()) % 2048;
+        let size = u32::from(both.symbol % 16);
         Packed {
-            number: value * 65536 + u32::from(both.symbol) * 256 + u32::from(both.long),
+            number: value * 2097152 + size * 65536 + u32::from(places) * 256 + u32::from(both.long),
         }
     }
 
@@ -35,19 +49,53 @@ impl Packed {
         self.number % 256
     }
 
+    /// How many places of a block they go on: a run of zeros and the coefficient behind it; 128 to the end of the block.
+    #[inline(always)]
+    pub fn places(self) -> u32
+        ensures value { result ≡ places_in self }
+        ensures few { result < 256 }
+    {
+        self.number / 256 % 256
+    }
+
     /// The symbol of the word.
     #[inline(always)]
     pub(crate) fn symbol(self) -> u8
         ensures { result ≡ (unpacked self).symbol }
     {
-        (self.number / 256 % 256) as u8
+        let size = self.number / 65536 % 16;
+        let places = self.places();
+        if places == 128 {
+            return size as u8;
+        }
+        ((16 * places.saturating_sub(1) + size) % 256) as u8
     }
 
     /// What the extra bits stand for.
     #[inline(always)]
-    pub(crate) fn value(self) -> i16
+    pub fn value(self) -> i16
         ensures { result ≡ (unpacked self).value }
     {
-        ((self.number / 65536) as u16).cast_signed()
+        (self.number.cast_signed() >> 21) as i16
     }
+}
+
+/// How many places of a block the code of a symbol goes on (T.81, F.1.2.2): its upper four bits are a run of zeros, and its
+/// lower ones how many extra bits the coefficient behind it has. None where it is the symbol of no such code.
+#[inline(always)]
+pub(crate) fn places_of(symbol: u8) -> Option<u8>
+    ensures some { IfSome result (λ n. GoesOn symbol n) }
+    ensures none { IfNone result ((n : ℕ) → GoesOn symbol n → ⊥) }
+{
+    let size = symbol % 16;
+    if symbol == 0 {
+        return Some(TO_THE_END);
+    }
+    if symbol == SIXTEEN_ZEROS {
+        return Some(16);
+    }
+    if size == 0 || size > MOST_EXTRA {
+        return None;
+    }
+    Some(symbol / 16 + 1)
 }

@@ -51,7 +51,7 @@ impl<'a> Register<'a> {
         let words = (63 - self.count) / 32;
         Register {
             rest: &self.rest[4 * words as usize..],
-            held: with_words(self.held, self.count, word(a, b, c, d), words),
+            held: with_word(self.held, self.count, word(a, b, c, d)),
             count: self.count % 32 + 32,
         }
     }
@@ -141,17 +141,16 @@ impl<'a> Register<'a> {
     }
 }
 
-/// A register's number with a word behind its first `count` bits where these are fewer than 32, and else as it is: `words`
-/// is 1 or 0.
+/// A register's number with a word behind its first `count` bits where these are fewer than 32, and else as it is.
 #[inline(always)]
-fn with_words(held: u64, count: u32, word: u32, words: u32) -> u64
+fn with_word(held: u64, count: u32, word: u32) -> u64
     requires few { count < 64 }
     requires clean { held % 2 ^ (64 - count) ≡ 0 }
-    requires words { words ≡ (63 - count) / 32 }
     ensures one { count < 32 → result ≡ held + word * 2 ^ (32 - count) }
     ensures none { 32 ≤ count → result ≡ held }
 {
-    held | (u64::from(word) * u64::from(words)) << 32 >> count
+    let word = if count < 32 { word } else { 0 };
+    held | u64::from(word) << 32 >> count
 }
 
 /// The number of four bytes, the first counting most.

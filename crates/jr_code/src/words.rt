@@ -1,11 +1,11 @@
 //! What a reader looks up, filled in by going over the words of a code table.
 
-ghost use Rattle.std.specs.Prelude.{◌≡◌, ◌≢◌, ◌<◌, ◌≤◌, ◌+◌, ◌-◌, ◌*◌, ◌/◌, ◌%◌, ◌^◌, ℕ, List, Bool, Some, None, slice_get, slice_index_or, length, IfSome, IfNone, take, sum};
+ghost use Rattle.std.specs.Prelude.{◌≡◌, ◌≢◌, ◌<◌, ◌≤◌, ◌+◌, ◌-◌, ◌*◌, ◌/◌, ◌%◌, ◌^◌, ℕ, List, Bool, Some, None, slice_get, slice_index_or, length, IfSome, IfNone, take, sum, pos, negsuc, ◌≤ℤ◌};
 ghost use Rattle.jr_code.specs.Bits.{bits_of, number};
 ghost use Rattle.jr_code.specs.Code.{Table, IsWord, HasShortWordsOnly, AreEntries, AreEntriesTo, ArePairs, IsPair, AreLong, room, space, lengths};
 
 use crate::bits::extend;
-use crate::packed::Packed;
+use crate::packed::{Packed, places_of};
 use crate::table::CodeTable;
 
 /// A word and its extra bits together.
@@ -140,7 +140,7 @@ fn enter_word(entries: &mut [Option<(u8, u8)>; 256], code: usize, symbol: u8, lo
     }
 }
 
-/// Enters a word: the ten bits that begin with it look up the word and its extra bits, where they hold both.
+/// Enters the word of an AC code: the ten bits that begin with it look up the word and its extra bits, where they hold both.
 fn enter_pair(pairs: &mut [Packed; 1024], code: usize, symbol: u8, long: u8)
     requires short { long ≤ 10 }
     requires fits { code < 2 ^ long }
@@ -149,10 +149,13 @@ fn enter_pair(pairs: &mut [Packed; 1024], code: usize, symbol: u8, long: u8)
     if long + symbol % 16 > 10 {
         return;
     }
+    let Some(places) = places_of(symbol) else {
+        return;
+    };
     let each = 1024usize >> long;
     let first = code * each;
     for window in first..first + each {
-        pairs[window] = Packed::of(pair(window as u64, symbol, long));
+        pairs[window] = Packed::of(pair(window as u64, symbol, long), places);
     }
 }
 
@@ -161,7 +164,10 @@ fn enter_pair(pairs: &mut [Packed; 1024], code: usize, symbol: u8, long: u8)
 fn pair(window: u64, symbol: u8, long: u8) -> Extended
     requires held { long + symbol % 16 ≤ 10 }
     requires ten { window < 1024 }
-    ensures { (t : Table) → IsWord t (take long (bits_of 10 window)) symbol → IsPair t window result }
+    ensures least { negsuc 1023 ≤ℤ result.value }
+    ensures greatest { result.value ≤ℤ pos 1023 }
+    ensures both { result.symbol ≡ symbol }
+    ensures pair { (t : Table) → IsWord t (take long (bits_of 10 window)) symbol → IsPair t window result }
 {
     let size = symbol % 16;
     let both = long + size;

@@ -3,7 +3,7 @@ pub mod AcCodes
 pub mod Rest
 pub mod Steps
 pub mod Coded
-pub mod Values
+pub mod Places
 pub mod Options
 pub mod McuLaws
 pub mod Predicted

@@ -13,35 +13,8 @@ use Rattle.jr_code.proofs.BitLemmas.{number_below}
 use Rattle.jr_scan.specs.Block.{AcCode, IsAcCode, entries, DifferenceAt, OthersAt, CodedAt, BlockAt, IsInDcRange, IsInRange}
 use Rattle.jr_scan.specs.Block.AcCode.{ZeroRun, RunAndSize}
 use Rattle.jr_scan.specs.Step.{TakesCoded}
-use Rattle.jr_scan.proofs.Values.{extended_high, extended_low}
+use Rattle.jr_code.proofs.ValueLemmas.{Within, within_zero, value_within}
 use Rattle.jr_scan.proofs.Rest.{end_within}
-
--- from -m to m
-abbrev pub Within : ℕ → ℤ → Type 0
-Within m x = (x ≤ℤ pos m) × (pos 0 ≤ℤ (x +ℤ pos m))
-
-within_zero : (m : ℕ) → Within m (pos 0)
-within_zero m = (omega (arith, ints), omega (arith, ints))
-
-extended_within : (size v m : ℕ) → v < 2 ^ size → 2 ^ size ≤ m + 1 → Within m (extend size v)
-extended_within zero v m lt fits = within_zero m
-extended_within (suc s) v m lt fits =
-    let e : suc s - 1 ≡ s = omega arith in
-    let twice : 2 ^ suc s ≡ 2 * 2 ^ s = omega arith in
-    elim (cases_lt v (2 ^ (suc s - 1))) [
-      | inl l ↦
-          let is = extended_low (suc s) v (λ z. omega arith) l in
-          let same : 2 ^ (suc s - 1) ≡ 2 ^ s = ap (λ (k : ℕ). 2 ^ k) e in
-          subst (Within m) (sym is) (omega (arith, ints, same, twice), omega (arith, ints, same, twice))
-      | inr g ↦
-          let is = extended_high (suc s) v (λ z. omega arith) g in
-          subst (Within m) (sym is) (omega (arith, ints), omega (arith, ints))
-    ]
-
-pub value_within : (w : List Bool) (k m : ℕ) → length w ≤ k → 2 ^ k ≤ m + 1 → Within m (value w)
-value_within w k m few fits =
-    let mono : 2 ^ length w ≤ 2 ^ k = pow_mono few in
-    extended_within (length w) (number w) m (number_below w) (omega arith)
 
 -- extra bits stand for a number of sixteen bits
 pub extended_fits : (t : Table) (symbol : ℕ) (v : ℤ) (old new : List Bool) → TakesExtended t symbol v old new → SFits w16 v

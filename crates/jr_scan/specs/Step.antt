@@ -3,8 +3,6 @@ use Rattle.std.specs.Prelude.{◌≡◌, ℕ, Bool, List, [], ◌∷◌, ◌++�
 use Rattle.jr_code.specs.Bits.{value}
 use Rattle.jr_code.specs.Code.{Table, IsWord}
 use Rattle.jr_scan.specs.Block.{AcCode, IsAcCode, code_bits, entries, OthersAt, DifferenceAt, CodedAt, BlockAt}
-use Rattle.jr_scan.specs.declared.block.Step.{Step}
-use Rattle.jr_scan.specs.declared.block.Step.TheVariants.{End, Coefficient}
 
 -- old is so many extra bits of that value, and then new
 pub record TakesExtra (size : ℕ) (v : ℤ) (old new : List Bool) : Type 0 where
@@ -25,10 +23,6 @@ pub record TakesEnd (ac : Table) (old new : List Bool) : Type 0 where
   pub word : List Bool
   pub is : IsWord ac word 0
   pub split : old ≡ word ++ new
-
-abbrev pub TakesStep : Table → Step → List Bool → List Bool → Type 0
-TakesStep ac End old new = TakesEnd ac old new
-TakesStep ac (Coefficient run v) old new = TakesAcCode ac (replicate run (pos 0) ++ v ∷ []) old new
 
 -- no code and no end of a block begins these bits
 pub record HasNoStep (ac : Table) (bits : List Bool) : Type 0 where

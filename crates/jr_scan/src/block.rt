@@ -1,45 +1,10 @@
 //! The bits of one block.
 
-ghost use Rattle.std.specs.Prelude.{◌≡◌, ℕ, ◌<◌, ◌≤◌, ◌^◌, ℤ, pos, negsuc, ◌≤ℤ◌, ◌∷◌, List, length, IfSome, IfNone};
-ghost use Rattle.jr_scan.specs.Step.{TakesStep, HasNoStep, TakesDifference, HasNoDifference, TakesOthers, HasNoOthers, TakesCoded, HasNoCoded};
+ghost use Rattle.std.specs.Prelude.{◌≡◌, ℕ, ◌<◌, ◌≤◌, ◌^◌, ℤ, pos, negsuc, ◌≤ℤ◌, ◌∷◌, ◌↔◌, ◌⊎◌, List, length, slice_set, IsSome, IfSome, IfNone};
+ghost use Rattle.jr_scan.specs.Step.{TakesDifference, HasNoDifference, TakesOthers, HasNoOthers, TakesCoded, HasNoCoded};
 
 use jr_block::Coefficients;
 use jr_code::{Bits, CodeBook};
-
-/// The most extra bits of a coefficient behind the first.
-const MOST_EXTRA: u8 = 10;
-
-/// The symbol of a run of sixteen zeros.
-const SIXTEEN_ZEROS: u8 = 0xF0;
-
-/// What comes next behind the first coefficient of a block.
-#[derive(Clone, Copy, Debug, PartialEq, Eq)]
-enum Step {
-    /// The rest of the block is 0.
-    End,
-    /// A run of zeros and a coefficient. Sixteen zeros are a coefficient of 0 behind fifteen.
-    Coefficient(u8, i16),
-}
-
-/// Takes what comes next behind the first coefficient (T.81, F.1.2.2).
-fn read_step(ac: &CodeBook, bits: &mut Bits<'_>) -> Option<Step>
-    ensures some { IfSome result (λ step. TakesStep ac.now step bits.old bits.new) }
-    ensures none { IfNone result (HasNoStep ac.now bits.old) }
-{
-    let (symbol, v) = ac.read_extended(bits)?;
-    let size = symbol % 16;
-    if size == 0 {
-        if symbol == 0 {
-            return Some(Step::End);
-        }
-        if symbol != SIXTEEN_ZEROS {
-            return None;
-        }
-    } else if size > MOST_EXTRA {
-        return None;
-    }
-    Some(Step::Coefficient(symbol / 16, v as i16))
-}
 
 /// Takes the first coefficient's difference to its prediction (T.81, F.1.2.1).
 fn read_difference(dc: &CodeBook, bits: &mut Bits<'_>) -> Option<i16>
@@ -53,7 +18,24 @@ fn read_difference(dc: &CodeBook, bits: &mut Bits<'_>) -> Option<i16>
     Some(v as i16)
 }
 
-/// Takes the coefficients behind the first into a block.
+/// Ends a block whose last code went on to its last place, or past it: where that is the last place its value is put there,
+/// and from 128 on it was the code of the end. None where it is a place that no block has.
+#[inline(always)]
+fn end_block(place: u32, value: i16, block: &mut Coefficients) -> Option<()>
+    requires { 63 ≤ place }
+    ensures some { IsSome result ↔ ((place ≡ 63) ⊎ (128 ≤ place)) }
+    ensures last { place ≡ 63 → block.new ≡ slice_set block.old 63 value }
+    ensures end { 128 ≤ place → block.new ≡ block.old }
+{
+    if place == 63 {
+        block.set(63, value);
+    } else if place < 128 {
+        return None;
+    }
+    Some(())
+}
+
+/// Takes the coefficients behind the first into a block, two codes a turn: a refill lasts for both.
 fn read_others(
     ac: &CodeBook,
     bits: &mut Bits<'_>,
@@ -65,22 +47,21 @@ fn read_others(
 {
     *block = Coefficients::zeros();
     block.set(0, first);
-    let mut index: usize = 1;
-    'steps: loop {
-        match read_step(ac, bits)? {
-            Step::End => return Some(()),
-            Step::Coefficient(run, v) => {
-                let at = index + usize::from(run);
-                if at > 63 {
-                    return None;
-                }
-                block.set(at, v);
-                index = at + 1;
-            }
+    let mut place: u32 = 0;
+    'codes: loop {
+        let code = ac.read_places(bits)?;
+        place += code.places();
+        if place > 62 {
+            return end_block(place, code.value(), block);
         }
-        if index == 64 {
-            return Some(());
+        block.set(place as usize, code.value());
+
+        let next = ac.read_places_and_refill(bits)?;
+        place += next.places();
+        if place > 62 {
+            return end_block(place, next.value(), block);
         }
+        block.set(place as usize, next.value());
     }
 }
 

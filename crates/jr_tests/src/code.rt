@@ -2,6 +2,7 @@
 
 mod ends;
 mod limits;
+mod places;
 
 use crate::plain::{extended_word, word};
 use jr_code::{Bits, CodeBook, CodeFault};

@@ -1,46 +1,79 @@
-use Rattle.std.proofs.Common.{rules, ◌+◌, [], ◌∷◌, ◌++◌, replicate, refl, subst, arith, length-append, pos, set, ap, sym, ◌∙◌, ℤ, List, w16}
+use Rattle.std.proofs.Common.{rules, ◌≡◌, ◌+◌, ◌≤◌, ◌∷◌, refl, subst, arith, set, ap, sym, ◌∙◌, ℤ, List, w16}
 use mir.Val.{SFits, to_z, of_z}
-use Rattle.std.proofs.Math.ListN.{length-replicate}
 use Rattle.std.proofs.lemmas.Int.{to_z-of_z}
 use Rattle.jr_code.proofs.CodeLemmas.{one_word}
-use Rattle.jr_scan.specs.Step.{TakesStep, TakesAcCode, TakesEnd}
-use Rattle.jr_scan.specs.declared.block.Step.{Step}
-use Rattle.jr_scan.proofs.Rest.{IsSoFar, so_far_none, so_far_coef, so_far_all, so_far_end, so_far_stuck, so_far_over}
+use Rattle.jr_code.specs.Code.{places_in, unpacked}
+use Rattle.jr_scan.proofs.Rest.{IsSoFar, so_far_none, so_far_stuck}
+use Rattle.jr_scan.proofs.Places.{ended_none, ended_some, no_step_places, so_far_places}
 use Rattle.jr_scan.proofs.block.read_others.Goals as goal
 
-pub steps-init : goal.steps-init
-steps-init c =
+pub codes-init : goal.codes-init
+codes-init c =
     let first = to_z w16 (of_z w16 c.args.first) in
     let e = c.set.ensures ∙ ap (λ (z : List ℤ). set z 0 first) c.zeros.ensures in
     (omega arith, subst (λ (b : List ℤ). IsSoFar c.args.ac.now first c.args.bits.now c.args.bits.now b 1) (sym e) (so_far_none _ _ _))
 
-pub returns-in_err-read_step-clause-none : goal.returns-in_err-read_step-clause-none
-returns-in_err-read_step-clause-none c = rw c.from_residual.ensures (so_far_stuck _ _ _ _ _ _ c.steps.invariant.1 c.steps.invariant.0 c.in_err-read_step.ensures.none)
+pub returns-in_err-code-clause-none : goal.returns-in_err-code-clause-none
+returns-in_err-code-clause-none c =
+    rw c.from_residual.ensures (so_far_stuck _ _ _ _ _ _ c.codes.invariant.1 (omega (arith, c.codes.invariant.0)) (no_step_places _ _ c.in_err-code.ensures.none))
 
-pub returns-in-End-clause-some : goal.returns-in-End-clause-some
-returns-in-End-clause-some c =
-    let s : IsSoFar c.args.ac.now c.args.first c.args.bits.now c.steps.bits c.steps.block c.steps.index = subst (λ q. IsSoFar c.args.ac.now q c.args.bits.now c.steps.bits c.steps.block c.steps.index) (to_z-of_z w16 c.args.first c.ranges.first) c.steps.invariant.1 in
-    let t : TakesEnd c.args.ac.now c.steps.bits c.read_step.new.bits = subst (λ (st : Step). TakesStep c.args.ac.now st c.steps.bits c.read_step.new.bits) c.in-End.is c.in_ok-read_step.ensures.some in
-    so_far_end _ _ _ _ _ _ _ s c.steps.invariant.0 t
+pub returns-then-place-gt62-clause-some : goal.returns-then-place-gt62-clause-some
+returns-then-place-gt62-clause-some c =
+    let s : IsSoFar c.args.ac.now c.args.first c.args.bits.now c.codes.bits c.codes.block (c.codes.place + 1) = subst (λ q. IsSoFar c.args.ac.now q c.args.bits.now c.codes.bits c.codes.block (c.codes.place + 1)) (to_z-of_z w16 c.args.first c.ranges.first) c.codes.invariant.1 in
+    let f : SFits w16 c.value.result = search rules in
+    ended_some c.args.ac.now (one_word _) c.args.first c.value.result c.args.bits.now c.codes.bits c.read_places.new.bits c.codes.block c.end_block.new.block c.codes.place (c.codes.place + c.places-place.result) c.in_ok-code.code
+    s c.codes.invariant.0 c.in_ok-code.ensures.found (ap (λ n. c.codes.place + n) c.places-place.ensures.value)
+    c.end_block.result c.end_block.ensures.some.0 c.value.ensures (λ last. c.end_block.ensures.last last ∙ ap (set c.codes.block 63) (to_z-of_z w16 c.value.result f)) c.end_block.ensures.end
 
-pub returns-then-at-gt63-clause-none : goal.returns-then-at-gt63-clause-none
-returns-then-at-gt63-clause-none c =
-    let run = c.in-Coefficient.run' in
-    let v = c.in-Coefficient.v in
-    let t : TakesAcCode c.args.ac.now (replicate run (pos 0) ++ v ∷ []) c.steps.bits c.read_step.new.bits = subst (λ (st : Step). TakesStep c.args.ac.now st c.steps.bits c.read_step.new.bits) c.in-Coefficient.is c.in_ok-read_step.ensures.some in
-    so_far_over _ (one_word _) _ _ _ _ _ (replicate run (pos 0) ++ v ∷ []) _ c.steps.invariant.1 c.steps.invariant.0 t (omega (arith, length-append (replicate run (pos 0)) (v ∷ []), length-replicate run (pos 0), c.from.ensures, c.if-at-gt63.true))
+pub returns-then-place-gt62-clause-none : goal.returns-then-place-gt62-clause-none
+returns-then-place-gt62-clause-none c =
+    ended_none c.args.ac.now (one_word _) _ c.value.result c.args.bits.now c.codes.bits c.read_places.new.bits c.codes.block c.end_block.new.block c.codes.place (c.codes.place + c.places-place.result) c.in_ok-code.code
+    c.codes.invariant.1 c.codes.invariant.0 c.in_ok-code.ensures.found (ap (λ n. c.codes.place + n) c.places-place.ensures.value)
+    c.end_block.result c.end_block.ensures.some.1 (omega (arith, c.if-place-gt62.true))
 
-pub returns-then-index-eq64-clause-some : goal.returns-then-index-eq64-clause-some
-returns-then-index-eq64-clause-some c =
-    let s : IsSoFar c.args.ac.now c.args.first c.args.bits.now c.steps.bits c.steps.block c.steps.index = subst (λ q. IsSoFar c.args.ac.now q c.args.bits.now c.steps.bits c.steps.block c.steps.index) (to_z-of_z w16 c.args.first c.ranges.first) c.steps.invariant.1 in
-    let f : SFits w16 c.in-Coefficient.v = search rules in
-    let next : IsSoFar c.args.ac.now c.args.first c.args.bits.now c.read_step.new.bits c.set-in-Coefficient.new.self (c.steps.index + c.from.result + 1) =
-    so_far_coef _ (one_word _) _ c.in-Coefficient.v _ _ _ _ _ _ c.in-Coefficient.run' (c.steps.index + c.from.result) _ s c.steps.invariant.0 (subst (λ (st : Step). TakesStep c.args.ac.now st c.steps.bits c.read_step.new.bits) c.in-Coefficient.is c.in_ok-read_step.ensures.some) (omega (arith, c.from.ensures)) c.if-at-gt63.false (c.set-in-Coefficient.ensures ∙ ap (set c.steps.block (c.steps.index + c.from.result)) (to_z-of_z w16 c.in-Coefficient.v f)) refl in
-    so_far_all _ _ _ _ _ _ next (omega (arith, c.if-index-eq64.true))
+pub returns-in_err-next-clause-none : goal.returns-in_err-next-clause-none
+returns-in_err-next-clause-none c =
+    let place : c.codes.place + c.places-place.result ≡ c.codes.place + places_in c.in_ok-code.code = ap (λ n. c.codes.place + n) c.places-place.ensures.value in
+    let f : SFits w16 c.value-in-codes.result = search rules in
+    let s = so_far_places c.args.ac.now (one_word _) _ c.args.bits.now c.codes.bits c.read_places.new.bits c.codes.block c.set-in-codes.new.self c.codes.place (c.codes.place + c.places-place.result) c.in_ok-code.code
+    c.codes.invariant.1 c.codes.invariant.0 c.in_ok-code.ensures.found place (omega (arith, c.if-place-gt62.false)) (c.set-in-codes.ensures ∙ ap (set c.codes.block (c.codes.place + c.places-place.result)) (to_z-of_z w16 c.value-in-codes.result f ∙ c.value-in-codes.ensures)) in
+    rw c.from_residual-in_err-next.ensures (so_far_stuck _ _ _ _ _ _ s (omega (arith, c.if-place-gt62.false)) (no_step_places _ _ c.in_err-next.ensures.none))
 
-pub steps-preserved : goal.steps-preserved
-steps-preserved c =
-    let f : SFits w16 c.in-Coefficient.v = search rules in
-    let next : IsSoFar c.args.ac.now (to_z w16 (of_z w16 c.args.first)) c.args.bits.now c.read_step.new.bits c.set-in-Coefficient.new.self (c.steps.index + c.from.result + 1) =
-    so_far_coef _ (one_word _) _ c.in-Coefficient.v _ _ _ _ _ _ c.in-Coefficient.run' (c.steps.index + c.from.result) _ c.steps.invariant.1 c.steps.invariant.0 (subst (λ (st : Step). TakesStep c.args.ac.now st c.steps.bits c.read_step.new.bits) c.in-Coefficient.is c.in_ok-read_step.ensures.some) (omega (arith, c.from.ensures)) c.if-at-gt63.false (c.set-in-Coefficient.ensures ∙ ap (set c.steps.block (c.steps.index + c.from.result)) (to_z-of_z w16 c.in-Coefficient.v f)) refl in
-    (omega (arith, c.if-index-eq64.false, c.if-at-gt63.false), next)
+pub returns-then-place-gt62-2-clause-some : goal.returns-then-place-gt62-2-clause-some
+returns-then-place-gt62-2-clause-some c =
+    let s0 : IsSoFar c.args.ac.now c.args.first c.args.bits.now c.codes.bits c.codes.block (c.codes.place + 1) = subst (λ q. IsSoFar c.args.ac.now q c.args.bits.now c.codes.bits c.codes.block (c.codes.place + 1)) (to_z-of_z w16 c.args.first c.ranges.first) c.codes.invariant.1 in
+    let place : c.codes.place + c.places-place.result ≡ c.codes.place + places_in c.in_ok-code.code = ap (λ n. c.codes.place + n) c.places-place.ensures.value in
+    let f : SFits w16 c.value-in-codes.result = search rules in
+    let g : SFits w16 c.value-then-place-gt62-2.result = search rules in
+    let at = c.codes.place + c.places-place.result in
+    let s = so_far_places c.args.ac.now (one_word _) c.args.first c.args.bits.now c.codes.bits c.read_places.new.bits c.codes.block c.set-in-codes.new.self c.codes.place (c.codes.place + c.places-place.result) c.in_ok-code.code
+    s0 c.codes.invariant.0 c.in_ok-code.ensures.found place (omega (arith, c.if-place-gt62.false)) (c.set-in-codes.ensures ∙ ap (set c.codes.block (c.codes.place + c.places-place.result)) (to_z-of_z w16 c.value-in-codes.result f ∙ c.value-in-codes.ensures)) in
+    ended_some c.args.ac.now (one_word _) c.args.first c.value-then-place-gt62-2.result c.args.bits.now c.read_places.new.bits c.read_places_and_refill.new.bits c.set-in-codes.new.self c.end_block-then-place-gt62-2.new.block at (at + c.places-place-in-codes.result) c.in_ok-next.next
+    s (omega (arith, c.if-place-gt62.false)) c.in_ok-next.ensures.found (ap (λ n. at + n) c.places-place-in-codes.ensures.value)
+    c.end_block-then-place-gt62-2.result c.end_block-then-place-gt62-2.ensures.some.0 c.value-then-place-gt62-2.ensures
+    (λ last. c.end_block-then-place-gt62-2.ensures.last last ∙ ap (set c.set-in-codes.new.self 63) (to_z-of_z w16 c.value-then-place-gt62-2.result g)) c.end_block-then-place-gt62-2.ensures.end
+
+pub returns-then-place-gt62-2-clause-none : goal.returns-then-place-gt62-2-clause-none
+returns-then-place-gt62-2-clause-none c =
+    let place : c.codes.place + c.places-place.result ≡ c.codes.place + places_in c.in_ok-code.code = ap (λ n. c.codes.place + n) c.places-place.ensures.value in
+    let f : SFits w16 c.value-in-codes.result = search rules in
+    let at = c.codes.place + c.places-place.result in
+    let s = so_far_places c.args.ac.now (one_word _) _ c.args.bits.now c.codes.bits c.read_places.new.bits c.codes.block c.set-in-codes.new.self c.codes.place (c.codes.place + c.places-place.result) c.in_ok-code.code
+    c.codes.invariant.1 c.codes.invariant.0 c.in_ok-code.ensures.found place (omega (arith, c.if-place-gt62.false)) (c.set-in-codes.ensures ∙ ap (set c.codes.block (c.codes.place + c.places-place.result)) (to_z-of_z w16 c.value-in-codes.result f ∙ c.value-in-codes.ensures)) in
+    ended_none c.args.ac.now (one_word _) _ c.value-then-place-gt62-2.result c.args.bits.now c.read_places.new.bits c.read_places_and_refill.new.bits c.set-in-codes.new.self c.end_block-then-place-gt62-2.new.block at (at + c.places-place-in-codes.result) c.in_ok-next.next
+    s (omega (arith, c.if-place-gt62.false)) c.in_ok-next.ensures.found (ap (λ n. at + n) c.places-place-in-codes.ensures.value)
+    c.end_block-then-place-gt62-2.result c.end_block-then-place-gt62-2.ensures.some.1 (omega (arith, c.if-place-gt62-2.true))
+
+pub codes-preserved : goal.codes-preserved
+codes-preserved c =
+    let place : c.codes.place + c.places-place.result ≡ c.codes.place + places_in c.in_ok-code.code = ap (λ n. c.codes.place + n) c.places-place.ensures.value in
+    let f : SFits w16 c.value-in-codes.result = search rules in
+    let g : SFits w16 c.value-in-codes-2.result = search rules in
+    let at = c.codes.place + c.places-place.result in
+    let s = so_far_places c.args.ac.now (one_word _) _ c.args.bits.now c.codes.bits c.read_places.new.bits c.codes.block c.set-in-codes.new.self c.codes.place (c.codes.place + c.places-place.result) c.in_ok-code.code
+    c.codes.invariant.1 c.codes.invariant.0 c.in_ok-code.ensures.found place (omega (arith, c.if-place-gt62.false)) (c.set-in-codes.ensures ∙ ap (set c.codes.block (c.codes.place + c.places-place.result)) (to_z-of_z w16 c.value-in-codes.result f ∙ c.value-in-codes.ensures)) in (
+      omega (arith, c.if-place-gt62-2.false),
+      so_far_places c.args.ac.now (one_word _) _ c.args.bits.now c.read_places.new.bits c.read_places_and_refill.new.bits c.set-in-codes.new.self c.set-in-codes-2.new.self at (at + c.places-place-in-codes.result) c.in_ok-next.next
+          s (omega (arith, c.if-place-gt62.false)) c.in_ok-next.ensures.found (ap (λ n. at + n) c.places-place-in-codes.ensures.value) (omega (arith, c.if-place-gt62-2.false))
+          (c.set-in-codes-2.ensures ∙ ap (set c.set-in-codes.new.self (at + c.places-place-in-codes.result)) (to_z-of_z w16 c.value-in-codes-2.result g ∙ c.value-in-codes-2.ensures)),
+    )
