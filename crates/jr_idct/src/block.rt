@@ -60,6 +60,7 @@ fn small_blocks(a: &Coefficients, b: &Coefficients, quantisers: &Quantisers) -> 
 }
 
 /// The samples of a block, at index `8 row + column`: dequantised, transformed and shifted (T.81, A.3.1, A.3.3, A.3.4 and A.3.6).
+#[inline(never)]
 pub fn transform_one(block: &Coefficients, quantisers: &Quantisers) -> [u8; 64]
     ensures { result ≡ samples block.now quantisers.now }
 {
@@ -73,24 +74,22 @@ pub fn transform_one(block: &Coefficients, quantisers: &Quantisers) -> [u8; 64]
     any_block(block, quantisers)
 }
 
-/// The samples of two blocks of one component.
+/// The samples of two blocks of one component. Where it is called its results stay in registers, so that each row of samples
+/// can be stored where it belongs.
+#[inline(always)]
 pub fn transform_two(
     a: &Coefficients,
     b: &Coefficients,
     quantisers: &Quantisers,
-    first: &mut [u8; 64],
-    second: &mut [u8; 64],
-)
-    ensures first { first.new ≡ samples a.now quantisers.now }
-    ensures second { second.new ≡ samples b.now quantisers.now }
+) -> ([u8; 64], [u8; 64])
+    ensures first { result.0 ≡ samples a.now quantisers.now }
+    ensures second { result.1 ≡ samples b.now quantisers.now }
 {
     if is_flat(a) && is_flat(b) {
-        *first = flat_block(a, quantisers);
-        *second = flat_block(b, quantisers);
+        (flat_block(a, quantisers), flat_block(b, quantisers))
     } else if is_small(a, quantisers) && is_small(b, quantisers) {
-        (*first, *second) = small_blocks(a, b, quantisers);
+        small_blocks(a, b, quantisers)
     } else {
-        *first = any_block(a, quantisers);
-        *second = any_block(b, quantisers);
+        (any_block(a, quantisers), any_block(b, quantisers))
     }
 }

@@ -88,6 +88,24 @@ appended h xs ys us vs k whole a b =
         let z : get_or (xs ++ ys) n [] ≡ get_or ys m [] = get_or-append_right xs ys (length xs) n [] refl (omega (arith, e)) ∙ ap (λ (j : ℕ). get_or ys j []) (omega (arith, e)) in
         u ∙ b.each m lt ∙ ap (λ (j : ℕ). samples (get_or ys m []) (quantiser_of h j)) (sym c) ∙ ap (λ (x : List ℤ). samples x (quantiser_of h (component h n))) (sym z)
 
+-- samples of blocks behind whole MCUs that are put behind those of the blocks before them
+pub placed : (h : HeadValue) (xs ys : List (List ℤ)) (us new : List (List ℕ)) (k : ℕ) → length xs ≡ k * length (order_of h) → AreSamples h xs us → length new ≡ length xs + length ys → ((n : ℕ) → n < length xs → get_or new n [] ≡ get_or us n [])
+    → ((n : ℕ) → n < length ys → get_or new (length xs + n) [] ≡ unit_of h ys n) → AreSamples h (xs ++ ys) new
+placed h xs ys us new k whole a long kept here =
+    record {
+      count = long ∙ sym (length-append xs ys);
+      each = λ n lt. elim (cases_lt n (length xs)) [
+        | inl l ↦ kept n l ∙ a.each n l ∙ ap (λ (z : List ℤ). samples z (quantiser_of h (component h n))) (sym (get_or_append_left xs ys [] n l))
+        | inr g ↦ behind n (n - length xs) (omega (arith, g)) (omega (arith, length-append xs ys, lt, g))
+      ];
+    }
+  where
+    behind : (n m : ℕ) → n ≡ length xs + m → m < length ys → get_or new n [] ≡ unit_of h (xs ++ ys) n
+    behind n m e lt =
+        let c : component h n ≡ component h m = ap (component h) (e ∙ ap (λ (j : ℕ). j + m) whole) ∙ component_on h k m in
+        let z : get_or (xs ++ ys) n [] ≡ get_or ys m [] = get_or-append_right xs ys (length xs) n [] refl (omega (arith, e)) ∙ ap (λ (j : ℕ). get_or ys j []) (omega (arith, e)) in
+        ap (λ (j : ℕ). get_or new j []) e ∙ here m lt ∙ ap (λ (j : ℕ). samples (get_or ys m []) (quantiser_of h j)) (sym c) ∙ ap (λ (x : List ℤ). samples x (quantiser_of h (component h n))) (sym z)
+
 abbrev strip : IntervalValue → ℕ → ℕ → List (List ℕ) → StripValue
 strip i k n us = record { interval = i; first = k; mcus = n; samples = us }
 

@@ -35,14 +35,15 @@ fn read_samples(
     let mut samples = Vec::with_capacity(alloc, most)?;
     let mut reader = McuReader::over(interval.as_ref());
     let mut blocks: [Coefficients; MOST_UNITS] = array::from_fn(|_| Coefficients::zeros());
-    let mut units = [[0; 64]; MOST_UNITS];
+    let empty = [[0; 64]; MOST_UNITS];
     'mcus: loop {
+        let first = reader.mcus();
         let count = reader.read(&mut blocks) as usize * per_mcu;
         if count == 0 {
             return Ok((samples, reader));
         }
-        transform_blocks(head, &blocks[..count], &mut units[..count]);
-        samples.extend_from_slice(&units[..count])?;
+        samples.extend_from_slice(&empty[..count])?;
+        transform_blocks(head, first, &blocks[..count], &mut samples);
     }
 }
 

@@ -16,6 +16,7 @@ mod strip;
 mod strip_reader;
 mod transforming;
 mod unit_reader;
+mod unit_sink;
 
 pub use job::Job;
 pub use laws::{
@@ -29,3 +30,4 @@ pub use strip::{CodedStrip, Strip};
 pub use strip_reader::StripReader;
 pub use transforming::transform_blocks;
 pub use unit_reader::UnitReader;
+pub use unit_sink::UnitSink;

@@ -62,7 +62,7 @@ fn samples_of(alloc: Global, head: &Head, blocks: &[Coefficients]) -> Result<Vec
     ensures { IfOk result (λ v. AreSamples head.now blocks.now v.items) }
 {
     let mut samples = vec![in alloc; [0; 64]; blocks.len()]?;
-    transform_blocks(head, blocks, samples.as_mut_slice());
+    transform_blocks(head, 0, blocks, &mut samples);
     Ok(samples)
 }
 

@@ -1,9 +1,11 @@
 -- The data units of a row of MCUs, as lists, by the groups of their rows.
-use Rattle.std.proofs.Common.{◌≡◌, ℕ, ◌+◌, ◌*◌, ◌/◌, ◌%◌, ◌<◌, ◌∙◌, List, [], ◌++◌, length, take, drop, sym, ap, arith}
+use Rattle.std.proofs.Common.{◌≡◌, ◌≢◌, ℕ, ◌+◌, ◌*◌, ◌/◌, ◌%◌, ◌<◌, ◌∙◌, List, [], ◌++◌, inl, inr, length, take, drop, set, sym, ap, subst, arith}
 use Rattle.std.specs.Prelude.{slice_index, slice_index_or}
+use Rattle.std.proofs.lemmas.Bool.Decides.{eqb_tells}
 use Rattle.std.proofs.lemmas.Grind.{same_number_lists}
+use Rattle.std.proofs.lemmas.List.{ext_get_or, get_or-set_other, get_or-set_same, length-set}
 use Rattle.std.proofs.lemmas.List.FromFn.{get_or-map-range_with_len, length-map-range_with_len}
-use Rattle.std.proofs.lemmas.Nat.{div-add-mod', mod_below}
+use Rattle.std.proofs.lemmas.Nat.{div-add-mod', div-mul-add, mod-mul-add, mod_below}
 use Rattle.std.proofs.Math.Nat.{div-lt_iff_lt-mul}
 use Rattle.std.proofs.Math.Seq.{take-append_seam}
 use Rattle.jr_head.specs.HeadValue.{HeadValue}
@@ -60,3 +62,37 @@ module _ (h : HeadValue) (first : ℕ) (new old : List (List ℕ)) (some : 0 < b
       units_at h new k inside
       ∙ kept (k / blocks_of h) (k % blocks_of h) ((div-lt_iff_lt-mul some).1 lt) ((div-lt_iff_lt-mul some).1 inside) (mod_below k (blocks_of h) some)
       ∙ sym (units_at h old k inside)
+
+-- a data unit of which the number among all is there is one of an MCU of the row
+pub mcu_inside : (h : HeadValue) (groups : List (List ℕ)) (m j : ℕ) → j < blocks_of h → m * blocks_of h + j < length (units_in h groups) → m < mcus_across h
+mcu_inside h groups m j low lt =
+    let some : 0 < blocks_of h = omega (arith, low) in
+    let all : m * blocks_of h + j < mcus_across h * blocks_of h = omega (arith, lt, units_long h groups) in
+    subst (λ n. n < mcus_across h) (div-mul-add m (blocks_of h) j low) ((div-lt_iff_lt-mul some).1 all)
+
+-- the data units of all MCUs, of which one is put
+module _ (h : HeadValue) (m j : ℕ) (new old : List (List ℕ)) (unit : List ℕ) (inside : m * blocks_of h + j < mcus_across h * blocks_of h) (low : j < blocks_of h) (here : unit_in h new m j ≡ unit)
+    (others : (n i : ℕ) → n < mcus_across h → i < blocks_of h → (n ≡ m → i ≡ j → ⊥) → unit_in h new n i ≡ unit_in h old n i) where
+  some : 0 < blocks_of h
+  some = omega (arith, low)
+
+  put_here : (k : ℕ) → k ≡ m * blocks_of h + j → k < mcus_across h * blocks_of h → slice_index_or (units_in h new) k [] ≡ slice_index_or (set (units_in h old) (m * blocks_of h + j) unit) k []
+  put_here k e lt =
+      let mcu : k / blocks_of h ≡ m = ap (λ n. n / blocks_of h) e ∙ div-mul-add m (blocks_of h) j low in
+      let rest : k % blocks_of h ≡ j = ap (λ n. n % blocks_of h) e ∙ mod-mul-add m (blocks_of h) j low in
+      units_at h new k lt ∙ ap (λ n. unit_in h new n (k % blocks_of h)) mcu ∙ ap (λ n. unit_in h new m n) rest ∙ here
+      ∙ sym (ap (λ n. slice_index_or (set (units_in h old) (m * blocks_of h + j) unit) n []) e ∙ get_or-set_same (units_in h old) (m * blocks_of h + j) unit [] (omega (arith, inside, units_long h old)))
+
+  put_there : (k : ℕ) → k ≢ m * blocks_of h + j → k < mcus_across h * blocks_of h → slice_index_or (units_in h new) k [] ≡ slice_index_or (set (units_in h old) (m * blocks_of h + j) unit) k []
+  put_there k away lt =
+      units_at h new k lt
+      ∙ others (k / blocks_of h) (k % blocks_of h) ((div-lt_iff_lt-mul some).1 lt) (mod_below k (blocks_of h) some) (λ e d. away (sym (div-add-mod' k (blocks_of h)) ∙ ap (λ n. n * blocks_of h + k % blocks_of h) e ∙ ap (λ n. m * blocks_of h + n) d))
+      ∙ sym (units_at h old k lt) ∙ sym (get_or-set_other (units_in h old) (m * blocks_of h + j) k unit [] away)
+
+  pub one_put : units_in h new ≡ set (units_in h old) (m * blocks_of h + j) unit
+  one_put = ext_get_or [] (units_in h new) (set (units_in h old) (m * blocks_of h + j) unit) (units_long h new ∙ sym (length-set (units_in h old) (m * blocks_of h + j) unit ∙ units_long h old)) (λ k lt.
+      let all : k < mcus_across h * blocks_of h = omega (arith, lt, units_long h new) in
+      elim (eqb_tells k (m * blocks_of h + j)) [
+        | inl t ↦ put_here k t.1 all
+        | inr f ↦ put_there k f.1 all
+      ])

@@ -30,5 +30,5 @@ pub record AreStarts (h : HeadValue) (starts : List UnitStart) : Type 0 where
 -- these are the lines of a row of MCUs of this head's picture
 pub record HasLines (h : HeadValue) (v : RowLinesValue) : Type 0 where
   pub room : HasGroups h (groups_across h) v.groups
+  pub across : v.across ≡ groups_across h
   pub starts : AreStarts h v.starts
-  pub near : length v.near ≡ mcus_at_once h * blocks_of h

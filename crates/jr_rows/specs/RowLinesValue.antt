@@ -2,8 +2,8 @@
 use Rattle.std.specs.Prelude.{ℕ, List}
 use Rattle.jr_rows.specs.declared.row_lines.UnitStart.{UnitStart}
 
--- the groups of eight samples, line after line; where data units stand; and room for some of them
+-- the groups of eight samples, line after line; where data units stand; and how many groups a line has room for
 pub record RowLinesValue : Type 0 where
   pub groups : List (List ℕ)
   pub starts : List UnitStart
-  pub near : List (List ℕ)
+  pub across : ℕ

@@ -5,15 +5,15 @@ ghost use Rattle.jr_head.specs.Geometry.{blocks_before, blocks_of, components_of
 ghost use Rattle.jr_piece.specs.Outcome.{unit_of};
 ghost use Rattle.jr_rows.specs.Bands.{unit_shown_of};
 ghost use Rattle.jr_rows.specs.Groups.{all_lines, group_of, groups_across, lines_before, unit_in, units_in};
-ghost use Rattle.jr_rows.specs.RowLines.{AreStarts, HasGroups, HasLines, IsStartOf, mcus_at_once};
+ghost use Rattle.jr_rows.specs.RowLines.{AreStarts, HasGroups, HasLines, IsStartOf};
 
-use crate::blank::fill_blank;
-use crate::shape::{mcus_at_once, shape_of, units_to};
+use crate::blank::blank_unit;
+use crate::shape::shape_of;
 use jr_base::Memory;
 use jr_block::Coefficients;
 use jr_head::Head;
 use jr_paint::place;
-use jr_piece::transform_blocks;
+use jr_piece::{UnitSink, transform_blocks};
 use std::alloc::Global;
 use std::marker::Model;
 
@@ -32,8 +32,8 @@ pub struct UnitStart {
 pub struct RowLines {
     groups: Vec<[u8; 8]>,
     starts: Vec<UnitStart>,
-    /// Room for the data units of as many MCUs as are transformed at once.
-    near: Vec<[u8; 64]>,
+    /// How many groups a line has room for.
+    across: usize,
 }
 
 impl Model for RowLines {
@@ -41,10 +41,11 @@ impl Model for RowLines {
 
     ghost Value = { RowLinesValue };
 
-    ghost view = { λ r. record { groups = r.groups.items; starts = r.starts.items; near = r.near.items } };
+    ghost view = { λ r. record { groups = r.groups.items; starts = r.starts.items; across = r.across } };
 }
 
 /// A row of samples of a data unit.
+#[inline(always)]
 fn row_of(unit: &[u8; 64], row: usize) -> [u8; 8]
     requires { row < 8 }
     ensures { (k : ℕ) → k < 8 → slice_index result k ≡ slice_index unit.now (8 * row + k) }
@@ -55,6 +56,7 @@ fn row_of(unit: &[u8; 64], row: usize) -> [u8; 8]
 }
 
 /// Puts the rows of samples of a data unit into groups that stand in lines below one another.
+#[inline(always)]
 fn put_rows(groups: &mut [[u8; 8]], at: usize, across: usize, unit: &[u8; 64])
     requires some { 0 < across }
     requires room { at + 7 * across < length groups.old }
@@ -67,6 +69,7 @@ fn put_rows(groups: &mut [[u8; 8]], at: usize, across: usize, unit: &[u8; 64])
 }
 
 /// Puts data unit j of an MCU.
+#[inline(always)]
 fn put_unit(
     head: &Head,
     groups: &mut [[u8; 8]],
@@ -88,51 +91,6 @@ fn put_unit(
     put_rows(groups, start.first + mcu * start.step, across, unit);
 }
 
-/// Puts the data units of an MCU.
-fn put_mcu(
-    head: &Head,
-    groups: &mut [[u8; 8]],
-    across: usize,
-    starts: &[UnitStart],
-    mcu: usize,
-    units: &[[u8; 64]],
-)
-    requires room { HasGroups head.now across groups.old }
-    requires starts { AreStarts head.now starts.now }
-    requires mcu { mcu < mcus_across head.now }
-    requires units { length units.now ≡ blocks_of head.now }
-    ensures here { (j : ℕ) → j < blocks_of head.now → unit_in head.now groups.new mcu j ≡ slice_index_or units.now j [] }
-    ensures others { (m j : ℕ) → m < mcus_across head.now → j < blocks_of head.now → m ≢ mcu → unit_in head.now groups.new m j ≡ unit_in head.now groups.old m j }
-{
-    for j in 0..units.len() {
-        put_unit(head, groups, across, starts, mcu, j, &units[j]);
-    }
-}
-
-/// Puts the data units of so many MCUs.
-fn put_mcus(
-    head: &Head,
-    groups: &mut [[u8; 8]],
-    across: usize,
-    starts: &[UnitStart],
-    first: usize,
-    count: usize,
-    units: &[[u8; 64]],
-)
-    requires room { HasGroups head.now across groups.old }
-    requires starts { AreStarts head.now starts.now }
-    requires inside { first + count ≤ mcus_across head.now }
-    requires units { length units.now ≡ count * blocks_of head.now }
-    ensures here { (k : ℕ) → k < length units.now → unit_in head.now groups.new (first + k / blocks_of head.now) (k % blocks_of head.now) ≡ slice_index_or units.now k [] }
-    ensures kept { (m j : ℕ) → m < first → j < blocks_of head.now → unit_in head.now groups.new m j ≡ unit_in head.now groups.old m j }
-{
-    let per_mcu = head.order().len();
-    for mcu in 0..count {
-        let units = &units[mcu * per_mcu..mcu * per_mcu + per_mcu];
-        put_mcu(head, groups, across, starts, first + mcu, units);
-    }
-}
-
 /// How many groups a line has room for.
 pub(crate) fn groups_across(head: &Head) -> u32
     ensures value { result ≡ groups_across head.now }
@@ -142,50 +100,35 @@ pub(crate) fn groups_across(head: &Head) -> u32
     shape_of(head).across * head.horizontal_max()
 }
 
-/// Makes the samples of so many MCUs from their blocks, and puts them. There is room for their data units in `near`.
-fn transform_mcus(
-    head: &Head,
-    groups: &mut [[u8; 8]],
-    starts: &[UnitStart],
-    first: usize,
-    count: usize,
-    blocks: &[Coefficients],
-    near: &mut [[u8; 64]],
-)
-    requires room { HasGroups head.now (groups_across head.now) groups.old }
+/// Makes an MCU black.
+fn blank_mcu(head: &Head, groups: &mut [[u8; 8]], across: usize, starts: &[UnitStart], mcu: usize)
+    requires room { HasGroups head.now across groups.old }
     requires starts { AreStarts head.now starts.now }
-    requires inside { first + count ≤ mcus_across head.now }
-    requires blocks { length blocks.now ≡ count * blocks_of head.now }
-    requires near { length blocks.now ≤ length near.old }
-    ensures here { (k : ℕ) → k < length blocks.now → unit_in head.now groups.new (first + k / blocks_of head.now) (k % blocks_of head.now) ≡ unit_of head.now blocks.now k }
-    ensures kept { (m j : ℕ) → m < first → j < blocks_of head.now → unit_in head.now groups.new m j ≡ unit_in head.now groups.old m j }
+    requires mcu { mcu < mcus_across head.now }
+    ensures here { (j : ℕ) → j < blocks_of head.now → unit_in head.now groups.new mcu j ≡ unit_shown_of head.now j None 0 }
+    ensures others { (m j : ℕ) → m < mcus_across head.now → j < blocks_of head.now → m ≢ mcu → unit_in head.now groups.new m j ≡ unit_in head.now groups.old m j }
 {
-    let near = &mut near[..blocks.len()];
-    transform_blocks(head, blocks, near);
-    let across = groups_across(head) as usize;
-    put_mcus(head, groups, across, starts, first, count, near);
+    for j in 0..head.order().len() {
+        put_unit(head, groups, across, starts, mcu, j, &blank_unit(head, j));
+    }
 }
 
-/// Makes each MCU from one on black. There is room for the data units of one in `near`.
+/// Makes each MCU from one on black.
 fn blank_mcus(
     head: &Head,
     groups: &mut [[u8; 8]],
+    across: usize,
     starts: &[UnitStart],
     first: usize,
-    near: &mut [[u8; 64]],
 )
-    requires room { HasGroups head.now (groups_across head.now) groups.old }
+    requires room { HasGroups head.now across groups.old }
     requires starts { AreStarts head.now starts.now }
-    requires near { blocks_of head.now ≤ length near.old }
     ensures here { (m j : ℕ) → first ≤ m → m < mcus_across head.now → j < blocks_of head.now → unit_in head.now groups.new m j ≡ unit_shown_of head.now j None 0 }
     ensures kept { (m j : ℕ) → m < first → m < mcus_across head.now → j < blocks_of head.now → unit_in head.now groups.new m j ≡ unit_in head.now groups.old m j }
 {
-    let near = &mut near[..head.order().len()];
-    fill_blank(head, near);
-    let across = groups_across(head) as usize;
     let mcus = shape_of(head).across as usize;
     for mcu in first..mcus {
-        put_mcu(head, groups, across, starts, mcu, near);
+        blank_mcu(head, groups, across, starts, mcu);
     }
 }
 
@@ -245,7 +188,7 @@ impl RowLines {
         Ok(RowLines {
             groups: vec![in alloc; [0; 8]; lines as usize * across as usize]?,
             starts,
-            near: vec![in alloc; [0; 64]; mcus_at_once(head) as usize * count]?,
+            across: across as usize,
         })
     }
 
@@ -254,27 +197,6 @@ impl RowLines {
         ensures { result.now ≡ self.now.groups }
     {
         self.groups.as_slice()
-    }
-
-    /// Makes the samples of some MCUs of the row from their blocks; those of the MCUs before are kept.
-    pub fn transform(&mut self, head: &Head, first: u32, count: u32, blocks: &[Coefficients])
-        requires room { HasLines head.now self.old }
-        requires few { count ≤ mcus_at_once head.now }
-        requires inside { first + count ≤ mcus_across head.now }
-        requires blocks { length blocks.now ≡ count * blocks_of head.now }
-        ensures room { HasLines head.now self.new }
-        ensures kept { (k : ℕ) → k < first * blocks_of head.now → slice_index_or (units_in head.now self.new.groups) k [] ≡ slice_index_or (units_in head.now self.old.groups) k [] }
-        ensures here { (k : ℕ) → k < length blocks.now → slice_index_or (units_in head.now self.new.groups) (first * blocks_of head.now + k) [] ≡ unit_of head.now blocks.now k }
-    {
-        transform_mcus(
-            head,
-            &mut self.groups,
-            &self.starts,
-            first as usize,
-            count as usize,
-            blocks,
-            &mut self.near,
-        );
     }
 
     /// Makes the samples of a row, of whose MCUs the first `coded` have these blocks; the others are black.
@@ -286,16 +208,8 @@ impl RowLines {
         ensures decoded { (k : ℕ) → k < coded * blocks_of head.now → slice_index_or (units_in head.now self.new.groups) k [] ≡ unit_of head.now blocks.now k }
         ensures blank { (k : ℕ) → coded * blocks_of head.now ≤ k → k < mcus_across head.now * blocks_of head.now → slice_index_or (units_in head.now self.new.groups) k [] ≡ unit_shown_of head.now (k % blocks_of head.now) None 0 }
     {
-        let per_mcu = head.order().len();
-        let at_once = mcus_at_once(head);
-        let mut done = 0;
-        'parts: while done < coded {
-            let some = at_once.min(coded - done);
-            let from = units_to(done, coded, per_mcu);
-            let end = units_to(done + some, coded, per_mcu);
-            self.transform(head, done, some, &blocks[from..end]);
-            done += some;
-        }
+        let count = coded as usize * head.order().len();
+        transform_blocks(head, 0, &blocks[..count], self);
         self.fill_blank(head, coded);
     }
 
@@ -308,12 +222,19 @@ impl RowLines {
     {
         // By its contract an MCU has a data unit.
         let _some = head.order().len();
-        blank_mcus(
-            head,
-            &mut self.groups,
-            &self.starts,
-            first as usize,
-            &mut self.near,
-        );
+        let groups = &mut self.groups;
+        blank_mcus(head, groups, self.across, &self.starts, first as usize);
+    }
+}
+
+impl UnitSink for RowLines {
+    ghost has_room = { HasLines };
+
+    ghost units = { λ h lines. units_in h lines.groups };
+
+    #[inline(always)]
+    fn put(&mut self, head: &Head, mcu: usize, j: usize, samples: &[u8; 64]) {
+        let groups = &mut self.groups;
+        put_unit(head, groups, self.across, &self.starts, mcu, j, samples);
     }
 }

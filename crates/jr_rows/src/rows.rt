@@ -18,7 +18,7 @@ use crate::row_lines::RowLines;
 use crate::shape::{coded_of_row, mcus_at_once, shape_of, units_to};
 use jr_block::Coefficients;
 use jr_head::Head;
-use jr_piece::UnitReader;
+use jr_piece::{UnitReader, transform_blocks};
 use jr_scan::Scan;
 use std::marker::Model;
 
@@ -190,7 +190,7 @@ impl<'a> ScanMcus<'a> {
         let per_mcu = head.order().len();
         let blocks = &mut blocks[..units_to(some, mcus_at_once(head), per_mcu)];
         let marked = self.read(some, blocks, marks);
-        lines.transform(head, done, some, blocks);
+        transform_blocks(head, done, blocks, lines);
         marked
     }
 

@@ -71,8 +71,7 @@ fn check_two(rt: &impl Abort, quantiser: u16, first: (i16, usize, i16), second: 
     let a = coefficients_with(first.0, first.1, first.2);
     let b = coefficients_with(second.0, second.1, second.2);
     let quantisers = Quantisers::of(elements);
-    let (mut of_a, mut of_b) = ([0; 64], [0; 64]);
-    transform_two(&a, &b, &quantisers, &mut of_a, &mut of_b);
+    let (of_a, of_b) = transform_two(&a, &b, &quantisers);
     assert!(rt; of_a == left);
     assert!(rt; of_b == right);
     assert!(rt; transform_one(&a, &quantisers) == left);

@@ -9,7 +9,7 @@ abbrev pub invariant-mcus : goal.invariant-mcus
 invariant-mcus l = record {
   run : l.reader.run ≡ whole_run l.interval;
   room : length l.blocks ≡ 10;
-  units : length l.units ≡ 10;
+  empty : length l.empty ≡ 10;
   read : (zs : List (List ℤ)) × HasRead l.reader zs × AreSamples l.interval.head zs l.samples.items;
 }
 

@@ -1,50 +1,92 @@
-use Rattle.std.proofs.Common.{rules, ◌≡◌, ◌+◌, ◌%◌, ◌<◌, ℕ, List, [], length, get_or, set, sym, ap, subst, ◌∙◌, arith}
-use Rattle.std.proofs.Math.Nat.{mod-eq_of_lt, mul-add-mod_self_right}
-use Rattle.std.proofs.lemmas.List.{length-set}
-use Rattle.std.proofs.lemmas.List.Edits.{fill_by_more}
-use Rattle.jr_head.specs.Geometry.{order_of, quantiser_of}
+use Rattle.std.proofs.Common.{rules, ◌≡◌, ◌+◌, ◌*◌, ◌%◌, ◌<◌, ◌≤◌, ℕ, List, length, get_or, set, refl, sym, subst, ap, ◌∙◌, arith}
+use Rattle.std.proofs.Math.Nat.{add-mul, mod-eq_of_lt, mul-add-mod_self_right}
+use Rattle.jr_head.specs.Geometry.{blocks_of, order_of, quantiser_of}
 use Rattle.jr_piece.specs.Outcome.{unit_of}
+use Rattle.jr_piece.proofs.PutUnits.{all_put, as_long, put_one, put_two}
 use Rattle.jr_piece.proofs.Transformed.{unit_is}
 use Rattle.jr_piece.proofs.transforming.transform_mcus.Goals as goal
-use Rattle.jr_piece.proofs.transforming.transform_mcus.Goals.{then-k-second, else-k-second}
+use Rattle.jr_piece.proofs.transforming.transform_mcus.Goals.{then-count-j, else-count-j}
 
--- the first n of a list are those of f
-abbrev IsFilled : (ℕ → List ℕ) → ℕ → List (List ℕ) → Type 0
-IsFilled f n xs = (j : ℕ) → j < n → get_or xs j [] ≡ f j
+pub loop-j-init : goal.loop-j-init
+loop-j-init g c = record {
+  room = c.requires.room;
+  stand = record { long = refl; kept = λ k lt. refl; first = λ k lt. absurd (omega (arith, lt)); second = λ k lt more. absurd (omega (arith, lt)) };
+}
 
-pub loop-k-preserved : goal.loop-k-preserved
-loop-k-preserved c =
+pub put-requires-clause-room : goal.put-requires-clause-room
+put-requires-clause-room g c = c.loop-j.invariant.room
+
+pub put-requires-clause-inside : goal.put-requires-clause-inside
+put-requires-clause-inside g c = omega (arith, c.requires.inside, c.loop-j.invariant.stand.long, c.if-count-j.true)
+
+pub put-requires-then-count-j-clause-inside : goal.put-requires-then-count-j-clause-inside
+put-requires-then-count-j-clause-inside g c =
+    let h = c.args.head.now in
+    let us = g.U.UnitSink.units h c.loop-j.units in
+    let long = as_long us (g.U.UnitSink.units h c.put.new.self) (c.args.mcu * blocks_of h + c.loop-j.j) c.transform_two.result.0 c.put.ensures.put in
+    let whole : c.min-count.result ≡ blocks_of h = omega (arith, c.if-count-j.true, c.min-count.ensures, c.order-order.ensures.count) in
+    omega (arith, add-mul c.args.mcu 1 (blocks_of h), whole, long, c.requires.inside, c.loop-j.invariant.stand.long, c.if-count-j.true)
+
+pub put-requires-else-count-j-clause-room : goal.put-requires-else-count-j-clause-room
+put-requires-else-count-j-clause-room g c = c.loop-j.invariant.room
+
+pub put-requires-else-count-j-clause-inside : goal.put-requires-else-count-j-clause-inside
+put-requires-else-count-j-clause-inside g c = omega (arith, c.requires.inside, c.loop-j.invariant.stand.long, c.loop-j-test.true, c.min-count.ensures)
+
+pub loop-j-preserved : goal.loop-j-preserved
+loop-j-preserved g c =
     let h = c.args.head.now in
     let zs = c.args.blocks.now in
-    let k = c.loop-k.k in
-    let count = length c.args.first.now in
-    let room : k < length (order_of h) = omega (arith, c.loop-k-test.true, c.requires.few) in
-    let long : k < length c.loop-k.first = omega (arith, c.loop-k-test.true, c.loop-k.invariant.count) in
-    let q : c.quantisers-quantisers.result.now ≡ quantiser_of h (get_or (order_of h) k 0) = search (rules, c.quantisers-quantisers.ensures, c.from.ensures, c.order-order.ensures.value) in
-    let inside : k < length zs = omega (arith, c.requires.room, c.loop-k-test.true) in
-    let here : k % length (order_of h) ≡ k = mod-eq_of_lt room in
-    elim c.if-k-second.branch [
-      | then-k-second w ↦
-          let e : w.transform_two.new.first ≡ unit_of h zs k = w.transform_two.ensures.first ∙ unit_is h zs k k _ _ inside w.index-blocks-k.is here q in
-          let some : k < length c.loop-k.second = w.if-k-second.true in
-          let whole : count ≡ length (order_of h) = c.requires.whole (omega (arith, some, c.loop-k.invariant.behind)) in
-          let there : (count + k) % length (order_of h) ≡ k = ap (λ (n : ℕ). n % length (order_of h)) (omega (arith, whole)) ∙ mul-add-mod_self_right 1 (length (order_of h)) k ∙ here in
-          let d : w.transform_two.new.second ≡ unit_of h zs (count + k) = w.transform_two.ensures.second ∙ unit_is h zs (count + k) k _ _ (omega (arith, c.requires.room, some, c.loop-k.invariant.behind)) w.index-blocks-count.is there q in
-          let first : c.if-k-second.first ≡ set c.loop-k.first k (unit_of h zs k) = w.first-is ∙ ap (set c.loop-k.first k) e in
-          let second : c.if-k-second.second ≡ set c.loop-k.second k (unit_of h zs (count + k)) = w.second-is ∙ ap (set c.loop-k.second k) d in
+    let j = c.loop-j.j in
+    let per = blocks_of h in
+    let count = c.min-count.result in
+    let at = c.args.mcu * per in
+    let f = unit_of h zs in
+    let old = g.U.UnitSink.units h c.args.units.now in
+    let us = g.U.UnitSink.units h c.loop-j.units in
+    let stand = c.loop-j.invariant.stand in
+    let order : length (order_of h) ≡ per = ap (λ (o : List ℕ). length o) (sym c.order-order.ensures.value) ∙ c.order-order.ensures.count in
+    let low : j < count = c.loop-j-test.true in
+    let room : j < length (order_of h) = omega (arith, low, order, c.min-count.ensures, c.order-order.ensures.count) in
+    let inside : j < length zs = omega (arith, low, c.min-count.ensures) in
+    let q : c.quantisers-quantisers.result.now ≡ quantiser_of h (get_or (order_of h) j 0) = search (rules, c.quantisers-quantisers.ensures, c.from.ensures, c.order-order.ensures.value) in
+    let here : j % length (order_of h) ≡ j = mod-eq_of_lt room in
+    elim c.if-count-j.branch [
+      | then-count-j w ↦
+          let more : count + j < length zs = w.if-count-j.true in
+          let whole : count ≡ per = omega (arith, more, c.min-count.ensures, c.order-order.ensures.count) in
+          let e : w.transform_two.result.0 ≡ f j = w.transform_two.ensures.first ∙ unit_is h zs j j _ _ inside w.index-blocks-j.is here q in
+          let there : (count + j) % length (order_of h) ≡ j = ap (λ (n : ℕ). n % length (order_of h)) (omega (arith, whole, order)) ∙ mul-add-mod_self_right 1 (length (order_of h)) j ∙ here in
+          let d : w.transform_two.result.1 ≡ f (count + j) = w.transform_two.ensures.second ∙ unit_is h zs (count + j) j _ _ more w.index-blocks-count.is there q in
+          let mid = g.U.UnitSink.units h w.put.new.self in
+          let next : (c.args.mcu + 1) * per + j ≡ at + (count + j) = omega (arith, add-mul c.args.mcu 1 per, whole) in
+          let second : w.put-then-count-j.new.self ≡ c.if-count-j.units = sym w.units-is in
           record {
-            count = ap (λ (xs : List (List ℕ)). length xs) first ∙ length-set c.loop-k.first k _ ∙ c.loop-k.invariant.count;
-            behind = ap (λ (xs : List (List ℕ)). length xs) second ∙ length-set c.loop-k.second k _ ∙ c.loop-k.invariant.behind;
-            first = subst (IsFilled (unit_of h zs) (k + 1)) (sym first) (fill_by_more (unit_of h zs) c.loop-k.first k [] long c.loop-k.invariant.first);
-            second = λ j lt _. subst (IsFilled (λ i. unit_of h zs (count + i)) (k + 1)) (sym second) (fill_by_more (λ i. unit_of h zs (count + i)) c.loop-k.second k [] some (λ i a. c.loop-k.invariant.second i a (omega (arith, a, some)))) j lt;
+            room = subst (g.U.UnitSink.has_room h) second w.put-then-count-j.ensures.room;
+            stand = put_two f at count (length zs) j old us stand mid (g.U.UnitSink.units h c.if-count-j.units) ((c.args.mcu + 1) * per + j) (w.put.ensures.put ∙ ap (λ x. set us (at + j) x) e)
+                (ap (λ u. g.U.UnitSink.units h u) w.units-is ∙ w.put-then-count-j.ensures.put ∙ ap (λ x. set mid ((c.args.mcu + 1) * per + j) x) d) next low (omega (arith, next, c.requires.inside, stand.long, more));
           }
-      | else-k-second w ↦
-          let e : w.transform_one.result ≡ unit_of h zs k = w.transform_one.ensures ∙ unit_is h zs k k _ _ inside w.index-blocks-k-else-k-second.is here q in
-          let first : c.if-k-second.first ≡ set c.loop-k.first k (unit_of h zs k) = w.first-is ∙ ap (set c.loop-k.first k) e in
+      | else-count-j w ↦
+          let e : w.transform_one.result ≡ f j = w.transform_one.ensures ∙ unit_is h zs j j _ _ inside w.index-blocks-j-else-count-j.is here q in
+          let over : length zs ≤ count + j = omega (arith, w.if-count-j.false) in
           record {
-            count = ap (λ (xs : List (List ℕ)). length xs) first ∙ length-set c.loop-k.first k _ ∙ c.loop-k.invariant.count;
-            behind = ap (λ (xs : List (List ℕ)). length xs) w.second-is ∙ c.loop-k.invariant.behind;
-            first = subst (IsFilled (unit_of h zs) (k + 1)) (sym first) (fill_by_more (unit_of h zs) c.loop-k.first k [] long c.loop-k.invariant.first);
-            second = λ j lt some. subst (λ (xs : List (List ℕ)). get_or xs j [] ≡ unit_of h zs (count + j)) (sym w.second-is) (c.loop-k.invariant.second j (omega (arith, lt, w.if-k-second.false, some, ap (λ (xs : List (List ℕ)). length xs) w.second-is)) (omega (arith, some, ap (λ (xs : List (List ℕ)). length xs) w.second-is)));
+            room = subst (g.U.UnitSink.has_room h) (sym w.units-is) w.put-else-count-j.ensures.room;
+            stand = put_one f at count (length zs) j old us stand (g.U.UnitSink.units h c.if-count-j.units) (ap (λ u. g.U.UnitSink.units h u) w.units-is ∙ w.put-else-count-j.ensures.put ∙ ap (λ x. set us (at + j) x) e) low (omega (arith, c.requires.inside, stand.long, inside)) over;
           }
     ]
+
+pub returns-clause-room : goal.returns-clause-room
+returns-clause-room g c = c.loop-j.invariant.room
+
+pub returns-clause-count : goal.returns-clause-count
+returns-clause-count g c = c.loop-j.invariant.stand.long
+
+pub returns-clause-kept : goal.returns-clause-kept
+returns-clause-kept g c = c.loop-j.invariant.stand.kept
+
+pub returns-clause-here : goal.returns-clause-here
+returns-clause-here g c k lt =
+    let h = c.args.head.now in
+    let done : c.min-count.result ≤ c.loop-j.j = omega (arith, c.loop-j-test.false) in
+    all_put (unit_of h c.args.blocks.now) (c.args.mcu * blocks_of h) c.min-count.result (length c.args.blocks.now) c.loop-j.j (g.U.UnitSink.units h c.args.units.now) (g.U.UnitSink.units h c.loop-j.units) c.loop-j.invariant.stand done
+    (omega (arith, c.min-count.ensures, c.requires.few, c.order-order.ensures.count)) k lt

@@ -1,11 +1,11 @@
-use Rattle.std.proofs.Common.{ℕ, ◌≡◌, ◌+◌, ◌<◌, [], length, get_or}
+use Rattle.std.proofs.Common.{◌*◌, length}
+use Rattle.jr_head.specs.Geometry.{blocks_of}
 use Rattle.jr_piece.specs.Outcome.{unit_of}
+use Rattle.jr_piece.proofs.PutUnits.{Stand}
 use Rattle.jr_piece.proofs.transforming.transform_mcus.Given as goal
 
-abbrev pub invariant-loop-k : goal.invariant-loop-k
-invariant-loop-k l = record {
-  count : length l.first ≡ l.count;
-  behind : length l.second ≡ length l.fn.second;
-  first : (j : ℕ) → j < l.k → get_or l.first j [] ≡ unit_of l.head l.blocks j;
-  second : (j : ℕ) → j < l.k → j < length l.second → get_or l.second j [] ≡ unit_of l.head l.blocks (l.count + j);
+abbrev pub invariant-loop-j : goal.invariant-loop-j
+invariant-loop-j g l = record {
+  room : g.U.UnitSink.has_room l.head l.units;
+  stand : Stand (unit_of l.head l.blocks) (l.mcu * blocks_of l.head) l.count (length l.blocks) l.j (g.U.UnitSink.units l.head l.fn.units) (g.U.UnitSink.units l.head l.units);
 }

@@ -1,8 +1,6 @@
-use Rattle.std.proofs.Common.{◌≡◌, ℕ, ◌<◌, ◌∙◌, None, length, inl, inr, ap, arith, rules}
+use Rattle.std.proofs.Common.{◌≡◌, ◌<◌, ◌∙◌, inl, inr, ap, arith, rules}
 use Rattle.std.proofs.lemmas.Bool.{cases_lt}
-use Rattle.std.proofs.Math.Nat.{mod-eq_of_lt}
-use Rattle.jr_head.specs.Geometry.{blocks_of, mcus_across}
-use Rattle.jr_rows.specs.Bands.{unit_shown_of}
+use Rattle.jr_head.specs.Geometry.{mcus_across}
 use Rattle.jr_rows.specs.Groups.{unit_in}
 use Rattle.jr_rows.proofs.row_lines.blank_mcus.Goals as goal
 
@@ -10,21 +8,18 @@ pub loop-mcu-preserved : goal.loop-mcu-preserved
 loop-mcu-preserved c =
     let h = c.args.head.now in
     let mcu = c.loop-mcu.mcu in
-    let new = c.put_mcu.new.groups in
+    let new = c.blank_mcu.new.groups in
     let kept = c.loop-mcu.invariant in
-    let long : length c.fill_blank.new.units ≡ blocks_of h = search rules in
     let here : mcu < mcus_across h = search rules in
-    let black : (j : ℕ) → j < blocks_of h → unit_in h new mcu j ≡ unit_shown_of h j None 0 = λ j lj.
-    c.put_mcu.ensures.here j lj ∙ c.fill_blank.ensures j (omega (arith, lj, long)) ∙ ap (λ n. unit_shown_of h n None 0) (mod-eq_of_lt lj) in
     record {
       room = record { across_is = kept.room.across_is; long = search (rules, kept.room.long) };
       here = λ m j le lt lm lj. elim (cases_lt m mcu) [
-        | inl l ↦ c.put_mcu.ensures.others m j lm lj (λ e. omega (arith, e, l)) ∙ kept.here m j le l lm lj
+        | inl l ↦ c.blank_mcu.ensures.others m j lm lj (λ e. omega (arith, e, l)) ∙ kept.here m j le l lm lj
         | inr g ↦
             let same : m ≡ mcu = omega (arith, lt, g) in
-            ap (λ n. unit_in h new n j) same ∙ black j lj
+            ap (λ n. unit_in h new n j) same ∙ c.blank_mcu.ensures.here j lj
       ];
-      kept = λ m j lt lm lj. c.put_mcu.ensures.others m j lm lj (λ e. search (rules, arith, e, lt)) ∙ kept.kept m j lt lm lj;
+      kept = λ m j lt lm lj. c.blank_mcu.ensures.others m j lm lj (λ e. search (rules, arith, e, lt)) ∙ kept.kept m j lt lm lj;
     }
 
 pub returns-clause-here : goal.returns-clause-here

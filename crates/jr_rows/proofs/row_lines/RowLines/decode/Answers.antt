@@ -1,47 +1,33 @@
-use Rattle.std.proofs.Common.{◌≡◌, ◌+◌, ◌-◌, ◌*◌, ◌%◌, ◌<◌, ◌≤◌, ◌∙◌, [], length, inl, inr, ap, sym, arith, rules, slice_index_or}
-use Rattle.std.proofs.lemmas.Bool.{cases_lt}
-use Rattle.std.proofs.Math.Nat.{add-mul, mul-le-mul_right, mul-add-mod_self_right, zero-mod}
-use Rattle.jr_head.specs.Geometry.{blocks_of, mcus_across, order_of}
-use Rattle.jr_head.proofs.SamplingLaws.{length-order}
-use Rattle.jr_piece.specs.Outcome.{unit_of}
-use Rattle.jr_piece.proofs.Transformed.{unit_of_part}
+use Rattle.std.proofs.Common.{◌≡◌, ◌+◌, ◌*◌, ◌<◌, ◌≤◌, ◌∙◌, [], length, take, ap, sym, arith, slice_index_or}
+use Rattle.std.proofs.lemmas.List.{get_or-take, length-take-le}
+use Rattle.std.proofs.Math.Nat.{mul-le-mul_right}
+use Rattle.jr_head.specs.Geometry.{blocks_of, mcus_across, quantiser_of}
+use Rattle.jr_idct.specs.Transform.{samples}
+use Rattle.jr_scan.specs.Mcus.{component}
 use Rattle.jr_rows.specs.Groups.{units_in}
+use Rattle.jr_rows.proofs.GroupLists.{units_long}
 use Rattle.jr_rows.proofs.row_lines.RowLines.decode.Goals as goal
 
-pub parts-preserved : goal.parts-preserved
-parts-preserved c =
+pub transform_blocks-requires-clause-inside : goal.transform_blocks-requires-clause-inside
+transform_blocks-requires-clause-inside c =
     let h = c.args.head.now in
-    let per = blocks_of h in
-    let zs = c.args.blocks.now in
-    let done = c.parts.done in
-    let some = c.min-some.result in
-    let new = units_in h c.transform.new.self.groups in
-    let kept = c.parts.invariant in
-    let from : c.units_to-from.result ≡ done * per = search rules in
-    let to : c.units_to-end.result ≡ (done + some) * per = search rules in
-    let sum = add-mul done some per in
-    let few : done + some ≤ c.args.coded = search (rules, arith) in
-    let most : (done + some) * per ≤ c.args.coded * per = mul-le-mul_right {m = done + some} {n = c.args.coded} per few in
-    let inside : c.units_to-end.result ≤ length zs = omega (arith, to, most, c.requires.blocks) in
-    let zero : c.units_to-from.result ≡ done * length (order_of h) + 0 = omega (arith, from, ap (λ n. done * n) (length-order 0 h.components)) in
-    let whole : c.units_to-from.result % length (order_of h) ≡ 0 = ap (λ n. n % length (order_of h)) zero ∙ mul-add-mod_self_right done (length (order_of h)) 0 ∙ zero-mod (length (order_of h)) in
-    record {
-      within = few;
-      room = c.transform.ensures.room;
-      decoded = λ k lt. elim (cases_lt k (done * per)) [
-        | inl l ↦ c.transform.ensures.kept k l ∙ kept.decoded k l
-        | inr g ↦
-            let j = k - done * per in
-            let at : done * per + j ≡ k = omega (arith, g) in
-            let low : j < c.units_to-end.result - c.units_to-from.result = omega (arith, lt, g, sum, from, to) in
-            let here : slice_index_or new (done * per + j) [] ≡ unit_of h zs (c.units_to-from.result + j) = c.transform.ensures.here j (search (rules, arith, low, inside)) ∙ unit_of_part h zs c.units_to-from.result c.units_to-end.result j whole low inside in
-            ap (λ n. slice_index_or new n []) (sym at) ∙ here ∙ ap (λ n. unit_of h zs (n + j)) from ∙ ap (λ n. unit_of h zs n) at
-      ];
-    }
+    let n = c.args.coded * length c.order.result.now in
+    let count : n ≡ c.args.coded * blocks_of h = ap (λ k. c.args.coded * k) c.order.ensures.count in
+    let long : length (take n c.args.blocks.now) ≡ n = length-take-le n c.args.blocks.now (omega (arith, count, c.requires.blocks)) in
+    let all : c.args.coded * blocks_of h ≤ mcus_across h * blocks_of h = mul-le-mul_right {m = c.args.coded} {n = mcus_across h} (blocks_of h) c.requires.few in
+    omega (arith, long, count, all, units_long h c.args.self.now.groups)
 
 pub returns-clause-decoded : goal.returns-clause-decoded
 returns-clause-decoded c k lt =
-    let per = blocks_of c.args.head.now in
-    let all : c.args.coded * per ≤ mcus_across c.args.head.now * per = mul-le-mul_right {m = c.args.coded} {n = mcus_across c.args.head.now} per c.requires.few in
-    let done : c.parts.done ≡ c.args.coded = search (rules, arith) in
-    c.fill_blank.ensures.kept k lt (omega (arith, lt, all)) ∙ c.parts.invariant.decoded k (omega (arith, lt, ap (λ n. n * per) done))
+    let h = c.args.head.now in
+    let n = c.args.coded * length c.order.result.now in
+    let zs = c.args.blocks.now in
+    let count : n ≡ c.args.coded * blocks_of h = ap (λ i. c.args.coded * i) c.order.ensures.count in
+    let long : length (take n zs) ≡ n = length-take-le n zs (omega (arith, count, c.requires.blocks)) in
+    let all : c.args.coded * blocks_of h ≤ mcus_across h * blocks_of h = mul-le-mul_right {m = c.args.coded} {n = mcus_across h} (blocks_of h) c.requires.few in
+    let none : 0 * blocks_of h + k ≡ k = omega arith in
+    let inside : k < n = omega (arith, lt, count) in
+    c.fill_blank.ensures.kept k lt (omega (arith, lt, all))
+    ∙ ap (λ i. slice_index_or (units_in h c.transform_blocks.new.units.groups) i []) (sym none)
+    ∙ c.transform_blocks.ensures.here k (omega (arith, inside, long))
+    ∙ ap (λ z. samples z (quantiser_of h (component h k))) (get_or-take n zs k [] inside)

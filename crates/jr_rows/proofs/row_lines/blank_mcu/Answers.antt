@@ -1,8 +1,9 @@
-use Rattle.std.proofs.Common.{◌≡◌, ◌<◌, ◌∙◌, [], inl, inr, ap, sym, arith, rules, slice_index_or}
+use Rattle.std.proofs.Common.{◌≡◌, ◌<◌, ◌∙◌, None, inl, inr, ap, sym, arith, rules}
 use Rattle.std.proofs.lemmas.Bool.{cases_lt}
 use Rattle.jr_head.specs.Geometry.{blocks_of}
+use Rattle.jr_rows.specs.Bands.{unit_shown_of}
 use Rattle.jr_rows.specs.Groups.{unit_in}
-use Rattle.jr_rows.proofs.row_lines.put_mcu.Goals as goal
+use Rattle.jr_rows.proofs.row_lines.blank_mcu.Goals as goal
 
 pub loop-j-preserved : goal.loop-j-preserved
 loop-j-preserved c =
@@ -11,14 +12,14 @@ loop-j-preserved c =
     let new = c.put_unit.new.groups in
     let kept = c.loop-j.invariant in
     let here : j < blocks_of h = search (rules, arith) in
-    let put : unit_in h new c.args.mcu j ≡ slice_index_or c.args.units.now j [] = search (rules, c.put_unit.ensures.here) in
+    let put : unit_in h new c.args.mcu j ≡ unit_shown_of h j None 0 = search (rules, c.put_unit.ensures.here, c.blank_unit.ensures) in
     record {
       room = record { across_is = kept.room.across_is; long = search (rules, kept.room.long) };
       here = λ i lt. elim (cases_lt i j) [
         | inl l ↦ c.put_unit.ensures.others c.args.mcu i c.requires.mcu (omega (arith, l, here)) (λ _ e. omega (arith, e, l)) ∙ kept.here i l
         | inr g ↦
             let same : i ≡ j = omega (arith, lt, g) in
-            ap (λ k. unit_in h new c.args.mcu k) same ∙ put ∙ ap (λ k. slice_index_or c.args.units.now k []) (sym same)
+            ap (λ k. unit_in h new c.args.mcu k) same ∙ put ∙ ap (λ k. unit_shown_of h k None 0) (sym same)
       ];
       others = λ m i lm li apart. c.put_unit.ensures.others m i lm li (λ e _. apart e) ∙ kept.others m i lm li apart;
     }

@@ -1,0 +1,23 @@
+use Rattle.std.proofs.Common.{◌≡◌, ◌+◌, ◌*◌, ◌<◌, ◌∙◌, set, ap, arith, rules}
+use Rattle.jr_head.specs.Geometry.{blocks_of, mcus_across}
+use Rattle.jr_rows.specs.RowLinesValue.{RowLinesValue}
+use Rattle.jr_rows.specs.Groups.{unit_in, units_in}
+use Rattle.jr_rows.proofs.GroupLists.{mcu_inside, one_put, units_long, written_back}
+use Rattle.jr_rows.proofs.row_lines.RowLinesUnitSink.put.Goals as goal
+
+pub put_unit-requires-clause-mcu : goal.put_unit-requires-clause-mcu
+put_unit-requires-clause-mcu c = mcu_inside c.args.head.now c.args.self.now.groups c.args.mcu c.args.j c.requires.unit c.requires.inside
+
+pub returns-clause-put : goal.returns-clause-put
+returns-clause-put c =
+    let h = c.args.head.now in
+    let at = c.args.mcu * blocks_of h + c.args.j in
+    let new = c.put_unit.new.groups in
+    let old = c.self.inside.groups.items in
+    let back = written_back c.self.inside.groups.len new old (search (rules, c.put_unit.auto.groups)) in
+    let was : c.deref_mut.result.now ≡ old = c.deref_mut.ensures.value in
+    let before : old ≡ c.args.self.now.groups = ap (λ (v : RowLinesValue). v.groups) c.self.view_is in
+    let inside : at < mcus_across h * blocks_of h = omega (arith, c.requires.inside, units_long h c.args.self.now.groups) in
+    ap (units_in h) back
+    ∙ one_put h c.args.mcu c.args.j new old c.args.samples.now inside c.requires.unit c.put_unit.ensures.here (λ n i ln li apart. c.put_unit.ensures.others n i ln li apart ∙ ap (λ g. unit_in h g n i) was)
+    ∙ ap (λ g. set (units_in h g) at c.args.samples.now) before
