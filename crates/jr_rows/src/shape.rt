@@ -40,9 +40,9 @@ pub fn shape_of(head: &Head) -> Shape
     ensures short { result.line ≤ 196605 }
 {
     Shape {
-        across: head.width().div_ceil(8 * head.horizontal_max()),
+        across: head.mcus_across(),
         deep: 8 * head.vertical_max(),
-        down: head.height().div_ceil(8 * head.vertical_max()),
+        down: head.mcus_down(),
         line: bytes_of_line(head),
     }
 }

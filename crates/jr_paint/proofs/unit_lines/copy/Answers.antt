@@ -1,7 +1,7 @@
 use Rattle.std.proofs.Common.{◌≡◌, take, length, ap, sym, ◌∙◌, arith}
 use Rattle.std.proofs.Math.Seq.{take-length}
 use Rattle.std.proofs.lemmas.Simd.{put_chunk_whole}
-use Rattle.jr_wall.proofs.painting.copy.Goals as goal
+use Rattle.jr_paint.proofs.unit_lines.copy.Goals as goal
 
 pub returns-then-out-eq8 : goal.returns-then-out-eq8
 returns-then-out-eq8 c =
