@@ -20,7 +20,7 @@ loop-n-preserved g c =
     let long : length c.fill_unit.new.out ≡ 8 = search rules in
     let within : 8 * c.loop-n.n ≤ length c.loop-n.out = search rules in
     λ k lt. filled_more (λ j. sample_by_units c.args.head.now (g.U.Units.shown_in c.args.units.now) c.args.c j c.args.y) (8 * c.loop-n.n) 8 (8 * c.loop-n.n + 8 - 8 * c.loop-n.n) c.loop-n.out c.fill_unit.new.out within (omega (arith, long)) c.loop-n.invariant
-        (λ j below. c.fill_unit.ensures j (omega (arith, below, long))) k (omega (arith, lt))
+    (λ j below. c.fill_unit.ensures j (omega (arith, below, long))) k (omega (arith, lt))
 
 pub returns-then-whole-out : goal.returns-then-whole-out
 returns-then-whole-out g c =
@@ -29,4 +29,4 @@ returns-then-whole-out g c =
     let within : at ≤ length c.loop-n.out = search rules in
     let before : (j : ℕ) → j < at → slice_index c.loop-n.out j ≡ sample_by_units c.args.head.now (g.U.Units.shown_in c.args.units.now) c.args.c j c.args.y = λ j below. c.loop-n.invariant j (omega (arith, below, c.loop-n-test.false)) in
     λ k lt. filled_more (λ j. sample_by_units c.args.head.now (g.U.Units.shown_in c.args.units.now) c.args.c j c.args.y) at (length c.loop-n.out - at) (length c.loop-n.out - at) c.loop-n.out c.fill_unit-then-whole-out.new.out within (omega (arith, long)) before
-        (λ j below. c.fill_unit-then-whole-out.ensures j (omega (arith, below, long))) k (search (rules, lt))
+    (λ j below. c.fill_unit-then-whole-out.ensures j (omega (arith, below, long))) k (search (rules, lt))
