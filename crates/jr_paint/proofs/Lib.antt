@@ -8,3 +8,5 @@ pub mod Factors
 pub mod Held
 pub mod PixelLaws
 pub mod Blocks
+pub mod Along
+pub mod Filled

@@ -53,3 +53,15 @@ spot_at h c p = record {
   row = p.row;
   col = p.col;
 }
+
+-- where the sample in column x and line y of component c lies (T.81, A.2)
+abbrev pub spot_of : HeadValue → ℕ → ℕ → ℕ → Spot
+spot_of h c x y = spot_at h c (place_of (horizontal_of h c) (vertical_of h c) x y)
+
+-- its place in its data unit
+abbrev pub place_in : Spot → ℕ
+place_in s = 8 * s.row + s.col
+
+-- the spot of the sample in column x of a line, from that of its column 0, where an MCU has so many data units across
+abbrev pub spot_in_line : Spot → ℕ → ℕ → Spot
+spot_in_line s across x = record { mcu = s.mcu + x / 8 / across; block = s.block + x / 8 % across; row = s.row; col = x % 8 }

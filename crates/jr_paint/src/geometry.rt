@@ -2,7 +2,7 @@
 
 ghost use Rattle.std.specs.Prelude.{◌≡◌, ℕ, ◌+◌, ◌*◌, ◌<◌, ◌≤◌};
 ghost use Rattle.jr_base.specs.declared.limits.TheConstants.{MAX_MCUS_ACROSS};
-ghost use Rattle.jr_head.specs.Geometry.{components_of, horizontal_of, vertical_of, mcus_across, mcus_of, blocks_before, blocks_of};
+ghost use Rattle.jr_head.specs.Geometry.{components_of, horizontal_of, vertical_of, mcus_of, blocks_before, blocks_of};
 ghost use Rattle.jr_paint.specs.Geometry.{Place, Where, IsOnlyOne, samples_across, samples_down, place_of, spot_at};
 
 use jr_head::Head;
@@ -24,13 +24,6 @@ pub struct Spot {
 pub fn exactly_one_place()
     ensures { (across down x y : ℕ) → 0 < across → 0 < down → IsOnlyOne (Where across down x y) }
 {}
-
-fn mcu_columns(head: &Head) -> u32
-    ensures value { result ≡ mcus_across head.now }
-    ensures few { result ≤ MAX_MCUS_ACROSS }
-{
-    head.width().div_ceil(8 * head.horizontal_max())
-}
 
 /// The number of the MCU in this line and column, where so many stand in a line.
 fn mcu_number(line: u32, column: u32, columns: u32) -> u32
@@ -69,7 +62,7 @@ pub fn place(head: &Head, c: u32, x: u32, y: u32) -> Spot
     head.be_lawful();
     let across = head.horizontal(c);
     let down = head.vertical(c);
-    let mcu = mcu_number(y / (8 * down), x / (8 * across), mcu_columns(head));
+    let mcu = mcu_number(y / (8 * down), x / (8 * across), head.mcus_across());
     let block = earlier_blocks(head, c) + y % (8 * down) / 8 * across + x % (8 * across) / 8;
     Spot {
         mcu,

@@ -10,6 +10,7 @@ mod lines;
 mod netpbm;
 mod pixels;
 mod samples;
+mod unit_lines;
 mod upsampling;
 
 pub use colours::colour;
@@ -19,3 +20,4 @@ pub use jr_base::{Tally, WriteFault};
 pub use lines::{SampleLines, bytes_of_line, paint_lines};
 pub use netpbm::{BATCH, NARROW, WIDEST, make_room, write_netpbm};
 pub use samples::Samples;
+pub use unit_lines::{Unit, Units, fill_line, sample_of_units};

@@ -1,3 +1,2 @@
 pub mod BoardPictures
 pub mod Pictures
-pub mod Lines

@@ -5,7 +5,9 @@ use Rattle.jr_segments.specs.declared.kind.Kind.TheVariants.{Grey, Rgb, Ycc}
 use Rattle.jr_head.specs.HeadValue.{HeadValue}
 use Rattle.jr_head.specs.Geometry.{components_of, horizontal_of, vertical_of, blocks_of}
 use Rattle.jr_head.specs.Geometry as heads
-use Rattle.jr_paint.specs.Geometry.{samples_across, samples_down, place_of, spot_at}
+pub use Rattle.jr_head.specs.Intervals.{interval_number, within_interval}
+use Rattle.jr_paint.specs.Geometry.{samples_across, samples_down}
+pub use Rattle.jr_paint.specs.Geometry.{spot_of, place_in}
 use Rattle.jr_paint.specs.declared.geometry.Spot.{Spot}
 use Rattle.jr_paint.specs.Text.{text_of}
 use Rattle.jr_scan.specs.IntervalValue.{IntervalValue}
@@ -22,23 +24,9 @@ blank_of Grey c = 0
 blank_of Rgb c = 0
 blank_of Ycc c = if c == 0 then 0 else 128
 
--- the interval that holds an MCU, and the MCU's number in it
-abbrev pub interval_number : HeadValue → ℕ → ℕ
-interval_number h mcu = if h.restart == 0 then 0 else mcu / h.restart
-
-abbrev pub within_interval : HeadValue → ℕ → ℕ
-within_interval h mcu = if h.restart == 0 then mcu else mcu % h.restart
-
--- where the sample in column x and line y of component c lies (T.81, A.2)
-abbrev pub spot_of : HeadValue → ℕ → ℕ → ℕ → Spot
-spot_of h c x y = spot_at h c (place_of (horizontal_of h c) (vertical_of h c) x y)
-
--- its data unit in the interval that holds it, and its place in the data unit
+-- the data unit of a spot in the interval that holds it
 abbrev pub unit_in : HeadValue → Spot → ℕ
 unit_in h s = within_interval h s.mcu * blocks_of h + s.block
-
-abbrev pub place_in : Spot → ℕ
-place_in s = 8 * s.row + s.col
 
 -- the picture has this sample, and the interval holds it
 pub record Holds (i : IntervalValue) (c x y : ℕ) : Type 0 where

@@ -1,8 +1,8 @@
 -- What a board shows at a place.
 use Rattle.std.specs.Prelude.{ℕ, ◌+◌, ◌*◌, ◌/◌, ◌%◌, List, slice_index, slice_get, Option, Some, None}
 use Rattle.jr_segments.specs.declared.kind.Kind.{Kind}
-use Rattle.jr_head.specs.Geometry.{horizontal_of, vertical_of, blocks_of}
-use Rattle.jr_paint.specs.Geometry.{place_of, spot_at}
+use Rattle.jr_head.specs.Geometry.{blocks_of}
+use Rattle.jr_paint.specs.Geometry.{spot_of, place_in}
 use Rattle.jr_paint.specs.declared.geometry.Spot.{Spot}
 use Rattle.jr_piece.specs.PieceValue.{PieceValue}
 use Rattle.jr_picture.specs.BoardValue.{BoardValue}
@@ -27,12 +27,8 @@ sample_in_mcu b c mcu block place =
 
 -- the sample in a row and a column of a data unit of an MCU
 abbrev pub sample_at : BoardValue → ℕ → Spot → ℕ
-sample_at b c s = sample_in_mcu b c s.mcu s.block (8 * s.row + s.col)
+sample_at b c s = sample_in_mcu b c s.mcu s.block (place_in s)
 
 -- the sample in column x and line y of component c
 unfoldable pub samples_of : BoardValue → ℕ → ℕ → ℕ → ℕ
-samples_of b c x y = let h = b.scan.head in sample_at b c (spot_at h c (place_of (horizontal_of h c) (vertical_of h c) x y))
-
--- the spot of the sample in column x of a line, from that of its column 0, where an MCU has so many data units across
-abbrev pub spot_in_line : Spot → ℕ → ℕ → Spot
-spot_in_line s across x = record { mcu = s.mcu + x / 8 / across; block = s.block + x / 8 % across; row = s.row; col = x % 8 }
+samples_of b c x y = sample_at b c (spot_of b.scan.head c x y)

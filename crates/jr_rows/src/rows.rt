@@ -251,17 +251,6 @@ impl<'a> ScanMcus<'a> {
     }
 }
 
-/// The number of the interval that has this MCU, and how many of its MCUs stand before it.
-fn interval_with(head: &Head, mcu: u32) -> (u32, u32)
-    ensures number { result.0 ≡ interval_number head.now mcu }
-    ensures within { result.1 ≡ within_interval head.now mcu }
-{
-    match u32::from(head.restart()) {
-        0 => (0, mcu),
-        restart => (mcu / restart, mcu % restart),
-    }
-}
-
 /// The rows of MCUs of a scan, of whose first intervals one row after the other is read.
 #[derive(Drop)]
 pub struct Rows<'a> {
@@ -320,7 +309,7 @@ impl<'a> Rows<'a> {
         // By its contract a picture has an MCU.
         let _some = scan.head().mcus();
         let across = shape_of(scan.head()).across;
-        let (number, before) = interval_with(scan.head(), row * across);
+        let (number, before) = scan.head().interval_with(row * across);
         let mut mcus = ScanMcus::of(scan, scan.intervals(), number);
         mcus.skip(before, mcus_at_once(scan.head()), blocks);
         Rows { mcus, row }

@@ -39,10 +39,11 @@ pub fn shape_of(head: &Head) -> Shape
     ensures line { result.line ≡ line_size head.now }
     ensures short { result.line ≤ 196605 }
 {
+    head.be_lawful();
     Shape {
-        across: head.width().div_ceil(8 * head.horizontal_max()),
+        across: head.mcus_across(),
         deep: 8 * head.vertical_max(),
-        down: head.height().div_ceil(8 * head.vertical_max()),
+        down: head.mcus_down(),
         line: bytes_of_line(head),
     }
 }
@@ -105,11 +106,10 @@ pub(crate) fn mcus_of_first(scan: &Scan, n: u32) -> u32
     ensures value { result ≡ mcus_before scan.now.head n }
     ensures within { result ≤ mcus_of scan.now.head }
 {
-    let all = scan.head().mcus();
     if n >= scan.intervals() {
-        return all;
+        return scan.head().mcus();
     }
-    n * u32::from(scan.head().restart())
+    scan.head().first_mcu(n)
 }
 
 /// How many MCUs of a row are decoded, where the first n intervals are.

@@ -14,23 +14,6 @@ use Rattle.jr_scan.specs.Spans.{segment_data}
 use Rattle.jr_scan.specs.IntervalValue.{IntervalValue}
 use Rattle.jr_scan.specs.ScanValue.{intervals_of, IsScanOf}
 
--- an interval starts before the last MCU
-starts_before : (mcus r i : ℕ) → 0 < r → i < div_ceil mcus r → i * r < mcus
-starts_before mcus r i some lt =
-    let t = div_ceil_times mcus r some in
-    let more : suc i * r ≤ div_ceil mcus r * r = mul-le-mul_right r lt in
-    let e : suc i * r ≡ i * r + r = omega arith in
-    omega (arith, t.1, more, e)
-
-pub interval_starts : (h : HeadValue) (r m i : ℕ) → r ≡ h.restart → (r ≡ 0 → ⊥) → m ≡ mcus_of h → i < intervals_of h → i * r < m
-interval_starts h r m i e some same lt = elim (eqb_tells h.restart 0) [
-  | inl t ↦ absurd (some (e ∙ t.1))
-  | inr f ↦
-      let n : intervals_of h ≡ div_ceil (mcus_of h) h.restart = ap (λ b. cond b 1 (div_ceil (mcus_of h) h.restart)) f.0 in
-      let before = starts_before (mcus_of h) h.restart i (omega (arith, e, some)) (omega (arith, n)) in
-      subst (λ (k : ℕ). i * k < m) (sym e) (subst (λ (k : ℕ). i * h.restart < k) (sym same) before)
-]
-
 pub cut_few : (n at : ℕ) (bytes : List ℕ) (datas : List (List ℕ)) (end : ScanEnd) → IsCut n at bytes datas end → length datas ≤ n
 cut_few n at bytes datas end c = omega (arith, ap length c.means, length-map c.segments (λ (p : CodedSegment). p.bytes), c.few)
 

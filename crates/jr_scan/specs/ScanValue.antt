@@ -1,8 +1,7 @@
 -- A scan and its restart intervals (T.81, E.1.4 and E.2.4).
-use Rattle.std.specs.Prelude.{◌≡◌, ℕ, ◌-◌, ◌*◌, ◌==◌, ◌<◌, List, [], ◌++◌, length, replicate, drop, min, if◌then◌else◌, slice_index_or}
-use Rattle.std.specs.Int.{div_ceil}
+use Rattle.std.specs.Prelude.{◌≡◌, ℕ, ◌-◌, ◌<◌, List, [], ◌++◌, length, replicate, drop, slice_index_or}
 use Rattle.jr_head.specs.HeadValue.{HeadValue}
-use Rattle.jr_head.specs.Geometry.{mcus_of}
+pub use Rattle.jr_head.specs.Intervals.{intervals_of, mcus_in}
 use Rattle.jr_scan.specs.declared.scan_end.ScanEnd.{ScanEnd}
 use Rattle.jr_scan.specs.Cut.{IsCut}
 use Rattle.jr_scan.specs.IntervalValue.{IntervalValue}
@@ -12,14 +11,6 @@ pub record ScanValue : Type 0 where
   pub head : HeadValue
   pub intervals : List (List ℕ)
   pub ended : ScanEnd
-
--- how many intervals there are: one where the restart interval is 0
-abbrev pub intervals_of : HeadValue → ℕ
-intervals_of h = if h.restart == 0 then 1 else div_ceil (mcus_of h) h.restart
-
--- how many MCUs interval i has: the restart interval, or the rest
-abbrev pub mcus_in : HeadValue → ℕ → ℕ
-mcus_in h i = if h.restart == 0 then mcus_of h else min h.restart (mcus_of h - i * h.restart)
 
 abbrev pub interval_of : ScanValue → ℕ → IntervalValue
 interval_of s i = record { number = i; mcus = mcus_in s.head i; bytes = slice_index_or s.intervals i []; head = s.head }

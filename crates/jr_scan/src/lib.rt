@@ -24,5 +24,5 @@ pub use laws::{
 };
 pub use mcu_reader::{MOST_UNITS, McuReader};
 pub use place::{Place, RunEnd};
-pub use scan::{Scan, interval_count};
+pub use scan::Scan;
 pub use scan_end::ScanEnd;

@@ -57,33 +57,8 @@ fn behind(bytes: &[u8], offset: u64) -> &[u8]
     &bytes[offset_in(bytes, offset)..]
 }
 
-/// How many restart intervals a scan of this head has (T.81, E.1.4): one where the restart interval is 0.
-pub fn interval_count(head: &Head) -> u32
-    ensures value { result ≡ intervals_of head.now }
-    ensures some { 0 < result }
-{
-    let restart = u32::from(head.restart());
-    if restart == 0 {
-        return 1;
-    }
-    head.mcus().div_ceil(restart)
-}
-
-/// How many MCUs an interval has.
-fn mcus_of(head: &Head, i: u32) -> u32
-    requires { i < intervals_of head.now }
-    ensures { result ≡ mcus_in head.now i }
-{
-    let restart = u32::from(head.restart());
-    if restart == 0 {
-        return head.mcus();
-    }
-    restart.min(head.mcus() - i * restart)
-}
-
-ghost use Rattle.jr_scan.specs.ScanValue.{intervals_of, mcus_in};
-
 impl Scan {
+    ghost use Rattle.jr_head.specs.Geometry.{IsLawful};
     ghost use Rattle.jr_scan.specs.ScanValue.{intervals_of, interval_of, IsScanOf, IsSameScan, HasInterval};
 
     /// Cuts the scan of a file, of which this is the head. Where the scan starts past the end of the file it has no
@@ -114,7 +89,7 @@ impl Scan {
         ensures head { IfOk result (λ s. s.head ≡ head) }
         ensures cut { IfOk result (λ s. (file : List ℕ) → scan.rest ≡ drop head.scan_at file → IsScanOf file s) }
     {
-        let intervals = interval_count(&head);
+        let intervals = head.intervals();
         let segments = cut(alloc, intervals, head.scan_at(), scan)?;
         Ok(Scan {
             head: Arc::new(alloc, head)?,
@@ -127,8 +102,10 @@ impl Scan {
 
     /// The head of the file.
     pub fn head(&self) -> &Head
-        ensures { result.now ≡ self.now.head }
+        ensures value { result.now ≡ self.now.head }
+        ensures lawful { IsLawful result.now }
     {
+        self.head.be_lawful();
         &self.head
     }
 
@@ -159,7 +136,7 @@ impl Scan {
         }
         let head = Arc::try_clone(&self.head)?;
         let unstuffed = Arc::try_clone(&self.unstuffed)?;
-        Ok(Interval::of(head, unstuffed, span, i, mcus_of(&self.head, i)))
+        Ok(Interval::of(head, unstuffed, span, i, self.head.mcus_in(i)))
     }
 
     /// Interval i, borrowed from the scan. It takes no memory.
@@ -167,7 +144,7 @@ impl Scan {
         requires { i < length self.now.intervals }
         ensures { result ≡ interval_of self.now i }
     {
-        IntervalRef::of(&self.head, self.data(i), i, mcus_of(&self.head, i))
+        IntervalRef::of(&self.head, self.data(i), i, self.head.mcus_in(i))
     }
 
     /// The data of interval i, without stuffing.
@@ -210,7 +187,7 @@ impl Scan {
         ensures { IsTrue result ↔ HasInterval self.now interval.now }
     {
         let number = interval.number();
-        if number >= self.intervals() || interval.mcus() != mcus_of(&self.head, number) {
+        if number >= self.intervals() || interval.mcus() != self.head.mcus_in(number) {
             return false;
         }
         if interval.bytes() != self.data(number) {

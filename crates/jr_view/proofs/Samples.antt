@@ -4,9 +4,8 @@ use Rattle.std.proofs.lemmas.Bool.{cases_lt}
 use Rattle.std.proofs.lemmas.List.{get_or-replicate, get_or_past, length-replicate}
 use Rattle.std.proofs.lemmas.Nat.{mod_below}
 use Rattle.jr_head.specs.HeadValue.{HeadValue}
-use Rattle.jr_head.specs.Geometry.{blocks_of, horizontal_of, mcus_of, vertical_of}
-use Rattle.jr_paint.specs.Geometry.{place_of, spot_at}
-use Rattle.jr_paint.specs.declared.geometry.Spot.{Spot}
+use Rattle.jr_head.specs.Geometry.{blocks_of, mcus_of}
+use Rattle.jr_paint.specs.Geometry.{spot_of}
 use Rattle.jr_piece.specs.Units.{grey_unit}
 use Rattle.jr_view.specs.ViewValue.{ViewValue}
 use Rattle.jr_scan.specs.ScanValue.{ScanValue}
@@ -25,19 +24,9 @@ pub grey_samples : (v : ViewValue) → ((mcu k : ℕ) → unit_at v mcu k ≡ gr
 unfolding sample_in_view
 grey_samples v grey c x y =
     let h = v.scan.head in
-    let s = spot_at h c (place_of (horizontal_of h c) (vertical_of h c) x y) in
+    let s = spot_of h c x y in
     let below : 8 * (y % 8) + x % 8 < 64 = omega (arith, mod_below x 8 (omega arith), mod_below y 8 (omega arith)) in
     ap (λ u. slice_index u (8 * (y % 8) + x % 8)) (grey s.mcu s.block) ∙ get_or-replicate 64 (8 * (y % 8) + x % 8) 128 0 below
-
--- what is found at a sample's spot is the view's sample
-pub found : (v : ViewValue) (h : HeadValue) (c x y n : ℕ) (s : Spot) (u : List ℕ) → h ≡ v.scan.head → s ≡ spot_at h c (place_of (horizontal_of h c) (vertical_of h c) x y) → n ≡ blocks_of h
-    → u ≡ slice_index_or v.units (s.mcu * n + s.block) grey_unit → slice_index u (8 * s.row + s.col) ≡ sample_in_view v c x y
-unfolding sample_in_view
-found v h c x y n s u e at per is =
-    let n_is = per ∙ ap blocks_of e in
-    let s_is = at ∙ ap (λ (g : HeadValue). spot_at g c (place_of (horizontal_of g c) (vertical_of g c) x y)) e in
-    ap (λ w. slice_index w (8 * s.row + s.col)) is ∙ ap (λ k. slice_index (slice_index_or v.units (s.mcu * k + s.block) grey_unit) (8 * s.row + s.col)) n_is
-    ∙ ap (λ (t : Spot). slice_index (slice_index_or v.units (t.mcu * blocks_of v.scan.head + t.block) grey_unit) (8 * t.row + t.col)) s_is
 
 -- no MCU was seen where none is marked
 unseen : (n m : ℕ) → get_or (replicate n false) m false ≡ false

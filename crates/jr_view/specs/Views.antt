@@ -6,7 +6,7 @@ use Rattle.jr_head.specs.Geometry.{blocks_of, mcus_across, mcus_down, mcus_of}
 use Rattle.jr_piece.specs.PieceValue.{PieceValue}
 use Rattle.jr_piece.specs.StripValue.{StripValue}
 use Rattle.jr_piece.specs.Units.{grey_unit}
-use Rattle.jr_picture.specs.Headline.{spot_of, place_in}
+use Rattle.jr_paint.specs.Units.{sample_by_units}
 use Rattle.jr_view.specs.declared.shown.Shown.{Shown}
 use Rattle.jr_view.specs.declared.shown.Shown.TheVariants.{OfStrip, OfPiece}
 use Rattle.jr_view.specs.ViewValue.{ViewValue}
@@ -19,9 +19,13 @@ has_seen v mcu = slice_index_or v.seen mcu false
 abbrev pub unit_at : ViewValue → ℕ → ℕ → List ℕ
 unit_at v mcu k = slice_index_or v.units (mcu * blocks_of v.scan.head + k) grey_unit
 
+-- the sample of an MCU, by data unit and place in that
+abbrev pub sample_seen : ViewValue → (c mcu block place : ℕ) → ℕ
+sample_seen v c mcu block place = slice_index (unit_at v mcu block) place
+
 -- the sample in column x and line y of component c
 unfoldable pub sample_in_view : ViewValue → ℕ → ℕ → ℕ → ℕ
-sample_in_view v c x y = let s = spot_of v.scan.head c x y in slice_index (unit_at v s.mcu s.block) (place_in s)
+sample_in_view v = sample_by_units v.scan.head (sample_seen v)
 
 -- whether each MCU of this row of MCUs was seen
 abbrev pub has_seen_row : HeadValue → List Bool → ℕ → Bool

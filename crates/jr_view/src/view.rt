@@ -4,12 +4,12 @@ ghost use Rattle.std.specs.Prelude.{◌≡◌, ℕ, ◌*◌, ◌+◌, ◌/◌, �
 ghost use Rattle.std.specs.Arc.{arc_value};
 ghost use Rattle.jr_head.specs.Geometry.{blocks_of, mcus_across, mcus_down, mcus_of};
 ghost use Rattle.jr_piece.specs.Units.{grey_unit};
-ghost use Rattle.jr_view.specs.Views.{IsNotOfPiece, IsNotOfStrip, IsOfPiece, IsOfStrip, IsSameAt, AddsMcu, AddsMcus, ShowsPiece, ShowsStripUnits, has_seen, has_seen_row, sample_in_view, unit_at, units_shown, whole_rows};
+ghost use Rattle.jr_view.specs.Views.{IsNotOfPiece, IsNotOfStrip, IsOfPiece, IsOfStrip, IsSameAt, AddsMcu, AddsMcus, ShowsPiece, ShowsStripUnits, has_seen, has_seen_row, sample_in_view, sample_seen, unit_at, units_shown, whole_rows};
 
 use crate::shown::{GREY, Shown};
 use jr_code::Memory;
 use jr_head::Head;
-use jr_paint::{Samples, place};
+use jr_paint::{Samples, Unit, Units, fill_line, sample_of_units};
 use jr_piece::{Piece, Strip};
 use jr_scan::Scan;
 use std::alloc::Global;
@@ -38,24 +38,6 @@ impl Model for View {
     ghost view = { λ v. record { scan = arc_value v.scan; units = v.units.items; seen = v.seen.items } };
 
     ghost invariant = { λ v. IsView (record { scan = arc_value v.scan; units = v.units.items; seen = v.seen.items }) v.rows };
-}
-
-/// How many MCUs stand in a row of MCUs.
-fn mcu_columns(head: &Head) -> usize
-    ensures value { result ≡ mcus_across head.now }
-    ensures some { 0 < result }
-    ensures few { result < 2 ^ 16 }
-{
-    head.width().div_ceil(8 * head.horizontal_max()) as usize
-}
-
-/// How many rows of MCUs there are.
-fn mcu_lines(head: &Head) -> u32
-    ensures value { result ≡ mcus_down head.now }
-    ensures some { 0 < result }
-    ensures few { result < 2 ^ 16 }
-{
-    head.height().div_ceil(8 * head.vertical_max())
 }
 
 /// So many data units, all grey.
@@ -87,7 +69,7 @@ fn is_row_whole(head: &Head, seen: &[bool], mcu: usize) -> bool
     ensures value { result ≡ has_seen_row head.now seen.now (mcu / mcus_across head.now) }
     ensures wide { 0 < mcus_across head.now }
 {
-    let columns = mcu_columns(head);
+    let columns = head.mcus_across() as usize;
     let row = mcu / columns;
     seen[row * columns..(row + 1) * columns]
         .iter()
@@ -125,7 +107,7 @@ impl View {
         ensures value { result ≡ mcus_down self.now.scan.head }
         ensures some { 0 < result }
     {
-        mcu_lines(self.scan.head())
+        self.scan.head().mcus_down()
     }
 
     /// Whether an MCU was seen.
@@ -198,8 +180,19 @@ impl View {
         put_mcu(shown, from as u32, &mut self.units, mcu * per_mcu, per_mcu);
         self.seen[mcu] = true;
         // By its contract the number of rows has room.
-        let _rows = mcu_lines(head);
+        let _rows = head.mcus_down();
         self.rows += u32::from(is_row_whole(head, &self.seen, mcu));
+    }
+}
+
+impl Units for View {
+    ghost head_of = { λ v. v.scan.head };
+
+    ghost shown_in = { sample_seen };
+
+    fn unit(&self, _c: u32, mcu: u32, block: u32) -> Unit<'_> {
+        let number = mcu as usize * self.scan.head().order().len() + block as usize;
+        Unit::Of(&self.units[number])
     }
 }
 
@@ -213,9 +206,10 @@ impl Samples for View {
     }
 
     fn sample(&self, c: u32, x: u32, y: u32) -> u8 {
-        let head = self.scan.head();
-        let spot = place(head, c, x, y);
-        let number = spot.mcu as usize * head.order().len() + spot.block as usize;
-        self.units[number][(8 * spot.row + spot.col) as usize]
+        sample_of_units(self.scan.head(), self, c, x, y)
+    }
+
+    fn line(&self, c: u32, x: u32, y: u32, out: &mut [u8]) {
+        fill_line(self.scan.head(), self, c, y, out);
     }
 }

@@ -11,6 +11,8 @@ mod damage;
 #[cfg(test)]
 mod glances;
 #[cfg(test)]
+mod helping;
+#[cfg(test)]
 mod long_views;
 #[cfg(test)]
 mod piece;

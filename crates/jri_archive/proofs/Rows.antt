@@ -5,8 +5,7 @@ use Rattle.std.proofs.Math.Nat.{div-mul-le_self, lt-div-mul-add, div-lt_iff_lt-m
 use Rattle.std.proofs.lemmas.Bool.{cases_lt}
 use Rattle.std.proofs.lemmas.Grind.{div_ceil_times}
 use Rattle.jr_head.specs.HeadValue.{HeadValue}
-use Rattle.jr_head.specs.Geometry.{horizontal_max, vertical_max, mcus_across, mcus_down, mcus_of}
-use Rattle.jr_head.proofs.SamplingLaws.{some_across}
+use Rattle.jr_head.specs.Geometry.{vertical_max, mcus_across, mcus_down, mcus_of}
 use Rattle.jr_scan.specs.ScanValue.{mcus_in}
 use Rattle.jri_archive.specs.declared.lines.Lines.{Lines}
 use Rattle.jri_archive.specs.Lines.{first_mcu_of, AreRows, AreLinesOf}
@@ -61,13 +60,11 @@ line_found across high height first count line r low up =
     ]
 
 -- the rows of a head's picture
-pub rows_of : (h : HeadValue) (width across wide high height first count : ℕ) → width ≡ h.width → 0 < width → wide ≡ horizontal_max h → 0 < wide → high ≡ vertical_max h → 0 < high → height ≡ h.height
-    → across ≡ div_ceil width (8 * wide) → 0 < count → first + count ≤ mcus_of h → AreRows across (8 * high) height first count
-rows_of h width across wide high height first count ew some_width ew8 some_wide eh some_high ey ea some within =
-    let same : across ≡ mcus_across h = rw (← ew, ← ew8) ea in
-    let all : mcus_across h * mcus_down h ≡ across * div_ceil height (8 * high) = rw (same, eh, ey) refl in
+pub rows_of : (h : HeadValue) (across high height first count : ℕ) → across ≡ mcus_across h → 0 < across → high ≡ vertical_max h → 0 < high → height ≡ h.height → 0 < count → first + count ≤ mcus_of h → AreRows across (8 * high) height first count
+rows_of h across high height first count ea some_across eh some_high ey some within =
+    let all : mcus_across h * mcus_down h ≡ across * div_ceil height (8 * high) = rw (ea, eh, ey) refl in
     record {
-      across_some = omega (arith, ea, some_across width wide some_width some_wide);
+      across_some = some_across;
       high_some = omega (arith, some_high);
       count_some = some;
       within = omega (arith, within, all);

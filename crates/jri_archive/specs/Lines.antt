@@ -3,12 +3,8 @@ use Rattle.std.specs.Prelude.{◌≡◌, ℕ, ◌+◌, ◌*◌, ◌/◌, ◌<◌
 use Rattle.std.specs.Int.{div_ceil}
 use Rattle.jr_head.specs.HeadValue.{HeadValue}
 use Rattle.jr_head.specs.Geometry.{vertical_max, mcus_across}
-use Rattle.jr_scan.specs.ScanValue.{mcus_in}
+pub use Rattle.jr_head.specs.Intervals.{first_mcu_of, mcus_in}
 use Rattle.jri_archive.specs.declared.lines.Lines.{Lines}
-
--- the number in its scan of the first MCU of interval i
-abbrev pub first_mcu_of : HeadValue → ℕ → ℕ
-first_mcu_of h i = i * h.restart
 
 -- an MCU covers a line of the picture: it stands in the row of MCUs, each 8 Vmax lines high, that the line is in
 pub record Covers (h : HeadValue) (mcu line : ℕ) : Type 0 where

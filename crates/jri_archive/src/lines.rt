@@ -31,18 +31,11 @@ pub fn mcus_of(head: &Head, i: u32) -> McuRange
     ensures within { result.first + result.count ≤ geometry.mcus_of head.now }
     ensures few { result.first + result.count ≤ MAX_MCUS }
 {
-    let restart = u32::from(head.restart());
-    let mcus = head.mcus();
-    if restart == 0 {
-        return McuRange {
-            first: 0,
-            count: mcus,
-        };
-    }
-    let first = i * restart;
+    // By its contract a picture has so few MCUs that their numbers have room.
+    let _mcus = head.mcus();
     McuRange {
-        first,
-        count: restart.min(mcus - first),
+        first: head.first_mcu(i),
+        count: head.mcus_in(i),
     }
 }
 
@@ -69,7 +62,7 @@ pub fn lines_of(head: &Head, i: u32) -> Lines
     ensures lines { AreLinesOf head.now i result }
     ensures within { result.last < head.now.height }
 {
-    let across = head.width().div_ceil(8 * head.horizontal_max());
+    let across = head.mcus_across();
     let high = 8 * head.vertical_max();
     lines_of_rows(mcus_of(head, i), across, high, head.height())
 }

@@ -44,7 +44,6 @@ pub(crate) fn decode_some(
         Err(refusal) => return Err(DecodeError::Refused(refusal)),
     };
     let head = scan.head();
-    head.be_lawful();
     if !has_lines(head, first, count) {
         return Ok(None);
     }

@@ -8,6 +8,7 @@ mod devices;
 mod gates;
 mod lines;
 mod made;
+mod several;
 mod sizes;
 mod worked;
 

@@ -12,7 +12,7 @@ pub segments-init : goal.segments-init
 segments-init c =
     let file = c.args.file.now in
     let h = c.args.scan.now.head in
-    let at : c.scan_at-start.result ≡ h.scan_at = c.scan_at-start.ensures.value ∙ ap (λ (k : HeadValue). k.scan_at) c.head.ensures in
+    let at : c.scan_at-start.result ≡ h.scan_at = c.scan_at-start.ensures.value ∙ ap (λ (k : HeadValue). k.scan_at) c.head.ensures.value in
     let none = found_none file c.intervals-intervals.result h.scan_at c.intervals-intervals.ensures.some (omega (arith, c.requires.head.scan_at)) in
     subst (λ (spans : List CodedSpan). Found file c.intervals-intervals.result h.scan_at spans c.scan_at-start.result 0) (sym c.new-spans.ensures.items) (subst (λ (k : ℕ). Found file c.intervals-intervals.result h.scan_at [] k 0) (sym at) none)
 

@@ -6,7 +6,7 @@ use Rattle.jr_rows.specs.Bands.{unit_shown}
 use Rattle.jr_rows.specs.Groups.{units_in}
 use Rattle.jr_rows.specs.MarkBytes.{PutsMcus}
 use Rattle.jr_rows.specs.RowLines.{HasLines}
-use Rattle.jr_rows.specs.Rows.{CountsMcus, ShowsBehind, mcus_read}
+use Rattle.jr_rows.specs.Rows.{CountsMcus, ShowsBehind, ShowsFirstUnits, mcus_read}
 use Rattle.jr_rows.proofs.IntervalPlaces.{ends_few}
 use Rattle.jr_rows.proofs.PutMarks.{puts_both}
 use Rattle.jr_rows.proofs.ReadRows.{counts_both, shown_more}
@@ -65,4 +65,7 @@ pub returns-clause-moved : goal.returns-clause-moved
 returns-clause-moved c = search rules
 
 pub returns-clause-shows : goal.returns-clause-shows
-returns-clause-shows c = grind (arith, common_steps)
+returns-clause-shows c =
+    let old = c.args.self.now in
+    let all : c.parts.done ≡ c.args.mcus = omega (arith, c.parts.invariant.within, c.parts-test.false) in
+    subst (λ (n : ℕ). ShowsFirstUnits old.scan old.limit (mcus_read old) n (units_in old.scan.head c.parts.lines.groups)) all c.parts.invariant.shows

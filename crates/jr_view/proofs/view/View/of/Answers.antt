@@ -12,8 +12,8 @@ invariant_of-result c =
     let mcus = c.mcus-mcus.result in
     let n = length c.order.result.now in
     let seen : c.in_ok-vec.field-0.items ≡ replicate mcus false = c.in_ok-vec.ensures.items_if_clones_equal (λ y e. e) in
-    let head : h ≡ (arc_value c.args.scan.now).head = c.head.ensures ∙ ap (λ (s : ScanValue). s.head) c.deref.ensures in
-    let same : c.head-2.result.now ≡ (arc_value c.args.scan.now).head = c.head-2.ensures ∙ ap (λ (s : ScanValue). s.head) c.deref-2.ensures in
+    let head : h ≡ (arc_value c.args.scan.now).head = c.head.ensures.value ∙ ap (λ (s : ScanValue). s.head) c.deref.ensures in
+    let same : c.head-2.result.now ≡ (arc_value c.args.scan.now).head = c.head-2.ensures.value ∙ ap (λ (s : ScanValue). s.head) c.deref-2.ensures in
     new_view (arc_value c.args.scan.now) (arc_value c.in_ok-try_clone.field-0) mcus n c.in_ok-grey_units.field-0.items c.in_ok-vec.field-0.items
     c.in_ok-try_clone.ensures (c.mcus-mcus.ensures.value ∙ ap mcus_of head) (c.order.ensures.count ∙ ap blocks_of same) c.mcus-mcus.ensures.some c.in_ok-grey_units.ensures seen
 

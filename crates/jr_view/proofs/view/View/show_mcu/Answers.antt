@@ -15,7 +15,7 @@ use Rattle.jr_view.proofs.view.View.show_mcu.Goals as goal
 pub put_mcu-requires-clause-room : goal.put_mcu-requires-clause-room
 put_mcu-requires-clause-room c =
     let h = (arc_value c.self.inside.scan).head in
-    let per : length c.order-per_mcu.result.now ≡ blocks_of h = c.order-per_mcu.ensures.count ∙ ap blocks_of (c.head-head.ensures ∙ ap (λ (s : ScanValue). s.head) c.deref.ensures) in
+    let per : length c.order-per_mcu.result.now ≡ blocks_of h = c.order-per_mcu.ensures.count ∙ ap blocks_of (c.head-head.ensures.value ∙ ap (λ (s : ScanValue). s.head) c.deref.ensures) in
     let in_picture : c.args.mcu < mcus_of h = subst (λ (v : ViewValue). c.args.mcu < mcus_of v.scan.head) (sym c.self.view_is) c.requires.mcu in
     let fits = room c.args.mcu (length c.order-per_mcu.result.now) (blocks_of h) (mcus_of h) (length c.self.inside.units.items) per in_picture c.self.invariant.units in
     let long : length c.deref_mut.result.now ≡ length c.self.inside.units.items = ap length c.deref_mut.ensures.value in
@@ -32,7 +32,7 @@ invariant_of-self c =
     let of = arc_value c.self.inside.scan in
     let m = c.args.mcu in
     let seen = c.self.inside.seen.items in
-    let head : c.head-head.result.now ≡ of.head = c.head-head.ensures ∙ ap (λ (s : ScanValue). s.head) c.deref.ensures in
+    let head : c.head-head.result.now ≡ of.head = c.head-head.ensures.value ∙ ap (λ (s : ScanValue). s.head) c.deref.ensures in
     let in_picture : m < mcus_of of.head = subst (λ (v : ViewValue). m < mcus_of v.scan.head) (sym c.self.view_is) c.requires.mcu in
     let within : m < length seen = omega (arith, in_picture, c.self.invariant.seen) in
     let is = with_items_is c.self.inside.units c.put_mcu.new.units (c.put_mcu.auto.units ∙ c.deref_mut.ensures.len) in
@@ -51,7 +51,7 @@ returns-clause-shown c f =
     let m = c.args.mcu in
     let old = c.args.self.now in
     let us = c.put_mcu.new.units in
-    let head : c.head-head.result.now ≡ of.head = c.head-head.ensures ∙ ap (λ (s : ScanValue). s.head) c.deref.ensures in
+    let head : c.head-head.result.now ≡ of.head = c.head-head.ensures.value ∙ ap (λ (s : ScanValue). s.head) c.deref.ensures in
     let per : length c.order-per_mcu.result.now ≡ blocks_of old.scan.head = c.order-per_mcu.ensures.count ∙ ap blocks_of head ∙ ap (λ (v : ViewValue). blocks_of v.scan.head) c.self.view_is in
     let long : length c.self.inside.seen.items ≡ length old.seen = ap (λ (v : ViewValue). length v.seen) c.self.view_is in
     let all : mcus_of of.head ≡ mcus_of old.scan.head = ap (λ (v : ViewValue). mcus_of v.scan.head) c.self.view_is in

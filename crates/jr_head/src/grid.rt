@@ -1,0 +1,86 @@
+//! The MCUs of a picture, in rows and in restart intervals.
+
+ghost use Rattle.std.specs.Prelude.{◌≡◌, ◌+◌, ◌<◌, ◌≤◌};
+ghost use Rattle.jr_base.specs.declared.limits.TheConstants.{MAX_MCUS, MAX_MCUS_ACROSS};
+ghost use Rattle.jr_head.specs.Geometry.{mcus_across, mcus_down, mcus_of};
+ghost use Rattle.jr_head.specs.Intervals.{first_mcu_of, interval_number, intervals_of, mcus_in, within_interval};
+
+use crate::head::Head;
+
+impl Head {
+    /// How many MCUs, of 8 Hmax columns each, cover the picture's width (T.81, A.2.4).
+    pub fn mcus_across(&self) -> u32
+        ensures value { result ≡ mcus_across self.now }
+        ensures some { 0 < result }
+        ensures few { result ≤ MAX_MCUS_ACROSS }
+    {
+        self.width().div_ceil(8 * self.horizontal_max())
+    }
+
+    /// How many rows of MCUs, of 8 Vmax lines each, cover the picture's height (T.81, A.2.4).
+    pub fn mcus_down(&self) -> u32
+        ensures value { result ≡ mcus_down self.now }
+        ensures some { 0 < result }
+        ensures few { result ≤ MAX_MCUS_ACROSS }
+    {
+        self.height().div_ceil(8 * self.vertical_max())
+    }
+
+    /// How many MCUs, of 8 Hmax by 8 Vmax pixels, cover the picture (T.81, A.2.4).
+    pub fn mcus(&self) -> u32
+        ensures value { result ≡ mcus_of self.now }
+        ensures some { 0 < result }
+        ensures few { result ≤ MAX_MCUS }
+    {
+        self.mcus_across() * self.mcus_down()
+    }
+
+    /// How many restart intervals the scan has (T.81, E.1.4): one where there are no restart markers.
+    pub fn intervals(&self) -> u32
+        ensures value { result ≡ intervals_of self.now }
+        ensures some { 0 < result }
+    {
+        let restart = u32::from(self.restart());
+        if restart == 0 {
+            return 1;
+        }
+        self.mcus().div_ceil(restart)
+    }
+
+    /// The number in the scan of an interval's first MCU.
+    pub fn first_mcu(&self, interval: u32) -> u32
+        requires { interval < intervals_of self.now }
+        ensures value { result ≡ first_mcu_of self.now interval }
+        ensures inside { result < mcus_of self.now }
+    {
+        // By its contract a picture has so few MCUs that their numbers have room.
+        let _all = self.mcus();
+        interval * u32::from(self.restart())
+    }
+
+    /// How many MCUs an interval has: the last one may have fewer than the others.
+    pub fn mcus_in(&self, interval: u32) -> u32
+        requires { interval < intervals_of self.now }
+        ensures value { result ≡ mcus_in self.now interval }
+        ensures some { 0 < result }
+        ensures inside { first_mcu_of self.now interval + result ≤ mcus_of self.now }
+    {
+        let restart = u32::from(self.restart());
+        if restart == 0 {
+            return self.mcus();
+        }
+        restart.min(self.mcus() - self.first_mcu(interval))
+    }
+
+    /// The interval that holds an MCU, and the MCU's number in it.
+    pub fn interval_with(&self, mcu: u32) -> (u32, u32)
+        ensures interval { result.0 ≡ interval_number self.now mcu }
+        ensures within { result.1 ≡ within_interval self.now mcu }
+        ensures few { result.1 ≤ mcu }
+    {
+        match u32::from(self.restart()) {
+            0 => (0, mcu),
+            restart => (mcu / restart, mcu % restart),
+        }
+    }
+}
