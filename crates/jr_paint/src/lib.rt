@@ -16,6 +16,6 @@ pub use colours::colour;
 pub use geometry::{Spot, exactly_one_place, place};
 pub use header::{HEADER_ROOM, put_header};
 pub use jr_base::{Tally, WriteFault};
-pub use lines::{SampleLines, bytes_of_line, paint_lines};
-pub use netpbm::{BATCH, NARROW, WIDEST, make_room, write_netpbm};
+pub use lines::{bytes_of_line, line_room, paint_lines};
+pub use netpbm::{BATCH, make_room, write_netpbm};
 pub use samples::Samples;
