@@ -93,15 +93,15 @@ two_blocks i m out f g h e long p q =
     ∙ ap (put_chunk i out) (ap₂ (λ x y. x ++ y) first second ∙ sym (flat_map-range-append h 0 16 16))
 
 -- 32 pixels, where each lane says what the colours of two of them have over luminance
-pub halved_pixels : (i : ℕ) (y b c cb cr r g u : ℕ → ℕ) → ((k : ℕ) → k < 16 → cb k ≡ b (i + k)) → ((k : ℕ) → k < 16 → cr k ≡ c (i + k)) → ((k : ℕ) → k < 16 → IsRaised (r k) (red_over_of (cr k))) → ((k : ℕ) → k < 16 → IsRaised (g k) (green_over_of (cb k) (cr k))) → ((k : ℕ) → k < 16 → IsRaised (u k) (blue_over_of (cb k)))
+pub halved_pixels : (i : ℕ) (y b c r g u : ℕ → ℕ) → ((k : ℕ) → k < 16 → IsRaised (r k) (red_over_of (c (i + k)))) → ((k : ℕ) → k < 16 → IsRaised (g k) (green_over_of (b (i + k)) (c (i + k)))) → ((k : ℕ) → k < 16 → IsRaised (u k) (blue_over_of (b (i + k))))
     → flat_map (λ k. lowered (y (2 * i + k)) (r (k / 2)) ∷ lowered (y (2 * i + k)) (g (k / 2)) ∷ lowered (y (2 * i + k)) (u (k / 2)) ∷ []) (range_with_len 0 32) ≡ flat_map (λ k. colour_of Ycc (y k) (b (k / 2)) (c (k / 2))) (range_with_len (2 * i) 32)
-halved_pixels i y b c cb cr r g u first second red green blue =
+halved_pixels i y b c r g u red green blue =
     flat_map-moved (λ k. lowered (y (2 * i + k)) (r (k / 2)) ∷ lowered (y (2 * i + k)) (g (k / 2)) ∷ lowered (y (2 * i + k)) (u (k / 2)) ∷ []) (λ k. colour_of Ycc (y k) (b (k / 2)) (c (k / 2))) 0 (2 * i) 32
     (λ k l.
     let e : 0 + k ≡ k = omega arith in
     let m : (2 * i + k) / 2 ≡ i + k / 2 = omega arith in
     let h : k / 2 < 16 = omega (arith, l) in
-    rw (e, m) (pixel_is refl (first (k / 2) h) (second (k / 2) h) (red (k / 2) h) (green (k / 2) h) (blue (k / 2) h)))
+    rw (e, m) (pixel_is {cb = b (i + k / 2)} {cr = c (i + k / 2)} refl refl refl (red (k / 2) h) (green (k / 2) h) (blue (k / 2) h)))
 
 -- 32 pixels more
 pub halved_more : (f : ℕ → List ℕ) → ((k : ℕ) → length (f k) ≡ 3) → (n : ℕ) (out : List ℕ) → 3 * (32 * (n + 1)) ≤ length out → take (3 * (32 * n)) out ≡ flat_map f (range_with_len 0 (32 * n)) → take (3 * (32 * (n + 1))) (put_chunk (6 * (16 * n)) out (flat_map f (range_with_len (2 * (16 * n)) 32))) ≡ flat_map f (range_with_len 0 (32 * (n + 1)))

@@ -60,3 +60,7 @@ next_lines_of h f y n = flat_map (line_of h f) (range_with_len y n)
 -- how many bytes a line has
 abbrev pub line_size : HeadValue → ℕ
 line_size h = pixel_size h.kind * h.width
+
+-- how many bytes of room the painting of a line takes, or of two
+abbrev pub line_room : HeadValue → ℕ
+line_room h = 4 * h.width

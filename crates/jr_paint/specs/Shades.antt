@@ -32,11 +32,15 @@ IsHalved h c = horizontal_max h ≡ horizontal_of h c * 2
 abbrev pub IsShared : HeadValue → ℕ → ℕ → Type 0
 IsShared h c y = (y + 1) * vertical_of h c / vertical_max h ≡ y * vertical_of h c / vertical_max h
 
--- line y has a next, and both take the same samples of both chrominances, each for two pixels of a line
-pub record SharesChroma (h : HeadValue) (y : ℕ) : Type 0 where
-  pub next : y + 1 < h.height
+-- a sample of each of both chrominances stands for two pixels of a line
+pub record HalvesChroma (h : HeadValue) : Type 0 where
   pub kind : h.kind ≡ Ycc
   pub half_b : IsHalved h 1
   pub half_c : IsHalved h 2
+
+-- line y has a next, and both take the same samples of both chrominances, each for two pixels of a line
+pub record SharesChroma (h : HeadValue) (y : ℕ) : Type 0 where
+  pub next : y + 1 < h.height
+  pub halves : HalvesChroma h
   pub same_b : IsShared h 1 y
   pub same_c : IsShared h 2 y

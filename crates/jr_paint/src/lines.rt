@@ -2,111 +2,110 @@
 
 ghost use Rattle.std.specs.Prelude.{◌≡◌, ◌+◌, ◌*◌, ◌<◌, ◌≤◌, length};
 ghost use Rattle.jr_head.specs.Geometry.{component_count};
-ghost use Rattle.jr_paint.specs.Lines.{IsStretched, line_of, two_lines_of, next_lines_of, line_size};
-ghost use Rattle.jr_paint.specs.Shades.{SharesChroma};
+ghost use Rattle.jr_paint.specs.Lines.{IsStretched, line_of, two_lines_of, next_lines_of, line_room, line_size};
+ghost use Rattle.jr_segments.specs.declared.kind.Kind.TheVariants.{Grey};
+ghost use Rattle.jr_paint.specs.Shades.{HalvesChroma, SharesChroma};
 
-use crate::halves::convert_two;
+use crate::halves::{convert_one, convert_two};
 use crate::pixels::mix;
 use crate::samples::Samples;
-use crate::upsampling::{half_count, read_halves, shares_chroma, upsample};
+use crate::upsampling::{halves_chroma, read_halves, shares_chroma, upsample};
 use jr_head::{Head, Kind};
 
-/// Lines of samples, as many of each as pixels are painted at once: room for pictures of at most `WIDTH` columns.
-#[derive(Drop)]
-pub struct SampleLines<const WIDTH: usize> {
-    /// Samples of a component before they are repeated.
-    near: [u8; WIDTH],
-    /// The first component of a line: luminance, red or grey.
-    first: [u8; WIDTH],
-    /// The first component of the next line.
-    next: [u8; WIDTH],
-    /// The second component: Cb or green.
-    second: [u8; WIDTH],
-    /// The third component: Cr or blue.
-    third: [u8; WIDTH],
+/// How many bytes of room the painting of a line takes, or of two: four lines of samples, of those that are not lent.
+pub fn line_room(head: &Head) -> usize
+    ensures value { result ≡ line_room head.now }
+    ensures few { result < 262144 }
+{
+    head.be_lawful();
+    4 * head.width() as usize
 }
 
-impl<const WIDTH: usize> SampleLines<WIDTH> {
-    /// Room that is used again for each line.
-    pub fn new() -> Self {
-        SampleLines {
-            near: [0; WIDTH],
-            first: [0; WIDTH],
-            next: [0; WIDTH],
-            second: [0; WIDTH],
-            third: [0; WIDTH],
-        }
-    }
+/// The pixels of line y, in grey.
+fn fill_grey<S: Samples>(samples: &S, y: u32, room: &mut [u8], pixels: &mut [u8])
+    requires kind { (S.head_of samples.now).kind ≡ Grey }
+    requires down { y < (S.head_of samples.now).height }
+    requires room { line_room (S.head_of samples.now) ≤ length room.old }
+    requires pixels { length pixels.old ≡ (S.head_of samples.now).width }
+    ensures { pixels.new ≡ line_of (S.head_of samples.now) (S.shown samples.now) y }
+{
+    samples.head().be_lawful();
+    let (grey, near) = room.split_at_mut(pixels.len());
+    pixels.copy_from_slice(upsample(samples, 0, y, near, grey));
 }
 
 /// The pixels of line y, in colours.
-fn fill_colours<S: Samples, const WIDTH: usize>(
-    samples: &S,
-    y: u32,
-    lines: &mut SampleLines<WIDTH>,
-    pixels: &mut [u8],
-)
+fn fill_colours<S: Samples>(samples: &S, y: u32, room: &mut [u8], pixels: &mut [u8])
     requires kind { component_count (S.head_of samples.now).kind ≡ 3 }
-    requires wide { (S.head_of samples.now).width ≤ WIDTH }
     requires down { y < (S.head_of samples.now).height }
-    requires room { length pixels.old ≡ 3 * (S.head_of samples.now).width }
+    requires room { line_room (S.head_of samples.now) ≤ length room.old }
+    requires pixels { length pixels.old ≡ 3 * (S.head_of samples.now).width }
     ensures { pixels.new ≡ line_of (S.head_of samples.now) (S.shown samples.now) y }
 {
-    samples.head().be_lawful();
-    let width = samples.head().width() as usize;
-    let first = &mut lines.first[..width];
-    let second = &mut lines.second[..width];
-    let third = &mut lines.third[..width];
-    upsample(samples, 0, y, &mut lines.near, first);
-    upsample(samples, 1, y, &mut lines.near, second);
-    upsample(samples, 2, y, &mut lines.near, third);
-    mix(samples.head().kind(), first, second, third, pixels);
+    let head = samples.head();
+    head.be_lawful();
+    let width = head.width() as usize;
+    let (first, room) = room.split_at_mut(width);
+    let (second, room) = room.split_at_mut(width);
+    let (third, near) = room.split_at_mut(width);
+    let first = upsample(samples, 0, y, near, first);
+    let second = upsample(samples, 1, y, near, second);
+    let third = upsample(samples, 2, y, near, third);
+    mix(head.kind(), first, second, third, pixels);
 }
 
-/// The pixels of line y.
-fn fill<S: Samples, const WIDTH: usize>(
-    samples: &S,
-    y: u32,
-    lines: &mut SampleLines<WIDTH>,
-    pixels: &mut [u8],
-)
-    requires wide { (S.head_of samples.now).width ≤ WIDTH }
+/// The pixels of line y, where a sample of chrominance stands for two of them.
+fn fill_halved<S: Samples>(samples: &S, y: u32, room: &mut [u8], pixels: &mut [u8])
+    requires halves { HalvesChroma (S.head_of samples.now) }
     requires down { y < (S.head_of samples.now).height }
-    requires room { length pixels.old ≡ line_size (S.head_of samples.now) }
+    requires room { line_room (S.head_of samples.now) ≤ length room.old }
+    requires pixels { length pixels.old ≡ 3 * (S.head_of samples.now).width }
     ensures { pixels.new ≡ line_of (S.head_of samples.now) (S.shown samples.now) y }
 {
-    samples.head().be_lawful();
-    match samples.head().kind() {
-        Kind::Grey => upsample(samples, 0, y, &mut lines.near, pixels),
-        Kind::Rgb | Kind::Ycc => fill_colours(samples, y, lines, pixels),
-    }
+    let head = samples.head();
+    head.be_lawful();
+    let width = head.width() as usize;
+    let (luma, room) = room.split_at_mut(width);
+    let (cb, room) = room.split_at_mut(width);
+    let (cr, near) = room.split_at_mut(width);
+    let luma = upsample(samples, 0, y, near, luma);
+    let (cb, cr) = read_halves(samples, y, cb, cr);
+    convert_one(luma, cb, cr, pixels);
 }
 
 /// The pixels of line y and of the next, which take the same samples of chrominance.
-fn fill_two<S: Samples, const WIDTH: usize>(
-    samples: &S,
-    y: u32,
-    lines: &mut SampleLines<WIDTH>,
-    pixels: &mut [u8],
-)
+fn fill_two<S: Samples>(samples: &S, y: u32, room: &mut [u8], pixels: &mut [u8])
     requires shares { SharesChroma (S.head_of samples.now) y }
-    requires wide { (S.head_of samples.now).width ≤ WIDTH }
-    requires room { length pixels.old ≡ 6 * (S.head_of samples.now).width }
+    requires room { line_room (S.head_of samples.now) ≤ length room.old }
+    requires pixels { length pixels.old ≡ 6 * (S.head_of samples.now).width }
     ensures { pixels.new ≡ two_lines_of (S.head_of samples.now) (S.shown samples.now) y }
 {
-    samples.head().be_lawful();
-    let width = samples.head().width() as usize;
-    let count = half_count(samples.head());
-    let luma = &mut lines.first[..width];
-    let next_luma = &mut lines.next[..width];
-    let cb = &mut lines.second[..count];
-    let cr = &mut lines.third[..count];
-    upsample(samples, 0, y, &mut lines.near, luma);
-    upsample(samples, 0, y + 1, &mut lines.near, next_luma);
-    read_halves(samples, 1, y, cb);
-    read_halves(samples, 2, y, cr);
+    let head = samples.head();
+    head.be_lawful();
+    let width = head.width() as usize;
+    let (luma, room) = room.split_at_mut(width);
+    let (next_luma, room) = room.split_at_mut(width);
+    let (cb, cr) = room.split_at_mut(width);
+    // Room for chrominance serves the luminance of both lines before.
+    let luma = upsample(samples, 0, y, cb, luma);
+    let next_luma = upsample(samples, 0, y + 1, cr, next_luma);
+    let (cb, cr) = read_halves(samples, y, cb, cr);
     let (upper, lower) = pixels.split_at_mut(3 * width);
     convert_two(luma, next_luma, cb, cr, upper, lower);
+}
+
+/// The pixels of line y.
+fn fill<S: Samples>(samples: &S, y: u32, room: &mut [u8], pixels: &mut [u8])
+    requires down { y < (S.head_of samples.now).height }
+    requires room { line_room (S.head_of samples.now) ≤ length room.old }
+    requires pixels { length pixels.old ≡ line_size (S.head_of samples.now) }
+    ensures { pixels.new ≡ line_of (S.head_of samples.now) (S.shown samples.now) y }
+{
+    match samples.head().kind() {
+        Kind::Grey => fill_grey(samples, y, room, pixels),
+        Kind::Ycc if halves_chroma(samples.head()) => fill_halved(samples, y, room, pixels),
+        Kind::Rgb | Kind::Ycc => fill_colours(samples, y, room, pixels),
+    }
 }
 
 /// How many lines are painted at once from line y on: two where both take the same samples of chrominance.
@@ -121,25 +120,25 @@ pub(crate) fn lines_at_once(head: &Head, y: u32) -> u32
 }
 
 /// The pixels of so many lines from line y on: of one, or of two that take the same samples of chrominance.
-pub(crate) fn fill_lines<S: Samples, const WIDTH: usize>(
+pub(crate) fn fill_lines<S: Samples>(
     samples: &S,
     y: u32,
     count: u32,
-    lines: &mut SampleLines<WIDTH>,
+    room: &mut [u8],
     pixels: &mut [u8],
 )
     requires some { 0 < count }
     requires few { count ≤ 2 }
     requires down { y + count ≤ (S.head_of samples.now).height }
     requires shared { count ≡ 2 → SharesChroma (S.head_of samples.now) y }
-    requires wide { (S.head_of samples.now).width ≤ WIDTH }
-    requires room { length pixels.old ≡ count * line_size (S.head_of samples.now) }
+    requires room { line_room (S.head_of samples.now) ≤ length room.old }
+    requires pixels { length pixels.old ≡ count * line_size (S.head_of samples.now) }
     ensures { pixels.new ≡ next_lines_of (S.head_of samples.now) (S.shown samples.now) y count }
 {
     if count == 2 {
-        fill_two(samples, y, lines, pixels);
+        fill_two(samples, y, room, pixels);
     } else {
-        fill(samples, y, lines, pixels);
+        fill(samples, y, room, pixels);
     }
 }
 
@@ -166,17 +165,12 @@ fn bytes_to(painted: u32, more: u32, count: u32, line: usize) -> usize
     (painted + more) as usize * line
 }
 
-/// The pixels of `count` lines from line y on, a line behind the other, of one byte or three each.
-pub fn paint_lines<S: Samples, const WIDTH: usize>(
-    samples: &S,
-    y: u32,
-    count: u32,
-    lines: &mut SampleLines<WIDTH>,
-    pixels: &mut [u8],
-)
-    requires wide { (S.head_of samples.now).width ≤ WIDTH }
+/// The pixels of `count` lines from line y on, a line behind the other, of one byte or three each. In `room` samples are put
+/// that are not lent; what it holds does not matter.
+pub fn paint_lines<S: Samples>(samples: &S, y: u32, count: u32, room: &mut [u8], pixels: &mut [u8])
     requires down { y + count ≤ (S.head_of samples.now).height }
-    requires room { length pixels.old ≡ count * line_size (S.head_of samples.now) }
+    requires room { line_room (S.head_of samples.now) ≤ length room.old }
+    requires pixels { length pixels.old ≡ count * line_size (S.head_of samples.now) }
     ensures { pixels.new ≡ next_lines_of (S.head_of samples.now) (S.shown samples.now) y count }
 {
     samples.head().be_lawful();
@@ -186,7 +180,7 @@ pub fn paint_lines<S: Samples, const WIDTH: usize>(
     'lines: while painted < count {
         let more = lines_at_once(samples.head(), y + painted).min(count - painted);
         let end = bytes_to(painted, more, count, line);
-        fill_lines(samples, y + painted, more, lines, &mut pixels[filled..end]);
+        fill_lines(samples, y + painted, more, room, &mut pixels[filled..end]);
         filled = end;
         painted += more;
     }

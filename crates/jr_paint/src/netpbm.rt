@@ -2,26 +2,29 @@
 
 ghost use Rattle.std.specs.Prelude.{◌≡◌, ◌+◌, ◌*◌, ◌≤◌, ◌++◌, is_err, false, OnOk, OnErr, IfOk, length, take};
 ghost use Rattle.jr_base.specs.Tally.{Writes, WritesBeginning, has_failed};
-ghost use Rattle.jr_paint.specs.Lines.{line_size};
+ghost use Rattle.jr_paint.specs.Lines.{line_room, line_size};
 ghost use Rattle.jr_paint.specs.Text.{header_of, text_of};
 ghost use Rattle.jr_paint.specs.Written.{IsSent, WritesUpTo};
-ghost use Rattle.jr_paint.specs.declared.netpbm.TheConstants.{BATCH, TWO_WIDEST};
+ghost use Rattle.jr_paint.specs.declared.netpbm.TheConstants.{BATCH, TWO_WIDEST, WIDEST_ROOM};
 
 use crate::header::put_header;
-use crate::lines::{SampleLines, bytes_of_line, fill_lines, lines_at_once};
+use crate::lines::{bytes_of_line, fill_lines, lines_at_once};
 use crate::samples::Samples;
 use jr_base::{Tally, WriteFault, write_all};
 use std::io::Write;
 
 /// The most pixels of a line of most pictures.
-pub const NARROW: usize = 4096;
+const NARROW: usize = 4096;
+
+/// The room that painting takes for lines of 4096 pixels.
+const NARROW_ROOM: usize = 16_384;
 
 /// The most bytes of a write, where two lines have fewer: six lines of 4096 pixels. So a write has enough bytes that its
 /// own cost is small beside theirs, and few enough for a cache.
 pub const BATCH: usize = 73_728;
 
-/// The most pixels of a line.
-pub const WIDEST: usize = 65_535;
+/// The room that painting takes for lines of 65,535 pixels, the most there can be.
+const WIDEST_ROOM: usize = 262_140;
 
 /// The bytes of two lines of so many pixels.
 const TWO_WIDEST: usize = 393_210;
@@ -50,16 +53,16 @@ pub fn make_room<W: Write>(
 }
 
 /// Writes the picture's text, as much at once as `pixels` has room for; up to `filled` the header stands there.
-fn write_lines<S: Samples, W: Write, const WIDTH: usize>(
+fn write_lines<S: Samples, W: Write>(
     samples: &S,
-    lines: &mut SampleLines<WIDTH>,
+    room: &mut [u8],
     pixels: &mut [u8],
     filled: usize,
     out: &mut Tally<W>,
 ) -> Result<(), WriteFault>
     requires unfailed { has_failed out.old ≡ false }
-    requires wide { (S.head_of samples.now).width ≤ WIDTH }
-    requires room { 2 * line_size (S.head_of samples.now) ≤ length pixels.old }
+    requires room { line_room (S.head_of samples.now) ≤ length room.old }
+    requires pixels { 2 * line_size (S.head_of samples.now) ≤ length pixels.old }
     requires inside { filled ≤ length pixels.old }
     requires header { take filled pixels.old ≡ header_of (S.head_of samples.now) }
     ensures { IsSent W.contents out.old out.new result (text_of (S.head_of samples.now) (S.shown samples.now)) }
@@ -73,33 +76,34 @@ fn write_lines<S: Samples, W: Write, const WIDTH: usize>(
         let size = count as usize * line;
         filled = make_room(pixels, filled, size, out)?;
         let end = filled + size;
-        fill_lines(samples, y, count, lines, &mut pixels[filled..end]);
+        fill_lines(samples, y, count, room, &mut pixels[filled..end]);
         filled = end;
         y += count;
     }
     write_all(out, &pixels[..filled])
 }
 
-/// Writes the text of a picture of at most `WIDTH` columns, of which up to `ROOM` bytes go out by one write. A function
-/// of its own, so that only a wide picture takes the stack for two of its lines.
+/// Writes the text of a picture for whose painting `ROOM` bytes are enough, of which up to `BYTES` go out by one write. A
+/// function of its own, so that only a wide picture takes the stack for two of its lines.
 #[inline(never)]
-fn write_text<S: Samples, W: Write, const WIDTH: usize, const ROOM: usize>(
+fn write_text<S: Samples, W: Write, const ROOM: usize, const BYTES: usize>(
     samples: &S,
     out: &mut Tally<W>,
 ) -> Result<(), WriteFault>
     requires unfailed { has_failed out.old ≡ false }
-    requires wide { (S.head_of samples.now).width ≤ WIDTH }
-    requires room { 6 * WIDTH ≤ ROOM }
-    requires batch { BATCH ≤ ROOM }
-    requires stack { ROOM ≤ TWO_WIDEST }
+    requires room { line_room (S.head_of samples.now) ≤ ROOM }
+    requires stack { ROOM ≤ WIDEST_ROOM }
+    requires bytes { 2 * line_size (S.head_of samples.now) ≤ BYTES }
+    requires batch { BATCH ≤ BYTES }
+    requires more_stack { BYTES ≤ TWO_WIDEST }
     ensures { IsSent W.contents out.old out.new result (text_of (S.head_of samples.now) (S.shown samples.now)) }
 {
     let most = BATCH.max(2 * bytes_of_line(samples.head()));
-    let mut lines = SampleLines::<WIDTH>::new();
     let mut room = [0; ROOM];
-    let pixels = &mut room[..most];
+    let mut bytes = [0; BYTES];
+    let pixels = &mut bytes[..most];
     let filled = put_header(samples.head(), pixels);
-    write_lines(samples, &mut lines, pixels, filled, out)
+    write_lines(samples, &mut room, pixels, filled, out)
 }
 
 /// Writes the picture's text: `Ok` where all of it was written, a fault where the writer failed behind a
@@ -112,8 +116,8 @@ pub fn write_netpbm<S: Samples, W: Write>(samples: &S, out: &mut Tally<W>) -> Re
 {
     samples.head().be_lawful();
     if samples.head().width() as usize <= NARROW {
-        write_text::<S, W, NARROW, BATCH>(samples, out)
+        write_text::<S, W, NARROW_ROOM, BATCH>(samples, out)
     } else {
-        write_text::<S, W, WIDEST, TWO_WIDEST>(samples, out)
+        write_text::<S, W, WIDEST_ROOM, TWO_WIDEST>(samples, out)
     }
 }

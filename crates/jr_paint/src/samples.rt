@@ -1,6 +1,6 @@
 //! Samples of a picture, as painting asks for them.
 
-ghost use Rattle.std.specs.Prelude.{◌≡◌, ℕ, ◌+◌, ◌<◌, ◌≤◌, length, slice_index};
+ghost use Rattle.std.specs.Prelude.{◌≡◌, ℕ, ◌<◌, ◌≤◌, length, slice_index};
 ghost use Rattle.jr_head.specs.Geometry.{components_of};
 ghost use Rattle.jr_head.specs.HeadValue.{HeadValue};
 ghost use Rattle.jr_paint.specs.Geometry.{samples_across, samples_down};
@@ -26,18 +26,22 @@ pub trait Samples {
         requires line { y < samples_down (head_of self.now) c }
         ensures { result ≡ shown self.now c x y };
 
-    /// The samples of line y of component c from column x on, as many as `out` has room for.
-    fn line(&self, c: u32, x: u32, y: u32, out: &mut [u8])
+    /// The first `count` samples of line y of component c: lent where they lie in one piece, and else put into the room.
+    fn line<'a>(&'a self, c: u32, y: u32, count: usize, room: &'a mut [u8]) -> &'a [u8]
         requires component { c < components_of (head_of self.now) }
-        requires column { x + length out.old ≤ samples_across (head_of self.now) c }
+        requires columns { count ≤ samples_across (head_of self.now) c }
         requires line { y < samples_down (head_of self.now) c }
-        ensures { (k : ℕ) → k < length out.new → slice_index out.new k ≡ shown self.now c (x + k) y }
+        requires room { count ≤ length room.old }
+        ensures long { length result.now ≡ count }
+        ensures samples { (k : ℕ) → k < count → slice_index result.now k ≡ shown self.now c k y }
     {
         self.head().be_lawful();
-        let mut at = x;
-        for entry in out.iter_mut() {
-            *entry = self.sample(c, at, y);
-            at += 1;
+        let room = &mut room[..count];
+        let mut x = 0;
+        for entry in room.iter_mut() {
+            *entry = self.sample(c, x, y);
+            x += 1;
         }
+        room
     }
 }

@@ -4,8 +4,7 @@ ghost use Rattle.std.specs.Prelude.{◌≡◌, ℕ, ◌+◌, ◌*◌, ◌/◌, �
 ghost use Rattle.jr_head.specs.Geometry.{components_of, horizontal_of, horizontal_max, vertical_of, vertical_max};
 ghost use Rattle.jr_paint.specs.Geometry.{samples_across, samples_down};
 ghost use Rattle.std.specs.Bool.{OnTrue};
-ghost use Rattle.jr_head.specs.Geometry.{component_count};
-ghost use Rattle.jr_paint.specs.Shades.{IsHalved, IsShared, SharesChroma};
+ghost use Rattle.jr_paint.specs.Shades.{HalvesChroma, IsHalved, IsShared, SharesChroma};
 ghost use Rattle.jr_paint.specs.Lines.{IsStretched, IsHalfStretched};
 
 use crate::samples::Samples;
@@ -96,47 +95,38 @@ fn pixels_per_sample(head: &Head, c: u32) -> u32
     head.horizontal_max() / head.horizontal(c)
 }
 
-/// The samples of component c that the pixels of line y take. `near` holds them once each.
-pub(crate) fn upsample<S: Samples>(samples: &S, c: u32, y: u32, near: &mut [u8], out: &mut [u8])
+/// The samples of component c that the pixels of line y take, one for each: lent, or put into `out`. There is room in `near`
+/// for them before they are repeated.
+pub(crate) fn upsample<'a, S: Samples>(
+    samples: &'a S,
+    c: u32,
+    y: u32,
+    near: &mut [u8],
+    out: &'a mut [u8],
+) -> &'a [u8]
     requires component { c < components_of (S.head_of samples.now) }
     requires down { y < (S.head_of samples.now).height }
     requires whole { length out.old ≡ (S.head_of samples.now).width }
     requires room { length out.old ≤ length near.old }
-    ensures { IsStretched (S.head_of samples.now) (S.shown samples.now) c y out.new }
+    ensures long { length result.now ≡ (S.head_of samples.now).width }
+    ensures samples { IsStretched (S.head_of samples.now) (S.shown samples.now) c y result.now }
 {
     let head = samples.head();
     head.be_lawful();
     let line = sample_line(head, c, y);
     let factor = pixels_per_sample(head, c);
+    let count = out.len().div_ceil(factor as usize);
     if factor == 1 {
-        samples.line(c, 0, line, out);
-    } else {
-        let count = out.len().div_ceil(factor as usize);
-        let near = &mut near[..count];
-        samples.line(c, 0, line, near);
-        repeat(near, factor, out);
+        return samples.line(c, line, count, out);
     }
-}
-
-/// The samples of component c that the pixels of line y take, a sample for two pixels.
-pub(crate) fn read_halves<S: Samples>(samples: &S, c: u32, y: u32, out: &mut [u8])
-    requires component { c < components_of (S.head_of samples.now) }
-    requires half { IsHalved (S.head_of samples.now) c }
-    requires across { length out.old ≤ samples_across (S.head_of samples.now) c }
-    requires enough { (S.head_of samples.now).width ≤ 2 * length out.old }
-    requires down { y < (S.head_of samples.now).height }
-    ensures { IsHalfStretched (S.head_of samples.now) (S.shown samples.now) c y out.new }
-{
-    let head = samples.head();
-    head.be_lawful();
-    samples.line(c, 0, sample_line(head, c, y), out);
+    let once = samples.line(c, line, count, near);
+    repeat(once, factor, out);
+    out
 }
 
 /// How many samples of each chrominance stand for the pixels of a line, two each.
-pub(crate) fn half_count(head: &Head) -> usize
-    requires kind { component_count head.now.kind ≡ 3 }
-    requires half_b { IsHalved head.now 1 }
-    requires half_c { IsHalved head.now 2 }
+fn half_count(head: &Head) -> usize
+    requires { HalvesChroma head.now }
     ensures enough { head.now.width ≤ 2 * result }
     ensures few { result ≤ head.now.width }
     ensures inside_b { result ≤ samples_across head.now 1 }
@@ -144,6 +134,30 @@ pub(crate) fn half_count(head: &Head) -> usize
 {
     head.be_lawful();
     (head.width() as usize).div_ceil(2)
+}
+
+/// The samples of both chrominances that the pixels of line y take, a sample for two pixels: lent, or put into `cb` and `cr`.
+pub(crate) fn read_halves<'a, S: Samples>(
+    samples: &'a S,
+    y: u32,
+    cb: &'a mut [u8],
+    cr: &'a mut [u8],
+) -> (&'a [u8], &'a [u8])
+    requires halves { HalvesChroma (S.head_of samples.now) }
+    requires down { y < (S.head_of samples.now).height }
+    requires room_b { (S.head_of samples.now).width ≤ length cb.old }
+    requires room_c { (S.head_of samples.now).width ≤ length cr.old }
+    ensures enough { (S.head_of samples.now).width ≤ 2 * length result.0.now }
+    ensures same { length result.1.now ≡ length result.0.now }
+    ensures second { IsHalfStretched (S.head_of samples.now) (S.shown samples.now) 1 y result.0.now }
+    ensures third { IsHalfStretched (S.head_of samples.now) (S.shown samples.now) 2 y result.1.now }
+{
+    let head = samples.head();
+    head.be_lawful();
+    let count = half_count(head);
+    let cb = samples.line(1, sample_line(head, 1, y), count, cb);
+    let cr = samples.line(2, sample_line(head, 2, y), count, cr);
+    (cb, cr)
 }
 
 /// Whether a sample of component c stands for two pixels of a line.
@@ -164,18 +178,22 @@ fn is_shared(head: &Head, c: u32, y: u32) -> bool
     sample_line(head, c, y + 1) == sample_line(head, c, y)
 }
 
+/// Whether a sample of both chrominances stands for two pixels of a line.
+pub(crate) fn halves_chroma(head: &Head) -> bool
+    ensures { OnTrue result (HalvesChroma head.now) }
+{
+    head.be_lawful();
+    match head.kind() {
+        Kind::Ycc => is_halved(head, 1) && is_halved(head, 2),
+        Kind::Grey | Kind::Rgb => false,
+    }
+}
+
 /// Whether line y has a next, which takes the same samples of both chrominances, each for two pixels of a line.
 pub(crate) fn shares_chroma(head: &Head, y: u32) -> bool
     requires down { y < head.now.height }
     ensures { OnTrue result (SharesChroma head.now y) }
 {
     head.be_lawful();
-    match head.kind() {
-        Kind::Ycc => y + 1 < head.height()
-            && is_halved(head, 1)
-            && is_halved(head, 2)
-            && is_shared(head, 1, y)
-            && is_shared(head, 2, y),
-        Kind::Grey | Kind::Rgb => false,
-    }
+    halves_chroma(head) && y + 1 < head.height() && is_shared(head, 1, y) && is_shared(head, 2, y)
 }

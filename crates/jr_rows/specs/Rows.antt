@@ -2,7 +2,7 @@
 use Rattle.std.specs.Prelude.{◌≡◌, ℕ, ◌+◌, ◌-◌, ◌*◌, ◌/◌, ◌%◌, ◌<◌, ◌≤◌, List, [], length, min, nat_le, take, count_by, if◌then◌else◌, slice_index_or, ℤ}
 use Rattle.jr_head.specs.HeadValue.{HeadValue}
 use Rattle.jr_head.specs.Geometry.{blocks_of, mcus_across, mcus_down, mcus_of, vertical_max}
-use Rattle.jr_paint.specs.Lines.{next_lines_of}
+use Rattle.jr_paint.specs.Lines.{line_room, next_lines_of}
 use Rattle.jr_scan.specs.ScanValue.{ScanValue, intervals_of}
 use Rattle.jr_piece.specs.Outcome.{unit_of}
 use Rattle.jr_picture.specs.BoardValue.{BoardValue}
@@ -11,7 +11,7 @@ use Rattle.jr_picture.specs.Headline.{AreFirst, is_sound, is_damaged, interval_n
 use Rattle.jr_picture.specs.Samples.{samples_of}
 use Rattle.jr_rows.specs.Bands.{unit_shown}
 use Rattle.jr_rows.specs.RowLines.{HasLines, mcus_at_once}
-use Rattle.jr_rows.specs.RowsValue.{ScanMcusValue, RowValue}
+use Rattle.jr_rows.specs.RowsValue.{ScanMcusValue, RowValue, SampleRowValue}
 use Rattle.jr_rows.specs.declared.marked.Marked.{Marked}
 
 -- the board of the scan on which the first n intervals are marked, and no other
@@ -87,10 +87,11 @@ pub record HasRowRoom (h : HeadValue) (r : RowValue) : Type 0 where
   pub blocks : length r.blocks ≡ mcus_across h * blocks_of h
   pub lines : HasLines h r.lines
 
--- there is room for the samples of a row of MCUs, and for the blocks of those that are read at once
-pub record HasSampleRoom (h : HeadValue) (r : RowValue) : Type 0 where
+-- there is room for the samples of a row of MCUs, for the blocks of those that are read at once, and for painting
+pub record HasSampleRoom (h : HeadValue) (r : SampleRowValue) : Type 0 where
   pub blocks : length r.blocks ≡ mcus_at_once h * blocks_of h
   pub lines : HasLines h r.lines
+  pub room : r.room ≡ line_room h
 
 -- the first line of pixels of a row of MCUs, and how many it has
 abbrev pub first_line : HeadValue → ℕ → ℕ

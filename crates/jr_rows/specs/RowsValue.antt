@@ -20,3 +20,9 @@ pub record RowsValue : Type 0 where
 pub record RowValue : Type 0 where
   pub blocks : List (List ℤ)
   pub lines : RowLinesValue
+
+-- the same of a row that one thread decodes and paints by itself, and how many bytes of room it has for painting
+pub record SampleRowValue : Type 0 where
+  pub blocks : List (List ℤ)
+  pub lines : RowLinesValue
+  pub room : ℕ

@@ -31,12 +31,13 @@ impl<'a> Model for Band<'a> {
     ghost invariant = { λ b. HasGroups b.head.now (groups_across b.head.now) b.lines.now.groups };
 }
 
-/// Copies samples, from one of groups of eight on.
-fn copy_samples(groups: &[[u8; 8]], from: usize, out: &mut [u8])
-    requires { from + length out.old ≤ 8 * length groups.now }
-    ensures { (k : ℕ) → k < length out.new → slice_index out.new k ≡ sample_in_groups groups.now (from + k) }
+/// Some samples of groups of eight, from one on.
+fn samples_from(groups: &[[u8; 8]], from: usize, count: usize) -> &[u8]
+    requires { from + count ≤ 8 * length groups.now }
+    ensures long { length result.now ≡ count }
+    ensures samples { (k : ℕ) → k < count → slice_index result.now k ≡ sample_in_groups groups.now (from + k) }
 {
-    out.copy_from_slice(&groups.as_flattened()[from..from + out.len()]);
+    &groups.as_flattened()[from..from + count]
 }
 
 /// A sample of groups of eight.
@@ -83,12 +84,11 @@ impl Samples for Band<'_> {
         sample_at(groups, self.start(c, y) + x as usize)
     }
 
-    fn line(&self, c: u32, x: u32, y: u32, out: &mut [u8]) {
-        if out.is_empty() {
-            return;
+    fn line<'a>(&'a self, c: u32, y: u32, count: usize, _room: &'a mut [u8]) -> &'a [u8] {
+        if count == 0 {
+            return &[];
         }
         self.head.be_lawful();
-        let groups = self.lines.groups();
-        copy_samples(groups, self.start(c, y) + x as usize, out);
+        samples_from(self.lines.groups(), self.start(c, y), count)
     }
 }

@@ -9,33 +9,37 @@ ghost use Rattle.jr_rows.specs.Groups.{units_in};
 ghost use Rattle.jr_rows.specs.MarkBytes.{HasMarkRoom, PutsRow};
 ghost use Rattle.jr_rows.specs.Rows.{CountsRow, HasFirst, HasSampleRoom, ShowsLines, line_count};
 
+use crate::band::Band;
 use crate::marked::Marked;
-use crate::painting::{paint_row, paint_some};
+use crate::painting::paint_row;
 use crate::row_lines::RowLines;
 use crate::rows::Rows;
 use crate::shape::mcus_at_once;
 use jr_base::Memory;
 use jr_block::Coefficients;
 use jr_head::Head;
-use jr_paint::SampleLines;
+use jr_paint::{line_room, paint_lines};
 use jr_scan::Scan;
 use std::alloc::Global;
 use std::marker::Model;
 
 /// Memory for the samples of a row of MCUs, used again for row after row, and for the blocks of a few MCUs, which are
-/// transformed while they are near.
+/// transformed while they are near, and for the samples that painting repeats.
 #[derive(Drop)]
 pub struct SampleRow {
     blocks: Vec<Coefficients>,
     lines: RowLines,
+    /// For painting.
+    room: Vec<u8>,
 }
 
 impl Model for SampleRow {
-    ghost use Rattle.jr_rows.specs.RowsValue.{RowValue};
+    ghost use Rattle.std.specs.Prelude.{length};
+    ghost use Rattle.jr_rows.specs.RowsValue.{SampleRowValue};
 
-    ghost Value = { RowValue };
+    ghost Value = { SampleRowValue };
 
-    ghost view = { λ r. record { blocks = r.blocks.items; lines = r.lines } };
+    ghost view = { λ r. record { blocks = r.blocks.items; lines = r.lines; room = length r.room.items } };
 }
 
 impl SampleRow {
@@ -46,7 +50,12 @@ impl SampleRow {
         let per_mcu = head.order().len();
         let blocks = vec![in alloc; Coefficients::zeros(); mcus_at_once(head) as usize * per_mcu]?;
         let lines = RowLines::open(alloc, head)?;
-        Ok(SampleRow { blocks, lines })
+        let room = vec![in alloc; 0; line_room(head)]?;
+        Ok(SampleRow {
+            blocks,
+            lines,
+            room,
+        })
     }
 
     /// The rows of MCUs of a scan from this one on, all of whose intervals are decoded.
@@ -74,31 +83,19 @@ impl SampleRow {
     }
 
     /// Paints lines of the picture of which each row of MCUs has the samples of the row that is decoded.
-    pub fn paint_some<const WIDTH: usize>(
-        &self,
-        head: &Head,
-        y: u32,
-        count: u32,
-        lines: &mut SampleLines<WIDTH>,
-        pixels: &mut [u8],
-    )
-        requires room { HasSampleRoom head.now self.now }
-        requires wide { head.now.width ≤ WIDTH }
+    pub fn paint_some(&mut self, head: &Head, y: u32, count: u32, pixels: &mut [u8])
+        requires room { HasSampleRoom head.now self.old }
         requires inside { y + count ≤ head.now.height }
         requires pixels { length pixels.old ≡ count * line_size head.now }
-        ensures { pixels.new ≡ next_lines_of head.now (samples_in (record { head = head.now; groups = self.now.lines.groups })) y count }
+        ensures room { HasSampleRoom head.now self.new }
+        ensures lines { pixels.new ≡ next_lines_of head.now (samples_in (record { head = head.now; groups = self.old.lines.groups })) y count }
     {
-        paint_some(head, &self.lines, y, count, lines, pixels);
+        let band = Band::of(head, &self.lines);
+        paint_lines(&band, y, count, &mut self.room, pixels);
     }
 
     /// Decodes the next row, and paints its lines: answers the marks of the intervals that end in it.
-    pub fn paint<const WIDTH: usize>(
-        &mut self,
-        rows: &mut Rows<'_>,
-        lines: &mut SampleLines<WIDTH>,
-        pixels: &mut [u8],
-    ) -> Marked
-        requires wide { rows.old.scan.head.width ≤ WIDTH }
+    pub fn paint(&mut self, rows: &mut Rows<'_>, pixels: &mut [u8]) -> Marked
         requires row { rows.old.row < mcus_down rows.old.scan.head }
         requires room { HasSampleRoom rows.old.scan.head self.old }
         requires pixels { length pixels.old ≡ line_count rows.old.scan.head rows.old.row * line_size rows.old.scan.head }
@@ -109,7 +106,7 @@ impl SampleRow {
     {
         let row = rows.row();
         let marked = self.decode(rows, &mut []);
-        paint_row(rows.head(), &self.lines, row, lines, pixels);
+        paint_row(rows.head(), &self.lines, row, &mut self.room, pixels);
         marked
     }
 }

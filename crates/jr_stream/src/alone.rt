@@ -5,7 +5,6 @@ ghost use Rattle.jr_rows.specs.Rows.{HasSampleRoom};
 
 use crate::announcing::announce;
 use crate::painter::RowPainter;
-use jr_paint::SampleLines;
 use jr_picture::Gate;
 use jr_rows::{Marked, Rows, SampleRow};
 use jr_scan::Scan;
@@ -13,16 +12,15 @@ use std::marker::Model;
 
 /// The calling thread's part of a scan: all of it.
 #[derive(Drop)]
-pub(crate) struct Alone<'a, G: Gate, const WIDTH: usize> {
+pub(crate) struct Alone<'a, G: Gate> {
     scan: &'a Scan,
     limit: u32,
     rows: Rows<'a>,
     work: SampleRow,
-    lines: SampleLines<WIDTH>,
     gate: &'a G,
 }
 
-impl<'a, G: Gate, const WIDTH: usize> Model for Alone<'a, G, WIDTH> {
+impl<'a, G: Gate> Model for Alone<'a, G> {
     ghost use Rattle.std.specs.Prelude.{◌≡◌, ◌≤◌};
     ghost use Rattle.jr_rows.specs.Rows.{HasSampleRoom};
     ghost use Rattle.jr_rows.specs.RowsValue.{RowsValue};
@@ -31,19 +29,13 @@ impl<'a, G: Gate, const WIDTH: usize> Model for Alone<'a, G, WIDTH> {
 
     ghost view = { λ a. a.rows };
 
-    ghost invariant = { λ a. (a.rows.scan ≡ a.scan.now) × (a.rows.limit ≡ a.limit) × HasSampleRoom a.scan.now.head a.work × (a.scan.now.head.width ≤ WIDTH) };
+    ghost invariant = { λ a. (a.rows.scan ≡ a.scan.now) × (a.rows.limit ≡ a.limit) × HasSampleRoom a.scan.now.head a.work };
 }
 
-impl<'a, G: Gate, const WIDTH: usize> Alone<'a, G, WIDTH> {
+impl<'a, G: Gate> Alone<'a, G> {
     /// Nothing is painted yet of a scan whose first `limit` intervals are decoded.
-    pub(crate) fn of(
-        scan: &'a Scan,
-        limit: u32,
-        work: SampleRow,
-        gate: &'a G,
-    ) -> Alone<'a, G, WIDTH>
+    pub(crate) fn of(scan: &'a Scan, limit: u32, work: SampleRow, gate: &'a G) -> Alone<'a, G>
         requires room { HasSampleRoom scan.now.head work }
-        requires wide { scan.now.head.width ≤ WIDTH }
         ensures { result ≡ record { scan = scan.now; limit = limit; row = 0 } }
     {
         Alone {
@@ -51,18 +43,17 @@ impl<'a, G: Gate, const WIDTH: usize> Alone<'a, G, WIDTH> {
             limit,
             rows: Rows::of(scan, limit),
             work,
-            lines: SampleLines::new(),
             gate,
         }
     }
 }
 
-impl<G: Gate, const WIDTH: usize> RowPainter for Alone<'_, G, WIDTH> {
+impl<G: Gate> RowPainter for Alone<'_, G> {
     ghost at = { λ a. a };
 
     fn paint(&mut self, pixels: &mut [u8]) -> Marked {
         let row = self.rows.row();
         announce(self.scan, self.limit, row, self.gate);
-        self.work.paint(&mut self.rows, &mut self.lines, pixels)
+        self.work.paint(&mut self.rows, pixels)
     }
 }

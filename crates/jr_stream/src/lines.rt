@@ -3,7 +3,6 @@
 ghost use Rattle.std.specs.Prelude.{◌≡◌, ℕ, ◌+◌, ◌-◌, ◌*◌, ◌<◌, ◌≤◌, max, min, IfOk, IfErr, length};
 ghost use Rattle.jr_head.specs.Geometry.{mcus_down, vertical_max};
 ghost use Rattle.jr_paint.specs.Lines.{line_size, next_lines_of};
-ghost use Rattle.jr_paint.specs.declared.netpbm.TheConstants.{WIDEST};
 ghost use Rattle.jr_picture.specs.BoardValue.{BoardValue};
 ghost use Rattle.jr_picture.specs.Samples.{samples_of};
 ghost use Rattle.jr_rows.specs.MarkBytes.{HasMarkRoom, PutsBetween};
@@ -12,7 +11,6 @@ ghost use Rattle.jr_stream.specs.SomeLines.{CountsBetween, PaintsLines, row_behi
 
 use jr_base::Memory;
 use jr_head::Head;
-use jr_paint::{NARROW, SampleLines, WIDEST};
 use jr_piece::each_interval_has_an_outcome;
 use jr_rows::{Marked, SampleRow, shape_of};
 use jr_scan::Scan;
@@ -61,49 +59,6 @@ fn bytes_to(lines: u32, all: u32, line: usize) -> usize
     lines as usize * line
 }
 
-/// Paints lines `first` to `end` of a scan's picture of at most `WIDTH` columns, and puts the marks of the intervals that end in
-/// their rows of MCUs. A function of its own, so that only a wide picture takes the stack for wide lines.
-#[inline(never)]
-fn paint_within<const WIDTH: usize>(
-    scan: &Scan,
-    work: &mut SampleRow,
-    first: u32,
-    end: u32,
-    pixels: &mut [u8],
-    marks: &mut [u8],
-) -> Marked
-    requires stack { WIDTH ≤ WIDEST }
-    requires wide { scan.now.head.width ≤ WIDTH }
-    requires some { first < end }
-    requires inside { end ≤ scan.now.head.height }
-    requires room { HasSampleRoom scan.now.head work.old }
-    requires pixels { length pixels.old ≡ (end - first) * line_size scan.now.head }
-    requires places { HasMarkRoom scan.now marks.old }
-    ensures lines { (b : BoardValue) → HasFirst scan.now (length scan.now.intervals) b → pixels.new ≡ next_lines_of scan.now.head (samples_of b) first (end - first) }
-    ensures counts { CountsBetween scan.now (row_with scan.now.head first) (row_behind scan.now.head end) result }
-    ensures puts { PutsBetween scan.now (row_with scan.now.head first) (row_behind scan.now.head end) marks.old marks.new }
-{
-    let head = scan.head();
-    head.be_lawful();
-    // By its contract a scan has as many intervals as its head says.
-    let _intervals = scan.intervals();
-    let line = shape_of(head).line;
-    let (row, behind) = rows_of(head, first, end);
-    let mut lines = SampleLines::<WIDTH>::new();
-    let mut rows = work.rows_at(scan, row);
-    let mut marked = Marked::none();
-    'rows: while rows.row() < behind {
-        let row = rows.row();
-        let (y, count) = lines_in(head, row, first, end);
-        let more = work.decode(&mut rows, marks);
-        marked = marked.with(more);
-        let from = bytes_to(y - first, end - first, line);
-        let to = bytes_to(y - first + count, end - first, line);
-        work.paint_some(head, y, count, &mut lines, &mut pixels[from..to]);
-    }
-    marked
-}
-
 /// Paints lines `first` to `end` of a scan's picture, and puts the marks of the intervals that end in their rows of MCUs, where
 /// these are asked for.
 pub(crate) fn paint_between(
@@ -123,11 +78,24 @@ pub(crate) fn paint_between(
     ensures counts { CountsBetween scan.now (row_with scan.now.head first) (row_behind scan.now.head end) result }
     ensures puts { PutsBetween scan.now (row_with scan.now.head first) (row_behind scan.now.head end) marks.old marks.new }
 {
-    scan.head().be_lawful();
-    if scan.head().width() as usize <= NARROW {
-        return paint_within::<NARROW>(scan, work, first, end, pixels, marks);
+    let head = scan.head();
+    head.be_lawful();
+    // By its contract a scan has as many intervals as its head says.
+    let _intervals = scan.intervals();
+    let line = shape_of(head).line;
+    let (row, behind) = rows_of(head, first, end);
+    let mut rows = work.rows_at(scan, row);
+    let mut marked = Marked::none();
+    'rows: while rows.row() < behind {
+        let row = rows.row();
+        let (y, count) = lines_in(head, row, first, end);
+        let more = work.decode(&mut rows, marks);
+        marked = marked.with(more);
+        let from = bytes_to(y - first, end - first, line);
+        let to = bytes_to(y - first + count, end - first, line);
+        work.paint_some(head, y, count, &mut pixels[from..to]);
     }
-    paint_within::<WIDEST>(scan, work, first, end, pixels, marks)
+    marked
 }
 
 /// Decodes as much of a scan as `count` lines of its picture from line `first` on take, and paints them, a line behind the

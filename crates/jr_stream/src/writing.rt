@@ -5,7 +5,6 @@ ghost use Rattle.jr_base.specs.Tally.{has_failed};
 ghost use Rattle.jr_head.specs.Geometry.{vertical_max};
 ghost use Rattle.jr_paint.specs.Lines.{line_size};
 ghost use Rattle.jr_paint.specs.declared.header.TheConstants.{HEADER_ROOM};
-ghost use Rattle.jr_paint.specs.declared.netpbm.TheConstants.{WIDEST};
 ghost use Rattle.jr_scan.specs.ScanValue.{intervals_of};
 ghost use Rattle.jr_picture.specs.Headline.{least};
 ghost use Rattle.jr_rows.specs.Rows.{CountsRows, HasSampleRoom};
@@ -15,7 +14,7 @@ use crate::alone::Alone;
 use crate::painter::RowPainter;
 use jr_base::{Tally, WriteFault, write_all};
 use jr_head::Head;
-use jr_paint::{NARROW, WIDEST, make_room, put_header};
+use jr_paint::{make_room, put_header};
 use jr_picture::{Counts, Gate};
 use jr_piece::each_interval_has_an_outcome;
 use jr_rows::{FirstIntervals, Marked, SampleRow, lines_of, room_for, shape_of};
@@ -86,34 +85,6 @@ pub fn counts_of(scan: &Scan, limit: u32, marked: Marked) -> Counts
     }
 }
 
-/// Writes the picture of a scan whose first `limit` intervals are decoded in the calling thread, of at most `WIDTH` columns.
-/// A function of its own, so that only a wide picture takes the stack for wide lines.
-#[inline(never)]
-fn write_alone<W: Write, G: Gate, const WIDTH: usize>(
-    scan: &Scan,
-    limit: u32,
-    work: SampleRow,
-    gate: &G,
-    pixels: &mut [u8],
-    out: &mut Tally<W>,
-) -> Result<Marked, WriteFault>
-    requires stack { WIDTH ≤ WIDEST }
-    requires few { limit ≤ length scan.now.intervals }
-    requires wide { scan.now.head.width ≤ WIDTH }
-    requires room { HasSampleRoom scan.now.head work }
-    requires unfailed { has_failed out.old ≡ false }
-    requires pixels { 8 * vertical_max scan.now.head * line_size scan.now.head ≤ length pixels.old }
-    requires header { HEADER_ROOM ≤ length pixels.old }
-    ensures counts { IfOk result (CountsRows scan.now limit) }
-    ensures failed { has_failed out.new ≡ is_err result }
-    ensures sent { SendsPicture W.contents out.old out.new result scan.now limit }
-{
-    // By its contract a scan has as many intervals as its head says.
-    let _all = scan.intervals();
-    let mut painter = Alone::<G, WIDTH>::of(scan, limit, work, gate);
-    write_rows(scan.head(), &mut painter, pixels, out)
-}
-
 /// Writes the picture of a scan whose first `limit` intervals are decoded in the calling thread.
 fn write_picture<W: Write, G: Gate>(
     scan: &Scan,
@@ -132,11 +103,10 @@ fn write_picture<W: Write, G: Gate>(
     ensures failed { has_failed out.new ≡ is_err result }
     ensures sent { SendsPicture W.contents out.old out.new result scan.now limit }
 {
-    scan.head().be_lawful();
-    if scan.head().width() as usize <= NARROW {
-        return write_alone::<W, G, NARROW>(scan, limit, work, gate, pixels, out);
-    }
-    write_alone::<W, G, WIDEST>(scan, limit, work, gate, pixels, out)
+    // By its contract a scan has as many intervals as its head says.
+    let _all = scan.intervals();
+    let mut painter = Alone::of(scan, limit, work, gate);
+    write_rows(scan.head(), &mut painter, pixels, out)
 }
 
 /// Decodes the first intervals of a scan, or all, and writes its picture, a row of MCUs after the other, in the calling

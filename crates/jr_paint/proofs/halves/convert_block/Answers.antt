@@ -7,14 +7,14 @@ pub returns-clause-line : goal.returns-clause-line
 returns-clause-line c =
     c.paint_halved.ensures
     ∙ ap (put_chunk (6 * c.args.i) _)
-    (halved_pixels c.args.i (slice_index c.args.luma.now) (slice_index c.args.cb.now) (slice_index c.args.cr.now) (slice_index c.load-blue_chroma.result) (slice_index c.load-red_chroma.result)
-    (slice_index c.raised_red-red.result) (slice_index c.raised_green-green.result) (slice_index c.raised_blue-blue.result)
-    c.load-blue_chroma.ensures c.load-red_chroma.ensures c.raised_red-red.ensures c.raised_green-green.ensures c.raised_blue-blue.ensures)
+    (halved_pixels c.args.i (slice_index c.args.luma.now) (slice_index c.args.cb.now) (slice_index c.args.cr.now)
+    (slice_index c.raised.result.0) (slice_index c.raised.result.1) (slice_index c.raised.result.2)
+    c.raised.ensures.red c.raised.ensures.green c.raised.ensures.blue)
 
 pub returns-clause-next : goal.returns-clause-next
 returns-clause-next c =
     c.paint_halved-2.ensures
     ∙ ap (put_chunk (6 * c.args.i) _)
-    (halved_pixels c.args.i (slice_index c.args.next_luma.now) (slice_index c.args.cb.now) (slice_index c.args.cr.now) (slice_index c.load-blue_chroma.result) (slice_index c.load-red_chroma.result)
-    (slice_index c.raised_red-red.result) (slice_index c.raised_green-green.result) (slice_index c.raised_blue-blue.result)
-    c.load-blue_chroma.ensures c.load-red_chroma.ensures c.raised_red-red.ensures c.raised_green-green.ensures c.raised_blue-blue.ensures)
+    (halved_pixels c.args.i (slice_index c.args.next_luma.now) (slice_index c.args.cb.now) (slice_index c.args.cr.now)
+    (slice_index c.raised.result.0) (slice_index c.raised.result.1) (slice_index c.raised.result.2)
+    c.raised.ensures.red c.raised.ensures.green c.raised.ensures.blue)

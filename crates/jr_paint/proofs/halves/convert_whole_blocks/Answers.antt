@@ -1,4 +1,4 @@
-use Rattle.std.proofs.Common.{rules, ℕ, ◌-◌, ◌*◌, ◌/◌, length, slice_index, arith, refl}
+use Rattle.std.proofs.Common.{rules, ℕ, ◌*◌, ◌/◌, slice_index, arith, refl}
 use Rattle.jr_segments.specs.declared.kind.Kind.TheVariants.{Ycc}
 use Rattle.jr_paint.specs.Colours.{colour_of}
 use Rattle.jr_paint.proofs.Blocks.{halved_more, last_halved}
@@ -16,14 +16,12 @@ loop-n-preserved c =
       next = rw c.convert_block.ensures.next (search (rules, halved_more (λ k. colour_of Ycc (z k) (b (k / 2)) (d (k / 2))) (λ k. refl) l.n l.second (omega arith) l.invariant.next));
     }
 
-pub returns-then-count-gt1-clause-line : goal.returns-then-count-gt1-clause-line
-returns-then-count-gt1-clause-line c =
+pub returns-in-Some-clause-line : goal.returns-in-Some-clause-line
+returns-in-Some-clause-line c =
     let f = λ (k : ℕ). colour_of Ycc (slice_index c.args.luma.now k) (slice_index c.args.cb.now (k / 2)) (slice_index c.args.cr.now (k / 2)) in
-    let i = (length c.args.luma.now - 32) / 2 in
-    rw c.convert_block-then-count-gt1.ensures.line (search (rules, last_halved f (λ k. refl) i (32 * c.loop-n.n) c.loop-n.first (omega arith) (omega arith) c.loop-n.invariant.line))
+    rw c.convert_block-in-Some.ensures.line (search (rules, last_halved f (λ k. refl) c.in-Some.start (32 * c.loop-n.n) c.loop-n.first (search (rules, arith)) (search (rules, arith)) c.loop-n.invariant.line))
 
-pub returns-then-count-gt1-clause-next : goal.returns-then-count-gt1-clause-next
-returns-then-count-gt1-clause-next c =
+pub returns-in-Some-clause-next : goal.returns-in-Some-clause-next
+returns-in-Some-clause-next c =
     let f = λ (k : ℕ). colour_of Ycc (slice_index c.args.next_luma.now k) (slice_index c.args.cb.now (k / 2)) (slice_index c.args.cr.now (k / 2)) in
-    let i = (length c.args.luma.now - 32) / 2 in
-    rw c.convert_block-then-count-gt1.ensures.next (search (rules, last_halved f (λ k. refl) i (32 * c.loop-n.n) c.loop-n.second (omega arith) (omega arith) c.loop-n.invariant.next))
+    rw c.convert_block-in-Some.ensures.next (search (rules, last_halved f (λ k. refl) c.in-Some.start (32 * c.loop-n.n) c.loop-n.second (search (rules, arith)) (search (rules, arith)) c.loop-n.invariant.next))

@@ -7,10 +7,10 @@ use Rattle.jr_rows.specs.MarkBytes.{HasMarkRoom, PutsBetween}
 use Rattle.jr_rows.specs.Rows.{HasFirst, HasSampleRoom}
 use Rattle.jr_stream.specs.SomeLines.{CountsBetween, row_with}
 use Rattle.jr_stream.proofs.SomeLines.{done_lines}
-use Rattle.jr_stream.proofs.lines.paint_within.Given as goal
+use Rattle.jr_stream.proofs.lines.paint_between.Given as goal
 
 abbrev pub invariant-rows : goal.invariant-rows
-invariant-rows g l =
+invariant-rows l =
     let t = l.fn.scan in
     let h = t.head in
     let n = length t.intervals in
@@ -28,4 +28,4 @@ invariant-rows g l =
     }
 
 abbrev pub decreases-rows : goal.decreases-rows
-decreases-rows g l = l.behind - l.rows.row
+decreases-rows l = l.behind - l.rows.row

@@ -18,10 +18,10 @@ use Rattle.jr_rows.proofs.PaintedRows.{row_painted}
 use Rattle.jr_rows.proofs.PutMarks.{puts_both, puts_none}
 use Rattle.jr_rows.proofs.ReadRows.{counts_none, counts_both}
 use Rattle.jr_stream.proofs.SomeLines.{done_lines, next_done}
-use Rattle.jr_stream.proofs.lines.paint_within.Goals as goal
+use Rattle.jr_stream.proofs.lines.paint_between.Goals as goal
 
 pub rows-init : goal.rows-init
-rows-init g c =
+rows-init c =
     let t = c.args.scan.now in
     let h = t.head in
     let starts : c.rows_of-row.result.0 * (8 * vertical_max h) ≤ c.args.first = search (rules, c.rows_of-row.ensures.starts) in
@@ -45,7 +45,7 @@ rows-init g c =
     }
 
 pub with-marked-requires : goal.with-marked-requires
-with-marked-requires g c =
+with-marked-requires c =
     let t = c.args.scan.now in
     let keep = c.rows.invariant in
     let marks : CountsRow t (length t.intervals) c.rows.rows.row c.decode-more.result = rw (keep.scan, keep.limit) at c.decode-more.ensures.counts in
@@ -54,7 +54,7 @@ with-marked-requires g c =
     omega (arith, keep.counts.few, marks.few, few, room)
 
 pub rows-preserved : goal.rows-preserved
-rows-preserved g c =
+rows-preserved c =
     let t = c.args.scan.now in
     let h = t.head in
     let n = length t.intervals in
@@ -104,7 +104,7 @@ rows-preserved g c =
           let shows : ShowsMcus b (row * mcus_across h) (units_in h work.lines.groups) = (rw (keep.scan, keep.limit) at c.decode-more.ensures.units) b first in
           let shown = ap (λ (g : HeadValue). next_lines_of g (samples_in (record { head = g; groups = work.lines.groups })) y count) head
           ∙ row_painted b h (ap (λ (s : ScanValue). s.head) first.scan_is) lawful work.lines.groups row shows y count (y - row * deep) start few down in
-          let lines : pix ≡ next_lines_of h f (c.args.first + old_done) count = c.paint_some.ensures ∙ shown ∙ ap (λ (k : ℕ). next_lines_of h f k count) done.0 in
+          let lines : pix ≡ next_lines_of h f (c.args.first + old_done) count = c.paint_some.ensures.lines ∙ shown ∙ ap (λ (k : ℕ). next_lines_of h f k count) done.0 in
           ap (λ (k : ℕ). take (k * line_size h) (put_mid from (to - from) c.rows.pixels pix)) next
           ∙ ap (λ (k : ℕ). take k (put_mid from (to - from) c.rows.pixels pix)) (sym to_is)
           ∙ take-put_mid from (to - from) c.rows.pixels pix to end_is inside
@@ -119,7 +119,7 @@ rows-preserved g c =
     }
 
 pub paint_some-requires : goal.paint_some-requires
-paint_some-requires g c =
+paint_some-requires c =
     let h = c.args.scan.now.head in
     let line : c.shape_of-line.result.line ≡ line_size h = search rules in
     let y = c.lines_in-y.result.0 in
@@ -129,7 +129,7 @@ paint_some-requires g c =
     search (rules, arith, part)
 
 pub returns-clause-lines : goal.returns-clause-lines
-returns-clause-lines g c b first =
+returns-clause-lines c b first =
     let h = c.args.scan.now.head in
     let end : c.rows.rows.row ≡ c.rows_of-row.result.1 = search (rules, arith) in
     let ends : c.args.end ≤ c.rows_of-row.result.1 * (8 * vertical_max h) = search (rules, c.rows_of-row.ensures.ends) in
@@ -140,14 +140,14 @@ returns-clause-lines g c b first =
     sym whole ∙ ap (λ (k : ℕ). take (k * line_size h) c.rows.pixels) (sym all) ∙ c.rows.invariant.front b first ∙ ap (next_lines_of h (samples_of b) c.args.first) all
 
 pub returns-clause-counts : goal.returns-clause-counts
-returns-clause-counts g c =
+returns-clause-counts c =
     let t = c.args.scan.now in
     let end : c.rows.rows.row ≡ c.rows_of-row.result.1 = search (rules, arith) in
     let behind : c.rows.rows.row ≡ row_behind t.head c.args.end = search rules in
     subst (λ (r : ℕ). CountsBetween t (row_with t.head c.args.first) r c.rows.marked) behind c.rows.invariant.counts
 
 pub returns-clause-puts : goal.returns-clause-puts
-returns-clause-puts g c =
+returns-clause-puts c =
     let t = c.args.scan.now in
     let end : c.rows.rows.row ≡ c.rows_of-row.result.1 = search (rules, arith) in
     let behind : c.rows.rows.row ≡ row_behind t.head c.args.end = search rules in
