@@ -209,7 +209,9 @@ impl Samples for View {
         sample_of_units(self.scan.head(), self, c, x, y)
     }
 
-    fn line(&self, c: u32, x: u32, y: u32, out: &mut [u8]) {
-        fill_line(self.scan.head(), self, c, y, out);
+    fn line<'a>(&'a self, c: u32, y: u32, count: usize, room: &'a mut [u8]) -> &'a [u8] {
+        let line = &mut room[..count];
+        fill_line(self.scan.head(), self, c, y, line);
+        line
     }
 }
