@@ -16,7 +16,10 @@ use Rattle.jr_scan.specs.declared.place.RunEnd.TheVariants.{AllRead, NoMcu}
 use Rattle.jr_scan.specs.IntervalValue.{IntervalValue}
 use Rattle.jr_scan.specs.Mcus.{Mcus, no_predictions, HasNoDecoding, Front, LongestFront}
 use Rattle.jr_scan.specs.Run.{RunOf, start_of_interval, whole_run, run_from, left_at, predicted, TakesMcu, HasNoMcu, IsRun}
-use Rattle.jr_scan.specs.McuReader.{McuReaderValue, HasRead, HasEnded, HasReadOf, HasReadAll, IsMcuReader}
+use Rattle.std.specs.List.{All}
+use Rattle.jr_scan.specs.Block.{IsInRange}
+use Rattle.jr_scan.proofs.InRange.{run_in_range}
+use Rattle.jr_scan.specs.McuReader.{per_mcu, McuReaderValue, HasRead, HasEnded, HasReadOf, HasReadAll, IsMcuReader}
 use Rattle.jr_scan.proofs.FewMcus.{mcus_long}
 use Rattle.jr_scan.proofs.McuLaws.{blocks_front, no_blocks}
 use Rattle.jr_scan.proofs.Runs.{component_low, decoding_is_run, no_more, one_run, runs_meet, three_places}
@@ -70,6 +73,15 @@ read_on r r' k zs ys lawful run mcu few more s =
     let both = runs_meet r.run.interval r.run.from r.place r'.place r.mcu k zs ys AllRead (component_low r.run.interval.head lawful) s.run more in
     let here = subst (λ (n : ℕ). IsRun (run_from r.run.interval r.run.from n) (zs ++ ys) r'.place AllRead) (sym mcu) both in
     record { few = few; run = subst (λ (o : RunOf). IsRun (run_from o.interval o.from r'.mcu) (zs ++ ys) r'.place AllRead) (sym run) here }
+
+-- a reader that passes over MCUs has read them
+pub passed_on : (r r' new : McuReaderValue) (k : ℕ) (zs ys : List (List ℤ)) → IsLawful r.run.interval.head → r'.run ≡ r.run → r'.mcu ≡ r.mcu + k → r'.mcu ≤ r'.run.mcus
+    → IsRun (run_from r.run.interval r.place k) ys r'.place AllRead → new ≡ r' → HasRead r zs
+    → (ys : List (List ℤ)) × (length ys ≡ k * per_mcu r) × All IsInRange ys × HasRead new (zs ++ ys)
+passed_on r r' new k zs ys lawful run mcu few more same s =
+    let count : more.count ≡ k = more.ends in
+    let long : length ys ≡ k * per_mcu r = more.mcus.0 ∙ ap (λ (n : ℕ). n * per_mcu r) count in
+    (ys, long, run_in_range _ _ _ _ more, subst (λ (x : McuReaderValue). HasRead x (zs ++ ys)) (sym same) (read_on r r' k zs ys lawful run mcu few more s))
 
 -- the MCUs that a reader of a whole interval has read are a front
 pub front_of_run : (i : IntervalValue) (k : ℕ) (zs : List (List ℤ)) (to : Place) → IsRun (run_from i start_of_interval k) zs to AllRead → k ≤ i.mcus → Front i k zs

@@ -1,10 +1,9 @@
 -- What a code of a coefficient, or of the end of a block, makes of a block that is read up to a place.
-use Rattle.std.proofs.Common.{◌≡◌, ℕ, ◌+◌, ◌-◌, ◌*◌, ◌/◌, ◌%◌, ◌<◌, ◌≤◌, Bool, List, [], ◌∷◌, ◌++◌, length, replicate, set, refl, sym, ap, subst, ◌∙◌, inl, inr, append_assoc, length-append, arith}
-use Rattle.std.specs.Prelude.{ℤ, pos, ◌⊎◌, ◌↔◌, Option, Some, None, IsSome, IfSome, IfNone}
+use Rattle.std.proofs.Common.{◌≡◌, ℕ, ◌+◌, ◌-◌, ◌*◌, ◌/◌, ◌%◌, ◌<◌, ◌≤◌, Bool, List, [], ◌∷◌, ◌++◌, replicate, set, refl, sym, ap, subst, ◌∙◌, inl, inr, append_assoc, length-append, arith}
+use Rattle.std.specs.Prelude.{ℤ, pos, ◌⊎◌, Option, Some, None, IsSome, IfSome, IfNone}
 use Rattle.std.proofs.Math.ListN.{length-replicate}
 use Rattle.std.proofs.lemmas.Bool.{cases_lt}
-use Rattle.jr_code.specs.Bits.{value}
-use Rattle.jr_code.specs.Code.{Table, IsWord, GoesOn, HasNoPlaces, TakesExtended, TakesPlaces, places_in, symbol_of, unpacked}
+use Rattle.jr_code.specs.Code.{Table, GoesOn, HasNoPlaces, TakesExtended, TakesPlaces, places_in, symbol_of, unpacked}
 use Rattle.jr_code.specs.declared.packed.Packed.{Packed}
 use Rattle.jr_scan.specs.Block.{AcCode, IsAcCode, code_bits}
 use Rattle.jr_scan.specs.Block.AcCode.{ZeroRun, RunAndSize}
@@ -107,3 +106,24 @@ module _ (ac : Table) (free : IsPrefixFree ac) (first v : ℤ) (old bits new : L
           | inr end ↦ let h = found (inr end) in absurd cc
         ]
       ]
+
+-- the same where no coefficient is kept
+pub skipped_some : (ac : Table) → IsPrefixFree ac → (old bits new : List Bool) (place place' : ℕ) (p : Packed)
+    → (block : List ℤ) × IsSoFar ac (pos 0) old bits block (place + 1) → place ≤ 62 → TakesPlaces ac p bits new → place' ≡ place + places_in p
+    → {X : Type 0} (r : Option X) → (IsSome r → (place' ≡ 63) ⊎ (128 ≤ place')) → IfSome r (λ _. (others : List ℤ) × TakesOthers ac others old new)
+skipped_some ac free old bits new place place' p s room t is None found = tt
+skipped_some ac free old bits new place place' p s room t is (Some x) found =
+    elim (found refl) [
+      | inl last ↦
+          let a = so_far_ended ac free (pos 0) old bits new s.0 (set s.0 63 (unpacked p).value) place place' p s.1 room t is (inl last) (λ _. refl) (λ far. absurd (omega (arith, far, last))) in
+          (a.0, a.2)
+      | inr far ↦
+          let a = so_far_ended ac free (pos 0) old bits new s.0 s.0 place place' p s.1 room t is (inr far) (λ last. absurd (omega (arith, far, last))) (λ _. refl) in
+          (a.0, a.2)
+    ]
+
+pub skipped_on : (ac : Table) → IsPrefixFree ac → (old bits new : List Bool) (place place' : ℕ) (p : Packed)
+    → (block : List ℤ) × IsSoFar ac (pos 0) old bits block (place + 1) → place ≤ 62 → TakesPlaces ac p bits new → place' ≡ place + places_in p → place' ≤ 63
+    → (block : List ℤ) × IsSoFar ac (pos 0) old new block (place' + 1)
+skipped_on ac free old bits new place place' p s room t is fits =
+    (set s.0 place' (unpacked p).value, so_far_places ac free (pos 0) old bits new s.0 (set s.0 place' (unpacked p).value) place place' p s.1 room t is fits refl)

@@ -1,15 +1,12 @@
 -- The coefficients of a block are in range.
-use Rattle.std.proofs.Common.{◌≡◌, ℕ, zero, suc, ◌+◌, ◌-◌, ◌*◌, ◌<◌, ◌≤◌, ◌^◌, Bool, List, [], ◌∷◌, ◌++◌, length, get_or, replicate, sym, ap, subst, inl, inr, length-append, arith, ◌∙◌, w16, w32}
-use Rattle.std.specs.Prelude.{ℤ, pos, ◌+ℤ◌, ◌≤ℤ◌}
+use Rattle.std.proofs.Common.{◌≡◌, ℕ, zero, suc, ◌-◌, ◌<◌, Bool, List, [], ◌∷◌, ◌++◌, length, get_or, replicate, sym, ap, subst, length-append, arith, ◌∙◌, w16, w32}
+use Rattle.std.specs.Prelude.{ℤ, pos, ◌+ℤ◌}
 use Rattle.std.specs.List.{flat_map, AllByRecursion}
 use Rattle.std.proofs.Math.ListN.{length-replicate}
-use Rattle.std.proofs.Math.Pow.{pow_mono}
 use mir.Val.{SFits, to_z, of_z}
 use Rattle.std.proofs.lemmas.Int.{ints, to_z-of_z}
-use Rattle.std.proofs.lemmas.Bool.{cases_lt}
-use Rattle.jr_code.specs.Bits.{number, extend, value}
+use Rattle.jr_code.specs.Bits.{value}
 use Rattle.jr_code.specs.Code.{Table, TakesExtended}
-use Rattle.jr_code.proofs.BitLemmas.{number_below}
 use Rattle.jr_scan.specs.Block.{AcCode, IsAcCode, entries, DifferenceAt, OthersAt, CodedAt, BlockAt, IsInDcRange, IsInRange}
 use Rattle.jr_scan.specs.Block.AcCode.{ZeroRun, RunAndSize}
 use Rattle.jr_scan.specs.Step.{TakesCoded}

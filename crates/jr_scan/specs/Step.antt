@@ -1,5 +1,5 @@
 -- What the readers of parts of a block promise.
-use Rattle.std.specs.Prelude.{◌≡◌, ℕ, Bool, List, [], ◌∷◌, ◌++◌, length, replicate, ℤ, pos}
+use Rattle.std.specs.Prelude.{◌≡◌, ℕ, Bool, List, ◌∷◌, ◌++◌, length, ℤ}
 use Rattle.jr_code.specs.Bits.{value}
 use Rattle.jr_code.specs.Code.{Table, IsWord}
 use Rattle.jr_scan.specs.Block.{AcCode, IsAcCode, code_bits, entries, OthersAt, DifferenceAt, CodedAt, BlockAt}

@@ -65,6 +65,39 @@ fn read_others(
     }
 }
 
+/// Whether a block ends where its last code went on to this place: to the last one, or by the code of the end.
+#[inline(always)]
+fn end_at(place: u32) -> Option<()>
+    ensures { IsSome result ↔ ((place ≡ 63) ⊎ (128 ≤ place)) }
+{
+    if place == 63 || place >= 128 {
+        Some(())
+    } else {
+        None
+    }
+}
+
+/// Passes over the coefficients behind the first, of which it keeps none.
+fn skip_others(ac: &CodeBook, bits: &mut Bits<'_>) -> Option<()>
+    ensures some { IfSome result (λ _. (others : List ℤ) × TakesOthers ac.now others bits.old bits.new) }
+    ensures none { IfNone result (HasNoOthers ac.now bits.old) }
+{
+    let mut place: u32 = 0;
+    'codes: loop {
+        let code = ac.read_places(bits)?;
+        place += code.places();
+        if place > 62 {
+            return end_at(place);
+        }
+
+        let next = ac.read_places_and_refill(bits)?;
+        place += next.places();
+        if place > 62 {
+            return end_at(place);
+        }
+    }
+}
+
 /// Takes a block into the caller's memory, the difference of its first coefficient in place of it.
 pub(crate) fn read_block(
     dc: &CodeBook,
@@ -80,4 +113,16 @@ pub(crate) fn read_block(
     read_others(ac, &mut left, difference, block)?;
     *bits = left;
     Some(())
+}
+
+/// Passes over a block, and gives the difference of its first coefficient.
+pub(crate) fn skip_block(dc: &CodeBook, ac: &CodeBook, bits: &mut Bits<'_>) -> Option<i16>
+    ensures some { IfSome result (λ d. (others : List ℤ) × TakesCoded dc.now ac.now (d ∷ others) bits.old bits.new) }
+    ensures none { IfNone result (HasNoCoded dc.now ac.now bits.old) }
+{
+    let mut left = bits.again();
+    let difference = read_difference(dc, &mut left)?;
+    skip_others(ac, &mut left)?;
+    *bits = left;
+    Some(difference)
 }

@@ -1,13 +1,13 @@
 //! The blocks of one MCU.
 
-ghost use Rattle.std.specs.Prelude.{◌≡◌, length, pos, IfSome, IfNone, OnSome, slice_index_or, ◌+ℤ◌};
+ghost use Rattle.std.specs.Prelude.{◌≡◌, ◌∷◌, ℤ, List, length, pos, IfSome, IfNone, OnSome, slice_index_or, ◌+ℤ◌};
 ghost use Rattle.std.specs.List.{All};
 ghost use Rattle.jr_head.specs.Geometry.{IsLawful, order_of};
 ghost use Rattle.jr_scan.specs.Block.{IsInDcRange};
 ghost use Rattle.jr_scan.specs.Step.{TakesBlock, HasNoBlock};
 ghost use Rattle.jr_scan.specs.Run.{predicted, TakesMcu, BeginsNoMcu};
 
-use crate::block::read_block;
+use crate::block::{read_block, skip_block};
 use jr_block::Coefficients;
 use jr_code::{Bits, CodeBook};
 use jr_head::Head;
@@ -73,6 +73,44 @@ pub(crate) fn read_mcu(
             return None;
         };
         last[c as usize] = first;
+    }
+    *bits = left;
+    *predictions = last;
+    Some(())
+}
+
+/// Passes over a block, and gives its first coefficient, the prediction added.
+fn skip_predicted(dc: &CodeBook, ac: &CodeBook, bits: &mut Bits<'_>, prediction: i32) -> Option<i32>
+    requires { IsInDcRange prediction }
+    ensures some { IfSome result (λ first. (others : List ℤ) × TakesBlock dc.now ac.now prediction (first ∷ others) bits.old bits.new) }
+    ensures none { IfNone result (HasNoBlock dc.now ac.now prediction bits.old) }
+{
+    let difference = skip_block(dc, ac, bits)?;
+    let first = predicted_first(prediction, difference)?;
+    Some(i32::from(first))
+}
+
+/// Passes over the blocks of one MCU, and makes of the predictions those behind it. Bits and predictions move only where all
+/// of it is there.
+pub(crate) fn skip_mcu(head: &Head, bits: &mut Bits<'_>, predictions: &mut [i32; 3]) -> Option<()>
+    requires lawful { IsLawful head.now }
+    requires in_range { All IsInDcRange predictions.old }
+    ensures some { OnSome result ((zs : List (List ℤ)) × TakesMcu head.now predictions.old zs bits.old bits.new × (predictions.new ≡ predicted head.now predictions.old zs)) }
+    ensures in_range { All IsInDcRange predictions.new }
+    ensures none { IfNone result (BeginsNoMcu head.now predictions.old bits.old) }
+    ensures kept { IfNone result ((bits.new ≡ bits.old) × (predictions.new ≡ predictions.old)) }
+{
+    let order = head.order();
+    let mut left = bits.again();
+    let mut last = *predictions;
+    for k in 0..order.len() {
+        let c = order[k];
+        let dc = head.dc_book(u32::from(c));
+        let ac = head.ac_book(u32::from(c));
+        let Some(next) = skip_predicted(dc, ac, &mut left, last[c as usize]) else {
+            return None;
+        };
+        last[c as usize] = next;
     }
     *bits = left;
     *predictions = last;

@@ -6,7 +6,7 @@ ghost use Rattle.jr_code.specs.Bits.{bits};
 ghost use Rattle.jr_scan.specs.Block.{IsInDcRange, IsInRange};
 
 use crate::interval_ref::IntervalRef;
-use crate::mcu::read_mcu;
+use crate::mcu::{read_mcu, skip_mcu};
 use crate::place::Place;
 use jr_block::Coefficients;
 use jr_code::Bits;
@@ -134,6 +134,41 @@ impl<'a> McuReader<'a> {
             let end = start + per_mcu;
             let Some(()) = self.next(&mut blocks[start..end]) else {
                 return k;
+            };
+        }
+        most
+    }
+
+    /// Passes over the next MCU. None where no whole one follows.
+    fn skip_next(&mut self) -> Option<()>
+        requires more { self.old.mcu < self.old.run.mcus }
+        ensures run { self.new.run ≡ self.old.run }
+        ensures mcu { OnSome result (self.new.mcu ≡ self.old.mcu + 1) }
+        ensures some { OnSome result ((zs : List (List ℤ)) × IsRun (run_from self.old.run.interval self.old.place 1) zs self.new.place AllRead) }
+        ensures none { IfNone result (HasNoMcu self.old.run.interval self.old.place) }
+        ensures kept { IfNone result (self.new ≡ self.old) }
+    {
+        let head = self.interval.head();
+        skip_mcu(head, &mut self.bits, &mut self.predictions)?;
+        self.mcu += 1;
+        Some(())
+    }
+
+    /// Passes over the next MCUs, as many whole ones as are asked for or as follow, and keeps none of their blocks; tells how
+    /// many MCUs they are.
+    pub fn skip(&mut self, mcus: u32) -> u32
+        ensures run { self.new.run ≡ self.old.run }
+        ensures mcus { self.new.mcu ≡ self.old.mcu + result }
+        ensures few { self.new.mcu ≤ self.new.run.mcus }
+        ensures most { result ≤ mcus }
+        ensures passed { (zs : List (List ℤ)) → HasRead self.old zs → (ys : List (List ℤ)) × (length ys ≡ result * per_mcu self.old) × All IsInRange ys × HasRead self.new (zs ++ ys) }
+        ensures ended { result < mcus → HasEnded self.new }
+        ensures stays { HasEnded self.old → self.new ≡ self.old }
+    {
+        let most = mcus.min(self.mcus - self.mcu);
+        for done in 0..most {
+            let Some(()) = self.skip_next() else {
+                return done;
             };
         }
         most

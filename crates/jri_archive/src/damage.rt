@@ -5,34 +5,29 @@ ghost use Rattle.jr_scan.specs.Mcus.{HasNoDecoding, HasDecoding, HasLongestFront
 ghost use Rattle.jr_scan.specs.Run.{whole_run};
 ghost use Rattle.jr_scan.specs.McuReader.{HasRead, HasEnded};
 
-use jr_block::Coefficients;
-use jr_scan::{IntervalRef, MOST_UNITS, McuReader};
-use std::array;
+use jr_scan::{IntervalRef, McuReader};
 
-/// A reader that has read all whole MCUs of an interval, up to its end or to where none follows.
-fn read_all(interval: IntervalRef<'_>) -> McuReader<'_>
+/// A reader that has passed over all whole MCUs of an interval, up to its end or to where none follows.
+fn pass_all(interval: IntervalRef<'_>) -> McuReader<'_>
     ensures run { result.run ≡ whole_run interval.entry }
     ensures read { (zs : List (List ℤ)) × HasRead result zs }
     ensures ended { HasEnded result }
 {
+    let mcus = interval.mcus();
     let mut reader = McuReader::over(interval);
-    let mut blocks: [Coefficients; MOST_UNITS] = array::from_fn(|_| Coefficients::zeros());
-    'mcus: loop {
-        if reader.read(&mut blocks) == 0 {
-            return reader;
-        }
-    }
+    let _passed = reader.skip(mcus);
+    reader
 }
 
 /// `None` where the interval has a decoding (T.81, Annex F). Else how many of its MCUs, from the first on, can be decoded.
 ///
-/// It reads the interval's bits once, transforms nothing and takes no memory.
+/// It reads the interval's bits once, keeps no coefficient and takes no memory.
 pub fn damaged_front(interval: IntervalRef<'_>) -> Option<u32>
     ensures sound { IfNone result (HasDecoding interval.entry) }
     ensures damaged { OnSome result (HasNoDecoding interval.entry) }
     ensures front { IfSome result (λ mcus. HasLongestFront interval.entry mcus) }
 {
-    let reader = read_all(interval);
+    let reader = pass_all(interval);
     if reader.is_sound() {
         None
     } else {
