@@ -136,25 +136,11 @@ pub fn fill_line<U: Units>(head: &Head, units: &U, c: u32, y: u32, out: &mut [u8
     let start = place(head, c, 0, y);
     let whole = out.len() / 8;
     for n in 0..whole {
-        fill_unit(
-            head,
-            units,
-            c,
-            y,
-            start,
-            n as u32,
-            &mut out[8 * n..8 * n + 8],
-        );
+        let unit = &mut out[8 * n..8 * n + 8];
+        fill_unit(head, units, c, y, start, n as u32, unit);
     }
     if 8 * whole < out.len() {
-        fill_unit(
-            head,
-            units,
-            c,
-            y,
-            start,
-            whole as u32,
-            &mut out[8 * whole..],
-        );
+        let unit = &mut out[8 * whole..];
+        fill_unit(head, units, c, y, start, whole as u32, unit);
     }
 }
