@@ -1,6 +1,6 @@
 use Rattle.std.proofs.Common.{◌≡◌, ℕ, ◌+◌, ◌-◌, ◌<◌, ◌≤◌, length, slice_index}
 use Rattle.jr_picture.specs.Samples.{samples_of}
-use Rattle.jr_wall.proofs.painting.BoardSamples.line.Given as goal
+use Rattle.jr_wall.proofs.board.Board.fill_line.Given as goal
 
 abbrev pub invariant-runs : goal.invariant-runs
 invariant-runs l = record {

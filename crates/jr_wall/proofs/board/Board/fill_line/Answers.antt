@@ -9,7 +9,7 @@ use Rattle.jr_picture.specs.BoardValue.{BoardValue}
 use Rattle.jr_picture.specs.Samples.{samples_of}
 use Rattle.jr_wall.proofs.Lines.{shown_along}
 use Rattle.jr_picture.proofs.Lines.{filled_more}
-use Rattle.jr_wall.proofs.painting.BoardSamples.line.Goals as goal
+use Rattle.jr_wall.proofs.board.Board.fill_line.Goals as goal
 
 few_columns : (b : BoardValue) (h : HeadValue) (c x n : ℕ) → h ≡ b.scan.head → IsLawful h → c < length b.scan.head.components → x + n ≤ samples_across b.scan.head c → x + n < 65536
 few_columns b h c x n e l p q =
