@@ -1,7 +1,7 @@
 -- What several threads know of the rows of MCUs that they decode together: by the part of a scan that is decoded.
 use Rattle.std.specs.Prelude.{◌≡◌, ℕ, ◌*◌, ◌%◌, ◌<◌, ◌≤◌, List, length, take, slice_get, Option, Some, None}
 use Rattle.jr_head.specs.Geometry.{mcus_down, vertical_max}
-use Rattle.jr_paint.specs.Lines.{line_size}
+use Rattle.jr_paint.specs.Lines.{line_room, line_size}
 use Rattle.jr_rows.specs.FirstIntervalsValue.{FirstIntervalsValue}
 use Rattle.jr_crew.specs.CrewValue.{CodedRowValue, PaintedValue}
 use Rattle.jr_rows.specs.Rows.{AreRead, CountsRow, HasRowRoom, ShowsLines, line_count}
@@ -15,6 +15,10 @@ OfPart (Some part) P = P part
 -- there is room for the lines of a row of MCUs
 abbrev pub HasRoom : Option FirstIntervalsValue → List ℕ → Type 0
 HasRoom known pixels = OfPart known (λ part. 8 * vertical_max part.scan.head * line_size part.scan.head ≤ length pixels)
+
+-- there is room for painting its lines
+abbrev pub HasLineRoom : Option FirstIntervalsValue → ℕ → Type 0
+HasLineRoom known n = OfPart known (λ part. line_room part.scan.head ≤ n)
 
 -- there is room for its blocks and samples
 abbrev pub HasWork : Option FirstIntervalsValue → RowValue → Type 0

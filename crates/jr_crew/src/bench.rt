@@ -2,28 +2,26 @@
 
 ghost use Rattle.std.specs.Prelude.{◌≡◌, ◌+◌, ◌*◌, ◌<◌, ◌≤◌, Some, length, take};
 ghost use Rattle.jr_head.specs.Geometry.{mcus_down, vertical_max};
-ghost use Rattle.jr_paint.specs.Lines.{line_size};
-ghost use Rattle.jr_paint.specs.declared.netpbm.TheConstants.{WIDEST};
+ghost use Rattle.jr_paint.specs.Lines.{line_room, line_size};
 ghost use Rattle.jr_rows.specs.Rows.{AreRead, CountsRow, HasRowRoom, ShowsLines, line_count};
 
 use crate::one_first_intervals::OneFirstIntervals;
+use crate::paint_room::PaintRoom;
 use crate::row::Row;
 use jr_base::Memory;
-use jr_paint::SampleLines;
 use jr_rows::{FirstIntervals, Marked, Rows, bytes_of_row, lines_of, shape_of};
 use std::alloc::Global;
 use std::marker::{Model, PhantomData};
 
 /// Paints the row that is read at the beginning of `pixels`.
-fn paint_first<const WIDTH: usize>(
+fn paint_first(
     work: &mut Row,
     part: &FirstIntervals<'_>,
     row: u32,
-    lines: &mut SampleLines<WIDTH>,
+    room: &mut [u8],
     pixels: &mut [u8],
 )
-    requires stack { WIDTH ≤ WIDEST }
-    requires wide { part.now.scan.head.width ≤ WIDTH }
+    requires lines { line_room part.now.scan.head ≤ length room.old }
     requires row { row < mcus_down part.now.scan.head }
     requires room { HasRowRoom part.now.scan.head work.old }
     requires read { AreRead part.now.scan part.now.limit row work.old.blocks }
@@ -34,7 +32,7 @@ fn paint_first<const WIDTH: usize>(
     let (scan, limit) = (part.scan(), part.limit());
     let (_y, count) = lines_of(scan.head(), row);
     let size = count as usize * shape_of(scan.head()).line;
-    work.paint(scan, limit, row, lines, &mut pixels[..size]);
+    work.paint(scan, limit, row, room, &mut pixels[..size]);
 }
 
 /// Memory for the blocks, the samples and the lines of a row of MCUs of the scan.
@@ -116,17 +114,11 @@ impl<S: OneFirstIntervals> Model for CodedRow<S> {
 
 impl<S: OneFirstIntervals> CodedRow<S> {
     /// Transforms and paints the row.
-    pub(crate) fn paint<const WIDTH: usize>(
-        self,
-        part: &FirstIntervals<'_>,
-        lines: &mut SampleLines<WIDTH>,
-    ) -> Painted<S>
-        requires part { S.part ≡ Some part.now }
-        requires stack { WIDTH ≤ WIDEST }
-        requires wide { part.now.scan.head.width ≤ WIDTH }
+    pub(crate) fn paint(self, part: &FirstIntervals<'_>, room: &mut PaintRoom<S>) -> Painted<S>
+        requires { S.part ≡ Some part.now }
     {
         let (mut work, mut pixels) = (self.work, self.pixels);
-        paint_first(&mut work, part, self.row, lines, &mut pixels);
+        paint_first(&mut work, part, self.row, &mut room.bytes, &mut pixels);
         Painted {
             row: self.row,
             marked: self.marked,

@@ -1,10 +1,8 @@
 //! The threads of a crew, and what the calling thread does meanwhile.
 
-ghost use Rattle.std.specs.Prelude.{◌≤◌};
-ghost use Rattle.jr_paint.specs.declared.netpbm.TheConstants.{WIDEST};
-
 use crate::crew::Crew;
 use crate::one_first_intervals::OneFirstIntervals;
+use crate::paint_room::PaintRoom;
 use jr_picture::Gate;
 use std::sync::Wait;
 use std::thread;
@@ -24,32 +22,25 @@ pub(crate) trait Beside {
         ensures { gives self result };
 }
 
-/// Starts so many threads, and runs `beside` in the calling thread. A thread that can't be started is left out.
+/// Starts a thread for each of these rooms, and runs `beside` in the calling thread. A thread that can't be started is left out.
 pub(crate) fn run_beside<
     R: Threads + Wait + Sync,
     G: Gate + Sync,
     S: OneFirstIntervals + Send,
     B: Beside + Drop,
-    const WIDTH: usize,
->(crew: &Crew<'_, S>, rt: &R, gate: &G, others: u32, beside: B) -> B::Answer
-    requires stack { WIDTH ≤ WIDEST }
-    requires wide { crew.now.scan.head.width ≤ WIDTH }
-    requires beside { B.may beside }
+>(crew: &Crew<'_, S>, rt: &R, gate: &G, rooms: Vec<PaintRoom<S>>, beside: B) -> B::Answer
+    requires { B.may beside }
     ensures { B.gives beside result }
 {
     thread::scope(
         thread::scope_env(),
         rt,
         |scope| -> B::Answer
-            requires { (WIDTH ≤ WIDEST) × (crew.now.scan.head.width ≤ WIDTH) × B.may beside }
+            requires { B.may beside }
             ensures { B.gives beside result }
         {
-            for _ in 0..others {
-                let _ = scope.spawn(
-                    move ||
-                        requires { (WIDTH ≤ WIDEST) × (crew.now.scan.head.width ≤ WIDTH) }
-                    { crew.work::<R, G, WIDTH>(rt, gate) },
-                );
+            for room in rooms {
+                let _ = scope.spawn(move || { crew.work(rt, gate, room) });
             }
             beside.run()
         },

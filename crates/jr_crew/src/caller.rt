@@ -1,11 +1,10 @@
 //! The thread that writes what the others paint.
 
-ghost use Rattle.std.specs.Prelude.{◌≡◌, ◌≤◌};
-ghost use Rattle.jr_paint.specs.declared.netpbm.TheConstants.{WIDEST};
+ghost use Rattle.std.specs.Prelude.{◌≡◌};
 
 use crate::crew::Crew;
 use crate::one_first_intervals::OneFirstIntervals;
-use jr_paint::SampleLines;
+use crate::paint_room::PaintRoom;
 use jr_picture::Gate;
 use jr_rows::{Marked, shape_of};
 use jr_stream::RowPainter;
@@ -15,43 +14,33 @@ use std::sync::Wait;
 /// The calling thread: it takes row after row from a crew, and reads and paints where the row that comes next is not painted
 /// yet.
 #[derive(Drop)]
-pub(crate) struct Caller<'a, 'b, R: Wait, G: Gate, S: OneFirstIntervals, const WIDTH: usize> {
+pub(crate) struct Caller<'a, 'b, R: Wait, G: Gate, S: OneFirstIntervals> {
     crew: &'b Crew<'a, S>,
     rt: &'b R,
     gate: &'b G,
     row: u32,
-    lines: SampleLines<WIDTH>,
+    room: PaintRoom<S>,
 }
 
-impl<'a, 'b, R: Wait, G: Gate, S: OneFirstIntervals, const WIDTH: usize> Model
-    for Caller<'a, 'b, R, G, S, WIDTH> {
-    ghost use Rattle.std.specs.Prelude.{◌≡◌, ◌≤◌, Some};
+impl<'a, 'b, R: Wait, G: Gate, S: OneFirstIntervals> Model for Caller<'a, 'b, R, G, S> {
+    ghost use Rattle.std.specs.Prelude.{◌≡◌, Some};
     ghost use Rattle.jr_rows.specs.RowsValue.{RowsValue};
-    ghost use Rattle.jr_paint.specs.declared.netpbm.TheConstants.{WIDEST};
 
     ghost Value = { RowsValue };
 
     ghost view = { λ c. record { scan = c.crew.now.scan; limit = c.crew.now.limit; row = c.row } };
 
-    ghost invariant = { λ c. (S.part ≡ Some c.crew.now) × (c.crew.now.scan.head.width ≤ WIDTH) × (WIDTH ≤ WIDEST) };
+    ghost invariant = { λ c. S.part ≡ Some c.crew.now };
 }
 
-impl<'a, 'b, R: Wait, G: Gate, S: OneFirstIntervals, const WIDTH: usize> Caller<
-    'a,
-    'b,
-    R,
-    G,
-    S,
-    WIDTH,
-> {
+impl<'a, 'b, R: Wait, G: Gate, S: OneFirstIntervals> Caller<'a, 'b, R, G, S> {
     /// Nothing is written yet.
     pub(crate) fn of(
         crew: &'b Crew<'a, S>,
         rt: &'b R,
         gate: &'b G,
-    ) -> Caller<'a, 'b, R, G, S, WIDTH>
-        requires stack { WIDTH ≤ WIDEST }
-        requires wide { crew.now.scan.head.width ≤ WIDTH }
+        room: PaintRoom<S>,
+    ) -> Caller<'a, 'b, R, G, S>
         ensures { result ≡ record { scan = crew.now.scan; limit = crew.now.limit; row = 0 } }
     {
         // By its contract the part is the one that the type knows of.
@@ -61,7 +50,7 @@ impl<'a, 'b, R: Wait, G: Gate, S: OneFirstIntervals, const WIDTH: usize> Caller<
             rt,
             gate,
             row: 0,
-            lines: SampleLines::new(),
+            room,
         }
     }
 
@@ -70,18 +59,17 @@ impl<'a, 'b, R: Wait, G: Gate, S: OneFirstIntervals, const WIDTH: usize> Caller<
         ensures { self.new ≡ self.old }
     {
         let (crew, rt, gate, row) = (self.crew, self.rt, self.gate, self.row);
-        let lines = &mut self.lines;
+        let room = &mut self.room;
         for _ in 0..crew.most_tasks() {
             let Some(task) = crew.task_before(rt, row) else {
                 return;
             };
-            crew.run(rt, gate, task, lines);
+            crew.run(rt, gate, task, room);
         }
     }
 }
 
-impl<R: Wait, G: Gate, S: OneFirstIntervals, const WIDTH: usize> RowPainter
-    for Caller<'_, '_, R, G, S, WIDTH> {
+impl<R: Wait, G: Gate, S: OneFirstIntervals> RowPainter for Caller<'_, '_, R, G, S> {
     ghost at = { λ c. c };
 
     fn paint(&mut self, pixels: &mut [u8]) -> Marked {

@@ -1,13 +1,12 @@
 //! Threads that decode and paint rows of MCUs of one scan, while one of them writes.
 
 ghost use Rattle.std.specs.Prelude.{◌≡◌, ◌≤◌, Some, length};
-ghost use Rattle.jr_paint.specs.declared.netpbm.TheConstants.{WIDEST};
 
 use crate::baton::Baton;
 use crate::bench::{Bench, CodedRow, Painted};
 use crate::one_first_intervals::OneFirstIntervals;
+use crate::paint_room::PaintRoom;
 use crate::row_queue::{RowQueue, RowTask, Waiter};
-use jr_paint::SampleLines;
 use jr_picture::Gate;
 use jr_rows::{FirstIntervals, intervals_of_row, shape_of};
 use std::marker::Model;
@@ -93,16 +92,8 @@ impl<'a, S: OneFirstIntervals> Crew<'a, S> {
     }
 
     /// Paints a row that is read.
-    fn paint<R: Wait, const WIDTH: usize>(
-        &self,
-        rt: &R,
-        coded: CodedRow<S>,
-        lines: &mut SampleLines<WIDTH>,
-    )
-        requires stack { WIDTH ≤ WIDEST }
-        requires wide { self.now.scan.head.width ≤ WIDTH }
-    {
-        let painted = coded.paint(&self.part, lines);
+    fn paint<R: Wait>(&self, rt: &R, coded: CodedRow<S>, room: &mut PaintRoom<S>) {
+        let painted = coded.paint(&self.part, room);
         let is_awaited = self.queue.lock(rt).put_painted(painted);
         if is_awaited {
             self.has_row.notify_one();
@@ -110,20 +101,17 @@ impl<'a, S: OneFirstIntervals> Crew<'a, S> {
     }
 
     /// Reads a row, and paints it where rows are whole intervals; else it waits for whoever is free.
-    fn read<R: Wait, G: Gate, const WIDTH: usize>(
+    fn read<R: Wait, G: Gate>(
         &self,
         rt: &R,
         gate: &G,
         baton: Baton<'a, S>,
         bench: Bench<S>,
-        lines: &mut SampleLines<WIDTH>,
-    )
-        requires stack { WIDTH ≤ WIDEST }
-        requires wide { self.now.scan.head.width ≤ WIDTH }
-    {
+        room: &mut PaintRoom<S>,
+    ) {
         let (coded, behind) = baton.read(&self.part, gate, bench);
         if intervals_of_row(self.part.scan().head()).is_some() {
-            return self.paint(rt, coded, lines);
+            return self.paint(rt, coded, room);
         }
         let waiter = self.queue.lock(rt).put_coded(coded, behind);
         match waiter {
@@ -134,33 +122,27 @@ impl<'a, S: OneFirstIntervals> Crew<'a, S> {
     }
 
     /// Does what is to be done.
-    pub(crate) fn run<R: Wait, G: Gate, const WIDTH: usize>(
+    pub(crate) fn run<R: Wait, G: Gate>(
         &self,
         rt: &R,
         gate: &G,
         task: RowTask<'a, S>,
-        lines: &mut SampleLines<WIDTH>,
-    )
-        requires stack { WIDTH ≤ WIDEST }
-        requires wide { self.now.scan.head.width ≤ WIDTH }
-    {
+        room: &mut PaintRoom<S>,
+    ) {
         match task {
-            RowTask::Read(baton, bench) => self.read(rt, gate, baton, bench, lines),
-            RowTask::Paint(coded) => self.paint(rt, coded, lines),
+            RowTask::Read(baton, bench) => self.read(rt, gate, baton, bench, room),
+            RowTask::Paint(coded) => self.paint(rt, coded, room),
         }
     }
 
-    /// Reads and paints rows until no one is left.
-    pub(crate) fn work<R: Wait, G: Gate, const WIDTH: usize>(&self, rt: &R, gate: &G)
-        requires stack { WIDTH ≤ WIDEST }
-        requires wide { self.now.scan.head.width ≤ WIDTH }
-    {
-        let mut lines = SampleLines::<WIDTH>::new();
+    /// Reads and paints rows until no one is left; the thread paints by this room.
+    pub(crate) fn work<R: Wait, G: Gate>(&self, rt: &R, gate: &G, room: PaintRoom<S>) {
+        let mut room = room;
         for _ in 0..self.most_tasks() {
             let Some(task) = self.task(rt) else {
                 return;
             };
-            self.run(rt, gate, task, &mut lines);
+            self.run(rt, gate, task, &mut room);
         }
     }
 

@@ -7,6 +7,7 @@ mod beside;
 mod caller;
 mod crew;
 mod one_first_intervals;
+mod paint_room;
 mod row;
 mod row_queue;
 mod sending;

@@ -2,7 +2,7 @@
 
 ghost use Rattle.std.specs.Prelude.{◌≡◌, ◌+◌, ◌*◌, ◌<◌, ◌≤◌, length, IfOk};
 ghost use Rattle.jr_head.specs.Geometry.{mcus_across, mcus_down};
-ghost use Rattle.jr_paint.specs.Lines.{line_size};
+ghost use Rattle.jr_paint.specs.Lines.{line_room, line_size};
 ghost use Rattle.jr_picture.specs.BoardValue.{BoardValue};
 ghost use Rattle.jr_rows.specs.Bands.{ShowsMcus};
 ghost use Rattle.jr_rows.specs.Groups.{units_in};
@@ -11,7 +11,6 @@ ghost use Rattle.jr_rows.specs.Rows.{HasFirst, HasRowRoom, AreRead, CountsRow, S
 use jr_base::Memory;
 use jr_block::Coefficients;
 use jr_head::Head;
-use jr_paint::SampleLines;
 use jr_rows::{Marked, RowLines, Rows, coded_of_row, paint_row, shape_of};
 use jr_scan::Scan;
 use std::alloc::Global;
@@ -72,15 +71,15 @@ impl Row {
     }
 
     /// Paints the lines of the row that is read, of a scan whose first `limit` intervals are decoded.
-    pub(crate) fn paint<const WIDTH: usize>(
+    pub(crate) fn paint(
         &mut self,
         scan: &Scan,
         limit: u32,
         row: u32,
-        lines: &mut SampleLines<WIDTH>,
+        room: &mut [u8],
         pixels: &mut [u8],
     )
-        requires wide { scan.now.head.width ≤ WIDTH }
+        requires lines { line_room scan.now.head ≤ length room.old }
         requires row { row < mcus_down scan.now.head }
         requires room { HasRowRoom scan.now.head self.old }
         requires read { AreRead scan.now limit row self.old.blocks }
@@ -89,6 +88,6 @@ impl Row {
         ensures lines { ShowsLines scan.now limit row pixels.new }
     {
         self.transform(scan, limit, row);
-        paint_row(scan.head(), &self.lines, row, lines, pixels);
+        paint_row(scan.head(), &self.lines, row, room, pixels);
     }
 }

@@ -6,7 +6,6 @@ ghost use Rattle.jr_base.specs.declared.limits.TheConstants.{MAX_WORKERS};
 ghost use Rattle.jr_head.specs.Geometry.{vertical_max};
 ghost use Rattle.jr_paint.specs.Lines.{line_size};
 ghost use Rattle.jr_paint.specs.declared.header.TheConstants.{HEADER_ROOM};
-ghost use Rattle.jr_paint.specs.declared.netpbm.TheConstants.{WIDEST};
 ghost use Rattle.jr_picture.specs.Headline.{least};
 ghost use Rattle.jr_rows.specs.Rows.{CountsRows};
 ghost use Rattle.jr_stream.specs.Stream.{WritesPicture, BeginsPicture, SendsPicture};
@@ -16,10 +15,10 @@ use crate::bench::{Bench, Painted};
 use crate::beside::run_beside;
 use crate::crew::Crew;
 use crate::one_first_intervals::OneFirstIntervals;
+use crate::paint_room::PaintRoom;
 use crate::row_queue::RowQueue;
 use crate::sending::Sending;
 use jr_base::{Memory, Tally, WriteFault};
-use jr_paint::{NARROW, WIDEST};
 use jr_picture::{Counts, Gate};
 use jr_piece::each_interval_has_an_outcome;
 use jr_rows::{FirstIntervals, Marked, room_for};
@@ -79,50 +78,28 @@ fn open_queue<'a, S: OneFirstIntervals>(
     Ok(RowQueue::of(Baton::of(part), free, coded, painted))
 }
 
-/// Writes what a crew of so many others paints.
-#[inline(never)]
-fn write_beside<
-    's,
-    'a,
-    R: Threads + Wait + Sync,
-    W: Write,
-    G: Gate + Sync,
-    S: OneFirstIntervals + Send,
-    const WIDTH: usize,
->(
-    crew: &'s Crew<'a, S>,
-    rt: &'s R,
-    gate: &'s G,
-    others: u32,
-    pixels: Vec<u8>,
-    out: &mut Tally<W>,
-) -> Result<Marked, WriteFault>
-    requires stack { WIDTH ≤ WIDEST }
-    requires wide { crew.now.scan.head.width ≤ WIDTH }
-    requires unfailed { has_failed out.old ≡ false }
-    requires pixels { 8 * vertical_max crew.now.scan.head * line_size crew.now.scan.head ≤ length pixels.items }
-    requires header { HEADER_ROOM ≤ length pixels.items }
-    ensures counts { IfOk result (CountsRows crew.now.scan crew.now.limit) }
-    ensures failed { has_failed out.new ≡ is_err result }
-    ensures sent { SendsPicture W.contents out.old out.new result crew.now.scan crew.now.limit }
+/// Room for painting, for so many threads.
+fn open_rooms<S: OneFirstIntervals>(
+    alloc: Global,
+    part: &FirstIntervals<'_>,
+    count: u32,
+) -> Result<Vec<PaintRoom<S>>, Memory>
+    requires { S.part ≡ Some part.now }
 {
-    let sending = Sending::<R, W, G, S, WIDTH> {
-        crew,
-        rt,
-        gate,
-        pixels,
-        out,
-    };
-    let (sent, _out) = run_beside::<R, G, S, _, WIDTH>(crew, rt, gate, others, sending);
-    sent
+    let mut rooms = Vec::with_capacity(alloc, count as usize)?;
+    for _ in 0..count {
+        rooms.push(PaintRoom::open(alloc, part)?)?;
+    }
+    Ok(rooms)
 }
 
-/// Writes what a crew paints, of as wide a picture as there is.
+/// Writes what a crew paints: the calling thread, which has `room`, and one for each of `rooms`.
 fn write_by_crew<R: Threads + Wait + Sync, W: Write, G: Gate + Sync, S: OneFirstIntervals + Send>(
     crew: &Crew<'_, S>,
     rt: &R,
     gate: &G,
-    others: u32,
+    room: PaintRoom<S>,
+    rooms: Vec<PaintRoom<S>>,
     pixels: Vec<u8>,
     out: &mut Tally<W>,
 ) -> Result<Marked, WriteFault>
@@ -133,12 +110,16 @@ fn write_by_crew<R: Threads + Wait + Sync, W: Write, G: Gate + Sync, S: OneFirst
     ensures failed { has_failed out.new ≡ is_err result }
     ensures sent { SendsPicture W.contents out.old out.new result crew.now.scan crew.now.limit }
 {
-    let head = crew.part().scan().head();
-    head.be_lawful();
-    if head.width() as usize <= NARROW {
-        return write_beside::<R, W, G, S, NARROW>(crew, rt, gate, others, pixels, out);
-    }
-    write_beside::<R, W, G, S, WIDEST>(crew, rt, gate, others, pixels, out)
+    let sending = Sending {
+        crew,
+        rt,
+        gate,
+        room,
+        pixels,
+        out,
+    };
+    let (sent, _out) = run_beside(crew, rt, gate, rooms, sending);
+    sent
 }
 
 /// `write_scan_by`, where a type stands for the part that is decoded, so that what the threads share under locks is known to
@@ -167,11 +148,17 @@ fn write_as<R: Threads + Wait + Sync, W: Write, G: Gate + Sync, S: OneFirstInter
     let Ok(queue) = open_queue::<S>(alloc, &part, BENCHES_OF_ONE * workers) else {
         return Err(PictureError::Memory);
     };
+    let Ok(room) = PaintRoom::open(alloc, &part) else {
+        return Err(PictureError::Memory);
+    };
+    let Ok(rooms) = open_rooms(alloc, &part, workers - 1) else {
+        return Err(PictureError::Memory);
+    };
     let Ok(pixels) = vec![in alloc; 0; room_for(scan.head())] else {
         return Err(PictureError::Memory);
     };
     let crew = Crew::of(part, queue);
-    match write_by_crew(&crew, rt, gate, workers - 1, pixels, out) {
+    match write_by_crew(&crew, rt, gate, room, rooms, pixels, out) {
         Ok(marked) => Ok(counts_of(scan, limit, marked)),
         Err(_) => Err(PictureError::Write),
     }

@@ -2,14 +2,14 @@ use Rattle.std.proofs.Common.{rules, arith, sym, subst, ap, ◌∙◌, ◌≡◌
 use Rattle.std.proofs.lemmas.List.{length-take-le}
 use Rattle.std.proofs.Math.Seq.{take-append_seam}
 use Rattle.jr_head.specs.Geometry.{mcus_down}
-use Rattle.jr_paint.specs.Lines.{line_size}
+use Rattle.jr_paint.specs.Lines.{line_room, line_size}
 use Rattle.jr_scan.specs.ScanValue.{ScanValue}
 use Rattle.jr_rows.specs.Rows.{AreRead, HasRowRoom, ShowsLines, line_count}
 use Rattle.jr_crew.proofs.Benches.{row_fits}
 use Rattle.jr_crew.proofs.bench.paint_first.Goals as goal
 
 pub paint-requires : goal.paint-requires
-paint-requires g c =
+paint-requires c =
     let t = c.args.part.now.scan in
     let there : c.scan-scan.result.now ≡ t = c.scan-scan.ensures in
     let row = c.args.row in
@@ -24,10 +24,11 @@ paint-requires g c =
     let read = subst (λ (n : ℕ). AreRead t n row c.args.work.now.blocks) (sym c.limit-limit.ensures.value) c.requires.read in
     let read_there = subst (λ (s : ScanValue). AreRead s c.limit-limit.result row c.args.work.now.blocks) (sym there) read in
     let long = length-take-le size c.args.pixels.now inside ∙ is ∙ ap (λ (s : ScanValue). line_count s.head row * line_size s.head) (sym there) in
-    (search (rules, arith), (search (rules, arith), (below, (room, (read_there, long)))))
+    let lines : line_room c.scan-scan.result.now.head ≤ length c.args.room.now = subst (λ (s : ScanValue). line_room s.head ≤ length c.args.room.now) (sym there) c.requires.lines in
+    record { lines = lines; row = below; room = room; read = read_there; pixels = long }
 
 pub returns-clause-lines : goal.returns-clause-lines
-returns-clause-lines g c b first =
+returns-clause-lines c b first =
     let t = c.args.part.now.scan in
     let row = c.args.row in
     let size = c.lines_of-y.result.1 * c.shape_of.result.line in

@@ -17,8 +17,8 @@ invariant_of-result g c =
     let same : length new ≡ length old.items = search (rules, c.paint_first.auto.pixels) in
     let long : old.len ≡ length new = search (rules, c.paint_first.auto.pixels) in
     let is = ap (λ (n : ℕ). take n (new ++ drop (length new) old.items)) long ∙ take-append_seam new (drop (length new) old.items) in
-    let room : 8 * vertical_max t.head * line_size t.head ≤ length old.items = subst (λ (k : Option FirstIntervalsValue). HasRoom k old.items) c.requires.part c.self.invariant.1 in
-    let read = subst (λ (k : Option FirstIntervalsValue). IsRead k (record { row = row; marked = marked; work = c.self.inside.work })) c.requires.part c.self.invariant.2 in
+    let room : 8 * vertical_max t.head * line_size t.head ≤ length old.items = subst (λ (k : Option FirstIntervalsValue). HasRoom k old.items) c.requires c.self.invariant.1 in
+    let read = subst (λ (k : Option FirstIntervalsValue). IsRead k (record { row = row; marked = marked; work = c.self.inside.work })) c.requires c.self.invariant.2 in
     subst (λ (ps : List ℕ). HasWork g.S.OneFirstIntervals.part work × HasRoom g.S.OneFirstIntervals.part ps × IsPainted g.S.OneFirstIntervals.part (record { row = row; marked = marked; pixels = ps })) (sym is)
-    (subst (λ (k : Option FirstIntervalsValue). HasWork k work × HasRoom k new × IsPainted k (record { row = row; marked = marked; pixels = new })) (sym c.requires.part)
+    (subst (λ (k : Option FirstIntervalsValue). HasWork k work × HasRoom k new × IsPainted k (record { row = row; marked = marked; pixels = new })) (sym c.requires)
     (c.paint_first.ensures.room, omega (arith, room, same), record { row = read.row; lines = c.paint_first.ensures.lines; counts = read.counts }))
