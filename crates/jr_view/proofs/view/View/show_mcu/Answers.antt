@@ -21,6 +21,14 @@ put_mcu-requires-clause-room c =
     let long : length c.deref_mut.result.now ≡ length c.self.inside.units.items = ap length c.deref_mut.ensures.value in
     omega (arith, fits, long)
 
+pub overflow_mul-mcu : goal.overflow_mul-mcu
+overflow_mul-mcu c =
+    let h = (arc_value c.self.inside.scan).head in
+    let per : length c.order-per_mcu.result.now ≡ blocks_of h = c.order-per_mcu.ensures.count ∙ ap blocks_of (c.head-head.ensures.value ∙ ap (λ (s : ScanValue). s.head) c.deref.ensures) in
+    let in_picture : c.args.mcu < mcus_of h = subst (λ (v : ViewValue). c.args.mcu < mcus_of v.scan.head) (sym c.self.view_is) c.requires.mcu in
+    let fits = room c.args.mcu (length c.order-per_mcu.result.now) (blocks_of h) (mcus_of h) (length c.self.inside.units.items) per in_picture c.self.invariant.units in
+    search (rules, arith, fits)
+
 pub overflow_add-self : goal.overflow_add-self
 overflow_add-self c =
     let few = few_rows (record { scan = arc_value c.self.inside.scan; units = c.self.inside.units.items; seen = c.self.inside.seen.items }) in
