@@ -6,8 +6,8 @@
  *
  * Proved of all calls: each returns, whatever the bytes, and touches nothing but its buffers and structs; none starts a thread,
  * waits, or keeps anything from one call to the next, so any of them may run at once in any threads, on buffers of their own.
- * Tested: they take memory by malloc, realloc and free alone, give all of it back, and take 192 KB of stack, and 340 KB for
- * pictures wider than 4096 columns; leave some room beside that (docs/C.md).
+ * Tested: they take memory by malloc, realloc and free alone, give all of it back, and take 192 KB of stack; leave some room
+ * beside that (docs/C.md).
  *
  * Callers see to it that pointers lead to as many bytes as their lengths say, that the buffers of one call don't overlap, and
  * that no call is made from a signal handler. A buffer of length 0 may be NULL, and the structs may not.

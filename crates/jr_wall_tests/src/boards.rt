@@ -141,12 +141,15 @@ fn shows_sound_and_damaged_pieces(rt: HostRuntime) -> Result<(), Fail> {
 /// A line of samples that begins and ends within data units.
 fn line<R: Abort>(rt: &R, board: &Board, from: u32) -> [u8; 8] {
     let mut samples = [1; 8];
+    let mut room = [1; 16];
     let head = board.head();
     assert!(rt; 0 < head.components());
     let across = (head.width() * head.horizontal(0)).div_ceil(head.horizontal_max());
     let down = (head.height() * head.vertical(0)).div_ceil(head.vertical_max());
     assert!(rt; from <= 8 && 16 <= across && 7 < down);
-    board.line(0, from, 7, &mut samples);
+    let count = from as usize + 8;
+    let line = board.line(0, 7, count, &mut room);
+    samples.copy_from_slice(&line[from as usize..]);
     samples
 }
 
