@@ -64,7 +64,7 @@ loop-k-preserved c =
     let fits : SFits w32 c.in-Some.next = search rules in
     let wrote = ap (set c.loop-k.last d) (to_z-of_z w32 c.in-Some.next fits) in
     let more = one_more h c.args.predictions.now c.loop-k.last (set c.loop-k.last d (to_z w32 (of_z w32 c.in-Some.next))) c.args.bits.now c.loop-k.left new s.0 z d k first s.1 n.at n.three t2 refl wrote s.2 in
-    record { taken = (s.0 ++ z ∷ [], omega (arith, s.1, length-append s.0 (z ∷ [])), more) }
+    record { taken = (s.0 ++ z ∷ [], omega (arith, s.1, length-append s.0 (z ∷ [])), search (rules, more)) }
 
 pub returns-clause-in_range : goal.returns-clause-in_range
 returns-clause-in_range c = last_in_range c.args.head.now c.args.predictions.now c.loop-k.last c.args.bits.now c.loop-k.left _ c.loop-k.invariant.taken.2

@@ -1,4 +1,4 @@
-use Rattle.std.proofs.Common.{◌∷◌, refl, arith, ◌∙◌, rules, w16}
+use Rattle.std.proofs.Common.{◌≡◌, ◌+ℤ◌, ◌∷◌, refl, arith, rules, w16}
 use mir.Val.{SFits}
 use Rattle.std.proofs.lemmas.Int.{ints}
 use Rattle.jr_code.proofs.CodeLemmas.{one_word}
@@ -14,7 +14,7 @@ returns-in_err-first-clause-none c =
     let o = c.in_ok-difference.ensures.some in
     let p = c.args.prediction in
     let is = sum_kept p d d (kept_fits p c.requires) (search rules) refl in
-    rw c.from_residual-in_err-first.ensures (no_block_far _ _ (one_word _) (one_word _) p _ (d ∷ o.0) _ _ o.1 is c.in_err-first.ensures.none)
+    rw c.from_residual-in_err-first.ensures (no_block_far _ _ (one_word _) (one_word _) p _ (d ∷ o.0) _ _ o.1 is (search (rules, c.in_err-first.ensures.none)))
 
 pub returns-clause-some : goal.returns-clause-some
 returns-clause-some c =
@@ -23,6 +23,7 @@ returns-clause-some c =
     let p = c.args.prediction in
     let first = c.in_ok-first.first in
     let fits : SFits w16 first = search rules in
-    let is = c.in_ok-first.ensures.some ∙ sum_kept p d d (kept_fits p c.requires) (search rules) refl in
+    let sum = sum_kept p d d (kept_fits p c.requires) (search rules) refl in
+    let is : first ≡ p +ℤ d = search (rules, c.in_ok-first.ensures.some, sum) in
     let t = takes_block _ _ p first (d ∷ o.0) (first ∷ o.0) _ _ o.1 is (omega (arith, ints, fits), omega (arith, ints, fits)) refl in
     (o.0, search (rules, t, c.from.ensures))
