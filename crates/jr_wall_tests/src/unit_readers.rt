@@ -13,7 +13,7 @@ use test_files::files::{COLOURED, COLOURED_DAMAGED, MIXED};
 use test_files::scans::scan;
 
 /// Room for three MCUs of ten data units.
-type Row = [[u8; 64]; 30];
+type Row = Vec<[u8; 64]>;
 
 /// A value that no data unit of these files has.
 const OLD: u8 = 7;
@@ -40,7 +40,7 @@ fn fill(reader: &mut UnitReader<'_>, mcus: u32, row: &mut Row) -> Result<usize, 
     let mut room: [Coefficients; 30] = array::from_fn(|_| old_block());
     let blocks = &mut room[..count];
     reader.read(mcus, blocks);
-    transform_blocks(reader.interval().head(), blocks, &mut row[..count]);
+    transform_blocks(reader.interval().head(), 0, blocks, row);
     Ok(count)
 }
 
@@ -55,15 +55,16 @@ fn unit(piece: &Piece, k: u32) -> [u8; 64] {
 /// Reads an interval in rows of so many MCUs, and holds them against its piece.
 fn check_rows(
     rt: &impl Abort,
+    alloc: Global,
     reader: &mut UnitReader<'_>,
     piece: &Piece,
     mcus: u32,
 ) -> Result<(), Fail> {
     let mut next = 0u32;
     for _ in 0..300 {
-        let mut row = [[OLD; 64]; 30];
+        let mut row = vec![in alloc; [OLD; 64]; 30]?;
         let count = fill(reader, mcus, &mut row)?;
-        for k in 0..count.min(30) {
+        for k in 0..count.min(row.len()) {
             assert!(rt; row[k] == unit(piece, next), "data unit {next}");
             next = next.wrapping_add(1);
         }
@@ -83,7 +84,7 @@ fn check(rt: &impl Abort, alloc: Global, scan: &Scan) -> Result<(), Fail> {
         for mcus in [1, 2, 3] {
             let mut reader = UnitReader::over(scan.interval_ref(number));
             assert!(rt; reader.interval().number() == number);
-            check_rows(rt, &mut reader, &piece, mcus)?;
+            check_rows(rt, alloc, &mut reader, &piece, mcus)?;
         }
     }
     Ok(())
@@ -128,7 +129,7 @@ fn rows_of_three_components(rt: HostRuntime) -> Result<(), Fail> {
 }
 
 /// The data units of a row, each of one value.
-fn check_values(rt: &impl Abort, row: &Row, values: &[u8]) {
+fn check_values(rt: &impl Abort, row: &[[u8; 64]], values: &[u8]) {
     for (unit, value) in row.iter().zip(values) {
         assert!(rt; *unit == [*value; 64], "a data unit of {value}");
     }
@@ -153,7 +154,7 @@ fn grey_behind_the_front(rt: HostRuntime) -> Result<(), Fail> {
     let mut reader = UnitReader::over(scan.interval_ref(0));
     for (mcus, values) in &ROWS {
         let mcus = *mcus;
-        let mut row = [[OLD; 64]; 30];
+        let mut row = vec![in a; [OLD; 64]; 30]?;
         assert!(rt; fill(&mut reader, mcus, &mut row)? == mcus as usize);
         check_values(&rt, &row, values);
     }

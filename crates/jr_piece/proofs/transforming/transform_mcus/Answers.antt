@@ -60,11 +60,13 @@ loop-j-preserved g c =
           let d : w.transform_two.result.1 ≡ f (count + j) = w.transform_two.ensures.second ∙ unit_is h zs (count + j) j _ _ more w.index-blocks-count.is there q in
           let mid = g.U.UnitSink.units h w.put.new.self in
           let next : (c.args.mcu + 1) * per + j ≡ at + (count + j) = omega (arith, add-mul c.args.mcu 1 per, whole) in
+          let one : mid ≡ set us (at + j) (f j) = search (rules, w.put.ensures.put, e) in
+          let two : g.U.UnitSink.units h w.put-then-count-j.new.self ≡ set mid ((c.args.mcu + 1) * per + j) (f (count + j)) = search (rules, w.put-then-count-j.ensures.put, d) in
           let second : w.put-then-count-j.new.self ≡ c.if-count-j.units = sym w.units-is in
           record {
             room = subst (g.U.UnitSink.has_room h) second w.put-then-count-j.ensures.room;
-            stand = put_two f at count (length zs) j old us stand mid (g.U.UnitSink.units h c.if-count-j.units) ((c.args.mcu + 1) * per + j) (w.put.ensures.put ∙ ap (λ x. set us (at + j) x) e)
-                (ap (λ u. g.U.UnitSink.units h u) w.units-is ∙ w.put-then-count-j.ensures.put ∙ ap (λ x. set mid ((c.args.mcu + 1) * per + j) x) d) next low (omega (arith, next, c.requires.inside, stand.long, more));
+            stand = put_two f at count (length zs) j old us stand mid (g.U.UnitSink.units h c.if-count-j.units) ((c.args.mcu + 1) * per + j) one
+                (ap (λ u. g.U.UnitSink.units h u) w.units-is ∙ two) next low (omega (arith, next, c.requires.inside, stand.long, more));
           }
       | else-count-j w ↦
           let e : w.transform_one.result ≡ f j = w.transform_one.ensures ∙ unit_is h zs j j _ _ inside w.index-blocks-j-else-count-j.is here q in
