@@ -18,6 +18,7 @@ returns-clause-put c =
     let was : c.deref_mut.result.now ≡ old = c.deref_mut.ensures.value in
     let before : old ≡ c.args.self.now.groups = ap (λ (v : RowLinesValue). v.groups) c.self.view_is in
     let inside : at < mcus_across h * blocks_of h = omega (arith, c.requires.inside, units_long h c.args.self.now.groups) in
+    let here : unit_in h new c.args.mcu c.args.j ≡ c.args.samples.now = search (rules, c.put_unit.ensures.here) in
     ap (units_in h) back
-    ∙ one_put h c.args.mcu c.args.j new old c.args.samples.now inside c.requires.unit c.put_unit.ensures.here (λ n i ln li apart. c.put_unit.ensures.others n i ln li apart ∙ ap (λ g. unit_in h g n i) was)
+    ∙ one_put h c.args.mcu c.args.j new old c.args.samples.now inside c.requires.unit here (λ n i ln li apart. c.put_unit.ensures.others n i ln li apart ∙ ap (λ g. unit_in h g n i) was)
     ∙ ap (λ g. set (units_in h g) at c.args.samples.now) before
