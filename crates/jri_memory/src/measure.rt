@@ -10,7 +10,6 @@ ghost use Rattle.jri_memory.specs.Calls.{TellsNoHead, detail_of, picture_size};
 use crate::report::detail;
 use crate::room::bytes_of_picture;
 use jr_head::{Head, Kind, Refusal};
-use jr_scan::interval_count;
 
 /// What a file's head says of its picture, or the refusal's numbers, and 0 for all else.
 #[repr(C)]
@@ -93,7 +92,7 @@ impl Measure {
             height: head.height(),
             kind: number_of_kind(head.kind()),
             components: head.components(),
-            intervals: interval_count(head),
+            intervals: head.intervals(),
             pixels: bytes_of_picture(head) as u64,
             ..Measure::empty()
         }

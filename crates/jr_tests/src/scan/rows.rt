@@ -2,7 +2,7 @@
 
 use super::{blocks_of, front_of};
 use jr_block::Coefficients;
-use jr_scan::{Block, Interval, McuReader, Place, Scan, ScanEnd, interval_count};
+use jr_scan::{Block, Interval, McuReader, Place, Scan, ScanEnd};
 use std::alloc::Global;
 use std::process::Abort;
 use std::test::Fail;
@@ -56,7 +56,7 @@ fn check_intervals(
 /// Whether a scan has so many intervals, and ends so.
 fn is_cut(scan: &Scan, intervals: usize, ended: ScanEnd) -> bool {
     let count = scan.intervals();
-    count as usize == intervals && interval_count(scan.head()) == count && scan.ended() == ended
+    count as usize == intervals && scan.head().intervals() == count && scan.ended() == ended
 }
 
 /// Whether the scan is the same that is cut in the memory of the file.
