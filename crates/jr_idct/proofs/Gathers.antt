@@ -1,5 +1,5 @@
 -- Bytes of two blocks, each gathered.
-use Rattle.std.proofs.Common.{◌≡◌, ℕ, zero, suc, ◌+◌, ◌-◌, ◌*◌, ◌/◌, ◌%◌, ◌<◌, ◌++◌, Bool, true, false, cond, inl, inr, List, [], ◌∷◌, length, get_or, refl, arith, subst, sym, ◌∙◌, ap, ap₂}
+use Rattle.std.proofs.Common.{◌≡◌, ℕ, zero, suc, ◌+◌, ◌-◌, ◌/◌, ◌%◌, ◌<◌, ◌++◌, Bool, true, false, cond, inl, inr, List, [], ◌∷◌, length, get_or, refl, arith, subst, sym, ◌∙◌, ap, ap₂}
 use Rattle.std.specs.List.{range_with_len}
 use Rattle.std.specs.Prelude.{slice_index, slice_index_or}
 use Rattle.std.specs.Simd.Lanes.{pick_l}
@@ -39,28 +39,6 @@ of_whole false a b =
 pub half_taken : (s : Bool) (a b : List ℕ) → length a ≡ 32 → length b ≡ 32 → Halves s a b
 half_taken s a b p q =
     subst (λ z. Halves s a z) (pick_l_whole 0 b 32 q) (subst (λ z. Halves s z (whole b)) (pick_l_whole 0 a 32 p) (of_whole s a b))
-
--- where the bytes of two rows of both blocks stand
-abbrev pub order : List ℕ
-order =
-    0 ∷ 1 ∷ 2 ∷ 3 ∷ 4 ∷ 5 ∷ 6 ∷ 7 ∷ 16 ∷ 17 ∷ 18 ∷ 19 ∷ 20 ∷ 21 ∷ 22 ∷ 23
-    ∷ 8 ∷ 9 ∷ 10 ∷ 11 ∷ 12 ∷ 13 ∷ 14 ∷ 15 ∷ 24 ∷ 25 ∷ 26 ∷ 27 ∷ 28 ∷ 29 ∷ 30 ∷ 31 ∷ []
-
-abbrev TwoRows : List ℕ → List ℕ → Type 0
-TwoRows a b = (q : ℕ) → q < 32 → get_or (pick_l 0 (a ++ b) order) q 0 ≡ get_or (get_or (a ∷ b ∷ []) (q / 8 % 2) []) (8 * (q / 16) + q % 8) 0
-
-abbrev row : List ℕ → List ℕ
-row a = pick_l 0 a (range_with_len 0 16)
-
-of_rows : (a b : List ℕ) → TwoRows (row a) (row b)
-of_rows a b =
-    below_thirty_two _
-    (below_sixteen (λ q. get_or (pick_l 0 (row a ++ row b) order) q 0 ≡ get_or (get_or (row a ∷ row b ∷ []) (q / 8 % 2) []) (8 * (q / 16) + q % 8) 0) refl refl refl refl refl refl refl refl refl refl refl refl refl refl refl refl)
-    (below_sixteen (λ k. get_or (pick_l 0 (row a ++ row b) order) (16 + k) 0 ≡ get_or (get_or (row a ∷ row b ∷ []) ((16 + k) / 8 % 2) []) (8 * ((16 + k) / 16) + (16 + k) % 8) 0) refl refl refl refl refl refl refl refl refl refl refl refl refl refl refl refl)
-
-pub rows_taken : (a b : List ℕ) → length a ≡ 16 → length b ≡ 16 → TwoRows a b
-rows_taken a b p q =
-    subst (λ z. TwoRows a z) (pick_l_whole 0 b 16 q) (subst (λ z. TwoRows z (row b)) (pick_l_whole 0 a 16 p) (of_rows a b))
 
 -- two vectors, one after the other
 pub all_of : (u l : List ℕ) → length u ≡ 32 → length l ≡ 32 → pick_l 0 (u ++ l) (range_with_len 0 64) ≡ u ++ l

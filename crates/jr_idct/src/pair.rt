@@ -61,31 +61,21 @@ fn row(a: &[i16; 64], b: &[i16; 64], r: usize) -> i16x16
     )
 }
 
-/// The nearest bytes to a row of both blocks.
-#[inline(always)]
-fn bytes(row: i16x16) -> u8x16
-    ensures { (p : ℕ) → p < 16 → slice_index result p ≡ byte_of (at row p) }
-{
-    row.simd_max(Simd::splat(0))
-        .simd_min(Simd::splat(255))
-        .cast::<u8>()
-}
-
-/// The nearest bytes to two rows of both blocks: those of the first block, then those of the second. Each row is narrowed
-/// before the two are put together, so that one instruction does all of it.
+/// The nearest bytes to two rows of both blocks: those of the first block, then those of the second.
 #[inline(always)]
 fn two_rows(first: i16x16, second: i16x16) -> u8x32
     ensures { (q : ℕ) → q < 32 → slice_index result q ≡ byte_of (lane (first ∷ second ∷ []) (q / 8 % 2) (8 * (q / 16) + q % 8)) }
 {
-    let low = bytes(first);
-    let high = bytes(second);
-    low.shuffle(
-        high,
+    let both: Simd<i16, 32> = first.shuffle(
+        second,
         [
             0, 1, 2, 3, 4, 5, 6, 7, 16, 17, 18, 19, 20, 21, 22, 23, 8, 9, 10, 11, 12, 13, 14, 15,
             24, 25, 26, 27, 28, 29, 30, 31,
         ],
-    )
+    );
+    both.simd_max(Simd::splat(0))
+        .simd_min(Simd::splat(255))
+        .cast::<u8>()
 }
 
 /// The first or the second halves of two vectors.
