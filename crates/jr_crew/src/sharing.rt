@@ -31,7 +31,8 @@ use std::marker::Brand;
 use std::sync::Wait;
 use std::thread::Threads;
 
-/// So many benches for each thread: one that it works at, and one that waits to be painted or written.
+/// So many benches for each thread, where there are as many rows: one that it works at, and one that waits to be painted or
+/// written.
 const BENCHES_OF_ONE: u32 = 2;
 
 /// So many benches.
@@ -145,7 +146,10 @@ fn write_as<R: Threads + Wait + Sync, W: Write, G: Gate + Sync, S: OneFirstInter
     each_interval_has_an_outcome();
     let (scan, limit) = (part.scan(), part.limit());
     scan.head().be_lawful();
-    let Ok(queue) = open_queue::<S>(alloc, &part, BENCHES_OF_ONE * workers) else {
+    let rows = scan.head().mcus_down();
+    let workers = workers.min(rows);
+    let benches = rows.min(BENCHES_OF_ONE * workers);
+    let Ok(queue) = open_queue::<S>(alloc, &part, benches) else {
         return Err(PictureError::Memory);
     };
     let Ok(room) = PaintRoom::open(alloc, &part) else {
@@ -166,8 +170,8 @@ fn write_as<R: Threads + Wait + Sync, W: Write, G: Gate + Sync, S: OneFirstInter
 
 /// Decodes the first intervals of a scan, or all, by so many workers (1 to 64), and writes its picture, a row of MCUs after
 /// the other. The calling thread is one of them, and writes. It takes all memory that it needs before it writes the first
-/// byte: for two rows of MCUs of each worker, and none for the picture. The gate is told each interval that is decoded; no
-/// piece is made.
+/// byte: for two rows of MCUs of each worker, or for those that there are, and none for the picture. No more threads work than
+/// there are rows. The gate is told each interval that is decoded; no piece is made.
 ///
 /// Where a row has whole intervals, each worker reads its rows by itself; else one reads row after row, and the others
 /// paint what it has read.

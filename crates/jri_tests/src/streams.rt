@@ -117,6 +117,7 @@ fn check_crews<R: Threads + Wait + Sync + AllocGlobal + Abort>(
         crewed(rt, scan, 1, first)?,
         crewed(rt, scan, 2, first)?,
         crewed(rt, scan, 5, first)?,
+        crewed(rt, scan, 64, first)?,
     ];
     for crew in crews {
         let is_same = one.text == crew.text && one.counts == crew.counts;
