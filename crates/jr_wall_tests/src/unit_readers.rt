@@ -34,10 +34,10 @@ fn fill(reader: &mut UnitReader<'_>, mcus: u32, row: &mut Row) -> Result<usize, 
     let mcus = mcus.min(reader.left());
     let per_mcu = reader.interval().head().order().len();
     let count = (mcus as usize).checked_mul(per_mcu).ok_or("a long row")?;
-    if count > row.len() {
+    let mut room: [Coefficients; 30] = array::from_fn(|_| old_block());
+    if count > row.len().min(room.len()) {
         return Err(Fail::from("a long row"));
     }
-    let mut room: [Coefficients; 30] = array::from_fn(|_| old_block());
     let blocks = &mut room[..count];
     reader.read(mcus, blocks);
     transform_blocks(reader.interval().head(), 0, blocks, row);
