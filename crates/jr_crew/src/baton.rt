@@ -1,11 +1,13 @@
 //! Who reads next.
 
 ghost use Rattle.std.specs.Prelude.{◌≡◌, Some};
+ghost use Rattle.jr_crew.specs.Crew.{AreGuesses};
 
 use crate::bench::{Bench, CodedRow};
 use crate::one_first_intervals::OneFirstIntervals;
 use jr_picture::Gate;
 use jr_rows::{FirstIntervals, Rows, intervals_of_row, shape_of};
+use jr_scan::Guesses;
 use jr_stream::announce;
 use std::marker::{Model, PhantomData};
 
@@ -65,6 +67,52 @@ impl<'a, S: OneFirstIntervals> Baton<'a, S> {
             return None;
         }
         baton_over(part, Rows::from(part, row, intervals))
+    }
+
+    /// Where the next row starts: the number of its interval, and the bit.
+    pub(crate) fn next_start(&self) -> (u32, u64) {
+        self.rows.next_start()
+    }
+
+    /// The same rows, which go over these guesses.
+    pub(crate) fn with_guesses(
+        self,
+        part: &FirstIntervals<'a>,
+        number: u32,
+        guesses: Guesses<'a>,
+    ) -> Baton<'a, S>
+        requires part { S.part ≡ Some part.now }
+        requires guesses { AreGuesses S.part number guesses.entry }
+    {
+        let mut rows = self.rows;
+        rows.set_guesses(number, guesses);
+        Baton {
+            rows,
+            of: PhantomData,
+        }
+    }
+
+    /// Tells the gate of the intervals that begin in the next row, and passes over it: answers the rows from it on, and those
+    /// behind it.
+    pub(crate) fn pass<G: Gate>(
+        self,
+        part: &FirstIntervals<'a>,
+        gate: &G,
+    ) -> (Baton<'a, S>, Option<Baton<'a, S>>)
+        requires { S.part ≡ Some part.now }
+    {
+        let mut rows = self.rows.again();
+        announce(part.scan(), part.limit(), rows.row(), gate);
+        rows.pass();
+        (self, baton_over(part, rows))
+    }
+
+    /// Reads the next row, of whose intervals the gate was told.
+    pub(crate) fn read_passed(self, part: &FirstIntervals<'a>, bench: Bench<S>) -> CodedRow<S>
+        requires { S.part ≡ Some part.now }
+    {
+        let mut rows = self.rows;
+        bench.read(part, &mut rows)
     }
 
     /// Tells the gate of the intervals that begin in the next row, and reads it: answers it with those behind it.

@@ -6,11 +6,15 @@ use crate::baton::Baton;
 use crate::bench::{Bench, CodedRow, Painted};
 use crate::one_first_intervals::OneFirstIntervals;
 use crate::paint_room::PaintRoom;
-use crate::row_queue::{RowQueue, RowTask, Waiter};
+use crate::part_guess::{PartGuess, Window};
+use crate::row_queue::{PassedRow, RowQueue, RowTask, Waiter};
 use jr_picture::Gate;
-use jr_rows::{FirstIntervals, intervals_of_row, shape_of};
+use jr_rows::{FirstIntervals, intervals_of_row};
 use std::marker::Model;
 use std::sync::{Condvar, Mutex, Wait};
+
+/// More tasks than there are: a row has three at most, and each guess covers bits that no other does.
+pub(crate) const MOST_TASKS: u64 = u64::MAX;
 
 /// What the threads share.
 ///
@@ -61,18 +65,13 @@ impl<'a, S: OneFirstIntervals> Crew<'a, S> {
         &self.part
     }
 
-    /// As many tasks there are at most: each row is read, and painted.
-    pub(crate) fn most_tasks(&self) -> u32 {
-        2 * shape_of(self.part.scan().head()).down
-    }
-
     /// What a thread does next, once there is something. None where nothing is left.
     fn task<R: Wait>(&self, rt: &R) -> Option<RowTask<'a, S>> {
         let mut queue = self.queue.lock(rt);
         queue.begin_waiting();
         let mut queue = self
             .has_task
-            .wait_while(rt, queue, |queue| queue.has_no_task());
+            .wait_while(rt, queue, |queue| queue.has_no_task(&self.part));
         queue.end_waiting();
         queue.task(&self.part)
     }
@@ -83,7 +82,9 @@ impl<'a, S: OneFirstIntervals> Crew<'a, S> {
         queue.set_awaited(Some(row));
         let mut queue = self
             .has_row
-            .wait_while(rt, queue, |queue| !queue.has(row) && queue.has_no_task());
+            .wait_while(rt, queue, |queue| {
+                !queue.has(row) && queue.has_no_task(&self.part)
+            });
         queue.set_awaited(None);
         if queue.has(row) {
             return None;
@@ -114,11 +115,31 @@ impl<'a, S: OneFirstIntervals> Crew<'a, S> {
             return self.paint(rt, coded, room);
         }
         let waiter = self.queue.lock(rt).put_coded(coded, behind);
+        self.wake(waiter);
+    }
+
+    /// Wakes who waits for something to do.
+    fn wake(&self, waiter: Option<Waiter>) {
         match waiter {
             Some(Waiter::Worker) => self.has_task.notify_one(),
             Some(Waiter::Caller) => self.has_row.notify_one(),
             None => (),
         }
+    }
+
+    /// Passes over a row; it waits for whoever is free.
+    fn pass<R: Wait, G: Gate>(&self, rt: &R, gate: &G, baton: Baton<'a, S>, bench: Bench<S>) {
+        let (baton, behind) = baton.pass(&self.part, gate);
+        let passed = PassedRow { baton, bench };
+        let waiter = self.queue.lock(rt).put_passed(passed, behind);
+        self.wake(waiter);
+    }
+
+    /// Makes a guess.
+    fn guess<R: Wait>(&self, rt: &R, place: usize, window: Window, guess: PartGuess<'a, S>) {
+        let guess = guess.read(&self.part, window);
+        let waiter = self.queue.lock(rt).put_guess(place, guess);
+        self.wake(waiter);
     }
 
     /// Does what is to be done.
@@ -131,14 +152,20 @@ impl<'a, S: OneFirstIntervals> Crew<'a, S> {
     ) {
         match task {
             RowTask::Read(baton, bench) => self.read(rt, gate, baton, bench, room),
+            RowTask::Pass(baton, bench) => self.pass(rt, gate, baton, bench),
+            RowTask::Finish(row) => {
+                let coded = row.baton.read_passed(&self.part, row.bench);
+                self.paint(rt, coded, room);
+            }
             RowTask::Paint(coded) => self.paint(rt, coded, room),
+            RowTask::Guess(place, window, guess) => self.guess(rt, place, window, guess),
         }
     }
 
     /// Reads and paints rows until no one is left; the thread paints by this room.
     pub(crate) fn work<R: Wait, G: Gate>(&self, rt: &R, gate: &G, room: PaintRoom<S>) {
         let mut room = room;
-        for _ in 0..self.most_tasks() {
+        for _ in 0..MOST_TASKS {
             let Some(task) = self.task(rt) else {
                 return;
             };

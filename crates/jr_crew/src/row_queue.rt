@@ -5,7 +5,9 @@ ghost use Rattle.jr_crew.specs.Crew.{HasRow};
 
 use crate::baton::Baton;
 use crate::bench::{Bench, CodedRow, Painted};
+use crate::guess_queue::GuessQueue;
 use crate::one_first_intervals::OneFirstIntervals;
+use crate::part_guess::{PartGuess, Window};
 use jr_rows::FirstIntervals;
 use std::collections::VecDeque;
 
@@ -14,8 +16,35 @@ use std::collections::VecDeque;
 pub(crate) enum RowTask<'a, S: OneFirstIntervals> {
     /// Reads the next row.
     Read(Baton<'a, S>, Bench<S>),
+    /// Passes over the next row, so that another thread can read it while the rows behind it are passed over.
+    Pass(Baton<'a, S>, Bench<S>),
+    /// Reads and paints a row that was passed over.
+    Finish(PassedRow<'a, S>),
     /// Paints a row that is read.
     Paint(CodedRow<S>),
+    /// Makes a guess of these bits, which has this place.
+    Guess(usize, Window, PartGuess<'a, S>),
+}
+
+/// A row that was passed over, and what it will be read on: so it needs nothing that a later row could take.
+#[derive(Drop)]
+pub(crate) struct PassedRow<'a, S: OneFirstIntervals> {
+    pub(crate) baton: Baton<'a, S>,
+    pub(crate) bench: Bench<S>,
+}
+
+/// What a thread can do next.
+#[derive(Clone, Copy, PartialEq, Eq)]
+enum Choice {
+    Read,
+    Pass,
+    Finish,
+    Paint,
+    Guess,
+    /// Others read, paint or write what comes before.
+    Wait,
+    /// All is over.
+    End,
 }
 
 /// Who is woken for a row that is read.
@@ -36,6 +65,9 @@ pub(crate) struct RowQueue<'a, S: OneFirstIntervals> {
     /// Nothing is read or painted any more.
     is_over: bool,
     free: Vec<Bench<S>>,
+    guesses: GuessQueue<'a, S>,
+    /// In their order.
+    passed: VecDeque<PassedRow<'a, S>>,
     /// In their order.
     coded: VecDeque<CodedRow<S>>,
     /// Each row's place is its number modulo how many there are: as many as benches.
@@ -48,10 +80,12 @@ pub(crate) struct RowQueue<'a, S: OneFirstIntervals> {
 }
 
 impl<'a, S: OneFirstIntervals> RowQueue<'a, S> {
-    /// No row is read yet. There is room for as many coded and painted rows as there are benches.
+    /// No row is read yet. There is room for as many passed, coded and painted rows as there are benches.
     pub(crate) fn of(
         baton: Option<Baton<'a, S>>,
         free: Vec<Bench<S>>,
+        guesses: GuessQueue<'a, S>,
+        passed: VecDeque<PassedRow<'a, S>>,
         coded: VecDeque<CodedRow<S>>,
         painted: Vec<Option<Painted<S>>>,
     ) -> RowQueue<'a, S>
@@ -61,6 +95,8 @@ impl<'a, S: OneFirstIntervals> RowQueue<'a, S> {
             baton,
             is_over: false,
             free,
+            guesses,
+            passed,
             coded,
             painted,
             waiting: 0,
@@ -90,24 +126,102 @@ impl<'a, S: OneFirstIntervals> RowQueue<'a, S> {
         self.awaited = row;
     }
 
-    /// Whether a thread has to wait for what others read, paint or write.
-    pub(crate) fn has_no_task(&self) -> bool {
-        let can_read = self.baton.is_some() && !self.free.is_empty();
-        !self.is_over && !can_read && self.coded.is_empty()
+    /// What a thread does next: it passes over a row, or reads one, where it can, so that reading goes on, finishes one where it
+    /// can't, and makes a guess where nothing else is to be done. A row at whose start a guess is being made waits for it.
+    fn choice(&self, part: &FirstIntervals<'a>) -> Choice {
+        let can_begin = self.baton.is_some() && !self.free.is_empty() && !self.guesses.makes_next();
+        if self.is_over {
+            Choice::End
+        } else if can_begin && self.guesses.has_next() {
+            Choice::Pass
+        } else if can_begin {
+            Choice::Read
+        } else if !self.passed.is_empty() {
+            Choice::Finish
+        } else if !self.coded.is_empty() {
+            Choice::Paint
+        } else if self.guesses.can_guess(part) {
+            Choice::Guess
+        } else {
+            Choice::Wait
+        }
     }
 
-    /// What a thread does next: it reads where it can, so that reading goes on, and paints where it can't.
+    /// Whether a thread has to wait for what others read, paint or write.
+    pub(crate) fn has_no_task(&self, part: &FirstIntervals<'a>) -> bool {
+        self.choice(part) == Choice::Wait
+    }
+
+    /// The rows that come next, with the guesses for the first of them, and a bench for it.
+    fn begin(&mut self, part: &FirstIntervals<'a>) -> Option<(Baton<'a, S>, Bench<S>)>
+        requires { S.part ≡ Some part.now }
+    {
+        let baton = self.baton.take()?;
+        let bench = self.free.pop()?;
+        self.baton = baton.behind(part);
+        let (number, _bit) = self.guesses.next_row();
+        let guesses = self.guesses.for_next(part);
+        Some((baton.with_guesses(part, number, guesses), bench))
+    }
+
+    /// What a thread does next. None where it has to wait, or all is over.
     pub(crate) fn task(&mut self, part: &FirstIntervals<'a>) -> Option<RowTask<'a, S>>
         requires { S.part ≡ Some part.now }
     {
-        if !self.free.is_empty()
-            && let Some(baton) = self.baton.take()
-            && let Some(bench) = self.free.pop()
-        {
-            self.baton = baton.behind(part);
-            return Some(RowTask::Read(baton, bench));
+        match self.choice(part) {
+            Choice::Read => {
+                let (baton, bench) = self.begin(part)?;
+                Some(RowTask::Read(baton, bench))
+            }
+            Choice::Pass => {
+                let (baton, bench) = self.begin(part)?;
+                Some(RowTask::Pass(baton, bench))
+            }
+            Choice::Finish => Some(RowTask::Finish(self.passed.pop_front()?)),
+            Choice::Paint => Some(RowTask::Paint(self.coded.pop_front()?)),
+            Choice::Guess => {
+                let (place, window, guess) = self.guesses.take(part)?;
+                Some(RowTask::Guess(place, window, guess))
+            }
+            Choice::Wait | Choice::End => None,
         }
-        Some(RowTask::Paint(self.coded.pop_front()?))
+    }
+
+    /// The rows behind those that are begun. Answers who is to be woken, since something can be done now.
+    fn go_on(&mut self, behind: Option<Baton<'a, S>>) -> Option<Waiter> {
+        self.guesses.reach(match &behind {
+            Some(baton) => baton.next_start(),
+            None => (u32::MAX, 0),
+        });
+        self.baton = behind;
+        self.waiter()
+    }
+
+    /// Who is to be woken where something can be done.
+    fn waiter(&self) -> Option<Waiter> {
+        if self.is_waited_for() {
+            return Some(Waiter::Worker);
+        }
+        self.awaited.map(|_row| Waiter::Caller)
+    }
+
+    /// Keeps a row that was passed over, and the rows behind it. Answers who is to be woken.
+    pub(crate) fn put_passed(
+        &mut self,
+        passed: PassedRow<'a, S>,
+        behind: Option<Baton<'a, S>>,
+    ) -> Option<Waiter> {
+        if self.is_over {
+            return None;
+        }
+        let _ = self.passed.push_back(passed);
+        self.go_on(behind)
+    }
+
+    /// Keeps a guess in its place. Answers who is to be woken, since a row may have waited for it.
+    pub(crate) fn put_guess(&mut self, place: usize, guess: PartGuess<'a, S>) -> Option<Waiter> {
+        self.guesses.put(place, guess);
+        self.waiter()
     }
 
     /// Keeps a row that is read, and the rows behind it. Answers who is to be woken, so that somebody paints it.
@@ -120,11 +234,7 @@ impl<'a, S: OneFirstIntervals> RowQueue<'a, S> {
             return None;
         }
         let _ = self.coded.push_back(coded);
-        self.baton = behind;
-        if self.is_waited_for() {
-            return Some(Waiter::Worker);
-        }
-        self.awaited.map(|_row| Waiter::Caller)
+        self.go_on(behind)
     }
 
     /// Whether a row is painted.
@@ -165,6 +275,7 @@ impl<'a, S: OneFirstIntervals> RowQueue<'a, S> {
     pub(crate) fn end(&mut self) {
         self.is_over = true;
         self.baton = None;
+        self.passed.clear();
         self.coded.clear();
     }
 }

@@ -14,14 +14,16 @@ use crate::baton::Baton;
 use crate::bench::{Bench, Painted};
 use crate::beside::run_beside;
 use crate::crew::Crew;
+use crate::guess_queue::{GuessQueue, GuessSlot};
 use crate::one_first_intervals::OneFirstIntervals;
 use crate::paint_room::PaintRoom;
+use crate::part_guess::PartGuess;
 use crate::row_queue::RowQueue;
 use crate::sending::Sending;
 use jr_base::{Memory, Tally, WriteFault};
 use jr_picture::{Counts, Gate};
 use jr_piece::each_interval_has_an_outcome;
-use jr_rows::{FirstIntervals, Marked, room_for};
+use jr_rows::{FirstIntervals, Marked, intervals_of_row, room_for, shape_of};
 use jr_scan::Scan;
 use jr_stream::{PictureError, counts_of};
 use std::alloc::Global;
@@ -34,6 +36,12 @@ use std::thread::Threads;
 /// So many benches for each thread, where there are as many rows: one that it works at, and one that waits to be painted or
 /// written.
 const BENCHES_OF_ONE: u32 = 2;
+
+/// A guess has room for the MCUs of so many rows, since its bits are about those of one.
+const ROWS_OF_GUESS: u32 = 2;
+
+/// A guess has room for so many MCUs at least.
+const LEAST_MCUS: u32 = 512;
 
 /// So many benches.
 fn open_benches<S: OneFirstIntervals>(
@@ -65,6 +73,24 @@ fn open_places<S: OneFirstIntervals>(
     Ok(places)
 }
 
+/// So many guesses, where a row is not a whole interval.
+fn open_guesses<'a, S: OneFirstIntervals>(
+    alloc: Global,
+    part: &FirstIntervals<'a>,
+    count: u32,
+) -> Result<GuessQueue<'a, S>, Memory>
+    requires { S.part ≡ Some part.now }
+{
+    let head = part.scan().head();
+    let count = if intervals_of_row(head).is_some() { 0 } else { count };
+    let most = (ROWS_OF_GUESS * shape_of(head).across).max(LEAST_MCUS);
+    let mut slots = Vec::with_capacity(alloc, count as usize)?;
+    for _ in 0..count {
+        slots.push(GuessSlot::of(PartGuess::open(alloc, part, most)?))?;
+    }
+    Ok(GuessQueue::of(part.scan(), slots))
+}
+
 /// A queue of so many benches.
 fn open_queue<'a, S: OneFirstIntervals>(
     alloc: Global,
@@ -74,9 +100,18 @@ fn open_queue<'a, S: OneFirstIntervals>(
     requires { S.part ≡ Some part.now }
 {
     let free = open_benches(alloc, part, count)?;
+    let guesses = open_guesses(alloc, part, count)?;
+    let passed = VecDeque::with_capacity(alloc, count as usize)?;
     let coded = VecDeque::with_capacity(alloc, count as usize)?;
     let painted = open_places(alloc, count)?;
-    Ok(RowQueue::of(Baton::of(part), free, coded, painted))
+    Ok(RowQueue::of(
+        Baton::of(part),
+        free,
+        guesses,
+        passed,
+        coded,
+        painted,
+    ))
 }
 
 /// Room for painting, for so many threads.

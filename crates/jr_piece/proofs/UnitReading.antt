@@ -86,6 +86,36 @@ all_read r left kept all = elim kept.stands [
   | inr stuck ↦ stuck.1
 ]
 
+-- where so many MCUs are asked for, r' stands n of them behind r
+pub record MovedOn (r r' : McuReaderValue) (left mcus n : ℕ) : Type 0 where
+  pub kept : IsUnitReader r left
+  pub few : mcus ≤ left
+  pub run : r'.run ≡ r.run
+  pub mcu : r'.mcu ≡ r.mcu + n
+  pub most : n ≤ mcus
+  pub blocks : List (List ℤ)
+  pub read : HasRead r' blocks
+  pub ended : n < mcus → HasEnded r'
+  pub stays : HasEnded r → r' ≡ r
+
+pub moved : (r r' : McuReaderValue) (left mcus n : ℕ) → MovedOn r r' left mcus n → IsUnitReader r' (left - mcus)
+moved r r' left mcus n on =
+    let i : r'.run.interval ≡ r.run.interval = ap (λ (o : RunOf). o.interval) on.run in
+    let all : r'.run.interval.mcus ≡ r.run.interval.mcus = ap (λ (v : IntervalValue). v.mcus) i in
+    let to : r'.run.interval.mcus - (left - mcus) ≡ (r.run.interval.mcus - left) + mcus = omega (arith, all, on.few, on.kept.few) in
+    record {
+      run = on.run ∙ on.kept.run ∙ ap whole_run (sym i);
+      few = omega (arith, all, on.kept.few);
+      blocks = on.blocks;
+      read = on.read;
+      stands = elim on.kept.stands [
+        | inl here ↦ elim (cases_lt n mcus) [ inl l ↦ inr (omega (arith, l, here, on.mcu, to), on.ended l) | inr g ↦ inl (omega (arith, g, on.most, here, on.mcu, to)) ]
+        | inr stuck ↦ let lt = stuck.0 in
+                      let none : n ≡ 0 = omega (arith, on.mcu, ap (λ (v : McuReaderValue). v.mcu) (on.stays stuck.1)) in
+                      inr (omega (arith, lt, none, on.mcu, to), subst HasEnded (sym (on.stays stuck.1)) stuck.1)
+      ];
+    }
+
 -- a row with room for so many MCUs, n of which r' has read there behind those of r
 pub record RowRead (r r' : McuReaderValue) (left mcus n : ℕ) (row : List (List ℤ)) : Type 0 where
   pub kept : IsUnitReader r left
@@ -123,20 +153,17 @@ module _ (r r' : McuReaderValue) (left mcus n : ℕ) (units : List (List ℤ)) (
   none_read stuck = omega (arith, row.mcu, ap (λ (v : McuReaderValue). v.mcu) (row.stays stuck))
 
   pub after : IsUnitReader r' (left - mcus)
-  after =
-      let i : r'.run.interval ≡ r.run.interval = ap (λ (o : RunOf). o.interval) row.run in
-      let all : r'.run.interval.mcus ≡ r.run.interval.mcus = ap (λ (v : IntervalValue). v.mcus) i in
-      let to : r'.run.interval.mcus - (left - mcus) ≡ first + mcus = omega (arith, all, row.few, row.kept.few) in
-      record {
-        run = row.run ∙ row.kept.run ∙ ap whole_run (sym i);
-        few = omega (arith, all, row.kept.few);
-        blocks = blocks;
-        read = row.read row.kept.blocks row.kept.read;
-        stands = elim row.kept.stands [
-          | inl here ↦ elim (cases_lt n mcus) [ inl l ↦ inr (omega (arith, l, here, row.mcu, to), stopped_early l) | inr g ↦ inl (omega (arith, g, most, here, row.mcu, to)) ]
-          | inr stuck ↦ let lt = stuck.0 in inr (omega (arith, lt, none_read stuck.1, row.mcu, to), subst HasEnded (sym (row.stays stuck.1)) stuck.1)
-        ];
-      }
+  after = moved r r' left mcus n (record {
+    kept = row.kept;
+    few = row.few;
+    run = row.run;
+    mcu = row.mcu;
+    most = most;
+    blocks = blocks;
+    read = row.read row.kept.blocks row.kept.read;
+    ended = stopped_early;
+    stays = row.stays;
+  })
 
   -- the row's blocks stand behind those before
   block_read : r.mcu ≡ first → (k : ℕ) → k < n * per → get_or units k [] ≡ get_or blocks (first * per + k) []

@@ -1,11 +1,12 @@
 //! The blocks of an interval, read in their order into slices.
 
 ghost use Rattle.std.specs.Prelude.{◌≡◌, ◌+◌, ◌*◌, ◌<◌, ◌≤◌, ℕ, [], length, slice_index_or};
+ghost use Rattle.jr_scan.specs.Guess.{AreGuessesOf};
 ghost use Rattle.jr_piece.specs.Units.{zero_block};
 
 use jr_block::Coefficients;
 use jr_idct::zeros_are_grey;
-use jr_scan::{IntervalRef, McuReader};
+use jr_scan::{Guesses, IntervalRef, McuReader};
 use std::marker::Model;
 
 /// Reads the blocks of an interval from its first MCU on, as many as are asked for at a time, and takes no memory.
@@ -15,18 +16,21 @@ use std::marker::Model;
 pub struct UnitReader<'a> {
     reader: McuReader<'a>,
     left: u32,
+    /// Of the same interval. They change nothing of what is read.
+    guesses: Guesses<'a>,
 }
 
 impl<'a> Model for UnitReader<'a> {
     ghost use Rattle.std.specs.Prelude.{◌-◌};
     ghost use Rattle.jr_piece.specs.UnitReaderValue.{UnitReaderValue};
+    ghost use Rattle.jr_scan.specs.Guess.{AreGuessesOf};
     ghost use Rattle.jr_piece.specs.Units.{IsUnitReader};
 
     ghost Value = { UnitReaderValue };
 
     ghost view = { λ r. record { interval = r.reader.run.interval; mcu = r.reader.run.interval.mcus - r.left } };
 
-    ghost invariant = { λ r. IsUnitReader r.reader r.left };
+    ghost invariant = { λ r. IsUnitReader r.reader r.left × AreGuessesOf r.reader.run.interval r.guesses };
 }
 
 /// Makes the blocks from one on zeros.
@@ -54,7 +58,11 @@ impl<'a> UnitReader<'a> {
     {
         let left = interval.mcus();
         let reader = McuReader::over(interval);
-        UnitReader { reader, left }
+        UnitReader {
+            reader,
+            left,
+            guesses: Guesses::none(),
+        }
     }
 
     /// The interval that it reads.
@@ -90,8 +98,41 @@ impl<'a> UnitReader<'a> {
     {
         zeros_are_grey();
         self.left -= mcus;
-        let whole = self.reader.read(blocks) as usize;
+        let whole = self.reader.read_by(&self.guesses, blocks) as usize;
         zero_from(blocks, whole * self.reader.interval().head().order().len());
+    }
+
+    /// Goes over these guesses from now on, in place of those before.
+    pub fn set_guesses(&mut self, guesses: Guesses<'a>)
+        requires { AreGuessesOf self.old.interval guesses }
+        ensures { self.new ≡ self.old }
+    {
+        self.guesses = guesses;
+    }
+
+    /// The bit at which the next MCU starts; where no further one follows it is of no use.
+    pub fn bit(&self) -> u64 {
+        self.reader.place().bit
+    }
+
+    /// Passes over the next MCUs, and keeps none of their blocks.
+    pub fn skip(&mut self, mcus: u32)
+        requires few { self.old.mcu + mcus ≤ self.old.interval.mcus }
+        ensures { self.new ≡ record self.old { mcu = self.old.mcu + mcus } }
+    {
+        self.left -= mcus;
+        let _whole = self.reader.skip_by(&self.guesses, mcus);
+    }
+
+    /// The same reader once more, which goes on from where this one stands.
+    pub fn again(&self) -> UnitReader<'a>
+        ensures { result ≡ self.now }
+    {
+        UnitReader {
+            reader: self.reader.again(),
+            left: self.left,
+            guesses: self.guesses.again(),
+        }
     }
 
     /// Whether the interval has a decoding, once all its MCUs are read.

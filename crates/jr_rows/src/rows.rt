@@ -2,7 +2,8 @@
 
 ghost use Rattle.std.specs.Prelude.{◌≡◌, ℕ, ◌+◌, ◌-◌, ◌*◌, ◌<◌, ◌≤◌, [], length, slice_index_or};
 ghost use Rattle.jr_head.specs.Geometry.{blocks_of, mcus_across, mcus_down, mcus_of};
-ghost use Rattle.jr_scan.specs.ScanValue.{intervals_of, mcus_in};
+ghost use Rattle.jr_scan.specs.Guess.{AreGuessesOf};
+ghost use Rattle.jr_scan.specs.ScanValue.{interval_of, intervals_of, mcus_in};
 ghost use Rattle.jr_picture.specs.Headline.{interval_number, within_interval};
 ghost use Rattle.jr_picture.specs.BoardValue.{BoardValue};
 ghost use Rattle.jr_rows.specs.Bands.{ShowsMcus};
@@ -19,7 +20,7 @@ use crate::shape::{coded_of_row, mcus_at_once, shape_of, units_to};
 use jr_block::Coefficients;
 use jr_head::Head;
 use jr_piece::{UnitReader, transform_blocks};
-use jr_scan::Scan;
+use jr_scan::{Guesses, Scan};
 use std::marker::Model;
 
 /// A scan, of whose first intervals MCU after MCU is read; the others are blank.
@@ -231,22 +232,61 @@ impl<'a> ScanMcus<'a> {
         marked
     }
 
-    /// Reads so many MCUs and keeps nothing of them. There is room for the blocks of `most` in `blocks`.
-    fn skip(&mut self, mcus: u32, most: u32, blocks: &mut [Coefficients])
+    /// Passes over the next MCUs, of one interval: answers how many.
+    fn pass_some(&mut self, most: u32) -> u32
         requires some { 0 < most }
+        requires few { mcus_read self.old + most ≤ mcus_before self.old.scan.head self.old.limit }
+        ensures some { 0 < result }
+        ensures few { result ≤ most }
+        ensures scan { self.new.scan ≡ self.old.scan }
+        ensures limit { self.new.limit ≡ self.old.limit }
+        ensures moved { mcus_read self.new ≡ mcus_read self.old + result }
+    {
+        let some = self.ready().min(most);
+        self.reader.skip(some);
+        some
+    }
+
+    /// Passes over so many MCUs, and keeps nothing of them.
+    fn pass(&mut self, mcus: u32)
         requires few { mcus_read self.old + mcus ≤ mcus_before self.old.scan.head self.old.limit }
-        requires room { length blocks.old ≡ most * blocks_of self.old.scan.head }
         ensures scan { self.new.scan ≡ self.old.scan }
         ensures limit { self.new.limit ≡ self.old.limit }
         ensures moved { mcus_read self.new ≡ mcus_read self.old + mcus }
     {
-        let per_mcu = self.scan.head().order().len();
         let mut left = mcus;
         'mcus: while left > 0 {
-            let some = left.min(most);
-            let end = units_to(some, most, per_mcu);
-            let _marked = self.read(some, &mut blocks[..end], &mut []);
-            left -= some;
+            left -= self.pass_some(left);
+        }
+    }
+
+    /// Where the next MCU starts: the number of its interval, and the bit.
+    fn next_start(&self) -> (u32, u64) {
+        if self.reader.left() == 0 {
+            return (self.number.saturating_add(1), 0);
+        }
+        (self.number, self.reader.bit())
+    }
+
+    /// Goes over these guesses of an interval, where it is the one that is read.
+    fn set_guesses(&mut self, number: u32, guesses: Guesses<'a>)
+        requires { AreGuessesOf (interval_of self.old.scan number) guesses.entry }
+        ensures { self.new ≡ self.old }
+    {
+        if number == self.number {
+            self.reader.set_guesses(guesses);
+        }
+    }
+
+    /// The same MCUs once more.
+    fn again(&self) -> ScanMcus<'a>
+        ensures { result ≡ self.now }
+    {
+        ScanMcus {
+            scan: self.scan,
+            limit: self.limit,
+            number: self.number,
+            reader: self.reader.again(),
         }
     }
 }
@@ -299,11 +339,9 @@ impl<'a> Rows<'a> {
         }
     }
 
-    /// The rows from this one on, where all intervals are decoded. What stands before it in its interval is read, some MCUs
-    /// at a time, by help of `blocks`.
-    pub(crate) fn at(scan: &'a Scan, row: u32, blocks: &mut [Coefficients]) -> Rows<'a>
+    /// The rows from this one on, where all intervals are decoded. What stands before it in its interval is passed over.
+    pub fn at(scan: &'a Scan, row: u32) -> Rows<'a>
         requires row { row < mcus_down scan.now.head }
-        requires near { length blocks.old ≡ mcus_at_once scan.now.head * blocks_of scan.now.head }
         ensures { result ≡ record { scan = scan.now; limit = length scan.now.intervals; row = row } }
     {
         // By its contract a picture has an MCU.
@@ -311,8 +349,44 @@ impl<'a> Rows<'a> {
         let across = shape_of(scan.head()).across;
         let (number, before) = scan.head().interval_with(row * across);
         let mut mcus = ScanMcus::of(scan, scan.intervals(), number);
-        mcus.skip(before, mcus_at_once(scan.head()), blocks);
+        mcus.pass(before);
         Rows { mcus, row }
+    }
+
+    /// The same rows once more.
+    pub fn again(&self) -> Rows<'a>
+        ensures { result ≡ self.now }
+    {
+        Rows {
+            mcus: self.mcus.again(),
+            row: self.row,
+        }
+    }
+
+    /// Where the next row starts: the number of its interval, and the bit.
+    pub fn next_start(&self) -> (u32, u64) {
+        self.mcus.next_start()
+    }
+
+    /// Goes over these guesses of an interval of the scan, where it is the one that is read. They change nothing of what is
+    /// read.
+    pub fn set_guesses(&mut self, number: u32, guesses: Guesses<'a>)
+        requires { AreGuessesOf (interval_of self.old.scan number) guesses.entry }
+        ensures { self.new ≡ self.old }
+    {
+        self.mcus.set_guesses(number, guesses);
+    }
+
+    /// Passes over the next row, and keeps nothing of it.
+    pub fn pass(&mut self)
+        requires row { self.old.row < mcus_down self.old.scan.head }
+        ensures moved { self.new ≡ record self.old { row = self.old.row + 1 } }
+    {
+        // By its contract a picture has so few rows that their numbers have room.
+        let _few = shape_of(self.head());
+        let coded = coded_of_row(self.mcus.scan, self.mcus.limit, self.row);
+        self.mcus.pass(coded);
+        self.row += 1;
     }
 
     /// The number of the row that comes next.

@@ -19,7 +19,6 @@ use jr_base::Memory;
 use jr_block::Coefficients;
 use jr_head::Head;
 use jr_paint::{line_room, paint_lines};
-use jr_scan::Scan;
 use std::alloc::Global;
 use std::marker::Model;
 
@@ -56,16 +55,6 @@ impl SampleRow {
             lines,
             room,
         })
-    }
-
-    /// The rows of MCUs of a scan from this one on, all of whose intervals are decoded.
-    pub fn rows_at<'a>(&mut self, scan: &'a Scan, row: u32) -> Rows<'a>
-        requires row { row < mcus_down scan.now.head }
-        requires room { HasSampleRoom scan.now.head self.old }
-        ensures room { HasSampleRoom scan.now.head self.new }
-        ensures rows { result ≡ record { scan = scan.now; limit = length scan.now.intervals; row = row } }
-    {
-        Rows::at(scan, row, &mut self.blocks)
     }
 
     /// Decodes the next row: answers the marks of the intervals that end in it, and puts them into `marks`, too.

@@ -4,6 +4,8 @@
 mod block;
 mod cut;
 mod front;
+mod guess;
+mod guesses;
 mod interval;
 mod interval_ref;
 mod laws;
@@ -16,6 +18,8 @@ mod span;
 mod unstuff;
 
 pub use front::FrontBlocks;
+pub use guess::Guess;
+pub use guesses::Guesses;
 pub use interval::{Block, Interval};
 pub use interval_ref::IntervalRef;
 pub use laws::{

@@ -4,7 +4,9 @@ ghost use Rattle.std.specs.Prelude.{◌≡◌, ◌<◌, ◌≤◌, ◌+◌, ◌*
 ghost use Rattle.std.specs.List.{All};
 ghost use Rattle.jr_code.specs.Bits.{bits};
 ghost use Rattle.jr_scan.specs.Block.{IsInDcRange, IsInRange};
+ghost use Rattle.jr_scan.specs.Guess.{AreGuessesOf};
 
+use crate::guesses::Guesses;
 use crate::interval_ref::IntervalRef;
 use crate::mcu::{read_mcu, skip_mcu};
 use crate::place::Place;
@@ -90,6 +92,20 @@ impl<'a> McuReader<'a> {
         }
     }
 
+    /// The same reader once more, which goes on from where this one stands.
+    pub fn again(&self) -> McuReader<'a>
+        ensures { result ≡ self.now }
+    {
+        McuReader {
+            interval: self.interval.again(),
+            from: self.from,
+            mcus: self.mcus,
+            bits: self.bits.again(),
+            predictions: self.predictions,
+            mcu: self.mcu,
+        }
+    }
+
     /// The interval that it reads.
     pub fn interval(&self) -> &IntervalRef<'a>
         ensures { result.now ≡ self.now.run.interval }
@@ -137,6 +153,37 @@ impl<'a> McuReader<'a> {
             };
         }
         most
+    }
+
+    /// `read`, which goes over a guess where one has an MCU that starts where the next one does.
+    pub fn read_by(&mut self, guesses: &Guesses<'_>, blocks: &mut [Coefficients]) -> u32
+        requires own { AreGuessesOf self.old.run.interval guesses.now }
+        ensures run { self.new.run ≡ self.old.run }
+        ensures mcus { self.new.mcu ≡ self.old.mcu + result }
+        ensures few { self.new.mcu ≤ self.new.run.mcus }
+        ensures fits { result * per_mcu self.old ≤ length blocks.new }
+        ensures read { (zs : List (List ℤ)) → HasRead self.old zs → HasRead self.new (zs ++ take (result * per_mcu self.old) blocks.new) }
+        ensures in_range { All IsInRange (take (result * per_mcu self.old) blocks.new) }
+        ensures ended { (result + 1) * per_mcu self.old ≤ length blocks.new → HasEnded self.new }
+        ensures stays { HasEnded self.old → self.new ≡ self.old }
+    {
+        let _guesses = guesses.again();
+        self.read(blocks)
+    }
+
+    /// `skip`, which goes over a guess where one has an MCU that starts where the next one does.
+    pub fn skip_by(&mut self, guesses: &Guesses<'_>, mcus: u32) -> u32
+        requires own { AreGuessesOf self.old.run.interval guesses.now }
+        ensures run { self.new.run ≡ self.old.run }
+        ensures mcus { self.new.mcu ≡ self.old.mcu + result }
+        ensures few { self.new.mcu ≤ self.new.run.mcus }
+        ensures most { result ≤ mcus }
+        ensures passed { (zs : List (List ℤ)) → HasRead self.old zs → (ys : List (List ℤ)) × (length ys ≡ result * per_mcu self.old) × All IsInRange ys × HasRead self.new (zs ++ ys) }
+        ensures ended { result < mcus → HasEnded self.new }
+        ensures stays { HasEnded self.old → self.new ≡ self.old }
+    {
+        let _guesses = guesses.again();
+        self.skip(mcus)
     }
 
     /// Passes over the next MCU. None where no whole one follows.

@@ -12,7 +12,7 @@ ghost use Rattle.jr_stream.specs.SomeLines.{CountsBetween, PaintsLines, row_behi
 use jr_base::Memory;
 use jr_head::Head;
 use jr_piece::each_interval_has_an_outcome;
-use jr_rows::{Marked, SampleRow, shape_of};
+use jr_rows::{Marked, Rows, SampleRow, shape_of};
 use jr_scan::Scan;
 use std::alloc::Global;
 
@@ -84,7 +84,7 @@ pub(crate) fn paint_between(
     let _intervals = scan.intervals();
     let line = shape_of(head).line;
     let (row, behind) = rows_of(head, first, end);
-    let mut rows = work.rows_at(scan, row);
+    let mut rows = Rows::at(scan, row);
     let mut marked = Marked::none();
     'rows: while rows.row() < behind {
         let row = rows.row();

@@ -26,9 +26,9 @@ rows-init c =
     let h = t.head in
     let starts : c.rows_of-row.result.0 * (8 * vertical_max h) ≤ c.args.first = search (rules, c.rows_of-row.ensures.starts) in
     let none : done_lines h c.args.first c.args.end c.rows_of-row.result.0 ≡ 0 = omega (arith, starts, c.requires.some) in
-    let at : c.rows_at-rows.result.row ≡ c.rows_of-row.result.0 = search rules in
-    let none_done : done_lines h c.args.first c.args.end c.rows_at-rows.result.row ≡ 0 = ap (done_lines h c.args.first c.args.end) at ∙ none in
-    let first_is : row_with h c.args.first ≡ c.rows_at-rows.result.row = search rules in
+    let at : c.at-rows.result.row ≡ c.rows_of-row.result.0 = search rules in
+    let none_done : done_lines h c.args.first c.args.end c.at-rows.result.row ≡ 0 = ap (done_lines h c.args.first c.args.end) at ∙ none in
+    let first_is : row_with h c.args.first ≡ c.at-rows.result.row = search rules in
     record {
       scan = search rules;
       limit = search rules;

@@ -7,7 +7,7 @@ pub returns : goal.returns
 returns c = λ p o same.
     let r = c.self.inside.reader in
     let i = r.run.interval in
-    let kept = c.self.invariant in
+    let kept = c.self.invariant.0 in
     let v = c.self.view_is in
     let all = ap (λ (u : UnitReaderValue). u.mcu) v ∙ c.requires ∙ ap (λ (u : UnitReaderValue). u.interval.mcus) (sym v) in
     let ended = all_read r c.self.inside.left kept all in

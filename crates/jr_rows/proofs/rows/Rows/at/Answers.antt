@@ -10,8 +10,8 @@ of-mcus-requires c =
     let there = mcu_there h (c.args.row * mcus_across h) (row_starts h c.args.row some c.requires.row) in
     search (rules, arith, there)
 
-pub skip-requires-clause-few : goal.skip-requires-clause-few
-skip-requires-clause-few c =
+pub pass-requires : goal.skip-requires-clause-few
+pass-requires c =
     let h = c.args.scan.now.head in
     let some : 0 < mcus_of h = search (rules, arith) in
     let starts = row_starts h c.args.row some c.requires.row in
