@@ -82,7 +82,7 @@ impl<'a, S: OneFirstIntervals> Baton<'a, S> {
         guesses: Guesses<'a>,
     ) -> Baton<'a, S>
         requires part { S.part ≡ Some part.now }
-        requires guesses { AreGuesses S.part number guesses.entry }
+        requires guesses { AreGuesses S.part number guesses }
     {
         let mut rows = self.rows;
         rows.set_guesses(number, guesses);

@@ -53,7 +53,7 @@ impl<'a, S: OneFirstIntervals> GuessSlot<'a, S> {
 
     /// These guesses of an interval, and the one that is here, where it is of the interval, too.
     fn put_into(&self, number: u32, guesses: Guesses<'a>) -> Guesses<'a>
-        requires { AreGuesses S.part number guesses.entry }
+        requires { AreGuesses S.part number guesses }
         ensures { AreGuesses S.part number result }
     {
         match &self.guess {

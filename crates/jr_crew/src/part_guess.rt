@@ -109,7 +109,7 @@ impl<'a, S: OneFirstIntervals> PartGuess<'a, S> {
 
     /// These guesses of an interval, and this one where it is of the interval, too.
     pub(crate) fn put_into(&self, number: u32, guesses: Guesses<'a>) -> Guesses<'a>
-        requires { AreGuesses S.part number guesses.entry }
+        requires { AreGuesses S.part number guesses }
         ensures { AreGuesses S.part number result }
     {
         if self.guess.number() != number {

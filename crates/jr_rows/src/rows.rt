@@ -270,7 +270,7 @@ impl<'a> ScanMcus<'a> {
 
     /// Goes over these guesses of an interval, where it is the one that is read.
     fn set_guesses(&mut self, number: u32, guesses: Guesses<'a>)
-        requires { AreGuessesOf (interval_of self.old.scan number) guesses.entry }
+        requires { AreGuessesOf (interval_of self.old.scan number) guesses }
         ensures { self.new ≡ self.old }
     {
         if number == self.number {
@@ -371,7 +371,7 @@ impl<'a> Rows<'a> {
     /// Goes over these guesses of an interval of the scan, where it is the one that is read. They change nothing of what is
     /// read.
     pub fn set_guesses(&mut self, number: u32, guesses: Guesses<'a>)
-        requires { AreGuessesOf (interval_of self.old.scan number) guesses.entry }
+        requires { AreGuessesOf (interval_of self.old.scan number) guesses }
         ensures { self.new ≡ self.old }
     {
         self.mcus.set_guesses(number, guesses);

@@ -10,7 +10,7 @@ of-mcus-requires c =
     let there = mcu_there h (c.args.row * mcus_across h) (row_starts h c.args.row some c.requires.row) in
     search (rules, arith, there)
 
-pub pass-requires : goal.skip-requires-clause-few
+pub pass-requires : goal.pass-requires
 pass-requires c =
     let h = c.args.scan.now.head in
     let some : 0 < mcus_of h = search (rules, arith) in
