@@ -71,7 +71,7 @@ impl<'a, S: OneFirstIntervals> Crew<'a, S> {
         queue.begin_waiting();
         let mut queue = self
             .has_task
-            .wait_while(rt, queue, |queue| queue.has_no_task(&self.part));
+            .wait_while(rt, queue, |queue| queue.has_no_task());
         queue.end_waiting();
         queue.task(&self.part)
     }
@@ -82,9 +82,7 @@ impl<'a, S: OneFirstIntervals> Crew<'a, S> {
         queue.set_awaited(Some(row));
         let mut queue = self
             .has_row
-            .wait_while(rt, queue, |queue| {
-                !queue.has(row) && queue.has_no_task(&self.part)
-            });
+            .wait_while(rt, queue, |queue| !queue.has(row) && queue.has_no_task());
         queue.set_awaited(None);
         if queue.has(row) {
             return None;

@@ -9,7 +9,7 @@ use jr_rows::{FirstIntervals, shape_of};
 use jr_scan::{Guesses, Scan};
 
 /// A guess covers so many bits at least, since it takes some until its MCUs are those of the picture.
-const LEAST_BITS: u64 = 32_768;
+pub(crate) const LEAST_BITS: u64 = 32_768;
 
 /// Room for a guess, and the bits that it covers.
 #[derive(Drop)]
@@ -66,6 +66,9 @@ impl<'a, S: OneFirstIntervals> GuessSlot<'a, S> {
 /// Guesses ahead of the row that is read next.
 #[derive(Drop)]
 pub(crate) struct GuessQueue<'a, S: OneFirstIntervals> {
+    scan: &'a Scan,
+    /// How many intervals are decoded.
+    limit: u32,
     slots: Vec<GuessSlot<'a, S>>,
     /// Where the row that is read next starts: its interval and its bit.
     at: (u32, u64),
@@ -77,10 +80,16 @@ pub(crate) struct GuessQueue<'a, S: OneFirstIntervals> {
 
 impl<'a, S: OneFirstIntervals> GuessQueue<'a, S> {
     /// No guess is made yet.
-    pub(crate) fn of(scan: &Scan, slots: Vec<GuessSlot<'a, S>>) -> GuessQueue<'a, S> {
+    pub(crate) fn of(
+        part: &FirstIntervals<'a>,
+        slots: Vec<GuessSlot<'a, S>>,
+    ) -> GuessQueue<'a, S> {
+        let scan = part.scan();
         let rows = u64::from(shape_of(scan.head()).down);
         let each = bits_of(scan, 0) / rows.max(1);
         GuessQueue {
+            scan,
+            limit: part.limit(),
             slots,
             at: (0, 0),
             next: (0, 0),
@@ -124,29 +133,29 @@ impl<'a, S: OneFirstIntervals> GuessQueue<'a, S> {
     }
 
     /// The bits of the next guess: behind those of the others, and behind the next row, which is read meanwhile.
-    fn next_window(&self, scan: &Scan, limit: u32) -> Option<Window> {
+    fn next_window(&self) -> Option<Window> {
         let (number, bit) = self.next.max((self.at.0, self.at.1.saturating_add(self.row_bits)));
-        let (number, from) = if bit < bits_of(scan, number) {
+        let (number, from) = if bit < bits_of(self.scan, number) {
             (number, bit)
         } else {
             (number.saturating_add(1), 0)
         };
-        if number >= limit {
+        if number >= self.limit {
             return None;
         }
-        let to = from.saturating_add(self.row_bits).min(bits_of(scan, number));
+        let to = from.saturating_add(self.row_bits).min(bits_of(self.scan, number));
         Some(Window { number, from, to })
     }
 
     /// Whether another guess can be made.
-    pub(crate) fn can_guess(&self, part: &FirstIntervals<'a>) -> bool {
-        self.free_slot().is_some() && self.next_window(part.scan(), part.limit()).is_some()
+    pub(crate) fn can_guess(&self) -> bool {
+        self.free_slot().is_some() && self.next_window().is_some()
     }
 
     /// Room for the next guess, and its bits.
-    pub(crate) fn take(&mut self, part: &FirstIntervals<'a>) -> Option<(usize, Window, PartGuess<'a, S>)> {
+    pub(crate) fn take(&mut self) -> Option<(usize, Window, PartGuess<'a, S>)> {
         let place = self.free_slot()?;
-        let window = self.next_window(part.scan(), part.limit())?;
+        let window = self.next_window()?;
         self.next = (window.number, window.to);
         let slot = self.slots.get_mut(place)?;
         slot.window = window;
@@ -178,7 +187,7 @@ impl<'a, S: OneFirstIntervals> GuessQueue<'a, S> {
 }
 
 /// How many bits the data of an interval of the scan have.
-fn bits_of(scan: &Scan, number: u32) -> u64 {
+pub(crate) fn bits_of(scan: &Scan, number: u32) -> u64 {
     if number >= scan.intervals() {
         return 0;
     }

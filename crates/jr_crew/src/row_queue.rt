@@ -128,7 +128,7 @@ impl<'a, S: OneFirstIntervals> RowQueue<'a, S> {
 
     /// What a thread does next: it passes over a row, or reads one, where it can, so that reading goes on, finishes one where it
     /// can't, and makes a guess where nothing else is to be done. A row at whose start a guess is being made waits for it.
-    fn choice(&self, part: &FirstIntervals<'a>) -> Choice {
+    fn choice(&self) -> Choice {
         let can_begin = self.baton.is_some() && !self.free.is_empty() && !self.guesses.makes_next();
         if self.is_over {
             Choice::End
@@ -140,7 +140,7 @@ impl<'a, S: OneFirstIntervals> RowQueue<'a, S> {
             Choice::Finish
         } else if !self.coded.is_empty() {
             Choice::Paint
-        } else if self.guesses.can_guess(part) {
+        } else if self.guesses.can_guess() {
             Choice::Guess
         } else {
             Choice::Wait
@@ -148,8 +148,8 @@ impl<'a, S: OneFirstIntervals> RowQueue<'a, S> {
     }
 
     /// Whether a thread has to wait for what others read, paint or write.
-    pub(crate) fn has_no_task(&self, part: &FirstIntervals<'a>) -> bool {
-        self.choice(part) == Choice::Wait
+    pub(crate) fn has_no_task(&self) -> bool {
+        self.choice() == Choice::Wait
     }
 
     /// The rows that come next, with the guesses for the first of them, and a bench for it.
@@ -168,7 +168,7 @@ impl<'a, S: OneFirstIntervals> RowQueue<'a, S> {
     pub(crate) fn task(&mut self, part: &FirstIntervals<'a>) -> Option<RowTask<'a, S>>
         requires { S.part ≡ Some part.now }
     {
-        match self.choice(part) {
+        match self.choice() {
             Choice::Read => {
                 let (baton, bench) = self.begin(part)?;
                 Some(RowTask::Read(baton, bench))
@@ -180,7 +180,7 @@ impl<'a, S: OneFirstIntervals> RowQueue<'a, S> {
             Choice::Finish => Some(RowTask::Finish(self.passed.pop_front()?)),
             Choice::Paint => Some(RowTask::Paint(self.coded.pop_front()?)),
             Choice::Guess => {
-                let (place, window, guess) = self.guesses.take(part)?;
+                let (place, window, guess) = self.guesses.take()?;
                 Some(RowTask::Guess(place, window, guess))
             }
             Choice::Wait | Choice::End => None,

@@ -14,7 +14,7 @@ use crate::baton::Baton;
 use crate::bench::{Bench, Painted};
 use crate::beside::run_beside;
 use crate::crew::Crew;
-use crate::guess_queue::{GuessQueue, GuessSlot};
+use crate::guess_queue::{GuessQueue, GuessSlot, LEAST_BITS, bits_of};
 use crate::one_first_intervals::OneFirstIntervals;
 use crate::paint_room::PaintRoom;
 use crate::part_guess::PartGuess;
@@ -73,7 +73,17 @@ fn open_places<S: OneFirstIntervals>(
     Ok(places)
 }
 
-/// So many guesses, where a row is not a whole interval.
+/// How many guesses are kept at most, of so many: none where rows are whole intervals, which are read apart, and no more than
+/// the data of an interval have bits for.
+fn guesses_of(part: &FirstIntervals<'_>, count: u32) -> u32 {
+    let scan = part.scan();
+    if intervals_of_row(scan.head()).is_some() {
+        return 0;
+    }
+    (bits_of(scan, 0) / LEAST_BITS).min(u64::from(count)) as u32
+}
+
+/// Room for so many guesses at most.
 fn open_guesses<'a, S: OneFirstIntervals>(
     alloc: Global,
     part: &FirstIntervals<'a>,
@@ -81,14 +91,14 @@ fn open_guesses<'a, S: OneFirstIntervals>(
 ) -> Result<GuessQueue<'a, S>, Memory>
     requires { S.part ≡ Some part.now }
 {
-    let head = part.scan().head();
-    let count = if intervals_of_row(head).is_some() { 0 } else { count };
-    let most = (ROWS_OF_GUESS * shape_of(head).across).max(LEAST_MCUS);
+    let count = guesses_of(part, count);
+    let across = shape_of(part.scan().head()).across;
+    let most = across.saturating_mul(ROWS_OF_GUESS).max(LEAST_MCUS);
     let mut slots = Vec::with_capacity(alloc, count as usize)?;
     for _ in 0..count {
         slots.push(GuessSlot::of(PartGuess::open(alloc, part, most)?))?;
     }
-    Ok(GuessQueue::of(part.scan(), slots))
+    Ok(GuessQueue::of(part, slots))
 }
 
 /// A queue of so many benches.
