@@ -17,6 +17,8 @@ pub mod Scans
 pub mod Runs
 pub mod InMcu
 pub mod McuReaders
+pub mod Shifts
+pub mod Guesses
 pub mod CutLaw
 pub mod FirstWords
 pub mod FirstBlocks

@@ -9,3 +9,5 @@ pub mod UnstuffingValue
 pub mod ScanValue
 pub mod Run
 pub mod McuReader
+pub mod Shift
+pub mod Guess

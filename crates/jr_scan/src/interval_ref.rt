@@ -39,6 +39,18 @@ impl<'a> IntervalRef<'a> {
         }
     }
 
+    /// The same interval once more.
+    pub fn again(&self) -> IntervalRef<'a>
+        ensures { result ≡ self.now }
+    {
+        IntervalRef {
+            head: self.head,
+            bytes: self.bytes,
+            number: self.number,
+            mcus: self.mcus,
+        }
+    }
+
     /// The interval's number in its scan, from 0 on.
     pub fn number(&self) -> u32
         ensures { result ≡ self.now.number }

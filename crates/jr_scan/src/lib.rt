@@ -4,6 +4,8 @@
 mod block;
 mod cut;
 mod front;
+mod guess;
+mod guessed;
 mod interval;
 mod interval_ref;
 mod laws;
@@ -16,6 +18,7 @@ mod span;
 mod unstuff;
 
 pub use front::FrontBlocks;
+pub use guess::Guess;
 pub use interval::{Block, Interval};
 pub use interval_ref::IntervalRef;
 pub use laws::{

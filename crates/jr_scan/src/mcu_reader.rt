@@ -90,6 +90,39 @@ impl<'a> McuReader<'a> {
         }
     }
 
+    /// The same reader once more, at the same place.
+    pub fn again(&self) -> McuReader<'a>
+        ensures { result ≡ self.now }
+    {
+        McuReader {
+            interval: self.interval.again(),
+            from: self.from,
+            mcus: self.mcus,
+            bits: self.bits.again(),
+            predictions: self.predictions,
+            mcu: self.mcu,
+        }
+    }
+
+    /// How many MCUs of its run are left to read.
+    pub(crate) fn left(&self) -> u32
+        ensures { self.now.mcu + result ≡ self.now.run.mcus }
+    {
+        self.mcus - self.mcu
+    }
+
+    /// Goes on to the place behind so many further MCUs.
+    pub(crate) fn go_on(&mut self, mcus: u32, place: &Place)
+        requires few { self.old.mcu + mcus ≤ self.old.run.mcus }
+        requires within { place.now.bit ≤ 8 * length self.old.run.interval.bytes }
+        requires in_range { All IsInDcRange place.now.predictions }
+        ensures { self.new ≡ record { run = self.old.run; mcu = self.old.mcu + mcus; place = place.now } }
+    {
+        self.bits = bits_from(self.interval.bytes(), place.bit);
+        self.predictions = place.predictions;
+        self.mcu += mcus;
+    }
+
     /// The interval that it reads.
     pub fn interval(&self) -> &IntervalRef<'a>
         ensures { result.now ≡ self.now.run.interval }
