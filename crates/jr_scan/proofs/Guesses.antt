@@ -1,5 +1,5 @@
 -- What a guess keeps, as it grows, and as it is taken over.
-use Rattle.std.proofs.Common.{◌≡◌, ℕ, zero, suc, ◌+◌, ◌-◌, ◌*◌, ◌<◌, ◌≤◌, Bool, true, false, cond, eqb, List, [], ◌∷◌, ◌++◌, length, get_or, take, drop, refl, sym, ap, subst, ◌∙◌, inl, inr, length-append, length-drop, arith}
+use Rattle.std.proofs.Common.{◌≡◌, ℕ, zero, suc, ◌+◌, ◌-◌, ◌*◌, ◌<◌, ◌≤◌, Bool, true, false, cond, eqb, List, [], ◌∷◌, ◌++◌, length, get_or, set, take, drop, refl, sym, ap, subst, ◌∙◌, inl, inr, length-append, length-drop, arith}
 use Rattle.std.specs.Prelude.{ℤ, pos, ◌+ℤ◌}
 use Rattle.std.specs.List.{All}
 use Rattle.std.proofs.lemmas.Bool.{cases_lt}
@@ -215,3 +215,38 @@ some_guessed g k is lt = (get_or g.mcus k any_mcu, is.each k any_mcu lt)
 -- a block has a first coefficient
 pub some_first : (i : IntervalValue) (mcu : Guessed) (zs : List (List ℤ)) → IsGuessed i mcu zs → (n : ℕ) → n < length zs → 0 < length (get_or zs n [])
 some_first i mcu zs is n lt = omega (arith, (run_in_range _ _ _ _ is.run n [] lt).count)
+
+-- shifted blocks
+shifted_from : (h : HeadValue) (by : List ℤ) (n : ℕ) (zs : List (List ℤ)) → List (List ℤ)
+shifted_from h by n [] = []
+shifted_from h by n (z ∷ zs) = set z 0 (get_or z 0 (pos 0) +ℤ of_component by (component h n)) ∷ shifted_from h by (suc n) zs
+
+shifted_long : (h : HeadValue) (by : List ℤ) (n : ℕ) (zs : List (List ℤ)) → length (shifted_from h by n zs) ≡ length zs
+unfolding shifted_from
+shifted_long h by n [] = refl
+shifted_long h by n (z ∷ zs) = ap suc (shifted_long h by (suc n) zs)
+
+shifted_one : (d : ℤ) (z : List ℤ) → 0 < length z → IsShifted d z (set z 0 (get_or z 0 (pos 0) +ℤ d))
+shifted_one d [] some = absurd (omega arith)
+shifted_one d (x ∷ xs) some = record { first = x; others = xs; was = refl; is = refl }
+
+shifted_each : (h : HeadValue) (by : List ℤ) (m : ℕ) (zs : List (List ℤ)) → ((n : ℕ) → n < length zs → 0 < length (get_or zs n [])) → (n : ℕ) → n < length zs
+    → IsShifted (of_component by (component h (m + n))) (block_of zs n) (block_of (shifted_from h by m zs) n)
+unfolding shifted_from
+shifted_each h by m [] some n lt = absurd (omega arith)
+shifted_each h by m (z ∷ zs) some zero lt =
+    let e : m ≡ m + 0 = omega arith in
+    subst (λ (k : ℕ). IsShifted (of_component by (component h k)) z (set z 0 (get_or z 0 (pos 0) +ℤ of_component by (component h m)))) e (shifted_one (of_component by (component h m)) z (some 0 (omega arith)))
+shifted_each h by m (z ∷ zs) some (suc n) lt =
+    let e : suc m + n ≡ m + suc n = omega arith in
+    subst (λ (k : ℕ). IsShifted (of_component by (component h k)) (block_of zs n) (block_of (shifted_from h by (suc m) zs) n)) e (shifted_each h by (suc m) zs (λ k l. some (suc k) (omega arith)) n (omega arith))
+
+pub shifted_are : (h : HeadValue) (by : List ℤ) (zs : List (List ℤ)) → ((n : ℕ) → n < length zs → 0 < length (get_or zs n [])) → (ys : List (List ℤ)) × AreShifted h by zs ys
+shifted_are h by zs some =
+    let ys = shifted_from h by 0 zs in (
+      ys,
+      record {
+        count = shifted_long h by 0 zs;
+        each = λ n lt. let e : 0 + n ≡ n = omega arith in subst (λ (k : ℕ). IsShifted (of_component by (component h k)) (block_of zs n) (block_of ys n)) e (shifted_each h by 0 zs some n lt);
+      },
+    )

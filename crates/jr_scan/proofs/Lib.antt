@@ -19,6 +19,7 @@ pub mod InMcu
 pub mod McuReaders
 pub mod Shifts
 pub mod Guesses
+pub mod TakingOver
 pub mod CutLaw
 pub mod FirstWords
 pub mod FirstBlocks

@@ -174,6 +174,13 @@ impl<'a> Guess<'a> {
         })
     }
 
+    /// The interval that it is of.
+    pub fn interval(&self) -> &IntervalRef<'a>
+        ensures { result.now ≡ self.now.interval }
+    {
+        &self.interval
+    }
+
     /// Reads MCUs from a bit on, over those that were read before, until one starts at another bit or behind it, or the room is
     /// full. Where no MCU follows it goes on at the next byte; it does so a bounded number of times.
     pub fn read(&mut self, interval: IntervalRef<'a>, from: u64, to: u64)
@@ -265,7 +272,8 @@ impl<'a> Guess<'a> {
     #[inline(always)]
     pub(crate) fn pass(&self, k: usize, place: &Place) -> Option<Place>
         ensures some { IfSome result (λ to. (zs : List (List ℤ)) → AreShifted self.now.interval.head place.now.predictions (blocks_at self.now k) zs → IsRun (run_from self.now.interval place.now 1) zs to AllRead) }
-        ensures kept { IfSome result (λ _. k < length self.now.mcus) }
+        ensures shifted { OnSome result ((zs : List (List ℤ)) × AreShifted self.now.interval.head place.now.predictions (blocks_at self.now k) zs) }
+        ensures kept { OnSome result (k < length self.now.mcus) }
         ensures small { OnSome result (All IsSmall place.now.predictions) }
         ensures within { IfSome result (λ to. to.bit ≤ 8 * length self.now.interval.bytes) }
         ensures in_range { IfSome result (λ to. All IsInDcRange to.predictions) }

@@ -15,6 +15,7 @@ mod place;
 mod scan;
 mod scan_end;
 mod span;
+mod taking_over;
 mod unstuff;
 
 pub use front::FrontBlocks;
