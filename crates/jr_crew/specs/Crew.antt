@@ -1,8 +1,8 @@
 -- What several threads know of the rows of MCUs that they decode together: by the part of a scan that is decoded.
 use Rattle.std.specs.Prelude.{◌≡◌, ℕ, ◌*◌, ◌%◌, ◌<◌, ◌≤◌, List, length, take, slice_get, Option, Some, None}
 use Rattle.jr_head.specs.Geometry.{mcus_down, vertical_max}
-use Rattle.jr_scan.specs.Guess.{AreGuessesOf}
-use Rattle.jr_scan.specs.GuessValue.{GuessValue}
+use Rattle.jr_scan.specs.Guesses.{AreGuessesOf}
+use Rattle.jr_scan.specs.Guess.{GuessValue}
 use Rattle.jr_scan.specs.declared.guesses.Guesses.{Guesses}
 use Rattle.jr_scan.specs.ScanValue.{HasInterval, interval_of}
 use Rattle.jr_paint.specs.Lines.{line_room, line_size}

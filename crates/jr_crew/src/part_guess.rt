@@ -51,7 +51,7 @@ pub(crate) struct PartGuess<'a, S: OneFirstIntervals> {
 impl<'a, S: OneFirstIntervals> Model for PartGuess<'a, S> {
     ghost use Rattle.std.specs.Arc.{arc_value};
     ghost use Rattle.jr_crew.specs.Crew.{HasGuessOf};
-    ghost use Rattle.jr_scan.specs.GuessValue.{GuessValue};
+    ghost use Rattle.jr_scan.specs.Guess.{GuessValue};
 
     ghost Value = { GuessValue };
 
@@ -88,7 +88,7 @@ impl<'a, S: OneFirstIntervals> PartGuess<'a, S> {
 
     /// Whether one of its MCUs starts at this bit of an interval.
     pub(crate) fn has(&self, number: u32, bit: u64) -> bool {
-        self.guess.number() == number && self.guess.find(bit).is_some()
+        self.guess.interval().number() == number && self.guess.find(bit).is_some()
     }
 
     /// Makes the guess of these bits.
@@ -112,7 +112,7 @@ impl<'a, S: OneFirstIntervals> PartGuess<'a, S> {
         requires { AreGuesses S.part number guesses }
         ensures { AreGuesses S.part number result }
     {
-        if self.guess.number() != number {
+        if self.guess.interval().number() != number {
             return guesses;
         }
         match Arc::try_clone(&self.guess) {

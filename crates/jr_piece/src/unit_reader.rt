@@ -1,7 +1,7 @@
 //! The blocks of an interval, read in their order into slices.
 
 ghost use Rattle.std.specs.Prelude.{◌≡◌, ◌+◌, ◌*◌, ◌<◌, ◌≤◌, ℕ, [], length, slice_index_or};
-ghost use Rattle.jr_scan.specs.Guess.{AreGuessesOf};
+ghost use Rattle.jr_scan.specs.Guesses.{AreGuessesOf};
 ghost use Rattle.jr_piece.specs.Units.{zero_block};
 
 use jr_block::Coefficients;
@@ -23,7 +23,7 @@ pub struct UnitReader<'a> {
 impl<'a> Model for UnitReader<'a> {
     ghost use Rattle.std.specs.Prelude.{◌-◌};
     ghost use Rattle.jr_piece.specs.UnitReaderValue.{UnitReaderValue};
-    ghost use Rattle.jr_scan.specs.Guess.{AreGuessesOf};
+    ghost use Rattle.jr_scan.specs.Guesses.{AreGuessesOf};
     ghost use Rattle.jr_piece.specs.Units.{IsUnitReader};
 
     ghost Value = { UnitReaderValue };

@@ -2,7 +2,7 @@
 
 ghost use Rattle.std.specs.Prelude.{◌≡◌, ℕ, ◌+◌, ◌-◌, ◌*◌, ◌<◌, ◌≤◌, [], length, slice_index_or};
 ghost use Rattle.jr_head.specs.Geometry.{blocks_of, mcus_across, mcus_down, mcus_of};
-ghost use Rattle.jr_scan.specs.Guess.{AreGuessesOf};
+ghost use Rattle.jr_scan.specs.Guesses.{AreGuessesOf};
 ghost use Rattle.jr_scan.specs.ScanValue.{interval_of, intervals_of, mcus_in};
 ghost use Rattle.jr_picture.specs.Headline.{interval_number, within_interval};
 ghost use Rattle.jr_picture.specs.BoardValue.{BoardValue};

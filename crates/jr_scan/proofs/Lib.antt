@@ -17,6 +17,9 @@ pub mod Scans
 pub mod Runs
 pub mod InMcu
 pub mod McuReaders
+pub mod Shifts
+pub mod KeptMcus
+pub mod TakingOver
 pub mod CutLaw
 pub mod FirstWords
 pub mod FirstBlocks

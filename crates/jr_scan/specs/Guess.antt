@@ -1,19 +1,47 @@
 -- MCUs of an interval that are read before it is known that one starts where they start.
-use Rattle.std.specs.Prelude.{◌≡◌, Option}
-use Rattle.std.specs.Option.{IfSome}
-use Rattle.std.specs.declared.sync.Arc.{Arc}
-use Rattle.std.specs.declared.alloc.Global.{Global}
-use Rattle.std.specs.Arc.{arc_value}
-use Rattle.jr_scan.specs.GuessValue.{GuessValue}
+use Rattle.std.specs.Prelude.{◌≡◌, ℕ, ◌-◌, ◌*◌, ◌<◌, ◌≤◌, Bool, List, length, take, drop, ℤ, pos, neg_ℤ, ◌≤ℤ◌, slice_index_or}
+use Rattle.jr_code.specs.Bits.{bits}
+use Rattle.jr_head.specs.Geometry.{order_of, IsLawful}
+use Rattle.jr_scan.specs.declared.guessed.Guessed.{Guessed}
+use Rattle.jr_scan.specs.declared.place.Place.{Place}
+use Rattle.jr_scan.specs.declared.place.RunEnd.TheVariants.{AllRead}
 use Rattle.jr_scan.specs.IntervalValue.{IntervalValue}
-use Rattle.jr_scan.specs.declared.guesses.Guesses.{Guesses}
+use Rattle.jr_scan.specs.Mcus.{block_of, no_predictions}
+use Rattle.jr_scan.specs.Run.{run_from, IsRun}
 
--- none, or a guess of the interval
-abbrev pub IsGuessOrNone : IntervalValue → Option (Arc GuessValue Global) → Type 0
-IsGuessOrNone i guess = IfSome guess (λ g. (arc_value g).interval ≡ i)
+-- a bit, where each component is predicted to be 0
+abbrev pub unpredicted : ℕ → Place
+unpredicted bit = record { bit = bit; predictions = no_predictions }
 
--- guesses of the interval
-pub record AreGuessesOf (i : IntervalValue) (gs : Guesses) : Type 0 where
-  pub first : IsGuessOrNone i gs.first
-  pub second : IsGuessOrNone i gs.second
-  pub third : IsGuessOrNone i gs.third
+-- half of what sixteen bits hold: two such numbers have a sum that sixteen bits hold
+abbrev pub IsSmall : ℤ → Type 0
+IsSmall z = (neg_ℤ (pos 16384) ≤ℤ z) × (z ≤ℤ pos 16383)
+
+abbrev pub HaveSmallFirst : List (List ℤ) → Type 0
+HaveSmallFirst zs = (n : ℕ) → n < length zs → IsSmall (slice_index_or (block_of zs n) 0 (pos 0))
+
+-- one MCU with these blocks, from a bit on where each component is predicted to be 0
+pub record IsGuessed (i : IntervalValue) (mcu : Guessed) (zs : List (List ℤ)) : Type 0 where
+  pub within : mcu.to.bit ≤ 8 * length i.bytes
+  pub run : IsRun (run_from i (unpredicted mcu.from) 1) zs mcu.to AllRead
+  pub small : HaveSmallFirst zs
+
+-- MCUs of an interval, and the blocks of each, behind which others may stand that mean nothing
+pub record GuessValue : Type 0 where
+  pub interval : IntervalValue
+  pub mcus : List Guessed
+  pub blocks : List (List ℤ)
+
+-- the blocks of MCU k
+abbrev pub blocks_at : GuessValue → ℕ → List (List ℤ)
+blocks_at g k = let per = length (order_of g.interval.head) in take per (drop (k * per) g.blocks)
+
+-- what a guess keeps: that each of its MCUs is one, whatever bit it starts at
+pub record IsGuess (g : GuessValue) : Type 0 where
+  pub lawful : IsLawful g.interval.head
+  pub room : length g.mcus * length (order_of g.interval.head) ≤ length g.blocks
+  pub each : (k : ℕ) (d : Guessed) → k < length g.mcus → IsGuessed g.interval (slice_index_or g.mcus k d) (blocks_at g k)
+
+-- bits that stand at the end of an interval's
+abbrev pub AreLastBits : IntervalValue → List Bool → Type 0
+AreLastBits i left = left ≡ drop (8 * length i.bytes - length left) (bits i.bytes)

@@ -9,5 +9,6 @@ pub mod UnstuffingValue
 pub mod ScanValue
 pub mod Run
 pub mod McuReader
-pub mod GuessValue
+pub mod Shift
 pub mod Guess
+pub mod Guesses

@@ -1,50 +1,310 @@
-//! MCUs that are read before it is known that one starts where they start. (A stand-in: it keeps none.)
+//! MCUs that are read before it is known where one starts.
 
-ghost use Rattle.std.specs.Prelude.{◌≡◌, IfOk};
+ghost use Rattle.std.specs.Prelude.{◌≡◌, ◌<◌, ◌≤◌, ◌*◌, ℕ, ℤ, pos, List, [], length, slice_index_or, ◌+ℤ◌, IfOk, IfSome, IfNone, IsTrue, OnSome};
+ghost use Rattle.std.specs.List.{All};
+ghost use Rattle.jr_head.specs.Geometry.{IsLawful, order_of};
+ghost use Rattle.jr_head.specs.HeadValue.{HeadValue};
+ghost use Rattle.jr_scan.specs.Block.{IsInDcRange};
+ghost use Rattle.jr_scan.specs.Mcus.{no_predictions};
+ghost use Rattle.jr_scan.specs.Run.{predicted, TakesMcu, run_from, IsRun};
+ghost use Rattle.jr_scan.specs.Shift.{AreGreater, IsShifted, AreShifted};
+ghost use Rattle.jr_scan.specs.Guess.{IsSmall, HaveSmallFirst, AreLastBits, blocks_at};
+ghost use Rattle.jr_scan.specs.declared.place.RunEnd.TheVariants.{AllRead};
 
+use crate::guessed::Guessed;
 use crate::interval_ref::IntervalRef;
-use jr_code::Memory;
+use crate::mcu::read_mcu;
+use crate::mcu_reader::bits_from;
+use crate::place::Place;
+use jr_block::Coefficients;
+use jr_code::{Bits, Memory};
+use jr_head::Head;
 use std::alloc::Global;
 use std::marker::Model;
 
-/// MCUs of an interval from some bit on.
+/// Whether a number is so small that sixteen bits hold the sum of two.
+#[inline(always)]
+fn is_small(value: i32) -> bool
+    ensures { IsTrue result → IsSmall value }
+{
+    -16384 <= value && value <= 16383
+}
+
+/// Whether the predictions are small.
+#[inline(always)]
+fn all_small(predictions: &[i32; 3]) -> bool
+    ensures { IsTrue result → All IsSmall predictions.now }
+{
+    is_small(predictions[0]) && is_small(predictions[1]) && is_small(predictions[2])
+}
+
+/// The sum of two small numbers.
+#[inline(always)]
+fn sum(a: i32, b: i32) -> i32
+    requires a { IsSmall a }
+    requires b { IsSmall b }
+    ensures value { result ≡ a +ℤ b }
+    ensures in_range { IsInDcRange result }
+{
+    a + b
+}
+
+/// The sums of small predictions, component by component.
+#[inline(always)]
+fn sums(a: &[i32; 3], b: &[i32; 3]) -> [i32; 3]
+    requires a { All IsSmall a.now }
+    requires b { All IsSmall b.now }
+    ensures sums { AreGreater b.now a.now result }
+    ensures in_range { All IsInDcRange result }
+{
+    [sum(a[0], b[0]), sum(a[1], b[1]), sum(a[2], b[2])]
+}
+
+/// How often a guess from one bit up to another starts anew. What is read in vain is an MCU for each, and so no more than
+/// about as many codes as there are bits.
+fn most_starts(from: u64, to: u64) -> u64 {
+    16 + to.saturating_sub(from) / 1024
+}
+
+/// Whether the first coefficients of these blocks are small.
+fn are_small(blocks: &[Coefficients]) -> bool
+    ensures { IsTrue result → HaveSmallFirst blocks.now }
+{
+    for k in 0..blocks.len() {
+        if !is_small(i32::from(blocks[k].first())) {
+            return false;
+        }
+    }
+    true
+}
+
+/// Takes the blocks of one MCU where each component is predicted to be 0, and gives the predictions behind it. None where no
+/// whole one follows, or where a first coefficient is not small.
+fn read_unpredicted(
+    head: &Head,
+    bits: &mut Bits<'_>,
+    blocks: &mut [Coefficients],
+) -> Option<[i32; 3]>
+    requires lawful { IsLawful head.now }
+    requires room { length blocks.old ≡ length (order_of head.now) }
+    ensures some { IfSome result (λ ps. TakesMcu head.now no_predictions blocks.new bits.old bits.new × (ps ≡ predicted head.now no_predictions blocks.new)) }
+    ensures small { OnSome result (HaveSmallFirst blocks.new) }
+    ensures none { IfNone result (bits.new ≡ bits.old) }
+{
+    let mut left = bits.again();
+    let mut predictions = [0; 3];
+    read_mcu(head, &mut left, &mut predictions, blocks)?;
+    if !are_small(blocks) {
+        return None;
+    }
+    *bits = left;
+    Some(predictions)
+}
+
+/// A block whose first coefficient is greater by so much.
+#[inline(always)]
+fn shifted(block: &Coefficients, by: i32) -> Option<Coefficients>
+    requires some { 0 < length block.now }
+    requires first { IsSmall (slice_index_or block.now 0 (pos 0)) }
+    requires by { IsSmall by }
+    ensures { IfSome result (λ y. IsShifted by block.now y) }
+{
+    let first = i32::from(block.first()) + by;
+    let mut shifted = block.clone().ok()?;
+    shifted.set(0, first as i16);
+    Some(shifted)
+}
+
+/// Puts the blocks of an MCU into others, each first coefficient greater by what is given for its component.
+fn put_shifted(
+    head: &Head,
+    by: &[i32; 3],
+    blocks: &[Coefficients],
+    others: &mut [Coefficients],
+) -> Option<()>
+    requires lawful { IsLawful head.now }
+    requires count { length blocks.now ≡ length (order_of head.now) }
+    requires room { length others.old ≡ length (order_of head.now) }
+    requires some { (k : ℕ) → k < length blocks.now → 0 < length (slice_index_or blocks.now k []) }
+    requires small { HaveSmallFirst blocks.now }
+    requires by { All IsSmall by.now }
+    ensures { OnSome result (AreShifted head.now by.now blocks.now others.new) }
+{
+    let order = head.order();
+    for k in 0..order.len() {
+        others[k] = shifted(&blocks[k], by[order[k] as usize])?;
+    }
+    Some(())
+}
+
+/// Whole MCUs of an interval, read from some bit on before it is known that an MCU starts there. Each is read as if each component
+/// were predicted to be 0. That is true whatever the bit is; a reader that comes to a bit at which one of them starts takes it over
+/// from there.
 #[derive(Drop)]
 pub struct Guess<'a> {
     interval: IntervalRef<'a>,
+    mcus: Vec<Guessed>,
+    /// Those of its MCUs, and room for further ones.
+    blocks: Vec<Coefficients>,
 }
 
 impl<'a> Model for Guess<'a> {
-    ghost use Rattle.jr_scan.specs.GuessValue.{GuessValue};
+    ghost use Rattle.jr_scan.specs.Guess.{GuessValue, IsGuess};
 
     ghost Value = { GuessValue };
 
-    ghost view = { λ g. record { interval = g.interval } };
+    ghost view = { λ g. record { interval = g.interval; mcus = g.mcus.items; blocks = g.blocks.items } };
+
+    ghost invariant = { λ g. IsGuess (record { interval = g.interval; mcus = g.mcus.items; blocks = g.blocks.items }) };
 }
 
 impl<'a> Guess<'a> {
-    /// Room for so many MCUs.
-    pub fn open(_alloc: Global, interval: IntervalRef<'a>, _most: u32) -> Result<Guess<'a>, Memory>
+    /// Room for so many MCUs of an interval, of which none is read.
+    pub fn open(alloc: Global, interval: IntervalRef<'a>, most: u32) -> Result<Guess<'a>, Memory>
         ensures { IfOk result (λ g. g.interval ≡ interval.entry) }
     {
-        Ok(Guess { interval })
+        let head = interval.head();
+        let units = most as usize * head.order().len();
+        let mcus = Vec::with_capacity(alloc, most as usize)?;
+        let blocks = vec![in alloc; Coefficients::zeros(); units]?;
+        Ok(Guess {
+            interval,
+            mcus,
+            blocks,
+        })
     }
 
-    /// Reads the MCUs from a bit on.
-    pub fn read(&mut self, interval: IntervalRef<'a>, _from: u64, _to: u64)
+    /// The interval that it is of.
+    pub fn interval(&self) -> &IntervalRef<'a>
+        ensures { result.now ≡ self.now.interval }
+    {
+        &self.interval
+    }
+
+    /// Reads MCUs from a bit on, over those that were read before, until one starts at another bit or behind it, or the room is
+    /// full. Where no MCU follows it goes on at the next byte; it does so a bounded number of times.
+    pub fn read(&mut self, interval: IntervalRef<'a>, from: u64, to: u64)
         ensures { self.new.interval ≡ interval.entry }
     {
+        interval.head().be_lawful();
         self.interval = interval;
+        self.mcus.clear();
+        let mut start = from;
+        for _ in 0..most_starts(from, to) {
+            let next = self.read_from(start, to);
+            if next >= to {
+                return;
+            }
+            start = (next - next % 8).saturating_add(8);
+        }
     }
 
-    /// The number of the interval.
-    pub fn number(&self) -> u32
-        ensures { result ≡ self.now.interval.number }
+    /// Reads the MCUs that follow one another from a bit on, and gives the bit at which none follows; the other bit where one
+    /// starts there or behind it, or where there is no room.
+    fn read_from(&mut self, from: u64, to: u64) -> u64
+        ensures { self.new.interval ≡ self.old.interval }
     {
-        self.interval.number()
+        let bytes = self.interval.bytes();
+        let all = 8 * bytes.len() as u64;
+        if from > all {
+            return to;
+        }
+        let room = self.blocks.len() / self.interval.head().order().len();
+        let mut left = bits_from(bytes, from);
+        for _ in self.mcus.len()..room {
+            let next = all - left.left();
+            if next >= to {
+                return to;
+            }
+            let Some(()) = self.keep(&mut left) else {
+                return next;
+            };
+        }
+        to
     }
 
-    /// Which of its MCUs starts at this bit.
-    pub fn find(&self, _bit: u64) -> Option<u32> {
+    /// Reads the next MCU behind the others, where there is room for it. Where it is none, the bits stay.
+    fn keep(&mut self, bits: &mut Bits<'_>) -> Option<()>
+        requires bits { AreLastBits self.old.interval bits.old }
+        ensures interval { self.new.interval ≡ self.old.interval }
+        ensures bits { AreLastBits self.new.interval bits.new }
+    {
+        let head = self.interval.head();
+        let per_mcu = head.order().len();
+        let all = 8 * self.interval.bytes().len() as u64;
+        let from = all - bits.left();
+        let start = self.mcus.len() * per_mcu;
+        let end = start + per_mcu;
+        if end > self.blocks.len() {
+            return None;
+        }
+        let predictions = read_unpredicted(head, bits, &mut self.blocks[start..end])?;
+        let to = Place {
+            bit: all - bits.left(),
+            predictions,
+        };
+        self.mcus.push(Guessed { from, to }).ok()
+    }
+
+    /// Which of its MCUs starts at a bit.
+    pub fn find(&self, bit: u64) -> Option<usize>
+        ensures { IfSome result (λ k. k < length self.now.mcus) }
+    {
+        let mut low = 0;
+        let mut high = self.mcus.len();
+        while low < high {
+            let middle = low + (high - low) / 2;
+            let from = self.mcus[middle].from;
+            if from == bit {
+                return Some(middle);
+            }
+            if from < bit {
+                low = middle + 1;
+            } else {
+                high = middle;
+            }
+        }
         None
+    }
+
+    /// Where MCU k leads from a place. None where it starts at another bit, or where sixteen bits may not hold what it makes of
+    /// the place's predictions.
+    #[inline(always)]
+    pub(crate) fn pass(&self, k: usize, place: &Place) -> Option<Place>
+        ensures some { IfSome result (λ to. (zs : List (List ℤ)) → AreShifted self.now.interval.head place.now.predictions (blocks_at self.now k) zs → IsRun (run_from self.now.interval place.now 1) zs to AllRead) }
+        ensures shifted { OnSome result ((zs : List (List ℤ)) × AreShifted self.now.interval.head place.now.predictions (blocks_at self.now k) zs) }
+        ensures kept { OnSome result (k < length self.now.mcus) }
+        ensures small { OnSome result (All IsSmall place.now.predictions) }
+        ensures within { IfSome result (λ to. to.bit ≤ 8 * length self.now.interval.bytes) }
+        ensures in_range { IfSome result (λ to. All IsInDcRange to.predictions) }
+    {
+        if k >= self.mcus.len() {
+            return None;
+        }
+        let mcu = &self.mcus[k];
+        if mcu.from != place.bit || !all_small(&place.predictions) {
+            return None;
+        }
+        Some(Place {
+            bit: mcu.to.bit,
+            predictions: sums(&mcu.to.predictions, &place.predictions),
+        })
+    }
+
+    /// The same, and puts the MCU's blocks.
+    #[inline(always)]
+    pub(crate) fn put(&self, k: usize, place: &Place, blocks: &mut [Coefficients]) -> Option<Place>
+        requires room { length blocks.old ≡ length (order_of self.now.interval.head) }
+        ensures some { IfSome result (λ to. IsRun (run_from self.now.interval place.now 1) blocks.new to AllRead) }
+        ensures within { IfSome result (λ to. to.bit ≤ 8 * length self.now.interval.bytes) }
+        ensures in_range { IfSome result (λ to. All IsInDcRange to.predictions) }
+    {
+        let to = self.pass(k, place)?;
+        let head = self.interval.head();
+        let per_mcu = head.order().len();
+        let start = k * per_mcu;
+        let end = start + per_mcu;
+        put_shifted(head, &place.predictions, &self.blocks[start..end], blocks)?;
+        Some(to)
     }
 }

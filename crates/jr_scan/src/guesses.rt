@@ -1,8 +1,8 @@
 //! The guesses that a reader goes over.
 
-ghost use Rattle.std.specs.Prelude.{◌≡◌};
+ghost use Rattle.std.specs.Prelude.{◌≡◌, IfSome};
 ghost use Rattle.std.specs.Arc.{arc_value};
-ghost use Rattle.jr_scan.specs.Guess.{AreGuessesOf, IsGuessOrNone};
+ghost use Rattle.jr_scan.specs.Guesses.{AreGuessesOf, IsGuessOrNone};
 ghost use Rattle.jr_scan.specs.IntervalValue.{IntervalValue};
 
 use crate::guess::Guess;
@@ -21,6 +21,14 @@ fn guess_again<'a>(guess: &Option<Arc<Guess<'a>>>) -> Option<Arc<Guess<'a>>>
     ensures { (i : IntervalValue) → IsGuessOrNone i guess.now → IsGuessOrNone i result }
 {
     Arc::try_clone(guess.as_ref()?).ok()
+}
+
+/// The guess, and which of its MCUs starts at a bit.
+fn found<'g, 'a>(guess: &'g Option<Arc<Guess<'a>>>, bit: u64) -> Option<(&'g Guess<'a>, usize)>
+    ensures { IfSome result (λ found. (i : IntervalValue) → IsGuessOrNone i guess.now → found.0.now.interval ≡ i) }
+{
+    let guess: &Guess<'a> = guess.as_ref()?;
+    Some((guess, guess.find(bit)?))
 }
 
 impl<'a> Guesses<'a> {
@@ -55,5 +63,23 @@ impl<'a> Guesses<'a> {
             second: self.third,
             third: Some(guess),
         }
+    }
+
+    /// Whether there is none.
+    pub fn is_none(&self) -> bool {
+        self.first.is_none() && self.second.is_none() && self.third.is_none()
+    }
+
+    /// A guess that has an MCU that starts at a bit, and which MCU it is.
+    pub(crate) fn find(&self, bit: u64) -> Option<(&Guess<'a>, usize)>
+        ensures { IfSome result (λ found. (i : IntervalValue) → AreGuessesOf i self.now → found.0.now.interval ≡ i) }
+    {
+        if let Some(found) = found(&self.first, bit) {
+            return Some(found);
+        }
+        if let Some(found) = found(&self.second, bit) {
+            return Some(found);
+        }
+        found(&self.third, bit)
     }
 }

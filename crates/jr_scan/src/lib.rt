@@ -5,6 +5,7 @@ mod block;
 mod cut;
 mod front;
 mod guess;
+mod guessed;
 mod guesses;
 mod interval;
 mod interval_ref;
@@ -15,6 +16,7 @@ mod place;
 mod scan;
 mod scan_end;
 mod span;
+mod taking_over;
 mod unstuff;
 
 pub use front::FrontBlocks;

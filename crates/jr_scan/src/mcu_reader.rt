@@ -4,9 +4,7 @@ ghost use Rattle.std.specs.Prelude.{◌≡◌, ◌<◌, ◌≤◌, ◌+◌, ◌*
 ghost use Rattle.std.specs.List.{All};
 ghost use Rattle.jr_code.specs.Bits.{bits};
 ghost use Rattle.jr_scan.specs.Block.{IsInDcRange, IsInRange};
-ghost use Rattle.jr_scan.specs.Guess.{AreGuessesOf};
 
-use crate::guesses::Guesses;
 use crate::interval_ref::IntervalRef;
 use crate::mcu::{read_mcu, skip_mcu};
 use crate::place::Place;
@@ -92,7 +90,7 @@ impl<'a> McuReader<'a> {
         }
     }
 
-    /// The same reader once more, which goes on from where this one stands.
+    /// The same reader once more, at the same place.
     pub fn again(&self) -> McuReader<'a>
         ensures { result ≡ self.now }
     {
@@ -104,6 +102,25 @@ impl<'a> McuReader<'a> {
             predictions: self.predictions,
             mcu: self.mcu,
         }
+    }
+
+    /// How many MCUs of its run are left to read.
+    pub(crate) fn left(&self) -> u32
+        ensures { self.now.mcu + result ≡ self.now.run.mcus }
+    {
+        self.mcus - self.mcu
+    }
+
+    /// Goes on to the place behind so many further MCUs.
+    pub(crate) fn go_on(&mut self, mcus: u32, place: &Place)
+        requires few { self.old.mcu + mcus ≤ self.old.run.mcus }
+        requires within { place.now.bit ≤ 8 * length self.old.run.interval.bytes }
+        requires in_range { All IsInDcRange place.now.predictions }
+        ensures { self.new ≡ record { run = self.old.run; mcu = self.old.mcu + mcus; place = place.now } }
+    {
+        self.bits = bits_from(self.interval.bytes(), place.bit);
+        self.predictions = place.predictions;
+        self.mcu += mcus;
     }
 
     /// The interval that it reads.
@@ -153,37 +170,6 @@ impl<'a> McuReader<'a> {
             };
         }
         most
-    }
-
-    /// `read`, which goes over a guess where one has an MCU that starts where the next one does.
-    pub fn read_by(&mut self, guesses: &Guesses<'_>, blocks: &mut [Coefficients]) -> u32
-        requires own { AreGuessesOf self.old.run.interval guesses.now }
-        ensures run { self.new.run ≡ self.old.run }
-        ensures mcus { self.new.mcu ≡ self.old.mcu + result }
-        ensures few { self.new.mcu ≤ self.new.run.mcus }
-        ensures fits { result * per_mcu self.old ≤ length blocks.new }
-        ensures read { (zs : List (List ℤ)) → HasRead self.old zs → HasRead self.new (zs ++ take (result * per_mcu self.old) blocks.new) }
-        ensures in_range { All IsInRange (take (result * per_mcu self.old) blocks.new) }
-        ensures ended { (result + 1) * per_mcu self.old ≤ length blocks.new → HasEnded self.new }
-        ensures stays { HasEnded self.old → self.new ≡ self.old }
-    {
-        let _guesses = guesses.again();
-        self.read(blocks)
-    }
-
-    /// `skip`, which goes over a guess where one has an MCU that starts where the next one does.
-    pub fn skip_by(&mut self, guesses: &Guesses<'_>, mcus: u32) -> u32
-        requires own { AreGuessesOf self.old.run.interval guesses.now }
-        ensures run { self.new.run ≡ self.old.run }
-        ensures mcus { self.new.mcu ≡ self.old.mcu + result }
-        ensures few { self.new.mcu ≤ self.new.run.mcus }
-        ensures most { result ≤ mcus }
-        ensures passed { (zs : List (List ℤ)) → HasRead self.old zs → (ys : List (List ℤ)) × (length ys ≡ result * per_mcu self.old) × All IsInRange ys × HasRead self.new (zs ++ ys) }
-        ensures ended { result < mcus → HasEnded self.new }
-        ensures stays { HasEnded self.old → self.new ≡ self.old }
-    {
-        let _guesses = guesses.again();
-        self.skip(mcus)
     }
 
     /// Passes over the next MCU. None where no whole one follows.

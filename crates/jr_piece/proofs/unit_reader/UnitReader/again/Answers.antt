@@ -1,6 +1,6 @@
 use Rattle.std.proofs.Common.{sym, subst}
 use Rattle.jr_scan.specs.McuReader.{McuReaderValue}
-use Rattle.jr_scan.specs.Guess.{AreGuessesOf}
+use Rattle.jr_scan.specs.Guesses.{AreGuessesOf}
 use Rattle.jr_piece.specs.Units.{IsUnitReader}
 use Rattle.jr_piece.proofs.unit_reader.UnitReader.again.Goals as goal
 

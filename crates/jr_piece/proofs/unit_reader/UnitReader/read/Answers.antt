@@ -3,7 +3,7 @@ use Rattle.std.specs.Prelude.{ℤ}
 use Rattle.jr_code.proofs.CodeLemmas.{one_word}
 use Rattle.jr_head.specs.Geometry.{order_of, IsLawful}
 use Rattle.jr_scan.specs.IntervalValue.{IntervalValue}
-use Rattle.jr_scan.specs.Guess.{AreGuessesOf}
+use Rattle.jr_scan.specs.Guesses.{AreGuessesOf}
 use Rattle.jr_scan.specs.Run.{RunOf}
 use Rattle.jr_scan.specs.McuReader.{per_mcu}
 use Rattle.jr_scan.proofs.McuLaws.{front_less, one_front}

@@ -1,5 +1,5 @@
 use Rattle.std.proofs.Common.{◌++◌, ap, sym, subst, arith}
-use Rattle.jr_scan.specs.Guess.{AreGuessesOf}
+use Rattle.jr_scan.specs.Guesses.{AreGuessesOf}
 use Rattle.jr_scan.specs.Run.{RunOf}
 use Rattle.jr_piece.specs.UnitReaderValue.{UnitReaderValue}
 use Rattle.jr_piece.proofs.UnitReading.{moved}

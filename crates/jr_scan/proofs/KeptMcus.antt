@@ -1,0 +1,252 @@
+-- What a guess keeps, as it grows, and as it is taken over.
+use Rattle.std.proofs.Common.{◌≡◌, ℕ, zero, suc, ◌+◌, ◌-◌, ◌*◌, ◌<◌, ◌≤◌, Bool, true, false, cond, eqb, List, [], ◌∷◌, ◌++◌, length, get_or, set, take, drop, refl, sym, ap, subst, ◌∙◌, inl, inr, length-append, length-drop, arith}
+use Rattle.std.specs.Prelude.{ℤ, pos, ◌+ℤ◌}
+use Rattle.std.specs.List.{All}
+use Rattle.std.proofs.lemmas.Bool.{cases_lt}
+use Rattle.std.proofs.lemmas.Int.{ints}
+use Rattle.std.proofs.lemmas.List.{get_or_append_left, drop-take, length-take-le}
+use Rattle.std.proofs.lemmas.Slice.{take-put_mid_below, between-put_mid}
+use Rattle.std.proofs.Math.Nat.{mul-le-mul_right}
+use Rattle.std.proofs.Math.Seq.{get_or-append_seam}
+use borrow.Rule.Slice.PartMut.{put_mid, post_of}
+use Rattle.jr_code.specs.Bits.{bits}
+use Rattle.jr_head.specs.Geometry.{order_of, IsLawful}
+use Rattle.jr_scan.specs.declared.guessed.Guessed.{Guessed}
+use Rattle.jr_scan.specs.declared.place.Place.{Place}
+use Rattle.jr_scan.specs.declared.place.RunEnd.TheVariants.{AllRead}
+use Rattle.jr_scan.specs.IntervalValue.{IntervalValue}
+use Rattle.jr_head.specs.HeadValue.{HeadValue}
+use Rattle.jr_scan.specs.Block.{IsInDcRange}
+use Rattle.jr_scan.specs.Mcus.{component, block_of, prediction, no_predictions}
+use Rattle.jr_scan.specs.Run.{left_at, predicted, run_from, IsRun, TakesMcu}
+use Rattle.jr_scan.specs.Shift.{of_component, AreGreater, IsShifted, AreShifted, HaveFirstInRange, place_with}
+use Rattle.jr_scan.specs.Guess.{unpredicted, IsSmall, HaveSmallFirst, IsGuessed, GuessValue, blocks_at, IsGuess, AreLastBits}
+use Rattle.jr_scan.proofs.InRange.{run_in_range}
+use Rattle.jr_scan.proofs.Runs.{component_low, three_places}
+use Rattle.jr_scan.proofs.Shifts.{predicted_shifted, run_shifted}
+use Rattle.jr_scan.proofs.McuReaders.{left_behind, left_is, one_mcu}
+
+abbrev pub guess_of : IntervalValue → List Guessed → List (List ℤ) → GuessValue
+guess_of i mcus blocks = record { interval = i; mcus = mcus; blocks = blocks }
+
+abbrev pub with_blocks : GuessValue → List (List ℤ) → GuessValue
+with_blocks g blocks = record { interval = g.interval; mcus = g.mcus; blocks = blocks }
+
+-- blocks behind those of the MCUs mean nothing
+at_below : (m per k : ℕ) (xs ys : List (List ℤ)) → k < m → m * per + per ≤ length xs → take per (drop (k * per) (put_mid (m * per) (m * per + per - m * per) xs ys)) ≡ take per (drop (k * per) xs)
+at_below m per k xs ys lt room =
+    let le : suc k * per ≤ m * per = mul-le-mul_right {m = suc k} {n = m} per (omega (arith, lt)) in
+    let next : suc k * per ≡ k * per + per = omega arith in
+    let e = take-put_mid_below (m * per) (m * per + per - m * per) xs ys (k * per + per) (omega (arith, le, next)) (omega (arith, room)) in
+    sym (drop-take (k * per) per (put_mid (m * per) (m * per + per - m * per) xs ys)) ∙ ap (drop (k * per)) e ∙ drop-take (k * per) per xs
+
+at_here : (m per : ℕ) (xs ys : List (List ℤ)) → m * per + per ≤ length xs → length ys ≡ per → take per (drop (m * per) (put_mid (m * per) (m * per + per - m * per) xs ys)) ≡ ys
+at_here m per xs ys room long =
+    let n : m * per + per - m * per ≡ per = omega arith in
+    ap (λ (k : ℕ). take k (drop (m * per) (put_mid (m * per) (m * per + per - m * per) xs ys))) (sym n) ∙ between-put_mid (m * per) (m * per + per - m * per) xs ys (m * per + per) (omega (arith, room)) (omega (arith, long))
+
+put_long : (m per : ℕ) (xs ys : List (List ℤ)) → m * per + per ≤ length xs → length ys ≡ per → length (put_mid (m * per) (m * per + per - m * per) xs ys) ≡ length xs
+put_long m per xs ys room long =
+    let a = m * per in
+    let k = m * per + per - m * per in
+    omega (arith, length-append (take a xs) (ys ++ post_of a k xs), length-append ys (post_of a k xs), length-take-le a xs (omega (arith, room)), length-drop (a + k) xs, length-drop k (drop a xs), length-drop a xs, long, room)
+
+-- blocks that are written behind the MCUs change none of these
+pub kept_before : (g : GuessValue) (xs ys : List (List ℤ)) (m per : ℕ) → IsGuess g → xs ≡ g.blocks → m ≡ length g.mcus → per ≡ length (order_of g.interval.head) → m * per + per ≤ length xs → length ys ≡ per
+    → IsGuess (with_blocks g (put_mid (m * per) (m * per + per - m * per) xs ys))
+kept_before g xs ys m per is same count size room long =
+    let new = put_mid (m * per) (m * per + per - m * per) xs ys in
+    let here : m * per ≡ length g.mcus * length (order_of g.interval.head) = ap (λ (n : ℕ). n * per) count ∙ ap (λ (n : ℕ). length g.mcus * n) size in
+    record {
+      lawful = is.lawful;
+      room = omega (arith, put_long m per xs ys room long, room, here);
+      each = λ k d lt.
+          let e0 : take per (drop (k * per) new) ≡ take per (drop (k * per) xs) = at_below m per k xs ys (omega (arith, lt, count)) room in
+          let e1 = subst (λ (n : ℕ). take n (drop (k * n) new) ≡ take n (drop (k * n) xs)) size e0 in
+          let e2 : blocks_at (with_blocks g new) k ≡ blocks_at g k = e1 ∙ ap (λ (bs : List (List ℤ)). take (length (order_of g.interval.head)) (drop (k * length (order_of g.interval.head)) bs)) same in
+          subst (IsGuessed g.interval (get_or g.mcus k d)) (sym e2) (is.each k d lt);
+    }
+
+-- one more MCU
+pub kept_more : (g : GuessValue) (xs ys : List (List ℤ)) (m per : ℕ) (mcu : Guessed) → IsGuess g → xs ≡ g.blocks → m ≡ length g.mcus → per ≡ length (order_of g.interval.head) → m * per + per ≤ length xs → length ys ≡ per
+    → IsGuessed g.interval mcu ys → IsGuess (guess_of g.interval (g.mcus ++ mcu ∷ []) (put_mid (m * per) (m * per + per - m * per) xs ys))
+kept_more g xs ys m per mcu is same count size room long next =
+    let new = put_mid (m * per) (m * per + per - m * per) xs ys in
+    let before = kept_before g xs ys m per is same count size room long in
+    let i = g.interval in
+    let units = length (order_of i.head) in
+    let more : length (g.mcus ++ mcu ∷ []) ≡ m + 1 = omega (arith, length-append g.mcus (mcu ∷ []), count) in
+    let all : length (g.mcus ++ mcu ∷ []) * units ≡ m * per + per = ap (λ (n : ℕ). n * units) more ∙ ap (λ (n : ℕ). (m + 1) * n) (sym size) ∙ omega arith in
+    record {
+      lawful = is.lawful;
+      room = omega (arith, put_long m per xs ys room long, room, all);
+      each = λ k d lt. elim (cases_lt k m) [
+        | inl l ↦
+            let e : get_or g.mcus k d ≡ get_or (g.mcus ++ mcu ∷ []) k d = sym (get_or_append_left g.mcus (mcu ∷ []) d k (omega (arith, l, count))) in
+            subst (λ (x : Guessed). IsGuessed i x (blocks_at (with_blocks g new) k)) e (before.each k d (omega (arith, l, count)))
+        | inr g' ↦
+            let at : m ≡ k = omega (arith, lt, more, g') in
+            let e : mcu ≡ get_or (g.mcus ++ mcu ∷ []) m d = sym (ap (λ (n : ℕ). get_or (g.mcus ++ mcu ∷ []) n d) count ∙ get_or-append_seam g.mcus mcu [] d) in
+            let b0 : ys ≡ take per (drop (m * per) new) = sym (at_here m per xs ys room long) in
+            let b = subst (λ (n : ℕ). ys ≡ take n (drop (m * n) new)) size b0 in
+            let here = subst (IsGuessed i (get_or (g.mcus ++ mcu ∷ []) m d)) b (subst (λ (x : Guessed). IsGuessed i x ys) e next) in
+            subst (λ (n : ℕ). IsGuessed i (get_or (g.mcus ++ mcu ∷ []) n d) (take units (drop (n * units) new))) at here
+      ];
+    }
+
+-- how many the last bits are
+pub last_few : (i : IntervalValue) (left : List Bool) → AreLastBits i left → length left ≤ 8 * length i.bytes
+last_few i left is = omega (arith, ap length is, left_is i (unpredicted (8 * length i.bytes - length left)))
+
+taken_last : (i : IntervalValue) (zs : List (List ℤ)) (old new : List Bool) → AreLastBits i old → TakesMcu i.head no_predictions zs old new → TakesMcu i.head no_predictions zs (left_at i (unpredicted (8 * length i.bytes - length old))) new
+taken_last i zs old new is t = subst (λ (b : List Bool). TakesMcu i.head no_predictions zs b new) is t
+
+pub last_behind : (i : IntervalValue) (zs : List (List ℤ)) (old new : List Bool) → AreLastBits i old → TakesMcu i.head no_predictions zs old new → AreLastBits i new
+last_behind i zs old new is t = left_behind i (unpredicted (8 * length i.bytes - length old)) (8 * length i.bytes - length new) zs new (omega arith) (taken_last i zs old new is t) refl
+
+-- an MCU that is read is one of a guess
+pub guessed : (i : IntervalValue) (mcu : Guessed) (zs : List (List ℤ)) (old new : List Bool) → AreLastBits i old → mcu.from ≡ 8 * length i.bytes - length old → mcu.to.bit ≡ 8 * length i.bytes - length new
+    → TakesMcu i.head no_predictions zs old new → mcu.to.predictions ≡ predicted i.head no_predictions zs → HaveSmallFirst zs → IsGuessed i mcu zs
+guessed i mcu zs old new is from to t last small = record {
+  within = omega (arith, to);
+  run = subst (λ (n : ℕ). IsRun (run_from i (unpredicted n) 1) zs mcu.to AllRead) (sym from) (one_mcu i (unpredicted (8 * length i.bytes - length old)) mcu.to zs new (omega arith) (taken_last i zs old new is t) to last);
+  small = small;
+}
+
+-- the bits from a bit on
+pub last_from : (i : IntervalValue) (from : ℕ) (left : List Bool) → from ≤ 8 * length i.bytes → left ≡ drop from (bits i.bytes) → AreLastBits i left
+last_from i from left within is =
+    let e : from ≡ 8 * length i.bytes - length left = omega (arith, ap length is, left_is i (unpredicted from), within) in
+    is ∙ ap (λ (k : ℕ). drop k (bits i.bytes)) e
+
+pub either : (P : List Guessed → Type 0) (b : Bool) (xs ys : List Guessed) → P xs → P ys → P (cond b xs ys)
+either P true xs ys p q = p
+either P false xs ys p q = q
+
+-- three sums
+pub three_sums : (a b : List ℤ) (x y z : ℤ) → x ≡ get_or a 0 (pos 0) +ℤ get_or b 0 (pos 0) → y ≡ get_or a 1 (pos 0) +ℤ get_or b 1 (pos 0) → z ≡ get_or a 2 (pos 0) +ℤ get_or b 2 (pos 0) → AreGreater b a (x ∷ y ∷ z ∷ [])
+three_sums a b x y z p q r zero lt = p
+three_sums a b x y z p q r (suc zero) lt = q
+three_sums a b x y z p q r (suc (suc zero)) lt = r
+three_sums a b x y z p q r (suc (suc (suc c))) lt = absurd (omega arith)
+
+pub three_all : (P : ℤ → Type 0) (x y z : ℤ) → P x → P y → P z → All P (x ∷ y ∷ z ∷ [])
+three_all P x y z p q r zero d lt = p
+three_all P x y z p q r (suc zero) d lt = q
+three_all P x y z p q r (suc (suc zero)) d lt = r
+three_all P x y z p q r (suc (suc (suc c))) d lt = absurd (omega arith)
+
+chosen : (P : ℤ → Type 0) (b : Bool) (x y : ℤ) → P x → P y → P (cond b x y)
+chosen P true x y p q = p
+chosen P false x y p q = q
+
+-- what holds of the first coefficients, and of the predictions to start with, holds of those behind
+prediction_has : (P : ℤ → Type 0) (h : HeadValue) (start : List ℤ) (zs : List (List ℤ)) (c n : ℕ) → ((c : ℕ) → P (get_or start c (pos 0))) → ((m : ℕ) → m < length zs → P (get_or (block_of zs m) 0 (pos 0))) → n ≤ length zs
+    → P (prediction h start zs c n)
+prediction_has P h start zs c zero first each le = first c
+prediction_has P h start zs c (suc m) first each le = chosen P (eqb (component h m) c) _ _ (each m (omega arith)) (prediction_has P h start zs c m first each (omega arith))
+
+none_small : (c : ℕ) → IsSmall (get_or no_predictions c (pos 0))
+none_small zero = (omega (arith, ints), omega (arith, ints))
+none_small (suc zero) = (omega (arith, ints), omega (arith, ints))
+none_small (suc (suc zero)) = (omega (arith, ints), omega (arith, ints))
+none_small (suc (suc (suc c))) = (omega (arith, ints), omega (arith, ints))
+
+-- the predictions behind an MCU with small first coefficients
+predicted_small : (h : HeadValue) (zs : List (List ℤ)) → HaveSmallFirst zs → All IsSmall (predicted h no_predictions zs)
+predicted_small h zs small =
+    let at : (c : ℕ) → IsSmall (prediction h no_predictions zs c (length zs)) = λ c. prediction_has IsSmall h no_predictions zs c (length zs) none_small small (omega arith) in
+    three_all IsSmall _ _ _ (at 0) (at 1) (at 2)
+
+pub behind_small : (i : IntervalValue) (mcu : Guessed) (zs : List (List ℤ)) → IsGuessed i mcu zs → All IsSmall mcu.to.predictions
+behind_small i mcu zs is = subst (All IsSmall) (sym is.run.predictions) (predicted_small i.head zs is.small)
+
+-- each component is predicted to be greater than 0 by what it is predicted to be
+from_none : (q : List ℤ) → AreGreater q no_predictions q
+from_none q zero lt = omega (arith, ints)
+from_none q (suc zero) lt = omega (arith, ints)
+from_none q (suc (suc zero)) lt = omega (arith, ints)
+from_none q (suc (suc (suc c))) lt = absurd (omega arith)
+
+small_shifted : (d : ℤ) (z y : List ℤ) → IsSmall d → IsSmall (get_or z 0 (pos 0)) → IsShifted d z y → IsInDcRange (get_or y 0 (pos 0))
+small_shifted d z y small first s =
+    let is : get_or y 0 (pos 0) ≡ s.first +ℤ d = ap (λ (x : List ℤ). get_or x 0 (pos 0)) s.is in
+    let was : get_or z 0 (pos 0) ≡ s.first = ap (λ (x : List ℤ). get_or x 0 (pos 0)) s.was in
+    (omega (arith, ints, is, was, small, first), omega (arith, ints, is, was, small, first))
+
+at_component : (q : List ℤ) (c : ℕ) → length q ≡ 3 → All IsSmall q → c < 3 → IsSmall (of_component q c)
+at_component q c three small lt = small c (pos 0) (omega (arith, lt, three))
+
+same_three : (a b : List ℤ) → length a ≡ 3 → length b ≡ 3 → ((c : ℕ) → c < 3 → of_component a c ≡ of_component b c) → a ≡ b
+same_three a b p q same =
+    three_places a p
+    ∙ ap (λ (x : ℤ). x ∷ get_or a 1 (pos 0) ∷ get_or a 2 (pos 0) ∷ []) (same 0 (omega arith))
+    ∙ ap (λ (x : ℤ). get_or b 0 (pos 0) ∷ x ∷ get_or a 2 (pos 0) ∷ []) (same 1 (omega arith))
+    ∙ ap (λ (x : ℤ). get_or b 0 (pos 0) ∷ get_or b 1 (pos 0) ∷ x ∷ []) (same 2 (omega arith))
+    ∙ sym (three_places b q)
+
+-- a reader at the bit where an MCU of a guess starts takes it over
+pub taken_over : (i : IntervalValue) (mcu : Guessed) (p to : Place) (zs ys : List (List ℤ)) → IsLawful i.head → IsGuessed i mcu zs → mcu.from ≡ p.bit → length p.predictions ≡ 3 → All IsSmall p.predictions
+    → to.bit ≡ mcu.to.bit → length to.predictions ≡ 3 → AreGreater p.predictions mcu.to.predictions to.predictions → AreShifted i.head p.predictions zs ys
+    → IsRun (run_from i p 1) ys to AllRead
+taken_over i mcu p to zs ys lawful is from three small bit three' sums s =
+    let q = p.predictions in
+    let low = component_low i.head lawful in
+    let range : HaveFirstInRange ys = λ n lt. small_shifted (of_component q (component i.head n)) (block_of zs n) (block_of ys n) (at_component q (component i.head n) three small (low n)) (is.small n (omega (arith, lt, s.count))) (s.each n (omega (arith, lt, s.count))) in
+    let run = run_shifted i (unpredicted mcu.from) mcu.to 1 q q zs ys low (from_none q) s range is.run in
+    let behind : AreGreater q (predicted i.head no_predictions zs) (predicted i.head q ys) = predicted_shifted i.head q no_predictions q zs ys (from_none q) s in
+    let last : predicted i.head q ys ≡ to.predictions = same_three (predicted i.head q ys) to.predictions refl three' (λ c lt. behind c lt ∙ ap (λ (ps : List ℤ). of_component ps c +ℤ of_component q c) (sym is.run.predictions) ∙ sym (sums c lt)) in
+    let run1 = subst (λ (n : ℕ). IsRun (run_from i (record { bit = n; predictions = q }) 1) ys (place_with mcu.to (predicted i.head q ys)) AllRead) from run in
+    let run2 = subst (λ (n : ℕ). IsRun (run_from i p 1) ys (record { bit = n; predictions = predicted i.head q ys }) AllRead) (sym bit) run1 in
+    subst (λ (ps : List ℤ). IsRun (run_from i p 1) ys (record { bit = to.bit; predictions = ps }) AllRead) last run2
+
+-- the blocks of MCU k, as they are lent
+pub lent : (g : GuessValue) (xs : List (List ℤ)) (k per : ℕ) → per ≡ length (order_of g.interval.head) → xs ≡ g.blocks → take (k * per + per - k * per) (drop (k * per) xs) ≡ blocks_at g k
+lent g xs k per size same =
+    let n : k * per + per - k * per ≡ per = omega arith in
+    ap (λ (j : ℕ). take j (drop (k * per) xs)) n ∙ ap (λ (j : ℕ). take j (drop (k * j) xs)) size ∙ ap (λ (bs : List (List ℤ)). take (length (order_of g.interval.head)) (drop (k * length (order_of g.interval.head)) bs)) same
+
+any_mcu : Guessed
+any_mcu = record { from = 0; to = record { bit = 0; predictions = [] } }
+
+pub some_guessed : (g : GuessValue) (k : ℕ) → IsGuess g → k < length g.mcus → (mcu : Guessed) × IsGuessed g.interval mcu (blocks_at g k)
+some_guessed g k is lt = (get_or g.mcus k any_mcu, is.each k any_mcu lt)
+
+-- a block has a first coefficient
+pub some_first : (i : IntervalValue) (mcu : Guessed) (zs : List (List ℤ)) → IsGuessed i mcu zs → (n : ℕ) → n < length zs → 0 < length (get_or zs n [])
+some_first i mcu zs is n lt = omega (arith, (run_in_range _ _ _ _ is.run n [] lt).count)
+
+-- shifted blocks
+shifted_from : (h : HeadValue) (by : List ℤ) (n : ℕ) (zs : List (List ℤ)) → List (List ℤ)
+shifted_from h by n [] = []
+shifted_from h by n (z ∷ zs) = set z 0 (get_or z 0 (pos 0) +ℤ of_component by (component h n)) ∷ shifted_from h by (suc n) zs
+
+shifted_long : (h : HeadValue) (by : List ℤ) (n : ℕ) (zs : List (List ℤ)) → length (shifted_from h by n zs) ≡ length zs
+unfolding shifted_from
+shifted_long h by n [] = refl
+shifted_long h by n (z ∷ zs) = ap suc (shifted_long h by (suc n) zs)
+
+shifted_one : (d : ℤ) (z : List ℤ) → 0 < length z → IsShifted d z (set z 0 (get_or z 0 (pos 0) +ℤ d))
+shifted_one d [] some = absurd (omega arith)
+shifted_one d (x ∷ xs) some = record { first = x; others = xs; was = refl; is = refl }
+
+shifted_each : (h : HeadValue) (by : List ℤ) (m : ℕ) (zs : List (List ℤ)) → ((n : ℕ) → n < length zs → 0 < length (get_or zs n [])) → (n : ℕ) → n < length zs
+    → IsShifted (of_component by (component h (m + n))) (block_of zs n) (block_of (shifted_from h by m zs) n)
+unfolding shifted_from
+shifted_each h by m [] some n lt = absurd (omega arith)
+shifted_each h by m (z ∷ zs) some zero lt =
+    let e : m ≡ m + 0 = omega arith in
+    subst (λ (k : ℕ). IsShifted (of_component by (component h k)) z (set z 0 (get_or z 0 (pos 0) +ℤ of_component by (component h m)))) e (shifted_one (of_component by (component h m)) z (some 0 (omega arith)))
+shifted_each h by m (z ∷ zs) some (suc n) lt =
+    let e : suc m + n ≡ m + suc n = omega arith in
+    subst (λ (k : ℕ). IsShifted (of_component by (component h k)) (block_of zs n) (block_of (shifted_from h by (suc m) zs) n)) e (shifted_each h by (suc m) zs (λ k l. some (suc k) (omega arith)) n (omega arith))
+
+pub shifted_are : (h : HeadValue) (by : List ℤ) (zs : List (List ℤ)) → ((n : ℕ) → n < length zs → 0 < length (get_or zs n [])) → (ys : List (List ℤ)) × AreShifted h by zs ys
+shifted_are h by zs some =
+    let ys = shifted_from h by 0 zs in (
+      ys,
+      record {
+        count = shifted_long h by 0 zs;
+        each = λ n lt. let e : 0 + n ≡ n = omega arith in subst (λ (k : ℕ). IsShifted (of_component by (component h k)) (block_of zs n) (block_of ys n)) e (shifted_each h by 0 zs some n lt);
+      },
+    )

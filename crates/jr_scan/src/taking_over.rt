@@ -1,0 +1,214 @@
+//! A reader takes over from guesses the MCUs that it comes to.
+
+ghost use Rattle.std.specs.Prelude.{◌≡◌, ◌<◌, ◌≤◌, ◌+◌, ◌*◌, ◌++◌, ℕ, ℤ, List, length, take, IfSome};
+ghost use Rattle.std.specs.List.{All};
+ghost use Rattle.jr_head.specs.Geometry.{order_of};
+ghost use Rattle.jr_scan.specs.Block.{IsInDcRange, IsInRange};
+ghost use Rattle.jr_scan.specs.Guesses.{AreGuessesOf};
+ghost use Rattle.jr_scan.specs.Run.{IsRun, run_from};
+ghost use Rattle.jr_scan.specs.McuReader.{HasRead, HasEnded, per_mcu};
+ghost use Rattle.jr_scan.specs.declared.place.RunEnd.TheVariants.{AllRead};
+ghost use Rattle.jr_scan.specs.declared.mcu_reader.TheConstants.{MOST_UNITS};
+
+use crate::guess::Guess;
+use crate::guesses::Guesses;
+use crate::mcu_reader::McuReader;
+use crate::place::Place;
+use jr_block::Coefficients;
+
+/// Takes over from a guess the MCUs that go on from a place, at most so many, from its MCU `at` on; goes on to the place behind
+/// them, and tells how many they are.
+fn put_mcus(
+    guess: &Guess<'_>,
+    at: usize,
+    most: u32,
+    place: &mut Place,
+    blocks: &mut [Coefficients],
+) -> u32
+    requires room { most * length (order_of guess.now.interval.head) ≤ length blocks.old }
+    requires within { place.old.bit ≤ 8 * length guess.now.interval.bytes }
+    requires in_range { All IsInDcRange place.old.predictions }
+    ensures most { result ≤ most }
+    ensures run { IsRun (run_from guess.now.interval place.old result) (take (result * length (order_of guess.now.interval.head)) blocks.new) place.new AllRead }
+    ensures within { place.new.bit ≤ 8 * length guess.now.interval.bytes }
+    ensures in_range { All IsInDcRange place.new.predictions }
+{
+    let per_mcu = guess.interval().head().order().len();
+    for k in 0..most {
+        let start = k as usize * per_mcu;
+        let end = start + per_mcu;
+        let mcu = at.saturating_add(k as usize);
+        let Some(to) = guess.put(mcu, place, &mut blocks[start..end]) else {
+            return k;
+        };
+        *place = to;
+    }
+    most
+}
+
+/// The same, but for the blocks.
+fn pass_mcus(guess: &Guess<'_>, at: usize, most: u32, place: &mut Place) -> u32
+    requires within { place.old.bit ≤ 8 * length guess.now.interval.bytes }
+    requires in_range { All IsInDcRange place.old.predictions }
+    ensures most { result ≤ most }
+    ensures run { (ys : List (List ℤ)) × IsRun (run_from guess.now.interval place.old result) ys place.new AllRead }
+    ensures within { place.new.bit ≤ 8 * length guess.now.interval.bytes }
+    ensures in_range { All IsInDcRange place.new.predictions }
+{
+    guess.interval().head().be_lawful();
+    for k in 0..most {
+        let Some(to) = guess.pass(at.saturating_add(k as usize), place) else {
+            return k;
+        };
+        *place = to;
+    }
+    most
+}
+
+impl<'a> McuReader<'a> {
+    /// Takes over the MCUs that a guess has from its MCU `at` on, as `read` reads them; none where that one starts at another bit.
+    /// How many they are says nothing of what follows.
+    pub fn read_guessed(&mut self, guess: &Guess<'_>, at: usize, blocks: &mut [Coefficients]) -> u32
+        requires same { guess.now.interval ≡ self.old.run.interval }
+        ensures run { self.new.run ≡ self.old.run }
+        ensures mcus { self.new.mcu ≡ self.old.mcu + result }
+        ensures few { self.new.mcu ≤ self.new.run.mcus }
+        ensures fits { result * per_mcu self.old ≤ length blocks.new }
+        ensures read { (zs : List (List ℤ)) → HasRead self.old zs → HasRead self.new (zs ++ take (result * per_mcu self.old) blocks.new) }
+        ensures in_range { All IsInRange (take (result * per_mcu self.old) blocks.new) }
+        ensures stays { HasEnded self.old → self.new ≡ self.old }
+        ensures none { result ≡ 0 → self.new ≡ self.old }
+    {
+        let room = blocks.len() / self.interval().head().order().len();
+        let most = room.min(self.left() as usize) as u32;
+        let mut place = self.place();
+        let taken = put_mcus(guess, at, most, &mut place, blocks);
+        if taken > 0 {
+            self.go_on(taken, &place);
+        }
+        taken
+    }
+
+    /// Passes over the MCUs that a guess has from its MCU `at` on, at most so many, as `skip` does; none where that one starts at
+    /// another bit. How many they are says nothing of what follows.
+    pub fn skip_guessed(&mut self, guess: &Guess<'_>, at: usize, mcus: u32) -> u32
+        requires same { guess.now.interval ≡ self.old.run.interval }
+        ensures run { self.new.run ≡ self.old.run }
+        ensures mcus { self.new.mcu ≡ self.old.mcu + result }
+        ensures few { self.new.mcu ≤ self.new.run.mcus }
+        ensures most { result ≤ mcus }
+        ensures passed { (zs : List (List ℤ)) → HasRead self.old zs → (ys : List (List ℤ)) × (length ys ≡ result * per_mcu self.old) × All IsInRange ys × HasRead self.new (zs ++ ys) }
+        ensures stays { HasEnded self.old → self.new ≡ self.old }
+        ensures none { result ≡ 0 → self.new ≡ self.old }
+    {
+        self.interval().head().be_lawful();
+        let most = mcus.min(self.left());
+        let mut place = self.place();
+        let taken = pass_mcus(guess, at, most, &mut place);
+        if taken > 0 {
+            self.go_on(taken, &place);
+        }
+        taken
+    }
+
+    /// Reads as `read` does, and takes over what the guesses have of it.
+    pub fn read_by(&mut self, guesses: &Guesses<'_>, blocks: &mut [Coefficients]) -> u32
+        requires same { AreGuessesOf self.old.run.interval guesses.now }
+        ensures run { self.new.run ≡ self.old.run }
+        ensures mcus { self.new.mcu ≡ self.old.mcu + result }
+        ensures few { self.new.mcu ≤ self.new.run.mcus }
+        ensures fits { result * per_mcu self.old ≤ length blocks.new }
+        ensures read { (zs : List (List ℤ)) → HasRead self.old zs → HasRead self.new (zs ++ take (result * per_mcu self.old) blocks.new) }
+        ensures in_range { All IsInRange (take (result * per_mcu self.old) blocks.new) }
+        ensures ended { (result + 1) * per_mcu self.old ≤ length blocks.new → HasEnded self.new }
+        ensures none { MOST_UNITS ≤ length blocks.new → result ≡ 0 → HasEnded self.new }
+        ensures stays { HasEnded self.old → self.new ≡ self.old }
+    {
+        if guesses.is_none() {
+            return self.read(blocks);
+        }
+        let per_mcu = self.interval().head().order().len();
+        let room = blocks.len() / per_mcu;
+        let most = room.min(self.left() as usize) as u32;
+        let mut done = 0;
+        while done < most {
+            let start = done as usize * per_mcu;
+            let some = self.read_some(guesses, &mut blocks[start..]);
+            if some == 0 {
+                return done;
+            }
+            done += some;
+        }
+        done
+    }
+
+    /// Takes over what one of the guesses has from here on, or else reads the next MCU.
+    fn read_some(&mut self, guesses: &Guesses<'_>, blocks: &mut [Coefficients]) -> u32
+        requires same { AreGuessesOf self.old.run.interval guesses.now }
+        requires room { per_mcu self.old ≤ length blocks.old }
+        ensures run { self.new.run ≡ self.old.run }
+        ensures mcus { self.new.mcu ≡ self.old.mcu + result }
+        ensures few { self.new.mcu ≤ self.new.run.mcus }
+        ensures fits { result * per_mcu self.old ≤ length blocks.new }
+        ensures read { (zs : List (List ℤ)) → HasRead self.old zs → HasRead self.new (zs ++ take (result * per_mcu self.old) blocks.new) }
+        ensures in_range { All IsInRange (take (result * per_mcu self.old) blocks.new) }
+        ensures ended { result ≡ 0 → HasEnded self.new }
+        ensures stays { HasEnded self.old → self.new ≡ self.old }
+    {
+        if let Some((guess, at)) = guesses.find(self.place().bit) {
+            let taken = self.read_guessed(guess, at, blocks);
+            if taken > 0 {
+                return taken;
+            }
+        }
+        let per_mcu = self.interval().head().order().len();
+        self.read(&mut blocks[..per_mcu])
+    }
+
+    /// Passes over MCUs as `skip` does, and over those that the guesses have without reading them.
+    pub fn skip_by(&mut self, guesses: &Guesses<'_>, mcus: u32) -> u32
+        requires same { AreGuessesOf self.old.run.interval guesses.now }
+        ensures run { self.new.run ≡ self.old.run }
+        ensures mcus { self.new.mcu ≡ self.old.mcu + result }
+        ensures few { self.new.mcu ≤ self.new.run.mcus }
+        ensures most { result ≤ mcus }
+        ensures passed { (zs : List (List ℤ)) → HasRead self.old zs → (ys : List (List ℤ)) × (length ys ≡ result * per_mcu self.old) × All IsInRange ys × HasRead self.new (zs ++ ys) }
+        ensures ended { result < mcus → HasEnded self.new }
+        ensures stays { HasEnded self.old → self.new ≡ self.old }
+    {
+        if guesses.is_none() {
+            return self.skip(mcus);
+        }
+        let most = mcus.min(self.left());
+        let mut done = 0;
+        while done < most {
+            let some = self.skip_some(guesses, most - done);
+            if some == 0 {
+                return done;
+            }
+            done += some;
+        }
+        done
+    }
+
+    /// Passes over what one of the guesses has from here on, or else over the next MCU.
+    fn skip_some(&mut self, guesses: &Guesses<'_>, mcus: u32) -> u32
+        requires same { AreGuessesOf self.old.run.interval guesses.now }
+        requires some { 0 < mcus }
+        ensures run { self.new.run ≡ self.old.run }
+        ensures mcus { self.new.mcu ≡ self.old.mcu + result }
+        ensures few { self.new.mcu ≤ self.new.run.mcus }
+        ensures most { result ≤ mcus }
+        ensures passed { (zs : List (List ℤ)) → HasRead self.old zs → (ys : List (List ℤ)) × (length ys ≡ result * per_mcu self.old) × All IsInRange ys × HasRead self.new (zs ++ ys) }
+        ensures ended { result ≡ 0 → HasEnded self.new }
+        ensures stays { HasEnded self.old → self.new ≡ self.old }
+    {
+        if let Some((guess, at)) = guesses.find(self.place().bit) {
+            let taken = self.skip_guessed(guess, at, mcus);
+            if taken > 0 {
+                return taken;
+            }
+        }
+        self.skip(1)
+    }
+}
