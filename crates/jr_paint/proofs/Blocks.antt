@@ -1,5 +1,5 @@
 -- Blocks of pixels put one after another.
-use Rattle.std.proofs.Common.{◌≡◌, ℕ, zero, suc, ◌+◌, ◌-◌, ◌*◌, ◌/◌, ◌<◌, ◌≤◌, min, ℤ, pos, negsuc, ◌+ℤ◌, List, [], ◌∷◌, ◌++◌, length, take, inl, inr, arith, refl, sym, ap, ap₂, ◌∙◌, length-append}
+use Rattle.std.proofs.Common.{◌≡◌, ℕ, zero, suc, ◌+◌, ◌-◌, ◌*◌, ◌/◌, ◌<◌, ◌≤◌, min, ℤ, pos, negsuc, ◌+ℤ◌, List, [], ◌∷◌, ◌++◌, length, take, inl, inr, arith, refl, sym, subst, slice_index, ap, ◌∙◌, length-append}
 use Rattle.std.proofs.Math.Seq.{take-append_seam}
 use Rattle.std.proofs.lemmas.List.{take-take}
 use Rattle.std.proofs.lemmas.Bool.{cases_lt}
@@ -10,7 +10,8 @@ use Rattle.std.specs.Simd.Lanes.{put_chunk}
 use Rattle.jr_segments.specs.declared.kind.Kind.TheVariants.{Ycc}
 use Rattle.jr_paint.specs.Colours.{byte_of, colour_of}
 use Rattle.jr_paint.specs.Shades.{IsRaised, lowered, red_over_of, green_over_of, blue_over_of}
-use Rattle.jr_paint.proofs.Shuffled.{put_chunks}
+use Rattle.jr_paint.specs.Lines.{colour_over, turn_of}
+use Rattle.jr_paint.proofs.Turns.{by_turns}
 use Rattle.jr_paint.proofs.PixelLaws.{flat_map-range-append, flat_map-moved}
 
 -- what a raised value adds to luminance
@@ -43,6 +44,13 @@ pub pixel_is : {y r g b a cb cr cb' cr' : ℕ} → y ≡ a → cb ≡ cb' → cr
 pixel_is {y} {r} {g} {b} {a} {cb} {cr} {cb'} {cr'} e f h red green blue =
     let same : colour_of Ycc y cb cr ≡ colour_of Ycc a cb' cr' = rw (e, f, h) refl in
     three_same (lowered_is y r (red_over_of cr) red) (lowered_is y g (green_over_of cb cr) green) (lowered_is y b (blue_over_of cb) blue) ∙ same
+
+-- the same where samples are
+pub raised_same : {v x y : ℕ} (f : ℕ → ℤ) → x ≡ y → IsRaised v (f x) → IsRaised v (f y)
+raised_same {v} f e h = subst (λ x. IsRaised v (f x)) e h
+
+pub green_same : {v b r b' r' : ℕ} → b ≡ b' → r ≡ r' → IsRaised v (green_over_of b r) → IsRaised v (green_over_of b' r')
+green_same {v} {b} {r} {b'} {r'} e f h = subst (λ x. IsRaised v (green_over_of b' x)) f (subst (λ x. IsRaised v (green_over_of x r)) e h)
 
 -- pixels of three bytes
 pub length_pixels : (f : ℕ → List ℕ) → ((k : ℕ) → length (f k) ≡ 3) → (m n : ℕ) → length (flat_map f (range_with_len m n)) ≡ 3 * n
@@ -77,31 +85,37 @@ pixels_fewer f three m n out p all =
 pub last_pixels : (f : ℕ → List ℕ) → ((k : ℕ) → length (f k) ≡ 3) → (m n : ℕ) (out : List ℕ) → m ≤ n → 3 * (m + 32) ≤ length out → take (3 * n) out ≡ flat_map f (range_with_len 0 n) → take (3 * (m + 32)) (put_chunk (3 * m) out (flat_map f (range_with_len m 32))) ≡ flat_map f (range_with_len 0 (m + 32))
 last_pixels f three m n out p room all = pixels_more f three m 32 out room (pixels_fewer f three m n out p all)
 
--- sixteen pixels, and the sixteen behind them
-pub next_block : (f : ℕ → List ℕ) → ((k : ℕ) → length (f k) ≡ 3) → (i : ℕ) (out : List ℕ) → put_chunk (3 * (i + 16)) (put_chunk (3 * i) out (flat_map f (range_with_len i 16))) (flat_map f (range_with_len (i + 16) 16)) ≡ put_chunk (3 * i) out (flat_map f (range_with_len i 32))
-next_block f three i out =
-    put_chunks (3 * i) (3 * (i + 16)) out (flat_map f (range_with_len i 16)) (flat_map f (range_with_len (i + 16) 16)) (omega (arith, length_pixels f three i 16))
-    ∙ ap (put_chunk (3 * i) out) (sym (flat_map-range-append f i 16 16))
-
--- sixteen pixels, and sixteen more
-pub two_blocks : (i m : ℕ) (out : List ℕ) (f g h : ℕ → List ℕ) → m ≡ i + 48 → length (flat_map f (range_with_len 0 16)) ≡ 48 → ((k : ℕ) → k < 16 → f k ≡ h k) → ((k : ℕ) → k < 16 → g k ≡ h (16 + k))
-    → put_chunk m (put_chunk i out (flat_map f (range_with_len 0 16))) (flat_map g (range_with_len 0 16)) ≡ put_chunk i out (flat_map h (range_with_len 0 32))
-two_blocks i m out f g h e long p q =
-    let first = same_pixels f h 16 p in
-    let second : flat_map g (range_with_len 0 16) ≡ flat_map h (range_with_len 16 16) = flat_map-moved g h 0 16 16 (λ k l. let z : 0 + k ≡ k = omega arith in rw z (q k l)) in
-    put_chunks i m out (flat_map f (range_with_len 0 16)) (flat_map g (range_with_len 0 16)) (omega (arith, e, long))
-    ∙ ap (put_chunk i out) (ap₂ (λ x y. x ++ y) first second ∙ sym (flat_map-range-append h 0 16 16))
-
--- 32 pixels, where each lane says what the colours of two of them have over luminance
-pub halved_pixels : (i : ℕ) (y b c r g u : ℕ → ℕ) → ((k : ℕ) → k < 16 → IsRaised (r k) (red_over_of (c (i + k)))) → ((k : ℕ) → k < 16 → IsRaised (g k) (green_over_of (b (i + k)) (c (i + k)))) → ((k : ℕ) → k < 16 → IsRaised (u k) (blue_over_of (b (i + k))))
-    → flat_map (λ k. lowered (y (2 * i + k)) (r (k / 2)) ∷ lowered (y (2 * i + k)) (g (k / 2)) ∷ lowered (y (2 * i + k)) (u (k / 2)) ∷ []) (range_with_len 0 32) ≡ flat_map (λ k. colour_of Ycc (y k) (b (k / 2)) (c (k / 2))) (range_with_len (2 * i) 32)
-halved_pixels i y b c r g u red green blue =
-    flat_map-moved (λ k. lowered (y (2 * i + k)) (r (k / 2)) ∷ lowered (y (2 * i + k)) (g (k / 2)) ∷ lowered (y (2 * i + k)) (u (k / 2)) ∷ []) (λ k. colour_of Ycc (y k) (b (k / 2)) (c (k / 2))) 0 (2 * i) 32
+-- 32 pixels from number m on, where lanes by turns say what the colours have over luminance by chrominance b and c
+pub raised_pixels : (m : ℕ) (y b c : ℕ → ℕ) (red green blue : List (List ℕ)) → ((k : ℕ) → k < 32 → IsRaised (turn_of red k) (red_over_of (c (m + k)))) → ((k : ℕ) → k < 32 → IsRaised (turn_of green k) (green_over_of (b (m + k)) (c (m + k)))) → ((k : ℕ) → k < 32 → IsRaised (turn_of blue k) (blue_over_of (b (m + k))))
+    → flat_map (λ k. colour_over (y (m + k)) (turn_of red k) (turn_of green k) (turn_of blue k)) (range_with_len 0 32) ≡ flat_map (λ k. colour_of Ycc (y k) (b k) (c k)) (range_with_len m 32)
+raised_pixels m y b c red green blue is_red is_green is_blue =
+    flat_map-moved (λ k. colour_over (y (m + k)) (turn_of red k) (turn_of green k) (turn_of blue k)) (λ k. colour_of Ycc (y k) (b k) (c k)) 0 m 32
     (λ k l.
     let e : 0 + k ≡ k = omega arith in
-    let m : (2 * i + k) / 2 ≡ i + k / 2 = omega arith in
-    let h : k / 2 < 16 = omega (arith, l) in
-    rw (e, m) (pixel_is {cb = b (i + k / 2)} {cr = c (i + k / 2)} refl refl refl (red (k / 2) h) (green (k / 2) h) (blue (k / 2) h)))
+    rw e (pixel_is {cb = b (m + k)} {cr = c (m + k)} refl refl refl (is_red k l) (is_green k l) (is_blue k l)))
+
+-- what a lane says of two pixels: of 2 k and of the next
+half : (i k : ℕ) → (2 * i + 2 * k) / 2 ≡ i + k
+half i k = omega arith
+
+half_more : (i k : ℕ) → (2 * i + (2 * k + 1)) / 2 ≡ i + k
+half_more i k = omega arith
+
+pub halved_lanes : (i : ℕ) (v : List ℕ) (z : ℕ → ℤ) → ((k : ℕ) → k < 16 → IsRaised (slice_index v k) (z (i + k))) → (k : ℕ) → k < 32 → IsRaised (turn_of (v ∷ v ∷ []) k) (z ((2 * i + k) / 2))
+halved_lanes i v z h =
+    by_turns (λ k a. IsRaised a (z ((2 * i + k) / 2))) v v
+    (λ k l. subst (λ j. IsRaised (slice_index v k) (z j)) (sym (half i k)) (h k l))
+    (λ k l. subst (λ j. IsRaised (slice_index v k) (z j)) (sym (half_more i k)) (h k l))
+
+-- 32 pixels, two of which each lane says what the colours have over luminance for
+pub halved_pixels : (i : ℕ) (out : List ℕ) (y b c : ℕ → ℕ) (red green blue : List ℕ) → ((k : ℕ) → k < 16 → IsRaised (slice_index red k) (red_over_of (c (i + k)))) → ((k : ℕ) → k < 16 → IsRaised (slice_index green k) (green_over_of (b (i + k)) (c (i + k)))) → ((k : ℕ) → k < 16 → IsRaised (slice_index blue k) (blue_over_of (b (i + k))))
+    → put_chunk (3 * (2 * i)) out (flat_map (λ k. colour_over (y (2 * i + k)) (turn_of (red ∷ red ∷ []) k) (turn_of (green ∷ green ∷ []) k) (turn_of (blue ∷ blue ∷ []) k)) (range_with_len 0 32))
+    ≡ put_chunk (6 * i) out (flat_map (λ k. colour_of Ycc (y k) (b (k / 2)) (c (k / 2))) (range_with_len (2 * i) 32))
+halved_pixels i out y b c red green blue is_red is_green is_blue =
+    let e : 3 * (2 * i) ≡ 6 * i = omega arith in
+    let same = raised_pixels (2 * i) y (λ k. b (k / 2)) (λ k. c (k / 2)) (red ∷ red ∷ []) (green ∷ green ∷ []) (blue ∷ blue ∷ [])
+    (halved_lanes i red (λ k. red_over_of (c k)) is_red) (halved_lanes i green (λ k. green_over_of (b k) (c k)) is_green) (halved_lanes i blue (λ k. blue_over_of (b k)) is_blue) in
+    λ t. put_chunk (e t) out (same t)
 
 -- 32 pixels more
 pub halved_more : (f : ℕ → List ℕ) → ((k : ℕ) → length (f k) ≡ 3) → (n : ℕ) (out : List ℕ) → 3 * (32 * (n + 1)) ≤ length out → take (3 * (32 * n)) out ≡ flat_map f (range_with_len 0 (32 * n)) → take (3 * (32 * (n + 1))) (put_chunk (6 * (16 * n)) out (flat_map f (range_with_len (2 * (16 * n)) 32))) ≡ flat_map f (range_with_len 0 (32 * (n + 1)))

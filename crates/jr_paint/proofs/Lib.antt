@@ -1,7 +1,10 @@
-pub mod SixteenLanes
+pub mod EachLane
 pub mod Clamped
 pub mod Shuffled
+pub mod Stored
+pub mod Turns
 pub mod Raised
+pub mod Green
 pub mod Passed
 pub mod Places
 pub mod Factors

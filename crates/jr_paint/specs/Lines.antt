@@ -1,5 +1,5 @@
 -- Lines of samples put together to pixels of three bytes.
-use Rattle.std.specs.Prelude.{◌≡◌, ℕ, ◌+◌, ◌*◌, ◌/◌, ◌<◌, List, [], ◌∷◌, ◌++◌, slice_index}
+use Rattle.std.specs.Prelude.{◌≡◌, ℕ, ◌+◌, ◌-◌, ◌*◌, ◌/◌, ◌%◌, ◌<◌, List, [], ◌∷◌, ◌++◌, slice_index, slice_index_or}
 use Rattle.std.specs.List.{flat_map, range_with_len}
 use Rattle.jr_head.specs.HeadValue.{HeadValue}
 use Rattle.jr_segments.specs.declared.kind.Kind.{Kind}
@@ -18,24 +18,31 @@ abbrev pub halved_colours_of : List ℕ → List ℕ → List ℕ → ℕ → �
 halved_colours_of luma cb cr i n =
     flat_map (λ k. colour_of Ycc (slice_index luma k) (slice_index cb (k / 2)) (slice_index cr (k / 2))) (range_with_len i n)
 
+-- where pixel k of 32 stands in bytes whose halves hold eight pixels with even numbers, then eight with odd ones
+abbrev pub packed : ℕ → ℕ
+packed k = 16 * (k / 16) + 8 * (k % 2) + k % 16 / 2
+
+-- which of those bytes stands at place q of a colour whose pixel k of 16 belongs at 3 k + shift, of places counted modulo 16
+abbrev pub spread : ℕ → ℕ → ℕ
+spread shift q = packed (16 * (q / 16) + 11 * (q + 16 - shift) % 16)
+
 -- n pixels of so much red, green and blue
 abbrev pub interleaving_of : List ℕ → List ℕ → List ℕ → ℕ → List ℕ
 interleaving_of red green blue n =
-    flat_map (λ k. slice_index red k ∷ slice_index green k ∷ slice_index blue k ∷ []) (range_with_len 0 n)
+    flat_map (λ k. slice_index red (packed k) ∷ slice_index green (packed k) ∷ slice_index blue (packed k) ∷ []) (range_with_len 0 n)
 
 -- one pixel of luminance y, where what the colours have over it is raised
 abbrev pub colour_over : ℕ → ℕ → ℕ → ℕ → List ℕ
 colour_over y red green blue = lowered y red ∷ lowered y green ∷ lowered y blue ∷ []
 
--- n pixels of them
-abbrev pub colours_over : List ℕ → List ℕ → List ℕ → List ℕ → ℕ → List ℕ
-colours_over luma red green blue n =
-    flat_map (λ k. colour_over (slice_index luma k) (slice_index red k) (slice_index green k) (slice_index blue k)) (range_with_len 0 n)
+-- entry k of two lists, the first of which has those with even numbers
+abbrev pub turn_of : List (List ℕ) → ℕ → ℕ
+turn_of two k = slice_index (slice_index_or two (k % 2) []) (k / 2)
 
--- n pixels from luminance i on, where what the colours have over it stands for two pixels
-abbrev pub halved_colours_over : List ℕ → List ℕ → List ℕ → List ℕ → ℕ → ℕ → List ℕ
-halved_colours_over luma red green blue i n =
-    flat_map (λ k. colour_over (slice_index luma (i + k)) (slice_index red (k / 2)) (slice_index green (k / 2)) (slice_index blue (k / 2))) (range_with_len 0 n)
+-- n pixels from luminance i on, where what the colours have over it is given by turns
+abbrev pub colours_over : List ℕ → ℕ → (red green blue : List (List ℕ)) → ℕ → List ℕ
+colours_over luma i red green blue n =
+    flat_map (λ k. colour_over (slice_index luma (i + k)) (turn_of red k) (turn_of green k) (turn_of blue k)) (range_with_len 0 n)
 
 -- entry k is the sample of component c that pixel k of line y takes
 abbrev pub IsStretched : HeadValue → (ℕ → ℕ → ℕ → ℕ) → ℕ → ℕ → List ℕ → Type 0

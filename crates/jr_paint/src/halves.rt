@@ -3,44 +3,12 @@
 
 ghost use Rattle.std.specs.Prelude.{◌≡◌, ℕ, ◌+◌, ◌*◌, ◌/◌, ◌<◌, ◌≤◌, IfSome, length, slice_index, take};
 ghost use Rattle.std.specs.Simd.Lanes.{put_chunk};
-ghost use Rattle.jr_paint.specs.Lines.{halved_colours_of, halved_colours_over};
+ghost use Rattle.jr_paint.specs.Lines.{halved_colours_of};
 ghost use Rattle.jr_paint.specs.Shades.{red_over_of, green_over_of, blue_over_of, IsRaised};
 
 use crate::colours::mixed;
-use crate::lanes::{doubled, load, paint, raised_blue, raised_green, raised_red};
+use crate::lanes::{load, paint, raised_blue, raised_green, raised_red};
 use std::simd::prelude::*;
-
-/// The colours of 32 pixels of luminance a, from pixel 2 i on, where each lane holds what a colour has over the
-/// luminance of two pixels, raised.
-#[inline(always)]
-fn paint_halved(luma: &[u8], i: usize, red: u16x16, green: u16x16, blue: u16x16, out: &mut [u8])
-    requires red { (k : ℕ) → k < 16 → slice_index red k < 4096 }
-    requires green { (k : ℕ) → k < 16 → slice_index green k < 4096 }
-    requires blue { (k : ℕ) → k < 16 → slice_index blue k < 4096 }
-    requires across { 2 * i + 32 ≤ length luma.now }
-    requires room { 6 * i + 96 ≤ length out.old }
-    ensures { out.new ≡ put_chunk (6 * i) out.old (halved_colours_over luma.now red green blue (2 * i) 32) }
-{
-    let (left_red, right_red) = doubled(red);
-    let (left_green, right_green) = doubled(green);
-    let (left_blue, right_blue) = doubled(blue);
-    paint(
-        load(luma, 2 * i),
-        left_red,
-        left_green,
-        left_blue,
-        out,
-        6 * i,
-    );
-    paint(
-        load(luma, 2 * i + 16),
-        right_red,
-        right_green,
-        right_blue,
-        out,
-        6 * i + 48,
-    );
-}
 
 /// What red, green and blue have over luminance by sixteen samples of chrominance, from sample i on, raised.
 #[inline(always)]
@@ -70,7 +38,7 @@ fn convert_block_of_one(luma: &[u8], cb: &[u8], cr: &[u8], i: usize, out: &mut [
     ensures { out.new ≡ put_chunk (6 * i) out.old (halved_colours_of luma.now cb.now cr.now (2 * i) 32) }
 {
     let (red, green, blue) = raised(cb, cr, i);
-    paint_halved(luma, i, red, green, blue, out);
+    paint(luma, 2 * i, (red, red), (green, green), (blue, blue), out);
 }
 
 /// The colours of 32 pixels of two lines, from pixel 2 i on, of one luminance each and the chrominance that they share.
@@ -94,8 +62,9 @@ fn convert_block(
     ensures next { second.new ≡ put_chunk (6 * i) second.old (halved_colours_of next_luma.now cb.now cr.now (2 * i) 32) }
 {
     let (red, green, blue) = raised(cb, cr, i);
-    paint_halved(luma, i, red, green, blue, first);
-    paint_halved(next_luma, i, red, green, blue, second);
+    let (red, green, blue) = ((red, red), (green, green), (blue, blue));
+    paint(luma, 2 * i, red, green, blue, first);
+    paint(next_luma, 2 * i, red, green, blue, second);
 }
 
 /// Where the last of so many pixels, which whole blocks of 32 leave, are the end of a block: half of that block's first pixel.

@@ -10,6 +10,7 @@ mod lines;
 mod netpbm;
 mod pixels;
 mod samples;
+mod stores;
 mod unit_lines;
 mod upsampling;
 

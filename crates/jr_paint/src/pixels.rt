@@ -7,37 +7,24 @@ ghost use Rattle.jr_head.specs.Geometry.{component_count};
 ghost use Rattle.jr_paint.specs.Lines.{colours_of};
 
 use crate::colours::mixed;
-use crate::lanes::{load, paint, raised_blue, raised_green, raised_red};
+use crate::lanes::{load_by_turns, paint, raised_blue, raised_green, raised_red};
 use jr_head::Kind;
 
-/// The colours of sixteen pixels, from pixel i on, of luminance and chrominance.
+/// The colours of 32 pixels, from pixel i on, of luminance and chrominance.
 #[inline(always)]
 fn convert_block(luma: &[u8], cb: &[u8], cr: &[u8], i: usize, out: &mut [u8])
-    requires first { i + 16 ≤ length luma.now }
-    requires second { i + 16 ≤ length cb.now }
-    requires third { i + 16 ≤ length cr.now }
-    requires room { 3 * i + 48 ≤ length out.old }
-    ensures { out.new ≡ put_chunk (3 * i) out.old (colours_of Ycc luma.now cb.now cr.now i 16) }
-{
-    let blue_chroma = load(cb, i);
-    let red_chroma = load(cr, i);
-    let red = raised_red(red_chroma);
-    let green = raised_green(blue_chroma, red_chroma);
-    let blue = raised_blue(blue_chroma);
-    paint(load(luma, i), red, green, blue, out, 3 * i);
-}
-
-/// The colours of 32 pixels, from pixel i on.
-#[inline(always)]
-fn convert_blocks(luma: &[u8], cb: &[u8], cr: &[u8], i: usize, out: &mut [u8])
     requires first { i + 32 ≤ length luma.now }
     requires second { i + 32 ≤ length cb.now }
     requires third { i + 32 ≤ length cr.now }
     requires room { 3 * i + 96 ≤ length out.old }
     ensures { out.new ≡ put_chunk (3 * i) out.old (colours_of Ycc luma.now cb.now cr.now i 32) }
 {
-    convert_block(luma, cb, cr, i, out);
-    convert_block(luma, cb, cr, i + 16, out);
+    let b = load_by_turns(cb, i);
+    let r = load_by_turns(cr, i);
+    let red = (raised_red(r.0), raised_red(r.1));
+    let green = (raised_green(b.0, r.0), raised_green(b.1, r.1));
+    let blue = (raised_blue(b.0), raised_blue(b.1));
+    paint(luma, i, red, green, blue, out);
 }
 
 /// The colours of the first pixels, in blocks of 32, of which the last may begin within the one before: answers how
@@ -52,10 +39,10 @@ fn convert_whole_blocks(luma: &[u8], cb: &[u8], cr: &[u8], out: &mut [u8]) -> us
     let count = luma.len();
     let whole = count / 32;
     for n in 0..whole {
-        convert_blocks(luma, cb, cr, 32 * n, out);
+        convert_block(luma, cb, cr, 32 * n, out);
     }
     if whole > 0 && count % 32 > 0 {
-        convert_blocks(luma, cb, cr, count - 32, out);
+        convert_block(luma, cb, cr, count - 32, out);
         return count;
     }
     32 * whole

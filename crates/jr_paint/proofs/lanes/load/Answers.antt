@@ -1,5 +1,9 @@
-use Rattle.std.proofs.lemmas.Simd.{get_or-chunk}
+use Rattle.std.proofs.Common.{rules, ◌<◌, ◌+◌, subst, sym}
+use Rattle.jr_paint.proofs.Turns.{chunk_at}
 use Rattle.jr_paint.proofs.lanes.load.Goals as goal
 
-pub returns : goal.returns
-returns c k l = get_or-chunk c.args.i 16 c.args.bytes.now k 0 l
+pub returns-clause-values : goal.returns-clause-values
+returns-clause-values c = search (rules, chunk_at c.args.i c.args.bytes.now c.requires)
+
+pub returns-clause-small : goal.returns-clause-small
+returns-clause-small c k l = subst (λ v. v < 256) (sym (chunk_at c.args.i c.args.bytes.now c.requires k l)) (c.type_inv.bytes (c.args.i + k)).fits

@@ -1,24 +1,21 @@
-use Rattle.std.proofs.Common.{rules, ◌≡◌, ◌+◌, ◌*◌, ◌∷◌, [], slice_index, ap, ◌∙◌, arith}
+use Rattle.std.proofs.Common.{◌+◌, ◌*◌, ◌∷◌, [], slice_index, ap, ◌∙◌}
 use Rattle.std.specs.Simd.Lanes.{put_chunk}
-use Rattle.jr_segments.specs.declared.kind.Kind.TheVariants.{Ycc}
-use Rattle.jr_paint.specs.Colours.{colour_of}
-use Rattle.jr_paint.specs.Shades.{lowered}
-use Rattle.jr_paint.proofs.Blocks.{pixel_is}
-use Rattle.jr_paint.proofs.PixelLaws.{flat_map-moved}
+use Rattle.jr_paint.specs.Shades.{red_over_of, green_over_of, blue_over_of, IsRaised}
+use Rattle.jr_paint.proofs.Blocks.{raised_pixels, raised_same, green_same}
+use Rattle.jr_paint.proofs.Turns.{by_turns}
 use Rattle.jr_paint.proofs.pixels.convert_block.Goals as goal
 
 pub returns : goal.returns
 returns c =
     let i = c.args.i in
-    let y = slice_index c.load.result in
-    let r = slice_index c.raised_red-red.result in
-    let g = slice_index c.raised_green-green.result in
-    let b = slice_index c.raised_blue-blue.result in
+    let b = slice_index c.args.cb.now in
+    let r = slice_index c.args.cr.now in
+    let lb = c.load_by_turns-b.ensures in
+    let lr = c.load_by_turns-r.ensures in
     c.paint.ensures
     ∙ ap (put_chunk (3 * i) c.args.out.now)
-    (flat_map-moved (λ k. lowered (y k) (r k) ∷ lowered (y k) (g k) ∷ lowered (y k) (b k) ∷ []) (λ k. colour_of Ycc (slice_index c.args.luma.now k) (slice_index c.args.cb.now k) (slice_index c.args.cr.now k)) 0 i 16
-    (λ k l.
-    let e : 0 + k ≡ k = omega arith in
-    let second : slice_index c.load-blue_chroma.result k ≡ slice_index c.args.cb.now (i + k) = search (rules, c.load-blue_chroma.ensures k l) in
-    let third : slice_index c.load-red_chroma.result k ≡ slice_index c.args.cr.now (i + k) = search (rules, c.load-red_chroma.ensures k l) in
-    rw e (pixel_is (c.load.ensures k l) second third (c.raised_red-red.ensures k l) (c.raised_green-green.ensures k l) (c.raised_blue-blue.ensures k l))))
+    (raised_pixels i (slice_index c.args.luma.now) b r
+    (c.raised_red.result ∷ c.raised_red-2.result ∷ []) (c.raised_green.result ∷ c.raised_green-2.result ∷ []) (c.raised_blue.result ∷ c.raised_blue-2.result ∷ [])
+    (by_turns (λ k v. IsRaised v (red_over_of (r (i + k)))) _ _ (λ k l. raised_same red_over_of (lr.even k l) (c.raised_red.ensures k l)) (λ k l. raised_same red_over_of (lr.odd k l) (c.raised_red-2.ensures k l)))
+    (by_turns (λ k v. IsRaised v (green_over_of (b (i + k)) (r (i + k)))) _ _ (λ k l. green_same (lb.even k l) (lr.even k l) (c.raised_green.ensures k l)) (λ k l. green_same (lb.odd k l) (lr.odd k l) (c.raised_green-2.ensures k l)))
+    (by_turns (λ k v. IsRaised v (blue_over_of (b (i + k)))) _ _ (λ k l. raised_same blue_over_of (lb.even k l) (c.raised_blue.ensures k l)) (λ k l. raised_same blue_over_of (lb.odd k l) (c.raised_blue-2.ensures k l))))
