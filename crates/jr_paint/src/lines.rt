@@ -1,7 +1,7 @@
 //! The pixels of a line, and of two that take the same samples of chrominance.
 
 ghost use Rattle.std.specs.Prelude.{◌≡◌, ◌+◌, ◌*◌, ◌<◌, ◌≤◌, length};
-ghost use Rattle.jr_head.specs.Geometry.{component_count};
+ghost use Rattle.jr_head.specs.Geometry.{IsLawful, component_count};
 ghost use Rattle.jr_paint.specs.Lines.{IsStretched, line_of, two_lines_of, next_lines_of, line_room, line_size};
 ghost use Rattle.jr_segments.specs.declared.kind.Kind.TheVariants.{Grey};
 ghost use Rattle.jr_paint.specs.Shades.{HalvesChroma, SharesChroma};
@@ -29,8 +29,8 @@ fn fill_grey<S: Samples>(samples: &S, y: u32, room: &mut [u8], pixels: &mut [u8]
     requires pixels { length pixels.old ≡ (S.head_of samples.now).width }
     ensures { pixels.new ≡ line_of (S.head_of samples.now) (S.shown samples.now) y }
 {
-    samples.head().be_lawful();
-    let (grey, near) = room.split_at_mut(pixels.len());
+    let width = samples.head().width() as usize;
+    let (grey, near) = room.split_at_mut(width);
     pixels.copy_from_slice(upsample(samples, 0, y, near, grey));
 }
 
@@ -43,7 +43,6 @@ fn fill_colours<S: Samples>(samples: &S, y: u32, room: &mut [u8], pixels: &mut [
     ensures { pixels.new ≡ line_of (S.head_of samples.now) (S.shown samples.now) y }
 {
     let head = samples.head();
-    head.be_lawful();
     let width = head.width() as usize;
     let (first, room) = room.split_at_mut(width);
     let (second, room) = room.split_at_mut(width);
@@ -63,7 +62,6 @@ fn fill_halved<S: Samples>(samples: &S, y: u32, room: &mut [u8], pixels: &mut [u
     ensures { pixels.new ≡ line_of (S.head_of samples.now) (S.shown samples.now) y }
 {
     let head = samples.head();
-    head.be_lawful();
     let width = head.width() as usize;
     let (luma, room) = room.split_at_mut(width);
     let (cb, room) = room.split_at_mut(width);
@@ -81,7 +79,6 @@ fn fill_two<S: Samples>(samples: &S, y: u32, room: &mut [u8], pixels: &mut [u8])
     ensures { pixels.new ≡ two_lines_of (S.head_of samples.now) (S.shown samples.now) y }
 {
     let head = samples.head();
-    head.be_lawful();
     let width = head.width() as usize;
     let (luma, room) = room.split_at_mut(width);
     let (next_luma, room) = room.split_at_mut(width);
@@ -94,23 +91,10 @@ fn fill_two<S: Samples>(samples: &S, y: u32, room: &mut [u8], pixels: &mut [u8])
     convert_two(luma, next_luma, cb, cr, upper, lower);
 }
 
-/// The pixels of line y.
-fn fill<S: Samples>(samples: &S, y: u32, room: &mut [u8], pixels: &mut [u8])
-    requires down { y < (S.head_of samples.now).height }
-    requires room { line_room (S.head_of samples.now) ≤ length room.old }
-    requires pixels { length pixels.old ≡ line_size (S.head_of samples.now) }
-    ensures { pixels.new ≡ line_of (S.head_of samples.now) (S.shown samples.now) y }
-{
-    match samples.head().kind() {
-        Kind::Grey => fill_grey(samples, y, room, pixels),
-        Kind::Ycc if halves_chroma(samples.head()) => fill_halved(samples, y, room, pixels),
-        Kind::Rgb | Kind::Ycc => fill_colours(samples, y, room, pixels),
-    }
-}
-
 /// How many lines are painted at once from line y on: two where both take the same samples of chrominance.
 pub(crate) fn lines_at_once(head: &Head, y: u32) -> u32
-    requires { y < head.now.height }
+    requires lawful { IsLawful head.now }
+    requires down { y < head.now.height }
     ensures some { 0 < result }
     ensures few { result ≤ 2 }
     ensures inside { y + result ≤ head.now.height }
@@ -136,9 +120,12 @@ pub(crate) fn fill_lines<S: Samples>(
     ensures { pixels.new ≡ next_lines_of (S.head_of samples.now) (S.shown samples.now) y count }
 {
     if count == 2 {
-        fill_two(samples, y, room, pixels);
-    } else {
-        fill(samples, y, room, pixels);
+        return fill_two(samples, y, room, pixels);
+    }
+    match samples.head().kind() {
+        Kind::Grey => fill_grey(samples, y, room, pixels),
+        Kind::Ycc if halves_chroma(samples.head()) => fill_halved(samples, y, room, pixels),
+        Kind::Rgb | Kind::Ycc => fill_colours(samples, y, room, pixels),
     }
 }
 
@@ -173,7 +160,6 @@ pub fn paint_lines<S: Samples>(samples: &S, y: u32, count: u32, room: &mut [u8],
     requires pixels { length pixels.old ≡ count * line_size (S.head_of samples.now) }
     ensures { pixels.new ≡ next_lines_of (S.head_of samples.now) (S.shown samples.now) y count }
 {
-    samples.head().be_lawful();
     let line = bytes_of_line(samples.head());
     let mut painted = 0;
     let mut filled = 0;

@@ -114,7 +114,6 @@ pub fn write_netpbm<S: Samples, W: Write>(samples: &S, out: &mut Tally<W>) -> Re
     ensures err { OnErr result (WritesBeginning W.contents out.old out.new (text_of (S.head_of samples.now) (S.shown samples.now))) }
     ensures failed { has_failed out.new ≡ is_err result }
 {
-    samples.head().be_lawful();
     if samples.head().width() as usize <= NARROW {
         write_text::<S, W, NARROW_ROOM, BATCH>(samples, out)
     } else {

@@ -1,7 +1,7 @@
 //! Samples of a picture, as painting asks for them.
 
 ghost use Rattle.std.specs.Prelude.{◌≡◌, ℕ, ◌<◌, ◌≤◌, length, slice_index};
-ghost use Rattle.jr_head.specs.Geometry.{components_of};
+ghost use Rattle.jr_head.specs.Geometry.{IsLawful, components_of};
 ghost use Rattle.jr_head.specs.HeadValue.{HeadValue};
 ghost use Rattle.jr_paint.specs.Geometry.{samples_across, samples_down};
 
@@ -17,7 +17,8 @@ pub trait Samples {
 
     /// The head of the picture's file.
     fn head(&self) -> &Head
-        ensures { result.now ≡ head_of self.now };
+        ensures value { result.now ≡ head_of self.now }
+        ensures lawful { IsLawful result.now };
 
     /// The sample in column x and line y of component c.
     fn sample(&self, c: u32, x: u32, y: u32) -> u8
@@ -35,7 +36,8 @@ pub trait Samples {
         ensures long { length result.now ≡ count }
         ensures samples { (k : ℕ) → k < count → slice_index result.now k ≡ shown self.now c k y }
     {
-        self.head().be_lawful();
+        // By its contract a head has so few columns that their numbers have room.
+        let _lawful = self.head();
         let room = &mut room[..count];
         let mut x = 0;
         for entry in room.iter_mut() {

@@ -1,7 +1,7 @@
 //! Lines of samples of pictures that are kept by data units.
 
 ghost use Rattle.std.specs.Prelude.{◌≡◌, ℕ, ◌+◌, ◌*◌, ◌/◌, ◌%◌, ◌<◌, ◌≤◌, length, slice_index};
-ghost use Rattle.jr_head.specs.Geometry.{components_of, blocks_of, mcus_of};
+ghost use Rattle.jr_head.specs.Geometry.{IsLawful, components_of, blocks_of, mcus_of};
 ghost use Rattle.jr_head.specs.HeadValue.{HeadValue};
 ghost use Rattle.jr_paint.specs.Geometry.{samples_across, samples_down, spot_of};
 ghost use Rattle.jr_paint.specs.Units.{sample_by_units, sample_in_unit};
@@ -103,6 +103,7 @@ pub fn sample_of_units<U: Units>(head: &Head, units: &U, c: u32, x: u32, y: u32)
 /// Fills the samples of data unit n of a line of component c, or the first ones of them. `start` is the spot of the line's
 /// column 0.
 fn fill_unit<U: Units>(head: &Head, units: &U, c: u32, y: u32, start: Spot, n: u32, out: &mut [u8])
+    requires lawful { IsLawful head.now }
     requires head { head.now ≡ U.head_of units.now }
     requires component { c < components_of head.now }
     requires line { y < samples_down head.now c }
@@ -112,7 +113,6 @@ fn fill_unit<U: Units>(head: &Head, units: &U, c: u32, y: u32, start: Spot, n: u
     requires across { 8 * n + length out.old ≤ samples_across head.now c }
     ensures { (k : ℕ) → k < length out.new → slice_index out.new k ≡ sample_by_units head.now (U.shown_in units.now) c (8 * n + k) y }
 {
-    head.be_lawful();
     // By its contract a picture has so few MCUs that their numbers have room.
     let _mcus = head.mcus();
     let (column, part) = in_mcu(n, head.horizontal(c));

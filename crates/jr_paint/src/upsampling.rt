@@ -1,7 +1,7 @@
 //! Lines of samples brought to the picture's size: each sample stands for a rectangle of pixels.
 
 ghost use Rattle.std.specs.Prelude.{◌≡◌, ℕ, ◌+◌, ◌*◌, ◌/◌, ◌<◌, ◌≤◌, length, slice_index};
-ghost use Rattle.jr_head.specs.Geometry.{components_of, horizontal_of, horizontal_max, vertical_of, vertical_max};
+ghost use Rattle.jr_head.specs.Geometry.{IsLawful, components_of, horizontal_of, horizontal_max, vertical_of, vertical_max};
 ghost use Rattle.jr_paint.specs.Geometry.{samples_across, samples_down};
 ghost use Rattle.std.specs.Bool.{OnTrue};
 ghost use Rattle.jr_paint.specs.Shades.{HalvesChroma, IsHalved, IsShared, SharesChroma};
@@ -74,24 +74,24 @@ fn repeat(near: &[u8], factor: u32, out: &mut [u8])
 
 /// The line of component c that pixels of line y take their samples from.
 fn sample_line(head: &Head, c: u32, y: u32) -> u32
+    requires lawful { IsLawful head.now }
     requires component { c < components_of head.now }
     requires down { y < head.now.height }
     ensures value { result ≡ y * vertical_of head.now c / vertical_max head.now }
     ensures inside { result < samples_down head.now c }
 {
-    head.be_lawful();
     y * head.vertical(c) / head.vertical_max()
 }
 
 /// How many pixels of a line each sample of component c stands for.
 fn pixels_per_sample(head: &Head, c: u32) -> u32
-    requires { c < components_of head.now }
+    requires lawful { IsLawful head.now }
+    requires component { c < components_of head.now }
     ensures value { result ≡ horizontal_max head.now / horizontal_of head.now c }
     ensures some { 0 < result }
     ensures few { result ≤ 4 }
     ensures whole { horizontal_max head.now ≡ horizontal_of head.now c * result }
 {
-    head.be_lawful();
     head.horizontal_max() / head.horizontal(c)
 }
 
@@ -112,7 +112,6 @@ pub(crate) fn upsample<'a, S: Samples>(
     ensures samples { IsStretched (S.head_of samples.now) (S.shown samples.now) c y result.now }
 {
     let head = samples.head();
-    head.be_lawful();
     let line = sample_line(head, c, y);
     let factor = pixels_per_sample(head, c);
     let count = out.len().div_ceil(factor as usize);
@@ -126,13 +125,13 @@ pub(crate) fn upsample<'a, S: Samples>(
 
 /// How many samples of each chrominance stand for the pixels of a line, two each.
 fn half_count(head: &Head) -> usize
-    requires { HalvesChroma head.now }
+    requires lawful { IsLawful head.now }
+    requires halves { HalvesChroma head.now }
     ensures enough { head.now.width ≤ 2 * result }
     ensures few { result ≤ head.now.width }
     ensures inside_b { result ≤ samples_across head.now 1 }
     ensures inside_c { result ≤ samples_across head.now 2 }
 {
-    head.be_lawful();
     (head.width() as usize).div_ceil(2)
 }
 
@@ -153,7 +152,6 @@ pub(crate) fn read_halves<'a, S: Samples>(
     ensures third { IsHalfStretched (S.head_of samples.now) (S.shown samples.now) 2 y result.1.now }
 {
     let head = samples.head();
-    head.be_lawful();
     let count = half_count(head);
     let cb = samples.line(1, sample_line(head, 1, y), count, cb);
     let cr = samples.line(2, sample_line(head, 2, y), count, cr);
@@ -162,7 +160,8 @@ pub(crate) fn read_halves<'a, S: Samples>(
 
 /// Whether a sample of component c stands for two pixels of a line.
 fn is_halved(head: &Head, c: u32) -> bool
-    requires { c < components_of head.now }
+    requires lawful { IsLawful head.now }
+    requires component { c < components_of head.now }
     ensures { OnTrue result (IsHalved head.now c) }
 {
     pixels_per_sample(head, c) == 2
@@ -170,19 +169,19 @@ fn is_halved(head: &Head, c: u32) -> bool
 
 /// Whether line y and the next take their samples of component c from one line.
 fn is_shared(head: &Head, c: u32, y: u32) -> bool
+    requires lawful { IsLawful head.now }
     requires component { c < components_of head.now }
     requires down { y + 1 < head.now.height }
     ensures { OnTrue result (IsShared head.now c y) }
 {
-    head.be_lawful();
     sample_line(head, c, y + 1) == sample_line(head, c, y)
 }
 
 /// Whether a sample of both chrominances stands for two pixels of a line.
 pub(crate) fn halves_chroma(head: &Head) -> bool
+    requires { IsLawful head.now }
     ensures { OnTrue result (HalvesChroma head.now) }
 {
-    head.be_lawful();
     match head.kind() {
         Kind::Ycc => is_halved(head, 1) && is_halved(head, 2),
         Kind::Grey | Kind::Rgb => false,
@@ -191,9 +190,9 @@ pub(crate) fn halves_chroma(head: &Head) -> bool
 
 /// Whether line y has a next, which takes the same samples of both chrominances, each for two pixels of a line.
 pub(crate) fn shares_chroma(head: &Head, y: u32) -> bool
+    requires lawful { IsLawful head.now }
     requires down { y < head.now.height }
     ensures { OnTrue result (SharesChroma head.now y) }
 {
-    head.be_lawful();
     halves_chroma(head) && y + 1 < head.height() && is_shared(head, 1, y) && is_shared(head, 2, y)
 }

@@ -7,54 +7,33 @@ ghost use Rattle.jr_piece.specs.Outcome.{HasOutcome, IsOutcome};
 ghost use Rattle.jr_piece.specs.StripValue.{StripValue};
 ghost use Rattle.jr_piece.specs.Strips.{Follows, IsStrip, IsWhole, ShowsStrip, TellsSound, joined, piece_of};
 
-use jr_scan::{
-    each_interval_decodes_or_not, each_interval_has_a_longest_front, one_decoding, one_front,
-    shorter_front,
-};
-
 /// Each interval has an outcome: its one decoding, or none and a longest decodable front.
 pub fn each_interval_has_an_outcome()
     ensures { (i : IntervalValue) → HasOutcome i }
-{
-    each_interval_has_a_longest_front();
-    each_interval_decodes_or_not();
-}
+{}
 
 /// T.81 gives one outcome for an interval: pieces of one interval are equal.
 pub fn one_outcome()
     ensures { (p q : PieceValue) → p.interval ≡ q.interval → IsOutcome p → IsOutcome q → p ≡ q }
-{
-    one_decoding();
-    one_front();
-}
+{}
 
 /// A strip is final: whatever comes behind it, a piece of its interval, sound or damaged, shows at least the strip's
 /// MCUs, and at their data units just its samples.
 pub fn strip_is_final()
     ensures { (p : PieceValue) (s : StripValue) → p.interval ≡ s.interval → IsOutcome p → IsStrip s → ShowsStrip p s }
-{
-    one_front();
-    shorter_front();
-}
+{}
 
 /// Strips of the same MCUs of an interval are equal.
 pub fn one_strip()
     ensures { (a b : StripValue) → a.interval ≡ b.interval → a.first ≡ b.first → a.mcus ≡ b.mcus → IsStrip a → IsStrip b → a ≡ b }
-{
-    one_front();
-}
+{}
 
 /// Strips that follow one another are one strip.
 pub fn strips_meet()
     ensures { (a b : StripValue) → Follows a b → IsStrip a → IsStrip b → IsStrip (joined a b) }
-{
-    one_front();
-    shorter_front();
-}
+{}
 
 /// A strip of all whole MCUs that an interval has tells its outcome.
 pub fn whole_strip_is_outcome()
     ensures { (s : StripValue) (t : Bool) → IsStrip s → IsWhole s → TellsSound t s.interval → IsOutcome (piece_of t s) }
-{
-    one_front();
-}
+{}

@@ -8,7 +8,6 @@ ghost use Rattle.jr_piece.specs.Strips.{AreInOrder, AreOf, TellsEnd, shared_stri
 
 use crate::data_units::DataUnits;
 use crate::decoded::decode;
-use crate::laws::{strips_meet, whole_strip_is_outcome};
 use crate::order::{are_in_order, mcus_of_each};
 use crate::strip::Strip;
 use jr_scan::{Interval, Scan};
@@ -82,8 +81,6 @@ impl Piece {
         ensures interval { IfErr result (λ back. back.interval ≡ interval) }
         ensures strips { IfErr result (λ back. back.strips ≡ strips) }
     {
-        strips_meet();
-        whole_strip_is_outcome();
         if !are_in_order(strips.as_slice(), front) {
             return Err(OrderError { interval, strips });
         }

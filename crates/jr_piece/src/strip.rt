@@ -85,7 +85,9 @@ impl CodedStrip {
     }
 
     /// The memory of its blocks, to be used again.
-    pub(crate) fn into_blocks(self) -> Vec<Coefficients> {
+    pub fn into_blocks(self) -> Vec<Coefficients>
+        ensures { result.items ≡ self.blocks }
+    {
         self.blocks
     }
 

@@ -2,6 +2,7 @@
 
 ghost use Rattle.std.specs.Prelude.{◌≡◌, ◌≤◌, ◌<◌, ◌+◌, ℕ, ℤ, List, Option, None, Some, false, IsTrue, IfOk, IfErr, IfSome, IfNone, OnSome};
 ghost use Rattle.std.specs.Arc.{arc_value};
+ghost use Rattle.jr_head.specs.Geometry.{IsLawful};
 ghost use Rattle.jr_scan.specs.declared.place.RunEnd.TheVariants.{AllRead};
 ghost use Rattle.jr_scan.specs.Mcus.{Decodes, Front, HasNoDecoding, HasLongestFront};
 ghost use Rattle.jr_scan.specs.Run.{start_of_interval, IsRun, run_from};
@@ -10,9 +11,7 @@ ghost use Rattle.jr_piece.specs.Strips.{CanReadFrom, FirstMcus};
 use crate::strip::CodedStrip;
 use jr_block::Coefficients;
 use jr_code::Memory;
-use jr_scan::{
-    Interval, McuReader, Place, decoding_is_whole_run, one_front, one_run, runs_meet, shorter_front,
-};
+use jr_scan::{Interval, McuReader, Place};
 use std::alloc::Global;
 use std::marker::Model;
 use std::sync::Arc;
@@ -43,6 +42,7 @@ fn read_run(
     mcus: u32,
 ) -> Result<Run, Memory>
     requires { CanReadFrom interval.now from }
+    ensures lawful { IfOk result (λ _. IsLawful interval.now.head) }
     ensures few { IfOk result (λ r. r.mcus ≤ mcus) }
     ensures run { IfOk result (λ r. FirstMcus (run_from interval.now from mcus) r.mcus r.blocks.items) }
     ensures next { IfOk result (λ r. IfSome r.next (λ p. IsRun (run_from interval.now from r.mcus) r.blocks.items p AllRead)) }
@@ -103,7 +103,7 @@ impl StripReader {
     }
 
     /// Lends the reader blocks whose memory the next strip takes.
-    pub(crate) fn lend(&mut self, blocks: Vec<Coefficients>)
+    pub fn lend(&mut self, blocks: Vec<Coefficients>)
         ensures { self.new ≡ self.old }
     {
         self.spare = Some(blocks);
@@ -138,14 +138,10 @@ impl StripReader {
         ensures same { IfOk result (λ o. IfNone o (self.new ≡ self.old)) }
         ensures err { IfErr result (λ _. self.new ≡ self.old) }
     {
-        one_run();
-        runs_meet();
-        shorter_front();
         let Some(from) = self.next else {
             return Ok(None);
         };
         let interval = Arc::try_clone(&self.interval)?;
-        interval.head().be_lawful();
         let asked = most.min(interval.mcus() - self.first);
         let blocks = self.spare.take().unwrap_or(Vec::new(alloc));
         let Run { blocks, mcus, next } = read_run(blocks, &interval, from, asked)?;
@@ -164,10 +160,8 @@ impl StripReader {
         ensures sound { IsTrue result → (zs : List (List ℤ)) → Front self.now.interval self.now.first zs → Decodes self.now.interval zs }
         ensures damaged { result ≡ false → HasLongestFront self.now.interval self.now.first → HasNoDecoding self.now.interval }
     {
-        one_run();
-        one_front();
-        decoding_is_whole_run();
-        self.interval.head().be_lawful();
+        // By its contract an interval's head is lawful.
+        let _lawful = self.interval.head();
         let Some(place) = self.next else {
             return false;
         };

@@ -1,7 +1,7 @@
 //! A band: one row of MCUs, by its lines of samples.
 
 ghost use Rattle.std.specs.Prelude.{◌≡◌, ℕ, ◌+◌, ◌*◌, ◌/◌, ◌%◌, ◌<◌, ◌≤◌, [], length, slice_index, slice_index_or};
-ghost use Rattle.jr_head.specs.Geometry.{components_of, vertical_of};
+ghost use Rattle.jr_head.specs.Geometry.{IsLawful, components_of, vertical_of};
 ghost use Rattle.jr_paint.specs.Geometry.{samples_down};
 ghost use Rattle.jr_rows.specs.Bands.{sample_in_groups, samples_in};
 ghost use Rattle.jr_rows.specs.Groups.{groups_across, lines_before};
@@ -20,6 +20,7 @@ pub(crate) struct Band<'a> {
 }
 
 impl<'a> Model for Band<'a> {
+    ghost use Rattle.jr_head.specs.Geometry.{IsLawful};
     ghost use Rattle.jr_rows.specs.Groups.{groups_across};
     ghost use Rattle.jr_rows.specs.RowLines.{HasGroups};
     ghost use Rattle.jr_rows.specs.BandValue.{BandValue};
@@ -28,16 +29,15 @@ impl<'a> Model for Band<'a> {
 
     ghost view = { λ b. record { head = b.head.now; groups = b.lines.now.groups } };
 
-    ghost invariant = { λ b. HasGroups b.head.now (groups_across b.head.now) b.lines.now.groups };
+    ghost invariant = { λ b. IsLawful b.head.now × HasGroups b.head.now (groups_across b.head.now) b.lines.now.groups };
 }
 
-/// Some samples of groups of eight, from one on.
-fn samples_from(groups: &[[u8; 8]], from: usize, count: usize) -> &[u8]
-    requires { from + count ≤ 8 * length groups.now }
-    ensures long { length result.now ≡ count }
-    ensures samples { (k : ℕ) → k < count → slice_index result.now k ≡ sample_in_groups groups.now (from + k) }
+/// The samples of groups of eight, one behind the other.
+fn samples_of(groups: &[[u8; 8]]) -> &[u8]
+    ensures long { length result.now ≡ 8 * length groups.now }
+    ensures samples { (k : ℕ) → k < 8 * length groups.now → slice_index result.now k ≡ sample_in_groups groups.now k }
 {
-    &groups.as_flattened()[from..from + count]
+    groups.as_flattened()
 }
 
 /// A sample of groups of eight.
@@ -52,8 +52,10 @@ impl<'a> Band<'a> {
     /// A row of MCUs of this head's picture.
     pub(crate) fn of(head: &'a Head, lines: &'a RowLines) -> Band<'a>
         requires { HasGroups head.now (groups_across head.now) lines.now.groups }
-        ensures { result ≡ record { head = head.now; groups = lines.now.groups } }
+        ensures value { result ≡ record { head = head.now; groups = lines.now.groups } }
+        ensures lawful { IsLawful head.now }
     {
+        head.be_lawful();
         Band { head, lines }
     }
 
@@ -63,7 +65,6 @@ impl<'a> Band<'a> {
         requires line { y < samples_down self.now.head c }
         ensures { result ≡ 8 * ((lines_before self.now.head c + y % (8 * vertical_of self.now.head c)) * groups_across self.now.head) }
     {
-        self.head.be_lawful();
         let line = lines_before(self.head, c) + y % (8 * self.head.vertical(c));
         8 * (line * groups_across(self.head)) as usize
     }
@@ -79,7 +80,6 @@ impl Samples for Band<'_> {
     }
 
     fn sample(&self, c: u32, x: u32, y: u32) -> u8 {
-        self.head.be_lawful();
         let groups = self.lines.groups();
         sample_at(groups, self.start(c, y) + x as usize)
     }
@@ -88,7 +88,7 @@ impl Samples for Band<'_> {
         if count == 0 {
             return &[];
         }
-        self.head.be_lawful();
-        samples_from(self.lines.groups(), self.start(c, y), count)
+        let start = self.start(c, y);
+        &samples_of(self.lines.groups())[start..start + count]
     }
 }

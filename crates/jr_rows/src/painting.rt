@@ -26,7 +26,6 @@ pub fn paint_row(head: &Head, samples: &RowLines, row: u32, room: &mut [u8], pix
     ensures { (b : BoardValue) → b.scan.head ≡ head.now → ShowsMcus b (row * mcus_across head.now) (units_in head.now samples.now.groups)
         → pixels.new ≡ next_lines_of head.now (samples_of b) (first_line head.now row) (line_count head.now row) }
 {
-    head.be_lawful();
     let (y, count) = lines_of(head, row);
     let band = Band::of(head, samples);
     paint_lines(&band, y, count, room, pixels);

@@ -1,7 +1,7 @@
 //! The samples of a row of MCUs as lines of its components.
 
 ghost use Rattle.std.specs.Prelude.{◌≡◌, ◌≢◌, ℕ, ◌+◌, ◌*◌, ◌/◌, ◌%◌, ◌<◌, ◌≤◌, ◌^◌, [], length, slice_index, slice_index_or, None, IfOk};
-ghost use Rattle.jr_head.specs.Geometry.{blocks_before, blocks_of, components_of, mcus_across};
+ghost use Rattle.jr_head.specs.Geometry.{IsLawful, blocks_before, blocks_of, components_of, mcus_across};
 ghost use Rattle.jr_piece.specs.Outcome.{unit_of};
 ghost use Rattle.jr_rows.specs.Bands.{unit_shown_of};
 ghost use Rattle.jr_rows.specs.Groups.{all_lines, group_of, groups_across, lines_before, unit_in, units_in};
@@ -93,10 +93,10 @@ fn put_unit(
 
 /// How many groups a line has room for.
 pub(crate) fn groups_across(head: &Head) -> u32
+    requires { IsLawful head.now }
     ensures value { result ≡ groups_across head.now }
     ensures few { result < 2 ^ 18 }
 {
-    head.be_lawful();
     shape_of(head).across * head.horizontal_max()
 }
 
@@ -134,11 +134,11 @@ fn blank_mcus(
 
 /// How many lines the components before c have in a row of MCUs.
 pub(crate) fn lines_before(head: &Head, c: u32) -> u32
-    requires { c ≤ components_of head.now }
+    requires lawful { IsLawful head.now }
+    requires component { c ≤ components_of head.now }
     ensures value { result ≡ lines_before head.now c }
     ensures few { result ≤ 32 * c }
 {
-    head.be_lawful();
     let mut lines = 0;
     for k in 0..c {
         lines += 8 * head.vertical(k);
@@ -148,21 +148,21 @@ pub(crate) fn lines_before(head: &Head, c: u32) -> u32
 
 /// How many data units of an MCU those before component c are.
 fn units_before(head: &Head, c: u32) -> u32
-    requires { c < components_of head.now }
+    requires lawful { IsLawful head.now }
+    requires component { c < components_of head.now }
     ensures value { result ≡ blocks_before head.now c }
 {
-    head.be_lawful();
     place(head, c, 0, 0).block
 }
 
 /// Where data unit j of an MCU stands, where a line has room for so many groups.
 fn start_of(head: &Head, across: u32, j: u32) -> UnitStart
+    requires lawful { IsLawful head.now }
     requires across { across ≡ groups_across head.now }
     requires few { across < 2 ^ 18 }
     requires unit { j < blocks_of head.now }
     ensures { IsStartOf head.now j result }
 {
-    head.be_lawful();
     let c = u32::from(head.order()[j as usize]);
     let step = head.horizontal(c);
     let unit = j - units_before(head, c);
@@ -178,6 +178,7 @@ impl RowLines {
     pub fn open(alloc: Global, head: &Head) -> Result<RowLines, Memory>
         ensures { IfOk result (HasLines head.now) }
     {
+        head.be_lawful();
         let count = head.order().len();
         let across = groups_across(head);
         let lines = lines_before(head, head.components());

@@ -94,7 +94,7 @@ impl SampleRow {
         ensures counts { CountsRow rows.old.scan rows.old.limit rows.old.row result }
     {
         let row = rows.row();
-        let marked = self.decode(rows, &mut []);
+        let marked = rows.decode(&mut self.blocks, &mut self.lines, &mut []);
         paint_row(rows.head(), &self.lines, row, &mut self.room, pixels);
         marked
     }

@@ -5,7 +5,7 @@ use Rattle.jr_paint.proofs.PixelLaws.{line_coloured, shared_value}
 use Rattle.jr_paint.proofs.lines.fill_two.Goals as goal
 
 pub overflow_add-y : goal.overflow_add-y
-overflow_add-y g c = let low = rw c.head-head.ensures at c.be_lawful.ensures.low in omega (arith, low, c.requires.shares.next)
+overflow_add-y g c = let low = rw c.head-head.ensures.value at c.head-head.ensures.lawful.low in omega (arith, low, c.requires.shares.next)
 
 pub returns : goal.returns
 returns g c =

@@ -16,8 +16,8 @@ halved h f c y line lawful there half at k =
 pub returns-clause-second : goal.returns-clause-second
 returns-clause-second g c k l =
     let h = g.S.Samples.head_of c.args.samples.now in
-    let lawful = rw c.head-head.ensures at c.be_lawful.ensures in
-    let told = rw c.head-head.ensures at c.sample_line.ensures.value in
+    let lawful = rw c.head-head.ensures.value at c.head-head.ensures.lawful in
+    let told = rw c.head-head.ensures.value at c.sample_line.ensures.value in
     let line : c.sample_line.result ≡ c.args.y * vertical_of h 1 / vertical_max h = search (rules, told) in
     let near : k / 2 < c.half_count-count.result = search (rules, arith) in
     c.line-cb.ensures.samples (k / 2) near ∙ halved h (g.S.Samples.shown c.args.samples.now) 1 c.args.y c.sample_line.result lawful (search (rules, arith)) c.requires.halves.half_b line k
@@ -25,8 +25,8 @@ returns-clause-second g c k l =
 pub returns-clause-third : goal.returns-clause-third
 returns-clause-third g c k l =
     let h = g.S.Samples.head_of c.args.samples.now in
-    let lawful = rw c.head-head.ensures at c.be_lawful.ensures in
-    let told = rw c.head-head.ensures at c.sample_line-2.ensures.value in
+    let lawful = rw c.head-head.ensures.value at c.head-head.ensures.lawful in
+    let told = rw c.head-head.ensures.value at c.sample_line-2.ensures.value in
     let line : c.sample_line-2.result ≡ c.args.y * vertical_of h 2 / vertical_max h = search (rules, told) in
     let near : k / 2 < c.half_count-count.result = search (rules, arith) in
     c.line-cr.ensures.samples (k / 2) near ∙ halved h (g.S.Samples.shown c.args.samples.now) 2 c.args.y c.sample_line-2.result lawful (search (rules, arith)) c.requires.halves.half_c line k

@@ -7,27 +7,27 @@ use Rattle.jr_paint.proofs.upsampling.upsample.Goals as goal
 pub line-requires-clause-columns : goal.line-requires-clause-columns
 line-requires-clause-columns g c =
     let h = g.S.Samples.head_of c.args.samples.now in
-    let lawful = rw c.head-head.ensures at c.be_lawful.ensures in
-    let whole = rw c.head-head.ensures at c.pixels_per_sample-factor.ensures.whole in
+    let lawful = rw c.head-head.ensures.value at c.head-head.ensures.lawful in
+    let whole = rw c.head-head.ensures.value at c.pixels_per_sample-factor.ensures.whole in
     let count : c.div_ceil-count.result ≡ div_ceil h.width c.pixels_per_sample-factor.result = search rules in
     rw count (stretched_inside h c.args.c _ lawful c.requires.component c.pixels_per_sample-factor.ensures.some whole)
 
 pub line-once-requires-clause-columns : goal.line-once-requires-clause-columns
 line-once-requires-clause-columns g c =
     let h = g.S.Samples.head_of c.args.samples.now in
-    let lawful = rw c.head-head.ensures at c.be_lawful.ensures in
-    let whole = rw c.head-head.ensures at c.pixels_per_sample-factor.ensures.whole in
+    let lawful = rw c.head-head.ensures.value at c.head-head.ensures.lawful in
+    let whole = rw c.head-head.ensures.value at c.pixels_per_sample-factor.ensures.whole in
     let count : c.div_ceil-count.result ≡ div_ceil h.width c.pixels_per_sample-factor.result = search rules in
     rw count (stretched_inside h c.args.c _ lawful c.requires.component c.pixels_per_sample-factor.ensures.some whole)
 
 pub returns-then-factor-eq1-clause-samples : goal.returns-then-factor-eq1-clause-samples
 returns-then-factor-eq1-clause-samples g c k l =
     let h = g.S.Samples.head_of c.args.samples.now in
-    let lawful = rw c.head-head.ensures at c.be_lawful.ensures in
-    let whole = rw (c.head-head.ensures, c.if-factor-eq1.true) at c.pixels_per_sample-factor.ensures.whole in
+    let lawful = rw c.head-head.ensures.value at c.head-head.ensures.lawful in
+    let whole = rw (c.head-head.ensures.value, c.if-factor-eq1.true) at c.pixels_per_sample-factor.ensures.whole in
     let same = scaled k (horizontal_of h c.args.c) (horizontal_max h) 1 (sampled_at h c.args.c lawful c.requires.component).across whole in
     let column : k ≡ k * horizontal_of h c.args.c / horizontal_max h = omega (arith, same) in
-    let line = rw c.head-head.ensures at c.sample_line-line.ensures.value in
+    let line = rw c.head-head.ensures.value at c.sample_line-line.ensures.value in
     let f = c.pixels_per_sample-factor.result in
     let some : 0 < h.width = lawful.wide in
     let count : c.div_ceil-count.result ≡ div_ceil h.width f = search rules in
@@ -40,11 +40,11 @@ pub returns-clause-samples : goal.returns-clause-samples
 returns-clause-samples g c k l =
     let h = g.S.Samples.head_of c.args.samples.now in
     let f = c.pixels_per_sample-factor.result in
-    let lawful = rw c.head-head.ensures at c.be_lawful.ensures in
-    let whole = rw c.head-head.ensures at c.pixels_per_sample-factor.ensures.whole in
+    let lawful = rw c.head-head.ensures.value at c.head-head.ensures.lawful in
+    let whole = rw c.head-head.ensures.value at c.pixels_per_sample-factor.ensures.whole in
     let same = scaled k (horizontal_of h c.args.c) (horizontal_max h) f (sampled_at h c.args.c lawful c.requires.component).across whole in
     let column : k / f ≡ k * horizontal_of h c.args.c / horizontal_max h = omega (arith, same) in
-    let line = rw c.head-head.ensures at c.sample_line-line.ensures.value in
+    let line = rw c.head-head.ensures.value at c.sample_line-line.ensures.value in
     let inside : k < length c.repeat.new.out = search (rules, arith, l, c.repeat.auto.out) in
     let some : 0 < h.width = lawful.wide in
     let count : c.div_ceil-count.result ≡ div_ceil h.width f = search rules in

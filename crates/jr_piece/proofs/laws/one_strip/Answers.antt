@@ -1,5 +1,6 @@
 use Rattle.jr_piece.proofs.Strips.{one_strip}
+use Rattle.jr_piece.proofs.ScanLaws.{one_front}
 use Rattle.jr_piece.proofs.laws.one_strip.Goals as goal
 
 pub returns : goal.returns
-returns c = one_strip c.one_front.ensures
+returns c = one_strip one_front

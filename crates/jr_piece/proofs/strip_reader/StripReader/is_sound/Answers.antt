@@ -7,6 +7,7 @@ use Rattle.jr_scan.specs.IntervalValue.{IntervalValue}
 use Rattle.jr_scan.specs.Mcus.{HasNoDecoding, Decodes, Front, HasLongestFront}
 use Rattle.jr_piece.specs.StripValue.{ReadingValue}
 use Rattle.jr_piece.proofs.StripRuns.{whole_strip, is_damaged}
+use Rattle.jr_piece.proofs.ScanLaws.{one_front, one_run, whole_run}
 use Rattle.jr_piece.proofs.strip_reader.StripReader.is_sound.Goals as goal
 
 abbrev Sound : ReadingValue → Type 0
@@ -19,9 +20,9 @@ pub returns-in_default-clause-damaged : goal.returns-in_default-clause-damaged
 returns-in_default-clause-damaged c = λ _.
     let i = arc_value c.self.inside.interval in
     let own : c.deref.result.now ≡ i = search rules in
-    let lawful : IsLawful i.head = subst IsLawful (c.head.ensures.value ∙ ap (λ (v : IntervalValue). v.head) own) c.be_lawful.ensures in
+    let lawful = subst IsLawful (c.head-lawful.ensures.value ∙ ap (λ (v : IntervalValue). v.head) own) c.head-lawful.ensures.lawful in
     let none : c.self.inside.next ≡ None = search rules in
-    subst Damaged c.self.view_is (is_damaged c.one_run.ensures c.decoding_is_whole_run.ensures (record { interval = i; first = c.self.inside.first; next = c.self.inside.next }) lawful c.self.invariant (λ p e all few. let z : None ≡ Some p = sym none ∙ e in cc))
+    subst Damaged c.self.view_is (is_damaged one_run whole_run (record { interval = i; first = c.self.inside.first; next = c.self.inside.next }) lawful c.self.invariant (λ p e all few. let z : None ≡ Some p = sym none ∙ e in cc))
 
 pub returns-then-self-mcus-clause-sound : goal.returns-then-self-mcus-clause-sound
 returns-then-self-mcus-clause-sound c = λ t.
@@ -29,15 +30,15 @@ returns-then-self-mcus-clause-sound c = λ t.
     let bytes : c.bytes.result.now ≡ i.bytes = search rules in
     let count : c.mcus.result ≡ i.mcus = search rules in
     let few : c.saturating_sub.result < 8 = grind (arith, rules) in
-    subst Sound c.self.view_is (whole_strip c.one_front.ensures c.decoding_is_whole_run.ensures (record { interval = i; first = c.self.inside.first; next = c.self.inside.next }) c.in-Some.place c.self.invariant c.in-Some.is (omega (arith, c.if-self-mcus.true, count)) (omega (arith, few, c.saturating_sub.ensures, ap (λ (l : List ℕ). length l) bytes)))
+    subst Sound c.self.view_is (whole_strip one_front whole_run (record { interval = i; first = c.self.inside.first; next = c.self.inside.next }) c.in-Some.place c.self.invariant c.in-Some.is (omega (arith, c.if-self-mcus.true, count)) (omega (arith, few, c.saturating_sub.ensures, ap (λ (l : List ℕ). length l) bytes)))
 
 pub returns-then-self-mcus-clause-damaged : goal.returns-then-self-mcus-clause-damaged
 returns-then-self-mcus-clause-damaged c = λ f.
     let i = arc_value c.self.inside.interval in
     let own : c.deref.result.now ≡ i = search rules in
-    let lawful : IsLawful i.head = subst IsLawful (c.head.ensures.value ∙ ap (λ (v : IntervalValue). v.head) own) c.be_lawful.ensures in
+    let lawful = subst IsLawful (c.head-lawful.ensures.value ∙ ap (λ (v : IntervalValue). v.head) own) c.head-lawful.ensures.lawful in
     let bytes : c.bytes.result.now ≡ i.bytes = search rules in
-    subst Damaged c.self.view_is (is_damaged c.one_run.ensures c.decoding_is_whole_run.ensures (record { interval = i; first = c.self.inside.first; next = c.self.inside.next }) lawful c.self.invariant (λ p e all few.
+    subst Damaged c.self.view_is (is_damaged one_run whole_run (record { interval = i; first = c.self.inside.first; next = c.self.inside.next }) lawful c.self.invariant (λ p e all few.
     let two : Some c.in-Some.place ≡ Some p = sym c.in-Some.is ∙ e in
     let same : c.in-Some.place ≡ p = cc in
     let lt : c.saturating_sub.result < 8 = omega (arith, few, c.saturating_sub.ensures, ap (λ (l : List ℕ). length l) bytes, ap (λ (x : Place). x.bit) same) in
@@ -47,6 +48,6 @@ pub returns-else-self-mcus-clause-damaged : goal.returns-else-self-mcus-clause-d
 returns-else-self-mcus-clause-damaged c = λ f.
     let i = arc_value c.self.inside.interval in
     let own : c.deref.result.now ≡ i = search rules in
-    let lawful : IsLawful i.head = subst IsLawful (c.head.ensures.value ∙ ap (λ (v : IntervalValue). v.head) own) c.be_lawful.ensures in
+    let lawful = subst IsLawful (c.head-lawful.ensures.value ∙ ap (λ (v : IntervalValue). v.head) own) c.head-lawful.ensures.lawful in
     let count : c.mcus.result ≡ i.mcus = search rules in
-    subst Damaged c.self.view_is (is_damaged c.one_run.ensures c.decoding_is_whole_run.ensures (record { interval = i; first = c.self.inside.first; next = c.self.inside.next }) lawful c.self.invariant (λ p e all few. c.if-self-mcus.false (all ∙ sym count)))
+    subst Damaged c.self.view_is (is_damaged one_run whole_run (record { interval = i; first = c.self.inside.first; next = c.self.inside.next }) lawful c.self.invariant (λ p e all few. c.if-self-mcus.false (all ∙ sym count)))

@@ -10,11 +10,12 @@ use Rattle.jr_scan.specs.Mcus.{HasLongestFront}
 use Rattle.jr_piece.specs.StripValue.{CodedStripValue, ReadingValue}
 use Rattle.jr_piece.specs.Strips.{CanReadFrom, FirstMcus, HasItsBlocks}
 use Rattle.jr_piece.proofs.StripRuns.{blocks, reading, ended}
+use Rattle.jr_piece.proofs.ScanLaws.{one_run, runs_meet, shorter_front}
 use Rattle.jr_piece.proofs.strip_reader.StripReader.next.Goals as goal
 
 pub read_run-requires : goal.read_run-requires
 read_run-requires c =
-    let at : c.deref-3.result.now ≡ arc_value c.self.inside.interval = search rules in
+    let at : c.deref-2.result.now ≡ arc_value c.self.inside.interval = search rules in
     let n = c.self.invariant.next c.in-Some.from c.in-Some.is in
     subst (λ (i : IntervalValue). CanReadFrom i c.in-Some.from) (sym at) n.can
 
@@ -24,17 +25,16 @@ room i j first n m most mcus e few asked is le = let k : mcus ≡ i.mcus = is �
 pub of-requires : goal.of-requires
 of-requires c =
     let i = arc_value c.self.inside.interval in
-    let at : c.deref-3.result.now ≡ i = search rules in
-    let other : c.deref-2.result.now ≡ i = search rules in
+    let at : c.deref-2.result.now ≡ i = search rules in
+    let other : c.deref.result.now ≡ i = search rules in
     let own : arc_value c.in_ok-interval.interval ≡ i = search rules in
-    let own_head : c.deref.result.now ≡ i = search rules in
-    let lawful : IsLawful i.head = subst IsLawful (c.head.ensures.value ∙ ap (λ (v : IntervalValue). v.head) own_head) c.be_lawful.ensures in
+    let lawful = subst (λ (v : IntervalValue). IsLawful v.head) at c.in_ok-blocks.ensures.lawful in
     let r = c.in_ok-blocks.field-0 in
-    let run : FirstMcus (run_from c.deref-3.result.now c.in-Some.from c.min-asked.result) r.mcus r.blocks.items = search (rules, c.in_ok-blocks.ensures.run) in
+    let run : FirstMcus (run_from c.deref-2.result.now c.in-Some.from c.min-asked.result) r.mcus r.blocks.items = search (rules, c.in_ok-blocks.ensures.run) in
     let was : FirstMcus (run_from i c.in-Some.from c.min-asked.result) r.mcus r.blocks.items = subst (λ (v : IntervalValue). FirstMcus (run_from v c.in-Some.from c.min-asked.result) r.mcus r.blocks.items) at run in
     let least : c.min-asked.result ≡ min c.args.most (c.mcus.result - c.self.inside.first) = search (rules, c.min-asked.ensures) in
-    let few = room i c.deref-2.result.now c.self.inside.first r.mcus c.min-asked.result c.args.most c.mcus.result other c.in_ok-blocks.ensures.few least c.mcus.ensures c.self.invariant.front.at_most in
-    let blocks = blocks c.one_run.ensures c.runs_meet.ensures c.shorter_front.ensures i lawful c.self.inside.first c.self.invariant.blocks c.in-Some.from (c.self.invariant.next c.in-Some.from c.in-Some.is) r.mcus c.min-asked.result r.blocks.items was few in
+    let few = room i c.deref.result.now c.self.inside.first r.mcus c.min-asked.result c.args.most c.mcus.result other c.in_ok-blocks.ensures.few least c.mcus.ensures c.self.invariant.front.at_most in
+    let blocks = blocks one_run runs_meet shorter_front i lawful c.self.inside.first c.self.invariant.blocks c.in-Some.from (c.self.invariant.next c.in-Some.from c.in-Some.is) r.mcus c.min-asked.result r.blocks.items was few in
     let coded =
     subst (λ (v : IntervalValue). HasItsBlocks (record { interval = v; first = c.self.inside.first; mcus = r.mcus; blocks = r.blocks.items })) (sym own) blocks in
     search coded
@@ -42,17 +42,16 @@ of-requires c =
 pub invariant_of-self-2 : goal.invariant_of-self-2
 invariant_of-self-2 c =
     let i = arc_value c.self.inside.interval in
-    let at : c.deref-3.result.now ≡ i = search rules in
-    let other : c.deref-2.result.now ≡ i = search rules in
-    let own_head : c.deref.result.now ≡ i = search rules in
-    let lawful : IsLawful i.head = subst IsLawful (c.head.ensures.value ∙ ap (λ (v : IntervalValue). v.head) own_head) c.be_lawful.ensures in
+    let at : c.deref-2.result.now ≡ i = search rules in
+    let other : c.deref.result.now ≡ i = search rules in
+    let lawful = subst (λ (v : IntervalValue). IsLawful v.head) at c.in_ok-blocks.ensures.lawful in
     let r = c.in_ok-blocks.field-0 in
-    let run : FirstMcus (run_from c.deref-3.result.now c.in-Some.from c.min-asked.result) r.mcus r.blocks.items = search (rules, c.in_ok-blocks.ensures.run) in
+    let run : FirstMcus (run_from c.deref-2.result.now c.in-Some.from c.min-asked.result) r.mcus r.blocks.items = search (rules, c.in_ok-blocks.ensures.run) in
     let was : FirstMcus (run_from i c.in-Some.from c.min-asked.result) r.mcus r.blocks.items = subst (λ (v : IntervalValue). FirstMcus (run_from v c.in-Some.from c.min-asked.result) r.mcus r.blocks.items) at run in
     let least : c.min-asked.result ≡ min c.args.most (c.mcus.result - c.self.inside.first) = search (rules, c.min-asked.ensures) in
-    let few = room i c.deref-2.result.now c.self.inside.first r.mcus c.min-asked.result c.args.most c.mcus.result other c.in_ok-blocks.ensures.few least c.mcus.ensures c.self.invariant.front.at_most in
+    let few = room i c.deref.result.now c.self.inside.first r.mcus c.min-asked.result c.args.most c.mcus.result other c.in_ok-blocks.ensures.few least c.mcus.ensures c.self.invariant.front.at_most in
     let under : c.self.inside.first + c.min-asked.result ≤ i.mcus = omega (arith, least, c.mcus.ensures, ap (λ (v : IntervalValue). v.mcus) other, c.self.invariant.front.at_most) in
-    let told = reading c.one_run.ensures c.runs_meet.ensures c.shorter_front.ensures i lawful c.self.inside.first c.self.invariant.blocks c.in-Some.from (c.self.invariant.next c.in-Some.from c.in-Some.is) r.mcus c.min-asked.result r.blocks.items was few
+    let told = reading one_run runs_meet shorter_front i lawful c.self.inside.first c.self.invariant.blocks c.in-Some.from (c.self.invariant.next c.in-Some.from c.in-Some.is) r.mcus c.min-asked.result r.blocks.items was few
     r.next under (subst (λ (v : IntervalValue). IfSome r.next (λ (p : Place). IsRun (run_from v c.in-Some.from r.mcus) r.blocks.items p AllRead)) at c.in_ok-blocks.ensures.next)
     (subst (λ (v : IntervalValue). IfSome r.next (CanReadFrom v)) at c.in_ok-blocks.ensures.can) c.in_ok-blocks.ensures.none in
     search (rules, told)
@@ -60,17 +59,16 @@ invariant_of-self-2 c =
 pub returns-then-mcus-eq0-clause-none : goal.returns-then-mcus-eq0-clause-none
 returns-then-mcus-eq0-clause-none c = λ some.
     let i = arc_value c.self.inside.interval in
-    let at : c.deref-3.result.now ≡ i = search rules in
-    let other : c.deref-2.result.now ≡ i = search rules in
-    let own_head : c.deref.result.now ≡ i = search rules in
-    let lawful : IsLawful i.head = subst IsLawful (c.head.ensures.value ∙ ap (λ (v : IntervalValue). v.head) own_head) c.be_lawful.ensures in
+    let at : c.deref-2.result.now ≡ i = search rules in
+    let other : c.deref.result.now ≡ i = search rules in
+    let lawful = subst (λ (v : IntervalValue). IsLawful v.head) at c.in_ok-blocks.ensures.lawful in
     let r = c.in_ok-blocks.field-0 in
-    let run : FirstMcus (run_from c.deref-3.result.now c.in-Some.from c.min-asked.result) r.mcus r.blocks.items = search (rules, c.in_ok-blocks.ensures.run) in
+    let run : FirstMcus (run_from c.deref-2.result.now c.in-Some.from c.min-asked.result) r.mcus r.blocks.items = search (rules, c.in_ok-blocks.ensures.run) in
     let was : FirstMcus (run_from i c.in-Some.from c.min-asked.result) r.mcus r.blocks.items = subst (λ (v : IntervalValue). FirstMcus (run_from v c.in-Some.from c.min-asked.result) r.mcus r.blocks.items) at run in
     let least : c.min-asked.result ≡ min c.args.most (c.mcus.result - c.self.inside.first) = search (rules, c.min-asked.ensures) in
-    let few = room i c.deref-2.result.now c.self.inside.first r.mcus c.min-asked.result c.args.most c.mcus.result other c.in_ok-blocks.ensures.few least c.mcus.ensures c.self.invariant.front.at_most in
+    let few = room i c.deref.result.now c.self.inside.first r.mcus c.min-asked.result c.args.most c.mcus.result other c.in_ok-blocks.ensures.few least c.mcus.ensures c.self.invariant.front.at_most in
     let asked = least ∙ ap (λ (k : ℕ). min c.args.most (k - c.self.inside.first)) (c.mcus.ensures ∙ ap (λ (v : IntervalValue). v.mcus) other) in
-    let last = ended c.one_run.ensures c.runs_meet.ensures c.shorter_front.ensures i lawful c.self.inside.first c.self.invariant.blocks c.in-Some.from (c.self.invariant.next c.in-Some.from c.in-Some.is) r.mcus c.min-asked.result r.blocks.items was few
+    let last = ended one_run runs_meet shorter_front i lawful c.self.inside.first c.self.invariant.blocks c.in-Some.from (c.self.invariant.next c.in-Some.from c.in-Some.is) r.mcus c.min-asked.result r.blocks.items was few
     c.args.most c.self.invariant.front asked (omega (arith, c.if-mcus-eq0.true, some)) in
     let here = subst (λ (k : ℕ). HasLongestFront i k) (omega (arith, c.if-mcus-eq0.true)) last in
     subst (λ (v : ReadingValue). HasLongestFront v.interval v.first) c.self.view_is here
@@ -78,25 +76,24 @@ returns-then-mcus-eq0-clause-none c = λ some.
 pub returns-clause-last : goal.returns-clause-last
 returns-clause-last c = λ lt.
     let i = arc_value c.self.inside.interval in
-    let at : c.deref-3.result.now ≡ i = search rules in
-    let other : c.deref-2.result.now ≡ i = search rules in
-    let own_head : c.deref.result.now ≡ i = search rules in
-    let lawful : IsLawful i.head = subst IsLawful (c.head.ensures.value ∙ ap (λ (v : IntervalValue). v.head) own_head) c.be_lawful.ensures in
+    let at : c.deref-2.result.now ≡ i = search rules in
+    let other : c.deref.result.now ≡ i = search rules in
+    let lawful = subst (λ (v : IntervalValue). IsLawful v.head) at c.in_ok-blocks.ensures.lawful in
     let r = c.in_ok-blocks.field-0 in
-    let run : FirstMcus (run_from c.deref-3.result.now c.in-Some.from c.min-asked.result) r.mcus r.blocks.items = search (rules, c.in_ok-blocks.ensures.run) in
+    let run : FirstMcus (run_from c.deref-2.result.now c.in-Some.from c.min-asked.result) r.mcus r.blocks.items = search (rules, c.in_ok-blocks.ensures.run) in
     let was : FirstMcus (run_from i c.in-Some.from c.min-asked.result) r.mcus r.blocks.items = subst (λ (v : IntervalValue). FirstMcus (run_from v c.in-Some.from c.min-asked.result) r.mcus r.blocks.items) at run in
     let least : c.min-asked.result ≡ min c.args.most (c.mcus.result - c.self.inside.first) = search (rules, c.min-asked.ensures) in
-    let few = room i c.deref-2.result.now c.self.inside.first r.mcus c.min-asked.result c.args.most c.mcus.result other c.in_ok-blocks.ensures.few least c.mcus.ensures c.self.invariant.front.at_most in
+    let few = room i c.deref.result.now c.self.inside.first r.mcus c.min-asked.result c.args.most c.mcus.result other c.in_ok-blocks.ensures.few least c.mcus.ensures c.self.invariant.front.at_most in
     let asked = least ∙ ap (λ (k : ℕ). min c.args.most (k - c.self.inside.first)) (c.mcus.ensures ∙ ap (λ (v : IntervalValue). v.mcus) other) in
-    ended c.one_run.ensures c.runs_meet.ensures c.shorter_front.ensures i lawful c.self.inside.first c.self.invariant.blocks c.in-Some.from (c.self.invariant.next c.in-Some.from c.in-Some.is) r.mcus c.min-asked.result r.blocks.items was few
+    ended one_run runs_meet shorter_front i lawful c.self.inside.first c.self.invariant.blocks c.in-Some.from (c.self.invariant.next c.in-Some.from c.in-Some.is) r.mcus c.min-asked.result r.blocks.items was few
     c.args.most c.self.invariant.front asked (omega (arith, ap (λ (s : CodedStripValue). s.mcus) c.of.ensures, lt))
 
 pub returns-clause-within : goal.returns-clause-within
 returns-clause-within c =
     let i = arc_value c.self.inside.interval in
-    let other : c.deref-2.result.now ≡ i = search rules in
+    let other : c.deref.result.now ≡ i = search rules in
     let least : c.min-asked.result ≡ min c.args.most (c.mcus.result - c.self.inside.first) = search (rules, c.min-asked.ensures) in
-    let told = room i c.deref-2.result.now c.self.inside.first c.in_ok-blocks.field-0.mcus c.min-asked.result c.args.most c.mcus.result other c.in_ok-blocks.ensures.few least c.mcus.ensures c.self.invariant.front.at_most in
+    let told = room i c.deref.result.now c.self.inside.first c.in_ok-blocks.field-0.mcus c.min-asked.result c.args.most c.mcus.result other c.in_ok-blocks.ensures.few least c.mcus.ensures c.self.invariant.front.at_most in
     subst (λ (v : ReadingValue). c.self.inside.first + c.in_ok-blocks.field-0.mcus ≤ v.interval.mcus) c.self.view_is told
 
 pub returns-clause-first : goal.returns-clause-first

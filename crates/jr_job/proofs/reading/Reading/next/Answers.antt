@@ -1,11 +1,11 @@
 use Rattle.std.proofs.Common.{rules, ◌≡◌, ◌<◌, sym, subst, ap}
 use Rattle.std.specs.Option.{IfNone}
 use Rattle.jr_scan.specs.Mcus.{HasLongestFront}
-use Rattle.jr_piece.specs.Sharing.{IsOneOf}
+use Rattle.jr_job.specs.Sharing.{IsOneOf}
 use Rattle.jr_piece.specs.StripValue.{ReadingValue}
 use Rattle.jr_piece.specs.Strips.{TellsEnd}
-use Rattle.jr_piece.proofs.Gathering.{tells_end}
-use Rattle.jr_piece.proofs.reading.Reading.next.Goals as goal
+use Rattle.jr_job.proofs.Gathering.{tells_end}
+use Rattle.jr_job.proofs.reading.Reading.next.Goals as goal
 
 pub returns : goal.returns
 returns g c =

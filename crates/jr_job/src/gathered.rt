@@ -4,13 +4,13 @@ ghost use Rattle.std.specs.Prelude.{◌≡◌, IfOk, IfSome};
 ghost use Rattle.std.specs.List.{All};
 ghost use Rattle.std.specs.Arc.{arc_value};
 ghost use Rattle.jr_scan.specs.IntervalValue.{IntervalValue};
-ghost use Rattle.jr_piece.specs.Sharing.{IsOneOf, IsEmptyOrOf, IsEndOf};
+ghost use Rattle.jr_job.specs.Sharing.{IsOneOf, IsEmptyOrOf, IsEndOf};
 ghost use Rattle.jr_piece.specs.Strips.{AreOf, TellsEnd, shared_strips};
 
 use crate::one_scan::OneScan;
 use crate::reading::{End, strip_mcus};
-use crate::strip::Strip;
 use jr_code::Memory;
+use jr_piece::Strip;
 use jr_scan::Interval;
 use std::alloc::Global;
 use std::marker::{Model, PhantomData};
@@ -33,7 +33,7 @@ impl<S: OneScan> Model for Gathered<S> {
     ghost use Rattle.std.specs.List.{All};
     ghost use Rattle.std.specs.Arc.{arc_value};
     ghost use Rattle.jr_scan.specs.IntervalValue.{IntervalValue};
-    ghost use Rattle.jr_piece.specs.Sharing.{IsOneOf, IsEmptyOrOf};
+    ghost use Rattle.jr_job.specs.Sharing.{IsOneOf, IsEmptyOrOf};
     ghost use Rattle.jr_piece.specs.Strips.{TellsEnd};
 
     ghost Value = { IntervalValue };

@@ -2,15 +2,14 @@
 
 ghost use Rattle.std.specs.Prelude.{◌≡◌, Some, IfOk, IfSome};
 ghost use Rattle.std.specs.Arc.{arc_value};
-ghost use Rattle.jr_piece.specs.Sharing.{IsOneOf};
+ghost use Rattle.jr_job.specs.Sharing.{IsOneOf};
 
 use crate::gathered::Gathered;
 use crate::one_scan::OneScan;
-use crate::piece::Piece;
 use crate::progress::{Progress, ScanStrip, StripTask};
 use crate::reading::Reading;
-use crate::strip::Strip;
 use jr_code::Memory;
+use jr_piece::{Piece, Strip};
 use jr_scan::{Interval, Scan};
 use std::alloc::Global;
 use std::marker::Model;
@@ -29,7 +28,7 @@ pub struct Job<S: OneScan> {
 impl<S: OneScan> Model for Job<S> {
     ghost use Rattle.std.specs.Arc.{arc_value};
     ghost use Rattle.jr_scan.specs.IntervalValue.{IntervalValue};
-    ghost use Rattle.jr_piece.specs.Sharing.{IsOneOf};
+    ghost use Rattle.jr_job.specs.Sharing.{IsOneOf};
 
     ghost Value = { IntervalValue };
 

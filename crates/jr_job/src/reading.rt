@@ -2,13 +2,12 @@
 
 ghost use Rattle.std.specs.Prelude.{◌≡◌, ◌<◌, IfOk};
 ghost use Rattle.std.specs.Arc.{arc_value};
-ghost use Rattle.jr_piece.specs.Sharing.{IsOneOf, IsNextOf};
+ghost use Rattle.jr_job.specs.Sharing.{IsOneOf, IsNextOf};
 
 use crate::one_scan::OneScan;
-use crate::strip::CodedStrip;
-use crate::strip_reader::StripReader;
 use jr_block::Coefficients;
 use jr_code::Memory;
+use jr_piece::{CodedStrip, StripReader};
 use jr_scan::Interval;
 use std::alloc::Global;
 use std::marker::{Model, PhantomData};
@@ -61,7 +60,7 @@ pub(crate) struct Reading<S: OneScan> {
 impl<S: OneScan> Model for Reading<S> {
     ghost use Rattle.std.specs.Prelude.{◌<◌};
     ghost use Rattle.jr_scan.specs.IntervalValue.{IntervalValue};
-    ghost use Rattle.jr_piece.specs.Sharing.{IsOneOf};
+    ghost use Rattle.jr_job.specs.Sharing.{IsOneOf};
 
     ghost Value = { IntervalValue };
 

@@ -2,15 +2,15 @@
 
 ghost use Rattle.std.specs.Prelude.{◌≡◌, IfOk, IfSome};
 ghost use Rattle.std.specs.Arc.{arc_value};
-ghost use Rattle.jr_piece.specs.Sharing.{IsOneOf, IsNextOf};
+ghost use Rattle.jr_job.specs.Sharing.{IsOneOf, IsNextOf};
 ghost use Rattle.jr_piece.specs.Strips.{AreOf, TellsEnd, shared_strips};
 
 use crate::gathered::Gathered;
 use crate::one_scan::OneScan;
 use crate::reading::{End, Next, Reading};
-use crate::strip::{CodedStrip, Strip};
 use jr_block::Coefficients;
 use jr_code::Memory;
+use jr_piece::{CodedStrip, Strip};
 use jr_scan::Interval;
 use std::alloc::Global;
 use std::collections::VecDeque;
@@ -26,7 +26,7 @@ pub(crate) struct ScanStrip<S: OneScan> {
 
 impl<S: OneScan> Model for ScanStrip<S> {
     ghost use Rattle.jr_piece.specs.StripValue.{CodedStripValue};
-    ghost use Rattle.jr_piece.specs.Sharing.{IsOneOf};
+    ghost use Rattle.jr_job.specs.Sharing.{IsOneOf};
 
     ghost Value = { CodedStripValue };
 

@@ -8,9 +8,9 @@ use Rattle.jr_scan.specs.IntervalValue.{IntervalValue}
 use Rattle.jr_scan.specs.ScanValue.{ScanValue, HasInterval}
 use Rattle.jr_piece.specs.StripValue.{StripValue}
 use Rattle.jr_piece.specs.Strips.{TellsEnd}
-use Rattle.jr_piece.specs.declared.reading.End.{End}
-use Rattle.jr_piece.specs.declared.reading.Next.{Next}
-use Rattle.jr_piece.specs.declared.reading.Next.TheVariants.{Strip, End as Ended}
+use Rattle.jr_job.specs.declared.reading.End.{End}
+use Rattle.jr_job.specs.declared.reading.Next.{Next}
+use Rattle.jr_job.specs.declared.reading.Next.TheVariants.{Strip, End as Ended}
 
 -- the interval is one of the scan's, where there is one
 abbrev pub IsOneOf : Option ScanValue → IntervalValue → Type 0

@@ -1,0 +1,12 @@
+//! A long interval that several workers decode together, a strip at a time.
+#![tactic(auto)]
+
+mod gathered;
+mod job;
+mod one_scan;
+mod progress;
+mod reading;
+
+pub use job::Job;
+pub use one_scan::OneScan;
+pub use reading::strip_mcus;
