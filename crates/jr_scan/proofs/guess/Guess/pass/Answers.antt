@@ -15,7 +15,8 @@ sums-requires-clause-a c =
     let mcu = c.index-mcu.result.now in
     let lt : c.args.k < length g.mcus = search (rules, arith) in
     let is = subst (λ (m : Guessed). IsGuessed g.interval m (blocks_at g c.args.k)) (sym c.index-mcu.ensures) (c.self.invariant.each c.args.k mcu lt) in
-    behind_small g.interval mcu (blocks_at g c.args.k) is
+    let small = behind_small g.interval mcu (blocks_at g c.args.k) is in
+    search (rules, small)
 
 pub returns-clause-some : goal.returns-clause-some
 returns-clause-some c =
@@ -31,7 +32,7 @@ returns-clause-some c =
     let small : All IsSmall p.predictions = search (rules, c.if-not-all_small.ensures) in
     let three' : length c.sums.result ≡ 3 = search rules in
     let here : (zs : List (List ℤ)) → AreShifted g.interval.head p.predictions (blocks_at g k) zs → IsRun (run_from g.interval p 1) zs to AllRead
-    = λ zs s. taken_over g.interval mcu p to (blocks_at g k) zs c.self.invariant.lawful is from three small (search rules) three' c.sums.ensures.sums s in
+    = λ zs s. taken_over g.interval mcu p to (blocks_at g k) zs c.self.invariant.lawful is from three small (search rules) three' (search (rules, c.sums.ensures.sums)) s in
     subst (λ (v : GuessValue). (zs : List (List ℤ)) → AreShifted v.interval.head p.predictions (blocks_at v k) zs → IsRun (run_from v.interval p 1) zs to AllRead) c.self.view_is here
 
 pub returns-clause-shifted : goal.returns-clause-shifted
