@@ -15,16 +15,12 @@ use Rattle.jr_paint.proofs.PixelLaws.{flat_map-moved}
 use Rattle.jr_scan.specs.IntervalValue.{IntervalValue}
 use Rattle.jr_scan.specs.ScanValue.{ScanValue}
 use Rattle.jr_scan.specs.ScanValue as scans
-use Rattle.jr_scan.specs.Mcus.{Decodes, Front}
+use Rattle.jr_scan.specs.Mcus.{Front}
+use Rattle.jr_piece.proofs.Outcomes.{OneDecoding, OneFront}
+use Rattle.jr_piece.proofs.ScanLaws.{one_decoding, one_front}
 use Rattle.jr_picture.specs.declared.mark.Mark.{Mark}
 use Rattle.jr_picture.specs.declared.mark.Mark.TheVariants.{Blank, Sound, Damaged}
-use Rattle.jr_picture.specs.Headline.{interval_number, spot_of, unit_in, decoded_sample, Holds, Shows, IsPicture, AreFirst, mark_in}
-
-abbrev pub OneDecoding : Type 0
-OneDecoding = (i : IntervalValue) (zs ys : List (List ℤ)) → Decodes i zs → Decodes i ys → zs ≡ ys
-
-abbrev pub OneFront : Type 0
-OneFront = (i : IntervalValue) (k : ℕ) (zs ys : List (List ℤ)) → Front i k zs → Front i k ys → zs ≡ ys
+use Rattle.jr_picture.specs.Headline.{interval_number, spot_of, unit_in, decoded_sample, Holds, Shows, IsPicture, AreFirst, HasOnePicture, mark_in}
 
 -- the marks of an interval that is marked in both are one
 same_mark : (i : IntervalValue) (f g : ℕ → ℕ → ℕ → ℕ) (m n : Mark) → (m ≡ Blank → n ≡ Blank) → (n ≡ Blank → m ≡ Blank) → Shows m i f → Shows n i g → m ≡ n
@@ -108,3 +104,10 @@ module _ (h : HeadValue) (l : IsLawful h) (f g : ℕ → ℕ → ℕ → ℕ) (s
   pub text_same : text_of h f ≡ text_of h g
   unfolding text_of
   text_same = ap (λ (s : List ℕ). header_of h ++ s) lines_same
+
+-- a scan's first n intervals have one picture
+pub one_picture : (scan : ScanValue) (n : ℕ) → HasOnePicture scan n
+one_picture scan n = record {
+  marks = λ k m f g a b. same_marks one_decoding one_front scan n k m f g a.picture b.picture a.first b.first;
+  text = λ k m f g a b. text_same scan.head a.lawful f g (same_samples one_decoding one_front scan n k m f g a.picture b.picture a.first b.first);
+}

@@ -11,7 +11,6 @@ ghost use Rattle.jr_stream.specs.SomeLines.{CountsBetween, PaintsLines, row_behi
 
 use jr_base::Memory;
 use jr_head::Head;
-use jr_piece::each_interval_has_an_outcome;
 use jr_rows::{Marked, Rows, SampleRow, shape_of};
 use jr_scan::Scan;
 use std::alloc::Global;
@@ -79,7 +78,6 @@ pub(crate) fn paint_between(
     ensures puts { PutsBetween scan.now (row_with scan.now.head first) (row_behind scan.now.head end) marks.old marks.new }
 {
     let head = scan.head();
-    head.be_lawful();
     // By its contract a scan has as many intervals as its head says.
     let _intervals = scan.intervals();
     let line = shape_of(head).line;
@@ -116,8 +114,6 @@ pub fn paint_scan_lines(
     ensures painted { IfOk result (PaintsLines scan.now first count pixels.new) }
     ensures memory { IfErr result (λ _. pixels.new ≡ pixels.old) }
 {
-    each_interval_has_an_outcome();
-    scan.head().be_lawful();
     let mut work = SampleRow::open(alloc, scan.head())?;
     let marked = paint_between(scan, &mut work, first, first + count, pixels, &mut []);
     Ok(marked)

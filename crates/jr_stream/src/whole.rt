@@ -8,7 +8,6 @@ use crate::lines::paint_between;
 use crate::writing::counts_of;
 use jr_base::Memory;
 use jr_picture::Counts;
-use jr_piece::each_interval_has_an_outcome;
 use jr_rows::SampleRow;
 use jr_scan::Scan;
 use std::alloc::Global;
@@ -29,8 +28,6 @@ pub fn paint_scan(
     ensures pixels { IfErr result (λ _. pixels.new ≡ pixels.old) }
     ensures marks { IfErr result (λ _. marks.new ≡ marks.old) }
 {
-    each_interval_has_an_outcome();
-    scan.head().be_lawful();
     let mut work = SampleRow::open(alloc, scan.head())?;
     // By its contract a picture has an MCU.
     let _some = scan.head().mcus();

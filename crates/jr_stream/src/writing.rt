@@ -7,7 +7,7 @@ ghost use Rattle.jr_paint.specs.Lines.{line_size};
 ghost use Rattle.jr_paint.specs.declared.header.TheConstants.{HEADER_ROOM};
 ghost use Rattle.jr_scan.specs.ScanValue.{intervals_of};
 ghost use Rattle.jr_picture.specs.Headline.{least};
-ghost use Rattle.jr_rows.specs.Rows.{CountsRows, HasSampleRoom};
+ghost use Rattle.jr_rows.specs.Rows.{CountsRows};
 ghost use Rattle.jr_stream.specs.Stream.{WritesPicture, BeginsPicture, SendsPicture, HasCounts};
 
 use crate::alone::Alone;
@@ -16,7 +16,6 @@ use jr_base::{Tally, WriteFault, write_all};
 use jr_head::Head;
 use jr_paint::{make_room, put_header};
 use jr_picture::{Counts, Gate};
-use jr_piece::each_interval_has_an_outcome;
 use jr_rows::{FirstIntervals, Marked, SampleRow, lines_of, room_for, shape_of};
 use jr_scan::Scan;
 use std::alloc::Global;
@@ -85,30 +84,6 @@ pub fn counts_of(scan: &Scan, limit: u32, marked: Marked) -> Counts
     }
 }
 
-/// Writes the picture of a scan whose first `limit` intervals are decoded in the calling thread.
-fn write_picture<W: Write, G: Gate>(
-    scan: &Scan,
-    limit: u32,
-    work: SampleRow,
-    gate: &G,
-    pixels: &mut [u8],
-    out: &mut Tally<W>,
-) -> Result<Marked, WriteFault>
-    requires few { limit ≤ length scan.now.intervals }
-    requires room { HasSampleRoom scan.now.head work }
-    requires unfailed { has_failed out.old ≡ false }
-    requires pixels { 8 * vertical_max scan.now.head * line_size scan.now.head ≤ length pixels.old }
-    requires header { HEADER_ROOM ≤ length pixels.old }
-    ensures counts { IfOk result (CountsRows scan.now limit) }
-    ensures failed { has_failed out.new ≡ is_err result }
-    ensures sent { SendsPicture W.contents out.old out.new result scan.now limit }
-{
-    // By its contract a scan has as many intervals as its head says.
-    let _all = scan.intervals();
-    let mut painter = Alone::of(scan, limit, work, gate);
-    write_rows(scan.head(), &mut painter, pixels, out)
-}
-
 /// Decodes the first intervals of a scan, or all, and writes its picture, a row of MCUs after the other, in the calling
 /// thread. It takes all memory that it needs before it writes the first byte: for two rows of MCUs, and none for the
 /// picture. The gate is told each interval that is decoded; no piece is made.
@@ -126,8 +101,6 @@ pub fn write_scan<W: Write, G: Gate>(
     ensures written { OnOk result (has_failed out.new ≡ false) }
     ensures write { result ≡ Err PictureError.Write → has_failed out.new ≡ true }
 {
-    each_interval_has_an_outcome();
-    scan.head().be_lawful();
     let Ok(work) = SampleRow::open(alloc, scan.head()) else {
         return Err(PictureError::Memory);
     };
@@ -135,7 +108,10 @@ pub fn write_scan<W: Write, G: Gate>(
         return Err(PictureError::Memory);
     };
     let limit = FirstIntervals::of(scan, first).limit();
-    match write_picture(scan, limit, work, gate, &mut pixels, out) {
+    // By its contract a scan has as many intervals as its head says.
+    let _all = scan.intervals();
+    let mut painter = Alone::of(scan, limit, work, gate);
+    match write_rows(scan.head(), &mut painter, &mut pixels, out) {
         Ok(marked) => Ok(counts_of(scan, limit, marked)),
         Err(_) => Err(PictureError::Write),
     }

@@ -8,6 +8,7 @@ use Rattle.jr_rows.specs.MarkBytes.{PutsBetween}
 use Rattle.jr_rows.specs.Rows.{CountsRows, HasFirst}
 use Rattle.jr_stream.specs.SomeLines.{CountsBetween, row_behind, row_with}
 use Rattle.jr_stream.specs.Stream.{HasCounts}
+use Rattle.jr_piece.proofs.ScanLaws.{outcome}
 use Rattle.jr_stream.proofs.WholePictures.{first_row, painted_whole}
 use Rattle.jr_stream.proofs.whole.paint_scan.Goals as goal
 
@@ -23,7 +24,7 @@ counts_of-requires-clause-counts c =
 pub returns-clause-painted : goal.returns-clause-painted
 returns-clause-painted c =
     let t = c.args.scan.now in
-    let lawful : IsLawful t.head = search (rules, c.be_lawful.ensures) in
+    let lawful = subst IsLawful c.head.ensures.value c.head.ensures.lawful in
     let some : 0 < mcus_of t.head = search (rules, arith) in
     let more : 0 < intervals_of t.head = search (rules, arith) in
     let count : length t.intervals ≡ intervals_of t.head = search rules in
@@ -35,4 +36,4 @@ returns-clause-painted c =
     let rows = subst (λ (r : ℕ). PutsBetween t r (mcus_down t.head) old new) (first_row t.head) puts in
     let lines = subst (λ (y : ℕ). (b : BoardValue) → HasFirst t (length t.intervals) b → c.paint_between-marked.new.pixels ≡ next_lines_of t.head (samples_of b) 0 (y - 0)) height c.paint_between-marked.ensures.lines in
     let counts = subst (λ (n : ℕ). HasCounts t n c.counts_of.result) all c.counts_of.ensures in
-    painted_whole t some more count c.each_interval_has_an_outcome.ensures lawful c.paint_between-marked.new.pixels old new c.counts_of.result lines c.requires.places rows counts
+    painted_whole t some more count outcome lawful c.paint_between-marked.new.pixels old new c.counts_of.result lines c.requires.places rows counts
