@@ -1,4 +1,4 @@
-use Rattle.std.proofs.Common.{◌++◌, ap, sym, subst, arith}
+use Rattle.std.proofs.Common.{◌++◌, ap, sym, subst, arith, rules}
 use Rattle.jr_scan.specs.Guesses.{AreGuessesOf}
 use Rattle.jr_scan.specs.Run.{RunOf}
 use Rattle.jr_piece.specs.UnitReaderValue.{UnitReaderValue}
@@ -16,10 +16,10 @@ invariant_of-self c =
         few = omega (arith, c.requires.few, ap (λ (u : UnitReaderValue). u.mcu) v, ap (λ (u : UnitReaderValue). u.interval.mcus) v, kept.few);
         run = c.skip_by-whole.ensures.run;
         mcu = c.skip_by-whole.ensures.mcus;
-        most = c.skip_by-whole.ensures.most;
+        most = omega (arith, c.skip_by-whole.ensures.most);
         blocks = kept.blocks ++ passed.0;
         read = passed.3;
-        ended = c.skip_by-whole.ensures.ended;
+        ended = λ lt. search (rules, arith, lt, c.skip_by-whole.ensures.ended);
         stays = c.skip_by-whole.ensures.stays;
       }),
       subst (λ (o : RunOf). AreGuessesOf o.interval c.self.inside.guesses) (sym c.skip_by-whole.ensures.run) c.self.invariant.1,
