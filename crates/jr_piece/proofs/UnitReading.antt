@@ -111,8 +111,8 @@ moved r r' left mcus n on =
       stands = elim on.kept.stands [
         | inl here ↦ elim (cases_lt n mcus) [ inl l ↦ inr (omega (arith, l, here, on.mcu, to), on.ended l) | inr g ↦ inl (omega (arith, g, on.most, here, on.mcu, to)) ]
         | inr stuck ↦ let lt = stuck.0 in
-                      let none : n ≡ 0 = omega (arith, on.mcu, ap (λ (v : McuReaderValue). v.mcu) (on.stays stuck.1)) in
-                      inr (omega (arith, lt, none, on.mcu, to), subst HasEnded (sym (on.stays stuck.1)) stuck.1)
+            let none : n ≡ 0 = omega (arith, on.mcu, ap (λ (v : McuReaderValue). v.mcu) (on.stays stuck.1)) in
+            inr (omega (arith, lt, none, on.mcu, to), subst HasEnded (sym (on.stays stuck.1)) stuck.1)
       ];
     }
 
