@@ -60,8 +60,8 @@ fn sums(a: &[i32; 3], b: &[i32; 3]) -> [i32; 3]
     [sum(a[0], b[0]), sum(a[1], b[1]), sum(a[2], b[2])]
 }
 
-/// How often a guess from one bit up to another starts anew. What is read in vain is an MCU for each, and so no more than
-/// about as many codes as there are bits.
+/// How often a guess from one bit up to another starts at most. Each start reads one MCU in vain, of 640 codes or fewer, so
+/// that all of them read fewer codes in vain than there are bits, but for some thousands.
 fn most_starts(from: u64, to: u64) -> u64 {
     16 + to.saturating_sub(from) / 1024
 }
@@ -137,9 +137,9 @@ fn put_shifted(
     Some(())
 }
 
-/// Whole MCUs of an interval, read from some bit on before it is known that an MCU starts there. Each is read as if each component
-/// were predicted to be 0. That is true whatever the bit is; a reader that comes to a bit at which one of them starts takes it over
-/// from there.
+/// Whole MCUs of an interval, read from some bit on before it is known whether one starts there, each as if its components
+/// were predicted to be 0. What it keeps is true whatever the bit: a reader that comes to the bit at which one of its MCUs
+/// starts takes it over, its own predictions added.
 #[derive(Drop)]
 pub struct Guess<'a> {
     interval: IntervalRef<'a>,
@@ -181,8 +181,8 @@ impl<'a> Guess<'a> {
         &self.interval
     }
 
-    /// Reads MCUs from a bit on, over those that were read before, until one starts at another bit or behind it, or the room is
-    /// full. Where no MCU follows it goes on at the next byte; it does so a bounded number of times.
+    /// Reads MCUs from a bit on, over those that were read before, until one starts at another bit or behind it, or the room
+    /// is full. Where no MCU follows it goes on at the next byte, but not for ever.
     pub fn read(&mut self, interval: IntervalRef<'a>, from: u64, to: u64)
         ensures { self.new.interval ≡ interval.entry }
     {
@@ -267,8 +267,8 @@ impl<'a> Guess<'a> {
         None
     }
 
-    /// Where MCU k leads from a place. None where it starts at another bit, or where sixteen bits may not hold what it makes of
-    /// the place's predictions.
+    /// Where MCU k leads from a place. None where it starts at another bit, or where sixteen bits may not hold what it makes
+    /// of the place's predictions.
     #[inline(always)]
     pub(crate) fn pass(&self, k: usize, place: &Place) -> Option<Place>
         ensures some { IfSome result (λ to. (zs : List (List ℤ)) → AreShifted self.now.interval.head place.now.predictions (blocks_at self.now k) zs → IsRun (run_from self.now.interval place.now 1) zs to AllRead) }

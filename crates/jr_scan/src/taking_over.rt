@@ -16,8 +16,8 @@ use crate::mcu_reader::McuReader;
 use crate::place::Place;
 use jr_block::Coefficients;
 
-/// Takes over from a guess the MCUs that go on from a place, at most so many, from its MCU `at` on; goes on to the place behind
-/// them, and tells how many they are.
+/// Takes over from a guess the MCUs that go on from a place, at most so many, from its MCU `at` on; goes on to the place
+/// behind them, and tells how many they are.
 fn put_mcus(
     guess: &Guess<'_>,
     at: usize,
@@ -66,8 +66,8 @@ fn pass_mcus(guess: &Guess<'_>, at: usize, most: u32, place: &mut Place) -> u32
 }
 
 impl<'a> McuReader<'a> {
-    /// Takes over the MCUs that a guess has from its MCU `at` on, as `read` reads them; none where that one starts at another bit.
-    /// How many they are says nothing of what follows.
+    /// Takes over the MCUs that a guess has from its MCU `at` on, as `read` reads them; none where that one starts at another
+    /// bit. How many they are says nothing of what follows.
     pub fn read_guessed(&mut self, guess: &Guess<'_>, at: usize, blocks: &mut [Coefficients]) -> u32
         requires same { guess.now.interval ≡ self.old.run.interval }
         ensures run { self.new.run ≡ self.old.run }
@@ -89,8 +89,8 @@ impl<'a> McuReader<'a> {
         taken
     }
 
-    /// Passes over the MCUs that a guess has from its MCU `at` on, at most so many, as `skip` does; none where that one starts at
-    /// another bit. How many they are says nothing of what follows.
+    /// Passes over the MCUs that a guess has from its MCU `at` on, at most so many, as `skip` does; none where that one starts
+    /// at another bit. How many they are says nothing of what follows.
     pub fn skip_guessed(&mut self, guess: &Guess<'_>, at: usize, mcus: u32) -> u32
         requires same { guess.now.interval ≡ self.old.run.interval }
         ensures run { self.new.run ≡ self.old.run }

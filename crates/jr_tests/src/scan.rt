@@ -1,6 +1,7 @@
 //! Scans: their restart intervals, and the blocks of each.
 
 mod by_definition;
+mod guesses;
 mod long;
 mod rows;
 

@@ -1,0 +1,156 @@
+//! Intervals that are read by guesses.
+
+ghost use Rattle.std.specs.Prelude.{◌≡◌, IfOk};
+
+use jr_block::Coefficients;
+use jr_scan::{Guess, IntervalRef, McuReader, Place};
+use std::alloc::Global;
+use std::process::Abort;
+use std::test::Fail;
+use test_files::files::file;
+use test_files::scans::scan_of;
+
+/// Whether these are the same blocks.
+fn are_same(some: &[Coefficients], others: &[Coefficients]) -> bool {
+    if some.len() != others.len() {
+        return false;
+    }
+    for k in 0..some.len() {
+        if some[k].to_zigzag() != others[k].to_zigzag() {
+            return false;
+        }
+    }
+    true
+}
+
+/// A guess from one bit up to another, with room for so many MCUs; and which of its MCUs starts at a bit.
+#[derive(Clone, Copy)]
+struct Chunk {
+    from: u64,
+    to: u64,
+    most: u32,
+    bit: u64,
+    found: Option<usize>,
+}
+
+fn guess_of<'a>(alloc: Global, interval: IntervalRef<'a>, chunk: Chunk) -> Result<Guess<'a>, Fail>
+    ensures { IfOk result (λ g. g.interval ≡ interval.entry) }
+{
+    let mut guess = Guess::open(alloc, interval.again(), chunk.most)?;
+    guess.read(interval, chunk.from, chunk.to);
+    Ok(guess)
+}
+
+/// By a guess a reader reads what it reads without, and passes over as much.
+fn check_reader(
+    rt: &impl Abort,
+    alloc: Global,
+    interval: IntervalRef<'_>,
+    chunk: Chunk,
+) -> Result<(), Fail> {
+    let units = interval.mcus() as usize * interval.head().order().len();
+    let mcus = interval.mcus();
+    let mut plain = vec![in alloc; Coefficients::zeros(); units]?;
+    let mut guessed = vec![in alloc; Coefficients::zeros(); units]?;
+    let mut reader = McuReader::over(interval.again());
+    let mut by_guess = reader.again();
+    let mut skipping = reader.again();
+    let guess = guess_of(alloc, interval, chunk)?;
+    assert!(rt; guess.find(chunk.bit) == chunk.found);
+    let read = reader.read(plain.as_mut_slice());
+    assert!(rt; by_guess.read_by(&[&guess], guessed.as_mut_slice()) == read);
+    assert!(rt; skipping.skip_by(&[&guess], mcus) == read);
+    assert!(rt; are_same(plain.as_slice(), guessed.as_slice()));
+    assert!(rt; by_guess.place() == reader.place() && skipping.place() == reader.place());
+    assert!(rt; by_guess.is_sound() == reader.is_sound());
+    Ok(())
+}
+
+fn check(rt: &impl Abort, alloc: Global, words: &str, chunk: Chunk) -> Result<(), Fail> {
+    let bytes = file(alloc, words)?;
+    let scan = scan_of(alloc, bytes.as_slice())?;
+    assert!(rt; scan.intervals() == 1);
+    check_reader(rt, alloc, scan.interval_ref(0), chunk)
+}
+
+/// 4096 MCUs of three bits, but for the first, which takes six; and 1024 of eighteen.
+const GREY: &str = "S Q F:0200:0200 D A C 60 1536*00";
+
+const CUT: &str = "S Q F:0200:0200 D A C 60 1499*00";
+
+const COLOURED: &str = "S Q F3:0200:0200:22 D A C3 2304*00";
+
+/// In step; never in step; in step from the second MCU on; no room for all; past the end of the data; none.
+const ROWS: [(&str, u64, u64, u32, u64, Option<usize>); 8] = [
+    (GREY, 3000, 6000, 2000, 5997, Some(999)),
+    (GREY, 3001, 6000, 2000, 3000, None),
+    (GREY, 3, 3000, 2000, 6, Some(1)),
+    (GREY, 3000, 6000, 10, 3030, None),
+    (CUT, 11001, 90000, 4000, 11997, Some(332)),
+    (CUT, 90000, 99000, 10, 90000, None),
+    (COLOURED, 1800, 18000, 2000, 1818, Some(1)),
+    (COLOURED, 1801, 18000, 2000, 1800, None),
+];
+
+#[test]
+fn reads_by_guesses(rt: HostRuntime) -> Result<(), Fail> {
+    for (words, from, to, most, bit, found) in &ROWS {
+        let chunk = Chunk {
+            from: *from,
+            to: *to,
+            most: *most,
+            bit: *bit,
+            found: *found,
+        };
+        check(&rt, rt.alloc(), words, chunk)?;
+    }
+    Ok(())
+}
+
+/// How many MCUs a reader at bit 3000 takes over from the guess there, and the first coefficient of the last of them.
+fn taken_over(
+    alloc: Global,
+    interval: IntervalRef<'_>,
+    chunk: Chunk,
+    prediction: i32,
+) -> Result<Option<(u32, i16)>, Fail> {
+    if interval.bytes().len() < 375 || !(-32768..=32767).contains(&prediction) {
+        return Ok(None);
+    }
+    let from = Place {
+        bit: 3000,
+        predictions: [prediction, 0, 0],
+    };
+    let mut reader = McuReader::at(interval.again(), from, 500);
+    let guess = guess_of(alloc, interval, chunk)?;
+    let mut blocks = vec![in alloc; Coefficients::zeros(); 1000]?;
+    let taken = reader.read_guessed(&guess, 0, blocks.as_mut_slice());
+    if taken == 0 || taken > 1000 {
+        return Ok(None);
+    }
+    Ok(Some((taken, blocks[taken as usize - 1].first())))
+}
+
+/// Predictions that are too great are not added, and no more MCUs are taken over than the reader has.
+#[test]
+fn takes_over_by_small_predictions(rt: HostRuntime) -> Result<(), Fail> {
+    let bytes = file(rt.alloc(), GREY)?;
+    let scan = scan_of(rt.alloc(), bytes.as_slice())?;
+    assert!(rt; scan.intervals() == 1);
+    let chunk = Chunk {
+        from: 3000,
+        to: 6000,
+        most: 2000,
+        bit: 3000,
+        found: Some(0),
+    };
+    for (prediction, taken) in &[
+        (4, Some((500, 4))),
+        (-16384, Some((500, -16384))),
+        (16384, None),
+    ] {
+        let found = taken_over(rt.alloc(), scan.interval_ref(0), chunk, *prediction)?;
+        assert!(rt; found == *taken);
+    }
+    Ok(())
+}
