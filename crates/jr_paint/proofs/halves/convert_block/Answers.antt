@@ -1,13 +1,13 @@
-use Rattle.std.proofs.Common.{slice_index, ◌∙◌}
+use Rattle.std.proofs.Common.{rules, slice_index}
 use Rattle.jr_paint.proofs.Blocks.{halved_pixels}
 use Rattle.jr_paint.proofs.halves.convert_block.Goals as goal
 
 pub returns-clause-line : goal.returns-clause-line
 returns-clause-line c =
-    c.paint.ensures
-    ∙ halved_pixels c.args.i c.args.first.now (slice_index c.args.luma.now) (slice_index c.args.cb.now) (slice_index c.args.cr.now) c.raised.result.0 c.raised.result.1 c.raised.result.2 c.raised.ensures.red c.raised.ensures.green c.raised.ensures.blue
+    rw c.paint.ensures
+    (search (rules, halved_pixels c.args.i c.args.first.now (slice_index c.args.luma.now) (slice_index c.args.cb.now) (slice_index c.args.cr.now) c.raised.result.0 c.raised.result.1 c.raised.result.2 c.raised.ensures.red c.raised.ensures.green c.raised.ensures.blue))
 
 pub returns-clause-next : goal.returns-clause-next
 returns-clause-next c =
-    c.paint-2.ensures
-    ∙ halved_pixels c.args.i c.args.second.now (slice_index c.args.next_luma.now) (slice_index c.args.cb.now) (slice_index c.args.cr.now) c.raised.result.0 c.raised.result.1 c.raised.result.2 c.raised.ensures.red c.raised.ensures.green c.raised.ensures.blue
+    rw c.paint-2.ensures
+    (search (rules, halved_pixels c.args.i c.args.second.now (slice_index c.args.next_luma.now) (slice_index c.args.cb.now) (slice_index c.args.cr.now) c.raised.result.0 c.raised.result.1 c.raised.result.2 c.raised.ensures.red c.raised.ensures.green c.raised.ensures.blue))
