@@ -3,9 +3,10 @@
 ghost use Rattle.std.specs.Prelude.{◌≡◌, IfOk};
 
 use jr_block::Coefficients;
-use jr_scan::{Guess, IntervalRef, McuReader, Place};
+use jr_scan::{Guess, Guesses, IntervalRef, McuReader, Place};
 use std::alloc::Global;
 use std::process::Abort;
+use std::sync::Arc;
 use std::test::Fail;
 use test_files::files::file;
 use test_files::scans::scan_of;
@@ -57,9 +58,10 @@ fn check_reader(
     let mut skipping = reader.again();
     let guess = guess_of(alloc, interval, chunk)?;
     assert!(rt; guess.find(chunk.bit) == chunk.found);
+    let guesses = Guesses::none().with(Arc::new(alloc, guess)?);
     let read = reader.read(plain.as_mut_slice());
-    assert!(rt; by_guess.read_by(&[&guess], guessed.as_mut_slice()) == read);
-    assert!(rt; skipping.skip_by(&[&guess], mcus) == read);
+    assert!(rt; by_guess.read_by(&guesses, guessed.as_mut_slice()) == read);
+    assert!(rt; skipping.skip_by(&guesses, mcus) == read);
     assert!(rt; are_same(plain.as_slice(), guessed.as_slice()));
     assert!(rt; by_guess.place() == reader.place() && skipping.place() == reader.place());
     assert!(rt; by_guess.is_sound() == reader.is_sound());
