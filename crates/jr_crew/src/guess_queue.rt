@@ -48,7 +48,9 @@ impl<'a, S: OneFirstIntervals> GuessSlot<'a, S> {
 
     /// Whether it covers a bit of an interval from one on and before another.
     fn is_between(&self, number: u32, from: u64, to: u64) -> bool {
-        !self.window.is_before(number, from) && self.window.number == number && self.window.from < to
+        !self.window.is_before(number, from)
+            && self.window.number == number
+            && self.window.from < to
     }
 
     /// These guesses of an interval, and the one that is here, where it is of the interval, too.
@@ -80,10 +82,7 @@ pub(crate) struct GuessQueue<'a, S: OneFirstIntervals> {
 
 impl<'a, S: OneFirstIntervals> GuessQueue<'a, S> {
     /// No guess is made yet.
-    pub(crate) fn of(
-        part: &FirstIntervals<'a>,
-        slots: Vec<GuessSlot<'a, S>>,
-    ) -> GuessQueue<'a, S> {
+    pub(crate) fn of(part: &FirstIntervals<'a>, slots: Vec<GuessSlot<'a, S>>) -> GuessQueue<'a, S> {
         let scan = part.scan();
         let rows = u64::from(shape_of(scan.head()).down);
         let each = bits_of(scan, 0) / rows.max(1);
@@ -127,14 +126,14 @@ impl<'a, S: OneFirstIntervals> GuessQueue<'a, S> {
     /// Where there is room for another guess.
     fn free_slot(&self) -> Option<usize> {
         let (number, bit) = self.at;
-        self.slots
-            .iter()
-            .position(|slot| slot.is_free(number, bit))
+        self.slots.iter().position(|slot| slot.is_free(number, bit))
     }
 
     /// The bits of the next guess: behind those of the others, and behind the next row, which is read meanwhile.
     fn next_window(&self) -> Option<Window> {
-        let (number, bit) = self.next.max((self.at.0, self.at.1.saturating_add(self.row_bits)));
+        let (number, bit) = self
+            .next
+            .max((self.at.0, self.at.1.saturating_add(self.row_bits)));
         let (number, from) = if bit < bits_of(self.scan, number) {
             (number, bit)
         } else {
@@ -143,7 +142,9 @@ impl<'a, S: OneFirstIntervals> GuessQueue<'a, S> {
         if number >= self.limit {
             return None;
         }
-        let to = from.saturating_add(self.row_bits).min(bits_of(self.scan, number));
+        let to = from
+            .saturating_add(self.row_bits)
+            .min(bits_of(self.scan, number));
         Some(Window { number, from, to })
     }
 

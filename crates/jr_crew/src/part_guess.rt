@@ -99,7 +99,11 @@ impl<'a, S: OneFirstIntervals> PartGuess<'a, S> {
         if window.number < part.scan().intervals()
             && let Some(room) = Arc::get_mut(&mut guess)
         {
-            room.read(part.scan().interval_ref(window.number), window.from, window.to);
+            room.read(
+                part.scan().interval_ref(window.number),
+                window.from,
+                window.to,
+            );
         }
         PartGuess {
             guess,

@@ -40,6 +40,9 @@ const BENCHES_OF_ONE: u32 = 2;
 /// A guess has room for the MCUs of so many rows, since its bits are about those of one.
 const ROWS_OF_GUESS: u32 = 2;
 
+/// Guesses are worth their memory where the data of an interval have bits for so many: some 128 KB.
+const LEAST_WINDOWS: u64 = 32;
+
 /// A guess has room for so many MCUs at least.
 const LEAST_MCUS: u32 = 512;
 
@@ -80,7 +83,11 @@ fn guesses_of(part: &FirstIntervals<'_>, count: u32) -> u32 {
     if intervals_of_row(scan.head()).is_some() {
         return 0;
     }
-    (bits_of(scan, 0) / LEAST_BITS).min(u64::from(count)) as u32
+    let windows = bits_of(scan, 0) / LEAST_BITS;
+    if windows < LEAST_WINDOWS {
+        return 0;
+    }
+    windows.min(u64::from(count)) as u32
 }
 
 /// Room for so many guesses at most.
@@ -114,14 +121,7 @@ fn open_queue<'a, S: OneFirstIntervals>(
     let passed = VecDeque::with_capacity(alloc, count as usize)?;
     let coded = VecDeque::with_capacity(alloc, count as usize)?;
     let painted = open_places(alloc, count)?;
-    Ok(RowQueue::of(
-        Baton::of(part),
-        free,
-        guesses,
-        passed,
-        coded,
-        painted,
-    ))
+    Ok(RowQueue::of(Baton::of(part), free, guesses, passed, coded, painted))
 }
 
 /// Room for painting, for so many threads.
