@@ -81,12 +81,12 @@ pub record TellsNoHead (m : Measure) : Type 0 where
   pub pixels : m.pixels ≡ 0
 
 -- what ended the scan, as numbers: 0 for what that end has not
-abbrev pub TellsEnd : ScanEnd → DecodeReport → Type 0
-TellsEnd EndOfImage r = (r.ended ≡ 1) × (r.found ≡ 0) × (r.due ≡ 0) × (r.at ≡ 0)
-TellsEnd (OtherMarker code at) r = (r.ended ≡ 2) × (r.found ≡ code) × (r.due ≡ 0) × (r.at ≡ at)
-TellsEnd (OutOfStep found due at) r = (r.ended ≡ 3) × (r.found ≡ found) × (r.due ≡ due) × (r.at ≡ at)
-TellsEnd (ExtraRestart at) r = (r.ended ≡ 4) × (r.found ≡ 0) × (r.due ≡ 0) × (r.at ≡ at)
-TellsEnd EndOfFile r = (r.ended ≡ 5) × (r.found ≡ 0) × (r.due ≡ 0) × (r.at ≡ 0)
+abbrev pub TellsScanEnd : ScanEnd → DecodeReport → Type 0
+TellsScanEnd EndOfImage r = (r.ended ≡ 1) × (r.found ≡ 0) × (r.due ≡ 0) × (r.at ≡ 0)
+TellsScanEnd (OtherMarker code at) r = (r.ended ≡ 2) × (r.found ≡ code) × (r.due ≡ 0) × (r.at ≡ at)
+TellsScanEnd (OutOfStep found due at) r = (r.ended ≡ 3) × (r.found ≡ found) × (r.due ≡ due) × (r.at ≡ at)
+TellsScanEnd (ExtraRestart at) r = (r.ended ≡ 4) × (r.found ≡ 0) × (r.due ≡ 0) × (r.at ≡ at)
+TellsScanEnd EndOfFile r = (r.ended ≡ 5) × (r.found ≡ 0) × (r.due ≡ 0) × (r.at ≡ 0)
 
 -- a report of no refusal
 pub record TellsNoRefusal (r : DecodeReport) : Type 0 where
@@ -108,7 +108,7 @@ pub record TellsNoPicture (r : DecodeReport) : Type 0 where
 pub record TellsReport (scan : ScanValue) (marks : List Mark) (r : DecodeReport) : Type 0 where
   pub intervals : r.intervals ≡ length scan.intervals
   pub counts : AreCounts marks r.sound r.damaged r.blank
-  pub ended : TellsEnd scan.ended r
+  pub ended : TellsScanEnd scan.ended r
   pub no_fault : TellsNoRefusal r
 
 -- these bytes stand at the front of a buffer, and behind them what stood there before
@@ -132,7 +132,7 @@ pub record LacksRoom (file : List ℕ) (pixels marks : ℕ) : Type 0 where
   pub less : (pixels < picture_size scan.head) ⊎ ((0 < marks) × (marks < length scan.intervals))
 
 -- the picture of this head has `count` lines from this one on, and that is some
-pub record HasLines (h : HeadValue) (first count : ℕ) : Type 0 where
+pub record HasTheseLines (h : HeadValue) (first count : ℕ) : Type 0 where
   pub some : 0 < count
   pub inside : first + count ≤ h.height
 
@@ -140,7 +140,7 @@ pub record HasLines (h : HeadValue) (first count : ℕ) : Type 0 where
 pub record LacksLines (file : List ℕ) (first count : ℕ) : Type 0 where
   pub head : HeadValue
   pub is : HeadOf file head
-  pub less : HasLines head first count → ⊥
+  pub less : HasTheseLines head first count → ⊥
 
 -- so many lines of the file's picture have less room than they take
 pub record LacksRoomForLines (file : List ℕ) (count pixels : ℕ) : Type 0 where
@@ -155,11 +155,11 @@ pub record DecodesLines (file : List ℕ) (first count : ℕ) (old_pixels pixels
   pub each : List Mark
   pub f : ℕ → ℕ → ℕ → ℕ
   pub is : IsPictureOf file None scan each f
-  pub there : HasLines scan.head first count
+  pub there : HasTheseLines scan.head first count
   pub painted : pixels ≡ over (next_lines_of scan.head f first count) old_pixels
   pub counted : EndInLines scan first count each r.sound r.damaged
   pub intervals : r.intervals ≡ length scan.intervals
-  pub ended : TellsEnd scan.ended r
+  pub ended : TellsScanEnd scan.ended r
   pub no_fault : TellsNoRefusal r
 
 -- nothing was decoded since the file is refused, and the report tells of that

@@ -3,7 +3,7 @@
 ghost use Rattle.std.specs.Prelude.{◌≡◌, ◌≢◌, ◌<◌, ◌≤◌, ◌+◌, length, IfOk, IfErr, IfSome, None, true, false};
 ghost use Rattle.jr_segments.specs.declared.refusal.Refusal.TheVariants as refusal;
 ghost use Rattle.jr_head.specs.Heads.{RefusalOf};
-ghost use Rattle.jri_memory.specs.Calls.{DecodesLines, HasLines, LacksLines, LacksRoomForLines};
+ghost use Rattle.jri_memory.specs.Calls.{DecodesLines, HasTheseLines, LacksLines, LacksRoomForLines};
 
 use crate::decode::DecodeError;
 use crate::report::DecodeReport;
@@ -16,8 +16,8 @@ use std::alloc::Global;
 
 /// Whether a picture has these lines, and there is one.
 fn has_lines(head: &Head, first: u32, count: u32) -> bool
-    ensures there { result ≡ true → HasLines head.now first count }
-    ensures not_there { result ≡ false → HasLines head.now first count → ⊥ }
+    ensures there { result ≡ true → HasTheseLines head.now first count }
+    ensures not_there { result ≡ false → HasTheseLines head.now first count → ⊥ }
 {
     let height = head.height();
     0 < count && count <= height && first <= height - count

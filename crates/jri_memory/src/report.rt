@@ -2,7 +2,7 @@
 
 ghost use Rattle.std.specs.Prelude.{◌≡◌, length};
 ghost use Rattle.jr_segments.specs.Refusal.{number_of};
-ghost use Rattle.jri_memory.specs.Calls.{TellsEnd, TellsNoPicture, TellsNoRefusal, detail_of};
+ghost use Rattle.jri_memory.specs.Calls.{TellsScanEnd, TellsNoPicture, TellsNoRefusal, detail_of};
 
 use jr_head::Refusal;
 use jr_picture::Counts;
@@ -83,7 +83,7 @@ impl DecodeReport {
 
     /// What ended a scan.
     fn ended(end: ScanEnd) -> DecodeReport
-        ensures end { TellsEnd end result }
+        ensures end { TellsScanEnd end result }
         ensures no_fault { TellsNoRefusal result }
     {
         let mut report = DecodeReport::empty();
@@ -107,7 +107,7 @@ impl DecodeReport {
         ensures sound { result.sound ≡ counts.sound }
         ensures damaged { result.damaged ≡ counts.damaged }
         ensures blank { result.blank ≡ counts.blank }
-        ensures end { TellsEnd scan.now.ended result }
+        ensures end { TellsScanEnd scan.now.ended result }
         ensures no_fault { TellsNoRefusal result }
     {
         DecodeReport {

@@ -35,6 +35,7 @@ impl Samples for Ruled {
     ghost shown = { λ s c x y. (if c == 0 then 6 * x + 27 * y else if c == 1 then 89 + 7 * x + 28 * y else 178 + 8 * x + 29 * y) % 256 };
 
     fn head(&self) -> &Head {
+        self.head.be_lawful();
         &self.head
     }
 
