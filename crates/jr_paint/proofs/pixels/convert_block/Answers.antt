@@ -17,9 +17,9 @@ returns c =
     rw c.paint.ensures (search (
       rules,
       ap (put_chunk (3 * i) c.args.out.now)
-      (raised_pixels i (slice_index c.args.luma.now) b r
-      (c.raised_red.result ∷ c.raised_red-2.result ∷ []) (c.raised_green.result ∷ c.raised_green-2.result ∷ []) (c.raised_blue.result ∷ c.raised_blue-2.result ∷ [])
-      (by_turns (λ k v. IsRaised v (red_over_of (r (i + k)))) _ _ (λ k l. raised_same red_over_of (r0 k l) (c.raised_red.ensures k l)) (λ k l. raised_same red_over_of (r1 k l) (c.raised_red-2.ensures k l)))
-      (by_turns (λ k v. IsRaised v (green_over_of (b (i + k)) (r (i + k)))) _ _ (λ k l. green_same (b0 k l) (r0 k l) (c.raised_green.ensures k l)) (λ k l. green_same (b1 k l) (r1 k l) (c.raised_green-2.ensures k l)))
-      (by_turns (λ k v. IsRaised v (blue_over_of (b (i + k)))) _ _ (λ k l. raised_same blue_over_of (b0 k l) (c.raised_blue.ensures k l)) (λ k l. raised_same blue_over_of (b1 k l) (c.raised_blue-2.ensures k l)))),
+          (raised_pixels i (slice_index c.args.luma.now) b r
+          (c.raised_red.result ∷ c.raised_red-2.result ∷ []) (c.raised_green.result ∷ c.raised_green-2.result ∷ []) (c.raised_blue.result ∷ c.raised_blue-2.result ∷ [])
+          (by_turns (λ k v. IsRaised v (red_over_of (r (i + k)))) _ _ (λ k l. raised_same red_over_of (r0 k l) (c.raised_red.ensures k l)) (λ k l. raised_same red_over_of (r1 k l) (c.raised_red-2.ensures k l)))
+          (by_turns (λ k v. IsRaised v (green_over_of (b (i + k)) (r (i + k)))) _ _ (λ k l. green_same (b0 k l) (r0 k l) (c.raised_green.ensures k l)) (λ k l. green_same (b1 k l) (r1 k l) (c.raised_green-2.ensures k l)))
+          (by_turns (λ k v. IsRaised v (blue_over_of (b (i + k)))) _ _ (λ k l. raised_same blue_over_of (b0 k l) (c.raised_blue.ensures k l)) (λ k l. raised_same blue_over_of (b1 k l) (c.raised_blue-2.ensures k l)))),
     ))
