@@ -8,8 +8,8 @@ use Rattle.jr_scan.specs.ScanValue.{HasInterval, interval_of}
 use Rattle.jr_paint.specs.Lines.{line_room, line_size}
 use Rattle.jr_rows.specs.FirstIntervalsValue.{FirstIntervalsValue}
 use Rattle.jr_crew.specs.CrewValue.{CodedRowValue, PaintedValue}
-use Rattle.jr_rows.specs.Rows.{AreRead, CountsRow, HasRowRoom, ShowsLines, line_count}
-use Rattle.jr_rows.specs.RowsValue.{RowValue, RowsValue}
+use Rattle.jr_rows.specs.Rows.{AreRead, CountsRow, HasRowRoom, HasSampleRoom, ShowsLines, line_count}
+use Rattle.jr_rows.specs.RowsValue.{RowValue, RowsValue, SampleRowValue}
 
 -- of the part that a proof knows of this holds
 abbrev pub OfPart : Option FirstIntervalsValue → (FirstIntervalsValue → Type 0) → Type 0
@@ -23,6 +23,10 @@ HasRoom known pixels = OfPart known (λ part. 8 * vertical_max part.scan.head * 
 -- there is room for painting its lines
 abbrev pub HasLineRoom : Option FirstIntervalsValue → ℕ → Type 0
 HasLineRoom known n = OfPart known (λ part. line_room part.scan.head ≤ n)
+
+-- there is room for its samples, for some of its blocks, and for painting its lines
+abbrev pub HasSamples : Option FirstIntervalsValue → SampleRowValue → Type 0
+HasSamples known work = OfPart known (λ part. HasSampleRoom part.scan.head work)
 
 -- there is room for its blocks and samples
 abbrev pub HasWork : Option FirstIntervalsValue → RowValue → Type 0

@@ -3,8 +3,9 @@
 ghost use Rattle.std.specs.Prelude.{◌≡◌, Some};
 ghost use Rattle.jr_crew.specs.Crew.{AreGuesses};
 
-use crate::bench::{Bench, CodedRow};
+use crate::bench::{Bench, CodedRow, Painted};
 use crate::one_first_intervals::OneFirstIntervals;
+use crate::paint_room::PaintRoom;
 use jr_picture::Gate;
 use jr_rows::{FirstIntervals, Rows, intervals_of_row, shape_of};
 use jr_scan::Guesses;
@@ -107,12 +108,24 @@ impl<'a, S: OneFirstIntervals> Baton<'a, S> {
         (self, baton_over(part, rows))
     }
 
-    /// Reads the next row, of whose intervals the gate was told.
-    pub(crate) fn read_passed(self, part: &FirstIntervals<'a>, bench: Bench<S>) -> CodedRow<S>
+    /// Decodes and paints the next row, of whose intervals the gate was told.
+    pub(crate) fn finish(
+        self,
+        part: &FirstIntervals<'a>,
+        bench: Bench<S>,
+        room: &mut PaintRoom<S>,
+    ) -> Painted<S>
         requires { S.part ≡ Some part.now }
     {
         let mut rows = self.rows;
-        bench.read(part, &mut rows)
+        bench.decode(part, &mut rows, room)
+    }
+
+    /// Tells the gate of the intervals that begin in the next row.
+    pub(crate) fn announce<G: Gate>(&self, part: &FirstIntervals<'a>, gate: &G)
+        requires { S.part ≡ Some part.now }
+    {
+        announce(part.scan(), part.limit(), self.rows.row(), gate);
     }
 
     /// Tells the gate of the intervals that begin in the next row, and reads it: answers it with those behind it.

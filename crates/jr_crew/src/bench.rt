@@ -3,13 +3,13 @@
 ghost use Rattle.std.specs.Prelude.{◌≡◌, ◌+◌, ◌*◌, ◌<◌, ◌≤◌, Some, length, take};
 ghost use Rattle.jr_head.specs.Geometry.{mcus_down, vertical_max};
 ghost use Rattle.jr_paint.specs.Lines.{line_room, line_size};
-ghost use Rattle.jr_rows.specs.Rows.{AreRead, CountsRow, HasRowRoom, ShowsLines, line_count};
+ghost use Rattle.jr_rows.specs.Rows.{AreRead, CountsRow, HasRowRoom, HasSampleRoom, ShowsLines, line_count};
 
 use crate::one_first_intervals::OneFirstIntervals;
 use crate::paint_room::PaintRoom;
 use crate::row::Row;
 use jr_base::Memory;
-use jr_rows::{FirstIntervals, Marked, Rows, bytes_of_row, lines_of, shape_of};
+use jr_rows::{FirstIntervals, Marked, Rows, SampleRow, bytes_of_row, lines_of, shape_of};
 use std::alloc::Global;
 use std::marker::{Model, PhantomData};
 
@@ -33,6 +33,28 @@ fn paint_first(
     let (_y, count) = lines_of(scan.head(), row);
     let size = count as usize * shape_of(scan.head()).line;
     work.paint(scan, limit, row, room, &mut pixels[..size]);
+}
+
+/// Decodes the next row and paints it at the beginning of `pixels`: answers the marks of the intervals that end in it.
+fn decode_first(
+    work: &mut SampleRow,
+    part: &FirstIntervals<'_>,
+    rows: &mut Rows<'_>,
+    pixels: &mut [u8],
+) -> Marked
+    requires of { rows.old.scan ≡ part.now.scan }
+    requires limit { rows.old.limit ≡ part.now.limit }
+    requires row { rows.old.row < mcus_down part.now.scan.head }
+    requires room { HasSampleRoom part.now.scan.head work.old }
+    requires pixels { 8 * vertical_max part.now.scan.head * line_size part.now.scan.head ≤ length pixels.old }
+    ensures room { HasSampleRoom part.now.scan.head work.new }
+    ensures lines { ShowsLines part.now.scan part.now.limit rows.old.row (take (line_count part.now.scan.head rows.old.row * line_size part.now.scan.head) pixels.new) }
+    ensures counts { CountsRow part.now.scan part.now.limit rows.old.row result }
+{
+    let head = part.scan().head();
+    let (_y, count) = lines_of(head, rows.row());
+    let size = count as usize * shape_of(head).line;
+    work.paint(rows, &mut pixels[..size])
 }
 
 /// Memory for the blocks, the samples and the lines of a row of MCUs of the scan.
@@ -67,6 +89,30 @@ impl<S: OneFirstIntervals> Bench<S> {
             pixels,
             of: PhantomData,
         })
+    }
+
+    /// Decodes the next row of the scan, some MCUs at a time, and paints it.
+    pub(crate) fn decode(
+        self,
+        part: &FirstIntervals<'_>,
+        rows: &mut Rows<'_>,
+        room: &mut PaintRoom<S>,
+    ) -> Painted<S>
+        requires part { S.part ≡ Some part.now }
+        requires of { rows.old.scan ≡ part.now.scan }
+        requires limit { rows.old.limit ≡ part.now.limit }
+        requires row { rows.old.row < mcus_down part.now.scan.head }
+    {
+        let row = rows.row();
+        let mut pixels = self.pixels;
+        let marked = decode_first(&mut room.work, part, rows, &mut pixels);
+        Painted {
+            row,
+            marked,
+            work: self.work,
+            pixels,
+            of: PhantomData,
+        }
     }
 
     /// Reads the next row of the scan.

@@ -3,7 +3,7 @@
 ghost use Rattle.std.specs.Prelude.{◌≡◌, ◌≤◌, Some, length};
 
 use crate::baton::Baton;
-use crate::bench::{Bench, CodedRow, Painted};
+use crate::bench::{Bench, Painted};
 use crate::one_first_intervals::OneFirstIntervals;
 use crate::paint_room::PaintRoom;
 use crate::part_guess::{PartGuess, Window};
@@ -90,9 +90,8 @@ impl<'a, S: OneFirstIntervals> Crew<'a, S> {
         queue.task(&self.part)
     }
 
-    /// Paints a row that is read.
-    fn paint<R: Wait>(&self, rt: &R, coded: CodedRow<S>, room: &mut PaintRoom<S>) {
-        let painted = coded.paint(&self.part, room);
+    /// Keeps a painted row.
+    fn put_painted<R: Wait>(&self, rt: &R, painted: Painted<S>) {
         let is_awaited = self.queue.lock(rt).put_painted(painted);
         if is_awaited {
             self.has_row.notify_one();
@@ -108,10 +107,11 @@ impl<'a, S: OneFirstIntervals> Crew<'a, S> {
         bench: Bench<S>,
         room: &mut PaintRoom<S>,
     ) {
-        let (coded, behind) = baton.read(&self.part, gate, bench);
         if intervals_of_row(self.part.scan().head()).is_some() {
-            return self.paint(rt, coded, room);
+            baton.announce(&self.part, gate);
+            return self.put_painted(rt, baton.finish(&self.part, bench, room));
         }
+        let (coded, behind) = baton.read(&self.part, gate, bench);
         let waiter = self.queue.lock(rt).put_coded(coded, behind);
         self.wake(waiter);
     }
@@ -152,10 +152,9 @@ impl<'a, S: OneFirstIntervals> Crew<'a, S> {
             RowTask::Read(baton, bench) => self.read(rt, gate, baton, bench, room),
             RowTask::Pass(baton, bench) => self.pass(rt, gate, baton, bench),
             RowTask::Finish(row) => {
-                let coded = row.baton.read_passed(&self.part, row.bench);
-                self.paint(rt, coded, room);
+                self.put_painted(rt, row.baton.finish(&self.part, row.bench, room))
             }
-            RowTask::Paint(coded) => self.paint(rt, coded, room),
+            RowTask::Paint(coded) => self.put_painted(rt, coded.paint(&self.part, room)),
             RowTask::Guess(place, window, guess) => self.guess(rt, place, window, guess),
         }
     }

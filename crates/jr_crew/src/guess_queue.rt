@@ -34,11 +34,18 @@ impl<'a, S: OneFirstIntervals> GuessSlot<'a, S> {
             && self.guess.as_ref().is_some_and(|guess| guess.is_unused())
     }
 
-    /// Whether one of its MCUs starts at this bit of an interval.
+    /// Whether it covers this bit of an interval, and one of its MCUs starts there.
     fn has(&self, number: u32, bit: u64) -> bool {
-        self.guess
-            .as_ref()
-            .is_some_and(|guess| guess.has(number, bit))
+        self.window.has(number, bit)
+            && self
+                .guess
+                .as_ref()
+                .is_some_and(|guess| guess.has(number, bit))
+    }
+
+    /// Whether it is made, and covers this bit of an interval.
+    fn is_ready(&self, number: u32, bit: u64) -> bool {
+        self.guess.is_some() && self.window.has(number, bit)
     }
 
     /// Whether a thread makes it, and it covers this bit of an interval.
@@ -111,16 +118,32 @@ impl<'a, S: OneFirstIntervals> GuessQueue<'a, S> {
         self.at
     }
 
-    /// Whether a guess has an MCU that starts where the next row does.
-    pub(crate) fn has_next(&self) -> bool {
-        let (number, bit) = self.at;
-        self.slots.iter().any(|slot| slot.has(number, bit))
+    /// A bit near the end of the next row, if it is as long as the last one; none where the data end before.
+    fn next_end(&self) -> Option<u64> {
+        let end = self.at.1.saturating_add(self.row_bits);
+        if end < bits_of(self.scan, self.at.0) {
+            Some(end)
+        } else {
+            None
+        }
     }
 
-    /// Whether a thread makes a guess that may have such an MCU.
+    /// Whether a guess has an MCU that starts where the next row does, and one covers its end: then the row can be passed over
+    /// without being read.
+    pub(crate) fn has_next(&self) -> bool {
+        let (number, bit) = self.at;
+        let has_end = match self.next_end() {
+            Some(end) => self.slots.iter().any(|slot| slot.is_ready(number, end)),
+            None => true,
+        };
+        has_end && self.slots.iter().any(|slot| slot.has(number, bit))
+    }
+
+    /// Whether a thread makes a guess that the next row may be passed over by.
     pub(crate) fn makes_next(&self) -> bool {
         let (number, bit) = self.at;
-        self.slots.iter().any(|slot| slot.is_made(number, bit))
+        let end = self.next_end().unwrap_or(bit);
+        self.slots.iter().any(|slot| slot.is_made(number, bit) || slot.is_made(number, end))
     }
 
     /// Where there is room for another guess.

@@ -1,30 +1,33 @@
-//! Memory for the samples that a thread puts together while it paints.
+//! Memory that a thread decodes and paints rows by.
 
 ghost use Rattle.std.specs.Prelude.{◌≡◌, Some};
 
 use crate::one_first_intervals::OneFirstIntervals;
 use jr_base::Memory;
 use jr_paint::line_room;
-use jr_rows::FirstIntervals;
+use jr_rows::{FirstIntervals, SampleRow};
 use std::alloc::Global;
 use std::marker::{Model, PhantomData};
 
-/// Memory for painting lines of the scan. Each thread has its own, and no bench has any.
+/// Memory for the samples of a row of MCUs of the scan, and for painting its lines. Each thread has its own.
 #[derive(Drop)]
 pub(crate) struct PaintRoom<S: OneFirstIntervals> {
+    /// For a row that is read before, and that has its samples on its bench.
     pub(crate) bytes: Vec<u8>,
+    /// For a row that is read, transformed and painted at once.
+    pub(crate) work: SampleRow,
     of: PhantomData<S>,
 }
 
 impl<S: OneFirstIntervals> Model for PaintRoom<S> {
     ghost use Rattle.std.specs.Prelude.{ℕ, length};
-    ghost use Rattle.jr_crew.specs.Crew.{HasLineRoom};
+    ghost use Rattle.jr_crew.specs.Crew.{HasLineRoom, HasSamples};
 
     ghost Value = { ℕ };
 
     ghost view = { λ r. length r.bytes.items };
 
-    ghost invariant = { λ r. HasLineRoom S.part (length r.bytes.items) };
+    ghost invariant = { λ r. HasLineRoom S.part (length r.bytes.items) × HasSamples S.part r.work };
 }
 
 impl<S: OneFirstIntervals> PaintRoom<S> {
@@ -32,8 +35,12 @@ impl<S: OneFirstIntervals> PaintRoom<S> {
     pub(crate) fn open(alloc: Global, part: &FirstIntervals<'_>) -> Result<PaintRoom<S>, Memory>
         requires { S.part ≡ Some part.now }
     {
+        let head = part.scan().head();
+        let bytes = vec![in alloc; 0; line_room(head)]?;
+        let work = SampleRow::open(alloc, head)?;
         Ok(PaintRoom {
-            bytes: vec![in alloc; 0; line_room(part.scan().head())]?,
+            bytes,
+            work,
             of: PhantomData,
         })
     }

@@ -37,6 +37,9 @@ use std::thread::Threads;
 /// written.
 const BENCHES_OF_ONE: u32 = 2;
 
+/// Guesses are worth their work where there are benches for three threads: two are as fast where one reads and one paints.
+const LEAST_BENCHES: u32 = 3 * BENCHES_OF_ONE;
+
 /// A guess has room for the MCUs of so many rows, since its bits are about those of one.
 const ROWS_OF_GUESS: u32 = 2;
 
@@ -76,15 +79,12 @@ fn open_places<S: OneFirstIntervals>(
     Ok(places)
 }
 
-/// How many guesses are kept at most, of so many: none where rows are whole intervals, which are read apart, and no more than
-/// the data of an interval have bits for.
+/// How many guesses are kept at most beside so many benches: none where rows are whole intervals, which are read apart, or where
+/// there are few threads or few data, and no more than the data of an interval have bits for.
 fn guesses_of(part: &FirstIntervals<'_>, count: u32) -> u32 {
     let scan = part.scan();
-    if intervals_of_row(scan.head()).is_some() {
-        return 0;
-    }
     let windows = bits_of(scan, 0) / LEAST_BITS;
-    if windows < LEAST_WINDOWS {
+    if intervals_of_row(scan.head()).is_some() || count < LEAST_BENCHES || windows < LEAST_WINDOWS {
         return 0;
     }
     windows.min(u64::from(count)) as u32
