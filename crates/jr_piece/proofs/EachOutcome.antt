@@ -5,7 +5,8 @@ use Rattle.std.proofs.lemmas.List.{append-nil}
 use Rattle.jr_head.specs.HeadValue.{HeadValue}
 use Rattle.jr_head.specs.Geometry.{quantiser_of}
 use Rattle.jr_scan.specs.IntervalValue.{IntervalValue}
-use Rattle.jr_scan.specs.Mcus.{component, Decodes, HasNoDecoding, LongestFront}
+use Rattle.jr_mcu.specs.Mcus.{component}
+use Rattle.jr_scan.specs.Mcus.{Decodes, HasNoDecoding, LongestFront}
 use Rattle.jr_idct.specs.Transform.{samples}
 use Rattle.jr_piece.specs.Outcome.{AreSamples, HasOutcome}
 use Rattle.jr_piece.proofs.Outcomes.{no_samples, more_samples}

@@ -3,7 +3,7 @@ use Rattle.std.proofs.Common.{subst}
 use Rattle.jr_code.proofs.CodeLemmas.{one_word}
 use Rattle.jr_scan.specs.IntervalValue.{IntervalValue}
 use Rattle.jr_scan.specs.Run.{IsRun, run_from}
-use Rattle.jr_scan.proofs.McuLaws as mcus
+use Rattle.jr_scan.proofs.Fronts as laws
 use Rattle.jr_scan.proofs.Runs as runs
 use Rattle.jr_scan.proofs.LongestFronts as fronts
 use Rattle.jr_piece.specs.Outcome.{HasOutcome}
@@ -13,13 +13,13 @@ use Rattle.jr_piece.proofs.Strips.{ShorterFront}
 use Rattle.jr_piece.proofs.StripRuns.{OneRun, RunsMeet, WholeRun}
 
 pub one_decoding : OneDecoding
-one_decoding = mcus.one_decoding one_word
+one_decoding = laws.one_decoding one_word
 
 pub one_front : OneFront
-one_front = mcus.one_front one_word
+one_front = laws.one_front one_word
 
 pub shorter_front : ShorterFront
-shorter_front = mcus.front_less
+shorter_front = laws.front_less
 
 pub one_run : OneRun
 one_run r a b lawful = runs.one_run one_word r a.blocks b.blocks a.to b.to a.end b.end (runs.component_low r.interval.head lawful) a.is b.is

@@ -11,12 +11,13 @@ use Rattle.jr_head.specs.Geometry.{order_of, IsLawful}
 use Rattle.jr_scan.specs.declared.place.Place.{Place}
 use Rattle.jr_scan.specs.declared.place.RunEnd.{RunEnd}
 use Rattle.jr_scan.specs.declared.place.RunEnd.TheVariants.{AllRead, NoMcu}
-use Rattle.jr_scan.specs.Block.{IsInDcRange}
+use Rattle.jr_mcu.specs.Block.{IsInDcRange}
 use Rattle.jr_scan.specs.IntervalValue.{IntervalValue}
-use Rattle.jr_scan.specs.Mcus.{HasNoDecoding, Decodes, Front, LongestFront, no_predictions, HasLongestFront}
+use Rattle.jr_scan.specs.Mcus.{HasNoDecoding, Decodes, Front, LongestFront, HasLongestFront}
+use Rattle.jr_mcu.specs.Mcus.{no_predictions}
 use Rattle.jr_scan.specs.Run.{RunOf, start_of_interval, whole_run, run_from, left_at, HasNoMcu, IsRun, RunRead, IsSoundRun}
 use Rattle.jr_scan.specs.McuReader.{McuReaderValue, HasRead, HasEnded, per_mcu}
-use Rattle.jr_scan.proofs.McuLaws.{no_blocks}
+use Rattle.jr_mcu.proofs.McuLaws.{no_blocks}
 use Rattle.jr_scan.proofs.McuReaders.{front_of_run, left_is, no_room, run_of_front}
 use Rattle.jr_piece.specs.StripValue.{ReadingValue}
 use Rattle.jr_piece.specs.Strips.{AreBlocks, CanReadFrom, FirstMcus, IsNext, IsReading}

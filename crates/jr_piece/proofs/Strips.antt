@@ -7,7 +7,8 @@ use Rattle.std.proofs.Math.Nat.{mul-add-mod_self_right}
 use Rattle.jr_head.specs.HeadValue.{HeadValue}
 use Rattle.jr_head.specs.Geometry.{order_of, quantiser_of}
 use Rattle.jr_scan.specs.IntervalValue.{IntervalValue}
-use Rattle.jr_scan.specs.Mcus.{component, Decodes, Front, LongestFront}
+use Rattle.jr_mcu.specs.Mcus.{component}
+use Rattle.jr_scan.specs.Mcus.{Decodes, Front, LongestFront}
 use Rattle.jr_idct.specs.Transform.{samples}
 use Rattle.jr_piece.specs.PieceValue.{PieceValue}
 use Rattle.jr_piece.specs.Outcome.{AreSamples, IsOutcome, unit_of}

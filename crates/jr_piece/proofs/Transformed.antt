@@ -5,7 +5,7 @@ use Rattle.std.proofs.lemmas.Nat.{div-add-mod'}
 use Rattle.std.proofs.lemmas.List.{get_or_default}
 use Rattle.std.proofs.lemmas.List.Edits.{get_or-between}
 use Rattle.std.specs.List.{between}
-use Rattle.jr_scan.specs.Mcus.{component}
+use Rattle.jr_mcu.specs.Mcus.{component}
 use Rattle.std.specs.Prelude.{ℤ}
 use Rattle.jr_head.specs.HeadValue.{HeadValue}
 use Rattle.jr_head.specs.Geometry.{order_of, quantiser_of}

@@ -7,7 +7,8 @@ use Rattle.std.proofs.Math.Nat.{le_of_mul-le-mul_right, mul-le-mul_right}
 use Rattle.jr_head.specs.HeadValue.{HeadValue}
 use Rattle.jr_head.specs.Geometry.{order_of, quantiser_of, IsLawful}
 use Rattle.jr_scan.specs.IntervalValue.{IntervalValue}
-use Rattle.jr_scan.specs.Mcus.{component, Decodes, HasNoDecoding, Front, LongestFront}
+use Rattle.jr_mcu.specs.Mcus.{component}
+use Rattle.jr_scan.specs.Mcus.{Decodes, HasNoDecoding, Front, LongestFront}
 use Rattle.jr_scan.specs.Run.{RunOf, whole_run}
 use Rattle.jr_scan.specs.McuReader.{McuReaderValue, HasRead, HasEnded, HasReadOf, per_mcu}
 use Rattle.jr_scan.proofs.McuReaders.{front_read, longest_read}

@@ -3,7 +3,8 @@ use Rattle.std.specs.Prelude.{◌≡◌, ℕ, ◌<◌, true, false, List, [], le
 use Rattle.jr_head.specs.HeadValue.{HeadValue}
 use Rattle.jr_head.specs.Geometry.{quantiser_of}
 use Rattle.jr_scan.specs.IntervalValue.{IntervalValue}
-use Rattle.jr_scan.specs.Mcus.{component, block_of, Decodes, HasNoDecoding, LongestFront}
+use Rattle.jr_mcu.specs.Mcus.{component, block_of}
+use Rattle.jr_scan.specs.Mcus.{Decodes, HasNoDecoding, LongestFront}
 use Rattle.jr_idct.specs.Transform.{samples}
 use Rattle.jr_piece.specs.PieceValue.{PieceValue}
 

@@ -8,7 +8,7 @@ use Rattle.jr_head.specs.Geometry.{order_of}
 use Rattle.jr_scan.specs.declared.place.Place.{Place}
 use Rattle.jr_scan.specs.declared.place.RunEnd.TheVariants.{AllRead}
 use Rattle.jr_scan.specs.IntervalValue.{IntervalValue}
-use Rattle.jr_scan.specs.Block.{IsInDcRange}
+use Rattle.jr_mcu.specs.Block.{IsInDcRange}
 use Rattle.jr_scan.specs.Mcus.{HasDecoding, HasNoDecoding, Front, HasLongestFront, LongestFront}
 use Rattle.jr_scan.specs.Run.{RunOf, start_of_interval, run_from, HasNoMcu, IsRun}
 use Rattle.jr_piece.specs.PieceValue.{PieceValue}

@@ -10,7 +10,7 @@ use Rattle.std.proofs.Math.Nat.{div-lt_iff_lt-mul}
 use Rattle.std.proofs.Math.Seq.{take-append_seam}
 use Rattle.jr_head.specs.HeadValue.{HeadValue}
 use Rattle.jr_head.specs.Geometry.{blocks_of, horizontal_of, mcus_across}
-use Rattle.jr_scan.specs.Mcus.{component}
+use Rattle.jr_mcu.specs.Mcus.{component}
 use Rattle.jr_rows.specs.Groups.{group_of, unit_in, units_in}
 
 module _ (h : HeadValue) (groups : List (List ℕ)) (m j : ℕ) where

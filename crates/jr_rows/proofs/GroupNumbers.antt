@@ -14,7 +14,7 @@ use Rattle.jr_head.specs.Geometry.{IsLawful, no_component, units_of, order_from,
 use Rattle.jr_head.proofs.SamplingLaws.{length-order}
 use Rattle.jr_paint.proofs.Factors.{sampled_at, subsampled_at}
 use Rattle.jr_paint.proofs.Places.{place_of_lies}
-use Rattle.jr_scan.specs.Mcus.{component}
+use Rattle.jr_mcu.specs.Mcus.{component}
 use Rattle.jr_picture.specs.Headline.{spot_of}
 use Rattle.jr_rows.specs.Groups.{lines_before, all_lines, groups_across, group_in, group_of}
 use Rattle.jr_rows.proofs.UnitComponents.{component_there}

@@ -13,7 +13,7 @@ use Rattle.jr_paint.specs.Lines.{line_of, next_lines_of}
 use Rattle.jr_paint.proofs.Factors.{sampled_at, scaled_below}
 use Rattle.jr_paint.proofs.PixelLaws.{flat_map-moved}
 use Rattle.jr_paint.proofs.Places.{mcu_inside}
-use Rattle.jr_scan.specs.Mcus.{component}
+use Rattle.jr_mcu.specs.Mcus.{component}
 use Rattle.jr_piece.specs.PieceValue.{PieceValue}
 use Rattle.jr_piece.specs.Units.{grey_unit}
 use Rattle.jr_picture.specs.BoardValue.{BoardValue}

@@ -10,7 +10,7 @@ use Rattle.jr_head.specs.HeadValue.{HeadValue}
 use Rattle.jr_head.specs.Geometry.{order_of, quantiser_of, blocks_of}
 use Rattle.jr_head.proofs.SamplingLaws.{length-order}
 use Rattle.jr_scan.specs.IntervalValue.{IntervalValue}
-use Rattle.jr_scan.specs.Mcus.{component}
+use Rattle.jr_mcu.specs.Mcus.{component}
 use Rattle.jr_scan.specs.ScanValue.{ScanValue, IsSameScan, interval_of, intervals_of, mcus_in}
 use Rattle.jr_idct.specs.Transform.{samples}
 use Rattle.jr_piece.specs.PieceValue.{PieceValue}

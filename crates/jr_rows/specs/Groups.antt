@@ -5,7 +5,7 @@ use Rattle.std.specs.List.{range_with_len}
 use Rattle.jr_head.specs.declared.component.Component.{Component}
 use Rattle.jr_head.specs.HeadValue.{HeadValue}
 use Rattle.jr_head.specs.Geometry.{blocks_before, blocks_of, horizontal_max, horizontal_of, mcus_across}
-use Rattle.jr_scan.specs.Mcus.{component}
+use Rattle.jr_mcu.specs.Mcus.{component}
 
 -- the lines of the components before c, and of all
 abbrev pub lines_before : HeadValue → ℕ → ℕ

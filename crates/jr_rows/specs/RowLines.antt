@@ -2,7 +2,7 @@
 use Rattle.std.specs.Prelude.{◌≡◌, ℕ, ◌*◌, ◌/◌, ◌<◌, List, length, slice_index_or}
 use Rattle.jr_head.specs.HeadValue.{HeadValue}
 use Rattle.jr_head.specs.Geometry.{blocks_of, horizontal_of}
-use Rattle.jr_scan.specs.Mcus.{component}
+use Rattle.jr_mcu.specs.Mcus.{component}
 use Rattle.jr_rows.specs.declared.row_lines.UnitStart.{UnitStart}
 use Rattle.jr_rows.specs.Groups.{all_lines, group_of, groups_across}
 use Rattle.jr_rows.specs.RowLinesValue.{RowLinesValue}

@@ -3,13 +3,14 @@ use Rattle.std.proofs.Common.{ℕ, Bool, List, [], ℤ}
 use Rattle.std.specs.List.{All}
 use Rattle.std.proofs.lemmas.List.Elements.{All-from_get_or}
 use Rattle.jr_head.specs.HeadValue.{HeadValue}
-use Rattle.jr_scan.specs.Block.{IsInRange}
+use Rattle.jr_mcu.specs.Block.{IsInRange}
 use Rattle.jr_scan.specs.IntervalValue.{IntervalValue}
-use Rattle.jr_scan.specs.Mcus.{Blocks, Decodes, LongestFront}
+use Rattle.jr_mcu.specs.Mcus.{Blocks}
+use Rattle.jr_scan.specs.Mcus.{Decodes, LongestFront}
 use Rattle.jr_scan.specs.declared.place.Place.{Place}
 use Rattle.jr_scan.specs.declared.place.RunEnd.{RunEnd}
 use Rattle.jr_scan.specs.Run.{RunOf, IsRun}
-use Rattle.jr_scan.proofs.Ranges.{block_in_range}
+use Rattle.jr_mcu.proofs.Ranges.{block_in_range}
 
 blocks_in_range : (h : HeadValue) (start : List ℤ) (zs : List (List ℤ)) (all : List Bool) → Blocks h start zs all → All IsInRange zs
 blocks_in_range h start zs all b = All-from_get_or IsInRange zs [] (λ n lt. block_in_range _ _ _ _ _ (b.each n lt))

@@ -16,11 +16,12 @@ use Rattle.jr_scan.specs.declared.place.Place.{Place}
 use Rattle.jr_scan.specs.declared.place.RunEnd.TheVariants.{AllRead}
 use Rattle.jr_scan.specs.IntervalValue.{IntervalValue}
 use Rattle.jr_head.specs.HeadValue.{HeadValue}
-use Rattle.jr_scan.specs.Block.{IsInDcRange}
-use Rattle.jr_scan.specs.Mcus.{component, block_of, prediction, no_predictions}
-use Rattle.jr_scan.specs.Run.{left_at, predicted, run_from, IsRun, TakesMcu}
-use Rattle.jr_scan.specs.Shift.{of_component, AreGreater, IsShifted, AreShifted, HaveFirstInRange, place_with}
-use Rattle.jr_scan.specs.Guess.{unpredicted, IsSmall, HaveSmallFirst, IsGuessed, GuessValue, blocks_at, IsGuess, AreLastBits}
+use Rattle.jr_mcu.specs.Block.{IsInDcRange}
+use Rattle.jr_mcu.specs.Mcus.{component, block_of, prediction, no_predictions, predicted, TakesMcu}
+use Rattle.jr_scan.specs.Run.{left_at, run_from, IsRun, place_with}
+use Rattle.jr_mcu.proofs.Greater.{three_all}
+use Rattle.jr_mcu.specs.Shift.{of_component, AreGreater, IsShifted, AreShifted, HaveFirstInRange, IsSmall, HaveSmallFirst}
+use Rattle.jr_scan.specs.Guess.{unpredicted, IsGuessed, GuessValue, blocks_at, IsGuess, AreLastBits}
 use Rattle.jr_scan.proofs.InRange.{run_in_range}
 use Rattle.jr_scan.proofs.Runs.{component_low, three_places}
 use Rattle.jr_scan.proofs.Shifts.{predicted_shifted, run_shifted}
@@ -122,19 +123,6 @@ last_from i from left within is =
 pub either : (P : List Guessed → Type 0) (b : Bool) (xs ys : List Guessed) → P xs → P ys → P (cond b xs ys)
 either P true xs ys p q = p
 either P false xs ys p q = q
-
--- three sums
-pub three_sums : (a b : List ℤ) (x y z : ℤ) → x ≡ get_or a 0 (pos 0) +ℤ get_or b 0 (pos 0) → y ≡ get_or a 1 (pos 0) +ℤ get_or b 1 (pos 0) → z ≡ get_or a 2 (pos 0) +ℤ get_or b 2 (pos 0) → AreGreater b a (x ∷ y ∷ z ∷ [])
-three_sums a b x y z p q r zero lt = p
-three_sums a b x y z p q r (suc zero) lt = q
-three_sums a b x y z p q r (suc (suc zero)) lt = r
-three_sums a b x y z p q r (suc (suc (suc c))) lt = absurd (omega arith)
-
-pub three_all : (P : ℤ → Type 0) (x y z : ℤ) → P x → P y → P z → All P (x ∷ y ∷ z ∷ [])
-three_all P x y z p q r zero d lt = p
-three_all P x y z p q r (suc zero) d lt = q
-three_all P x y z p q r (suc (suc zero)) d lt = r
-three_all P x y z p q r (suc (suc (suc c))) d lt = absurd (omega arith)
 
 chosen : (P : ℤ → Type 0) (b : Bool) (x y : ℤ) → P x → P y → P (cond b x y)
 chosen P true x y p q = p

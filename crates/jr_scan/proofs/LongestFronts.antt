@@ -8,10 +8,11 @@ use Rattle.jr_code.specs.Bits.{bits}
 use Rattle.jr_head.specs.HeadValue.{HeadValue}
 use Rattle.jr_head.specs.Geometry.{order_of, dc_of, ac_of}
 use Rattle.jr_scan.specs.IntervalValue.{IntervalValue}
-use Rattle.jr_scan.specs.Mcus.{component, prediction, no_predictions, Decodes, HasNoDecoding, Front, LongestFront}
-use Rattle.jr_scan.proofs.Words.{OneWord}
-use Rattle.jr_scan.proofs.FirstBlocks.{first_block}
-use Rattle.jr_scan.proofs.McuLaws.{Reads, HasNoNext, reads_none, reads_more, reads_stuck, reads_all, blocks_front, no_blocks}
+use Rattle.jr_mcu.specs.Mcus.{component, prediction, no_predictions}
+use Rattle.jr_scan.specs.Mcus.{Decodes, HasNoDecoding, Front, LongestFront}
+use Rattle.jr_mcu.proofs.Words.{OneWord}
+use Rattle.jr_mcu.proofs.FirstBlocks.{first_block}
+use Rattle.jr_mcu.proofs.McuLaws.{Reads, HasNoNext, reads_none, reads_more, reads_stuck, reads_all, blocks_front, no_blocks}
 
 -- the blocks in front of the bits, at most so many: they are as many, or no further one follows
 record BlocksInFront (h : HeadValue) (start : List ℤ) (all : List Bool) (most : ℕ) : Type 0 where

@@ -14,14 +14,15 @@ use Rattle.jr_head.specs.Geometry.{order_of, IsLawful}
 use Rattle.jr_scan.specs.declared.place.Place.{Place}
 use Rattle.jr_scan.specs.declared.place.RunEnd.TheVariants.{AllRead, NoMcu}
 use Rattle.jr_scan.specs.IntervalValue.{IntervalValue}
-use Rattle.jr_scan.specs.Mcus.{Mcus, no_predictions, HasNoDecoding, Front, LongestFront}
-use Rattle.jr_scan.specs.Run.{RunOf, start_of_interval, whole_run, run_from, left_at, predicted, TakesMcu, HasNoMcu, IsRun}
+use Rattle.jr_mcu.specs.Mcus.{Mcus, no_predictions, predicted, TakesMcu}
+use Rattle.jr_scan.specs.Mcus.{HasNoDecoding, Front, LongestFront}
+use Rattle.jr_scan.specs.Run.{RunOf, start_of_interval, whole_run, run_from, left_at, HasNoMcu, IsRun}
 use Rattle.std.specs.List.{All}
-use Rattle.jr_scan.specs.Block.{IsInRange}
+use Rattle.jr_mcu.specs.Block.{IsInRange}
 use Rattle.jr_scan.proofs.InRange.{run_in_range}
 use Rattle.jr_scan.specs.McuReader.{per_mcu, McuReaderValue, HasRead, HasEnded, HasReadOf, HasReadAll, IsMcuReader}
-use Rattle.jr_scan.proofs.FewMcus.{mcus_long}
-use Rattle.jr_scan.proofs.McuLaws.{blocks_front, no_blocks}
+use Rattle.jr_mcu.proofs.LongMcus.{mcus_long}
+use Rattle.jr_mcu.proofs.McuLaws.{blocks_front, no_blocks}
 use Rattle.jr_scan.proofs.Runs.{component_low, decoding_is_run, no_more, one_run, runs_meet, three_places}
 
 pub left_is : (i : IntervalValue) (p : Place) → length (left_at i p) ≡ 8 * length i.bytes - p.bit

@@ -17,12 +17,13 @@ use Rattle.jr_head.specs.Geometry.{order_of, order_from, units_of, dc_of, ac_of,
 use Rattle.jr_scan.specs.declared.place.Place.{Place}
 use Rattle.jr_scan.specs.declared.place.RunEnd.{RunEnd}
 use Rattle.jr_scan.specs.declared.place.RunEnd.TheVariants.{AllRead, NoMcu}
-use Rattle.jr_scan.specs.Block.{BlockAt}
+use Rattle.jr_mcu.specs.Block.{BlockAt}
 use Rattle.jr_scan.specs.IntervalValue.{IntervalValue}
-use Rattle.jr_scan.specs.Mcus.{component, block_of, prediction, IsBlock, all_bits, Blocks, Mcus, no_predictions, Decodes}
-use Rattle.jr_scan.specs.Run.{RunOf, whole_run, left_at, predicted, EndsAs, IsRun}
-use Rattle.jr_scan.proofs.Words.{OneWord}
-use Rattle.jr_scan.proofs.McuLaws.{prediction_same, is_block_same, one_blocks, blocks_front, blocks_before}
+use Rattle.jr_mcu.specs.Mcus.{component, block_of, prediction, IsBlock, all_bits, Blocks, Mcus, no_predictions, predicted}
+use Rattle.jr_scan.specs.Mcus.{Decodes}
+use Rattle.jr_scan.specs.Run.{RunOf, whole_run, left_at, EndsAs, IsRun}
+use Rattle.jr_mcu.proofs.Words.{OneWord}
+use Rattle.jr_mcu.proofs.McuLaws.{prediction_same, is_block_same, one_blocks, blocks_front, blocks_before}
 
 -- behind whole MCUs the components come as from the start on
 component_on : (h : HeadValue) (k n : ℕ) → component h (k * length (order_of h) + n) ≡ component h n

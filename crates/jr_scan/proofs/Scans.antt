@@ -2,10 +2,10 @@
 use Rattle.std.proofs.Common.{◌≡◌, ℕ, ◌-◌, ◌≤◌, List, [], ◌++◌, length, map, drop, replicate, refl, sym, ap, subst, ◌∙◌, arith}
 use Rattle.std.proofs.lemmas.List.{length-map}
 use Rattle.jr_head.specs.HeadValue.{HeadValue}
-use Rattle.jr_scan.specs.declared.scan_end.ScanEnd.{ScanEnd}
-use Rattle.jr_scan.specs.Cut.{CodedSegment, IsCut}
-use Rattle.jr_scan.specs.declared.span.Span.{Span}
-use Rattle.jr_scan.specs.Spans.{segment_data}
+use Rattle.jr_cut.specs.declared.scan_end.ScanEnd.{ScanEnd}
+use Rattle.jr_cut.specs.Cut.{CodedSegment, IsCut}
+use Rattle.jr_cut.specs.declared.span.Span.{Span}
+use Rattle.jr_cut.specs.Spans.{segment_data}
 use Rattle.jr_scan.specs.IntervalValue.{IntervalValue}
 use Rattle.jr_scan.specs.ScanValue.{intervals_of, IsScanOf}
 

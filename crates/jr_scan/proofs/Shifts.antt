@@ -6,11 +6,11 @@ use Rattle.std.proofs.Math.IntN.{+ℤ_assoc, +ℤ_comm}
 use Rattle.jr_head.specs.HeadValue.{HeadValue}
 use Rattle.jr_scan.specs.declared.place.Place.{Place}
 use Rattle.jr_scan.specs.declared.place.RunEnd.TheVariants.{AllRead}
-use Rattle.jr_scan.specs.Block.{IsInDcRange}
+use Rattle.jr_mcu.specs.Block.{IsInDcRange}
 use Rattle.jr_scan.specs.IntervalValue.{IntervalValue}
-use Rattle.jr_scan.specs.Mcus.{component, block_of, prediction, IsBlock, Blocks}
-use Rattle.jr_scan.specs.Run.{predicted, IsRun, run_from}
-use Rattle.jr_scan.specs.Shift.{of_component, AreGreater, IsShifted, AreShifted, HaveFirstInRange, place_with}
+use Rattle.jr_mcu.specs.Mcus.{component, block_of, prediction, IsBlock, Blocks, predicted}
+use Rattle.jr_scan.specs.Run.{IsRun, run_from, place_with}
+use Rattle.jr_mcu.specs.Shift.{of_component, AreGreater, IsShifted, AreShifted, HaveFirstInRange}
 
 first_of : (d : ℤ) (z y : List ℤ) → IsShifted d z y → get_or y 0 (pos 0) ≡ get_or z 0 (pos 0) +ℤ d
 first_of d z y s = ap (λ (x : List ℤ). get_or x 0 (pos 0)) s.is ∙ ap (λ (x : List ℤ). get_or x 0 (pos 0) +ℤ d) (sym s.was)

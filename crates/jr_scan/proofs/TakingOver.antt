@@ -10,7 +10,7 @@ use Rattle.std.specs.List.{All}
 use Rattle.jr_head.specs.Geometry.{IsLawful, order_of}
 use Rattle.jr_scan.specs.declared.place.Place.{Place}
 use Rattle.jr_scan.specs.declared.place.RunEnd.TheVariants.{AllRead}
-use Rattle.jr_scan.specs.Block.{IsInRange}
+use Rattle.jr_mcu.specs.Block.{IsInRange}
 use Rattle.jr_scan.specs.IntervalValue.{IntervalValue}
 use Rattle.jr_scan.specs.Run.{RunOf, run_from, IsRun}
 use Rattle.jr_scan.specs.McuReader.{McuReaderValue, HasRead, HasEnded, per_mcu}

@@ -1,24 +1,18 @@
 -- MCUs of an interval that are read before it is known that one starts where they start.
-use Rattle.std.specs.Prelude.{◌≡◌, ℕ, ◌-◌, ◌*◌, ◌<◌, ◌≤◌, Bool, List, length, take, drop, ℤ, pos, neg_ℤ, ◌≤ℤ◌, slice_index_or}
+use Rattle.std.specs.Prelude.{◌≡◌, ℕ, ◌-◌, ◌*◌, ◌<◌, ◌≤◌, Bool, List, length, take, drop, ℤ, slice_index_or}
 use Rattle.jr_code.specs.Bits.{bits}
 use Rattle.jr_head.specs.Geometry.{order_of, IsLawful}
 use Rattle.jr_scan.specs.declared.guessed.Guessed.{Guessed}
 use Rattle.jr_scan.specs.declared.place.Place.{Place}
 use Rattle.jr_scan.specs.declared.place.RunEnd.TheVariants.{AllRead}
 use Rattle.jr_scan.specs.IntervalValue.{IntervalValue}
-use Rattle.jr_scan.specs.Mcus.{block_of, no_predictions}
+use Rattle.jr_mcu.specs.Mcus.{no_predictions}
+use Rattle.jr_mcu.specs.Shift.{HaveSmallFirst}
 use Rattle.jr_scan.specs.Run.{run_from, IsRun}
 
 -- a bit, where each component is predicted to be 0
 abbrev pub unpredicted : ℕ → Place
 unpredicted bit = record { bit = bit; predictions = no_predictions }
-
--- half of what sixteen bits hold: two such numbers have a sum that sixteen bits hold
-abbrev pub IsSmall : ℤ → Type 0
-IsSmall z = (neg_ℤ (pos 16384) ≤ℤ z) × (z ≤ℤ pos 16383)
-
-abbrev pub HaveSmallFirst : List (List ℤ) → Type 0
-HaveSmallFirst zs = (n : ℕ) → n < length zs → IsSmall (slice_index_or (block_of zs n) 0 (pos 0))
 
 -- one MCU with these blocks, from a bit on where each component is predicted to be 0
 pub record IsGuessed (i : IntervalValue) (mcu : Guessed) (zs : List (List ℤ)) : Type 0 where

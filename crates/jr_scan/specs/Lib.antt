@@ -1,14 +1,8 @@
-pub mod Block
-pub mod Step
 pub mod IntervalValue
 pub mod FrontValue
 pub mod Mcus
-pub mod Cut
-pub mod Spans
-pub mod UnstuffingValue
 pub mod ScanValue
 pub mod Run
 pub mod McuReader
-pub mod Shift
 pub mod Guess
 pub mod Guesses

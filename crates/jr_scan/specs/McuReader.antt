@@ -4,7 +4,7 @@ use Rattle.std.specs.List.{All}
 use Rattle.jr_head.specs.Geometry.{order_of, IsLawful}
 use Rattle.jr_scan.specs.declared.place.Place.{Place}
 use Rattle.jr_scan.specs.declared.place.RunEnd.TheVariants.{AllRead}
-use Rattle.jr_scan.specs.Block.{IsInDcRange}
+use Rattle.jr_mcu.specs.Block.{IsInDcRange}
 use Rattle.jr_scan.specs.IntervalValue.{IntervalValue}
 use Rattle.jr_scan.specs.Run.{RunOf, whole_run, run_from, left_at, HasNoMcu, IsRun}
 

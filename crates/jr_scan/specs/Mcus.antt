@@ -1,47 +1,8 @@
--- The blocks of MCUs one after the other, each predicted by the last earlier one of its component (T.81, A.2.3 and
--- F.2.1.3.1), and what of them the bits of an interval hold.
-use Rattle.std.specs.Prelude.{◌≡◌, ℕ, zero, suc, ◌*◌, ◌%◌, ◌<◌, ◌≤◌, Bool, List, [], ◌++◌, length, replicate, ℤ, pos, ◌==◌, if◌then◌else◌, slice_index_or}
-use Rattle.std.specs.List.{flat_map}
+-- What of its MCUs the bits of an interval hold (T.81, E.1.4 and F.2.1.3.1).
+use Rattle.std.specs.Prelude.{◌≡◌, ℕ, ◌<◌, ◌≤◌, Bool, List, ◌++◌, length, ℤ}
 use Rattle.jr_code.specs.Bits.{bits}
-use Rattle.jr_head.specs.HeadValue.{HeadValue}
-use Rattle.jr_head.specs.Geometry.{order_of, dc_of, ac_of}
-use Rattle.jr_scan.specs.Block.{BlockAt}
+use Rattle.jr_mcu.specs.Mcus.{no_predictions, Mcus}
 use Rattle.jr_scan.specs.IntervalValue.{IntervalValue}
-
--- the component of block n, where the blocks are counted from the start of an MCU on
-abbrev pub component : HeadValue → ℕ → ℕ
-component h n = slice_index_or (order_of h) (n % length (order_of h)) 0
-
-abbrev pub block_of : List (List ℤ) → ℕ → List ℤ
-block_of zs n = slice_index_or zs n []
-
--- the first coefficient of the last block before block n that is of component c; where there is none, what is
--- given for c to start with
-abbrev pub prediction : HeadValue → List ℤ → List (List ℤ) → ℕ → ℕ → ℤ
-prediction h start zs c zero = slice_index_or start c (pos 0)
-prediction h start zs c (suc m) = if component h m == c then slice_index_or (block_of zs m) 0 (pos 0) else prediction h start zs c m
-
--- block n of zs has these bits
-abbrev pub IsBlock : HeadValue → List ℤ → List (List ℤ) → ℕ → List Bool → Type 0
-IsBlock h start zs n part = let c = component h n in BlockAt (dc_of h c) (ac_of h c) (prediction h start zs c n) (block_of zs n) part
-
-abbrev pub all_bits : List (List Bool) → List Bool
-all_bits parts = flat_map (λ part. part) parts
-
--- the bits are those of the blocks in order
-pub record Blocks (h : HeadValue) (start : List ℤ) (zs : List (List ℤ)) (all : List Bool) : Type 0 where
-  pub parts : List (List Bool)
-  pub count : length parts ≡ length zs
-  pub spelled : all ≡ all_bits parts
-  pub each : (n : ℕ) → n < length zs → IsBlock h start zs n (slice_index_or parts n [])
-
--- so many MCUs of blocks
-abbrev pub Mcus : HeadValue → List ℤ → ℕ → List (List ℤ) → List Bool → Type 0
-Mcus h start k zs all = (length zs ≡ k * length (order_of h)) × Blocks h start zs all
-
--- at the start of an interval each component is predicted to be 0 (F.1.1.5.1)
-abbrev pub no_predictions : List ℤ
-no_predictions = replicate 3 (pos 0)
 
 -- the interval's bits are those of its MCUs, and fewer than eight more
 pub record Decodes (i : IntervalValue) (zs : List (List ℤ)) : Type 0 where

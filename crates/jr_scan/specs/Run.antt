@@ -1,12 +1,11 @@
 -- A run of MCUs: from a place of an interval on, as many whole MCUs as there are, at most so many.
-use Rattle.std.specs.Prelude.{◌≡◌, ◌≢◌, ℕ, ◌+◌, ◌<◌, ◌≤◌, Bool, List, [], ◌∷◌, ◌++◌, length, drop, ℤ}
+use Rattle.std.specs.Prelude.{◌≡◌, ℕ, ◌+◌, ◌<◌, ◌≤◌, Bool, List, ◌++◌, length, drop, ℤ}
 use Rattle.jr_code.specs.Bits.{bits}
-use Rattle.jr_head.specs.HeadValue.{HeadValue}
 use Rattle.jr_scan.specs.declared.place.Place.{Place}
 use Rattle.jr_scan.specs.declared.place.RunEnd.{RunEnd}
 use Rattle.jr_scan.specs.declared.place.RunEnd.TheVariants.{AllRead, NoMcu}
 use Rattle.jr_scan.specs.IntervalValue.{IntervalValue}
-use Rattle.jr_scan.specs.Mcus.{prediction, no_predictions, Mcus}
+use Rattle.jr_mcu.specs.Mcus.{no_predictions, Mcus, predicted, BeginsNoMcu}
 
 -- a run of MCUs of an interval: where it starts, and how many MCUs it has at most
 pub record RunOf : Type 0 where
@@ -25,22 +24,12 @@ whole_run i = record { interval = i; from = start_of_interval; mcus = i.mcus }
 abbrev pub run_from : IntervalValue → Place → ℕ → RunOf
 run_from i p k = record { interval = i; from = p; mcus = k }
 
+-- the same bit, with other predictions
+abbrev pub place_with : Place → List ℤ → Place
+place_with p predictions = record { bit = p.bit; predictions = predictions }
+
 abbrev pub left_at : IntervalValue → Place → List Bool
 left_at i p = drop p.bit (bits i.bytes)
-
--- what each component is predicted to be behind these blocks
-abbrev pub predicted : HeadValue → List ℤ → List (List ℤ) → List ℤ
-predicted h start zs = prediction h start zs 0 (length zs) ∷ prediction h start zs 1 (length zs) ∷ prediction h start zs 2 (length zs) ∷ []
-
--- old is the bits of the blocks of one MCU, each component predicted as given, and then new
-pub record TakesMcu (h : HeadValue) (start : List ℤ) (zs : List (List ℤ)) (old new : List Bool) : Type 0 where
-  pub taken : List Bool
-  pub mcu : Mcus h start 1 zs taken
-  pub split : old ≡ taken ++ new
-
--- no whole MCU begins these bits
-abbrev pub BeginsNoMcu : HeadValue → List ℤ → List Bool → Type 0
-BeginsNoMcu h start old = (ys : List (List ℤ)) (taken rest : List Bool) → Mcus h start 1 ys taken → old ≢ taken ++ rest
 
 -- no whole MCU follows
 abbrev pub HasNoMcu : IntervalValue → Place → Type 0

@@ -2,8 +2,8 @@
 use Rattle.std.specs.Prelude.{◌≡◌, ℕ, ◌-◌, ◌<◌, List, [], ◌++◌, length, replicate, drop, slice_index_or}
 use Rattle.jr_head.specs.HeadValue.{HeadValue}
 pub use Rattle.jr_head.specs.Intervals.{intervals_of, mcus_in}
-use Rattle.jr_scan.specs.declared.scan_end.ScanEnd.{ScanEnd}
-use Rattle.jr_scan.specs.Cut.{IsCut}
+use Rattle.jr_cut.specs.declared.scan_end.ScanEnd.{ScanEnd}
+use Rattle.jr_cut.specs.Cut.{IsCut}
 use Rattle.jr_scan.specs.IntervalValue.{IntervalValue}
 
 -- the head, the data bytes of each interval, and what ended the scan

@@ -6,9 +6,9 @@ ghost use Rattle.jr_head.specs.Geometry.{IsLawful};
 use crate::front::FrontBlocks;
 use crate::interval_ref::IntervalRef;
 use crate::mcu_reader::{MOST_UNITS, McuReader};
-use crate::span::Span;
 use jr_block::Coefficients;
 use jr_code::Memory;
+use jr_cut::Span;
 use jr_head::Head;
 use std::alloc::Global;
 use std::array;
@@ -54,8 +54,8 @@ fn push_zigzag(blocks: &mut Vec<Block>, more: &[Coefficients]) -> Result<(), Mem
 
 impl Interval {
     ghost use Rattle.std.specs.Arc.{arc_value};
-    ghost use Rattle.jr_scan.specs.Spans.{segment_data, IsSpanOf};
-    ghost use Rattle.jr_scan.specs.Block.{IsInRange};
+    ghost use Rattle.jr_cut.specs.Spans.{segment_data, IsSpanOf};
+    ghost use Rattle.jr_mcu.specs.Block.{IsInRange};
     ghost use Rattle.jr_head.specs.Geometry.{order_of};
     ghost use Rattle.jr_scan.specs.Mcus.{Decodes, HasNoDecoding, Front, LongestFront};
     ghost use Rattle.jr_scan.specs.Run.{whole_run};

@@ -5,14 +5,9 @@ ghost use Rattle.jr_head.specs.Geometry.{IsLawful, order_of};
 ghost use Rattle.jr_scan.specs.declared.place.Place.{Place};
 ghost use Rattle.jr_scan.specs.declared.place.RunEnd.TheVariants.{AllRead};
 ghost use Rattle.jr_scan.specs.Run.{RunOf, IsRun, IsSoundRun, RunRead, run_from};
-ghost use Rattle.jr_scan.specs.Cut.{Cutting};
+ghost use Rattle.jr_cut.specs.Cut.{Cutting};
 ghost use Rattle.jr_scan.specs.IntervalValue.{IntervalValue};
 ghost use Rattle.jr_scan.specs.Mcus.{Decodes, HasNoDecoding, Front, LongestFront};
-
-/// A scan's bytes are cut in one way: n intervals, the first byte at an offset of the file.
-pub fn one_cut()
-    ensures { (n at : ℕ) (bytes : List ℕ) (a b : Cutting n at bytes) → (a.datas ≡ b.datas) × (a.end ≡ b.end) }
-{}
 
 /// An interval has at most one decoding.
 pub fn one_decoding()

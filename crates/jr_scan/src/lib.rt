@@ -1,8 +1,6 @@
 //! The one scan of a JPEG file: its restart intervals, and the blocks that each of them codes.
 #![tactic(auto)]
 
-mod block;
-mod cut;
 mod front;
 mod guess;
 mod guessed;
@@ -10,25 +8,21 @@ mod guesses;
 mod interval;
 mod interval_ref;
 mod laws;
-mod mcu;
 mod mcu_reader;
 mod place;
 mod scan;
-mod scan_end;
-mod span;
 mod taking_over;
-mod unstuff;
 
 pub use front::FrontBlocks;
 pub use guess::Guess;
 pub use guesses::Guesses;
 pub use interval::{Block, Interval};
 pub use interval_ref::IntervalRef;
+pub use jr_cut::{ScanEnd, one_cut};
 pub use laws::{
     decoding_is_whole_run, each_interval_decodes_or_not, each_interval_has_a_longest_front,
-    no_front, one_cut, one_decoding, one_front, one_run, runs_meet, shorter_front,
+    no_front, one_decoding, one_front, one_run, runs_meet, shorter_front,
 };
 pub use mcu_reader::{MOST_UNITS, McuReader};
 pub use place::{Place, RunEnd};
 pub use scan::Scan;
-pub use scan_end::ScanEnd;

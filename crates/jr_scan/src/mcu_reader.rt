@@ -3,13 +3,13 @@
 ghost use Rattle.std.specs.Prelude.{◌≡◌, ◌<◌, ◌≤◌, ◌+◌, ◌*◌, ◌++◌, ◌^◌, ℕ, ℤ, List, [], length, take, drop, false, IsTrue, IfNone, OnSome};
 ghost use Rattle.std.specs.List.{All};
 ghost use Rattle.jr_code.specs.Bits.{bits};
-ghost use Rattle.jr_scan.specs.Block.{IsInDcRange, IsInRange};
+ghost use Rattle.jr_mcu.specs.Block.{IsInDcRange, IsInRange};
 
 use crate::interval_ref::IntervalRef;
-use crate::mcu::{read_mcu, skip_mcu};
 use crate::place::Place;
 use jr_block::Coefficients;
 use jr_code::Bits;
+use jr_mcu::{read_mcu, skip_mcu};
 use std::marker::Model;
 
 /// The most data units that an MCU has (T.81, B.2.3): blocks with so much room take a whole one of any head.
@@ -41,7 +41,7 @@ pub struct McuReader<'a> {
 impl<'a> Model for McuReader<'a> {
     ghost use Rattle.std.specs.Prelude.{◌≡◌, ◌≤◌, ◌*◌, ◌-◌, length};
     ghost use Rattle.std.specs.List.{All};
-    ghost use Rattle.jr_scan.specs.Block.{IsInDcRange};
+    ghost use Rattle.jr_mcu.specs.Block.{IsInDcRange};
     ghost use Rattle.jr_scan.specs.McuReader.{McuReaderValue, IsMcuReader};
 
     ghost Value = { McuReaderValue };

@@ -2,13 +2,10 @@
 
 ghost use Rattle.std.specs.Prelude.{◌≡◌, ◌↔◌, ◌<◌, ◌≤◌, ◌^◌, ℕ, List, length, drop, IsTrue, IfOk, slice_index_or, []};
 
-use crate::cut::cut;
 use crate::interval::Interval;
 use crate::interval_ref::IntervalRef;
-use crate::scan_end::ScanEnd;
-use crate::span::Span;
-use crate::unstuff::Unstuffing;
 use jr_code::Memory;
+use jr_cut::{ScanEnd, Span, Unstuffing, cut};
 use jr_head::Head;
 use std::alloc::Global;
 use std::marker::Model;
@@ -29,7 +26,7 @@ impl Model for Scan {
     ghost use Rattle.std.specs.List.{All};
     ghost use Rattle.std.specs.Arc.{arc_value};
     ghost use Rattle.jr_scan.specs.ScanValue.{ScanValue, intervals_of};
-    ghost use Rattle.jr_scan.specs.Spans.{segment_data, IsSpanOf};
+    ghost use Rattle.jr_cut.specs.Spans.{segment_data, IsSpanOf};
 
     ghost Value = { ScanValue };
 

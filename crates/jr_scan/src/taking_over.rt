@@ -3,7 +3,7 @@
 ghost use Rattle.std.specs.Prelude.{◌≡◌, ◌<◌, ◌≤◌, ◌+◌, ◌*◌, ◌++◌, ℕ, ℤ, List, length, take, IfSome};
 ghost use Rattle.std.specs.List.{All};
 ghost use Rattle.jr_head.specs.Geometry.{order_of};
-ghost use Rattle.jr_scan.specs.Block.{IsInDcRange, IsInRange};
+ghost use Rattle.jr_mcu.specs.Block.{IsInDcRange, IsInRange};
 ghost use Rattle.jr_scan.specs.Guesses.{AreGuessesOf};
 ghost use Rattle.jr_scan.specs.Run.{IsRun, run_from};
 ghost use Rattle.jr_scan.specs.McuReader.{HasRead, HasEnded, per_mcu};

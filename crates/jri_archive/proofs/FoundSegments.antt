@@ -5,12 +5,12 @@ use Rattle.std.proofs.lemmas.List.{drop-drop, length-replicate, get_or-replicate
 use Rattle.std.proofs.Math.Seq.{get_or-append_seam, take-append_seam}
 use Rattle.std.proofs.Math.ListN.{get_or-append}
 use Rattle.jr_base.specs.declared.marker.TheConstants.{EOI, PREFIX, RST0, RST7}
-use Rattle.jr_scan.specs.declared.scan_end.ScanEnd.{ScanEnd}
-use Rattle.jr_scan.specs.declared.scan_end.ScanEnd.TheVariants.{EndOfImage, OtherMarker, OutOfStep, ExtraRestart}
-use Rattle.jr_scan.specs.Cut.{IsRaw, IsStop, marker, HasMarker, IsEnding, IsCut}
+use Rattle.jr_cut.specs.declared.scan_end.ScanEnd.{ScanEnd}
+use Rattle.jr_cut.specs.declared.scan_end.ScanEnd.TheVariants.{EndOfImage, OtherMarker, OutOfStep, ExtraRestart}
+use Rattle.jr_cut.specs.Cut.{IsRaw, IsStop, marker, HasMarker, IsEnding, IsCut}
 use Rattle.jr_scan.specs.ScanValue.{ScanValue, intervals_of}
-use Rattle.jr_scan.proofs.Cuts.{CutSoFar, so_far_first, SegmentRead, MarkerRead, cut_returns, cut_more, other_code, rest_is, has_marker}
-use Rattle.jr_scan.proofs.CutLaw.{one_cut}
+use Rattle.jr_cut.proofs.Cuts.{CutSoFar, so_far_first, SegmentRead, MarkerRead, cut_returns, cut_more, other_code, rest_is, has_marker}
+use Rattle.jr_cut.proofs.CutLaw.{one_cut}
 use Rattle.jri_archive.specs.declared.segments.CodedSpan.{CodedSpan}
 use Rattle.jri_archive.specs.Coded.{no_span, span_at, IsSpelledAt, HasRestartAt, AreInRow, AreSegmentsOf}
 use Rattle.jri_archive.specs.Verdicts.{IsFileScan}

@@ -2,7 +2,7 @@
 use Rattle.std.proofs.Common.{◌≡◌, ◌≢◌, ℕ, ◌+◌, ◌-◌, ◌<◌, List, length, take, drop, get_or, replicate, sym, subst, ◌∙◌, length-drop, arith}
 use Rattle.std.proofs.lemmas.List.{get_or-drop}
 use Rattle.jr_base.specs.declared.marker.TheConstants.{PREFIX}
-use Rattle.jr_scan.proofs.Cuts.{rest_is}
+use Rattle.jr_cut.proofs.Cuts.{rest_is}
 
 module _ (bytes : List ℕ) (at n : ℕ) where
   abbrev slice : List ℕ

@@ -1,7 +1,7 @@
 -- Where the entropy-coded segments of a scan stand in its file (T.81, B.1.1.5).
 use Rattle.std.specs.Prelude.{◌≡◌, ℕ, ◌+◌, ◌%◌, ◌<◌, ◌≤◌, List, [], length, drop, slice_index_or, slice_range}
 use Rattle.jr_base.specs.declared.marker.TheConstants.{RST0}
-use Rattle.jr_scan.specs.Cut.{IsRaw, IsStop, marker}
+use Rattle.jr_cut.specs.Cut.{IsRaw, IsStop, marker}
 use Rattle.jr_scan.specs.ScanValue.{ScanValue}
 use Rattle.jri_archive.specs.declared.segments.CodedSpan.{CodedSpan}
 

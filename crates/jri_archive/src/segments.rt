@@ -2,7 +2,7 @@
 
 ghost use Rattle.std.specs.Prelude.{◌≡◌, ◌≢◌, ◌<◌, ◌≤◌, ◌+◌, ◌^◌, ℕ, List, length, take, drop, replicate, slice_index, IfOk, IsTrue, false, ◌%◌};
 ghost use Rattle.jr_base.specs.declared.marker.TheConstants.{PREFIX, RST0};
-ghost use Rattle.jr_scan.specs.Cut.{IsRaw, IsStop};
+ghost use Rattle.jr_cut.specs.Cut.{IsRaw, IsStop};
 ghost use Rattle.jri_archive.specs.Verdicts.{IsFileScan};
 ghost use Rattle.jri_archive.specs.Coded.{AreSegmentsOf};
 

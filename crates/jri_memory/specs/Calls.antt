@@ -9,8 +9,8 @@ use Rattle.jr_head.specs.Geometry.{components_of}
 use Rattle.jr_paint.specs.Lines.{line_size, next_lines_of}
 use Rattle.jr_paint.specs.Text.{lines_of}
 use Rattle.jr_scan.specs.ScanValue.{ScanValue, intervals_of}
-use Rattle.jr_scan.specs.declared.scan_end.ScanEnd.{ScanEnd}
-use Rattle.jr_scan.specs.declared.scan_end.ScanEnd.TheVariants.{EndOfImage, OtherMarker, OutOfStep, ExtraRestart, EndOfFile}
+use Rattle.jr_cut.specs.declared.scan_end.ScanEnd.{ScanEnd}
+use Rattle.jr_cut.specs.declared.scan_end.ScanEnd.TheVariants.{EndOfImage, OtherMarker, OutOfStep, ExtraRestart, EndOfFile}
 use Rattle.jr_picture.specs.declared.mark.Mark.{Mark}
 use Rattle.jr_picture.specs.Headline.{AreCounts}
 use Rattle.jri_engine.specs.Files.{IsPictureOf, IsScanOfFile}

@@ -2,7 +2,7 @@ use Rattle.std.proofs.Common.{◌≡◌, ℕ, ◌+◌, ◌*◌, ◌<◌, ◌≤�
 use Rattle.std.proofs.Math.Nat.{mul-le-mul_right}
 use Rattle.jr_head.specs.HeadValue.{HeadValue}
 use Rattle.jr_head.specs.Geometry.{IsLawful, blocks_of, horizontal_max, horizontal_of, mcus_across}
-use Rattle.jr_scan.specs.Mcus.{component}
+use Rattle.jr_mcu.specs.Mcus.{component}
 use Rattle.jr_rows.specs.declared.row_lines.UnitStart.{UnitStart}
 use Rattle.jr_rows.specs.Groups.{group_of, groups_across}
 use Rattle.jr_rows.specs.RowLines.{HasGroups, IsStartOf}

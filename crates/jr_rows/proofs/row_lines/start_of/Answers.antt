@@ -4,7 +4,7 @@ use Rattle.std.proofs.Math.Nat.{div-le_self, mod-eq_of_lt}
 use Rattle.jr_head.specs.HeadValue.{HeadValue}
 use Rattle.jr_head.specs.Geometry.{blocks_before, blocks_of, horizontal_of, order_of}
 use Rattle.jr_head.proofs.SamplingLaws.{length-order}
-use Rattle.jr_scan.specs.Mcus.{component}
+use Rattle.jr_mcu.specs.Mcus.{component}
 use Rattle.jr_rows.specs.Groups.{group_of, groups_across, lines_before}
 use Rattle.jr_rows.proofs.GroupNumbers.{whose}
 use Rattle.jr_rows.proofs.row_lines.start_of.Goals as goal

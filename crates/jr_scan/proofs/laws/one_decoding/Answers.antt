@@ -1,5 +1,5 @@
 use Rattle.jr_code.proofs.CodeLemmas.{one_word}
-use Rattle.jr_scan.proofs.McuLaws as laws
+use Rattle.jr_scan.proofs.Fronts as laws
 use Rattle.jr_scan.proofs.laws.one_decoding.Goals as goal
 
 pub returns : goal.returns

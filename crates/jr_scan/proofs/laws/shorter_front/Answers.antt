@@ -1,4 +1,4 @@
-use Rattle.jr_scan.proofs.McuLaws as laws
+use Rattle.jr_scan.proofs.Fronts as laws
 use Rattle.jr_scan.proofs.laws.shorter_front.Goals as goal
 
 pub returns : goal.returns

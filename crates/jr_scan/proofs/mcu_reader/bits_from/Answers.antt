@@ -1,7 +1,7 @@
 use Rattle.std.proofs.Common.{rules, ◌/◌, ◌%◌, ◌≤◌, length, drop, ap, ◌∙◌, length-drop, arith}
 use Rattle.jr_code.specs.Bits.{bits}
 use Rattle.jr_code.proofs.BitLemmas.{length-bits}
-use Rattle.jr_scan.proofs.Cuts.{rest_is}
+use Rattle.jr_cut.proofs.Cuts.{rest_is}
 use Rattle.jr_scan.proofs.Options.{taken_any}
 use Rattle.jr_scan.proofs.Runs.{bits_on}
 use Rattle.jr_scan.proofs.mcu_reader.bits_from.Goals as goal

@@ -1,6 +1,6 @@
 use Rattle.std.proofs.Common.{◌≡◌, ◌≤◌, ◌*◌, length, take}
 use Rattle.std.specs.List.{All}
-use Rattle.jr_scan.specs.Block.{IsInDcRange}
+use Rattle.jr_mcu.specs.Block.{IsInDcRange}
 use Rattle.jr_scan.specs.declared.place.RunEnd.TheVariants.{AllRead}
 use Rattle.jr_scan.specs.Run.{IsRun, run_from}
 use Rattle.jr_scan.proofs.taking_over.put_mcus.Given as goal

@@ -1,6 +1,6 @@
 use Rattle.std.proofs.Common.{rules, ◌≡◌, ◌+◌, ℕ, List, [], refl, subst, sym, ap, ◌∙◌, arith}
-use Rattle.jr_scan.specs.declared.scan_end.ScanEnd.TheVariants.{EndOfFile}
-use Rattle.jr_scan.proofs.Cuts.{marker_read, all_fill}
+use Rattle.jr_cut.specs.declared.scan_end.ScanEnd.TheVariants.{EndOfFile}
+use Rattle.jr_cut.proofs.Cuts.{marker_read, all_fill}
 use Rattle.jr_head.specs.HeadValue.{HeadValue}
 use Rattle.jri_archive.specs.declared.segments.CodedSpan.{CodedSpan}
 use Rattle.jri_archive.proofs.FoundSegments.{Found, found_none, pushed_slice, found_end, found_all, found_more}

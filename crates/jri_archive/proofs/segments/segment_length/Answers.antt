@@ -1,7 +1,7 @@
 use Rattle.std.proofs.Common.{◌+◌, ◌<◌, ◌≤◌, ◌++◌, ◌∷◌, [], length, take, drop, ap, length-drop, arith}
 use Rattle.jr_base.specs.declared.marker.TheConstants.{PREFIX}
-use Rattle.jr_scan.proofs.Cuts.{stop_end, stop_code, rest_is, fill_some, raw_stuffed}
-use Rattle.jr_scan.proofs.Unstuffing.{raw_run}
+use Rattle.jr_cut.proofs.Cuts.{stop_end, stop_code, rest_is, fill_some, raw_stuffed}
+use Rattle.jr_cut.proofs.Unstuffed.{raw_run}
 use Rattle.jri_archive.proofs.Slices.{fill_full, fill_next, plain_each, plain_next}
 use Rattle.jri_archive.proofs.segments.segment_length.Goals as goal
 use Rattle.jri_archive.proofs.segments.segment_length.Goals.{then-next-bytes-via-then-next-bytes, then-next-bytes-via-else-next-bytes+then-bytes-next-ne0}

@@ -1,5 +1,5 @@
 use Rattle.std.proofs.Common.{◌-◌, ◌≤◌, ℕ, List, length, take}
-use Rattle.jr_scan.specs.Cut.{IsRaw}
+use Rattle.jr_cut.specs.Cut.{IsRaw}
 use Rattle.jri_archive.proofs.segments.segment_length.Given as goal
 
 abbrev pub invariant-bytes : goal.invariant-bytes

@@ -1,5 +1,5 @@
 use Rattle.jr_head.proofs.OneHeadLaws.{one_head_or_one_fault}
-use Rattle.jr_scan.proofs.CutLaw.{one_cut}
+use Rattle.jr_cut.proofs.CutLaw.{one_cut}
 use Rattle.jr_picture.proofs.Pictures.{one_picture}
 use Rattle.jri_engine.proofs.OneText.{one_text}
 use Rattle.jri_engine.proofs.laws.one_text.Goals as goal

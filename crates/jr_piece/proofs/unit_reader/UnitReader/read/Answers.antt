@@ -6,7 +6,7 @@ use Rattle.jr_scan.specs.IntervalValue.{IntervalValue}
 use Rattle.jr_scan.specs.Guesses.{AreGuessesOf}
 use Rattle.jr_scan.specs.Run.{RunOf}
 use Rattle.jr_scan.specs.McuReader.{per_mcu}
-use Rattle.jr_scan.proofs.McuLaws.{front_less, one_front}
+use Rattle.jr_scan.proofs.Fronts.{front_less, one_front}
 use Rattle.jr_piece.specs.PieceValue.{PieceValue}
 use Rattle.jr_piece.specs.Outcome.{IsOutcome}
 use Rattle.jr_piece.specs.UnitReaderValue.{UnitReaderValue}

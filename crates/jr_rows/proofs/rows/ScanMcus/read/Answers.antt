@@ -1,7 +1,7 @@
 use Rattle.std.proofs.Common.{rules, arith, sym, subst, ap, ◌∙◌, ◌≡◌, ℕ, ◌*◌, ◌<◌, ◌^◌, [], slice_index_or}
 use Rattle.jr_head.specs.Geometry.{quantiser_of, blocks_of}
 use Rattle.jr_idct.specs.Transform.{samples}
-use Rattle.jr_scan.specs.Mcus.{component}
+use Rattle.jr_mcu.specs.Mcus.{component}
 use Rattle.jr_scan.specs.ScanValue.{ScanValue, intervals_of}
 use Rattle.jr_piece.specs.Outcome.{unit_of}
 use Rattle.jr_rows.specs.Bands.{unit_shown}

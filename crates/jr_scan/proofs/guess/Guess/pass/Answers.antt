@@ -4,8 +4,8 @@ use Rattle.jr_scan.specs.declared.guessed.Guessed.{Guessed}
 use Rattle.jr_scan.specs.declared.place.Place.{Place}
 use Rattle.jr_scan.specs.declared.place.RunEnd.TheVariants.{AllRead}
 use Rattle.jr_scan.specs.Run.{IsRun, run_from}
-use Rattle.jr_scan.specs.Shift.{AreShifted}
-use Rattle.jr_scan.specs.Guess.{IsSmall, GuessValue, IsGuessed, blocks_at}
+use Rattle.jr_mcu.specs.Shift.{AreShifted, IsSmall}
+use Rattle.jr_scan.specs.Guess.{GuessValue, IsGuessed, blocks_at}
 use Rattle.jr_scan.proofs.KeptMcus.{guess_of, behind_small, shifted_are, some_first, taken_over}
 use Rattle.jr_scan.proofs.guess.Guess.pass.Goals as goal
 

@@ -1,6 +1,7 @@
 use Rattle.std.proofs.Common.{◌≡◌, ◌<◌, ℕ, ℤ, List, [], length, get_or, ap, sym, subst, ◌∙◌}
 use Rattle.jr_head.specs.Geometry.{order_of}
-use Rattle.jr_scan.specs.Guess.{GuessValue, HaveSmallFirst, blocks_at}
+use Rattle.jr_scan.specs.Guess.{GuessValue, blocks_at}
+use Rattle.jr_mcu.specs.Shift.{HaveSmallFirst}
 use Rattle.jr_scan.proofs.KeptMcus.{guess_of, lent, some_guessed, some_first}
 use Rattle.jr_scan.proofs.guess.Guess.put.Goals as goal
 

@@ -1,7 +1,7 @@
 use Rattle.std.proofs.Common.{rules}
 use Rattle.jr_code.proofs.CodeLemmas.{one_word}
 use Rattle.jr_scan.proofs.InRange.{decoding_in_range}
-use Rattle.jr_scan.proofs.McuLaws.{one_decoding}
+use Rattle.jr_scan.proofs.Fronts.{one_decoding}
 use Rattle.jr_scan.proofs.interval.Interval.read.Goals as goal
 
 pub returns-then-is_sound-clause-only : goal.returns-then-is_sound-clause-only

@@ -2,7 +2,8 @@ use Rattle.std.proofs.Common.{◌≡◌, ◌*◌, ◌-◌, ◌<◌, ℤ, Bool, L
 use Rattle.jr_head.specs.HeadValue.{HeadValue}
 use Rattle.jr_scan.specs.declared.place.Place.{Place}
 use Rattle.jr_scan.specs.declared.place.RunEnd.TheVariants.{AllRead}
-use Rattle.jr_scan.specs.Run.{predicted, run_from, BeginsNoMcu, HasNoMcu, IsRun, TakesMcu}
+use Rattle.jr_mcu.specs.Mcus.{predicted, BeginsNoMcu, TakesMcu}
+use Rattle.jr_scan.specs.Run.{run_from, HasNoMcu, IsRun}
 use Rattle.jr_scan.specs.McuReader.{McuReaderValue}
 use Rattle.jr_scan.proofs.McuReaders.{left_behind, one_mcu}
 use Rattle.jr_scan.proofs.mcu_reader.McuReader.next.Goals as goal

@@ -4,7 +4,7 @@ use Rattle.std.proofs.lemmas.Slice.{take-put_mid_below}
 use borrow.Rule.Slice.PartMut.{put_mid}
 use Rattle.jr_head.specs.Geometry.{order_of, IsLawful}
 use Rattle.jr_scan.specs.declared.place.RunEnd.TheVariants.{AllRead}
-use Rattle.jr_scan.specs.Block.{IsInRange}
+use Rattle.jr_mcu.specs.Block.{IsInRange}
 use Rattle.jr_scan.specs.Run.{RunOf, HasNoMcu, IsRun, run_from}
 use Rattle.jr_scan.specs.McuReader.{McuReaderValue, HasRead, per_mcu}
 use Rattle.jr_scan.proofs.InRange.{run_in_range}

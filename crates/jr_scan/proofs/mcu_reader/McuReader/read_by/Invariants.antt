@@ -1,6 +1,6 @@
 use Rattle.std.proofs.Common.{◌≡◌, ◌≤◌, ◌+◌, ◌-◌, ◌*◌, ◌++◌, ℤ, List, length, take}
 use Rattle.std.specs.List.{All}
-use Rattle.jr_scan.specs.Block.{IsInRange}
+use Rattle.jr_mcu.specs.Block.{IsInRange}
 use Rattle.jr_scan.specs.McuReader.{HasRead, HasEnded, per_mcu}
 use Rattle.jr_scan.proofs.mcu_reader.McuReader.read_by.Given as goal
 

@@ -1,7 +1,7 @@
 use Rattle.std.proofs.Common.{◌≡◌, ◌≤◌, ◌*◌, ◌++◌, ℤ, List, length, take, drop, sym, subst, ◌∙◌, arith}
 use Rattle.std.specs.List.{All}
 use Rattle.std.proofs.lemmas.List.{take-append-le}
-use Rattle.jr_scan.specs.Block.{IsInRange}
+use Rattle.jr_mcu.specs.Block.{IsInRange}
 use Rattle.jr_scan.specs.McuReader.{McuReaderValue, HasRead, HasEnded, per_mcu}
 use Rattle.jr_scan.proofs.mcu_reader.McuReader.read_some.Goals.{in-Some+else-taken-gt0, in_default}
 use Rattle.jr_scan.proofs.mcu_reader.McuReader.read_some.Goals as goal

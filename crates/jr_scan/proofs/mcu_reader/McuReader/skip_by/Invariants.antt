@@ -1,6 +1,6 @@
 use Rattle.std.proofs.Common.{◌≡◌, ◌≤◌, ◌+◌, ◌-◌, ◌*◌, ◌++◌, ℤ, List, length}
 use Rattle.std.specs.List.{All}
-use Rattle.jr_scan.specs.Block.{IsInRange}
+use Rattle.jr_mcu.specs.Block.{IsInRange}
 use Rattle.jr_scan.specs.McuReader.{HasRead, HasEnded, per_mcu}
 use Rattle.jr_scan.proofs.mcu_reader.McuReader.skip_by.Given as goal
 

@@ -1,6 +1,6 @@
 use Rattle.std.proofs.Common.{◌≡◌, ◌*◌, ◌++◌, ℤ, List, length, subst, ◌∙◌, arith}
 use Rattle.std.specs.List.{All}
-use Rattle.jr_scan.specs.Block.{IsInRange}
+use Rattle.jr_mcu.specs.Block.{IsInRange}
 use Rattle.jr_scan.specs.McuReader.{McuReaderValue, HasRead, HasEnded, per_mcu}
 use Rattle.jr_scan.proofs.mcu_reader.McuReader.skip_some.Goals.{in-Some+else-taken-gt0, in_default}
 use Rattle.jr_scan.proofs.mcu_reader.McuReader.skip_some.Goals as goal

@@ -4,7 +4,7 @@ use Rattle.std.specs.Global.{Vec}
 use Rattle.std.specs.List.{All}
 use Rattle.std.specs.Arc.{arc_value}
 use Rattle.jr_scan.specs.ScanValue.{intervals_of}
-use Rattle.jr_scan.specs.Spans.{segment_data, IsSpanOf}
+use Rattle.jr_cut.specs.Spans.{segment_data, IsSpanOf}
 use Rattle.jr_scan.proofs.Scans.{cut_few, scan_of}
 use Rattle.jr_scan.proofs.scan.Scan.of.Goals as goal
 

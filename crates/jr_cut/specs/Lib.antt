@@ -1,0 +1,3 @@
+pub mod Cut
+pub mod Spans
+pub mod UnstuffingValue

@@ -1,0 +1,14 @@
+//! The bytes of a scan, cut into the segments between its restart markers, without their stuffing (T.81, B.1.1.5 and F.1.2.3).
+#![tactic(auto)]
+
+mod coded_segments;
+mod laws;
+mod scan_end;
+mod span;
+mod unstuff;
+
+pub use coded_segments::{CodedSegments, cut};
+pub use laws::one_cut;
+pub use scan_end::ScanEnd;
+pub use span::Span;
+pub use unstuff::Unstuffing;

@@ -1,0 +1,8 @@
+//! Where data stand in the unstuffed bytes of a scan.
+
+/// From one offset up to another.
+#[derive(Clone, Copy, Debug, PartialEq, Eq)]
+pub struct Span {
+    pub start: usize,
+    pub end: usize,
+}

@@ -1,0 +1,154 @@
+//! Data bytes without their stuffing, in the memory of what spells them (T.81, B.1.1.5 and F.1.2.3).
+
+ghost use Rattle.std.specs.Prelude.{◌≡◌, ◌≢◌, ℕ, ◌<◌, ◌≤◌, ◌++◌, ◌∷◌, [], length, take, drop, replicate, slice_index};
+ghost use Rattle.jr_base.specs.declared.marker.TheConstants.{PREFIX};
+ghost use Rattle.jr_cut.specs.Cut.{IsStop};
+ghost use Rattle.jr_cut.specs.Spans.{Unstuffs};
+
+use jr_base::marker::PREFIX;
+use memchr::memchr;
+use std::marker::Model;
+
+/// How many bytes at the front are FF.
+pub(crate) fn fill_count(bytes: &[u8]) -> usize
+    ensures within { result ≤ length bytes.now }
+    ensures full { take result bytes.now ≡ replicate result PREFIX }
+    ensures next { result < length bytes.now → slice_index bytes.now result ≢ PREFIX }
+{
+    let mut n = 0;
+    for byte in bytes {
+        if *byte != PREFIX {
+            return n;
+        }
+        n += 1;
+    }
+    n
+}
+
+/// How many bytes at the front are not FF.
+fn plain(bytes: &[u8]) -> usize
+    ensures within { result ≤ length bytes.now }
+    ensures plain { (k : ℕ) → k < result → slice_index bytes.now k ≢ PREFIX }
+    ensures next { result < length bytes.now → slice_index bytes.now result ≡ PREFIX }
+{
+    match memchr(PREFIX, bytes) {
+        Some(at) => at,
+        None => bytes.len(),
+    }
+}
+
+/// Bytes of a scan that are read one after the other. The data that they spell takes their place at the front, since it is
+/// no longer than they are.
+#[derive(Drop)]
+pub struct Unstuffing {
+    bytes: Vec<u8>,
+    /// How many bytes of data there are.
+    found: usize,
+    /// Where the bytes begin that are not read yet.
+    at: usize,
+}
+
+impl Model for Unstuffing {
+    ghost use Rattle.std.specs.Prelude.{◌≤◌, length, take, drop};
+    ghost use Rattle.jr_cut.specs.UnstuffingValue.{UnstuffingValue};
+
+    ghost Value = { UnstuffingValue };
+
+    ghost view = { λ u. record { unstuffed = take u.found u.bytes.items; rest = drop u.at u.bytes.items } };
+
+    ghost invariant = { λ u. (u.found ≤ u.at) × (u.at ≤ length u.bytes.items) };
+}
+
+impl Unstuffing {
+    /// The bytes from an offset on, of which none is read.
+    pub fn of(bytes: Vec<u8>, start: usize) -> Unstuffing
+        requires { start ≤ length bytes.items }
+        ensures data { result.unstuffed ≡ [] }
+        ensures rest { result.rest ≡ drop start bytes.items }
+    {
+        Unstuffing {
+            bytes,
+            found: 0,
+            at: start,
+        }
+    }
+
+    /// How many bytes of data there are.
+    pub(crate) fn len(&self) -> usize
+        ensures { result ≡ length self.now.unstuffed }
+    {
+        self.found
+    }
+
+    /// The bytes that are not read yet.
+    pub(crate) fn rest(&self) -> &[u8]
+        ensures { result.now ≡ self.now.rest }
+    {
+        &self.bytes[self.at..]
+    }
+
+    /// Reads bytes that are data as they stand.
+    fn keep(&mut self, count: usize)
+        requires { count ≤ length self.old.rest }
+        ensures data { self.new.unstuffed ≡ self.old.unstuffed ++ take count self.old.rest }
+        ensures rest { self.new.rest ≡ drop count self.old.rest }
+    {
+        let end = self.at + count;
+        self.bytes.copy_within(self.at..end, self.found);
+        self.found += count;
+        self.at = end;
+    }
+
+    /// Reads bytes that spell one byte.
+    fn put(&mut self, count: usize, byte: u8)
+        requires some { 0 < count }
+        requires within { count ≤ length self.old.rest }
+        ensures data { self.new.unstuffed ≡ self.old.unstuffed ++ byte ∷ [] }
+        ensures rest { self.new.rest ≡ drop count self.old.rest }
+    {
+        self.bytes[self.found] = byte;
+        self.found += 1;
+        self.at += count;
+    }
+
+    /// Reads bytes that are no data.
+    pub(crate) fn skip(&mut self, count: usize)
+        requires { count ≤ length self.old.rest }
+        ensures data { self.new.unstuffed ≡ self.old.unstuffed }
+        ensures rest { self.new.rest ≡ drop count self.old.rest }
+    {
+        self.at += count;
+    }
+
+    /// Reads the bytes that spell data, up to a marker or the end, and tells how many they are.
+    pub(crate) fn unstuff(&mut self) -> usize
+        ensures within { result ≤ length self.old.rest }
+        ensures data { Unstuffs (take result self.old.rest) self.old.unstuffed self.new.unstuffed }
+        ensures rest { self.new.rest ≡ drop result self.old.rest }
+        ensures stop { IsStop self.new.rest }
+    {
+        // A slice is so short that the count of its bytes has room.
+        let _whole = self.rest().len();
+        let mut at: usize = 0;
+        'bytes: loop {
+            let count = plain(self.rest());
+            self.keep(count);
+            at += count;
+            let next = fill_count(self.rest());
+            if next >= self.rest().len() || self.rest()[next] != 0 {
+                return at;
+            }
+            self.put(next + 1, PREFIX);
+            at += next + 1;
+        }
+    }
+
+    /// The data.
+    pub(crate) fn into_data(self) -> Vec<u8>
+        ensures { result.items ≡ self.unstuffed }
+    {
+        let mut bytes = self.bytes;
+        bytes.truncate(self.found);
+        bytes
+    }
+}

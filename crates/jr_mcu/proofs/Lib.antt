@@ -1,0 +1,14 @@
+pub mod Words
+pub mod AcCodes
+pub mod Rest
+pub mod Steps
+pub mod Coded
+pub mod Places
+pub mod McuLaws
+pub mod Predicted
+pub mod Ranges
+pub mod InMcu
+pub mod FirstWords
+pub mod FirstBlocks
+pub mod LongMcus
+pub mod Greater

@@ -1,0 +1,4 @@
+pub mod Block
+pub mod Step
+pub mod Mcus
+pub mod Shift

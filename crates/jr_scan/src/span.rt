@@ -1,8 +1,0 @@
-//! Where data stand in the unstuffed bytes of a scan.
-
-/// From one offset up to another.
-#[derive(Clone, Copy, Debug, PartialEq, Eq)]
-pub(crate) struct Span {
-    pub start: usize,
-    pub end: usize,
-}
