@@ -1,10 +1,7 @@
 -- What several threads know of the rows of MCUs that they decode together: by the part of a scan that is decoded.
 use Rattle.std.specs.Prelude.{◌≡◌, ℕ, ◌*◌, ◌%◌, ◌<◌, ◌≤◌, List, length, take, slice_get, Option, Some, None}
 use Rattle.jr_head.specs.Geometry.{mcus_down, vertical_max}
-use Rattle.jr_scan.specs.Guesses.{AreGuessesOf}
-use Rattle.jr_scan.specs.Guess.{GuessValue}
-use Rattle.jr_scan.specs.declared.guesses.Guesses.{Guesses}
-use Rattle.jr_scan.specs.ScanValue.{HasInterval, interval_of}
+use Rattle.jr_scan.specs.ScanValue.{ScanValue}
 use Rattle.jr_paint.specs.Lines.{line_room, line_size}
 use Rattle.jr_rows.specs.FirstIntervalsValue.{FirstIntervalsValue}
 use Rattle.jr_crew.specs.CrewValue.{CodedRowValue, PaintedValue}
@@ -15,6 +12,11 @@ use Rattle.jr_rows.specs.RowsValue.{RowValue, RowsValue, SampleRowValue}
 abbrev pub OfPart : Option FirstIntervalsValue → (FirstIntervalsValue → Type 0) → Type 0
 OfPart None P = ⊥
 OfPart (Some part) P = P part
+
+-- its scan
+abbrev pub scan_of : Option FirstIntervalsValue → Option ScanValue
+scan_of None = None
+scan_of (Some part) = Some part.scan
 
 -- there is room for the lines of a row of MCUs
 abbrev pub HasRoom : Option FirstIntervalsValue → List ℕ → Type 0
@@ -68,11 +70,3 @@ HoldsRow (Some (Some p)) row = p.row ≡ row
 -- the place of a row holds it: each row's place is its number modulo how many places there are
 abbrev pub HasRow : List (Option PaintedValue) → ℕ → Type 0
 HasRow places row = HoldsRow (slice_get places (row % length places)) row
-
--- a guess of an interval of the scan
-abbrev pub HasGuessOf : Option FirstIntervalsValue → GuessValue → Type 0
-HasGuessOf known g = OfPart known (λ part. HasInterval part.scan g.interval)
-
--- guesses of the scan's interval of that number
-abbrev pub AreGuesses : Option FirstIntervalsValue → ℕ → Guesses → Type 0
-AreGuesses known number guesses = OfPart known (λ part. AreGuessesOf (interval_of part.scan number) guesses)

@@ -1,7 +1,8 @@
 //! Who reads next.
 
 ghost use Rattle.std.specs.Prelude.{◌≡◌, Some};
-ghost use Rattle.jr_crew.specs.Crew.{AreGuesses};
+ghost use Rattle.jr_scan.specs.Guesses.{AreGuessesOf};
+ghost use Rattle.jr_scan.specs.ScanValue.{interval_of};
 
 use crate::bench::{Bench, CodedRow, Painted};
 use crate::one_first_intervals::OneFirstIntervals;
@@ -83,7 +84,7 @@ impl<'a, S: OneFirstIntervals> Baton<'a, S> {
         guesses: Guesses<'a>,
     ) -> Baton<'a, S>
         requires part { S.part ≡ Some part.now }
-        requires guesses { AreGuesses S.part number guesses }
+        requires guesses { AreGuessesOf (interval_of part.now.scan number) guesses }
     {
         let mut rows = self.rows;
         rows.set_guesses(number, guesses);

@@ -4,10 +4,10 @@ ghost use Rattle.std.specs.Prelude.{◌≡◌, ◌≤◌, Some, length};
 
 use crate::baton::Baton;
 use crate::bench::{Bench, Painted};
-use crate::one_first_intervals::OneFirstIntervals;
+use crate::one_first_intervals::{OneFirstIntervals, ScanOf};
 use crate::paint_room::PaintRoom;
-use crate::part_guess::{PartGuess, Window};
 use crate::row_queue::{PassedRow, RowQueue, RowTask, Waiter};
+use jr_guesses::GuessTask;
 use jr_picture::Gate;
 use jr_rows::{FirstIntervals, intervals_of_row};
 use std::marker::Model;
@@ -18,10 +18,12 @@ pub(crate) const MOST_TASKS: u64 = u64::MAX;
 
 /// What the threads share.
 ///
-/// A thread takes from the queue what is to be done next, and does it outside of the lock. A row is read on a bench, so that
-/// no more rows are read than there are benches. Where rows are whole intervals, each thread reads rows by itself, and paints
-/// what it has read. Else one thread reads row after row, and what it has read is painted by whoever is free. What is painted
-/// waits for its turn to be written.
+/// A thread takes from the queue what is to be done next, and does it outside of the lock. A row is begun with a bench, so that
+/// no more rows are begun than there are benches, whose memory is taken before. Where rows are whole intervals, each thread
+/// decodes and paints rows by itself. Else one thread at a time has the reader. Where guesses that others have made ahead of it
+/// cover the next row it passes over it, and the row, a copy of the reader at its start and its bench wait for whoever is free,
+/// who decodes and paints it some MCUs at a time; where none do, it reads the row, whose blocks wait on the bench to be painted
+/// by whoever is free. What is painted waits for its turn to be written.
 #[derive(Drop)]
 pub(crate) struct Crew<'a, S: OneFirstIntervals> {
     part: FirstIntervals<'a>,
@@ -134,9 +136,9 @@ impl<'a, S: OneFirstIntervals> Crew<'a, S> {
     }
 
     /// Makes a guess.
-    fn guess<R: Wait>(&self, rt: &R, place: usize, window: Window, guess: PartGuess<'a, S>) {
-        let guess = guess.read(&self.part, window);
-        let waiter = self.queue.lock(rt).put_guess(place, guess);
+    fn guess<R: Wait>(&self, rt: &R, task: GuessTask<'a, ScanOf<S>>) {
+        let made = task.make(self.part.scan());
+        let waiter = self.queue.lock(rt).put_guess(made);
         self.wake(waiter);
     }
 
@@ -155,7 +157,7 @@ impl<'a, S: OneFirstIntervals> Crew<'a, S> {
                 self.put_painted(rt, row.baton.finish(&self.part, row.bench, room))
             }
             RowTask::Paint(coded) => self.put_painted(rt, coded.paint(&self.part, room)),
-            RowTask::Guess(place, window, guess) => self.guess(rt, place, window, guess),
+            RowTask::Guess(task) => self.guess(rt, task),
         }
     }
 

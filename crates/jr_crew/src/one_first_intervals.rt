@@ -1,9 +1,11 @@
 //! The part of a scan that is decoded, as a type.
 
 ghost use Rattle.std.specs.Prelude.{Option, None};
+ghost use Rattle.jr_crew.specs.Crew.{scan_of};
 ghost use Rattle.jr_rows.specs.FirstIntervalsValue.{FirstIntervalsValue};
 
-use std::marker::Brand;
+use jr_guesses::OneScan;
+use std::marker::{Brand, PhantomData};
 
 /// The part that a proof knows of, as a type: what lies under a lock is known by its type alone, so the type says of which
 /// scan it is, and how much of it is decoded.
@@ -13,4 +15,14 @@ pub(crate) trait OneFirstIntervals {
 
 impl OneFirstIntervals for Brand {
     ghost part = { None };
+}
+
+/// The scan of that part, as the type that guesses know it by.
+#[derive(Drop)]
+pub(crate) struct ScanOf<S: OneFirstIntervals> {
+    _of: PhantomData<S>,
+}
+
+impl<S: OneFirstIntervals> OneScan for ScanOf<S> {
+    ghost scan = { scan_of S.part };
 }

@@ -5,9 +5,8 @@ ghost use Rattle.jr_crew.specs.Crew.{HasRow};
 
 use crate::baton::Baton;
 use crate::bench::{Bench, CodedRow, Painted};
-use crate::guess_queue::GuessQueue;
-use crate::one_first_intervals::OneFirstIntervals;
-use crate::part_guess::{PartGuess, Window};
+use crate::one_first_intervals::{OneFirstIntervals, ScanOf};
+use jr_guesses::{GuessQueue, GuessTask};
 use jr_rows::FirstIntervals;
 use std::collections::VecDeque;
 
@@ -22,8 +21,8 @@ pub(crate) enum RowTask<'a, S: OneFirstIntervals> {
     Finish(PassedRow<'a, S>),
     /// Paints a row that is read.
     Paint(CodedRow<S>),
-    /// Makes a guess of these bits, which has this place.
-    Guess(usize, Window, PartGuess<'a, S>),
+    /// Makes a guess.
+    Guess(GuessTask<'a, ScanOf<S>>),
 }
 
 /// A row that was passed over, and what it will be read on: so it needs nothing that a later row could take.
@@ -65,7 +64,7 @@ pub(crate) struct RowQueue<'a, S: OneFirstIntervals> {
     /// Nothing is read or painted any more.
     is_over: bool,
     free: Vec<Bench<S>>,
-    guesses: GuessQueue<'a, S>,
+    guesses: GuessQueue<'a, ScanOf<S>>,
     /// In their order.
     passed: VecDeque<PassedRow<'a, S>>,
     /// In their order.
@@ -84,7 +83,7 @@ impl<'a, S: OneFirstIntervals> RowQueue<'a, S> {
     pub(crate) fn of(
         baton: Option<Baton<'a, S>>,
         free: Vec<Bench<S>>,
-        guesses: GuessQueue<'a, S>,
+        guesses: GuessQueue<'a, ScanOf<S>>,
         passed: VecDeque<PassedRow<'a, S>>,
         coded: VecDeque<CodedRow<S>>,
         painted: Vec<Option<Painted<S>>>,
@@ -159,8 +158,8 @@ impl<'a, S: OneFirstIntervals> RowQueue<'a, S> {
         let baton = self.baton.take()?;
         let bench = self.free.pop()?;
         self.baton = baton.behind(part);
-        let (number, _bit) = self.guesses.next_row();
-        let guesses = self.guesses.for_next(part);
+        let number = self.guesses.number();
+        let guesses = self.guesses.for_next(part.scan());
         Some((baton.with_guesses(part, number, guesses), bench))
     }
 
@@ -179,20 +178,18 @@ impl<'a, S: OneFirstIntervals> RowQueue<'a, S> {
             }
             Choice::Finish => Some(RowTask::Finish(self.passed.pop_front()?)),
             Choice::Paint => Some(RowTask::Paint(self.coded.pop_front()?)),
-            Choice::Guess => {
-                let (place, window, guess) = self.guesses.take()?;
-                Some(RowTask::Guess(place, window, guess))
-            }
+            Choice::Guess => Some(RowTask::Guess(self.guesses.take()?)),
             Choice::Wait | Choice::End => None,
         }
     }
 
     /// The rows behind those that are begun. Answers who is to be woken, since something can be done now.
     fn go_on(&mut self, behind: Option<Baton<'a, S>>) -> Option<Waiter> {
-        self.guesses.reach(match &behind {
+        let (number, bit) = match &behind {
             Some(baton) => baton.next_start(),
             None => (u32::MAX, 0),
-        });
+        };
+        self.guesses.reach(number, bit);
         self.baton = behind;
         self.waiter()
     }
@@ -219,8 +216,8 @@ impl<'a, S: OneFirstIntervals> RowQueue<'a, S> {
     }
 
     /// Keeps a guess in its place. Answers who is to be woken, since a row may have waited for it.
-    pub(crate) fn put_guess(&mut self, place: usize, guess: PartGuess<'a, S>) -> Option<Waiter> {
-        self.guesses.put(place, guess);
+    pub(crate) fn put_guess(&mut self, made: GuessTask<'a, ScanOf<S>>) -> Option<Waiter> {
+        self.guesses.put(made);
         self.waiter()
     }
 

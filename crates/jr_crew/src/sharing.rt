@@ -14,13 +14,12 @@ use crate::baton::Baton;
 use crate::bench::{Bench, Painted};
 use crate::beside::run_beside;
 use crate::crew::Crew;
-use crate::guess_queue::{GuessQueue, GuessSlot, LEAST_BITS, bits_of};
-use crate::one_first_intervals::OneFirstIntervals;
+use crate::one_first_intervals::{OneFirstIntervals, ScanOf};
 use crate::paint_room::PaintRoom;
-use crate::part_guess::PartGuess;
 use crate::row_queue::RowQueue;
 use crate::sending::Sending;
 use jr_base::{Memory, Tally, WriteFault};
+use jr_guesses::{GuessQueue, windows_of};
 use jr_picture::{Counts, Gate};
 use jr_piece::each_interval_has_an_outcome;
 use jr_rows::{FirstIntervals, Marked, intervals_of_row, room_for, shape_of};
@@ -40,14 +39,11 @@ const BENCHES_OF_ONE: u32 = 2;
 /// Guesses are worth their work where there are benches for three threads: two are as fast where one reads and one paints.
 const LEAST_BENCHES: u32 = 3 * BENCHES_OF_ONE;
 
-/// A guess has room for the MCUs of so many rows, since its bits are about those of one.
-const ROWS_OF_GUESS: u32 = 2;
-
-/// Guesses are worth their memory where the data of an interval have bits for so many: some 128 KB.
+/// Guesses are worth their memory where the data of the longest interval have bits for so many: some 128 KB.
 const LEAST_WINDOWS: u64 = 32;
 
-/// A guess has room for so many MCUs at least.
-const LEAST_MCUS: u32 = 512;
+/// So many intervals are looked at to find a long one: a head may claim millions.
+const MOST_LOOKED_AT: u32 = 1024;
 
 /// So many benches.
 fn open_benches<S: OneFirstIntervals>(
@@ -80,32 +76,33 @@ fn open_places<S: OneFirstIntervals>(
 }
 
 /// How many guesses are kept at most beside so many benches: none where rows are whole intervals, which are read apart, or where
-/// there are few threads or few data, and no more than the data of an interval have bits for.
+/// there are few threads or few data, and no more than the data of the longest interval have bits for.
 fn guesses_of(part: &FirstIntervals<'_>, count: u32) -> u32 {
     let scan = part.scan();
-    let windows = bits_of(scan, 0) / LEAST_BITS;
-    if intervals_of_row(scan.head()).is_some() || count < LEAST_BENCHES || windows < LEAST_WINDOWS {
+    if intervals_of_row(scan.head()).is_some() || count < LEAST_BENCHES {
         return 0;
     }
-    windows.min(u64::from(count)) as u32
+    let mut most: u64 = 0;
+    for i in 0..part.limit().min(MOST_LOOKED_AT) {
+        most = windows_of(scan, i).max(most);
+    }
+    if most < LEAST_WINDOWS {
+        return 0;
+    }
+    most.min(u64::from(count)) as u32
 }
 
-/// Room for so many guesses at most.
+/// Room for guesses beside so many benches. A step of the reader is a row of MCUs.
 fn open_guesses<'a, S: OneFirstIntervals>(
     alloc: Global,
     part: &FirstIntervals<'a>,
     count: u32,
-) -> Result<GuessQueue<'a, S>, Memory>
+) -> Result<GuessQueue<'a, ScanOf<S>>, Memory>
     requires { S.part ≡ Some part.now }
 {
-    let count = guesses_of(part, count);
+    let guesses = guesses_of(part, count);
     let across = shape_of(part.scan().head()).across;
-    let most = across.saturating_mul(ROWS_OF_GUESS).max(LEAST_MCUS);
-    let mut slots = Vec::with_capacity(alloc, count as usize)?;
-    for _ in 0..count {
-        slots.push(GuessSlot::of(PartGuess::open(alloc, part, most)?))?;
-    }
-    Ok(GuessQueue::of(part, slots))
+    GuessQueue::open(alloc, part.scan(), part.limit(), guesses, across)
 }
 
 /// A queue of so many benches.
@@ -214,12 +211,17 @@ fn write_as<R: Threads + Wait + Sync, W: Write, G: Gate + Sync, S: OneFirstInter
 }
 
 /// Decodes the first intervals of a scan, or all, by so many workers (1 to 64), and writes its picture, a row of MCUs after
-/// the other. The calling thread is one of them, and writes. It takes all memory that it needs before it writes the first
-/// byte: for two rows of MCUs of each worker, or for those that there are, and none for the picture. No more threads work than
-/// there are rows. The gate is told each interval that is decoded; no piece is made.
+/// the other. The calling thread is one of them, and writes. No more threads work than there are rows. The gate is told each
+/// interval that is decoded; no piece is made.
 ///
-/// Where a row has whole intervals, each worker reads its rows by itself; else one reads row after row, and the others
-/// paint what it has read.
+/// It takes all memory that it needs before it writes the first byte, and none for the picture: for each worker two rows of
+/// MCUs, or for those that there are, and room to decode and paint by; and where guesses are made, with each of these rows room
+/// for a guess, the blocks of two rows of MCUs, or of 512 MCUs where that is more.
+///
+/// Where a row has whole intervals, each worker decodes and paints its rows by itself. Else one at a time has the reader. From
+/// three workers on, where an interval has some 128 KB of data, the others make guesses ahead of it. A row that these cover it
+/// passes over; with a copy of the reader at its start the row waits for whoever is free, and is decoded and painted some MCUs
+/// at a time. A row that none covers is read in turn, and painted by whoever is free.
 pub fn write_scan_by<R: Threads + Wait + Sync, W: Write, G: Gate + Sync>(
     rt: &R,
     alloc: Global,

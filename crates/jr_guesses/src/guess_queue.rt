@@ -1,0 +1,205 @@
+//! Guesses ahead of a reader of a scan, and room for them.
+
+ghost use Rattle.std.specs.Prelude.{◌≡◌, ◌*◌, ◌/◌, ◌<◌, Some, IfOk, length};
+ghost use Rattle.jr_guesses.specs.declared.guess_queue.TheConstants.{LEAST_BITS};
+ghost use Rattle.jr_scan.specs.ScanValue.{interval_of};
+ghost use Rattle.jr_scan.specs.Guesses.{AreGuessesOf};
+
+use crate::guess_slot::GuessSlot;
+use crate::guess_task::GuessTask;
+use crate::one_scan::OneScan;
+use crate::scan_guess::ScanGuess;
+use crate::window::{Window, bits_of};
+use jr_base::Memory;
+use jr_scan::{Guesses, Scan};
+use std::alloc::Global;
+
+/// A guess covers so many bits at least, where the interval has them, since it takes some until its MCUs are those of the picture.
+const LEAST_BITS: u64 = 32_768;
+
+/// A guess has room for the MCUs of so many steps, since its bits are about those of one.
+const STEPS_OF_GUESS: u32 = 2;
+
+/// A guess has room for so many MCUs at least.
+const LEAST_MCUS: u32 = 512;
+
+/// How many guesses the data of an interval of the scan have bits for.
+pub fn windows_of(scan: &Scan, number: u32) -> u64
+    requires { number < length scan.now.intervals }
+    ensures { result ≡ 8 * length (interval_of scan.now number).bytes / LEAST_BITS }
+{
+    scan.interval_ref(number).bytes().len() as u64 * 8 / LEAST_BITS
+}
+
+/// How many bits so many MCUs of the scan's first interval have, if all have as many; some at least.
+fn bits_of_step(scan: &Scan, mcus: u32) -> u64 {
+    // By its contract a scan has an interval.
+    let _some = scan.intervals();
+    let steps = u64::from(scan.interval_ref(0).mcus() / mcus.max(1));
+    (bits_of(scan, 0) / steps.max(1)).max(LEAST_BITS)
+}
+
+/// Guesses ahead of a reader that goes over the scan's intervals one after the other, some MCUs at a step. Threads make them
+/// outside of the lock under which it stands.
+#[derive(Drop)]
+pub struct GuessQueue<'a, S: OneScan> {
+    scan: &'a Scan,
+    /// How many intervals are read.
+    limit: u32,
+    slots: Vec<GuessSlot<'a, S>>,
+    /// Where the reader stands: its interval and its bit.
+    at: (u32, u64),
+    /// Where the next guess starts.
+    next: (u32, u64),
+    /// How many bits the reader's last step had.
+    step_bits: u64,
+}
+
+impl<'a, S: OneScan> GuessQueue<'a, S> {
+    /// Room for so many guesses of the first `limit` intervals, each for the MCUs of two steps, or for 512 where that is more;
+    /// none is made yet. The reader stands at the start, and its steps are of `step` MCUs.
+    ///
+    /// # Errors
+    ///
+    /// `Memory` where memory was refused.
+    pub fn open(
+        alloc: Global,
+        scan: &'a Scan,
+        limit: u32,
+        guesses: u32,
+        step: u32,
+    ) -> Result<GuessQueue<'a, S>, Memory>
+        requires { S.scan ≡ Some scan.now }
+        ensures { IfOk result (λ q. q.at ≡ (0, 0)) }
+    {
+        let most = step.saturating_mul(STEPS_OF_GUESS).max(LEAST_MCUS);
+        let mut slots = Vec::with_capacity(alloc, guesses as usize)?;
+        for _ in 0..guesses {
+            slots.push(GuessSlot::of(ScanGuess::open(alloc, scan, most)?))?;
+        }
+        Ok(GuessQueue {
+            scan,
+            limit,
+            slots,
+            at: (0, 0),
+            next: (0, 0),
+            step_bits: bits_of_step(scan, step),
+        })
+    }
+
+    /// The reader stands at this bit of an interval.
+    pub fn reach(&mut self, number: u32, bit: u64)
+        ensures { self.new.at ≡ (number, bit) }
+    {
+        if number == self.at.0 {
+            self.step_bits = bit.saturating_sub(self.at.1).max(LEAST_BITS);
+        }
+        self.at = (number, bit);
+    }
+
+    /// The number of the interval that the reader stands in.
+    pub fn number(&self) -> u32
+        ensures { result ≡ self.now.at.0 }
+    {
+        self.at.0
+    }
+
+    /// A bit near the end of the next step, if it is as long as the last one; none where the data end before.
+    fn next_end(&self) -> Option<u64> {
+        let end = self.at.1.saturating_add(self.step_bits);
+        if end < bits_of(self.scan, self.at.0) {
+            Some(end)
+        } else {
+            None
+        }
+    }
+
+    /// Whether a guess has an MCU that starts where the reader stands, and one covers the end of its next step: then the step
+    /// takes no reading.
+    pub fn has_next(&self) -> bool {
+        let (number, bit) = self.at;
+        let has_end = match self.next_end() {
+            Some(end) => self.slots.iter().any(|slot| slot.is_ready(number, end)),
+            None => true,
+        };
+        has_end && self.slots.iter().any(|slot| slot.has(number, bit))
+    }
+
+    /// Whether a thread makes a guess that the reader's next step may be taken by.
+    pub fn makes_next(&self) -> bool {
+        let (number, bit) = self.at;
+        let end = self.next_end().unwrap_or(bit);
+        self.slots.iter().any(|slot| slot.is_made(number, bit) || slot.is_made(number, end))
+    }
+
+    /// Where there is room for another guess.
+    fn free_slot(&self) -> Option<usize> {
+        let (number, bit) = self.at;
+        self.slots.iter().position(|slot| slot.is_free(number, bit))
+    }
+
+    /// The bits of the next guess: behind those of the others, and behind the reader's next step, which it takes meanwhile.
+    fn next_window(&self) -> Option<Window> {
+        let (number, bit) = self
+            .next
+            .max((self.at.0, self.at.1.saturating_add(self.step_bits)));
+        let (number, from) = if bit < bits_of(self.scan, number) {
+            (number, bit)
+        } else {
+            (number.saturating_add(1), 0)
+        };
+        if number >= self.limit {
+            return None;
+        }
+        let to = from
+            .saturating_add(self.step_bits)
+            .min(bits_of(self.scan, number));
+        Some(Window { number, from, to })
+    }
+
+    /// Whether another guess can be made.
+    pub fn can_guess(&self) -> bool {
+        self.free_slot().is_some() && self.next_window().is_some()
+    }
+
+    /// The next guess, for a thread to make.
+    pub fn take(&mut self) -> Option<GuessTask<'a, S>>
+        ensures { self.new.at ≡ self.old.at }
+    {
+        let place = self.free_slot()?;
+        let window = self.next_window()?;
+        self.next = (window.number, window.to);
+        let guess = self.slots.get_mut(place)?.take(window)?;
+        Some(GuessTask {
+            place,
+            window,
+            guess,
+        })
+    }
+
+    /// Keeps a guess that is made.
+    pub fn put(&mut self, made: GuessTask<'a, S>)
+        ensures { self.new.at ≡ self.old.at }
+    {
+        let GuessTask { place, guess, .. } = made;
+        if let Some(slot) = self.slots.get_mut(place) {
+            slot.put(guess);
+        }
+    }
+
+    /// The guesses for the reader's next step, where it is not much longer than the last one.
+    pub fn for_next(&self, scan: &Scan) -> Guesses<'a>
+        requires { S.scan ≡ Some scan.now }
+        ensures { AreGuessesOf (interval_of scan.now self.now.at.0) result }
+    {
+        let (number, bit) = self.at;
+        let to = bit.saturating_add(self.step_bits.saturating_add(self.step_bits / 2));
+        let mut guesses = Guesses::none();
+        for slot in &self.slots {
+            if slot.is_between(number, bit, to) {
+                guesses = slot.put_into(number, guesses);
+            }
+        }
+        guesses
+    }
+}

@@ -1,0 +1,81 @@
+//! Room for a guess in a queue of them.
+
+ghost use Rattle.std.specs.Prelude.{◌≡◌};
+ghost use Rattle.jr_guesses.specs.Guessing.{AreGuesses};
+
+use crate::one_scan::OneScan;
+use crate::scan_guess::ScanGuess;
+use crate::window::Window;
+use jr_scan::Guesses;
+
+/// Room for a guess, and the bits that it covers.
+#[derive(Drop)]
+pub(crate) struct GuessSlot<'a, S: OneScan> {
+    window: Window,
+    /// None while a thread makes it.
+    guess: Option<ScanGuess<'a, S>>,
+}
+
+impl<'a, S: OneScan> GuessSlot<'a, S> {
+    /// Room for a guess.
+    pub(crate) fn of(guess: ScanGuess<'a, S>) -> GuessSlot<'a, S> {
+        GuessSlot {
+            window: Window::none(),
+            guess: Some(guess),
+        }
+    }
+
+    /// Whether another guess can be made here, where what stands before this bit of an interval is of no use any more.
+    pub(crate) fn is_free(&self, number: u32, bit: u64) -> bool {
+        self.window.is_before(number, bit)
+            && self.guess.as_ref().is_some_and(|guess| guess.is_unused())
+    }
+
+    /// Whether it covers this bit of an interval, and one of its MCUs starts there.
+    pub(crate) fn has(&self, number: u32, bit: u64) -> bool {
+        self.window.has(number, bit)
+            && self
+                .guess
+                .as_ref()
+                .is_some_and(|guess| guess.has(number, bit))
+    }
+
+    /// Whether it is made, and covers this bit of an interval.
+    pub(crate) fn is_ready(&self, number: u32, bit: u64) -> bool {
+        self.guess.is_some() && self.window.has(number, bit)
+    }
+
+    /// Whether a thread makes it, and it covers this bit of an interval.
+    pub(crate) fn is_made(&self, number: u32, bit: u64) -> bool {
+        self.guess.is_none() && self.window.has(number, bit)
+    }
+
+    /// Whether it covers a bit of an interval from one on and before another.
+    pub(crate) fn is_between(&self, number: u32, from: u64, to: u64) -> bool {
+        !self.window.is_before(number, from)
+            && self.window.number == number
+            && self.window.from < to
+    }
+
+    /// Takes the room for a guess of these bits.
+    pub(crate) fn take(&mut self, window: Window) -> Option<ScanGuess<'a, S>> {
+        self.window = window;
+        self.guess.take()
+    }
+
+    /// Keeps a guess that is made.
+    pub(crate) fn put(&mut self, guess: ScanGuess<'a, S>) {
+        self.guess = Some(guess);
+    }
+
+    /// These guesses of an interval, and the one that is here, where it is of the interval, too.
+    pub(crate) fn put_into(&self, number: u32, guesses: Guesses<'a>) -> Guesses<'a>
+        requires { AreGuesses S.scan number guesses }
+        ensures { AreGuesses S.scan number result }
+    {
+        match &self.guess {
+            Some(guess) => guess.put_into(number, guesses),
+            None => guesses,
+        }
+    }
+}

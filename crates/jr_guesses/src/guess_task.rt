@@ -1,0 +1,30 @@
+//! A guess that a thread makes.
+
+ghost use Rattle.std.specs.Prelude.{◌≡◌, Some};
+
+use crate::one_scan::OneScan;
+use crate::scan_guess::ScanGuess;
+use crate::window::Window;
+use jr_scan::Scan;
+
+/// Room for a guess that a thread makes outside of the lock, its bits, and its place in the queue.
+#[derive(Drop)]
+pub struct GuessTask<'a, S: OneScan> {
+    pub(crate) place: usize,
+    pub(crate) window: Window,
+    pub(crate) guess: ScanGuess<'a, S>,
+}
+
+impl<'a, S: OneScan> GuessTask<'a, S> {
+    /// Reads MCUs from the first of its bits on, as if one started there and each prediction were 0.
+    pub fn make(self, scan: &'a Scan) -> GuessTask<'a, S>
+        requires { S.scan ≡ Some scan.now }
+    {
+        let guess = self.guess.read(scan, self.window);
+        GuessTask {
+            place: self.place,
+            window: self.window,
+            guess,
+        }
+    }
+}

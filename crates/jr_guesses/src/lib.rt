@@ -1,0 +1,13 @@
+//! Guesses that several threads make ahead of a reader of a scan.
+#![tactic(auto)]
+
+mod guess_queue;
+mod guess_slot;
+mod guess_task;
+mod one_scan;
+mod scan_guess;
+mod window;
+
+pub use guess_queue::{GuessQueue, windows_of};
+pub use guess_task::GuessTask;
+pub use one_scan::OneScan;

@@ -1,0 +1,89 @@
+//! A guess of an interval of the scan.
+
+ghost use Rattle.std.specs.Prelude.{◌≡◌, Some};
+ghost use Rattle.jr_guesses.specs.Guessing.{AreGuesses};
+
+use crate::one_scan::OneScan;
+use crate::window::Window;
+use jr_base::Memory;
+use jr_scan::{Guess, Guesses, Scan};
+use std::alloc::Global;
+use std::marker::{Model, PhantomData};
+use std::sync::Arc;
+
+/// A guess of an interval of the scan, or room for one. Several threads may read it.
+#[derive(Drop)]
+pub(crate) struct ScanGuess<'a, S: OneScan> {
+    guess: Arc<Guess<'a>>,
+    of: PhantomData<S>,
+}
+
+impl<'a, S: OneScan> Model for ScanGuess<'a, S> {
+    ghost use Rattle.std.specs.Arc.{arc_value};
+    ghost use Rattle.jr_guesses.specs.Guessing.{HasGuessOf};
+    ghost use Rattle.jr_scan.specs.Guess.{GuessValue};
+
+    ghost Value = { GuessValue };
+
+    ghost view = { λ g. arc_value g.guess };
+
+    ghost invariant = { λ g. HasGuessOf S.scan (arc_value g.guess) };
+}
+
+impl<'a, S: OneScan> ScanGuess<'a, S> {
+    /// Room for a guess of so many MCUs.
+    pub(crate) fn open(alloc: Global, scan: &'a Scan, most: u32) -> Result<ScanGuess<'a, S>, Memory>
+        requires { S.scan ≡ Some scan.now }
+    {
+        // By its contract a scan has an interval.
+        let _some = scan.intervals();
+        let guess = Guess::open(alloc, scan.interval_ref(0), most)?;
+        let Ok(guess) = Arc::new(alloc, guess) else {
+            return Err(Memory);
+        };
+        Ok(ScanGuess {
+            guess,
+            of: PhantomData,
+        })
+    }
+
+    /// Whether nobody else reads it.
+    pub(crate) fn is_unused(&self) -> bool {
+        Arc::strong_count(&self.guess) == 1
+    }
+
+    /// Whether one of its MCUs starts at this bit of an interval.
+    pub(crate) fn has(&self, number: u32, bit: u64) -> bool {
+        self.guess.interval().number() == number && self.guess.find(bit).is_some()
+    }
+
+    /// Makes the guess of these bits.
+    pub(crate) fn read(self, scan: &'a Scan, window: Window) -> ScanGuess<'a, S>
+        requires { S.scan ≡ Some scan.now }
+    {
+        let mut guess = self.guess;
+        if window.number < scan.intervals()
+            && let Some(room) = Arc::get_mut(&mut guess)
+        {
+            room.read(scan.interval_ref(window.number), window.from, window.to);
+        }
+        ScanGuess {
+            guess,
+            of: PhantomData,
+        }
+    }
+
+    /// These guesses of an interval, and this one where it is of the interval, too.
+    pub(crate) fn put_into(&self, number: u32, guesses: Guesses<'a>) -> Guesses<'a>
+        requires { AreGuesses S.scan number guesses }
+        ensures { AreGuesses S.scan number result }
+    {
+        if self.guess.interval().number() != number {
+            return guesses;
+        }
+        match Arc::try_clone(&self.guess) {
+            Ok(guess) => guesses.with(guess),
+            Err(_) => guesses,
+        }
+    }
+}
