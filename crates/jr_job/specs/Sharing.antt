@@ -11,6 +11,8 @@ use Rattle.jr_piece.specs.Strips.{TellsEnd}
 use Rattle.jr_job.specs.declared.reading.End.{End}
 use Rattle.jr_job.specs.declared.reading.Next.{Next}
 use Rattle.jr_job.specs.declared.reading.Next.TheVariants.{Strip, End as Ended}
+use Rattle.jr_job.specs.declared.waiting_strip.WaitingStrip.{WaitingStrip}
+use Rattle.jr_job.specs.declared.waiting_strip.WaitingStrip.TheVariants.{Coded, Placed}
 
 -- the interval is one of the scan's, where there is one
 abbrev pub IsOneOf : Option ScanValue → IntervalValue → Type 0
@@ -28,7 +30,11 @@ pub record IsEndOf (scan : Option ScanValue) (e : End) : Type 0 where
   pub number : interval.number ≡ e.number
   pub ends : TellsEnd interval e.front e.is_sound
 
+abbrev pub interval_of_strip : WaitingStrip → IntervalValue
+interval_of_strip (Coded s) = s.interval
+interval_of_strip (Placed s) = s.interval
+
 -- what follows is of an interval of the scan
 abbrev pub IsNextOf : Option ScanValue → Next → Type 0
-IsNextOf scan (Strip s) = IsOneOf scan s.interval
+IsNextOf scan (Strip s) = IsOneOf scan (interval_of_strip s)
 IsNextOf scan (Ended e) = IsEndOf scan e

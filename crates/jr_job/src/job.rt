@@ -15,8 +15,13 @@ use std::alloc::Global;
 use std::marker::Model;
 use std::sync::{Arc, Condvar, Mutex, Wait};
 
-/// An interval that several workers decode: one of them reads strip after strip, and whoever is free transforms what is
-/// read. So nobody waits for the reader but who has nothing else to do.
+/// By so many workers and more strips are passed over: to pass over an MCU takes most of the time that it takes to read it.
+const LEAST_PASSING: usize = 3;
+
+/// An interval that several workers decode, and whoever is free decodes a strip. Where they are three or more, one of them
+/// passes over strip after strip, and each is read from its place on by the worker that decodes it; where they are fewer,
+/// one of them reads, since two read and pass over no sooner than one reads. So nobody waits for the reader but who has
+/// nothing else to do.
 #[derive(Drop)]
 pub struct Job<S: OneScan> {
     interval: Arc<Interval>,
@@ -44,7 +49,8 @@ impl<S: OneScan> Job<S> {
         ensures { IfOk result (λ j. j ≡ interval) }
     {
         let interval = Arc::new(alloc, interval)?;
-        let reading = Reading::of(Arc::try_clone(&interval)?);
+        let passes = workers >= LEAST_PASSING;
+        let reading = Reading::of(Arc::try_clone(&interval)?, passes);
         let gathered = Gathered::of(alloc, Arc::try_clone(&interval)?);
         let most_waiting = workers.saturating_sub(1).max(1);
         let progress = Progress::of(alloc, reading, gathered, most_waiting);
@@ -82,23 +88,25 @@ impl<S: OneScan> Job<S> {
         }
     }
 
-    /// Transforms a strip and keeps it.
+    /// Decodes a strip and keeps it.
     fn decode<R: Wait>(
         &self,
         rt: &R,
         alloc: Global,
-        coded: ScanStrip<S>,
+        waiting: ScanStrip<S>,
     ) -> Result<Arc<Strip>, Memory>
         ensures { IfOk result (λ s. (arc_value s).interval ≡ self.now) }
     {
-        let strip = Arc::new(alloc, coded.decode(alloc)?)?;
+        let strip = Arc::new(alloc, waiting.decode(alloc)?)?;
         if strip.number() != self.interval.number() {
             return Err(Memory);
         }
         let same = Arc::try_clone(&strip)?;
         let mut progress = self.progress.lock(rt);
         progress.keep(same)?;
-        progress.reuse(coded.into_blocks());
+        if let Some(blocks) = waiting.into_blocks() {
+            progress.reuse(blocks);
+        }
         Ok(strip)
     }
 
@@ -116,8 +124,8 @@ impl<S: OneScan> Job<S> {
         for _ in 0..=self.interval.mcus() {
             match self.task(rt) {
                 StripTask::Read(reading) => self.read(rt, alloc, reading),
-                StripTask::Decode(coded) => {
-                    let strip = self.decode(rt, alloc, coded).ok();
+                StripTask::Decode(waiting) => {
+                    let strip = self.decode(rt, alloc, waiting).ok();
                     if strip.is_none() {
                         self.give_up(rt);
                     }

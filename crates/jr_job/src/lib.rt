@@ -6,6 +6,7 @@ mod job;
 mod one_scan;
 mod progress;
 mod reading;
+mod waiting_strip;
 
 pub use job::Job;
 pub use one_scan::OneScan;

@@ -2,43 +2,44 @@
 
 ghost use Rattle.std.specs.Prelude.{◌≡◌, IfOk, IfSome};
 ghost use Rattle.std.specs.Arc.{arc_value};
-ghost use Rattle.jr_job.specs.Sharing.{IsOneOf, IsNextOf};
+ghost use Rattle.jr_job.specs.Sharing.{IsOneOf, IsNextOf, interval_of_strip};
 ghost use Rattle.jr_piece.specs.Strips.{AreOf, TellsEnd, shared_strips};
 
 use crate::gathered::Gathered;
 use crate::one_scan::OneScan;
 use crate::reading::{End, Next, Reading};
+use crate::waiting_strip::WaitingStrip;
 use jr_block::Coefficients;
 use jr_code::Memory;
-use jr_piece::{CodedStrip, Strip};
+use jr_piece::Strip;
 use jr_scan::Interval;
 use std::alloc::Global;
 use std::collections::VecDeque;
 use std::marker::{Model, PhantomData};
 use std::sync::Arc;
 
-/// A strip of an interval of the scan, read and not yet transformed.
+/// A strip of an interval of the scan that waits.
 #[derive(Drop)]
 pub(crate) struct ScanStrip<S: OneScan> {
-    strip: CodedStrip,
+    strip: WaitingStrip,
     of: PhantomData<S>,
 }
 
 impl<S: OneScan> Model for ScanStrip<S> {
-    ghost use Rattle.jr_piece.specs.StripValue.{CodedStripValue};
-    ghost use Rattle.jr_job.specs.Sharing.{IsOneOf};
+    ghost use Rattle.jr_scan.specs.IntervalValue.{IntervalValue};
+    ghost use Rattle.jr_job.specs.Sharing.{IsOneOf, interval_of_strip};
 
-    ghost Value = { CodedStripValue };
+    ghost Value = { IntervalValue };
 
-    ghost view = { λ c. c.strip };
+    ghost view = { λ c. interval_of_strip c.strip };
 
-    ghost invariant = { λ c. IsOneOf S.scan c.strip.interval };
+    ghost invariant = { λ c. IsOneOf S.scan (interval_of_strip c.strip) };
 }
 
 impl<S: OneScan> ScanStrip<S> {
-    fn of(strip: CodedStrip) -> ScanStrip<S>
-        requires { IsOneOf S.scan strip.interval }
-        ensures { result ≡ strip }
+    fn of(strip: WaitingStrip) -> ScanStrip<S>
+        requires { IsOneOf S.scan (interval_of_strip strip) }
+        ensures { result ≡ interval_of_strip strip }
     {
         ScanStrip {
             strip,
@@ -48,14 +49,14 @@ impl<S: OneScan> ScanStrip<S> {
 
     /// The strip's samples.
     pub(crate) fn decode(&self, alloc: Global) -> Result<Strip, Memory>
-        ensures interval { IfOk result (λ s. s.interval ≡ self.now.interval) }
+        ensures interval { IfOk result (λ s. s.interval ≡ self.now) }
         ensures own { IfOk result (λ s. IsOneOf S.scan s.interval) }
     {
         self.strip.decode(alloc)
     }
 
-    /// The memory of its blocks, to be used again.
-    pub(crate) fn into_blocks(self) -> Vec<Coefficients> {
+    /// The memory of its blocks, to be used again; none where it has none.
+    pub(crate) fn into_blocks(self) -> Option<Vec<Coefficients>> {
         self.strip.into_blocks()
     }
 }
@@ -63,23 +64,23 @@ impl<S: OneScan> ScanStrip<S> {
 /// What a worker does next.
 #[derive(Drop)]
 pub(crate) enum StripTask<S: OneScan> {
-    /// Read the next strip.
+    /// Read the next strip, or pass over it.
     Read(Reading<S>),
-    /// Transform a strip that is read.
+    /// Decode a strip that waits.
     Decode(ScanStrip<S>),
     /// Nothing: all is read, and others decode what is left.
     Leave,
 }
 
-/// How far an interval is: one worker reads, and the strips that it has read wait for whoever is free.
+/// How far an interval is: one worker reads or passes over strips, and these wait for whoever is free.
 #[derive(Drop)]
 pub(crate) struct Progress<S: OneScan> {
     /// None while a worker reads, and where nothing is left to read.
     reading: Option<Reading<S>>,
     /// Nothing will be read any more.
     is_over: bool,
-    /// In the order in which they were read.
-    coded: VecDeque<ScanStrip<S>>,
+    /// In their order.
+    waiting: VecDeque<ScanStrip<S>>,
     /// As many of them may wait before the worker that reads decodes one.
     most_waiting: usize,
     /// Memory of strips that are transformed, for those to be read.
@@ -98,7 +99,7 @@ impl<S: OneScan> Progress<S> {
         Progress {
             reading: Some(reading),
             is_over: false,
-            coded: VecDeque::new(alloc),
+            waiting: VecDeque::new(alloc),
             most_waiting,
             spare: Vec::new(alloc),
             gathered,
@@ -107,12 +108,12 @@ impl<S: OneScan> Progress<S> {
 
     /// Whether a worker has to wait for what another one reads.
     pub(crate) fn has_no_task(&self) -> bool {
-        !self.is_over && self.reading.is_none() && self.coded.is_empty()
+        !self.is_over && self.reading.is_none() && self.waiting.is_empty()
     }
 
     /// What a worker does next.
     pub(crate) fn task(&mut self) -> StripTask<S> {
-        if self.coded.len() < self.most_waiting
+        if self.waiting.len() < self.most_waiting
             && let Some(mut reading) = self.reading.take()
         {
             if let Some(blocks) = self.spare.pop() {
@@ -120,7 +121,7 @@ impl<S: OneScan> Progress<S> {
             }
             return StripTask::Read(reading);
         }
-        match self.coded.pop_front() {
+        match self.waiting.pop_front() {
             Some(strip) => StripTask::Decode(strip),
             None => StripTask::Leave,
         }
@@ -132,7 +133,7 @@ impl<S: OneScan> Progress<S> {
     {
         match next {
             Ok(Next::Strip(strip)) => {
-                self.is_over |= self.coded.push_back(ScanStrip::of(strip)).is_err();
+                self.is_over |= self.waiting.push_back(ScanStrip::of(strip)).is_err();
             }
             Ok(Next::End(end)) => {
                 self.gathered.close(end);
@@ -166,7 +167,7 @@ impl<S: OneScan> Progress<S> {
     pub(crate) fn give_up(&mut self) {
         self.is_over = true;
         self.reading = None;
-        self.coded.clear();
+        self.waiting.clear();
         self.spare.clear();
     }
 

@@ -1,13 +1,15 @@
 //! How far a shared interval is read.
 
-ghost use Rattle.std.specs.Prelude.{◌≡◌, ◌<◌, IfOk};
+ghost use Rattle.std.specs.Prelude.{◌≡◌, ◌<◌, IfOk, IfSome, IfNone};
 ghost use Rattle.std.specs.Arc.{arc_value};
-ghost use Rattle.jr_job.specs.Sharing.{IsOneOf, IsNextOf};
+ghost use Rattle.jr_scan.specs.Mcus.{HasLongestFront};
+ghost use Rattle.jr_job.specs.Sharing.{IsOneOf, IsNextOf, interval_of_strip};
 
 use crate::one_scan::OneScan;
+use crate::waiting_strip::WaitingStrip;
 use jr_block::Coefficients;
 use jr_code::Memory;
-use jr_piece::{CodedStrip, StripReader};
+use jr_piece::StripReader;
 use jr_scan::Interval;
 use std::alloc::Global;
 use std::marker::{Model, PhantomData};
@@ -44,9 +46,33 @@ pub(crate) struct End {
 #[derive(Drop)]
 pub(crate) enum Next {
     /// The next strip.
-    Strip(CodedStrip),
+    Strip(WaitingStrip),
     /// Nothing: so the interval ends.
     End(End),
+}
+
+/// Reads the next strip of so many MCUs, or passes over it. None where no whole MCU follows.
+fn next_strip(
+    alloc: Global,
+    reader: &mut StripReader,
+    each: u32,
+    passes: bool,
+) -> Result<Option<WaitingStrip>, Memory>
+    ensures interval { reader.new.interval ≡ reader.old.interval }
+    ensures of { IfOk result (λ o. IfSome o (λ s. interval_of_strip s ≡ reader.old.interval)) }
+    ensures none { IfOk result (λ o. IfNone o (0 < each → HasLongestFront reader.old.interval reader.old.first)) }
+    ensures same { IfOk result (λ o. IfNone o (reader.new ≡ reader.old)) }
+{
+    if passes {
+        let Some(strip) = reader.pass(each)? else {
+            return Ok(None);
+        };
+        return Ok(Some(WaitingStrip::Placed(strip)));
+    }
+    let Some(strip) = reader.next(alloc, each)? else {
+        return Ok(None);
+    };
+    Ok(Some(WaitingStrip::Coded(strip)))
 }
 
 /// The reader of an interval of the scan.
@@ -54,6 +80,8 @@ pub(crate) enum Next {
 pub(crate) struct Reading<S: OneScan> {
     reader: StripReader,
     each: u32,
+    /// Whether strips are passed over, and read by whoever decodes them.
+    passes: bool,
     of: PhantomData<S>,
 }
 
@@ -71,7 +99,7 @@ impl<S: OneScan> Model for Reading<S> {
 
 impl<S: OneScan> Reading<S> {
     /// Nothing is read of an interval yet.
-    pub(crate) fn of(interval: Arc<Interval>) -> Reading<S>
+    pub(crate) fn of(interval: Arc<Interval>, passes: bool) -> Reading<S>
         requires { IsOneOf S.scan (arc_value interval) }
         ensures { result ≡ arc_value interval }
     {
@@ -79,6 +107,7 @@ impl<S: OneScan> Reading<S> {
         Reading {
             reader: StripReader::over(interval),
             each,
+            passes,
             of: PhantomData,
         }
     }
@@ -90,11 +119,12 @@ impl<S: OneScan> Reading<S> {
         self.reader.lend(blocks);
     }
 
-    /// Reads the next strip.
+    /// Reads the next strip, or passes over it.
     pub(crate) fn next(&mut self, alloc: Global) -> Result<Next, Memory>
         ensures { IfOk result (IsNextOf S.scan) }
     {
-        if let Some(strip) = self.reader.next(alloc, self.each)? {
+        let reader = &mut self.reader;
+        if let Some(strip) = next_strip(alloc, reader, self.each, self.passes)? {
             return Ok(Next::Strip(strip));
         }
         Ok(Next::End(End {

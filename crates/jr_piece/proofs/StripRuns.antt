@@ -64,6 +64,28 @@ module _ (r r' : McuReaderValue) (j i : IntervalValue) (from : Place) (m n len :
             ]
       ]
 
+-- what a reader of whole MCUs has passed over, which had read nothing of a run from this place on
+module _ (r r' : McuReaderValue) (j i : IntervalValue) (from : Place) (m n : ℕ) (ys : List (List ℤ)) (same : j ≡ i) (run : r.run ≡ run_from j from m) (start : r.mcu ≡ 0) (run' : r'.run ≡ r.run) (mcu : r'.mcu ≡ r.mcu + n)
+    (read : HasRead r' ys) where
+  its_run : r'.run ≡ run_from i from m
+  its_run = run' ∙ run ∙ ap (λ (v : IntervalValue). run_from v from m) same
+
+  pub passed_place : IsRun (run_from i from n) ys r'.place AllRead
+  passed_place =
+      let count : r'.mcu ≡ n = omega (arith, mcu, start) in
+      let s = subst (λ (o : RunOf). IsRun (run_from o.interval o.from r'.mcu) ys r'.place AllRead) its_run read.run in
+      subst (λ (k : ℕ). IsRun (run_from i from k) ys r'.place AllRead) count s
+
+  pub passed_part : (n < m → HasEnded r') → FirstMcus (run_from i from m) n ys
+  passed_part ended = record {
+    to = r'.place;
+    run = passed_place;
+    none = λ lt. elim (ended lt) [
+      | inl full ↦ absurd (omega (arith, full, mcu, start, lt, ap (λ (o : RunOf). o.mcus) its_run))
+      | inr stuck ↦ subst (λ (o : RunOf). HasNoMcu o.interval r'.place) its_run stuck
+    ];
+  }
+
 abbrev pub OneRun : Type 0
 OneRun = (r : RunOf) (a b : RunRead r) → IsLawful r.interval.head → (a.blocks ≡ b.blocks) × (a.to ≡ b.to) × (a.end ≡ b.end)
 
@@ -72,6 +94,24 @@ RunsMeet = (i : IntervalValue) (p : Place) (k m : ℕ) (a : RunRead (run_from i 
 
 abbrev read : (r : RunOf) (zs : List (List ℤ)) (to : Place) (end : RunEnd) → IsRun r zs to end → RunRead r
 read r zs to end is = record { blocks = zs; to = to; end = end; is = is }
+
+-- a reader that has ended has read the blocks of its run, where this has all its MCUs
+pub all_read : OneRun → (r : McuReaderValue) (zs ys : List (List ℤ)) (to : Place) → IsLawful r.run.interval.head → IsRun r.run ys to AllRead → HasRead r zs → HasEnded r → zs ≡ ys
+all_read one r zs ys to lawful run has ended =
+    let s = has.run in
+    let count : s.count ≡ r.mcu = s.ends in
+    elim (cases_lt r.mcu r.run.mcus) [
+      | inl lt ↦ elim ended [
+        | inl full ↦ absurd (omega (arith, full, lt))
+        | inr none ↦
+            let here : IsRun r.run zs r.place NoMcu = record { count = s.count; few = omega (arith, count, lt); taken = s.taken; mcus = s.mcus; spelled = s.spelled; bit = s.bit; predictions = s.predictions; ends = (omega (arith, count, lt), none) } in
+            let e : NoMcu ≡ AllRead = (one r.run (read r.run zs r.place NoMcu here) (read r.run ys to AllRead run) lawful).2 in
+            absurd (let z : NoMcu ≡ AllRead = e in cc)
+      ]
+      | inr ge ↦
+          let here : IsRun r.run zs r.place AllRead = record { count = s.count; few = omega (arith, count, has.few); taken = s.taken; mcus = s.mcus; spelled = s.spelled; bit = s.bit; predictions = s.predictions; ends = omega (arith, count, ge, has.few) } in
+          (one r.run (read r.run zs r.place AllRead here) (read r.run ys to AllRead run) lawful).0
+    ]
 
 -- where no whole MCU follows, the front is the longest
 stuck : OneRun → ShorterFront → (i : IntervalValue) (k : ℕ) (zs : List (List ℤ)) (to : Place) → IsLawful i.head → IsRun (run_from i start_of_interval k) zs to AllRead → HasNoMcu i to → k ≤ i.mcus → LongestFront i k zs

@@ -13,7 +13,7 @@ use Rattle.jr_scan.specs.Mcus.{HasDecoding, HasNoDecoding, Front, HasLongestFron
 use Rattle.jr_scan.specs.Run.{RunOf, start_of_interval, run_from, HasNoMcu, IsRun}
 use Rattle.jr_piece.specs.PieceValue.{PieceValue}
 use Rattle.jr_piece.specs.Outcome.{AreSamples}
-use Rattle.jr_piece.specs.StripValue.{CodedStripValue, StripValue, ReadingValue}
+use Rattle.jr_piece.specs.StripValue.{CodedStripValue, PlacedStripValue, StripValue, ReadingValue}
 
 -- the data units of the first k MCUs of an interval
 abbrev pub units_before : IntervalValue → ℕ → ℕ
@@ -75,6 +75,14 @@ CanReadFrom i p = (p.bit ≤ 8 * length i.bytes) × All IsInDcRange p.prediction
 pub record IsNext (i : IntervalValue) (first : ℕ) (zs : List (List ℤ)) (p : Place) : Type 0 where
   pub run : IsRun (run_from i start_of_interval first) zs p AllRead
   pub can : CanReadFrom i p
+
+-- the blocks of the strip's MCUs are those that follow its place
+pub record IsPlaced (s : PlacedStripValue) : Type 0 where
+  pub blocks : List (List ℤ)
+  pub are : AreBlocks s.interval s.first s.mcus blocks
+  pub can : CanReadFrom s.interval s.from
+  pub to : Place
+  pub run : IsRun (run_from s.interval s.from s.mcus) blocks to AllRead
 
 -- what a reader of strips keeps
 pub record IsReading (r : ReadingValue) : Type 0 where

@@ -1,16 +1,19 @@
 //! The samples of an interval's longest decodable front.
 
-ghost use Rattle.std.specs.Prelude.{◌≡◌, ℤ, List, IfOk};
-ghost use Rattle.jr_scan.specs.Run.{whole_run};
+ghost use Rattle.std.specs.Prelude.{◌≡◌, ℤ, List, [], IfOk, OnOk};
 ghost use Rattle.jr_scan.specs.McuReader.{HasRead, HasEnded};
 ghost use Rattle.jr_piece.specs.Outcome.{AreSamples, IsOutcome};
 
 use crate::transforming::transform_blocks;
 use jr_block::Coefficients;
 use jr_code::Memory;
-use jr_scan::{Interval, MOST_UNITS, McuReader};
+use jr_scan::{Interval, McuReader};
 use std::alloc::Global;
 use std::array;
+
+/// How many blocks are read before they are transformed: those of several MCUs, which are transformed two side by side, and
+/// so few that they stay in a processor's own cache.
+const BLOCKS: usize = 64;
 
 /// The samples of an interval's front, and whether the front is its decoding.
 #[derive(Drop)]
@@ -20,27 +23,29 @@ pub(crate) struct Decoded {
     pub samples: Vec<[u8; 64]>,
 }
 
-/// Reads the whole MCUs of an interval, up to its end or to where none follows, and transforms their blocks as they come.
-fn read_samples(
+/// Reads the whole MCUs of a run of which none is read, up to its end or to where none follows, and transforms their blocks
+/// as they come. They are about so many.
+pub(crate) fn read_samples(
     alloc: Global,
-    interval: &Interval,
-) -> Result<(Vec<[u8; 64]>, McuReader<'_>), Memory>
-    ensures run { IfOk result (λ r. r.1.run ≡ whole_run interval.now) }
-    ensures read { IfOk result (λ r. (zs : List (List ℤ)) × HasRead r.1 zs × AreSamples interval.now.head zs r.0.items) }
-    ensures ended { IfOk result (λ r. HasEnded r.1) }
+    reader: &mut McuReader<'_>,
+    mcus: usize,
+) -> Result<Vec<[u8; 64]>, Memory>
+    requires none { HasRead reader.old [] }
+    requires new { reader.old.mcu ≡ 0 }
+    ensures run { OnOk result (reader.new.run ≡ reader.old.run) }
+    ensures read { IfOk result (λ v. (zs : List (List ℤ)) × HasRead reader.new zs × AreSamples reader.new.run.interval.head zs v.items) }
+    ensures ended { OnOk result (HasEnded reader.new) }
 {
-    let head = interval.head();
+    let head = reader.interval().head();
     let per_mcu = head.order().len();
-    let most = interval.most_mcus() as usize * per_mcu;
-    let mut samples = Vec::with_capacity(alloc, most)?;
-    let mut reader = McuReader::over(interval.as_ref());
-    let mut blocks: [Coefficients; MOST_UNITS] = array::from_fn(|_| Coefficients::zeros());
-    let empty = [[0; 64]; MOST_UNITS];
+    let mut samples = Vec::with_capacity(alloc, mcus.saturating_mul(per_mcu))?;
+    let mut blocks: [Coefficients; BLOCKS] = array::from_fn(|_| Coefficients::zeros());
+    let empty = [[0; 64]; BLOCKS];
     'mcus: loop {
         let first = reader.mcus();
         let count = reader.read(&mut blocks) as usize * per_mcu;
         if count == 0 {
-            return Ok((samples, reader));
+            return Ok(samples);
         }
         samples.extend_from_slice(&empty[..count])?;
         transform_blocks(head, first, &blocks[..count], &mut samples);
@@ -51,7 +56,8 @@ fn read_samples(
 pub(crate) fn decode(alloc: Global, interval: &Interval) -> Result<Decoded, Memory>
     ensures { IfOk result (λ d. IsOutcome (record { interval = interval.now; is_sound = d.is_sound; front = d.front; samples = d.samples.items })) }
 {
-    let (samples, reader) = read_samples(alloc, interval)?;
+    let mut reader = McuReader::over(interval.as_ref());
+    let samples = read_samples(alloc, &mut reader, interval.most_mcus() as usize)?;
     Ok(Decoded {
         is_sound: reader.is_sound(),
         front: reader.mcus(),

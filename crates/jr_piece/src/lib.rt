@@ -7,6 +7,7 @@ mod decoded;
 mod laws;
 mod order;
 mod piece;
+mod placed_strip;
 mod strip;
 mod strip_reader;
 mod transforming;
@@ -18,6 +19,7 @@ pub use laws::{
     whole_strip_is_outcome,
 };
 pub use piece::{OrderError, Piece};
+pub use placed_strip::PlacedStrip;
 pub use strip::{CodedStrip, Strip};
 pub use strip_reader::StripReader;
 pub use transforming::transform_blocks;

@@ -100,16 +100,28 @@ impl CodedStrip {
     {
         let samples = samples_of(alloc, self.interval.head(), self.blocks.as_slice())?;
         let interval = Arc::try_clone(&self.interval)?;
-        Ok(Strip {
-            interval,
-            first: self.first,
-            mcus: self.mcus,
-            samples,
-        })
+        Ok(Strip::of(interval, self.first, self.mcus, samples))
     }
 }
 
 impl Strip {
+    pub(crate) fn of(
+        interval: Arc<Interval>,
+        first: u32,
+        mcus: u32,
+        samples: Vec<[u8; 64]>,
+    ) -> Strip
+        requires { IsStrip (record { interval = arc_value interval; first = first; mcus = mcus; samples = samples.items }) }
+        ensures { result ≡ record { interval = arc_value interval; first = first; mcus = mcus; samples = samples.items } }
+    {
+        Strip {
+            interval,
+            first,
+            mcus,
+            samples,
+        }
+    }
+
     /// What holds of every strip: it shows whole MCUs of its interval.
     pub fn be_strip(&self)
         ensures { IsStrip self.now }

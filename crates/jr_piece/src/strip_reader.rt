@@ -8,6 +8,7 @@ ghost use Rattle.jr_scan.specs.Mcus.{Decodes, Front, HasNoDecoding, HasLongestFr
 ghost use Rattle.jr_scan.specs.Run.{start_of_interval, IsRun, run_from};
 ghost use Rattle.jr_piece.specs.Strips.{CanReadFrom, FirstMcus};
 
+use crate::placed_strip::PlacedStrip;
 use crate::strip::CodedStrip;
 use jr_block::Coefficients;
 use jr_code::Memory;
@@ -65,6 +66,34 @@ fn read_run(
             None
         },
     })
+}
+
+/// So many whole MCUs of a run, and where the next one starts; no place where no whole one follows.
+#[derive(Clone, Copy)]
+struct Passed {
+    mcus: u32,
+    next: Option<Place>,
+}
+
+/// Passes over the whole MCUs of a run of at most so many, and keeps none of their blocks.
+fn pass_run(interval: &Interval, from: Place, mcus: u32) -> Passed
+    requires { CanReadFrom interval.now from }
+    ensures lawful { IsLawful interval.now.head }
+    ensures few { result.mcus ≤ mcus }
+    ensures run { (ys : List (List ℤ)) × FirstMcus (run_from interval.now from mcus) result.mcus ys × IfSome result.next (λ p. IsRun (run_from interval.now from result.mcus) ys p AllRead) }
+    ensures can { IfSome result.next (CanReadFrom interval.now) }
+    ensures none { IfNone result.next (result.mcus < mcus) }
+{
+    // By its contract an interval's head is lawful.
+    let _lawful = interval.head();
+    let mut reader = McuReader::at(interval.as_ref(), from, mcus);
+    let passed = reader.skip(mcus);
+    let next = if passed == mcus {
+        Some(reader.place())
+    } else {
+        None
+    };
+    Passed { mcus: passed, next }
 }
 
 /// Reads the whole MCUs of an interval, a strip at a time.
@@ -152,6 +181,37 @@ impl StripReader {
         self.first += mcus;
         self.next = next;
         Ok(Some(CodedStrip::of(interval, first, mcus, blocks)))
+    }
+
+    /// Passes over the next whole MCUs, as many as are asked for or as follow, and keeps none of their blocks. None where no
+    /// further one follows; then, and at an error, the reader stays as it is.
+    pub fn pass(&mut self, most: u32) -> Result<Option<PlacedStrip>, Memory>
+        ensures interval { self.new.interval ≡ self.old.interval }
+        ensures of { IfOk result (λ o. IfSome o (λ s. s.interval ≡ self.old.interval)) }
+        ensures first { IfOk result (λ o. IfSome o (λ s. s.first ≡ self.old.first)) }
+        ensures some { IfOk result (λ o. IfSome o (λ s. 0 < s.mcus)) }
+        ensures few { IfOk result (λ o. IfSome o (λ s. s.mcus ≤ most)) }
+        ensures from { IfOk result (λ o. IfSome o (λ s. self.old.next ≡ Some s.from)) }
+        ensures on { IfOk result (λ o. IfSome o (λ s. self.new.first ≡ s.first + s.mcus)) }
+        ensures within { IfOk result (λ o. OnSome o (self.new.first ≤ self.old.interval.mcus)) }
+        ensures last { IfOk result (λ o. IfSome o (λ s. s.mcus < most → HasLongestFront self.new.interval self.new.first)) }
+        ensures none { IfOk result (λ o. IfNone o (0 < most → HasLongestFront self.old.interval self.old.first)) }
+        ensures same { IfOk result (λ o. IfNone o (self.new ≡ self.old)) }
+        ensures err { IfErr result (λ _. self.new ≡ self.old) }
+    {
+        let Some(from) = self.next else {
+            return Ok(None);
+        };
+        let interval = Arc::try_clone(&self.interval)?;
+        let asked = most.min(interval.mcus() - self.first);
+        let passed = pass_run(&interval, from, asked);
+        if passed.mcus == 0 {
+            return Ok(None);
+        }
+        let first = self.first;
+        self.first += passed.mcus;
+        self.next = passed.next;
+        Ok(Some(PlacedStrip::of(interval, first, passed.mcus, from)))
     }
 
     /// Whether all MCUs are read and fewer than eight bits are left: then what is read is the interval's decoding. Where

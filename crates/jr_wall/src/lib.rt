@@ -22,7 +22,7 @@ pub use jr_cells::{Cells, Sight, StripCells, StripSight};
 pub use jr_desk::{Desk, Drawn, Seat};
 pub use jr_picture::{Counts, Gate, Mark, OpenGate, blank_sample, one_picture};
 pub use jr_piece::{
-    CodedStrip, OrderError, Piece, Strip, StripReader, one_outcome, one_strip, strip_is_final,
-    strips_meet, whole_strip_is_outcome,
+    CodedStrip, OrderError, Piece, PlacedStrip, Strip, StripReader, one_outcome, one_strip,
+    strip_is_final, strips_meet, whole_strip_is_outcome,
 };
 pub use workers::{decode_all, decode_alone, work};

@@ -2,7 +2,7 @@
 
 use crate::shown::{decoded, next_strip, piece};
 use jr_scan::Scan;
-use jr_wall::{CodedStrip, Piece, Strip, StripReader};
+use jr_wall::{CodedStrip, Piece, PlacedStrip, Strip, StripReader};
 use std::alloc::Global;
 use std::process::Abort;
 use std::sync::Arc;
@@ -127,18 +127,37 @@ fn is_part(strip: &Strip, piece: &Piece, blocks: u32) -> bool {
     strip.block(count).is_none()
 }
 
-/// Holds strips of so many MCUs against the piece. They are decoded from the last one on.
-fn check_strips(
+/// The strips of so many MCUs at most that 300 calls pass over.
+fn pass(
     rt: &impl Abort,
     alloc: Global,
-    strips: &[CodedStrip],
+    reader: &mut StripReader,
+    most: u32,
+) -> Result<Vec<PlacedStrip>, Fail> {
+    let mut strips = Vec::new(alloc);
+    let mut has_ended = false;
+    for _ in 0..300 {
+        let next = reader.pass(most)?;
+        assert!(rt; !(has_ended && next.is_some()), "a strip behind the last");
+        match next {
+            Some(strip) => strips.push(strip)?,
+            None => has_ended = true,
+        }
+    }
+    assert!(rt; has_ended, "more strips than calls");
+    Ok(strips)
+}
+
+/// Holds strips of so many MCUs, the last one first, against the piece.
+fn check_strips(
+    rt: &impl Abort,
+    strips: &[Strip],
     piece: &Piece,
     blocks: u32,
     most: u32,
 ) -> Result<(), Fail> {
     let mut end = piece.front();
-    for coded in strips.iter().rev() {
-        let strip = decoded(alloc, coded)?;
+    for strip in strips {
         strip.be_strip();
         assert!(rt; strip.number() == piece.number());
         assert!(rt; strip.first().wrapping_add(strip.mcus()) == end);
@@ -147,7 +166,7 @@ fn check_strips(
             "a short strip"
         );
         assert!(rt;
-            is_part(&strip, piece, blocks),
+            is_part(strip, piece, blocks),
             "the strip before MCU {end}"
         );
         end = strip.first();
@@ -156,7 +175,41 @@ fn check_strips(
     Ok(())
 }
 
-/// Reads the interval of a file in strips of 1, 2, 3, 64 and all MCUs.
+/// The samples of strips that are read, the last one first.
+fn decode_coded(alloc: Global, strips: &[CodedStrip]) -> Result<Vec<Strip>, Fail> {
+    let mut all = Vec::new(alloc);
+    for strip in strips.iter().rev() {
+        all.push(decoded(alloc, strip)?)?;
+    }
+    Ok(all)
+}
+
+/// The samples of strips that are passed over, the last one first.
+fn decode_placed(alloc: Global, strips: &[PlacedStrip]) -> Result<Vec<Strip>, Fail> {
+    let mut all = Vec::new(alloc);
+    for strip in strips.iter().rev() {
+        all.push(strip.decode(alloc)?)?;
+    }
+    Ok(all)
+}
+
+/// Passes over the interval of a file in strips of so many MCUs.
+fn check_passed(
+    rt: &impl Abort,
+    alloc: Global,
+    scan: &Scan,
+    piece: &Piece,
+    case: &Case,
+    most: u32,
+) -> Result<(), Fail> {
+    let mut reader = reader(alloc, scan)?;
+    let strips = pass(rt, alloc, &mut reader, most)?;
+    assert!(rt; reader.is_sound() == case.is_sound);
+    let strips = decode_placed(alloc, strips.as_slice())?;
+    check_strips(rt, strips.as_slice(), piece, case.blocks, most)
+}
+
+/// Reads the interval of a file in strips of 1, 2, 3, 64 and all MCUs, and passes over it in such strips.
 fn check(rt: &impl Abort, alloc: Global, case: &Case) -> Result<(), Fail> {
     let scan = scan(alloc, case.file)?;
     let piece = piece(alloc, &scan, 0)?;
@@ -166,7 +219,9 @@ fn check(rt: &impl Abort, alloc: Global, case: &Case) -> Result<(), Fail> {
         assert!(rt; !reader.is_sound(), "nothing is read");
         let strips = read(rt, alloc, &mut reader, most)?;
         assert!(rt; reader.is_sound() == case.is_sound);
-        check_strips(rt, alloc, strips.as_slice(), &piece, case.blocks, most)?;
+        let strips = decode_coded(alloc, strips.as_slice())?;
+        check_strips(rt, strips.as_slice(), &piece, case.blocks, most)?;
+        check_passed(rt, alloc, &scan, &piece, case, most)?;
     }
     Ok(())
 }

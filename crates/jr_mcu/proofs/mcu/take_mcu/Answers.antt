@@ -82,7 +82,7 @@ loop-k-preserved g c =
       taken = (
         s.0 ++ z ∷ [],
         omega (arith, s.1, length-append s.0 (z ∷ [])),
-        more,
+        search (rules, more),
         λ keeps.
             let long : k < length c.loop-k.blocks = omega (arith, n.room, c.loop-k.invariant.room, c.requires.room keeps) in
             ap (λ (bs : List (List ℤ)). take (k + 1) bs) (t.3 keeps) ∙ take_more_set c.loop-k.blocks k z long ∙ ap (λ (zs : List (List ℤ)). zs ++ z ∷ []) (s.3 keeps),

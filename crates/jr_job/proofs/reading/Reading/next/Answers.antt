@@ -10,7 +10,7 @@ use Rattle.jr_job.proofs.reading.Reading.next.Goals as goal
 pub returns : goal.returns
 returns g c =
     let r = c.self.inside.reader in
-    let now = c.next.new.self in
+    let now = c.next_strip.new.reader in
     let same : now ≡ r = subst (λ o. IfNone o (now ≡ r)) c.in_default.is c.in_ok-strip.ensures.same in
     let some : 0 < c.self.inside.each = c.self.invariant.1 in
     let there : HasLongestFront r.interval r.first = (subst (λ o. IfNone o (0 < c.self.inside.each → HasLongestFront r.interval r.first)) c.in_default.is c.in_ok-strip.ensures.none) some in

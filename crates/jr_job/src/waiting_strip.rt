@@ -1,0 +1,36 @@
+//! A strip of a shared interval that waits for whoever decodes it.
+
+ghost use Rattle.std.specs.Prelude.{◌≡◌, IfOk};
+ghost use Rattle.jr_job.specs.Sharing.{interval_of_strip};
+
+use jr_block::Coefficients;
+use jr_code::Memory;
+use jr_piece::{CodedStrip, PlacedStrip, Strip};
+use std::alloc::Global;
+
+/// A strip that waits: its blocks are read, or it is passed over and its place is known.
+#[derive(Drop)]
+pub(crate) enum WaitingStrip {
+    Coded(CodedStrip),
+    Placed(PlacedStrip),
+}
+
+impl WaitingStrip {
+    /// The strip's samples.
+    pub(crate) fn decode(&self, alloc: Global) -> Result<Strip, Memory>
+        ensures { IfOk result (λ s. s.interval ≡ interval_of_strip self.now) }
+    {
+        match self {
+            WaitingStrip::Coded(strip) => strip.decode(alloc),
+            WaitingStrip::Placed(strip) => strip.decode(alloc),
+        }
+    }
+
+    /// The memory of its blocks, to be used again; none where it has none.
+    pub(crate) fn into_blocks(self) -> Option<Vec<Coefficients>> {
+        match self {
+            WaitingStrip::Coded(strip) => Some(strip.into_blocks()),
+            WaitingStrip::Placed(_) => None,
+        }
+    }
+}
