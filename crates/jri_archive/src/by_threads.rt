@@ -23,6 +23,9 @@ const MOST_LOOKED_AT: u32 = 1024;
 /// There is room for one guess a thread, and for so many that wait for the reader.
 const WAITING_GUESSES: u32 = 4;
 
+/// A guess has room for the MCUs of so many steps, since its bits are about those of one.
+const STEPS_OF_GUESS: u32 = 2;
+
 /// Whether guesses of the scan are worth their work.
 fn is_large(scan: &Scan) -> bool {
     let mut windows: u64 = 0;
@@ -99,12 +102,14 @@ fn check_as<R: Threads + Wait + Sync, S: OneScan + Send>(
 {
     let room = helpers.saturating_add(WAITING_GUESSES);
     let step = step_of(scan.head());
+    let most = step.saturating_mul(STEPS_OF_GUESS);
     let guesses: Result<GuessQueue<'_, S>, _> = GuessQueue::open(
         alloc,
         scan,
         scan.intervals(),
         room,
         step,
+        most,
     );
     match guesses {
         Ok(guesses) => {
@@ -116,8 +121,8 @@ fn check_as<R: Threads + Wait + Sync, S: OneScan + Send>(
 }
 
 /// `check_scan` by so many threads where the scan is large: the calling one reads it, and the others make guesses ahead of it.
-/// It takes memory for five guesses and one more for each further thread, each of the blocks of 3072 data units at most, or of
-/// 512 MCUs where that is more; where that is refused, the calling thread checks alone.
+/// It takes memory for four guesses and one more for each further thread, each of some 200 KB: the blocks of 1536 data units at
+/// most, and where their MCUs start. Where that is refused, the calling thread checks alone.
 pub fn check_scan_by<R: Threads + Wait + Sync>(
     rt: &R,
     alloc: Global,

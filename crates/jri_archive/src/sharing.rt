@@ -251,7 +251,8 @@ impl<F: Folder + Sync, O: Write + Send + Drop, E: Write + Send + Drop> Sharing<F
     /// Starts the workers, and works beside them.
     fn run<R: Threads + Wait + Sync>(&self, rt: &R) {
         thread::scope(thread::scope_env(), rt, |scope| {
-            for _ in 1..self.asked.workers {
+            let files = u32::try_from(self.asked.files.len()).unwrap_or(u32::MAX);
+            for _ in 1..self.asked.workers.min(files) {
                 let _ = scope.spawn(move || self.work(rt));
             }
             self.work(rt);
