@@ -42,6 +42,12 @@ const LEAST_BENCHES: u32 = 3 * BENCHES_OF_ONE;
 /// Guesses are worth their memory where the data of the longest interval have bits for so many: some 128 KB.
 const LEAST_WINDOWS: u64 = 32;
 
+/// A guess has room for the MCUs of so many rows, since its bits are about those of one.
+const ROWS_OF_GUESS: u32 = 2;
+
+/// A guess has room for so many MCUs at least.
+const LEAST_MCUS: u32 = 512;
+
 /// So many intervals are looked at to find a long one: a head may claim millions.
 const MOST_LOOKED_AT: u32 = 1024;
 
@@ -102,7 +108,8 @@ fn open_guesses<'a, S: OneFirstIntervals>(
 {
     let guesses = guesses_of(part, count);
     let across = shape_of(part.scan().head()).across;
-    GuessQueue::open(alloc, part.scan(), part.limit(), guesses, across)
+    let most = across.saturating_mul(ROWS_OF_GUESS).max(LEAST_MCUS);
+    GuessQueue::open(alloc, part.scan(), part.limit(), guesses, across, most)
 }
 
 /// A queue of so many benches.

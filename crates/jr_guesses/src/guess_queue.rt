@@ -17,12 +17,6 @@ use std::alloc::Global;
 /// A guess covers so many bits at least, where the interval has them, since it takes some until its MCUs are those of the picture.
 const LEAST_BITS: u64 = 32_768;
 
-/// A guess has room for the MCUs of so many steps, since its bits are about those of one.
-const STEPS_OF_GUESS: u32 = 2;
-
-/// A guess has room for so many MCUs at least.
-const LEAST_MCUS: u32 = 512;
-
 /// How many guesses the data of an interval of the scan have bits for.
 pub fn windows_of(scan: &Scan, number: u32) -> u64
     requires { number < length scan.now.intervals }
@@ -51,13 +45,13 @@ pub struct GuessQueue<'a, S: OneScan> {
     at: (u32, u64),
     /// Where the next guess starts.
     next: (u32, u64),
-    /// How many bits the reader's last step had.
+    /// How many bits the reader's last step had, if it ended in the interval that it began in, or was all of it.
     step_bits: u64,
 }
 
 impl<'a, S: OneScan> GuessQueue<'a, S> {
-    /// Room for so many guesses of the first `limit` intervals, each for the MCUs of two steps, or for 512 where that is more;
-    /// none is made yet. The reader stands at the start, and its steps are of `step` MCUs.
+    /// Room for so many guesses of the first `limit` intervals, each for `most` MCUs; none is made yet. The reader stands at the
+    /// start, and its steps are of `step` MCUs. A guess has about the bits of one step, so its room is for more.
     ///
     /// # Errors
     ///
@@ -68,11 +62,11 @@ impl<'a, S: OneScan> GuessQueue<'a, S> {
         limit: u32,
         guesses: u32,
         step: u32,
+        most: u32,
     ) -> Result<GuessQueue<'a, S>, Memory>
         requires { S.scan ≡ Some scan.now }
         ensures { IfOk result (λ q. q.at ≡ (0, 0)) }
     {
-        let most = step.saturating_mul(STEPS_OF_GUESS).max(LEAST_MCUS);
         let mut slots = Vec::with_capacity(alloc, guesses as usize)?;
         for _ in 0..guesses {
             slots.push(GuessSlot::of(ScanGuess::open(alloc, scan, most)?))?;
@@ -91,8 +85,15 @@ impl<'a, S: OneScan> GuessQueue<'a, S> {
     pub fn reach(&mut self, number: u32, bit: u64)
         ensures { self.new.at ≡ (number, bit) }
     {
-        if number == self.at.0 {
-            self.step_bits = bit.saturating_sub(self.at.1).max(LEAST_BITS);
+        let bits = if number == self.at.0 {
+            bit.saturating_sub(self.at.1)
+        } else if self.at.1 == 0 {
+            bits_of(self.scan, self.at.0)
+        } else {
+            0
+        };
+        if bits > 0 {
+            self.step_bits = bits.max(LEAST_BITS);
         }
         self.at = (number, bit);
     }
@@ -138,7 +139,8 @@ impl<'a, S: OneScan> GuessQueue<'a, S> {
         self.slots.iter().position(|slot| slot.is_free(number, bit))
     }
 
-    /// The bits of the next guess: behind those of the others, and behind the reader's next step, which it takes meanwhile.
+    /// The bits of the next guess: behind those of the others, and behind the reader's next step, which it takes meanwhile; as
+    /// many as the last step had, and up to half as many more where the interval ends there.
     fn next_window(&self) -> Option<Window> {
         let (number, bit) = self
             .next
@@ -151,10 +153,14 @@ impl<'a, S: OneScan> GuessQueue<'a, S> {
         if number >= self.limit {
             return None;
         }
-        let to = from
-            .saturating_add(self.step_bits)
-            .min(bits_of(self.scan, number));
-        Some(Window { number, from, to })
+        let all = bits_of(self.scan, number);
+        let to = from.saturating_add(self.step_bits);
+        let is_last = to.saturating_add(self.step_bits / 2) >= all;
+        Some(Window {
+            number,
+            from,
+            to: if is_last { all } else { to },
+        })
     }
 
     /// Whether another guess can be made.

@@ -5,10 +5,13 @@ ghost use Rattle.jr_segments.specs.declared.refusal.Refusal.TheVariants as refus
 ghost use Rattle.jr_head.specs.Heads.{RefusalOf};
 ghost use Rattle.jri_archive.specs.Verdicts.{IsFileScan, IsVerdictOf};
 
-use crate::verdict::{Verdict, check_scan};
+use crate::by_threads::check_scan_by;
+use crate::verdict::Verdict;
 use jr_head::{Refusal, read_head};
 use jr_scan::Scan;
 use std::alloc::Global;
+use std::sync::Wait;
+use std::thread::Threads;
 
 /// The scan of a file, and what is damaged of it.
 #[derive(Drop)]
@@ -17,12 +20,18 @@ pub struct Checked {
     pub verdict: Verdict,
 }
 
-/// Reads a file's head, cuts its scan, and reads each of its intervals once.
+/// Reads a file's head, cuts its scan, and reads each of its intervals once: a large scan by so many threads, of which the
+/// calling one is the first.
 ///
 /// # Errors
 ///
 /// The file's first fault; `Memory` where memory was refused, which says nothing of the file.
-pub fn check_file(alloc: Global, file: &[u8]) -> Result<Checked, Refusal>
+pub fn check_file<R: Threads + Wait + Sync>(
+    rt: &R,
+    alloc: Global,
+    file: &[u8],
+    workers: u32,
+) -> Result<Checked, Refusal>
     ensures scan { IfOk result (λ c. IsFileScan file.now c.scan) }
     ensures verdict { IfOk result (λ c. IsVerdictOf c.scan (length c.scan.intervals) c.verdict) }
     ensures refused { IfErr result (λ fault. fault ≢ refusal.Memory → RefusalOf file.now fault) }
@@ -31,6 +40,6 @@ pub fn check_file(alloc: Global, file: &[u8]) -> Result<Checked, Refusal>
     let Ok(scan) = Scan::cut(alloc, head, file) else {
         return Err(Refusal::Memory);
     };
-    let verdict = check_scan(&scan);
+    let verdict = check_scan_by(rt, alloc, &scan, workers);
     Ok(Checked { scan, verdict })
 }

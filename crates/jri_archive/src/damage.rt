@@ -1,11 +1,19 @@
 //! Whether an interval has a decoding.
 
-ghost use Rattle.std.specs.Prelude.{◌≡◌, ℤ, List, IfSome, OnSome, IfNone};
+ghost use Rattle.std.specs.Prelude.{◌≡◌, ◌+◌, ◌<◌, ◌≤◌, ℤ, List, length, IfSome, OnSome, IfNone};
 ghost use Rattle.jr_scan.specs.Mcus.{HasNoDecoding, HasDecoding, HasLongestFront};
 ghost use Rattle.jr_scan.specs.Run.{whole_run};
 ghost use Rattle.jr_scan.specs.McuReader.{HasRead, HasEnded};
+ghost use Rattle.jr_scan.specs.ScanValue.{interval_of};
 
+use crate::shared_scan::SharedScan;
+use jr_guesses::OneScan;
+use jr_head::Head;
 use jr_scan::{IntervalRef, McuReader};
+use std::sync::Wait;
+
+/// A reader that goes by guesses asks for them every so many data units, which are some 10 KB of a photo.
+const UNITS_OF_STEP: u32 = 768;
 
 /// A reader that has passed over all whole MCUs of an interval, up to its end or to where none follows.
 fn pass_all(interval: IntervalRef<'_>) -> McuReader<'_>
@@ -19,6 +27,86 @@ fn pass_all(interval: IntervalRef<'_>) -> McuReader<'_>
     reader
 }
 
+/// The MCUs that a reader which goes by guesses passes over at a step.
+pub(crate) fn step_of(head: &Head) -> u32
+    ensures { 0 < result }
+{
+    (UNITS_OF_STEP / (head.order().len() as u32).max(1)).max(1)
+}
+
+/// Passes over the next MCUs of interval i, at most so many, by the guesses that others make of them; tells how many they are.
+fn pass_some<'a, R: Wait, S: OneScan>(
+    scan: &SharedScan<'a, S>,
+    rt: &R,
+    i: u32,
+    reader: &mut McuReader<'a>,
+    mcus: u32,
+) -> u32
+    requires run { reader.old.run ≡ whole_run (interval_of scan.now i) }
+    requires read { (zs : List (List ℤ)) × HasRead reader.old zs }
+    ensures run { reader.new.run ≡ reader.old.run }
+    ensures mcus { reader.new.mcu ≡ reader.old.mcu + result }
+    ensures few { reader.new.mcu ≤ reader.new.run.mcus }
+    ensures read { (zs : List (List ℤ)) × HasRead reader.new zs }
+    ensures ended { result < mcus → HasEnded reader.new }
+{
+    let guesses = scan.guesses(rt, i, reader.place().bit);
+    reader.skip_by(&guesses, mcus)
+}
+
+/// Passes over so many steps of MCUs of interval i, or over those that follow.
+fn pass_steps<'a, R: Wait, S: OneScan>(
+    scan: &SharedScan<'a, S>,
+    rt: &R,
+    i: u32,
+    reader: &mut McuReader<'a>,
+    steps: u32,
+    step: u32,
+)
+    requires run { reader.old.run ≡ whole_run (interval_of scan.now i) }
+    requires read { (zs : List (List ℤ)) × HasRead reader.old zs }
+    ensures run { reader.new.run ≡ reader.old.run }
+    ensures read { (zs : List (List ℤ)) × HasRead reader.new zs }
+{
+    for _ in 0..steps {
+        if pass_some(scan, rt, i, reader, step) < step {
+            return;
+        }
+    }
+}
+
+/// The same reader of interval i of a scan, by the guesses that others make of it.
+fn pass_all_by<'a, R: Wait, S: OneScan>(scan: &SharedScan<'a, S>, rt: &R, i: u32) -> McuReader<'a>
+    requires { i < length scan.now.intervals }
+    ensures run { result.run ≡ whole_run (interval_of scan.now i) }
+    ensures read { (zs : List (List ℤ)) × HasRead result zs }
+    ensures ended { HasEnded result }
+{
+    let interval = scan.scan().interval_ref(i);
+    let mcus = interval.mcus();
+    let step = step_of(interval.head());
+    let mut reader = McuReader::over(interval);
+    pass_steps(scan, rt, i, &mut reader, mcus / step, step);
+    let _passed = pass_some(scan, rt, i, &mut reader, mcus);
+    reader
+}
+
+/// What a reader tells that has passed over all whole MCUs of its interval.
+fn front_of(reader: &McuReader<'_>) -> Option<u32>
+    requires run { reader.now.run ≡ whole_run reader.now.run.interval }
+    requires read { (zs : List (List ℤ)) × HasRead reader.now zs }
+    requires ended { HasEnded reader.now }
+    ensures sound { IfNone result (HasDecoding reader.now.run.interval) }
+    ensures damaged { OnSome result (HasNoDecoding reader.now.run.interval) }
+    ensures front { IfSome result (λ mcus. HasLongestFront reader.now.run.interval mcus) }
+{
+    if reader.is_sound() {
+        None
+    } else {
+        Some(reader.mcus())
+    }
+}
+
 /// `None` where the interval has a decoding (T.81, Annex F). Else how many of its MCUs, from the first on, can be decoded.
 ///
 /// It reads the interval's bits once, keeps no coefficient and takes no memory.
@@ -28,9 +116,19 @@ pub fn damaged_front(interval: IntervalRef<'_>) -> Option<u32>
     ensures front { IfSome result (λ mcus. HasLongestFront interval.entry mcus) }
 {
     let reader = pass_all(interval);
-    if reader.is_sound() {
-        None
-    } else {
-        Some(reader.mcus())
-    }
+    front_of(&reader)
+}
+
+/// The same of interval i of a scan, by the guesses that others make of it.
+pub(crate) fn damaged_front_by<R: Wait, S: OneScan>(
+    scan: &SharedScan<'_, S>,
+    rt: &R,
+    i: u32,
+) -> Option<u32>
+    requires { i < length scan.now.intervals }
+    ensures sound { IfNone result (HasDecoding (interval_of scan.now i)) }
+    ensures damaged { OnSome result (HasNoDecoding (interval_of scan.now i)) }
+{
+    let reader = pass_all_by(scan, rt, i);
+    front_of(&reader)
 }

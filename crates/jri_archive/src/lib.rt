@@ -3,6 +3,7 @@
 
 mod answers;
 mod asking;
+mod by_threads;
 mod checking;
 mod damage;
 mod laws;
@@ -10,12 +11,14 @@ mod lines;
 mod map;
 mod outcome;
 mod segments;
+mod shared_scan;
 mod sharing;
 mod telling;
 mod verdict;
 
 pub use answers::{CheckRequest, RequestError};
 pub use asking::asked;
+pub use by_threads::check_scan_by;
 pub use checking::{Checked, check_file};
 pub use damage::damaged_front;
 pub use laws::one_count;

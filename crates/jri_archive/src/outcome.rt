@@ -7,6 +7,8 @@ ghost use Rattle.jri_archive.specs.Outcomes.{IsOutcomeOf, is_all_sound};
 use crate::checking::{Checked, check_file};
 use jr_head::Refusal;
 use std::alloc::Global;
+use std::sync::Wait;
+use std::thread::Threads;
 
 /// Why the bytes of a file are not there.
 #[derive(Clone, Copy, Debug, PartialEq, Eq)]
@@ -28,12 +30,17 @@ pub enum Outcome {
     Unread,
 }
 
-/// Checks a file whose bytes are there, or are not.
-pub fn outcome_of(alloc: Global, file: &Result<Vec<u8>, ReadError>) -> Outcome
+/// Checks a file whose bytes are there, or are not, by so many threads where it is large.
+pub fn outcome_of<R: Threads + Wait + Sync>(
+    rt: &R,
+    alloc: Global,
+    file: &Result<Vec<u8>, ReadError>,
+    workers: u32,
+) -> Outcome
     ensures { IfOk file.now (λ bytes. IsOutcomeOf bytes.items result) }
 {
     match file {
-        Ok(bytes) => match check_file(alloc, bytes.as_slice()) {
+        Ok(bytes) => match check_file(rt, alloc, bytes.as_slice(), workers) {
             Ok(checked) => Outcome::Checked(checked),
             Err(refusal) => Outcome::Refused(refusal),
         },

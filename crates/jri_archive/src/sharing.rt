@@ -72,6 +72,10 @@ impl From<Error> for TellError {
 struct FileQueue<O, E> {
     files: usize,
     claimed: usize,
+    /// Of so many it is known what became of them.
+    checked: usize,
+    /// So many workers have no file of their own, and help with one that is large.
+    helping: u32,
     told: usize,
     out: O,
     progress: Option<E>,
@@ -138,6 +142,26 @@ impl<O: Write, E: Write> FileQueue<O, E> {
         Some(number)
     }
 
+    /// How many of so many workers check a file that somebody begins: where fewer files are left than there are workers, those
+    /// that are free help, as many with each file.
+    fn share(&mut self, workers: u32) -> u32 {
+        let left = self.files.saturating_sub(self.checked).max(1);
+        if left as u64 >= u64::from(workers) {
+            return 1;
+        }
+        let left = left as u32;
+        let free = workers.saturating_sub(left).saturating_sub(self.helping);
+        let helping = free.min(workers.div_ceil(left).saturating_sub(1));
+        self.helping = self.helping.saturating_add(helping);
+        helping.saturating_add(1)
+    }
+
+    /// So many workers have checked a file.
+    fn give_back(&mut self, workers: u32) {
+        self.helping = self.helping.saturating_sub(workers.saturating_sub(1));
+        self.checked = self.checked.saturating_add(1);
+    }
+
     /// Erases how far it is, on a terminal, or shows it.
     fn show_progress(&mut self, is_shown: bool) {
         let (told, files) = (self.told, self.files);
@@ -195,7 +219,7 @@ struct Sharing<F, O, E> {
 
 impl<F: Folder + Sync, O: Write + Send + Drop, E: Write + Send + Drop> Sharing<F, O, E> {
     /// Claims and checks files until none is left, and tells of each when its line is due.
-    fn work<R: Wait>(&self, rt: &R) {
+    fn work<R: Threads + Wait + Sync>(&self, rt: &R) {
         for _ in 0..self.asked.files.len() {
             let claimed = self.desk.lock(rt).claim();
             let Some(number) = claimed else {
@@ -205,8 +229,10 @@ impl<F: Folder + Sync, O: Write + Send + Drop, E: Write + Send + Drop> Sharing<F
                 return;
             };
             let file = self.folder.read(self.alloc, name.as_str());
-            let outcome = outcome_of(self.alloc, &file);
-            let desk = self.desk.lock(rt);
+            let workers = self.desk.lock(rt).share(self.asked.workers);
+            let outcome = outcome_of(rt, self.alloc, &file, workers);
+            let mut desk = self.desk.lock(rt);
+            desk.give_back(workers);
             let mut desk = self
                 .has_told
                 .wait_while(rt, desk, |desk| desk.told != number);
@@ -225,7 +251,8 @@ impl<F: Folder + Sync, O: Write + Send + Drop, E: Write + Send + Drop> Sharing<F
     /// Starts the workers, and works beside them.
     fn run<R: Threads + Wait + Sync>(&self, rt: &R) {
         thread::scope(thread::scope_env(), rt, |scope| {
-            for _ in 1..self.asked.workers {
+            let files = u32::try_from(self.asked.files.len()).unwrap_or(u32::MAX);
+            for _ in 1..self.asked.workers.min(files) {
                 let _ = scope.spawn(move || self.work(rt));
             }
             self.work(rt);
@@ -247,6 +274,8 @@ pub fn check_all<
     let desk = FileQueue {
         files: asked.files.len(),
         claimed: 0,
+        checked: 0,
+        helping: 0,
         told: 0,
         out,
         progress,

@@ -1,21 +1,10 @@
-use Rattle.std.proofs.Common.{rules}
+use Rattle.std.proofs.Common.{OnSome, IfNone, subst}
+use Rattle.jr_scan.specs.Mcus.{HasDecoding, HasNoDecoding}
+use Rattle.jr_scan.specs.Run.{RunOf}
 use Rattle.jri_archive.proofs.damage.damaged_front.Goals as goal
 
-pub returns-else-is_sound-clause-damaged : goal.returns-else-is_sound-clause-damaged
-returns-else-is_sound-clause-damaged c =
-    let r = c.pass_all-reader.ensures in
-    c.is_sound.ensures.damaged c.if-is_sound.false c.args.interval r.read.0 ((r.run, r.read.1), r.ended)
+pub returns-clause-sound : goal.returns-clause-sound
+returns-clause-sound c = subst (λ (r : RunOf). IfNone c.front_of.result (HasDecoding r.interval)) c.pass_all-reader.ensures.run c.front_of.ensures.sound
 
-pub returns-else-is_sound-clause-front : goal.returns-else-is_sound-clause-front
-returns-else-is_sound-clause-front c =
-    let r = c.pass_all-reader.ensures in
-    let front = c.mcus.ensures.front c.args.interval r.read.0 ((r.run, r.read.1), r.ended) in
-    (r.read.0, search (rules, front))
-
-pub returns-else-is_sound-clause-sound : goal.returns-else-is_sound-clause-sound
-returns-else-is_sound-clause-sound c = search rules
-
-pub returns-then-is_sound-clause-sound : goal.returns-then-is_sound-clause-sound
-returns-then-is_sound-clause-sound c =
-    let r = c.pass_all-reader.ensures in
-    (r.read.0, c.is_sound.ensures.sound c.if-is_sound.true c.args.interval r.read.0 (r.run, r.read.1))
+pub returns-clause-damaged : goal.returns-clause-damaged
+returns-clause-damaged c = subst (λ (r : RunOf). OnSome c.front_of.result (HasNoDecoding r.interval)) c.pass_all-reader.ensures.run c.front_of.ensures.damaged

@@ -1,0 +1,139 @@
+//! A large scan, checked by several threads.
+
+ghost use Rattle.std.specs.Prelude.{◌≡◌, Some, length};
+ghost use Rattle.jri_archive.specs.Verdicts.{IsVerdictOf};
+
+use crate::damage::step_of;
+use crate::shared_scan::SharedScan;
+use crate::verdict::{Verdict, check_by, check_scan};
+use jr_guesses::{GuessQueue, OneScan, windows_of};
+use jr_scan::Scan;
+use std::alloc::Global;
+use std::marker::Brand;
+use std::sync::Wait;
+use std::thread;
+use std::thread::Threads;
+
+/// Threads are worth their start where the data of the scan's intervals have bits for so many guesses: some 256 KB.
+const LEAST_WINDOWS: u64 = 64;
+
+/// So many intervals are looked at to see that: a head may claim millions.
+const MOST_LOOKED_AT: u32 = 1024;
+
+/// There is room for one guess a thread, and for so many that wait for the reader.
+const WAITING_GUESSES: u32 = 4;
+
+/// A guess has room for the MCUs of so many steps, since its bits are about those of one.
+const STEPS_OF_GUESS: u32 = 2;
+
+/// Whether guesses of the scan are worth their work.
+fn is_large(scan: &Scan) -> bool {
+    let mut windows: u64 = 0;
+    for i in 0..scan.intervals().min(MOST_LOOKED_AT) {
+        windows = windows.saturating_add(windows_of(scan, i));
+    }
+    windows >= LEAST_WINDOWS
+}
+
+/// What the calling thread does while others make guesses: a type of its own, since the prover passes on what a scope's closure
+/// ensures where that is a word of a trait.
+trait Beside {
+    type Answer;
+
+    ghost gives: { Self → Self.Answer → Type 0 };
+
+    /// Does it.
+    fn run(self) -> Self::Answer
+        ensures { gives self result };
+}
+
+/// The calling thread reads the scan, and then ends the others' work.
+#[derive(Drop)]
+struct Reading<'s, 'a, R: Wait, S: OneScan> {
+    scan: &'s SharedScan<'a, S>,
+    rt: &'s R,
+}
+
+impl<'s, 'a, R: Wait, S: OneScan> Beside for Reading<'s, 'a, R, S> {
+    type Answer = Verdict;
+
+    ghost gives = { λ r verdict. IsVerdictOf r.scan.now (length r.scan.now.intervals) verdict };
+
+    fn run(self) -> Verdict {
+        let verdict = check_by(self.scan, self.rt);
+        self.scan.end(self.rt);
+        verdict
+    }
+}
+
+/// Starts so many threads that make guesses, and does what the calling thread does beside them. A thread that can't be started
+/// is left out.
+fn run_beside<R: Threads + Wait + Sync, S: OneScan + Send, B: Beside + Drop>(
+    scan: &SharedScan<'_, S>,
+    rt: &R,
+    helpers: u32,
+    beside: B,
+) -> B::Answer
+    ensures { B.gives beside result }
+{
+    thread::scope(
+        thread::scope_env(),
+        rt,
+        |scope| -> B::Answer
+            ensures { B.gives beside result }
+        {
+            for _ in 0..helpers {
+                let _ = scope.spawn(move || { scan.work(rt) });
+            }
+            beside.run()
+        },
+    )
+}
+
+/// `check_scan_by`, where a type stands for the scan, so that what the threads share under a lock is known to be of it.
+fn check_as<R: Threads + Wait + Sync, S: OneScan + Send>(
+    rt: &R,
+    alloc: Global,
+    scan: &Scan,
+    helpers: u32,
+) -> Verdict
+    requires { S.scan ≡ Some scan.now }
+    ensures { IsVerdictOf scan.now (length scan.now.intervals) result }
+{
+    let room = helpers.saturating_add(WAITING_GUESSES);
+    let step = step_of(scan.head());
+    let most = step.saturating_mul(STEPS_OF_GUESS);
+    let guesses: Result<GuessQueue<'_, S>, _> = GuessQueue::open(
+        alloc,
+        scan,
+        scan.intervals(),
+        room,
+        step,
+        most,
+    );
+    match guesses {
+        Ok(guesses) => {
+            let shared = SharedScan::of(scan, guesses);
+            run_beside(&shared, rt, helpers, Reading { scan: &shared, rt })
+        }
+        Err(_) => check_scan(scan),
+    }
+}
+
+/// `check_scan` by so many threads where the scan is large: the calling one reads it, and the others make guesses ahead of it.
+/// It takes memory for four guesses and one more for each further thread, each of some 200 KB: the blocks of 1536 data units at
+/// most, and where their MCUs start. Where that is refused, the calling thread checks alone.
+pub fn check_scan_by<R: Threads + Wait + Sync>(
+    rt: &R,
+    alloc: Global,
+    scan: &Scan,
+    workers: u32,
+) -> Verdict
+    ensures { IsVerdictOf scan.now (length scan.now.intervals) result }
+{
+    let helpers = workers.saturating_sub(1);
+    if helpers == 0 || !is_large(scan) {
+        return check_scan(scan);
+    }
+    check_as::<R, Brand>(rt, alloc, scan, helpers)
+}

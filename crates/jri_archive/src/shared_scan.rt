@@ -1,0 +1,175 @@
+//! A scan that one thread reads while others make guesses ahead of it.
+
+ghost use Rattle.std.specs.Prelude.{◌≡◌, Some};
+ghost use Rattle.jr_scan.specs.Guesses.{AreGuessesOf};
+ghost use Rattle.jr_scan.specs.ScanValue.{interval_of};
+
+use jr_guesses::{GuessQueue, GuessTask, OneScan};
+use jr_scan::{Guesses, Scan};
+use std::marker::Model;
+use std::sync::{Condvar, Mutex, Wait};
+
+/// More guesses than there are: each covers bits that no other does.
+const MOST_GUESSES: u64 = u64::MAX;
+
+/// Guesses, and who waits for them: to wake takes longer than to ask.
+#[derive(Drop)]
+struct Guessing<'a, S: OneScan> {
+    guesses: GuessQueue<'a, S>,
+    /// All is read.
+    is_over: bool,
+    /// How many threads wait until another guess can be made.
+    waiting: u32,
+    /// Whether the reader waits for a guess that is being made.
+    is_awaited: bool,
+}
+
+impl<'a, S: OneScan> Guessing<'a, S> {
+    /// Whether a thread has to wait until another guess can be made.
+    fn has_no_task(&self) -> bool {
+        !self.is_over && !self.guesses.can_guess()
+    }
+
+    /// Whether a thread waits for a guess to make, and one can be made.
+    fn is_waited_for(&self) -> bool {
+        self.waiting > 0 && self.guesses.can_guess()
+    }
+}
+
+/// What the threads share that check one scan: one reads it, and the others make guesses ahead, each outside of the lock. The
+/// reader waits for nothing but a guess that a thread is making.
+#[derive(Drop)]
+pub(crate) struct SharedScan<'a, S: OneScan> {
+    scan: &'a Scan,
+    guessing: Mutex<Guessing<'a, S>>,
+    /// Another guess can be made, or all is read.
+    has_room: Condvar,
+    /// A guess is made.
+    has_guess: Condvar,
+}
+
+impl<'a, S: OneScan> Model for SharedScan<'a, S> {
+    ghost use Rattle.std.specs.Prelude.{◌≡◌, Some};
+    ghost use Rattle.jr_scan.specs.ScanValue.{ScanValue};
+
+    ghost Value = { ScanValue };
+
+    ghost view = { λ s. s.scan.now };
+
+    ghost invariant = { λ s. S.scan ≡ Some s.scan.now };
+}
+
+impl<'a, S: OneScan> SharedScan<'a, S> {
+    /// Nothing is read yet.
+    pub(crate) fn of(scan: &'a Scan, guesses: GuessQueue<'a, S>) -> SharedScan<'a, S>
+        requires { S.scan ≡ Some scan.now }
+        ensures { result ≡ scan.now }
+    {
+        SharedScan {
+            scan,
+            guessing: Mutex::new(Guessing {
+                guesses,
+                is_over: false,
+                waiting: 0,
+                is_awaited: false,
+            }),
+            has_room: Condvar::new(),
+            has_guess: Condvar::new(),
+        }
+    }
+
+    /// The scan.
+    pub(crate) fn scan(&self) -> &'a Scan
+        ensures { result.now ≡ self.now }
+    {
+        self.scan
+    }
+
+    /// The next guess, once another can be made. None where all is read.
+    fn task<R: Wait>(&self, rt: &R) -> Option<GuessTask<'a, S>> {
+        let mut guessing = self.guessing.lock(rt);
+        guessing.waiting = guessing.waiting.saturating_add(1);
+        let mut guessing = self
+            .has_room
+            .wait_while(rt, guessing, |guessing| guessing.has_no_task());
+        guessing.waiting = guessing.waiting.saturating_sub(1);
+        if guessing.is_over {
+            return None;
+        }
+        let task = guessing.guesses.take();
+        if guessing.is_waited_for() {
+            self.has_room.notify_one();
+        }
+        task
+    }
+
+    /// Makes a guess, and keeps it.
+    fn make<R: Wait>(&self, rt: &R, task: GuessTask<'a, S>) {
+        let made = task.make(self.scan);
+        let mut guessing = self.guessing.lock(rt);
+        guessing.guesses.put(made);
+        if guessing.is_awaited {
+            self.has_guess.notify_one();
+        }
+    }
+
+    /// Makes guesses until all is read.
+    pub(crate) fn work<R: Wait>(&self, rt: &R) {
+        for _ in 0..MOST_GUESSES {
+            let Some(task) = self.task(rt) else {
+                return;
+            };
+            self.make(rt, task);
+        }
+    }
+
+    /// The reader stands at this bit of an interval.
+    fn reach<R: Wait>(&self, rt: &R, number: u32, bit: u64) {
+        let mut guessing = self.guessing.lock(rt);
+        guessing.guesses.reach(number, bit);
+        if guessing.is_waited_for() {
+            self.has_room.notify_one();
+        }
+    }
+
+    /// Another guess for the reader to make while it would wait for one that a thread is making. None once it need not wait.
+    fn task_meanwhile<R: Wait>(&self, rt: &R) -> Option<GuessTask<'a, S>> {
+        let mut guessing = self.guessing.lock(rt);
+        if guessing.guesses.makes_next()
+            && let Some(task) = guessing.guesses.take()
+        {
+            return Some(task);
+        }
+        guessing.is_awaited = true;
+        let mut guessing = self
+            .has_guess
+            .wait_while(rt, guessing, |guessing| guessing.guesses.makes_next());
+        guessing.is_awaited = false;
+        None
+    }
+
+    /// The guesses for a reader at this bit of an interval, once nobody makes one that it may go on by.
+    pub(crate) fn guesses<R: Wait>(&self, rt: &R, number: u32, bit: u64) -> Guesses<'a>
+        ensures { AreGuessesOf (interval_of self.now number) result }
+    {
+        self.reach(rt, number, bit);
+        for _ in 0..MOST_GUESSES {
+            let Some(task) = self.task_meanwhile(rt) else {
+                break;
+            };
+            self.make(rt, task);
+        }
+        let guessing = self.guessing.lock(rt);
+        if guessing.guesses.number() != number {
+            return Guesses::none();
+        }
+        guessing.guesses.for_next(self.scan)
+    }
+
+    /// All is read.
+    pub(crate) fn end<R: Wait>(&self, rt: &R) {
+        let mut guessing = self.guessing.lock(rt);
+        guessing.is_over = true;
+        self.has_room.notify_all();
+    }
+}
