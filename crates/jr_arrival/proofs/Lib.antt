@@ -1,0 +1,6 @@
+pub mod TestsStay
+pub mod HeadsStay
+pub mod CutsGoOn
+pub mod ScansGoOn
+pub mod RunsGoOn
+pub mod LinesStay
