@@ -4,3 +4,4 @@ pub mod CutsGoOn
 pub mod ScansGoOn
 pub mod RunsGoOn
 pub mod LinesStay
+pub mod SettledRows

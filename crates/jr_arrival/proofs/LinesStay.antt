@@ -1,15 +1,15 @@
 -- The lines of settled rows of MCUs are those of every picture that the bytes can become.
-use Rattle.std.proofs.Common.{◌≡◌, ◌≢◌, ℕ, ◌+◌, ◌*◌, ◌/◌, ◌<◌, ◌≤◌, inl, inr, List, [], ◌++◌, length, get_or, take, refl, sym, ap, subst, ◌∙◌, arith}
+use Rattle.std.proofs.Common.{◌≡◌, ◌≢◌, ℕ, ◌+◌, ◌*◌, ◌/◌, ◌%◌, ◌<◌, ◌≤◌, min, inl, inr, List, [], ◌++◌, length, get_or, take, refl, sym, ap, subst, ◌∙◌, arith}
 use Rattle.std.specs.Prelude.{ℤ}
 use Rattle.std.proofs.lemmas.Bool.{cases_lt}
 use Rattle.std.proofs.lemmas.List.{get_or-take}
-use Rattle.std.proofs.lemmas.Nat.{div-mul-add}
+use Rattle.std.proofs.lemmas.Nat.{div-add-mod', div-mul-add, mod_below}
 use Rattle.std.proofs.Math.Nat.{div-div-eq-div-mul, mul-div-mul_left, mul-le-mul_right}
 use Rattle.jr_head.specs.HeadValue.{HeadValue}
 use Rattle.jr_head.specs.Geometry.{order_of, blocks_of, components_of, horizontal_of, vertical_of, horizontal_max, vertical_max, mcus_across, quantiser_of}
 use Rattle.jr_head.proofs.SamplingLaws.{length-order}
 use Rattle.jr_paint.specs.Geometry.{samples_across, samples_down}
-use Rattle.jr_paint.specs.Lines.{line_of}
+use Rattle.jr_paint.specs.Lines.{line_of, next_lines_of}
 use Rattle.jr_paint.proofs.Factors.{sampled_at, scaled_below}
 use Rattle.jr_paint.proofs.PixelLaws.{flat_map-moved}
 use Rattle.jr_paint.proofs.Places.{mcu_inside}
@@ -95,6 +95,12 @@ row_of r k a m some lt =
     let whole : m * (8 * a) ≡ a * (8 * m) = grind arith in
     div-div-eq-div-mul (n * a) m (8 * a) ∙ ap (λ (d : ℕ). n * a / d) whole ∙ ap (λ (z : ℕ). z / (a * (8 * m))) turned ∙ mul-div-mul_left n (8 * m) some ∙ div-mul-add r (8 * m) k lt
 
+pub div_below : (n rows deep : ℕ) → 0 < deep → n < rows * deep → n / deep < rows
+div_below n rows deep some lt = elim (cases_lt (n / deep) rows) [
+  | inl l ↦ l
+  | inr g ↦ absurd (omega (arith, lt, div-add-mod' n deep, mul-le-mul_right deep g))
+]
+
 module _ (bytes : List ℕ) (s t : ScanValue) (n : ℕ) (k m : List Mark) (f g : ℕ → ℕ → ℕ → ℕ) (keeps : KeepsScan bytes s t) (a : ShowsFirst s n k f) (b : ShowsFirst t n m g) where
   abbrev h : HeadValue
   h = s.head
@@ -142,28 +148,50 @@ module _ (bytes : List ℕ) (s t : ScanValue) (n : ℕ) (k m : List Mark) (f g :
       let held : Holds i c x y = record { component = lt; column = left; line = top; interval = refl } in
       elim settled [ inl e ↦ ended_sample c x y held e | inr w ↦ front_sample c x y w.0 held w.1 ]
 
-  row_there : (row : ℕ) → RowIsSettled bytes s row → lines_of_row h f row ≡ lines_of_row h g row
-  row_there row settled =
-      let y = first_line h row in
-      let count = line_count h row in
-      flat_map-moved (line_of h f) (line_of h g) y y count
-      (λ j lt. line_same h a.lawful f g (y + j)
+  -- the row of MCUs that has a line is settled
+  abbrev LineIsSettled : ℕ → Type 0
+  LineIsSettled line = RowIsSettled bytes s (line / (8 * vertical_max h))
+
+  line_there : (line : ℕ) → line < h.height → LineIsSettled line → line_of h f line ≡ line_of h g line
+  line_there line high settled = line_same h a.lawful f g line
       (λ c x p left.
       let l = a.lawful in
       let down = vertical_of h c in
       let q = sampled_at h c l p in
-      let deep : j < 8 * vertical_max h = omega (arith, lt) in
-      let high : y + j < h.height = omega (arith, lt) in
-      let line = (y + j) * down / vertical_max h in
-      let top = scaled_below (y + j) h.height down (vertical_max h) q.down l.components.down high in
-      let at : line / (8 * down) ≡ row = row_of row j down (vertical_max h) q.down deep in
+      let deep : 0 < 8 * vertical_max h = omega (arith, l.components.down) in
+      let row = line / (8 * vertical_max h) in
+      let rest = line % (8 * vertical_max h) in
+      let whole : line ≡ row * (8 * vertical_max h) + rest = sym (div-add-mod' line (8 * vertical_max h)) in
+      let y = line * down / vertical_max h in
+      let top = scaled_below line h.height down (vertical_max h) q.down l.components.down high in
+      let at : y / (8 * down) ≡ row = ap (λ (n : ℕ). n * down / vertical_max h / (8 * down)) whole ∙ row_of row rest down (vertical_max h) q.down (mod_below line (8 * vertical_max h) deep) in
       let column : x / (8 * horizontal_of h c) < mcus_across h = mcu_inside x h.width (horizontal_of h c) (horizontal_max h) q.across l.components.across left in
-      let mcu : (spot_of h c x line).mcu ≡ row * mcus_across h + x / (8 * horizontal_of h c) = ap (λ (r : ℕ). r * mcus_across h + x / (8 * horizontal_of h c)) at in
+      let mcu : (spot_of h c x y).mcu ≡ row * mcus_across h + x / (8 * horizontal_of h c) = ap (λ (r : ℕ). r * mcus_across h + x / (8 * horizontal_of h c)) at in
       let next : (row + 1) * mcus_across h ≡ row * mcus_across h + mcus_across h = grind arith in
-      settled_sample c x line p left top (settled (spot_of h c x line).mcu (omega (arith, mcu)) (omega (arith, mcu, next, column)))))
+      settled_sample c x y p left top (settled (spot_of h c x y).mcu (omega (arith, mcu)) (omega (arith, mcu, next, column))))
+
+  some_lines : (y count : ℕ) → ((j : ℕ) → j < count → (y + j < h.height) × LineIsSettled (y + j)) → next_lines_of h f y count ≡ next_lines_of t.head g y count
+  some_lines y count settled =
+      flat_map-moved (line_of h f) (line_of h g) y y count (λ j lt. line_there (y + j) (settled j lt).0 (settled j lt).1)
+      ∙ ap (λ (v : HeadValue). next_lines_of v g y count) (sym keeps.head)
 
   kept_lines : (row : ℕ) → RowIsSettled bytes s row → lines_of_row h f row ≡ lines_of_row t.head g row
-  kept_lines row settled = row_there row settled ∙ ap (λ (v : HeadValue). lines_of_row v g row) (sym keeps.head)
+  kept_lines row settled =
+      some_lines (first_line h row) (line_count h row)
+      (λ j lt.
+      let at = div-mul-add row (8 * vertical_max h) j (omega (arith, lt)) in
+      (omega (arith, lt), subst (λ (r : ℕ). RowIsSettled bytes s r) (sym at) settled))
+      ∙ ap (λ (v : HeadValue). next_lines_of t.head g (first_line v row) (line_count v row)) (sym keeps.head)
+
+  -- lines of the first rows
+  first_lines : (y count rows : ℕ) → ((row : ℕ) → row < rows → RowIsSettled bytes s row) → y + count ≤ min h.height (rows * (8 * vertical_max h)) → next_lines_of h f y count ≡ next_lines_of t.head g y count
+  first_lines y count rows settled few =
+      some_lines y count
+      (λ j lt.
+      let deep = 8 * vertical_max h in
+      let some : 0 < deep = omega (arith, a.lawful.components.down) in
+      let row : (y + j) / deep < rows = div_below (y + j) rows deep some (omega (arith, lt, few)) in
+      (omega (arith, lt, few), settled ((y + j) / deep) row))
 
 pub lines_are_final : (bytes file : List ℕ) (s t : ScanValue) (row n : ℕ) (k m : List Mark) (f g : ℕ → ℕ → ℕ → ℕ) → CanBecome bytes file → HasScan bytes s → HasScan file t → RowIsSettled bytes s row → ShowsFirst s n k f → ShowsFirst t n m g
     → lines_of_row s.head f row ≡ lines_of_row t.head g row
@@ -172,3 +200,7 @@ lines_are_final bytes file s t row n k m f g can x y settled a b = kept_lines by
 pub mark_is_final : (bytes file : List ℕ) (s t : ScanValue) (i n : ℕ) (k m : List Mark) (f g : ℕ → ℕ → ℕ → ℕ) → CanBecome bytes file → HasScan bytes s → HasScan file t → HasEndedAt bytes s i → ShowsFirst s n k f → ShowsFirst t n m g
     → mark_in k i ≡ mark_in m i
 mark_is_final bytes file s t i n k m f g can x y e a b = ended_mark bytes s t n k m f g (scan_is_final bytes file s t can x y) a b i e
+
+pub lines_of_rows_are_final : (bytes file : List ℕ) (s t : ScanValue) (y count rows n : ℕ) (k m : List Mark) (f g : ℕ → ℕ → ℕ → ℕ) → CanBecome bytes file → HasScan bytes s → HasScan file t → ((row : ℕ) → row < rows → RowIsSettled bytes s row)
+    → y + count ≤ min s.head.height (rows * (8 * vertical_max s.head)) → ShowsFirst s n k f → ShowsFirst t n m g → next_lines_of s.head f y count ≡ next_lines_of t.head g y count
+lines_of_rows_are_final bytes file s t y count rows n k m f g can x z settled few a b = first_lines bytes s t n k m f g (scan_is_final bytes file s t can x z) a b y count rows settled few
