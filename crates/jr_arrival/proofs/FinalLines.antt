@@ -1,7 +1,6 @@
 -- Lines of a scan of the bytes so far are those of every file that they can become.
-use Rattle.std.proofs.Common.{◌≡◌, ℕ, ◌+◌, ◌-◌, ◌*◌, ◌≤◌, min, List, [], ◌++◌, length, replicate, sym, ap, subst, ◌∙◌, length-append, arith}
+use Rattle.std.proofs.Common.{◌≡◌, ℕ, ◌+◌, ◌-◌, ◌*◌, ◌≤◌, min, List, [], length, replicate, sym, ap, subst, ◌∙◌, length-append, arith}
 use Rattle.std.proofs.Math.ListN.{length-replicate}
-use Rattle.jr_head.specs.HeadValue.{HeadValue}
 use Rattle.jr_head.specs.Geometry.{vertical_max}
 use Rattle.jr_scan.specs.ScanValue.{ScanValue, IsScanOf, intervals_of}
 use Rattle.jr_scan.proofs.Scans.{cut_few}

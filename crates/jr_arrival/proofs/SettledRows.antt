@@ -1,19 +1,18 @@
 -- Which rows of MCUs the bytes so far settle.
-use Rattle.std.proofs.Common.{◌≡◌, ◌≢◌, ℕ, zero, suc, ◌+◌, ◌-◌, ◌*◌, ◌/◌, ◌%◌, ◌<◌, ◌≤◌, ◌⊎◌, min, Bool, true, false, cond, inl, inr, List, [], length, get_or, refl, sym, ap, subst, ◌∙◌, arith}
+use Rattle.std.proofs.Common.{◌≡◌, ◌≢◌, ℕ, ◌+◌, ◌-◌, ◌*◌, ◌/◌, ◌%◌, ◌<◌, ◌≤◌, ◌⊎◌, min, Bool, true, false, cond, inl, inr, List, [], length, refl, sym, ap, subst, ◌∙◌, arith}
 use Rattle.std.specs.Prelude.{ℤ, ◌==◌}
 use Rattle.std.proofs.lemmas.Bool.{cases_lt}
 use Rattle.std.proofs.lemmas.Bool.Decides.{eqb_tells}
 use Rattle.std.proofs.lemmas.List.{get_or_past}
 use Rattle.std.proofs.lemmas.Nat.{div-add-mod', mod_below}
 use Rattle.std.proofs.Math.Nat.{mul-le-mul_right}
-use Rattle.jr_head.specs.HeadValue.{HeadValue}
 use Rattle.jr_head.specs.Geometry.{mcus_across, mcus_down, mcus_of}
-use Rattle.jr_head.specs.Intervals.{first_mcu_of, interval_number, within_interval, mcus_in}
+use Rattle.jr_head.specs.Intervals.{first_mcu_of, interval_number, within_interval}
 use Rattle.jr_piece.proofs.ScanLaws.{shorter_front}
 use Rattle.jr_scan.specs.declared.scan_end.ScanEnd.TheVariants.{EndOfFile}
 use Rattle.jr_scan.specs.ScanValue.{ScanValue, IsScanOf, interval_of, intervals_of}
-use Rattle.jr_scan.specs.Mcus.{Front, LongestFront, HasLongestFront}
-use Rattle.jr_arrival.specs.Growing.{HasScan, HasEndedAt, IsSettled, RowIsSettled}
+use Rattle.jr_scan.specs.Mcus.{Front, HasLongestFront}
+use Rattle.jr_arrival.specs.Growing.{HasEndedAt, IsSettled, RowIsSettled}
 use Rattle.jr_arrival.specs.Settled.{IsLatest, HasRows, SettlesRows}
 use Rattle.jr_arrival.proofs.ScansGoOn.{data_at}
 use Rattle.jr_arrival.proofs.LinesStay.{div_below}
@@ -24,9 +23,9 @@ one_latest : (s : ScanValue) (i j : ℕ) → IsLatest s i → IsLatest s j → i
 one_latest s i j a b = elim (cases_lt i j) [
   | inl l ↦ absurd (b.some (omega (arith, l)) (a.none j l))
   | inr g ↦ elim (cases_lt j i) [
-      | inl l ↦ absurd (a.some (omega (arith, l)) (b.none i l))
-      | inr k ↦ omega (arith, g, k)
-    ]
+    | inl l ↦ absurd (a.some (omega (arith, l)) (b.none i l))
+    | inr k ↦ omega (arith, g, k)
+  ]
 ]
 
 one_count : (s : ScanValue) (i k n : ℕ) → HasLongestFront (interval_of s i) k → HasLongestFront (interval_of s i) n → k ≡ n
@@ -62,7 +61,7 @@ module _ (bytes : List ℕ) (s : ScanValue) (c : IsScanOf bytes s) (i : ℕ) (la
         → (cond t 0 (m / s.head.restart) < i) ⊎ ((cond t 0 (m / s.head.restart) ≡ i) × (cond t m (m % s.head.restart) < front))
     where_at true m e some none lt =
         let z : i * s.head.restart ≡ 0 = ap (λ (r : ℕ). i * r) (none refl) ∙ omega arith in
-        elim (cases_lt 0 i) [ | inl l ↦ inl l | inr g ↦ inr (omega (arith, g), omega (arith, lt, z)) ]
+        elim (cases_lt 0 i) [ inl l ↦ inl l | inr g ↦ inr (omega (arith, g), omega (arith, lt, z)) ]
     where_at false m e some none lt =
         let r = s.head.restart in
         let most : front ≤ r = omega (arith, whole.at_most, ap (λ (t : Bool). cond t (mcus_of s.head) (min r (mcus_of s.head - i * r))) e) in

@@ -1,10 +1,10 @@
 -- What the bytes so far settle of a picture.
-use Rattle.std.specs.Prelude.{◌≡◌, ◌≢◌, ℕ, ◌+◌, ◌*◌, ◌/◌, ◌<◌, ◌⊎◌, min, List, [], length, slice_index_or}
+use Rattle.std.specs.Prelude.{◌≡◌, ◌≢◌, ℕ, ◌+◌, ◌-◌, ◌*◌, ◌/◌, ◌<◌, ◌⊎◌, min, List, [], length, take, slice_index_or}
 use Rattle.jr_segments.specs.declared.refusal.Refusal.TheVariants.{EndsEarly, NotJpeg}
 use Rattle.jr_head.specs.Geometry.{mcus_across, mcus_down, vertical_max}
 use Rattle.jr_head.specs.Heads.{RefusalOf}
 use Rattle.jr_head.specs.Intervals.{first_mcu_of}
-use Rattle.jr_paint.specs.Lines.{next_lines_of}
+use Rattle.jr_paint.specs.Lines.{line_size, next_lines_of}
 use Rattle.jr_scan.specs.declared.scan_end.ScanEnd.TheVariants.{EndOfFile}
 use Rattle.jr_scan.specs.Mcus.{HasLongestFront}
 use Rattle.jr_scan.specs.ScanValue.{ScanValue, interval_of}
@@ -45,3 +45,20 @@ lines_in s = min s.scan.head.height (s.rows * (8 * vertical_max s.scan.head))
 abbrev pub AreFinal : (bytes : List ℕ) → (first count : ℕ) → (pixels : List ℕ) → Type 0
 AreFinal bytes first count pixels = (file : List ℕ) (t : ScanValue) (marks : List Mark) (f : ℕ → ℕ → ℕ → ℕ) → CanBecome bytes file → HasScan file t
     → ShowsFirst t (length t.intervals) marks f → pixels ≡ next_lines_of t.head f first count
+
+-- what contracts see of a file that is still arriving: its bytes so far, and how many lines of its picture are given
+pub record ArrivingValue : Type 0 where
+  pub bytes : List ℕ
+  pub lines : ℕ
+
+-- the next lines that the bytes settle, as many as have room: n from this one on
+pub record NextLines (bytes : List ℕ) (first n : ℕ) (pixels : List ℕ) : Type 0 where
+  pub settled : SoFarValue
+  pub scan : HasScan bytes settled.scan
+  pub rows : HasRows settled.scan settled.rows
+  pub count : n ≡ min (lines_in settled - first) (length pixels / line_size settled.scan.head)
+  pub are : AreFinal bytes first n (take (n * line_size settled.scan.head) pixels)
+
+-- or none, where more bytes are wanted for a head
+abbrev pub GivesNext : (bytes : List ℕ) → (first n : ℕ) → (pixels : List ℕ) → Type 0
+GivesNext bytes first n pixels = ((n ≡ 0) × WantsMore bytes) ⊎ NextLines bytes first n pixels

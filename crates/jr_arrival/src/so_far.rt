@@ -77,7 +77,8 @@ impl SoFar {
 
     /// How many lines of pixels these rows have.
     pub fn lines(&self) -> u32
-        ensures { result ≡ lines_in self.now }
+        ensures value { result ≡ lines_in self.now }
+        ensures few { result < 65536 }
     {
         let head = self.scan.head();
         // By its contract a picture has few rows.
