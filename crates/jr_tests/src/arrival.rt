@@ -1,6 +1,8 @@
 //! Files that arrive in parts: which lines are given when, that the splitting does not show, and that every continuation shows
 //! what was given.
 
+ghost use Rattle.std.specs.Prelude.{◌<◌};
+
 use jr_arrival::Arriving;
 use jr_head::{Refusal, read_head};
 use jr_rows::shape_of;
@@ -48,17 +50,16 @@ fn take_lines(
 }
 
 /// What is given while a file arrives in parts of so many bytes, and the lines that are missing then; none where it is refused.
-fn arrived(alloc: Global, bytes: &[u8], part: usize) -> Result<Option<Vec<u8>>, Fail> {
+fn arrived(alloc: Global, bytes: &[u8], part: usize) -> Result<Option<Vec<u8>>, Fail>
+    requires { 0 < part }
+{
     let mut arriving = Arriving::new(alloc);
     let mut shown = Vec::new(alloc);
-    let mut at = 0;
-    while at < bytes.len() {
-        let end = usize::saturating_add(at, part.max(1)).min(bytes.len());
-        arriving.push(&bytes[at..end])?;
+    for more in bytes.chunks(part) {
+        arriving.push(more)?;
         if take_lines(alloc, &mut arriving, &mut shown)?.is_none() {
             return Ok(None);
         }
-        at = end;
     }
     let lines = arriving.lines();
     let Ok(scan) = arriving.finish(alloc) else {
