@@ -6,6 +6,8 @@
 #[cfg(test)]
 mod archive;
 #[cfg(test)]
+mod arrival;
+#[cfg(test)]
 mod base;
 #[cfg(test)]
 mod code;

@@ -1,0 +1,5 @@
+use Rattle.jr_arrival.proofs.RunsGoOn as laws
+use Rattle.jr_arrival.proofs.laws.front_is_final.Goals as goal
+
+pub returns : goal.returns
+returns c = laws.front_is_final

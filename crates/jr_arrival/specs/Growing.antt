@@ -1,0 +1,65 @@
+-- What more bytes add to a scan (T.81, E.1.4 and B.1.1.5), and what they leave as it is.
+use Rattle.std.specs.Prelude.{◌≡◌, ◌≢◌, ℕ, ◌+◌, ◌*◌, ◌<◌, ◌≤◌, ◌⊎◌, List, [], ◌∷◌, ◌++◌, length, ℤ, slice_index_or}
+use Rattle.jr_head.specs.HeadValue.{HeadValue}
+use Rattle.jr_head.specs.Geometry.{mcus_across}
+use Rattle.jr_head.specs.Heads.{HeadOf}
+use Rattle.jr_head.specs.Intervals.{interval_number, within_interval}
+use Rattle.jr_scan.specs.declared.place.Place.{Place}
+use Rattle.jr_cut.specs.declared.scan_end.ScanEnd.TheVariants.{EndOfFile}
+use Rattle.jr_scan.specs.IntervalValue.{IntervalValue}
+use Rattle.jr_scan.specs.ScanValue.{ScanValue, IsScanOf, interval_of}
+use Rattle.jr_scan.specs.Run.{HasNoMcu, RunOf}
+use Rattle.jr_scan.specs.Mcus.{Front}
+use Rattle.jr_paint.specs.Lines.{next_lines_of}
+use Rattle.jr_rows.specs.Rows.{first_line, line_count}
+
+-- of the segments that bytes are cut into, all but the last are kept by more bytes; the last one's data may go on, and others follow
+pub record GoesOn (datas longer : List (List ℕ)) : Type 0 where
+  pub ended : List (List ℕ)
+  pub last : List ℕ
+  pub more : List ℕ
+  pub others : List (List ℕ)
+  pub is : datas ≡ ended ++ last ∷ []
+  pub longer_is : longer ≡ ended ++ (last ++ more) ∷ others
+
+-- the head of these bytes, and the scan that they are cut into
+pub record HasScan (bytes : List ℕ) (s : ScanValue) : Type 0 where
+  pub head : HeadOf bytes s.head
+  pub scan : IsScanOf bytes s
+
+-- interval i of the bytes' scan has ended: another segment follows it, or a marker has ended the scan
+abbrev pub HasEndedAt : List ℕ → ScanValue → ℕ → Type 0
+HasEndedAt bytes s i = (c : IsScanOf bytes s) × ((s.ended ≢ EndOfFile) ⊎ (i + 1 < length c.segments))
+
+-- what a longer file's scan keeps: the head; of each interval the data so far, and all of an interval that has ended; and how a scan
+-- ended that a marker ended
+pub record KeepsScan (bytes : List ℕ) (s t : ScanValue) : Type 0 where
+  pub head : t.head ≡ s.head
+  pub so_far : (i : ℕ) → (more : List ℕ) × (slice_index_or t.intervals i [] ≡ slice_index_or s.intervals i [] ++ more)
+  pub whole : (i : ℕ) → HasEndedAt bytes s i → interval_of t i ≡ interval_of s i
+  pub end : s.ended ≢ EndOfFile → t.ended ≡ s.ended
+
+-- an interval with more data behind
+abbrev pub with_more : IntervalValue → List ℕ → IntervalValue
+with_more i more = record { number = i.number; mcus = i.mcus; bytes = i.bytes ++ more; head = i.head }
+
+-- a run of an interval with more data behind
+abbrev pub run_with_more : RunOf → List ℕ → RunOf
+run_with_more r more = record { interval = with_more r.interval more; from = r.from; mcus = r.mcus }
+
+-- whatever data comes, no whole MCU follows that place: its bits are of no code
+abbrev pub IsStuck : IntervalValue → Place → Type 0
+IsStuck i p = (more : List ℕ) → HasNoMcu (with_more i more) p
+
+-- MCU m of the picture is settled by the bytes so far: its interval has ended, or whole MCUs of its data reach behind it
+abbrev pub IsSettled : List ℕ → ScanValue → ℕ → Type 0
+IsSettled bytes s m = let i = interval_number s.head m in
+    HasEndedAt bytes s i ⊎ ((blocks : List (List ℤ)) × Front (interval_of s i) (within_interval s.head m + 1) blocks)
+
+-- each MCU of a row is
+abbrev pub RowIsSettled : List ℕ → ScanValue → ℕ → Type 0
+RowIsSettled bytes s row = (m : ℕ) → row * mcus_across s.head ≤ m → m < (row + 1) * mcus_across s.head → IsSettled bytes s m
+
+-- the lines of pixels of a row of MCUs, where f says the samples by component, column and line
+abbrev pub lines_of_row : HeadValue → (ℕ → ℕ → ℕ → ℕ) → ℕ → List ℕ
+lines_of_row h f row = next_lines_of h f (first_line h row) (line_count h row)

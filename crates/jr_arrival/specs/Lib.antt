@@ -1,0 +1,3 @@
+pub mod Arrival
+pub mod Growing
+pub mod Settled

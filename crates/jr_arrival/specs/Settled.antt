@@ -1,0 +1,64 @@
+-- What the bytes so far settle of a picture.
+use Rattle.std.specs.Prelude.{◌≡◌, ◌≢◌, ℕ, ◌+◌, ◌-◌, ◌*◌, ◌/◌, ◌<◌, ◌⊎◌, min, List, [], length, take, slice_index_or}
+use Rattle.jr_segments.specs.declared.refusal.Refusal.TheVariants.{EndsEarly, NotJpeg}
+use Rattle.jr_head.specs.Geometry.{mcus_across, mcus_down, vertical_max}
+use Rattle.jr_head.specs.Heads.{RefusalOf}
+use Rattle.jr_head.specs.Intervals.{first_mcu_of}
+use Rattle.jr_paint.specs.Lines.{line_size, next_lines_of}
+use Rattle.jr_cut.specs.declared.scan_end.ScanEnd.TheVariants.{EndOfFile}
+use Rattle.jr_scan.specs.Mcus.{HasLongestFront}
+use Rattle.jr_scan.specs.ScanValue.{ScanValue, interval_of}
+use Rattle.jr_picture.specs.declared.mark.Mark.{Mark}
+use Rattle.jr_picture.specs.Headline.{ShowsFirst}
+use Rattle.jr_arrival.specs.Arrival.{CanBecome}
+use Rattle.jr_arrival.specs.Growing.{HasScan, RowIsSettled}
+
+-- the bytes' refusal says that some are missing
+abbrev pub WantsMore : List ℕ → Type 0
+WantsMore bytes = RefusalOf bytes EndsEarly ⊎ (RefusalOf bytes NotJpeg × (length bytes < 2))
+
+-- the last interval that has data, the first one where none has
+pub record IsLatest (s : ScanValue) (i : ℕ) : Type 0 where
+  pub some : 0 < i → slice_index_or s.intervals i [] ≢ []
+  pub none : (j : ℕ) → i < j → slice_index_or s.intervals j [] ≡ []
+
+-- so many rows of MCUs, from the first on, are there: all where a marker has ended the scan, else those whose MCUs stand before the
+-- end of the whole ones of the interval that has come last
+pub record HasRows (s : ScanValue) (rows : ℕ) : Type 0 where
+  pub ended : s.ended ≢ EndOfFile → rows ≡ mcus_down s.head
+  pub coming : s.ended ≡ EndOfFile → (i front : ℕ) → IsLatest s i → HasLongestFront (interval_of s i) front → rows ≡ (first_mcu_of s.head i + front) / mcus_across s.head
+
+-- whatever bytes the scan was cut from, they settle the first rows
+abbrev pub SettlesRows : ScanValue → ℕ → Type 0
+SettlesRows s rows = (bytes : List ℕ) → HasScan bytes s → (row : ℕ) → row < rows → RowIsSettled bytes s row
+
+-- what the bytes so far settle: the scan that they are cut into, and how many rows of MCUs
+pub record SoFarValue : Type 0 where
+  pub scan : ScanValue
+  pub rows : ℕ
+
+-- how many lines of pixels these rows have
+abbrev pub lines_in : SoFarValue → ℕ
+lines_in s = min s.scan.head.height (s.rows * (8 * vertical_max s.scan.head))
+
+-- these are lines of the picture of every file that the bytes can become, so many from this one on
+abbrev pub AreFinal : (bytes : List ℕ) → (first count : ℕ) → (pixels : List ℕ) → Type 0
+AreFinal bytes first count pixels = (file : List ℕ) (t : ScanValue) (marks : List Mark) (f : ℕ → ℕ → ℕ → ℕ) → CanBecome bytes file → HasScan file t
+    → ShowsFirst t (length t.intervals) marks f → pixels ≡ next_lines_of t.head f first count
+
+-- what contracts see of a file that is still arriving: its bytes so far, and how many lines of its picture are given
+pub record ArrivingValue : Type 0 where
+  pub bytes : List ℕ
+  pub lines : ℕ
+
+-- the next lines that the bytes settle, as many as have room: n from this one on
+pub record NextLines (bytes : List ℕ) (first n : ℕ) (pixels : List ℕ) : Type 0 where
+  pub settled : SoFarValue
+  pub scan : HasScan bytes settled.scan
+  pub rows : HasRows settled.scan settled.rows
+  pub count : n ≡ min (lines_in settled - first) (length pixels / line_size settled.scan.head)
+  pub are : AreFinal bytes first n (take (n * line_size settled.scan.head) pixels)
+
+-- or none, where more bytes are wanted for a head
+abbrev pub GivesNext : (bytes : List ℕ) → (first n : ℕ) → (pixels : List ℕ) → Type 0
+GivesNext bytes first n pixels = ((n ≡ 0) × WantsMore bytes) ⊎ NextLines bytes first n pixels

@@ -1,0 +1,30 @@
+//! The head that the bytes so far of a file begin with.
+
+ghost use Rattle.std.specs.Prelude.{◌≢◌, IfOk, IfErr, IfSome, IfNone};
+ghost use Rattle.jr_segments.specs.declared.refusal.Refusal.TheVariants.{Memory};
+ghost use Rattle.jr_head.specs.Heads.{HeadOf, RefusalOf};
+ghost use Rattle.jr_arrival.specs.Arrival.{IsFinalFault};
+ghost use Rattle.jr_arrival.specs.Settled.{WantsMore};
+
+use jr_head::{Head, read_head};
+use jr_segments::Refusal;
+use std::alloc::Global;
+
+/// The head that the bytes so far begin with, which is that of every file that they can become. None where more bytes are wanted.
+///
+/// # Errors
+///
+/// The refusal of every such file. `Memory` where memory was refused; it says nothing of the bytes.
+pub fn head_so_far(alloc: Global, bytes: &[u8]) -> Result<Option<Head>, Refusal>
+    ensures head { IfOk result (λ o. IfSome o (HeadOf bytes.now)) }
+    ensures wanted { IfOk result (λ o. IfNone o (WantsMore bytes.now)) }
+    ensures refusal { IfErr result (λ f. f ≢ Memory → RefusalOf bytes.now f) }
+    ensures stays { IfErr result (IsFinalFault bytes.now) }
+{
+    match read_head(alloc, bytes) {
+        Ok(head) => Ok(Some(head)),
+        Err(Refusal::EndsEarly) => Ok(None),
+        Err(Refusal::NotJpeg) if bytes.len() < 2 => Ok(None),
+        Err(refusal) => Err(refusal),
+    }
+}

@@ -1,0 +1,284 @@
+//! Files that arrive in parts: which lines are given when, that the splitting does not show, and that every continuation shows
+//! what was given.
+
+ghost use Rattle.std.specs.Prelude.{◌<◌};
+
+use jr_arrival::Arriving;
+use jr_head::{Refusal, read_head};
+use jr_rows::shape_of;
+use jr_scan::{Scan, ScanEnd};
+use jr_stream::paint_scan_lines;
+use std::alloc::Global;
+use std::process::Abort;
+use std::test::Fail;
+use test_files::cases;
+use test_files::cases::Case;
+use test_files::files::{COLOURED, COLOURED_DAMAGED, MIXED, TEN, file, front};
+use test_files::pictures::picture;
+
+/// The lines of a scan's picture from one on.
+fn lines_from(alloc: Global, scan: &Scan, first: u32) -> Result<Vec<u8>, Fail> {
+    let head = scan.head();
+    let line = shape_of(head).line;
+    let mut pixels = Vec::new(alloc);
+    if first < head.height() {
+        let count = head.height() - first;
+        pixels = vec![in alloc; 0; count as usize * line]?;
+        let _marked = paint_scan_lines(alloc, scan, first, count, pixels.as_mut_slice())?;
+    }
+    Ok(pixels)
+}
+
+/// Puts all lines that the bytes so far settle behind those that are there. None where the file is refused.
+fn take_lines(
+    alloc: Global,
+    arriving: &mut Arriving,
+    shown: &mut Vec<u8>,
+) -> Result<Option<()>, Fail> {
+    let Ok(known) = arriving.head(alloc) else {
+        return Ok(None);
+    };
+    let Some(head) = known else {
+        return Ok(Some(()));
+    };
+    let line = shape_of(&head).line;
+    let mut room = vec![in alloc; 0; head.height() as usize * line]?;
+    let count = arriving.next_lines(alloc, room.as_mut_slice())?;
+    let length = usize::saturating_mul(count as usize, line);
+    shown.extend_from_slice(room.as_slice().get(..length).ok_or("too many lines")?)?;
+    Ok(Some(()))
+}
+
+/// What is given while a file arrives in parts of so many bytes, and the lines that are missing then; none where it is refused.
+fn arrived(alloc: Global, bytes: &[u8], part: usize) -> Result<Option<Vec<u8>>, Fail>
+    requires { 0 < part }
+{
+    let mut arriving = Arriving::new(alloc);
+    let mut shown = Vec::new(alloc);
+    for more in bytes.chunks(part) {
+        arriving.push(more)?;
+        if take_lines(alloc, &mut arriving, &mut shown)?.is_none() {
+            return Ok(None);
+        }
+    }
+    let lines = arriving.lines();
+    let Ok(scan) = arriving.finish(alloc) else {
+        return Ok(None);
+    };
+    shown.extend_from_slice(lines_from(alloc, &scan, lines)?.as_slice())?;
+    Ok(Some(shown))
+}
+
+/// Whether a picture's text ends with these lines, and has its header before them.
+fn is_text(text: &[u8], lines: &[u8]) -> bool {
+    text.ends_with(lines) && text.len() == lines.len().saturating_add(header_of(text))
+}
+
+/// How many bytes the header of a picture's text has: three lines.
+fn header_of(text: &[u8]) -> usize {
+    let mut ends = 0;
+    let mut length = 0;
+    for byte in text {
+        if ends == 3 {
+            return length;
+        }
+        length = usize::saturating_add(length, 1);
+        if *byte == b'\n' {
+            ends = i32::saturating_add(ends, 1);
+        }
+    }
+    length
+}
+
+/// Cases pushed in parts of 1, 2, 3 and 7 bytes and whole give their pictures.
+fn check_parts<R: AllocGlobal + Abort>(rt: &R, cases: &[Case]) -> Result<(), Fail> {
+    for case in cases {
+        let bytes = file(rt.alloc(), case.file)?;
+        let expected = picture(rt.alloc(), case.picture)?;
+        for part in [1, 2, 3, 7, 1_000_000] {
+            let is_right = match arrived(rt.alloc(), bytes.as_slice(), part)? {
+                Some(lines) => is_text(expected.as_slice(), lines.as_slice()),
+                None => false,
+            };
+            assert!(rt; is_right, "{} by {part}", case.file);
+        }
+    }
+    Ok(())
+}
+
+#[test]
+fn gives_grey_blocks_in_parts(rt: HostRuntime) -> Result<(), Fail> {
+    check_parts(&rt, &cases::grey_blocks())
+}
+
+#[test]
+fn gives_spellings_and_tables_in_parts(rt: HostRuntime) -> Result<(), Fail> {
+    check_parts(&rt, &cases::spellings_and_tables())
+}
+
+#[test]
+fn gives_restart_intervals_in_parts(rt: HostRuntime) -> Result<(), Fail> {
+    check_parts(&rt, &cases::restart_intervals())
+}
+
+#[test]
+fn gives_ends_of_scans_in_parts(rt: HostRuntime) -> Result<(), Fail> {
+    check_parts(&rt, &cases::ends_of_scans())
+}
+
+#[test]
+fn gives_three_components_in_parts(rt: HostRuntime) -> Result<(), Fail> {
+    check_parts(&rt, &cases::three_components())
+}
+
+/// The lines that a file's first bytes settle; none where it is refused.
+fn given_of(alloc: Global, bytes: &[u8]) -> Result<Option<Vec<u8>>, Fail> {
+    let mut arriving = Arriving::new(alloc);
+    let mut shown = Vec::new(alloc);
+    arriving.push(bytes)?;
+    if take_lines(alloc, &mut arriving, &mut shown)?.is_none() {
+        return Ok(None);
+    }
+    Ok(Some(shown))
+}
+
+/// Whether a whole file's picture begins with these lines; where it is refused there are none.
+fn begins_with(alloc: Global, bytes: &[u8], lines: &[u8]) -> Result<bool, Fail> {
+    let Ok(head) = read_head(alloc, bytes) else {
+        return Ok(lines.is_empty());
+    };
+    let scan = Scan::cut(alloc, head, bytes)?;
+    let pixels = lines_from(alloc, &scan, 0)?;
+    Ok(pixels.as_slice().starts_with(lines))
+}
+
+/// What stands behind the bytes so far in some files that they can become.
+const CONTINUATIONS: [&str; 9] = [
+    "",
+    "E",
+    "FF",
+    "00 E",
+    "FF 00 63 E",
+    "FF FF FF D0 63 63",
+    "FF D1 E0 E",
+    "63 63 63 63 63 E",
+    "E0 E0 E0 FF D0 E0",
+];
+
+/// What is given of each front of a file is shown by the file, and by each continuation.
+fn check_continuations<R: AllocGlobal + Abort>(rt: &R, words: &str) -> Result<(), Fail> {
+    let alloc = rt.alloc();
+    let whole = file(alloc, words)?;
+    for length in 0..whole.len() {
+        let so_far = front(whole.as_slice(), length);
+        if let Some(lines) = given_of(alloc, so_far)? {
+            assert!(rt;
+                begins_with(alloc, whole.as_slice(), lines.as_slice())?,
+                "{words} at {length}"
+            );
+            for more in CONTINUATIONS {
+                let mut longer = so_far.to_vec(alloc)?;
+                longer.extend_from_slice(file(alloc, more)?.as_slice())?;
+                assert!(rt;
+                    begins_with(alloc, longer.as_slice(), lines.as_slice())?,
+                    "{words} at {length} and {more}"
+                );
+            }
+        }
+    }
+    Ok(())
+}
+
+#[test]
+fn each_continuation_shows_what_was_given(rt: HostRuntime) -> Result<(), Fail> {
+    check_continuations(&rt, "S Q F:0018:0008 D A I C 63 FF D0 E0 FF D1 63 E")?;
+    check_continuations(&rt, "S Q F:0018:0008 D A C 61 8F 63 E")?;
+    check_continuations(&rt, "S Q F:0010:0018 D A C 61 8F 63 1F FF 00 E")?;
+    check_continuations(&rt, COLOURED)?;
+    check_continuations(&rt, COLOURED_DAMAGED)?;
+    check_continuations(&rt, MIXED)?;
+    check_continuations(&rt, TEN)
+}
+
+/// What has come, and how many lines of 8 by 24 pixels are given then. The words 00, 01 and 10 code no, three and eleven extra
+/// bits, no word begins with 11, and 0 ends a block: 011000 is a block, and so is 000.
+const GIVEN: [(&str, usize); 16] = [
+    ("", 0),
+    ("63", 8),
+    ("61", 8),
+    ("61 86", 16),
+    ("61 86 3F", 24),
+    // More bytes can't mend these bits; but only the interval's end tells it.
+    ("E0", 0),
+    ("E0 FF", 0),
+    ("E0 FF FF", 0),
+    ("E0 FF D9", 24),
+    ("63 FF C4", 24),
+    ("63 FF D0", 24),
+    // FF bytes at the end belong to nothing yet. The third block has eleven ones.
+    ("02", 16),
+    ("02 FF", 16),
+    ("02 FF FF", 16),
+    ("02 FF FF 00", 16),
+    ("02 FF FF 00 E0", 24),
+];
+
+#[test]
+fn gives_lines_as_soon_as_they_are_settled(rt: HostRuntime) -> Result<(), Fail> {
+    let alloc = rt.alloc();
+    for (words, count) in GIVEN {
+        let mut bytes = file(alloc, "S Q F:0018:0008 D:00:03:0B A C")?;
+        bytes.extend_from_slice(file(alloc, words)?.as_slice())?;
+        let lines = given_of(alloc, bytes.as_slice())?.ok_or("refused")?;
+        assert!(rt;
+            lines.len() == usize::saturating_mul(8, count),
+            "{words}: {}",
+            lines.len()
+        );
+    }
+    Ok(())
+}
+
+/// Bytes that begin no file, and the refusal of every file that begins so; none where more are wanted.
+const HEADS: [(&str, Option<Refusal>); 14] = [
+    ("", None),
+    ("FF", None),
+    ("00", None),
+    ("FF D9", Some(Refusal::NotJpeg)),
+    ("FF D8", None),
+    ("FF D8 00", Some(Refusal::ExpectedMarker(2))),
+    ("FF D8 FF", None),
+    ("FF D8 FF FF", None),
+    ("FF D8 FF FF 00", Some(Refusal::ExpectedMarker(4))),
+    ("FF D8 FF C2", Some(Refusal::NotBaseline(0xC2))),
+    ("FF D8 FF DB 00", None),
+    ("FF D8 FF DB 00 01", Some(Refusal::BadLength(0xDB))),
+    ("FF D8 FF DD 00 04 00", None),
+    ("FF D8 FF DD 00 05 00 01 00", Some(Refusal::BadLength(0xDD))),
+];
+
+#[test]
+fn refuses_once_no_byte_can_mend_it(rt: HostRuntime) -> Result<(), Fail> {
+    let alloc = rt.alloc();
+    for (words, refusal) in HEADS {
+        let mut arriving = Arriving::new(alloc);
+        arriving.push(file(alloc, words)?.as_slice())?;
+        assert!(rt; arriving.head(alloc).err() == refusal, "{words}");
+        assert!(rt;
+            arriving.next_lines(alloc, &mut []).err() == refusal,
+            "{words}"
+        );
+    }
+    Ok(())
+}
+
+#[test]
+fn tells_how_the_scan_ended(rt: HostRuntime) -> Result<(), Fail> {
+    let alloc = rt.alloc();
+    let mut arriving = Arriving::new(alloc);
+    arriving.push(file(alloc, "G 63 FF")?.as_slice())?;
+    arriving.push(b"\xD9")?;
+    assert!(rt; arriving.bytes() == file(alloc, "G 63 E")?.len());
+    assert!(rt; arriving.finish(alloc)?.ended() == ScanEnd::EndOfImage);
+    Ok(())
+}
