@@ -95,6 +95,7 @@ pub fn bytes_of_row(head: &Head) -> usize
 
 /// The bytes that the lines of a row of MCUs take, and enough of them for a write.
 pub fn room_for(head: &Head) -> usize
+    ensures value { result ≡ max BATCH (8 * vertical_max head.now * line_size head.now) }
     ensures lines { 8 * vertical_max head.now * line_size head.now ≤ result }
     ensures batch { BATCH ≤ result }
 {
