@@ -1,6 +1,6 @@
 //! The rows of MCUs of a picture, in numbers.
 
-ghost use Rattle.std.specs.Prelude.{◌≡◌, ◌+◌, ◌-◌, ◌*◌, ◌<◌, ◌≤◌, min, Option, Some, OnSome, IfSome};
+ghost use Rattle.std.specs.Prelude.{max, ◌≡◌, ◌+◌, ◌-◌, ◌*◌, ◌<◌, ◌≤◌, min, Option, Some, OnSome, IfSome};
 ghost use Rattle.jr_head.specs.Geometry.{mcus_across, mcus_down, mcus_of, vertical_max};
 ghost use Rattle.jr_paint.specs.Lines.{line_size};
 ghost use Rattle.jr_paint.specs.declared.netpbm.TheConstants.{BATCH};

@@ -1,5 +1,5 @@
 -- The marks of the first intervals of a scan, one more at a time.
-use Rattle.std.proofs.Common.{◌≡◌, ℕ, ◌+◌, ◌<◌, cond, Bool, List, [], ◌∷◌, ◌++◌, length, get_or, slice_index, refl, sym, ap, subst, ◌∙◌, inl, inr, length-append, arith}
+use Rattle.std.proofs.Common.{◌≡◌, ℕ, ◌+◌, ◌<◌, cond, Bool, true, false, List, [], ◌∷◌, ◌++◌, length, get_or, slice_index, refl, sym, ap, subst, ◌∙◌, inl, inr, length-append, arith}
 use Rattle.std.specs.List.{count_by}
 use Rattle.std.proofs.lemmas.Bool.{cases_lt}
 use Rattle.std.proofs.lemmas.List.Sums.{sum_by-append}
@@ -7,7 +7,7 @@ use Rattle.std.proofs.Math.Seq.{get_or-append_seam}
 use Rattle.std.proofs.Math.ListN.{get_or-append}
 use Rattle.jr_scan.specs.ScanValue.{ScanValue, interval_of}
 use Rattle.jr_picture.specs.declared.mark.Mark.{Mark}
-use Rattle.jr_picture.specs.declared.mark.Mark.TheVariants.{Blank}
+use Rattle.jr_picture.specs.declared.mark.Mark.TheVariants.{Blank, Sound, Damaged}
 use Rattle.jr_picture.specs.Headline.{mark_in, is_sound, is_damaged}
 use Rattle.jr_rows.specs.MarkBytes.{mark_byte}
 use Rattle.jr_rows.specs.declared.marked.Marked.{Marked}
@@ -32,17 +32,28 @@ each_more n ms m P long each last i lt = elim (cases_lt i n) [
       subst (P i) (sym at) (subst (λ (k : ℕ). P k m) same last)
 ]
 
-pub put_more : (s : ScanValue) (n : ℕ) (before after : Marked) (old new : List ℕ) (ms : List Mark) (m : Mark) → ArePut s n before old ms → IsMarkOf (interval_of s n) m
-    → after.sound ≡ before.sound + count_by is_sound (m ∷ []) → after.damaged ≡ before.damaged + count_by is_damaged (m ∷ []) → after.sound + after.damaged ≡ n + 1
-    → length new ≡ length old → (0 < length old → slice_index new n ≡ mark_byte m) → ((i : ℕ) → i < n → slice_index new i ≡ slice_index old i) → ArePut s (n + 1) after new (ms ++ m ∷ [])
-put_more s n before after old new ms m p is sound damaged all long put kept = record {
-  are = record {
-    long = omega (arith, length-append ms (m ∷ []), p.are.long);
-    each = each_more n ms m (λ i k. IsMarkOf (interval_of s i) k) p.are.long p.are.each is;
-  };
-  sound = omega (arith, sound, p.sound, sum_by-append (λ (k : Mark). cond (is_sound k) 1 0) ms (m ∷ []));
-  damaged = omega (arith, damaged, p.damaged, sum_by-append (λ (k : Mark). cond (is_damaged k) 1 0) ms (m ∷ []));
-  all = all;
-  put = λ some. let there : 0 < length old = omega (arith, some, long) in
-      each_more n ms m (λ i k. slice_index new i ≡ mark_byte k) p.are.long (λ i lt. kept i lt ∙ p.put there i lt) (put there);
-}
+sound_counted : (b : Bool) → count_by is_sound (cond b Sound Damaged ∷ []) ≡ cond {A = ℕ} b 1 0
+sound_counted true = refl
+sound_counted false = refl
+
+damaged_counted : (b : Bool) → count_by is_damaged (cond b Sound Damaged ∷ []) ≡ cond {A = ℕ} b 0 1
+damaged_counted true = refl
+damaged_counted false = refl
+
+pub put_more : (s : ScanValue) (n : ℕ) (before after : Marked) (old new : List ℕ) (ms : List Mark) (b : Bool) → ArePut s n before old ms → IsMarkOf (interval_of s n) (cond b Sound Damaged)
+    → after.sound ≡ before.sound + cond {A = ℕ} b 1 0 → after.damaged ≡ before.damaged + cond {A = ℕ} b 0 1 → after.sound + after.damaged ≡ n + 1
+    → length new ≡ length old → (0 < length old → slice_index new n ≡ mark_byte (cond b Sound Damaged)) → ((i : ℕ) → i < n → slice_index new i ≡ slice_index old i)
+    → ArePut s (n + 1) after new (ms ++ cond b Sound Damaged ∷ [])
+put_more s n before after old new ms b p is sound damaged all long put kept =
+    let m : Mark = cond b Sound Damaged in
+    record {
+      are = record {
+        long = omega (arith, length-append ms (m ∷ []), p.are.long);
+        each = each_more n ms m (λ i k. IsMarkOf (interval_of s i) k) p.are.long p.are.each is;
+      };
+      sound = omega (arith, sound, p.sound, sound_counted b, sum_by-append (λ (k : Mark). cond (is_sound k) 1 0) ms (m ∷ []));
+      damaged = omega (arith, damaged, p.damaged, damaged_counted b, sum_by-append (λ (k : Mark). cond (is_damaged k) 1 0) ms (m ∷ []));
+      all = all;
+      put = λ some. let there : 0 < length old = omega (arith, some, long) in
+          each_more n ms m (λ i k. slice_index new i ≡ mark_byte k) p.are.long (λ i lt. kept i lt ∙ p.put there i lt) (put there);
+    }

@@ -1,5 +1,5 @@
 -- What the call gives that checks a file in memory: the marks of its intervals, and no picture.
-use Rattle.std.specs.Prelude.{◌≡◌, ℕ, ◌+◌, ◌<◌, ⊥, List, length, map, count_by, slice_index}
+use Rattle.std.specs.Prelude.{◌≡◌, ℕ, ◌+◌, ◌<◌, List, length, map, count_by, slice_index}
 use Rattle.jr_scan.specs.IntervalValue.{IntervalValue}
 use Rattle.jr_scan.specs.Mcus.{HasDecoding, HasNoDecoding}
 use Rattle.jr_scan.specs.ScanValue.{ScanValue, interval_of}

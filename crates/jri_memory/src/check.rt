@@ -1,11 +1,13 @@
 //! From the bytes of a file to the marks of its intervals. No picture is made.
 
-ghost use Rattle.std.specs.Prelude.{◌≡◌, ◌≢◌, ◌+◌, ◌<◌, ◌++◌, ◌∷◌, [], List, length, IfOk, IfErr};
+ghost use Rattle.std.specs.Prelude.{◌≡◌, ◌≢◌, ◌+◌, ◌<◌, ◌++◌, ◌∷◌, [], List, cond, length, IfOk, IfErr};
 ghost use Rattle.jr_segments.specs.declared.refusal.Refusal.TheVariants as refusal;
 ghost use Rattle.jr_head.specs.Heads.{RefusalOf};
 ghost use Rattle.jr_picture.specs.declared.mark.Mark.{Mark};
+ghost use Rattle.jr_picture.specs.declared.mark.Mark.TheVariants.{Sound, Damaged};
+ghost use Rattle.jr_scan.specs.ScanValue.{interval_of};
 ghost use Rattle.jr_rows.specs.MarkBytes.{HasMarkRoom};
-ghost use Rattle.jri_memory.specs.Checks.{ArePut, ChecksFile, LacksMarkRoom};
+ghost use Rattle.jri_memory.specs.Checks.{ArePut, ChecksFile, IsMarkOf, LacksMarkRoom};
 
 use crate::decode::DecodeError;
 use crate::report::DecodeReport;
@@ -18,6 +20,17 @@ use jri_archive::damaged_front;
 use jri_engine::scan_of_file;
 use std::alloc::Global;
 
+/// Whether interval i has a decoding.
+fn is_sound(scan: &Scan, i: u32) -> bool
+    requires there { i < length scan.now.intervals }
+    ensures { IsMarkOf (interval_of scan.now i) (cond result Sound Damaged) }
+{
+    match damaged_front(scan.interval_ref(i)) {
+        None => true,
+        Some(_) => false,
+    }
+}
+
 /// Reads interval i, and counts and puts its mark behind those of the intervals before it.
 fn mark_interval(scan: &Scan, i: u32, before: Marked, marks: &mut [u8]) -> Marked
     requires there { i < length scan.now.intervals }
@@ -29,7 +42,7 @@ fn mark_interval(scan: &Scan, i: u32, before: Marked, marks: &mut [u8]) -> Marke
 {
     // By its contract a scan has so few intervals that their numbers have room.
     let _all = scan.intervals();
-    let is_sound = damaged_front(scan.interval_ref(i)).is_none();
+    let is_sound = is_sound(scan, i);
     put_mark(is_sound, i, marks);
     before.with(Marked::one(is_sound))
 }
