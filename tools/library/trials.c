@@ -174,10 +174,42 @@ static void try_lines(const struct trial *t) {
     release(pixels, line_of(t) - 1);
 }
 
+/* Checks into a buffer of so much room, while one request for memory is refused; it gives the marks and the report of the decoding, or answers this and touches nothing. How many requests there were. */
+static long check(const struct trial *t, size_t room, uint32_t otherwise, long k, const char *what) {
+    uint8_t *marks = buffer(room);
+    struct jri_report report;
+    size_t count = room ? t->measure.intervals : 0;
+    requests = 0;
+    refused = k;
+    uint32_t status = jri_check(t->file, t->length, marks, room, &report);
+    long made = requests;
+    refused = -1;
+    if (status == t->status && otherwise != JRI_NO_ROOM) {
+        see(!memcmp(marks, t->marks, count) && is_filled(marks + count, room - count), t, what);
+        see(!memcmp(&report, &t->report, sizeof report), t, what);
+    } else {
+        see(status == otherwise && is_filled(marks, room), t, what);
+    }
+    release(marks, room);
+    return made;
+}
+
+static void try_check(const struct trial *t) {
+    size_t count = t->measure.intervals;
+    check(t, count + MORE, t->status, -1, "a check with more room");
+    check(t, 0, t->status, -1, "a check without marks");
+    if (count > 1)
+        check(t, count - 1, JRI_NO_ROOM, -1, "a check with a mark too few");
+    for (long k = 0; check(t, count, JRI_NO_MEMORY, k, "a request of a check refused") > k; k++)
+        refusals += 1;
+}
+
 static void *work(void *argument) {
     const struct trial *t = argument;
-    for (int i = 0; i < TIMES; i++)
+    for (int i = 0; i < TIMES; i++) {
+        check(t, t->measure.intervals, t->status, -1, "a check beside other threads");
         decode(t, t->measure.pixels, t->measure.intervals, t->status, -1, "beside other threads");
+    }
     return NULL;
 }
 
@@ -197,6 +229,7 @@ static void try_null(void) {
     see(jri_measure(NULL, 0, &none.measure) == JRI_REFUSED && none.measure.refusal == 1, &none, "a measure");
     see(jri_decode(NULL, 0, NULL, 0, NULL, 0, &none.report) == JRI_REFUSED && none.report.refusal == 1, &none, "a decoding");
     see(jri_decode_lines(NULL, 0, 0, 1, NULL, 0, &none.report) == JRI_REFUSED && none.report.refusal == 1, &none, "lines");
+    see(jri_check(NULL, 0, NULL, 0, &none.report) == JRI_REFUSED && none.report.refusal == 1, &none, "a check");
     see(jri_refusal_text(1, 0, NULL, 0) == 0 && jri_refusal_text(0, 0, text, OF_TEXT) == 0, &none, "a text");
     see(jri_refusal_text(20, 0, text, OF_TEXT) == 0, &none, "a number past the last");
     see(jri_refusal_text(3, 18446744073709551615u, text, OF_TEXT) == 46, &none, "a long text");
@@ -238,6 +271,7 @@ static void try_file(const char *name) {
         decode(&t, size, count - 1, JRI_NO_ROOM, -1, "a mark too few");
     refuse(&t);
     try_lines(&t);
+    try_check(&t);
     work_at_once(&t);
     release(t.file, t.length);
     release(t.pixels, size);

@@ -13,6 +13,7 @@ mod sample_row;
 mod shape;
 
 pub use first_intervals::FirstIntervals;
+pub use mark_bytes::put_mark;
 pub use marked::Marked;
 pub use painting::paint_row;
 pub use row_lines::RowLines;

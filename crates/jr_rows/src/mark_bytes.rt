@@ -11,7 +11,7 @@ const SOUND: u8 = 1;
 const DAMAGED: u8 = 2;
 
 /// Puts the mark of interval `number` into its place, where marks are asked for.
-pub(crate) fn put_mark(is_sound: bool, number: u32, marks: &mut [u8])
+pub fn put_mark(is_sound: bool, number: u32, marks: &mut [u8])
     requires { 0 < length marks.old → number < length marks.old }
     ensures long { length marks.new ≡ length marks.old }
     ensures put { 0 < length marks.old → slice_index marks.new number ≡ mark_byte (cond is_sound Sound Damaged) }

@@ -1,6 +1,6 @@
 //! The rows of MCUs of a picture, in numbers.
 
-ghost use Rattle.std.specs.Prelude.{◌≡◌, ◌+◌, ◌-◌, ◌*◌, ◌<◌, ◌≤◌, min, Option, Some, OnSome, IfSome};
+ghost use Rattle.std.specs.Prelude.{max, ◌≡◌, ◌+◌, ◌-◌, ◌*◌, ◌<◌, ◌≤◌, min, Option, Some, OnSome, IfSome};
 ghost use Rattle.jr_head.specs.Geometry.{mcus_across, mcus_down, mcus_of, vertical_max};
 ghost use Rattle.jr_paint.specs.Lines.{line_size};
 ghost use Rattle.jr_paint.specs.declared.netpbm.TheConstants.{BATCH};
@@ -95,6 +95,7 @@ pub fn bytes_of_row(head: &Head) -> usize
 
 /// The bytes that the lines of a row of MCUs take, and enough of them for a write.
 pub fn room_for(head: &Head) -> usize
+    ensures value { result ≡ max BATCH (8 * vertical_max head.now * line_size head.now) }
     ensures lines { 8 * vertical_max head.now * line_size head.now ≤ result }
     ensures batch { BATCH ≤ result }
 {

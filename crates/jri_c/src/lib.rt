@@ -4,18 +4,19 @@
 #![tactic(auto)]
 
 ghost use Rattle.std.specs.Prelude.{◌≡◌, ◌≢◌, ◌<◌, ◌≤◌, length, drop};
+ghost use Rattle.jri_memory.specs.Checks.{ChecksFile, LacksMarkRoom};
 ghost use Rattle.jri_memory.specs.Calls.{DecodesFile, DecodesLines, TellsFault, IsMeasureOf, IsNumberOfSome, LacksLines, LacksRoom, LacksRoomForLines, TellsNoHead, TellsNoPicture, TellsNoRefusal};
 
-use jri_memory::{DecodeReport, Measure, decode_file, decode_lines, measure_file, refusal_text};
+use jri_memory::{DecodeReport, Measure, check_marks, decode_file, decode_lines, measure_file, refusal_text};
 use std::alloc::Global;
 
 /// The number of these calls: it is changed where one of them is.
-const VERSION: u32 = 1;
+const VERSION: u32 = 2;
 
 /// The number of these calls.
 #[unsafe(no_mangle)]
 pub extern "C" fn jri_version() -> u32
-    ensures { result ≡ 1 }
+    ensures { result ≡ 2 }
 {
     VERSION
 }
@@ -33,7 +34,7 @@ pub extern "C" fn jri_measure(alloc: Global, file: &[u8], measure: &mut Measure)
     measure_file(alloc, file, measure)
 }
 
-/// DecodesFile a file into the front of `pixels`, and its marks into that of `marks`, unless that has no room at all: 0, or 3
+/// Decodes a file into the front of `pixels`, and its marks into that of `marks`, unless that has no room at all: 0, or 3
 /// where an interval is damaged. With 1 for want of memory, 2 where the file is refused, and 4 where a buffer has too
 /// little room, both are as they were.
 #[unsafe(no_mangle)]
@@ -60,7 +61,7 @@ pub extern "C" fn jri_decode(
     decode_file(alloc, file, pixels, marks, report)
 }
 
-/// DecodesFile `count` lines of a file's picture from line `first` on into the front of `pixels`: 0, or 3 where an interval is
+/// Decodes `count` lines of a file's picture from line `first` on into the front of `pixels`: 0, or 3 where an interval is
 /// damaged that ends in the rows of MCUs of these lines. With 1 for want of memory, 2 where the file is refused, 4 where
 /// the buffer has too little room, and 5 where the picture has no such lines, it is as it was.
 #[unsafe(no_mangle)]
@@ -100,4 +101,29 @@ pub extern "C" fn jri_refusal_text(number: u32, detail: u64, text: &mut [u8]) ->
     ensures kept { drop result text.new ≡ drop result text.old }
 {
     refusal_text(number, detail, text) as u64
+}
+
+/// Checks a file: reads each restart interval as a decoder does, makes no picture, and puts the marks into the front of
+/// `marks`, unless that has no room at all: 0, or 3 where an interval is damaged. With 1 for want of memory, 2 where the file is
+/// refused, and 4 where `marks` has too little room, it is as it was.
+#[unsafe(no_mangle)]
+pub extern "C" fn jri_check(
+    alloc: Global,
+    file: &[u8],
+    marks: &mut [u8],
+    report: &mut DecodeReport,
+) -> u32
+    ensures sound { result ≡ 0 → ChecksFile file.now marks.old marks.new report.new }
+    ensures damaged { result ≡ 3 → ChecksFile file.now marks.old marks.new report.new }
+    ensures undamaged { result ≡ 0 → report.new.damaged ≡ 0 }
+    ensures some_damaged { result ≡ 3 → 0 < report.new.damaged }
+    ensures refused { result ≡ 2 → TellsFault file.now report.new.refusal report.new.detail }
+    ensures memory { result ≡ 1 → report.new.refusal ≡ 19 }
+    ensures room { result ≡ 4 → LacksMarkRoom file.now (length marks.old) }
+    ensures room_alone { result ≡ 4 → TellsNoRefusal report.new }
+    ensures unchecked { result ≢ 0 → result ≢ 3 → TellsNoPicture report.new }
+    ensures marks { result ≢ 0 → result ≢ 3 → marks.new ≡ marks.old }
+    ensures few { result ≤ 4 }
+{
+    check_marks(alloc, file, marks, report)
 }

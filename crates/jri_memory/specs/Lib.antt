@@ -1,2 +1,3 @@
 pub mod Calls
+pub mod Checks
 pub use Rattle.jri_engine.specs.Files

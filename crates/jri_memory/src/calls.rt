@@ -1,9 +1,11 @@
-//! The calls: a file's head, its picture, and some lines of it.
+//! The calls: a file's head, its picture, some lines of it, and the marks of its intervals alone.
 
 ghost use Rattle.std.specs.Prelude.{◌≡◌, ◌≢◌, ◌<◌, ◌≤◌, length};
+ghost use Rattle.jri_memory.specs.Checks.{ChecksFile, LacksMarkRoom};
 ghost use Rattle.jri_memory.specs.Calls.{DecodesFile, DecodesLines, TellsFault, IsMeasureOf, LacksLines, LacksRoom, LacksRoomForLines, TellsNoHead, TellsNoPicture, TellsNoRefusal};
 
 use crate::answers::{status_of, tell, tell_why};
+use crate::check::check;
 use crate::decode::decode;
 use crate::lines::decode_some;
 use crate::measure::Measure;
@@ -33,7 +35,7 @@ pub fn measure_file(alloc: Global, file: &[u8], measure: &mut Measure) -> u32
     }
 }
 
-/// DecodesFile a file into the front of `pixels`, and its marks into that of `marks`, unless that has no room at all: 0, or 3
+/// Decodes a file into the front of `pixels`, and its marks into that of `marks`, unless that has no room at all: 0, or 3
 /// where an interval is damaged. With 1 for want of memory, 2 where the file is refused, and 4 where a buffer has too
 /// little room, both are as they were.
 pub fn decode_file(
@@ -62,7 +64,7 @@ pub fn decode_file(
     }
 }
 
-/// DecodesFile `count` lines of a file's picture from line `first` on into the front of `pixels`: 0, or 3 where an interval is
+/// Decodes `count` lines of a file's picture from line `first` on into the front of `pixels`: 0, or 3 where an interval is
 /// damaged that ends in the rows of MCUs of these lines. With 1 for want of memory, 2 where the file is refused, 4 where
 /// the buffer has too little room, and 5 where the picture has no such lines, it is as it was.
 pub fn decode_lines(
@@ -94,5 +96,32 @@ pub fn decode_lines(
             NO_LINES
         }
         Err(undecoded) => tell_why(undecoded, report),
+    }
+}
+
+/// Checks a file: reads each restart interval as a decoder does, makes no picture, and puts the marks into the front of
+/// `marks`, unless that has no room at all: 0, or 3 where an interval is damaged. With 1 for want of memory, 2 where the file is
+/// refused, and 4 where `marks` has too little room, it is as it was.
+pub fn check_marks(
+    alloc: Global,
+    file: &[u8],
+    marks: &mut [u8],
+    report: &mut DecodeReport,
+) -> u32
+    ensures sound { result ≡ 0 → ChecksFile file.now marks.old marks.new report.new }
+    ensures damaged { result ≡ 3 → ChecksFile file.now marks.old marks.new report.new }
+    ensures undamaged { result ≡ 0 → report.new.damaged ≡ 0 }
+    ensures some_damaged { result ≡ 3 → 0 < report.new.damaged }
+    ensures refused { result ≡ 2 → TellsFault file.now report.new.refusal report.new.detail }
+    ensures memory { result ≡ 1 → report.new.refusal ≡ 19 }
+    ensures room { result ≡ 4 → LacksMarkRoom file.now (length marks.old) }
+    ensures room_alone { result ≡ 4 → TellsNoRefusal report.new }
+    ensures unchecked { result ≢ 0 → result ≢ 3 → TellsNoPicture report.new }
+    ensures marks { result ≢ 0 → result ≢ 3 → marks.new ≡ marks.old }
+    ensures few { result ≤ 4 }
+{
+    match check(alloc, file, marks) {
+        Ok(checked) => tell(checked, report),
+        Err(unchecked) => tell_why(unchecked, report),
     }
 }

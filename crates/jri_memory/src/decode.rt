@@ -21,7 +21,7 @@ pub(crate) enum DecodeError {
     NoRoom,
 }
 
-/// DecodesFile a file: its pixels fill the front of `pixels`, and its marks that of `marks`, unless that has no room at all.
+/// Decodes a file: its pixels fill the front of `pixels`, and its marks that of `marks`, unless that has no room at all.
 /// Where it fails nothing is written.
 pub(crate) fn decode(
     alloc: Global,

@@ -5,6 +5,7 @@
 
 mod answers;
 mod calls;
+mod check;
 mod decode;
 mod lines;
 mod measure;
@@ -13,7 +14,7 @@ mod room;
 pub mod status;
 mod text;
 
-pub use calls::{decode_file, decode_lines, measure_file};
+pub use calls::{check_marks, decode_file, decode_lines, measure_file};
 pub use measure::Measure;
 pub use report::DecodeReport;
 pub use text::refusal_text;

@@ -3,7 +3,7 @@
 
 use crate::refused::REFUSALS;
 use jri_memory::status::{DAMAGED, NO_LINES, NO_ROOM, REFUSED, SOUND};
-use jri_memory::{DecodeReport, Measure, decode_file, decode_lines, measure_file, refusal_text};
+use jri_memory::{DecodeReport, Measure, check_marks, decode_file, decode_lines, measure_file, refusal_text};
 use std::alloc::Global;
 use std::process::Abort;
 use std::test::Fail;
@@ -230,6 +230,43 @@ fn puts_marks(rt: HostRuntime) -> Result<(), Fail> {
     let mut pixels = [BEFORE; 640];
     let mut marks = [BEFORE; 11];
     let (answer, report) = told(rt.alloc(), &bytes, &mut pixels, &mut marks);
+    assert!(rt; (answer, report) == (DAMAGED, counted(10, 5, 5)));
+    assert!(rt; marks == [1, 2, 1, 2, 2, 1, 2, 1, 2, 1, BEFORE]);
+    Ok(())
+}
+
+/// What is answered and told of a check with so much room for marks; whether they are as they were where it fails.
+fn checked_with_room(
+    alloc: Global,
+    words: &str,
+    marks: usize,
+) -> Result<(u32, DecodeReport, bool), Fail> {
+    let bytes = file(alloc, words)?;
+    let mut marks = vec![in alloc; BEFORE; marks]?;
+    let mut report = UNWRITTEN;
+    let answer = check_marks(alloc, &bytes, &mut marks, &mut report);
+    Ok((answer, report, is_picture(answer) || is_untouched(&marks)))
+}
+
+#[test]
+fn checks_as_it_decodes(rt: HostRuntime) -> Result<(), Fail> {
+    for (words, _pixels, marks, answer, report) in &decodings() {
+        let found = checked_with_room(rt.alloc(), words, *marks)?;
+        // Room for pixels is nothing to a check.
+        let is_right = *answer == NO_ROOM || found == (*answer, *report, true);
+        assert!(rt; is_right, "{words}: {marks}");
+    }
+    let found = checked_with_room(rt.alloc(), TWO, 1)?;
+    assert!(rt; found == (NO_ROOM, NONE, true));
+    Ok(())
+}
+
+#[test]
+fn puts_marks_without_a_picture(rt: HostRuntime) -> Result<(), Fail> {
+    let bytes = file(rt.alloc(), MIXED)?;
+    let mut marks = [BEFORE; 11];
+    let mut report = UNWRITTEN;
+    let answer = check_marks(rt.alloc(), &bytes, &mut marks, &mut report);
     assert!(rt; (answer, report) == (DAMAGED, counted(10, 5, 5)));
     assert!(rt; marks == [1, 2, 1, 2, 2, 1, 2, 1, 2, 1, BEFORE]);
     Ok(())

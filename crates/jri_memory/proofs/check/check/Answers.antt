@@ -1,0 +1,39 @@
+use Rattle.std.proofs.Common.{◌≡◌, ◌∙◌, ◌+◌, ◌<◌, ◌++◌, List, length, map, take, drop, sym, rules, arith}
+use Rattle.std.specs.Arc.{arc_value}
+use Rattle.jr_picture.specs.declared.mark.Mark.{Mark}
+use Rattle.jr_rows.specs.MarkBytes.{mark_byte}
+use Rattle.jr_rows.proofs.PutMarks.{are_marks}
+use Rattle.jri_memory.specs.Checks.{ArePut}
+use Rattle.jri_memory.proofs.Filled.{filled}
+use Rattle.jri_memory.proofs.check.check.Goals as goal
+
+pub returns-clause-checked : goal.returns-clause-checked
+returns-clause-checked c =
+    let scan = arc_value c.in-Ok.scan in
+    let count = c.intervals-count.result in
+    let asked = c.asked_for-asked.result in
+    let marks = c.mark_intervals-marked.new.marks in
+    let marked = c.mark_intervals-marked.ensures.put in
+    let ms : List Mark = marked.0 in
+    let put : ArePut scan (length scan.intervals) c.mark_intervals-marked.result marks ms = search (rules, marked.1) in
+    let of = c.of.ensures in
+    let all : count ≡ length scan.intervals = search rules in
+    record {
+      scan = scan;
+      each = ms;
+      is = c.in-Ok.ensures.scan;
+      are = put.are;
+      marked = λ there.
+          let these : asked ≡ count = c.asked_for-asked.ensures.all there in
+          let some : 0 < length (take asked c.args.marks.now) = search (rules, arith, these) in
+          let placed : length marks ≡ asked = search (rules, arith, these, c.mark_intervals-marked.ensures.long) in
+          let long : length marks ≡ length ms = placed ∙ these ∙ all ∙ sym put.are.long in
+          let filling : 0 < length marks = search (rules, arith, some, placed) in
+          filled _ _ _ _ (are_marks ms marks long (λ k lt. put.put filling k (omega (arith, lt, put.are.long)))) placed;
+      reported = record {
+        intervals = search rules;
+        counts = record { sound = of.sound ∙ put.sound; damaged = of.damaged ∙ put.damaged; blank = search (rules, arith, of.sound, of.damaged, of.blank, put.all, put.are.long) };
+        ended = search rules;
+        no_fault = of.no_fault;
+      };
+    }

@@ -1,0 +1,90 @@
+//! From the bytes of a file to the marks of its intervals. No picture is made.
+
+ghost use Rattle.std.specs.Prelude.{◌≡◌, ◌≢◌, ◌+◌, ◌<◌, ◌++◌, ◌∷◌, [], List, cond, length, IfOk, IfErr};
+ghost use Rattle.jr_segments.specs.declared.refusal.Refusal.TheVariants as refusal;
+ghost use Rattle.jr_head.specs.Heads.{RefusalOf};
+ghost use Rattle.jr_picture.specs.declared.mark.Mark.{Mark};
+ghost use Rattle.jr_picture.specs.declared.mark.Mark.TheVariants.{Sound, Damaged};
+ghost use Rattle.jr_scan.specs.ScanValue.{interval_of};
+ghost use Rattle.jr_rows.specs.MarkBytes.{HasMarkRoom};
+ghost use Rattle.jri_memory.specs.Checks.{ArePut, ChecksFile, IsMarkOf, LacksMarkRoom};
+
+use crate::decode::DecodeError;
+use crate::report::DecodeReport;
+use crate::room::{asked_for, lacks_room};
+use jr_head::Refusal;
+use jr_picture::Counts;
+use jr_rows::{Marked, put_mark};
+use jr_scan::Scan;
+use jri_archive::damaged_front;
+use jri_engine::scan_of_file;
+use std::alloc::Global;
+
+/// Whether interval i has a decoding.
+fn is_sound(scan: &Scan, i: u32) -> bool
+    requires there { i < length scan.now.intervals }
+    ensures { IsMarkOf (interval_of scan.now i) (cond result Sound Damaged) }
+{
+    match damaged_front(scan.interval_ref(i)) {
+        None => true,
+        Some(_) => false,
+    }
+}
+
+/// Reads interval i, and counts and puts its mark behind those of the intervals before it.
+fn mark_interval(scan: &Scan, i: u32, before: Marked, marks: &mut [u8]) -> Marked
+    requires there { i < length scan.now.intervals }
+    requires room { HasMarkRoom scan.now marks.old }
+    requires few { before.sound + before.damaged ≡ i }
+    ensures long { length marks.new ≡ length marks.old }
+    ensures put { (ms : List Mark) → ArePut scan.now i before marks.old ms → (m : Mark) × ArePut scan.now (i + 1) result marks.new (ms ++ m ∷ []) }
+    ensures few { result.sound + result.damaged ≡ i + 1 }
+{
+    // By its contract a scan has so few intervals that their numbers have room.
+    let _all = scan.intervals();
+    let is_sound = is_sound(scan, i);
+    put_mark(is_sound, i, marks);
+    before.with(Marked::one(is_sound))
+}
+
+/// Reads each interval of a scan once, and counts their marks and puts them, where there is room for marks.
+fn mark_intervals(scan: &Scan, marks: &mut [u8]) -> Marked
+    requires room { HasMarkRoom scan.now marks.old }
+    ensures put { (ms : List Mark) × ArePut scan.now (length scan.now.intervals) result marks.new ms }
+    ensures long { length marks.new ≡ length marks.old }
+{
+    let mut marked = Marked::none();
+    for i in 0..scan.intervals() {
+        marked = mark_interval(scan, i, marked, marks);
+    }
+    marked
+}
+
+/// Checks a file: its marks fill the front of `marks`, unless that has no room at all. Where it fails nothing is written.
+pub(crate) fn check(
+    alloc: Global,
+    file: &[u8],
+    marks: &mut [u8],
+) -> Result<DecodeReport, DecodeError>
+    ensures checked { IfOk result (λ r. ChecksFile file.now marks.old marks.new r) }
+    ensures refused { IfErr result (λ e. (f : Refusal) → e ≡ DecodeError.Refused f → f ≢ refusal.Memory → RefusalOf file.now f) }
+    ensures room { result ≡ Err DecodeError.NoRoom → LacksMarkRoom file.now (length marks.old) }
+    ensures marks { IfErr result (λ _. marks.new ≡ marks.old) }
+{
+    let scan = match scan_of_file(alloc, file) {
+        Ok(scan) => scan,
+        Err(refusal) => return Err(DecodeError::Refused(refusal)),
+    };
+    let count = scan.intervals();
+    if lacks_room(marks, count) {
+        return Err(DecodeError::NoRoom);
+    }
+    let asked = asked_for(marks, count);
+    let marked = mark_intervals(&scan, &mut marks[..asked]);
+    let counts = Counts {
+        sound: marked.sound,
+        damaged: marked.damaged,
+        blank: 0,
+    };
+    Ok(DecodeReport::of(&scan, counts))
+}
