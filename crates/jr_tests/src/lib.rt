@@ -20,6 +20,8 @@ mod head;
 #[cfg(test)]
 mod idct;
 #[cfg(test)]
+mod large_files;
+#[cfg(test)]
 mod paint;
 #[cfg(test)]
 mod pictures;

@@ -121,7 +121,7 @@ fn check_as<R: Threads + Wait + Sync, S: OneScan + Send>(
 }
 
 /// `check_scan` by so many threads where the scan is large: the calling one reads it, and the others make guesses ahead of it.
-/// It takes memory for four guesses and one more for each further thread, each of some 200 KB: the blocks of 1536 data units at
+/// It takes memory for four guesses and one more for each further thread, each of some 400 KB: the blocks of 3072 data units at
 /// most, and where their MCUs start. Where that is refused, the calling thread checks alone.
 pub fn check_scan_by<R: Threads + Wait + Sync>(
     rt: &R,

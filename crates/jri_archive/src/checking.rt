@@ -43,3 +43,28 @@ pub fn check_file<R: Threads + Wait + Sync>(
     let verdict = check_scan_by(rt, alloc, &scan, workers);
     Ok(Checked { scan, verdict })
 }
+
+/// `check_file` in the memory of the file's bytes, which are gone then.
+///
+/// # Errors
+///
+/// As `check_file`.
+pub fn check_file_in_place<R: Threads + Wait + Sync>(
+    rt: &R,
+    alloc: Global,
+    file: Vec<u8>,
+    workers: u32,
+) -> Result<Checked, Refusal>
+    ensures scan { IfOk result (λ c. IsFileScan file.items c.scan) }
+    ensures verdict { IfOk result (λ c. IsVerdictOf c.scan (length c.scan.intervals) c.verdict) }
+    ensures refused { IfErr result (λ fault. fault ≢ refusal.Memory → RefusalOf file.items fault) }
+{
+    let head = read_head(alloc, &file)?;
+    match Scan::cut_in_place(alloc, head, file) {
+        Ok(scan) => {
+            let verdict = check_scan_by(rt, alloc, &scan, workers);
+            Ok(Checked { scan, verdict })
+        }
+        Err(_) => Err(Refusal::Memory),
+    }
+}

@@ -12,8 +12,8 @@ use jr_head::Head;
 use jr_scan::{IntervalRef, McuReader};
 use std::sync::Wait;
 
-/// A reader that goes by guesses asks for them every so many data units, which are some 10 KB of a photo.
-const UNITS_OF_STEP: u32 = 768;
+/// A reader that goes by guesses asks for them every so many data units, which are some 20 KB of a photo.
+const UNITS_OF_STEP: u32 = 1536;
 
 /// A reader that has passed over all whole MCUs of an interval, up to its end or to where none follows.
 fn pass_all(interval: IntervalRef<'_>) -> McuReader<'_>

@@ -4,7 +4,7 @@ ghost use Rattle.std.specs.Prelude.{◌≡◌, ◌≢◌, length, IfOk, true};
 ghost use Rattle.jr_head.specs.Heads.{RefusalOf};
 ghost use Rattle.jri_archive.specs.Outcomes.{IsOutcomeOf, is_all_sound};
 
-use crate::checking::{Checked, check_file};
+use crate::checking::{Checked, check_file, check_file_in_place};
 use jr_head::Refusal;
 use std::alloc::Global;
 use std::sync::Wait;
@@ -43,6 +43,25 @@ pub fn outcome_of<R: Threads + Wait + Sync>(
         Ok(bytes) => match check_file(rt, alloc, bytes.as_slice(), workers) {
             Ok(checked) => Outcome::Checked(checked),
             Err(refusal) => Outcome::Refused(refusal),
+        },
+        Err(ReadError::Read) => Outcome::Unread,
+        Err(ReadError::Memory) => Outcome::Refused(Refusal::Memory),
+    }
+}
+
+/// The same in the memory of the file's bytes, which are gone then.
+pub fn outcome_in_place<R: Threads + Wait + Sync>(
+    rt: &R,
+    alloc: Global,
+    file: Result<Vec<u8>, ReadError>,
+    workers: u32,
+) -> Outcome
+    ensures { IfOk file (λ bytes. IsOutcomeOf bytes.items result) }
+{
+    match file {
+        Ok(bytes) => match check_file_in_place(rt, alloc, bytes, workers) {
+            Ok(checked) => Outcome::Checked(checked),
+            Err(fault) => Outcome::Refused(fault),
         },
         Err(ReadError::Read) => Outcome::Unread,
         Err(ReadError::Memory) => Outcome::Refused(Refusal::Memory),

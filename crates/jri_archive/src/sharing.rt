@@ -1,6 +1,6 @@
 //! Many files, checked by several workers and told in their order.
 
-ghost use Rattle.std.specs.Prelude.{◌≡◌, IfOk};
+ghost use Rattle.std.specs.Prelude.{◌≡◌, IfSome};
 ghost use Rattle.jri_archive.specs.Outcomes.{IsOutcomeOf};
 ghost use Rattle.jri_archive.specs.Status.{told_status};
 ghost use Rattle.jri_archive.specs.Verdicts.{IsFileScan};
@@ -8,7 +8,7 @@ ghost use Rattle.jri_archive.specs.Verdicts.{IsFileScan};
 use crate::answers::CheckRequest;
 use crate::checking::Checked;
 use crate::map::damaged_interval;
-use crate::outcome::{Outcome, ReadError, outcome_of};
+use crate::outcome::{Outcome, ReadError, outcome_in_place, outcome_of};
 use crate::segments::coded_segments;
 use crate::telling::{tell, tell_map};
 use std::alloc::{AllocError, Global};
@@ -67,6 +67,43 @@ impl From<Error> for TellError {
     }
 }
 
+/// What a check of a file came to, and its bytes where a map of the damage needs them.
+#[derive(Drop)]
+struct CheckedFile {
+    outcome: Outcome,
+    bytes: Option<Vec<u8>>,
+}
+
+/// Checks a file, for a map or for its line alone, which takes half the memory.
+fn checked_file<R: Threads + Wait + Sync>(
+    rt: &R,
+    alloc: Global,
+    file: Result<Vec<u8>, ReadError>,
+    has_map: bool,
+    workers: u32,
+) -> CheckedFile
+    ensures { IfSome result.bytes (λ b. IsOutcomeOf b.items result.outcome) }
+{
+    if !has_map {
+        let outcome = outcome_in_place(rt, alloc, file, workers);
+        return CheckedFile {
+            outcome,
+            bytes: None,
+        };
+    }
+    let outcome = outcome_of(rt, alloc, &file, workers);
+    match file {
+        Ok(bytes) => CheckedFile {
+            outcome,
+            bytes: Some(bytes),
+        },
+        Err(_) => CheckedFile {
+            outcome,
+            bytes: None,
+        },
+    }
+}
+
 /// Which file is to be checked next, whose line is due, and where lines go.
 #[derive(Drop)]
 struct FileQueue<O, E> {
@@ -111,18 +148,15 @@ fn write_lines<O: Write>(
     alloc: Global,
     out: &mut O,
     name: &str,
-    file: &Result<Vec<u8>, ReadError>,
-    outcome: &Outcome,
-    has_map: bool,
+    file: &CheckedFile,
 ) -> Result<(), TellError>
-    requires { IfOk file.now (λ bytes. IsOutcomeOf bytes.items outcome.now) }
+    requires { IfSome file.now.bytes (λ b. IsOutcomeOf b.items file.now.outcome) }
 {
     let mut line = String::new(alloc);
-    tell(&mut line, name, outcome)?;
+    tell(&mut line, name, &file.outcome)?;
     out.write_all(line.as_bytes())?;
-    if has_map
-        && let Ok(bytes) = file
-        && let Outcome::Checked(checked) = outcome
+    if let Some(bytes) = &file.bytes
+        && let Outcome::Checked(checked) = &file.outcome
         && checked.verdict.damaged > 0
     {
         write_map(alloc, out, name, bytes.as_slice(), checked)?;
@@ -186,20 +220,13 @@ impl<O: Write, E: Write> FileQueue<O, E> {
     }
 
     /// Tells of the file whose line is due.
-    fn tell(
-        &mut self,
-        alloc: Global,
-        name: &str,
-        file: &Result<Vec<u8>, ReadError>,
-        outcome: &Outcome,
-        has_map: bool,
-    )
-        requires { IfOk file.now (λ bytes. IsOutcomeOf bytes.items outcome.now) }
+    fn tell(&mut self, alloc: Global, name: &str, file: &CheckedFile)
+        requires { IfSome file.now.bytes (λ b. IsOutcomeOf b.items file.now.outcome) }
     {
         self.show_progress(false);
         if !matches!(self.came_to, Told::Unwritten | Told::Memory) {
-            let written = write_lines(alloc, &mut self.out, name, file, outcome, has_map);
-            self.note(outcome, written);
+            let written = write_lines(alloc, &mut self.out, name, file);
+            self.note(&file.outcome, written);
         }
         self.told = self.told.saturating_add(1);
         self.show_progress(true);
@@ -230,19 +257,13 @@ impl<F: Folder + Sync, O: Write + Send + Drop, E: Write + Send + Drop> Sharing<F
             };
             let file = self.folder.read(self.alloc, name.as_str());
             let workers = self.desk.lock(rt).share(self.asked.workers);
-            let outcome = outcome_of(rt, self.alloc, &file, workers);
+            let file = checked_file(rt, self.alloc, file, self.asked.has_map, workers);
             let mut desk = self.desk.lock(rt);
             desk.give_back(workers);
             let mut desk = self
                 .has_told
                 .wait_while(rt, desk, |desk| desk.told != number);
-            desk.tell(
-                self.alloc,
-                name.as_str(),
-                &file,
-                &outcome,
-                self.asked.has_map,
-            );
+            desk.tell(self.alloc, name.as_str(), &file);
             drop(desk);
             self.has_told.notify_all();
         }
@@ -263,8 +284,9 @@ impl<F: Folder + Sync, O: Write + Send + Drop, E: Write + Send + Drop> Sharing<F
 /// Checks each file, so many at once, and writes a line for each, in their order, each by one write; with `has_map` one
 /// for each damaged interval, too. `progress` is told how far it is, where there is one.
 ///
-/// For each worker it takes about twice the memory of the file that it checks: its bytes, and those of its scan without
-/// their stuffing; with `has_map` 16 bytes more for each restart marker, of a file that is told. It gives `out` back.
+/// For each worker it takes about the memory of the file that it checks, in which its scan is cut; with `has_map` about twice
+/// that, its bytes and those of its scan without their stuffing, and 16 bytes more for each restart marker, of a file that is
+/// told. Where several check one large file it takes what `check_scan_by` does. It gives `out` back.
 pub fn check_all<
     R: Threads + Wait + Sync,
     F: Folder + Sync + Drop,
