@@ -2,8 +2,8 @@
 
 use crate::crew::Crew;
 use crate::one_first_intervals::OneFirstIntervals;
-use crate::paint_room::PaintRoom;
 use jr_picture::Gate;
+use std::alloc::Global;
 use std::sync::Wait;
 use std::thread;
 use std::thread::Threads;
@@ -22,13 +22,13 @@ pub(crate) trait Beside {
         ensures { gives self result };
 }
 
-/// Starts a thread for each of these rooms, and runs `beside` in the calling thread. A thread that can't be started is left out.
+/// Starts so many threads, and runs `beside` in the calling thread. A thread that can't be started is left out.
 pub(crate) fn run_beside<
     R: Threads + Wait + Sync,
     G: Gate + Sync,
     S: OneFirstIntervals + Send,
     B: Beside + Drop,
->(crew: &Crew<'_, S>, rt: &R, gate: &G, rooms: Vec<PaintRoom<S>>, beside: B) -> B::Answer
+>(crew: &Crew<'_, S>, rt: &R, gate: &G, alloc: Global, helpers: u32, beside: B) -> B::Answer
     requires { B.may beside }
     ensures { B.gives beside result }
 {
@@ -39,8 +39,8 @@ pub(crate) fn run_beside<
             requires { B.may beside }
             ensures { B.gives beside result }
         {
-            for room in rooms {
-                let _ = scope.spawn(move || { crew.work(rt, gate, room) });
+            for _ in 0..helpers {
+                let _ = scope.spawn(move || { crew.work(rt, gate, alloc) });
             }
             beside.run()
         },

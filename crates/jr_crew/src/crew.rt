@@ -7,19 +7,24 @@ use crate::bench::{Bench, Painted};
 use crate::one_first_intervals::{OneFirstIntervals, ScanOf};
 use crate::paint_room::PaintRoom;
 use crate::row_queue::{PassedRow, RowQueue, RowTask, Waiter};
-use jr_guesses::GuessTask;
+use jr_guesses::{GuessTask, ScanGuess};
 use jr_picture::Gate;
 use jr_rows::{FirstIntervals, intervals_of_row};
+use std::alloc::Global;
 use std::marker::Model;
 use std::sync::{Condvar, Mutex, Wait};
 
 /// More tasks than there are: a row has three at most, and each guess covers bits that no other does.
 pub(crate) const MOST_TASKS: u64 = u64::MAX;
 
+/// So many benches for each thread, where there are as many rows: one that it works at, and one that waits to be painted or
+/// written.
+pub(crate) const BENCHES_OF_ONE: u32 = 2;
+
 /// What the threads share.
 ///
 /// A thread takes from the queue what is to be done next, and does it outside of the lock. A row is begun with a bench, so that
-/// no more rows are begun than there are benches, whose memory is taken before. Where rows are whole intervals, each thread
+/// no more rows are begun than there are benches, whose memory each thread takes as it starts. Where rows are whole intervals, each thread
 /// decodes and paints rows by itself. Else one thread at a time has the reader. Where guesses that others have made ahead of it
 /// cover the next row it passes over it, and the row, a copy of the reader at its start and its bench wait for whoever is free,
 /// who decodes and paints it some MCUs at a time; where none do, it reads the row, whose blocks wait on the bench to be painted
@@ -161,14 +166,45 @@ impl<'a, S: OneFirstIntervals> Crew<'a, S> {
         }
     }
 
-    /// Reads and paints rows until no one is left; the thread paints by this room.
-    pub(crate) fn work<R: Wait, G: Gate>(&self, rt: &R, gate: &G, room: PaintRoom<S>) {
-        let mut room = room;
+    /// Brings a bench, where one is lacking.
+    fn bring_bench<R: Wait>(&self, rt: &R, alloc: Global) {
+        let is_lacking = self.queue.lock(rt).lacks_bench();
+        if is_lacking && let Ok(bench) = Bench::open(alloc, &self.part) {
+            self.give_back(rt, bench);
+        }
+    }
+
+    /// Brings room for a guess, where some is lacking.
+    fn bring_guess<R: Wait>(&self, rt: &R, alloc: Global) {
+        let lacking = self.queue.lock(rt).lacks_guess();
+        if let Some(most) = lacking
+            && let Ok(room) = ScanGuess::open(alloc, self.part.scan(), most)
+        {
+            let waiter = self.queue.lock(rt).bring_guess(room);
+            self.wake(waiter);
+        }
+    }
+
+    /// Takes memory of its own, then reads and paints rows until no one is left. Where memory is refused to it others work without
+    /// it.
+    pub(crate) fn work<R: Wait, G: Gate>(&self, rt: &R, gate: &G, alloc: Global) {
+        let Ok(mut room) = PaintRoom::open(alloc, &self.part) else {
+            return;
+        };
+        for _ in 0..BENCHES_OF_ONE {
+            self.bring_bench(rt, alloc);
+            self.bring_guess(rt, alloc);
+        }
+        self.do_tasks(rt, gate, &mut room);
+    }
+
+    /// Reads and paints rows until no one is left.
+    fn do_tasks<R: Wait, G: Gate>(&self, rt: &R, gate: &G, room: &mut PaintRoom<S>) {
         for _ in 0..MOST_TASKS {
             let Some(task) = self.task(rt) else {
                 return;
             };
-            self.run(rt, gate, task, &mut room);
+            self.run(rt, gate, task, room);
         }
     }
 

@@ -6,7 +6,7 @@ ghost use Rattle.jr_crew.specs.Crew.{HasRow};
 use crate::baton::Baton;
 use crate::bench::{Bench, CodedRow, Painted};
 use crate::one_first_intervals::{OneFirstIntervals, ScanOf};
-use jr_guesses::{GuessQueue, GuessTask};
+use jr_guesses::{GuessQueue, GuessTask, ScanGuess};
 use jr_rows::FirstIntervals;
 use std::collections::VecDeque;
 
@@ -64,6 +64,8 @@ pub(crate) struct RowQueue<'a, S: OneFirstIntervals> {
     /// Nothing is read or painted any more.
     is_over: bool,
     free: Vec<Bench<S>>,
+    /// So many benches nobody brings yet.
+    lacking: u32,
     guesses: GuessQueue<'a, ScanOf<S>>,
     /// In their order.
     passed: VecDeque<PassedRow<'a, S>>,
@@ -79,10 +81,12 @@ pub(crate) struct RowQueue<'a, S: OneFirstIntervals> {
 }
 
 impl<'a, S: OneFirstIntervals> RowQueue<'a, S> {
-    /// No row is read yet. There is room for as many passed, coded and painted rows as there are benches.
+    /// No row is read yet. Threads bring so many benches more. There is room for as many passed, coded and painted rows as there will
+    /// be benches.
     pub(crate) fn of(
         baton: Option<Baton<'a, S>>,
         free: Vec<Bench<S>>,
+        lacking: u32,
         guesses: GuessQueue<'a, ScanOf<S>>,
         passed: VecDeque<PassedRow<'a, S>>,
         coded: VecDeque<CodedRow<S>>,
@@ -94,6 +98,7 @@ impl<'a, S: OneFirstIntervals> RowQueue<'a, S> {
             baton,
             is_over: false,
             free,
+            lacking,
             guesses,
             passed,
             coded,
@@ -101,6 +106,24 @@ impl<'a, S: OneFirstIntervals> RowQueue<'a, S> {
             waiting: 0,
             awaited: None,
         }
+    }
+
+    /// Whether a thread is to bring a bench.
+    pub(crate) fn lacks_bench(&mut self) -> bool {
+        let is_lacking = self.lacking > 0;
+        self.lacking = self.lacking.saturating_sub(1);
+        is_lacking
+    }
+
+    /// For how many MCUs a thread is to bring room for a guess, where it is to bring some.
+    pub(crate) fn lacks_guess(&mut self) -> Option<u32> {
+        self.guesses.lacks_room()
+    }
+
+    /// Room for a guess, which a thread brings. Answers who is to be woken.
+    pub(crate) fn bring_guess(&mut self, room: ScanGuess<'a, ScanOf<S>>) -> Option<Waiter> {
+        self.guesses.bring(room);
+        self.waiter()
     }
 
     /// A thread begins to wait for something to do.

@@ -13,7 +13,7 @@ ghost use Rattle.jr_stream.specs.Stream.{WritesPicture, BeginsPicture, SendsPict
 use crate::baton::Baton;
 use crate::bench::{Bench, Painted};
 use crate::beside::run_beside;
-use crate::crew::Crew;
+use crate::crew::{BENCHES_OF_ONE, Crew};
 use crate::one_first_intervals::{OneFirstIntervals, ScanOf};
 use crate::paint_room::PaintRoom;
 use crate::row_queue::RowQueue;
@@ -32,10 +32,6 @@ use std::marker::Brand;
 use std::sync::Wait;
 use std::thread::Threads;
 
-/// So many benches for each thread, where there are as many rows: one that it works at, and one that waits to be painted or
-/// written.
-const BENCHES_OF_ONE: u32 = 2;
-
 /// Guesses are worth their work where there are benches for three threads: two are as fast where one reads and one paints.
 const LEAST_BENCHES: u32 = 3 * BENCHES_OF_ONE;
 
@@ -51,15 +47,16 @@ const LEAST_MCUS: u32 = 512;
 /// So many intervals are looked at to find a long one: a head may claim millions.
 const MOST_LOOKED_AT: u32 = 1024;
 
-/// So many benches.
+/// So many benches, of `all` that there will be.
 fn open_benches<S: OneFirstIntervals>(
     alloc: Global,
     part: &FirstIntervals<'_>,
     count: u32,
+    all: u32,
 ) -> Result<Vec<Bench<S>>, Memory>
     requires { S.part ≡ Some part.now }
 {
-    let mut benches = Vec::with_capacity(alloc, count as usize)?;
+    let mut benches = Vec::with_capacity(alloc, all as usize)?;
     for _ in 0..count {
         benches.push(Bench::open(alloc, part)?)?;
     }
@@ -98,21 +95,19 @@ fn guesses_of(part: &FirstIntervals<'_>, count: u32) -> u32 {
     most.min(u64::from(count)) as u32
 }
 
-/// Room for guesses beside so many benches. A step of the reader is a row of MCUs.
+/// A queue of guesses beside so many benches. A step of the reader is a row of MCUs.
 fn open_guesses<'a, S: OneFirstIntervals>(
     alloc: Global,
     part: &FirstIntervals<'a>,
     count: u32,
-) -> Result<GuessQueue<'a, ScanOf<S>>, Memory>
-    requires { S.part ≡ Some part.now }
-{
+) -> Result<GuessQueue<'a, ScanOf<S>>, Memory> {
     let guesses = guesses_of(part, count);
     let across = shape_of(part.scan().head()).across;
     let most = across.saturating_mul(ROWS_OF_GUESS).max(LEAST_MCUS);
     GuessQueue::open(alloc, part.scan(), part.limit(), guesses, across, most)
 }
 
-/// A queue of so many benches.
+/// A queue of so many benches, of which those of the calling thread are there.
 fn open_queue<'a, S: OneFirstIntervals>(
     alloc: Global,
     part: &FirstIntervals<'a>,
@@ -120,46 +115,41 @@ fn open_queue<'a, S: OneFirstIntervals>(
 ) -> Result<RowQueue<'a, S>, Memory>
     requires { S.part ≡ Some part.now }
 {
-    let free = open_benches(alloc, part, count)?;
+    let own = count.min(BENCHES_OF_ONE);
+    let free = open_benches(alloc, part, own, count)?;
     let guesses = open_guesses(alloc, part, count)?;
     let passed = VecDeque::with_capacity(alloc, count as usize)?;
     let coded = VecDeque::with_capacity(alloc, count as usize)?;
     let painted = open_places(alloc, count)?;
-    Ok(RowQueue::of(Baton::of(part), free, guesses, passed, coded, painted))
+    Ok(RowQueue::of(
+        Baton::of(part),
+        free,
+        count - own,
+        guesses,
+        passed,
+        coded,
+        painted,
+    ))
 }
 
-/// Room for painting, for so many threads.
-fn open_rooms<S: OneFirstIntervals>(
-    alloc: Global,
-    part: &FirstIntervals<'_>,
-    count: u32,
-) -> Result<Vec<PaintRoom<S>>, Memory>
-    requires { S.part ≡ Some part.now }
-{
-    let mut rooms = Vec::with_capacity(alloc, count as usize)?;
-    for _ in 0..count {
-        rooms.push(PaintRoom::open(alloc, part)?)?;
-    }
-    Ok(rooms)
-}
-
-/// Writes what a crew paints: the calling thread, which has `room`, and one for each of `rooms`.
+/// Writes what a crew paints: the calling thread, which has `room`, and so many others.
 fn write_by_crew<R: Threads + Wait + Sync, W: Write, G: Gate + Sync, S: OneFirstIntervals + Send>(
     crew: &Crew<'_, S>,
     rt: &R,
     gate: &G,
-    room: PaintRoom<S>,
-    rooms: Vec<PaintRoom<S>>,
-    pixels: Vec<u8>,
+    alloc: Global,
+    helpers: u32,
+    caller: (PaintRoom<S>, Vec<u8>),
     out: &mut Tally<W>,
 ) -> Result<Marked, WriteFault>
     requires unfailed { has_failed out.old ≡ false }
-    requires pixels { 8 * vertical_max crew.now.scan.head * line_size crew.now.scan.head ≤ length pixels.items }
-    requires header { HEADER_ROOM ≤ length pixels.items }
+    requires pixels { 8 * vertical_max crew.now.scan.head * line_size crew.now.scan.head ≤ length caller.1.items }
+    requires header { HEADER_ROOM ≤ length caller.1.items }
     ensures counts { IfOk result (CountsRows crew.now.scan crew.now.limit) }
     ensures failed { has_failed out.new ≡ is_err result }
     ensures sent { SendsPicture W.contents out.old out.new result crew.now.scan crew.now.limit }
 {
+    let (room, pixels) = caller;
     let sending = Sending {
         crew,
         rt,
@@ -168,7 +158,7 @@ fn write_by_crew<R: Threads + Wait + Sync, W: Write, G: Gate + Sync, S: OneFirst
         pixels,
         out,
     };
-    let (sent, _out) = run_beside(crew, rt, gate, rooms, sending);
+    let (sent, _out) = run_beside(crew, rt, gate, alloc, helpers, sending);
     sent
 }
 
@@ -204,14 +194,11 @@ fn write_as<R: Threads + Wait + Sync, W: Write, G: Gate + Sync, S: OneFirstInter
     let Ok(room) = PaintRoom::open(alloc, &part) else {
         return Err(PictureError::Memory);
     };
-    let Ok(rooms) = open_rooms(alloc, &part, workers - 1) else {
-        return Err(PictureError::Memory);
-    };
     let Ok(pixels) = vec![in alloc; 0; room_for(scan.head())] else {
         return Err(PictureError::Memory);
     };
     let crew = Crew::of(part, queue);
-    match write_by_crew(&crew, rt, gate, room, rooms, pixels, out) {
+    match write_by_crew(&crew, rt, gate, alloc, workers - 1, (room, pixels), out) {
         Ok(marked) => Ok(counts_of(scan, limit, marked)),
         Err(_) => Err(PictureError::Write),
     }
@@ -221,9 +208,10 @@ fn write_as<R: Threads + Wait + Sync, W: Write, G: Gate + Sync, S: OneFirstInter
 /// the other. The calling thread is one of them, and writes. No more threads work than there are rows. The gate is told each
 /// interval that is decoded; no piece is made.
 ///
-/// It takes all memory that it needs before it writes the first byte, and none for the picture: for each worker two rows of
-/// MCUs, or for those that there are, and room to decode and paint by; and where guesses are made, with each of these rows room
-/// for a guess, the blocks of two rows of MCUs, or of 512 MCUs where that is more.
+/// The calling thread takes all memory that it needs before it writes the first byte, and none for the picture: for two rows of
+/// MCUs, and room to decode and paint by. Each other thread takes as much as it starts, and where guesses are made room for two of
+/// them, each the blocks of two rows of MCUs, or of 512 MCUs where that is more; where that is refused, it works with less or not
+/// at all.
 ///
 /// Where a row has whole intervals, each worker decodes and paints its rows by itself. Else one at a time has the reader. From
 /// three workers on, where an interval has some 128 KB of data, the others make guesses ahead of it. A row that these cover it

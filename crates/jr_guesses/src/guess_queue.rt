@@ -41,6 +41,10 @@ pub struct GuessQueue<'a, S: OneScan> {
     /// How many intervals are read.
     limit: u32,
     slots: Vec<GuessSlot<'a, S>>,
+    /// For so many guesses nobody brings room yet.
+    lacking: u32,
+    /// For so many MCUs a guess has room.
+    most: u32,
     /// Where the reader stands: its interval and its bit.
     at: (u32, u64),
     /// Where the next guess starts.
@@ -50,8 +54,8 @@ pub struct GuessQueue<'a, S: OneScan> {
 }
 
 impl<'a, S: OneScan> GuessQueue<'a, S> {
-    /// Room for so many guesses of the first `limit` intervals, each for `most` MCUs; none is made yet. The reader stands at the
-    /// start, and its steps are of `step` MCUs. A guess has about the bits of one step, so its room is for more.
+    /// A queue of at most so many guesses of the first `limit` intervals, for which threads bring room: `most` MCUs each. The reader
+    /// stands at the start, and its steps are of `step` MCUs. A guess has about the bits of one step, so its room is for more.
     ///
     /// # Errors
     ///
@@ -64,21 +68,36 @@ impl<'a, S: OneScan> GuessQueue<'a, S> {
         step: u32,
         most: u32,
     ) -> Result<GuessQueue<'a, S>, Memory>
-        requires { S.scan ≡ Some scan.now }
         ensures { IfOk result (λ q. q.at ≡ (0, 0)) }
     {
-        let mut slots = Vec::with_capacity(alloc, guesses as usize)?;
-        for _ in 0..guesses {
-            slots.push(GuessSlot::of(ScanGuess::open(alloc, scan, most)?))?;
-        }
         Ok(GuessQueue {
             scan,
             limit,
-            slots,
+            slots: Vec::with_capacity(alloc, guesses as usize)?,
+            lacking: guesses,
+            most,
             at: (0, 0),
             next: (0, 0),
             step_bits: bits_of_step(scan, step),
         })
+    }
+
+    /// For how many MCUs a thread is to bring room for a guess; None where all have room, or others bring it.
+    pub fn lacks_room(&mut self) -> Option<u32>
+        ensures { self.new.at ≡ self.old.at }
+    {
+        if self.lacking == 0 {
+            return None;
+        }
+        self.lacking -= 1;
+        Some(self.most)
+    }
+
+    /// Room for a guess more, which a thread brings.
+    pub fn bring(&mut self, room: ScanGuess<'a, S>)
+        ensures { self.new.at ≡ self.old.at }
+    {
+        let _ = self.slots.push(GuessSlot::of(room));
     }
 
     /// The reader stands at this bit of an interval.

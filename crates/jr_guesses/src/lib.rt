@@ -11,3 +11,4 @@ mod window;
 pub use guess_queue::{GuessQueue, windows_of};
 pub use guess_task::GuessTask;
 pub use one_scan::OneScan;
+pub use scan_guess::ScanGuess;

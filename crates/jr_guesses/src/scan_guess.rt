@@ -13,7 +13,7 @@ use std::sync::Arc;
 
 /// A guess of an interval of the scan, or room for one. Several threads may read it.
 #[derive(Drop)]
-pub(crate) struct ScanGuess<'a, S: OneScan> {
+pub struct ScanGuess<'a, S: OneScan> {
     guess: Arc<Guess<'a>>,
     of: PhantomData<S>,
 }
@@ -32,7 +32,7 @@ impl<'a, S: OneScan> Model for ScanGuess<'a, S> {
 
 impl<'a, S: OneScan> ScanGuess<'a, S> {
     /// Room for a guess of so many MCUs.
-    pub(crate) fn open(alloc: Global, scan: &'a Scan, most: u32) -> Result<ScanGuess<'a, S>, Memory>
+    pub fn open(alloc: Global, scan: &'a Scan, most: u32) -> Result<ScanGuess<'a, S>, Memory>
         requires { S.scan ≡ Some scan.now }
     {
         // By its contract a scan has an interval.

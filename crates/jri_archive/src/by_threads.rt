@@ -71,6 +71,7 @@ impl<'s, 'a, R: Wait, S: OneScan> Beside for Reading<'s, 'a, R, S> {
 fn run_beside<R: Threads + Wait + Sync, S: OneScan + Send, B: Beside + Drop>(
     scan: &SharedScan<'_, S>,
     rt: &R,
+    alloc: Global,
     helpers: u32,
     beside: B,
 ) -> B::Answer
@@ -83,7 +84,7 @@ fn run_beside<R: Threads + Wait + Sync, S: OneScan + Send, B: Beside + Drop>(
             ensures { B.gives beside result }
         {
             for _ in 0..helpers {
-                let _ = scope.spawn(move || { scan.work(rt) });
+                let _ = scope.spawn(move || { scan.work(rt, alloc) });
             }
             beside.run()
         },
@@ -114,15 +115,15 @@ fn check_as<R: Threads + Wait + Sync, S: OneScan + Send>(
     match guesses {
         Ok(guesses) => {
             let shared = SharedScan::of(scan, guesses);
-            run_beside(&shared, rt, helpers, Reading { scan: &shared, rt })
+            run_beside(&shared, rt, alloc, helpers, Reading { scan: &shared, rt })
         }
         Err(_) => check_scan(scan),
     }
 }
 
 /// `check_scan` by so many threads where the scan is large: the calling one reads it, and the others make guesses ahead of it.
-/// It takes memory for four guesses and one more for each further thread, each of some 400 KB: the blocks of 3072 data units at
-/// most, and where their MCUs start. Where that is refused, the calling thread checks alone.
+/// The others take memory for four guesses and one more for each of them, each of some 400 KB: the blocks of 3072 data units at
+/// most, and where their MCUs start. Where that is refused they make fewer.
 pub fn check_scan_by<R: Threads + Wait + Sync>(
     rt: &R,
     alloc: Global,

@@ -4,8 +4,9 @@ ghost use Rattle.std.specs.Prelude.{◌≡◌, Some};
 ghost use Rattle.jr_scan.specs.Guesses.{AreGuessesOf};
 ghost use Rattle.jr_scan.specs.ScanValue.{interval_of};
 
-use jr_guesses::{GuessQueue, GuessTask, OneScan};
+use jr_guesses::{GuessQueue, GuessTask, OneScan, ScanGuess};
 use jr_scan::{Guesses, Scan};
+use std::alloc::Global;
 use std::marker::Model;
 use std::sync::{Condvar, Mutex, Wait};
 
@@ -113,8 +114,27 @@ impl<'a, S: OneScan> SharedScan<'a, S> {
         }
     }
 
-    /// Makes guesses until all is read.
-    pub(crate) fn work<R: Wait>(&self, rt: &R) {
+    /// Brings room for guesses as long as some is lacking. Where memory is refused others make those that have room.
+    fn bring<R: Wait>(&self, rt: &R, alloc: Global) {
+        for _ in 0..MOST_GUESSES {
+            let lacking = self.guessing.lock(rt).guesses.lacks_room();
+            let Some(most) = lacking else {
+                return;
+            };
+            let Ok(room) = ScanGuess::open(alloc, self.scan, most) else {
+                return;
+            };
+            let mut guessing = self.guessing.lock(rt);
+            guessing.guesses.bring(room);
+            if guessing.is_waited_for() {
+                self.has_room.notify_one();
+            }
+        }
+    }
+
+    /// Takes memory of its own, and makes guesses until all is read.
+    pub(crate) fn work<R: Wait>(&self, rt: &R, alloc: Global) {
+        self.bring(rt, alloc);
         for _ in 0..MOST_GUESSES {
             let Some(task) = self.task(rt) else {
                 return;
