@@ -17,6 +17,9 @@ use std::thread::Threads;
 /// Threads are worth their start where the data of the scan's intervals have bits for so many guesses: some 256 KB.
 const LEAST_WINDOWS: u64 = 64;
 
+/// And one more for each so many: some 128 KB.
+const WINDOWS_OF_ONE: u64 = 32;
+
 /// So many intervals are looked at to see that: a head may claim millions.
 const MOST_LOOKED_AT: u32 = 1024;
 
@@ -26,13 +29,16 @@ const WAITING_GUESSES: u32 = 4;
 /// A guess has room for the MCUs of so many steps, since its bits are about those of one.
 const STEPS_OF_GUESS: u32 = 2;
 
-/// Whether guesses of the scan are worth their work.
-fn is_large(scan: &Scan) -> bool {
+/// How many of so many threads are worth their start beside the one that reads.
+fn helpers_of(scan: &Scan, threads: u32) -> u32 {
     let mut windows: u64 = 0;
     for i in 0..scan.intervals().min(MOST_LOOKED_AT) {
         windows = windows.saturating_add(windows_of(scan, i));
     }
-    windows >= LEAST_WINDOWS
+    if windows < LEAST_WINDOWS {
+        return 0;
+    }
+    (windows / WINDOWS_OF_ONE).min(u64::from(threads)) as u32
 }
 
 /// What the calling thread does while others make guesses: a type of its own, since the prover passes on what a scope's closure
@@ -121,8 +127,8 @@ fn check_as<R: Threads + Wait + Sync, S: OneScan + Send>(
     }
 }
 
-/// `check_scan` by so many threads where the scan is large: the calling one reads it, and the others make guesses ahead of it.
-/// The others take memory for four guesses and one more for each of them, each of some 400 KB: the blocks of 3072 data units at
+/// `check_scan` by so many threads at most where the scan is large: the calling one reads it, and the others make guesses ahead of it.
+/// These take memory for four guesses and one more for each of them, each of some 400 KB: the blocks of 3072 data units at
 /// most, and where their MCUs start. Where that is refused they make fewer.
 pub fn check_scan_by<R: Threads + Wait + Sync>(
     rt: &R,
@@ -132,8 +138,8 @@ pub fn check_scan_by<R: Threads + Wait + Sync>(
 ) -> Verdict
     ensures { IsVerdictOf scan.now (length scan.now.intervals) result }
 {
-    let helpers = workers.saturating_sub(1);
-    if helpers == 0 || !is_large(scan) {
+    let helpers = helpers_of(scan, workers.saturating_sub(1));
+    if helpers == 0 {
         return check_scan(scan);
     }
     check_as::<R, Brand>(rt, alloc, scan, helpers)

@@ -1,4 +1,3 @@
-use Rattle.std.proofs.Common.{◌≡◌}
 use Rattle.jr_guesses.specs.Guessing.{AreGuesses}
 use Rattle.jr_guesses.proofs.guess_queue.GuessQueue.for_next.Given as goal
 
