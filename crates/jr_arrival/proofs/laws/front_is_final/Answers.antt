@@ -1,5 +1,6 @@
+use Rattle.std.proofs.Common.{rules}
 use Rattle.jr_arrival.proofs.RunsGoOn as laws
 use Rattle.jr_arrival.proofs.laws.front_is_final.Goals as goal
 
 pub returns : goal.returns
-returns c = laws.front_is_final
+returns c = λ i more k blocks front. search (rules, laws.front_is_final i more k blocks front)

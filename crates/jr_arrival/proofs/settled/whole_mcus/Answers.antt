@@ -1,4 +1,4 @@
-use Rattle.std.proofs.Common.{◌≡◌, [], inl, inr, sym, ap, subst, ◌∙◌, arith}
+use Rattle.std.proofs.Common.{◌≡◌, [], inl, inr, sym, ap, subst, ◌∙◌, arith, rules}
 use Rattle.std.proofs.lemmas.Bool.{cases_lt}
 use Rattle.jr_scan.specs.IntervalValue.{IntervalValue}
 use Rattle.jr_scan.specs.Mcus.{HasLongestFront}
@@ -17,4 +17,5 @@ returns-clause-front c =
       | inl l ↦ c.skip-whole.ensures.ended l
       | inr g ↦ inl (omega (arith, g, all, c.skip-whole.ensures.mcus, c.skip-whole.ensures.few, c.over-reader.ensures.mcu))
     ] in
-    subst (λ (v : IntervalValue). HasLongestFront v c.mcus.result) c.interval_ref-interval.ensures (passed.0, c.mcus.ensures.front i passed.0 ((run, passed.3), ended))
+    let front = subst (λ (v : IntervalValue). HasLongestFront v c.mcus.result) c.interval_ref-interval.ensures (passed.0, c.mcus.ensures.front i passed.0 ((run, passed.3), ended)) in
+    search (rules, front)
