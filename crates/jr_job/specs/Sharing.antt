@@ -4,6 +4,7 @@ use Rattle.std.specs.Option.{IfSome}
 use Rattle.std.specs.declared.sync.Arc.{Arc}
 use Rattle.std.specs.declared.alloc.Global.{Global}
 use Rattle.std.specs.Arc.{arc_value}
+use Rattle.jr_scan.specs.Guesses.{AreGuessesOf}
 use Rattle.jr_scan.specs.IntervalValue.{IntervalValue}
 use Rattle.jr_scan.specs.ScanValue.{ScanValue, HasInterval}
 use Rattle.jr_piece.specs.StripValue.{StripValue}
@@ -32,9 +33,14 @@ pub record IsEndOf (scan : Option ScanValue) (e : End) : Type 0 where
 
 abbrev pub interval_of_strip : WaitingStrip → IntervalValue
 interval_of_strip (Coded s) = s.interval
-interval_of_strip (Placed s) = s.interval
+interval_of_strip (Placed s guesses) = s.interval
+
+-- the guesses that a strip is read by are of its interval
+abbrev pub HasItsGuesses : WaitingStrip → Type 0
+HasItsGuesses (Coded s) = Unit {0}
+HasItsGuesses (Placed s guesses) = AreGuessesOf s.interval guesses
 
 -- what follows is of an interval of the scan
 abbrev pub IsNextOf : Option ScanValue → Next → Type 0
-IsNextOf scan (Strip s) = IsOneOf scan (interval_of_strip s)
+IsNextOf scan (Strip s) = IsOneOf scan (interval_of_strip s) × HasItsGuesses s
 IsNextOf scan (Ended e) = IsEndOf scan e

@@ -7,9 +7,9 @@ ghost use Rattle.jr_scan.specs.IntervalValue.{IntervalValue};
 ghost use Rattle.jr_job.specs.Sharing.{IsOneOf, IsEmptyOrOf, IsEndOf};
 ghost use Rattle.jr_piece.specs.Strips.{AreOf, TellsEnd, shared_strips};
 
-use crate::one_scan::OneScan;
 use crate::reading::{End, strip_mcus};
 use jr_code::Memory;
+use jr_guesses::OneScan;
 use jr_piece::Strip;
 use jr_scan::Interval;
 use std::alloc::Global;

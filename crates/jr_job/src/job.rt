@@ -1,36 +1,50 @@
 //! One long interval, decoded by several workers.
 
-ghost use Rattle.std.specs.Prelude.{◌≡◌, Some, IfOk, IfSome};
+ghost use Rattle.std.specs.Prelude.{◌≡◌, ◌<◌, Some, IfOk, IfSome, length};
+ghost use Rattle.jr_scan.specs.ScanValue.{interval_of};
 ghost use Rattle.std.specs.Arc.{arc_value};
 ghost use Rattle.jr_job.specs.Sharing.{IsOneOf};
 
 use crate::gathered::Gathered;
-use crate::one_scan::OneScan;
 use crate::progress::{Progress, ScanStrip, StripTask};
-use crate::reading::Reading;
+use crate::reading::{Reading, strip_mcus};
 use jr_code::Memory;
+use jr_guesses::{GuessQueue, GuessTask, OneScan, windows_of};
 use jr_piece::{Piece, Strip};
 use jr_scan::{Interval, Scan};
 use std::alloc::Global;
 use std::marker::Model;
 use std::sync::{Arc, Condvar, Mutex, Wait};
 
-/// By so many workers and more strips are passed over: to pass over an MCU takes most of the time that it takes to read it.
-const LEAST_PASSING: usize = 3;
+/// Guesses are worth their work by so many workers and more: two are as fast where one reads and one transforms.
+const LEAST_GUESSING: usize = 3;
 
-/// An interval that several workers decode, and whoever is free decodes a strip. Where they are three or more, one of them
-/// passes over strip after strip, and each is read from its place on by the worker that decodes it; where they are fewer,
-/// one of them reads, since two read and pass over no sooner than one reads. So nobody waits for the reader but who has
-/// nothing else to do.
+/// Guesses are worth their memory where the data of the interval have bits for so many: some 128 KB.
+const LEAST_WINDOWS: u64 = 32;
+
+/// There is room for so many guesses a worker: one that it makes, and one that strips are read by.
+const GUESSES_OF_ONE: u32 = 2;
+
+/// No more than so many workers have room for guesses.
+const MOST_WORKERS: usize = 64;
+
+/// More tasks than there are: each reads or decodes a strip, or makes a guess of bits that no other has.
+const MOST_TASKS: u64 = u64::MAX;
+
+/// An interval that several workers decode, a strip at a time, each by whoever is free. One of them reads strip after strip.
+/// By three and more, guesses are made ahead: where they cover a strip it is passed over, and read by them, from the place
+/// where it starts, by the worker that decodes it. So nobody waits for the reader but who has nothing else to do.
 #[derive(Drop)]
-pub struct Job<S: OneScan> {
+pub struct Job<'a, S: OneScan> {
+    scan: &'a Scan,
     interval: Arc<Interval>,
-    progress: Mutex<Progress<S>>,
-    /// Somebody has read a strip, or all.
+    progress: Mutex<Progress<'a, S>>,
+    /// Somebody has read a strip, or all, or made a guess.
     has_read: Condvar,
 }
 
-impl<S: OneScan> Model for Job<S> {
+impl<'a, S: OneScan> Model for Job<'a, S> {
+    ghost use Rattle.std.specs.Prelude.{◌≡◌, Some};
     ghost use Rattle.std.specs.Arc.{arc_value};
     ghost use Rattle.jr_scan.specs.IntervalValue.{IntervalValue};
     ghost use Rattle.jr_job.specs.Sharing.{IsOneOf};
@@ -39,22 +53,49 @@ impl<S: OneScan> Model for Job<S> {
 
     ghost view = { λ j. arc_value j.interval };
 
-    ghost invariant = { λ j. IsOneOf S.scan (arc_value j.interval) };
+    ghost invariant = { λ j. IsOneOf S.scan (arc_value j.interval) × (S.scan ≡ Some j.scan.now) };
 }
 
-impl<S: OneScan> Job<S> {
-    /// A job for so many workers, of which nothing is done yet. `Err` where memory is refused.
-    pub fn open(alloc: Global, interval: Interval, workers: usize) -> Result<Job<S>, Memory>
-        requires { IsOneOf S.scan interval }
-        ensures { IfOk result (λ j. j ≡ interval) }
+/// Room for guesses of interval i of a scan by so many workers. None where they are not worth their work, or where memory is
+/// refused.
+fn open_guesses<'a, S: OneScan>(
+    alloc: Global,
+    scan: &'a Scan,
+    i: u32,
+    workers: usize,
+) -> Option<GuessQueue<'a, S>>
+    requires scan { S.scan ≡ Some scan.now }
+    requires i { i < length scan.now.intervals }
+{
+    let windows = windows_of(scan, i);
+    if workers < LEAST_GUESSING || windows < LEAST_WINDOWS {
+        return None;
+    }
+    let most = workers.min(MOST_WORKERS) as u32 * GUESSES_OF_ONE;
+    let count = windows.min(u64::from(most)) as u32;
+    let step = strip_mcus(&scan.interval(i).ok()?);
+    let mut queue = GuessQueue::open(alloc, scan, i.saturating_add(1), count, step).ok()?;
+    if i > 0 {
+        queue.reach(i, 0);
+    }
+    Some(queue)
+}
+
+impl<'a, S: OneScan> Job<'a, S> {
+    /// A job of interval i of a scan for so many workers, of which nothing is done yet. `Err` where memory is refused.
+    pub fn open(alloc: Global, scan: &'a Scan, i: u32, workers: usize) -> Result<Job<'a, S>, Memory>
+        requires scan { S.scan ≡ Some scan.now }
+        requires i { i < length scan.now.intervals }
+        ensures { IfOk result (λ j. j ≡ interval_of scan.now i) }
     {
-        let interval = Arc::new(alloc, interval)?;
-        let passes = workers >= LEAST_PASSING;
-        let reading = Reading::of(Arc::try_clone(&interval)?, passes);
+        let interval = Arc::new(alloc, scan.interval(i)?)?;
+        let reading = Reading::of(Arc::try_clone(&interval)?);
+        let guesses = open_guesses(alloc, scan, i, workers);
         let gathered = Gathered::of(alloc, Arc::try_clone(&interval)?);
         let most_waiting = workers.saturating_sub(1).max(1);
-        let progress = Progress::of(alloc, reading, gathered, most_waiting);
+        let progress = Progress::of(alloc, reading, guesses, gathered, most_waiting);
         Ok(Job {
+            scan,
             interval,
             progress: Mutex::new(progress),
             has_read: Condvar::new(),
@@ -69,16 +110,16 @@ impl<S: OneScan> Job<S> {
     }
 
     /// What to do next, once there is something.
-    fn task<R: Wait>(&self, rt: &R) -> StripTask<S> {
+    fn task<R: Wait>(&self, rt: &R) -> Option<StripTask<'a, S>> {
         let progress = self.progress.lock(rt);
         let mut progress = self
             .has_read
             .wait_while(rt, progress, |progress| progress.has_no_task());
-        progress.task()
+        progress.task(self.scan)
     }
 
-    /// Reads a strip, and wakes whoever waits for one.
-    fn read<R: Wait>(&self, rt: &R, alloc: Global, mut reading: Reading<S>) {
+    /// Reads a strip or passes over it, and wakes whoever waits for one.
+    fn read<R: Wait>(&self, rt: &R, alloc: Global, mut reading: Reading<'a, S>) {
         let next = reading.next(alloc);
         let is_over = self.progress.lock(rt).put(reading, next);
         if is_over {
@@ -88,12 +129,19 @@ impl<S: OneScan> Job<S> {
         }
     }
 
+    /// Makes a guess, and wakes whoever waits for it.
+    fn guess<R: Wait>(&self, rt: &R, task: GuessTask<'a, S>) {
+        let made = task.make(self.scan);
+        self.progress.lock(rt).put_guess(made);
+        self.has_read.notify_one();
+    }
+
     /// Decodes a strip and keeps it.
     fn decode<R: Wait>(
         &self,
         rt: &R,
         alloc: Global,
-        waiting: ScanStrip<S>,
+        waiting: ScanStrip<'a, S>,
     ) -> Result<Arc<Strip>, Memory>
         ensures { IfOk result (λ s. (arc_value s).interval ≡ self.now) }
     {
@@ -121,9 +169,10 @@ impl<S: OneScan> Job<S> {
     pub fn step<R: Wait>(&self, rt: &R, alloc: Global) -> Option<Arc<Strip>>
         ensures { IfSome result (λ s. (arc_value s).interval ≡ self.now) }
     {
-        for _ in 0..=self.interval.mcus() {
-            match self.task(rt) {
+        for _ in 0..MOST_TASKS {
+            match self.task(rt)? {
                 StripTask::Read(reading) => self.read(rt, alloc, reading),
+                StripTask::Guess(task) => self.guess(rt, task),
                 StripTask::Decode(waiting) => {
                     let strip = self.decode(rt, alloc, waiting).ok();
                     if strip.is_none() {

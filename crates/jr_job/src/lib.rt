@@ -3,11 +3,10 @@
 
 mod gathered;
 mod job;
-mod one_scan;
 mod progress;
 mod reading;
 mod waiting_strip;
 
 pub use job::Job;
-pub use one_scan::OneScan;
+pub use jr_guesses::OneScan;
 pub use reading::strip_mcus;

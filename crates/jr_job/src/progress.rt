@@ -1,18 +1,20 @@
 //! How far a shared interval is, and what its workers do next.
 
-ghost use Rattle.std.specs.Prelude.{◌≡◌, IfOk, IfSome};
+ghost use Rattle.std.specs.Prelude.{◌≡◌, Some, IfOk, IfSome};
 ghost use Rattle.std.specs.Arc.{arc_value};
-ghost use Rattle.jr_job.specs.Sharing.{IsOneOf, IsNextOf, interval_of_strip};
+ghost use Rattle.jr_job.specs.Sharing.{IsOneOf, IsNextOf, interval_of_strip, HasItsGuesses};
+ghost use Rattle.jr_scan.specs.Guesses.{AreGuessesOf};
+ghost use Rattle.jr_scan.specs.ScanValue.{interval_of};
 ghost use Rattle.jr_piece.specs.Strips.{AreOf, TellsEnd, shared_strips};
 
 use crate::gathered::Gathered;
-use crate::one_scan::OneScan;
 use crate::reading::{End, Next, Reading};
 use crate::waiting_strip::WaitingStrip;
 use jr_block::Coefficients;
 use jr_code::Memory;
+use jr_guesses::{GuessQueue, GuessTask, OneScan};
 use jr_piece::Strip;
-use jr_scan::Interval;
+use jr_scan::{Guesses, Scan};
 use std::alloc::Global;
 use std::collections::VecDeque;
 use std::marker::{Model, PhantomData};
@@ -20,26 +22,27 @@ use std::sync::Arc;
 
 /// A strip of an interval of the scan that waits.
 #[derive(Drop)]
-pub(crate) struct ScanStrip<S: OneScan> {
-    strip: WaitingStrip,
+pub(crate) struct ScanStrip<'a, S: OneScan> {
+    strip: WaitingStrip<'a>,
     of: PhantomData<S>,
 }
 
-impl<S: OneScan> Model for ScanStrip<S> {
+impl<'a, S: OneScan> Model for ScanStrip<'a, S> {
     ghost use Rattle.jr_scan.specs.IntervalValue.{IntervalValue};
-    ghost use Rattle.jr_job.specs.Sharing.{IsOneOf, interval_of_strip};
+    ghost use Rattle.jr_job.specs.Sharing.{IsOneOf, interval_of_strip, HasItsGuesses};
 
     ghost Value = { IntervalValue };
 
     ghost view = { λ c. interval_of_strip c.strip };
 
-    ghost invariant = { λ c. IsOneOf S.scan (interval_of_strip c.strip) };
+    ghost invariant = { λ c. IsOneOf S.scan (interval_of_strip c.strip) × HasItsGuesses c.strip };
 }
 
-impl<S: OneScan> ScanStrip<S> {
-    fn of(strip: WaitingStrip) -> ScanStrip<S>
-        requires { IsOneOf S.scan (interval_of_strip strip) }
-        ensures { result ≡ interval_of_strip strip }
+impl<'a, S: OneScan> ScanStrip<'a, S> {
+    fn of(strip: WaitingStrip<'a>) -> ScanStrip<'a, S>
+        requires own { IsOneOf S.scan (interval_of_strip strip) }
+        requires guesses { HasItsGuesses strip }
+        ensures { result ≡ interval_of_strip strip.entry }
     {
         ScanStrip {
             strip,
@@ -63,24 +66,40 @@ impl<S: OneScan> ScanStrip<S> {
 
 /// What a worker does next.
 #[derive(Drop)]
-pub(crate) enum StripTask<S: OneScan> {
+pub(crate) enum StripTask<'a, S: OneScan> {
     /// Read the next strip, or pass over it.
-    Read(Reading<S>),
+    Read(Reading<'a, S>),
     /// Decode a strip that waits.
-    Decode(ScanStrip<S>),
+    Decode(ScanStrip<'a, S>),
+    /// Make a guess of what comes behind the next strip.
+    Guess(GuessTask<'a, S>),
     /// Nothing: all is read, and others decode what is left.
+    Leave,
+}
+
+/// What a worker can do next.
+#[derive(Clone, Copy, PartialEq, Eq)]
+enum Choice {
+    Read,
+    Pass,
+    Decode,
+    Guess,
+    /// Others read or make guesses.
+    Wait,
     Leave,
 }
 
 /// How far an interval is: one worker reads or passes over strips, and these wait for whoever is free.
 #[derive(Drop)]
-pub(crate) struct Progress<S: OneScan> {
+pub(crate) struct Progress<'a, S: OneScan> {
     /// None while a worker reads, and where nothing is left to read.
-    reading: Option<Reading<S>>,
+    reading: Option<Reading<'a, S>>,
+    /// None where strips are read and none is passed over.
+    guesses: Option<GuessQueue<'a, S>>,
     /// Nothing will be read any more.
     is_over: bool,
     /// In their order.
-    waiting: VecDeque<ScanStrip<S>>,
+    waiting: VecDeque<ScanStrip<'a, S>>,
     /// As many of them may wait before the worker that reads decodes one.
     most_waiting: usize,
     /// Memory of strips that are transformed, for those to be read.
@@ -88,16 +107,18 @@ pub(crate) struct Progress<S: OneScan> {
     gathered: Gathered<S>,
 }
 
-impl<S: OneScan> Progress<S> {
+impl<'a, S: OneScan> Progress<'a, S> {
     /// Nothing is done yet.
     pub(crate) fn of(
         alloc: Global,
-        reading: Reading<S>,
+        reading: Reading<'a, S>,
+        guesses: Option<GuessQueue<'a, S>>,
         gathered: Gathered<S>,
         most_waiting: usize,
-    ) -> Progress<S> {
+    ) -> Progress<'a, S> {
         Progress {
             reading: Some(reading),
+            guesses,
             is_over: false,
             waiting: VecDeque::new(alloc),
             most_waiting,
@@ -106,29 +127,91 @@ impl<S: OneScan> Progress<S> {
         }
     }
 
-    /// Whether a worker has to wait for what another one reads.
-    pub(crate) fn has_no_task(&self) -> bool {
-        !self.is_over && self.reading.is_none() && self.waiting.is_empty()
+    /// What a worker does next: it passes over a strip, or reads one, where it can, so that reading goes on, decodes one that
+    /// waits where it can't, and makes a guess where nothing else is to be done. A strip for which a guess is being made waits
+    /// for it, and for nothing else.
+    fn choice(&self) -> Choice {
+        if self.is_over {
+            return if self.waiting.is_empty() {
+                Choice::Leave
+            } else {
+                Choice::Decode
+            };
+        }
+        let can_read = self.reading.is_some() && self.waiting.len() < self.most_waiting;
+        let makes_next = self
+            .guesses
+            .as_ref()
+            .is_some_and(|queue| queue.makes_next());
+        if can_read && self.guesses.as_ref().is_some_and(|queue| queue.has_next()) && !makes_next {
+            Choice::Pass
+        } else if can_read && !makes_next {
+            Choice::Read
+        } else if !self.waiting.is_empty() {
+            Choice::Decode
+        } else if self.guesses.as_ref().is_some_and(|queue| queue.can_guess()) {
+            Choice::Guess
+        } else {
+            Choice::Wait
+        }
     }
 
-    /// What a worker does next.
-    pub(crate) fn task(&mut self) -> StripTask<S> {
-        if self.waiting.len() < self.most_waiting
-            && let Some(mut reading) = self.reading.take()
-        {
+    /// Whether a worker has to wait for what others read or guess.
+    pub(crate) fn has_no_task(&self) -> bool {
+        self.choice() == Choice::Wait
+    }
+
+    /// The guesses by which the next strip is passed over.
+    fn guesses_for(&self, scan: &Scan, number: u32) -> Guesses<'a>
+        requires { S.scan ≡ Some scan.now }
+        ensures { AreGuessesOf (interval_of scan.now number) result }
+    {
+        match &self.guesses {
+            Some(queue) if queue.number() == number => queue.for_next(scan),
+            _ => Guesses::none(),
+        }
+    }
+
+    /// The reading, with the guesses by which the next strip is passed over, or with none.
+    fn begin(&mut self, scan: &Scan, passes: bool) -> Option<Reading<'a, S>>
+        requires { S.scan ≡ Some scan.now }
+    {
+        let mut reading = self.reading.take()?;
+        if passes {
+            let guesses = self.guesses_for(scan, reading.number());
+            reading.guide(guesses);
+        } else {
+            reading.guide(Guesses::none());
             if let Some(blocks) = self.spare.pop() {
                 reading.lend(blocks);
             }
-            return StripTask::Read(reading);
         }
-        match self.waiting.pop_front() {
-            Some(strip) => StripTask::Decode(strip),
-            None => StripTask::Leave,
+        Some(reading)
+    }
+
+    /// What a worker does next. None where it has to wait.
+    pub(crate) fn task(&mut self, scan: &Scan) -> Option<StripTask<'a, S>>
+        requires { S.scan ≡ Some scan.now }
+    {
+        match self.choice() {
+            Choice::Read => Some(StripTask::Read(self.begin(scan, false)?)),
+            Choice::Pass => Some(StripTask::Read(self.begin(scan, true)?)),
+            Choice::Decode => Some(StripTask::Decode(self.waiting.pop_front()?)),
+            Choice::Guess => Some(StripTask::Guess(self.guesses.as_mut()?.take()?)),
+            Choice::Wait => None,
+            Choice::Leave => Some(StripTask::Leave),
+        }
+    }
+
+    /// Keeps a guess that is made.
+    pub(crate) fn put_guess(&mut self, made: GuessTask<'a, S>) {
+        if let Some(queue) = &mut self.guesses {
+            queue.put(made);
         }
     }
 
     /// Takes the reading back, with what was read. True where nothing will be read any more.
-    pub(crate) fn put(&mut self, reading: Reading<S>, next: Result<Next, Memory>) -> bool
+    pub(crate) fn put(&mut self, reading: Reading<'a, S>, next: Result<Next<'a>, Memory>) -> bool
         requires { IfOk next (IsNextOf S.scan) }
     {
         match next {
@@ -144,6 +227,9 @@ impl<S: OneScan> Progress<S> {
         if self.is_over {
             self.spare.clear();
         } else {
+            if let Some(queue) = &mut self.guesses {
+                queue.reach(reading.number(), reading.bit());
+            }
             self.reading = Some(reading);
         }
         self.is_over

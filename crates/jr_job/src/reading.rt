@@ -3,14 +3,15 @@
 ghost use Rattle.std.specs.Prelude.{◌≡◌, ◌<◌, IfOk, IfSome, IfNone};
 ghost use Rattle.std.specs.Arc.{arc_value};
 ghost use Rattle.jr_scan.specs.Mcus.{HasLongestFront};
-ghost use Rattle.jr_job.specs.Sharing.{IsOneOf, IsNextOf, interval_of_strip};
+ghost use Rattle.jr_scan.specs.Guesses.{AreGuessesOf};
+ghost use Rattle.jr_job.specs.Sharing.{IsOneOf, IsNextOf, interval_of_strip, HasItsGuesses};
 
-use crate::one_scan::OneScan;
 use crate::waiting_strip::WaitingStrip;
 use jr_block::Coefficients;
 use jr_code::Memory;
+use jr_guesses::OneScan;
 use jr_piece::StripReader;
-use jr_scan::Interval;
+use jr_scan::{Guesses, Interval};
 use std::alloc::Global;
 use std::marker::{Model, PhantomData};
 use std::sync::Arc;
@@ -44,30 +45,32 @@ pub(crate) struct End {
 
 /// What follows what is read.
 #[derive(Drop)]
-pub(crate) enum Next {
+pub(crate) enum Next<'a> {
     /// The next strip.
-    Strip(WaitingStrip),
+    Strip(WaitingStrip<'a>),
     /// Nothing: so the interval ends.
     End(End),
 }
 
-/// Reads the next strip of so many MCUs, or passes over it. None where no whole MCU follows.
-fn next_strip(
+/// Reads the next strip of so many MCUs; where there are guesses it passes over it by them. None where no whole MCU follows.
+fn next_strip<'a>(
     alloc: Global,
     reader: &mut StripReader,
+    guesses: &Guesses<'a>,
     each: u32,
-    passes: bool,
-) -> Result<Option<WaitingStrip>, Memory>
+) -> Result<Option<WaitingStrip<'a>>, Memory>
+    requires { AreGuessesOf reader.old.interval guesses.now }
     ensures interval { reader.new.interval ≡ reader.old.interval }
+    ensures guesses { IfOk result (λ o. IfSome o HasItsGuesses) }
     ensures of { IfOk result (λ o. IfSome o (λ s. interval_of_strip s ≡ reader.old.interval)) }
     ensures none { IfOk result (λ o. IfNone o (0 < each → HasLongestFront reader.old.interval reader.old.first)) }
     ensures same { IfOk result (λ o. IfNone o (reader.new ≡ reader.old)) }
 {
-    if passes {
-        let Some(strip) = reader.pass(each)? else {
+    if !guesses.is_none() {
+        let Some(strip) = reader.pass_by(guesses, each)? else {
             return Ok(None);
         };
-        return Ok(Some(WaitingStrip::Placed(strip)));
+        return Ok(Some(WaitingStrip::Placed(strip, guesses.again())));
     }
     let Some(strip) = reader.next(alloc, each)? else {
         return Ok(None);
@@ -77,16 +80,17 @@ fn next_strip(
 
 /// The reader of an interval of the scan.
 #[derive(Drop)]
-pub(crate) struct Reading<S: OneScan> {
+pub(crate) struct Reading<'a, S: OneScan> {
     reader: StripReader,
     each: u32,
-    /// Whether strips are passed over, and read by whoever decodes them.
-    passes: bool,
+    /// By which the next strip is passed over; where there are none it is read.
+    guesses: Guesses<'a>,
     of: PhantomData<S>,
 }
 
-impl<S: OneScan> Model for Reading<S> {
+impl<'a, S: OneScan> Model for Reading<'a, S> {
     ghost use Rattle.std.specs.Prelude.{◌<◌};
+    ghost use Rattle.jr_scan.specs.Guesses.{AreGuessesOf};
     ghost use Rattle.jr_scan.specs.IntervalValue.{IntervalValue};
     ghost use Rattle.jr_job.specs.Sharing.{IsOneOf};
 
@@ -94,12 +98,12 @@ impl<S: OneScan> Model for Reading<S> {
 
     ghost view = { λ r. r.reader.interval };
 
-    ghost invariant = { λ r. IsOneOf S.scan r.reader.interval × (0 < r.each) };
+    ghost invariant = { λ r. IsOneOf S.scan r.reader.interval × (0 < r.each) × AreGuessesOf r.reader.interval r.guesses };
 }
 
-impl<S: OneScan> Reading<S> {
+impl<'a, S: OneScan> Reading<'a, S> {
     /// Nothing is read of an interval yet.
-    pub(crate) fn of(interval: Arc<Interval>, passes: bool) -> Reading<S>
+    pub(crate) fn of(interval: Arc<Interval>) -> Reading<'a, S>
         requires { IsOneOf S.scan (arc_value interval) }
         ensures { result ≡ arc_value interval }
     {
@@ -107,7 +111,7 @@ impl<S: OneScan> Reading<S> {
         Reading {
             reader: StripReader::over(interval),
             each,
-            passes,
+            guesses: Guesses::none(),
             of: PhantomData,
         }
     }
@@ -119,12 +123,32 @@ impl<S: OneScan> Reading<S> {
         self.reader.lend(blocks);
     }
 
+    /// The number of its interval.
+    pub(crate) fn number(&self) -> u32
+        ensures { result ≡ self.now.number }
+    {
+        self.reader.number()
+    }
+
+    /// The bit at which the next strip starts.
+    pub(crate) fn bit(&self) -> u64 {
+        self.reader.bit()
+    }
+
+    /// Gives it the guesses by which the next strip is passed over, or none.
+    pub(crate) fn guide(&mut self, guesses: Guesses<'a>)
+        requires { AreGuessesOf self.old guesses }
+        ensures { self.new ≡ self.old }
+    {
+        self.guesses = guesses;
+    }
+
     /// Reads the next strip, or passes over it.
-    pub(crate) fn next(&mut self, alloc: Global) -> Result<Next, Memory>
+    pub(crate) fn next(&mut self, alloc: Global) -> Result<Next<'a>, Memory>
         ensures { IfOk result (IsNextOf S.scan) }
     {
         let reader = &mut self.reader;
-        if let Some(strip) = next_strip(alloc, reader, self.each, self.passes)? {
+        if let Some(strip) = next_strip(alloc, reader, &self.guesses, self.each)? {
             return Ok(Next::Strip(strip));
         }
         Ok(Next::End(End {

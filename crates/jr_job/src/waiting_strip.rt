@@ -1,28 +1,30 @@
 //! A strip of a shared interval that waits for whoever decodes it.
 
 ghost use Rattle.std.specs.Prelude.{◌≡◌, IfOk};
-ghost use Rattle.jr_job.specs.Sharing.{interval_of_strip};
+ghost use Rattle.jr_job.specs.Sharing.{interval_of_strip, HasItsGuesses};
 
 use jr_block::Coefficients;
 use jr_code::Memory;
 use jr_piece::{CodedStrip, PlacedStrip, Strip};
+use jr_scan::Guesses;
 use std::alloc::Global;
 
-/// A strip that waits: its blocks are read, or it is passed over and its place is known.
+/// A strip that waits: its blocks are read, or it is passed over, and then its place is known and guesses have its MCUs.
 #[derive(Drop)]
-pub(crate) enum WaitingStrip {
+pub(crate) enum WaitingStrip<'a> {
     Coded(CodedStrip),
-    Placed(PlacedStrip),
+    Placed(PlacedStrip, Guesses<'a>),
 }
 
-impl WaitingStrip {
+impl<'a> WaitingStrip<'a> {
     /// The strip's samples.
     pub(crate) fn decode(&self, alloc: Global) -> Result<Strip, Memory>
+        requires { HasItsGuesses self.now }
         ensures { IfOk result (λ s. s.interval ≡ interval_of_strip self.now) }
     {
         match self {
             WaitingStrip::Coded(strip) => strip.decode(alloc),
-            WaitingStrip::Placed(strip) => strip.decode(alloc),
+            WaitingStrip::Placed(strip, guesses) => strip.decode_by(alloc, guesses),
         }
     }
 
@@ -30,7 +32,7 @@ impl WaitingStrip {
     pub(crate) fn into_blocks(self) -> Option<Vec<Coefficients>> {
         match self {
             WaitingStrip::Coded(strip) => Some(strip.into_blocks()),
-            WaitingStrip::Placed(_) => None,
+            WaitingStrip::Placed(..) => None,
         }
     }
 }

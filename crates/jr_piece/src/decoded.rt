@@ -1,13 +1,14 @@
 //! The samples of an interval's longest decodable front.
 
 ghost use Rattle.std.specs.Prelude.{◌≡◌, ℤ, List, [], IfOk, OnOk};
+ghost use Rattle.jr_scan.specs.Guesses.{AreGuessesOf};
 ghost use Rattle.jr_scan.specs.McuReader.{HasRead, HasEnded};
 ghost use Rattle.jr_piece.specs.Outcome.{AreSamples, IsOutcome};
 
 use crate::transforming::transform_blocks;
 use jr_block::Coefficients;
 use jr_code::Memory;
-use jr_scan::{Interval, McuReader};
+use jr_scan::{Guesses, Interval, McuReader};
 use std::alloc::Global;
 use std::array;
 
@@ -24,14 +25,16 @@ pub(crate) struct Decoded {
 }
 
 /// Reads the whole MCUs of a run of which none is read, up to its end or to where none follows, and transforms their blocks
-/// as they come. They are about so many.
+/// as they come; what the guesses have of them is taken over. They are about so many.
 pub(crate) fn read_samples(
     alloc: Global,
     reader: &mut McuReader<'_>,
+    guesses: &Guesses<'_>,
     mcus: usize,
 ) -> Result<Vec<[u8; 64]>, Memory>
     requires none { HasRead reader.old [] }
     requires new { reader.old.mcu ≡ 0 }
+    requires same { AreGuessesOf reader.old.run.interval guesses.now }
     ensures run { OnOk result (reader.new.run ≡ reader.old.run) }
     ensures read { IfOk result (λ v. (zs : List (List ℤ)) × HasRead reader.new zs × AreSamples reader.new.run.interval.head zs v.items) }
     ensures ended { OnOk result (HasEnded reader.new) }
@@ -43,7 +46,7 @@ pub(crate) fn read_samples(
     let empty = [[0; 64]; BLOCKS];
     'mcus: loop {
         let first = reader.mcus();
-        let count = reader.read(&mut blocks) as usize * per_mcu;
+        let count = reader.read_by(guesses, &mut blocks) as usize * per_mcu;
         if count == 0 {
             return Ok(samples);
         }
@@ -57,7 +60,12 @@ pub(crate) fn decode(alloc: Global, interval: &Interval) -> Result<Decoded, Memo
     ensures { IfOk result (λ d. IsOutcome (record { interval = interval.now; is_sound = d.is_sound; front = d.front; samples = d.samples.items })) }
 {
     let mut reader = McuReader::over(interval.as_ref());
-    let samples = read_samples(alloc, &mut reader, interval.most_mcus() as usize)?;
+    let samples = read_samples(
+        alloc,
+        &mut reader,
+        &Guesses::none(),
+        interval.most_mcus() as usize,
+    )?;
     Ok(Decoded {
         is_sound: reader.is_sound(),
         front: reader.mcus(),

@@ -4,6 +4,7 @@ ghost use Rattle.std.specs.Prelude.{◌≡◌, ◌≤◌, ◌<◌, ◌+◌, ℕ,
 ghost use Rattle.std.specs.Arc.{arc_value};
 ghost use Rattle.jr_head.specs.Geometry.{IsLawful};
 ghost use Rattle.jr_scan.specs.declared.place.RunEnd.TheVariants.{AllRead};
+ghost use Rattle.jr_scan.specs.Guesses.{AreGuessesOf};
 ghost use Rattle.jr_scan.specs.Mcus.{Decodes, Front, HasNoDecoding, HasLongestFront};
 ghost use Rattle.jr_scan.specs.Run.{start_of_interval, IsRun, run_from};
 ghost use Rattle.jr_piece.specs.Strips.{CanReadFrom, FirstMcus};
@@ -12,7 +13,7 @@ use crate::placed_strip::PlacedStrip;
 use crate::strip::CodedStrip;
 use jr_block::Coefficients;
 use jr_code::Memory;
-use jr_scan::{Interval, McuReader, Place};
+use jr_scan::{Guesses, Interval, McuReader, Place};
 use std::alloc::Global;
 use std::marker::Model;
 use std::sync::Arc;
@@ -75,9 +76,11 @@ struct Passed {
     next: Option<Place>,
 }
 
-/// Passes over the whole MCUs of a run of at most so many, and keeps none of their blocks.
-fn pass_run(interval: &Interval, from: Place, mcus: u32) -> Passed
-    requires { CanReadFrom interval.now from }
+/// Passes over the whole MCUs of a run of at most so many, and over those that the guesses have without reading them; keeps
+/// none of their blocks.
+fn pass_run(interval: &Interval, from: Place, guesses: &Guesses<'_>, mcus: u32) -> Passed
+    requires can { CanReadFrom interval.now from }
+    requires same { AreGuessesOf interval.now guesses.now }
     ensures lawful { IsLawful interval.now.head }
     ensures few { result.mcus ≤ mcus }
     ensures run { (ys : List (List ℤ)) × FirstMcus (run_from interval.now from mcus) result.mcus ys × IfSome result.next (λ p. IsRun (run_from interval.now from result.mcus) ys p AllRead) }
@@ -87,7 +90,7 @@ fn pass_run(interval: &Interval, from: Place, mcus: u32) -> Passed
     // By its contract an interval's head is lawful.
     let _lawful = interval.head();
     let mut reader = McuReader::at(interval.as_ref(), from, mcus);
-    let passed = reader.skip(mcus);
+    let passed = reader.skip_by(guesses, mcus);
     let next = if passed == mcus {
         Some(reader.place())
     } else {
@@ -152,6 +155,16 @@ impl StripReader {
         self.first
     }
 
+    /// The bit at which the next MCU starts; where no further one follows it is of no use.
+    pub fn bit(&self) -> u64
+        ensures { IfSome self.now.next (λ p. result ≡ p.bit) }
+    {
+        match self.next {
+            Some(place) => place.bit,
+            None => 0,
+        }
+    }
+
     /// Reads the next whole MCUs, as many as are asked for or as follow. None where no further one follows; then, and at
     /// an error, the reader stays as it is.
     pub fn next(&mut self, alloc: Global, most: u32) -> Result<Option<CodedStrip>, Memory>
@@ -199,12 +212,35 @@ impl StripReader {
         ensures same { IfOk result (λ o. IfNone o (self.new ≡ self.old)) }
         ensures err { IfErr result (λ _. self.new ≡ self.old) }
     {
+        self.pass_by(&Guesses::none(), most)
+    }
+
+    /// The same, and passes over what the guesses have without reading it.
+    pub fn pass_by(
+        &mut self,
+        guesses: &Guesses<'_>,
+        most: u32,
+    ) -> Result<Option<PlacedStrip>, Memory>
+        requires { AreGuessesOf self.old.interval guesses.now }
+        ensures interval { self.new.interval ≡ self.old.interval }
+        ensures of { IfOk result (λ o. IfSome o (λ s. s.interval ≡ self.old.interval)) }
+        ensures first { IfOk result (λ o. IfSome o (λ s. s.first ≡ self.old.first)) }
+        ensures some { IfOk result (λ o. IfSome o (λ s. 0 < s.mcus)) }
+        ensures few { IfOk result (λ o. IfSome o (λ s. s.mcus ≤ most)) }
+        ensures from { IfOk result (λ o. IfSome o (λ s. self.old.next ≡ Some s.from)) }
+        ensures on { IfOk result (λ o. IfSome o (λ s. self.new.first ≡ s.first + s.mcus)) }
+        ensures within { IfOk result (λ o. OnSome o (self.new.first ≤ self.old.interval.mcus)) }
+        ensures last { IfOk result (λ o. IfSome o (λ s. s.mcus < most → HasLongestFront self.new.interval self.new.first)) }
+        ensures none { IfOk result (λ o. IfNone o (0 < most → HasLongestFront self.old.interval self.old.first)) }
+        ensures same { IfOk result (λ o. IfNone o (self.new ≡ self.old)) }
+        ensures err { IfErr result (λ _. self.new ≡ self.old) }
+    {
         let Some(from) = self.next else {
             return Ok(None);
         };
         let interval = Arc::try_clone(&self.interval)?;
         let asked = most.min(interval.mcus() - self.first);
-        let passed = pass_run(&interval, from, asked);
+        let passed = pass_run(&interval, from, guesses, asked);
         if passed.mcus == 0 {
             return Ok(None);
         }

@@ -156,12 +156,21 @@ impl Decoding {
 
     /// `run`, with the jobs that the workers share, and a seat for the calling thread.
     fn run_with<
+        'a,
         R: Threads + Wait + Sync,
         G: Gate + Sync,
         T,
         F: FnOnce(&Decoding) -> T,
         S: OneScan + Send,
-    >(&self, rt: &R, seats: Vec<Seat>, own: Option<Seat>, gate: &G, jobs: &Jobs<S>, beside: F) -> T
+    >(
+        &'a self,
+        rt: &R,
+        seats: Vec<Seat>,
+        own: Option<Seat>,
+        gate: &G,
+        jobs: &Jobs<'a, S>,
+        beside: F,
+    ) -> T
         requires scan { S.scan ≡ Some self.now.scan }
         requires seats { All (λ s. s.desk ≡ self.now.desk) seats.items }
         requires own { IfSome own (λ s. s.desk ≡ self.now.desk) }
@@ -204,12 +213,12 @@ impl Decoding {
     }
 
     /// Works at a seat of its desk until that has ended, and then helps with the long intervals.
-    fn work_with<R: Wait, G: Gate, S: OneScan>(
-        &self,
+    fn work_with<'a, R: Wait, G: Gate, S: OneScan>(
+        &'a self,
         rt: &R,
         seat: &mut Seat,
         gate: &G,
-        jobs: &Jobs<S>,
+        jobs: &Jobs<'a, S>,
     )
         requires scan { S.scan ≡ Some self.now.scan }
         requires desk { seat.old.desk ≡ self.now.desk }
@@ -229,12 +238,12 @@ impl Decoding {
     }
 
     /// Decodes an interval that a worker has claimed, or a part of it.
-    fn decode_claimed<R: Wait, G: Gate, S: OneScan>(
-        &self,
+    fn decode_claimed<'a, R: Wait, G: Gate, S: OneScan>(
+        &'a self,
         rt: &R,
         number: u32,
         gate: &G,
-        jobs: &Jobs<S>,
+        jobs: &Jobs<'a, S>,
     ) -> Option<Arc<Piece>>
         requires scan { S.scan ≡ Some self.now.scan }
         requires number { number < length self.now.scan.intervals }
@@ -248,12 +257,12 @@ impl Decoding {
     }
 
     /// Works on what is left of every job, beginning with another one at each seat.
-    fn help<R: Wait, G: Gate, S: OneScan>(
-        &self,
+    fn help<'a, R: Wait, G: Gate, S: OneScan>(
+        &'a self,
         rt: &R,
         place: u32,
         gate: &G,
-        jobs: &Jobs<S>,
+        jobs: &Jobs<'a, S>,
         sight: &mut Option<Sight>,
     )
         requires scan { S.scan ≡ Some self.now.scan }
@@ -277,7 +286,7 @@ impl Decoding {
         &self,
         rt: &R,
         gate: &G,
-        job: &Job<S>,
+        job: &Job<'_, S>,
         cells: &StripCells,
     ) -> Option<Arc<Piece>>
         requires { S.scan ≡ Some self.now.scan }
@@ -337,7 +346,7 @@ fn run_as<
 {
     let is_alone = own.is_some() && seats.is_empty();
     let workers = seats.len().saturating_add(usize::from(own.is_some()));
-    let jobs: Jobs<S> = if is_alone {
+    let jobs: Jobs<'_, S> = if is_alone {
         Jobs::Whole
     } else {
         Jobs::shared(
@@ -359,6 +368,6 @@ fn work_as<R: Wait, G: Gate, S: OneScan>(decoding: &Decoding, rt: &R, seat: &mut
     ensures place { seat.new.place ≡ seat.old.place }
     ensures drawn { (rest : List ℕ) × (seat.new.drawn ≡ seat.old.drawn ++ rest) }
 {
-    let jobs: Jobs<S> = Jobs::Own;
+    let jobs: Jobs<'_, S> = Jobs::Own;
     decoding.work_with(rt, seat, gate, &jobs);
 }

@@ -10,9 +10,9 @@ use std::sync::Arc;
 
 /// How a worker decodes long intervals.
 #[derive(Drop)]
-pub(crate) enum Jobs<S: OneScan> {
+pub(crate) enum Jobs<'a, S: OneScan> {
     /// Together with the others: a job for each, by the interval's number.
-    Shared(Vec<Option<Arc<Job<S>>>>),
+    Shared(Vec<Option<Arc<Job<'a, S>>>>),
     /// Each that it claims by itself, strip by strip.
     Own,
     /// As it decodes short ones: nobody looks for strips.
@@ -20,22 +20,26 @@ pub(crate) enum Jobs<S: OneScan> {
 }
 
 /// A job of interval i for so many workers. None where memory is refused.
-fn job_of<S: OneScan>(alloc: Global, scan: &Scan, i: u32, workers: usize) -> Option<Arc<Job<S>>>
+fn job_of<'a, S: OneScan>(
+    alloc: Global,
+    scan: &'a Scan,
+    i: u32,
+    workers: usize,
+) -> Option<Arc<Job<'a, S>>>
     requires scan { S.scan ≡ Some scan.now }
     requires i { i < length scan.now.intervals }
 {
-    let interval = scan.interval(i).ok()?;
-    Arc::new(alloc, Job::open(alloc, interval, workers).ok()?).ok()
+    Arc::new(alloc, Job::open(alloc, scan, i, workers).ok()?).ok()
 }
 
-impl<S: OneScan> Jobs<S> {
+impl<'a, S: OneScan> Jobs<'a, S> {
     /// Jobs for the intervals that have cells of strips, each for so many workers.
     pub(crate) fn shared(
         alloc: Global,
-        scan: &Scan,
+        scan: &'a Scan,
         strips: &[Option<StripCells>],
         workers: usize,
-    ) -> Jobs<S>
+    ) -> Jobs<'a, S>
         requires scan { S.scan ≡ Some scan.now }
         requires strips { length strips.now ≤ length scan.now.intervals }
     {
@@ -63,7 +67,7 @@ impl<S: OneScan> Jobs<S> {
     }
 
     /// The shared job of interval i, where there is one.
-    pub(crate) fn get(&self, i: usize) -> Option<&Job<S>> {
+    pub(crate) fn get(&self, i: usize) -> Option<&Job<'a, S>> {
         match self {
             Jobs::Shared(jobs) => jobs.get(i)?.as_deref(),
             Jobs::Own | Jobs::Whole => None,
@@ -71,7 +75,7 @@ impl<S: OneScan> Jobs<S> {
     }
 
     /// The job by which a long interval i is decoded that a worker has claimed. None where it is decoded as a whole.
-    pub(crate) fn claimed(&self, alloc: Global, scan: &Scan, i: u32) -> Option<Arc<Job<S>>>
+    pub(crate) fn claimed(&self, alloc: Global, scan: &'a Scan, i: u32) -> Option<Arc<Job<'a, S>>>
         requires scan { S.scan ≡ Some scan.now }
         requires i { i < length scan.now.intervals }
     {

@@ -9,14 +9,14 @@ pub returns-then-passed-mcus-clause-run : goal.returns-then-passed-mcus-clause-r
 returns-then-passed-mcus-clause-run c =
     let i = c.args.interval.now in
     let run : c.at-reader.result.run ≡ run_from c.as_ref.result c.args.from c.args.mcus = search (rules, c.at-reader.ensures.run) in
-    let t = c.skip-passed.ensures.passed [] c.at-reader.ensures.read in
-    let part = passed_part c.at-reader.result c.skip-passed.new.self c.as_ref.result i c.args.from c.args.mcus c.skip-passed.result t.0 c.as_ref.ensures run c.at-reader.ensures.mcu c.skip-passed.ensures.run c.skip-passed.ensures.mcus t.3 c.skip-passed.ensures.ended in
-    let there = passed_place c.at-reader.result c.skip-passed.new.self c.as_ref.result i c.args.from c.args.mcus c.skip-passed.result t.0 c.as_ref.ensures run c.at-reader.ensures.mcu c.skip-passed.ensures.run c.skip-passed.ensures.mcus t.3 in
-    (t.0, part, subst (λ (p : Place). IsRun (run_from i c.args.from c.skip-passed.result) t.0 p AllRead) (sym c.place.ensures.value) there)
+    let t = c.skip_by-passed.ensures.passed [] c.at-reader.ensures.read in
+    let part = passed_part c.at-reader.result c.skip_by-passed.new.self c.as_ref.result i c.args.from c.args.mcus c.skip_by-passed.result t.0 c.as_ref.ensures run c.at-reader.ensures.mcu c.skip_by-passed.ensures.run c.skip_by-passed.ensures.mcus t.3 c.skip_by-passed.ensures.ended in
+    let there = passed_place c.at-reader.result c.skip_by-passed.new.self c.as_ref.result i c.args.from c.args.mcus c.skip_by-passed.result t.0 c.as_ref.ensures run c.at-reader.ensures.mcu c.skip_by-passed.ensures.run c.skip_by-passed.ensures.mcus t.3 in
+    (t.0, part, subst (λ (p : Place). IsRun (run_from i c.args.from c.skip_by-passed.result) t.0 p AllRead) (sym c.place.ensures.value) there)
 
 pub returns-else-passed-mcus-clause-run : goal.returns-else-passed-mcus-clause-run
 returns-else-passed-mcus-clause-run c =
     let run : c.at-reader.result.run ≡ run_from c.as_ref.result c.args.from c.args.mcus = search (rules, c.at-reader.ensures.run) in
-    let t = c.skip-passed.ensures.passed [] c.at-reader.ensures.read in
-    let part = passed_part c.at-reader.result c.skip-passed.new.self c.as_ref.result c.args.interval.now c.args.from c.args.mcus c.skip-passed.result t.0 c.as_ref.ensures run c.at-reader.ensures.mcu c.skip-passed.ensures.run c.skip-passed.ensures.mcus t.3 c.skip-passed.ensures.ended in
+    let t = c.skip_by-passed.ensures.passed [] c.at-reader.ensures.read in
+    let part = passed_part c.at-reader.result c.skip_by-passed.new.self c.as_ref.result c.args.interval.now c.args.from c.args.mcus c.skip_by-passed.result t.0 c.as_ref.ensures run c.at-reader.ensures.mcu c.skip_by-passed.ensures.run c.skip_by-passed.ensures.mcus t.3 c.skip_by-passed.ensures.ended in
     (t.0, part, tt)

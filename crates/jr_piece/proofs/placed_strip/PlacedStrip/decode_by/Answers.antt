@@ -8,7 +8,7 @@ use Rattle.jr_piece.specs.Outcome.{AreSamples}
 use Rattle.jr_piece.specs.Strips.{IsStrip}
 use Rattle.jr_piece.proofs.StripRuns.{all_read}
 use Rattle.jr_piece.proofs.ScanLaws.{one_run}
-use Rattle.jr_piece.proofs.placed_strip.PlacedStrip.decode.Goals as goal
+use Rattle.jr_piece.proofs.placed_strip.PlacedStrip.decode_by.Goals as goal
 
 pub of-requires : goal.of-requires
 of-requires c =

@@ -11,10 +11,10 @@ use Rattle.jr_piece.specs.StripValue.{PlacedStripValue, ReadingValue}
 use Rattle.jr_piece.specs.Strips.{CanReadFrom, FirstMcus, IsPlaced}
 use Rattle.jr_piece.proofs.StripRuns.{blocks, reading, ended}
 use Rattle.jr_piece.proofs.ScanLaws.{one_run, runs_meet, shorter_front}
-use Rattle.jr_piece.proofs.strip_reader.StripReader.pass.Goals as goal
+use Rattle.jr_piece.proofs.strip_reader.StripReader.pass_by.Goals as goal
 
-pub pass_run-passed-requires : goal.pass_run-passed-requires
-pass_run-passed-requires c =
+pub pass_run-passed-requires-clause-can : goal.pass_run-passed-requires-clause-can
+pass_run-passed-requires-clause-can c =
     let at : c.deref-2.result.now ≡ arc_value c.self.inside.interval = search rules in
     let n = c.self.invariant.next c.in-Some.from c.in-Some.is in
     subst (λ (i : IntervalValue). CanReadFrom i c.in-Some.from) (sym at) n.can
