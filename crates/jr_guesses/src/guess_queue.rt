@@ -100,19 +100,6 @@ impl<'a, S: OneScan> GuessQueue<'a, S> {
         let _ = self.slots.push(GuessSlot::of(room));
     }
 
-    /// All room that is lacking, as far as memory is given.
-    pub fn bring_all(&mut self, alloc: Global, scan: &'a Scan)
-        requires { S.scan ≡ Some scan.now }
-        ensures { self.new.at ≡ self.old.at }
-    {
-        for _ in 0..self.lacking {
-            if let Ok(room) = ScanGuess::open(alloc, scan, self.most) {
-                self.bring(room);
-            }
-        }
-        self.lacking = 0;
-    }
-
     /// The reader stands at this bit of an interval.
     pub fn reach(&mut self, number: u32, bit: u64)
         ensures { self.new.at ≡ (number, bit) }

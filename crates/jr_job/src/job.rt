@@ -9,7 +9,7 @@ use crate::gathered::Gathered;
 use crate::progress::{Progress, ScanStrip, StripTask};
 use crate::reading::{Reading, strip_mcus};
 use jr_code::Memory;
-use jr_guesses::{GuessQueue, GuessTask, OneScan, windows_of};
+use jr_guesses::{GuessQueue, GuessTask, OneScan, ScanGuess, windows_of};
 use jr_piece::{Piece, Strip};
 use jr_scan::{Interval, Scan};
 use std::alloc::Global;
@@ -24,6 +24,9 @@ const LEAST_WINDOWS: u64 = 32;
 
 /// There is room for so many guesses a worker: one that it makes, and one that strips are read by.
 const GUESSES_OF_ONE: u32 = 2;
+
+/// A guess has room for the MCUs of so many strips, since its bits are about those of one.
+const STEPS_OF_GUESS: u32 = 2;
 
 /// No more than so many workers have room for guesses.
 const MOST_WORKERS: usize = 64;
@@ -56,8 +59,8 @@ impl<'a, S: OneScan> Model for Job<'a, S> {
     ghost invariant = { λ j. IsOneOf S.scan (arc_value j.interval) × (S.scan ≡ Some j.scan.now) };
 }
 
-/// Room for guesses of interval i of a scan by so many workers. None where they are not worth their work, or where memory is
-/// refused.
+/// A queue of guesses of interval i of a scan by so many workers, for which these bring room. None where they are not worth their
+/// work, or where memory is refused.
 fn open_guesses<'a, S: OneScan>(
     alloc: Global,
     scan: &'a Scan,
@@ -74,7 +77,8 @@ fn open_guesses<'a, S: OneScan>(
     let most = workers.min(MOST_WORKERS) as u32 * GUESSES_OF_ONE;
     let count = windows.min(u64::from(most)) as u32;
     let step = strip_mcus(&scan.interval(i).ok()?);
-    let mut queue = GuessQueue::open(alloc, scan, i.saturating_add(1), count, step).ok()?;
+    let most = step.saturating_mul(STEPS_OF_GUESS);
+    let mut queue = GuessQueue::open(alloc, scan, i.saturating_add(1), count, step, most).ok()?;
     if i > 0 {
         queue.reach(i, 0);
     }
@@ -129,6 +133,18 @@ impl<'a, S: OneScan> Job<'a, S> {
         }
     }
 
+    /// Brings room for a guess, where some is lacking: so an interval that nobody decodes yet takes none, and where memory is
+    /// refused others make those that have room.
+    fn bring<R: Wait>(&self, rt: &R, alloc: Global) {
+        let lacking = self.progress.lock(rt).lacks_guess();
+        if let Some(most) = lacking
+            && let Ok(room) = ScanGuess::open(alloc, self.scan, most)
+        {
+            self.progress.lock(rt).bring_guess(room);
+            self.has_read.notify_one();
+        }
+    }
+
     /// Makes a guess, and wakes whoever waits for it.
     fn guess<R: Wait>(&self, rt: &R, task: GuessTask<'a, S>) {
         let made = task.make(self.scan);
@@ -169,6 +185,7 @@ impl<'a, S: OneScan> Job<'a, S> {
     pub fn step<R: Wait>(&self, rt: &R, alloc: Global) -> Option<Arc<Strip>>
         ensures { IfSome result (λ s. (arc_value s).interval ≡ self.now) }
     {
+        self.bring(rt, alloc);
         for _ in 0..MOST_TASKS {
             match self.task(rt)? {
                 StripTask::Read(reading) => self.read(rt, alloc, reading),

@@ -12,7 +12,7 @@ use crate::reading::{End, Next, Reading};
 use crate::waiting_strip::WaitingStrip;
 use jr_block::Coefficients;
 use jr_code::Memory;
-use jr_guesses::{GuessQueue, GuessTask, OneScan};
+use jr_guesses::{GuessQueue, GuessTask, OneScan, ScanGuess};
 use jr_piece::Strip;
 use jr_scan::{Guesses, Scan};
 use std::alloc::Global;
@@ -94,7 +94,7 @@ enum Choice {
 pub(crate) struct Progress<'a, S: OneScan> {
     /// None while a worker reads, and where nothing is left to read.
     reading: Option<Reading<'a, S>>,
-    /// None where strips are read and none is passed over.
+    /// None where strips are read and none is passed over, and where nothing is left to read: then their memory is given back.
     guesses: Option<GuessQueue<'a, S>>,
     /// Nothing will be read any more.
     is_over: bool,
@@ -203,6 +203,18 @@ impl<'a, S: OneScan> Progress<'a, S> {
         }
     }
 
+    /// For how many MCUs a worker is to bring room for a guess, where it is to bring some.
+    pub(crate) fn lacks_guess(&mut self) -> Option<u32> {
+        self.guesses.as_mut()?.lacks_room()
+    }
+
+    /// Room for a guess, which a worker brings.
+    pub(crate) fn bring_guess(&mut self, room: ScanGuess<'a, S>) {
+        if let Some(queue) = &mut self.guesses {
+            queue.bring(room);
+        }
+    }
+
     /// Keeps a guess that is made.
     pub(crate) fn put_guess(&mut self, made: GuessTask<'a, S>) {
         if let Some(queue) = &mut self.guesses {
@@ -226,6 +238,7 @@ impl<'a, S: OneScan> Progress<'a, S> {
         }
         if self.is_over {
             self.spare.clear();
+            self.guesses = None;
         } else {
             if let Some(queue) = &mut self.guesses {
                 queue.reach(reading.number(), reading.bit());
@@ -253,6 +266,7 @@ impl<'a, S: OneScan> Progress<'a, S> {
     pub(crate) fn give_up(&mut self) {
         self.is_over = true;
         self.reading = None;
+        self.guesses = None;
         self.waiting.clear();
         self.spare.clear();
     }
