@@ -16,10 +16,8 @@ use std::thread::Threads;
 
 /// Threads are worth their start where the data of the scan's intervals have bits for so many guesses: some 256 KB.
 const LEAST_WINDOWS: u64 = 64;
-
 /// And one more for each so many: some 128 KB.
 const WINDOWS_OF_ONE: u64 = 32;
-
 /// So many intervals are looked at to see that: a head may claim millions.
 const MOST_LOOKED_AT: u32 = 1024;
 
@@ -48,7 +46,6 @@ trait Beside {
 
     ghost gives: { Self → Self.Answer → Type 0 };
 
-    /// Does it.
     fn run(self) -> Self::Answer
         ensures { gives self result };
 }
@@ -72,8 +69,7 @@ impl<'s, 'a, R: Wait, S: OneScan> Beside for Reading<'s, 'a, R, S> {
     }
 }
 
-/// Starts so many threads that make guesses, and does what the calling thread does beside them. A thread that can't be started
-/// is left out.
+/// Starts so many threads that make guesses, or those that can be started, and does beside them what the calling thread does.
 fn run_beside<R: Threads + Wait + Sync, S: OneScan + Send, B: Beside + Drop>(
     scan: &SharedScan<'_, S>,
     rt: &R,
