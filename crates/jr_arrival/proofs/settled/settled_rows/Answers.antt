@@ -30,7 +30,7 @@ returns-in-EndOfFile-clause-few c =
     let inside = subst (λ (h : HeadValue). first_mcu_of h i + c.mcus_in.result ≤ mcus_of h) c.head-in-EndOfFile-2.ensures.value c.mcus_in.ensures.inside in
     let turned : mcus_across s.head * mcus_down s.head ≡ mcus_down s.head * mcus_across s.head = grind arith in
     let few_rows = subst (λ (n : ℕ). (c.first_mcu.result + c.whole_mcus.result) / n ≤ mcus_down s.head) (sym across)
-        (div_few (c.first_mcu.result + c.whole_mcus.result) (mcus_down s.head) (mcus_across s.head) some (omega (arith, at, few, inside, turned, c.whole_mcus.ensures.few))) in
+    (div_few (c.first_mcu.result + c.whole_mcus.result) (mcus_down s.head) (mcus_across s.head) some (omega (arith, at, few, inside, turned, c.whole_mcus.ensures.few))) in
     search (rules, few_rows)
 
 pub returns-in-EndOfFile-clause-settled : goal.returns-in-EndOfFile-clause-settled
@@ -43,5 +43,5 @@ returns-in-EndOfFile-clause-settled c =
     let all : c.mcus.result ≡ mcus_across s.head * mcus_down s.head = c.mcus.ensures.value ∙ ap mcus_of c.head-in-EndOfFile.ensures.value in
     let some : 0 < mcus_across s.head = some_factor (mcus_across s.head) (mcus_down s.head) c.mcus.result all c.mcus.ensures.some in
     let settled = subst (SettlesRows s) (sym (ap (λ (n : ℕ). (n + whole) / c.shape_of-shape.result.across) at ∙ ap (λ (n : ℕ). (first_mcu_of s.head i + whole) / n) across))
-        (settles s i whole c.latest-i.ensures.latest c.whole_mcus.ensures.front some) in
+    (settles s i whole c.latest-i.ensures.latest c.whole_mcus.ensures.front some) in
     search (rules, settled)
