@@ -165,10 +165,7 @@ fn check_strips(
             strip.mcus() == most || end == piece.front(),
             "a short strip"
         );
-        assert!(rt;
-            is_part(strip, piece, blocks),
-            "the strip before MCU {end}"
-        );
+        assert!(rt; is_part(strip, piece, blocks), "the strip before MCU {end}");
         end = strip.first();
     }
     assert!(rt; end == 0);

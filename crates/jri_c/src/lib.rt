@@ -7,7 +7,9 @@ ghost use Rattle.std.specs.Prelude.{◌≡◌, ◌≢◌, ◌<◌, ◌≤◌, le
 ghost use Rattle.jri_memory.specs.Checks.{ChecksFile, LacksMarkRoom};
 ghost use Rattle.jri_memory.specs.Calls.{DecodesFile, DecodesLines, TellsFault, IsMeasureOf, IsNumberOfSome, LacksLines, LacksRoom, LacksRoomForLines, TellsNoHead, TellsNoPicture, TellsNoRefusal};
 
-use jri_memory::{DecodeReport, Measure, check_marks, decode_file, decode_lines, measure_file, refusal_text};
+use jri_memory::{
+    DecodeReport, Measure, check_marks, decode_file, decode_lines, measure_file, refusal_text,
+};
 use std::alloc::Global;
 
 /// The number of these calls: it is changed where one of them is.

@@ -102,12 +102,7 @@ pub fn decode_lines(
 /// Checks a file: reads each restart interval as a decoder does, makes no picture, and puts the marks into the front of
 /// `marks`, unless that has no room at all: 0, or 3 where an interval is damaged. With 1 for want of memory, 2 where the file is
 /// refused, and 4 where `marks` has too little room, it is as it was.
-pub fn check_marks(
-    alloc: Global,
-    file: &[u8],
-    marks: &mut [u8],
-    report: &mut DecodeReport,
-) -> u32
+pub fn check_marks(alloc: Global, file: &[u8], marks: &mut [u8], report: &mut DecodeReport) -> u32
     ensures sound { result ≡ 0 → ChecksFile file.now marks.old marks.new report.new }
     ensures damaged { result ≡ 3 → ChecksFile file.now marks.old marks.new report.new }
     ensures undamaged { result ≡ 0 → report.new.damaged ≡ 0 }

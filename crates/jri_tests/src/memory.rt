@@ -3,7 +3,9 @@
 
 use crate::refused::REFUSALS;
 use jri_memory::status::{DAMAGED, NO_LINES, NO_ROOM, REFUSED, SOUND};
-use jri_memory::{DecodeReport, Measure, check_marks, decode_file, decode_lines, measure_file, refusal_text};
+use jri_memory::{
+    DecodeReport, Measure, check_marks, decode_file, decode_lines, measure_file, refusal_text,
+};
 use std::alloc::Global;
 use std::process::Abort;
 use std::test::Fail;
