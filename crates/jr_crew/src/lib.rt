@@ -3,7 +3,6 @@
 
 mod baton;
 mod bench;
-mod beside;
 mod caller;
 mod crew;
 mod one_first_intervals;

@@ -1,4 +1,4 @@
-//! What the calling thread does while the others of a crew decode: it writes.
+//! What the threads of a crew do: the calling one writes, and the others decode.
 
 ghost use Rattle.std.specs.Prelude.{◌≡◌, ◌*◌, ◌≤◌, length, false};
 ghost use Rattle.jr_base.specs.Tally.{has_failed};
@@ -7,17 +7,33 @@ ghost use Rattle.jr_paint.specs.Lines.{line_size};
 ghost use Rattle.jr_paint.specs.declared.header.TheConstants.{HEADER_ROOM};
 ghost use Rattle.jr_stream.specs.Stream.{IsSentBy};
 
-use crate::beside::Beside;
 use crate::caller::Caller;
 use crate::crew::Crew;
 use crate::one_first_intervals::OneFirstIntervals;
 use crate::paint_room::PaintRoom;
 use jr_base::{Tally, WriteFault};
+use jr_guesses::{Beside, Help};
 use jr_picture::Gate;
 use jr_rows::Marked;
 use jr_stream::write_rows;
+use std::alloc::Global;
 use std::io::Write;
 use std::sync::Wait;
+
+/// What another thread decodes and paints rows by.
+#[derive(Drop)]
+pub(crate) struct Helping<'s, 'a, R: Wait, G: Gate, S: OneFirstIntervals> {
+    pub(crate) crew: &'s Crew<'a, S>,
+    pub(crate) rt: &'s R,
+    pub(crate) gate: &'s G,
+    pub(crate) alloc: Global,
+}
+
+impl<'s, 'a, R: Wait, G: Gate, S: OneFirstIntervals> Help for Helping<'s, 'a, R, G, S> {
+    fn help(&self) {
+        self.crew.work(self.rt, self.gate, self.alloc);
+    }
+}
 
 /// What the calling thread writes by.
 #[derive(Drop)]

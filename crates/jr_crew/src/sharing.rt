@@ -12,14 +12,13 @@ ghost use Rattle.jr_stream.specs.Stream.{WritesPicture, BeginsPicture, SendsPict
 
 use crate::baton::Baton;
 use crate::bench::{Bench, Painted};
-use crate::beside::run_beside;
 use crate::crew::{BENCHES_OF_ONE, Crew};
 use crate::one_first_intervals::{OneFirstIntervals, ScanOf};
 use crate::paint_room::PaintRoom;
 use crate::row_queue::RowQueue;
-use crate::sending::Sending;
+use crate::sending::{Helping, Sending};
 use jr_base::{Memory, Tally, WriteFault};
-use jr_guesses::{GuessQueue, windows_of};
+use jr_guesses::{GuessQueue, run_beside, windows_of};
 use jr_picture::{Counts, Gate};
 use jr_piece::each_interval_has_an_outcome;
 use jr_rows::{FirstIntervals, Marked, intervals_of_row, room_for, shape_of};
@@ -158,7 +157,13 @@ fn write_by_crew<R: Threads + Wait + Sync, W: Write, G: Gate + Sync, S: OneFirst
         pixels,
         out,
     };
-    let (sent, _out) = run_beside(crew, rt, gate, alloc, helpers, sending);
+    let helping = Helping {
+        crew,
+        rt,
+        gate,
+        alloc,
+    };
+    let (sent, _out) = run_beside(rt, helpers, &helping, sending);
     sent
 }
 

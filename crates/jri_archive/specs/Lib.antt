@@ -1,7 +1,2 @@
-pub mod Damage
-pub mod Lines
-pub mod Verdicts
-pub mod Coded
-pub mod Map
 pub mod Status
 pub mod Outcomes

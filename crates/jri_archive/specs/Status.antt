@@ -1,18 +1,47 @@
--- Exit statuses.
-use Rattle.std.specs.Prelude.{ℕ}
+-- What becomes of files, how many are what, and exit statuses.
+use Rattle.std.specs.Prelude.{ℕ, ◌+◌, ◌-◌, ◌^◌, min, max, nat_lt, if◌then◌else◌}
 use Rattle.jri_archive.specs.declared.answers.RequestError.{RequestError}
 use Rattle.jri_archive.specs.declared.answers.RequestError.TheVariants.{Help, Wrong, Memory}
-use Rattle.jri_archive.specs.declared.sharing.Told.{Told}
-use Rattle.jri_archive.specs.declared.sharing.Told.TheVariants.{AllSound, SomeNot, Unwritten, Memory as NoMemory}
+use Rattle.jri_archive.specs.declared.counts.FileState.{FileState}
+use Rattle.jri_archive.specs.declared.counts.FileState.TheVariants.{Sound, Damaged, Refused, Unread, OutOfMemory}
+use Rattle.jri_archive.specs.declared.counts.FileCounts.{FileCounts}
+use Rattle.jri_archive.specs.declared.counts.CheckEnd.{CheckEnd}
+use Rattle.jri_archive.specs.declared.counts.CheckEnd.TheVariants.{AllTold, NamesUnread, Unwritten, Memory as NoMemory}
+use Rattle.jri_archive.specs.declared.counts.CheckReport.{CheckReport}
 
 abbrev pub request_error_status : RequestError → ℕ
 request_error_status (Help text) = 0
 request_error_status (Wrong text) = 2
-request_error_status Memory = 1
+request_error_status Memory = 4
 
--- 0 where each file is sound and has its line, else 1
-abbrev pub told_status : Told → ℕ
-told_status AllSound = 0
-told_status SomeNot = 1
-told_status Unwritten = 1
-told_status NoMemory = 1
+-- one more, of a count of 64 bits
+abbrev pub one_more : ℕ → ℕ
+one_more n = min (n + 1) (2 ^ 64 - 1)
+
+abbrev pub counts_with : FileCounts → FileState → FileCounts
+counts_with c Sound = record c { sound = one_more c.sound }
+counts_with c Damaged = record c { damaged = one_more c.damaged }
+counts_with c Refused = record c { refused = one_more c.refused }
+counts_with c Unread = record c { unread = one_more c.unread }
+counts_with c OutOfMemory = record c { out_of_memory = one_more c.out_of_memory }
+
+abbrev pub files_in : FileCounts → ℕ
+files_in c = c.sound + (c.damaged + (c.refused + (c.unread + c.out_of_memory)))
+
+-- the status of an end by itself
+abbrev pub end_status : CheckEnd → ℕ
+end_status AllTold = 0
+end_status NamesUnread = 3
+end_status Unwritten = 4
+end_status NoMemory = 4
+
+-- the status of files by themselves
+abbrev pub counts_status : FileCounts → ℕ
+counts_status c =
+    if nat_lt 0 c.out_of_memory then 4 else
+    if nat_lt 0 c.unread then 3 else
+    if nat_lt 0 (c.damaged + c.refused) then 1 else 0
+
+-- the greater of both
+abbrev pub report_status : CheckReport → ℕ
+report_status r = max (end_status r.end) (counts_status r.counts)

@@ -5,15 +5,31 @@ ghost use Rattle.jri_archive.specs.Status.{request_error_status};
 
 use std::alloc::AllocError;
 
+/// What is told of each file.
+#[derive(Clone, Copy, Debug, PartialEq, Eq)]
+pub struct LineForm {
+    /// Whether there is a line for each damaged interval.
+    pub has_map: bool,
+    /// Whether a line is a JSON object.
+    pub is_json: bool,
+    /// Whether nothing is told of sound files.
+    pub is_quiet: bool,
+}
+
 /// What the words ask for.
 #[derive(Debug, Drop)]
 pub struct CheckRequest {
     /// How many files are checked at once: 1 to 64.
     pub workers: u32,
-    /// Whether there is a line for each damaged interval.
-    pub has_map: bool,
-    /// The names of the files.
-    pub files: Vec<String>,
+    pub form: LineForm,
+    /// Whether the counts are the last line of the output.
+    pub has_counts: bool,
+    /// Whether of a folder that is named the JPEG files are checked, and those of its folders.
+    pub is_recursive: bool,
+    /// The file that has further names, each ended by a NUL byte; `-` is standard input.
+    pub names_from: Option<String>,
+    /// The names that the words give, of whatever bytes the system has.
+    pub names: Vec<Vec<u8>>,
 }
 
 /// Why the words ask for no check.
@@ -28,14 +44,14 @@ pub enum RequestError {
 }
 
 impl RequestError {
-    /// The exit status: 0 for help, 2 for wrong words, 1 for want of memory.
+    /// The exit status: 0 for help, 2 for wrong words, 4 for want of memory.
     pub fn status(&self) -> u8
         ensures { result ≡ request_error_status self.now }
     {
         match self {
             RequestError::Help(_) => 0,
             RequestError::Wrong(_) => 2,
-            RequestError::Memory => 1,
+            RequestError::Memory => 4,
         }
     }
 }

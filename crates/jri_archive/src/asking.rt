@@ -3,18 +3,23 @@
 ghost use Rattle.std.specs.Prelude.{◌≤◌, IfOk};
 ghost use Rattle.jr_base.specs.declared.limits.TheConstants.{MAX_WORKERS};
 
-use crate::answers::{CheckRequest, RequestError};
+use crate::answers::{CheckRequest, LineForm, RequestError};
+use crate::words::{bytes_of, texts};
 use clap::error::ErrorKind;
-use clap::{Arg, ArgAction, Command, Error, value_parser};
+use clap::{Arg, ArgAction, ArgMatches, Command, Error, value_parser};
 use jr_base::limits::MAX_WORKERS;
 use std::alloc::{AllocError, Global};
 
-/// `jri_check [--map] [--workers N] FILE..`.
-fn command<'a>(alloc: Global) -> Result<Command<'a>, AllocError> {
-    let map = Arg::new(alloc, "map")
-        .long("map")
+/// A word that is there or not.
+fn flag<'a>(alloc: Global, name: &'a str, help: &'a str) -> Arg<'a> {
+    Arg::new(alloc, name)
+        .long(name)
         .action(ArgAction::SetTrue)
-        .help("A line for each damaged restart interval, too");
+        .help(help)
+}
+
+/// What says which files are checked, and how.
+fn file_arguments<'a>(alloc: Global) -> Result<[Arg<'a>; 4], AllocError> {
     let workers = Arg::new(alloc, "workers")
         .long("workers")
         .action(ArgAction::Set)
@@ -22,17 +27,49 @@ fn command<'a>(alloc: Global) -> Result<Command<'a>, AllocError> {
         .help("How many files are checked at once, 1 to 64")
         .value_parser(value_parser!(u32).range(1..=i64::from(MAX_WORKERS)))
         .default_value("4");
+    let names = Arg::new(alloc, "files0-from")
+        .long("files0-from")
+        .action(ArgAction::Set)
+        .value_name("LIST")
+        .help(
+            "Checks the files whose names LIST has, too, each ended by a NUL byte; - is standard input",
+        );
+    let recursive = flag(
+        alloc,
+        "recursive",
+        "Checks the JPEG files in folders, and in their folders",
+    )
+    .short('r');
     let files = Arg::new(alloc, "files")
         .action(ArgAction::Append)
         .num_args(1..)
-        .required(true)
+        .required_unless_present("files0-from")?
         .value_name("FILE")
         .help("The JPEG files");
+    Ok([workers, names, recursive, files])
+}
+
+/// `jri_check [--map] [--json] [--quiet] [--counts] [--workers N] [-r] [--files0-from LIST] FILE..`.
+fn command<'a>(alloc: Global) -> Result<Command<'a>, AllocError> {
+    let [workers, names, recursive, files] = file_arguments(alloc)?;
     Command::new(alloc, "jri_check")
         .about("Tells which baseline JPEG files are sound, and what is damaged of the others")
         .no_binary_name(true)
-        .arg(map)?
+        .arg(flag(
+            alloc,
+            "map",
+            "A line for each damaged restart interval, too",
+        ))?
+        .arg(flag(alloc, "json", "Each line is a JSON object"))?
+        .arg(flag(alloc, "quiet", "Tells nothing of sound files"))?
+        .arg(flag(
+            alloc,
+            "counts",
+            "The last line tells how many files are what",
+        ))?
         .arg(workers)?
+        .arg(recursive)?
+        .arg(names)?
         .arg(files)
 }
 
@@ -47,35 +84,55 @@ fn refusal(alloc: Global, error: &Error) -> RequestError {
     }
 }
 
-/// Copies of words.
-fn copied(alloc: Global, words: &[&str]) -> Result<Vec<String>, AllocError> {
-    let mut copies = Vec::new(alloc);
-    for word in words {
-        copies.push(String::from_str(alloc, word)?)?;
+/// The names among the words.
+fn names_in(
+    alloc: Global,
+    words: &[Vec<u8>],
+    matches: &ArgMatches<'_>,
+) -> Result<Vec<Vec<u8>>, AllocError> {
+    let mut names = Vec::new(alloc);
+    if let Some(files) = matches.get_strs("files") {
+        for text in files {
+            names.push(bytes_of(alloc, words, text)?)?;
+        }
     }
-    Ok(copies)
+    Ok(names)
 }
 
-/// What the words after the program's name ask for: `--map`; `--workers` from 1 to 64, 4 where it isn't there; and one
-/// file or more. `RequestError` has the text to print where they ask for help or are wrong.
-pub fn asked<'a>(alloc: Global, words: &'a [String]) -> Result<CheckRequest, RequestError>
+/// The name of the list of names.
+fn list_in(alloc: Global, matches: &ArgMatches<'_>) -> Result<Option<String>, AllocError> {
+    match matches.get_str("files0-from") {
+        Some(name) => Ok(Some(String::from_str(alloc, name)?)),
+        None => Ok(None),
+    }
+}
+
+/// What the words after the program's name ask for: `--workers` from 1 to 64, 4 where it isn't there; one name or more, or
+/// `--files0-from`; and what is told. `RequestError` has the text to print where they ask for help or are wrong.
+pub fn asked(alloc: Global, words: &[Vec<u8>]) -> Result<CheckRequest, RequestError>
     ensures some { IfOk result (λ a. 1 ≤ a.workers) }
     ensures few { IfOk result (λ a. a.workers ≤ MAX_WORKERS) }
 {
-    let matches = match command(alloc)?.try_get_matches_from(words) {
+    let texts = texts(alloc, words)?;
+    let matches = match command(alloc)?.try_get_matches_from(texts.as_slice()) {
         Ok(matches) => matches,
         Err(error) => return Err(refusal(alloc, &error)),
     };
-    let files = match matches.get_strs("files") {
-        Some(files) => copied(alloc, files)?,
-        None => Vec::new(alloc),
-    };
+    let names = names_in(alloc, words, &matches)?;
+    let names_from = list_in(alloc, &matches)?;
     match matches.get_one::<u32>("workers") {
         // the range of the argument's values, which the parser's contract does not repeat
         Some(workers) if (1..=MAX_WORKERS).contains(&workers) => Ok(CheckRequest {
             workers,
-            has_map: matches.get_flag("map"),
-            files,
+            form: LineForm {
+                has_map: matches.get_flag("map"),
+                is_json: matches.get_flag("json"),
+                is_quiet: matches.get_flag("quiet"),
+            },
+            has_counts: matches.get_flag("counts"),
+            is_recursive: matches.get_flag("recursive"),
+            names_from,
+            names,
         }),
         _ => Err(RequestError::Wrong(String::new(alloc))),
     }

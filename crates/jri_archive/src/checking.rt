@@ -3,10 +3,9 @@
 ghost use Rattle.std.specs.Prelude.{◌≢◌, length, IfOk, IfErr};
 ghost use Rattle.jr_segments.specs.declared.refusal.Refusal.TheVariants as refusal;
 ghost use Rattle.jr_head.specs.Heads.{RefusalOf};
-ghost use Rattle.jri_archive.specs.Verdicts.{IsFileScan, IsVerdictOf};
+ghost use Rattle.jr_damage.specs.Verdicts.{IsFileScan, IsVerdictOf};
 
-use crate::by_threads::check_scan_by;
-use crate::verdict::Verdict;
+use jr_damage::{Verdict, check_scan_by};
 use jr_head::{Refusal, read_head};
 use jr_scan::Scan;
 use std::alloc::Global;

@@ -1,31 +1,27 @@
-//! What is damaged of JPEG files: which restart intervals have no decoding, and where they stand. No picture is made.
+//! What is damaged of JPEG files: a line for each, and an exit status. No picture is made.
 #![tactic(auto)]
 
 mod answers;
 mod asking;
-mod by_threads;
 mod checking;
-mod damage;
-mod laws;
-mod lines;
-mod map;
+mod counts;
+mod escaping;
+mod file_queue;
+mod json;
+mod names;
 mod outcome;
-mod segments;
-mod shared_scan;
+mod reading;
 mod sharing;
 mod telling;
-mod verdict;
+mod words;
 
-pub use answers::{CheckRequest, RequestError};
+pub use answers::{CheckRequest, LineForm, RequestError};
 pub use asking::asked;
-pub use by_threads::check_scan_by;
 pub use checking::{Checked, check_file, check_file_in_place};
-pub use damage::damaged_front;
-pub use laws::one_count;
-pub use lines::{Lines, McuRange, lines_of, mcus_of};
-pub use map::{DamagedInterval, damaged_interval};
-pub use outcome::{Outcome, ReadError, outcome_in_place, outcome_of};
-pub use segments::{CodedSpan, coded_segments};
-pub use sharing::{Folder, Told, check_all};
-pub use telling::{tell, tell_map};
-pub use verdict::{Verdict, check_scan};
+pub use counts::{CheckEnd, CheckReport, FileCounts, FileState};
+pub use json::{tell_counts_object, tell_interval_object, tell_object};
+pub use outcome::{Outcome, outcome_in_place, outcome_of};
+pub use reading::{Entry, EntryKind, Folder, ReadError};
+pub use sharing::check_all;
+pub use telling::{tell, tell_counts, tell_map};
+pub use words::words;

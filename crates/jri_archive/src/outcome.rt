@@ -1,23 +1,16 @@
 //! What becomes of one file of many.
 
-ghost use Rattle.std.specs.Prelude.{◌≡◌, ◌≢◌, length, IfOk, true};
+ghost use Rattle.std.specs.Prelude.{◌≡◌, ◌≢◌, length, IfOk};
 ghost use Rattle.jr_head.specs.Heads.{RefusalOf};
-ghost use Rattle.jri_archive.specs.Outcomes.{IsOutcomeOf, is_all_sound};
+ghost use Rattle.jri_archive.specs.Outcomes.{IsOutcomeOf, state_of};
 
 use crate::checking::{Checked, check_file, check_file_in_place};
+use crate::counts::FileState;
+use crate::reading::ReadError;
 use jr_head::Refusal;
 use std::alloc::Global;
 use std::sync::Wait;
 use std::thread::Threads;
-
-/// Why the bytes of a file are not there.
-#[derive(Clone, Copy, Debug, PartialEq, Eq)]
-pub enum ReadError {
-    /// It cannot be opened or read.
-    Read,
-    /// Memory ran out.
-    Memory,
-}
 
 /// What a check of a file came to.
 #[derive(Drop)]
@@ -27,7 +20,7 @@ pub enum Outcome {
     /// It is refused, or memory was.
     Refused(Refusal),
     /// It cannot be opened or read.
-    Unread,
+    Unread(ReadError),
 }
 
 /// Checks a file whose bytes are there, or are not, by so many threads where it is large.
@@ -44,8 +37,7 @@ pub fn outcome_of<R: Threads + Wait + Sync>(
             Ok(checked) => Outcome::Checked(checked),
             Err(refusal) => Outcome::Refused(refusal),
         },
-        Err(ReadError::Read) => Outcome::Unread,
-        Err(ReadError::Memory) => Outcome::Refused(Refusal::Memory),
+        Err(error) => Outcome::Unread(*error),
     }
 }
 
@@ -63,19 +55,22 @@ pub fn outcome_in_place<R: Threads + Wait + Sync>(
             Ok(checked) => Outcome::Checked(checked),
             Err(fault) => Outcome::Refused(fault),
         },
-        Err(ReadError::Read) => Outcome::Unread,
-        Err(ReadError::Memory) => Outcome::Refused(Refusal::Memory),
+        Err(error) => Outcome::Unread(error),
     }
 }
 
 impl Outcome {
-    /// Whether the file has a scan, and no interval of it is damaged.
-    pub fn is_sound(&self) -> bool
-        ensures { result ≡ is_all_sound self.now }
+    /// What became of the file.
+    pub fn state(&self) -> FileState
+        ensures { result ≡ state_of self.now }
     {
         match self {
-            Outcome::Checked(checked) => checked.verdict.damaged == 0,
-            Outcome::Refused(_) | Outcome::Unread => false,
+            Outcome::Checked(checked) if checked.verdict.damaged == 0 => FileState::Sound,
+            Outcome::Checked(_) => FileState::Damaged,
+            Outcome::Refused(Refusal::Memory) | Outcome::Unread(ReadError::Memory) =>
+                FileState::OutOfMemory,
+            Outcome::Refused(_) => FileState::Refused,
+            Outcome::Unread(_) => FileState::Unread,
         }
     }
 }

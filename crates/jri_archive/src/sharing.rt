@@ -1,78 +1,19 @@
 //! Many files, checked by several workers and told in their order.
 
-ghost use Rattle.std.specs.Prelude.{◌≡◌, IfSome};
+ghost use Rattle.std.specs.Prelude.{IfSome};
 ghost use Rattle.jri_archive.specs.Outcomes.{IsOutcomeOf};
-ghost use Rattle.jri_archive.specs.Status.{told_status};
-ghost use Rattle.jri_archive.specs.Verdicts.{IsFileScan};
 
 use crate::answers::CheckRequest;
-use crate::checking::Checked;
-use crate::map::damaged_interval;
-use crate::outcome::{Outcome, ReadError, outcome_in_place, outcome_of};
-use crate::segments::coded_segments;
-use crate::telling::{tell, tell_map};
-use std::alloc::{AllocError, Global};
-use std::io::{Error, Write};
+use crate::counts::{CheckEnd, CheckReport};
+use crate::file_queue::{CheckedFile, FileQueue, TellError, write_counts};
+use crate::names::{FileNames, NamedFile, NamesError};
+use crate::outcome::{outcome_in_place, outcome_of};
+use crate::reading::{Folder, ReadError};
+use std::alloc::Global;
+use std::io::{BufReader, Read, Write};
 use std::sync::{Condvar, Mutex, Wait};
 use std::thread;
 use std::thread::Threads;
-
-/// Where the bytes of files come from.
-pub trait Folder {
-    /// The bytes of the file of that name, or one more than a file may have.
-    fn read(&self, alloc: Global, name: &str) -> Result<Vec<u8>, ReadError>;
-}
-
-/// What became of all files.
-#[derive(Clone, Copy, Debug, PartialEq, Eq)]
-pub enum Told {
-    /// Each is sound, and each has its line.
-    AllSound,
-    /// Each has its line, and some are not sound.
-    SomeNot,
-    /// The lines could not be written; a beginning of them was.
-    Unwritten,
-    /// Memory ran out for a line.
-    Memory,
-}
-
-impl Told {
-    /// The exit status: 0 where each file is sound and has its line, else 1.
-    pub fn status(&self) -> u8
-        ensures { result ≡ told_status self.now }
-    {
-        match self {
-            Told::AllSound => 0,
-            Told::SomeNot | Told::Unwritten | Told::Memory => 1,
-        }
-    }
-}
-
-/// Why a line is not written.
-#[derive(Debug, Drop)]
-enum TellError {
-    Write,
-    Memory,
-}
-
-impl From<AllocError> for TellError {
-    fn from(_refused: AllocError) -> Self {
-        TellError::Memory
-    }
-}
-
-impl From<Error> for TellError {
-    fn from(_failed: Error) -> Self {
-        TellError::Write
-    }
-}
-
-/// What a check of a file came to, and its bytes where a map of the damage needs them.
-#[derive(Drop)]
-struct CheckedFile {
-    outcome: Outcome,
-    bytes: Option<Vec<u8>>,
-}
 
 /// Checks a file, for a map or for its line alone, which takes half the memory.
 fn checked_file<R: Threads + Wait + Sync>(
@@ -104,176 +45,131 @@ fn checked_file<R: Threads + Wait + Sync>(
     }
 }
 
-/// Which file is to be checked next, whose line is due, and where lines go.
+/// The names that nobody has claimed yet.
 #[derive(Drop)]
-struct FileQueue<O, E> {
-    files: usize,
-    claimed: usize,
-    /// Of so many it is known what became of them.
-    checked: usize,
-    /// So many workers have no file of their own, and help with one that is large.
-    helping: u32,
-    told: usize,
-    out: O,
-    progress: Option<E>,
-    came_to: Told,
-}
-
-/// Writes a line for each damaged interval, each by one write.
-fn write_map<O: Write>(
-    alloc: Global,
-    out: &mut O,
-    name: &str,
-    file: &[u8],
-    checked: &Checked,
-) -> Result<(), TellError>
-    requires { IsFileScan file.now checked.now.scan }
-{
-    let Ok(spans) = coded_segments(alloc, file, &checked.scan) else {
-        return Err(TellError::Memory);
-    };
-    let mut line = String::new(alloc);
-    for i in 0..checked.scan.intervals() {
-        if let Some(damaged) = damaged_interval(&checked.scan, spans.as_slice(), i) {
-            line.clear();
-            tell_map(&mut line, name, &damaged)?;
-            out.write_all(line.as_bytes())?;
-        }
-    }
-    Ok(())
-}
-
-/// Writes the line of a file by one write and, where they are asked for, those of its damaged intervals.
-fn write_lines<O: Write>(
-    alloc: Global,
-    out: &mut O,
-    name: &str,
-    file: &CheckedFile,
-) -> Result<(), TellError>
-    requires { IfSome file.now.bytes (λ b. IsOutcomeOf b.items file.now.outcome) }
-{
-    let mut line = String::new(alloc);
-    tell(&mut line, name, &file.outcome)?;
-    out.write_all(line.as_bytes())?;
-    if let Some(bytes) = &file.bytes
-        && let Outcome::Checked(checked) = &file.outcome
-        && checked.verdict.damaged > 0
-    {
-        write_map(alloc, out, name, bytes.as_slice(), checked)?;
-    }
-    Ok(())
-}
-
-impl<O: Write, E: Write> FileQueue<O, E> {
-    /// The number of a file that nobody has claimed; `None` where there is none, and where lines can no longer be told.
-    fn claim(&mut self) -> Option<usize> {
-        let is_over = matches!(self.came_to, Told::Unwritten | Told::Memory);
-        if is_over || self.claimed >= self.files {
-            return None;
-        }
-        let number = self.claimed;
-        self.claimed += 1;
-        Some(number)
-    }
-
-    /// How many of so many workers check a file that somebody begins: where fewer files are left than there are workers, those
-    /// that are free help, as many with each file.
-    fn share(&mut self, workers: u32) -> u32 {
-        let left = self.files.saturating_sub(self.checked).max(1);
-        if left as u64 >= u64::from(workers) {
-            return 1;
-        }
-        let left = left as u32;
-        let free = workers.saturating_sub(left).saturating_sub(self.helping);
-        let helping = free.min(workers.div_ceil(left).saturating_sub(1));
-        self.helping = self.helping.saturating_add(helping);
-        helping.saturating_add(1)
-    }
-
-    /// So many workers have checked a file.
-    fn give_back(&mut self, workers: u32) {
-        self.helping = self.helping.saturating_sub(workers.saturating_sub(1));
-        self.checked = self.checked.saturating_add(1);
-    }
-
-    /// Erases how far it is, on a terminal, or shows it.
-    fn show_progress(&mut self, is_shown: bool) {
-        let (told, files) = (self.told, self.files);
-        if let Some(errors) = &mut self.progress {
-            let _ = if is_shown && told < files {
-                write!(errors, "\r\x1B[K{told} of {files} files")
-            } else {
-                write!(errors, "\r\x1B[K")
-            };
-            let _ = errors.flush();
-        }
-    }
-
-    /// Notes what became of a file, where all before it could be told.
-    fn note(&mut self, outcome: &Outcome, written: Result<(), TellError>) {
-        match written {
-            Ok(()) if outcome.is_sound() => {}
-            Ok(()) => self.came_to = Told::SomeNot,
-            Err(TellError::Write) => self.came_to = Told::Unwritten,
-            Err(TellError::Memory) => self.came_to = Told::Memory,
-        }
-    }
-
-    /// Tells of the file whose line is due.
-    fn tell(&mut self, alloc: Global, name: &str, file: &CheckedFile)
-        requires { IfSome file.now.bytes (λ b. IsOutcomeOf b.items file.now.outcome) }
-    {
-        self.show_progress(false);
-        if !matches!(self.came_to, Told::Unwritten | Told::Memory) {
-            let written = write_lines(alloc, &mut self.out, name, file);
-            self.note(&file.outcome, written);
-        }
-        self.told = self.told.saturating_add(1);
-        self.show_progress(true);
-    }
+struct NameQueue<I: Read> {
+    names: FileNames<I>,
+    claimed: u64,
+    /// There is no further name.
+    is_over: bool,
 }
 
 /// What the workers share.
 #[derive(Drop)]
-struct Sharing<F, O, E> {
+struct Sharing<F, I: Read, O, E> {
     alloc: Global,
     folder: F,
-    asked: CheckRequest,
+    workers: u32,
+    has_map: bool,
+    names: Mutex<NameQueue<I>>,
     desk: Mutex<FileQueue<O, E>>,
     /// Somebody has told of a file.
     has_told: Condvar,
 }
 
-impl<F: Folder + Sync, O: Write + Send + Drop, E: Write + Send + Drop> Sharing<F, O, E> {
-    /// Claims and checks files until none is left, and tells of each when its line is due.
-    fn work<R: Threads + Wait + Sync>(&self, rt: &R) {
-        for _ in 0..self.asked.files.len() {
-            let claimed = self.desk.lock(rt).claim();
-            let Some(number) = claimed else {
-                return;
-            };
-            let Some(name) = self.asked.files.get(number) else {
-                return;
-            };
-            let file = self.folder.read(self.alloc, name.as_str());
-            let workers = self.desk.lock(rt).share(self.asked.workers);
-            let file = checked_file(rt, self.alloc, file, self.asked.has_map, workers);
-            let mut desk = self.desk.lock(rt);
-            desk.give_back(workers);
-            let mut desk = self
-                .has_told
-                .wait_while(rt, desk, |desk| desk.told != number);
-            desk.tell(self.alloc, name.as_str(), &file);
-            drop(desk);
-            self.has_told.notify_all();
+impl<I: Read> NameQueue<I> {
+    /// The number of a file that nobody has claimed, and its name.
+    fn claim<F: Folder>(
+        &mut self,
+        alloc: Global,
+        folder: &F,
+    ) -> Result<Option<(u64, NamedFile)>, NamesError> {
+        if self.is_over {
+            return Ok(None);
+        }
+        let file = self.names.next(alloc, folder);
+        if let Ok(Some(file)) = file {
+            let number = self.claimed;
+            self.claimed = self.claimed.saturating_add(1);
+            return Ok(Some((number, file)));
+        }
+        self.is_over = true;
+        match file {
+            Err(error) => Err(error),
+            Ok(_) => Ok(None),
+        }
+    }
+}
+
+impl<
+    F: Folder + Sync,
+    I: Read + Send + Drop,
+    O: Write + Send + Drop,
+    E: Write + Send + Drop,
+> Sharing<F, I, O, E> {
+    /// A file that nobody has claimed; none where there is none, and where lines can no longer be told.
+    fn claim<R: Wait>(&self, rt: &R) -> Option<(u64, NamedFile)> {
+        if self.desk.lock(rt).is_over() {
+            return None;
+        }
+        let mut names = self.names.lock(rt);
+        let file = names.claim(self.alloc, &self.folder);
+        let claimed = names.claimed;
+        drop(names);
+        if let Ok(Some(file)) = file {
+            return Some(file);
+        }
+        let mut desk = self.desk.lock(rt);
+        desk.set_files(claimed);
+        match file {
+            Err(NamesError::Read) => desk.end(CheckEnd::NamesUnread),
+            Err(NamesError::Memory) => desk.end(CheckEnd::Memory),
+            Ok(_) => {}
+        }
+        None
+    }
+
+    /// The bytes of a file.
+    fn read(&self, file: &NamedFile) -> Result<Vec<u8>, ReadError> {
+        if let Some(error) = file.error {
+            return Err(error);
+        }
+        match str::from_utf8(file.name.as_slice()) {
+            Ok(name) => self.folder.read(self.alloc, name),
+            Err(_) => Err(ReadError::NameIsNoText),
         }
     }
 
-    /// Starts the workers, and works beside them.
-    fn run<R: Threads + Wait + Sync>(&self, rt: &R) {
+    /// Checks a file, by several workers where others have none.
+    fn check<R: Threads + Wait + Sync>(&self, rt: &R, file: &NamedFile) -> CheckedFile
+        ensures { IfSome result.bytes (λ b. IsOutcomeOf b.items result.outcome) }
+    {
+        let bytes = self.read(file);
+        let workers = self.desk.lock(rt).share(self.workers);
+        let checked = checked_file(rt, self.alloc, bytes, self.has_map, workers);
+        self.desk.lock(rt).give_back(workers);
+        checked
+    }
+
+    /// Tells of a file once its line is due.
+    fn tell<R: Wait>(&self, rt: &R, number: u64, name: &[u8], file: &CheckedFile)
+        requires { IfSome file.now.bytes (λ b. IsOutcomeOf b.items file.now.outcome) }
+    {
+        let desk = self.desk.lock(rt);
+        let mut desk = self
+            .has_told
+            .wait_while(rt, desk, |desk| !desk.is_due(number));
+        desk.tell(self.alloc, name, file);
+        drop(desk);
+        self.has_told.notify_all();
+    }
+
+    /// Claims and checks files until none is left, and tells of each when its line is due.
+    fn work<R: Threads + Wait + Sync>(&self, rt: &R) {
+        for _ in 0..u64::MAX {
+            let Some((number, file)) = self.claim(rt) else {
+                return;
+            };
+            let checked = self.check(rt, &file);
+            self.tell(rt, number, file.name.as_slice(), &checked);
+        }
+    }
+
+    /// Starts the other workers, one for each further file at most, and works beside them.
+    fn run<R: Threads + Wait + Sync>(&self, rt: &R, files: Option<u64>) {
+        let workers = u64::from(self.workers).min(files.unwrap_or(u64::MAX));
         thread::scope(thread::scope_env(), rt, |scope| {
-            let files = u32::try_from(self.asked.files.len()).unwrap_or(u32::MAX);
-            for _ in 1..self.asked.workers.min(files) {
+            for _ in 1..workers {
                 let _ = scope.spawn(move || self.work(rt));
             }
             self.work(rt);
@@ -281,8 +177,27 @@ impl<F: Folder + Sync, O: Write + Send + Drop, E: Write + Send + Drop> Sharing<F
     }
 }
 
+/// Writes the counts where they are asked for, and notes whether they could be written.
+fn with_counts<O: Write>(
+    alloc: Global,
+    out: &mut O,
+    report: CheckReport,
+    is_json: bool,
+) -> CheckReport {
+    let end = match write_counts(alloc, out, report.counts, is_json) {
+        Ok(()) => return report,
+        Err(TellError::Write) => CheckEnd::Unwritten,
+        Err(TellError::Memory) => CheckEnd::Memory,
+    };
+    CheckReport {
+        counts: report.counts,
+        end,
+    }
+}
+
 /// Checks each file, so many at once, and writes a line for each, in their order, each by one write; with `has_map` one
-/// for each damaged interval, too. `progress` is told how far it is, where there is one.
+/// for each damaged interval, too. `list` has further names, each ended by a NUL byte, and is read as files are checked.
+/// `progress` is told how far it is, where there is one.
 ///
 /// For each worker it takes about the memory of the file that it checks, in which its scan is cut; with `has_map` about twice
 /// that, its bytes and those of its scan without their stuffing, and 16 bytes more for each restart marker, of a file that is
@@ -290,27 +205,48 @@ impl<F: Folder + Sync, O: Write + Send + Drop, E: Write + Send + Drop> Sharing<F
 pub fn check_all<
     R: Threads + Wait + Sync,
     F: Folder + Sync + Drop,
+    I: Read + Send + Drop,
     O: Write + Send + Drop,
     E: Write + Send + Drop,
->(rt: &R, alloc: Global, folder: F, asked: CheckRequest, out: O, progress: Option<E>) -> (Told, O) {
-    let desk = FileQueue {
-        files: asked.files.len(),
-        claimed: 0,
-        checked: 0,
-        helping: 0,
-        told: 0,
-        out,
-        progress,
-        came_to: Told::AllSound,
-    };
+>(
+    rt: &R,
+    alloc: Global,
+    folder: F,
+    asked: CheckRequest,
+    list: Option<BufReader<I>>,
+    out: O,
+    progress: Option<E>,
+) -> (CheckReport, O) {
+    let CheckRequest {
+        workers,
+        form,
+        has_counts,
+        is_recursive,
+        names,
+        ..
+    } = asked;
+    let names = FileNames::of(alloc, names, list, is_recursive);
+    let files = names.left();
     let sharing = Sharing {
         alloc,
         folder,
-        asked,
-        desk: Mutex::new(desk),
+        workers,
+        has_map: form.has_map,
+        names: Mutex::new(NameQueue {
+            names,
+            claimed: 0,
+            is_over: false,
+        }),
+        desk: Mutex::new(FileQueue::of(form, files, out, progress)),
         has_told: Condvar::new(),
     };
-    sharing.run(rt);
-    let desk = sharing.desk.into_inner();
-    (desk.came_to, desk.out)
+    sharing.run(rt, files);
+    let mut desk = sharing.desk.into_inner();
+    desk.hide_progress();
+    let (report, mut out) = (desk.report, desk.out);
+    if !has_counts || matches!(report.end, CheckEnd::Unwritten | CheckEnd::Memory) {
+        return (report, out);
+    }
+    let report = with_counts(alloc, &mut out, report, form.is_json);
+    (report, out)
 }

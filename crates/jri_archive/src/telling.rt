@@ -1,24 +1,41 @@
-//! The lines that are told of a file.
+//! The lines that are told of a file, in words.
 
 use crate::checking::Checked;
-use crate::lines::{Lines, McuRange};
-use crate::map::DamagedInterval;
+use crate::counts::FileCounts;
 use crate::outcome::Outcome;
-use crate::segments::CodedSpan;
+use crate::reading::ReadError;
+use jr_damage::{CodedSpan, DamagedInterval, Lines, McuRange};
 use jr_head::Refusal;
 use jr_scan::ScanEnd;
 use std::alloc::AllocError;
 
-/// Puts a file's name. Characters that would end the line, or move on a terminal, are told as `?`.
-fn put_name(line: &mut String, name: &str) -> Result<(), AllocError> {
-    for c in name.chars() {
+/// Puts text in which characters that would end the line, or move on a terminal, are told as `?`.
+fn put_plain(line: &mut String, text: &str) -> Result<(), AllocError> {
+    for c in text.chars() {
         line.push(if c.is_control() { '?' } else { c })?;
     }
     Ok(())
 }
 
+/// Puts a file's name, in which bytes that are no text are told as `?`, too.
+fn put_name(line: &mut String, name: &[u8]) -> Result<(), AllocError> {
+    let mut rest = name;
+    for _ in 0..=name.len() {
+        let end = match str::from_utf8(rest) {
+            Ok(text) => return put_plain(line, text),
+            Err(error) => error.valid_up_to(),
+        };
+        if let Ok(text) = str::from_utf8(&rest[..end]) {
+            put_plain(line, text)?;
+        }
+        line.push('?')?;
+        rest = &rest[end + 1..];
+    }
+    Ok(())
+}
+
 /// Puts what ended the scan, where it isn't EOI.
-fn put_end(line: &mut String, ended: ScanEnd) -> Result<(), AllocError> {
+pub(crate) fn put_end(line: &mut String, ended: ScanEnd) -> Result<(), AllocError> {
     match ended {
         ScanEnd::EndOfImage => Ok(()),
         ScanEnd::OtherMarker(code, at) => {
@@ -66,14 +83,16 @@ fn put_checked(line: &mut String, checked: &Checked) -> Result<(), AllocError> {
 }
 
 /// Puts the line of a file, with its end.
-pub fn tell(line: &mut String, name: &str, outcome: &Outcome) -> Result<(), AllocError> {
+pub fn tell(line: &mut String, name: &[u8], outcome: &Outcome) -> Result<(), AllocError> {
     put_name(line, name)?;
     line.push_str(": ")?;
     match outcome {
         Outcome::Checked(checked) => put_checked(line, checked)?,
-        Outcome::Refused(Refusal::Memory) => line.push_str("out of memory")?,
+        Outcome::Refused(Refusal::Memory) | Outcome::Unread(ReadError::Memory) => line.push_str(
+            "out of memory",
+        )?,
         Outcome::Refused(refusal) => write!(line, "refused {}: {refusal}", refusal.number())?,
-        Outcome::Unread => line.push_str("cannot be read")?,
+        Outcome::Unread(error) => write!(line, "cannot be read: {}", error.text())?,
     }
     line.push_str("\n")
 }
@@ -81,7 +100,7 @@ pub fn tell(line: &mut String, name: &str, outcome: &Outcome) -> Result<(), Allo
 /// Puts the line of a damaged interval, with its end. All is counted from 0, and ranges are told with their last one.
 pub fn tell_map(
     line: &mut String,
-    name: &str,
+    name: &[u8],
     damaged: &DamagedInterval,
 ) -> Result<(), AllocError> {
     put_name(line, name)?;
@@ -100,4 +119,21 @@ pub fn tell_map(
     }
     let decodable = damaged.decodable;
     writeln!(line, ", {decodable} of {count} MCUs decodable")
+}
+
+/// Puts the line of the counts, with its end. Those that are 0 are left out but for the sound ones.
+pub fn tell_counts(line: &mut String, counts: FileCounts) -> Result<(), AllocError> {
+    write!(line, "{} sound", counts.sound)?;
+    let others = [
+        (counts.damaged, "damaged"),
+        (counts.refused, "refused"),
+        (counts.unread, "cannot be read"),
+        (counts.out_of_memory, "out of memory"),
+    ];
+    for (count, text) in others {
+        if count > 0 {
+            write!(line, ", {count} {text}")?;
+        }
+    }
+    line.push_str("\n")
 }

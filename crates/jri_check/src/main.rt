@@ -1,16 +1,26 @@
-//! `jri_check [--map] [--workers N] FILE..`: tells which JPEG files are sound, and what is damaged of the others.
+//! `jri_check [--map] [--json] [--quiet] [--counts] [--workers N] [-r] [--files0-from LIST] FILE..`: tells which JPEG files are
+//! sound, and what is damaged of the others.
 #![tactic(auto)]
 
 use jr_base::limits::MAX_FILE_BYTES;
-use jri_archive::{Folder, ReadError, RequestError, Told, asked, check_all};
-use std::alloc::Global;
-use std::io::{Error, ErrorKind, IsTerminal, Read, Result as IoResult, Write};
+use jri_archive::{
+    CheckEnd, CheckReport, CheckRequest, Entry, EntryKind, Folder, ReadError, RequestError, asked,
+    check_all, tell_counts, words,
+};
+use std::alloc::{AllocError, Global};
+use std::fs;
+use std::fs::{DirEntry, File};
+use std::io::{BufReader, Error, ErrorKind, IsTerminal, Read, Result as IoResult, Write};
 use std::process::ExitCode;
-use std::rt::Env;
-use std::{env, fs};
 
 /// One byte more than a file may have.
 const TOO_MANY: u64 = MAX_FILE_BYTES as u64 + 1;
+
+/// The exit status where the list of names can't be read.
+const LIST_UNREAD: u8 = 3;
+
+/// There is no list of names.
+const NO_LIST: Option<IoResult<File>> = None;
 
 /// The files of the system.
 #[derive(Drop)]
@@ -20,11 +30,58 @@ struct Disk<'a> {
 
 /// Why bytes are not there.
 fn unread(error: &Error) -> ReadError {
-    if error.kind() == ErrorKind::OutOfMemory {
-        ReadError::Memory
-    } else {
-        ReadError::Read
+    match error.kind() {
+        ErrorKind::OutOfMemory => ReadError::Memory,
+        ErrorKind::NotFound => ReadError::NotFound,
+        ErrorKind::PermissionDenied => ReadError::NotAllowed,
+        ErrorKind::IsADirectory => ReadError::Folder,
+        ErrorKind::InvalidFilename => ReadError::NameIsNoText,
+        _ => ReadError::Failed,
     }
+}
+
+/// What a name that is no text is told as.
+const UNTOLD: &str = "/?";
+
+/// An entry of a folder, or none where it is a link or a device.
+fn entry_of(
+    alloc: Global,
+    folder: &str,
+    found: IoResult<DirEntry<HostRuntime>>,
+) -> Result<Option<Entry>, AllocError> {
+    let mut name = String::new(alloc);
+    let kind = match found {
+        Ok(entry) => {
+            name.push_str(entry.path().as_str())?;
+            match entry.file_type() {
+                Ok(kind) if kind.is_dir() => EntryKind::Folder,
+                Ok(kind) if kind.is_file() => EntryKind::File,
+                Ok(_) => return Ok(None),
+                Err(error) => EntryKind::Unread(unread(&error)),
+            }
+        }
+        Err(error) => {
+            name.push_str(folder)?;
+            name.push_str(UNTOLD)?;
+            EntryKind::Unread(unread(&error))
+        }
+    };
+    Ok(Some(Entry { name, kind }))
+}
+
+/// What stands in a folder.
+fn entries_of<D: Iterator<Item = IoResult<DirEntry<HostRuntime>>>>(
+    alloc: Global,
+    folder: &str,
+    found: D,
+) -> Result<Vec<Entry>, AllocError> {
+    let mut entries = Vec::new(alloc);
+    for entry in found {
+        if let Some(entry) = entry_of(alloc, folder, entry)? {
+            entries.push(entry)?;
+        }
+    }
+    Ok(entries)
 }
 
 impl<'a> Folder for Disk<'a> {
@@ -39,28 +96,16 @@ impl<'a> Folder for Disk<'a> {
             Err(error) => Err(unread(&error)),
         }
     }
-}
 
-/// The words after the program's name.
-fn words<R: Env + AllocGlobal>(rt: &R) -> IoResult<Vec<String>> {
-    let mut words = Vec::new(rt.alloc());
-    for word in env::args(rt)?.skip(1) {
-        words.push(word)?;
-    }
-    Ok(words)
-}
-
-/// Why there are no words.
-fn unasked(alloc: Global, error: &Error) -> RequestError {
-    if error.kind() == ErrorKind::OutOfMemory {
-        return RequestError::Memory;
-    }
-    match String::from_str(
-        alloc,
-        "the words are not text: a file's name has to be UTF-8\n",
-    ) {
-        Ok(text) => RequestError::Wrong(text),
-        Err(_) => RequestError::Memory,
+    fn entries(&self, alloc: Global, name: &str) -> Result<Option<Vec<Entry>>, ReadError> {
+        match fs::read_dir(self.rt, name) {
+            Ok(found) => match entries_of(alloc, name, found) {
+                Ok(entries) => Ok(Some(entries)),
+                Err(_) => Err(ReadError::Memory),
+            },
+            Err(error) if error.kind() == ErrorKind::NotADirectory => Ok(None),
+            Err(error) => Err(unread(&error)),
+        }
     }
 }
 
@@ -74,35 +119,63 @@ fn tell<W: Write, E: Write>(out: &mut W, errors: &mut E, unasked: &RequestError)
     unasked.status()
 }
 
-/// Says why not every file has its line, and answers the exit status.
-fn finish<E: Write>(errors: &mut E, told: Told) -> u8 {
-    let _ = match told {
-        Told::AllSound | Told::SomeNot => Ok(()),
-        Told::Unwritten => writeln!(errors, "cannot write the lines"),
-        Told::Memory => writeln!(errors, "out of memory"),
+/// Tells how many files are what, and why not every one has its line, and answers the exit status.
+fn finish<E: Write>(alloc: Global, errors: &mut E, report: CheckReport, is_quiet: bool) -> u8 {
+    let mut counts = String::new(alloc);
+    if !is_quiet && tell_counts(&mut counts, report.counts).is_ok() {
+        let _ = errors.write_all(counts.as_bytes());
+    }
+    let _ = match report.end {
+        CheckEnd::AllTold => Ok(()),
+        CheckEnd::NamesUnread => writeln!(errors, "cannot read further names"),
+        CheckEnd::Unwritten => writeln!(errors, "cannot write the lines"),
+        CheckEnd::Memory => writeln!(errors, "out of memory"),
     };
-    told.status()
+    report.status()
+}
+
+/// Checks files, further ones of which a list names.
+fn check<I: Read + Send + Drop>(
+    rt: &HostRuntime,
+    asked: CheckRequest,
+    list: Option<IoResult<I>>,
+) -> u8 {
+    let alloc: Global = rt.alloc();
+    let mut errors = rt.stderr();
+    let list = match list {
+        None => None,
+        Some(input) => match input.and_then(|input| BufReader::new(alloc, input)) {
+            Ok(list) => Some(list),
+            Err(error) => {
+                let _ = writeln!(errors, "cannot read names: {}", unread(&error).text());
+                return LIST_UNREAD;
+            }
+        },
+    };
+    let is_quiet = asked.form.is_quiet;
+    let progress = if errors.is_terminal() {
+        Some(rt.stderr())
+    } else {
+        None
+    };
+    let (report, _) = check_all(rt, alloc, Disk { rt }, asked, list, rt.stdout(), progress);
+    finish(alloc, &mut errors, report, is_quiet)
 }
 
 fn main(rt: HostRuntime) -> ExitCode {
     let alloc: Global = rt.alloc();
     let (mut out, mut errors) = (rt.stdout(), rt.stderr());
-    let words = match words(&rt) {
-        Ok(words) => words,
-        Err(error) => {
-            return ExitCode::from(tell(&mut out, &mut errors, &unasked(alloc, &error)));
-        }
+    let asked = match words(&rt, alloc) {
+        Ok(words) => asked(alloc, words.as_slice()),
+        Err(_) => Err(RequestError::Memory),
     };
-    let asked = match asked(alloc, &words) {
+    let mut asked = match asked {
         Ok(asked) => asked,
         Err(unasked) => return ExitCode::from(tell(&mut out, &mut errors, &unasked)),
     };
-    let progress = rt.stderr();
-    let progress = if progress.is_terminal() {
-        Some(progress)
-    } else {
-        None
-    };
-    let (told, _) = check_all(&rt, alloc, Disk { rt: &rt }, asked, out, progress);
-    ExitCode::from(finish(&mut errors, told))
+    ExitCode::from(match asked.names_from.take() {
+        None => check(&rt, asked, NO_LIST),
+        Some(name) if name.as_str() == "-" => check(&rt, asked, Some(Ok(rt.stdin()))),
+        Some(name) => check(&rt, asked, Some(fs::open(&rt, name.as_str()))),
+    })
 }

@@ -12,11 +12,11 @@ ghost use Rattle.jri_memory.specs.Checks.{ArePut, ChecksFile, IsMarkOf, LacksMar
 use crate::decode::DecodeError;
 use crate::report::DecodeReport;
 use crate::room::{asked_for, lacks_room};
+use jr_damage::damaged_front;
 use jr_head::Refusal;
 use jr_picture::Counts;
 use jr_rows::{Marked, put_mark};
 use jr_scan::Scan;
-use jri_archive::damaged_front;
 use jri_engine::scan_of_file;
 use std::alloc::Global;
 

@@ -1,0 +1,5 @@
+use Rattle.jr_damage.specs.Verdicts.{IsVerdictOf}
+use Rattle.jr_damage.proofs.verdict.check_scan.Given as goal
+
+abbrev pub invariant-loop-i : goal.invariant-loop-i
+invariant-loop-i l = IsVerdictOf l.scan l.i l.verdict

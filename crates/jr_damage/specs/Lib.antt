@@ -1,0 +1,5 @@
+pub mod Damage
+pub mod Lines
+pub mod Verdicts
+pub mod Coded
+pub mod Map

@@ -1,0 +1,127 @@
+//! A large scan, checked by several threads.
+
+ghost use Rattle.std.specs.Prelude.{◌≡◌, Some, length};
+ghost use Rattle.jr_damage.specs.Verdicts.{IsVerdictOf};
+
+use crate::damage::step_of;
+use crate::shared_scan::SharedScan;
+use crate::verdict::{Verdict, check_by, check_scan};
+use jr_guesses::{Beside, GuessQueue, Help, OneScan, run_beside, windows_of};
+use jr_scan::Scan;
+use std::alloc::Global;
+use std::marker::Brand;
+use std::sync::Wait;
+use std::thread::Threads;
+
+/// Threads are worth their start where the data of the scan's intervals have bits for so many guesses: some 256 KB.
+const LEAST_WINDOWS: u64 = 64;
+/// And one more for each so many: some 128 KB.
+const WINDOWS_OF_ONE: u64 = 32;
+/// So many intervals are looked at to see that: a head may claim millions.
+const MOST_LOOKED_AT: u32 = 1024;
+
+/// There is room for one guess a thread, and for so many that wait for the reader.
+const WAITING_GUESSES: u32 = 4;
+
+/// A guess has room for the MCUs of so many steps, since its bits are about those of one.
+const STEPS_OF_GUESS: u32 = 2;
+
+/// How many of so many threads are worth their start beside the one that reads.
+fn helpers_of(scan: &Scan, threads: u32) -> u32 {
+    let mut windows: u64 = 0;
+    for i in 0..scan.intervals().min(MOST_LOOKED_AT) {
+        windows = windows.saturating_add(windows_of(scan, i));
+    }
+    if windows < LEAST_WINDOWS {
+        return 0;
+    }
+    (windows / WINDOWS_OF_ONE).min(u64::from(threads)) as u32
+}
+
+/// The calling thread reads the scan, and then ends the others' work.
+#[derive(Drop)]
+struct Reading<'s, 'a, R: Wait, S: OneScan> {
+    scan: &'s SharedScan<'a, S>,
+    rt: &'s R,
+}
+
+impl<'s, 'a, R: Wait, S: OneScan> Beside for Reading<'s, 'a, R, S> {
+    type Answer = Verdict;
+
+    ghost may = { λ r. Unit };
+
+    ghost gives = { λ r verdict. IsVerdictOf r.scan.now (length r.scan.now.intervals) verdict };
+
+    fn run(self) -> Verdict {
+        let verdict = check_by(self.scan, self.rt);
+        self.scan.end(self.rt);
+        verdict
+    }
+}
+
+/// The others make guesses.
+#[derive(Drop)]
+struct Guessing<'s, 'a, R: Wait, S: OneScan> {
+    scan: &'s SharedScan<'a, S>,
+    rt: &'s R,
+    alloc: Global,
+}
+
+impl<'s, 'a, R: Wait, S: OneScan> Help for Guessing<'s, 'a, R, S> {
+    fn help(&self) {
+        self.scan.work(self.rt, self.alloc);
+    }
+}
+
+/// `check_scan_by`, where a type stands for the scan, so that what the threads share under a lock is known to be of it.
+fn check_as<R: Threads + Wait + Sync, S: OneScan + Send>(
+    rt: &R,
+    alloc: Global,
+    scan: &Scan,
+    helpers: u32,
+) -> Verdict
+    requires { S.scan ≡ Some scan.now }
+    ensures { IsVerdictOf scan.now (length scan.now.intervals) result }
+{
+    let room = helpers.saturating_add(WAITING_GUESSES);
+    let step = step_of(scan.head());
+    let most = step.saturating_mul(STEPS_OF_GUESS);
+    let guesses: Result<GuessQueue<'_, S>, _> = GuessQueue::open(
+        alloc,
+        scan,
+        scan.intervals(),
+        room,
+        step,
+        most,
+    );
+    match guesses {
+        Ok(guesses) => {
+            let shared = SharedScan::of(scan, guesses);
+            let guessing = Guessing {
+                scan: &shared,
+                rt,
+                alloc,
+            };
+            run_beside(rt, helpers, &guessing, Reading { scan: &shared, rt })
+        }
+        Err(_) => check_scan(scan),
+    }
+}
+
+/// `check_scan` by so many threads at most where the scan is large: the calling one reads it, and the others make guesses ahead of it.
+/// These take memory for four guesses and one more for each of them, each of some 400 KB: the blocks of 3072 data units at
+/// most, and where their MCUs start. Where that is refused they make fewer.
+pub fn check_scan_by<R: Threads + Wait + Sync>(
+    rt: &R,
+    alloc: Global,
+    scan: &Scan,
+    workers: u32,
+) -> Verdict
+    ensures { IsVerdictOf scan.now (length scan.now.intervals) result }
+{
+    let helpers = helpers_of(scan, workers.saturating_sub(1));
+    if helpers == 0 {
+        return check_scan(scan);
+    }
+    check_as::<R, Brand>(rt, alloc, scan, helpers)
+}

@@ -1,0 +1,20 @@
+//! What is damaged of a scan: which restart intervals have no decoding, and where they stand in the picture and in the file. No
+//! picture is made.
+#![tactic(auto)]
+
+mod by_threads;
+mod damage;
+mod laws;
+mod lines;
+mod map;
+mod segments;
+mod shared_scan;
+mod verdict;
+
+pub use by_threads::check_scan_by;
+pub use damage::damaged_front;
+pub use laws::one_count;
+pub use lines::{Lines, McuRange, lines_of, mcus_of};
+pub use map::{DamagedInterval, damaged_interval};
+pub use segments::{CodedSpan, coded_segments};
+pub use verdict::{Verdict, check_scan};

@@ -1,0 +1,51 @@
+//! Threads that help the calling one.
+
+use std::sync::Wait;
+use std::thread;
+use std::thread::Threads;
+
+/// What threads do that help the calling one.
+pub trait Help {
+    /// Helps until nothing is left to do.
+    fn help(&self);
+}
+
+/// What the calling thread does while others help it: a type of its own, since the prover passes on what a scope's closure ensures
+/// where that is a word of a trait.
+pub trait Beside {
+    type Answer;
+
+    ghost may: { Self → Type 0 };
+
+    ghost gives: { Self → Self.Answer → Type 0 };
+
+    /// Does it.
+    fn run(self) -> Self::Answer
+        requires { may self }
+        ensures { gives self result };
+}
+
+/// Starts so many threads that help, and runs `beside` in the calling thread. A thread that can't be started is left out.
+pub fn run_beside<R: Threads + Wait + Sync, H: Help + Sync, B: Beside + Drop>(
+    rt: &R,
+    helpers: u32,
+    help: &H,
+    beside: B,
+) -> B::Answer
+    requires { B.may beside }
+    ensures { B.gives beside result }
+{
+    thread::scope(
+        thread::scope_env(),
+        rt,
+        |scope| -> B::Answer
+            requires { B.may beside }
+            ensures { B.gives beside result }
+        {
+            for _ in 0..helpers {
+                let _ = scope.spawn(move || { help.help() });
+            }
+            beside.run()
+        },
+    )
+}

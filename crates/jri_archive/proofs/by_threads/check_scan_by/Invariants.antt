@@ -1,5 +1,0 @@
-use Rattle.std.proofs.Common.{Some}
-use Rattle.jri_archive.proofs.by_threads.check_scan_by.Given as goal
-
-abbrev pub ghosts-check_as : goal.ghosts-check_as
-ghosts-check_as g a = record { scan = Some a.scan.now }

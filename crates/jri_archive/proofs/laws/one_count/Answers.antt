@@ -1,5 +1,0 @@
-use Rattle.jri_archive.proofs.Verdicts.{one_count}
-use Rattle.jri_archive.proofs.laws.one_count.Goals as goal
-
-pub returns : goal.returns
-returns c = λ s n a b x y. one_count s n a b x y

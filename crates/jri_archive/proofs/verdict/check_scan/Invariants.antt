@@ -1,5 +1,0 @@
-use Rattle.jri_archive.specs.Verdicts.{IsVerdictOf}
-use Rattle.jri_archive.proofs.verdict.check_scan.Given as goal
-
-abbrev pub invariant-loop-i : goal.invariant-loop-i
-invariant-loop-i l = IsVerdictOf l.scan l.i l.verdict

@@ -1,0 +1,102 @@
+//! How many files are what, and the exit status.
+
+ghost use Rattle.std.specs.Prelude.{◌≡◌};
+ghost use Rattle.jri_archive.specs.Status.{counts_with, files_in, report_status};
+
+/// What became of a file.
+#[derive(Clone, Copy, Debug, PartialEq, Eq)]
+pub enum FileState {
+    /// No interval of its scan is damaged.
+    Sound,
+    /// Some are.
+    Damaged,
+    /// It has no head that is decoded.
+    Refused,
+    /// It cannot be read.
+    Unread,
+    /// Memory ran out; nothing is known of it.
+    OutOfMemory,
+}
+
+/// How many files are what.
+#[derive(Clone, Copy, Debug, PartialEq, Eq)]
+pub struct FileCounts {
+    pub sound: u64,
+    pub damaged: u64,
+    pub refused: u64,
+    pub unread: u64,
+    pub out_of_memory: u64,
+}
+
+impl FileCounts {
+    /// No file.
+    pub fn none() -> FileCounts
+        ensures { files_in result ≡ 0 }
+    {
+        FileCounts {
+            sound: 0,
+            damaged: 0,
+            refused: 0,
+            unread: 0,
+            out_of_memory: 0,
+        }
+    }
+
+    /// These and one more.
+    pub fn with(self, state: FileState) -> FileCounts
+        ensures { result ≡ counts_with self state }
+    {
+        let mut counts = self;
+        match state {
+            FileState::Sound => counts.sound = counts.sound.saturating_add(1),
+            FileState::Damaged => counts.damaged = counts.damaged.saturating_add(1),
+            FileState::Refused => counts.refused = counts.refused.saturating_add(1),
+            FileState::Unread => counts.unread = counts.unread.saturating_add(1),
+            FileState::OutOfMemory => {
+                counts.out_of_memory = counts.out_of_memory.saturating_add(1);
+            }
+        }
+        counts
+    }
+}
+
+/// Why no further file is told of.
+#[derive(Clone, Copy, Debug, PartialEq, Eq)]
+pub enum CheckEnd {
+    /// Each file has its line.
+    AllTold,
+    /// Further names could not be read.
+    NamesUnread,
+    /// The lines could not be written; a beginning of them was.
+    Unwritten,
+    /// Memory ran out for a name or a line.
+    Memory,
+}
+
+/// What became of all files.
+#[derive(Clone, Copy, Debug, PartialEq, Eq)]
+pub struct CheckReport {
+    /// Of those whose lines are written.
+    pub counts: FileCounts,
+    pub end: CheckEnd,
+}
+
+impl CheckReport {
+    /// The exit status, the greatest that fits: 0 where each file is sound, 1 where some are damaged or refused, 3 where some, or
+    /// some names, could not be read, 4 where memory or the output failed.
+    pub fn status(&self) -> u8
+        ensures { result ≡ report_status self.now }
+    {
+        let counts = &self.counts;
+        if matches!(self.end, CheckEnd::Unwritten | CheckEnd::Memory) || counts.out_of_memory > 0 {
+            return 4;
+        }
+        if self.end == CheckEnd::NamesUnread || counts.unread > 0 {
+            return 3;
+        }
+        if counts.damaged > 0 || counts.refused > 0 {
+            return 1;
+        }
+        0
+    }
+}

@@ -1,0 +1,242 @@
+//! Whose file is checked next, whose line is due, and where lines go.
+
+ghost use Rattle.std.specs.Prelude.{IfSome};
+ghost use Rattle.jri_archive.specs.Outcomes.{IsOutcomeOf};
+ghost use Rattle.jr_damage.specs.Verdicts.{IsFileScan};
+
+use crate::answers::LineForm;
+use crate::checking::Checked;
+use crate::counts::{CheckEnd, CheckReport, FileCounts, FileState};
+use crate::json::{tell_counts_object, tell_interval_object, tell_object};
+use crate::outcome::Outcome;
+use crate::telling::{tell, tell_counts, tell_map};
+use jr_damage::{coded_segments, damaged_interval};
+use std::alloc::{AllocError, Global};
+use std::io::{Error, Write};
+
+/// Why a line is not written.
+#[derive(Debug, Drop)]
+pub(crate) enum TellError {
+    Write,
+    Memory,
+}
+
+impl From<AllocError> for TellError {
+    fn from(_refused: AllocError) -> Self {
+        TellError::Memory
+    }
+}
+
+impl From<Error> for TellError {
+    fn from(_failed: Error) -> Self {
+        TellError::Write
+    }
+}
+
+/// What a check of a file came to, and its bytes where a map of the damage needs them.
+#[derive(Drop)]
+pub(crate) struct CheckedFile {
+    pub(crate) outcome: Outcome,
+    pub(crate) bytes: Option<Vec<u8>>,
+}
+
+/// Which line is due, and where lines go.
+#[derive(Drop)]
+pub(crate) struct FileQueue<O, E> {
+    form: LineForm,
+    /// How many files there are, where that is known.
+    files: Option<u64>,
+    /// Of so many files it is known what became of them.
+    checked: u64,
+    /// So many workers have no file of their own, and help with one that is large.
+    helping: u32,
+    /// So many are told of.
+    told: u64,
+    pub(crate) out: O,
+    progress: Option<E>,
+    pub(crate) report: CheckReport,
+}
+
+/// Writes a line for each damaged interval, each by one write.
+fn write_map<O: Write>(
+    alloc: Global,
+    out: &mut O,
+    name: &[u8],
+    file: &[u8],
+    checked: &Checked,
+    is_json: bool,
+) -> Result<(), TellError>
+    requires { IsFileScan file.now checked.now.scan }
+{
+    let Ok(spans) = coded_segments(alloc, file, &checked.scan) else {
+        return Err(TellError::Memory);
+    };
+    let mut line = String::new(alloc);
+    for i in 0..checked.scan.intervals() {
+        if let Some(damaged) = damaged_interval(&checked.scan, spans.as_slice(), i) {
+            line.clear();
+            if is_json {
+                tell_interval_object(&mut line, name, &damaged)?;
+            } else {
+                tell_map(&mut line, name, &damaged)?;
+            }
+            out.write_all(line.as_bytes())?;
+        }
+    }
+    Ok(())
+}
+
+/// Writes the line of a file by one write and, where they are asked for, those of its damaged intervals.
+fn write_lines<O: Write>(
+    alloc: Global,
+    out: &mut O,
+    name: &[u8],
+    file: &CheckedFile,
+    form: LineForm,
+) -> Result<(), TellError>
+    requires { IfSome file.now.bytes (λ b. IsOutcomeOf b.items file.now.outcome) }
+{
+    if form.is_quiet && file.outcome.state() == FileState::Sound {
+        return Ok(());
+    }
+    let mut line = String::new(alloc);
+    if form.is_json {
+        tell_object(&mut line, name, &file.outcome)?;
+    } else {
+        tell(&mut line, name, &file.outcome)?;
+    }
+    out.write_all(line.as_bytes())?;
+    if let Some(bytes) = &file.bytes
+        && let Outcome::Checked(checked) = &file.outcome
+        && checked.verdict.damaged > 0
+    {
+        write_map(alloc, out, name, bytes.as_slice(), checked, form.is_json)?;
+    }
+    Ok(())
+}
+
+/// Writes the line of the counts.
+pub(crate) fn write_counts<O: Write>(
+    alloc: Global,
+    out: &mut O,
+    counts: FileCounts,
+    is_json: bool,
+) -> Result<(), TellError> {
+    let mut line = String::new(alloc);
+    if is_json {
+        tell_counts_object(&mut line, counts)?;
+    } else {
+        tell_counts(&mut line, counts)?;
+    }
+    out.write_all(line.as_bytes())?;
+    Ok(())
+}
+
+impl<O: Write, E: Write> FileQueue<O, E> {
+    /// No file is told of yet. There are so many, where that is known.
+    pub(crate) fn of(
+        form: LineForm,
+        files: Option<u64>,
+        out: O,
+        progress: Option<E>,
+    ) -> FileQueue<O, E> {
+        FileQueue {
+            form,
+            files,
+            checked: 0,
+            helping: 0,
+            told: 0,
+            out,
+            progress,
+            report: CheckReport {
+                counts: FileCounts::none(),
+                end: CheckEnd::AllTold,
+            },
+        }
+    }
+
+    /// Whether lines can no longer be told.
+    pub(crate) fn is_over(&self) -> bool {
+        matches!(self.report.end, CheckEnd::Unwritten | CheckEnd::Memory)
+    }
+
+    /// It is known by now how many files there are.
+    pub(crate) fn set_files(&mut self, files: u64) {
+        self.files = Some(files);
+    }
+
+    /// Whether the line of a file is due.
+    pub(crate) fn is_due(&self, number: u64) -> bool {
+        self.told == number
+    }
+
+    /// How many of so many workers check a file that somebody begins: where fewer files are left than there are workers, those
+    /// that are free help, as many with each file.
+    pub(crate) fn share(&mut self, workers: u32) -> u32 {
+        let files = self.files.unwrap_or(u64::MAX);
+        let left = files.saturating_sub(self.checked).max(1);
+        if left >= u64::from(workers) {
+            return 1;
+        }
+        let left = left as u32;
+        let free = workers.saturating_sub(left).saturating_sub(self.helping);
+        let helping = free.min(workers.div_ceil(left).saturating_sub(1));
+        self.helping = self.helping.saturating_add(helping);
+        helping.saturating_add(1)
+    }
+
+    /// So many workers have checked a file.
+    pub(crate) fn give_back(&mut self, workers: u32) {
+        self.helping = self.helping.saturating_sub(workers.saturating_sub(1));
+        self.checked = self.checked.saturating_add(1);
+    }
+
+    /// Erases how far it is, on a terminal, or shows it.
+    fn show_progress(&mut self, is_shown: bool) {
+        let (told, files) = (self.told, self.files);
+        if let Some(errors) = &mut self.progress {
+            let _ = match files {
+                None if is_shown => write!(errors, "\r\x1B[K{told} files"),
+                Some(files) if is_shown && told < files => {
+                    write!(errors, "\r\x1B[K{told} of {files} files")
+                }
+                _ => write!(errors, "\r\x1B[K"),
+            };
+            let _ = errors.flush();
+        }
+    }
+
+    /// Erases how far it is.
+    pub(crate) fn hide_progress(&mut self) {
+        self.show_progress(false);
+    }
+
+    /// Notes why no further file is told of.
+    pub(crate) fn end(&mut self, end: CheckEnd) {
+        if !self.is_over() {
+            self.report.end = end;
+        }
+    }
+
+    /// Notes what became of a file, where all before it could be told.
+    fn note(&mut self, state: FileState, written: Result<(), TellError>) {
+        match written {
+            Ok(()) => self.report.counts = self.report.counts.with(state),
+            Err(TellError::Write) => self.end(CheckEnd::Unwritten),
+            Err(TellError::Memory) => self.end(CheckEnd::Memory),
+        }
+    }
+
+    /// Tells of the file whose line is due.
+    pub(crate) fn tell(&mut self, alloc: Global, name: &[u8], file: &CheckedFile)
+        requires { IfSome file.now.bytes (λ b. IsOutcomeOf b.items file.now.outcome) }
+    {
+        self.show_progress(false);
+        if !self.is_over() {
+            let written = write_lines(alloc, &mut self.out, name, file, self.form);
+            self.note(file.outcome.state(), written);
+        }
+        self.told = self.told.saturating_add(1);
+        self.show_progress(true);
+    }
+}

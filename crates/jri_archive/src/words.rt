@@ -1,0 +1,73 @@
+//! The words of a command line as the system has them, and as text.
+
+use std::alloc::{AllocError, Global};
+use std::env::FillError;
+use std::rt::Env;
+
+/// So many bytes has a word at most: more than systems let one have.
+const LONGEST_WORD: usize = 1 << 24;
+
+/// Room for most words.
+const USUAL_WORD: usize = 4096;
+
+/// What begins the text of a word that is no text: no word of a system has a NUL byte.
+const NO_TEXT: char = '\0';
+
+/// A word by its number, none behind the last.
+fn word<E: Env>(env: &E, alloc: Global, number: usize) -> Result<Option<Vec<u8>>, AllocError> {
+    let mut room = USUAL_WORD;
+    for _ in 0..usize::BITS {
+        let mut bytes = vec![in alloc; 0; room]?;
+        match env.arg(number, &mut bytes) {
+            Ok(length) => {
+                bytes.truncate(length);
+                return Ok(Some(bytes));
+            }
+            Err(FillError::NotPresent) => return Ok(None),
+            Err(FillError::TooLong) if room >= LONGEST_WORD => return Err(AllocError),
+            Err(FillError::TooLong) => room *= 2,
+        }
+    }
+    Err(AllocError)
+}
+
+/// The words behind the program's name.
+pub fn words<E: Env>(env: &E, alloc: Global) -> Result<Vec<Vec<u8>>, AllocError> {
+    let mut words = Vec::new(alloc);
+    for number in 1..usize::MAX {
+        match word(env, alloc, number)? {
+            Some(word) => words.push(word)?,
+            None => break,
+        }
+    }
+    Ok(words)
+}
+
+/// The words as text. In place of one that is no text stands its number, behind a byte that no word has.
+pub(crate) fn texts(alloc: Global, words: &[Vec<u8>]) -> Result<Vec<String>, AllocError> {
+    let mut texts = Vec::new(alloc);
+    for number in 0..words.len() {
+        let mut text = String::new(alloc);
+        match str::from_utf8(words[number].as_slice()) {
+            Ok(word) => text.push_str(word)?,
+            Err(_) => write!(text, "{NO_TEXT}{number}")?,
+        }
+        texts.push(text)?;
+    }
+    Ok(texts)
+}
+
+/// The bytes of the word whose text this is.
+pub(crate) fn bytes_of(
+    alloc: Global,
+    words: &[Vec<u8>],
+    text: &str,
+) -> Result<Vec<u8>, AllocError> {
+    if let Some(number) = text.strip_prefix(NO_TEXT)
+        && let Ok(number) = number.parse::<usize>()
+        && let Some(word) = words.get(number)
+    {
+        return word.as_slice().to_vec(alloc);
+    }
+    text.as_bytes().to_vec(alloc)
+}

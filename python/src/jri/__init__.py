@@ -1,0 +1,284 @@
+"""Baseline JPEG files decoded into numpy arrays by libjri.
+
+    pixels = jri.decode("photo.jpg")
+    for first, part in jri.lines(data, 256): ...
+
+Each call lets go of the interpreter's lock while libjri works, so that threads use all processors.
+"""
+
+from __future__ import annotations
+
+import collections
+import concurrent.futures
+import os
+from dataclasses import dataclass
+from typing import Any, BinaryIO, Deque, Iterable, Iterator, Optional, Tuple, Union
+
+import numpy
+import numpy.typing
+
+from ._library import CALLS, DAMAGED, NO_LINES, NO_MEMORY, NO_ROOM, REFUSED, SOUND, ffi, library, refusal_text
+
+__all__ = [
+    "MAX_PIXELS",
+    "Damaged",
+    "Health",
+    "Measure",
+    "Picture",
+    "Refused",
+    "Report",
+    "check",
+    "check_many",
+    "decode",
+    "lines",
+    "measure",
+    "read",
+    "version",
+]
+
+Pixels = numpy.typing.NDArray[numpy.uint8]
+Source = Union[bytes, bytearray, memoryview, str, "os.PathLike[str]", BinaryIO]
+
+#: The most pixels that are decoded where nothing else is said: a head of 150 bytes may claim 268,435,456.
+MAX_PIXELS = 1 << 27
+
+#: What ended the scan, by the number in `jri_report`.
+_ENDS = {1: "EOI", 2: "marker", 3: "out of step", 4: "extra restart", 5: "end of file"}
+
+
+class Refused(ValueError):
+    """The file is no baseline JPEG file that is decoded here: `number`, 1 to 18, and `detail` tell why, as in jri.h."""
+
+    def __init__(self, number: int, detail: int) -> None:
+        super().__init__(refusal_text(number, detail))
+        self.number, self.detail = number, detail
+
+    def __reduce__(self):
+        return Refused, (self.number, self.detail)
+
+
+class Damaged(ValueError):
+    """Some restart interval has no decoding, and sound pictures alone were asked for: `picture` is what there is."""
+
+    def __init__(self, picture: "Picture") -> None:
+        super().__init__(f"{picture.report.damaged} of {picture.report.intervals} intervals are damaged")
+        self.picture = picture
+
+    def __reduce__(self):
+        return Damaged, (self.picture,)
+
+
+@dataclass(frozen=True)
+class Measure:
+    """What a file's head says of its picture."""
+
+    width: int
+    height: int
+    #: 1 or 3; a pixel has as many bytes
+    components: int
+    #: how many restart intervals there are
+    intervals: int
+
+    @property
+    def shape(self) -> Tuple[int, ...]:
+        """The shape of the picture's array."""
+        return (self.height, self.width) if self.components == 1 else (self.height, self.width, self.components)
+
+
+@dataclass(frozen=True)
+class Report:
+    """What a decoding tells."""
+
+    intervals: int
+    sound: int
+    damaged: int
+    #: "EOI", "marker", "out of step", "extra restart" or "end of file"
+    ended: str
+    #: the offset of the marker that ended the scan; None with "EOI" and "end of file"
+    at: Optional[int]
+
+
+@dataclass(frozen=True)
+class Picture:
+    """A picture, the mark of each restart interval, 1 where it is sound and 2 where it is damaged, and the report."""
+
+    pixels: Pixels
+    marks: Pixels
+    report: Report
+
+
+@dataclass(frozen=True)
+class Health:
+    """What a check comes to: no picture is made."""
+
+    #: "sound", "damaged" or "refused"
+    verdict: str
+    #: None where the file is refused
+    report: Optional[Report]
+    #: the number of the refusal, 1 to 18, as in jri.h; None where there is none
+    refusal: Optional[int]
+    #: what the refusal tells beside its number: an offset or a marker's code
+    detail: Optional[int]
+
+    @property
+    def text(self) -> str:
+        """The verdict in words, those of a refusal with it."""
+        if self.refusal is not None:
+            return "refused: " + refusal_text(self.refusal, self.detail or 0)
+        if self.verdict == "sound":
+            return "sound"
+        return f"{self.report.damaged} of {self.report.intervals} intervals are damaged"
+
+
+def version() -> int:
+    """The number of the library's calls, JRI_VERSION of its jri.h."""
+    return CALLS
+
+
+def _bytes(source: Source) -> Any:
+    """A buffer of cffi's over a source's bytes, without a copy where it has some."""
+    if isinstance(source, (str, os.PathLike)):
+        with open(source, "rb") as file:
+            source = file.read()
+    elif hasattr(source, "read"):
+        source = source.read()
+    try:
+        view = memoryview(source).cast("B")
+    except (TypeError, ValueError, BufferError):
+        raise TypeError(f"a source is bytes, a path or an open file, and no {type(source).__name__}") from None
+    return ffi.from_buffer("uint8_t[]", view)
+
+
+def _room(array: Pixels) -> Any:
+    """A buffer of cffi's over an array that is written."""
+    return ffi.from_buffer("uint8_t[]", array.reshape(-1), require_writable=True)
+
+
+def _raise(status: int, number: int, detail: int) -> None:
+    """Raises what an answer without a picture stands for."""
+    if status == NO_MEMORY:
+        raise MemoryError("libjri was refused memory")
+    if status == REFUSED:
+        raise Refused(number, detail)
+    raise ValueError({NO_ROOM: "the buffer has too little room", NO_LINES: "the picture has no such lines"}[status])
+
+
+def _measured(file: Any) -> Measure:
+    told = ffi.new("struct jri_measure *")
+    status = library.jri_measure(file, len(file), told)
+    if status != SOUND:
+        _raise(status, told.refusal, told.detail)
+    return Measure(told.width, told.height, told.components, told.intervals)
+
+
+def _reported(told: Any) -> Report:
+    at = told.at if told.ended in (2, 3, 4) else None
+    return Report(told.intervals, told.sound, told.damaged, _ENDS[told.ended], at)
+
+
+def _array(head: Measure, out: Optional[Pixels]) -> Pixels:
+    """The array that is filled: the caller's, where it is of the picture's shape."""
+    if out is None:
+        return numpy.empty(head.shape, numpy.uint8)
+    if out.shape != head.shape or out.dtype != numpy.uint8 or not (out.flags.c_contiguous and out.flags.writeable):
+        raise ValueError(f"out has to be a contiguous array of uint8 of shape {head.shape} that can be written")
+    return out
+
+
+def measure(source: Source) -> Measure:
+    """What the head says; nothing is decoded."""
+    return _measured(_bytes(source))
+
+
+def read(source: Source, *, out: Optional[Pixels] = None, max_pixels: int = MAX_PIXELS) -> Picture:
+    """The picture, sound or damaged, the marks of its intervals and the report. `out` is filled where it is given."""
+    file = _bytes(source)
+    head = _measured(file)
+    if head.width * head.height > max_pixels:
+        raise ValueError(f"{head.width} by {head.height} pixels are more than max_pixels")
+    pixels = _array(head, out)
+    marks = numpy.empty(head.intervals, numpy.uint8)
+    told = ffi.new("struct jri_report *")
+    status = library.jri_decode(file, len(file), _room(pixels), pixels.nbytes, _room(marks), marks.nbytes, told)
+    if status not in (SOUND, DAMAGED):
+        _raise(status, told.refusal, told.detail)
+    return Picture(pixels, marks, _reported(told))
+
+
+def decode(
+    source: Source, *, out: Optional[Pixels] = None, damaged: bool = True, max_pixels: int = MAX_PIXELS
+) -> Pixels:
+    """The picture's pixels. With damaged=False a damaged file raises `Damaged`."""
+    picture = read(source, out=out, max_pixels=max_pixels)
+    if picture.report.damaged and not damaged:
+        raise Damaged(picture)
+    return picture.pixels
+
+
+def lines(source: Source, count: int, first: int = 0) -> Iterator[Tuple[int, Pixels]]:
+    """The picture's lines from `first` on, `count` at a time, each part with the number of its first line.
+
+    Each part reads the restart interval before it from its start: a file without restart markers is best asked for in few
+    parts of many lines each.
+    """
+    if count < 1:
+        raise ValueError("count has to be at least 1")
+    file = _bytes(source)
+    head = _measured(file)
+    if not 0 <= first < head.height:
+        raise ValueError(f"the picture has no line {first}")
+    return _parts(file, head, count, first)
+
+
+def _parts(file: Any, head: Measure, count: int, first: int) -> Iterator[Tuple[int, Pixels]]:
+    told = ffi.new("struct jri_report *")
+    while first < head.height:
+        some = min(count, head.height - first)
+        part = numpy.empty((some,) + head.shape[1:], numpy.uint8)
+        status = library.jri_decode_lines(file, len(file), first, some, _room(part), part.nbytes, told)
+        if status not in (SOUND, DAMAGED):
+            _raise(status, told.refusal, told.detail)
+        yield first, part
+        first += some
+
+
+def check(source: Source) -> Health:
+    """Whether a file is sound, damaged or refused. It makes no picture, and a refusal is an answer: it raises no `Refused`."""
+    file = _bytes(source)
+    told = ffi.new("struct jri_report *")
+    status = library.jri_check(file, len(file), ffi.NULL, 0, told)
+    if status == NO_MEMORY:
+        raise MemoryError("libjri was refused memory")
+    if status == REFUSED:
+        return Health("refused", None, told.refusal, told.detail)
+    return Health("damaged" if status == DAMAGED else "sound", _reported(told), None, None)
+
+
+def _checked(path: Union[str, "os.PathLike[str]"]) -> Union[Health, OSError]:
+    try:
+        return check(path)
+    except OSError as error:
+        return error
+
+
+def check_many(
+    paths: Iterable[Union[str, "os.PathLike[str]"]], *, workers: Optional[int] = None
+) -> Iterator[Tuple[Union[str, "os.PathLike[str]"], Union[Health, OSError]]]:
+    """Each path with what its check comes to, or with the error that reading it raised, in their order.
+
+    So many threads check at once, one for each processor where nothing is said. Paths are taken as they are needed, some for
+    each thread ahead, so that millions need no list.
+    """
+    threads = workers or os.cpu_count() or 1
+    if threads < 1:
+        raise ValueError("workers has to be at least 1")
+    with concurrent.futures.ThreadPoolExecutor(threads) as pool:
+        due: Deque[Tuple[Union[str, "os.PathLike[str]"], "concurrent.futures.Future"]] = collections.deque()
+        for path in paths:
+            due.append((path, pool.submit(_checked, path)))
+            if len(due) > 2 * threads:
+                first, checked = due.popleft()
+                yield first, checked.result()
+        while due:
+            first, checked = due.popleft()
+            yield first, checked.result()

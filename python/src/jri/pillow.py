@@ -1,0 +1,61 @@
+"""Pillow's JPEG pictures by libjri: EXIF data, profiles and sizes by Pillow as ever, and the pixels of the files that libjri decodes by it."""
+
+from __future__ import annotations
+
+from PIL import Image, JpegImagePlugin
+
+import jri
+
+
+class JriImageFile(JpegImagePlugin.JpegImageFile):
+    """A JPEG file whose pixels libjri decodes, where it does and nobody asked for a smaller picture."""
+
+    _is_scaled = False
+
+    def draft(self, mode, size):
+        drafted = super().draft(mode, size)
+        self._is_scaled = self._is_scaled or drafted is not None
+        return drafted
+
+    def load(self):
+        if self.tile and not self._is_scaled and self.mode in ("L", "RGB"):
+            pixels = self._decoded()
+            if pixels is not None:
+                self.im = Image.fromarray(pixels).im
+                self.tile = []
+                if self._exclusive_fp and self._close_exclusive_fp_after_loading and self.fp is not None:
+                    self.fp.close()
+                    self.fp = None
+        return super().load()
+
+    def _decoded(self):
+        """The pixels by libjri; None where it does not decode the file as Pillow opened it."""
+        at = self.fp.tell()
+        self.fp.seek(0)
+        try:
+            pixels = jri.decode(self.fp, max_pixels=self.width * self.height)
+        except ValueError:
+            pixels = None
+        if pixels is None or pixels.shape[:2] != (self.height, self.width):
+            self.fp.seek(at)
+            return None
+        return pixels if (pixels.ndim == 2) == (self.mode == "L") else None
+
+
+def register() -> None:
+    """From now on Pillow opens JPEG files by this class."""
+    Image.register_open("JPEG", _opened, JpegImagePlugin._accept)
+
+
+def unregister() -> None:
+    """Pillow opens JPEG files as it does by itself."""
+    Image.register_open("JPEG", JpegImagePlugin.jpeg_factory, JpegImagePlugin._accept)
+
+
+def _opened(fp=None, filename=None):
+    """The file as Pillow's own plug-in opens it, by this class where it is of one picture."""
+    picture = JpegImagePlugin.jpeg_factory(fp, filename)
+    if type(picture) is not JpegImagePlugin.JpegImageFile:
+        return picture
+    picture.__class__ = JriImageFile
+    return picture
