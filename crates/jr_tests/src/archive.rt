@@ -1,16 +1,19 @@
-//! Files that are checked by several workers, lines that can't be written, and words. What lines a file gets is seen in the
-//! stored run of jri_check.
+//! Files that are checked by several workers, lists of names and folders, lines that can't be written, and words. What lines a
+//! file gets is seen in the stored run of jri_check.
 
-use jri_archive::{CheckRequest, Folder, ReadError, Told, asked, check_all};
-use std::alloc::Global;
-use std::io::Cursor;
+use jri_archive::{
+    CheckEnd, CheckReport, Entry, EntryKind, FileCounts, Folder, LineForm, ReadError, asked, check_all,
+};
+use std::alloc::{AllocError, Global};
+use std::io::{BufReader, Cursor, Read, Result as IoResult, Write};
 use std::process::Abort;
 use std::sync::Wait;
 use std::test::Fail;
 use std::thread::Threads;
 use test_files::files::{COLOURED, TEN, file};
 
-/// Files in memory, by their places.
+/// Files in memory, by their places, and two folders: `in` has `in/b.jpg`, `in/a.JPEG`, `in/c.txt` and the folder `in/d`, which has
+/// `in/d/e.jfif` and what can't be read.
 #[derive(Drop)]
 struct Shelf<'a> {
     files: &'a [Vec<u8>],
@@ -23,18 +26,55 @@ fn copy(alloc: Global, bytes: &[u8]) -> Result<Vec<u8>, ReadError> {
     }
 }
 
+/// What stands in a folder, by names and kinds.
+fn entries_of(alloc: Global, all: &[(&str, EntryKind)]) -> Result<Vec<Entry>, AllocError> {
+    let mut entries = Vec::new(alloc);
+    for (name, kind) in all {
+        entries.push(Entry {
+            name: String::from_str(alloc, name)?,
+            kind: *kind,
+        })?;
+    }
+    Ok(entries)
+}
+
+const IN: [(&str, EntryKind); 4] = [
+    ("in/b.jpg", EntryKind::File),
+    ("in/d", EntryKind::Folder),
+    ("in/c.txt", EntryKind::File),
+    ("in/a.JPEG", EntryKind::File),
+];
+
+const IN_D: [(&str, EntryKind); 2] = [
+    ("in/d/?", EntryKind::Unread(ReadError::NameIsNoText)),
+    ("in/d/e.jfif", EntryKind::File),
+];
+
 impl<'a> Folder for Shelf<'a> {
     fn read(&self, alloc: Global, name: &str) -> Result<Vec<u8>, ReadError> {
         let place = match name {
-            "ten" => 0,
-            "two" => 1,
+            "ten" | "in/b.jpg" => 0,
+            "two" | "in/a.JPEG" => 1,
             "progressive" => 2,
-            "coloured" => 3,
-            _ => return Err(ReadError::Read),
+            "coloured" | "in/d/e.jfif" => 3,
+            "shut" => return Err(ReadError::NotAllowed),
+            _ => return Err(ReadError::NotFound),
         };
         match self.files.get(place) {
             Some(bytes) => copy(alloc, bytes.as_slice()),
-            None => Err(ReadError::Read),
+            None => Err(ReadError::Failed),
+        }
+    }
+
+    fn entries(&self, alloc: Global, name: &str) -> Result<Option<Vec<Entry>>, ReadError> {
+        let entries = match name {
+            "in" => entries_of(alloc, &IN),
+            "in/d" => entries_of(alloc, &IN_D),
+            _ => return Ok(None),
+        };
+        match entries {
+            Ok(entries) => Ok(Some(entries)),
+            Err(_) => Err(ReadError::Memory),
         }
     }
 }
@@ -48,95 +88,226 @@ fn files(alloc: Global) -> Result<Vec<Vec<u8>>, Fail> {
     Ok(files)
 }
 
-/// Words as owned text.
-fn owned(alloc: Global, words: &[&str]) -> Result<Vec<String>, Fail> {
-    let mut texts = Vec::new(alloc);
+/// Words as the system has them.
+fn owned(alloc: Global, words: &[&[u8]]) -> Result<Vec<Vec<u8>>, Fail> {
+    let mut all = Vec::new(alloc);
     for word in words {
-        texts.push(String::from_str(alloc, word)?)?;
+        all.push(word.to_vec(alloc)?)?;
     }
-    Ok(texts)
+    Ok(all)
 }
 
-/// Checks files, with a map, and gives what is written.
-fn told<R: Threads + Wait + Sync + AllocGlobal>(
+/// There is no list of names.
+const NO_LIST: Option<BufReader<Cursor<[u8; 1]>>> = None;
+
+/// Checks what words ask for, and gives what is written.
+fn told_by<R: Threads + Wait + Sync + AllocGlobal, I: Read + Send + Drop, O: Write + Send + Drop>(
     rt: &R,
-    names: &[&str],
-    workers: u32,
-) -> Result<(Told, Vec<u8>), Fail> {
-    let asked = CheckRequest {
-        workers,
-        has_map: true,
-        files: owned(rt.alloc(), names)?,
-    };
+    words: &[&[u8]],
+    list: Option<BufReader<I>>,
+    out: O,
+) -> Result<(CheckReport, O), Fail> {
+    let words = owned(rt.alloc(), words)?;
+    let asked = asked(rt.alloc(), words.as_slice())?;
     let files = files(rt.alloc())?;
     let shelf = Shelf {
         files: files.as_slice(),
     };
     let nowhere: Option<Vec<u8>> = None;
-    let out = Vec::new(rt.alloc());
-    Ok(check_all(rt, rt.alloc(), shelf, asked, out, nowhere))
+    Ok(check_all(rt, rt.alloc(), shelf, asked, list, out, nowhere))
 }
 
-const NAMES: [&str; 5] = ["ten", "two", "progressive", "coloured", "missing"];
+/// Whether words give these lines, and this status, whatever the number of workers.
+fn check<R: Threads + Wait + Sync + AllocGlobal + Abort>(
+    rt: &R,
+    words: &[&[u8]],
+    lines: &str,
+    status: u8,
+) -> Result<(), Fail> {
+    for workers in [b"1".as_slice(), b"3", b"8"] {
+        let mut all = Vec::new(rt.alloc());
+        all.push(b"--workers".as_slice())?;
+        all.push(workers)?;
+        for word in words {
+            all.push(*word)?;
+        }
+        let out = Vec::new(rt.alloc());
+        let (report, found) = told_by(rt, all.as_slice(), NO_LIST, out)?;
+        assert!(rt; report.status() == status);
+        assert!(rt; found.as_slice() == lines.as_bytes(), "{lines}");
+    }
+    Ok(())
+}
+
+const NAMES: [&[u8]; 6] = [b"--map", b"ten", b"two", b"progressive", b"coloured", b"missing"];
 
 const LINES: &str = "ten: sound, 10 intervals\n\
                      two: sound, 2 intervals\n\
                      progressive: refused 5: frame C2 is not baseline\n\
                      coloured: sound, 2 intervals\n\
-                     missing: cannot be read\n";
+                     missing: cannot be read: no such file\n";
 
 #[test]
 fn tells_files_in_their_order(rt: HostRuntime) -> Result<(), Fail> {
-    for workers in [1, 3, 8] {
-        let (came_to, found) = told(&rt, &NAMES, workers)?;
-        assert!(rt; came_to == Told::SomeNot);
-        assert!(rt; found.as_slice() == LINES.as_bytes(), "{workers} workers");
+    check(&rt, &NAMES, LINES, 3)?;
+    check(
+        &rt,
+        &[b"ten", b"coloured"],
+        "ten: sound, 10 intervals\ncoloured: sound, 2 intervals\n",
+        0,
+    )?;
+    check(
+        &rt,
+        &[b"--quiet", b"--counts", b"ten", b"progressive", b"two"],
+        "progressive: refused 5: frame C2 is not baseline\n2 sound, 1 refused\n",
+        1,
+    )
+}
+
+/// A name of any bytes has its line, and so has what may not be read.
+#[test]
+fn tells_of_every_name(rt: HostRuntime) -> Result<(), Fail> {
+    check(
+        &rt,
+        &[b"\xFF\xC3.jpg", b"two", b"a\n\xE2\x82\xACb", b"shut"],
+        "??.jpg: cannot be read: its name is not UTF-8\n\
+         two: sound, 2 intervals\n\
+         a?\u{20AC}b: cannot be read: no such file\n\
+         shut: cannot be read: permission denied\n",
+        3,
+    )
+}
+
+/// Objects of JSON, in which each name stands so that it comes back.
+#[test]
+fn tells_objects(rt: HostRuntime) -> Result<(), Fail> {
+    check(
+        &rt,
+        &[b"--json", b"--counts", b"ten", b"\"\\\n\xFF\xC3\xA4", b"progressive"],
+        "{\"file\":\"ten\",\"is\":\"sound\",\"intervals\":10}\n\
+         {\"file\":\"\\u0022\\u005c\\u000a\\udcff\u{E4}\",\"is\":\"unread\",\"why\":\"its name is not UTF-8\"}\n\
+         {\"file\":\"progressive\",\"is\":\"refused\",\"refusal\":5,\"why\":\"frame C2 is not baseline\"}\n\
+         {\"sound\":1,\"damaged\":0,\"refused\":1,\"unread\":1,\"out_of_memory\":0}\n",
+        3,
+    )
+}
+
+/// Of a folder the files whose names end as those of JPEG files, in the order of their names.
+#[test]
+fn goes_through_folders(rt: HostRuntime) -> Result<(), Fail> {
+    check(
+        &rt,
+        &[b"-r", b"two", b"in", b"ten"],
+        "two: sound, 2 intervals\n\
+         in/a.JPEG: sound, 2 intervals\n\
+         in/b.jpg: sound, 10 intervals\n\
+         in/d/?: cannot be read: its name is not UTF-8\n\
+         in/d/e.jfif: sound, 2 intervals\n\
+         ten: sound, 10 intervals\n",
+        3,
+    )
+}
+
+/// Names of a list, behind those of the words; the last one may end with the list.
+#[test]
+fn takes_names_from_a_list(rt: HostRuntime) -> Result<(), Fail> {
+    for (list, lines) in [
+        (b"two\0missing\0".as_slice(), "ten: sound, 10 intervals\ntwo: sound, 2 intervals\nmissing: cannot be read: no such file\n"),
+        (b"two\0missing", "ten: sound, 10 intervals\ntwo: sound, 2 intervals\nmissing: cannot be read: no such file\n"),
+        (b"", "ten: sound, 10 intervals\n"),
+    ] {
+        for workers in [b"1".as_slice(), b"4"] {
+            let list = BufReader::new(rt.alloc(), list)?;
+            let words: [&[u8]; 5] = [b"--workers", workers, b"--files0-from", b"-", b"ten"];
+            let (_report, found) = told_by(&rt, &words, Some(list), Vec::new(rt.alloc()))?;
+            assert!(rt; found.as_slice() == lines.as_bytes(), "{lines}");
+        }
     }
-    let (came_to, _) = told(&rt, &["ten", "coloured"], 2)?;
-    assert!(rt; came_to == Told::AllSound);
     Ok(())
 }
 
 #[test]
 fn tells_that_lines_cannot_be_written(rt: HostRuntime) -> Result<(), Fail> {
-    let asked = CheckRequest {
-        workers: 2,
-        has_map: false,
-        files: owned(rt.alloc(), &["two", "two"])?,
-    };
-    let files = files(rt.alloc())?;
-    let shelf = Shelf {
-        files: files.as_slice(),
-    };
-    let nowhere: Option<Vec<u8>> = None;
-    let out = Cursor::new([0; 10]);
-    let (came_to, _) = check_all(&rt, rt.alloc(), shelf, asked, out, nowhere);
-    assert!(rt; came_to == Told::Unwritten);
+    let words: [&[u8]; 2] = [b"two", b"two"];
+    let (report, _) = told_by(&rt, &words, NO_LIST, Cursor::new([0; 10]))?;
+    assert!(rt; report.end == CheckEnd::Unwritten);
+    assert!(rt; report.counts == FileCounts::none());
+    assert!(rt; report.status() == 4);
     Ok(())
 }
 
-/// Workers, a map and the number of files, or the exit status of words that ask for no check.
-type Answer = Result<(u32, bool, usize), u8>;
+/// An output that counts its writes, each of which has to be a line.
+#[derive(Drop)]
+struct ByLine {
+    lines: u32,
+    is_whole: bool,
+}
+
+impl Write for ByLine {
+    fn write(&mut self, bytes: &[u8]) -> IoResult<usize> {
+        self.lines = self.lines.saturating_add(1);
+        self.is_whole = self.is_whole && bytes.last() == Some(&b'\n');
+        Ok(bytes.len())
+    }
+
+    fn flush(&mut self) -> IoResult<()> {
+        Ok(())
+    }
+}
+
+#[test]
+fn each_line_is_one_write(rt: HostRuntime) -> Result<(), Fail> {
+    let out = ByLine {
+        lines: 0,
+        is_whole: true,
+    };
+    let (_report, out) = told_by(&rt, &NAMES, NO_LIST, out)?;
+    assert!(rt; out.lines == 5);
+    assert!(rt; out.is_whole);
+    Ok(())
+}
+
+/// Workers, what is told, and the number of names, or the exit status of words that ask for no check.
+type Answer = Result<(u32, LineForm, usize), u8>;
 
 /// What words ask for.
-fn answer(alloc: Global, words: &[&str]) -> Result<Answer, Fail> {
+fn answer(alloc: Global, words: &[&[u8]]) -> Result<Answer, Fail> {
     let words = owned(alloc, words)?;
     Ok(match asked(alloc, words.as_slice()) {
-        Ok(asked) => Ok((asked.workers, asked.has_map, asked.files.len())),
+        Ok(asked) => Ok((asked.workers, asked.form, asked.names.len())),
         Err(unasked) => Err(unasked.status()),
     })
 }
 
+/// What is told where nothing is asked for.
+const PLAIN: LineForm = LineForm {
+    has_map: false,
+    is_json: false,
+    is_quiet: false,
+};
+
 /// Words, and what they ask for.
-const WORDS: [(&[&str], Answer); 8] = [
-    (&["a"], Ok((4, false, 1))),
-    (&["--map", "a", "b"], Ok((4, true, 2))),
-    (&["a", "--workers", "64", "b", "c"], Ok((64, false, 3))),
+const WORDS: [(&[&[u8]], Answer); 10] = [
+    (&[b"a"], Ok((4, PLAIN, 1))),
+    (
+        &[b"--map", b"a", b"b"],
+        Ok((
+            4,
+            LineForm {
+                has_map: true,
+                ..PLAIN
+            },
+            2,
+        )),
+    ),
+    (&[b"a", b"--workers", b"64", b"b", b"c"], Ok((64, PLAIN, 3))),
+    (&[b"--files0-from", b"list"], Ok((4, PLAIN, 0))),
+    (&[b"\xFF"], Ok((4, PLAIN, 1))),
     (&[], Err(2)),
-    (&["--map"], Err(2)),
-    (&["--workers", "0", "a"], Err(2)),
-    (&["--workers", "65", "a"], Err(2)),
-    (&["--first", "1", "a"], Err(2)),
+    (&[b"--map"], Err(2)),
+    (&[b"--workers", b"0", b"a"], Err(2)),
+    (&[b"--workers", b"65", b"a"], Err(2)),
+    (&[b"--first", b"1", b"a"], Err(2)),
 ];
 
 #[test]

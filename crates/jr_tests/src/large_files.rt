@@ -1,8 +1,9 @@
 //! Files so large that several workers check one together: they give the lines that one worker gives, and that were worked out by
 //! hand.
 
-use jri_archive::{CheckRequest, Folder, ReadError, Told, check_all};
+use jri_archive::{CheckReport, CheckRequest, Entry, Folder, LineForm, ReadError, check_all};
 use std::alloc::Global;
+use std::io::{BufReader, Cursor};
 use std::process::Abort;
 use std::sync::Wait;
 use std::test::Fail;
@@ -21,6 +22,10 @@ impl<'a> Folder for Single<'a> {
             Ok(bytes) => Ok(bytes),
             Err(_) => Err(ReadError::Memory),
         }
+    }
+
+    fn entries(&self, _alloc: Global, _name: &str) -> Result<Option<Vec<Entry>>, ReadError> {
+        Ok(None)
     }
 }
 
@@ -62,22 +67,40 @@ fn large_file(alloc: Global, head: &str, each: usize) -> Result<Vec<u8>, Fail> {
     Ok(bytes)
 }
 
+/// There is no list of names.
+const NO_LIST: Option<BufReader<Cursor<[u8; 1]>>> = None;
+
 /// Checks the file by so many workers, with a map: what it came to, and the lines.
 fn told<R: Threads + Wait + Sync + AllocGlobal>(
     rt: &R,
     bytes: &[u8],
     workers: u32,
-) -> Result<(Told, Vec<u8>), Fail> {
-    let mut files = Vec::new(rt.alloc());
-    files.push(String::from_str(rt.alloc(), "a")?)?;
+) -> Result<(CheckReport, Vec<u8>), Fail> {
+    let mut names = Vec::new(rt.alloc());
+    names.push(b"a".to_vec(rt.alloc())?)?;
     let asked = CheckRequest {
         workers,
-        has_map: true,
-        files,
+        form: LineForm {
+            has_map: true,
+            is_json: false,
+            is_quiet: false,
+        },
+        has_counts: false,
+        is_recursive: false,
+        names_from: None,
+        names,
     };
     let nowhere: Option<Vec<u8>> = None;
     let out = Vec::new(rt.alloc());
-    Ok(check_all(rt, rt.alloc(), Single { bytes }, asked, out, nowhere))
+    Ok(check_all(
+        rt,
+        rt.alloc(),
+        Single { bytes },
+        asked,
+        NO_LIST,
+        out,
+        nowhere,
+    ))
 }
 
 /// Whether each number of workers gives these lines.

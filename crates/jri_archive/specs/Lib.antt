@@ -1,2 +1,3 @@
+pub mod Escapes
 pub mod Status
 pub mod Outcomes

@@ -18,59 +18,70 @@ fn flag<'a>(alloc: Global, name: &'a str, help: &'a str) -> Arg<'a> {
         .help(help)
 }
 
-/// What says which files are checked, and how.
-fn file_arguments<'a>(alloc: Global) -> Result<[Arg<'a>; 4], AllocError> {
-    let workers = Arg::new(alloc, "workers")
+/// How many files are checked at once.
+fn workers_argument<'a>(alloc: Global) -> Arg<'a> {
+    Arg::new(alloc, "workers")
         .long("workers")
         .action(ArgAction::Set)
         .value_name("N")
         .help("How many files are checked at once, 1 to 64")
         .value_parser(value_parser!(u32).range(1..=i64::from(MAX_WORKERS)))
-        .default_value("4");
-    let names = Arg::new(alloc, "files0-from")
+        .default_value("4")
+}
+
+/// A list of names.
+fn list_argument<'a>(alloc: Global) -> Arg<'a> {
+    Arg::new(alloc, "files0-from")
         .long("files0-from")
         .action(ArgAction::Set)
         .value_name("LIST")
         .help(
             "Checks the files whose names LIST has, too, each ended by a NUL byte; - is standard input",
-        );
-    let recursive = flag(
-        alloc,
-        "recursive",
-        "Checks the JPEG files in folders, and in their folders",
+        )
+}
+
+/// The files.
+fn files_argument<'a>(alloc: Global) -> Result<Arg<'a>, AllocError> {
+    Ok(
+        Arg::new(alloc, "files")
+            .action(ArgAction::Append)
+            .num_args(1..)
+            .required_unless_present("files0-from")?
+            .value_name("FILE")
+            .help("The JPEG files"),
     )
-    .short('r');
-    let files = Arg::new(alloc, "files")
-        .action(ArgAction::Append)
-        .num_args(1..)
-        .required_unless_present("files0-from")?
-        .value_name("FILE")
-        .help("The JPEG files");
-    Ok([workers, names, recursive, files])
 }
 
 /// `jri_check [--map] [--json] [--quiet] [--counts] [--workers N] [-r] [--files0-from LIST] FILE..`.
 fn command<'a>(alloc: Global) -> Result<Command<'a>, AllocError> {
-    let [workers, names, recursive, files] = file_arguments(alloc)?;
+    let map = flag(
+        alloc,
+        "map",
+        "A line for each damaged restart interval, too",
+    );
+    let json = flag(alloc, "json", "Each line is a JSON object");
+    let quiet = flag(alloc, "quiet", "Tells nothing of sound files");
+    let counts = flag(
+        alloc,
+        "counts",
+        "The last line tells how many files are what",
+    );
+    let recursive = flag(
+        alloc,
+        "recursive",
+        "Checks the JPEG files in folders, and in their folders",
+    );
     Command::new(alloc, "jri_check")
         .about("Tells which baseline JPEG files are sound, and what is damaged of the others")
         .no_binary_name(true)
-        .arg(flag(
-            alloc,
-            "map",
-            "A line for each damaged restart interval, too",
-        ))?
-        .arg(flag(alloc, "json", "Each line is a JSON object"))?
-        .arg(flag(alloc, "quiet", "Tells nothing of sound files"))?
-        .arg(flag(
-            alloc,
-            "counts",
-            "The last line tells how many files are what",
-        ))?
-        .arg(workers)?
-        .arg(recursive)?
-        .arg(names)?
-        .arg(files)
+        .arg(map)?
+        .arg(json)?
+        .arg(quiet)?
+        .arg(counts)?
+        .arg(workers_argument(alloc))?
+        .arg(recursive.short('r'))?
+        .arg(list_argument(alloc))?
+        .arg(files_argument(alloc)?)
 }
 
 fn refusal(alloc: Global, error: &Error) -> RequestError {

@@ -16,7 +16,7 @@ fn put_file(line: &mut String, name: &[u8]) -> Result<(), AllocError> {
     put_string(line, name)
 }
 
-/// Puts what ended the scan, in the words of the other lines, where it isn't EOI.
+/// Puts what ended the scan, where it isn't EOI, in the words of the other lines.
 fn put_scan_end(line: &mut String, ended: ScanEnd) -> Result<(), AllocError> {
     if ended == ScanEnd::EndOfImage {
         return Ok(());

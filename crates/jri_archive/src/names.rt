@@ -29,7 +29,7 @@ impl From<AllocError> for NamesError {
 
 /// The names that words give, those of a list, and those of what stands in folders.
 #[derive(Drop)]
-pub(crate) struct FileNames<I: Read> {
+pub(crate) struct FileNames<I: Read + Drop> {
     given: Vec<Vec<u8>>,
     /// So many of them are taken.
     taken: usize,
@@ -52,7 +52,7 @@ fn is_jpeg(name: &str) -> bool {
     false
 }
 
-impl<I: Read> FileNames<I> {
+impl<I: Read + Drop> FileNames<I> {
     /// None is taken yet.
     pub(crate) fn of(
         alloc: Global,

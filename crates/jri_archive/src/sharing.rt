@@ -47,7 +47,7 @@ fn checked_file<R: Threads + Wait + Sync>(
 
 /// The names that nobody has claimed yet.
 #[derive(Drop)]
-struct NameQueue<I: Read> {
+struct NameQueue<I: Read + Drop> {
     names: FileNames<I>,
     claimed: u64,
     /// There is no further name.
@@ -56,7 +56,7 @@ struct NameQueue<I: Read> {
 
 /// What the workers share.
 #[derive(Drop)]
-struct Sharing<F, I: Read, O, E> {
+struct Sharing<F, I: Read + Drop, O, E> {
     alloc: Global,
     folder: F,
     workers: u32,
@@ -67,7 +67,7 @@ struct Sharing<F, I: Read, O, E> {
     has_told: Condvar,
 }
 
-impl<I: Read> NameQueue<I> {
+impl<I: Read + Drop> NameQueue<I> {
     /// The number of a file that nobody has claimed, and its name.
     fn claim<F: Folder>(
         &mut self,

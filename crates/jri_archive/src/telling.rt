@@ -34,28 +34,20 @@ fn put_name(line: &mut String, name: &[u8]) -> Result<(), AllocError> {
     Ok(())
 }
 
-/// Puts what ended the scan, where it isn't EOI.
+/// Puts what ended the scan.
 pub(crate) fn put_end(line: &mut String, ended: ScanEnd) -> Result<(), AllocError> {
     match ended {
-        ScanEnd::EndOfImage => Ok(()),
-        ScanEnd::OtherMarker(code, at) => {
-            write!(line, ", scan ended at marker {code:02X}, byte {at}")
-        }
+        ScanEnd::EndOfImage => line.push_str("EOI"),
+        ScanEnd::OtherMarker(code, at) => { write!(line, "marker {code:02X}, byte {at}") }
         ScanEnd::OutOfStep {
             found,
             expected,
             at,
-        } => write!(
-            line,
-            ", scan ended at RST{found} where RST{expected} was due, byte {at}"
-        ),
+        } => write!(line, "RST{found} where RST{expected} was due, byte {at}"),
         ScanEnd::ExtraRestart(at) => {
-            write!(
-                line,
-                ", scan ended at a restart marker past the last interval, byte {at}"
-            )
+            write!(line, "a restart marker past the last interval, byte {at}")
         }
-        ScanEnd::EndOfFile => write!(line, ", scan ended at the end of the file"),
+        ScanEnd::EndOfFile => line.push_str("the end of the file"),
     }
 }
 
@@ -79,7 +71,12 @@ fn put_checked(line: &mut String, checked: &Checked) -> Result<(), AllocError> {
             write!(line, ", lines {first} to {last}")?;
         }
     }
-    put_end(line, checked.scan.ended())
+    let ended = checked.scan.ended();
+    if ended == ScanEnd::EndOfImage {
+        return Ok(());
+    }
+    line.push_str(", scan ended at ")?;
+    put_end(line, ended)
 }
 
 /// Puts the line of a file, with its end.

@@ -32,7 +32,7 @@ fn word<E: Env>(env: &E, alloc: Global, number: usize) -> Result<Option<Vec<u8>>
 }
 
 /// The words behind the program's name.
-pub fn words<E: Env>(env: &E, alloc: Global) -> Result<Vec<Vec<u8>>, AllocError> {
+pub fn words_of<E: Env>(env: &E, alloc: Global) -> Result<Vec<Vec<u8>>, AllocError> {
     let mut words = Vec::new(alloc);
     for number in 1..usize::MAX {
         match word(env, alloc, number)? {

@@ -5,7 +5,7 @@
 use jr_base::limits::MAX_FILE_BYTES;
 use jri_archive::{
     CheckEnd, CheckReport, CheckRequest, Entry, EntryKind, Folder, ReadError, RequestError, asked,
-    check_all, tell_counts, words,
+    check_all, tell_counts, words_of,
 };
 use std::alloc::{AllocError, Global};
 use std::fs;
@@ -165,7 +165,7 @@ fn check<I: Read + Send + Drop>(
 fn main(rt: HostRuntime) -> ExitCode {
     let alloc: Global = rt.alloc();
     let (mut out, mut errors) = (rt.stdout(), rt.stderr());
-    let asked = match words(&rt, alloc) {
+    let asked = match words_of(&rt, alloc) {
         Ok(words) => asked(alloc, words.as_slice()),
         Err(_) => Err(RequestError::Memory),
     };
