@@ -9,9 +9,11 @@ use jri_archive::{
 };
 use std::alloc::{AllocError, Global};
 use std::fs;
-use std::fs::{DirEntry, File};
+use std::fs::{DirEntry, File, ReadDir};
 use std::io::{BufReader, Error, ErrorKind, IsTerminal, Read, Result as IoResult, Write};
 use std::process::ExitCode;
+use std::sync::Wait;
+use std::thread::Threads;
 
 /// One byte more than a file may have.
 const TOO_MANY: u64 = MAX_FILE_BYTES as u64 + 1;
@@ -70,10 +72,10 @@ fn entry_of(
 }
 
 /// What stands in a folder.
-fn entries_of<D: Iterator<Item = IoResult<DirEntry<HostRuntime>>>>(
+fn entries_of(
     alloc: Global,
     folder: &str,
-    found: D,
+    found: ReadDir<HostRuntime>,
 ) -> Result<Vec<Entry>, AllocError> {
     let mut entries = Vec::new(alloc);
     for entry in found {
@@ -134,14 +136,33 @@ fn finish<E: Write>(alloc: Global, errors: &mut E, report: CheckReport, is_quiet
     report.status()
 }
 
+/// Where lines, and what is told beside them, go.
+struct Streams<O, E> {
+    out: O,
+    errors: E,
+    /// The same as `errors`, where it is a terminal.
+    progress: Option<E>,
+}
+
 /// Checks files, further ones of which a list names.
-fn check<I: Read + Send + Drop>(
-    rt: &HostRuntime,
+fn check<
+    R: Threads + Wait + Sync + AllocGlobal,
+    I: Read + Send + Drop,
+    O: Write + Send + Drop,
+    E: Write + Send + Drop,
+>(
+    rt: &R,
+    disk: Disk<'_>,
     asked: CheckRequest,
     list: Option<IoResult<I>>,
+    streams: Streams<O, E>,
 ) -> u8 {
     let alloc: Global = rt.alloc();
-    let mut errors = rt.stderr();
+    let Streams {
+        out,
+        mut errors,
+        progress,
+    } = streams;
     let list = match list {
         None => None,
         Some(input) => match input.and_then(|input| BufReader::new(alloc, input)) {
@@ -153,12 +174,7 @@ fn check<I: Read + Send + Drop>(
         },
     };
     let is_quiet = asked.form.is_quiet;
-    let progress = if errors.is_terminal() {
-        Some(rt.stderr())
-    } else {
-        None
-    };
-    let (report, _) = check_all(rt, alloc, Disk { rt }, asked, list, rt.stdout(), progress);
+    let (report, _) = check_all(rt, alloc, disk, asked, list, out, progress);
     finish(alloc, &mut errors, report, is_quiet)
 }
 
@@ -173,9 +189,28 @@ fn main(rt: HostRuntime) -> ExitCode {
         Ok(asked) => asked,
         Err(unasked) => return ExitCode::from(tell(&mut out, &mut errors, &unasked)),
     };
+    let progress = if errors.is_terminal() {
+        Some(rt.stderr())
+    } else {
+        None
+    };
+    let streams = Streams {
+        out,
+        errors,
+        progress,
+    };
+    let disk = Disk { rt: &rt };
     ExitCode::from(match asked.names_from.take() {
-        None => check(&rt, asked, NO_LIST),
-        Some(name) if name.as_str() == "-" => check(&rt, asked, Some(Ok(rt.stdin()))),
-        Some(name) => check(&rt, asked, Some(fs::open(&rt, name.as_str()))),
+        None => check(&rt, disk, asked, NO_LIST, streams),
+        Some(name) if name.as_str() == "-" => {
+            check(&rt, disk, asked, Some(Ok(rt.stdin())), streams)
+        }
+        Some(name) => check(
+            &rt,
+            disk,
+            asked,
+            Some(fs::open(&rt, name.as_str())),
+            streams,
+        ),
     })
 }
