@@ -1,10 +1,11 @@
 //! Data bytes without their stuffing, in the memory of what spells them (T.81, B.1.1.5 and F.1.2.3).
 
-ghost use Rattle.std.specs.Prelude.{◌≡◌, ◌≢◌, ℕ, ◌<◌, ◌≤◌, ◌++◌, ◌∷◌, [], length, take, drop, replicate, slice_index};
+ghost use Rattle.std.specs.Prelude.{◌≡◌, ◌≢◌, ℕ, ◌<◌, ◌≤◌, ◌++◌, ◌∷◌, [], length, take, drop, replicate, slice_index, IfOk, IfErr};
 ghost use Rattle.jr_base.specs.declared.marker.TheConstants.{PREFIX};
 ghost use Rattle.jr_cut.specs.Cut.{IsStop};
 ghost use Rattle.jr_cut.specs.Spans.{Unstuffs};
 
+use jr_base::Memory;
 use jr_base::marker::PREFIX;
 use memchr::memchr;
 use std::marker::Model;
@@ -143,7 +144,24 @@ impl Unstuffing {
         }
     }
 
+    /// Takes more bytes behind those that are not read yet. Where memory is refused it takes none.
+    pub(crate) fn extend(&mut self, more: &[u8]) -> Result<(), Memory>
+        ensures data { self.new.unstuffed ≡ self.old.unstuffed }
+        ensures rest { IfOk result (λ _. self.new.rest ≡ self.old.rest ++ more.now) }
+        ensures memory { IfErr result (λ _. self.new ≡ self.old) }
+    {
+        self.bytes.extend_from_slice(more)?;
+        Ok(())
+    }
+
     /// The data.
+    pub(crate) fn data(&self) -> &[u8]
+        ensures { result.now ≡ self.now.unstuffed }
+    {
+        &self.bytes[..self.found]
+    }
+
+    /// The data, in the memory of the bytes.
     pub(crate) fn into_data(self) -> Vec<u8>
         ensures { result.items ≡ self.unstuffed }
     {

@@ -1,0 +1,7 @@
+use Rattle.std.proofs.Common.{ℕ, ◌++◌, ◌∷◌, [], refl, ap, ◌∙◌}
+use Rattle.jr_cut.proofs.OpenSegments.{have_next}
+use Rattle.jr_cut.proofs.open_segments.OpenSegments.next.Goals as goal
+
+pub returns-clause-all : goal.returns-clause-all
+returns-clause-all c =
+    have_next _ _ c.args.marker c.requires.is c.requires.marker (c.in_ok-push.ensures.items ∙ ap (λ (n : ℕ). c.args.self.now.spans.items ++ (record { start = c.args.self.now.begin; end = n }) ∷ []) c.len-end.ensures) c.len-end.ensures refl refl c.skip.ensures.data c.skip.ensures.rest
