@@ -2,7 +2,7 @@
 
 ghost use Rattle.std.specs.Prelude.{◌≡◌, ℕ, ◌+◌, ◌<◌, ◌≤◌, ◌^◌, List, [], ◌++◌, length, map, slice_index_or, IfOk, IfErr};
 ghost use Rattle.std.specs.List.{All};
-ghost use Rattle.jr_cut.specs.CutSoFar.{HasCut};
+ghost use Rattle.jr_cut.specs.CutSoFar.{HasCut, IsLatestOf};
 ghost use Rattle.jr_cut.specs.Spans.{segment_data, IsSpanOf};
 
 use crate::coded_segments::CodedSegments;
@@ -53,6 +53,7 @@ impl CutSoFar {
             bytes: scan,
             spans: Vec::new(alloc),
             begin: 0,
+            latest: 0,
             intervals,
             at: start,
         };
@@ -99,6 +100,14 @@ impl CutSoFar {
         ensures few { result ≤ self.now.intervals }
     {
         self.segments.spans.len() as u32 + 1
+    }
+
+    /// The last segment that has data, the first one where none has.
+    pub fn latest(&self) -> u32
+        ensures value { result ≡ self.now.latest }
+        ensures latest { IsLatestOf self.now.segments result }
+    {
+        self.segments.latest
     }
 
     /// The data of segment i, without stuffing; none where it has not begun.
