@@ -46,7 +46,8 @@ impl CutSoFar {
         requires unread { scan.unstuffed ≡ [] }
         ensures intervals { IfOk result (λ c. c.intervals ≡ intervals) }
         ensures cut { IfOk result (λ c. HasCut start scan.rest c) }
-        ensures few { IfOk result (λ c. length c.unstuffed ≤ length scan.rest) }
+        ensures count { IfOk result (λ c. length c.segments ≤ c.intervals) }
+        ensures data { IfOk result (λ c. start + length c.unstuffed ≤ c.at) }
         ensures all { IfOk result (λ c. c.at + length c.rest ≡ start + length scan.rest) }
     {
         let mut segments = OpenSegments {
@@ -66,6 +67,7 @@ impl CutSoFar {
     pub fn push(&mut self, more: &[u8]) -> Result<(), Memory>
         requires { self.old.at + length self.old.rest + length more.now < 2 ^ 64 }
         ensures intervals { self.new.intervals ≡ self.old.intervals }
+        ensures count { length self.new.segments ≤ self.new.intervals }
         ensures pushed { IfOk result (λ _. (start : ℕ) (bytes : List ℕ) → HasCut start bytes self.old → HasCut start (bytes ++ more.now) self.new) }
         ensures few { self.new.at + length self.new.rest ≤ self.old.at + length self.old.rest + length more.now }
         ensures data { length self.new.unstuffed + self.old.at ≤ length self.old.unstuffed + self.new.at }
@@ -81,7 +83,8 @@ impl CutSoFar {
 
     /// How many segments the scan has at most.
     pub fn intervals(&self) -> u32
-        ensures { result ≡ self.now.intervals }
+        ensures value { result ≡ self.now.intervals }
+        ensures some { 0 < result }
     {
         self.segments.intervals
     }

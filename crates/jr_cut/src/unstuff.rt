@@ -8,7 +8,20 @@ ghost use Rattle.jr_cut.specs.Spans.{Unstuffs};
 use jr_base::Memory;
 use jr_base::marker::PREFIX;
 use memchr::memchr;
+use std::alloc::Global;
 use std::marker::Model;
+
+/// An offset, or the end of the bytes where it is past it.
+fn offset_in(bytes: &[u8], offset: u64) -> usize
+    ensures within { result ≤ length bytes.now }
+    ensures same { drop result bytes.now ≡ drop offset bytes.now }
+{
+    if offset < bytes.len() as u64 {
+        offset as usize
+    } else {
+        bytes.len()
+    }
+}
 
 /// How many bytes at the front are FF.
 pub(crate) fn fill_count(bytes: &[u8]) -> usize
@@ -61,17 +74,26 @@ impl Model for Unstuffing {
 }
 
 impl Unstuffing {
-    /// The bytes from an offset on, of which none is read.
-    pub fn of(bytes: Vec<u8>, start: usize) -> Unstuffing
-        requires { start ≤ length bytes.items }
+    /// The bytes from an offset on, none where it is past their end. None of them is read yet.
+    pub fn of(bytes: Vec<u8>, offset: u64) -> Unstuffing
         ensures data { result.unstuffed ≡ [] }
-        ensures rest { result.rest ≡ drop start bytes.items }
+        ensures rest { result.rest ≡ drop offset bytes.items }
     {
+        let at = offset_in(&bytes, offset);
         Unstuffing {
             bytes,
             found: 0,
-            at: start,
+            at,
         }
+    }
+
+    /// A copy of them.
+    pub fn copy_of(alloc: Global, bytes: &[u8], offset: u64) -> Result<Unstuffing, Memory>
+        ensures data { IfOk result (λ u. u.unstuffed ≡ []) }
+        ensures rest { IfOk result (λ u. u.rest ≡ drop offset bytes.now) }
+    {
+        let copied = bytes[offset_in(bytes, offset)..].to_vec(alloc)?;
+        Ok(Unstuffing::of(copied, 0))
     }
 
     /// How many bytes of data there are.

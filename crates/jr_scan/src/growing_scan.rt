@@ -18,19 +18,18 @@ use std::marker::Model;
 pub struct GrowingScan {
     head: Head,
     cut: CutSoFar,
-    latest: u32,
 }
 
 impl Model for GrowingScan {
-    ghost use Rattle.std.specs.Prelude.{◌≡◌, ◌+◌, ◌<◌, ◌^◌};
-    ghost use Rattle.jr_scan.specs.GrowingScan.{GrowingScanValue, IsLatest, scan_so_far};
+    ghost use Rattle.std.specs.Prelude.{◌≡◌, ◌+◌, ◌<◌, ◌≤◌, ◌^◌, length};
+    ghost use Rattle.jr_scan.specs.GrowingScan.{GrowingScanValue, growing_scan};
     ghost use Rattle.jr_scan.specs.ScanValue.{intervals_of};
 
     ghost Value = { GrowingScanValue };
 
-    ghost view = { λ g. record { scan = scan_so_far g.head g.cut; latest = g.latest; come = g.cut.at + length g.cut.rest; cut = g.cut } };
+    ghost view = { λ g. growing_scan g.head g.cut };
 
-    ghost invariant = { λ g. (g.cut.intervals ≡ intervals_of g.head) × IsLatest (scan_so_far g.head g.cut) g.latest × (g.latest < g.cut.intervals) × (g.cut.at + length g.cut.rest < 2 ^ 61) };
+    ghost invariant = { λ g. (g.cut.intervals ≡ intervals_of g.head) × (length g.cut.segments ≤ g.cut.intervals) × (length g.cut.unstuffed ≤ g.cut.at) × (g.cut.at + length g.cut.rest < 2 ^ 61) };
 }
 
 impl GrowingScan {
@@ -41,7 +40,10 @@ impl GrowingScan {
         ensures head { IfOk result (λ s. s.scan.head ≡ head) }
         ensures come { IfOk result (λ s. HasCome s bytes.items) }
     {
-        todo
+        let start = head.scan_at();
+        let scan = Unstuffing::of(bytes, start);
+        let cut = CutSoFar::of(alloc, head.intervals(), start, scan)?;
+        Ok(GrowingScan { head, cut })
     }
 
     /// More bytes have come. Where memory is refused none of them is taken.
@@ -51,7 +53,7 @@ impl GrowingScan {
         ensures pushed { IfOk result (λ _. (bytes : List ℕ) → HasCome self.old bytes → HasCome self.new (bytes ++ more.now)) }
         ensures memory { IfErr result (λ _. self.new ≡ self.old) }
     {
-        todo
+        self.cut.push(more)
     }
 
     /// The head of the file.
@@ -85,7 +87,7 @@ impl GrowingScan {
         ensures latest { IsLatest self.now.scan result }
         ensures inside { result < length self.now.scan.intervals }
     {
-        self.latest
+        self.cut.latest()
     }
 
     /// Interval i, as far as its data have come.
@@ -100,6 +102,7 @@ impl GrowingScan {
     pub fn into_scan(self, alloc: Global) -> Result<Scan, Memory>
         ensures { IfOk result (λ s. s ≡ self.scan) }
     {
-        todo
+        let GrowingScan { head, cut } = self;
+        Scan::of_segments(alloc, head, cut.into_segments()?)
     }
 }
