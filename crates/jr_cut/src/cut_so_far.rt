@@ -96,15 +96,6 @@ impl CutSoFar {
         self.ended
     }
 
-    /// How many segments there are, the open one too.
-    pub fn segments(&self) -> u32
-        ensures value { result ≡ length self.now.segments }
-        ensures some { 0 < result }
-        ensures few { result ≤ self.now.intervals }
-    {
-        self.segments.spans.len() as u32 + 1
-    }
-
     /// The last segment that has data, the first one where none has.
     pub fn latest(&self) -> u32
         ensures value { result ≡ self.now.latest }
@@ -132,7 +123,11 @@ impl CutSoFar {
             return ended[i];
         }
         let end = self.segments.bytes.len();
-        let start = if i == ended.len() { self.segments.begin } else { end };
+        let start = if i == ended.len() {
+            self.segments.begin
+        } else {
+            end
+        };
         Span { start, end }
     }
 

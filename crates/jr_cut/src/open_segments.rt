@@ -78,7 +78,8 @@ impl OpenSegments {
         'segments: loop {
             self.grow();
             let k = self.spans.len() as u32;
-            match stop_at(self.bytes.rest(), self.at, k, self.intervals) {
+            let fill = self.bytes.fill();
+            match stop_at(self.bytes.rest(), fill, self.at, k, self.intervals) {
                 Stop::End(ended) => return Ok(ended),
                 Stop::Restart(marker) => self.next(marker)?,
             }

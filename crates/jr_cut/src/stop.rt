@@ -1,12 +1,11 @@
 //! What stands behind a segment.
 
-ghost use Rattle.std.specs.Prelude.{◌≡◌, ◌≢◌, ℕ, ◌+◌, ◌%◌, ◌<◌, ◌^◌, List, length, IfSome, IfNone};
+ghost use Rattle.std.specs.Prelude.{◌≡◌, ◌≢◌, ℕ, ◌+◌, ◌%◌, ◌<◌, ◌≤◌, List, length, take, replicate, slice_index, IfSome, IfNone};
 ghost use Rattle.jr_base.specs.declared.marker.TheConstants.{PREFIX, RST0};
 ghost use Rattle.jr_cut.specs.Cut.{HasMarker, IsEnding, IsStop};
 ghost use Rattle.jr_cut.specs.OpenSegments.{IsStopOf};
 
 use crate::scan_end::ScanEnd;
-use crate::unstuff::fill_count;
 use jr_base::marker::{EOI, RST0, RST7};
 
 /// What the bytes behind a segment mean.
@@ -48,14 +47,16 @@ fn end_at(code: u8, at: u64, k: u32, intervals: u32) -> Option<ScanEnd>
     None
 }
 
-/// What stands behind segment k, at an offset of the file.
-pub(crate) fn stop_at(tail: &[u8], at: u64, k: u32, intervals: u32) -> Stop
+/// What stands behind segment k, at an offset of the file: so many FF bytes, and further ones.
+pub(crate) fn stop_at(tail: &[u8], fill: usize, at: u64, k: u32, intervals: u32) -> Stop
     requires few { k < intervals }
     requires stop { IsStop tail.now }
+    requires within { fill ≤ length tail.now }
+    requires full { take fill tail.now ≡ replicate fill PREFIX }
+    requires next { fill < length tail.now → slice_index tail.now fill ≢ PREFIX }
     ensures { IsStopOf intervals k at tail.now result }
 {
-    let fill = fill_count(tail);
-    if fill >= tail.len() {
+    if fill == tail.len() {
         return Stop::End(ScanEnd::EndOfFile);
     }
     match end_at(tail[fill], at, k, intervals) {

@@ -24,7 +24,7 @@ fn offset_in(bytes: &[u8], offset: u64) -> usize
 }
 
 /// How many bytes at the front are FF.
-pub(crate) fn fill_count(bytes: &[u8]) -> usize
+fn fill_count(bytes: &[u8]) -> usize
     ensures within { result ≤ length bytes.now }
     ensures full { take result bytes.now ≡ replicate result PREFIX }
     ensures next { result < length bytes.now → slice_index bytes.now result ≢ PREFIX }
@@ -60,17 +60,20 @@ pub struct Unstuffing {
     found: usize,
     /// Where the bytes begin that are not read yet.
     at: usize,
+    /// How many of them, from the first on, are known to be FF.
+    fill: usize,
 }
 
 impl Model for Unstuffing {
-    ghost use Rattle.std.specs.Prelude.{◌≤◌, length, take, drop};
+    ghost use Rattle.std.specs.Prelude.{◌≡◌, ◌+◌, ◌≤◌, length, take, drop, replicate};
+    ghost use Rattle.jr_base.specs.declared.marker.TheConstants.{PREFIX};
     ghost use Rattle.jr_cut.specs.UnstuffingValue.{UnstuffingValue};
 
     ghost Value = { UnstuffingValue };
 
     ghost view = { λ u. record { unstuffed = take u.found u.bytes.items; rest = drop u.at u.bytes.items } };
 
-    ghost invariant = { λ u. (u.found ≤ u.at) × (u.at ≤ length u.bytes.items) };
+    ghost invariant = { λ u. (u.found ≤ u.at) × (u.at + u.fill ≤ length u.bytes.items) × (take u.fill (drop u.at u.bytes.items) ≡ replicate u.fill PREFIX) };
 }
 
 impl Unstuffing {
@@ -84,6 +87,7 @@ impl Unstuffing {
             bytes,
             found: 0,
             at,
+            fill: 0,
         }
     }
 
@@ -110,16 +114,31 @@ impl Unstuffing {
         &self.bytes[self.at..]
     }
 
+    /// How many of the bytes that are not read yet, from the first on, are FF. Those that were counted before are not counted again.
+    pub(crate) fn fill(&mut self) -> usize
+        ensures same { self.new ≡ self.old }
+        ensures within { result ≤ length self.old.rest }
+        ensures full { take result self.old.rest ≡ replicate result PREFIX }
+        ensures next { result < length self.old.rest → slice_index self.old.rest result ≢ PREFIX }
+    {
+        self.fill += fill_count(&self.bytes[self.at + self.fill..]);
+        self.fill
+    }
+
     /// Reads bytes that are data as they stand.
     fn keep(&mut self, count: usize)
         requires { count ≤ length self.old.rest }
         ensures data { self.new.unstuffed ≡ self.old.unstuffed ++ take count self.old.rest }
         ensures rest { self.new.rest ≡ drop count self.old.rest }
     {
+        if count == 0 {
+            return;
+        }
         let end = self.at + count;
         self.bytes.copy_within(self.at..end, self.found);
         self.found += count;
         self.at = end;
+        self.fill = 0;
     }
 
     /// Reads bytes that spell one byte.
@@ -132,6 +151,7 @@ impl Unstuffing {
         self.bytes[self.found] = byte;
         self.found += 1;
         self.at += count;
+        self.fill = 0;
     }
 
     /// Reads bytes that are no data.
@@ -141,6 +161,7 @@ impl Unstuffing {
         ensures rest { self.new.rest ≡ drop count self.old.rest }
     {
         self.at += count;
+        self.fill = 0;
     }
 
     /// Reads the bytes that spell data, up to a marker or the end, and tells how many they are.
@@ -157,7 +178,7 @@ impl Unstuffing {
             let count = plain(self.rest());
             self.keep(count);
             at += count;
-            let next = fill_count(self.rest());
+            let next = self.fill();
             if next >= self.rest().len() || self.rest()[next] != 0 {
                 return at;
             }
