@@ -7,6 +7,7 @@ use crate::answers::{CheckRequest, RequestError};
 use clap::error::ErrorKind;
 use clap::{Arg, ArgAction, Command, Error, value_parser};
 use jr_base::limits::MAX_WORKERS;
+use jri_version::VERSION;
 use std::alloc::{AllocError, Global};
 
 /// `jri_check [--map] [--workers N] FILE..`.
@@ -30,6 +31,7 @@ fn command<'a>(alloc: Global) -> Result<Command<'a>, AllocError> {
         .help("The JPEG files");
     Command::new(alloc, "jri_check")
         .about("Tells which baseline JPEG files are sound, and what is damaged of the others")
+        .version(VERSION)
         .no_binary_name(true)
         .arg(map)?
         .arg(workers)?
@@ -41,8 +43,10 @@ fn refusal(alloc: Global, error: &Error) -> RequestError {
         return RequestError::Memory;
     }
     match error.to_string(alloc) {
-        Ok(text) if error.kind() == ErrorKind::DisplayHelp => RequestError::Help(text),
-        Ok(text) => RequestError::Wrong(text),
+        Ok(text) => match error.kind() {
+            ErrorKind::DisplayHelp | ErrorKind::DisplayVersion => RequestError::Help(text),
+            _ => RequestError::Wrong(text),
+        },
         Err(_) => RequestError::Memory,
     }
 }
@@ -57,7 +61,7 @@ fn copied(alloc: Global, words: &[&str]) -> Result<Vec<String>, AllocError> {
 }
 
 /// What the words after the program's name ask for: `--map`; `--workers` from 1 to 64, 4 where it isn't there; and one
-/// file or more. `RequestError` has the text to print where they ask for help or are wrong.
+/// file or more. `RequestError` has the text to print where they ask for help or the version or are wrong.
 pub fn asked<'a>(alloc: Global, words: &'a [String]) -> Result<CheckRequest, RequestError>
     ensures some { IfOk result (λ a. 1 ≤ a.workers) }
     ensures few { IfOk result (λ a. a.workers ≤ MAX_WORKERS) }

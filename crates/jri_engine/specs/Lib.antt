@@ -1,2 +1,3 @@
+pub mod Steps
 pub mod Status
 pub mod Files

@@ -3,35 +3,16 @@
 ghost use Rattle.std.specs.Prelude.{◌≤◌, IfOk};
 ghost use Rattle.jr_base.specs.declared.limits.TheConstants.{MAX_WORKERS};
 
-use crate::answers::{Asked, Unasked};
+use crate::answers::{Asked, Target, Telling, Unasked};
+use crate::help::{ABOUT, AFTER_HELP};
 use clap::error::ErrorKind;
-use clap::{Arg, ArgAction, Command, Error, value_parser};
+use clap::{Arg, ArgAction, ArgMatches, Command, Error, value_parser};
 use jr_base::limits::MAX_WORKERS;
+use jri_version::VERSION;
 use std::alloc::{AllocError, Global};
 
-/// What the help says behind the options.
-const AFTER_HELP: &str = "\
-The picture goes to standard output, as PGM where it is grey and as PPM where it
-has three components. A report of its restart intervals goes to standard error:
-how many there are, how many are sound, damaged and blank, and what ended the
-scan. A damaged interval shows what of it can be decoded from its start, then
-grey. A blank one, behind the first K, is black.
-
-Exit status:
-  0  the picture is written, and no interval is damaged
-  1  the file could not be read, the picture could not be written, or memory
-     was refused
-  2  the file is refused, or the words are wrong; no picture is written
-  3  the picture is written, and some interval is damaged
-
-More workers help most where the file has restart markers. Where it has none one
-of them reads the data, and the others make pixels of what it has read.
-
-- is a file of that name, and not standard input. A file whose name is not UTF-8
-is decoded by: jri < FILE";
-
-/// `jri [--workers N] [--first K] [FILE]`.
-fn command<'a>(alloc: Global) -> Result<Command<'a>, AllocError> {
+/// The words that tell what is decoded.
+fn decoding_words<'a>(alloc: Global, command: Command<'a>) -> Result<Command<'a>, AllocError> {
     let workers = Arg::new(alloc, "workers")
         .long("workers")
         .action(ArgAction::Set)
@@ -48,14 +29,44 @@ fn command<'a>(alloc: Global) -> Result<Command<'a>, AllocError> {
     let file = Arg::new(alloc, "file")
         .action(ArgAction::Set)
         .value_name("FILE")
-        .help("The JPEG file; standard input where there is none");
-    Command::new(alloc, "jri")
-        .about("Decodes a baseline JPEG file to a Netpbm picture on standard output")
+        .help("The JPEG file; standard input where there is none, or where it is -");
+    command.arg(workers)?.arg(first)?.arg(file)
+}
+
+/// A word that stands alone.
+fn flag<'a>(alloc: Global, name: &'a str, help: &'a str) -> Arg<'a> {
+    Arg::new(alloc, name)
+        .long(name)
+        .action(ArgAction::SetTrue)
+        .help(help)
+}
+
+/// The words that tell where the picture goes, and what is told on standard error.
+fn writing_words<'a>(alloc: Global, command: Command<'a>) -> Result<Command<'a>, AllocError> {
+    let output = Arg::new(alloc, "output")
+        .short('o')
+        .long("output")
+        .action(ArgAction::Set)
+        .value_name("PICTURE")
+        .help("Write the picture to this file; standard output where it is -");
+    let force = flag(alloc, "force", "Write the picture onto a terminal, too");
+    let quiet = flag(alloc, "quiet", "Leave out the report; errors are told");
+    let verbose = flag(
+        alloc,
+        "verbose",
+        "Tell the file's name and the system's reason, too",
+    );
+    command.arg(output)?.arg(force)?.arg(quiet)?.arg(verbose)
+}
+
+/// `jri [--workers N] [--first K] [-o PICTURE] [--force] [--quiet] [--verbose] [FILE]`.
+fn command<'a>(alloc: Global) -> Result<Command<'a>, AllocError> {
+    let command = Command::new(alloc, "jri")
+        .about(ABOUT)
+        .version(VERSION)
         .after_help(AFTER_HELP)
-        .no_binary_name(true)
-        .arg(workers)?
-        .arg(first)?
-        .arg(file)
+        .no_binary_name(true);
+    writing_words(alloc, decoding_words(alloc, command)?)
 }
 
 fn refusal(alloc: Global, error: &Error) -> Unasked {
@@ -63,14 +74,38 @@ fn refusal(alloc: Global, error: &Error) -> Unasked {
         return Unasked::Memory;
     }
     match error.to_string(alloc) {
-        Ok(text) if error.kind() == ErrorKind::DisplayHelp => Unasked::Help(text),
-        Ok(text) => Unasked::Wrong(text),
+        Ok(text) => match error.kind() {
+            ErrorKind::DisplayHelp | ErrorKind::DisplayVersion => Unasked::Help(text),
+            _ => Unasked::Wrong(text),
+        },
         Err(_) => Unasked::Memory,
     }
 }
 
-/// What the words after the program's name ask for: `--workers` from 1 to 64, 4 where it isn't there; `--first`; and
-/// at most one file. `Unasked` has the text to print where they ask for help or are wrong.
+/// The name of a stream in place of a file.
+const STREAM: &str = "-";
+
+/// The file that is decoded.
+fn file_of(alloc: Global, matches: &ArgMatches) -> Result<Option<String>, AllocError> {
+    match matches.get_str("file") {
+        Some(name) if name != STREAM => Ok(Some(String::from_str(alloc, name)?)),
+        _ => Ok(None),
+    }
+}
+
+/// Where the picture goes.
+fn target_of(alloc: Global, matches: &ArgMatches) -> Result<Target, AllocError> {
+    match matches.get_str("output") {
+        Some(name) if name != STREAM => Ok(Target::File(String::from_str(alloc, name)?)),
+        Some(_) => Ok(Target::AnyOutput),
+        None if matches.get_flag("force") => Ok(Target::AnyOutput),
+        None => Ok(Target::Output),
+    }
+}
+
+/// What the words after the program's name ask for: `--workers` from 1 to 64, 4 where it isn't there; `--first`; at most
+/// one file; and the words of the output and of what is told. `Unasked` has the text to print where they ask for help or
+/// the version or are wrong.
 pub fn asked<'a>(alloc: Global, words: &'a [String]) -> Result<Asked, Unasked>
     ensures some { IfOk result (λ a. 1 ≤ a.workers) }
     ensures few { IfOk result (λ a. a.workers ≤ MAX_WORKERS) }
@@ -79,9 +114,11 @@ pub fn asked<'a>(alloc: Global, words: &'a [String]) -> Result<Asked, Unasked>
         Ok(matches) => matches,
         Err(error) => return Err(refusal(alloc, &error)),
     };
-    let file = match matches.get_str("file") {
-        Some(name) => Some(String::from_str(alloc, name)?),
-        None => None,
+    let file = file_of(alloc, &matches)?;
+    let target = target_of(alloc, &matches)?;
+    let telling = Telling {
+        is_quiet: matches.get_flag("quiet"),
+        is_verbose: matches.get_flag("verbose"),
     };
     match matches.get_one::<u32>("workers") {
         // the range of the argument's values, which the parser's contract does not repeat
@@ -89,6 +126,8 @@ pub fn asked<'a>(alloc: Global, words: &'a [String]) -> Result<Asked, Unasked>
             workers,
             first: matches.get_one::<u32>("first"),
             file,
+            target,
+            telling,
         }),
         _ => Err(Unasked::Wrong(String::new(alloc))),
     }
