@@ -6,7 +6,7 @@ _jri_check() {
         --workers) compopt +o default; mapfile -t COMPREPLY < <(compgen -W '1 2 4 8 16 32 64' -- "$word"); return ;;
     esac
     case $word in
-        -*) compopt +o default; mapfile -t COMPREPLY < <(compgen -W '--map --json --quiet --counts --workers --recursive --files0-from --help' -- "$word"); return ;;
+        -*) compopt +o default; mapfile -t COMPREPLY < <(compgen -W '--map --json --quiet --counts --workers --recursive --files0-from --help --version' -- "$word"); return ;;
     esac
     while IFS= read -r name; do
         case ${name,,} in *.jpg | *.jpeg | *.jpe | *.jfif) COMPREPLY+=("$name") ;; *) [ ! -d "$name" ] || COMPREPLY+=("$name") ;; esac

@@ -7,3 +7,4 @@ complete -c jri_check -s r -l recursive -d 'Checks the JPEG files in folders, an
 complete -c jri_check -l files0-from -r -d 'Checks the files whose names a list has, each ended by a NUL byte'
 complete -c jri_check -l workers -x -a '1 2 4 8 16 32 64' -d 'How many files are checked at once, 1 to 64'
 complete -c jri_check -s h -l help -d 'Print help'
+complete -c jri_check -s V -l version -d 'Print version'

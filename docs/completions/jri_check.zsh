@@ -2,6 +2,7 @@
 # Completes the words of jri_check in zsh: its options, and JPEG files before others.
 _arguments -S \
     '(- *)'{-h,--help}'[print help]' \
+    '(- *)'{-V,--version}'[print version]' \
     '--map[a line for each damaged restart interval, too]' \
     '--json[each line is a JSON object]' \
     '--quiet[tell nothing of sound files]' \

@@ -1,21 +1,69 @@
-//! `jri [--workers N] [--first K] [FILE]`: decodes a JPEG file to a Netpbm picture on standard output.
+//! `jri [--workers N] [--first K] [-o PICTURE] [FILE]`: decodes a JPEG file to a Netpbm picture.
 #![tactic(auto)]
 
-use jr_paint::Tally;
-use jr_wall::OpenGate;
-use jri_engine::{Fault, Unasked, asked, finish, run};
-use std::alloc::Global;
-use std::io::{Error, ErrorKind, IsTerminal, Result as IoResult, Write};
+use jri_engine::{Devices, program};
+use std::fs::{File, OpenOptions};
+use std::io::{IsTerminal, Result as IoResult, Stdin, Stdout};
 use std::process::ExitCode;
-use std::rt::Env;
+use std::rt::{Env, Files};
 use std::{env, fs};
 
-/// What is told of words that are not text.
-const UNTOLD: &str =
-    "the words are not text: a file whose name is not UTF-8 is decoded by jri < FILE\n";
+/// The machine that the program runs on.
+#[derive(Drop)]
+struct Machine<'a> {
+    rt: &'a HostRuntime,
+}
 
-/// What is told where nobody has said from which file the bytes come.
-const WAITING: &str = "waiting for a JPEG file on standard input\n";
+impl<'a> Devices for Machine<'a> {
+    type Input = Stdin;
+
+    type Output = Stdout;
+
+    type File = File;
+
+    fn input(&self) -> Stdin {
+        self.rt.stdin()
+    }
+
+    fn output(&self) -> Stdout {
+        self.rt.stdout()
+    }
+
+    fn is_input_terminal(&self) -> bool {
+        self.rt.stdin().is_terminal()
+    }
+
+    fn is_output_terminal(&self) -> bool {
+        self.rt.stdout().is_terminal()
+    }
+
+    fn open(&self, name: &str) -> IoResult<File> {
+        fs::open(self.rt, name)
+    }
+
+    fn is_device(&self, name: &str) -> bool {
+        match fs::metadata(self.rt, name) {
+            Ok(found) => !found.is_file() && !found.is_dir(),
+            Err(_) => false,
+        }
+    }
+
+    fn open_device(&self, name: &str) -> IoResult<File> {
+        OpenOptions::new().write(true).open(self.rt, name)
+    }
+
+    fn create(&mut self, name: &str) -> IoResult<File> {
+        File::create_new(self.rt, name)
+    }
+
+    fn rename(&mut self, from: &str, to: &str) -> IoResult<()> {
+        fs::rename(self.rt, from, to)
+    }
+
+    fn remove(&mut self, name: &str) -> IoResult<()> {
+        fs::remove_file(self.rt, name)
+    }
+}
 
 /// The words after the program's name.
 fn words<R: Env + AllocGlobal>(rt: &R) -> IoResult<Vec<String>> {
@@ -26,73 +74,9 @@ fn words<R: Env + AllocGlobal>(rt: &R) -> IoResult<Vec<String>> {
     Ok(words)
 }
 
-/// Why there are no words.
-fn unread(alloc: Global, error: &Error) -> Unasked {
-    if error.kind() == ErrorKind::OutOfMemory {
-        return Unasked::Memory;
-    }
-    match String::from_str(alloc, UNTOLD) {
-        Ok(text) => Unasked::Wrong(text),
-        Err(_) => Unasked::Memory,
-    }
-}
-
-/// Writes what the words get in place of a picture, and answers the exit status.
-fn tell<W: Write, E: Write>(out: &mut W, errors: &mut E, unasked: &Unasked) -> u8 {
-    let _ = match unasked {
-        Unasked::Help(text) => write!(out, "{text}"),
-        Unasked::Wrong(text) => write!(errors, "{text}"),
-        Unasked::Memory => writeln!(errors, "out of memory"),
-    };
-    unasked.status()
-}
-
-/// Tells that standard input is waited for, where somebody may sit before it.
-fn tell_of_waiting<I: IsTerminal, E: Write>(input: &I, errors: &mut E) {
-    if input.is_terminal() {
-        let _ = errors.write_all(WAITING.as_bytes());
-    }
-}
-
 fn main(rt: HostRuntime) -> ExitCode {
-    let alloc: Global = rt.alloc();
-    let (mut out, mut errors) = (rt.stdout(), rt.stderr());
-    let words = match words(&rt) {
-        Ok(words) => words,
-        Err(error) => return ExitCode::from(tell(&mut out, &mut errors, &unread(alloc, &error))),
-    };
-    let asked = match asked(alloc, &words) {
-        Ok(asked) => asked,
-        Err(unasked) => return ExitCode::from(tell(&mut out, &mut errors, &unasked)),
-    };
-    let mut output = Tally::of(out);
-    let (workers, first) = (asked.workers, asked.first);
-    let outcome = match &asked.file {
-        None => {
-            let input = rt.stdin();
-            tell_of_waiting(&input, &mut errors);
-            run(
-                &rt,
-                alloc,
-                &mut Tally::of(input),
-                &mut output,
-                workers,
-                first,
-                &OpenGate,
-            )
-        }
-        Some(name) => match fs::open(&rt, name.as_str()) {
-            Ok(file) => run(
-                &rt,
-                alloc,
-                &mut Tally::of(file),
-                &mut output,
-                workers,
-                first,
-                &OpenGate,
-            ),
-            Err(_) => Err(Fault::NoFile),
-        },
-    };
-    ExitCode::from(finish(outcome, &mut output, &mut errors))
+    let mut machine = Machine { rt: &rt };
+    let words = words(&rt);
+    let status = program(&rt, rt.alloc(), &mut machine, words, &mut rt.stderr());
+    ExitCode::from(status)
 }

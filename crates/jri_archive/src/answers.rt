@@ -35,7 +35,7 @@ pub struct CheckRequest {
 /// Why the words ask for no check.
 #[derive(Debug, Drop)]
 pub enum RequestError {
-    /// They ask for help, which is this text.
+    /// They ask for help or for the version, which is this text.
     Help(String),
     /// They are wrong, as this text says.
     Wrong(String),
@@ -44,7 +44,7 @@ pub enum RequestError {
 }
 
 impl RequestError {
-    /// The exit status: 0 for help, 2 for wrong words, 4 for want of memory.
+    /// The exit status: 0 for help and the version, 2 for wrong words, 4 for want of memory.
     pub fn status(&self) -> u8
         ensures { result ≡ request_error_status self.now }
     {

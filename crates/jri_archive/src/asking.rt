@@ -8,6 +8,7 @@ use crate::words::{bytes_of, texts};
 use clap::error::ErrorKind;
 use clap::{Arg, ArgAction, ArgMatches, Command, Error, value_parser};
 use jr_base::limits::MAX_WORKERS;
+use jri_version::VERSION;
 use std::alloc::{AllocError, Global};
 
 /// A word that is there or not.
@@ -73,6 +74,7 @@ fn command<'a>(alloc: Global) -> Result<Command<'a>, AllocError> {
     );
     Command::new(alloc, "jri_check")
         .about("Tells which baseline JPEG files are sound, and what is damaged of the others")
+        .version(VERSION)
         .no_binary_name(true)
         .arg(map)?
         .arg(json)?
@@ -89,8 +91,10 @@ fn refusal(alloc: Global, error: &Error) -> RequestError {
         return RequestError::Memory;
     }
     match error.to_string(alloc) {
-        Ok(text) if error.kind() == ErrorKind::DisplayHelp => RequestError::Help(text),
-        Ok(text) => RequestError::Wrong(text),
+        Ok(text) => match error.kind() {
+            ErrorKind::DisplayHelp | ErrorKind::DisplayVersion => RequestError::Help(text),
+            _ => RequestError::Wrong(text),
+        },
         Err(_) => RequestError::Memory,
     }
 }
@@ -119,7 +123,8 @@ fn list_in(alloc: Global, matches: &ArgMatches<'_>) -> Result<Option<String>, Al
 }
 
 /// What the words after the program's name ask for: `--workers` from 1 to 64, 4 where it isn't there; one name or more, or
-/// `--files0-from`; and what is told. `RequestError` has the text to print where they ask for help or are wrong.
+/// `--files0-from`; and what is told. `RequestError` has the text to print where they ask for help or
+/// the version or are wrong.
 pub fn asked(alloc: Global, words: &[Vec<u8>]) -> Result<CheckRequest, RequestError>
     ensures some { IfOk result (λ a. 1 ≤ a.workers) }
     ensures few { IfOk result (λ a. a.workers ≤ MAX_WORKERS) }

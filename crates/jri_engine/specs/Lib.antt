@@ -1,2 +1,4 @@
+pub mod CommandLine
+pub mod Steps
 pub mod Status
 pub mod Files

@@ -11,12 +11,44 @@ pub struct Asked {
     pub first: Option<u32>,
     /// The name of the file; standard input where there is none.
     pub file: Option<String>,
+    /// Where the picture goes.
+    pub target: Target,
+    /// How much is told on standard error.
+    pub telling: Telling,
+}
+
+/// Where the picture goes.
+#[derive(Debug, Drop)]
+pub enum Target {
+    /// To standard output, but not onto a terminal.
+    Output,
+    /// To standard output, whatever it is.
+    AnyOutput,
+    /// To the file of this name.
+    File(String),
+}
+
+/// How much is told on standard error.
+#[derive(Clone, Copy, Debug, PartialEq, Eq)]
+pub struct Telling {
+    /// No report, and no line of a reader that has gone away.
+    pub is_quiet: bool,
+    /// Names and the system's reasons behind the lines.
+    pub is_verbose: bool,
+}
+
+impl Telling {
+    /// What is told where the words say nothing of it.
+    pub(crate) const PLAIN: Telling = Telling {
+        is_quiet: false,
+        is_verbose: false,
+    };
 }
 
 /// Why the words ask for no decoding.
 #[derive(Debug, Drop)]
 pub enum Unasked {
-    /// They ask for help, which is this text.
+    /// They ask for help or for the version, which is this text.
     Help(String),
     /// They are wrong, as this text says.
     Wrong(String),

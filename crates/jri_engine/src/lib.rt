@@ -3,18 +3,26 @@
 
 mod answers;
 mod asking;
+mod devices;
 mod engine;
 mod finishing;
+mod help;
 mod laws;
+mod line;
+mod placing;
 mod reading;
 mod report;
+mod running;
 mod scanning;
 mod status;
+mod telling;
 
-pub use answers::{Asked, Unasked};
+pub use answers::{Asked, Target, Telling, Unasked};
 pub use asking::asked;
+pub use devices::Devices;
 pub use engine::run;
 pub use finishing::finish;
 pub use laws::one_text;
 pub use report::{Fault, Report};
+pub use running::program;
 pub use scanning::scan_of_file;

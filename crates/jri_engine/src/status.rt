@@ -7,7 +7,7 @@ use crate::answers::Unasked;
 use crate::report::{Fault, Report};
 
 impl Unasked {
-    /// The exit status: 0 for help, 2 for wrong words, 1 for want of memory.
+    /// The exit status: 0 for help and the version, 2 for wrong words, 1 for want of memory.
     pub fn status(&self) -> u8
         ensures { result ≡ unasked_status self.now }
     {

@@ -17,9 +17,13 @@ mod limits;
 #[cfg(test)]
 mod long_intervals;
 #[cfg(test)]
+mod machine;
+#[cfg(test)]
 mod memory;
 #[cfg(test)]
 mod one_byte;
+#[cfg(test)]
+mod program;
 #[cfg(test)]
 mod refused;
 #[cfg(test)]

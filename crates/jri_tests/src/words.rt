@@ -1,11 +1,11 @@
 //! Words of a command line, through `asked`.
 
-use jri_engine::{Asked, Unasked, asked};
+use jri_engine::{Asked, Target, Telling, Unasked, asked};
 use std::alloc::Global;
 use std::test::Fail;
 
 /// The words of a line.
-fn words_of(alloc: Global, line: &str) -> Result<Vec<String>, Fail> {
+pub(crate) fn words_of(alloc: Global, line: &str) -> Result<Vec<String>, Fail> {
     let mut words = Vec::new(alloc);
     for word in line.split_whitespace() {
         words.push(String::from_str(alloc, word)?)?;
@@ -51,7 +51,7 @@ fn help_text(unasked: Unasked) -> Option<String> {
 }
 
 /// Lines, and the workers, the first intervals and the file that they ask for.
-const LINES: [(&str, u32, Option<u32>, Option<&str>); 7] = [
+const LINES: [(&str, u32, Option<u32>, Option<&str>); 8] = [
     ("", 4, None, None),
     ("--workers 1", 1, None, None),
     ("--workers 64 photo.jpg", 64, None, Some("photo.jpg")),
@@ -59,6 +59,7 @@ const LINES: [(&str, u32, Option<u32>, Option<&str>); 7] = [
     ("--first 0", 4, Some(0), None),
     ("--first 4294967295", 4, Some(4294967295), None),
     ("--first 7 --workers 3 a", 3, Some(7), Some("a")),
+    ("-", 4, None, None),
 ];
 
 #[test]
@@ -74,7 +75,41 @@ fn asks_for_a_decoding(rt: HostRuntime) -> Result<(), Fail> {
     Ok(())
 }
 
-const WRONG: [&str; 9] = [
+/// Lines, and where the picture goes and what is told of it.
+const WRITING: [(&str, &str, bool, bool); 7] = [
+    ("", "output", false, false),
+    ("--force", "any output", false, false),
+    ("-o -", "any output", false, false),
+    ("-o x.ppm", "x.ppm", false, false),
+    ("--output=x.ppm --force photo.jpg", "x.ppm", false, false),
+    ("--quiet -", "output", true, false),
+    ("--verbose --quiet", "output", true, true),
+];
+
+/// The name of a target.
+fn target(asked: &Asked) -> &str {
+    match &asked.target {
+        Target::Output => "output",
+        Target::AnyOutput => "any output",
+        Target::File(name) => name.as_str(),
+    }
+}
+
+#[test]
+fn asks_for_an_output(rt: HostRuntime) -> Result<(), Fail> {
+    for (line, name, is_quiet, is_verbose) in &WRITING {
+        let found = asked_by(rt.alloc(), line)?;
+        assert!(rt; target(&found) == *name, "target of {line}");
+        let telling = Telling {
+            is_quiet: *is_quiet,
+            is_verbose: *is_verbose,
+        };
+        assert!(rt; found.telling == telling, "telling of {line}");
+    }
+    Ok(())
+}
+
+const WRONG: [&str; 11] = [
     "--workers 0",
     "--workers 65",
     "--workers x",
@@ -84,6 +119,8 @@ const WRONG: [&str; 9] = [
     "--first x",
     "--nothing",
     "one two",
+    "-o",
+    "-o one -o two",
 ];
 
 #[test]

@@ -1,0 +1,13 @@
+use Rattle.std.proofs.Common.{ℕ, List, [], ◌∷◌, IfOk, IfErr, subst, sym}
+use Rattle.std.specs.String.{string_bytes}
+use Rattle.jri_engine.specs.Steps.{Created, Follow}
+use Rattle.jri_engine.proofs.StepLemmas.{placed}
+use Rattle.jri_engine.proofs.running.decoded_to_file.Goals as goal
+
+pub returns : goal.returns
+returns g c =
+    let old = g.D.Devices.steps c.args.devices.now in
+    let made = g.D.Devices.steps c.make_part.new.devices in
+    let part = c.as_str.result.now in
+    let is_made : Follow old made (Created part ∷ []) = subst (λ (l : List ℕ). Follow old made (Created l ∷ [])) (sym c.as_str.ensures.value) c.in-Ok-make_part.ensures.made in
+    placed c.args.name.now part old made (g.D.Devices.steps c.place.new.devices) c.place.result.outcome is_made c.place.ensures.placed c.place.ensures.removed
