@@ -2,7 +2,8 @@
 //! file gets is seen in the stored run of jri_check.
 
 use jri_archive::{
-    CheckEnd, CheckReport, Entry, EntryKind, FileCounts, Folder, LineForm, ReadError, asked, check_all,
+    CheckEnd, CheckReport, Entry, EntryKind, FileCounts, Folder, LineForm, ReadError, asked,
+    check_all,
 };
 use std::alloc::{AllocError, Global};
 use std::io::{BufReader, Cursor, Read, Result as IoResult, Write};
@@ -139,7 +140,14 @@ fn check<R: Threads + Wait + Sync + AllocGlobal + Abort>(
     Ok(())
 }
 
-const NAMES: [&[u8]; 6] = [b"--map", b"ten", b"two", b"progressive", b"coloured", b"missing"];
+const NAMES: [&[u8]; 6] = [
+    b"--map",
+    b"ten",
+    b"two",
+    b"progressive",
+    b"coloured",
+    b"missing",
+];
 
 const LINES: &str = "ten: sound, 10 intervals\n\
                      two: sound, 2 intervals\n\
@@ -183,7 +191,13 @@ fn tells_of_every_name(rt: HostRuntime) -> Result<(), Fail> {
 fn tells_objects(rt: HostRuntime) -> Result<(), Fail> {
     check(
         &rt,
-        &[b"--json", b"--counts", b"ten", b"\"\\\n\xFF\xC3\xA4", b"progressive"],
+        &[
+            b"--json",
+            b"--counts",
+            b"ten",
+            b"\"\\\n\xFF\xC3\xA4",
+            b"progressive",
+        ],
         "{\"file\":\"ten\",\"is\":\"sound\",\"intervals\":10}\n\
          {\"file\":\"\\u0022\\u005c\\u000a\\udcff\u{E4}\",\"is\":\"unread\",\"why\":\"its name is not UTF-8\"}\n\
          {\"file\":\"progressive\",\"is\":\"refused\",\"refusal\":5,\"why\":\"frame C2 is not baseline\"}\n\
@@ -212,8 +226,14 @@ fn goes_through_folders(rt: HostRuntime) -> Result<(), Fail> {
 #[test]
 fn takes_names_from_a_list(rt: HostRuntime) -> Result<(), Fail> {
     for (list, lines) in [
-        (b"two\0missing\0".as_slice(), "ten: sound, 10 intervals\ntwo: sound, 2 intervals\nmissing: cannot be read: no such file\n"),
-        (b"two\0missing", "ten: sound, 10 intervals\ntwo: sound, 2 intervals\nmissing: cannot be read: no such file\n"),
+        (
+            b"two\0missing\0".as_slice(),
+            "ten: sound, 10 intervals\ntwo: sound, 2 intervals\nmissing: cannot be read: no such file\n",
+        ),
+        (
+            b"two\0missing",
+            "ten: sound, 10 intervals\ntwo: sound, 2 intervals\nmissing: cannot be read: no such file\n",
+        ),
         (b"", "ten: sound, 10 intervals\n"),
     ] {
         for workers in [b"1".as_slice(), b"4"] {
