@@ -1,3 +1,4 @@
 pub mod Arrival
 pub mod Growing
 pub mod Settled
+pub mod Coming

@@ -1,0 +1,60 @@
+-- The row of MCUs that comes next of a scan whose file is still arriving.
+use Rattle.std.specs.Prelude.{◌≡◌, ◌≢◌, ℕ, ◌+◌, ◌*◌, ◌<◌, ◌≤◌, ◌⊎◌, ⊤, List, [], ◌++◌, length, ℤ, Option, Some, None, slice_index_or}
+use Rattle.jr_head.specs.HeadValue.{HeadValue}
+use Rattle.jr_head.specs.Geometry.{mcus_across, mcus_down}
+use Rattle.jr_cut.specs.declared.scan_end.ScanEnd.TheVariants.{EndOfFile}
+use Rattle.jr_scan.specs.declared.place.Place.{Place}
+use Rattle.jr_scan.specs.Mcus.{HasLongestFront, LongestFront}
+use Rattle.jr_scan.specs.ScanValue.{ScanValue, interval_of, intervals_of, mcus_in}
+use Rattle.jr_piece.specs.Strips.{IsNext}
+use Rattle.jr_rows.specs.Groups.{units_in}
+use Rattle.jr_rows.specs.Rows.{HasSampleRoom, ShowsFirstUnits}
+use Rattle.jr_rows.specs.RowsValue.{SampleRowValue}
+
+-- interval i is over: a later one has data, or a marker has ended the scan
+abbrev pub IsOver : ScanValue → ℕ → Type 0
+IsOver s i = (s.ended ≢ EndOfFile) ⊎ ((j : ℕ) × (i < j) × (slice_index_or s.intervals j [] ≢ []))
+
+-- what a scan may become as bytes come: intervals that are over stay as they are, and data come behind the others'
+pub record Becomes (s t : ScanValue) : Type 0 where
+  pub head : t.head ≡ s.head
+  pub count : length t.intervals ≡ length s.intervals
+  pub so_far : (i : ℕ) → (more : List ℕ) × (slice_index_or t.intervals i [] ≡ slice_index_or s.intervals i [] ++ more)
+  pub whole : (i : ℕ) → IsOver s i → interval_of t i ≡ interval_of s i
+  pub end : s.ended ≢ EndOfFile → t.ended ≡ s.ended
+
+-- a row of MCUs and its samples, of how many MCUs; how many MCUs of which interval stand before its next one, and where that
+-- starts: nowhere, where no further one of the interval is whole
+pub record ComingRowValue : Type 0 where
+  pub row : ℕ
+  pub done : ℕ
+  pub number : ℕ
+  pub mcu : ℕ
+  pub place : Option Place
+  pub samples : SampleRowValue
+
+-- this is the place behind so many MCUs of an interval; without a place it is over, and has no more whole ones
+abbrev pub ReadsTo : ScanValue → (number mcu : ℕ) → Option Place → Type 0
+ReadsTo s number mcu (Some p) = (zs : List (List ℤ)) × IsNext (interval_of s number) mcu zs p
+ReadsTo s number mcu None = IsOver s number × ((front : ℕ) × (zs : List (List ℤ)) × (front ≤ mcu) × LongestFront (interval_of s number) front zs)
+
+-- no further MCU of the interval is whole
+abbrev pub ReadsAll : ScanValue → (number mcu : ℕ) → Option Place → Type 0
+ReadsAll s number mcu (Some p) = HasLongestFront (interval_of s number) mcu
+ReadsAll s number mcu None = ⊤
+
+-- it stands at an MCU of a picture with this head
+pub record StandsIn (h : HeadValue) (v : ComingRowValue) : Type 0 where
+  pub row : v.row < mcus_down h
+  pub within : v.done ≤ mcus_across h
+  pub number : v.number < intervals_of h
+  pub few : v.mcu ≤ mcus_in h v.number
+  pub at : v.number * h.restart + v.mcu ≡ v.row * mcus_across h + v.done
+  pub room : HasSampleRoom h v.samples
+
+-- so far the row is that of whatever the scan may become
+pub record IsComing (s : ScanValue) (v : ComingRowValue) : Type 0 where
+  pub stands : StandsIn s.head v
+  pub begun : (i : ℕ) → i < v.number → IsOver s i
+  pub reads : ReadsTo s v.number v.mcu v.place
+  pub shows : (t : ScanValue) → Becomes s t → ShowsFirstUnits t (length t.intervals) (v.row * mcus_across t.head) v.done (units_in t.head v.samples.lines.groups)
