@@ -1,3 +1,5 @@
 pub mod Cuts
 pub mod Unstuffed
 pub mod CutLaw
+pub mod Segments
+pub mod OpenSegments

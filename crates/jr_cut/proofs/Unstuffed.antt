@@ -2,7 +2,7 @@
 use Rattle.std.proofs.Common.{◌≡◌, ◌≢◌, ℕ, zero, suc, ◌+◌, ◌-◌, ◌<◌, ◌≤◌, List, [], ◌∷◌, ◌++◌, length, map, take, drop, get_or, replicate, refl, sym, ap, subst, ◌∙◌, append_assoc, length-append, length-drop, add-one, arith}
 use Rattle.std.specs.List.{flat_map, All}
 use Rattle.std.proofs.lemmas.List.{append-nil, take_more, take-append-le, drop-append-le, get_or-drop, length-take-le, take_all, drop-drop, map_push}
-use Rattle.std.proofs.Math.Seq.{paste, drop-append_seam}
+use Rattle.std.proofs.Math.Seq.{paste, drop-append_seam, take-add}
 use Rattle.std.proofs.lemmas.List.Edits.{drop-paste}
 use Rattle.jr_base.specs.declared.marker.TheConstants.{PREFIX}
 use Rattle.jr_cut.specs.Cut.{Spelling, spelling, byte_spelled, IsRaw, IsStop}
@@ -168,3 +168,12 @@ left_in bytes rest slice at e es = ap length (es ∙ e) ∙ length-drop at bytes
 -- what is left of bytes behind what is read of them
 pub left_behind : (bytes now left : List ℕ) (at count : ℕ) → now ≡ drop at bytes → left ≡ drop count now → left ≡ drop (at + count) bytes
 left_behind bytes now left at count e behind = behind ∙ ap (drop count) e ∙ drop-drop count at bytes
+
+-- further FF bytes behind FF bytes
+pub fill_more : (xs : List ℕ) (at n m : ℕ) → take n (drop at xs) ≡ replicate n PREFIX → take m (drop (at + n) xs) ≡ replicate m PREFIX → take (n + m) (drop at xs) ≡ replicate (n + m) PREFIX
+fill_more xs at n m before behind =
+    take-add n m (drop at xs) ∙ ap (λ (l : List ℕ). l ++ take m (drop n (drop at xs))) before ∙ ap (λ (l : List ℕ). replicate n PREFIX ++ take m l) (drop-drop n at xs) ∙ ap (λ (l : List ℕ). replicate n PREFIX ++ l) behind ∙ joined n m
+  where
+    joined : (n m : ℕ) → replicate n PREFIX ++ replicate m PREFIX ≡ replicate (n + m) PREFIX
+    joined zero m = let z : 0 + m ≡ m = omega arith in ap (λ (k : ℕ). replicate k PREFIX) (sym z)
+    joined (suc n) m = let z : suc n + m ≡ suc (n + m) = omega arith in ap (λ (l : List ℕ). PREFIX ∷ l) (joined n m) ∙ ap (λ (k : ℕ). replicate k PREFIX) (sym z)

@@ -1,3 +1,5 @@
 pub mod Cut
+pub mod CutSoFar
+pub mod OpenSegments
 pub mod Spans
 pub mod UnstuffingValue

@@ -2,12 +2,16 @@
 #![tactic(auto)]
 
 mod coded_segments;
+mod cut_so_far;
 mod laws;
+mod open_segments;
 mod scan_end;
 mod span;
+mod stop;
 mod unstuff;
 
 pub use coded_segments::{CodedSegments, cut};
+pub use cut_so_far::CutSoFar;
 pub use laws::one_cut;
 pub use scan_end::ScanEnd;
 pub use span::Span;

@@ -1,16 +1,30 @@
 //! Data bytes without their stuffing, in the memory of what spells them (T.81, B.1.1.5 and F.1.2.3).
 
-ghost use Rattle.std.specs.Prelude.{◌≡◌, ◌≢◌, ℕ, ◌<◌, ◌≤◌, ◌++◌, ◌∷◌, [], length, take, drop, replicate, slice_index};
+ghost use Rattle.std.specs.Prelude.{◌≡◌, ◌≢◌, ℕ, ◌<◌, ◌≤◌, ◌++◌, ◌∷◌, [], length, take, drop, replicate, slice_index, IfOk, IfErr};
 ghost use Rattle.jr_base.specs.declared.marker.TheConstants.{PREFIX};
 ghost use Rattle.jr_cut.specs.Cut.{IsStop};
 ghost use Rattle.jr_cut.specs.Spans.{Unstuffs};
 
+use jr_base::Memory;
 use jr_base::marker::PREFIX;
 use memchr::memchr;
+use std::alloc::Global;
 use std::marker::Model;
 
+/// An offset, or the end of the bytes where it is past it.
+fn offset_in(bytes: &[u8], offset: u64) -> usize
+    ensures within { result ≤ length bytes.now }
+    ensures same { drop result bytes.now ≡ drop offset bytes.now }
+{
+    if offset < bytes.len() as u64 {
+        offset as usize
+    } else {
+        bytes.len()
+    }
+}
+
 /// How many bytes at the front are FF.
-pub(crate) fn fill_count(bytes: &[u8]) -> usize
+fn fill_count(bytes: &[u8]) -> usize
     ensures within { result ≤ length bytes.now }
     ensures full { take result bytes.now ≡ replicate result PREFIX }
     ensures next { result < length bytes.now → slice_index bytes.now result ≢ PREFIX }
@@ -46,31 +60,44 @@ pub struct Unstuffing {
     found: usize,
     /// Where the bytes begin that are not read yet.
     at: usize,
+    /// How many of them, from the first on, are known to be FF.
+    fill: usize,
 }
 
 impl Model for Unstuffing {
-    ghost use Rattle.std.specs.Prelude.{◌≤◌, length, take, drop};
+    ghost use Rattle.std.specs.Prelude.{◌≡◌, ◌+◌, ◌≤◌, length, take, drop, replicate};
+    ghost use Rattle.jr_base.specs.declared.marker.TheConstants.{PREFIX};
     ghost use Rattle.jr_cut.specs.UnstuffingValue.{UnstuffingValue};
 
     ghost Value = { UnstuffingValue };
 
     ghost view = { λ u. record { unstuffed = take u.found u.bytes.items; rest = drop u.at u.bytes.items } };
 
-    ghost invariant = { λ u. (u.found ≤ u.at) × (u.at ≤ length u.bytes.items) };
+    ghost invariant = { λ u. (u.found ≤ u.at) × (u.at + u.fill ≤ length u.bytes.items) × (take u.fill (drop u.at u.bytes.items) ≡ replicate u.fill PREFIX) };
 }
 
 impl Unstuffing {
-    /// The bytes from an offset on, of which none is read.
-    pub fn of(bytes: Vec<u8>, start: usize) -> Unstuffing
-        requires { start ≤ length bytes.items }
+    /// The bytes from an offset on, none where it is past their end. None of them is read yet.
+    pub fn of(bytes: Vec<u8>, offset: u64) -> Unstuffing
         ensures data { result.unstuffed ≡ [] }
-        ensures rest { result.rest ≡ drop start bytes.items }
+        ensures rest { result.rest ≡ drop offset bytes.items }
     {
+        let at = offset_in(&bytes, offset);
         Unstuffing {
             bytes,
             found: 0,
-            at: start,
+            at,
+            fill: 0,
         }
+    }
+
+    /// A copy of them.
+    pub fn copy_of(alloc: Global, bytes: &[u8], offset: u64) -> Result<Unstuffing, Memory>
+        ensures data { IfOk result (λ u. u.unstuffed ≡ []) }
+        ensures rest { IfOk result (λ u. u.rest ≡ drop offset bytes.now) }
+    {
+        let copied = bytes[offset_in(bytes, offset)..].to_vec(alloc)?;
+        Ok(Unstuffing::of(copied, 0))
     }
 
     /// How many bytes of data there are.
@@ -87,16 +114,31 @@ impl Unstuffing {
         &self.bytes[self.at..]
     }
 
+    /// How many of the bytes that are not read yet, from the first on, are FF. Those that were counted before are not counted again.
+    pub(crate) fn fill(&mut self) -> usize
+        ensures same { self.new ≡ self.old }
+        ensures within { result ≤ length self.old.rest }
+        ensures full { take result self.old.rest ≡ replicate result PREFIX }
+        ensures next { result < length self.old.rest → slice_index self.old.rest result ≢ PREFIX }
+    {
+        self.fill += fill_count(&self.bytes[self.at + self.fill..]);
+        self.fill
+    }
+
     /// Reads bytes that are data as they stand.
     fn keep(&mut self, count: usize)
         requires { count ≤ length self.old.rest }
         ensures data { self.new.unstuffed ≡ self.old.unstuffed ++ take count self.old.rest }
         ensures rest { self.new.rest ≡ drop count self.old.rest }
     {
+        if count == 0 {
+            return;
+        }
         let end = self.at + count;
         self.bytes.copy_within(self.at..end, self.found);
         self.found += count;
         self.at = end;
+        self.fill = 0;
     }
 
     /// Reads bytes that spell one byte.
@@ -109,6 +151,7 @@ impl Unstuffing {
         self.bytes[self.found] = byte;
         self.found += 1;
         self.at += count;
+        self.fill = 0;
     }
 
     /// Reads bytes that are no data.
@@ -118,6 +161,7 @@ impl Unstuffing {
         ensures rest { self.new.rest ≡ drop count self.old.rest }
     {
         self.at += count;
+        self.fill = 0;
     }
 
     /// Reads the bytes that spell data, up to a marker or the end, and tells how many they are.
@@ -134,7 +178,7 @@ impl Unstuffing {
             let count = plain(self.rest());
             self.keep(count);
             at += count;
-            let next = fill_count(self.rest());
+            let next = self.fill();
             if next >= self.rest().len() || self.rest()[next] != 0 {
                 return at;
             }
@@ -143,7 +187,24 @@ impl Unstuffing {
         }
     }
 
+    /// Takes more bytes behind those that are not read yet. Where memory is refused it takes none.
+    pub(crate) fn extend(&mut self, more: &[u8]) -> Result<(), Memory>
+        ensures data { self.new.unstuffed ≡ self.old.unstuffed }
+        ensures rest { IfOk result (λ _. self.new.rest ≡ self.old.rest ++ more.now) }
+        ensures memory { IfErr result (λ _. self.new ≡ self.old) }
+    {
+        self.bytes.extend_from_slice(more)?;
+        Ok(())
+    }
+
     /// The data.
+    pub(crate) fn data(&self) -> &[u8]
+        ensures { result.now ≡ self.now.unstuffed }
+    {
+        &self.bytes[..self.found]
+    }
+
+    /// The data, in the memory of the bytes.
     pub(crate) fn into_data(self) -> Vec<u8>
         ensures { result.items ≡ self.unstuffed }
     {

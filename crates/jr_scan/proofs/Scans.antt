@@ -1,31 +1,69 @@
 -- A scan's intervals, their number and their MCUs.
-use Rattle.std.proofs.Common.{◌≡◌, ℕ, ◌-◌, ◌≤◌, List, [], ◌++◌, length, map, drop, replicate, refl, sym, ap, subst, ◌∙◌, arith}
-use Rattle.std.proofs.lemmas.List.{length-map}
+use Rattle.std.proofs.Common.{◌≡◌, ℕ, zero, suc, ◌+◌, ◌-◌, ◌≤◌, List, [], ◌∷◌, ◌++◌, get_or, length-append, length, map, drop, replicate, refl, sym, ap, subst, ◌∙◌, arith}
+use Rattle.std.proofs.lemmas.List.{length-map, drop-append-le}
 use Rattle.jr_head.specs.HeadValue.{HeadValue}
 use Rattle.jr_cut.specs.declared.scan_end.ScanEnd.{ScanEnd}
 use Rattle.jr_cut.specs.Cut.{CodedSegment, IsCut}
 use Rattle.jr_cut.specs.declared.span.Span.{Span}
 use Rattle.jr_cut.specs.Spans.{segment_data}
 use Rattle.jr_scan.specs.IntervalValue.{IntervalValue}
-use Rattle.jr_scan.specs.ScanValue.{intervals_of, IsScanOf}
+use Rattle.jr_scan.specs.ScanValue.{ScanValue, intervals_of, scan_of_segments, IsScanOf}
+use Rattle.jr_scan.specs.GrowingScan.{HasCome, IsLatest, growing_scan}
+use Rattle.jr_cut.specs.CutSoFar.{CutSoFarValue, HasCut, IsLatestOf}
+use Rattle.jr_cut.proofs.OpenSegments.{has_cut_is_cut}
 
 pub cut_few : (n at : ℕ) (bytes : List ℕ) (datas : List (List ℕ)) (end : ScanEnd) → IsCut n at bytes datas end → length datas ≤ n
 cut_few n at bytes datas end c = omega (arith, ap length c.means, length-map c.segments (λ (p : CodedSegment). p.bytes), c.few)
 
--- a scan that is kept as spans of unstuffed bytes
-pub scan_of : (h h' : HeadValue) (file bytes unstuffed unstuffed' : List ℕ) (spans : List Span) (n at : ℕ) (end : ScanEnd) → h' ≡ h → unstuffed' ≡ unstuffed → n ≡ intervals_of h → at ≡ h.scan_at → bytes ≡ drop at file
-    → IsCut n at bytes (map (segment_data unstuffed) spans) end → IsScanOf file (record { head = h'; intervals = map (segment_data unstuffed') spans ++ replicate (n - length spans) []; ended = end })
-scan_of h h' file bytes unstuffed unstuffed' spans n at end eh eu en ea eb c =
-    let c1 = subst (λ (xs : List ℕ). IsCut n at bytes (map (segment_data xs) spans) end) (sym eu) c in
-    let c2 = subst (λ (xs : List ℕ). IsCut n at xs (map (segment_data unstuffed') spans) end) (eb ∙ ap (λ (k : ℕ). drop k file) ea) c1 in
-    let c3 = subst (λ (k : ℕ). IsCut n k (drop h.scan_at file) (map (segment_data unstuffed') spans) end) ea c2 in
-    let c4 = subst (λ (k : ℕ). IsCut k h.scan_at (drop h.scan_at file) (map (segment_data unstuffed') spans) end) en c3 in
-    let c5 = subst (λ (g : HeadValue). IsCut (intervals_of g) g.scan_at (drop g.scan_at file) (map (segment_data unstuffed') spans) end) (sym eh) c4 in
-    let count : length (map (segment_data unstuffed') spans) ≡ length spans = length-map spans (segment_data unstuffed') in
+-- a scan is its segments
+pub is_scan : (h : HeadValue) (file bytes : List ℕ) (segments : List (List ℕ)) (n at : ℕ) (end : ScanEnd) → n ≡ intervals_of h → at ≡ h.scan_at → bytes ≡ drop h.scan_at file
+    → IsCut n at bytes segments end → IsScanOf file (scan_of_segments h segments end)
+is_scan h file bytes segments n at end en ea eb c =
+    let c1 = subst (λ (xs : List ℕ). IsCut n at xs segments end) eb c in
+    let c2 = subst (λ (k : ℕ). IsCut n k (drop h.scan_at file) segments end) ea c1 in
+    let c3 = subst (λ (k : ℕ). IsCut k h.scan_at (drop h.scan_at file) segments end) en c2 in
+    record { segments = segments; cut = c3; intervals = refl }
+
+-- the same, as it is kept
+pub kept_scan : (h h' : HeadValue) (unstuffed unstuffed' : List ℕ) (spans : List Span) (n : ℕ) (end : ScanEnd) → h' ≡ h → unstuffed' ≡ unstuffed → n ≡ intervals_of h
+    → ◌≡◌ {A = ScanValue} (record { head = h'; intervals = map (segment_data unstuffed') spans ++ replicate (n - length spans) []; ended = end }) (scan_of_segments h (map (segment_data unstuffed) spans) end)
+kept_scan h h' unstuffed unstuffed' spans n end eh eu en =
+    let count : length (map (segment_data unstuffed) spans) ≡ length spans = length-map spans (segment_data unstuffed) in
+    ap (λ (g : HeadValue). record { head = g; intervals = map (segment_data unstuffed') spans ++ replicate (n - length spans) []; ended = end }) eh
+    ∙ ap (λ (x : List ℕ). record { head = h; intervals = map (segment_data x) spans ++ replicate (n - length spans) []; ended = end }) eu
+    ∙ ap (λ (k : ℕ). record { head = h; intervals = map (segment_data unstuffed) spans ++ replicate (k - length spans) []; ended = end }) en
+    ∙ ap (λ (k : ℕ). record { head = h; intervals = map (segment_data unstuffed) spans ++ replicate (intervals_of h - k) []; ended = end }) (sym count)
+
+-- intervals that have no segment have no data
+pub padded_at : (segments : List (List ℕ)) (n i : ℕ) → get_or (segments ++ replicate n []) i [] ≡ get_or segments i []
+padded_at [] n i = none n i
+  where
+    none : (n i : ℕ) → get_or (replicate {A = List ℕ} n []) i [] ≡ get_or {A = List ℕ} [] i []
+    none zero i = refl
+    none (suc n) zero = refl
+    none (suc n) (suc i) = none n i
+padded_at (s ∷ ss) n zero = refl
+padded_at (s ∷ ss) n (suc i) = padded_at ss n i
+
+pub latest_of : (h : HeadValue) (segments : List (List ℕ)) (end : ScanEnd) (i : ℕ) → IsLatestOf segments i → IsLatest (scan_of_segments h segments end) i
+latest_of h segments end i l =
+    let n = intervals_of h - length segments in
     record {
-      segments = map (segment_data unstuffed') spans;
-      cut = c5;
-      intervals = ap (λ (k : ℕ). map (segment_data unstuffed') spans ++ replicate (k - length spans) []) (en ∙ ap intervals_of (sym eh)) ∙ ap (λ (k : ℕ). map (segment_data unstuffed') spans ++ replicate (intervals_of h' - k) []) (sym count);
+      some = λ lt e. l.some lt (sym (padded_at segments n i) ∙ e);
+      none = λ j lt. padded_at segments n j ∙ l.none j lt;
+    }
+
+-- more bytes have come
+pub come_more : (h : HeadValue) (old new : CutSoFarValue) (bytes more : List ℕ) → new.intervals ≡ intervals_of h → new.at + length new.rest ≤ old.at + length old.rest + length more
+    → ((start : ℕ) (xs : List ℕ) → HasCut start xs old → HasCut start (xs ++ more) new) → HasCome (growing_scan h old) bytes → HasCome (growing_scan h new) (bytes ++ more)
+come_more h old new bytes more en few on come =
+    let behind : drop h.scan_at (bytes ++ more) ≡ drop h.scan_at bytes ++ more = drop-append-le h.scan_at bytes more come.starts in
+    let cut : HasCut h.scan_at (drop h.scan_at (bytes ++ more)) new = subst (λ (xs : List ℕ). HasCut h.scan_at xs new) (sym behind) (on h.scan_at (drop h.scan_at bytes) come.cut) in
+    record {
+      starts = omega (arith, come.starts, length-append bytes more);
+      few = omega (arith, come.few, few, length-append bytes more);
+      cut = cut;
+      scan = is_scan h (bytes ++ more) (drop h.scan_at (bytes ++ more)) new.segments new.intervals h.scan_at new.ended en refl refl (has_cut_is_cut h.scan_at (drop h.scan_at (bytes ++ more)) new cut);
     }
 
 -- an interval is its four parts

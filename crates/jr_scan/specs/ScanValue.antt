@@ -12,6 +12,10 @@ pub record ScanValue : Type 0 where
   pub intervals : List (List ℕ)
   pub ended : ScanEnd
 
+-- the scan of a head that is cut into these segments; further intervals have no data
+abbrev pub scan_of_segments : HeadValue → List (List ℕ) → ScanEnd → ScanValue
+scan_of_segments h segments end = record { head = h; intervals = segments ++ replicate (intervals_of h - length segments) []; ended = end }
+
 abbrev pub interval_of : ScanValue → ℕ → IntervalValue
 interval_of s i = record { number = i; mcus = mcus_in s.head i; bytes = slice_index_or s.intervals i []; head = s.head }
 

@@ -2,6 +2,7 @@
 #![tactic(auto)]
 
 mod front;
+mod growing_scan;
 mod guess;
 mod guessed;
 mod guesses;
@@ -14,6 +15,7 @@ mod scan;
 mod taking_over;
 
 pub use front::FrontBlocks;
+pub use growing_scan::GrowingScan;
 pub use guess::Guess;
 pub use guesses::Guesses;
 pub use interval::{Block, Interval};

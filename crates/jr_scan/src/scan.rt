@@ -1,11 +1,12 @@
 //! A scan, cut into its restart intervals.
 
-ghost use Rattle.std.specs.Prelude.{◌≡◌, ◌↔◌, ◌<◌, ◌≤◌, ◌^◌, ℕ, List, length, drop, IsTrue, IfOk, slice_index_or, []};
+ghost use Rattle.std.specs.Prelude.{◌≡◌, ◌↔◌, ◌<◌, ◌≤◌, ◌^◌, ℕ, List, length, drop, map, IsTrue, IfOk, slice_index_or, []};
+ghost use Rattle.std.specs.List.{All};
 
 use crate::interval::Interval;
 use crate::interval_ref::IntervalRef;
 use jr_code::Memory;
-use jr_cut::{ScanEnd, Span, Unstuffing, cut};
+use jr_cut::{CodedSegments, ScanEnd, Span, Unstuffing, cut};
 use jr_head::Head;
 use std::alloc::Global;
 use std::marker::Model;
@@ -35,28 +36,10 @@ impl Model for Scan {
     ghost invariant = { λ s. All (IsSpanOf (arc_value s.unstuffed).items) s.spans.items × (length s.spans.items ≤ s.intervals) × (s.intervals ≡ intervals_of (arc_value s.head)) × (0 < s.intervals) × (length (arc_value s.unstuffed).items < 2 ^ 61) };
 }
 
-/// An offset, or the end of the bytes where it is past it.
-fn offset_in(bytes: &[u8], offset: u64) -> usize
-    ensures within { result ≤ length bytes.now }
-    ensures same { drop result bytes.now ≡ drop offset bytes.now }
-{
-    if offset < bytes.len() as u64 {
-        offset as usize
-    } else {
-        bytes.len()
-    }
-}
-
-/// The bytes from an offset on, none where it is past the end.
-fn behind(bytes: &[u8], offset: u64) -> &[u8]
-    ensures { result.now ≡ drop offset bytes.now }
-{
-    &bytes[offset_in(bytes, offset)..]
-}
-
 impl Scan {
     ghost use Rattle.jr_head.specs.Geometry.{IsLawful};
-    ghost use Rattle.jr_scan.specs.ScanValue.{intervals_of, interval_of, IsScanOf, IsSameScan, HasInterval};
+    ghost use Rattle.jr_cut.specs.Spans.{segment_data, IsSpanOf};
+    ghost use Rattle.jr_scan.specs.ScanValue.{intervals_of, interval_of, scan_of_segments, IsScanOf, IsSameScan, HasInterval};
 
     /// Cuts the scan of a file, of which this is the head. Where the scan starts past the end of the file it has no
     /// bytes.
@@ -65,8 +48,8 @@ impl Scan {
         ensures head { IfOk result (λ s. s.head ≡ head) }
         ensures cut { IfOk result (λ s. IsScanOf bytes.now s) }
     {
-        let scan = behind(bytes, head.scan_at()).to_vec(alloc)?;
-        Scan::of(alloc, head, Unstuffing::of(scan, 0))
+        let scan = Unstuffing::copy_of(alloc, bytes, head.scan_at())?;
+        Scan::of(alloc, head, scan)
     }
 
     /// `cut` in the memory of the file's bytes.
@@ -75,8 +58,8 @@ impl Scan {
         ensures head { IfOk result (λ s. s.head ≡ head) }
         ensures cut { IfOk result (λ s. IsScanOf bytes.items s) }
     {
-        let start = offset_in(&bytes, head.scan_at());
-        Scan::of(alloc, head, Unstuffing::of(bytes, start))
+        let scan = Unstuffing::of(bytes, head.scan_at());
+        Scan::of(alloc, head, scan)
     }
 
     /// Cuts the bytes of a scan, of which none is read.
@@ -86,8 +69,22 @@ impl Scan {
         ensures head { IfOk result (λ s. s.head ≡ head) }
         ensures cut { IfOk result (λ s. (file : List ℕ) → scan.rest ≡ drop head.scan_at file → IsScanOf file s) }
     {
+        let segments = cut(alloc, head.intervals(), head.scan_at(), scan)?;
+        Scan::of_segments(alloc, head, segments)
+    }
+
+    /// The scan of a head that is cut into these segments.
+    pub(crate) fn of_segments(
+        alloc: Global,
+        head: Head,
+        segments: CodedSegments,
+    ) -> Result<Scan, Memory>
+        requires within { All (IsSpanOf segments.unstuffed.items) segments.spans.items }
+        requires count { length segments.spans.items ≤ intervals_of head }
+        requires few { length segments.unstuffed.items < 2 ^ 61 }
+        ensures { IfOk result (λ s. s ≡ scan_of_segments head (map (segment_data segments.unstuffed.items) segments.spans.items) segments.ended) }
+    {
         let intervals = head.intervals();
-        let segments = cut(alloc, intervals, head.scan_at(), scan)?;
         Ok(Scan {
             head: Arc::new(alloc, head)?,
             unstuffed: Arc::new(alloc, segments.unstuffed)?,

@@ -1,7 +1,7 @@
 use Rattle.std.proofs.Common.{◌≡◌, ◌+◌, ◌-◌, refl, subst, arith}
 use Rattle.jr_base.specs.declared.marker.TheConstants.{RST0}
 use Rattle.jr_cut.specs.Cut.{HasMarker}
-use Rattle.jr_cut.proofs.coded_segments.end_at.Goals as goal
+use Rattle.jr_cut.proofs.stop.end_at.Goals as goal
 
 pub returns-then-k-intervals-clause-ended : goal.returns-then-k-intervals-clause-ended
 returns-then-k-intervals-clause-ended c = λ tail m.

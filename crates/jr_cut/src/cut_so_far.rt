@@ -1,0 +1,157 @@
+//! The bytes of a scan that have come so far, cut as far as they go.
+
+ghost use Rattle.std.specs.Prelude.{◌≡◌, ℕ, ◌+◌, ◌<◌, ◌≤◌, ◌^◌, List, [], ◌++◌, length, map, slice_index_or, IfOk, IfErr};
+ghost use Rattle.std.specs.List.{All};
+ghost use Rattle.jr_cut.specs.CutSoFar.{HasCut, IsLatestOf};
+ghost use Rattle.jr_cut.specs.Spans.{segment_data, IsSpanOf};
+
+use crate::coded_segments::CodedSegments;
+use crate::open_segments::OpenSegments;
+use crate::scan_end::ScanEnd;
+use crate::span::Span;
+use crate::unstuff::Unstuffing;
+use jr_base::Memory;
+use std::alloc::Global;
+use std::marker::Model;
+
+/// The bytes of a scan that have come so far, cut as far as they go. While no marker has ended the scan its last segment is open:
+/// more bytes go on from there, and what was unstuffed stays where it is.
+#[derive(Drop)]
+pub struct CutSoFar {
+    segments: OpenSegments,
+    ended: ScanEnd,
+}
+
+impl Model for CutSoFar {
+    ghost use Rattle.jr_cut.specs.CutSoFar.{CutSoFarValue};
+    ghost use Rattle.jr_cut.specs.OpenSegments.{AreOpen, cut_of};
+
+    ghost Value = { CutSoFarValue };
+
+    ghost view = { λ c. cut_of c.segments c.ended };
+
+    ghost invariant = { λ c. AreOpen c.segments };
+}
+
+impl CutSoFar {
+    /// Cuts the bytes of a scan that have come so far, of which none is read, and the first stands at an offset of the file.
+    pub fn of(
+        alloc: Global,
+        intervals: u32,
+        start: u64,
+        scan: Unstuffing,
+    ) -> Result<CutSoFar, Memory>
+        requires some { 0 < intervals }
+        requires fits { start + length scan.rest < 2 ^ 64 }
+        requires unread { scan.unstuffed ≡ [] }
+        ensures intervals { IfOk result (λ c. c.intervals ≡ intervals) }
+        ensures cut { IfOk result (λ c. HasCut start scan.rest c) }
+        ensures count { IfOk result (λ c. length c.segments ≤ c.intervals) }
+        ensures data { IfOk result (λ c. start + length c.unstuffed ≤ c.at) }
+        ensures all { IfOk result (λ c. c.at + length c.rest ≡ start + length scan.rest) }
+    {
+        let mut segments = OpenSegments {
+            bytes: scan,
+            spans: Vec::new(alloc),
+            begin: 0,
+            latest: 0,
+            intervals,
+            at: start,
+        };
+        let ended = segments.read_on()?;
+        Ok(CutSoFar { segments, ended })
+    }
+
+    /// More bytes of the scan have come. Behind a marker that has ended it they change nothing. Where memory is refused none of
+    /// them is taken.
+    pub fn push(&mut self, more: &[u8]) -> Result<(), Memory>
+        requires { self.old.at + length self.old.rest + length more.now < 2 ^ 64 }
+        ensures intervals { self.new.intervals ≡ self.old.intervals }
+        ensures count { length self.new.segments ≤ self.new.intervals }
+        ensures pushed { IfOk result (λ _. (start : ℕ) (bytes : List ℕ) → HasCut start bytes self.old → HasCut start (bytes ++ more.now) self.new) }
+        ensures few { self.new.at + length self.new.rest ≤ self.old.at + length self.old.rest + length more.now }
+        ensures data { length self.new.unstuffed + self.old.at ≤ length self.old.unstuffed + self.new.at }
+        ensures memory { IfErr result (λ _. self.new ≡ self.old) }
+    {
+        if self.ended != ScanEnd::EndOfFile {
+            return Ok(());
+        }
+        self.segments.take(more)?;
+        self.ended = self.segments.read_on()?;
+        Ok(())
+    }
+
+    /// How many segments the scan has at most.
+    pub fn intervals(&self) -> u32
+        ensures value { result ≡ self.now.intervals }
+        ensures some { 0 < result }
+    {
+        self.segments.intervals
+    }
+
+    /// What has ended the scan; the end of the file while no marker has.
+    pub fn ended(&self) -> ScanEnd
+        ensures { result ≡ self.now.ended }
+    {
+        self.ended
+    }
+
+    /// The last segment that has data, the first one where none has.
+    pub fn latest(&self) -> u32
+        ensures value { result ≡ self.now.latest }
+        ensures latest { IsLatestOf self.now.segments result }
+    {
+        self.segments.latest
+    }
+
+    /// The data of segment i, without stuffing; none where it has not begun.
+    pub fn data(&self, i: u32) -> &[u8]
+        ensures bytes { result.now ≡ slice_index_or self.now.segments i [] }
+        ensures few { length result.now ≤ length self.now.unstuffed }
+    {
+        let span = self.span(i as usize);
+        &self.segments.bytes.data()[span.start..span.end]
+    }
+
+    /// Where they stand in the unstuffed bytes.
+    fn span(&self, i: usize) -> Span
+        ensures within { IsSpanOf self.now.unstuffed result }
+        ensures bytes { segment_data self.now.unstuffed result ≡ slice_index_or self.now.segments i [] }
+    {
+        let ended = &self.segments.spans;
+        if i < ended.len() {
+            return ended[i];
+        }
+        let end = self.segments.bytes.len();
+        let start = if i == ended.len() {
+            self.segments.begin
+        } else {
+            end
+        };
+        Span { start, end }
+    }
+
+    /// The segments; nothing more comes.
+    pub fn into_segments(self) -> Result<CodedSegments, Memory>
+        ensures segments { IfOk result (λ p. map (segment_data p.unstuffed.items) p.spans.items ≡ self.segments) }
+        ensures within { IfOk result (λ p. All (IsSpanOf p.unstuffed.items) p.spans.items) }
+        ensures unstuffed { IfOk result (λ p. p.unstuffed.items ≡ self.unstuffed) }
+        ensures ended { IfOk result (λ p. p.ended ≡ self.ended) }
+    {
+        let OpenSegments {
+            bytes,
+            mut spans,
+            begin,
+            ..
+        } = self.segments;
+        spans.push(Span {
+            start: begin,
+            end: bytes.len(),
+        })?;
+        Ok(CodedSegments {
+            unstuffed: bytes.into_data(),
+            spans,
+            ended: self.ended,
+        })
+    }
+}
