@@ -5,5 +5,4 @@ pub mod ScansGoOn
 pub mod RunsGoOn
 pub mod LinesStay
 pub mod SettledRows
-pub mod FinalLines
 pub mod Readings

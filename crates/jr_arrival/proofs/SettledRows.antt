@@ -13,7 +13,8 @@ use Rattle.jr_cut.specs.declared.scan_end.ScanEnd.TheVariants.{EndOfFile}
 use Rattle.jr_scan.specs.ScanValue.{ScanValue, IsScanOf, interval_of, intervals_of}
 use Rattle.jr_scan.specs.Mcus.{Front, HasLongestFront}
 use Rattle.jr_arrival.specs.Growing.{HasEndedAt, IsSettled, RowIsSettled}
-use Rattle.jr_arrival.specs.Settled.{IsLatest, HasRows, SettlesRows}
+use Rattle.jr_scan.specs.GrowingScan.{IsLatest}
+use Rattle.jr_arrival.specs.Settled.{HasRows, SettlesRows}
 use Rattle.jr_arrival.proofs.ScansGoOn.{data_at}
 use Rattle.jr_arrival.proofs.LinesStay.{div_below}
 

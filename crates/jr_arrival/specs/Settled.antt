@@ -6,6 +6,7 @@ use Rattle.jr_head.specs.Heads.{RefusalOf}
 use Rattle.jr_head.specs.Intervals.{first_mcu_of}
 use Rattle.jr_paint.specs.Lines.{line_size, next_lines_of}
 use Rattle.jr_cut.specs.declared.scan_end.ScanEnd.TheVariants.{EndOfFile}
+use Rattle.jr_scan.specs.GrowingScan.{IsLatest}
 use Rattle.jr_scan.specs.Mcus.{HasLongestFront}
 use Rattle.jr_scan.specs.ScanValue.{ScanValue, interval_of}
 use Rattle.jr_picture.specs.declared.mark.Mark.{Mark}
@@ -16,11 +17,6 @@ use Rattle.jr_arrival.specs.Growing.{HasScan, RowIsSettled}
 -- the bytes' refusal says that some are missing
 abbrev pub WantsMore : List ℕ → Type 0
 WantsMore bytes = RefusalOf bytes EndsEarly ⊎ (RefusalOf bytes NotJpeg × (length bytes < 2))
-
--- the last interval that has data, the first one where none has
-pub record IsLatest (s : ScanValue) (i : ℕ) : Type 0 where
-  pub some : 0 < i → slice_index_or s.intervals i [] ≢ []
-  pub none : (j : ℕ) → i < j → slice_index_or s.intervals j [] ≡ []
 
 -- so many rows of MCUs, from the first on, are there: all where a marker has ended the scan, else those whose MCUs stand before the
 -- end of the whole ones of the interval that has come last

@@ -113,6 +113,7 @@ impl SampleRow {
         requires inside { y + count ≤ head.now.height }
         requires pixels { length pixels.old ≡ count * line_size head.now }
         ensures room { HasSampleRoom head.now self.new }
+        ensures kept { self.new.lines ≡ self.old.lines }
         ensures lines { pixels.new ≡ next_lines_of head.now (samples_in (record { head = head.now; groups = self.old.lines.groups })) y count }
     {
         let band = Band::of(head, &self.lines);
