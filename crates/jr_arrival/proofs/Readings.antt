@@ -36,10 +36,11 @@ use Rattle.jr_picture.specs.Samples.{samples_of}
 use Rattle.jr_rows.specs.Bands.{ShowsMcus, samples_in, unit_shown, unit_shown_of}
 use Rattle.jr_rows.specs.Groups.{units_in}
 use Rattle.jr_rows.specs.Rows.{HasFirst, HasSampleRoom, ShowsBehind, ShowsFirstUnits, first_line, line_count}
+use Rattle.jr_rows.specs.RowLinesValue.{RowLinesValue}
 use Rattle.jr_rows.specs.RowsValue.{SampleRowValue}
 use Rattle.jr_rows.proofs.GroupLists.{units_long}
 use Rattle.jr_rows.proofs.PaintedRows.{row_painted}
-use Rattle.jr_rows.proofs.IntervalPlaces.{interval_at, next_there}
+use Rattle.jr_rows.proofs.IntervalPlaces.{interval_at, mcus_in_some, next_there}
 use Rattle.jr_rows.proofs.PictureRows.{row_inside}
 use Rattle.jr_rows.proofs.ReadRows.{posted_there, shown_more}
 use Rattle.jr_arrival.specs.Growing.{with_more}
@@ -247,21 +248,28 @@ module _ (s : ScanValue) (v : ComingRowValue) (lawful : IsLawful s.head) (some :
     pub step_grey : IsComing s (record { row = v.row; done = v.done + n; number = v.number; mcu = v.mcu + n; place = None; samples = w; lines = v.lines })
     step_grey = step n None w within few room (over, (front, zs, omega (arith, far), longest)) kept codes_grey
 
-  started_next : ReadsTo s (v.number + 1) 0 (Some start_of_interval)
-  started_next = at_the_start (interval_of s (v.number + 1))
+started_next : (s : ScanValue) (v : ComingRowValue) → ReadsTo s (v.number + 1) 0 (Some start_of_interval)
+started_next s v = at_the_start (interval_of s (v.number + 1))
 
-  -- on to the next interval
-  pub step_next : 0 < mcus_in s.head v.number → IsOver s v.number → v.mcu ≡ mcus_in s.head v.number → v.done < mcus_across s.head
-      → IsComing s (record { row = v.row; done = v.done; number = v.number + 1; mcu = 0; place = Some start_of_interval; samples = v.samples; lines = v.lines })
-  step_next positive over all more =
-      let next = next_there s.head v.number v.mcu c.stands.number all (omega (arith, c.stands.at, more, row_inside s.head v.row c.stands.row)) in
-      record {
-        stands = record { row = c.stands.row; within = c.stands.within; number = next.0; few = omega arith; at = omega (arith, next.1, c.stands.at); room = c.stands.room };
-        given = record { from = c.given.from; to = c.given.to; none = c.given.none; left = c.given.left };
-        begun = λ j lt. elim (cases_lt j v.number) [ inl l ↦ c.begun j l | inr g ↦ subst (λ (k : ℕ). IsOver s k) {x = v.number} {y = j} (omega (arith, g, lt)) over ];
-        reads = started_next;
-        shows = c.shows;
-      }
+-- on to the next interval
+pub step_next : (s : ScanValue) (v : ComingRowValue) → IsComing s v → IsOver s v.number → v.mcu ≡ mcus_in s.head v.number → v.done < mcus_across s.head
+    → IsComing s (record { row = v.row; done = v.done; number = v.number + 1; mcu = 0; place = Some start_of_interval; samples = v.samples; lines = v.lines })
+step_next s v c over all more =
+    let next = next_there s.head v.number v.mcu c.stands.number all (omega (arith, c.stands.at, more, row_inside s.head v.row c.stands.row)) in
+    record {
+      stands = record { row = c.stands.row; within = c.stands.within; number = next.0; few = omega arith; at = omega (arith, next.1, c.stands.at); room = c.stands.room };
+      given = record { from = c.given.from; to = c.given.to; none = c.given.none; left = c.given.left };
+      begun = λ j lt. elim (cases_lt j v.number) [ inl l ↦ c.begun j l | inr g ↦ subst (λ (k : ℕ). IsOver s k) {x = v.number} {y = j} (omega (arith, g, lt)) over ];
+      reads = started_next s v;
+      shows = c.shows;
+    }
+
+-- which has an MCU
+pub next_inside : (s : ScanValue) (v : ComingRowValue) → IsComing s v → v.mcu ≡ mcus_in s.head v.number → v.done < mcus_across s.head → 0 < mcus_in s.head (v.number + 1)
+next_inside s v c all more =
+    let inside = row_inside s.head v.row c.stands.row in
+    let next = next_there s.head v.number v.mcu c.stands.number all (omega (arith, c.stands.at, more, inside)) in
+    mcus_in_some s.head (v.number + 1) (omega (arith, more, inside)) next.0
 
 -- ---- where the reading ends
 
@@ -293,13 +301,13 @@ far_front s number mcu None r all = r.1
 -- ---- a row of MCUs
 
 -- on to the next one
-pub step_row : (s : ScanValue) (v : ComingRowValue) → IsComing s v → 0 < vertical_max s.head → v.done ≡ mcus_across s.head → v.lines ≡ first_line s.head v.row + line_count s.head v.row → v.lines < s.head.height
-    → IsComing s (record { row = v.row + 1; done = 0; number = v.number; mcu = v.mcu; place = v.place; samples = v.samples; lines = v.lines })
-step_row s v c some whole given more =
+pub step_row : (s : ScanValue) (v : ComingRowValue) → IsComing s v → 0 < vertical_max s.head → v.done ≡ mcus_across s.head → (lines : ℕ) → lines ≡ first_line s.head v.row + line_count s.head v.row → lines < s.head.height
+    → IsComing s (record { row = v.row + 1; done = 0; number = v.number; mcu = v.mcu; place = v.place; samples = v.samples; lines = lines })
+step_row s v c some whole lines given more =
     let deep = 8 * vertical_max s.head in
     let positive : 0 < deep = omega (arith, some) in
     let next : (v.row + 1) * deep ≡ v.row * deep + deep = omega (arith, add-mul v.row 1 deep) in
-    let at : v.lines ≡ (v.row + 1) * deep = omega (arith, given, more, next) in
+    let at : lines ≡ (v.row + 1) * deep = omega (arith, given, more, next) in
     let across : (v.row + 1) * mcus_across s.head ≡ v.row * mcus_across s.head + mcus_across s.head = omega (arith, add-mul v.row 1 (mcus_across s.head)) in
     record {
       stands = record {
@@ -375,3 +383,14 @@ begins_coming s v b down some high deep =
   where
     started : ReadsTo s v.number 0 (Some start_of_interval)
     started = at_the_start (interval_of s v.number)
+
+-- what is read of a row does not hang on what else its memory holds
+pub same_lines : (s : ScanValue) (v : ComingRowValue) (w : SampleRowValue) → IsComing s v → w.lines ≡ v.samples.lines → HasSampleRoom s.head w
+    → IsComing s (record { row = v.row; done = v.done; number = v.number; mcu = v.mcu; place = v.place; samples = w; lines = v.lines })
+same_lines s v w c same room = record {
+  stands = record { row = c.stands.row; within = c.stands.within; number = c.stands.number; few = c.stands.few; at = c.stands.at; room = room };
+  given = record { from = c.given.from; to = c.given.to; none = c.given.none; left = c.given.left };
+  begun = c.begun;
+  reads = c.reads;
+  shows = λ t b. subst (λ (l : RowLinesValue). ShowsFirstUnits t (length t.intervals) (v.row * mcus_across t.head) v.done (units_in t.head l.groups)) (sym same) (c.shows t b);
+}

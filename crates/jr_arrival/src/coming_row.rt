@@ -133,9 +133,10 @@ impl ComingRow {
         ensures lines { self.new.lines ≡ self.old.lines }
         ensures all { result ≡ 0 → ReadsAll scan.now.scan self.new.number self.new.mcu self.new.place }
     {
-        // By its contract there is room for the numbers of a row's MCUs.
+        // By their contracts there is room for the numbers of a row's MCUs and of all intervals, and an MCU has a data unit.
         let _few = shape_of(scan.head());
         let _most = scan.intervals();
+        let _some = scan.head().order().len();
         let Some(place) = self.place else {
             return 0;
         };
@@ -162,8 +163,10 @@ impl ComingRow {
         ensures done { self.old.done < self.new.done }
         ensures lines { self.new.lines ≡ self.old.lines }
     {
+        // By their contracts there is room for the numbers of all intervals, and an MCU has a data unit.
         let head = scan.head();
         let _most = scan.intervals();
+        let _some = head.order().len();
         let left = head.mcus_in(self.number) - self.mcu;
         let some = left.min(shape_of(head).across - self.done);
         let grey = self.samples.put_grey(head, self.done, some);
@@ -232,27 +235,30 @@ impl ComingRow {
         self.done = 0;
     }
 
-    /// Paints the next lines of the row, which is whole, as many as it has and as are asked for: answers how many.
-    fn paint_some(&mut self, scan: &GrowingScan, most: u32, pixels: &mut [u8]) -> u32
+    /// How many lines of the row are not given yet.
+    fn lines_left(&self, scan: &GrowingScan) -> u32
+        requires { IsComing scan.now.scan self.now }
+        ensures { self.now.lines + result ≡ first_line scan.now.scan.head self.now.row + line_count scan.now.scan.head self.now.row }
+    {
+        let (first, count) = lines_of(scan.head(), self.row);
+        first + count - self.lines
+    }
+
+    /// Paints the next lines of the row, which is whole.
+    fn paint(&mut self, scan: &GrowingScan, count: u32, pixels: &mut [u8])
         requires coming { IsComing scan.now.scan self.old }
         requires whole { self.old.done ≡ mcus_across scan.now.scan.head }
-        requires some { 0 < most }
-        requires inside { self.old.lines + most ≤ scan.now.scan.head.height }
-        requires room { most * line_size scan.now.scan.head ≤ length pixels.old }
+        requires inside { self.old.lines + count ≤ first_line scan.now.scan.head self.old.row + line_count scan.now.scan.head self.old.row }
+        requires room { length pixels.old ≡ count * line_size scan.now.scan.head }
         ensures coming { IsComing scan.now.scan self.new }
-        ensures some { 0 < result }
-        ensures few { result ≤ most }
-        ensures lines { self.new.lines ≡ self.old.lines + result }
-        ensures painted { AreComing scan.now.scan self.old.lines result (take (result * line_size scan.now.scan.head) pixels.new) }
+        ensures lines { self.new.lines ≡ self.old.lines + count }
+        ensures painted { AreComing scan.now.scan self.old.lines count pixels.new }
     {
         let head = scan.head();
-        let (first, count) = lines_of(head, self.row);
-        let some = most.min(first + count - self.lines);
-        let end = bytes_to(some, most, shape_of(head).line);
-        self.samples
-            .paint_some(head, self.lines, some, &mut pixels[..end]);
-        self.pass_lines(scan, some);
-        some
+        // By its contract the row's lines are the picture's.
+        let _lines = lines_of(head, self.row);
+        self.samples.paint_some(head, self.lines, count, pixels);
+        self.pass_lines(scan, count);
     }
 
     /// Gives the next lines that are there, as many as have room in `pixels`, a line behind the other: answers how many.
@@ -273,9 +279,11 @@ impl ComingRow {
             if !self.decode(scan) {
                 return given;
             }
+            let some = self.lines_left(scan).min(room - given);
             let from = bytes_to(given, room, line);
-            let end = bytes_to(room, room, line);
-            given += self.paint_some(scan, room - given, &mut pixels[from..end]);
+            let to = bytes_to(given + some, room, line);
+            self.paint(scan, some, &mut pixels[from..to]);
+            given += some;
         }
         given
     }
