@@ -6,3 +6,4 @@ pub mod RunsGoOn
 pub mod LinesStay
 pub mod SettledRows
 pub mod Readings
+pub mod Reaching

@@ -42,10 +42,11 @@ abbrev pub AreFinal : (bytes : List ℕ) → (first count : ℕ) → (pixels : L
 AreFinal bytes first count pixels = (file : List ℕ) (t : ScanValue) (marks : List Mark) (f : ℕ → ℕ → ℕ → ℕ) → CanBecome bytes file → HasScan file t
     → ShowsFirst t (length t.intervals) marks f → pixels ≡ next_lines_of t.head f first count
 
--- what contracts see of a file that is still arriving: its bytes so far, and how many lines of its picture are given
-pub record ArrivingValue : Type 0 where
-  pub bytes : List ℕ
-  pub lines : ℕ
+-- so many of the settled lines come next, as many as have room in so many bytes
+pub record GivesSettled (s : ScanValue) (first n room : ℕ) : Type 0 where
+  pub rows : ℕ
+  pub has : HasRows s rows
+  pub count : n ≡ min (lines_in (record { scan = s; rows = rows }) - first) (room / line_size s.head)
 
 -- the next lines that the bytes settle, as many as have room: n from this one on
 pub record NextLines (bytes : List ℕ) (first n : ℕ) (pixels : List ℕ) : Type 0 where

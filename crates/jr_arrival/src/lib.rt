@@ -8,6 +8,7 @@
 //! A look cuts the bytes so far anew, and reads the interval that is still coming from its start: it costs what these bytes cost.
 #![tactic(auto)]
 
+mod coming;
 mod coming_row;
 mod head;
 mod laws;
