@@ -7,3 +7,4 @@ pub mod LinesStay
 pub mod SettledRows
 pub mod Readings
 pub mod Reaching
+pub mod Arrivals

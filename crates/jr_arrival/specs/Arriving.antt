@@ -1,9 +1,11 @@
 -- A file that is still arriving, as far as it has come.
-use Rattle.std.specs.Prelude.{◌≡◌, ℕ, ◌-◌, ◌^◌, ◌≤◌, min, List, length, Option, Some, None}
+use Rattle.std.specs.Prelude.{◌≡◌, ℕ, ◌-◌, ◌*◌, ◌^◌, ◌≤◌, min, List, length, take, Option, Some, None}
 use Rattle.jr_base.specs.declared.limits.TheConstants.{MAX_FILE_BYTES}
 use Rattle.jr_head.specs.Heads.{HeadOf}
+use Rattle.jr_paint.specs.Lines.{line_size}
 use Rattle.jr_scan.specs.GrowingScan.{GrowingScanValue, HasCome}
-use Rattle.jr_arrival.specs.Coming.{ComingRowValue}
+use Rattle.jr_arrival.specs.Coming.{AreComing, ComingRowValue}
+use Rattle.jr_arrival.specs.Settled.{GivesSettled}
 
 -- the scan, how many bytes of its file have come, and the row of MCUs that comes next
 pub record ComingValue : Type 0 where
@@ -35,3 +37,8 @@ pub record IsArriving (v : ArrivingValue) (bytes : List ℕ) : Type 0 where
 abbrev pub given_of : Option ComingValue → ℕ
 given_of None = 0
 given_of (Some c) = c.row.lines
+
+-- a look at the scan gives lines of it
+pub record GivesComing (c : ComingValue) (first n : ℕ) (pixels : List ℕ) : Type 0 where
+  pub settled : GivesSettled c.growing.scan first n (length pixels)
+  pub are : AreComing c.growing.scan first n (take (n * line_size c.growing.scan.head) pixels)

@@ -8,11 +8,13 @@
 //! A look cuts the bytes so far anew, and reads the interval that is still coming from its start: it costs what these bytes cost.
 #![tactic(auto)]
 
+mod arriving;
 mod coming;
 mod coming_row;
 mod head;
 mod laws;
 
+pub use arriving::Arriving;
 pub use head::head_so_far;
 pub use laws::{
     cut_is_final, fault_is_final, front_is_final, head_is_final, lines_are_final, mark_is_final,

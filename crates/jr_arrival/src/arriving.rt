@@ -1,0 +1,215 @@
+//! A file that is still arriving.
+
+ghost use Rattle.std.specs.Prelude.{◌≡◌, ◌≢◌, ◌+◌, ◌-◌, ◌*◌, ◌/◌, ◌^◌, ◌<◌, ◌≤◌, ◌++◌, ℕ, List, [], None, min, length, take, IfOk, IfErr, IfSome, IfNone};
+ghost use Rattle.jr_base.specs.declared.limits.TheConstants.{MAX_FILE_BYTES};
+ghost use Rattle.jr_head.specs.Heads.{HeadOf, RefusalOf};
+ghost use Rattle.jr_segments.specs.declared.refusal.Refusal.TheVariants as refusal;
+ghost use Rattle.jr_arrival.specs.Arrival.{IsFinalFault};
+ghost use Rattle.jr_arrival.specs.Arriving.{GivesComing, Holds, IsArriving, given_of};
+ghost use Rattle.jr_arrival.specs.Growing.{HasScan};
+ghost use Rattle.jr_arrival.specs.Settled.{GivesNext, WantsMore};
+
+use crate::coming::Coming;
+use jr_base::Memory;
+use jr_base::limits::MAX_FILE_BYTES;
+use jr_head::{Head, read_head};
+use jr_scan::Scan;
+use jr_segments::Refusal;
+use std::alloc::Global;
+use std::marker::Model;
+
+/// A file that is still arriving. Its bytes are pushed as they come, in any splitting, and the lines of its picture are given as
+/// soon as the bytes so far settle them, each once and in their order.
+///
+/// Each byte is read once: its head is read at the first look that finds it whole, and from then on the scan is cut and decoded on
+/// from where it stands. It takes memory for the data of the scan and for a row of MCUs.
+#[derive(Drop)]
+pub struct Arriving {
+    /// Of a file whose head is not there yet.
+    bytes: Vec<u8>,
+    coming: Option<Coming>,
+    /// Of all bytes that have come, those among them that are too many and not kept.
+    count: u64,
+}
+
+impl Model for Arriving {
+    ghost use Rattle.std.specs.Prelude.{◌≤◌, length, IfSome};
+    ghost use Rattle.jr_arrival.specs.Arriving.{ArrivingValue};
+
+    ghost Value = { ArrivingValue };
+
+    ghost view = { λ a. record { bytes = a.bytes.items; coming = a.coming; count = a.count } };
+
+    ghost invariant = { λ a. IfSome a.coming (λ c. c.bytes ≤ a.count) × (length a.bytes.items ≤ a.count) };
+}
+
+/// More bytes have come, and are put behind those that are kept or cut.
+fn hold(bytes: &mut Vec<u8>, coming: &mut Option<Coming>, more: &[u8]) -> Result<(), Memory>
+    requires few { IfSome coming.old (λ c. c.bytes + length more.now ≤ MAX_FILE_BYTES) }
+    ensures held { IfOk result (λ _. (so_far : List ℕ) → length (so_far ++ more.now) ≤ MAX_FILE_BYTES → Holds bytes.old.items coming.old so_far → Holds bytes.new.items coming.new (so_far ++ more.now)) }
+    ensures lines { given_of coming.new ≡ given_of coming.old }
+    ensures count { (n : ℕ) → IfSome coming.old (λ c. c.bytes ≤ n) → IfSome coming.new (λ c. c.bytes ≤ n + length more.now) }
+    ensures long { length bytes.new.items ≤ length bytes.old.items + length more.now }
+    ensures bytes { IfErr result (λ _. bytes.new.items ≡ bytes.old.items) }
+    ensures memory { IfErr result (λ _. coming.new ≡ coming.old) }
+{
+    match coming {
+        Some(scan) => scan.push(more)?,
+        None => bytes.extend_from_slice(more)?,
+    }
+    Ok(())
+}
+
+/// Gives the next lines of a scan, none where it has not begun: answers how many.
+fn give(coming: &mut Option<Coming>, pixels: &mut [u8]) -> u32
+    ensures lines { given_of coming.new ≡ given_of coming.old + result }
+    ensures bytes { (n : ℕ) → IfSome coming.old (λ c. c.bytes ≤ n) → IfSome coming.new (λ c. c.bytes ≤ n) }
+    ensures holds { (kept so_far : List ℕ) → Holds kept coming.old so_far → Holds kept coming.new so_far }
+    ensures none { coming.old ≡ None → result ≡ 0 }
+    ensures given { IfSome coming.old (λ c. GivesComing c (given_of coming.old) result pixels.new) }
+{
+    match coming {
+        Some(scan) => scan.give(pixels),
+        None => 0,
+    }
+}
+
+/// The scan of all bytes of a file, where so many bytes are not too many.
+fn scan_of(alloc: Global, bytes: Vec<u8>, coming: Option<Coming>) -> Result<Scan, Refusal>
+    ensures scan { IfOk result (λ s. (all : List ℕ) → Holds bytes.items coming all → HasScan all s) }
+    ensures refusal { IfErr result (λ f. f ≢ refusal.Memory → (all : List ℕ) → Holds bytes.items coming all → RefusalOf all f) }
+{
+    let scan = match coming {
+        Some(coming) => coming.into_scan(alloc),
+        None => {
+            let head = read_head(alloc, &bytes)?;
+            Scan::cut_in_place(alloc, head, bytes)
+        }
+    };
+    let Ok(scan) = scan else {
+        return Err(Refusal::Memory);
+    };
+    Ok(scan)
+}
+
+impl Arriving {
+    /// Nothing has come yet.
+    pub fn new(alloc: Global) -> Arriving
+        ensures arriving { IsArriving result [] }
+        ensures lines { given_of result.coming ≡ 0 }
+    {
+        Arriving {
+            bytes: Vec::new(alloc),
+            coming: None,
+            count: 0,
+        }
+    }
+
+    /// More bytes have come. Where memory is refused none of them is taken.
+    pub fn push(&mut self, more: &[u8]) -> Result<(), Memory>
+        ensures pushed { IfOk result (λ _. (bytes : List ℕ) → IsArriving self.old bytes → IsArriving self.new (bytes ++ more.now)) }
+        ensures lines { given_of self.new.coming ≡ given_of self.old.coming }
+        ensures memory { IfErr result (λ _. self.new ≡ self.old) }
+    {
+        let count = self.count.saturating_add(more.len() as u64);
+        if count <= MAX_FILE_BYTES as u64 {
+            hold(&mut self.bytes, &mut self.coming, more)?;
+        }
+        self.count = count;
+        Ok(())
+    }
+
+    /// How many bytes have come.
+    pub fn bytes(&self) -> u64
+        ensures { (bytes : List ℕ) → IsArriving self.now bytes → result ≡ min (length bytes) (2 ^ 64 - 1) }
+    {
+        self.count
+    }
+
+    /// How many lines are given.
+    pub fn lines(&self) -> u32
+        ensures { result ≡ given_of self.now.coming }
+    {
+        match &self.coming {
+            Some(coming) => coming.lines(),
+            None => 0,
+        }
+    }
+
+    /// Reads the head of the file once it is there: that of every file that the bytes so far can become.
+    ///
+    /// # Errors
+    ///
+    /// The refusal of every such file. `Memory` where memory was refused; it says nothing of the bytes.
+    pub fn begin(&mut self, alloc: Global) -> Result<(), Refusal>
+        ensures arriving { (bytes : List ℕ) → IsArriving self.old bytes → IsArriving self.new bytes }
+        ensures lines { given_of self.new.coming ≡ given_of self.old.coming }
+        ensures small { IfOk result (λ _. (bytes : List ℕ) → IsArriving self.old bytes → length bytes ≤ MAX_FILE_BYTES) }
+        ensures wanted { IfOk result (λ _. self.new.coming ≡ None → (bytes : List ℕ) → IsArriving self.old bytes → WantsMore bytes) }
+        ensures refusal { IfErr result (λ f. f ≢ refusal.Memory → (bytes : List ℕ) → IsArriving self.old bytes → RefusalOf bytes f) }
+        ensures stays { IfErr result (λ f. (bytes : List ℕ) → IsArriving self.old bytes → IsFinalFault bytes f) }
+        ensures kept { IfErr result (λ _. self.new ≡ self.old) }
+    {
+        if self.count > MAX_FILE_BYTES as u64 {
+            return Err(Refusal::TooLong);
+        }
+        if self.coming.is_some() {
+            return Ok(());
+        }
+        let Some(coming) = Coming::of(alloc, &self.bytes)? else {
+            return Ok(());
+        };
+        self.coming = Some(coming);
+        self.bytes = Vec::new(alloc);
+        Ok(())
+    }
+
+    /// The head of every file that the bytes so far can become, once it is read.
+    pub fn head(&self) -> Option<&Head>
+        ensures head { IfSome result (λ h. (bytes : List ℕ) → IsArriving self.now bytes → length bytes ≤ MAX_FILE_BYTES → HeadOf bytes h.now) }
+        ensures none { IfNone result (self.now.coming ≡ None) }
+    {
+        match &self.coming {
+            Some(coming) => Some(coming.head()),
+            None => None,
+        }
+    }
+
+    /// Gives the next lines that the bytes so far settle, as many as have room in `pixels`, a line behind the other, of one byte or
+    /// three a pixel: answers how many. Every file that the bytes can become shows them.
+    ///
+    /// # Errors
+    ///
+    /// The refusal of every file that the bytes can become. `Memory` where memory was refused; then no line is given.
+    pub fn next_lines(&mut self, alloc: Global, pixels: &mut [u8]) -> Result<u32, Refusal>
+        ensures given { IfOk result (λ n. (bytes : List ℕ) → IsArriving self.old bytes → GivesNext bytes (given_of self.old.coming) n pixels.new) }
+        ensures lines { IfOk result (λ n. given_of self.new.coming ≡ given_of self.old.coming + n) }
+        ensures arriving { (bytes : List ℕ) → IsArriving self.old bytes → IsArriving self.new bytes }
+        ensures refusal { IfErr result (λ f. f ≢ refusal.Memory → (bytes : List ℕ) → IsArriving self.old bytes → RefusalOf bytes f) }
+        ensures stays { IfErr result (λ f. (bytes : List ℕ) → IsArriving self.old bytes → IsFinalFault bytes f) }
+        ensures kept { IfErr result (λ _. self.new ≡ self.old) }
+    {
+        self.begin(alloc)?;
+        Ok(give(&mut self.coming, pixels))
+    }
+
+    /// Nothing more comes: the scan of the file, of whose picture lines are missing from `lines` on.
+    ///
+    /// # Errors
+    ///
+    /// The file's refusal. `Memory` where memory was refused.
+    pub fn finish(self, alloc: Global) -> Result<Scan, Refusal>
+        ensures scan { IfOk result (λ s. (bytes : List ℕ) → IsArriving self bytes → HasScan bytes s) }
+        ensures refusal { IfErr result (λ f. f ≢ refusal.Memory → (bytes : List ℕ) → IsArriving self bytes → RefusalOf bytes f) }
+    {
+        let Arriving {
+            bytes,
+            coming,
+            count,
+        } = self;
+        if count > MAX_FILE_BYTES as u64 {
+            return Err(Refusal::TooLong);
+        }
+        scan_of(alloc, bytes, coming)
+    }
+}
