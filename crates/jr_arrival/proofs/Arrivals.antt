@@ -51,7 +51,7 @@ given_next c bytes first n pixels begun given =
       count = g.count;
       are = elim (cases_lt 0 n) [
         | inl some ↦ coming_final bytes s first n (take (n * line_size s.head) pixels) (few some) has given.are
-        | inr none ↦ subst (λ (k : ℕ). AreFinal bytes first k (take (k * line_size s.head) pixels)) {x = 0} {y = n} (omega (arith, none)) (λ file t marks f can there shows. refl)
+        | inr none ↦ subst (λ (k : ℕ). AreFinal bytes first k (take (k * line_size s.head) pixels)) {x = 0} {y = n} (omega (arith, none)) (λ file t marks f can there shows. let zero : 0 * line_size s.head ≡ 0 = omega arith in ap (λ (k : ℕ). take k pixels) zero)
       ];
     })
 
@@ -75,3 +75,6 @@ is_too_long bytes l = let e = lt-ltb MAX_FILE_BYTES (length bytes) l in inl (rw 
 
 pub too_long_final : (bytes : List ℕ) → IsFinalFault bytes TooLong
 too_long_final bytes = record { not_early = λ e. absurd cc; start = λ e. absurd cc }
+
+pub begun_scan : (c : ComingValue) (bytes : List ℕ) → HasBegun c bytes → HasScan bytes c.growing.scan
+begun_scan c bytes begun = record { head = begun.0; scan = begun.1.scan }

@@ -74,19 +74,13 @@ fn give(coming: &mut Option<Coming>, pixels: &mut [u8]) -> u32
     }
 }
 
-/// The scan of all bytes of a file, where so many bytes are not too many.
-fn scan_of(alloc: Global, bytes: Vec<u8>, coming: Option<Coming>) -> Result<Scan, Refusal>
-    ensures scan { IfOk result (λ s. (all : List ℕ) → Holds bytes.items coming all → HasScan all s) }
-    ensures refusal { IfErr result (λ f. f ≢ refusal.Memory → (all : List ℕ) → Holds bytes.items coming all → RefusalOf all f) }
+/// The scan of a file, in the memory of its bytes.
+fn scan_of(alloc: Global, bytes: Vec<u8>) -> Result<Scan, Refusal>
+    ensures scan { IfOk result (HasScan bytes.items) }
+    ensures refusal { IfErr result (λ f. f ≢ refusal.Memory → RefusalOf bytes.items f) }
 {
-    let scan = match coming {
-        Some(coming) => coming.into_scan(alloc),
-        None => {
-            let head = read_head(alloc, &bytes)?;
-            Scan::cut_in_place(alloc, head, bytes)
-        }
-    };
-    let Ok(scan) = scan else {
+    let head = read_head(alloc, &bytes)?;
+    let Ok(scan) = Scan::cut_in_place(alloc, head, bytes) else {
         return Err(Refusal::Memory);
     };
     Ok(scan)
@@ -189,8 +183,10 @@ impl Arriving {
         ensures stays { IfErr result (λ f. (bytes : List ℕ) → IsArriving self.old bytes → IsFinalFault bytes f) }
         ensures kept { IfErr result (λ _. self.new ≡ self.old) }
     {
-        self.begin(alloc)?;
-        Ok(give(&mut self.coming, pixels))
+        match self.begin(alloc) {
+            Ok(()) => Ok(give(&mut self.coming, pixels)),
+            Err(refusal) => Err(refusal),
+        }
     }
 
     /// Nothing more comes: the scan of the file, of whose picture lines are missing from `lines` on.
@@ -210,6 +206,12 @@ impl Arriving {
         if count > MAX_FILE_BYTES as u64 {
             return Err(Refusal::TooLong);
         }
-        scan_of(alloc, bytes, coming)
+        let Some(coming) = coming else {
+            return scan_of(alloc, bytes);
+        };
+        let Ok(scan) = coming.into_scan(alloc) else {
+            return Err(Refusal::Memory);
+        };
+        Ok(scan)
     }
 }
