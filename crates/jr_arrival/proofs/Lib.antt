@@ -5,4 +5,6 @@ pub mod ScansGoOn
 pub mod RunsGoOn
 pub mod LinesStay
 pub mod SettledRows
-pub mod FinalLines
+pub mod Readings
+pub mod Reaching
+pub mod Arrivals

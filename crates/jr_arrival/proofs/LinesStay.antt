@@ -23,7 +23,7 @@ use Rattle.jr_picture.specs.declared.mark.Mark.{Mark}
 use Rattle.jr_picture.specs.declared.mark.Mark.TheVariants.{Blank, Sound, Damaged}
 use Rattle.jr_picture.specs.Headline.{interval_number, within_interval, spot_of, place_in, unit_in, decoded_sample, Holds, Shows, mark_in, ShowsFirst}
 use Rattle.jr_picture.proofs.BoardPictures.{block_there}
-use Rattle.jr_picture.proofs.Pictures.{line_same}
+use Rattle.jr_picture.proofs.Pictures.{line_same, same_samples}
 use Rattle.jr_rows.specs.Rows.{first_line, line_count}
 use Rattle.jr_arrival.specs.Arrival.{CanBecome}
 use Rattle.jr_arrival.specs.Growing.{HasScan, HasEndedAt, KeepsScan, IsSettled, RowIsSettled, with_more, lines_of_row}
@@ -83,7 +83,7 @@ front_shown i f Damaged not_blank p k zs front c x y held lt =
 
 -- ---- two pictures
 
-interval_more : (s t : ScanValue) (i : ℕ) (rest : List ℕ) → t.head ≡ s.head → get_or t.intervals i [] ≡ get_or s.intervals i [] ++ rest → interval_of t i ≡ with_more (interval_of s i) rest
+pub interval_more : (s t : ScanValue) (i : ℕ) (rest : List ℕ) → t.head ≡ s.head → get_or t.intervals i [] ≡ get_or s.intervals i [] ++ rest → interval_of t i ≡ with_more (interval_of s i) rest
 interval_more s t i rest h d =
     ap (λ (g : HeadValue). (let v : IntervalValue = record { number = i; mcus = mcus_in g i; bytes = get_or t.intervals i []; head = g } in v)) h
     ∙ ap (λ (b : List ℕ). (let v : IntervalValue = record { number = i; mcus = mcus_in s.head i; bytes = b; head = s.head } in v)) d
@@ -205,3 +205,14 @@ mark_is_final bytes file s t i n k m f g can x y e a b = ended_mark bytes s t n 
 pub lines_of_rows_are_final : (bytes file : List ℕ) (s t : ScanValue) (y count rows n : ℕ) (k m : List Mark) (f g : ℕ → ℕ → ℕ → ℕ) → CanBecome bytes file → HasScan bytes s → HasScan file t → ((row : ℕ) → row < rows → RowIsSettled bytes s row)
     → y + count ≤ min s.head.height (rows * (8 * vertical_max s.head)) → ShowsFirst s n k f → ShowsFirst t n m g → next_lines_of s.head f y count ≡ next_lines_of t.head g y count
 lines_of_rows_are_final bytes file s t y count rows n k m f g can x z settled few a b = first_lines bytes s t n k m f g (scan_is_final bytes file s t can x z) a b y count rows settled few
+
+-- two pictures of a scan have the same lines
+pub one_lines : (t : ScanValue) (n : ℕ) (k m : List Mark) (f g : ℕ → ℕ → ℕ → ℕ) (first count : ℕ) → first + count ≤ t.head.height → ShowsFirst t n k f → ShowsFirst t n m g → next_lines_of t.head f first count ≡ next_lines_of t.head g first count
+one_lines t n k m f g first count high a b =
+    let h = t.head in
+    let l = a.lawful in
+    flat_map-moved (line_of h f) (line_of h g) first first count
+    (λ j lt. line_same h l f g (first + j)
+    (λ c x p left.
+    same_samples one_decoding one_front t n k m f g a.picture b.picture a.first b.first c x ((first + j) * vertical_of h c / vertical_max h) p left
+    (scaled_below (first + j) h.height (vertical_of h c) (vertical_max h) (sampled_at h c l p).down l.components.down (omega (arith, lt, high)))))

@@ -1,6 +1,10 @@
 -- More bytes keep the head, and the data of each interval.
-use Rattle.std.proofs.Common.{◌≡◌, ◌≢◌, ℕ, zero, suc, ◌+◌, ◌-◌, ◌<◌, ◌⊎◌, List, [], ◌∷◌, ◌++◌, length, replicate, drop, get_or, refl, sym, ap, subst, ◌∙◌, inl, inr, length-append, arith}
-use Rattle.std.proofs.lemmas.List.{append-nil, drop-append-le}
+use Rattle.std.proofs.Common.{◌≡◌, ◌≢◌, ℕ, zero, suc, ◌+◌, ◌-◌, ◌<◌, ◌≤◌, ◌⊎◌, List, [], ◌∷◌, ◌++◌, length, replicate, drop, get_or, refl, sym, ap, subst, ◌∙◌, inl, inr, length-append, arith}
+use Rattle.std.proofs.Math.ListN.{length-replicate}
+use Rattle.std.proofs.lemmas.Bool.{cases_lt}
+use Rattle.std.proofs.lemmas.List.{append-nil, drop-append-le, get_or_past}
+use Rattle.jr_scan.proofs.Scans.{cut_few}
+use Rattle.jr_arrival.specs.Coming.{Becomes, IsOver}
 use Rattle.jr_head.specs.HeadValue.{HeadValue}
 use Rattle.jr_head.specs.Heads.{HeadOf, HasOneHead, HasOneFault}
 use Rattle.jr_head.proofs.OneHeadLaws.{one_head_or_one_fault}
@@ -9,7 +13,7 @@ use Rattle.jr_cut.specs.Cut.{IsCut, Cutting}
 use Rattle.jr_scan.specs.IntervalValue.{IntervalValue}
 use Rattle.jr_scan.specs.ScanValue.{ScanValue, IsScanOf, interval_of, intervals_of, mcus_in}
 use Rattle.jr_arrival.specs.Arrival.{CanBecome}
-use Rattle.jr_arrival.specs.Growing.{GoesOn, HasScan, KeepsScan}
+use Rattle.jr_arrival.specs.Growing.{GoesOn, HasEndedAt, HasScan, KeepsScan}
 use Rattle.jr_arrival.proofs.HeadsStay.{head_is_final}
 use Rattle.jr_arrival.proofs.CutsGoOn.{cut_is_final}
 
@@ -54,44 +58,47 @@ same_interval s t i h d =
     ap (λ (g : HeadValue). (let v : IntervalValue = record { number = i; mcus = mcus_in g i; bytes = get_or t.intervals i []; head = g } in v)) h
     ∙ ap (λ (b : List ℕ). (let v : IntervalValue = record { number = i; mcus = mcus_in s.head i; bytes = b; head = s.head } in v)) d
 
+-- a scan has as many intervals as its head says
+pub count_is : (file : List ℕ) (s : ScanValue) → IsScanOf file s → length s.intervals ≡ intervals_of s.head
+count_is file s c =
+    let few = cut_few _ _ _ c.segments s.ended c.cut in
+    omega (arith, few, ap length c.intervals, length-append c.segments (replicate (intervals_of s.head - length c.segments) []), length-replicate {A = List ℕ} (intervals_of s.head - length c.segments) [])
+
 -- the scans of bytes, and of more
-module _ (bytes file : List ℕ) (s t : ScanValue) (can : CanBecome bytes file) (a : HasScan bytes s) (b : HasScan file t) where
+module _ (bytes more : List ℕ) (s t : ScanValue) (heads : t.head ≡ s.head) (starts : s.head.scan_at ≤ length bytes) (a : IsScanOf bytes s) (b : IsScanOf (bytes ++ more) t) where
   abbrev h : HeadValue
   h = s.head
 
-  heads : t.head ≡ h
-  heads = same_head bytes file h t.head can a.head b.head
-
   -- what both are cut from
-  behind : drop h.scan_at file ≡ drop h.scan_at bytes ++ can.more
-  behind = ap (λ (f : List ℕ). drop h.scan_at f) can.is ∙ drop-append-le h.scan_at bytes can.more (omega (arith, a.head.scan_at))
+  behind : drop h.scan_at (bytes ++ more) ≡ drop h.scan_at bytes ++ more
+  behind = drop-append-le h.scan_at bytes more starts
 
-  cut_there : IsCut (intervals_of h) h.scan_at (drop h.scan_at bytes ++ can.more) b.scan.segments t.ended
+  cut_there : IsCut (intervals_of h) h.scan_at (drop h.scan_at bytes ++ more) b.segments t.ended
   cut_there =
-      subst (λ (f : List ℕ). IsCut (intervals_of h) h.scan_at f b.scan.segments t.ended) behind
-      (subst (λ (g : HeadValue). IsCut (intervals_of g) g.scan_at (drop g.scan_at file) b.scan.segments t.ended) heads b.scan.cut)
+      subst (λ (f : List ℕ). IsCut (intervals_of h) h.scan_at f b.segments t.ended) behind
+      (subst (λ (g : HeadValue). IsCut (intervals_of g) g.scan_at (drop g.scan_at (bytes ++ more)) b.segments t.ended) heads b.cut)
 
   abbrev before : IsScanOf bytes s → Cutting (intervals_of h) h.scan_at (drop h.scan_at bytes)
   before c = record { datas = c.segments; end = s.ended; is = c.cut }
 
-  abbrev after : Cutting (intervals_of h) h.scan_at (drop h.scan_at bytes ++ can.more)
-  after = record { datas = b.scan.segments; end = t.ended; is = cut_there }
+  abbrev after : Cutting (intervals_of h) h.scan_at (drop h.scan_at bytes ++ more)
+  after = record { datas = b.segments; end = t.ended; is = cut_there }
 
-  grown : (c : IsScanOf bytes s) → GoesOn c.segments b.scan.segments
-  grown c = (cut_is_final (intervals_of h) h.scan_at (drop h.scan_at bytes) can.more (before c) after).0
+  grown : (c : IsScanOf bytes s) → GoesOn c.segments b.segments
+  grown c = (cut_is_final (intervals_of h) h.scan_at (drop h.scan_at bytes) more (before c) after).0
 
-  finished : (c : IsScanOf bytes s) → s.ended ≢ EndOfFile → (b.scan.segments ≡ c.segments) × (t.ended ≡ s.ended)
-  finished c n = (cut_is_final (intervals_of h) h.scan_at (drop h.scan_at bytes) can.more (before c) after).1 n
+  finished : (c : IsScanOf bytes s) → s.ended ≢ EndOfFile → (b.segments ≡ c.segments) × (t.ended ≡ s.ended)
+  finished c n = (cut_is_final (intervals_of h) h.scan_at (drop h.scan_at bytes) more (before c) after).1 n
 
   so_far : (c : IsScanOf bytes s) (i : ℕ) → get_or s.intervals i [] ≡ get_or c.segments i []
   so_far c i = data_at s c.segments (intervals_of h - length c.segments) i c.intervals
 
-  there : (i : ℕ) → get_or t.intervals i [] ≡ get_or b.scan.segments i []
-  there i = data_at t b.scan.segments (intervals_of t.head - length b.scan.segments) i b.scan.intervals
+  there : (i : ℕ) → get_or t.intervals i [] ≡ get_or b.segments i []
+  there i = data_at t b.segments (intervals_of t.head - length b.segments) i b.intervals
 
   data_goes_on : (i : ℕ) → (more : List ℕ) × (get_or t.intervals i [] ≡ get_or s.intervals i [] ++ more)
   data_goes_on i =
-      let c = a.scan in
+      let c = a in
       let g = grown c in
       let m = get_more g.ended g.last g.more g.others i in
       (m.0, there i ∙ ap (λ (l : List (List ℕ)). get_or l i []) g.longer_is ∙ m.1 ∙ ap (λ (l : List (List ℕ)). get_or l i [] ++ m.0) (sym g.is) ∙ ap (λ (d : List ℕ). d ++ m.0) (sym (so_far c i)))
@@ -103,10 +110,45 @@ module _ (bytes file : List ℕ) (s t : ScanValue) (can : CanBecome bytes file) 
       let few : i < length g.ended = omega (arith, lt, ap length g.is, length-append g.ended (g.last ∷ [])) in
       there i ∙ ap (λ (l : List (List ℕ)). get_or l i []) g.longer_is ∙ get_ended g.ended g.last (g.last ++ g.more) g.others i few ∙ ap (λ (l : List (List ℕ)). get_or l i []) (sym g.is) ∙ sym (so_far c i)
 
-  pub scan_is_final : KeepsScan bytes s t
-  scan_is_final = record {
+  kept : KeepsScan bytes s t
+  kept = record {
     head = heads;
     so_far = data_goes_on;
     whole = λ i e. same_interval s t i heads (data_ended i e.0 e.1);
-    end = λ n. (finished a.scan n).1;
+    end = λ n. (finished a n).1;
   }
+
+  -- an interval that is over has ended
+  over_ended : (i : ℕ) → IsOver s i → HasEndedAt bytes s i
+  over_ended i (inl n) = (a, inl n)
+  over_ended i (inr later) = elim (cases_lt later.0 (length a.segments)) [
+    | inl l ↦ (a, inr (omega (arith, l, later.1)))
+    | inr g ↦ absurd (later.2 (so_far a later.0 ∙ get_or_past a.segments later.0 [] g))
+  ]
+
+  -- so the scan becomes the longer one
+  pub becomes : Becomes s t
+  becomes = record {
+    head = heads;
+    count = count_is (bytes ++ more) t b ∙ ap intervals_of heads ∙ sym (count_is bytes s a);
+    so_far = data_goes_on;
+    whole = λ i over. kept.whole i (over_ended i over);
+    end = kept.end;
+  }
+
+-- of a file that the bytes can become
+module _ (bytes file : List ℕ) (s t : ScanValue) (can : CanBecome bytes file) (a : HasScan bytes s) (b : HasScan file t) where
+  heads_are : t.head ≡ s.head
+  heads_are = same_head bytes file s.head t.head can a.head b.head
+
+  begins : s.head.scan_at ≤ length bytes
+  begins = omega (arith, a.head.scan_at)
+
+  longer : IsScanOf (bytes ++ can.more) t
+  longer = subst (λ (f : List ℕ). IsScanOf f t) can.is b.scan
+
+  pub scan_is_final : KeepsScan bytes s t
+  scan_is_final = kept bytes can.more s t heads_are begins a.scan longer
+
+  pub file_becomes : Becomes s t
+  file_becomes = becomes bytes can.more s t heads_are begins a.scan longer

@@ -13,7 +13,8 @@ use Rattle.jr_cut.specs.declared.scan_end.ScanEnd.TheVariants.{EndOfFile}
 use Rattle.jr_scan.specs.ScanValue.{ScanValue, IsScanOf, interval_of, intervals_of}
 use Rattle.jr_scan.specs.Mcus.{Front, HasLongestFront}
 use Rattle.jr_arrival.specs.Growing.{HasEndedAt, IsSettled, RowIsSettled}
-use Rattle.jr_arrival.specs.Settled.{IsLatest, HasRows, SettlesRows}
+use Rattle.jr_scan.specs.GrowingScan.{IsLatest}
+use Rattle.jr_arrival.specs.Settled.{HasRows, SettlesRows}
 use Rattle.jr_arrival.proofs.ScansGoOn.{data_at}
 use Rattle.jr_arrival.proofs.LinesStay.{div_below}
 
@@ -28,7 +29,7 @@ one_latest s i j a b = elim (cases_lt i j) [
   ]
 ]
 
-one_count : (s : ScanValue) (i k n : ℕ) → HasLongestFront (interval_of s i) k → HasLongestFront (interval_of s i) n → k ≡ n
+pub one_count : (s : ScanValue) (i k n : ℕ) → HasLongestFront (interval_of s i) k → HasLongestFront (interval_of s i) n → k ≡ n
 one_count s i k n a b = omega (arith, a.1.longest n b.0 b.1.front, b.1.longest k a.0 a.1.front)
 
 pub has_rows : (s : ScanValue) (i front rows : ℕ) → s.ended ≡ EndOfFile → IsLatest s i → HasLongestFront (interval_of s i) front → rows ≡ (first_mcu_of s.head i + front) / mcus_across s.head → HasRows s rows

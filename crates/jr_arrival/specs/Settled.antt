@@ -6,6 +6,7 @@ use Rattle.jr_head.specs.Heads.{RefusalOf}
 use Rattle.jr_head.specs.Intervals.{first_mcu_of}
 use Rattle.jr_paint.specs.Lines.{line_size, next_lines_of}
 use Rattle.jr_cut.specs.declared.scan_end.ScanEnd.TheVariants.{EndOfFile}
+use Rattle.jr_scan.specs.GrowingScan.{IsLatest}
 use Rattle.jr_scan.specs.Mcus.{HasLongestFront}
 use Rattle.jr_scan.specs.ScanValue.{ScanValue, interval_of}
 use Rattle.jr_picture.specs.declared.mark.Mark.{Mark}
@@ -16,11 +17,6 @@ use Rattle.jr_arrival.specs.Growing.{HasScan, RowIsSettled}
 -- the bytes' refusal says that some are missing
 abbrev pub WantsMore : List ℕ → Type 0
 WantsMore bytes = RefusalOf bytes EndsEarly ⊎ (RefusalOf bytes NotJpeg × (length bytes < 2))
-
--- the last interval that has data, the first one where none has
-pub record IsLatest (s : ScanValue) (i : ℕ) : Type 0 where
-  pub some : 0 < i → slice_index_or s.intervals i [] ≢ []
-  pub none : (j : ℕ) → i < j → slice_index_or s.intervals j [] ≡ []
 
 -- so many rows of MCUs, from the first on, are there: all where a marker has ended the scan, else those whose MCUs stand before the
 -- end of the whole ones of the interval that has come last
@@ -46,10 +42,11 @@ abbrev pub AreFinal : (bytes : List ℕ) → (first count : ℕ) → (pixels : L
 AreFinal bytes first count pixels = (file : List ℕ) (t : ScanValue) (marks : List Mark) (f : ℕ → ℕ → ℕ → ℕ) → CanBecome bytes file → HasScan file t
     → ShowsFirst t (length t.intervals) marks f → pixels ≡ next_lines_of t.head f first count
 
--- what contracts see of a file that is still arriving: its bytes so far, and how many lines of its picture are given
-pub record ArrivingValue : Type 0 where
-  pub bytes : List ℕ
-  pub lines : ℕ
+-- so many of the settled lines come next, as many as have room in so many bytes
+pub record GivesSettled (s : ScanValue) (first n room : ℕ) : Type 0 where
+  pub rows : ℕ
+  pub has : HasRows s rows
+  pub count : n ≡ min (lines_in (record { scan = s; rows = rows }) - first) (room / line_size s.head)
 
 -- the next lines that the bytes settle, as many as have room: n from this one on
 pub record NextLines (bytes : List ℕ) (first n : ℕ) (pixels : List ℕ) : Type 0 where

@@ -1,18 +1,18 @@
 //! A file that is still arriving.
 
-ghost use Rattle.std.specs.Prelude.{◌≡◌, ◌≢◌, ◌+◌, ◌-◌, ◌*◌, ◌/◌, ◌^◌, ◌<◌, ◌≤◌, ◌++◌, ℕ, List, [], min, length, take, IfOk, IfErr, IfSome, IfNone};
+ghost use Rattle.std.specs.Prelude.{◌≡◌, ◌≢◌, ◌+◌, ◌-◌, ◌*◌, ◌/◌, ◌^◌, ◌<◌, ◌≤◌, ◌++◌, ℕ, List, [], None, min, length, take, IfOk, IfErr, IfSome, IfNone};
+ghost use Rattle.jr_base.specs.declared.limits.TheConstants.{MAX_FILE_BYTES};
 ghost use Rattle.jr_head.specs.Heads.{HeadOf, RefusalOf};
-ghost use Rattle.jr_paint.specs.Lines.{line_size};
 ghost use Rattle.jr_segments.specs.declared.refusal.Refusal.TheVariants as refusal;
 ghost use Rattle.jr_arrival.specs.Arrival.{IsFinalFault};
+ghost use Rattle.jr_arrival.specs.Arriving.{GivesComing, Holds, IsArriving, given_of};
 ghost use Rattle.jr_arrival.specs.Growing.{HasScan};
-ghost use Rattle.jr_arrival.specs.Settled.{AreFinal, GivesNext, WantsMore, lines_in};
+ghost use Rattle.jr_arrival.specs.Settled.{GivesNext, WantsMore};
 
-use crate::head::head_so_far;
-use crate::so_far::SoFar;
+use crate::coming::Coming;
 use jr_base::Memory;
+use jr_base::limits::MAX_FILE_BYTES;
 use jr_head::{Head, read_head};
-use jr_rows::shape_of;
 use jr_scan::Scan;
 use jr_segments::Refusal;
 use std::alloc::Global;
@@ -20,133 +20,173 @@ use std::marker::Model;
 
 /// A file that is still arriving. Its bytes are pushed as they come, in any splitting, and the lines of its picture are given as
 /// soon as the bytes so far settle them, each once and in their order.
+///
+/// Each byte is read once: its head is read at the first look that finds it whole, and from then on the scan is cut and decoded on
+/// from where it stands. It takes memory for the data of the scan and for a row of MCUs.
 #[derive(Drop)]
 pub struct Arriving {
+    /// Of a file whose head is not there yet.
     bytes: Vec<u8>,
-    lines: u32,
+    coming: Option<Coming>,
+    /// Of all bytes that have come, those among them that are too many and not kept.
+    count: u64,
 }
 
 impl Model for Arriving {
-    ghost use Rattle.jr_arrival.specs.Settled.{ArrivingValue};
+    ghost use Rattle.std.specs.Prelude.{◌≤◌, length, IfSome};
+    ghost use Rattle.jr_arrival.specs.Arriving.{ArrivingValue};
 
     ghost Value = { ArrivingValue };
 
-    ghost view = { λ a. record { bytes = a.bytes.items; lines = a.lines } };
+    ghost view = { λ a. record { bytes = a.bytes.items; coming = a.coming; count = a.count } };
+
+    ghost invariant = { λ a. IfSome a.coming (λ c. c.bytes ≤ a.count) × (length a.bytes.items ≤ a.count) };
 }
 
-/// How many lines of a picture have room in so many bytes, at most as many as it has.
-fn lines_with_room(head: &Head, bytes: usize) -> u32
-    ensures { result ≡ min (bytes / line_size head.now) head.now.height }
+/// More bytes have come, and are put behind those that are kept or cut.
+fn hold(bytes: &mut Vec<u8>, coming: &mut Option<Coming>, more: &[u8]) -> Result<(), Memory>
+    requires few { IfSome coming.old (λ c. c.bytes + length more.now ≤ MAX_FILE_BYTES) }
+    ensures held { IfOk result (λ _. (so_far : List ℕ) → length (so_far ++ more.now) ≤ MAX_FILE_BYTES → Holds bytes.old.items coming.old so_far → Holds bytes.new.items coming.new (so_far ++ more.now)) }
+    ensures lines { given_of coming.new ≡ given_of coming.old }
+    ensures count { (n : ℕ) → IfSome coming.old (λ c. c.bytes ≤ n) → IfSome coming.new (λ c. c.bytes ≤ n + length more.now) }
+    ensures long { length bytes.new.items ≤ length bytes.old.items + length more.now }
+    ensures bytes { IfErr result (λ _. bytes.new.items ≡ bytes.old.items) }
+    ensures memory { IfErr result (λ _. coming.new ≡ coming.old) }
 {
-    head.be_lawful();
-    let most = head.height();
-    (bytes / shape_of(head).line).min(most as usize) as u32
-}
-
-/// How many of the settled lines come next.
-fn next_count(so_far: &SoFar, first: u32, bytes: usize) -> u32
-    ensures value { result ≡ min (lines_in so_far.now - first) (bytes / line_size so_far.now.scan.head) }
-    ensures inside { 0 < result → first + result ≤ lines_in so_far.now }
-    ensures room { result * line_size so_far.now.scan.head ≤ bytes }
-    ensures few { first + result < 2 ^ 32 }
-{
-    let room = lines_with_room(so_far.head(), bytes);
-    so_far.lines().saturating_sub(first).min(room)
-}
-
-/// Paints so many lines into the front of `pixels`.
-fn paint_front(
-    so_far: &SoFar,
-    alloc: Global,
-    first: u32,
-    count: u32,
-    pixels: &mut [u8],
-) -> Result<(), Memory>
-    requires settled { 0 < count → first + count ≤ lines_in so_far.now }
-    requires room { count * line_size so_far.now.scan.head ≤ length pixels.old }
-    ensures painted { IfOk result (λ _. (bytes : List ℕ) → HasScan bytes so_far.now.scan → AreFinal bytes first count (take (count * line_size so_far.now.scan.head) pixels.new)) }
-    ensures long { length pixels.new ≡ length pixels.old }
-{
-    if count == 0 {
-        return Ok(());
+    match coming {
+        Some(scan) => scan.push(more)?,
+        None => bytes.extend_from_slice(more)?,
     }
-    let line = shape_of(so_far.head()).line;
-    so_far.paint(alloc, first, count, &mut pixels[..count as usize * line])?;
     Ok(())
+}
+
+/// Gives the next lines of a scan, none where it has not begun: answers how many.
+fn give(coming: &mut Option<Coming>, pixels: &mut [u8]) -> u32
+    ensures lines { given_of coming.new ≡ given_of coming.old + result }
+    ensures bytes { (n : ℕ) → IfSome coming.old (λ c. c.bytes ≤ n) → IfSome coming.new (λ c. c.bytes ≤ n) }
+    ensures holds { (kept so_far : List ℕ) → Holds kept coming.old so_far → Holds kept coming.new so_far }
+    ensures none { coming.old ≡ None → result ≡ 0 }
+    ensures given { IfSome coming.old (λ c. GivesComing c (given_of coming.old) result pixels.new) }
+{
+    match coming {
+        Some(scan) => scan.give(pixels),
+        None => 0,
+    }
+}
+
+/// The scan of a file, in the memory of its bytes.
+fn scan_of(alloc: Global, bytes: Vec<u8>) -> Result<Scan, Refusal>
+    ensures scan { IfOk result (HasScan bytes.items) }
+    ensures refusal { IfErr result (λ f. f ≢ refusal.Memory → RefusalOf bytes.items f) }
+{
+    let head = read_head(alloc, &bytes)?;
+    let Ok(scan) = Scan::cut_in_place(alloc, head, bytes) else {
+        return Err(Refusal::Memory);
+    };
+    Ok(scan)
 }
 
 impl Arriving {
     /// Nothing has come yet.
     pub fn new(alloc: Global) -> Arriving
-        ensures { result ≡ record { bytes = []; lines = 0 } }
+        ensures arriving { IsArriving result [] }
+        ensures lines { given_of result.coming ≡ 0 }
     {
         Arriving {
             bytes: Vec::new(alloc),
-            lines: 0,
+            coming: None,
+            count: 0,
         }
     }
 
     /// More bytes have come. Where memory is refused none of them is taken.
     pub fn push(&mut self, more: &[u8]) -> Result<(), Memory>
-        ensures pushed { IfOk result (λ _. self.new ≡ record self.old { bytes = self.old.bytes ++ more.now }) }
+        ensures pushed { IfOk result (λ _. (bytes : List ℕ) → IsArriving self.old bytes → IsArriving self.new (bytes ++ more.now)) }
+        ensures lines { given_of self.new.coming ≡ given_of self.old.coming }
         ensures memory { IfErr result (λ _. self.new ≡ self.old) }
     {
-        self.bytes.extend_from_slice(more)?;
+        let count = self.count.saturating_add(more.len() as u64);
+        if count <= MAX_FILE_BYTES as u64 {
+            hold(&mut self.bytes, &mut self.coming, more)?;
+        }
+        self.count = count;
         Ok(())
     }
 
     /// How many bytes have come.
-    pub fn bytes(&self) -> usize
-        ensures { result ≡ length self.now.bytes }
+    pub fn bytes(&self) -> u64
+        ensures { (bytes : List ℕ) → IsArriving self.now bytes → result ≡ min (length bytes) (2 ^ 64 - 1) }
     {
-        self.bytes.len()
+        self.count
     }
 
     /// How many lines are given.
     pub fn lines(&self) -> u32
-        ensures { result ≡ self.now.lines }
+        ensures { result ≡ given_of self.now.coming }
     {
-        self.lines
+        match &self.coming {
+            Some(coming) => coming.lines(),
+            None => 0,
+        }
     }
 
-    /// The head of every file that the bytes so far can become. None where more are wanted.
+    /// Reads the head of the file once it is there: that of every file that the bytes so far can become.
     ///
     /// # Errors
     ///
     /// The refusal of every such file. `Memory` where memory was refused; it says nothing of the bytes.
-    pub fn head(&self, alloc: Global) -> Result<Option<Head>, Refusal>
-        ensures head { IfOk result (λ o. IfSome o (HeadOf self.now.bytes)) }
-        ensures wanted { IfOk result (λ o. IfNone o (WantsMore self.now.bytes)) }
-        ensures refusal { IfErr result (λ f. f ≢ refusal.Memory → RefusalOf self.now.bytes f) }
-        ensures stays { IfErr result (IsFinalFault self.now.bytes) }
+    pub fn begin(&mut self, alloc: Global) -> Result<(), Refusal>
+        ensures arriving { (bytes : List ℕ) → IsArriving self.old bytes → IsArriving self.new bytes }
+        ensures lines { given_of self.new.coming ≡ given_of self.old.coming }
+        ensures small { IfOk result (λ _. (bytes : List ℕ) → IsArriving self.old bytes → length bytes ≤ MAX_FILE_BYTES) }
+        ensures wanted { IfOk result (λ _. self.new.coming ≡ None → (bytes : List ℕ) → IsArriving self.old bytes → WantsMore bytes) }
+        ensures refusal { IfErr result (λ f. f ≢ refusal.Memory → (bytes : List ℕ) → IsArriving self.old bytes → RefusalOf bytes f) }
+        ensures stays { IfErr result (λ f. (bytes : List ℕ) → IsArriving self.old bytes → IsFinalFault bytes f) }
+        ensures kept { IfErr result (λ _. self.new ≡ self.old) }
     {
-        head_so_far(alloc, &self.bytes)
+        if self.count > MAX_FILE_BYTES as u64 {
+            return Err(Refusal::TooLong);
+        }
+        if self.coming.is_some() {
+            return Ok(());
+        }
+        let Some(coming) = Coming::of(alloc, &self.bytes)? else {
+            return Ok(());
+        };
+        self.coming = Some(coming);
+        self.bytes = Vec::new(alloc);
+        Ok(())
+    }
+
+    /// The head of every file that the bytes so far can become, once it is read.
+    pub fn head(&self) -> Option<&Head>
+        ensures head { IfSome result (λ h. (bytes : List ℕ) → IsArriving self.now bytes → length bytes ≤ MAX_FILE_BYTES → HeadOf bytes h.now) }
+        ensures none { IfNone result (self.now.coming ≡ None) }
+    {
+        match &self.coming {
+            Some(coming) => Some(coming.head()),
+            None => None,
+        }
     }
 
     /// Gives the next lines that the bytes so far settle, as many as have room in `pixels`, a line behind the other, of one byte or
     /// three a pixel: answers how many. Every file that the bytes can become shows them.
     ///
-    /// The bytes so far are cut anew, and of what stands before these lines the interval that reaches into them is read.
-    ///
     /// # Errors
     ///
     /// The refusal of every file that the bytes can become. `Memory` where memory was refused; then no line is given.
     pub fn next_lines(&mut self, alloc: Global, pixels: &mut [u8]) -> Result<u32, Refusal>
-        ensures given { IfOk result (λ n. GivesNext self.old.bytes self.old.lines n pixels.new) }
-        ensures counted { IfOk result (λ n. self.new ≡ record self.old { lines = self.old.lines + n }) }
-        ensures refusal { IfErr result (λ f. f ≢ refusal.Memory → RefusalOf self.old.bytes f) }
-        ensures stays { IfErr result (IsFinalFault self.old.bytes) }
+        ensures given { IfOk result (λ n. (bytes : List ℕ) → IsArriving self.old bytes → GivesNext bytes (given_of self.old.coming) n pixels.new) }
+        ensures lines { IfOk result (λ n. given_of self.new.coming ≡ given_of self.old.coming + n) }
+        ensures arriving { (bytes : List ℕ) → IsArriving self.old bytes → IsArriving self.new bytes }
+        ensures refusal { IfErr result (λ f. f ≢ refusal.Memory → (bytes : List ℕ) → IsArriving self.old bytes → RefusalOf bytes f) }
+        ensures stays { IfErr result (λ f. (bytes : List ℕ) → IsArriving self.old bytes → IsFinalFault bytes f) }
         ensures kept { IfErr result (λ _. self.new ≡ self.old) }
     {
-        let Some(so_far) = SoFar::of(alloc, &self.bytes)? else {
-            return Ok(0);
-        };
-        let count = next_count(&so_far, self.lines, pixels.len());
-        let Ok(()) = paint_front(&so_far, alloc, self.lines, count, pixels) else {
-            return Err(Refusal::Memory);
-        };
-        self.lines += count;
-        Ok(count)
+        match self.begin(alloc) {
+            Ok(()) => Ok(give(&mut self.coming, pixels)),
+            Err(refusal) => Err(refusal),
+        }
     }
 
     /// Nothing more comes: the scan of the file, of whose picture lines are missing from `lines` on.
@@ -155,12 +195,21 @@ impl Arriving {
     ///
     /// The file's refusal. `Memory` where memory was refused.
     pub fn finish(self, alloc: Global) -> Result<Scan, Refusal>
-        ensures scan { IfOk result (HasScan self.bytes) }
-        ensures refusal { IfErr result (λ f. f ≢ refusal.Memory → RefusalOf self.bytes f) }
+        ensures scan { IfOk result (λ s. (bytes : List ℕ) → IsArriving self bytes → HasScan bytes s) }
+        ensures refusal { IfErr result (λ f. f ≢ refusal.Memory → (bytes : List ℕ) → IsArriving self bytes → RefusalOf bytes f) }
     {
-        let Arriving { bytes, .. } = self;
-        let head = read_head(alloc, &bytes)?;
-        let Ok(scan) = Scan::cut_in_place(alloc, head, bytes) else {
+        let Arriving {
+            bytes,
+            coming,
+            count,
+        } = self;
+        if count > MAX_FILE_BYTES as u64 {
+            return Err(Refusal::TooLong);
+        }
+        let Some(coming) = coming else {
+            return scan_of(alloc, bytes);
+        };
+        let Ok(scan) = coming.into_scan(alloc) else {
             return Err(Refusal::Memory);
         };
         Ok(scan)

@@ -7,3 +7,4 @@ pub mod RowLines
 pub mod RowsValue
 pub mod Rows
 pub mod MarkBytes
+pub mod WholeMcus

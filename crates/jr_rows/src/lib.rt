@@ -11,6 +11,7 @@ mod row_lines;
 mod rows;
 mod sample_row;
 mod shape;
+mod whole_mcus;
 
 pub use first_intervals::FirstIntervals;
 pub use mark_bytes::put_mark;

@@ -1,13 +1,16 @@
 //! A row of MCUs that one thread decodes and paints by itself.
 
-ghost use Rattle.std.specs.Prelude.{◌≡◌, ◌+◌, ◌*◌, ◌<◌, ◌≤◌, length, IfOk};
-ghost use Rattle.jr_head.specs.Geometry.{mcus_across, mcus_down};
+ghost use Rattle.std.specs.Prelude.{◌≡◌, ◌+◌, ◌*◌, ◌<◌, ◌≤◌, ℕ, [], length, slice_index_or, IfOk};
+ghost use Rattle.jr_head.specs.Geometry.{blocks_of, mcus_across, mcus_down};
 ghost use Rattle.jr_paint.specs.Lines.{line_size, next_lines_of};
+ghost use Rattle.jr_scan.specs.McuReader.{HasEnded};
+ghost use Rattle.jr_piece.specs.Units.{grey_unit};
 ghost use Rattle.jr_picture.specs.BoardValue.{BoardValue};
 ghost use Rattle.jr_rows.specs.Bands.{ShowsMcus, samples_in};
 ghost use Rattle.jr_rows.specs.Groups.{units_in};
 ghost use Rattle.jr_rows.specs.MarkBytes.{HasMarkRoom, PutsRow};
 ghost use Rattle.jr_rows.specs.Rows.{CountsRow, HasFirst, HasSampleRoom, ShowsLines, line_count};
+ghost use Rattle.jr_rows.specs.WholeMcus.{DecodesMcus};
 
 use crate::band::Band;
 use crate::marked::Marked;
@@ -15,10 +18,12 @@ use crate::painting::paint_row;
 use crate::row_lines::RowLines;
 use crate::rows::Rows;
 use crate::shape::mcus_at_once;
+use crate::whole_mcus::{decode_whole, put_grey};
 use jr_base::Memory;
 use jr_block::Coefficients;
 use jr_head::Head;
 use jr_paint::{line_room, paint_lines};
+use jr_scan::McuReader;
 use std::alloc::Global;
 use std::marker::Model;
 
@@ -71,12 +76,44 @@ impl SampleRow {
         rows.decode(&mut self.blocks, &mut self.lines, marks)
     }
 
+    /// Decodes the next whole MCUs of an interval behind the first `done` of a row: as many as the reader has, as are left of
+    /// the row and as are read at once. Answers how many.
+    pub fn decode_whole(&mut self, head: &Head, reader: &mut McuReader<'_>, done: u32) -> u32
+        requires head { reader.old.run.interval.head ≡ head.now }
+        requires within { done < mcus_across head.now }
+        requires room { HasSampleRoom head.now self.old }
+        ensures room { HasSampleRoom head.now self.new }
+        ensures run { reader.new.run ≡ reader.old.run }
+        ensures mcu { reader.new.mcu ≡ reader.old.mcu + result }
+        ensures few { done + result ≤ mcus_across head.now }
+        ensures kept { (k : ℕ) → k < done * blocks_of head.now → slice_index_or (units_in head.now self.new.lines.groups) k [] ≡ slice_index_or (units_in head.now self.old.lines.groups) k [] }
+        ensures decoded { DecodesMcus reader.old reader.new done result (units_in head.now self.new.lines.groups) }
+        ensures none { result ≡ 0 → HasEnded reader.new }
+    {
+        decode_whole(head, reader, done, &mut self.blocks, &mut self.lines)
+    }
+
+    /// Makes MCUs of a row grey behind the first `done`: as many as are asked for, and as are decoded at once. Answers how many.
+    pub fn put_grey(&mut self, head: &Head, done: u32, mcus: u32) -> u32
+        requires some { 0 < mcus }
+        requires within { done + mcus ≤ mcus_across head.now }
+        requires room { HasSampleRoom head.now self.old }
+        ensures room { HasSampleRoom head.now self.new }
+        ensures some { 0 < result }
+        ensures few { result ≤ mcus }
+        ensures kept { (k : ℕ) → k < done * blocks_of head.now → slice_index_or (units_in head.now self.new.lines.groups) k [] ≡ slice_index_or (units_in head.now self.old.lines.groups) k [] }
+        ensures grey { (k : ℕ) → k < result * blocks_of head.now → slice_index_or (units_in head.now self.new.lines.groups) (done * blocks_of head.now + k) [] ≡ grey_unit }
+    {
+        put_grey(head, done, mcus, &mut self.blocks, &mut self.lines)
+    }
+
     /// Paints lines of the picture of which each row of MCUs has the samples of the row that is decoded.
     pub fn paint_some(&mut self, head: &Head, y: u32, count: u32, pixels: &mut [u8])
         requires room { HasSampleRoom head.now self.old }
         requires inside { y + count ≤ head.now.height }
         requires pixels { length pixels.old ≡ count * line_size head.now }
         ensures room { HasSampleRoom head.now self.new }
+        ensures kept { self.new.lines ≡ self.old.lines }
         ensures lines { pixels.new ≡ next_lines_of head.now (samples_in (record { head = head.now; groups = self.old.lines.groups })) y count }
     {
         let band = Band::of(head, &self.lines);

@@ -1,0 +1,80 @@
+-- What a file that is still arriving holds, and what a look at it gives.
+use Rattle.std.proofs.Common.{◌≡◌, ℕ, ◌+◌, ◌-◌, ◌*◌, ◌/◌, ◌<◌, ◌≤◌, min, Option, Some, None, List, ◌++◌, length, length-append, refl, sym, ap, subst, ◌∙◌, take, inl, inr, true, false, arith}
+use Rattle.std.specs.Option.{IfSome, is_some}
+use Rattle.std.proofs.lemmas.Bool.{cases_lt, lt-ltb}
+use Rattle.jr_base.specs.declared.limits.TheConstants.{MAX_FILE_BYTES}
+use Rattle.jr_head.specs.HeadValue.{HeadValue}
+use Rattle.jr_head.specs.Geometry.{IsLawful, vertical_max}
+use Rattle.jr_segments.specs.declared.refusal.Refusal.TheVariants.{TooLong}
+use Rattle.jr_head.specs.Heads.{HeadOf, RefusalOf}
+use Rattle.jr_paint.specs.Lines.{line_size, next_lines_of}
+use Rattle.jr_piece.proofs.ScanLaws.{outcome}
+use Rattle.jr_scan.specs.GrowingScan.{HasCome}
+use Rattle.jr_scan.specs.ScanValue.{ScanValue, interval_of}
+use Rattle.jr_picture.specs.declared.mark.Mark.{Mark}
+use Rattle.jr_picture.specs.Headline.{ShowsFirst}
+use Rattle.jr_picture.specs.Samples.{samples_of}
+use Rattle.jr_picture.specs.Boards.{marks_of}
+use Rattle.jr_rows.proofs.FirstBoards.{first_board, shows_first}
+use Rattle.jr_arrival.specs.Arrival.{CanBecome, IsFinalFault}
+use Rattle.jr_arrival.specs.Growing.{HasScan}
+use Rattle.jr_arrival.specs.Arriving.{ComingValue, GivesComing, HasBegun, Holds, given_of}
+use Rattle.jr_arrival.specs.Coming.{AreComing, Becomes}
+use Rattle.jr_arrival.specs.Settled.{AreFinal, GivesNext, NextLines, SoFarValue, WantsMore, lines_in}
+use Rattle.jr_arrival.proofs.HeadsStay.{head_stays}
+use Rattle.jr_arrival.proofs.LinesStay.{one_lines}
+use Rattle.jr_arrival.proofs.ScansGoOn.{file_becomes}
+
+-- with more bytes it holds the longer file's scan
+pub begun_stays : (c d : ComingValue) (bytes more : List ℕ) → length (bytes ++ more) ≤ MAX_FILE_BYTES → d.growing.scan.head ≡ c.growing.scan.head → d.bytes ≡ c.bytes + length more → (HasCome c.growing bytes → HasCome d.growing (bytes ++ more))
+    → HasBegun c bytes → HasBegun d (bytes ++ more)
+begun_stays c d bytes more small head count come (h, has, n) =
+    (subst (HeadOf (bytes ++ more)) (sym head) (head_stays bytes more small c.growing.scan.head h), come has, count ∙ ap (λ (k : ℕ). k + length more) n ∙ sym (length-append bytes more))
+
+-- lines of whatever the scan may become are those of every file that the bytes can become
+pub coming_final : (bytes : List ℕ) (s : ScanValue) (first count : ℕ) (pixels : List ℕ) → first + count ≤ s.head.height → HasScan bytes s → AreComing s first count pixels → AreFinal bytes first count pixels
+coming_final bytes s first count pixels high has are file t marks f can there shows =
+    let becomes = file_becomes bytes file s t can has there in
+    let b = first_board outcome t (length t.intervals) (omega arith) in
+    are t becomes b.0 b.1 ∙ one_lines t (length t.intervals) (marks_of b.0) marks (samples_of b.0) f first count (subst (λ (h : HeadValue). first + count ≤ h.height) (sym becomes.head) high) (shows_first t (length t.intervals) b.0 b.1 shows.lawful) shows
+
+pub given_next : (c : ComingValue) (bytes : List ℕ) (first n : ℕ) (pixels : List ℕ) → HasBegun c bytes → GivesComing c first n pixels → GivesNext bytes first n pixels
+given_next c bytes first n pixels begun given =
+    let s = c.growing.scan in
+    let g = given.settled in
+    let has : HasScan bytes s = record { head = begun.0; scan = begun.1.scan } in
+    let few : 0 < n → first + n ≤ s.head.height = λ some. omega (arith, g.count, some) in
+    inr (record {
+      settled = record { scan = s; rows = g.rows };
+      scan = has;
+      rows = g.has;
+      count = g.count;
+      are = elim (cases_lt 0 n) [
+        | inl some ↦ coming_final bytes s first n (take (n * line_size s.head) pixels) (few some) has given.are
+        | inr none ↦ subst (λ (k : ℕ). AreFinal bytes first k (take (k * line_size s.head) pixels)) {x = 0} {y = n} (omega (arith, none)) (λ file t marks f can there shows. let zero : 0 * line_size s.head ≡ 0 = omega arith in ap (λ (k : ℕ). take k pixels) zero)
+      ];
+    })
+
+-- what holds where the scan has not begun
+pub none_kept : (kept : List ℕ) (o : Option ComingValue) (bytes : List ℕ) → is_some o ≡ false → Holds kept o bytes → kept ≡ bytes
+none_kept kept None bytes e h = h
+none_kept kept (Some c) bytes e h = absurd (let z : true ≡ false = e in cc)
+
+pub none_given : (o : Option ComingValue) → is_some o ≡ false → given_of o ≡ 0
+none_given None e = refl
+none_given (Some c) e = absurd (let z : true ≡ false = e in cc)
+
+-- a look at a file, by whether its scan has begun
+pub look_given : (kept bytes : List ℕ) (o : Option ComingValue) (n : ℕ) (pixels : List ℕ) → Holds kept o bytes → (o ≡ None → n ≡ 0) → (o ≡ None → WantsMore bytes) → IfSome o (λ c. GivesComing c (given_of o) n pixels) → GivesNext bytes (given_of o) n pixels
+look_given kept bytes None n pixels holds none wants given = inl (none refl, wants refl)
+look_given kept bytes (Some c) n pixels holds none wants given = given_next c bytes c.row.lines n pixels holds given
+
+-- what is too long
+pub is_too_long : (bytes : List ℕ) → MAX_FILE_BYTES < length bytes → RefusalOf bytes TooLong
+is_too_long bytes l = let e = lt-ltb MAX_FILE_BYTES (length bytes) l in inl (rw e refl)
+
+pub too_long_final : (bytes : List ℕ) → IsFinalFault bytes TooLong
+too_long_final bytes = record { not_early = λ e. absurd cc; start = λ e. absurd cc }
+
+pub begun_scan : (c : ComingValue) (bytes : List ℕ) → HasBegun c bytes → HasScan bytes c.growing.scan
+begun_scan c bytes begun = record { head = begun.0; scan = begun.1.scan }

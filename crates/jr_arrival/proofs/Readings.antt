@@ -1,0 +1,396 @@
+-- What is read of a row of MCUs is that of whatever the scan may become.
+use Rattle.std.proofs.Common.{◌≡◌, ◌≢◌, ℕ, ◌+◌, ◌-◌, ◌*◌, ◌/◌, ◌%◌, ◌<◌, ◌≤◌, ◌⊎◌, inl, inr, Option, Some, None, List, [], ◌∷◌, ◌++◌, length, get_or, refl, sym, ap, subst, ◌∙◌, append_assoc, length-append, arith}
+use Rattle.std.specs.Prelude.{ℤ}
+use Rattle.std.proofs.lemmas.Bool.{cases_lt}
+use Rattle.std.proofs.lemmas.List.{get_or-append_right}
+use Rattle.std.proofs.lemmas.Nat.{div-add-mod'}
+use Rattle.std.proofs.Math.Nat.{add-mul, div-lt_iff_lt-mul, mul-le-mul_right}
+use Rattle.jr_head.specs.HeadValue.{HeadValue}
+use Rattle.jr_head.specs.Geometry.{IsLawful, blocks_of, order_of, mcus_across, mcus_down, quantiser_of, vertical_max}
+use Rattle.jr_head.proofs.SamplingLaws.{length-order}
+use Rattle.jr_cut.specs.declared.scan_end.ScanEnd.{ScanEnd}
+use Rattle.jr_cut.specs.declared.scan_end.ScanEnd.TheVariants.{EndOfFile}
+use Rattle.jr_idct.specs.Transform.{samples}
+use Rattle.jr_mcu.specs.Mcus.{component}
+use Rattle.jr_scan.specs.declared.place.Place.{Place}
+use Rattle.jr_scan.specs.declared.place.RunEnd.TheVariants.{AllRead}
+use Rattle.jr_scan.specs.IntervalValue.{IntervalValue}
+use Rattle.jr_paint.specs.Lines.{next_lines_of}
+use Rattle.jr_paint.proofs.Places.{below_div_ceil, in_div_ceil}
+use Rattle.jr_scan.specs.Mcus.{Front, HasLongestFront, LongestFront}
+use Rattle.jr_scan.specs.Run.{IsRun, run_from, start_of_interval}
+use Rattle.jr_scan.specs.ScanValue.{ScanValue, interval_of, intervals_of, mcus_in}
+use Rattle.jr_scan.proofs.McuReaders.{front_of_run}
+use Rattle.jr_piece.specs.PieceValue.{PieceValue}
+use Rattle.jr_piece.specs.Outcome.{IsOutcome, unit_of}
+use Rattle.jr_piece.specs.Strips.{CanReadFrom, FirstMcus, IsNext}
+use Rattle.jr_piece.specs.Units.{grey_unit, unit_in_piece}
+use Rattle.jr_piece.proofs.ScanLaws.{one_front, one_run, runs_meet, shorter_front}
+use Rattle.jr_piece.proofs.Strips.{component_on}
+use Rattle.jr_piece.proofs.StripRuns as runs
+use Rattle.jr_piece.proofs.UnitReading.{shown, behind}
+use Rattle.jr_picture.specs.BoardValue.{BoardValue}
+use Rattle.jr_picture.specs.Boards.{piece_at}
+use Rattle.jr_picture.specs.Headline.{interval_number, within_interval}
+use Rattle.jr_picture.specs.Samples.{samples_of}
+use Rattle.jr_rows.specs.Bands.{ShowsMcus, samples_in, unit_shown, unit_shown_of}
+use Rattle.jr_rows.specs.Groups.{units_in}
+use Rattle.jr_rows.specs.Rows.{HasFirst, HasSampleRoom, ShowsBehind, ShowsFirstUnits, first_line, line_count}
+use Rattle.jr_rows.specs.RowLinesValue.{RowLinesValue}
+use Rattle.jr_rows.specs.RowsValue.{SampleRowValue}
+use Rattle.jr_rows.proofs.GroupLists.{units_long}
+use Rattle.jr_rows.proofs.PaintedRows.{row_painted}
+use Rattle.jr_rows.proofs.IntervalPlaces.{interval_at, mcus_in_some, next_there}
+use Rattle.jr_rows.proofs.PictureRows.{row_inside}
+use Rattle.jr_rows.proofs.ReadRows.{posted_there, shown_more}
+use Rattle.jr_arrival.specs.Growing.{with_more}
+use Rattle.jr_arrival.specs.Coming.{AreComing, Becomes, Begins, ComingRowValue, HasGiven, HasNoMore, IsComing, IsOver, MayGoOn, ReadsAll, ReadsTo, StandsIn}
+use Rattle.jr_arrival.proofs.LinesStay.{interval_more}
+use Rattle.jr_arrival.proofs.RunsGoOn.{run_is_final}
+
+-- ---- what a scan may become
+
+not_empty : (xs ys : List ℕ) → xs ≢ [] → xs ++ ys ≢ []
+not_empty [] ys some e = some refl
+not_empty (x ∷ xs) ys some e = absurd cc
+
+pub over_stays : (s t : ScanValue) (i : ℕ) → Becomes s t → IsOver s i → IsOver t i
+over_stays s t i b (inl n) = inl (λ e. n (sym (b.end n) ∙ e))
+over_stays s t i b (inr later) =
+    let d = b.so_far later.0 in
+    inr (later.0, later.1, λ e. not_empty (get_or s.intervals later.0 []) d.0 later.2 (sym d.1 ∙ e))
+
+pub becomes_itself : (s : ScanValue) → Becomes s s
+becomes_itself s = record { head = refl; count = refl; so_far = λ i. ([], sym (append-nil (get_or s.intervals i []))); whole = λ i over. refl; end = λ n. refl }
+  where
+    append-nil : (xs : List ℕ) → xs ++ [] ≡ xs
+    append-nil [] = refl
+    append-nil (x ∷ xs) = ap (λ (ys : List ℕ). x ∷ ys) (append-nil xs)
+
+pub becomes_more : (s t u : ScanValue) → Becomes s t → Becomes t u → Becomes s u
+becomes_more s t u a b = record {
+  head = b.head ∙ a.head;
+  count = b.count ∙ a.count;
+  so_far = λ i.
+      let d = a.so_far i in
+      let e = b.so_far i in
+      (d.0 ++ e.0, e.1 ∙ ap (λ (l : List ℕ). l ++ e.0) d.1 ∙ append_assoc (get_or s.intervals i []) d.0 e.0);
+  whole = λ i over. b.whole i (over_stays s t i a over) ∙ a.whole i over;
+  end = λ n. b.end (λ e. n (sym (a.end n) ∙ e)) ∙ a.end n;
+}
+
+-- ---- where the reading stands
+
+next_stays : (i : IntervalValue) (more : List ℕ) (first : ℕ) (zs : List (List ℤ)) (p : Place) → IsNext i first zs p → IsNext (with_more i more) first zs p
+next_stays i more first zs p n = record {
+  run = run_is_final (run_from i start_of_interval first) more zs p (omega arith) n.run;
+  can = (omega (arith, n.can.0, length-append i.bytes more), n.can.1);
+}
+
+reads_stays : (s t : ScanValue) (number mcu : ℕ) (place : Option Place) → Becomes s t → ReadsTo s number mcu place → ReadsTo t number mcu place
+reads_stays s t number mcu (Some p) b r =
+    let d = b.so_far number in
+    (r.0, subst (λ (i : IntervalValue). IsNext i mcu r.0 p) (sym (interval_more s t number d.0 b.head d.1)) (next_stays (interval_of s number) d.0 mcu r.0 p r.1))
+reads_stays s t number mcu None b r =
+    let far = r.1 in
+    (over_stays s t number b r.0, (far.0, far.1, far.2, subst (λ (i : IntervalValue). LongestFront i far.0 far.1) (sym (b.whole number r.0)) far.3))
+
+pub coming_stays : (s t : ScanValue) (v : ComingRowValue) → Becomes s t → IsComing s v → IsComing t v
+coming_stays s t v b c = record {
+  stands = subst (λ (h : HeadValue). StandsIn h v) (sym b.head) c.stands;
+  given = subst (λ (h : HeadValue). HasGiven h v) (sym b.head) c.given;
+  begun = λ i lt. over_stays s t i b (c.begun i lt);
+  reads = reads_stays s t v.number v.mcu v.place b c.reads;
+  shows = λ u then. c.shows u (becomes_more s t u b then);
+}
+
+-- ---- what MCUs of an interval show
+
+-- those that are there
+module _ (i : IntervalValue) (lawful : IsLawful i.head) (first : ℕ) (zs : List (List ℤ)) (p : Place) (next : IsNext i first zs p) (n : ℕ) (ys : List (List ℤ)) (q : Place) (run : IsRun (run_from i p n) ys q AllRead) (few : first + n ≤ i.mcus) where
+  abbrev per : ℕ
+  per = length (order_of i.head)
+
+  here : FirstMcus (run_from i p n) n ys
+  here = record { to = q; run = run; none = λ lt. absurd (omega (arith, lt)) }
+
+  block_there : (k : ℕ) → get_or ys k [] ≡ get_or (zs ++ ys) (first * per + k) []
+  block_there k =
+      let long : length zs ≡ first * per = next.run.mcus.0 ∙ ap (λ (m : ℕ). m * per) next.run.ends in
+      let there : first * per + k - length zs ≡ k = omega (arith, long) in
+      sym (get_or-append_right zs ys (length zs) (first * per + k) [] refl (omega (arith, long)) ∙ ap (λ (m : ℕ). get_or ys m []) there)
+
+  pub whole_codes : (o : PieceValue) → o.interval ≡ i → IsOutcome o → (k : ℕ) → k < n * per → unit_of i.head ys k ≡ unit_in_piece o (first * per + k)
+  whole_codes o same is k lt =
+      let front = runs.front one_run runs_meet shorter_front i lawful first zs p next n n ys here few in
+      ap (λ (z : List ℤ). samples z (quantiser_of i.head (component i.head k))) (block_there k)
+      ∙ ap (λ (c : ℕ). samples (get_or (zs ++ ys) (first * per + k) []) (quantiser_of i.head c)) (sym (component_on i.head first k))
+      ∙ shown one_front shorter_front i o same is (first + n) (zs ++ ys) front (first * per + k) (omega (arith, lt, add-mul first n per))
+
+-- those behind the last whole one
+pub grey_codes : (i : IntervalValue) (front mcu : ℕ) (zs : List (List ℤ)) → front ≤ mcu → LongestFront i front zs → (o : PieceValue) → o.interval ≡ i → IsOutcome o → (k : ℕ) → grey_unit ≡ unit_in_piece o (mcu * length (order_of i.head) + k)
+grey_codes i front mcu zs le longest o same is k =
+    let past : front * length (order_of i.head) ≤ mcu * length (order_of i.head) = mul-le-mul_right {m = front} {n = mcu} (length (order_of i.head)) le in
+    behind one_front shorter_front i o same is front zs longest (mcu * length (order_of i.head) + k) (omega (arith, past))
+
+-- where data units are those of each outcome of an interval, they are those that a board shows
+module _ (t : ScanValue) (n number mcu mcus before : ℕ) (units : List (List ℕ)) (some : 0 < blocks_of t.head) (number_few : number < intervals_of t.head) (marked : number < n) (few : mcu + mcus ≤ mcus_in t.head number)
+    (codes : (o : PieceValue) → o.interval ≡ interval_of t number → IsOutcome o → (k : ℕ) → k < mcus * blocks_of t.head → get_or units (before + k) [] ≡ unit_in_piece o (mcu * blocks_of t.head + k)) where
+  abbrev h : HeadValue
+  h = t.head
+
+  abbrev m : ℕ
+  m = blocks_of h
+
+  pub shown_there : ShowsBehind t n (number * h.restart + mcu) before mcus units
+  shown_there b first k lt =
+      let j = k / m in
+      let near : j < mcus = (div-lt_iff_lt-mul some).1 lt in
+      let place = interval_at h number (mcu + j) number_few (omega (arith, near, few)) in
+      let at : number * h.restart + mcu + j ≡ number * h.restart + (mcu + j) = omega arith in
+      let p = posted_there t n b first number marked in
+      let unit = codes p.piece p.interval p.outcome k lt in
+      let per : mcu * m + k ≡ (mcu + j) * m + k % m = omega (arith, div-add-mod' k m, add-mul mcu j m) in
+      let turned : unit_shown_of h (k % m) (Some p.piece) ((mcu + j) * m + k % m) ≡ unit_shown_of h (k % m) (piece_at b (interval_number h (number * h.restart + mcu + j))) (within_interval h (number * h.restart + mcu + j) * m + k % m) =
+      ap (λ q. unit_shown_of h (k % m) q ((mcu + j) * m + k % m)) (sym p.at)
+      ∙ ap (λ x. unit_shown_of h (k % m) (piece_at b number) (x * m + k % m)) (sym (ap (within_interval h) at ∙ place.1))
+      ∙ ap (λ x. unit_shown_of h (k % m) (piece_at b x) (within_interval h (number * h.restart + mcu + j) * m + k % m)) (sym (ap (interval_number h) at ∙ place.0)) in
+      unit ∙ ap (unit_in_piece p.piece) per ∙ turned
+      ∙ ap (λ (g : HeadValue). unit_shown_of g (k % m) (piece_at b (interval_number g (number * h.restart + mcu + j))) (within_interval g (number * h.restart + mcu + j) * blocks_of g + k % m)) (ap (λ (u : ScanValue). u.head) (sym first.scan_is))
+
+-- more of the row behind what is shown of it
+pub shown_on : (t : ScanValue) (n from done more at : ℕ) (old new : List (List ℕ)) → 0 < blocks_of t.head → at ≡ from + done → ShowsFirstUnits t n from done old
+    → ((k : ℕ) → k < done * blocks_of t.head → get_or new k [] ≡ get_or old k []) → ShowsBehind t n at (done * blocks_of t.head) more new → ShowsFirstUnits t n from (done + more) new
+shown_on t n from done more at old new some e before kept there b first =
+    shown_more (blocks_of t.head) done more from (unit_shown b) (λ k. get_or old k []) (λ k. get_or new k []) some (before b first) kept
+    (λ k lt. there b first k lt ∙ ap (λ (m : ℕ). unit_shown b (m + k / blocks_of t.head) (k % blocks_of t.head)) e)
+
+-- nothing of an interval is read at its start
+at_the_start : (i : IntervalValue) → (zs : List (List ℤ)) × IsNext i 0 zs start_of_interval
+at_the_start i = let start = runs.at_start i in (start.blocks, start.next start_of_interval refl)
+
+-- ---- one step
+
+module _ (s : ScanValue) (v : ComingRowValue) (lawful : IsLawful s.head) (some : 0 < blocks_of s.head) (count : length s.intervals ≡ intervals_of s.head) (c : IsComing s v) where
+  per_mcu : length (order_of s.head) ≡ blocks_of s.head
+  per_mcu = length-order 0 s.head.components
+
+  -- further MCUs of the interval, which are the outcomes' in whatever the scan may become
+  module _ (n : ℕ) (place : Option Place) (w : SampleRowValue) (within : v.done + n ≤ mcus_across s.head) (few : v.mcu + n ≤ mcus_in s.head v.number) (room : HasSampleRoom s.head w) (reads : ReadsTo s v.number (v.mcu + n) place)
+      (kept : (k : ℕ) → k < v.done * blocks_of s.head → get_or (units_in s.head w.lines.groups) k [] ≡ get_or (units_in s.head v.samples.lines.groups) k [])
+      (codes : (t : ScanValue) → Becomes s t → (o : PieceValue) → o.interval ≡ interval_of t v.number → IsOutcome o → (k : ℕ) → k < n * blocks_of s.head → get_or (units_in s.head w.lines.groups) (v.done * blocks_of s.head + k) [] ≡ unit_in_piece o (v.mcu * blocks_of s.head + k)) where
+    abbrev new : ComingRowValue
+    new = record { row = v.row; done = v.done + n; number = v.number; mcu = v.mcu + n; place = place; samples = w; lines = v.lines }
+
+    -- by the head of whatever the scan may become
+    module _ (t : ScanValue) (b : Becomes s t) where
+      abbrev KeptBy : HeadValue → Type 0
+      KeptBy g = (k : ℕ) → k < v.done * blocks_of g → get_or (units_in g w.lines.groups) k [] ≡ get_or (units_in g v.samples.lines.groups) k []
+
+      abbrev CodesBy : HeadValue → Type 0
+      CodesBy g = (o : PieceValue) → o.interval ≡ interval_of t v.number → IsOutcome o → (k : ℕ) → k < n * blocks_of g → get_or (units_in g w.lines.groups) (v.done * blocks_of g + k) [] ≡ unit_in_piece o (v.mcu * blocks_of g + k)
+
+      e : s.head ≡ t.head
+      e = sym b.head
+
+      shows_on : ShowsFirstUnits t (length t.intervals) (v.row * mcus_across t.head) (v.done + n) (units_in t.head w.lines.groups)
+      shows_on =
+          let positive : 0 < blocks_of t.head = subst (λ (g : HeadValue). 0 < blocks_of g) e some in
+          let here : StandsIn t.head v = subst (λ (g : HeadValue). StandsIn g v) e c.stands in
+          let all : length t.intervals ≡ intervals_of t.head = b.count ∙ count ∙ ap intervals_of e in
+          let there : v.mcu + n ≤ mcus_in t.head v.number = subst (λ (g : HeadValue). v.mcu + n ≤ mcus_in g v.number) e few in
+          shown_on t (length t.intervals) (v.row * mcus_across t.head) v.done n (v.number * t.head.restart + v.mcu) (units_in t.head v.samples.lines.groups) (units_in t.head w.lines.groups) positive here.at
+          (c.shows t b) (subst KeptBy e kept)
+          (shown_there t (length t.intervals) v.number v.mcu n (v.done * blocks_of t.head) (units_in t.head w.lines.groups) positive here.number (omega (arith, here.number, all)) there (subst CodesBy e (codes t b)))
+
+    pub step : IsComing s new
+    step = record {
+      stands = record { row = c.stands.row; within = within; number = c.stands.number; few = few; at = omega (arith, c.stands.at); room = room };
+      given = record { from = c.given.from; to = c.given.to; none = λ lt. c.given.none (omega (arith, lt)); left = c.given.left };
+      begun = c.begun;
+      reads = reads;
+      shows = shows_on;
+    }
+
+  -- whole MCUs
+  module _ (p q : Place) (zs ys : List (List ℤ)) (n : ℕ) (w : SampleRowValue) (next : IsNext (interval_of s v.number) v.mcu zs p) (run : IsRun (run_from (interval_of s v.number) p n) ys q AllRead) (can : CanReadFrom (interval_of s v.number) q)
+      (within : v.done + n ≤ mcus_across s.head) (few : v.mcu + n ≤ mcus_in s.head v.number) (room : HasSampleRoom s.head w)
+      (kept : (k : ℕ) → k < v.done * blocks_of s.head → get_or (units_in s.head w.lines.groups) k [] ≡ get_or (units_in s.head v.samples.lines.groups) k [])
+      (units : (k : ℕ) → k < n * blocks_of s.head → get_or (units_in s.head w.lines.groups) (v.done * blocks_of s.head + k) [] ≡ unit_of s.head ys k) where
+    abbrev i : IntervalValue
+    i = interval_of s v.number
+
+    codes_whole : (t : ScanValue) → Becomes s t → (o : PieceValue) → o.interval ≡ interval_of t v.number → IsOutcome o → (k : ℕ) → k < n * blocks_of s.head → get_or (units_in s.head w.lines.groups) (v.done * blocks_of s.head + k) [] ≡ unit_in_piece o (v.mcu * blocks_of s.head + k)
+    codes_whole t b o same is k lt =
+        let d = b.so_far v.number in
+        let longer = with_more i d.0 in
+        let of_longer : o.interval ≡ longer = same ∙ interval_more s t v.number d.0 b.head d.1 in
+        let goes_on = run_is_final (run_from i p n) d.0 ys q next.can.0 run in
+        let there : k < n * length (order_of s.head) = omega (arith, lt, ap (λ (m : ℕ). n * m) per_mcu) in
+        units k lt ∙ whole_codes longer lawful v.mcu zs p (next_stays i d.0 v.mcu zs p next) n ys q goes_on few o of_longer is k there
+        ∙ ap (λ (m : ℕ). unit_in_piece o (v.mcu * m + k)) per_mcu
+
+    pub step_whole : IsComing s (record { row = v.row; done = v.done + n; number = v.number; mcu = v.mcu + n; place = Some q; samples = w; lines = v.lines })
+    step_whole =
+        let first : FirstMcus (run_from i p n) n ys = record { to = q; run = run; none = λ lt. absurd (omega (arith, lt)) } in
+        step n (Some q) w within few room (zs ++ ys, runs.going one_run runs_meet shorter_front i lawful v.mcu zs p next n n ys first few q run can) kept codes_whole
+
+  -- grey ones behind the last whole one of an interval that is over
+  module _ (front n : ℕ) (zs : List (List ℤ)) (w : SampleRowValue) (over : IsOver s v.number) (far : front ≤ v.mcu) (longest : LongestFront (interval_of s v.number) front zs)
+      (within : v.done + n ≤ mcus_across s.head) (few : v.mcu + n ≤ mcus_in s.head v.number) (room : HasSampleRoom s.head w)
+      (kept : (k : ℕ) → k < v.done * blocks_of s.head → get_or (units_in s.head w.lines.groups) k [] ≡ get_or (units_in s.head v.samples.lines.groups) k [])
+      (grey : (k : ℕ) → k < n * blocks_of s.head → get_or (units_in s.head w.lines.groups) (v.done * blocks_of s.head + k) [] ≡ grey_unit) where
+    codes_grey : (t : ScanValue) → Becomes s t → (o : PieceValue) → o.interval ≡ interval_of t v.number → IsOutcome o → (k : ℕ) → k < n * blocks_of s.head → get_or (units_in s.head w.lines.groups) (v.done * blocks_of s.head + k) [] ≡ unit_in_piece o (v.mcu * blocks_of s.head + k)
+    codes_grey t b o same is k lt =
+        grey k lt ∙ grey_codes (interval_of s v.number) front v.mcu zs far longest o (same ∙ b.whole v.number over) is k
+        ∙ ap (λ (m : ℕ). unit_in_piece o (v.mcu * m + k)) per_mcu
+
+    pub step_grey : IsComing s (record { row = v.row; done = v.done + n; number = v.number; mcu = v.mcu + n; place = None; samples = w; lines = v.lines })
+    step_grey = step n None w within few room (over, (front, zs, omega (arith, far), longest)) kept codes_grey
+
+started_next : (s : ScanValue) (v : ComingRowValue) → ReadsTo s (v.number + 1) 0 (Some start_of_interval)
+started_next s v = at_the_start (interval_of s (v.number + 1))
+
+-- on to the next interval
+pub step_next : (s : ScanValue) (v : ComingRowValue) → IsComing s v → IsOver s v.number → v.mcu ≡ mcus_in s.head v.number → v.done < mcus_across s.head
+    → IsComing s (record { row = v.row; done = v.done; number = v.number + 1; mcu = 0; place = Some start_of_interval; samples = v.samples; lines = v.lines })
+step_next s v c over all more =
+    let next = next_there s.head v.number v.mcu c.stands.number all (omega (arith, c.stands.at, more, row_inside s.head v.row c.stands.row)) in
+    record {
+      stands = record { row = c.stands.row; within = c.stands.within; number = next.0; few = omega arith; at = omega (arith, next.1, c.stands.at); room = c.stands.room };
+      given = record { from = c.given.from; to = c.given.to; none = c.given.none; left = c.given.left };
+      begun = λ j lt. elim (cases_lt j v.number) [ inl l ↦ c.begun j l | inr g ↦ subst (λ (k : ℕ). IsOver s k) {x = v.number} {y = j} (omega (arith, g, lt)) over ];
+      reads = started_next s v;
+      shows = c.shows;
+    }
+
+-- which has an MCU
+pub next_inside : (s : ScanValue) (v : ComingRowValue) → IsComing s v → v.mcu ≡ mcus_in s.head v.number → v.done < mcus_across s.head → 0 < mcus_in s.head (v.number + 1)
+next_inside s v c all more =
+    let inside = row_inside s.head v.row c.stands.row in
+    let next = next_there s.head v.number v.mcu c.stands.number all (omega (arith, c.stands.at, more, inside)) in
+    mcus_in_some s.head (v.number + 1) (omega (arith, more, inside)) next.0
+
+-- ---- where the reading ends
+
+pub over_or_going : (s : ScanValue) (i : ℕ) → IsOver s i → MayGoOn s i → ⊥
+over_or_going s i (inl n) g = n g.0
+over_or_going s i (inr later) g = later.2 (g.1 later.0 later.1)
+
+-- all MCUs of an interval are its longest front
+pub all_read : (s : ScanValue) (number mcu : ℕ) (place : Option Place) → MayGoOn s number → ReadsTo s number mcu place → mcu ≡ mcus_in s.head number → HasLongestFront (interval_of s number) mcu
+all_read s number mcu (Some p) going r all =
+    (r.0, record { front = front_of_run (interval_of s number) mcu r.0 p r.1.run (omega (arith, all)); longest = λ j ys f. omega (arith, f.at_most, all) })
+all_read s number mcu None going r all = absurd (over_or_going s number r.0 going)
+
+-- and so are those that no further one follows
+pub none_follows : (s : ScanValue) (number mcu : ℕ) (place : Option Place) → MayGoOn s number → ReadsTo s number mcu place → ReadsAll s number mcu place → HasLongestFront (interval_of s number) mcu
+none_follows s number mcu (Some p) going r all = all
+none_follows s number mcu None going r all = absurd (over_or_going s number r.0 going)
+
+-- a reader that reads nothing stands there
+pub nothing_follows : (i : IntervalValue) (first left : ℕ) (zs ys : List (List ℤ)) (p : Place) → IsLawful i.head → IsNext i first zs p → FirstMcus (run_from i p left) 0 ys → 0 < left → first ≤ i.mcus → HasLongestFront i (first + 0)
+nothing_follows i first left zs ys p lawful next here some few =
+    (zs ++ ys, runs.longest one_run runs_meet shorter_front i lawful first zs p next 0 left ys here (omega (arith, few)) some)
+
+-- the grey MCUs of an interval stand behind a longest front
+pub far_front : (s : ScanValue) (number mcu : ℕ) (place : Option Place) → ReadsTo s number mcu place → ReadsAll s number mcu place → (front : ℕ) × (zs : List (List ℤ)) × (front ≤ mcu) × LongestFront (interval_of s number) front zs
+far_front s number mcu (Some p) r all = (mcu, all.0, omega arith, all.1)
+far_front s number mcu None r all = r.1
+
+-- ---- a row of MCUs
+
+-- on to the next one
+pub step_row : (s : ScanValue) (v : ComingRowValue) → IsComing s v → 0 < vertical_max s.head → v.done ≡ mcus_across s.head → (lines : ℕ) → lines ≡ first_line s.head v.row + line_count s.head v.row → lines < s.head.height
+    → IsComing s (record { row = v.row + 1; done = 0; number = v.number; mcu = v.mcu; place = v.place; samples = v.samples; lines = lines })
+step_row s v c some whole lines given more =
+    let deep = 8 * vertical_max s.head in
+    let positive : 0 < deep = omega (arith, some) in
+    let next : (v.row + 1) * deep ≡ v.row * deep + deep = omega (arith, add-mul v.row 1 deep) in
+    let at : lines ≡ (v.row + 1) * deep = omega (arith, given, more, next) in
+    let across : (v.row + 1) * mcus_across s.head ≡ v.row * mcus_across s.head + mcus_across s.head = omega (arith, add-mul v.row 1 (mcus_across s.head)) in
+    record {
+      stands = record {
+        row = in_div_ceil (v.row + 1) s.head.height deep positive (omega (arith, at, more));
+        within = omega arith;
+        number = c.stands.number;
+        few = c.stands.few;
+        at = omega (arith, c.stands.at, whole, across);
+        room = c.stands.room;
+      };
+      given = record { from = omega (arith, at); to = omega (arith, at); none = λ lt. at; left = λ lt. omega (arith, at, lt, positive) };
+      begun = c.begun;
+      reads = c.reads;
+      shows = λ t b board first k lt. absurd (omega (arith, lt));
+    }
+
+-- lines that are given of it
+pub step_lines : (s : ScanValue) (v : ComingRowValue) (n : ℕ) → IsComing s v → v.done ≡ mcus_across s.head → v.lines + n ≤ first_line s.head v.row + line_count s.head v.row → (v.lines + n < s.head.height → v.lines + n < first_line s.head v.row + line_count s.head v.row)
+    → IsComing s (record { row = v.row; done = v.done; number = v.number; mcu = v.mcu; place = v.place; samples = v.samples; lines = v.lines + n })
+step_lines s v n c whole few left = record {
+  stands = record { row = c.stands.row; within = c.stands.within; number = c.stands.number; few = c.stands.few; at = c.stands.at; room = c.stands.room };
+  given = record { from = omega (arith, c.given.from); to = few; none = λ lt. absurd (omega (arith, lt, whole)); left = left };
+  begun = c.begun;
+  reads = c.reads;
+  shows = c.shows;
+}
+
+-- the row's samples are painted as the picture's
+module _ (s : ScanValue) (v : ComingRowValue) (lawful : IsLawful s.head) (c : IsComing s v) (whole : v.done ≡ mcus_across s.head) (n : ℕ) (few : v.lines + n ≤ first_line s.head v.row + line_count s.head v.row) (t : ScanValue) (b : Becomes s t) (board : BoardValue) (first : HasFirst t (length t.intervals) board) where
+  abbrev groups : List (List ℕ)
+  groups = v.samples.lines.groups
+
+  abbrev PaintedBy : HeadValue → Type 0
+  PaintedBy g = next_lines_of g (samples_in (record { head = g; groups = groups })) v.lines n ≡ next_lines_of t.head (samples_of board) v.lines n
+
+  shows_all : ShowsMcus board (v.row * mcus_across t.head) (units_in t.head groups)
+  shows_all =
+      let all : v.done ≡ mcus_across t.head = whole ∙ ap mcus_across (sym b.head) in
+      subst (λ (u : ScanValue). (k : ℕ) → k < length (units_in t.head groups) → get_or (units_in t.head groups) k [] ≡ unit_shown board (v.row * mcus_across t.head + k / blocks_of u.head) (k % blocks_of u.head)) (sym first.scan_is)
+      (λ k lt. c.shows t b board first k (omega (arith, lt, units_long t.head groups, ap (λ (m : ℕ). m * blocks_of t.head) all)))
+
+  painted_there : PaintedBy t.head
+  painted_there =
+      let there : HasGiven t.head v = subst (λ (g : HeadValue). HasGiven g v) (sym b.head) c.given in
+      let end : v.lines + n ≤ first_line t.head v.row + line_count t.head v.row = subst (λ (g : HeadValue). v.lines + n ≤ first_line g v.row + line_count g v.row) (sym b.head) few in
+      let deep = 8 * vertical_max t.head in
+      let positive : 0 < deep = let some : 0 < vertical_max t.head = subst (λ (g : HeadValue). 0 < vertical_max g) (sym b.head) lawful.components.down in omega (arith, some) in
+      let from = v.lines - v.row * deep in
+      let high : first_line t.head v.row < t.head.height = below_div_ceil v.row t.head.height deep positive (subst (λ (g : HeadValue). v.row < mcus_down g) (sym b.head) c.stands.row) in
+      row_painted board t.head (ap (λ (u : ScanValue). u.head) first.scan_is) (subst IsLawful (sym b.head) lawful) groups v.row shows_all v.lines n from (omega (arith, there.from)) (omega (arith, end, there.from)) (omega (arith, end, high))
+
+  pub lines_are : PaintedBy s.head
+  lines_are = subst PaintedBy b.head painted_there
+
+pub row_coming : (s : ScanValue) (v : ComingRowValue) → IsLawful s.head → IsComing s v → v.done ≡ mcus_across s.head → (n : ℕ) → v.lines + n ≤ first_line s.head v.row + line_count s.head v.row
+    → (pixels : List ℕ) → pixels ≡ next_lines_of s.head (samples_in (record { head = s.head; groups = v.samples.lines.groups })) v.lines n → AreComing s v.lines n pixels
+row_coming s v lawful c whole n few pixels are t b board first = are ∙ lines_are s v lawful c whole n few t b board first
+
+-- ---- the beginning
+
+pub begins_coming : (s : ScanValue) (v : ComingRowValue) → Begins s.head v → 0 < mcus_down s.head → 0 < intervals_of s.head → 0 < s.head.height → 0 < vertical_max s.head → IsComing s v
+begins_coming s v b down some high deep =
+    let none : v.row * mcus_across s.head ≡ 0 * mcus_across s.head = ap (λ (n : ℕ). n * mcus_across s.head) b.row in
+    let before : v.number * s.head.restart ≡ 0 * s.head.restart = ap (λ (n : ℕ). n * s.head.restart) b.number in
+    let top : first_line s.head v.row ≡ 0 * (8 * vertical_max s.head) = ap (λ (n : ℕ). n * (8 * vertical_max s.head)) b.row in
+    record {
+      stands = record { row = omega (arith, b.row, down); within = omega (arith, b.done); number = omega (arith, b.number, some); few = omega (arith, b.mcu); at = omega (arith, b.mcu, b.done, none, before); room = b.room };
+      given = record { from = omega (arith, top, b.lines); to = omega (arith, b.lines); none = λ lt. omega (arith, top, b.lines); left = λ lt. omega (arith, top, b.lines, high, deep) };
+      begun = λ i lt. absurd (omega (arith, lt, b.number));
+      reads = subst (λ (o : Option Place). ReadsTo s v.number v.mcu o) (sym b.place) (subst (λ (m : ℕ). ReadsTo s v.number m (Some start_of_interval)) (sym b.mcu) started);
+      shows = λ t becomes board first k lt. let zero : v.done * blocks_of t.head ≡ 0 * blocks_of t.head = ap (λ (n : ℕ). n * blocks_of t.head) b.done in absurd (omega (arith, lt, zero));
+    }
+  where
+    started : ReadsTo s v.number 0 (Some start_of_interval)
+    started = at_the_start (interval_of s v.number)
+
+-- what is read of a row does not hang on what else its memory holds
+pub same_lines : (s : ScanValue) (v : ComingRowValue) (w : SampleRowValue) → IsComing s v → w.lines ≡ v.samples.lines → HasSampleRoom s.head w
+    → IsComing s (record { row = v.row; done = v.done; number = v.number; mcu = v.mcu; place = v.place; samples = w; lines = v.lines })
+same_lines s v w c same room = record {
+  stands = record { row = c.stands.row; within = c.stands.within; number = c.stands.number; few = c.stands.few; at = c.stands.at; room = room };
+  given = record { from = c.given.from; to = c.given.to; none = c.given.none; left = c.given.left };
+  begun = c.begun;
+  reads = c.reads;
+  shows = λ t b. subst (λ (l : RowLinesValue). ShowsFirstUnits t (length t.intervals) (v.row * mcus_across t.head) v.done (units_in t.head l.groups)) (sym same) (c.shows t b);
+}

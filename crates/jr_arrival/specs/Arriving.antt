@@ -1,0 +1,44 @@
+-- A file that is still arriving, as far as it has come.
+use Rattle.std.specs.Prelude.{◌≡◌, ℕ, ◌-◌, ◌*◌, ◌^◌, ◌≤◌, min, List, length, take, Option, Some, None}
+use Rattle.jr_base.specs.declared.limits.TheConstants.{MAX_FILE_BYTES}
+use Rattle.jr_head.specs.Heads.{HeadOf}
+use Rattle.jr_paint.specs.Lines.{line_size}
+use Rattle.jr_scan.specs.GrowingScan.{GrowingScanValue, HasCome}
+use Rattle.jr_arrival.specs.Coming.{AreComing, ComingRowValue}
+use Rattle.jr_arrival.specs.Settled.{GivesSettled}
+
+-- the scan, how many bytes of its file have come, and the row of MCUs that comes next
+pub record ComingValue : Type 0 where
+  pub growing : GrowingScanValue
+  pub bytes : ℕ
+  pub row : ComingRowValue
+
+-- these bytes have a head, and are cut into that scan
+abbrev pub HasBegun : ComingValue → List ℕ → Type 0
+HasBegun c bytes = HeadOf bytes c.growing.scan.head × HasCome c.growing bytes × (c.bytes ≡ length bytes)
+
+-- what contracts see of a file that is still arriving: its bytes until they have a head, or its scan from then on; and how many bytes
+-- have come, of which those that are too many are not kept
+pub record ArrivingValue : Type 0 where
+  pub bytes : List ℕ
+  pub coming : Option ComingValue
+  pub count : ℕ
+
+abbrev pub Holds : List ℕ → Option ComingValue → List ℕ → Type 0
+Holds kept None bytes = kept ≡ bytes
+Holds kept (Some c) bytes = HasBegun c bytes
+
+-- these bytes of the file have come
+pub record IsArriving (v : ArrivingValue) (bytes : List ℕ) : Type 0 where
+  pub count : v.count ≡ min (length bytes) (2 ^ 64 - 1)
+  pub holds : length bytes ≤ MAX_FILE_BYTES → Holds v.bytes v.coming bytes
+
+-- how many lines are given
+abbrev pub given_of : Option ComingValue → ℕ
+given_of None = 0
+given_of (Some c) = c.row.lines
+
+-- a look at the scan gives lines of it
+pub record GivesComing (c : ComingValue) (first n : ℕ) (pixels : List ℕ) : Type 0 where
+  pub settled : GivesSettled c.growing.scan first n (length pixels)
+  pub are : AreComing c.growing.scan first n (take (n * line_size c.growing.scan.head) pixels)

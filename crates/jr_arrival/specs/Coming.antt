@@ -1,0 +1,95 @@
+-- The row of MCUs that comes next of a scan whose file is still arriving.
+use Rattle.std.specs.Prelude.{◌≡◌, ◌≢◌, ℕ, ◌+◌, ◌*◌, ◌<◌, ◌≤◌, ◌⊎◌, ⊤, List, [], ◌++◌, length, ℤ, Option, Some, None, slice_index_or}
+use Rattle.jr_head.specs.HeadValue.{HeadValue}
+use Rattle.jr_head.specs.Geometry.{mcus_across, mcus_down}
+use Rattle.jr_cut.specs.declared.scan_end.ScanEnd.TheVariants.{EndOfFile}
+use Rattle.jr_scan.specs.declared.place.Place.{Place}
+use Rattle.jr_scan.specs.Mcus.{HasLongestFront, LongestFront}
+use Rattle.jr_scan.specs.ScanValue.{ScanValue, interval_of, intervals_of, mcus_in}
+use Rattle.jr_scan.specs.Run.{start_of_interval}
+use Rattle.jr_piece.specs.Strips.{IsNext}
+use Rattle.jr_paint.specs.Lines.{next_lines_of}
+use Rattle.jr_picture.specs.BoardValue.{BoardValue}
+use Rattle.jr_picture.specs.Samples.{samples_of}
+use Rattle.jr_rows.specs.Groups.{units_in}
+use Rattle.jr_rows.specs.Rows.{HasFirst, HasSampleRoom, ShowsFirstUnits, first_line, line_count}
+use Rattle.jr_rows.specs.RowsValue.{SampleRowValue}
+
+-- interval i is over: a later one has data, or a marker has ended the scan
+abbrev pub IsOver : ScanValue → ℕ → Type 0
+IsOver s i = (s.ended ≢ EndOfFile) ⊎ ((j : ℕ) × (i < j) × (slice_index_or s.intervals j [] ≢ []))
+
+-- what a scan may become as bytes come: intervals that are over stay as they are, and data come behind the others'
+pub record Becomes (s t : ScanValue) : Type 0 where
+  pub head : t.head ≡ s.head
+  pub count : length t.intervals ≡ length s.intervals
+  pub so_far : (i : ℕ) → (more : List ℕ) × (slice_index_or t.intervals i [] ≡ slice_index_or s.intervals i [] ++ more)
+  pub whole : (i : ℕ) → IsOver s i → interval_of t i ≡ interval_of s i
+  pub end : s.ended ≢ EndOfFile → t.ended ≡ s.ended
+
+-- a row of MCUs and its samples, of how many MCUs; how many MCUs of which interval stand before its next one, and where that
+-- starts: nowhere, where no further one of the interval is whole; and how many lines of the picture are given
+pub record ComingRowValue : Type 0 where
+  pub row : ℕ
+  pub done : ℕ
+  pub number : ℕ
+  pub mcu : ℕ
+  pub place : Option Place
+  pub samples : SampleRowValue
+  pub lines : ℕ
+
+-- this is the place behind so many MCUs of an interval; without a place it is over, and has no more whole ones
+abbrev pub ReadsTo : ScanValue → (number mcu : ℕ) → Option Place → Type 0
+ReadsTo s number mcu (Some p) = (zs : List (List ℤ)) × IsNext (interval_of s number) mcu zs p
+ReadsTo s number mcu None = IsOver s number × ((front : ℕ) × (zs : List (List ℤ)) × (front ≤ mcu) × LongestFront (interval_of s number) front zs)
+
+-- no further MCU of the interval is whole
+abbrev pub ReadsAll : ScanValue → (number mcu : ℕ) → Option Place → Type 0
+ReadsAll s number mcu (Some p) = HasLongestFront (interval_of s number) mcu
+ReadsAll s number mcu None = ⊤
+
+-- it stands at an MCU of a picture with this head
+pub record StandsIn (h : HeadValue) (v : ComingRowValue) : Type 0 where
+  pub row : v.row < mcus_down h
+  pub within : v.done ≤ mcus_across h
+  pub number : v.number < intervals_of h
+  pub few : v.mcu ≤ mcus_in h v.number
+  pub at : v.number * h.restart + v.mcu ≡ v.row * mcus_across h + v.done
+  pub room : HasSampleRoom h v.samples
+
+-- lines are given in their order, those of a row of MCUs once the row is whole
+pub record HasGiven (h : HeadValue) (v : ComingRowValue) : Type 0 where
+  pub from : first_line h v.row ≤ v.lines
+  pub to : v.lines ≤ first_line h v.row + line_count h v.row
+  pub none : v.done < mcus_across h → v.lines ≡ first_line h v.row
+  pub left : v.lines < h.height → v.lines < first_line h v.row + line_count h v.row
+
+-- nothing is read or given yet
+pub record Begins (h : HeadValue) (v : ComingRowValue) : Type 0 where
+  pub row : v.row ≡ 0
+  pub done : v.done ≡ 0
+  pub number : v.number ≡ 0
+  pub mcu : v.mcu ≡ 0
+  pub place : v.place ≡ Some start_of_interval
+  pub room : HasSampleRoom h v.samples
+  pub lines : v.lines ≡ 0
+
+-- so far the row is that of whatever the scan may become
+pub record IsComing (s : ScanValue) (v : ComingRowValue) : Type 0 where
+  pub stands : StandsIn s.head v
+  pub given : HasGiven s.head v
+  pub begun : (i : ℕ) → i < v.number → IsOver s i
+  pub reads : ReadsTo s v.number v.mcu v.place
+  pub shows : (t : ScanValue) → Becomes s t → ShowsFirstUnits t (length t.intervals) (v.row * mcus_across t.head) v.done (units_in t.head v.samples.lines.groups)
+
+-- data of interval i, or of one behind, may come, and none behind it are there
+abbrev pub MayGoOn : ScanValue → ℕ → Type 0
+MayGoOn s i = (s.ended ≡ EndOfFile) × ((j : ℕ) → i < j → slice_index_or s.intervals j [] ≡ [])
+
+-- no further MCU is there
+abbrev pub HasNoMore : ScanValue → ComingRowValue → Type 0
+HasNoMore s v = MayGoOn s v.number × HasLongestFront (interval_of s v.number) v.mcu
+
+-- these are lines of the picture of whatever the scan may become, so many from this one on
+abbrev pub AreComing : ScanValue → (first count : ℕ) → List ℕ → Type 0
+AreComing s first count pixels = (t : ScanValue) → Becomes s t → (b : BoardValue) → HasFirst t (length t.intervals) b → pixels ≡ next_lines_of t.head (samples_of b) first count

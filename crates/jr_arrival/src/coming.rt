@@ -1,0 +1,147 @@
+//! A scan whose file is still arriving, and the lines that it gives.
+
+ghost use Rattle.std.specs.Prelude.{◌≡◌, ◌≢◌, ◌+◌, ◌-◌, ◌*◌, ◌/◌, ◌<◌, ◌≤◌, ◌++◌, ℕ, List, min, length, take, IfOk, IfErr, IfSome, IfNone};
+ghost use Rattle.jr_base.specs.declared.limits.TheConstants.{MAX_FILE_BYTES};
+ghost use Rattle.jr_segments.specs.declared.refusal.Refusal.TheVariants as refusal;
+ghost use Rattle.jr_head.specs.Geometry.{mcus_across};
+ghost use Rattle.jr_head.specs.Heads.{RefusalOf};
+ghost use Rattle.jr_paint.specs.Lines.{line_size};
+ghost use Rattle.jr_scan.specs.GrowingScan.{HasCome};
+ghost use Rattle.jr_arrival.specs.Arrival.{IsFinalFault};
+ghost use Rattle.jr_arrival.specs.Arriving.{HasBegun};
+ghost use Rattle.jr_arrival.specs.Coming.{AreComing, HasNoMore};
+ghost use Rattle.jr_arrival.specs.Settled.{GivesSettled, WantsMore};
+
+use crate::coming_row::ComingRow;
+use crate::head::head_so_far;
+use jr_base::Memory;
+use jr_head::Head;
+use jr_rows::shape_of;
+use jr_scan::{GrowingScan, Scan};
+use jr_segments::Refusal;
+use std::alloc::Global;
+use std::marker::Model;
+
+/// A scan whose file is still arriving, how many bytes of the file have come, and the row of MCUs that comes next.
+#[derive(Drop)]
+pub(crate) struct Coming {
+    scan: GrowingScan,
+    bytes: usize,
+    row: ComingRow,
+}
+
+impl Model for Coming {
+    ghost use Rattle.std.specs.Prelude.{◌≡◌, ◌≤◌, ℕ, List, length};
+    ghost use Rattle.jr_base.specs.declared.limits.TheConstants.{MAX_FILE_BYTES};
+    ghost use Rattle.jr_scan.specs.GrowingScan.{HasCome};
+    ghost use Rattle.jr_arrival.specs.Coming.{IsComing};
+    ghost use Rattle.jr_arrival.specs.Arriving.{ComingValue};
+
+    ghost Value = { ComingValue };
+
+    ghost view = { λ c. record { growing = c.scan; bytes = c.bytes; row = c.row } };
+
+    ghost invariant = { λ c. IsComing c.scan.scan c.row × (c.bytes ≤ MAX_FILE_BYTES) × ((bytes : List ℕ) × HasCome c.scan bytes × (length bytes ≡ c.bytes)) };
+}
+
+impl Coming {
+    /// The scan of the bytes so far of a file, of which nothing is read yet. It copies them.
+    fn open(alloc: Global, head: Head, bytes: &[u8]) -> Result<Coming, Memory>
+        requires starts { head.scan_at ≤ length bytes.now }
+        requires small { length bytes.now ≤ MAX_FILE_BYTES }
+        ensures begun { IfOk result (λ c. HasCome c.growing bytes.now × (c.growing.scan.head ≡ head) × (c.row.lines ≡ 0) × (c.bytes ≡ length bytes.now)) }
+    {
+        let row = ComingRow::open(alloc, &head)?;
+        let mut kept = Vec::new(alloc);
+        kept.extend_from_slice(bytes)?;
+        let scan = GrowingScan::of(alloc, head, kept)?;
+        // By their contracts there is an interval, and the head is lawful.
+        let _some = scan.intervals();
+        let _lawful = scan.head();
+        Ok(Coming {
+            scan,
+            bytes: bytes.len(),
+            row,
+        })
+    }
+
+    /// The scan of these bytes once they have its head. None where more are wanted. It copies them.
+    ///
+    /// # Errors
+    ///
+    /// The refusal of every file that the bytes can become. `Memory` where memory was refused; it says nothing of the bytes.
+    pub(crate) fn of(alloc: Global, bytes: &[u8]) -> Result<Option<Coming>, Refusal>
+        ensures begun { IfOk result (λ o. IfSome o (λ c. HasBegun c bytes.now × (c.row.lines ≡ 0))) }
+        ensures wanted { IfOk result (λ o. IfNone o (WantsMore bytes.now)) }
+        ensures refusal { IfErr result (λ f. f ≢ refusal.Memory → RefusalOf bytes.now f) }
+        ensures stays { IfErr result (IsFinalFault bytes.now) }
+    {
+        let Some(head) = head_so_far(alloc, bytes)? else {
+            return Ok(None);
+        };
+        let Ok(coming) = Coming::open(alloc, head, bytes) else {
+            return Err(Refusal::Memory);
+        };
+        Ok(Some(coming))
+    }
+
+    /// More bytes have come. Where memory is refused none of them is taken.
+    pub(crate) fn push(&mut self, more: &[u8]) -> Result<(), Memory>
+        requires few { self.old.bytes + length more.now ≤ MAX_FILE_BYTES }
+        ensures pushed { IfOk result (λ _. (bytes : List ℕ) → HasCome self.old.growing bytes → HasCome self.new.growing (bytes ++ more.now)) }
+        ensures head { IfOk result (λ _. self.new.growing.scan.head ≡ self.old.growing.scan.head) }
+        ensures count { IfOk result (λ _. self.new.bytes ≡ self.old.bytes + length more.now) }
+        ensures row { IfOk result (λ _. self.new.row ≡ self.old.row) }
+        ensures memory { IfErr result (λ _. self.new ≡ self.old) }
+    {
+        self.scan.push(more)?;
+        self.bytes += more.len();
+        Ok(())
+    }
+
+    /// The head of the file.
+    pub(crate) fn head(&self) -> &Head
+        ensures { result.now ≡ self.now.growing.scan.head }
+    {
+        self.scan.head()
+    }
+
+    /// How many bytes have come.
+    pub(crate) fn bytes(&self) -> usize
+        ensures value { result ≡ self.now.bytes }
+        ensures few { result ≤ MAX_FILE_BYTES }
+    {
+        self.bytes
+    }
+
+    /// How many lines are given.
+    pub(crate) fn lines(&self) -> u32
+        ensures { result ≡ self.now.row.lines }
+    {
+        self.row.lines()
+    }
+
+    /// Gives the next lines that are there, as many as have room in `pixels`: answers how many.
+    pub(crate) fn give(&mut self, pixels: &mut [u8]) -> u32
+        ensures scan { self.new.growing ≡ self.old.growing }
+        ensures bytes { self.new.bytes ≡ self.old.bytes }
+        ensures lines { self.new.row.lines ≡ self.old.row.lines + result }
+        ensures settled { GivesSettled self.old.growing.scan self.old.row.lines result (length pixels.old) }
+        ensures given { AreComing self.old.growing.scan self.old.row.lines result (take (result * line_size self.old.growing.scan.head) pixels.new) }
+        ensures long { length pixels.new ≡ length pixels.old }
+    {
+        // By their contracts one of the intervals is the latest, and the head is lawful.
+        let _latest = self.scan.latest();
+        let _most = self.scan.intervals();
+        let _across = shape_of(self.scan.head());
+        self.row.give(&self.scan, pixels)
+    }
+
+    /// Nothing more comes.
+    pub(crate) fn into_scan(self, alloc: Global) -> Result<Scan, Memory>
+        ensures { IfOk result (λ s. s ≡ self.growing.scan) }
+    {
+        let Coming { scan, .. } = self;
+        scan.into_scan(alloc)
+    }
+}

@@ -1,0 +1,290 @@
+//! The row of MCUs that comes next of a scan whose file is still arriving.
+
+ghost use Rattle.std.specs.Prelude.{◌≡◌, ◌+◌, ◌-◌, ◌*◌, ◌/◌, ◌<◌, ◌≤◌, min, true, false, length, take, IfOk};
+ghost use Rattle.jr_head.specs.Geometry.{mcus_across};
+ghost use Rattle.jr_paint.specs.Lines.{line_size};
+ghost use Rattle.jr_scan.specs.ScanValue.{mcus_in};
+ghost use Rattle.jr_rows.specs.Rows.{first_line, line_count};
+ghost use Rattle.jr_arrival.specs.Coming.{AreComing, Begins, HasNoMore, IsComing, IsOver, MayGoOn, ReadsAll};
+
+use jr_base::Memory;
+use jr_head::Head;
+use jr_rows::{SampleRow, lines_of, shape_of};
+use jr_scan::{GrowingScan, McuReader, Place, ScanEnd};
+use std::alloc::Global;
+use std::marker::Model;
+
+/// Whether an interval is over: whether no more data of it can come.
+fn is_over(scan: &GrowingScan, i: u32) -> bool
+    ensures over { result ≡ true → IsOver scan.now.scan i }
+    ensures going { result ≡ false → MayGoOn scan.now.scan i }
+{
+    match scan.ended() {
+        ScanEnd::EndOfFile => i < scan.latest(),
+        ScanEnd::EndOfImage
+        | ScanEnd::OtherMarker(..)
+        | ScanEnd::OutOfStep { .. }
+        | ScanEnd::ExtraRestart(..) => true,
+    }
+}
+
+/// How many lines of a picture from one on have room in so many bytes.
+fn lines_with_room(head: &Head, first: u32, bytes: usize) -> u32
+    ensures value { result ≡ min (bytes / line_size head.now) (head.now.height - first) }
+    ensures fits { result * line_size head.now ≤ bytes }
+{
+    head.be_lawful();
+    let left = head.height().saturating_sub(first);
+    (bytes / shape_of(head).line).min(left as usize) as u32
+}
+
+/// How many bytes so many lines have, of `all`.
+fn bytes_to(lines: u32, all: u32, line: usize) -> usize
+    requires within { lines ≤ all }
+    requires few { all < 65536 }
+    requires short { line ≤ 196605 }
+    ensures value { result ≡ lines * line }
+    ensures within { result ≤ all * line }
+{
+    lines as usize * line
+}
+
+/// The row of MCUs that comes next, decoded as far as its data are there, and lines of the picture that are given of it.
+#[derive(Drop)]
+pub(crate) struct ComingRow {
+    samples: SampleRow,
+    row: u32,
+    /// How many of its MCUs are decoded.
+    done: u32,
+    /// The interval that is read, and how many of its MCUs are, or are grey.
+    number: u32,
+    mcu: u32,
+    /// Where its next MCU starts; none where no further one is whole.
+    place: Option<Place>,
+    lines: u32,
+}
+
+impl Model for ComingRow {
+    ghost use Rattle.jr_arrival.specs.Coming.{ComingRowValue};
+
+    ghost Value = { ComingRowValue };
+
+    ghost view = { λ r. record { row = r.row; done = r.done; number = r.number; mcu = r.mcu; place = r.place; samples = r.samples; lines = r.lines } };
+}
+
+impl ComingRow {
+    /// The first row of a picture with this head.
+    pub(crate) fn open(alloc: Global, head: &Head) -> Result<ComingRow, Memory>
+        ensures { IfOk result (Begins head.now) }
+    {
+        Ok(ComingRow {
+            samples: SampleRow::open(alloc, head)?,
+            row: 0,
+            done: 0,
+            number: 0,
+            mcu: 0,
+            place: Some(Place::start()),
+            lines: 0,
+        })
+    }
+
+    /// How many lines of the picture are given.
+    pub(crate) fn lines(&self) -> u32
+        ensures { result ≡ self.now.lines }
+    {
+        self.lines
+    }
+
+    /// Goes on to the next interval where this one is read to its end. False where that has not begun.
+    fn advance(&mut self, scan: &GrowingScan) -> bool
+        requires coming { IsComing scan.now.scan self.old }
+        requires more { self.old.done < mcus_across scan.now.scan.head }
+        ensures coming { IsComing scan.now.scan self.new }
+        ensures row { self.new.row ≡ self.old.row }
+        ensures done { self.new.done ≡ self.old.done }
+        ensures lines { self.new.lines ≡ self.old.lines }
+        ensures some { result ≡ true → self.new.mcu < mcus_in scan.now.scan.head self.new.number }
+        ensures none { result ≡ false → HasNoMore scan.now.scan self.new }
+    {
+        // By its contract there is room for the numbers of all intervals.
+        let _most = scan.intervals();
+        if self.mcu < scan.head().mcus_in(self.number) {
+            return true;
+        }
+        if !is_over(scan, self.number) {
+            return false;
+        }
+        self.number += 1;
+        self.mcu = 0;
+        self.place = Some(Place::start());
+        true
+    }
+
+    /// Decodes further whole MCUs of the interval into the row: answers how many.
+    fn decode_whole(&mut self, scan: &GrowingScan) -> u32
+        requires coming { IsComing scan.now.scan self.old }
+        requires more { self.old.done < mcus_across scan.now.scan.head }
+        requires some { self.old.mcu < mcus_in scan.now.scan.head self.old.number }
+        ensures coming { IsComing scan.now.scan self.new }
+        ensures row { self.new.row ≡ self.old.row }
+        ensures done { self.new.done ≡ self.old.done + result }
+        ensures number { self.new.number ≡ self.old.number }
+        ensures mcu { self.new.mcu ≡ self.old.mcu + result }
+        ensures lines { self.new.lines ≡ self.old.lines }
+        ensures all { result ≡ 0 → ReadsAll scan.now.scan self.new.number self.new.mcu self.new.place }
+    {
+        // By their contracts there is room for the numbers of a row's MCUs and of all intervals, and an MCU has a data unit.
+        let _few = shape_of(scan.head());
+        let _most = scan.intervals();
+        let _some = scan.head().order().len();
+        let Some(place) = self.place else {
+            return 0;
+        };
+        let left = scan.head().mcus_in(self.number) - self.mcu;
+        let mut reader = McuReader::at(scan.interval_ref(self.number), place, left);
+        let whole = self
+            .samples
+            .decode_whole(scan.head(), &mut reader, self.done);
+        self.done += whole;
+        self.mcu += whole;
+        self.place = Some(reader.place());
+        whole
+    }
+
+    /// Makes MCUs of the row grey, of an interval that is over and has no further whole one.
+    fn decode_grey(&mut self, scan: &GrowingScan)
+        requires coming { IsComing scan.now.scan self.old }
+        requires more { self.old.done < mcus_across scan.now.scan.head }
+        requires some { self.old.mcu < mcus_in scan.now.scan.head self.old.number }
+        requires over { IsOver scan.now.scan self.old.number }
+        requires all { ReadsAll scan.now.scan self.old.number self.old.mcu self.old.place }
+        ensures coming { IsComing scan.now.scan self.new }
+        ensures row { self.new.row ≡ self.old.row }
+        ensures done { self.old.done < self.new.done }
+        ensures lines { self.new.lines ≡ self.old.lines }
+    {
+        // By their contracts there is room for the numbers of all intervals, and an MCU has a data unit.
+        let head = scan.head();
+        let _most = scan.intervals();
+        let _some = head.order().len();
+        let left = head.mcus_in(self.number) - self.mcu;
+        let some = left.min(shape_of(head).across - self.done);
+        let grey = self.samples.put_grey(head, self.done, some);
+        self.done += grey;
+        self.mcu += grey;
+        self.place = None;
+    }
+
+    /// Decodes some further MCUs of the row. False where no further one is there.
+    fn decode_some(&mut self, scan: &GrowingScan) -> bool
+        requires coming { IsComing scan.now.scan self.old }
+        requires more { self.old.done < mcus_across scan.now.scan.head }
+        ensures coming { IsComing scan.now.scan self.new }
+        ensures row { self.new.row ≡ self.old.row }
+        ensures lines { self.new.lines ≡ self.old.lines }
+        ensures some { result ≡ true → self.old.done < self.new.done }
+        ensures none { result ≡ false → HasNoMore scan.now.scan self.new × (self.new.done < mcus_across scan.now.scan.head) }
+    {
+        if !self.advance(scan) {
+            return false;
+        }
+        if self.decode_whole(scan) > 0 {
+            return true;
+        }
+        if !is_over(scan, self.number) {
+            return false;
+        }
+        self.decode_grey(scan);
+        true
+    }
+
+    /// Decodes the MCUs of the row, as many as are there: whether it is whole then.
+    fn decode(&mut self, scan: &GrowingScan) -> bool
+        requires coming { IsComing scan.now.scan self.old }
+        ensures coming { IsComing scan.now.scan self.new }
+        ensures row { self.new.row ≡ self.old.row }
+        ensures lines { self.new.lines ≡ self.old.lines }
+        ensures whole { result ≡ true → self.new.done ≡ mcus_across scan.now.scan.head }
+        ensures none { result ≡ false → HasNoMore scan.now.scan self.new × (self.new.done < mcus_across scan.now.scan.head) }
+    {
+        let across = shape_of(scan.head()).across;
+        'mcus: while self.done < across {
+            if !self.decode_some(scan) {
+                return false;
+            }
+        }
+        true
+    }
+
+    /// So many lines of the row, which is whole, are given: goes on to the next row behind the last one.
+    fn pass_lines(&mut self, scan: &GrowingScan, count: u32)
+        requires coming { IsComing scan.now.scan self.old }
+        requires whole { self.old.done ≡ mcus_across scan.now.scan.head }
+        requires inside { self.old.lines + count ≤ first_line scan.now.scan.head self.old.row + line_count scan.now.scan.head self.old.row }
+        ensures coming { IsComing scan.now.scan self.new }
+        ensures lines { self.new.lines ≡ self.old.lines + count }
+    {
+        // By its contract there is room for the numbers of the rows.
+        let _few = shape_of(scan.head());
+        let (first, all) = lines_of(scan.head(), self.row);
+        self.lines += count;
+        if self.lines < first + all || self.lines == scan.head().height() {
+            return;
+        }
+        self.row += 1;
+        self.done = 0;
+    }
+
+    /// How many lines of the row are not given yet.
+    fn lines_left(&self, scan: &GrowingScan) -> u32
+        requires { IsComing scan.now.scan self.now }
+        ensures { self.now.lines + result ≡ first_line scan.now.scan.head self.now.row + line_count scan.now.scan.head self.now.row }
+    {
+        let (first, count) = lines_of(scan.head(), self.row);
+        first + count - self.lines
+    }
+
+    /// Paints the next lines of the row, which is whole.
+    fn paint(&mut self, scan: &GrowingScan, count: u32, pixels: &mut [u8])
+        requires coming { IsComing scan.now.scan self.old }
+        requires whole { self.old.done ≡ mcus_across scan.now.scan.head }
+        requires inside { self.old.lines + count ≤ first_line scan.now.scan.head self.old.row + line_count scan.now.scan.head self.old.row }
+        requires room { length pixels.old ≡ count * line_size scan.now.scan.head }
+        ensures coming { IsComing scan.now.scan self.new }
+        ensures lines { self.new.lines ≡ self.old.lines + count }
+        ensures painted { AreComing scan.now.scan self.old.lines count pixels.new }
+    {
+        let head = scan.head();
+        // By its contract the row's lines are the picture's.
+        let _lines = lines_of(head, self.row);
+        self.samples.paint_some(head, self.lines, count, pixels);
+        self.pass_lines(scan, count);
+    }
+
+    /// Gives the next lines that are there, as many as have room in `pixels`, a line behind the other: answers how many.
+    pub(crate) fn give(&mut self, scan: &GrowingScan, pixels: &mut [u8]) -> u32
+        requires coming { IsComing scan.now.scan self.old }
+        ensures coming { IsComing scan.now.scan self.new }
+        ensures lines { self.new.lines ≡ self.old.lines + result }
+        ensures given { AreComing scan.now.scan self.old.lines result (take (result * line_size scan.now.scan.head) pixels.new) }
+        ensures few { result ≤ min (length pixels.old / line_size scan.now.scan.head) (scan.now.scan.head.height - self.old.lines) }
+        ensures all { result < min (length pixels.old / line_size scan.now.scan.head) (scan.now.scan.head.height - self.old.lines)
+            → HasNoMore scan.now.scan self.new × (self.new.done < mcus_across scan.now.scan.head) }
+        ensures long { length pixels.new ≡ length pixels.old }
+    {
+        let line = shape_of(scan.head()).line;
+        let room = lines_with_room(scan.head(), self.lines, pixels.len());
+        let mut given = 0;
+        'lines: while given < room {
+            if !self.decode(scan) {
+                return given;
+            }
+            let some = self.lines_left(scan).min(room - given);
+            let from = bytes_to(given, room, line);
+            let to = bytes_to(given + some, room, line);
+            self.paint(scan, some, &mut pixels[from..to]);
+            given += some;
+        }
+        given
+    }
+}

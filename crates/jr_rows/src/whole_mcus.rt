@@ -1,0 +1,106 @@
+//! Whole MCUs of an interval, decoded behind those that a row has: each as soon as its data are there.
+
+ghost use Rattle.std.specs.Prelude.{◌≡◌, ◌+◌, ◌*◌, ◌<◌, ◌≤◌, ◌++◌, ℕ, ℤ, List, [], length, take, slice_index_or};
+ghost use Rattle.jr_head.specs.Geometry.{blocks_of, mcus_across};
+ghost use Rattle.jr_scan.specs.McuReader.{HasEnded, HasRead};
+ghost use Rattle.jr_piece.specs.Units.{grey_unit, zero_block};
+ghost use Rattle.jr_rows.specs.Groups.{units_in};
+ghost use Rattle.jr_rows.specs.RowLines.{HasLines, mcus_at_once};
+ghost use Rattle.jr_rows.specs.WholeMcus.{DecodesMcus};
+
+use crate::row_lines::RowLines;
+use crate::shape::{mcus_at_once, shape_of, units_to};
+use jr_block::Coefficients;
+use jr_head::Head;
+use jr_idct::zeros_are_grey;
+use jr_piece::transform_blocks;
+use jr_scan::McuReader;
+
+/// Makes all coefficients of these blocks 0.
+fn clear(blocks: &mut [Coefficients])
+    ensures { (k : ℕ) → k < length blocks.new → slice_index_or blocks.new k [] ≡ zero_block }
+{
+    for k in 0..blocks.len() {
+        blocks[k] = Coefficients::zeros();
+    }
+}
+
+/// Reads whole MCUs into blocks with room for `most`, as many as follow: answers how many.
+fn read_whole(
+    head: &Head,
+    reader: &mut McuReader<'_>,
+    most: u32,
+    blocks: &mut [Coefficients],
+) -> u32
+    requires head { reader.old.run.interval.head ≡ head.now }
+    requires some { 0 < most }
+    requires room { length blocks.old ≡ most * blocks_of head.now }
+    ensures run { reader.new.run ≡ reader.old.run }
+    ensures mcu { reader.new.mcu ≡ reader.old.mcu + result }
+    ensures few { result ≤ most }
+    ensures fits { result * blocks_of head.now ≤ length blocks.new }
+    ensures read { (zs : List (List ℤ)) → HasRead reader.old zs → HasRead reader.new (zs ++ take (result * blocks_of head.now) blocks.new) }
+    ensures none { result ≡ 0 → HasEnded reader.new }
+{
+    // By its contract an MCU has a data unit.
+    let _some = head.order().len();
+    reader.read(blocks)
+}
+
+/// Decodes the next whole MCUs of a reader behind the first `done` of a row: as many as follow, as are left of the row and as have
+/// room in `blocks`. Answers how many.
+pub(crate) fn decode_whole(
+    head: &Head,
+    reader: &mut McuReader<'_>,
+    done: u32,
+    blocks: &mut [Coefficients],
+    lines: &mut RowLines,
+) -> u32
+    requires head { reader.old.run.interval.head ≡ head.now }
+    requires within { done < mcus_across head.now }
+    requires near { length blocks.old ≡ mcus_at_once head.now * blocks_of head.now }
+    requires room { HasLines head.now lines.old }
+    ensures room { HasLines head.now lines.new }
+    ensures run { reader.new.run ≡ reader.old.run }
+    ensures mcu { reader.new.mcu ≡ reader.old.mcu + result }
+    ensures few { done + result ≤ mcus_across head.now }
+    ensures kept { (k : ℕ) → k < done * blocks_of head.now → slice_index_or (units_in head.now lines.new.groups) k [] ≡ slice_index_or (units_in head.now lines.old.groups) k [] }
+    ensures decoded { DecodesMcus reader.old reader.new done result (units_in head.now lines.new.groups) }
+    ensures none { result ≡ 0 → HasEnded reader.new }
+{
+    let per_mcu = head.order().len();
+    let at_once = mcus_at_once(head);
+    let most = at_once.min(shape_of(head).across - done);
+    let room = units_to(most, at_once, per_mcu);
+    let whole = read_whole(head, reader, most, &mut blocks[..room]);
+    let read = units_to(whole, at_once, per_mcu);
+    transform_blocks(head, done, &blocks[..read], lines);
+    whole
+}
+
+/// Makes MCUs of a row grey behind the first `done`: as many as are asked for, and as have room in `blocks`. Answers how many.
+pub(crate) fn put_grey(
+    head: &Head,
+    done: u32,
+    mcus: u32,
+    blocks: &mut [Coefficients],
+    lines: &mut RowLines,
+) -> u32
+    requires some { 0 < mcus }
+    requires within { done + mcus ≤ mcus_across head.now }
+    requires near { length blocks.old ≡ mcus_at_once head.now * blocks_of head.now }
+    requires room { HasLines head.now lines.old }
+    ensures room { HasLines head.now lines.new }
+    ensures some { 0 < result }
+    ensures few { result ≤ mcus }
+    ensures kept { (k : ℕ) → k < done * blocks_of head.now → slice_index_or (units_in head.now lines.new.groups) k [] ≡ slice_index_or (units_in head.now lines.old.groups) k [] }
+    ensures grey { (k : ℕ) → k < result * blocks_of head.now → slice_index_or (units_in head.now lines.new.groups) (done * blocks_of head.now + k) [] ≡ grey_unit }
+{
+    zeros_are_grey();
+    let at_once = mcus_at_once(head);
+    let some = at_once.min(mcus);
+    let blocks = &mut blocks[..units_to(some, at_once, head.order().len())];
+    clear(blocks);
+    transform_blocks(head, done, blocks, lines);
+    some
+}
