@@ -45,7 +45,7 @@ def test_leaves_progressive_files_to_pillow(photo):
 
 def test_leaves_smaller_pictures_to_pillow(photo):
     picture = Image.open(io.BytesIO(photo))
-    picture.draft("RGB", (57, 38))
+    picture.draft("RGB", (56, 37))
     assert picture.size == (57, 38) and numpy.asarray(picture).shape == (38, 57, 3)
 
 
