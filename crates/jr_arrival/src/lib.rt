@@ -1,11 +1,12 @@
 //! A file that is still arriving: what its bytes so far settle of every file that they can become, and the lines that they give.
 //!
 //! What was shown of a file that is still arriving is shown by every file that it can become. `laws.rt` says so of heads, refusals,
-//! restart intervals, whole MCUs, lines and marks; `SoFar` is what some bytes settle, and `Arriving` gives each line once as bytes
-//! are pushed. An interval that its bits damage is settled up to its last whole MCU, and behind that once data of a later interval
-//! has come, or a marker has ended the scan.
+//! restart intervals, whole MCUs, lines and marks, and `Arriving` gives each line once as bytes are pushed. An interval that its
+//! bits damage is settled up to its last whole MCU, and behind that once data of a later interval has come, or a marker has ended
+//! the scan.
 //!
-//! A look cuts the bytes so far anew, and reads the interval that is still coming from its start: it costs what these bytes cost.
+//! Nothing is read twice: the cut goes on where it stood, each MCU is decoded once into the row of MCUs that comes next, and its
+//! lines are painted once. So all pushes and looks together cost what one decoding of the whole file does, however it is split.
 #![tactic(auto)]
 
 mod arriving;

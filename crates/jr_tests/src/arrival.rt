@@ -29,35 +29,48 @@ fn lines_from(alloc: Global, scan: &Scan, first: u32) -> Result<Vec<u8>, Fail> {
     Ok(pixels)
 }
 
-/// Puts all lines that the bytes so far settle behind those that are there. None where the file is refused.
+/// How many bytes a line of the picture has, and how many lines: none where the head has not come.
+fn size_of(arriving: &Arriving) -> Option<(usize, u32)> {
+    let head = arriving.head()?;
+    Some((shape_of(head).line, head.height()))
+}
+
+/// Puts the lines that the bytes so far settle behind those that are there, at most so many at a look, until no more are given.
+/// None where the file is refused.
 fn take_lines(
     alloc: Global,
     arriving: &mut Arriving,
+    most: u32,
     shown: &mut Vec<u8>,
 ) -> Result<Option<()>, Fail> {
-    let Ok(known) = arriving.head(alloc) else {
+    if arriving.begin(alloc).is_err() {
         return Ok(None);
-    };
-    let Some(head) = known else {
+    }
+    let Some((line, height)) = size_of(arriving) else {
         return Ok(Some(()));
     };
-    let line = shape_of(&head).line;
-    let mut room = vec![in alloc; 0; head.height() as usize * line]?;
-    let count = arriving.next_lines(alloc, room.as_mut_slice())?;
-    let length = usize::saturating_mul(count as usize, line);
-    shown.extend_from_slice(room.as_slice().get(..length).ok_or("too many lines")?)?;
+    let mut room = vec![in alloc; 0; u32::min(most, height) as usize * line]?;
+    for _ in 0..height {
+        let count = arriving.next_lines(alloc, room.as_mut_slice())?;
+        let length = usize::saturating_mul(count as usize, line);
+        shown.extend_from_slice(room.as_slice().get(..length).ok_or("too many lines")?)?;
+        if count == 0 {
+            return Ok(Some(()));
+        }
+    }
     Ok(Some(()))
 }
 
-/// What is given while a file arrives in parts of so many bytes, and the lines that are missing then; none where it is refused.
-fn arrived(alloc: Global, bytes: &[u8], part: usize) -> Result<Option<Vec<u8>>, Fail>
+/// What is given while a file arrives in parts of so many bytes, at most so many lines at a look, and the lines that are missing
+/// then; none where it is refused.
+fn arrived(alloc: Global, bytes: &[u8], part: usize, most: u32) -> Result<Option<Vec<u8>>, Fail>
     requires { 0 < part }
 {
     let mut arriving = Arriving::new(alloc);
     let mut shown = Vec::new(alloc);
     for more in bytes.chunks(part) {
         arriving.push(more)?;
-        if take_lines(alloc, &mut arriving, &mut shown)?.is_none() {
+        if take_lines(alloc, &mut arriving, most, &mut shown)?.is_none() {
             return Ok(None);
         }
     }
@@ -90,17 +103,24 @@ fn header_of(text: &[u8]) -> usize {
     length
 }
 
-/// Cases pushed in parts of 1, 2, 3 and 7 bytes and whole give their pictures.
+/// Cases pushed in parts of 1, 2, 3 and 7 bytes and whole give their pictures, also a line or three at a look.
 fn check_parts<R: AllocGlobal + Abort>(rt: &R, cases: &[Case]) -> Result<(), Fail> {
     for case in cases {
         let bytes = file(rt.alloc(), case.file)?;
         let expected = picture(rt.alloc(), case.picture)?;
-        for part in [1, 2, 3, 7, 1_000_000] {
-            let is_right = match arrived(rt.alloc(), bytes.as_slice(), part)? {
+        for (part, most) in [
+            (1, u32::MAX),
+            (2, 1),
+            (3, u32::MAX),
+            (7, 3),
+            (1_000_000, u32::MAX),
+            (1_000_000, 1),
+        ] {
+            let is_right = match arrived(rt.alloc(), bytes.as_slice(), part, most)? {
                 Some(lines) => is_text(expected.as_slice(), lines.as_slice()),
                 None => false,
             };
-            assert!(rt; is_right, "{} by {part}", case.file);
+            assert!(rt; is_right, "{} by {part} and {most}", case.file);
         }
     }
     Ok(())
@@ -136,7 +156,7 @@ fn given_of(alloc: Global, bytes: &[u8]) -> Result<Option<Vec<u8>>, Fail> {
     let mut arriving = Arriving::new(alloc);
     let mut shown = Vec::new(alloc);
     arriving.push(bytes)?;
-    if take_lines(alloc, &mut arriving, &mut shown)?.is_none() {
+    if take_lines(alloc, &mut arriving, u32::MAX, &mut shown)?.is_none() {
         return Ok(None);
     }
     Ok(Some(shown))
@@ -192,6 +212,8 @@ fn check_continuations<R: AllocGlobal + Abort>(rt: &R, words: &str) -> Result<()
 #[test]
 fn each_continuation_shows_what_was_given(rt: HostRuntime) -> Result<(), Fail> {
     check_continuations(&rt, "S Q F:0018:0008 D A I C 63 FF D0 E0 FF D1 63 E")?;
+    // Of the first interval the second MCU is lost, and so is the one of the interval behind it.
+    check_continuations(&rt, "S Q F:0018:0010 D A I:0002 C 61 FF D0 E0 FF D1 63 E")?;
     check_continuations(&rt, "S Q F:0018:0008 D A C 61 8F 63 E")?;
     check_continuations(&rt, "S Q F:0010:0018 D A C 61 8F 63 1F FF 00 E")?;
     check_continuations(&rt, COLOURED)?;
@@ -263,7 +285,7 @@ fn refuses_once_no_byte_can_mend_it(rt: HostRuntime) -> Result<(), Fail> {
     for (words, refusal) in HEADS {
         let mut arriving = Arriving::new(alloc);
         arriving.push(file(alloc, words)?.as_slice())?;
-        assert!(rt; arriving.head(alloc).err() == refusal, "{words}");
+        assert!(rt; arriving.begin(alloc).err() == refusal, "{words}");
         assert!(rt;
             arriving.next_lines(alloc, &mut []).err() == refusal,
             "{words}"
@@ -278,7 +300,7 @@ fn tells_how_the_scan_ended(rt: HostRuntime) -> Result<(), Fail> {
     let mut arriving = Arriving::new(alloc);
     arriving.push(file(alloc, "G 63 FF")?.as_slice())?;
     arriving.push(b"\xD9")?;
-    assert!(rt; arriving.bytes() == file(alloc, "G 63 E")?.len());
+    assert!(rt; arriving.bytes() == file(alloc, "G 63 E")?.len() as u64);
     assert!(rt; arriving.finish(alloc)?.ended() == ScanEnd::EndOfImage);
     Ok(())
 }
