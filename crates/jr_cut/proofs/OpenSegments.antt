@@ -152,6 +152,11 @@ open_grown old new count is es eb ei ea few u er latest =
       latest = latest;
     }
 
+-- it has data then
+pub open_with_data : (old new : OpenSegments) (count : ℕ) → AreOpen old → new.spans ≡ old.spans → new.begin ≡ old.begin → new.intervals ≡ old.intervals → new.at ≡ old.at + count → count ≤ length old.bytes.rest
+    → Unstuffs (take count old.bytes.rest) old.bytes.unstuffed new.bytes.unstuffed → new.bytes.rest ≡ drop count old.bytes.rest → new.begin < length new.bytes.unstuffed → new.latest ≡ length new.spans.items → AreOpen new
+open_with_data old new count is es eb ei ea few u er lt latest = open_grown old new count is es eb ei ea few u er (latest_grown old new (take count old.bytes.rest) is es eb u lt latest)
+
 -- the next one begins
 pub datas_next : (old new : OpenSegments) → AreOpen old → new.spans.items ≡ old.spans.items ++ (record { start = old.begin; end = length old.bytes.unstuffed }) ∷ [] → new.begin ≡ length old.bytes.unstuffed → new.bytes.unstuffed ≡ old.bytes.unstuffed
     → datas_of new ≡ datas_of old ++ [] ∷ []

@@ -1,4 +1,4 @@
-use Rattle.std.proofs.Common.{◌≡◌, ℕ, List, length, drop, length-drop, refl, ap, subst, ◌∙◌, arith}
+use Rattle.std.proofs.Common.{rules, ◌≡◌, ℕ, List, length, drop, length-drop, refl, ap, subst, ◌∙◌, arith}
 use Rattle.jr_cut.specs.CutSoFar.{HasCut}
 use Rattle.jr_cut.proofs.OpenSegments.{has_cut_is_cut}
 use Rattle.jr_scan.proofs.Scans.{is_scan}
@@ -9,7 +9,7 @@ returns-clause-come c =
     let h = c.args.head in
     let cut = c.in_ok-cut.cut in
     let rest : c.of-scan.result.rest ≡ drop h.scan_at c.args.bytes.items = c.of-scan.ensures.rest ∙ ap (λ (k : ℕ). drop k c.args.bytes.items) c.scan_at-start.ensures.value in
-    let has : HasCut h.scan_at (drop h.scan_at c.args.bytes.items) cut = subst (λ (k : ℕ). HasCut k (drop h.scan_at c.args.bytes.items) cut) c.scan_at-start.ensures.value (subst (λ (x : List ℕ). HasCut c.scan_at-start.result x cut) rest c.in_ok-cut.ensures.cut) in
+    let has : HasCut h.scan_at (drop h.scan_at c.args.bytes.items) cut = subst (λ (k : ℕ). HasCut k (drop h.scan_at c.args.bytes.items) cut) c.scan_at-start.ensures.value (subst (λ (x : List ℕ). HasCut c.scan_at-start.result x cut) rest (search (rules, c.in_ok-cut.ensures.cut))) in
     record {
       starts = c.requires.starts;
       few = omega (arith, c.in_ok-cut.ensures.all, ap length rest, length-drop h.scan_at c.args.bytes.items, c.requires.starts, c.scan_at-start.ensures.value);

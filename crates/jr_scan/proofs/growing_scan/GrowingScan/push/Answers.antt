@@ -1,4 +1,4 @@
-use Rattle.std.proofs.Common.{ℕ, List, ◌++◌, ◌∙◌, sym, subst}
+use Rattle.std.proofs.Common.{rules, ℕ, List, ◌++◌, ◌∙◌, sym, subst}
 use Rattle.std.proofs.lemmas.Result.{IfOk-weaker}
 use Rattle.jr_cut.specs.CutSoFar.{HasCut}
 use Rattle.jr_scan.specs.GrowingScan.{GrowingScanValue, HasCome, growing_scan}
@@ -12,4 +12,4 @@ returns-clause-pushed c =
     let new = c.push.new.self in
     let more = c.args.more.now in
     IfOk-weaker c.push.result (λ _. (start : ℕ) (bytes : List ℕ) → HasCut start bytes old → HasCut start (bytes ++ more) new) (λ _. (bytes : List ℕ) → HasCome c.args.self.now bytes → HasCome (growing_scan h new) (bytes ++ more))
-    (λ _ on bytes come. come_more h old new bytes more (c.push.ensures.intervals ∙ c.self.invariant.0) c.push.ensures.few on (subst (λ (g : GrowingScanValue). HasCome g bytes) (sym c.self.view_is) come)) c.push.ensures.pushed
+    (λ _ on bytes come. come_more h old new bytes more (c.push.ensures.intervals ∙ c.self.invariant.0) (search (rules, c.push.ensures.few)) on (subst (λ (g : GrowingScanValue). HasCome g bytes) (sym c.self.view_is) come)) (search (rules, c.push.ensures.pushed))
