@@ -145,9 +145,10 @@ impl ComingRow {
         let whole = self
             .samples
             .decode_whole(scan.head(), &mut reader, self.done);
+        let next = reader.place();
         self.done += whole;
         self.mcu += whole;
-        self.place = Some(reader.place());
+        self.place = Some(next);
         whole
     }
 

@@ -19,4 +19,6 @@ invariant_of-self-2 c =
     (coming_stays old.scan new.scan i.row on c.self.invariant.0, small, (was.0 ++ more, come, length-append was.0 more ∙ ap (λ (n : ℕ). n + length more) was.2))
 
 pub returns-clause-pushed : goal.returns-clause-pushed
-returns-clause-pushed c bytes has = c.in_ok-push.ensures.pushed bytes (subst (λ (v : ComingValue). HasCome v.growing bytes) (sym c.self.view_is) has)
+returns-clause-pushed c bytes has =
+    let told = c.in_ok-push.ensures.pushed bytes (subst (λ (v : ComingValue). HasCome v.growing bytes) (sym c.self.view_is) has) in
+    search (rules, told)

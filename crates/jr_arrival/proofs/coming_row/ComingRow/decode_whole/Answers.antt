@@ -50,10 +50,11 @@ returns-clause-coming c =
     let each = subst (λ (g : HeadValue). (k : ℕ) → k < n * blocks_of g → slice_index_or (units_in s.head w.lines.groups) (i.done * blocks_of g + k) [] ≡ unit_of g decoded.blocks k) h_is
     (subst (λ (h : HeadValue). (k : ℕ) → k < n * blocks_of r.run.interval.head → slice_index_or (units_in h w.lines.groups) (i.done * blocks_of r.run.interval.head + k) [] ≡ unit_of r.run.interval.head decoded.blocks k) e decoded.each) in
     let some_unit : 0 < blocks_of s.head = subst (λ (h : HeadValue). 0 < blocks_of h) c.head-2.ensures.value (omega (arith, c.order-some.ensures.some, c.order-some.ensures.count)) in
-    let at : c.place.result ≡ r'.place = c.place.ensures.value in
+    let at : c.place-next.result ≡ r'.place = c.place-next.ensures.value in
     let its : r'.run.interval ≡ interval = ap (λ (o : RunOf). o.interval) c.decode_whole-whole.ensures.run ∙ own in
-    let can : CanReadFrom interval c.place.result = subst (λ (x : IntervalValue). CanReadFrom x c.place.result) its (c.place.ensures.within, c.place.ensures.in_range) in
-    step_whole s v lawful some_unit count coming p c.place.result reads.0 decoded.blocks n w reads.1 (subst (λ (q : Place). IsRun (run_from interval p n) decoded.blocks q AllRead) (sym at) run) can within few room kept each
+    let can : CanReadFrom interval c.place-next.result = subst (λ (x : IntervalValue). CanReadFrom x c.place-next.result) its (c.place-next.ensures.within, c.place-next.ensures.in_range) in
+    let told = step_whole s v lawful some_unit count coming p c.place-next.result reads.0 decoded.blocks n w reads.1 (subst (λ (q : Place). IsRun (run_from interval p n) decoded.blocks q AllRead) (sym at) run) can within few room kept each in
+    search (rules, told)
 
 pub returns-clause-all : goal.returns-clause-all
 returns-clause-all c none =

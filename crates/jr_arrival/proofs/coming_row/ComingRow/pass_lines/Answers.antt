@@ -51,4 +51,5 @@ returns-clause-coming c =
       | inl l ↦ l
       | inr g ↦ absurd (c.if-self-height.false (omega (arith, g, high, high_too, c.lines_of-first.ensures.inside, first, count, end)))
     ] in
-    step_row s v coming lawful.components.down whole (i.lines + n) end more
+    let told = step_row s v coming lawful.components.down whole (i.lines + n) end more in
+    search (rules, told)
