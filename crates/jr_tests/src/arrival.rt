@@ -49,7 +49,8 @@ fn take_lines(
     let Some((line, height)) = size_of(arriving) else {
         return Ok(Some(()));
     };
-    let mut room = vec![in alloc; 0; u32::min(most, height) as usize * line]?;
+    let lines = u32::min(most, height) as usize;
+    let mut room = vec![in alloc; 0; usize::saturating_mul(lines, line)]?;
     for _ in 0..height {
         let count = arriving.next_lines(alloc, room.as_mut_slice())?;
         let length = usize::saturating_mul(count as usize, line);
