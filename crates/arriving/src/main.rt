@@ -1,0 +1,225 @@
+//! An example of a file that arrives: it reads standard input in parts, and behind each part writes the lines of the picture that
+//! the bytes so far settle. Who reads its output sees the picture grow while the file still comes.
+//!
+//! `arriving [BYTES] < photo.jpg > photo.ppm`: BYTES is the most that is read at once, 65536 where nothing is said. The exit status
+//! is 0, 1 for a stream that failed or want of memory, and 2 for a refused file or wrong words.
+#![tactic(auto)]
+
+ghost use Rattle.std.specs.Prelude.{◌≤◌};
+
+use jr_arrival::Arriving;
+use jr_base::Memory;
+use jr_head::Head;
+use jr_paint::{HEADER_ROOM, put_header};
+use jr_rows::shape_of;
+use jr_scan::Scan;
+use jr_segments::Refusal;
+use jr_stream::paint_scan_lines;
+use std::alloc::{AllocError, Global};
+use std::env;
+use std::io::{Error, Read, Write};
+use std::process::ExitCode;
+
+/// The most that is read at once, where nothing is said.
+const PART: usize = 65_536;
+
+/// The most that may be said.
+const GREATEST_PART: usize = 1 << 30;
+
+/// More lines than a picture has.
+const MOST_LINES: u32 = 65_536;
+
+/// Why there is no picture, or no whole one.
+#[derive(Debug, Drop)]
+enum Failure {
+    Stream,
+    Memory,
+    Refused(Refusal),
+}
+
+impl From<Error> for Failure {
+    fn from(_failed: Error) -> Self {
+        Failure::Stream
+    }
+}
+
+impl From<AllocError> for Failure {
+    fn from(_refused: AllocError) -> Self {
+        Failure::Memory
+    }
+}
+
+impl From<Memory> for Failure {
+    fn from(_refused: Memory) -> Self {
+        Failure::Memory
+    }
+}
+
+impl From<Refusal> for Failure {
+    fn from(refusal: Refusal) -> Self {
+        match refusal {
+            Refusal::Memory => Failure::Memory,
+            _ => Failure::Refused(refusal),
+        }
+    }
+}
+
+/// How many bytes so many lines have, and no more than there is room for.
+fn bytes_of(head: &Head, lines: u32, room: usize) -> usize
+    ensures { result ≤ room }
+{
+    (lines as usize)
+        .saturating_mul(shape_of(head).line)
+        .min(room)
+}
+
+/// Room for the lines of a row of MCUs and for the header, which is written.
+fn begin<W: Write>(alloc: Global, head: &Head, out: &mut W) -> Result<Vec<u8>, Failure> {
+    let shape = shape_of(head);
+    let lines = (shape.deep as usize).saturating_mul(shape.line);
+    let mut pixels = vec![in alloc; 0; lines.max(HEADER_ROOM)]?;
+    let filled = put_header(head, pixels.as_mut_slice());
+    out.write_all(&pixels[..filled])?;
+    Ok(pixels)
+}
+
+/// Writes the lines that are settled by now. `pixels` is room for them, once there is a head.
+fn write_settled<W: Write>(
+    alloc: Global,
+    arriving: &mut Arriving,
+    pixels: &mut Option<Vec<u8>>,
+    out: &mut W,
+) -> Result<(), Failure> {
+    arriving.begin(alloc)?;
+    if pixels.is_none()
+        && let Some(head) = arriving.head()
+    {
+        *pixels = Some(begin(alloc, head, out)?);
+    }
+    let Some(room) = pixels else {
+        return Ok(());
+    };
+    for _ in 0..MOST_LINES {
+        let lines = arriving.next_lines(alloc, room.as_mut_slice())?;
+        let Some(head) = arriving.head() else {
+            break;
+        };
+        if lines == 0 {
+            break;
+        }
+        let end = bytes_of(head, lines, room.len());
+        out.write_all(&room[..end])?;
+    }
+    out.flush()?;
+    Ok(())
+}
+
+/// Writes the lines from one on: those that no further byte has settled.
+fn write_rest<W: Write>(
+    alloc: Global,
+    scan: &Scan,
+    first: u32,
+    out: &mut W,
+) -> Result<(), Failure> {
+    let head = scan.head();
+    let left = head.height().saturating_sub(first);
+    if left == 0 {
+        return Ok(());
+    }
+    let mut pixels = vec![in alloc; 0; left as usize * shape_of(head).line]?;
+    paint_scan_lines(alloc, scan, first, left, pixels.as_mut_slice())?;
+    out.write_all(pixels.as_slice())?;
+    Ok(())
+}
+
+/// Writes the picture of a file that comes in parts of so many bytes at most.
+fn show<I: Read, W: Write>(
+    alloc: Global,
+    part: usize,
+    input: &mut I,
+    out: &mut W,
+) -> Result<(), Failure> {
+    let mut arriving = Arriving::new(alloc);
+    let mut pixels = None;
+    let mut bytes = vec![in alloc; 0; part]?;
+    for _ in 0..u64::MAX {
+        let count = input.read(bytes.as_mut_slice())?;
+        if count == 0 {
+            break;
+        }
+        arriving.push(&bytes[..count])?;
+        write_settled(alloc, &mut arriving, &mut pixels, out)?;
+    }
+    let first = arriving.lines();
+    let scan = arriving.finish(alloc)?;
+    if pixels.is_none() {
+        begin(alloc, scan.head(), out)?;
+    }
+    write_rest(alloc, &scan, first, out)
+}
+
+/// What the words ask for.
+#[derive(Clone, Copy, Debug)]
+enum Request {
+    /// To read so many bytes at once.
+    Show(usize),
+    Help,
+    Wrong,
+}
+
+/// What is told of the words.
+const USAGE: &str = "usage: arriving [BYTES] < photo.jpg > photo.ppm\n";
+
+/// What the words ask for: one number at most.
+fn request_of(rt: &HostRuntime) -> Request {
+    let Ok(words) = env::args(rt) else {
+        return Request::Wrong;
+    };
+    let mut request = Request::Show(PART);
+    for word in words.skip(1) {
+        request = match word.as_str().parse::<usize>() {
+            Ok(part) if part > 0 && part <= GREATEST_PART => Request::Show(part),
+            _ if word.as_str() == "--help" => return Request::Help,
+            _ => return Request::Wrong,
+        };
+    }
+    request
+}
+
+/// Tells why there is no picture, or no whole one, and answers the exit status.
+fn tell<E: Write>(errors: &mut E, failure: &Failure) -> u8 {
+    match failure {
+        Failure::Stream => {
+            let _ = writeln!(errors, "a stream failed");
+            1
+        }
+        Failure::Memory => {
+            let _ = writeln!(errors, "out of memory");
+            1
+        }
+        Failure::Refused(refusal) => {
+            let _ = writeln!(errors, "refused {}: {refusal}", refusal.number());
+            2
+        }
+    }
+}
+
+fn main(rt: HostRuntime) -> ExitCode {
+    let (mut out, mut errors) = (rt.stdout(), rt.stderr());
+    let part = match request_of(&rt) {
+        Request::Show(part) => part,
+        Request::Help => {
+            let _ = out.write_all(USAGE.as_bytes());
+            return ExitCode::SUCCESS;
+        }
+        Request::Wrong => {
+            let _ = errors.write_all(USAGE.as_bytes());
+            return ExitCode::from(2);
+        }
+    };
+    let shown = show(rt.alloc(), part, &mut rt.stdin(), &mut out);
+    ExitCode::from(match shown {
+        Ok(()) => 0,
+        Err(failure) => tell(&mut errors, &failure),
+    })
+}
