@@ -1,3 +1,2 @@
-pub mod Escapes
 pub mod Status
 pub mod Outcomes

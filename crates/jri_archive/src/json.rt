@@ -1,13 +1,12 @@
 //! The lines that are told of a file, as JSON objects.
 
 use crate::counts::FileCounts;
-use crate::escaping::put_string;
 use crate::outcome::Outcome;
-use crate::reading::ReadError;
 use crate::telling::put_end;
 use jr_damage::{CodedSpan, DamagedInterval, Lines, McuRange};
 use jr_head::Refusal;
 use jr_scan::ScanEnd;
+use jri_names::{ReadError, put_string};
 use std::alloc::AllocError;
 
 /// Puts the first member, the file's name.

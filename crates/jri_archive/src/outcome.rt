@@ -6,8 +6,8 @@ ghost use Rattle.jri_archive.specs.Outcomes.{IsOutcomeOf, state_of};
 
 use crate::checking::{Checked, check_file, check_file_in_place};
 use crate::counts::FileState;
-use crate::reading::ReadError;
 use jr_head::Refusal;
+use jri_names::ReadError;
 use std::alloc::Global;
 use std::sync::Wait;
 use std::thread::Threads;

@@ -3,10 +3,10 @@
 use crate::checking::Checked;
 use crate::counts::FileCounts;
 use crate::outcome::Outcome;
-use crate::reading::ReadError;
 use jr_damage::{CodedSpan, DamagedInterval, Lines, McuRange};
 use jr_head::Refusal;
 use jr_scan::ScanEnd;
+use jri_names::ReadError;
 use std::alloc::AllocError;
 
 /// Puts text in which characters that would end the line, or move on a terminal, are told as `?`.

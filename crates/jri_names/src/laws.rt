@@ -1,7 +1,7 @@
 //! What holds of every line.
 
 ghost use Rattle.std.specs.Prelude.{◌≡◌, ℕ, List};
-ghost use Rattle.jri_archive.specs.Escapes.{IsEscaped};
+ghost use Rattle.jri_names.specs.Escapes.{IsEscaped};
 
 /// A name comes back from its text: no other name has that text.
 pub fn names_come_back()

@@ -2,8 +2,8 @@
 
 ghost use Rattle.std.specs.Prelude.{◌≡◌, ◌≢◌, ℕ, ◌<◌, ◌≤◌, ◌++◌, ◌∷◌, List, [], length, take, slice_index, IfOk, false};
 ghost use Rattle.std.specs.String.{string_bytes};
-ghost use Rattle.jri_archive.specs.Escapes.{IsEscaped, digit_of, spelt};
-ghost use Rattle.jri_archive.specs.Escapes.NamePart.{Number};
+ghost use Rattle.jri_names.specs.Escapes.{IsEscaped, digit_of, spelt};
+ghost use Rattle.jri_names.specs.Escapes.NamePart.{Number};
 
 use std::alloc::AllocError;
 
@@ -99,7 +99,7 @@ fn put_escaped(line: &mut String, name: &[u8]) -> Result<(), AllocError>
 }
 
 /// Puts a name as a JSON string.
-pub(crate) fn put_string(line: &mut String, name: &[u8]) -> Result<(), AllocError>
+pub fn put_string(line: &mut String, name: &[u8]) -> Result<(), AllocError>
     ensures { IfOk result (λ _. (text : List ℕ) × (string_bytes line.new ≡ string_bytes line.old ++ (34 ∷ (text ++ 34 ∷ []))) × IsEscaped text name.now) }
 {
     line.push_str("\"")?;

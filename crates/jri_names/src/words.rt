@@ -44,7 +44,7 @@ pub fn words_of<E: Env>(env: &E, alloc: Global) -> Result<Vec<Vec<u8>>, AllocErr
 }
 
 /// The words as text. In place of one that is no text stands its number, behind a byte that no word has.
-pub(crate) fn texts(alloc: Global, words: &[Vec<u8>]) -> Result<Vec<String>, AllocError> {
+pub fn texts(alloc: Global, words: &[Vec<u8>]) -> Result<Vec<String>, AllocError> {
     let mut texts = Vec::new(alloc);
     for number in 0..words.len() {
         let mut text = String::new(alloc);
@@ -58,11 +58,7 @@ pub(crate) fn texts(alloc: Global, words: &[Vec<u8>]) -> Result<Vec<String>, All
 }
 
 /// The bytes of the word whose text this is.
-pub(crate) fn bytes_of(
-    alloc: Global,
-    words: &[Vec<u8>],
-    text: &str,
-) -> Result<Vec<u8>, AllocError> {
+pub fn bytes_of(alloc: Global, words: &[Vec<u8>], text: &str) -> Result<Vec<u8>, AllocError> {
     if let Some(number) = text.strip_prefix(NO_TEXT)
         && let Ok(number) = number.parse::<usize>()
         && let Some(word) = words.get(number)

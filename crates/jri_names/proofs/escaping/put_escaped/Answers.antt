@@ -1,6 +1,6 @@
 use Rattle.std.proofs.Common.{◌+◌, length, refl, arith}
-use Rattle.jri_archive.proofs.Escapes.{put_byte, put_run}
-use Rattle.jri_archive.proofs.escaping.put_escaped.Goals as goal
+use Rattle.jri_names.proofs.Escapes.{put_byte, put_run}
+use Rattle.jri_names.proofs.escaping.put_escaped.Goals as goal
 
 pub bytes-preserved-then-at-name : goal.bytes-preserved-then-at-name
 bytes-preserved-then-at-name c =

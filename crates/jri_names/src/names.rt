@@ -9,14 +9,14 @@ const ENDINGS: [&str; 4] = [".jpg", ".jpeg", ".jpe", ".jfif"];
 
 /// A file that is to be checked, or why there is none.
 #[derive(Debug, Drop)]
-pub(crate) struct NamedFile {
-    pub(crate) name: Vec<u8>,
-    pub(crate) error: Option<ReadError>,
+pub struct NamedFile {
+    pub name: Vec<u8>,
+    pub error: Option<ReadError>,
 }
 
 /// Why there is no further name.
 #[derive(Clone, Copy, Debug, PartialEq, Eq)]
-pub(crate) enum NamesError {
+pub enum NamesError {
     Read,
     Memory,
 }
@@ -29,7 +29,7 @@ impl From<AllocError> for NamesError {
 
 /// The names that words give, those of a list, and those of what stands in folders.
 #[derive(Drop)]
-pub(crate) struct FileNames<I: Read + Drop> {
+pub struct FileNames<I: Read + Drop> {
     given: Vec<Vec<u8>>,
     /// So many of them are taken.
     taken: usize,
@@ -54,7 +54,7 @@ fn is_jpeg(name: &str) -> bool {
 
 impl<I: Read + Drop> FileNames<I> {
     /// None is taken yet.
-    pub(crate) fn of(
+    pub fn of(
         alloc: Global,
         given: Vec<Vec<u8>>,
         list: Option<BufReader<I>>,
@@ -70,7 +70,7 @@ impl<I: Read + Drop> FileNames<I> {
     }
 
     /// How many there are behind those that are taken, where that is known.
-    pub(crate) fn left(&self) -> Option<u64> {
+    pub fn left(&self) -> Option<u64> {
         if self.list.is_some() || self.is_recursive {
             return None;
         }
@@ -152,7 +152,7 @@ impl<I: Read + Drop> FileNames<I> {
     }
 
     /// The next file, none behind the last.
-    pub(crate) fn next<F: Folder>(
+    pub fn next<F: Folder>(
         &mut self,
         alloc: Global,
         folder: &F,
