@@ -9,7 +9,7 @@ use Rattle.jr_cut.specs.Cut.{Spelling, IsSpelling, spelling, byte_spelled, IsRaw
 use Rattle.jr_cut.specs.Cut.Spelling.{Plain, Stuffed}
 use Rattle.jr_cut.proofs.Cuts.{run_same, run_end, stop_some}
 use Rattle.jr_cut.proofs.CutLaw.{one_cut}
-use Rattle.jr_arrival.specs.Growing.{GoesOn}
+use Rattle.jr_arrival.specs.Growing.{GrowsTo}
 
 zero_not : ◌≢◌ {A = ℕ} 0 PREFIX
 zero_not e = omega arith
@@ -109,7 +109,7 @@ ending_not_next n k at tail (OtherMarker c o) h m room = other_restart c (k % 8)
 
 -- ---- the segments
 
-goes_on_first : (first first' : List ℕ) (ds es : List (List ℕ)) → first ≡ first' → GoesOn ds es → GoesOn (first ∷ ds) (first' ∷ es)
+goes_on_first : (first first' : List ℕ) (ds es : List (List ℕ)) → first ≡ first' → GrowsTo ds es → GrowsTo (first ∷ ds) (first' ∷ es)
 goes_on_first first first' ds es e g = record {
   ended = first ∷ g.ended;
   last = g.last;
@@ -125,7 +125,7 @@ bytes_of ps = map (λ p. p.bytes) ps
 segments_go_on : (n k i j o : ℕ) (raw raw' first first' more tail' : List ℕ) (ps qs : List CodedSegment) (end : ScanEnd)
     → IsRaw raw first → IsRaw raw' first' → AllByRecursion (λ p. IsRaw p.raw p.bytes) ps → AllByRecursion (λ p. IsRaw p.raw p.bytes) qs
     → j ≡ k + length ps → i ≡ k + length qs → j < n → IsEnding n i o tail' end
-    → raw ++ (with_markers k ps ++ more) ≡ raw' ++ (with_markers k qs ++ tail') → GoesOn (first ∷ bytes_of ps) (first' ∷ bytes_of qs)
+    → raw ++ (with_markers k ps ++ more) ≡ raw' ++ (with_markers k qs ++ tail') → GrowsTo (first ∷ bytes_of ps) (first' ∷ bytes_of qs)
 segments_go_on n k i j o raw raw' first first' more tail' [] qs end hr hr' hp hq ej ei lj h e =
     let d = raw_goes_on raw raw' first first' more (with_markers k qs ++ tail') hr hr' (markers_stop n i k o qs tail' end h) e in
     record { ended = []; last = first; more = d.more; others = bytes_of qs; is = refl; longer_is = ap (λ (x : List ℕ). x ∷ bytes_of qs) d.is }
@@ -146,7 +146,7 @@ segments_go_on n k i j o raw raw' first first' more tail' (p ∷ ps) (q ∷ qs) 
     goes_on_first first first' (bytes_of (p ∷ ps)) (bytes_of (q ∷ qs)) (sym (d.is ∙ ap (λ (x : List ℕ). first ++ x) s.0 ∙ append-nil first))
     (segments_go_on n (suc k) i j o p.raw q.raw p.bytes q.bytes more tail' ps qs end hp.0 hq.0 hp.1 hq.1 (omega (arith, ej)) (omega (arith, ei)) lj h whole)
 
-goes_on : (n at : ℕ) (bytes more : List ℕ) (a : Cutting n at bytes) (b : Cutting n at (bytes ++ more)) → GoesOn a.datas b.datas
+goes_on : (n at : ℕ) (bytes more : List ℕ) (a : Cutting n at bytes) (b : Cutting n at (bytes ++ more)) → GrowsTo a.datas b.datas
 goes_on n at bytes more a b =
     let c = a.is in
     let d = b.is in
@@ -154,7 +154,7 @@ goes_on n at bytes more a b =
     = sym (ap (λ (x : List ℕ). x ++ more) c.spelled ∙ append_assoc c.raw (with_markers 0 c.segments ++ c.tail) more ∙ ap (λ (x : List ℕ). c.raw ++ x) (append_assoc (with_markers 0 c.segments) c.tail more)) in
     let g = segments_go_on n 0 (0 + length d.segments) (0 + length c.segments) (at + length (d.raw ++ with_markers 0 d.segments)) c.raw d.raw c.first d.first (c.tail ++ more) d.tail c.segments d.segments b.end
     c.is_raw d.is_raw c.each d.each refl refl c.few d.ends (left ∙ d.spelled) in
-    subst (λ (l : List (List ℕ)). GoesOn l b.datas) (sym c.means) (subst (λ (l : List (List ℕ)). GoesOn (c.first ∷ bytes_of c.segments) l) (sym d.means) g)
+    subst (λ (l : List (List ℕ)). GrowsTo l b.datas) (sym c.means) (subst (λ (l : List (List ℕ)). GrowsTo (c.first ∷ bytes_of c.segments) l) (sym d.means) g)
 
 -- ---- a marker ends the scan
 
@@ -183,7 +183,7 @@ cut_more n k at bytes more datas end not_file c = record {
 }
 
 -- more bytes keep what is cut, and all of it where a marker ended the scan
-pub cut_is_final : (n at : ℕ) (bytes more : List ℕ) (a : Cutting n at bytes) (b : Cutting n at (bytes ++ more)) → GoesOn a.datas b.datas × (a.end ≢ EndOfFile → (b.datas ≡ a.datas) × (b.end ≡ a.end))
+pub cut_is_final : (n at : ℕ) (bytes more : List ℕ) (a : Cutting n at bytes) (b : Cutting n at (bytes ++ more)) → GrowsTo a.datas b.datas × (a.end ≢ EndOfFile → (b.datas ≡ a.datas) × (b.end ≡ a.end))
 cut_is_final n at bytes more a b = (
   goes_on n at bytes more a b,
   λ not_file. one_cut n at (bytes ++ more) b.datas a.datas b.end a.end b.is (cut_more n 0 at bytes more a.datas a.end not_file a.is),

@@ -21,7 +21,7 @@ use Rattle.jr_scan.specs.Mcus.{Front}
 use Rattle.jr_piece.proofs.ScanLaws.{one_decoding, one_front, shorter_front}
 use Rattle.jr_picture.specs.declared.mark.Mark.{Mark}
 use Rattle.jr_picture.specs.declared.mark.Mark.TheVariants.{Blank, Sound, Damaged}
-use Rattle.jr_picture.specs.Headline.{interval_number, within_interval, spot_of, place_in, unit_in, decoded_sample, Holds, Shows, mark_in, ShowsFirst}
+use Rattle.jr_picture.specs.Headline.{interval_number, within_interval, spot_of, place_in, unit_number, decoded_sample, Holds, Shows, mark_in, ShowsFirst}
 use Rattle.jr_picture.proofs.BoardPictures.{block_there}
 use Rattle.jr_picture.proofs.Pictures.{line_same, same_samples}
 use Rattle.jr_rows.specs.Rows.{first_line, line_count}
@@ -49,7 +49,7 @@ same_shown i f g Damaged p q c x y held =
     let count : p.front ≡ q.front = omega (arith, p.longest.longest q.front q.blocks q.longest.front, q.longest.longest p.front p.blocks p.longest.front) in
     let there : Front i q.front p.blocks = subst (λ (n : ℕ). Front i n p.blocks) count p.longest.front in
     let same : p.blocks ≡ q.blocks = one_front i q.front p.blocks q.blocks there q.longest.front in
-    let unit = unit_in i.head (spot_of i.head c x y) in
+    let unit = unit_number i.head (spot_of i.head c x y) in
     elim (cases_lt unit (length q.blocks)) [
       | inl l ↦ p.within c x y held (subst (λ (zs : List (List ℤ)). unit < length zs) (sym same) l) ∙ ap (λ (zs : List (List ℤ)). decoded_sample i zs c x y) same ∙ sym (q.within c x y held l)
       | inr r ↦ p.behind c x y held (subst (λ (zs : List (List ℤ)). length zs ≤ unit) (sym same) r) ∙ sym (q.behind c x y held r)
@@ -67,18 +67,18 @@ front_begins i j k ys zs le a b n lt =
     (omega (arith, few, all, a.mcus.0), sym (get_or-take (k * per) ys n [] few) ∙ ap (λ (l : List (List ℤ)). get_or l n []) same)
 
 sample_by : IntervalValue → ℕ → ℕ → ℕ → List ℤ → ℕ
-sample_by i c x y block = let n = unit_in i.head (spot_of i.head c x y) in get_or (samples block (quantiser_of i.head (component i.head n))) (place_in (spot_of i.head c x y)) 0
+sample_by i c x y block = let n = unit_number i.head (spot_of i.head c x y) in get_or (samples block (quantiser_of i.head (component i.head n))) (place_in (spot_of i.head c x y)) 0
 
 -- a marked interval shows the MCUs that its bits begin with
 front_shown : (i : IntervalValue) (f : ℕ → ℕ → ℕ → ℕ) (m : Mark) → m ≢ Blank → Shows m i f → (k : ℕ) (zs : List (List ℤ)) → Front i k zs
-    → (c x y : ℕ) → Holds i c x y → unit_in i.head (spot_of i.head c x y) < length zs → f c x y ≡ decoded_sample i zs c x y
+    → (c x y : ℕ) → Holds i c x y → unit_number i.head (spot_of i.head c x y) < length zs → f c x y ≡ decoded_sample i zs c x y
 unfolding sample_by
 front_shown i f Blank not_blank p k zs front c x y held lt = absurd (not_blank refl)
 front_shown i f Sound not_blank p k zs front c x y held lt =
     let all : Front i i.mcus p.blocks = record { at_most = omega arith; taken = p.decodes.taken; rest = p.decodes.padding; mcus = p.decodes.mcus; spelled = p.decodes.spelled } in
-    p.samples c x y held ∙ ap (sample_by i c x y) (front_begins i i.mcus k p.blocks zs front.at_most all front (unit_in i.head (spot_of i.head c x y)) lt).1
+    p.samples c x y held ∙ ap (sample_by i c x y) (front_begins i i.mcus k p.blocks zs front.at_most all front (unit_number i.head (spot_of i.head c x y)) lt).1
 front_shown i f Damaged not_blank p k zs front c x y held lt =
-    let b = front_begins i p.front k p.blocks zs (p.longest.longest k zs front) p.longest.front front (unit_in i.head (spot_of i.head c x y)) lt in
+    let b = front_begins i p.front k p.blocks zs (p.longest.longest k zs front) p.longest.front front (unit_number i.head (spot_of i.head c x y)) lt in
     p.within c x y held b.0 ∙ ap (sample_by i c x y) b.1
 
 -- ---- two pictures
@@ -131,7 +131,7 @@ module _ (bytes : List ℕ) (s t : ScanValue) (n : ℕ) (k m : List Mark) (f g :
       let per : length (order_of h) ≡ blocks_of h = length-order 0 h.components in
       let block = block_there h c x y a.lawful held.component in
       let next : count * length (order_of h) ≡ within_interval h spot.mcu * blocks_of h + blocks_of h = ap (λ (p : ℕ). count * p) per ∙ grind arith in
-      let lt : unit_in h spot < length zs = omega (arith, front.mcus.0, next, block) in
+      let lt : unit_number h spot < length zs = omega (arith, front.mcus.0, next, block) in
       let held' : Holds longer c x y = record { component = held.component; column = held.column; line = held.line; interval = held.interval } in
       elim (cases_lt i n) [
         | inl l ↦

@@ -13,7 +13,7 @@ use Rattle.jr_cut.specs.Cut.{IsCut, Cutting}
 use Rattle.jr_scan.specs.IntervalValue.{IntervalValue}
 use Rattle.jr_scan.specs.ScanValue.{ScanValue, IsScanOf, interval_of, intervals_of, mcus_in}
 use Rattle.jr_arrival.specs.Arrival.{CanBecome}
-use Rattle.jr_arrival.specs.Growing.{GoesOn, HasEndedAt, HasScan, KeepsScan}
+use Rattle.jr_arrival.specs.Growing.{GrowsTo, HasEndedAt, HasScan, KeepsScan}
 use Rattle.jr_arrival.proofs.HeadsStay.{head_is_final}
 use Rattle.jr_arrival.proofs.CutsGoOn.{cut_is_final}
 
@@ -84,7 +84,7 @@ module _ (bytes more : List ℕ) (s t : ScanValue) (heads : t.head ≡ s.head) (
   abbrev after : Cutting (intervals_of h) h.scan_at (drop h.scan_at bytes ++ more)
   after = record { datas = b.segments; end = t.ended; is = cut_there }
 
-  grown : (c : IsScanOf bytes s) → GoesOn c.segments b.segments
+  grown : (c : IsScanOf bytes s) → GrowsTo c.segments b.segments
   grown c = (cut_is_final (intervals_of h) h.scan_at (drop h.scan_at bytes) more (before c) after).0
 
   finished : (c : IsScanOf bytes s) → s.ended ≢ EndOfFile → (b.segments ≡ c.segments) × (t.ended ≡ s.ended)

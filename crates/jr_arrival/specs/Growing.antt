@@ -14,7 +14,7 @@ use Rattle.jr_paint.specs.Lines.{next_lines_of}
 use Rattle.jr_rows.specs.Rows.{first_line, line_count}
 
 -- of the segments that bytes are cut into, all but the last are kept by more bytes; the last one's data may go on, and others follow
-pub record GoesOn (datas longer : List (List ℕ)) : Type 0 where
+pub record GrowsTo (datas longer : List (List ℕ)) : Type 0 where
   pub ended : List (List ℕ)
   pub last : List ℕ
   pub more : List ℕ

@@ -16,7 +16,7 @@ ghost use Rattle.jr_scan.specs.Run.{RunOf, IsRun};
 ghost use Rattle.jr_picture.specs.declared.mark.Mark.{Mark};
 ghost use Rattle.jr_picture.specs.Headline.{ShowsFirst, mark_in};
 ghost use Rattle.jr_arrival.specs.Arrival.{CanBecome, IsFinalFault};
-ghost use Rattle.jr_arrival.specs.Growing.{GoesOn, HasScan, HasEndedAt, KeepsScan, IsStuck, RowIsSettled, lines_of_row, run_with_more, with_more};
+ghost use Rattle.jr_arrival.specs.Growing.{GrowsTo, HasScan, HasEndedAt, KeepsScan, IsStuck, RowIsSettled, lines_of_row, run_with_more, with_more};
 
 /// A head that is accepted of the bytes so far is the head of every file that they can become (T.81, B.2).
 pub fn head_is_final()
@@ -36,7 +36,7 @@ pub fn too_long_is_final()
 /// The segments that the bytes so far have ended are those that more bytes are cut into, and the last one's data begins its data
 /// there; where a marker has ended the scan, nothing is added (T.81, B.1.1.5).
 pub fn cut_is_final()
-    ensures { (n at : ℕ) (bytes more : List ℕ) (a : Cutting n at bytes) (b : Cutting n at (bytes ++ more)) → GoesOn a.datas b.datas × (a.end ≢ EndOfFile → (b.datas ≡ a.datas) × (b.end ≡ a.end)) }
+    ensures { (n at : ℕ) (bytes more : List ℕ) (a : Cutting n at bytes) (b : Cutting n at (bytes ++ more)) → GrowsTo a.datas b.datas × (a.end ≢ EndOfFile → (b.datas ≡ a.datas) × (b.end ≡ a.end)) }
 {}
 
 /// So every file that the bytes so far can become keeps the intervals of their scan: those that have ended as they are, and of

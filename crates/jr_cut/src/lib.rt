@@ -3,6 +3,7 @@
 
 mod coded_segments;
 mod cut_so_far;
+mod front;
 mod laws;
 mod open_segments;
 mod scan_end;
@@ -12,6 +13,7 @@ mod unstuff;
 
 pub use coded_segments::{CodedSegments, cut};
 pub use cut_so_far::CutSoFar;
+pub use front::{fill_count, plain_count};
 pub use laws::one_cut;
 pub use scan_end::ScanEnd;
 pub use span::Span;

@@ -5,9 +5,9 @@ ghost use Rattle.jr_base.specs.declared.marker.TheConstants.{PREFIX};
 ghost use Rattle.jr_cut.specs.Cut.{IsStop};
 ghost use Rattle.jr_cut.specs.Spans.{Unstuffs};
 
+use crate::front::{fill_count, plain_count};
 use jr_base::Memory;
 use jr_base::marker::PREFIX;
-use memchr::memchr;
 use std::alloc::Global;
 use std::marker::Model;
 
@@ -20,34 +20,6 @@ fn offset_in(bytes: &[u8], offset: u64) -> usize
         offset as usize
     } else {
         bytes.len()
-    }
-}
-
-/// How many bytes at the front are FF.
-fn fill_count(bytes: &[u8]) -> usize
-    ensures within { result ≤ length bytes.now }
-    ensures full { take result bytes.now ≡ replicate result PREFIX }
-    ensures next { result < length bytes.now → slice_index bytes.now result ≢ PREFIX }
-{
-    let mut n = 0;
-    for byte in bytes {
-        if *byte != PREFIX {
-            return n;
-        }
-        n += 1;
-    }
-    n
-}
-
-/// How many bytes at the front are not FF.
-fn plain(bytes: &[u8]) -> usize
-    ensures within { result ≤ length bytes.now }
-    ensures plain { (k : ℕ) → k < result → slice_index bytes.now k ≢ PREFIX }
-    ensures next { result < length bytes.now → slice_index bytes.now result ≡ PREFIX }
-{
-    match memchr(PREFIX, bytes) {
-        Some(at) => at,
-        None => bytes.len(),
     }
 }
 
@@ -175,7 +147,7 @@ impl Unstuffing {
         let _whole = self.rest().len();
         let mut at: usize = 0;
         'bytes: loop {
-            let count = plain(self.rest());
+            let count = plain_count(self.rest());
             self.keep(count);
             at += count;
             let next = self.fill();

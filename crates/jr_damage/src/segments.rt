@@ -7,9 +7,9 @@ ghost use Rattle.jr_damage.specs.Verdicts.{IsFileScan};
 ghost use Rattle.jr_damage.specs.Coded.{AreSegmentsOf};
 
 use jr_base::Memory;
-use jr_base::marker::{PREFIX, RST0};
+use jr_base::marker::RST0;
+use jr_cut::{fill_count, plain_count};
 use jr_scan::Scan;
-use memchr::memchr;
 use std::alloc::Global;
 
 /// The bytes of a file from one offset up to another: those that code an interval, with their stuffing and without the
@@ -18,34 +18,6 @@ use std::alloc::Global;
 pub struct CodedSpan {
     pub start: usize,
     pub end: usize,
-}
-
-/// How many bytes at the front are FF.
-fn fill_count(bytes: &[u8]) -> usize
-    ensures within { result ≤ length bytes.now }
-    ensures full { take result bytes.now ≡ replicate result PREFIX }
-    ensures next { result < length bytes.now → slice_index bytes.now result ≢ PREFIX }
-{
-    let mut n = 0;
-    for byte in bytes {
-        if *byte != PREFIX {
-            return n;
-        }
-        n += 1;
-    }
-    n
-}
-
-/// How many bytes at the front are not FF.
-fn plain_count(bytes: &[u8]) -> usize
-    ensures within { result ≤ length bytes.now }
-    ensures plain { (k : ℕ) → k < result → slice_index bytes.now k ≢ PREFIX }
-    ensures next { result < length bytes.now → slice_index bytes.now result ≡ PREFIX }
-{
-    match memchr(PREFIX, bytes) {
-        Some(at) => at,
-        None => bytes.len(),
-    }
 }
 
 /// How many bytes at the front code data, up to a marker or to the end.

@@ -26,7 +26,7 @@ use Rattle.jr_picture.specs.declared.mark.Mark.{Mark}
 use Rattle.jr_picture.specs.declared.mark.Mark.TheVariants.{Blank, Sound, Damaged}
 use Rattle.jr_picture.specs.BoardValue.{BoardValue}
 use Rattle.jr_picture.specs.Boards.{IsLawfulBoard, piece_at, mark_at, mark_of, marks_of, is_sound_piece, is_damaged_piece}
-use Rattle.jr_picture.specs.Headline.{interval_number, within_interval, spot_of, unit_in, place_in, Holds, Shows, mark_in, IsPicture, AreFirst, is_sound, is_damaged}
+use Rattle.jr_picture.specs.Headline.{interval_number, within_interval, spot_of, unit_number, place_in, Holds, Shows, mark_in, IsPicture, AreFirst, is_sound, is_damaged}
 use Rattle.jr_picture.specs.Samples.{sample_in, sample_of_piece, samples_of}
 
 -- a sample of the picture lies in an MCU of it, in a data unit of that
@@ -54,12 +54,12 @@ within_few h mcu lt = elim (eqb_tells h.restart 0) [
 ]
 
 -- a data unit of an MCU of the picture is one of its interval
-pub unit_few : (h : HeadValue) (s : Spot) → s.mcu < mcus_of h → s.block < blocks_of h → length (order_of h) ≡ blocks_of h → unit_in h s < mcus_in h (interval_number h s.mcu) * length (order_of h)
+pub unit_few : (h : HeadValue) (s : Spot) → s.mcu < mcus_of h → s.block < blocks_of h → length (order_of h) ≡ blocks_of h → unit_number h s < mcus_in h (interval_number h s.mcu) * length (order_of h)
 unit_few h s mcu block e =
     let within = within_few h s.mcu mcu in
     let whole : (within_interval h s.mcu + 1) * blocks_of h ≤ mcus_in h (interval_number h s.mcu) * blocks_of h = mul-le-mul_right (blocks_of h) (omega (arith, within)) in
-    let here : unit_in h s < mcus_in h (interval_number h s.mcu) * blocks_of h = omega (arith, whole, block) in
-    subst (λ (k : ℕ). unit_in h s < mcus_in h (interval_number h s.mcu) * k) (sym e) here
+    let here : unit_number h s < mcus_in h (interval_number h s.mcu) * blocks_of h = omega (arith, whole, block) in
+    subst (λ (k : ℕ). unit_number h s < mcus_in h (interval_number h s.mcu) * k) (sym e) here
 
 -- a unit of the samples, as the board shows it
 unit_shown : (h : HeadValue) (zs : List (List ℤ)) (us : List (List ℕ)) (unit place : ℕ) → AreSamples h zs us → unit < length zs → sample_in (slice_get us unit) place ≡ slice_index (unit_of h zs unit) place
@@ -84,7 +84,7 @@ interval_is b s i p lawful same e =
 
 -- the sample that a head gives the place of
 abbrev pub shown_by : HeadValue → List (Option PieceValue) → ℕ → ℕ → ℕ → ℕ
-shown_by h ps c x y = sample_of_piece h.kind c (get_or ps (interval_number h (spot_of h c x y).mcu) None) (unit_in h (spot_of h c x y)) (place_in (spot_of h c x y))
+shown_by h ps c x y = sample_of_piece h.kind c (get_or ps (interval_number h (spot_of h c x y).mcu) None) (unit_number h (spot_of h c x y)) (place_in (spot_of h c x y))
 
 pub shown_is : (b : BoardValue) (c x y : ℕ) → samples_of b c x y ≡ shown_by b.scan.head b.pieces c x y
 unfolding samples_of
@@ -92,20 +92,20 @@ shown_is b c x y = refl
 
 -- what is shown of interval i, of which this is what is posted
 shown_there : (b : BoardValue) (c x y i : ℕ) (q : Option PieceValue) → interval_number b.scan.head (spot_of b.scan.head c x y).mcu ≡ i → piece_at b i ≡ q
-    → samples_of b c x y ≡ sample_of_piece b.scan.head.kind c q (unit_in b.scan.head (spot_of b.scan.head c x y)) (place_in (spot_of b.scan.head c x y))
+    → samples_of b c x y ≡ sample_of_piece b.scan.head.kind c q (unit_number b.scan.head (spot_of b.scan.head c x y)) (place_in (spot_of b.scan.head c x y))
 shown_there b c x y i q e f =
     let h = b.scan.head in
     let spot = spot_of h c x y in
-    shown_is b c x y ∙ ap (λ (n : ℕ). sample_of_piece h.kind c (get_or b.pieces n None) (unit_in h spot) (place_in spot)) e
-    ∙ ap (λ (p : Option PieceValue). sample_of_piece h.kind c p (unit_in h spot) (place_in spot)) f
+    shown_is b c x y ∙ ap (λ (n : ℕ). sample_of_piece h.kind c (get_or b.pieces n None) (unit_number h spot) (place_in spot)) e
+    ∙ ap (λ (p : Option PieceValue). sample_of_piece h.kind c p (unit_number h spot) (place_in spot)) f
 
 module _ (b : BoardValue) (lawful : IsLawfulBoard b) (head : heads.IsLawful b.scan.head) where
   -- a sample that an interval holds lies in one of its data units
-  unit_there : (i c x y : ℕ) → Holds (scans.interval_of b.scan i) c x y → unit_in b.scan.head (spot_of b.scan.head c x y) < mcus_in b.scan.head i * length (order_of b.scan.head)
+  unit_there : (i c x y : ℕ) → Holds (scans.interval_of b.scan i) c x y → unit_number b.scan.head (spot_of b.scan.head c x y) < mcus_in b.scan.head i * length (order_of b.scan.head)
   unit_there i c x y held =
       let h = b.scan.head in
       let there = unit_few h (spot_of h c x y) (mcu_there h c x y head held.component held.column held.line) (block_there h c x y head held.component) (length-order 0 h.components) in
-      subst (λ (n : ℕ). unit_in h (spot_of h c x y) < mcus_in h n * length (order_of h)) held.interval there
+      subst (λ (n : ℕ). unit_number h (spot_of h c x y) < mcus_in h n * length (order_of h)) held.interval there
 
   shows_piece : (i : ℕ) (p : PieceValue) → piece_at b i ≡ Some p → (t : Bool) → p.is_sound ≡ t → Shows (cond t Sound Damaged) (scans.interval_of b.scan i) (samples_of b)
   shows_piece i p e true t =
@@ -119,7 +119,7 @@ module _ (b : BoardValue) (lawful : IsLawfulBoard b) (head : heads.IsLawful b.sc
         decodes = d;
         samples = λ c x y held.
             shown_there b c x y i (Some p) held.interval e
-            ∙ unit_shown v.head s.blocks p.samples (unit_in v.head (spot_of v.head c x y)) (place_in (spot_of v.head c x y)) shows (omega (arith, d.mcus.0, unit_there i c x y held));
+            ∙ unit_shown v.head s.blocks p.samples (unit_number v.head (spot_of v.head c x y)) (place_in (spot_of v.head c x y)) shows (omega (arith, d.mcus.0, unit_there i c x y held));
       }
   shows_piece i p e false t =
       let v = scans.interval_of b.scan i in
@@ -132,10 +132,10 @@ module _ (b : BoardValue) (lawful : IsLawfulBoard b) (head : heads.IsLawful b.sc
         longest = s.longest;
         within = λ c x y held few.
             shown_there b c x y i (Some p) held.interval e
-            ∙ unit_shown v.head s.blocks p.samples (unit_in v.head (spot_of v.head c x y)) (place_in (spot_of v.head c x y)) s.samples few;
+            ∙ unit_shown v.head s.blocks p.samples (unit_number v.head (spot_of v.head c x y)) (place_in (spot_of v.head c x y)) s.samples few;
         behind = λ c x y held past.
             shown_there b c x y i (Some p) held.interval e
-            ∙ grey_shown v.head s.blocks p.samples (unit_in v.head (spot_of v.head c x y)) (place_in (spot_of v.head c x y)) s.samples past;
+            ∙ grey_shown v.head s.blocks p.samples (unit_number v.head (spot_of v.head c x y)) (place_in (spot_of v.head c x y)) s.samples past;
       }
 
   shows : (i : ℕ) (q : Option PieceValue) → piece_at b i ≡ q → Shows (mark_of q) (scans.interval_of b.scan i) (samples_of b)

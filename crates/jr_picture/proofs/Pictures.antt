@@ -20,7 +20,7 @@ use Rattle.jr_piece.proofs.Outcomes.{OneDecoding, OneFront}
 use Rattle.jr_piece.proofs.ScanLaws.{one_decoding, one_front}
 use Rattle.jr_picture.specs.declared.mark.Mark.{Mark}
 use Rattle.jr_picture.specs.declared.mark.Mark.TheVariants.{Blank, Sound, Damaged}
-use Rattle.jr_picture.specs.Headline.{interval_number, spot_of, unit_in, decoded_sample, Holds, Shows, IsPicture, AreFirst, HasOnePicture, mark_in}
+use Rattle.jr_picture.specs.Headline.{interval_number, spot_of, unit_number, decoded_sample, Holds, Shows, IsPicture, AreFirst, HasOnePicture, mark_in}
 
 -- the marks of an interval that is marked in both are one
 same_mark : (i : IntervalValue) (f g : ℕ → ℕ → ℕ → ℕ) (m n : Mark) → (m ≡ Blank → n ≡ Blank) → (n ≡ Blank → m ≡ Blank) → Shows m i f → Shows n i g → m ≡ n
@@ -42,7 +42,7 @@ same_shown one front i f g Damaged p q c x y held =
     let count : p.front ≡ q.front = omega (arith, p.longest.longest q.front q.blocks q.longest.front, q.longest.longest p.front p.blocks p.longest.front) in
     let there : Front i q.front p.blocks = subst (λ (n : ℕ). Front i n p.blocks) count p.longest.front in
     let same : p.blocks ≡ q.blocks = front i q.front p.blocks q.blocks there q.longest.front in
-    let unit = unit_in i.head (spot_of i.head c x y) in
+    let unit = unit_number i.head (spot_of i.head c x y) in
     elim (cases_lt unit (length q.blocks)) [
       | inl l ↦ p.within c x y held (subst (λ (zs : List (List ℤ)). unit < length zs) (sym same) l) ∙ ap (λ (zs : List (List ℤ)). decoded_sample i zs c x y) same ∙ sym (q.within c x y held l)
       | inr r ↦ p.behind c x y held (subst (λ (zs : List (List ℤ)). length zs ≤ unit) (sym same) r) ∙ sym (q.behind c x y held r)

@@ -25,8 +25,8 @@ blank_of Rgb c = 0
 blank_of Ycc c = if c == 0 then 0 else 128
 
 -- the data unit of a spot in the interval that holds it
-abbrev pub unit_in : HeadValue → Spot → ℕ
-unit_in h s = within_interval h s.mcu * blocks_of h + s.block
+abbrev pub unit_number : HeadValue → Spot → ℕ
+unit_number h s = within_interval h s.mcu * blocks_of h + s.block
 
 -- the picture has this sample, and the interval holds it
 pub record Holds (i : IntervalValue) (c x y : ℕ) : Type 0 where
@@ -37,7 +37,7 @@ pub record Holds (i : IntervalValue) (c x y : ℕ) : Type 0 where
 
 -- the sample there of these blocks of the interval
 abbrev pub decoded_sample : IntervalValue → List (List ℤ) → ℕ → ℕ → ℕ → ℕ
-decoded_sample i zs c x y = slice_index (unit_of i.head zs (unit_in i.head (spot_of i.head c x y))) (place_in (spot_of i.head c x y))
+decoded_sample i zs c x y = slice_index (unit_of i.head zs (unit_number i.head (spot_of i.head c x y))) (place_in (spot_of i.head c x y))
 
 -- the interval has a decoding, and each of its samples is shown
 pub record ShowsDecoding (i : IntervalValue) (f : ℕ → ℕ → ℕ → ℕ) : Type 0 where
@@ -51,8 +51,8 @@ pub record ShowsFront (i : IntervalValue) (f : ℕ → ℕ → ℕ → ℕ) : Ty
   pub front : ℕ
   pub blocks : List (List ℤ)
   pub longest : LongestFront i front blocks
-  pub within : (c x y : ℕ) → Holds i c x y → unit_in i.head (spot_of i.head c x y) < length blocks → f c x y ≡ decoded_sample i blocks c x y
-  pub behind : (c x y : ℕ) → Holds i c x y → length blocks ≤ unit_in i.head (spot_of i.head c x y) → f c x y ≡ 128
+  pub within : (c x y : ℕ) → Holds i c x y → unit_number i.head (spot_of i.head c x y) < length blocks → f c x y ≡ decoded_sample i blocks c x y
+  pub behind : (c x y : ℕ) → Holds i c x y → length blocks ≤ unit_number i.head (spot_of i.head c x y) → f c x y ≡ 128
 
 -- what an interval with this mark shows
 abbrev pub Shows : Mark → IntervalValue → (ℕ → ℕ → ℕ → ℕ) → Type 0

@@ -19,7 +19,7 @@ use Rattle.jr_piece.specs.Units.{grey_unit}
 use Rattle.jr_picture.specs.BoardValue.{BoardValue}
 use Rattle.jr_picture.specs.Boards.{piece_at}
 use Rattle.jr_picture.specs.Headline.{blank_of, interval_number, spot_of}
-use Rattle.jr_picture.specs.Headline.{unit_in as unit_in_interval}
+use Rattle.jr_picture.specs.Headline.{unit_number}
 use Rattle.jr_picture.specs.Samples.{sample_in, sample_of_piece, samples_of}
 use Rattle.jr_picture.proofs.BoardPictures.{block_there, shown_is}
 use Rattle.jr_picture.proofs.Pictures.{line_same}
@@ -102,7 +102,7 @@ module _ (b : BoardValue) (l : IsLawful b.scan.head) (r : ℕ) (groups : List (L
       ∙ ap (λ n. unit_in h groups n ((column * blocks + spot.block) % blocks)) (div-mul-add column blocks spot.block inside)
       ∙ ap (λ n. unit_in h groups column n) unit)
       ∙ shows (column * blocks + spot.block) (omega (arith, there, units_long h groups)) ∙ same_unit b (r * mcus_across h + (column * blocks + spot.block) / blocks) ((column * blocks + spot.block) % blocks) spot.mcu spot.block mcu unit)
-      ∙ unit_sample h c spot.block (unit_in_interval h spot) place (piece_at b (interval_number h spot.mcu)) (component_there h c x y l p) low
+      ∙ unit_sample h c spot.block (unit_number h spot) place (piece_at b (interval_number h spot.mcu)) (component_there h c x y l p) low
       ∙ sym (shown_is b c x y)
 
   -- and so are its lines

@@ -11,19 +11,19 @@ use Rattle.jr_cut.proofs.unstuff.Unstuffing.unstuff.Goals.{then-next-rest-via-th
 
 pub overflow_add-at : goal.overflow_add-at
 overflow_add-at c =
-    let r = run_made _ _ _ _ _ _ _ c.bytes.at c.plain-count.result c.bytes.invariant.0 c.bytes.invariant.1 c.bytes.invariant.2 c.rest.ensures c.plain-count.ensures.within c.plain-count.ensures.plain c.plain-count.ensures.next c.keep.ensures.data c.keep.ensures.rest in
+    let r = run_made _ _ _ _ _ _ _ c.bytes.at c.plain_count-count.result c.bytes.invariant.0 c.bytes.invariant.1 c.bytes.invariant.2 c.rest.ensures c.plain_count-count.ensures.within c.plain_count-count.ensures.plain c.plain_count-count.ensures.next c.keep.ensures.data c.keep.ensures.rest in
     omega (arith, r.within, ap length c.rest-whole.ensures)
 
 pub returns-then-next-rest-clause-data : goal.returns-then-next-rest-clause-data
 returns-then-next-rest-clause-data c =
-    let r = run_made _ _ _ _ _ _ _ c.bytes.at c.plain-count.result c.bytes.invariant.0 c.bytes.invariant.1 c.bytes.invariant.2 c.rest.ensures c.plain-count.ensures.within c.plain-count.ensures.plain c.plain-count.ensures.next c.keep.ensures.data c.keep.ensures.rest in
-    subst (λ (u : UnstuffingValue). Unstuffs (take (c.bytes.at + c.plain-count.result) c.args.self.now.rest) c.args.self.now.unstuffed u.unstuffed) (sym c.fill-next.ensures.same) r.is
+    let r = run_made _ _ _ _ _ _ _ c.bytes.at c.plain_count-count.result c.bytes.invariant.0 c.bytes.invariant.1 c.bytes.invariant.2 c.rest.ensures c.plain_count-count.ensures.within c.plain_count-count.ensures.plain c.plain_count-count.ensures.next c.keep.ensures.data c.keep.ensures.rest in
+    subst (λ (u : UnstuffingValue). Unstuffs (take (c.bytes.at + c.plain_count-count.result) c.args.self.now.rest) c.args.self.now.unstuffed u.unstuffed) (sym c.fill-next.ensures.same) r.is
 
 pub returns-then-next-rest-clause-stop : goal.returns-then-next-rest-clause-stop
 returns-then-next-rest-clause-stop c =
     let bytes = c.args.self.now.rest in
-    let r = run_made _ _ _ _ _ _ _ c.bytes.at c.plain-count.result c.bytes.invariant.0 c.bytes.invariant.1 c.bytes.invariant.2 c.rest.ensures c.plain-count.ensures.within c.plain-count.ensures.plain c.plain-count.ensures.next c.keep.ensures.data c.keep.ensures.rest in
-    let end = c.bytes.at + c.plain-count.result in
+    let r = run_made _ _ _ _ _ _ _ c.bytes.at c.plain_count-count.result c.bytes.invariant.0 c.bytes.invariant.1 c.bytes.invariant.2 c.rest.ensures c.plain_count-count.ensures.within c.plain_count-count.ensures.plain c.plain_count-count.ensures.next c.keep.ensures.data c.keep.ensures.rest in
+    let end = c.bytes.at + c.plain_count-count.result in
     let n = c.fill-next.result in
     let left = ap (λ (u : UnstuffingValue). u.rest) c.fill-next.ensures.same ∙ r.left in
     let f = fill_made bytes _ _ end n r.within r.left refl c.fill-next.ensures.full c.fill-next.ensures.next in
@@ -40,8 +40,8 @@ returns-then-next-rest-clause-stop c =
 pub bytes-preserved : goal.bytes-preserved
 bytes-preserved c =
     let bytes = c.args.self.now.rest in
-    let r = run_made _ _ _ _ _ _ _ c.bytes.at c.plain-count.result c.bytes.invariant.0 c.bytes.invariant.1 c.bytes.invariant.2 c.rest.ensures c.plain-count.ensures.within c.plain-count.ensures.plain c.plain-count.ensures.next c.keep.ensures.data c.keep.ensures.rest in
-    let end = c.bytes.at + c.plain-count.result in
+    let r = run_made _ _ _ _ _ _ _ c.bytes.at c.plain_count-count.result c.bytes.invariant.0 c.bytes.invariant.1 c.bytes.invariant.2 c.rest.ensures c.plain_count-count.ensures.within c.plain_count-count.ensures.plain c.plain_count-count.ensures.next c.keep.ensures.data c.keep.ensures.rest in
+    let end = c.bytes.at + c.plain_count-count.result in
     let n = c.fill-next.result in
     let left = ap (λ (u : UnstuffingValue). u.rest) c.fill-next.ensures.same ∙ r.left in
     let f = fill_made bytes _ _ end n r.within r.left refl c.fill-next.ensures.full c.fill-next.ensures.next in
