@@ -15,4 +15,5 @@ pub use cut_so_far::CutSoFar;
 pub use laws::one_cut;
 pub use scan_end::ScanEnd;
 pub use span::Span;
+pub use stop::{Stop, stop_at};
 pub use unstuff::Unstuffing;
