@@ -17,4 +17,5 @@ pub use front::{fill_count, plain_count};
 pub use laws::one_cut;
 pub use scan_end::ScanEnd;
 pub use span::Span;
+pub use stop::{Stop, stop_at};
 pub use unstuff::Unstuffing;

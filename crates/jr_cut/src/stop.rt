@@ -10,7 +10,7 @@ use jr_base::marker::{EOI, RST0, RST7};
 
 /// What the bytes behind a segment mean.
 #[derive(Clone, Copy, Debug, PartialEq, Eq)]
-pub(crate) enum Stop {
+pub enum Stop {
     /// The next segment follows a restart marker of that many bytes.
     Restart(usize),
     /// The scan ends there, so far as bytes have come.
@@ -48,7 +48,7 @@ fn end_at(code: u8, at: u64, k: u32, intervals: u32) -> Option<ScanEnd>
 }
 
 /// What stands behind segment k, at an offset of the file: so many FF bytes, and further ones.
-pub(crate) fn stop_at(tail: &[u8], fill: usize, at: u64, k: u32, intervals: u32) -> Stop
+pub fn stop_at(tail: &[u8], fill: usize, at: u64, k: u32, intervals: u32) -> Stop
     requires few { k < intervals }
     requires stop { IsStop tail.now }
     requires within { fill ≤ length tail.now }

@@ -27,7 +27,8 @@ impl<'a> Model for IntervalRef<'a> {
 }
 
 impl<'a> IntervalRef<'a> {
-    pub(crate) fn of(head: &'a Head, bytes: &'a [u8], number: u32, mcus: u32) -> IntervalRef<'a>
+    /// Interval `number` of a scan with this head: how many MCUs it codes, and its data without stuffing.
+    pub fn of(head: &'a Head, bytes: &'a [u8], number: u32, mcus: u32) -> IntervalRef<'a>
         requires { length bytes.now < 2 ^ 61 }
         ensures { result ≡ record { number = number; mcus = mcus; bytes = bytes.now; head = head.now } }
     {
