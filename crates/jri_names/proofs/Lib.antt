@@ -1,1 +1,2 @@
 mod Escapes
+pub mod NextNames

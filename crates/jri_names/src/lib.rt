@@ -2,6 +2,8 @@
 #![tactic(auto)]
 
 mod escaping;
+mod folders;
+mod given;
 mod laws;
 mod names;
 mod reading;

@@ -1,11 +1,14 @@
 //! The names of the files that are to be checked, one after the other.
 
-use crate::reading::{Entry, EntryKind, Folder, ReadError};
-use std::alloc::{AllocError, Global};
-use std::io::{BufRead, BufReader, ErrorKind, Read};
+ghost use Rattle.std.specs.Prelude.{◌≡◌, ℕ, List, Some, None, false, length, map, IfOk, IfSome, IfNone};
+ghost use Rattle.jri_names.specs.Names.{IsNamed, IsNextFile};
 
-/// What ends the names of JPEG files in folders.
-const ENDINGS: [&str; 4] = [".jpg", ".jpeg", ".jpe", ".jfif"];
+use crate::folders::FolderWalk;
+use crate::given::GivenNames;
+use crate::reading::{Folder, ReadError};
+use std::alloc::{AllocError, Global};
+use std::io::{BufReader, Read};
+use std::marker::Model;
 
 /// A file that is to be checked, or why there is none.
 #[derive(Debug, Drop)]
@@ -30,26 +33,42 @@ impl From<AllocError> for NamesError {
 /// The names that words give, those of a list, and those of what stands in folders.
 #[derive(Drop)]
 pub struct FileNames<I: Read + Drop> {
-    given: Vec<Vec<u8>>,
-    /// So many of them are taken.
-    taken: usize,
-    list: Option<BufReader<I>>,
-    is_recursive: bool,
-    /// What stands in the folders that are being gone through, the next one last.
-    waiting: Vec<Entry>,
+    given: GivenNames<I>,
+    /// Where folders are gone through.
+    walk: Option<FolderWalk>,
 }
 
-/// Whether the name is that of a JPEG file.
-fn is_jpeg(name: &str) -> bool {
-    for ending in ENDINGS {
-        let start = name.len().saturating_sub(ending.len());
-        if let Some(end) = name.get(start..)
-            && end.eq_ignore_ascii_case(ending)
-        {
-            return true;
-        }
+impl<I: Read + Drop> Model for FileNames<I> {
+    ghost use Rattle.std.specs.Prelude.{ℕ, List, Option};
+    ghost use Rattle.jri_names.specs.Names.{known_names};
+
+    ghost Value = { Option (List (List ℕ)) };
+
+    ghost view = { λ n. known_names n.given n.walk };
+}
+
+/// Why a file is not opened by this name: that it is no text.
+fn refused_name(name: &[u8]) -> Option<ReadError>
+    ensures { (e : ReadError) → result ≡ Some e → e ≡ ReadError.NameIsNoText }
+{
+    match str::from_utf8(name) {
+        Ok(_) => None,
+        Err(_) => Some(ReadError::NameIsNoText),
     }
-    false
+}
+
+/// The file of a name, if there is one.
+fn file_of(name: Option<Vec<u8>>) -> Option<NamedFile>
+    ensures none { IfNone name (result ≡ None) }
+    ensures some { IfSome name (λ n. (file : NamedFile) × (result ≡ Some file) × IsNamed file n.items) }
+{
+    match name {
+        Some(name) => {
+            let error = refused_name(name.as_slice());
+            Some(NamedFile { name, error })
+        }
+        None => None,
+    }
 }
 
 impl<I: Read + Drop> FileNames<I> {
@@ -59,96 +78,27 @@ impl<I: Read + Drop> FileNames<I> {
         given: Vec<Vec<u8>>,
         list: Option<BufReader<I>>,
         is_recursive: bool,
-    ) -> FileNames<I> {
+    ) -> FileNames<I>
+        ensures { IfNone list (is_recursive ≡ false → result ≡ Some (map (λ w. w.items) given.items)) }
+    {
+        let mut walk = None;
+        if is_recursive {
+            walk = Some(FolderWalk::of(alloc));
+        }
         FileNames {
-            given,
-            taken: 0,
-            list,
-            is_recursive,
-            waiting: Vec::new(alloc),
+            given: GivenNames::of(given, list),
+            walk,
         }
     }
 
     /// How many there are behind those that are taken, where that is known.
-    pub fn left(&self) -> Option<u64> {
-        if self.list.is_some() || self.is_recursive {
-            return None;
+    pub fn left(&self) -> Option<u64>
+        ensures { (names : List (List ℕ)) → self.now ≡ Some names → result ≡ Some (length names) }
+    {
+        match self.walk {
+            Some(_) => None,
+            None => self.given.left(),
         }
-        Some(self.given.len().saturating_sub(self.taken) as u64)
-    }
-
-    /// The next name of the list. It ends at a NUL byte, or with the list.
-    fn next_of_list(&mut self, alloc: Global) -> Result<Option<Vec<u8>>, NamesError> {
-        let Some(list) = &mut self.list else {
-            return Ok(None);
-        };
-        let mut name = Vec::new(alloc);
-        match list.read_until(0, &mut name) {
-            Ok(0) => {
-                self.list = None;
-                Ok(None)
-            }
-            Ok(_) => {
-                if name.last() == Some(&0) {
-                    name.pop();
-                }
-                Ok(Some(name))
-            }
-            Err(error) if error.kind() == ErrorKind::OutOfMemory => Err(NamesError::Memory),
-            Err(_) => Err(NamesError::Read),
-        }
-    }
-
-    /// The next name of the words, then of the list.
-    fn next_given(&mut self, alloc: Global) -> Result<Option<Vec<u8>>, NamesError> {
-        if let Some(name) = self.given.get(self.taken) {
-            self.taken += 1;
-            return Ok(Some(name.as_slice().to_vec(alloc)?));
-        }
-        self.next_of_list(alloc)
-    }
-
-    /// Goes through what stands in a folder next, in the order of names: answers whether it is one.
-    fn enter<F: Folder>(
-        &mut self,
-        alloc: Global,
-        folder: &F,
-        name: &str,
-    ) -> Result<Result<bool, ReadError>, AllocError> {
-        match folder.entries(alloc, name) {
-            Ok(Some(mut entries)) => {
-                entries.sort_unstable_by(|a, b| b.name.as_str().cmp(a.name.as_str()));
-                self.waiting.append(&mut entries)?;
-                Ok(Ok(true))
-            }
-            Ok(None) => Ok(Ok(false)),
-            Err(error) => Ok(Err(error)),
-        }
-    }
-
-    /// The next JPEG file in the folders that are being gone through.
-    fn next_waiting<F: Folder>(
-        &mut self,
-        alloc: Global,
-        folder: &F,
-    ) -> Result<Option<NamedFile>, NamesError> {
-        for _ in 0..u64::MAX {
-            let Some(entry) = self.waiting.pop() else {
-                return Ok(None);
-            };
-            let entered = match entry.kind {
-                EntryKind::Folder => self.enter(alloc, folder, entry.name.as_str())?,
-                EntryKind::File => Ok(!is_jpeg(entry.name.as_str())),
-                EntryKind::Unread(error) => Err(error),
-            };
-            if entered != Ok(true) {
-                return Ok(Some(NamedFile {
-                    name: entry.name.into_bytes(),
-                    error: entered.err(),
-                }));
-            }
-        }
-        Ok(None)
     }
 
     /// The next file, none behind the last.
@@ -156,26 +106,12 @@ impl<I: Read + Drop> FileNames<I> {
         &mut self,
         alloc: Global,
         folder: &F,
-    ) -> Result<Option<NamedFile>, NamesError> {
-        for _ in 0..u64::MAX {
-            if let Some(file) = self.next_waiting(alloc, folder)? {
-                return Ok(Some(file));
-            }
-            let Some(name) = self.next_given(alloc)? else {
-                return Ok(None);
-            };
-            let entered = match str::from_utf8(name.as_slice()) {
-                Ok(text) if self.is_recursive => self.enter(alloc, folder, text)?,
-                Ok(_) => Ok(false),
-                Err(_) => Err(ReadError::NameIsNoText),
-            };
-            if entered != Ok(true) {
-                return Ok(Some(NamedFile {
-                    name,
-                    error: entered.err(),
-                }));
-            }
+    ) -> Result<Option<NamedFile>, NamesError>
+        ensures { (names : List (List ℕ)) → self.old ≡ Some names → IfOk result (λ file. IsNextFile names file self.new) }
+    {
+        if let Some(walk) = &mut self.walk {
+            return walk.next(alloc, folder, &mut self.given);
         }
-        Ok(None)
+        Ok(file_of(self.given.next(alloc)?))
     }
 }

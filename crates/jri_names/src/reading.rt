@@ -1,5 +1,7 @@
 //! Where the bytes of files come from, and why they may not.
 
+ghost use Rattle.std.specs.Prelude.{ℕ, List, IfOk, IfErr};
+
 use std::alloc::Global;
 
 /// Why the bytes of a file are not there.
@@ -52,8 +54,18 @@ pub struct Entry {
 
 /// Where files come from.
 pub trait Folder {
+    ghost use Rattle.jri_names.specs.declared.reading.ReadError.{ReadError};
+
+    // The bytes that a file of that name may have.
+    ghost holds: { Self → List ℕ → List ℕ → Type 0 } = { λ _ _ _. Unit {0} };
+
+    // Why a file of that name may not be read.
+    ghost fails: { Self → List ℕ → ReadError → Type 0 } = { λ _ _ _. Unit {0} };
+
     /// The bytes of the file of that name, or one more than a file may have.
-    fn read(&self, alloc: Global, name: &str) -> Result<Vec<u8>, ReadError>;
+    fn read(&self, alloc: Global, name: &str) -> Result<Vec<u8>, ReadError>
+        ensures bytes { IfOk result (λ bytes. holds self.now name.now bytes.items) }
+        ensures error { IfErr result (fails self.now name.now) };
 
     /// The files and folders that stand in the folder of that name, in any order, and no links; none where it is no folder.
     fn entries(&self, alloc: Global, name: &str) -> Result<Option<Vec<Entry>>, ReadError>;
