@@ -1,18 +1,21 @@
 //! Whose file is checked next, whose line is due, and where lines go.
 
-ghost use Rattle.std.specs.Prelude.{IfSome};
-ghost use Rattle.jri_archive.specs.Outcomes.{IsOutcomeOf};
+ghost use Rattle.std.specs.Prelude.{◌≡◌, ℕ, ◌<◌, ◌^◌, not, List, [], Some, None, true, false, length, slice_get, slice_index_or, IfSome};
 ghost use Rattle.jr_damage.specs.Verdicts.{IsFileScan};
+ghost use Rattle.jri_archive.specs.Outcomes.{IsOutcomeOf, state_of};
+ghost use Rattle.jri_archive.specs.Told.{AreTold, is_open};
 
 use crate::answers::LineForm;
 use crate::checking::Checked;
 use crate::counts::{CheckEnd, CheckReport, FileCounts, FileState};
 use crate::json::{tell_counts_object, tell_interval_object, tell_object};
+use crate::one_check::OneCheck;
 use crate::outcome::Outcome;
 use crate::telling::{tell, tell_counts, tell_map};
 use jr_damage::{coded_segments, damaged_interval};
 use std::alloc::{AllocError, Global};
 use std::io::{Error, Write};
+use std::marker::{Model, PhantomData};
 
 /// Why a line is not written.
 #[derive(Debug, Drop)]
@@ -42,7 +45,7 @@ pub(crate) struct CheckedFile {
 
 /// Which line is due, and where lines go.
 #[derive(Drop)]
-pub(crate) struct FileQueue<O, E> {
+pub(crate) struct FileQueue<S: OneCheck, O, E> {
     form: LineForm,
     /// How many files there are, where that is known.
     files: Option<u64>,
@@ -52,9 +55,20 @@ pub(crate) struct FileQueue<O, E> {
     helping: u32,
     /// So many are told of.
     told: u64,
-    pub(crate) out: O,
+    out: O,
     progress: Option<E>,
-    pub(crate) report: CheckReport,
+    report: CheckReport,
+    _of: PhantomData<S>,
+}
+
+impl<S: OneCheck, O, E> Model for FileQueue<S, O, E> {
+    ghost use Rattle.jri_archive.specs.Told.{IsQueueOf, QueueValue};
+
+    ghost Value = { QueueValue };
+
+    ghost view = { λ q. record { told = q.told; files = q.files; report = q.report } };
+
+    ghost invariant = { λ q. IsQueueOf S.names S.may_be (record { told = q.told; files = q.files; report = q.report }) };
 }
 
 /// Writes a line for each damaged interval, each by one write.
@@ -132,14 +146,17 @@ pub(crate) fn write_counts<O: Write>(
     Ok(())
 }
 
-impl<O: Write, E: Write> FileQueue<O, E> {
+impl<S: OneCheck, O: Write, E: Write + Drop> FileQueue<S, O, E> {
     /// No file is told of yet. There are so many, where that is known.
     pub(crate) fn of(
         form: LineForm,
         files: Option<u64>,
         out: O,
         progress: Option<E>,
-    ) -> FileQueue<O, E> {
+    ) -> FileQueue<S, O, E>
+        requires few { (names : List (List ℕ)) → S.names ≡ Some names → length names < 2 ^ 64 }
+        requires all { (names : List (List ℕ)) → S.names ≡ Some names → files ≡ Some (length names) }
+    {
         FileQueue {
             form,
             files,
@@ -152,21 +169,28 @@ impl<O: Write, E: Write> FileQueue<O, E> {
                 counts: FileCounts::none(),
                 end: CheckEnd::AllTold,
             },
+            _of: PhantomData,
         }
     }
 
     /// Whether lines can no longer be told.
-    pub(crate) fn is_over(&self) -> bool {
+    pub(crate) fn is_over(&self) -> bool
+        ensures { result ≡ not (is_open self.now.report.end) }
+    {
         matches!(self.report.end, CheckEnd::Unwritten | CheckEnd::Memory)
     }
 
-    /// It is known by now how many files there are.
+    /// It is known by now how many files there are, if it was not known before.
     pub(crate) fn set_files(&mut self, files: u64) {
-        self.files = Some(files);
+        if self.files.is_none() {
+            self.files = Some(files);
+        }
     }
 
     /// Whether the line of a file is due.
-    pub(crate) fn is_due(&self, number: u64) -> bool {
+    pub(crate) fn is_due(&self, number: u64) -> bool
+        ensures { result ≡ true → self.now.told ≡ number }
+    {
         self.told == number
     }
 
@@ -192,7 +216,9 @@ impl<O: Write, E: Write> FileQueue<O, E> {
     }
 
     /// Erases how far it is, on a terminal, or shows it.
-    fn show_progress(&mut self, is_shown: bool) {
+    fn show_progress(&mut self, is_shown: bool)
+        ensures { self.new ≡ self.old }
+    {
         let (told, files) = (self.told, self.files);
         if let Some(errors) = &mut self.progress {
             let _ = match files {
@@ -206,37 +232,68 @@ impl<O: Write, E: Write> FileQueue<O, E> {
         }
     }
 
-    /// Erases how far it is.
-    pub(crate) fn hide_progress(&mut self) {
-        self.show_progress(false);
-    }
-
     /// Notes why no further file is told of.
-    pub(crate) fn end(&mut self, end: CheckEnd) {
+    pub(crate) fn end(&mut self, end: CheckEnd)
+        ensures told { self.new.told ≡ self.old.told }
+        ensures end { is_open self.old.report.end ≡ true → self.new.report.end ≡ end }
+    {
         if !self.is_over() {
             self.report.end = end;
         }
     }
 
-    /// Notes what became of a file, where all before it could be told.
-    fn note(&mut self, state: FileState, written: Result<(), TellError>) {
-        match written {
-            Ok(()) => self.report.counts = self.report.counts.with(state),
-            Err(TellError::Write) => self.end(CheckEnd::Unwritten),
-            Err(TellError::Memory) => self.end(CheckEnd::Memory),
+    /// Whether all files are told of, where it is known how many there are.
+    fn has_told_all(&self) -> bool
+        ensures { result ≡ true → (names : List (List ℕ)) → S.names ≡ Some names → self.now.told ≡ length names }
+    {
+        match self.files {
+            Some(files) => self.told == files,
+            None => true,
+        }
+    }
+
+    /// Nobody tells of a further file: what the files came to, and the output. A file that nobody has told of is as one that there was
+    /// no memory for.
+    pub(crate) fn close(self) -> (CheckReport, O)
+        ensures { result.0.end ≡ CheckEnd.AllTold → (names : List (List ℕ)) → S.names ≡ Some names → AreTold S.may_be names (length names) result.0.counts }
+    {
+        let mut queue = self;
+        queue.show_progress(false);
+        if queue.report.end == CheckEnd::AllTold && !queue.has_told_all() {
+            queue.end(CheckEnd::Memory);
+        }
+        (queue.report, queue.out)
+    }
+
+    /// Notes what became of the next file.
+    fn note(&mut self, state: FileState)
+        requires next { (names : List (List ℕ)) → S.names ≡ Some names → (self.old.told < length names) × ((o : Outcome) × S.may_be (slice_index_or names self.old.told []) o × (state ≡ state_of o)) }
+    {
+        self.report.counts = self.report.counts.with(state);
+        self.told = self.told.saturating_add(1);
+    }
+
+    /// Where lines can no longer be told, the next one is passed over, so that nobody waits for it.
+    fn pass_over(&mut self) {
+        if self.is_over() {
+            self.told = self.told.saturating_add(1);
         }
     }
 
     /// Tells of the file whose line is due.
     pub(crate) fn tell(&mut self, alloc: Global, name: &[u8], file: &CheckedFile)
-        requires { IfSome file.now.bytes (λ b. IsOutcomeOf b.items file.now.outcome) }
+        requires bytes { IfSome file.now.bytes (λ b. IsOutcomeOf b.items file.now.outcome) }
+        requires next { (names : List (List ℕ)) → S.names ≡ Some names → (slice_get names self.old.told ≡ Some name.now) × S.may_be name.now file.now.outcome }
     {
         self.show_progress(false);
         if !self.is_over() {
-            let written = write_lines(alloc, &mut self.out, name, file, self.form);
-            self.note(file.outcome.state(), written);
+            match write_lines(alloc, &mut self.out, name, file, self.form) {
+                Ok(()) => self.note(file.outcome.state()),
+                Err(TellError::Write) => self.end(CheckEnd::Unwritten),
+                Err(TellError::Memory) => self.end(CheckEnd::Memory),
+            }
         }
-        self.told = self.told.saturating_add(1);
+        self.pass_over();
         self.show_progress(true);
     }
 }

@@ -7,6 +7,7 @@ mod checking;
 mod counts;
 mod file_queue;
 mod json;
+mod one_check;
 mod outcome;
 mod sharing;
 mod telling;

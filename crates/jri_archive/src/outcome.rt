@@ -1,6 +1,6 @@
 //! What becomes of one file of many.
 
-ghost use Rattle.std.specs.Prelude.{◌≡◌, ◌≢◌, length, IfOk};
+ghost use Rattle.std.specs.Prelude.{◌≡◌, ◌≢◌, length, IfOk, IfErr};
 ghost use Rattle.jr_head.specs.Heads.{RefusalOf};
 ghost use Rattle.jri_archive.specs.Outcomes.{IsOutcomeOf, state_of};
 
@@ -30,7 +30,8 @@ pub fn outcome_of<R: Threads + Wait + Sync>(
     file: &Result<Vec<u8>, ReadError>,
     workers: u32,
 ) -> Outcome
-    ensures { IfOk file.now (λ bytes. IsOutcomeOf bytes.items result) }
+    ensures bytes { IfOk file.now (λ bytes. IsOutcomeOf bytes.items result) }
+    ensures error { IfErr file.now (λ error. result ≡ Outcome.Unread error) }
 {
     match file {
         Ok(bytes) => match check_file(rt, alloc, bytes.as_slice(), workers) {
@@ -48,7 +49,8 @@ pub fn outcome_in_place<R: Threads + Wait + Sync>(
     file: Result<Vec<u8>, ReadError>,
     workers: u32,
 ) -> Outcome
-    ensures { IfOk file (λ bytes. IsOutcomeOf bytes.items result) }
+    ensures bytes { IfOk file (λ bytes. IsOutcomeOf bytes.items result) }
+    ensures error { IfErr file (λ error. result ≡ Outcome.Unread error) }
 {
     match file {
         Ok(bytes) => match check_file_in_place(rt, alloc, bytes, workers) {

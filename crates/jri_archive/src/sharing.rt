@@ -1,15 +1,19 @@
 //! Many files, checked by several workers and told in their order.
 
-ghost use Rattle.std.specs.Prelude.{IfSome};
+ghost use Rattle.std.specs.Prelude.{◌≡◌, ◌≤◌, ◌<◌, ◌^◌, ◌⊎◌, ℕ, List, Some, None, false, length, map, drop, slice_get, IfOk, IfErr, IfSome, IfNone};
+ghost use Rattle.jri_names.specs.Names.{IsNamed};
 ghost use Rattle.jri_archive.specs.Outcomes.{IsOutcomeOf};
+ghost use Rattle.jri_archive.specs.Told.{AreChecksOf, AreTold, IsCheckOf, IsClaimOf, given_names};
 
 use crate::answers::CheckRequest;
 use crate::counts::{CheckEnd, CheckReport};
 use crate::file_queue::{CheckedFile, FileQueue, TellError, write_counts};
-use crate::outcome::{outcome_in_place, outcome_of};
+use crate::one_check::OneCheck;
+use crate::outcome::{Outcome, outcome_in_place, outcome_of};
 use jri_names::{FileNames, Folder, NamedFile, NamesError, ReadError};
 use std::alloc::Global;
 use std::io::{BufReader, Read, Write};
+use std::marker::{Brand, Model, PhantomData};
 use std::sync::{Condvar, Mutex, Wait};
 use std::thread;
 use std::thread::Threads;
@@ -22,7 +26,9 @@ fn checked_file<R: Threads + Wait + Sync>(
     has_map: bool,
     workers: u32,
 ) -> CheckedFile
-    ensures { IfSome result.bytes (λ b. IsOutcomeOf b.items result.outcome) }
+    ensures map { IfSome result.bytes (λ b. IsOutcomeOf b.items result.outcome) }
+    ensures bytes { IfOk file (λ b. IsOutcomeOf b.items result.outcome) }
+    ensures error { IfErr file (λ e. result.outcome ≡ Outcome.Unread e) }
 {
     if !has_map {
         let outcome = outcome_in_place(rt, alloc, file, workers);
@@ -46,33 +52,75 @@ fn checked_file<R: Threads + Wait + Sync>(
 
 /// The names that nobody has claimed yet.
 #[derive(Drop)]
-struct NameQueue<I: Read + Drop> {
+struct NameQueue<S: OneCheck, I: Read + Drop> {
     names: FileNames<I>,
     claimed: u64,
     /// There is no further name.
     is_over: bool,
+    _of: PhantomData<S>,
+}
+
+impl<S: OneCheck, I: Read + Drop> Model for NameQueue<S, I> {
+    ghost use Rattle.std.specs.Prelude.{ℕ};
+    ghost use Rattle.jri_archive.specs.Told.{IsNameQueueOf};
+
+    ghost Value = { ℕ };
+
+    ghost view = { λ q. q.claimed };
+
+    ghost invariant = { λ q. IsNameQueueOf S.names q.names q.claimed q.is_over };
 }
 
 /// What the workers share.
 #[derive(Drop)]
-struct Sharing<F, I: Read + Drop, O, E> {
+struct Sharing<S: OneCheck, F: Folder, I: Read + Drop, O, E> {
     alloc: Global,
     folder: F,
     workers: u32,
     has_map: bool,
-    names: Mutex<NameQueue<I>>,
-    desk: Mutex<FileQueue<O, E>>,
+    names: Mutex<NameQueue<S, I>>,
+    desk: Mutex<FileQueue<S, O, E>>,
     /// Somebody has told of a file.
     has_told: Condvar,
 }
 
-impl<I: Read + Drop> NameQueue<I> {
+impl<S: OneCheck, F: Folder, I: Read + Drop, O, E> Model for Sharing<S, F, I, O, E> {
+    ghost use Rattle.std.specs.Prelude.{ℕ, List};
+    ghost use Rattle.jri_archive.specs.Told.{AreChecksOf};
+
+    ghost Value = { F };
+
+    ghost view = { λ s. s.folder };
+
+    ghost invariant = { λ s. AreChecksOf (F.holds s.folder) (F.fails s.folder) S.may_be };
+}
+
+impl<S: OneCheck, I: Read + Drop> NameQueue<S, I> {
+    /// None is claimed yet.
+    fn of(names: FileNames<I>) -> NameQueue<S, I>
+        requires { (all : List (List ℕ)) → S.names ≡ Some all → (names ≡ Some all) × (length all < 2 ^ 64) }
+    {
+        NameQueue {
+            names,
+            claimed: 0,
+            is_over: false,
+            _of: PhantomData,
+        }
+    }
+
+    /// How many are claimed.
+    fn claimed(&self) -> u64 {
+        self.claimed
+    }
+
     /// The number of a file that nobody has claimed, and its name.
     fn claim<F: Folder>(
         &mut self,
         alloc: Global,
         folder: &F,
-    ) -> Result<Option<(u64, NamedFile)>, NamesError> {
+    ) -> Result<Option<(u64, NamedFile)>, NamesError>
+        ensures { IfOk result (λ o. IfSome o (λ c. IsClaimOf S.names c.0 c.1)) }
+    {
         if self.is_over {
             return Ok(None);
         }
@@ -91,35 +139,40 @@ impl<I: Read + Drop> NameQueue<I> {
 }
 
 impl<
+    S: OneCheck + Send,
     F: Folder + Sync,
     I: Read + Send + Drop,
     O: Write + Send + Drop,
     E: Write + Send + Drop,
-> Sharing<F, I, O, E> {
+> Sharing<S, F, I, O, E> {
     /// A file that nobody has claimed; none where there is none, and where lines can no longer be told.
-    fn claim<R: Wait>(&self, rt: &R) -> Option<(u64, NamedFile)> {
+    fn claim<R: Wait>(&self, rt: &R) -> Option<(u64, NamedFile)>
+        ensures { IfSome result (λ c. IsClaimOf S.names c.0 c.1) }
+    {
         if self.desk.lock(rt).is_over() {
             return None;
         }
         let mut names = self.names.lock(rt);
         let file = names.claim(self.alloc, &self.folder);
-        let claimed = names.claimed;
+        let claimed = names.claimed();
         drop(names);
         if let Ok(Some(file)) = file {
             return Some(file);
         }
         let mut desk = self.desk.lock(rt);
-        desk.set_files(claimed);
         match file {
             Err(NamesError::Read) => desk.end(CheckEnd::NamesUnread),
             Err(NamesError::Memory) => desk.end(CheckEnd::Memory),
-            Ok(_) => {}
+            Ok(_) => desk.set_files(claimed),
         }
         None
     }
 
     /// The bytes of a file.
-    fn read(&self, file: &NamedFile) -> Result<Vec<u8>, ReadError> {
+    fn read(&self, file: &NamedFile) -> Result<Vec<u8>, ReadError>
+        ensures bytes { IfOk result (λ b. F.holds self.now file.now.name.items b.items) }
+        ensures error { IfErr result (λ e. ((x : ReadError) → file.now.error ≡ Some x → x ≡ ReadError.NameIsNoText) → F.fails self.now file.now.name.items e ⊎ (e ≡ ReadError.NameIsNoText)) }
+    {
         if let Some(error) = file.error {
             return Err(error);
         }
@@ -131,7 +184,8 @@ impl<
 
     /// Checks a file, by several workers where others have none.
     fn check<R: Threads + Wait + Sync>(&self, rt: &R, file: &NamedFile) -> CheckedFile
-        ensures { IfSome result.bytes (λ b. IsOutcomeOf b.items result.outcome) }
+        ensures map { IfSome result.bytes (λ b. IsOutcomeOf b.items result.outcome) }
+        ensures outcome { ((x : ReadError) → file.now.error ≡ Some x → x ≡ ReadError.NameIsNoText) → S.may_be file.now.name.items result.outcome }
     {
         let bytes = self.read(file);
         let workers = self.desk.lock(rt).share(self.workers);
@@ -142,13 +196,17 @@ impl<
 
     /// Tells of a file once its line is due.
     fn tell<R: Wait>(&self, rt: &R, number: u64, name: &[u8], file: &CheckedFile)
-        requires { IfSome file.now.bytes (λ b. IsOutcomeOf b.items file.now.outcome) }
+        requires bytes { IfSome file.now.bytes (λ b. IsOutcomeOf b.items file.now.outcome) }
+        requires next { (all : List (List ℕ)) → S.names ≡ Some all → (slice_get all number ≡ Some name.now) × S.may_be name.now file.now.outcome }
     {
         let desk = self.desk.lock(rt);
         let mut desk = self
             .has_told
             .wait_while(rt, desk, |desk| !desk.is_due(number));
-        desk.tell(self.alloc, name, file);
+        // It is, as the wait is over then.
+        if desk.is_due(number) {
+            desk.tell(self.alloc, name, file);
+        }
         drop(desk);
         self.has_told.notify_all();
     }
@@ -182,7 +240,10 @@ fn with_counts<O: Write>(
     out: &mut O,
     report: CheckReport,
     is_json: bool,
-) -> CheckReport {
+) -> CheckReport
+    ensures counts { result.counts ≡ report.counts }
+    ensures end { result.end ≡ CheckEnd.AllTold → report.end ≡ CheckEnd.AllTold }
+{
     let end = match write_counts(alloc, out, report.counts, is_json) {
         Ok(()) => return report,
         Err(TellError::Write) => CheckEnd::Unwritten,
@@ -192,6 +253,43 @@ fn with_counts<O: Write>(
         counts: report.counts,
         end,
     }
+}
+
+/// `check_all`, where a type stands for the files, so that what workers share under locks is known to be of them.
+fn check_as<
+    S: OneCheck + Send,
+    R: Threads + Wait + Sync,
+    F: Folder + Sync + Drop,
+    I: Read + Send + Drop,
+    O: Write + Send + Drop,
+    E: Write + Send + Drop,
+>(
+    rt: &R,
+    alloc: Global,
+    folder: F,
+    asked: CheckRequest,
+    list: Option<BufReader<I>>,
+    out: O,
+    progress: Option<E>,
+) -> (CheckReport, O)
+    requires names { S.names ≡ given_names list asked.is_recursive asked.names.items }
+    requires checks { AreChecksOf (F.holds folder) (F.fails folder) S.may_be }
+    ensures { result.0.end ≡ CheckEnd.AllTold → (all : List (List ℕ)) → S.names ≡ Some all → AreTold S.may_be all (length all) result.0.counts }
+{
+    let names = FileNames::of(alloc, asked.names, list, asked.is_recursive);
+    let files = names.left();
+    let (workers, form) = (asked.workers, asked.form);
+    let sharing: Sharing<S, F, I, O, E> = Sharing {
+        alloc,
+        folder,
+        workers,
+        has_map: form.has_map,
+        names: Mutex::new(NameQueue::of(names)),
+        desk: Mutex::new(FileQueue::of(form, files, out, progress)),
+        has_told: Condvar::new(),
+    };
+    sharing.run(rt, files);
+    sharing.desk.into_inner().close()
 }
 
 /// Checks each file, so many at once, and writes a line for each, in their order, each by one write; with `has_map` one
@@ -215,34 +313,13 @@ pub fn check_all<
     list: Option<BufReader<I>>,
     out: O,
     progress: Option<E>,
-) -> (CheckReport, O) {
-    let CheckRequest {
-        workers,
-        form,
-        has_counts,
-        is_recursive,
-        names,
-        ..
-    } = asked;
-    let names = FileNames::of(alloc, names, list, is_recursive);
-    let files = names.left();
-    let sharing = Sharing {
-        alloc,
-        folder,
-        workers,
-        has_map: form.has_map,
-        names: Mutex::new(NameQueue {
-            names,
-            claimed: 0,
-            is_over: false,
-        }),
-        desk: Mutex::new(FileQueue::of(form, files, out, progress)),
-        has_told: Condvar::new(),
-    };
-    sharing.run(rt, files);
-    let mut desk = sharing.desk.into_inner();
-    desk.hide_progress();
-    let (report, mut out) = (desk.report, desk.out);
+) -> (CheckReport, O)
+    ensures { result.0.end ≡ CheckEnd.AllTold → IfNone list (asked.is_recursive ≡ false → AreTold (IsCheckOf (F.holds folder) (F.fails folder)) (map (λ w. w.items) asked.names.items) (length asked.names.items) result.0.counts) }
+{
+    let (form, has_counts) = (asked.form, asked.has_counts);
+    let (report, mut out) = check_as::<Brand, R, F, I, O, E>(
+        rt, alloc, folder, asked, list, out, progress,
+    );
     if !has_counts || matches!(report.end, CheckEnd::Unwritten | CheckEnd::Memory) {
         return (report, out);
     }

@@ -1,0 +1,22 @@
+use Rattle.std.proofs.Common.{arith, ap, get_or, length, subst, sym, ◌∙◌, ◌≡◌, ℕ, [], ◌+◌, ◌<◌}
+use Rattle.std.proofs.Math.Nat.{min-eq_left}
+use Rattle.jri_archive.specs.declared.counts.FileCounts.{FileCounts}
+use Rattle.jri_archive.specs.Told.{AreTold, QueueValue}
+use Rattle.jri_archive.proofs.Counting.{told_more}
+use Rattle.jri_archive.proofs.file_queue.FileQueue.note.Goals as goal
+
+pub invariant_of-self : goal.invariant_of-self
+invariant_of-self g c = record {
+  few = c.self.invariant.few;
+  files = c.self.invariant.files;
+  counted = λ is_open all known.
+      let next = c.requires.next all known in
+      let few = c.self.invariant.few all known in
+      let at : c.self.inside.told ≡ c.args.self.now.told = ap (λ (v : QueueValue). v.told) c.self.view_is in
+      let is = subst (λ (n : ℕ). g.S.OneCheck.may_be (get_or all n []) next.1.0) (sym at) next.1.1 in
+      let t = told_more g.S.OneCheck.may_be all c.self.inside.told c.self.inside.report.counts c.args.state next.1.0 is next.1.2 (c.self.invariant.counted is_open all known) in
+      let within : c.self.inside.told < length all = omega (arith, at, next.0) in
+      let more : c.saturating_add-self-inside.result ≡ c.self.inside.told + 1 = c.saturating_add-self-inside.ensures ∙ min-eq_left (omega (arith, within, few)) in
+      subst (λ (n : ℕ). AreTold g.S.OneCheck.may_be all n c.with-self-inside.result) (sym more)
+      (subst (λ (x : FileCounts). AreTold g.S.OneCheck.may_be all (c.self.inside.told + 1) x) (sym c.with-self-inside.ensures) t);
+}

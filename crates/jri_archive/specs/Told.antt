@@ -1,0 +1,95 @@
+-- What is told of files that have names.
+use Rattle.std.specs.Prelude.{◌≡◌, ℕ, ◌-◌, ◌^◌, ◌<◌, ◌≤◌, ◌⊎◌, Bool, true, false, List, [], Option, Some, None, drop, length, map, min, sum_by, slice_get, slice_index_or}
+use Rattle.std.specs.Global.{Vec}
+use Rattle.jri_names.specs.declared.reading.ReadError.{ReadError}
+use Rattle.jri_names.specs.declared.reading.ReadError.TheVariants.{NameIsNoText}
+use Rattle.jri_names.specs.declared.names.NamedFile.{NamedFile}
+use Rattle.jri_names.specs.Names.{IsNamed}
+use Rattle.jri_archive.specs.declared.counts.CheckEnd.{CheckEnd}
+use Rattle.jri_archive.specs.declared.counts.CheckEnd.TheVariants.{AllTold, NamesUnread, Unwritten, Memory as NoMemory}
+use Rattle.jri_archive.specs.declared.counts.CheckReport.{CheckReport}
+use Rattle.jri_archive.specs.declared.counts.FileCounts.{FileCounts}
+use Rattle.jri_archive.specs.declared.counts.FileState.{FileState}
+use Rattle.jri_archive.specs.declared.counts.FileState.TheVariants.{Sound, Damaged, Refused, Unread, OutOfMemory}
+use Rattle.jri_archive.specs.declared.outcome.Outcome.{Outcome}
+use Rattle.jri_archive.specs.declared.outcome.Outcome.TheVariants as outcome
+use Rattle.jri_archive.specs.Outcomes.{IsOutcomeOf, state_of}
+
+-- a check of the file of that name, which holds such bytes or cannot be read for such a reason, may come to this
+abbrev pub IsCheckOf : (holds : List ℕ → List ℕ → Type 0) → (fails : List ℕ → ReadError → Type 0) → List ℕ → Outcome → Type 0
+IsCheckOf holds fails name (outcome.Checked c) = (bytes : List ℕ) × holds name bytes × IsOutcomeOf bytes (outcome.Checked c)
+IsCheckOf holds fails name (outcome.Refused f) = (bytes : List ℕ) × holds name bytes × IsOutcomeOf bytes (outcome.Refused f)
+IsCheckOf holds fails name (outcome.Unread e) = fails name e ⊎ (e ≡ NameIsNoText)
+
+-- further files can be told of
+abbrev pub is_open : CheckEnd → Bool
+is_open AllTold = true
+is_open NamesUnread = true
+is_open Unwritten = false
+is_open NoMemory = false
+
+-- 1 where two states are one
+abbrev pub same_state : FileState → FileState → ℕ
+same_state Sound Sound = 1
+same_state Damaged Damaged = 1
+same_state Refused Refused = 1
+same_state Unread Unread = 1
+same_state OutOfMemory OutOfMemory = 1
+same_state a b = 0
+
+-- how many files have that state, in 64 bits
+abbrev pub count_of : FileState → List FileState → ℕ
+count_of s states = min (sum_by (same_state s) states) (2 ^ 64 - 1)
+
+-- how many files have which state
+pub record AreCounted (c : FileCounts) (states : List FileState) : Type 0 where
+  pub sound : c.sound ≡ count_of Sound states
+  pub damaged : c.damaged ≡ count_of Damaged states
+  pub refused : c.refused ≡ count_of Refused states
+  pub unread : c.unread ≡ count_of Unread states
+  pub out_of_memory : c.out_of_memory ≡ count_of OutOfMemory states
+
+-- file k of these names has a check that comes to that state
+pub record IsToldOf (may_be : List ℕ → Outcome → Type 0) (names : List (List ℕ)) (states : List FileState) (k : ℕ) : Type 0 where
+  pub outcome : Outcome
+  pub is : may_be (slice_index_or names k []) outcome
+  pub state : slice_index_or states k OutOfMemory ≡ state_of outcome
+
+-- the first files of these names are told of, each once, and counted
+pub record AreTold (may_be : List ℕ → Outcome → Type 0) (names : List (List ℕ)) (told : ℕ) (c : FileCounts) : Type 0 where
+  pub states : List FileState
+  pub long : length states ≡ told
+  pub counted : AreCounted c states
+  pub each : (k : ℕ) → k < told → IsToldOf may_be names states k
+
+-- the names that words give, where no list follows them and no folder is gone through
+abbrev pub given_names : {L : Type 0} → Option L → Bool → List (Vec ℕ) → Option (List (List ℕ))
+given_names None false words = Some (map (λ w. w.items) words)
+given_names list is_recursive words = None
+
+-- so many files are told of, of so many where that is known, and what they came to
+pub record QueueValue : Type 0 where
+  pub told : ℕ
+  pub files : Option ℕ
+  pub report : CheckReport
+
+-- what is told so far is told of the files that a proof knows
+pub record IsQueueOf (names : Option (List (List ℕ))) (may_be : List ℕ → Outcome → Type 0) (q : QueueValue) : Type 0 where
+  pub few : (all : List (List ℕ)) → names ≡ Some all → length all < 2 ^ 64
+  pub files : (all : List (List ℕ)) → names ≡ Some all → q.files ≡ Some (length all)
+  pub counted : is_open q.report.end ≡ true → (all : List (List ℕ)) → names ≡ Some all → AreTold may_be all q.told q.report.counts
+
+-- a file that is claimed of such names: the one of its number
+abbrev pub IsClaimOf : Option (List (List ℕ)) → (number : ℕ) → NamedFile → Type 0
+IsClaimOf None number file = Unit {0}
+IsClaimOf (Some names) number file = (name : List ℕ) × (slice_get names number ≡ Some name) × IsNamed file name
+
+-- these of the names that a proof knows are left, unless there was an error
+pub record IsNameQueueOf (names others : Option (List (List ℕ))) (claimed : ℕ) (is_over : Bool) : Type 0 where
+  pub few : (all : List (List ℕ)) → names ≡ Some all → length all < 2 ^ 64
+  pub within : (all : List (List ℕ)) → names ≡ Some all → is_over ≡ false → claimed ≤ length all
+  pub left : (all : List (List ℕ)) → names ≡ Some all → is_over ≡ false → others ≡ Some (drop claimed all)
+
+-- what a check of a file comes to is what a proof expects of it
+abbrev pub AreChecksOf : (holds : List ℕ → List ℕ → Type 0) → (fails : List ℕ → ReadError → Type 0) → (may_be : List ℕ → Outcome → Type 0) → Type 0
+AreChecksOf holds fails may_be = (name : List ℕ) (o : Outcome) → IsCheckOf holds fails name o → may_be name o

@@ -1,0 +1,20 @@
+//! Which files are checked, as a type.
+
+ghost use Rattle.std.specs.Prelude.{ℕ, List, Option, None};
+ghost use Rattle.jri_archive.specs.declared.outcome.Outcome.{Outcome};
+
+use std::marker::Brand;
+
+/// The names of the files that are checked, where a proof knows them, and what a check of each may come to. What lies under a lock is
+/// known by its type alone, so the type says of which files it is.
+pub(crate) trait OneCheck {
+    ghost names: { Option (List (List ℕ)) };
+
+    ghost may_be: { List ℕ → Outcome → Type 0 };
+}
+
+impl OneCheck for Brand {
+    ghost names = { None };
+
+    ghost may_be = { λ _ _. Unit {0} };
+}
