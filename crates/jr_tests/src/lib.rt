@@ -22,6 +22,8 @@ mod idct;
 #[cfg(test)]
 mod large_files;
 #[cfg(test)]
+mod meeting_files;
+#[cfg(test)]
 mod paint;
 #[cfg(test)]
 mod pictures;

@@ -287,8 +287,9 @@ impl<S: OneCheck, O: Write, E: Write + Drop> FileQueue<S, O, E> {
     {
         self.show_progress(false);
         if !self.is_over() {
+            let state = file.outcome.state();
             match write_lines(alloc, &mut self.out, name, file, self.form) {
-                Ok(()) => self.note(file.outcome.state()),
+                Ok(()) => self.note(state),
                 Err(TellError::Write) => self.end(CheckEnd::Unwritten),
                 Err(TellError::Memory) => self.end(CheckEnd::Memory),
             }

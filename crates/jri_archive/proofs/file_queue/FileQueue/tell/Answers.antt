@@ -1,4 +1,4 @@
-use Rattle.std.proofs.Common.{ap, subst, sym, ◌∙◌, ◌≡◌, ℕ, List, [], Some, slice_get}
+use Rattle.std.proofs.Common.{ap, rules, subst, sym, ◌∙◌, ◌≡◌, ℕ, List, [], Some, slice_get}
 use Rattle.std.proofs.lemmas.Option.{get_or_from_slice_get, slice_get_within}
 use Rattle.jri_archive.specs.Told.{QueueValue}
 use Rattle.jri_archive.proofs.file_queue.FileQueue.tell.Goals as goal
@@ -12,7 +12,7 @@ note-requires g c = record {
         (
           c.args.file.now.outcome,
           subst (λ (name : List ℕ). g.S.OneCheck.may_be name c.args.file.now.outcome) (sym (get_or_from_slice_get names c.self.inside.told c.args.name.now [] named)) (c.requires.next names known).1,
-          c.state.ensures,
+          search (rules, c.state-state.ensures),
         ),
       );
 }

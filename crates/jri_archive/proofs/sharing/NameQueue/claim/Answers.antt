@@ -18,5 +18,8 @@ invariant_of-self g c =
 pub returns-in-Ok-Some : goal.returns-in-Ok-Some
 returns-in-Ok-Some g c =
     let going : c.self.inside.is_over ≡ false = search rules in
-    claim_of g.S.OneCheck.names c.self.inside.claimed c.in-Ok-Some.file
-    (λ all known. (c.next-file.new.self, next_claimed all c.self.inside.claimed c.in-Ok-Some.file c.next-file.new.self (search (rules, c.in-Ok-Some.ensures (drop c.self.inside.claimed all) (c.self.invariant.left all known going)))))
+    search (
+      rules,
+      claim_of g.S.OneCheck.names c.self.inside.claimed c.in-Ok-Some.file
+          (λ all known. (c.next-file.new.self, next_claimed all c.self.inside.claimed c.in-Ok-Some.file c.next-file.new.self (search (rules, c.in-Ok-Some.ensures (drop c.self.inside.claimed all) (c.self.invariant.left all known going))))),
+    )

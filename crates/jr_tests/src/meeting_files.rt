@@ -1,0 +1,74 @@
+//! Two files that are read at once, since several workers check them: the reading of each waits for that of the other.
+
+use jri_archive::{CheckRequest, Entry, Folder, LineForm, ReadError, check_all};
+use std::alloc::Global;
+use std::io::{BufReader, Cursor};
+use std::sync::atomic::{AtomicU64, Ordering};
+use std::test::Fail;
+use std::thread;
+
+/// How often a reading looks at most whether the other one has begun.
+const TURNS: u32 = 10_000_000;
+
+/// There is no list of names.
+const NO_LIST: Option<BufReader<Cursor<[u8; 1]>>> = None;
+
+/// Files of no bytes, whose readings wait until two have begun.
+#[derive(Drop)]
+struct Meeting<'a> {
+    begun: &'a AtomicU64,
+    /// Readings that have seen the other one.
+    met: &'a AtomicU64,
+}
+
+impl<'a> Folder for Meeting<'a> {
+    fn read(&self, alloc: Global, _name: &str) -> Result<Vec<u8>, ReadError> {
+        self.begun.fetch_add(1, Ordering::SeqCst);
+        for _turn in 0..TURNS {
+            if self.begun.load(Ordering::SeqCst) == 2 {
+                self.met.fetch_add(1, Ordering::SeqCst);
+                return Ok(Vec::new(alloc));
+            }
+            thread::yield_now();
+        }
+        Ok(Vec::new(alloc))
+    }
+
+    fn entries(&self, _alloc: Global, _name: &str) -> Result<Option<Vec<Entry>>, ReadError> {
+        Ok(None)
+    }
+}
+
+#[test]
+fn two_files_are_read_at_once(rt: HostRuntime) -> Result<(), Fail> {
+    let mut names = Vec::new(rt.alloc());
+    names.push(b"a".to_vec(rt.alloc())?)?;
+    names.push(b"b".to_vec(rt.alloc())?)?;
+    let asked = CheckRequest {
+        workers: 2,
+        form: LineForm {
+            has_map: false,
+            is_json: false,
+            is_quiet: false,
+        },
+        has_counts: false,
+        is_recursive: false,
+        names_from: None,
+        names,
+    };
+    let begun = AtomicU64::new(0);
+    let met = AtomicU64::new(0);
+    let folder = Meeting {
+        begun: &begun,
+        met: &met,
+    };
+    let nowhere: Option<Vec<u8>> = None;
+    let out = Vec::new(rt.alloc());
+    let (report, lines) = check_all(&rt, rt.alloc(), folder, asked, NO_LIST, out, nowhere);
+    assert!(rt; met.load(Ordering::SeqCst) == 2);
+    assert!(rt; report.counts.refused == 2);
+    assert!(rt;
+        lines.as_slice() == b"a: refused 1: not a JPEG file\nb: refused 1: not a JPEG file\n"
+    );
+    Ok(())
+}
