@@ -17,12 +17,12 @@ returns c =
     let u5 = unchanged w16 16 c.args.t.5 _ c.well_formed.0.1.1.1.1.1.1.1.0 in
     let u6 = unchanged w16 16 c.args.t.6 _ c.well_formed.0.1.1.1.1.1.1.1.1.0 in
     let u7 = unchanged w16 16 c.args.t.7 _ c.well_formed.0.1.1.1.1.1.1.1.1.1.0 in
-    let q0 : (q : ℕ) → q < 32 → slice_index c.two_rows-q0.result q ≡ byte_of (lane (c.args.t.0 ∷ c.args.t.1 ∷ []) (q / 8 % 2) (8 * (q / 16) + q % 8)) = λ q h. search (rules, (rw (u0, u1) at c.two_rows-q0.ensures) q h) in
-    let q1 : (q : ℕ) → q < 32 → slice_index c.two_rows-q1.result q ≡ byte_of (lane (c.args.t.2 ∷ c.args.t.3 ∷ []) (q / 8 % 2) (8 * (q / 16) + q % 8)) = λ q h. search (rules, (rw (u2, u3) at c.two_rows-q1.ensures) q h) in
-    let q2 : (q : ℕ) → q < 32 → slice_index c.two_rows-q2.result q ≡ byte_of (lane (c.args.t.4 ∷ c.args.t.5 ∷ []) (q / 8 % 2) (8 * (q / 16) + q % 8)) = λ q h. search (rules, (rw (u4, u5) at c.two_rows-q2.ensures) q h) in
-    let q3 : (q : ℕ) → q < 32 → slice_index c.two_rows-q3.result q ≡ byte_of (lane (c.args.t.6 ∷ c.args.t.7 ∷ []) (q / 8 % 2) (8 * (q / 16) + q % 8)) = λ q h. search (rules, (rw (u6, u7) at c.two_rows-q3.ensures) q h) in
-    let rows = below_four (λ m. (q : ℕ) → q < 32 → slice_index (slice_index_or (c.two_rows-q0.result ∷ c.two_rows-q1.result ∷ c.two_rows-q2.result ∷ c.two_rows-q3.result ∷ []) m []) q ≡ byte_of (lane (slice_index_or (c.args.t.0 ∷ c.args.t.1 ∷ c.args.t.2 ∷ c.args.t.3 ∷ c.args.t.4 ∷ c.args.t.5 ∷ c.args.t.6 ∷ c.args.t.7 ∷ []) (2 * m) [] ∷ slice_index_or (c.args.t.0 ∷ c.args.t.1 ∷ c.args.t.2 ∷ c.args.t.3 ∷ c.args.t.4 ∷ c.args.t.5 ∷ c.args.t.6 ∷ c.args.t.7 ∷ []) (2 * m + 1) [] ∷ []) (q / 8 % 2) (8 * (q / 16) + q % 8))) q0 q1 q2 q3 in
+    let c0 : (q : ℕ) → q < 32 → slice_index c.two_columns-c0.result q ≡ byte_of (lane (c.args.t.0 ∷ c.args.t.4 ∷ []) (q / 8 % 2) (8 * (q / 16) + q % 8)) = λ q h. search (rules, (rw (u0, u4) at c.two_columns-c0.ensures) q h) in
+    let c1 : (q : ℕ) → q < 32 → slice_index c.two_columns-c1.result q ≡ byte_of (lane (c.args.t.1 ∷ c.args.t.5 ∷ []) (q / 8 % 2) (8 * (q / 16) + q % 8)) = λ q h. search (rules, (rw (u1, u5) at c.two_columns-c1.ensures) q h) in
+    let c2 : (q : ℕ) → q < 32 → slice_index c.two_columns-c2.result q ≡ byte_of (lane (c.args.t.2 ∷ c.args.t.6 ∷ []) (q / 8 % 2) (8 * (q / 16) + q % 8)) = λ q h. search (rules, (rw (u2, u6) at c.two_columns-c2.ensures) q h) in
+    let c3 : (q : ℕ) → q < 32 → slice_index c.two_columns-c3.result q ≡ byte_of (lane (c.args.t.3 ∷ c.args.t.7 ∷ []) (q / 8 % 2) (8 * (q / 16) + q % 8)) = λ q h. search (rules, (rw (u3, u7) at c.two_columns-c3.ensures) q h) in
+    let columns = below_four (λ m. (q : ℕ) → q < 32 → slice_index (slice_index_or (c.two_columns-c0.result ∷ c.two_columns-c1.result ∷ c.two_columns-c2.result ∷ c.two_columns-c3.result ∷ []) m []) q ≡ byte_of (lane (slice_index_or (c.args.t.0 ∷ c.args.t.1 ∷ c.args.t.2 ∷ c.args.t.3 ∷ c.args.t.4 ∷ c.args.t.5 ∷ c.args.t.6 ∷ c.args.t.7 ∷ []) m [] ∷ slice_index_or (c.args.t.0 ∷ c.args.t.1 ∷ c.args.t.2 ∷ c.args.t.3 ∷ c.args.t.4 ∷ c.args.t.5 ∷ c.args.t.6 ∷ c.args.t.7 ∷ []) (4 + m) [] ∷ []) (q / 8 % 2) (8 * (q / 16) + q % 8))) c0 c1 c2 c3 in
     record {
-      first = sample_at false (c.two_rows-q0.result ∷ c.two_rows-q1.result ∷ c.two_rows-q2.result ∷ c.two_rows-q3.result ∷ []) c.args.t.0 c.args.t.1 c.args.t.2 c.args.t.3 c.args.t.4 c.args.t.5 c.args.t.6 c.args.t.7 rows c.gathered-first.result (λ k h. search (rules, c.gathered-first.ensures k h));
-      second = sample_at true (c.two_rows-q0.result ∷ c.two_rows-q1.result ∷ c.two_rows-q2.result ∷ c.two_rows-q3.result ∷ []) c.args.t.0 c.args.t.1 c.args.t.2 c.args.t.3 c.args.t.4 c.args.t.5 c.args.t.6 c.args.t.7 rows c.gathered-second.result (λ k h. search (rules, c.gathered-second.ensures k h));
+      first = sample_at false (c.two_columns-c0.result ∷ c.two_columns-c1.result ∷ c.two_columns-c2.result ∷ c.two_columns-c3.result ∷ []) (c.turned_bytes-rows.result.0 ∷ c.turned_bytes-rows.result.1 ∷ c.turned_bytes-rows.result.2 ∷ c.turned_bytes-rows.result.3 ∷ []) c.args.t.0 c.args.t.1 c.args.t.2 c.args.t.3 c.args.t.4 c.args.t.5 c.args.t.6 c.args.t.7 columns c.turned_bytes-rows.ensures c.gathered-first.result (λ k h. search (rules, c.gathered-first.ensures k h));
+      second = sample_at true (c.two_columns-c0.result ∷ c.two_columns-c1.result ∷ c.two_columns-c2.result ∷ c.two_columns-c3.result ∷ []) (c.turned_bytes-rows.result.0 ∷ c.turned_bytes-rows.result.1 ∷ c.turned_bytes-rows.result.2 ∷ c.turned_bytes-rows.result.3 ∷ []) c.args.t.0 c.args.t.1 c.args.t.2 c.args.t.3 c.args.t.4 c.args.t.5 c.args.t.6 c.args.t.7 columns c.turned_bytes-rows.ensures c.gathered-second.result (λ k h. search (rules, c.gathered-second.ensures k h));
     }
