@@ -1,4 +1,4 @@
--- Samples of a block from bytes of two columns of both.
+-- Bytes of a row of a block from those of two columns of both.
 use Rattle.std.proofs.Common.{◌≡◌, ℕ, zero, suc, ◌+◌, ◌*◌, ◌/◌, ◌%◌, ◌<◌, ℤ, Bool, true, false, cond, List, [], ◌∷◌, refl, arith, ap, ◌∙◌}
 use Rattle.std.specs.Prelude.{slice_index, slice_index_or}
 use Rattle.jr_idct.specs.Lanes.{lane}
@@ -22,18 +22,16 @@ module _ (t0 t1 t2 t3 t4 t5 t6 t7 : List ℤ) where
   two_of = below_four (λ m. (n : ℕ) → n < 2 → (p : ℕ) → lane (slice_index_or all m [] ∷ slice_index_or all (4 + m) [] ∷ []) n p ≡ lane all (m + 4 * n) p)
       (below_two _ (λ p. refl) (λ p. refl)) (below_two _ (λ p. refl) (λ p. refl)) (below_two _ (λ p. refl) (λ p. refl)) (below_two _ (λ p. refl) (λ p. refl))
 
-pub sample_at : (s : Bool) (cs rs : List (List ℕ)) (t0 t1 t2 t3 t4 t5 t6 t7 : List ℤ)
+pub byte_at_row : (s : Bool) (cs rs : List (List ℕ)) (t0 t1 t2 t3 t4 t5 t6 t7 : List ℤ)
     → ((m : ℕ) → m < 4 → (q : ℕ) → q < 32 → slice_index (slice_index_or cs m []) q ≡ byte_of (lane (slice_index_or (t0 ∷ t1 ∷ t2 ∷ t3 ∷ t4 ∷ t5 ∷ t6 ∷ t7 ∷ []) m [] ∷ slice_index_or (t0 ∷ t1 ∷ t2 ∷ t3 ∷ t4 ∷ t5 ∷ t6 ∷ t7 ∷ []) (4 + m) [] ∷ []) (q / 8 % 2) (8 * (q / 16) + q % 8)))
     → ((m n : ℕ) → m < 4 → n < 32 → slice_index (slice_index_or rs m []) n ≡ slice_index (slice_index_or cs (n % 4) []) (16 * (n / 16) + 8 * (n % 8 / 4) + (2 * m + n % 16 / 8)))
-    → (bytes : List ℕ) → ((k : ℕ) → k < 64 → slice_index bytes k ≡ slice_index (slice_index_or rs (k / 16) []) (k % 16 + cond s 16 0))
-    → (r c : ℕ) → r < 8 → c < 8 → slice_index bytes (8 * r + c) ≡ byte_of (lane (t0 ∷ t1 ∷ t2 ∷ t3 ∷ t4 ∷ t5 ∷ t6 ∷ t7 ∷ []) c (place_in s r))
-sample_at s cs rs t0 t1 t2 t3 t4 t5 t6 t7 is_c is_r bytes is_bytes r c h g =
+    → (r c : ℕ) → r < 8 → c < 8 → slice_index (slice_index_or rs ((8 * r + c) / 16) []) ((8 * r + c) % 16 + cond s 16 0) ≡ byte_of (lane (t0 ∷ t1 ∷ t2 ∷ t3 ∷ t4 ∷ t5 ∷ t6 ∷ t7 ∷ []) c (place_in s r))
+byte_at_row s cs rs t0 t1 t2 t3 t4 t5 t6 t7 is_c is_r r c h g =
     let k = 8 * r + c in
     let n = k % 16 + cond s 16 0 in
     let j = 16 * (n / 16) + 8 * (n % 8 / 4) + (2 * (k / 16) + n % 16 / 8) in
     let b = below s (k % 16) (omega arith) in
-    is_bytes k (omega (arith, h, g))
-    ∙ is_r (k / 16) n (omega (arith, h, g)) b
+    is_r (k / 16) n (omega (arith, h, g)) b
     ∙ is_c (n % 4) (omega arith) j (inside n (k / 16) b (omega (arith, h, g)))
     ∙ ap byte_of (two_of t0 t1 t2 t3 t4 t5 t6 t7 (n % 4) (omega arith) (j / 8 % 2) (omega arith) (8 * (j / 16) + j % 8) ∙ at_place s)
   where

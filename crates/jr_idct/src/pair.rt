@@ -10,7 +10,7 @@ ghost use Rattle.jr_idct.specs.Transform.{byte_of, column_pass, sample_of};
 use crate::number::{COLUMN_BITS, ROW_BITS};
 use crate::pass::{Rows, entries};
 use crate::turned::turned;
-use crate::turned_bytes::turned_bytes;
+use crate::turned_bytes::{Bytes, turned_bytes};
 use std::simd::prelude::*;
 
 /// The product of a coefficient and its quantiser.
@@ -166,18 +166,27 @@ fn values(x: Rows) -> Rows
 
 /// The nearest bytes to the columns of both blocks, row by row. They are made bytes first, of which half as many vectors are turned.
 #[inline(always)]
-fn bytes_of(t: Rows) -> ([u8; 64], [u8; 64])
-    ensures first { (r c : ℕ) → r < 8 → c < 8 → slice_index result.0 (8 * r + c) ≡ byte_of (lane (t.0 ∷ t.1 ∷ t.2 ∷ t.3 ∷ t.4 ∷ t.5 ∷ t.6 ∷ t.7 ∷ []) c r) }
-    ensures second { (r c : ℕ) → r < 8 → c < 8 → slice_index result.1 (8 * r + c) ≡ byte_of (lane (t.0 ∷ t.1 ∷ t.2 ∷ t.3 ∷ t.4 ∷ t.5 ∷ t.6 ∷ t.7 ∷ []) c (8 + r)) }
+fn byte_rows(t: Rows) -> Bytes
+    ensures first { (r c : ℕ) → r < 8 → c < 8 → slice_index (slice_index_or (result.0 ∷ result.1 ∷ result.2 ∷ result.3 ∷ []) ((8 * r + c) / 16) []) ((8 * r + c) % 16) ≡ byte_of (lane (t.0 ∷ t.1 ∷ t.2 ∷ t.3 ∷ t.4 ∷ t.5 ∷ t.6 ∷ t.7 ∷ []) c r) }
+    ensures second { (r c : ℕ) → r < 8 → c < 8 → slice_index (slice_index_or (result.0 ∷ result.1 ∷ result.2 ∷ result.3 ∷ []) ((8 * r + c) / 16) []) ((8 * r + c) % 16 + 16) ≡ byte_of (lane (t.0 ∷ t.1 ∷ t.2 ∷ t.3 ∷ t.4 ∷ t.5 ∷ t.6 ∷ t.7 ∷ []) c (8 + r)) }
 {
     let c0 = two_columns(t.0, t.4);
     let c1 = two_columns(t.1, t.5);
     let c2 = two_columns(t.2, t.6);
     let c3 = two_columns(t.3, t.7);
-    let rows = turned_bytes((c0, c1, c2, c3));
-    let first = gathered(rows.0, rows.1, rows.2, rows.3, false);
-    let second = gathered(rows.0, rows.1, rows.2, rows.3, true);
-    (first, second)
+    turned_bytes((c0, c1, c2, c3))
+}
+
+/// The samples of two blocks side by side, two rows of each a vector. It is no part of its callers: there its rows would be taken
+/// apart byte by byte.
+#[inline(never)]
+fn sample_rows(x: Rows) -> Bytes
+    requires { (k p : ℕ) → k < 8 → p < 16 → IsWithin MOST_PRODUCT (lane (x.0 ∷ x.1 ∷ x.2 ∷ x.3 ∷ x.4 ∷ x.5 ∷ x.6 ∷ x.7 ∷ []) k p) }
+    ensures first { (v : ℕ → ℤ) → ((j k : ℕ) → j < 8 → k < 8 → lane (x.0 ∷ x.1 ∷ x.2 ∷ x.3 ∷ x.4 ∷ x.5 ∷ x.6 ∷ x.7 ∷ []) j k ≡ v (8 * j + k)) → (r c : ℕ) → r < 8 → c < 8 → slice_index (slice_index_or (result.0 ∷ result.1 ∷ result.2 ∷ result.3 ∷ []) ((8 * r + c) / 16) []) ((8 * r + c) % 16) ≡ sample_of v r c }
+    ensures second { (v : ℕ → ℤ) → ((j k : ℕ) → j < 8 → k < 8 → lane (x.0 ∷ x.1 ∷ x.2 ∷ x.3 ∷ x.4 ∷ x.5 ∷ x.6 ∷ x.7 ∷ []) j (8 + k) ≡ v (8 * j + k)) → (r c : ℕ) → r < 8 → c < 8 → slice_index (slice_index_or (result.0 ∷ result.1 ∷ result.2 ∷ result.3 ∷ []) ((8 * r + c) / 16) []) ((8 * r + c) % 16 + 16) ≡ sample_of v r c }
+{
+    let t = values(x);
+    byte_rows(t)
 }
 
 /// The samples of two blocks of one component, given their coefficients and quantisers in natural order.
@@ -195,6 +204,8 @@ pub(crate) fn pair_samples(
     let products_a = small_products(a, factors);
     let products_b = small_products(b, factors);
     let x = rows_of(&products_a, &products_b);
-    let t = values(x);
-    bytes_of(t)
+    let rows = sample_rows(x);
+    let first = gathered(rows.0, rows.1, rows.2, rows.3, false);
+    let second = gathered(rows.0, rows.1, rows.2, rows.3, true);
+    (first, second)
 }
