@@ -1,5 +1,5 @@
 -- Lanes of 16 bits held between 0 and 255, as bytes.
-use Rattle.std.proofs.Common.{◌≡◌, ℕ, ◌+◌, ◌-◌, ◌*◌, ◌/◌, ◌%◌, ◌<◌, ◌++◌, ℤ, pos, negsuc, min, cond, inl, inr, List, [], ◌∷◌, map, get_or, length, refl, arith, subst, ◌∙◌, ap, w8, w16, to_z, of_z, Fits, T}
+use Rattle.std.proofs.Common.{◌≡◌, ℕ, ◌+◌, ◌-◌, ◌*◌, ◌/◌, ◌%◌, ◌<◌, ◌++◌, ℤ, pos, negsuc, min, cond, true, inl, inr, List, [], ◌∷◌, map, get_or, length, refl, arith, subst, ◌∙◌, ap, w8, w16, to_z, of_z, Fits, T}
 use mir.Val.{Val}
 use denote.Array.{in_array}
 use denote.Shadow.{shadow}
@@ -10,7 +10,7 @@ use Rattle.std.proofs.lemmas.List.{get_or-map}
 use Rattle.std.proofs.lemmas.Simd.{Each1-from_get_or}
 use Rattle.std.specs.Int.Signed.{lt_z, non_neg}
 use Rattle.std.specs.Prelude.{unsigned_abs}
-use Rattle.std.specs.Simd.Lanes.{top, pick_l, Each1}
+use Rattle.std.specs.Simd.Lanes.{all_below, top, pick_l, Each1}
 use Rattle.jr_idct.specs.Lanes.{lane}
 use Rattle.jr_idct.specs.Matrix.{at}
 use Rattle.jr_idct.specs.Transform.{byte_of}
@@ -53,23 +53,39 @@ order =
     0 ∷ 1 ∷ 2 ∷ 3 ∷ 4 ∷ 5 ∷ 6 ∷ 7 ∷ 16 ∷ 17 ∷ 18 ∷ 19 ∷ 20 ∷ 21 ∷ 22 ∷ 23
     ∷ 8 ∷ 9 ∷ 10 ∷ 11 ∷ 12 ∷ 13 ∷ 14 ∷ 15 ∷ 24 ∷ 25 ∷ 26 ∷ 27 ∷ 28 ∷ 29 ∷ 30 ∷ 31 ∷ []
 
-abbrev pub rows_of : List ℤ → List ℤ → List ℕ
-rows_of a b = map bounded (pick_l 0 (map (of_z w16) a ++ map (of_z w16) b) order)
+abbrev pub in_place : List ℕ
+in_place =
+    0 ∷ 1 ∷ 2 ∷ 3 ∷ 4 ∷ 5 ∷ 6 ∷ 7 ∷ 8 ∷ 9 ∷ 10 ∷ 11 ∷ 12 ∷ 13 ∷ 14 ∷ 15 ∷ 16 ∷ 17 ∷ 18 ∷ 19 ∷ 20 ∷ 21 ∷ 22 ∷ 23
+    ∷ 24 ∷ 25 ∷ 26 ∷ 27 ∷ 28 ∷ 29 ∷ 30 ∷ 31 ∷ []
+
+abbrev pub bounded_lanes : List ℤ → List ℤ → List ℕ
+bounded_lanes a b = map bounded (pick_l 0 (map (of_z w16) a ++ map (of_z w16) b) in_place)
+
+abbrev pub byte_in : ℕ → ℕ
+byte_in m = unsigned_abs (to_z w16 m)
+
+-- the same lanes in the order in which they are stored
+abbrev pub ordered : List ℤ → List ℤ → List ℕ
+ordered a b = map bounded (pick_l 0 (map (of_z w16) a ++ map (of_z w16) b) order)
 
 module _ (a b : List ℤ) (vs us : List Val) (g : shadow (in_array ℤ (SInt w16).own_val 16 a vs)) (h : shadow (in_array ℤ (SInt w16).own_val 16 b us)) where
-  number : ℕ → ℤ
-  number q = joined 16 (at a) (at b) (get_or order q 0)
+  both : Lanes w16 32 (map (of_z w16) a ++ map (of_z w16) b) (joined 16 (at a) (at b))
+  both = lanes_join w16 16 16 _ _ (at a) (at b) (lanes_given w16 16 a vs g) (lanes_given w16 16 b us h)
 
-  hold_rows : Lanes w16 32 (rows_of a b) (λ q. pos (byte_of (number q)))
+  number : List ℕ → ℕ → ℤ
+  number ks q = joined 16 (at a) (at b) (get_or ks q 0)
+
+  hold : (ks : List ℕ) → all_below 32 ks ≡ true → length ks ≡ 32 → Lanes w16 32 (map bounded (pick_l 0 (map (of_z w16) a ++ map (of_z w16) b) ks)) (λ q. pos (byte_of (number ks q)))
   unfolding number
-  hold_rows =
-      let both = lanes_join w16 16 16 _ _ (at a) (at b) (lanes_given w16 16 a vs g) (lanes_given w16 16 b us h) in
-      lanes_map w16 w16 32 _ _ (λ q. pos (byte_of (number q))) bounded (lanes_pick w16 32 32 _ order (joined 16 (at a) (at b)) both refl refl) (λ m k l p. bounded_hold m (number k) p)
+  hold ks small long =
+      lanes_map w16 w16 32 _ _ (λ q. pos (byte_of (number ks q))) bounded (lanes_pick w16 32 32 _ ks (joined 16 (at a) (at b)) both small long) (λ m k l p. bounded_hold m (number ks k) p)
 
-  pub all_bytes : Each1 IsByte (rows_of a b)
-  all_bytes = Each1-from_get_or IsByte (rows_of a b) 0 (λ k l. rw (hold_rows.each k l).reads (tt, record { fits = byte_below (number k) }))
+  pub all_bytes : Each1 IsByte (bounded_lanes a b)
+  all_bytes =
+      let held = hold in_place refl refl in
+      Each1-from_get_or IsByte (bounded_lanes a b) 0 (λ k l. rw (held.each k l).reads (tt, record { fits = byte_below (number in_place k) }))
 
-  number_is : (q : ℕ) → q < 32 → number q ≡ lane (a ∷ b ∷ []) (q / 8 % 2) (8 * (q / 16) + q % 8)
+  number_is : (q : ℕ) → q < 32 → number order q ≡ lane (a ∷ b ∷ []) (q / 8 % 2) (8 * (q / 16) + q % 8)
   unfolding number
   number_is q l =
       elim (cases_lt q 16) [
@@ -80,7 +96,8 @@ module _ (a b : List ℤ) (vs us : List Val) (g : shadow (in_array ℤ (SInt w16
             (below_sixteen (λ k. joined 16 (at a) (at b) (get_or order (16 + k) 0) ≡ lane (a ∷ b ∷ []) ((16 + k) / 8 % 2) (8 * ((16 + k) / 16) + (16 + k) % 8)) refl refl refl refl refl refl refl refl refl refl refl refl refl refl refl refl (q - 16) (omega (arith, o, l)))
       ]
 
-  pub byte_at : (q : ℕ) → q < 32 → get_or (map (λ m. unsigned_abs (to_z w16 m)) (rows_of a b)) q 0 ≡ byte_of (lane (a ∷ b ∷ []) (q / 8 % 2) (8 * (q / 16) + q % 8))
+  pub byte_at : (q : ℕ) → q < 32 → get_or (map byte_in (ordered a b)) q 0 ≡ byte_of (lane (a ∷ b ∷ []) (q / 8 % 2) (8 * (q / 16) + q % 8))
   byte_at q l =
-      let inside : q < length (rows_of a b) = omega (arith, l, hold_rows.long) in
-      get_or-map (λ m. unsigned_abs (to_z w16 m)) (rows_of a b) q 0 0 inside ∙ ap unsigned_abs (hold_rows.each q l).reads ∙ ap byte_of (number_is q l)
+      let held = hold order refl refl in
+      let inside : q < length (ordered a b) = omega (arith, l, held.long) in
+      get_or-map byte_in (ordered a b) q 0 0 inside ∙ ap unsigned_abs (held.each q l).reads ∙ ap byte_of (number_is q l)

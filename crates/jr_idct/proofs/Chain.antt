@@ -1,4 +1,4 @@
--- Two passes in lanes, each with rows and columns exchanged behind it.
+-- Two passes in lanes, with rows and columns exchanged between them.
 use Rattle.std.proofs.Common.{◌≡◌, ℕ, ◌+◌, ◌*◌, ◌/◌, ◌%◌, ◌^◌, ◌<◌, pos, ◌+ℤ◌, ℤ, List, arith, ap, sym, ◌∙◌}
 use Rattle.std.proofs.lemmas.Int.{ints}
 use Rattle.jr_block.specs.declared.quantisers.TheConstants.{MOST_PRODUCT}
@@ -28,11 +28,10 @@ level_shift z =
     let h = floor_above (z +ℤ pos 131072) 262144 (omega arith) in
     sym (floor_is (z +ℤ pos 33685504) (q +ℤ pos 128) 262144 (omega arith) (omega (arith, ints, l)) (omega (arith, ints, h)))
 
-module _ (x y z w t : List (List ℤ))
+module _ (x y z w : List (List ℤ))
     (first : (i p : ℕ) → i < 8 → p < 16 → lane y i p ≡ floor_div (row_sum i (λ k. lane x k p) +ℤ pos 1024) (2 ^ 11))
     (turned : (i p : ℕ) → i < 8 → p < 16 → lane z i p ≡ lane y (p % 8) (8 * (p / 8) + i))
-    (second : (i p : ℕ) → i < 8 → p < 16 → lane w i p ≡ floor_div (row_sum i (λ k. lane z k p) +ℤ pos 33685504) (2 ^ 18))
-    (back : (i p : ℕ) → i < 8 → p < 16 → lane t i p ≡ lane w (p % 8) (8 * (p / 8) + i)) where
+    (second : (i p : ℕ) → i < 8 → p < 16 → lane w i p ≡ floor_div (row_sum i (λ k. lane z k p) +ℤ pos 33685504) (2 ^ 18)) where
   -- where number i of a row of the block stands
   module _ (place : ℕ → ℕ) (below : (i : ℕ) → i < 8 → place i < 16) (column : (i : ℕ) → i < 8 → place i % 8 ≡ i) (block : (i k : ℕ) → i < 8 → k < 8 → 8 * (place i / 8) + k ≡ place k)
       (v : ℕ → ℤ) (is_x : (j k : ℕ) → j < 8 → k < 8 → lane x j (place k) ≡ v (8 * j + k)) where
@@ -46,10 +45,9 @@ module _ (x y z w t : List (List ℤ))
         ∙ first r (place k) h (below k g)
         ∙ pass_same 11 (λ j. lane x j (place k)) (λ j. v (8 * j + k)) r (λ j b. is_x j k b g)
 
-    pub chain : (r c : ℕ) → r < 8 → c < 8 → lane t r (place c) ≡ pass 18 (λ k. column_pass v k r) c +ℤ pos 128
+    pub chain : (r c : ℕ) → r < 8 → c < 8 → lane w c (place r) ≡ pass 18 (λ k. column_pass v k r) c +ℤ pos 128
     unfolding pass
     chain r c h g =
-        crossed t w back r c h g
-        ∙ second c (place r) g (below r h)
+        second c (place r) g (below r h)
         ∙ level_shift (row_sum c (λ k. lane z k (place r)))
         ∙ ap (λ s. floor_div (s +ℤ pos 131072) 262144 +ℤ pos 128) (sum_same (λ k. lane z k (place r)) (λ k. column_pass v k r) c (λ k b. column_is r k h b))

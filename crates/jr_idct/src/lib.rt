@@ -16,6 +16,7 @@ mod pair;
 mod pass;
 mod small;
 mod turned;
+mod turned_bytes;
 mod wide;
 
 pub use block::{transform, transform_one, transform_two};

@@ -10,6 +10,7 @@ ghost use Rattle.jr_idct.specs.Transform.{byte_of, column_pass, sample_of};
 use crate::number::{COLUMN_BITS, ROW_BITS};
 use crate::pass::{Rows, entries};
 use crate::turned::turned;
+use crate::turned_bytes::{Bytes, turned_bytes};
 use std::simd::prelude::*;
 
 /// The product of a coefficient and its quantiser.
@@ -61,21 +62,27 @@ fn row(a: &[i16; 64], b: &[i16; 64], r: usize) -> i16x16
     )
 }
 
-/// The nearest bytes to two rows of both blocks: those of the first block, then those of the second.
+/// The nearest bytes to two columns of both blocks: those of the first block, then those of the second. They are put in
+/// this order once they are bytes, so that no lane leaves its half of the registers.
 #[inline(always)]
-fn two_rows(first: i16x16, second: i16x16) -> u8x32
+fn two_columns(first: i16x16, second: i16x16) -> u8x32
     ensures { (q : ℕ) → q < 32 → slice_index result q ≡ byte_of (lane (first ∷ second ∷ []) (q / 8 % 2) (8 * (q / 16) + q % 8)) }
 {
     let both: Simd<i16, 32> = first.shuffle(
         second,
         [
-            0, 1, 2, 3, 4, 5, 6, 7, 16, 17, 18, 19, 20, 21, 22, 23, 8, 9, 10, 11, 12, 13, 14, 15,
+            0, 1, 2, 3, 4, 5, 6, 7, 8, 9, 10, 11, 12, 13, 14, 15, 16, 17, 18, 19, 20, 21, 22, 23,
             24, 25, 26, 27, 28, 29, 30, 31,
         ],
     );
-    both.simd_max(Simd::splat(0))
+    let bytes = both
+        .simd_max(Simd::splat(0))
         .simd_min(Simd::splat(255))
-        .cast::<u8>()
+        .cast::<u8>();
+    bytes.swizzle([
+        0, 1, 2, 3, 4, 5, 6, 7, 16, 17, 18, 19, 20, 21, 22, 23, 8, 9, 10, 11, 12, 13, 14, 15, 24,
+        25, 26, 27, 28, 29, 30, 31,
+    ])
 }
 
 /// The first or the second halves of two vectors.
@@ -144,33 +151,42 @@ const COLUMN_CONSTANT: i32 = 1024;
 /// What is added before the second pass drops its bits: a half, and the level shift of 128 (T.81, A.3.1).
 const ROW_CONSTANT: i32 = 33_685_504;
 
-/// Both passes and the level shift.
+/// Both passes and the level shift: column c of both blocks is row c of these.
 #[inline(always)]
 fn values(x: Rows) -> Rows
     requires { (k p : ℕ) → k < 8 → p < 16 → IsWithin MOST_PRODUCT (lane (x.0 ∷ x.1 ∷ x.2 ∷ x.3 ∷ x.4 ∷ x.5 ∷ x.6 ∷ x.7 ∷ []) k p) }
-    ensures first { (v : ℕ → ℤ) → ((j k : ℕ) → j < 8 → k < 8 → lane (x.0 ∷ x.1 ∷ x.2 ∷ x.3 ∷ x.4 ∷ x.5 ∷ x.6 ∷ x.7 ∷ []) j k ≡ v (8 * j + k)) → (r c : ℕ) → r < 8 → c < 8 → lane (result.0 ∷ result.1 ∷ result.2 ∷ result.3 ∷ result.4 ∷ result.5 ∷ result.6 ∷ result.7 ∷ []) r c ≡ pass 18 (λ k. column_pass v k r) c +ℤ pos 128 }
-    ensures second { (v : ℕ → ℤ) → ((j k : ℕ) → j < 8 → k < 8 → lane (x.0 ∷ x.1 ∷ x.2 ∷ x.3 ∷ x.4 ∷ x.5 ∷ x.6 ∷ x.7 ∷ []) j (8 + k) ≡ v (8 * j + k)) → (r c : ℕ) → r < 8 → c < 8 → lane (result.0 ∷ result.1 ∷ result.2 ∷ result.3 ∷ result.4 ∷ result.5 ∷ result.6 ∷ result.7 ∷ []) r (8 + c) ≡ pass 18 (λ k. column_pass v k r) c +ℤ pos 128 }
+    ensures first { (v : ℕ → ℤ) → ((j k : ℕ) → j < 8 → k < 8 → lane (x.0 ∷ x.1 ∷ x.2 ∷ x.3 ∷ x.4 ∷ x.5 ∷ x.6 ∷ x.7 ∷ []) j k ≡ v (8 * j + k)) → (r c : ℕ) → r < 8 → c < 8 → lane (result.0 ∷ result.1 ∷ result.2 ∷ result.3 ∷ result.4 ∷ result.5 ∷ result.6 ∷ result.7 ∷ []) c r ≡ pass 18 (λ k. column_pass v k r) c +ℤ pos 128 }
+    ensures second { (v : ℕ → ℤ) → ((j k : ℕ) → j < 8 → k < 8 → lane (x.0 ∷ x.1 ∷ x.2 ∷ x.3 ∷ x.4 ∷ x.5 ∷ x.6 ∷ x.7 ∷ []) j (8 + k) ≡ v (8 * j + k)) → (r c : ℕ) → r < 8 → c < 8 → lane (result.0 ∷ result.1 ∷ result.2 ∷ result.3 ∷ result.4 ∷ result.5 ∷ result.6 ∷ result.7 ∷ []) c (8 + r) ≡ pass 18 (λ k. column_pass v k r) c +ℤ pos 128 }
 {
     let columns = entries(x, COLUMN_CONSTANT, COLUMN_BITS);
     let rows = turned(columns);
     let sums = entries(rows, ROW_CONSTANT, ROW_BITS);
-    let values = turned(sums);
-    values
+    sums
 }
 
-/// The nearest bytes to the rows of both blocks.
+/// The nearest bytes to the columns of both blocks, row by row. They are made bytes first, of which half as many vectors are turned.
 #[inline(always)]
-fn bytes_of(t: Rows) -> ([u8; 64], [u8; 64])
-    ensures first { (r c : ℕ) → r < 8 → c < 8 → slice_index result.0 (8 * r + c) ≡ byte_of (lane (t.0 ∷ t.1 ∷ t.2 ∷ t.3 ∷ t.4 ∷ t.5 ∷ t.6 ∷ t.7 ∷ []) r c) }
-    ensures second { (r c : ℕ) → r < 8 → c < 8 → slice_index result.1 (8 * r + c) ≡ byte_of (lane (t.0 ∷ t.1 ∷ t.2 ∷ t.3 ∷ t.4 ∷ t.5 ∷ t.6 ∷ t.7 ∷ []) r (8 + c)) }
+fn byte_rows(t: Rows) -> Bytes
+    ensures first { (r c : ℕ) → r < 8 → c < 8 → slice_index (slice_index_or (result.0 ∷ result.1 ∷ result.2 ∷ result.3 ∷ []) ((8 * r + c) / 16) []) ((8 * r + c) % 16) ≡ byte_of (lane (t.0 ∷ t.1 ∷ t.2 ∷ t.3 ∷ t.4 ∷ t.5 ∷ t.6 ∷ t.7 ∷ []) c r) }
+    ensures second { (r c : ℕ) → r < 8 → c < 8 → slice_index (slice_index_or (result.0 ∷ result.1 ∷ result.2 ∷ result.3 ∷ []) ((8 * r + c) / 16) []) ((8 * r + c) % 16 + 16) ≡ byte_of (lane (t.0 ∷ t.1 ∷ t.2 ∷ t.3 ∷ t.4 ∷ t.5 ∷ t.6 ∷ t.7 ∷ []) c (8 + r)) }
 {
-    let q0 = two_rows(t.0, t.1);
-    let q1 = two_rows(t.2, t.3);
-    let q2 = two_rows(t.4, t.5);
-    let q3 = two_rows(t.6, t.7);
-    let first = gathered(q0, q1, q2, q3, false);
-    let second = gathered(q0, q1, q2, q3, true);
-    (first, second)
+    let c0 = two_columns(t.0, t.4);
+    let c1 = two_columns(t.1, t.5);
+    let c2 = two_columns(t.2, t.6);
+    let c3 = two_columns(t.3, t.7);
+    turned_bytes((c0, c1, c2, c3))
+}
+
+/// The samples of two blocks side by side, two rows of each a vector. It is no part of its callers: there its rows would be taken
+/// apart byte by byte.
+#[inline(never)]
+fn sample_rows(x: Rows) -> Bytes
+    requires { (k p : ℕ) → k < 8 → p < 16 → IsWithin MOST_PRODUCT (lane (x.0 ∷ x.1 ∷ x.2 ∷ x.3 ∷ x.4 ∷ x.5 ∷ x.6 ∷ x.7 ∷ []) k p) }
+    ensures first { (v : ℕ → ℤ) → ((j k : ℕ) → j < 8 → k < 8 → lane (x.0 ∷ x.1 ∷ x.2 ∷ x.3 ∷ x.4 ∷ x.5 ∷ x.6 ∷ x.7 ∷ []) j k ≡ v (8 * j + k)) → (r c : ℕ) → r < 8 → c < 8 → slice_index (slice_index_or (result.0 ∷ result.1 ∷ result.2 ∷ result.3 ∷ []) ((8 * r + c) / 16) []) ((8 * r + c) % 16) ≡ sample_of v r c }
+    ensures second { (v : ℕ → ℤ) → ((j k : ℕ) → j < 8 → k < 8 → lane (x.0 ∷ x.1 ∷ x.2 ∷ x.3 ∷ x.4 ∷ x.5 ∷ x.6 ∷ x.7 ∷ []) j (8 + k) ≡ v (8 * j + k)) → (r c : ℕ) → r < 8 → c < 8 → slice_index (slice_index_or (result.0 ∷ result.1 ∷ result.2 ∷ result.3 ∷ []) ((8 * r + c) / 16) []) ((8 * r + c) % 16 + 16) ≡ sample_of v r c }
+{
+    let t = values(x);
+    byte_rows(t)
 }
 
 /// The samples of two blocks of one component, given their coefficients and quantisers in natural order.
@@ -188,6 +204,8 @@ pub(crate) fn pair_samples(
     let products_a = small_products(a, factors);
     let products_b = small_products(b, factors);
     let x = rows_of(&products_a, &products_b);
-    let t = values(x);
-    bytes_of(t)
+    let rows = sample_rows(x);
+    let first = gathered(rows.0, rows.1, rows.2, rows.3, false);
+    let second = gathered(rows.0, rows.1, rows.2, rows.3, true);
+    (first, second)
 }

@@ -1,10 +1,9 @@
-use Rattle.std.proofs.Common.{◌≡◌, ◌+◌, ◌-◌, ◌*◌, pos, inl, inr, [], ◌∷◌, slice_index, arith, subst, ap, ◌∙◌}
+use Rattle.std.proofs.Common.{rules, ◌≡◌, ◌+◌, ◌-◌, ◌*◌, pos, inl, inr, [], ◌∷◌, slice_index, arith, subst, ◌∙◌}
 use Rattle.std.proofs.Math.IntN.{◌*ℤ◌}
 use Rattle.std.proofs.lemmas.Bool.{cases_lt}
 use Rattle.jr_block.specs.declared.quantisers.TheConstants.{MOST_PRODUCT}
 use Rattle.jr_idct.specs.Lanes.{lane}
 use Rattle.jr_idct.specs.Matrix.{at, IsWithin}
-use Rattle.jr_idct.specs.Transform.{byte_of}
 use Rattle.jr_idct.proofs.pair.pair_samples.Goals as goal
 
 pub rows_of-x-requires : goal.rows_of-x-requires
@@ -13,8 +12,8 @@ rows_of-x-requires c = record {
   small_b = λ n h. rw (c.small_products-products_b.ensures n h) (c.requires.small_b n h);
 }
 
-pub values-t-requires : goal.values-t-requires
-values-t-requires c k p h g =
+pub sample_rows-rows-requires : goal.sample_rows-rows-requires
+sample_rows-rows-requires c k p h g =
     elim (cases_lt p 8) [
       | inl l ↦ rw (c.rows_of-x.ensures.first k p h l ∙ c.small_products-products_a.ensures (8 * k + p) (omega (arith, h, l))) (c.requires.small_a (8 * k + p) (omega (arith, h, l)))
       | inr o ↦
@@ -25,10 +24,10 @@ values-t-requires c k p h g =
 
 pub returns-clause-first : goal.returns-clause-first
 returns-clause-first c r k h g =
-    c.bytes_of.ensures.first r k h g
-    ∙ ap byte_of (c.values-t.ensures.first (λ n. at c.args.a.now n *ℤ pos (slice_index c.args.factors.now n)) (λ j i b d. c.rows_of-x.ensures.first j i b d ∙ c.small_products-products_a.ensures (8 * j + i) (omega (arith, b, d))) r k h g)
+    let row = c.sample_rows-rows.ensures.first (λ n. at c.args.a.now n *ℤ pos (slice_index c.args.factors.now n)) (λ j i b d. c.rows_of-x.ensures.first j i b d ∙ c.small_products-products_a.ensures (8 * j + i) (omega (arith, b, d))) r k h g in
+    search (rules, c.gathered-first.ensures (8 * r + k) (omega (arith, h, g)), row)
 
 pub returns-clause-second : goal.returns-clause-second
 returns-clause-second c r k h g =
-    c.bytes_of.ensures.second r k h g
-    ∙ ap byte_of (c.values-t.ensures.second (λ n. at c.args.b.now n *ℤ pos (slice_index c.args.factors.now n)) (λ j i b d. c.rows_of-x.ensures.second j i b d ∙ c.small_products-products_b.ensures (8 * j + i) (omega (arith, b, d))) r k h g)
+    let row = c.sample_rows-rows.ensures.second (λ n. at c.args.b.now n *ℤ pos (slice_index c.args.factors.now n)) (λ j i b d. c.rows_of-x.ensures.second j i b d ∙ c.small_products-products_b.ensures (8 * j + i) (omega (arith, b, d))) r k h g in
+    search (rules, c.gathered-second.ensures (8 * r + k) (omega (arith, h, g)), row)

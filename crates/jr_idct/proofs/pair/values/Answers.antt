@@ -16,10 +16,10 @@ entries-sums-requires c =
 
 pub returns-clause-first : goal.returns-clause-first
 returns-clause-first c v is_x =
-    chain (c.args.x.0 ∷ c.args.x.1 ∷ c.args.x.2 ∷ c.args.x.3 ∷ c.args.x.4 ∷ c.args.x.5 ∷ c.args.x.6 ∷ c.args.x.7 ∷ []) (c.entries-columns.result.0 ∷ c.entries-columns.result.1 ∷ c.entries-columns.result.2 ∷ c.entries-columns.result.3 ∷ c.entries-columns.result.4 ∷ c.entries-columns.result.5 ∷ c.entries-columns.result.6 ∷ c.entries-columns.result.7 ∷ []) (c.turned-rows.result.0 ∷ c.turned-rows.result.1 ∷ c.turned-rows.result.2 ∷ c.turned-rows.result.3 ∷ c.turned-rows.result.4 ∷ c.turned-rows.result.5 ∷ c.turned-rows.result.6 ∷ c.turned-rows.result.7 ∷ []) (c.entries-sums.result.0 ∷ c.entries-sums.result.1 ∷ c.entries-sums.result.2 ∷ c.entries-sums.result.3 ∷ c.entries-sums.result.4 ∷ c.entries-sums.result.5 ∷ c.entries-sums.result.6 ∷ c.entries-sums.result.7 ∷ []) (c.turned-values.result.0 ∷ c.turned-values.result.1 ∷ c.turned-values.result.2 ∷ c.turned-values.result.3 ∷ c.turned-values.result.4 ∷ c.turned-values.result.5 ∷ c.turned-values.result.6 ∷ c.turned-values.result.7 ∷ []) c.entries-columns.ensures c.turned-rows.ensures (λ i p h g. search (rules, c.entries-sums.ensures i p h g)) c.turned-values.ensures
+    chain (c.args.x.0 ∷ c.args.x.1 ∷ c.args.x.2 ∷ c.args.x.3 ∷ c.args.x.4 ∷ c.args.x.5 ∷ c.args.x.6 ∷ c.args.x.7 ∷ []) (c.entries-columns.result.0 ∷ c.entries-columns.result.1 ∷ c.entries-columns.result.2 ∷ c.entries-columns.result.3 ∷ c.entries-columns.result.4 ∷ c.entries-columns.result.5 ∷ c.entries-columns.result.6 ∷ c.entries-columns.result.7 ∷ []) (c.turned-rows.result.0 ∷ c.turned-rows.result.1 ∷ c.turned-rows.result.2 ∷ c.turned-rows.result.3 ∷ c.turned-rows.result.4 ∷ c.turned-rows.result.5 ∷ c.turned-rows.result.6 ∷ c.turned-rows.result.7 ∷ []) (c.entries-sums.result.0 ∷ c.entries-sums.result.1 ∷ c.entries-sums.result.2 ∷ c.entries-sums.result.3 ∷ c.entries-sums.result.4 ∷ c.entries-sums.result.5 ∷ c.entries-sums.result.6 ∷ c.entries-sums.result.7 ∷ []) c.entries-columns.ensures c.turned-rows.ensures (λ i p h g. search (rules, c.entries-sums.ensures i p h g))
     (λ i. i) (λ i h. omega (arith, h)) (λ i h. omega (arith, h)) (λ i k h g. omega (arith, h, g)) v is_x
 
 pub returns-clause-second : goal.returns-clause-second
 returns-clause-second c v is_x =
-    chain (c.args.x.0 ∷ c.args.x.1 ∷ c.args.x.2 ∷ c.args.x.3 ∷ c.args.x.4 ∷ c.args.x.5 ∷ c.args.x.6 ∷ c.args.x.7 ∷ []) (c.entries-columns.result.0 ∷ c.entries-columns.result.1 ∷ c.entries-columns.result.2 ∷ c.entries-columns.result.3 ∷ c.entries-columns.result.4 ∷ c.entries-columns.result.5 ∷ c.entries-columns.result.6 ∷ c.entries-columns.result.7 ∷ []) (c.turned-rows.result.0 ∷ c.turned-rows.result.1 ∷ c.turned-rows.result.2 ∷ c.turned-rows.result.3 ∷ c.turned-rows.result.4 ∷ c.turned-rows.result.5 ∷ c.turned-rows.result.6 ∷ c.turned-rows.result.7 ∷ []) (c.entries-sums.result.0 ∷ c.entries-sums.result.1 ∷ c.entries-sums.result.2 ∷ c.entries-sums.result.3 ∷ c.entries-sums.result.4 ∷ c.entries-sums.result.5 ∷ c.entries-sums.result.6 ∷ c.entries-sums.result.7 ∷ []) (c.turned-values.result.0 ∷ c.turned-values.result.1 ∷ c.turned-values.result.2 ∷ c.turned-values.result.3 ∷ c.turned-values.result.4 ∷ c.turned-values.result.5 ∷ c.turned-values.result.6 ∷ c.turned-values.result.7 ∷ []) c.entries-columns.ensures c.turned-rows.ensures (λ i p h g. search (rules, c.entries-sums.ensures i p h g)) c.turned-values.ensures
+    chain (c.args.x.0 ∷ c.args.x.1 ∷ c.args.x.2 ∷ c.args.x.3 ∷ c.args.x.4 ∷ c.args.x.5 ∷ c.args.x.6 ∷ c.args.x.7 ∷ []) (c.entries-columns.result.0 ∷ c.entries-columns.result.1 ∷ c.entries-columns.result.2 ∷ c.entries-columns.result.3 ∷ c.entries-columns.result.4 ∷ c.entries-columns.result.5 ∷ c.entries-columns.result.6 ∷ c.entries-columns.result.7 ∷ []) (c.turned-rows.result.0 ∷ c.turned-rows.result.1 ∷ c.turned-rows.result.2 ∷ c.turned-rows.result.3 ∷ c.turned-rows.result.4 ∷ c.turned-rows.result.5 ∷ c.turned-rows.result.6 ∷ c.turned-rows.result.7 ∷ []) (c.entries-sums.result.0 ∷ c.entries-sums.result.1 ∷ c.entries-sums.result.2 ∷ c.entries-sums.result.3 ∷ c.entries-sums.result.4 ∷ c.entries-sums.result.5 ∷ c.entries-sums.result.6 ∷ c.entries-sums.result.7 ∷ []) c.entries-columns.ensures c.turned-rows.ensures (λ i p h g. search (rules, c.entries-sums.ensures i p h g))
     (λ i. 8 + i) (λ i h. omega (arith, h)) (λ i h. omega (arith, h)) (λ i k h g. omega (arith, h, g)) v is_x
