@@ -67,8 +67,7 @@ fn two_files_are_read_at_once(rt: HostRuntime) -> Result<(), Fail> {
     let (report, lines) = check_all(&rt, rt.alloc(), folder, asked, NO_LIST, out, nowhere);
     assert!(rt; met.load(Ordering::SeqCst) == 2);
     assert!(rt; report.counts.refused == 2);
-    assert!(rt;
-        lines.as_slice() == b"a: refused 1: not a JPEG file\nb: refused 1: not a JPEG file\n"
-    );
+    let expected = "a: refused 1: not a JPEG file\nb: refused 1: not a JPEG file\n";
+    assert!(rt; lines.as_slice() == expected.as_bytes());
     Ok(())
 }
