@@ -10,9 +10,10 @@ from __future__ import annotations
 
 import collections
 import concurrent.futures
+import mmap
 import os
 from dataclasses import dataclass
-from typing import Any, BinaryIO, Deque, Iterable, Iterator, Optional, Tuple, Union
+from typing import Any, BinaryIO, Deque, Dict, Iterable, Iterator, Literal, Optional, Tuple, Union
 
 import numpy
 import numpy.typing
@@ -37,13 +38,16 @@ __all__ = [
 ]
 
 Pixels = numpy.typing.NDArray[numpy.uint8]
-Source = Union[bytes, bytearray, memoryview, str, "os.PathLike[str]", BinaryIO]
+Path = Union[str, "os.PathLike[str]"]
+Source = Union[bytes, bytearray, memoryview, mmap.mmap, numpy.typing.NDArray[Any], Path, BinaryIO]
+Verdict = Literal["sound", "damaged", "refused"]
+Ended = Literal["EOI", "marker", "out of step", "extra restart", "end of file"]
 
 #: The most pixels that are decoded where nothing else is said: a head of 150 bytes may claim 268,435,456.
 MAX_PIXELS = 1 << 27
 
 #: What ended the scan, by the number in `jri_report`.
-_ENDS = {1: "EOI", 2: "marker", 3: "out of step", 4: "extra restart", 5: "end of file"}
+_ENDS: Dict[int, Ended] = {1: "EOI", 2: "marker", 3: "out of step", 4: "extra restart", 5: "end of file"}
 
 
 class Refused(ValueError):
@@ -53,7 +57,7 @@ class Refused(ValueError):
         super().__init__(refusal_text(number, detail))
         self.number, self.detail = number, detail
 
-    def __reduce__(self):
+    def __reduce__(self) -> Tuple[Any, ...]:
         return Refused, (self.number, self.detail)
 
 
@@ -64,7 +68,7 @@ class Damaged(ValueError):
         super().__init__(f"{picture.report.damaged} of {picture.report.intervals} intervals are damaged")
         self.picture = picture
 
-    def __reduce__(self):
+    def __reduce__(self) -> Tuple[Any, ...]:
         return Damaged, (self.picture,)
 
 
@@ -92,8 +96,7 @@ class Report:
     intervals: int
     sound: int
     damaged: int
-    #: "EOI", "marker", "out of step", "extra restart" or "end of file"
-    ended: str
+    ended: Ended
     #: the offset of the marker that ended the scan; None with "EOI" and "end of file"
     at: Optional[int]
 
@@ -111,8 +114,7 @@ class Picture:
 class Health:
     """What a check comes to: no picture is made."""
 
-    #: "sound", "damaged" or "refused"
-    verdict: str
+    verdict: Verdict
     #: None where the file is refused
     report: Optional[Report]
     #: the number of the refusal, 1 to 18, as in jri.h; None where there is none
@@ -125,7 +127,7 @@ class Health:
         """The verdict in words, those of a refusal with it."""
         if self.refusal is not None:
             return "refused: " + refusal_text(self.refusal, self.detail or 0)
-        if self.verdict == "sound":
+        if self.report is None or self.verdict == "sound":
             return "sound"
         return f"{self.report.damaged} of {self.report.intervals} intervals are damaged"
 
@@ -137,13 +139,14 @@ def version() -> int:
 
 def _bytes(source: Source) -> Any:
     """A buffer of cffi's over a source's bytes, without a copy where it has some."""
+    held: Any = source
     if isinstance(source, (str, os.PathLike)):
         with open(source, "rb") as file:
-            source = file.read()
+            held = file.read()
     elif hasattr(source, "read"):
-        source = source.read()
+        held = source.read()
     try:
-        view = memoryview(source).cast("B")
+        view = memoryview(held).cast("B")
     except (TypeError, ValueError, BufferError):
         raise TypeError(f"a source is bytes, a path or an open file, and no {type(source).__name__}") from None
     return ffi.from_buffer("uint8_t[]", view)
@@ -254,7 +257,7 @@ def check(source: Source) -> Health:
     return Health("damaged" if status == DAMAGED else "sound", _reported(told), None, None)
 
 
-def _checked(path: Union[str, "os.PathLike[str]"]) -> Union[Health, OSError]:
+def _checked(path: Path) -> Union[Health, OSError]:
     try:
         return check(path)
     except OSError as error:
@@ -262,8 +265,8 @@ def _checked(path: Union[str, "os.PathLike[str]"]) -> Union[Health, OSError]:
 
 
 def check_many(
-    paths: Iterable[Union[str, "os.PathLike[str]"]], *, workers: Optional[int] = None
-) -> Iterator[Tuple[Union[str, "os.PathLike[str]"], Union[Health, OSError]]]:
+    paths: Iterable[Path], *, workers: Optional[int] = None
+) -> Iterator[Tuple[Path, Union[Health, OSError]]]:
     """Each path with what its check comes to, or with the error that reading it raised, in their order.
 
     So many threads check at once, one for each processor where nothing is said. Paths are taken as they are needed, some for
@@ -273,7 +276,7 @@ def check_many(
     if threads < 1:
         raise ValueError("workers has to be at least 1")
     with concurrent.futures.ThreadPoolExecutor(threads) as pool:
-        due: Deque[Tuple[Union[str, "os.PathLike[str]"], "concurrent.futures.Future"]] = collections.deque()
+        due: Deque[Tuple[Path, "concurrent.futures.Future[Union[Health, OSError]]"]] = collections.deque()
         for path in paths:
             due.append((path, pool.submit(_checked, path)))
             if len(due) > 2 * threads:

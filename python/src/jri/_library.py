@@ -3,6 +3,7 @@
 from __future__ import annotations
 
 import os
+from typing import Any
 
 import cffi
 
@@ -25,7 +26,7 @@ ffi.cdef(
 )
 
 
-def _open():
+def _open() -> Any:
     """The library. ABI mode lets go of the interpreter's lock in each call."""
     path = os.environ.get("JRI_LIBRARY", "libjri.so.1")
     try:

@@ -2,22 +2,27 @@
 
 from __future__ import annotations
 
+from typing import Any, Optional, Tuple
+
 from PIL import Image, JpegImagePlugin
 
 import jri
 
 
-class JriImageFile(JpegImagePlugin.JpegImageFile):
+class JriImageFile(JpegImagePlugin.JpegImageFile):  # type: ignore[misc]
     """A JPEG file whose pixels libjri decodes, where it does and nobody asked for a smaller picture."""
 
     _is_scaled = False
+    # What Pillow's own classes have.
+    fp: Any
+    tile: Any
 
-    def draft(self, mode, size):
+    def draft(self, mode: Optional[str], size: Tuple[int, int]) -> Any:
         drafted = super().draft(mode, size)
         self._is_scaled = self._is_scaled or drafted is not None
         return drafted
 
-    def load(self):
+    def load(self) -> Any:
         if self.tile and not self._is_scaled and self.mode in ("L", "RGB"):
             pixels = self._decoded()
             if pixels is not None:
@@ -28,7 +33,7 @@ class JriImageFile(JpegImagePlugin.JpegImageFile):
                     self.fp = None
         return super().load()
 
-    def _decoded(self):
+    def _decoded(self) -> Optional[jri.Pixels]:
         """The pixels by libjri; None where it does not decode the file as Pillow opened it."""
         at = self.fp.tell()
         self.fp.seek(0)
@@ -52,7 +57,7 @@ def unregister() -> None:
     Image.register_open("JPEG", JpegImagePlugin.jpeg_factory, JpegImagePlugin._accept)
 
 
-def _opened(fp=None, filename=None):
+def _opened(fp: Any = None, filename: Any = None) -> Any:
     """The file as Pillow's own plug-in opens it, by this class where it is of one picture."""
     picture = JpegImagePlugin.jpeg_factory(fp, filename)
     if type(picture) is not JpegImagePlugin.JpegImageFile:

@@ -1,0 +1,41 @@
+"""The types that the module tells checkers of callers."""
+
+import os
+import subprocess
+import sys
+
+import pytest
+
+SOURCES = os.path.join(os.path.dirname(os.path.abspath(__file__)), "..", "src")
+CALLER = """
+import jri
+
+reveal_type(jri.decode("photo.jpg").shape)
+reveal_type(jri.check(b"").verdict)
+for first, part in jri.lines(b"", 8):
+    reveal_type(first)
+for path, health in jri.check_many(["photo.jpg"]):
+    reveal_type(health)
+jri.decode(7)
+"""
+
+
+def checked(tmp_path, *words):
+    pytest.importorskip("mypy")
+    command = [sys.executable, "-m", "mypy", "--strict", "--ignore-missing-imports", "--cache-dir", str(tmp_path), *words]
+    return subprocess.run(command, stdout=subprocess.PIPE, cwd=SOURCES, check=False).stdout.decode()
+
+
+def test_the_module_has_types_throughout(tmp_path):
+    assert "no issues found in 3 source files" in checked(tmp_path, "jri")
+
+
+def test_a_caller_sees_them(tmp_path):
+    caller = tmp_path / "caller.py"
+    caller.write_text(CALLER)
+    told = [line.split(": ", 1)[1] for line in checked(tmp_path, str(caller)).splitlines() if line.startswith(str(caller))]
+    assert "tuple[builtins.int, ...]" in told[0].lower()
+    assert "Union[Literal['sound'], Literal['damaged'], Literal['refused']]" in told[1]
+    assert '"builtins.int"' in told[2]
+    assert "Union[jri.Health, builtins.OSError]" in told[3]
+    assert told[4].startswith('error: Argument 1 to "decode" has incompatible type "int"') and len(told) == 5
