@@ -6,6 +6,7 @@
 mod answers;
 mod calls;
 mod check;
+mod damages;
 mod decode;
 mod lines;
 mod measure;
@@ -15,6 +16,7 @@ pub mod status;
 mod text;
 
 pub use calls::{check_marks, decode_file, decode_lines, measure_file};
+pub use damages::{Damage, DamageReport, list_damages};
 pub use measure::Measure;
 pub use report::DecodeReport;
-pub use text::refusal_text;
+pub use text::{build_text, end_text, refusal_text};

@@ -1,14 +1,19 @@
-//! The texts of refusals.
+//! The texts of refusals, of what ended a scan, and of the build.
 
 ghost use Rattle.std.specs.Prelude.{◌≡◌, ◌≢◌, ◌≤◌, ◌<◌, length, drop, IfSome, None};
 ghost use Rattle.jr_segments.specs.Refusal.{number_of};
 ghost use Rattle.jri_memory.specs.Calls.{IsNumberOfSome};
 
+use crate::report::DecodeReport;
 use jr_head::Refusal;
+use jri_version::VERSION;
 use std::io::{Cursor, Write};
 
-/// As many bytes as the longest text may have.
+/// As many bytes as the longest text of a refusal may have.
 const ROOM: usize = 64;
+
+/// As many bytes as the longest text of another kind may have.
+const LONG_ROOM: usize = 96;
 
 /// The refusal of this number that tells this beside it.
 fn refusal_of(number: u32, detail: u64) -> Option<Refusal>
@@ -58,4 +63,59 @@ pub fn refusal_text(number: u32, detail: u64, text: &mut [u8]) -> usize
     let length = (line.position() as usize).clamp(1, ROOM).min(text.len());
     text[..length].copy_from_slice(&line.get_ref()[..length]);
     length
+}
+
+/// Puts what is written on a line, as much as `text` has room for: how many bytes it has.
+fn put_line(line: &Cursor<[u8; LONG_ROOM]>, text: &mut [u8]) -> usize
+    ensures some { 0 < length text.old → 0 < result }
+    ensures few { result ≤ length text.new }
+    ensures most { result ≤ 96 }
+    ensures kept { drop result text.new ≡ drop result text.old }
+{
+    // no contract of `write!` says that it writes anything
+    let length = (line.position() as usize)
+        .clamp(1, LONG_ROOM)
+        .min(text.len());
+    text[..length].copy_from_slice(&line.get_ref()[..length]);
+    length
+}
+
+/// Puts what ended the scan of a report in the words of `jri`, as much as `text` has room for, with no 0 behind it: how many bytes it
+/// has. None where the report tells of no end.
+pub fn end_text(report: &DecodeReport, text: &mut [u8]) -> usize
+    ensures some { 1 ≤ report.now.ended → report.now.ended ≤ 5 → 0 < length text.old → 0 < result }
+    ensures none { 0 < result → (1 ≤ report.now.ended) × (report.now.ended ≤ 5) }
+    ensures few { result ≤ length text.new }
+    ensures most { result ≤ 96 }
+    ensures kept { drop result text.new ≡ drop result text.old }
+{
+    let mut line = Cursor::new([0; LONG_ROOM]);
+    let (found, due, at) = (report.found, report.due, report.at);
+    let _ = match report.ended {
+        1 => write!(line, "scan ended at EOI"),
+        2 => write!(line, "scan ended at marker {found:02X}, byte {at}"),
+        3 => write!(
+            line,
+            "scan ended at RST{found} where RST{due} was due, byte {at}"
+        ),
+        4 => write!(
+            line,
+            "scan ended at a restart marker past the last interval, byte {at}"
+        ),
+        5 => write!(line, "scan ended at the end of the file"),
+        _ => return 0,
+    };
+    put_line(&line, text)
+}
+
+/// Puts the name and the version of the build, as much as `text` has room for, with no 0 behind it: how many bytes it has.
+pub fn build_text(text: &mut [u8]) -> usize
+    ensures some { 0 < length text.old → 0 < result }
+    ensures few { result ≤ length text.new }
+    ensures most { result ≤ 96 }
+    ensures kept { drop result text.new ≡ drop result text.old }
+{
+    let mut line = Cursor::new([0; LONG_ROOM]);
+    let _ = write!(line, "jri {VERSION}");
+    put_line(&line, text)
 }
