@@ -9,12 +9,18 @@ mod check;
 mod decode;
 mod lines;
 mod measure;
+mod place_calls;
+mod places;
 mod report;
 mod room;
+mod rows_report;
 pub mod status;
 mod text;
 
 pub use calls::{check_marks, decode_file, decode_lines, measure_file};
+pub use jr_places::RowPlace;
 pub use measure::Measure;
+pub use place_calls::{decode_file_rows, skip_file_rows};
 pub use report::DecodeReport;
+pub use rows_report::RowsReport;
 pub use text::refusal_text;
