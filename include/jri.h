@@ -23,17 +23,20 @@ extern "C" {
 #endif
 
 /* The number of the calls and structs of this header; jri_version() gives that of the library. */
-#define JRI_VERSION 2
+#define JRI_VERSION 3
 
-/* What jri_measure, jri_decode, jri_decode_lines and jri_check answer. */
+/* What the calls answer that read a file. */
 enum {
     JRI_SOUND = 0,     /* done; of a decoding: each interval has a decoding */
     JRI_NO_MEMORY = 1, /* memory was refused */
     JRI_REFUSED = 2,   /* the file is refused: it is no baseline JPEG file that is decoded here */
     JRI_DAMAGED = 3,   /* done, and some interval has no decoding */
     JRI_NO_ROOM = 4,   /* a buffer has too little room */
-    JRI_NO_LINES = 5   /* the picture has no such lines, or none were asked for */
+    JRI_NO_LINES = 5   /* the picture has no such lines or rows, or none were asked for */
 };
+
+/* Of a file's bytes: they are all, or the file goes on behind them. */
+enum { JRI_ALL = 0, JRI_MORE = 1 };
 
 /* What the samples stand for. */
 enum { JRI_GREY = 0, JRI_RGB = 1, JRI_YCBCR = 2 };
@@ -80,6 +83,32 @@ struct jri_report {
     uint32_t refusal;   /* the number of the refusal, 1 to 18, or 19 with JRI_NO_MEMORY; 0 where there is none */
     uint64_t at;        /* see there */
     uint64_t detail;    /* what the refusal tells beside its number: an offset or a marker's code */
+};
+
+/*
+ * Where a decoding goes on: between two rows of MCUs of a file's picture. All 0 is the top. It is plain data of the caller's, which
+ * holds no memory: it is copied, kept, written to disk and forgotten as the caller likes, and nothing is to be closed.
+ */
+struct jri_place {
+    uint64_t at;            /* the offset in the file of the byte that has the next bit */
+    uint32_t bit;           /* how many bits of that byte are taken, 0 to 7 */
+    uint32_t row;           /* how many rows of MCUs stand before it */
+    uint32_t interval;      /* the restart interval that it is in */
+    uint32_t mcu;           /* how many MCUs of that interval stand before it */
+    int32_t predictions[3]; /* what the first coefficient of each component is predicted to be */
+    uint32_t state;         /* 0: the interval goes on; 1: no further MCU of it is whole; 2: the scan has ended */
+};
+
+/*
+ * What a call tells that goes on from a place. Proved: with another answer than JRI_SOUND rows, lines and first_line are 0; with
+ * JRI_SOUND, JRI_NO_ROOM and JRI_NO_LINES the refusal's two numbers are.
+ */
+struct jri_rows {
+    uint32_t rows;       /* how many rows of MCUs are decoded, or passed over */
+    uint32_t lines;      /* how many lines of the picture they have */
+    uint32_t first_line; /* which line of the picture is the first of them, the top one being 0 */
+    uint32_t refusal;    /* the number of the refusal, 1 to 18, or 19 with JRI_NO_MEMORY; 0 where there is none */
+    uint64_t detail;     /* what the refusal tells beside its number: an offset or a marker's code */
 };
 
 /* Proved: the number of the library's calls, JRI_VERSION where this header is its own. */
@@ -141,6 +170,41 @@ uint32_t jri_decode_lines(const uint8_t *file, size_t file_length, uint32_t firs
  * Tested: answer, marks and report are those of jri_decode; JRI_NO_MEMORY is answered only where memory was refused.
  */
 uint32_t jri_check(const uint8_t *file, size_t file_length, uint8_t *marks, size_t marks_room, struct jri_report *report);
+
+/*
+ * Decodes the next rows of MCUs from `place` on, at most so many, and moves the place behind them. A row of MCUs has 8, 16, 24 or 32
+ * lines, as the picture's factors of sampling say, and the last one fewer: room for 32 lines is room for a row of any. With JRI_ALL
+ * the bytes are all of the file. With JRI_MORE it goes on behind them, and rows that further bytes could change are not given: so
+ * a picture is shown as its file arrives. It takes memory for one row of MCUs, and reads the head again, and of the scan what
+ * stands behind the place, as far as the rows reach.
+ *
+ * Proved: with JRI_SOUND the first bytes of `pixels` are rows->lines lines, what stands behind them is as it was, the place has moved
+ * over rows->rows rows, and both numbers and first_line fit the picture. With JRI_ALL the rows are as many as were asked for, are
+ * left and have room; with JRI_MORE at most so many, and none where the head has not come; and where there are none, the place is as
+ * it was. With any other answer pixels and place are as they were, and with JRI_REFUSED `rows` has the first fault of the bytes, with
+ * JRI_MORE that of every file that begins with them. JRI_NO_LINES is answered only where the picture has no row of MCUs at the place,
+ * as behind its last, or none was asked for; JRI_NO_ROOM only where the pixels have too little room for the next row; with
+ * JRI_NO_MEMORY the refusal is 19. All of this holds of any place, whatever its numbers.
+ *
+ * Tested: where the place is the top, or was given by a call with JRI_MORE on bytes with which these begin, or by any call on these
+ * very bytes, the lines are those that jri_decode gives of these bytes, or, with JRI_MORE, of every file that begins with them: no
+ * line that was shown is taken back. With JRI_MORE each row is given whose MCUs are there, or whose intervals have ended. Where the
+ * place is anything else the lines mean nothing. JRI_NO_MEMORY is answered only where memory was refused.
+ *
+ * JRI_DAMAGED is not answered: that an interval has no decoding is jri_check's to tell.
+ */
+uint32_t jri_decode_rows(const uint8_t *file, size_t file_length, uint32_t more, struct jri_place *place, uint32_t rows,
+                         uint8_t *pixels, size_t pixels_room, struct jri_rows *report);
+
+/*
+ * Passes over the next rows of MCUs from `place` on, at most so many, by reading their bits alone, and moves the place behind them. One
+ * pass gives a place before each so many rows, an index: from there on each thread, and each look at a part, decodes its own rows
+ * only. It takes memory for a few thousand bytes of the scan.
+ *
+ * Proved: as of jri_decode_rows, but for pixels and their room. Tested: the place is the one that jri_decode_rows gives.
+ */
+uint32_t jri_skip_rows(const uint8_t *file, size_t file_length, uint32_t more, struct jri_place *place, uint32_t rows,
+                       struct jri_rows *report);
 
 /*
  * Puts the words for a refusal, by its number and detail, into the first bytes of `text`, as many as it has room for and with no

@@ -4,8 +4,9 @@
  *     trials FILE ..
  *
  * Of each file, which jri accepts, it sees that buffers with more room are left as they are behind the picture, that ones with
- * too little are not touched, that each request for memory may be refused, that lines decoded alone are those of the picture,
- * and that many threads may decode at once; and that pointers may be null where nothing is behind them. It ends with 1 where something else is seen, and says what.
+ * too little are not touched, that each request for memory may be refused, that lines decoded alone are those of the picture, and so
+ * are rows from places, of a file that is there or arrives, that any place may be given, and that many threads may decode at once; and
+ * that pointers may be null where nothing is behind them. It ends with 1 where something else is seen, and says what.
  */
 #define _DEFAULT_SOURCE
 #include "jri.h"
@@ -17,7 +18,7 @@
 #include <string.h>
 #include <sys/mman.h>
 
-enum { MORE = 100, FILL = 7, THREADS = 8, TIMES = 3, OF_TEXT = 64, REFUSALS = 19, PAGE = 65536 };
+enum { MORE = 100, FILL = 7, THREADS = 8, TIMES = 3, OF_TEXT = 64, REFUSALS = 19, PAGE = 65536, FORGED = 200 };
 
 /* As many lines as a whole number of rows of MCUs has, whatever their height: 8, 16, 24 or 32. */
 enum { WHOLE_ROWS = 96 };
@@ -204,11 +205,146 @@ static void try_check(const struct trial *t) {
         refusals += 1;
 }
 
+/* Decodes rows from a place on, into a buffer for so many lines whose other bytes stay, while one request for memory is refused. How many requests there were. */
+static long decode_rows(const struct trial *t, size_t length, uint32_t more, struct jri_place *place, uint32_t rows, size_t lines, long k, struct jri_rows *report) {
+    size_t room = lines * line_of(t);
+    uint8_t *pixels = buffer(room);
+    struct jri_place before = *place;
+    requests = 0;
+    refused = k;
+    uint32_t status = jri_decode_rows(t->file, length, more, place, rows, pixels, room, report);
+    long made = requests;
+    refused = -1;
+    if (status == JRI_SOUND) {
+        size_t size = report->lines * line_of(t);
+        see(size <= room && report->first_line + report->lines <= t->measure.height, t, "rows, too many lines");
+        see(!memcmp(pixels, t->pixels + report->first_line * line_of(t), size), t, "rows, other lines");
+        see(is_filled(pixels + size, room - size), t, "rows, bytes behind them");
+        see(place->row == before.row + report->rows && report->rows <= rows, t, "rows, another place");
+    } else {
+        int is_kept = is_filled(pixels, room) && !memcmp(place, &before, sizeof before) && !report->rows && !report->lines;
+        see(is_kept && (status == JRI_NO_LINES || (status == JRI_NO_MEMORY && made > k && k >= 0)), t, "rows that are none");
+    }
+    release(pixels, room);
+    return made;
+}
+
+/* Decodes all rows of a file that is there, so many at a time. */
+static void rows_by(const struct trial *t, uint32_t rows) {
+    struct jri_place place = {0};
+    struct jri_rows report;
+    uint32_t lines = 0;
+    do {
+        decode_rows(t, t->length, JRI_ALL, &place, rows, WHOLE_ROWS, -1, &report);
+        see(!report.rows || report.first_line == lines, t, "rows, lines left out");
+        lines += report.lines;
+    } while (report.rows);
+    see(lines == t->measure.height, t, "rows, not all lines");
+}
+
+/* Decodes a file that arrives by so many bytes, and its last rows once it is there. */
+static void rows_arriving(const struct trial *t, size_t part) {
+    struct jri_place place = {0};
+    struct jri_rows report;
+    uint32_t lines = 0;
+    for (size_t length = 0; length < t->length + part; length += part) {
+        size_t there = length < t->length ? length : t->length;
+        uint8_t *pixels = buffer(t->measure.pixels);
+        uint32_t status = jri_decode_rows(t->file, there, JRI_MORE, &place, UINT32_MAX, pixels, t->measure.pixels, &report);
+        see(status == JRI_SOUND || status == JRI_NO_LINES, t, "rows so far");
+        see(!memcmp(pixels, t->pixels + report.first_line * line_of(t), report.lines * line_of(t)), t, "rows so far, other lines");
+        see(!report.rows || report.first_line == lines, t, "rows so far, lines left out");
+        lines += report.lines;
+        release(pixels, t->measure.pixels);
+    }
+    if (lines < t->measure.height) {
+        decode_rows(t, t->length, JRI_ALL, &place, UINT32_MAX, t->measure.height, -1, &report);
+        lines += report.lines;
+    }
+    see(lines == t->measure.height, t, "rows so far, not all lines");
+}
+
+/* Makes an index, and decodes each row from its place; where a request is refused, nothing is moved. */
+static void rows_by_index(const struct trial *t) {
+    struct jri_place place = {0}, decoded = {0}, next;
+    struct jri_rows report, passed;
+    while (jri_skip_rows(t->file, t->length, JRI_ALL, (next = place, &next), 1, &passed) == JRI_SOUND) {
+        see(passed.rows == 1, t, "rows passed over");
+        decoded = place;
+        decode_rows(t, t->length, JRI_ALL, &decoded, 1, WHOLE_ROWS, -1, &report);
+        see(!memcmp(&decoded, &next, sizeof next), t, "a place by passing over rows");
+        see(report.lines == passed.lines && report.first_line == passed.first_line, t, "lines passed over");
+        place = next;
+    }
+    see(passed.refusal == 0 && !passed.rows && place.row, t, "rows behind the last");
+    for (long k = 0, made = 1; made > k; k++, refusals++) {
+        struct jri_place from = {0};
+        made = decode_rows(t, t->length, JRI_ALL, &from, 1, WHOLE_ROWS, k, &report);
+        from = (struct jri_place){0};
+        requests = 0;
+        refused = k;
+        uint32_t status = jri_skip_rows(t->file, t->length, JRI_ALL, &from, 1, &passed);
+        refused = -1;
+        see(status == JRI_SOUND || (status == JRI_NO_MEMORY && requests > k && !from.row), t, "a request of rows passed over refused");
+    }
+}
+
+/* Numbers that are no place's, by turns. */
+static uint32_t forged(uint32_t *seed) {
+    static const uint32_t SOME[] = {0, 1, 7, 8, 255, 65535, 32768, 0x7FFFFFFF, 0x80000000, UINT32_MAX};
+    *seed = *seed * 1664525 + 1013904223;
+    return *seed >> 31 ? SOME[(*seed >> 8) % (sizeof SOME / sizeof *SOME)] : *seed >> 8 & 15;
+}
+
+/* Gives places that no call gave, of which some numbers are a true one's: no byte outside of the buffers is read or written. */
+static void forge(const struct trial *t, const struct jri_place *like, uint32_t seed) {
+    struct jri_place place = *like;
+    struct jri_rows report;
+    place.at = forged(&seed) & 1 ? (uint64_t)forged(&seed) << (forged(&seed) & 31) : like->at + forged(&seed);
+    place.bit = forged(&seed);
+    for (int c = 0; c < 3; c++)
+        place.predictions[c] = (int32_t)forged(&seed);
+    place.state = forged(&seed) & 3;
+    if (!(forged(&seed) & 3))
+        place.row = forged(&seed), place.interval = forged(&seed), place.mcu = forged(&seed);
+    size_t room = WHOLE_ROWS * line_of(t);
+    uint8_t *pixels = buffer(room);
+    struct jri_place passed = place;
+    uint32_t more = forged(&seed) & 1;
+    uint32_t status = jri_decode_rows(t->file, t->length, more, &place, 2, pixels, room, &report);
+    see(status == JRI_SOUND || status == JRI_NO_LINES, t, "a forged place");
+    see(is_filled(pixels + report.lines * line_of(t), room - report.lines * line_of(t)), t, "a forged place, bytes behind the lines");
+    see(jri_skip_rows(t->file, t->length, more, &passed, 2, &report) == status && !memcmp(&passed, &place, sizeof place), t, "a forged place passed over");
+    release(pixels, room);
+}
+
+static void try_rows(const struct trial *t) {
+    struct jri_place place = {0};
+    struct jri_rows report;
+    rows_by(t, 1);
+    rows_by(t, 2);
+    rows_by(t, UINT32_MAX);
+    rows_arriving(t, 1 + t->length / 50);
+    rows_by_index(t);
+    for (uint32_t seed = 0; seed < FORGED; seed++) {
+        forge(t, &place, seed + (uint32_t)t->length * FORGED);
+        if (!(seed % 16) && jri_skip_rows(t->file, t->length, JRI_ALL, &place, 1, &report) != JRI_SOUND)
+            place = (struct jri_place){0};
+    }
+    place = (struct jri_place){0};
+    uint8_t *pixels = buffer(line_of(t));
+    see(jri_decode_rows(t->file, t->length, JRI_ALL, &place, 0, pixels, line_of(t), &report) == JRI_NO_LINES, t, "no row asked for");
+    see(jri_decode_rows(t->file, t->length, JRI_ALL, &place, 1, pixels, line_of(t) - 1, &report) == JRI_NO_ROOM, t, "no room for a row");
+    see(is_filled(pixels, line_of(t)) && !place.row, t, "no room for a row, a buffer touched");
+    release(pixels, line_of(t));
+}
+
 static void *work(void *argument) {
     const struct trial *t = argument;
     for (int i = 0; i < TIMES; i++) {
         check(t, t->measure.intervals, t->status, -1, "a check beside other threads");
         decode(t, t->measure.pixels, t->measure.intervals, t->status, -1, "beside other threads");
+        rows_by(t, 3);
     }
     return NULL;
 }
@@ -230,6 +366,11 @@ static void try_null(void) {
     see(jri_decode(NULL, 0, NULL, 0, NULL, 0, &none.report) == JRI_REFUSED && none.report.refusal == 1, &none, "a decoding");
     see(jri_decode_lines(NULL, 0, 0, 1, NULL, 0, &none.report) == JRI_REFUSED && none.report.refusal == 1, &none, "lines");
     see(jri_check(NULL, 0, NULL, 0, &none.report) == JRI_REFUSED && none.report.refusal == 1, &none, "a check");
+    struct jri_place place = {0};
+    struct jri_rows rows;
+    see(jri_decode_rows(NULL, 0, JRI_ALL, &place, 1, NULL, 0, &rows) == JRI_REFUSED && rows.refusal == 1, &none, "rows");
+    see(jri_decode_rows(NULL, 0, JRI_MORE, &place, 1, NULL, 0, &rows) == JRI_SOUND && !rows.rows, &none, "rows of nothing yet");
+    see(jri_skip_rows(NULL, 0, JRI_ALL, &place, 1, &rows) == JRI_REFUSED && rows.refusal == 1, &none, "rows passed over");
     see(jri_refusal_text(1, 0, NULL, 0) == 0 && jri_refusal_text(0, 0, text, OF_TEXT) == 0, &none, "a text");
     see(jri_refusal_text(20, 0, text, OF_TEXT) == 0, &none, "a number past the last");
     see(jri_refusal_text(3, 18446744073709551615u, text, OF_TEXT) == 46, &none, "a long text");
@@ -272,6 +413,7 @@ static void try_file(const char *name) {
     refuse(&t);
     try_lines(&t);
     try_check(&t);
+    try_rows(&t);
     work_at_once(&t);
     release(t.file, t.length);
     release(t.pixels, size);

@@ -17,7 +17,7 @@ use test_files::files::{COLOURED, COLOURED_DAMAGED, MIXED, TEN, file, front};
 use test_files::pictures::picture;
 
 /// The lines of a scan's picture from one on.
-fn lines_from(alloc: Global, scan: &Scan, first: u32) -> Result<Vec<u8>, Fail> {
+pub(crate) fn lines_from(alloc: Global, scan: &Scan, first: u32) -> Result<Vec<u8>, Fail> {
     let head = scan.head();
     let line = shape_of(head).line;
     let mut pixels = Vec::new(alloc);
@@ -89,7 +89,7 @@ fn is_text(text: &[u8], lines: &[u8]) -> bool {
 }
 
 /// How many bytes the header of a picture's text has: three lines.
-fn header_of(text: &[u8]) -> usize {
+pub(crate) fn header_of(text: &[u8]) -> usize {
     let mut ends = 0;
     let mut length = 0;
     for byte in text {
@@ -164,7 +164,7 @@ fn given_of(alloc: Global, bytes: &[u8]) -> Result<Option<Vec<u8>>, Fail> {
 }
 
 /// Whether a whole file's picture begins with these lines; where it is refused there are none.
-fn begins_with(alloc: Global, bytes: &[u8], lines: &[u8]) -> Result<bool, Fail> {
+pub(crate) fn begins_with(alloc: Global, bytes: &[u8], lines: &[u8]) -> Result<bool, Fail> {
     let Ok(head) = read_head(alloc, bytes) else {
         return Ok(lines.is_empty());
     };
@@ -174,7 +174,7 @@ fn begins_with(alloc: Global, bytes: &[u8], lines: &[u8]) -> Result<bool, Fail> 
 }
 
 /// What stands behind the bytes so far in some files that they can become.
-const CONTINUATIONS: [&str; 9] = [
+pub(crate) const CONTINUATIONS: [&str; 9] = [
     "",
     "E",
     "FF",

@@ -28,6 +28,8 @@ mod paint;
 #[cfg(test)]
 mod pictures;
 #[cfg(test)]
+mod places;
+#[cfg(test)]
 mod plain;
 #[cfg(test)]
 mod scan;

@@ -6,19 +6,21 @@
 ghost use Rattle.std.specs.Prelude.{◌≡◌, ◌≢◌, ◌<◌, ◌≤◌, length, drop};
 ghost use Rattle.jri_memory.specs.Checks.{ChecksFile, LacksMarkRoom};
 ghost use Rattle.jri_memory.specs.Calls.{DecodesFile, DecodesLines, TellsFault, IsMeasureOf, IsNumberOfSome, LacksLines, LacksRoom, LacksRoomForLines, TellsNoHead, TellsNoPicture, TellsNoRefusal};
+ghost use Rattle.jri_memory.specs.Rows.{GivesRows, LacksRoomForRow, LacksRows, SkipsRows, TellsFaultSoFar, TellsNothing, are_all};
 
 use jri_memory::{
-    DecodeReport, Measure, check_marks, decode_file, decode_lines, measure_file, refusal_text,
+    DecodeReport, Measure, RowPlace, RowsReport, check_marks, decode_file, decode_file_rows,
+    decode_lines, measure_file, refusal_text, skip_file_rows,
 };
 use std::alloc::Global;
 
 /// The number of these calls: it is changed where one of them is.
-const VERSION: u32 = 2;
+const VERSION: u32 = 3;
 
 /// The number of these calls.
 #[unsafe(no_mangle)]
 pub extern "C" fn jri_version() -> u32
-    ensures { result ≡ 2 }
+    ensures { result ≡ 3 }
 {
     VERSION
 }
@@ -128,4 +130,61 @@ pub extern "C" fn jri_check(
     ensures few { result ≤ 4 }
 {
     check_marks(alloc, file, marks, report)
+}
+
+/// Decodes the next rows of MCUs of a file's picture from a place on, at most so many, into the front of `pixels`, and moves the
+/// place behind them: as many as have room there, and where more of the file is to come (`more` is not 0) as the bytes settle. It
+/// answers 0 then. With 1 for want of memory, 2 where the file is refused, 4 where the next row has no room, and 5 where the picture
+/// has no row at the place, or none is asked for, pixels and place are as they were.
+#[unsafe(no_mangle)]
+pub extern "C" fn jri_decode_rows(
+    alloc: Global,
+    file: &[u8],
+    more: u32,
+    place: &mut RowPlace,
+    rows: u32,
+    pixels: &mut [u8],
+    report: &mut RowsReport,
+) -> u32
+    ensures given { result ≡ 0 → GivesRows file.now (are_all more) rows place.old place.new pixels.old pixels.new report.new }
+    ensures refused { result ≡ 2 → TellsFaultSoFar file.now (are_all more) report.new }
+    ensures memory { result ≡ 1 → report.new.refusal ≡ 19 }
+    ensures room { result ≡ 4 → LacksRoomForRow file.now place.old (length pixels.old) }
+    ensures room_alone { result ≡ 4 → TellsNothing report.new }
+    ensures rows { result ≡ 5 → LacksRows file.now place.old rows }
+    ensures rows_alone { result ≡ 5 → TellsNothing report.new }
+    ensures no_rows { result ≢ 0 → report.new.rows ≡ 0 }
+    ensures pixels { result ≢ 0 → pixels.new ≡ pixels.old }
+    ensures place { result ≢ 0 → place.new ≡ place.old }
+    ensures undamaged { result ≢ 3 }
+    ensures few { result ≤ 5 }
+{
+    decode_file_rows(alloc, file, more, place, rows, pixels, report)
+}
+
+/// Passes over the next rows of MCUs of a file's picture from a place on, at most so many, by reading their bits alone, and moves the
+/// place behind them; where more of the file is to come (`more` is not 0), over those that the bytes settle. It answers 0 then. With
+/// 1 for want of memory, 2 where the file is refused, and 5 where the picture has no row at the place, or none is asked for, the place
+/// is as it was.
+#[unsafe(no_mangle)]
+pub extern "C" fn jri_skip_rows(
+    alloc: Global,
+    file: &[u8],
+    more: u32,
+    place: &mut RowPlace,
+    rows: u32,
+    report: &mut RowsReport,
+) -> u32
+    ensures skipped { result ≡ 0 → SkipsRows file.now (are_all more) rows place.old place.new report.new }
+    ensures refused { result ≡ 2 → TellsFaultSoFar file.now (are_all more) report.new }
+    ensures memory { result ≡ 1 → report.new.refusal ≡ 19 }
+    ensures rows { result ≡ 5 → LacksRows file.now place.old rows }
+    ensures rows_alone { result ≡ 5 → TellsNothing report.new }
+    ensures no_room { result ≢ 4 }
+    ensures no_rows { result ≢ 0 → report.new.rows ≡ 0 }
+    ensures place { result ≢ 0 → place.new ≡ place.old }
+    ensures undamaged { result ≢ 3 }
+    ensures few { result ≤ 5 }
+{
+    skip_file_rows(alloc, file, more, place, rows, report)
 }

@@ -1,4 +1,5 @@
 pub mod Calls
 pub mod Checks
+pub mod Rows
 pub use Rattle.jri_engine.specs.Files
 pub mod Damages

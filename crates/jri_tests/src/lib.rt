@@ -27,6 +27,8 @@ mod program;
 #[cfg(test)]
 mod refused;
 #[cfg(test)]
+mod rows;
+#[cfg(test)]
 mod shares;
 #[cfg(test)]
 mod short_files;

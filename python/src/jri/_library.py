@@ -1,4 +1,4 @@
-"""libjri.so.1 by cffi's ABI mode: the calls and structs of jri.h, version 2."""
+"""libjri.so.1 by cffi's ABI mode: the calls and structs of jri.h, version 3."""
 
 from __future__ import annotations
 
@@ -7,7 +7,7 @@ from typing import Any
 
 import cffi
 
-CALLS = 2
+CALLS = 3
 
 SOUND, NO_MEMORY, REFUSED, DAMAGED, NO_ROOM, NO_LINES = range(6)
 
@@ -16,11 +16,16 @@ ffi.cdef(
     """
     struct jri_measure { uint32_t width, height, kind, components, intervals, refusal; uint64_t pixels, detail; };
     struct jri_report { uint32_t intervals, sound, damaged, blank, ended, found, due, refusal; uint64_t at, detail; };
+    struct jri_place { uint64_t at; uint32_t bit, row, interval, mcu; int32_t predictions[3]; uint32_t state; };
+    struct jri_rows { uint32_t rows, lines, first_line, refusal; uint64_t detail; };
     uint32_t jri_version(void);
     uint32_t jri_measure(const uint8_t *, size_t, struct jri_measure *);
     uint32_t jri_decode(const uint8_t *, size_t, uint8_t *, size_t, uint8_t *, size_t, struct jri_report *);
     uint32_t jri_decode_lines(const uint8_t *, size_t, uint32_t, uint32_t, uint8_t *, size_t, struct jri_report *);
     uint32_t jri_check(const uint8_t *, size_t, uint8_t *, size_t, struct jri_report *);
+    uint32_t jri_decode_rows(const uint8_t *, size_t, uint32_t, struct jri_place *, uint32_t, uint8_t *, size_t,
+                             struct jri_rows *);
+    uint32_t jri_skip_rows(const uint8_t *, size_t, uint32_t, struct jri_place *, uint32_t, struct jri_rows *);
     uint64_t jri_refusal_text(uint32_t, uint64_t, uint8_t *, size_t);
     """
 )

@@ -1,0 +1,3 @@
+pub mod RowLines
+pub mod Slices
+pub mod Passing

@@ -1,0 +1,19 @@
+use Rattle.std.proofs.Common.{◌≡◌, ◌+◌, ◌-◌, ◌*◌, ◌≤◌}
+use Rattle.jr_head.specs.Geometry.{mcus_across}
+use Rattle.jr_rows.specs.Rows.{HasSampleRoom}
+use Rattle.jr_places.specs.Places.{mcus_before}
+use Rattle.jr_places.specs.Cursors.{IsCursor}
+use Rattle.jr_places.proofs.decoding.decode_row.Given as goal
+
+abbrev pub invariant-mcus : goal.invariant-mcus
+invariant-mcus l =
+    let h = l.head in record {
+      cursor : IsCursor h l.cursor;
+      file : l.cursor.file ≡ l.initial.cursor.file;
+      room : HasSampleRoom h l.samples;
+      few : l.done ≤ mcus_across h;
+      at : mcus_before h l.cursor.interval l.cursor.mcu ≡ l.row * mcus_across h + l.done;
+    }
+
+abbrev pub decreases-mcus : goal.decreases-mcus
+decreases-mcus l = mcus_across l.head - l.done

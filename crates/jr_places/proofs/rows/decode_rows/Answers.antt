@@ -1,0 +1,51 @@
+use Rattle.std.proofs.Common.{◌≡◌, ℕ, ◌+◌, ◌-◌, ◌*◌, ◌≤◌, length, drop, sym, ap, subst, ◌∙◌, arith, rules}
+use Rattle.std.proofs.lemmas.Slice.{drop-put_mid}
+use borrow.Rule.Slice.PartMut.{put_mid}
+use Rattle.jr_head.specs.Geometry.{mcus_across}
+use Rattle.jr_paint.specs.Lines.{line_size}
+use Rattle.jr_places.specs.Places.{IsIn, lines_between, mcus_before}
+use Rattle.jr_places.proofs.Passing.{is_kept, kept_more}
+use Rattle.jr_places.proofs.rows.decode_rows.Goals as goal
+
+pub rows-preserved : goal.rows-preserved
+rows-preserved c =
+    let h = c.args.head.now in
+    let p = c.args.place.now in
+    let keep = c.rows.invariant in
+    let row = c.rows.next.row in
+    let new = c.row_place-next.result in
+    let d = c.decode_row.new.cursor in
+    let stays = c.row_place-next.ensures.stays in
+    let next : new.row ≡ row + 1 = c.row_place-next.ensures.row in
+    let is_in : IsIn h d.interval d.mcu = c.decode_row.ensures.cursor.is_in in
+    let interval : new.interval ≡ d.interval = c.row_place-next.ensures.interval in
+    let mcu : new.mcu ≡ d.mcu = c.row_place-next.ensures.mcu in
+    let whole : mcus_before h d.interval d.mcu ≡ new.row * mcus_across h = c.decode_row.ensures.whole c.if-not-decode_row.false ∙ ap (λ (k : ℕ). k * mcus_across h) (sym next) in
+    let from = c.bytes_of_row-from.result.0 in
+    let to = c.bytes_of_row-from.result.1 in
+    let pix = c.paint_row.new.pixels in
+    let old = c.rows.pixels in
+    let from_is : from ≡ lines_between h p.row row * line_size h = c.bytes_of_row-from.ensures.from in
+    let to_is : to ≡ lines_between h p.row new.row * line_size h = c.bytes_of_row-from.ensures.to ∙ ap (λ (k : ℕ). lines_between h p.row k * line_size h) (sym next) in
+    let order : from ≤ to = omega (arith, c.bytes_of_row-from.ensures.count) in
+    let within : to ≤ length old = search (rules, arith, c.bytes_of_row-from.ensures.within) in
+    let long : length pix ≡ to - from = search (rules, arith, c.paint_row.ensures.long, order, within) in
+    let before : drop from old ≡ drop from c.args.pixels.now = ap (λ (k : ℕ). drop k old) from_is ∙ keep.kept ∙ ap (λ (k : ℕ). drop k c.args.pixels.now) (sym from_is) in
+    let behind : drop to (put_mid from (to - from) old pix) ≡ drop to c.args.pixels.now =
+    drop-put_mid from (to - from) old pix to (omega (arith, order)) (omega (arith, order, within)) long ∙ kept_more old c.args.pixels.now from to order before in
+    record {
+      cursor = is_kept h d.interval d.mcu c.row_place-next.new.self stays.window stays.interval stays.mcu is_in;
+      file = stays.file ∙ c.decode_row.ensures.file ∙ keep.file;
+      room = c.paint_row.ensures.samples;
+      at = ap (λ (k : ℕ). mcus_before h k c.row_place-next.new.self.mcu) stays.interval ∙ ap (mcus_before h d.interval) stays.mcu ∙ whole;
+      stands = record {
+        row = omega (arith, next, c.rows-test.true, c.end_of_rows-end.ensures.few);
+        is_in = subst (λ (k : ℕ). IsIn h k new.mcu) (sym interval) (subst (IsIn h d.interval) (sym mcu) is_in);
+        at = ap (λ (k : ℕ). mcus_before h k new.mcu) interval ∙ ap (mcus_before h d.interval) mcu ∙ whole;
+      };
+      on = omega (arith, next, keep.on);
+      few = omega (arith, next, c.rows-test.true);
+      none = λ e. absurd (omega (arith, next, e, keep.on));
+      long = search (rules, arith, keep.long, long, order, within);
+      kept = ap (λ (k : ℕ). drop k (put_mid from (to - from) old pix)) (sym to_is) ∙ behind ∙ ap (λ (k : ℕ). drop k c.args.pixels.now) to_is;
+    }

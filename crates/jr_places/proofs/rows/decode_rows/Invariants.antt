@@ -1,0 +1,26 @@
+use Rattle.std.proofs.Common.{◌≡◌, ◌-◌, ◌*◌, ◌≤◌, length, drop}
+use Rattle.jr_head.specs.Geometry.{mcus_across}
+use Rattle.jr_paint.specs.Lines.{line_size}
+use Rattle.jr_rows.specs.Rows.{HasSampleRoom}
+use Rattle.jr_places.specs.Places.{StandsAt, lines_between, mcus_before}
+use Rattle.jr_places.specs.Cursors.{IsCursor}
+use Rattle.jr_places.proofs.rows.decode_rows.Given as goal
+
+abbrev pub invariant-rows : goal.invariant-rows
+invariant-rows l =
+    let h = l.head in
+    let bytes = lines_between h l.place.row l.next.row * line_size h in record {
+      cursor : IsCursor h l.cursor;
+      file : l.cursor.file ≡ l.file;
+      room : HasSampleRoom h l.samples;
+      at : mcus_before h l.cursor.interval l.cursor.mcu ≡ l.next.row * mcus_across h;
+      stands : StandsAt h l.next;
+      on : l.place.row ≤ l.next.row;
+      few : l.next.row ≤ l.end;
+      none : l.next.row ≡ l.place.row → l.next ≡ l.place;
+      long : length l.pixels ≡ length l.initial.pixels;
+      kept : drop bytes l.pixels ≡ drop bytes l.initial.pixels;
+    }
+
+abbrev pub decreases-rows : goal.decreases-rows
+decreases-rows l = l.end - l.next.row

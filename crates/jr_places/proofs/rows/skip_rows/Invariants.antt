@@ -1,0 +1,20 @@
+use Rattle.std.proofs.Common.{◌≡◌, ◌+◌, ◌-◌, ◌*◌, ◌≤◌}
+use Rattle.jr_head.specs.Geometry.{mcus_across}
+use Rattle.jr_places.specs.Places.{StandsAt, mcus_before}
+use Rattle.jr_places.specs.Cursors.{IsCursor}
+use Rattle.jr_places.proofs.rows.skip_rows.Given as goal
+
+abbrev pub invariant-rows : goal.invariant-rows
+invariant-rows l =
+    let h = l.head in record {
+      cursor : IsCursor h l.cursor;
+      file : l.cursor.file ≡ l.file;
+      at : mcus_before h l.cursor.interval l.cursor.mcu ≡ l.next.row * mcus_across h;
+      stands : StandsAt h l.next;
+      on : l.place.row ≤ l.next.row;
+      few : l.next.row ≤ l.place.row + l.most;
+      none : l.next.row ≡ l.place.row → l.next ≡ l.place;
+    }
+
+abbrev pub decreases-rows : goal.decreases-rows
+decreases-rows l = l.place.row + l.most - l.next.row

@@ -1,0 +1,309 @@
+//! A cursor that goes over the MCUs of a scan, a window of the file's bytes at a time.
+
+ghost use Rattle.std.specs.List.{All};
+ghost use Rattle.std.specs.Prelude.{◌≡◌, ◌≤◌, ◌<◌, ◌+◌, ◌-◌, ◌*◌, ◌^◌, [], length, drop, true, IfOk};
+ghost use Rattle.jr_cut.specs.Cut.{IsStop};
+ghost use Rattle.jr_head.specs.Geometry.{mcus_across, mcus_down, mcus_of};
+ghost use Rattle.jr_head.specs.Intervals.{intervals_of, mcus_in};
+ghost use Rattle.jr_mcu.specs.Block.{IsInDcRange};
+ghost use Rattle.jr_scan.specs.McuReader.{HasRead};
+ghost use Rattle.jr_scan.specs.Run.{run_from};
+ghost use Rattle.jr_places.specs.Places.{IsIn, StandsAt, mcus_before};
+ghost use Rattle.jr_places.specs.Cursors.{HasWindow, IsCursor, Passes, StaysIn, in_window};
+
+use crate::file_bytes::FileBytes;
+use crate::place::RowPlace;
+use crate::unstuffing::{data_length, fill_count, unstuff};
+use jr_base::Memory;
+use jr_cut::{ScanEnd, Stop, stop_at};
+use jr_head::Head;
+use jr_scan::{IntervalRef, McuReader, Place};
+use std::alloc::Global;
+
+/// How many bytes of data a window has: some rows of a small picture, and many times the longest MCU, which has 2082.
+pub(crate) const WINDOW: usize = 16384;
+
+/// How the interval goes on in which a cursor stands.
+#[derive(Clone, Copy, Debug, PartialEq, Eq)]
+pub(crate) enum Reading {
+    /// MCUs may follow.
+    GoesOn,
+    /// No further one is whole.
+    IsStuck,
+    /// The scan has ended before its end, and no further interval has data.
+    HasEnded,
+}
+
+/// Stands between two MCUs of a scan.
+#[derive(Drop)]
+pub(crate) struct ScanCursor<'a> {
+    pub file: FileBytes<'a>,
+    /// The window, and how many bytes of data it has.
+    pub room: Vec<u8>,
+    pub found: usize,
+    /// Where in the file the window's data begin; behind the interval's where none follow.
+    pub at: usize,
+    /// Where in the window the next MCU begins.
+    pub place: Place,
+    pub interval: u32,
+    /// How many MCUs of the interval stand before it.
+    pub mcu: u32,
+    pub reading: Reading,
+}
+
+/// What sixteen bits hold of each of these numbers.
+fn in_range(predictions: [i32; 3]) -> [i32; 3]
+    ensures { All IsInDcRange result }
+{
+    let [a, b, c] = predictions;
+    [
+        a.clamp(-32768, 32767),
+        b.clamp(-32768, 32767),
+        c.clamp(-32768, 32767),
+    ]
+}
+
+/// The number of a reading.
+fn number_of(reading: Reading) -> u32 {
+    match reading {
+        Reading::GoesOn => 0,
+        Reading::IsStuck => 1,
+        Reading::HasEnded => 2,
+    }
+}
+
+/// The reading of a number.
+fn reading_of(number: u32) -> Reading {
+    match number {
+        0 => Reading::GoesOn,
+        1 => Reading::IsStuck,
+        _ => Reading::HasEnded,
+    }
+}
+
+/// The offset of a place in a file whose scan begins at another: no byte before the scan's, and none past the end.
+fn offset_of(place: &RowPlace, scan_at: u64, length: usize) -> usize
+    ensures { result ≤ length }
+{
+    let at = place.at.max(scan_at);
+    if at < length as u64 {
+        at as usize
+    } else {
+        length
+    }
+}
+
+impl<'a> ScanCursor<'a> {
+    /// At a place of a file with this head. It takes memory for a window.
+    pub(crate) fn open(
+        alloc: Global,
+        head: &Head,
+        file: FileBytes<'a>,
+        place: &RowPlace,
+    ) -> Result<ScanCursor<'a>, Memory>
+        requires stands { StandsAt head.now place.now }
+        ensures cursor { IfOk result (IsCursor head.now) }
+        ensures file { IfOk result (λ c. c.file ≡ file.entry) }
+        ensures at { IfOk result (λ c. mcus_before head.now c.interval c.mcu ≡ place.now.row * mcus_across head.now) }
+    {
+        let mut cursor = ScanCursor {
+            file,
+            room: vec![in alloc; 0; WINDOW]?,
+            found: 0,
+            at: 0,
+            place: Place {
+                bit: 0,
+                predictions: in_range(place.predictions),
+            },
+            interval: place.interval,
+            mcu: place.mcu,
+            reading: reading_of(place.state),
+        };
+        let at = offset_of(place, head.scan_at(), file.bytes.len());
+        cursor.go_to(at, u64::from(place.bit));
+        Ok(cursor)
+    }
+
+    /// Puts the window where data begin at an offset of the file, of which so many bits are taken.
+    fn go_to(&mut self, at: usize, bit: u64)
+        requires window { HasWindow self.old }
+        requires at { at ≤ length self.old.file.bytes.now }
+        ensures stays { StaysIn self.old self.new }
+        ensures reading { self.new.reading ≡ self.old.reading }
+        ensures predictions { self.new.place.predictions ≡ self.old.place.predictions }
+    {
+        let spelled = unstuff(&self.file.bytes[at..], &mut self.room);
+        self.at = at;
+        self.found = spelled.found;
+        self.place.bit = bit.min(8 * spelled.found as u64);
+    }
+
+    /// The offset in the file of a byte of the window's data.
+    fn offset(&mut self, byte: usize) -> usize
+        requires window { HasWindow self.old }
+        requires byte { byte ≤ self.old.found }
+        ensures stays { StaysIn self.old self.new }
+        ensures reading { self.new.reading ≡ self.old.reading }
+        ensures place { self.new.place ≡ self.old.place }
+        ensures within { result ≤ length self.old.file.bytes.now }
+    {
+        self.at + unstuff(&self.file.bytes[self.at..], &mut self.room[..byte]).read
+    }
+
+    /// The place before a row of MCUs, where it stands.
+    pub(crate) fn row_place(&mut self, row: u32) -> RowPlace
+        requires { HasWindow self.old }
+        ensures stays { StaysIn self.old self.new }
+        ensures row { result.row ≡ row }
+        ensures interval { result.interval ≡ self.old.interval }
+        ensures mcu { result.mcu ≡ self.old.mcu }
+    {
+        RowPlace {
+            at: self.offset((self.place.bit / 8) as usize) as u64,
+            bit: (self.place.bit % 8) as u32,
+            row,
+            interval: self.interval,
+            mcu: self.mcu,
+            predictions: self.place.predictions,
+            state: number_of(self.reading),
+        }
+    }
+
+    /// Moves the window to the next MCU where the interval's data may go on behind it. False where it does not move.
+    pub(crate) fn slide(&mut self) -> bool
+        requires { HasWindow self.old }
+        ensures { StaysIn self.old self.new }
+    {
+        if self.found < self.room.len() || self.place.bit < 8 {
+            return false;
+        }
+        let at = self.offset((self.place.bit / 8) as usize);
+        self.go_to(at, self.place.bit % 8);
+        true
+    }
+
+    /// A reader of the interval's further MCUs in the window.
+    pub(crate) fn reader<'s>(&'s self, head: &'s Head) -> McuReader<'s>
+        requires { IsCursor head.now self.now }
+        ensures run { result.run ≡ run_from (in_window head.now self.now) self.now.place (mcus_in head.now self.now.interval - self.now.mcu) }
+        ensures mcu { result.mcu ≡ 0 }
+        ensures read { HasRead result [] }
+    {
+        let left = head.mcus_in(self.interval) - self.mcu;
+        let interval = IntervalRef::of(head, &self.room[..self.found], self.interval, left);
+        McuReader::at(interval, self.place, left)
+    }
+
+    /// So many further MCUs are read, up to that place of the window.
+    pub(crate) fn pass(&mut self, mcus: u32, place: Place)
+        requires { self.old.mcu + mcus < 2 ^ 32 }
+        ensures { self.new ≡ record self.old { mcu = self.old.mcu + mcus; place = place } }
+    {
+        self.mcu += mcus;
+        self.place = place;
+    }
+
+    /// The offset in the file behind the interval's data.
+    fn end_of_data(&self) -> usize
+        requires { HasWindow self.now }
+        ensures within { result ≤ length self.now.file.bytes.now }
+        ensures stop { IsStop (drop result self.now.file.bytes.now) }
+    {
+        self.at + data_length(&self.file.bytes[self.at..])
+    }
+
+    /// Goes to an offset of the file behind the interval's data.
+    fn leave(&mut self, at: usize, reading: Reading)
+        requires window { HasWindow self.old }
+        requires at { at ≤ length self.old.file.bytes.now }
+        ensures { StaysIn self.old self.new }
+    {
+        self.at = at;
+        self.found = 0;
+        self.place.bit = 0;
+        self.reading = reading;
+    }
+
+    /// No further MCU of the interval is whole. False where its end has not come: its last MCUs are settled once it has.
+    pub(crate) fn give_up(&mut self) -> bool
+        requires { HasWindow self.old }
+        ensures stays { StaysIn self.old self.new }
+        ensures all { self.old.file.are_all ≡ true → result ≡ true }
+    {
+        if self.reading != Reading::GoesOn {
+            return true;
+        }
+        let end = self.end_of_data();
+        let marker = end + fill_count(&self.file.bytes[end..]);
+        if marker == self.file.bytes.len() && !self.file.are_all {
+            return false;
+        }
+        self.leave(end, Reading::IsStuck);
+        true
+    }
+
+    /// Goes to what follows the interval: the next one's data, or the scan's end. False where neither has come.
+    fn leave_interval(&mut self, head: &Head) -> bool
+        requires window { HasWindow self.old }
+        requires number { self.old.interval < intervals_of head.now }
+        ensures stays { StaysIn self.old self.new }
+        ensures all { self.old.file.are_all ≡ true → result ≡ true }
+    {
+        let end = self.end_of_data();
+        let tail = &self.file.bytes[end..];
+        let fill = fill_count(tail);
+        match stop_at(tail, fill, end as u64, self.interval, head.intervals()) {
+            Stop::Restart(marker) => {
+                self.leave(end, Reading::GoesOn);
+                self.go_to(end + marker, 0);
+            }
+            Stop::End(ScanEnd::EndOfFile) if !self.file.are_all => return false,
+            Stop::End(_) => self.leave(end, Reading::HasEnded),
+        }
+        true
+    }
+
+    /// The same, where it has not gone to the scan's end before.
+    fn find_end(&mut self, head: &Head) -> bool
+        requires window { HasWindow self.old }
+        requires number { self.old.interval < intervals_of head.now }
+        ensures stays { StaysIn self.old self.new }
+        ensures all { self.old.file.are_all ≡ true → result ≡ true }
+    {
+        self.reading == Reading::HasEnded || self.leave_interval(head)
+    }
+
+    /// Stands before the first MCU of the next interval, to whose data it has gone.
+    fn begin_next(&mut self)
+        requires window { HasWindow self.old }
+        requires number { self.old.interval + 1 < 2 ^ 32 }
+        ensures window { HasWindow self.new }
+        ensures file { self.new.file ≡ self.old.file }
+        ensures interval { self.new.interval ≡ self.old.interval + 1 }
+        ensures mcu { self.new.mcu ≡ 0 }
+    {
+        self.interval += 1;
+        self.mcu = 0;
+        self.place.predictions = [0; 3];
+    }
+
+    /// Goes on to the next interval where the MCUs of this one are all passed. False where its end has not come.
+    pub(crate) fn advance(&mut self, head: &Head) -> bool
+        requires cursor { IsCursor head.now self.old }
+        requires more { mcus_before head.now self.old.interval self.old.mcu < mcus_of head.now }
+        ensures passes { Passes head.now self.old self.new 0 }
+        ensures some { result ≡ true → self.new.mcu < mcus_in head.now self.new.interval }
+        ensures all { self.old.file.are_all ≡ true → result ≡ true }
+    {
+        // By its contract there is room for the numbers of all intervals.
+        let _most = head.intervals();
+        if self.mcu < head.mcus_in(self.interval) {
+            return true;
+        }
+        if !self.find_end(head) {
+            return false;
+        }
+        self.begin_next();
+        true
+    }
+}

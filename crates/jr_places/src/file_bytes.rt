@@ -1,0 +1,9 @@
+//! The bytes of a file that are there.
+
+/// The bytes of a file that are there, and whether they are all.
+#[derive(Clone, Copy)]
+pub struct FileBytes<'a> {
+    pub bytes: &'a [u8],
+    /// Whether the file ends behind them. Else it goes on, and rows that further bytes could change are not given.
+    pub are_all: bool,
+}

@@ -1,0 +1,95 @@
+//! Bytes of a scan, and the data that they spell (T.81, B.1.1.5 and F.1.2.3).
+
+ghost use Rattle.std.specs.Prelude.{◌≡◌, ◌≢◌, ◌<◌, ◌≤◌, ◌+◌, ℕ, List, length, take, drop, replicate, slice_index, min};
+ghost use Rattle.jr_base.specs.declared.marker.TheConstants.{PREFIX};
+ghost use Rattle.jr_cut.specs.Cut.{IsRaw, IsStop};
+
+use jr_base::marker::PREFIX;
+use memchr::memchr;
+
+/// Bytes that are read, and the bytes of data that they spell.
+#[derive(Clone, Copy)]
+pub(crate) struct Spelled {
+    pub read: usize,
+    pub found: usize,
+}
+
+/// How many bytes at the front are FF.
+pub(crate) fn fill_count(bytes: &[u8]) -> usize
+    ensures within { result ≤ length bytes.now }
+    ensures full { take result bytes.now ≡ replicate result PREFIX }
+    ensures next { result < length bytes.now → slice_index bytes.now result ≢ PREFIX }
+{
+    let mut n = 0;
+    for byte in bytes {
+        if *byte != PREFIX {
+            return n;
+        }
+        n += 1;
+    }
+    n
+}
+
+/// How many bytes at the front are not FF.
+fn plain_count(bytes: &[u8]) -> usize
+    ensures within { result ≤ length bytes.now }
+    ensures plain { (k : ℕ) → k < result → slice_index bytes.now k ≢ PREFIX }
+    ensures next { result < length bytes.now → slice_index bytes.now result ≡ PREFIX }
+{
+    match memchr(PREFIX, bytes) {
+        Some(at) => at,
+        None => bytes.len(),
+    }
+}
+
+/// How many bytes at the front spell data, up to a marker or to the end.
+pub(crate) fn data_length(bytes: &[u8]) -> usize
+    ensures within { result ≤ length bytes.now }
+    ensures spells { (spelled : List ℕ) × IsRaw (take result bytes.now) spelled }
+    ensures stop { IsStop (drop result bytes.now) }
+{
+    let mut at: usize = 0;
+    'bytes: loop {
+        let end = at + plain_count(&bytes[at..]);
+        let next = end + fill_count(&bytes[end..]);
+        if next >= bytes.len() || bytes[next] != 0 {
+            return end;
+        }
+        at = next + 1;
+    }
+}
+
+/// Copies the plain bytes at the front of `raw` to that of `room`, as many as have room: answers how many.
+fn copy_plain(raw: &[u8], room: &mut [u8]) -> usize
+    ensures within { result ≤ length raw.now }
+    ensures fits { result ≤ length room.old }
+    ensures long { length room.new ≡ length room.old }
+{
+    let most = raw.len().min(room.len());
+    let count = plain_count(&raw[..most]);
+    room[..count].copy_from_slice(&raw[..count]);
+    count
+}
+
+/// Puts the data that the bytes at the front of `raw` spell into the front of `room`, up to a marker or the end, or until the room is
+/// full.
+pub(crate) fn unstuff(raw: &[u8], room: &mut [u8]) -> Spelled
+    ensures within { result.read ≤ length raw.now }
+    ensures fits { result.found ≤ length room.old }
+    ensures long { length room.new ≡ length room.old }
+{
+    let mut read: usize = 0;
+    let mut found: usize = 0;
+    'bytes: loop {
+        let count = copy_plain(&raw[read..], &mut room[found..]);
+        read += count;
+        found += count;
+        let next = read + fill_count(&raw[read..]);
+        if found == room.len() || next >= raw.len() || raw[next] != 0 {
+            return Spelled { read, found };
+        }
+        room[found] = PREFIX;
+        found += 1;
+        read = next + 1;
+    }
+}

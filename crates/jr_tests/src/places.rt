@@ -1,0 +1,340 @@
+//! Rows of MCUs from places of a file on: one after the other, from an index, of a file that is cut at any byte and goes on, and from
+//! places that no call has given.
+
+use crate::arrival::{CONTINUATIONS, begins_with, header_of, lines_from};
+use jr_head::{Head, read_head};
+use jr_places::{FileBytes, RowPlace, decode_rows, lines_before, skip_rows, stands_at};
+use jr_rows::shape_of;
+use jr_scan::Scan;
+use std::alloc::Global;
+use std::process::Abort;
+use std::test::Fail;
+use test_files::cases;
+use test_files::cases::Case;
+use test_files::files::{COLOURED, COLOURED_DAMAGED, MIXED, TEN, file, front};
+use test_files::pictures::picture;
+
+/// The top of a picture.
+const TOP: RowPlace = RowPlace {
+    at: 0,
+    bit: 0,
+    row: 0,
+    interval: 0,
+    mcu: 0,
+    predictions: [0; 3],
+    state: 0,
+};
+
+/// All bytes of a file.
+fn all(bytes: &[u8]) -> FileBytes<'_> {
+    FileBytes {
+        bytes,
+        are_all: true,
+    }
+}
+
+/// Bytes of a file that goes on behind them.
+fn so_far(bytes: &[u8]) -> FileBytes<'_> {
+    FileBytes {
+        bytes,
+        are_all: false,
+    }
+}
+
+/// Puts the lines of the next rows behind those that are there, at most so many rows: the place behind them.
+fn give(
+    alloc: Global,
+    head: &Head,
+    bytes: FileBytes<'_>,
+    place: &RowPlace,
+    rows: u32,
+    shown: &mut Vec<u8>,
+) -> Result<RowPlace, Fail> {
+    if !stands_at(head, place) {
+        return Err(Fail::from("no such place"));
+    }
+    let shape = shape_of(head);
+    let lines = u32::saturating_mul(shape.deep, u32::min(rows, shape.down));
+    let mut room = vec![in alloc; 0; usize::saturating_mul(lines as usize, shape.line)]?;
+    let next = decode_rows(alloc, head, bytes, place, rows, &mut room)?;
+    let lines = lines_before(head, next.row).saturating_sub(lines_before(head, place.row));
+    let given = room.get(..usize::saturating_mul(lines as usize, shape.line));
+    shown.extend_from_slice(given.ok_or("too many lines")?)?;
+    Ok(next)
+}
+
+/// Whether a picture's text ends with these lines, and has its header before them.
+fn is_text(text: &[u8], lines: &[u8]) -> bool {
+    text.ends_with(lines) && text.len() == usize::saturating_add(lines.len(), header_of(text))
+}
+
+/// The lines of a file, so many rows at a time.
+fn by_rows(alloc: Global, bytes: &[u8], rows: u32) -> Result<Vec<u8>, Fail> {
+    let head = read_head(alloc, bytes)?;
+    let mut shown = Vec::new(alloc);
+    let mut place = TOP;
+    for _ in 0..shape_of(&head).down {
+        place = give(alloc, &head, all(bytes), &place, rows, &mut shown)?;
+    }
+    Ok(shown)
+}
+
+/// The places before each row of a file, by one pass over it.
+fn index(alloc: Global, bytes: &[u8], head: &Head) -> Result<Vec<RowPlace>, Fail> {
+    let mut places = Vec::new(alloc);
+    let mut place = TOP;
+    for _ in 0..shape_of(head).down {
+        places.push(place)?;
+        if !stands_at(head, &place) {
+            return Err(Fail::from("no such place"));
+        }
+        place = skip_rows(alloc, head, all(bytes), &place, 1)?;
+    }
+    Ok(places)
+}
+
+/// The lines of a file, each row from its place.
+fn by_index(alloc: Global, bytes: &[u8]) -> Result<Vec<u8>, Fail> {
+    let head = read_head(alloc, bytes)?;
+    let mut shown = Vec::new(alloc);
+    for place in index(alloc, bytes, &head)?.iter() {
+        let _next = give(alloc, &head, all(bytes), place, 1, &mut shown)?;
+    }
+    Ok(shown)
+}
+
+/// The head of a file, so far as it has come.
+fn head_so_far(alloc: Global, bytes: &[u8]) -> Option<Head> {
+    read_head(alloc, bytes).ok()
+}
+
+/// The lines of a file that is decoded as far as they are settled each time that so many bytes have come, and to its end then.
+fn in_parts(alloc: Global, bytes: &[u8], part: usize) -> Result<Vec<u8>, Fail> {
+    let mut shown = Vec::new(alloc);
+    let mut place = TOP;
+    let mut length: usize = 0;
+    for _ in 0..bytes.len() {
+        length = usize::saturating_add(length, part);
+        let come = front(bytes, length);
+        if let Some(head) = head_so_far(alloc, come) {
+            place = give(alloc, &head, so_far(come), &place, u32::MAX, &mut shown)?;
+        }
+    }
+    let head = read_head(alloc, bytes)?;
+    let _end = give(alloc, &head, all(bytes), &place, u32::MAX, &mut shown)?;
+    Ok(shown)
+}
+
+/// Whether the lines of a file are its picture's, in each way in which they are asked for.
+fn is_shown(alloc: Global, bytes: &[u8], text: &[u8]) -> Result<bool, Fail> {
+    for rows in [1, 2, u32::MAX] {
+        if !is_text(text, by_rows(alloc, bytes, rows)?.as_slice()) {
+            return Ok(false);
+        }
+    }
+    for part in [1, 2, 7] {
+        if !is_text(text, in_parts(alloc, bytes, part)?.as_slice()) {
+            return Ok(false);
+        }
+    }
+    Ok(is_text(text, by_index(alloc, bytes)?.as_slice()))
+}
+
+fn check<R: AllocGlobal + Abort>(rt: &R, cases: &[Case]) -> Result<(), Fail> {
+    for case in cases {
+        let bytes = file(rt.alloc(), case.file)?;
+        let expected = picture(rt.alloc(), case.picture)?;
+        let is_right = is_shown(rt.alloc(), bytes.as_slice(), expected.as_slice())?;
+        assert!(rt; is_right, "{}", case.file);
+    }
+    Ok(())
+}
+
+#[test]
+fn gives_grey_blocks_by_rows(rt: HostRuntime) -> Result<(), Fail> {
+    check(&rt, &cases::grey_blocks())
+}
+
+#[test]
+fn gives_spellings_and_tables_by_rows(rt: HostRuntime) -> Result<(), Fail> {
+    check(&rt, &cases::spellings_and_tables())
+}
+
+#[test]
+fn gives_restart_intervals_by_rows(rt: HostRuntime) -> Result<(), Fail> {
+    check(&rt, &cases::restart_intervals())
+}
+
+#[test]
+fn gives_ends_of_scans_by_rows(rt: HostRuntime) -> Result<(), Fail> {
+    check(&rt, &cases::ends_of_scans())
+}
+
+#[test]
+fn gives_three_components_by_rows(rt: HostRuntime) -> Result<(), Fail> {
+    check(&rt, &cases::three_components())
+}
+
+/// The lines that a file's first bytes settle; none where its head has not come.
+fn given_of(alloc: Global, bytes: &[u8]) -> Result<Vec<u8>, Fail> {
+    let mut shown = Vec::new(alloc);
+    if let Some(head) = head_so_far(alloc, bytes) {
+        let _next = give(alloc, &head, so_far(bytes), &TOP, u32::MAX, &mut shown)?;
+    }
+    Ok(shown)
+}
+
+/// What is given of each front of a file is shown by each continuation.
+fn check_continuations<R: AllocGlobal + Abort>(rt: &R, words: &str) -> Result<(), Fail> {
+    let alloc = rt.alloc();
+    let whole = file(alloc, words)?;
+    for length in 0..whole.len() {
+        let come = front(whole.as_slice(), length);
+        let lines = given_of(alloc, come)?;
+        for more in CONTINUATIONS {
+            let mut longer = come.to_vec(alloc)?;
+            longer.extend_from_slice(file(alloc, more)?.as_slice())?;
+            assert!(rt;
+                begins_with(alloc, longer.as_slice(), lines.as_slice())?,
+                "{words} at {length} and {more}"
+            );
+        }
+    }
+    Ok(())
+}
+
+#[test]
+fn each_continuation_shows_the_rows_that_were_given(rt: HostRuntime) -> Result<(), Fail> {
+    check_continuations(&rt, "S Q F:0018:0008 D A I C 63 FF D0 E0 FF D1 63 E")?;
+    check_continuations(&rt, "S Q F:0018:0010 D A I:0002 C 61 FF D0 E0 FF D1 63 E")?;
+    check_continuations(&rt, "S Q F:0010:0018 D A C 61 8F 63 1F FF 00 E")?;
+    check_continuations(&rt, COLOURED)?;
+    check_continuations(&rt, COLOURED_DAMAGED)?;
+    check_continuations(&rt, MIXED)?;
+    check_continuations(&rt, TEN)
+}
+
+/// What has come of a file of 8 by 24 pixels, and how many lines are settled then: with one interval, where 011000 is a block and so
+/// is 000, and with three.
+const GIVEN: [(&str, &str, usize); 16] = [
+    ("", "", 0),
+    ("", "63", 8),
+    ("", "61 86", 16),
+    ("", "61 86 3F", 24),
+    // More bytes can't mend these bits; but only the interval's end tells it.
+    ("", "E0", 0),
+    ("", "E0 FF FF", 0),
+    ("", "E0 FF D9", 24),
+    ("", "63 FF D0", 24),
+    // FF bytes at the end belong to nothing yet. The third block has eleven ones.
+    ("", "02 FF FF", 16),
+    ("", "02 FF FF 00", 16),
+    ("", "02 FF FF 00 E0", 24),
+    ("I", "63 FF D0 63", 16),
+    // A marker ends an interval, also where nothing is behind it.
+    ("I", "E0 FF", 0),
+    ("I", "E0 FF D0", 8),
+    ("I", "E0 FF D0 FF D1", 16),
+    ("I", "E0 FF D1", 24),
+];
+
+#[test]
+fn gives_rows_as_soon_as_they_are_settled(rt: HostRuntime) -> Result<(), Fail> {
+    let alloc = rt.alloc();
+    for (restart, words, count) in GIVEN {
+        let mut bytes = file(alloc, "S Q F:0018:0008 D:00:03:0B A")?;
+        bytes.extend_from_slice(file(alloc, restart)?.as_slice())?;
+        bytes.extend_from_slice(file(alloc, "C")?.as_slice())?;
+        bytes.extend_from_slice(file(alloc, words)?.as_slice())?;
+        let lines = given_of(alloc, bytes.as_slice())?;
+        assert!(rt;
+            lines.len() == usize::saturating_mul(8, count),
+            "{restart} {words}: {}",
+            lines.len()
+        );
+    }
+    Ok(())
+}
+
+/// Bits that are put into bytes of a scan, an FF by FF and 00.
+#[derive(Drop)]
+struct ScanBits {
+    byte: u32,
+    count: u32,
+}
+
+impl ScanBits {
+    /// Puts a bit.
+    fn put(&mut self, bit: u32, bytes: &mut Vec<u8>) -> Result<(), Fail> {
+        self.byte = u32::wrapping_mul(self.byte, 2).wrapping_add(bit % 2) % 256;
+        self.count = u32::wrapping_add(self.count, 1) % 8;
+        if self.count == 0 {
+            bytes.push(self.byte as u8)?;
+            if self.byte == 255 {
+                bytes.push(0)?;
+            }
+        }
+        Ok(())
+    }
+}
+
+/// A file of 35 rows of ten data units, each of two bits and 63 codes of twelve: 33,162 bytes of data.
+fn dense(alloc: Global) -> Result<Vec<u8>, Fail> {
+    let mut bytes = file(alloc, "S Q F:0118:0050 D:00:03:05 A2:00:0A C")?;
+    let mut bits = ScanBits { byte: 0, count: 0 };
+    let mut seed: u32 = 1;
+    for _ in 0..350 {
+        bits.put(0, &mut bytes)?;
+        bits.put(0, &mut bytes)?;
+        for _ in 0..63 {
+            bits.put(1, &mut bytes)?;
+            bits.put(0, &mut bytes)?;
+            for _ in 0..10 {
+                seed = u32::wrapping_mul(seed, 1_664_525).wrapping_add(1_013_904_223);
+                bits.put(seed >> 31, &mut bytes)?;
+            }
+        }
+    }
+    Ok(bytes)
+}
+
+/// The data have a window's length twice over, and so the rows are read from several.
+#[test]
+fn gives_rows_of_many_bytes(rt: HostRuntime) -> Result<(), Fail> {
+    let alloc = rt.alloc();
+    let bytes = dense(alloc)?;
+    let scan = Scan::cut(alloc, read_head(alloc, &bytes)?, &bytes)?;
+    let lines = lines_from(alloc, &scan, 0)?;
+    assert!(rt; by_rows(alloc, &bytes, u32::MAX)?.as_slice() == lines.as_slice());
+    assert!(rt; by_index(alloc, &bytes)?.as_slice() == lines.as_slice());
+    assert!(rt; in_parts(alloc, &bytes, 5000)?.as_slice() == lines.as_slice());
+    Ok(())
+}
+
+#[test]
+fn knows_no_place_of_another_picture(rt: HostRuntime) -> Result<(), Fail> {
+    let head = read_head(rt.alloc(), file(rt.alloc(), TEN)?.as_slice())?;
+    // Ten intervals of one MCU, in one row.
+    let end = RowPlace {
+        row: 1,
+        interval: 9,
+        mcu: 1,
+        ..TOP
+    };
+    assert!(rt; stands_at(&head, &TOP) && stands_at(&head, &end));
+    for place in [
+        RowPlace { row: 1, ..TOP },
+        RowPlace { mcu: 1, ..TOP },
+        RowPlace { interval: 1, ..TOP },
+        RowPlace { row: 2, ..end },
+        RowPlace { mcu: 2, ..end },
+        RowPlace {
+            interval: 10,
+            mcu: 0,
+            ..end
+        },
+    ] {
+        assert!(rt; !stands_at(&head, &place), "{place:?}");
+    }
+    Ok(())
+}

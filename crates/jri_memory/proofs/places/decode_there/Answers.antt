@@ -1,0 +1,29 @@
+use Rattle.std.proofs.Common.{◌≡◌, ℕ, ◌+◌, ◌*◌, drop, inr, sym, ap, ◌∙◌, arith}
+use Rattle.jr_paint.specs.Lines.{line_size}
+use Rattle.jri_memory.proofs.places.decode_there.Goals as goal
+
+pub returns-clause-given : goal.returns-clause-given
+returns-clause-given c =
+    let h = c.args.head.now in
+    let there = c.has_row_at.ensures.there c.if-not-has_row_at.false in
+    let told = c.in-Ok.ensures in
+    let report = c.of-report.ensures in
+    inr (record {
+      h = h;
+      there = there;
+      moves = record {
+        head = c.requires;
+        from = there.stands;
+        to = told.stands;
+        row = sym report.rows;
+        few = omega (arith, report.rows, told.few);
+        whole = λ all. let rows = told.all all in omega (arith, report.rows, rows);
+        none = λ zero. told.none (omega (arith, report.rows, zero));
+        lines = report.lines;
+        first = report.first;
+        refusal = report.refusal;
+        detail = report.detail;
+      };
+      long = told.long;
+      behind = ap (λ (k : ℕ). drop (k * line_size h) c.decode_rows.new.pixels) report.lines ∙ told.kept ∙ ap (λ (k : ℕ). drop (k * line_size h) c.args.pixels.now) (sym report.lines);
+    })

@@ -1,0 +1,115 @@
+-- What the calls give that decode or pass over rows of MCUs from a place on.
+use Rattle.std.specs.Prelude.{◌≡◌, ◌≢◌, ℕ, ◌-◌, ◌+◌, ◌*◌, ◌<◌, ◌≤◌, ◌⊎◌, ◌==◌, min, Bool, true, false, List, length, drop}
+use Rattle.jr_segments.specs.declared.refusal.Refusal.{Refusal}
+use Rattle.jr_segments.specs.declared.refusal.Refusal.TheVariants.{Memory}
+use Rattle.jr_segments.specs.Refusal.{number_of}
+use Rattle.jr_head.specs.HeadValue.{HeadValue}
+use Rattle.jr_head.specs.Heads.{HeadOf, RefusalOf}
+use Rattle.jr_head.specs.Geometry.{mcus_down}
+use Rattle.jr_paint.specs.Lines.{line_size}
+use Rattle.jr_arrival.specs.Arrival.{IsFinalFault}
+use Rattle.jr_arrival.specs.Settled.{WantsMore}
+use Rattle.jr_places.specs.declared.place.RowPlace.{RowPlace}
+use Rattle.jr_places.specs.Places.{StandsAt, lines_before, lines_between, rows_to_give, rows_with_room}
+use Rattle.jri_memory.specs.Calls.{detail_of}
+use Rattle.jri_memory.specs.declared.places.PlaceError.{PlaceError}
+use Rattle.jri_memory.specs.declared.places.PlaceError.TheVariants.{Refused, NoRows, NoRoom}
+use Rattle.jri_memory.specs.declared.rows_report.RowsReport.{RowsReport}
+
+-- whether bytes are all of their file, by the number that a caller gives
+abbrev pub are_all : ℕ → Bool
+are_all more = more == 0
+
+-- a report of no rows and no refusal
+pub record TellsNothing (r : RowsReport) : Type 0 where
+  pub rows : r.rows ≡ 0
+  pub lines : r.lines ≡ 0
+  pub first : r.first_line ≡ 0
+  pub refusal : r.refusal ≡ 0
+  pub detail : r.detail ≡ 0
+
+-- the bytes' first fault; where more bytes may come it is that of each longer file
+pub record IsFaultSoFar (bytes : List ℕ) (all : Bool) (fault : Refusal) : Type 0 where
+  pub is : RefusalOf bytes fault
+  pub stays : all ≡ false → IsFinalFault bytes fault
+
+-- it has this number, and tells this beside it
+pub record TellsFaultSoFar (bytes : List ℕ) (all : Bool) (r : RowsReport) : Type 0 where
+  pub fault : Refusal
+  pub is : IsFaultSoFar bytes all fault
+  pub number_is : r.refusal ≡ number_of fault
+  pub detail_is : r.detail ≡ detail_of fault
+
+-- the picture of this head has a row of MCUs at the place, and some are asked for
+pub record HasRowAt (h : HeadValue) (p : RowPlace) (rows : ℕ) : Type 0 where
+  pub stands : StandsAt h p
+  pub row : p.row < mcus_down h
+  pub some : 0 < rows
+
+-- the place has moved on over the next rows of MCUs, at most so many: over as many where all bytes are there, and else over those
+-- that are settled. The report tells how many they are, and their lines
+pub record MovesOn (bytes : List ℕ) (all : Bool) (most : ℕ) (old new : RowPlace) (h : HeadValue) (r : RowsReport) : Type 0 where
+  pub head : HeadOf bytes h
+  pub from : StandsAt h old
+  pub to : StandsAt h new
+  pub row : new.row ≡ old.row + r.rows
+  pub few : r.rows ≤ most
+  pub whole : all ≡ true → r.rows ≡ most
+  pub none : r.rows ≡ 0 → new ≡ old
+  pub lines : r.lines ≡ lines_between h old.row new.row
+  pub first : r.first_line ≡ lines_before h old.row
+  pub refusal : r.refusal ≡ 0
+  pub detail : r.detail ≡ 0
+
+-- more bytes may come and are wanted for a head: nothing is told, and the place is as it was
+pub record AwaitsHead (bytes : List ℕ) (all : Bool) (old new : RowPlace) (r : RowsReport) : Type 0 where
+  pub more : all ≡ false
+  pub wanted : WantsMore bytes
+  pub place : new ≡ old
+  pub told : TellsNothing r
+
+-- rows are decoded, as many as were asked for and have room in the pixels; what stands behind their lines is as it was
+pub record DecodesRows (bytes : List ℕ) (all : Bool) (rows : ℕ) (old new : RowPlace) (old_pixels pixels : List ℕ) (r : RowsReport) : Type 0 where
+  pub h : HeadValue
+  pub there : HasRowAt h old rows
+  pub moves : MovesOn bytes all (rows_to_give h old.row rows (length old_pixels)) old new h r
+  pub long : length pixels ≡ length old_pixels
+  pub behind : drop (r.lines * line_size h) pixels ≡ drop (r.lines * line_size h) old_pixels
+
+abbrev pub GivesRows : (bytes : List ℕ) (all : Bool) (rows : ℕ) (old new : RowPlace) (old_pixels pixels : List ℕ) → RowsReport → Type 0
+GivesRows bytes all rows old new old_pixels pixels r = (AwaitsHead bytes all old new r × (pixels ≡ old_pixels)) ⊎ DecodesRows bytes all rows old new old_pixels pixels r
+
+-- rows are passed over, as many as were asked for
+pub record PassesRows (bytes : List ℕ) (all : Bool) (rows : ℕ) (old new : RowPlace) (r : RowsReport) : Type 0 where
+  pub h : HeadValue
+  pub there : HasRowAt h old rows
+  pub moves : MovesOn bytes all (min rows (mcus_down h - old.row)) old new h r
+
+abbrev pub SkipsRows : (bytes : List ℕ) (all : Bool) (rows : ℕ) (old new : RowPlace) → RowsReport → Type 0
+SkipsRows bytes all rows old new r = AwaitsHead bytes all old new r ⊎ PassesRows bytes all rows old new r
+
+-- the bytes' picture has no row of MCUs at the place, or none is asked for
+pub record LacksRows (bytes : List ℕ) (p : RowPlace) (rows : ℕ) : Type 0 where
+  pub h : HeadValue
+  pub is : HeadOf bytes h
+  pub none : HasRowAt h p rows → ⊥
+
+-- so many bytes have no room for the lines of the row of MCUs at the place
+pub record LacksRoomForRow (bytes : List ℕ) (p : RowPlace) (room : ℕ) : Type 0 where
+  pub h : HeadValue
+  pub is : HeadOf bytes h
+  pub less : rows_with_room h p.row room ≡ 0
+
+-- why a place is not moved
+abbrev pub IsWhy : (bytes : List ℕ) (all : Bool) (p : RowPlace) (rows room : ℕ) → PlaceError → Type 0
+IsWhy bytes all p rows room (Refused fault) = fault ≢ Memory → IsFaultSoFar bytes all fault
+IsWhy bytes all p rows room NoRows = LacksRows bytes p rows
+IsWhy bytes all p rows room NoRoom = LacksRoomForRow bytes p room
+
+-- it is not moved since the bytes are refused, and the report tells of that
+pub record IsRefusedPlace (unmoved : PlaceError) (r : RowsReport) : Type 0 where
+  pub fault : Refusal
+  pub is : unmoved ≡ Refused fault
+  pub other : fault ≢ Memory
+  pub number_is : r.refusal ≡ number_of fault
+  pub detail_is : r.detail ≡ detail_of fault

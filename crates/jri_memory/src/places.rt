@@ -1,0 +1,141 @@
+//! From the bytes of a file, or those of it that are there, to rows of MCUs of its picture from a place on.
+
+ghost use Rattle.std.specs.Prelude.{◌≡◌, ◌≢◌, ℕ, Err, length, true, false, IfOk, IfErr, IfSome, IfNone};
+ghost use Rattle.jr_segments.specs.declared.refusal.Refusal.TheVariants.{Memory};
+ghost use Rattle.jr_head.specs.Heads.{HeadOf};
+ghost use Rattle.jr_arrival.specs.Settled.{WantsMore};
+ghost use Rattle.jri_memory.specs.Rows.{GivesRows, HasRowAt, IsFaultSoFar, IsWhy, SkipsRows};
+
+use crate::rows_report::RowsReport;
+use jr_arrival::head_so_far;
+use jr_head::{Head, Refusal, read_head};
+use jr_places::{FileBytes, RowPlace, decode_rows, rows_with_room, skip_rows, stands_at};
+use std::alloc::Global;
+
+/// Why a place is not moved.
+#[derive(Clone, Copy, Debug, PartialEq, Eq)]
+pub(crate) enum PlaceError {
+    /// The file is refused, or memory is.
+    Refused(Refusal),
+    /// The picture has no row of MCUs there, or none is asked for.
+    NoRows,
+    /// The pixels have no room for the next row's lines.
+    NoRoom,
+}
+
+/// The head of a file. None where more bytes may come and are wanted for it.
+fn head_of(alloc: Global, file: FileBytes<'_>) -> Result<Option<Head>, Refusal>
+    ensures head { IfOk result (λ o. IfSome o (HeadOf file.entry.bytes.now)) }
+    ensures wanted { IfOk result (λ o. IfNone o (WantsMore file.entry.bytes.now)) }
+    ensures more { IfOk result (λ o. IfNone o (file.entry.are_all ≡ false)) }
+    ensures refusal { IfErr result (λ f. f ≢ Memory → IsFaultSoFar file.entry.bytes.now file.entry.are_all f) }
+{
+    if !file.are_all {
+        return head_so_far(alloc, file.bytes);
+    }
+    match read_head(alloc, file.bytes) {
+        Ok(head) => Ok(Some(head)),
+        Err(refusal) => Err(refusal),
+    }
+}
+
+/// Whether a picture has a row of MCUs at a place, and some are asked for.
+fn has_row_at(head: &Head, place: &RowPlace, rows: u32) -> bool
+    ensures there { result ≡ true → HasRowAt head.now place.now rows }
+    ensures not_there { result ≡ false → HasRowAt head.now place.now rows → ⊥ }
+{
+    0 < rows && place.row < head.mcus_down() && stands_at(head, place)
+}
+
+/// Decodes the next rows of MCUs from a place of a picture on into the front of `pixels`, and moves it behind them.
+fn decode_there(
+    alloc: Global,
+    head: &Head,
+    file: FileBytes<'_>,
+    place: &mut RowPlace,
+    rows: u32,
+    pixels: &mut [u8],
+) -> Result<RowsReport, PlaceError>
+    requires { HeadOf file.bytes.now head.now }
+    ensures given { IfOk result (λ r. GivesRows file.entry.bytes.now file.entry.are_all rows place.old place.new pixels.old pixels.new r) }
+    ensures why { IfErr result (IsWhy file.entry.bytes.now file.entry.are_all place.old rows (length pixels.old)) }
+    ensures place { IfErr result (λ _. place.new ≡ place.old) }
+    ensures pixels { IfErr result (λ _. pixels.new ≡ pixels.old) }
+{
+    if !has_row_at(head, place, rows) {
+        return Err(PlaceError::NoRows);
+    }
+    if rows_with_room(head, place.row, pixels.len()) == 0 {
+        return Err(PlaceError::NoRoom);
+    }
+    let Ok(next) = decode_rows(alloc, head, file, place, rows, pixels) else {
+        return Err(PlaceError::Refused(Refusal::Memory));
+    };
+    let report = RowsReport::of(head, place.row, next.row);
+    *place = next;
+    Ok(report)
+}
+
+/// Decodes the next rows of MCUs from a place of a file on, once its head is there.
+pub(crate) fn decode_from(
+    alloc: Global,
+    file: FileBytes<'_>,
+    place: &mut RowPlace,
+    rows: u32,
+    pixels: &mut [u8],
+) -> Result<RowsReport, PlaceError>
+    ensures given { IfOk result (λ r. GivesRows file.entry.bytes.now file.entry.are_all rows place.old place.new pixels.old pixels.new r) }
+    ensures why { IfErr result (IsWhy file.entry.bytes.now file.entry.are_all place.old rows (length pixels.old)) }
+    ensures place { IfErr result (λ _. place.new ≡ place.old) }
+    ensures pixels { IfErr result (λ _. pixels.new ≡ pixels.old) }
+{
+    match head_of(alloc, file) {
+        Ok(Some(head)) => decode_there(alloc, &head, file, place, rows, pixels),
+        Ok(None) => Ok(RowsReport::empty()),
+        Err(refusal) => Err(PlaceError::Refused(refusal)),
+    }
+}
+
+/// Passes over the next rows of MCUs from a place of a picture on, and moves it behind them.
+fn skip_there(
+    alloc: Global,
+    head: &Head,
+    file: FileBytes<'_>,
+    place: &mut RowPlace,
+    rows: u32,
+) -> Result<RowsReport, PlaceError>
+    requires { HeadOf file.bytes.now head.now }
+    ensures skipped { IfOk result (λ r. SkipsRows file.entry.bytes.now file.entry.are_all rows place.old place.new r) }
+    ensures why { IfErr result (λ e. (room : ℕ) → IsWhy file.entry.bytes.now file.entry.are_all place.old rows room e) }
+    ensures other { result ≢ Err PlaceError.NoRoom }
+    ensures place { IfErr result (λ _. place.new ≡ place.old) }
+{
+    if !has_row_at(head, place, rows) {
+        return Err(PlaceError::NoRows);
+    }
+    let Ok(next) = skip_rows(alloc, head, file, place, rows) else {
+        return Err(PlaceError::Refused(Refusal::Memory));
+    };
+    let report = RowsReport::of(head, place.row, next.row);
+    *place = next;
+    Ok(report)
+}
+
+/// Passes over the next rows of MCUs from a place of a file on, once its head is there.
+pub(crate) fn skip_from(
+    alloc: Global,
+    file: FileBytes<'_>,
+    place: &mut RowPlace,
+    rows: u32,
+) -> Result<RowsReport, PlaceError>
+    ensures skipped { IfOk result (λ r. SkipsRows file.entry.bytes.now file.entry.are_all rows place.old place.new r) }
+    ensures why { IfErr result (λ e. (room : ℕ) → IsWhy file.entry.bytes.now file.entry.are_all place.old rows room e) }
+    ensures other { result ≢ Err PlaceError.NoRoom }
+    ensures place { IfErr result (λ _. place.new ≡ place.old) }
+{
+    match head_of(alloc, file) {
+        Ok(Some(head)) => skip_there(alloc, &head, file, place, rows),
+        Ok(None) => Ok(RowsReport::empty()),
+        Err(refusal) => Err(PlaceError::Refused(refusal)),
+    }
+}

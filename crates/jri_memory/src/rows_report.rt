@@ -1,0 +1,74 @@
+//! What a call tells that goes on from a place.
+
+ghost use Rattle.std.specs.Prelude.{◌≡◌, ◌+◌, ◌≤◌};
+ghost use Rattle.jr_segments.specs.Refusal.{number_of};
+ghost use Rattle.jr_places.specs.Places.{lines_before, lines_between};
+ghost use Rattle.jri_memory.specs.Calls.{detail_of};
+ghost use Rattle.jri_memory.specs.Rows.{TellsNothing};
+
+use crate::report::detail;
+use jr_head::{Head, Refusal};
+use jr_places::{lines_before, lines_between};
+
+/// What a call tells that goes on from a place; all numbers are 0 that are not said otherwise.
+#[repr(C)]
+#[derive(Clone, Copy, Debug, PartialEq, Eq)]
+pub struct RowsReport {
+    /// How many rows of MCUs are decoded, or passed over.
+    pub rows: u32,
+    /// How many lines of the picture they have.
+    pub lines: u32,
+    /// Which line of the picture is the first of them, the top one being 0.
+    pub first_line: u32,
+    /// The number of the refusal, from 1 to 19; 0 where there is none.
+    pub refusal: u32,
+    /// What the refusal tells beside its number: the offset of a missing marker, or a marker's code.
+    pub detail: u64,
+}
+
+impl RowsReport {
+    /// Nothing is told.
+    pub(crate) const fn empty() -> RowsReport
+        ensures { TellsNothing result }
+    {
+        RowsReport {
+            rows: 0,
+            lines: 0,
+            first_line: 0,
+            refusal: 0,
+            detail: 0,
+        }
+    }
+
+    /// A refusal.
+    pub(crate) fn refused(refusal: Refusal) -> RowsReport
+        ensures rows { result.rows ≡ 0 }
+        ensures lines { result.lines ≡ 0 }
+        ensures first { result.first_line ≡ 0 }
+        ensures number { result.refusal ≡ number_of refusal }
+        ensures detail { result.detail ≡ detail_of refusal }
+    {
+        RowsReport {
+            refusal: u32::from(refusal.number()),
+            detail: detail(refusal),
+            ..RowsReport::empty()
+        }
+    }
+
+    /// The rows of MCUs from one on and before another.
+    pub(crate) fn of(head: &Head, from: u32, to: u32) -> RowsReport
+        requires { from ≤ to }
+        ensures rows { from + result.rows ≡ to }
+        ensures lines { result.lines ≡ lines_between head.now from to }
+        ensures first { result.first_line ≡ lines_before head.now from }
+        ensures refusal { result.refusal ≡ 0 }
+        ensures detail { result.detail ≡ 0 }
+    {
+        RowsReport {
+            rows: to - from,
+            lines: lines_between(head, from, to),
+            first_line: lines_before(head, from),
+            ..RowsReport::empty()
+        }
+    }
+}
