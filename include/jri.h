@@ -54,10 +54,15 @@ enum {
 };
 
 /*
- * What a file's head says of its picture. Proved: with another answer than JRI_SOUND all but the refusal's two numbers is 0, and
+ * What a file's head says of its picture: `jri_head` in C and in C++. Proved: with another answer than JRI_SOUND all but the refusal's two numbers is 0, and
  * with JRI_SOUND these two are.
  */
+#ifdef __cplusplus
+struct jri_head { /* in C++ a call and a struct of one name shadow each other */
+#else
+typedef struct jri_measure jri_head;
 struct jri_measure {
+#endif
     uint32_t width;      /* in pixels, 1 to 65535 */
     uint32_t height;     /* in lines, 1 to 65535 */
     uint32_t kind;       /* JRI_GREY, JRI_RGB or JRI_YCBCR */
@@ -111,6 +116,26 @@ struct jri_rows {
     uint64_t detail;     /* what the refusal tells beside its number: an offset or a marker's code */
 };
 
+/* A restart interval that has no decoding. */
+struct jri_damage {
+    uint32_t interval;   /* its number, the first one being 0 */
+    uint32_t first_mcu;  /* the first of its MCUs, by its number in the picture, */
+    uint32_t mcus;       /* and how many it has */
+    uint32_t decodable;  /* how many of them, from the first on, can be decoded */
+    uint32_t first_line; /* the first line of the picture that they cover, */
+    uint32_t last_line;  /* and the last */
+    uint64_t start;      /* its bytes in the file, from this offset on */
+    uint64_t end;        /* and before this one; both 0 where it has none */
+};
+
+/* What jri_damages tells; 0 where nothing is listed. */
+struct jri_damage_list {
+    uint32_t count;   /* how many are listed */
+    uint32_t next;    /* the interval behind those that were looked at: all of them where none is left */
+    uint32_t refusal; /* the number of the refusal, 1 to 18, or 19 with JRI_NO_MEMORY; 0 where there is none */
+    uint64_t detail;  /* what the refusal tells beside its number: an offset or a marker's code */
+};
+
 /* Proved: the number of the library's calls, JRI_VERSION where this header is its own. */
 uint32_t jri_version(void);
 
@@ -120,7 +145,7 @@ uint32_t jri_version(void);
  * Proved: with JRI_SOUND `measure` has what the head says, with JRI_REFUSED the number and detail of the file's first fault, and
  * the only further answer is JRI_NO_MEMORY, with refusal 19. Tested: that is answered only where memory was refused.
  */
-uint32_t jri_measure(const uint8_t *file, size_t file_length, struct jri_measure *measure);
+uint32_t jri_measure(const uint8_t *file, size_t file_length, jri_head *measure);
 
 /*
  * Decodes a file. It takes memory for the scan and for one row of MCUs, whose height is 8, 16, 24 or 32 lines, and none for the
@@ -214,6 +239,28 @@ uint32_t jri_skip_rows(const uint8_t *file, size_t file_length, uint32_t more, s
  * there is room for; what stands behind them is as it was. Tested: the words.
  */
 uint64_t jri_refusal_text(uint32_t refusal, uint64_t detail, uint8_t *text, size_t text_room);
+
+/*
+ * Lists the damaged intervals of a file from interval `first` on, in their order, as many as `damages` has room for (`damages_room` is
+ * a number of structs). It reads the file as jri_check does, and takes 16 bytes more for each interval.
+ *
+ * Proved: with JRI_DAMAGED and JRI_SOUND the first list->count of `damages` are just the damaged intervals from `first` on and before
+ * list->next, each with its MCUs, lines and bytes, and those behind them are as they were; where list->next is not the number of all
+ * intervals, the room was used up. JRI_DAMAGED means that some are listed, JRI_SOUND that none is left. With JRI_REFUSED `list` has
+ * the file's first fault, with JRI_NO_MEMORY the refusal is 19, and then `damages` is as it was.
+ */
+uint32_t jri_damages(const uint8_t *file, size_t file_length, uint32_t first, struct jri_damage *damages, size_t damages_room,
+                     struct jri_damage_list *list);
+
+/*
+ * Puts what ended the scan of a report into the first bytes of `text`, in the words of jri, as jri_refusal_text does.
+ *
+ * Proved: some where the report tells of an end and the text has room, none where it doesn't, at most 96. Tested: the words.
+ */
+uint64_t jri_end_text(const struct jri_report *report, uint8_t *text, size_t text_room);
+
+/* Puts the name and the version of the build into the first bytes of `text`: at most 96. */
+uint64_t jri_build_text(uint8_t *text, size_t text_room);
 
 #ifdef __cplusplus
 }

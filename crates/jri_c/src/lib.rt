@@ -4,13 +4,15 @@
 #![tactic(auto)]
 
 ghost use Rattle.std.specs.Prelude.{◌≡◌, ◌≢◌, ◌<◌, ◌≤◌, length, drop};
+ghost use Rattle.jri_memory.specs.Damages.{ListsDamages, TellsNoDamage};
 ghost use Rattle.jri_memory.specs.Checks.{ChecksFile, LacksMarkRoom};
 ghost use Rattle.jri_memory.specs.Calls.{DecodesFile, DecodesLines, TellsFault, IsMeasureOf, IsNumberOfSome, LacksLines, LacksRoom, LacksRoomForLines, TellsNoHead, TellsNoPicture, TellsNoRefusal};
 ghost use Rattle.jri_memory.specs.Rows.{GivesRows, LacksRoomForRow, LacksRows, SkipsRows, TellsFaultSoFar, TellsNothing, are_all};
 
 use jri_memory::{
-    DecodeReport, Measure, RowPlace, RowsReport, check_marks, decode_file, decode_file_rows,
-    decode_lines, measure_file, refusal_text, skip_file_rows,
+    Damage, DamageReport, DecodeReport, Measure, RowPlace, RowsReport, build_text, check_marks,
+    decode_file, decode_file_rows, decode_lines, end_text, list_damages, measure_file,
+    refusal_text, skip_file_rows,
 };
 use std::alloc::Global;
 
@@ -187,4 +189,52 @@ pub extern "C" fn jri_skip_rows(
     ensures few { result ≤ 5 }
 {
     skip_file_rows(alloc, file, more, place, rows, report)
+}
+
+/// Lists the damaged intervals of a file from interval `first` on, in their order, as many as `damages` has room for: 3, and `next` of
+/// the report says where to go on; or 0 where none is left from there on. With 1 for want of memory and 2 where the file is refused
+/// `damages` is as it was.
+#[unsafe(no_mangle)]
+pub extern "C" fn jri_damages(
+    alloc: Global,
+    file: &[u8],
+    first: u32,
+    damages: &mut [Damage],
+    report: &mut DamageReport,
+) -> u32
+    ensures none_left { result ≡ 0 → ListsDamages file.now first damages.old damages.new report.new }
+    ensures some_listed { result ≡ 3 → ListsDamages file.now first damages.old damages.new report.new }
+    ensures none { result ≡ 0 → report.new.count ≡ 0 }
+    ensures some { result ≡ 3 → 0 < report.new.count }
+    ensures refused { result ≡ 2 → TellsFault file.now report.new.refusal report.new.detail }
+    ensures memory { result ≡ 1 → report.new.refusal ≡ 19 }
+    ensures nothing { result ≢ 0 → result ≢ 3 → TellsNoDamage report.new }
+    ensures kept { result ≢ 0 → result ≢ 3 → damages.new ≡ damages.old }
+    ensures few { result ≤ 3 }
+{
+    list_damages(alloc, file, first, damages, report)
+}
+
+/// What ended the scan of a report in the words of `jri`, as much as `text` has room for, with no 0 behind it: how many bytes it has.
+/// None where the report tells of no end.
+#[unsafe(no_mangle)]
+pub extern "C" fn jri_end_text(report: &DecodeReport, text: &mut [u8]) -> u64
+    ensures some { 1 ≤ report.now.ended → report.now.ended ≤ 5 → 0 < length text.old → 0 < result }
+    ensures none { 0 < result → (1 ≤ report.now.ended) × (report.now.ended ≤ 5) }
+    ensures few { result ≤ length text.new }
+    ensures most { result ≤ 96 }
+    ensures kept { drop result text.new ≡ drop result text.old }
+{
+    end_text(report, text) as u64
+}
+
+/// The name and the version of the build, as much as `text` has room for, with no 0 behind it: how many bytes it has.
+#[unsafe(no_mangle)]
+pub extern "C" fn jri_build_text(text: &mut [u8]) -> u64
+    ensures some { 0 < length text.old → 0 < result }
+    ensures few { result ≤ length text.new }
+    ensures most { result ≤ 96 }
+    ensures kept { drop result text.new ≡ drop result text.old }
+{
+    build_text(text) as u64
 }

@@ -5,6 +5,8 @@
 #[cfg(test)]
 mod counting;
 #[cfg(test)]
+mod damages;
+#[cfg(test)]
 mod decoding;
 #[cfg(test)]
 mod devices;
