@@ -205,6 +205,44 @@ static void try_check(const struct trial *t) {
         refusals += 1;
 }
 
+/* Lists damage from an interval on into room for so many, while one request for memory is refused. How many requests there were. */
+static long list_damages(const struct trial *t, uint32_t first, size_t room, long k, struct jri_damage_list *list) {
+    size_t size = room * sizeof(struct jri_damage);
+    uint8_t *bytes = buffer(size + MORE);
+    struct jri_damage *damages = (struct jri_damage *)bytes;
+    requests = 0;
+    refused = k;
+    uint32_t status = jri_damages(t->file, t->length, first, damages, room, list);
+    long made = requests;
+    refused = -1;
+    if (status == JRI_NO_MEMORY && made > k && k >= 0) {
+        see(is_filled(bytes, size) && !list->count && list->refusal == 19, t, "damage, a request refused");
+    } else {
+        see(status == (list->count ? JRI_DAMAGED : JRI_SOUND) && list->count <= room, t, "an answer to damage");
+        for (uint32_t i = 0; i < list->count; i++) {
+            see(t->marks[damages[i].interval] == JRI_MARK_DAMAGED && first <= damages[i].interval, t, "damage that is none");
+            see(damages[i].interval < list->next && damages[i].last_line < t->measure.height && damages[i].end <= t->length, t, "numbers of damage");
+        }
+        see(is_filled(bytes + list->count * sizeof *damages, size - list->count * sizeof *damages), t, "behind the damage");
+    }
+    release(bytes, size + MORE);
+    return made;
+}
+
+static void try_damages(const struct trial *t) {
+    struct jri_damage_list list = {0, 0, 0, 0};
+    uint32_t all = 0;
+    do {
+        list_damages(t, list.next, 3, -1, &list);
+        all += list.count;
+    } while (list.count);
+    see(all == t->report.damaged && list.next == t->measure.intervals, t, "all damage");
+    list_damages(t, UINT32_MAX, 1, -1, &list);
+    list_damages(t, 0, 0, -1, &list);
+    for (long k = 0; list_damages(t, 0, 2, k, &list) > k; k++)
+        refusals += 1;
+}
+
 /* Decodes rows from a place on, into a buffer for so many lines whose other bytes stay, while one request for memory is refused. How many requests there were. */
 static long decode_rows(const struct trial *t, size_t length, uint32_t more, struct jri_place *place, uint32_t rows, size_t lines, long k, struct jri_rows *report) {
     size_t room = lines * line_of(t);
@@ -376,6 +414,12 @@ static void try_null(void) {
     see(jri_refusal_text(3, 18446744073709551615u, text, OF_TEXT) == 46, &none, "a long text");
     see(!memcmp(text, "expected a marker at byte 18446744073709551615", 46), &none, "a long text's words");
     see(jri_refusal_text(1, 0, text, 5) == 5 && !memcmp(text, "not ated a marker", 17), &none, "a text without room");
+    struct jri_damage_list list;
+    see(jri_damages(NULL, 0, 0, NULL, 0, &list) == JRI_REFUSED && list.refusal == 1, &none, "damage");
+    see(jri_end_text(&none.report, text, OF_TEXT) == 0, &none, "a text of no end");
+    none.report.ended = JRI_END_OF_IMAGE;
+    see(jri_end_text(&none.report, text, OF_TEXT) == 17 && !memcmp(text, "scan ended at EOI", 17), &none, "a text of an end");
+    see(jri_build_text(text, OF_TEXT) > 4 && !memcmp(text, "jri ", 4), &none, "a text of the build");
     uint8_t long_text[OF_TEXT + MORE];
     for (uint32_t refusal = 1; refusal <= REFUSALS; refusal++)
         see(jri_refusal_text(refusal, UINT64_MAX, long_text, sizeof long_text) <= OF_TEXT, &none, "a text of more than 64 bytes");
@@ -413,6 +457,7 @@ static void try_file(const char *name) {
     refuse(&t);
     try_lines(&t);
     try_check(&t);
+    try_damages(&t);
     try_rows(&t);
     work_at_once(&t);
     release(t.file, t.length);

@@ -2,6 +2,8 @@
 
     pixels = jri.decode("photo.jpg")
     for first, part in jri.lines(data, 256): ...
+    stream = jri.Stream()                    # for first, pixels in stream.feed(data): ...
+    tile = jri.index(data).lines(4096, 256)
 
 Each call lets go of the interpreter's lock while libjri works, so that threads use all processors.
 """
@@ -22,15 +24,20 @@ from ._library import CALLS, DAMAGED, NO_LINES, NO_MEMORY, NO_ROOM, REFUSED, SOU
 
 __all__ = [
     "MAX_PIXELS",
+    "Damage",
     "Damaged",
     "Health",
+    "Index",
     "Measure",
     "Picture",
     "Refused",
     "Report",
+    "Stream",
     "check",
     "check_many",
+    "damages",
     "decode",
+    "index",
     "lines",
     "measure",
     "read",
@@ -285,3 +292,6 @@ def check_many(
         while due:
             first, checked = due.popleft()
             yield first, checked.result()
+
+
+from .places import Damage, Index, Stream, damages, index  # noqa: E402  (they stand on what is defined above)

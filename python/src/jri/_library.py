@@ -11,6 +11,8 @@ CALLS = 3
 
 SOUND, NO_MEMORY, REFUSED, DAMAGED, NO_ROOM, NO_LINES = range(6)
 
+ALL, MORE = range(2)
+
 ffi = cffi.FFI()
 ffi.cdef(
     """
@@ -18,6 +20,8 @@ ffi.cdef(
     struct jri_report { uint32_t intervals, sound, damaged, blank, ended, found, due, refusal; uint64_t at, detail; };
     struct jri_place { uint64_t at; uint32_t bit, row, interval, mcu; int32_t predictions[3]; uint32_t state; };
     struct jri_rows { uint32_t rows, lines, first_line, refusal; uint64_t detail; };
+    struct jri_damage { uint32_t interval, first_mcu, mcus, decodable, first_line, last_line; uint64_t start, end; };
+    struct jri_damage_list { uint32_t count, next, refusal; uint64_t detail; };
     uint32_t jri_version(void);
     uint32_t jri_measure(const uint8_t *, size_t, struct jri_measure *);
     uint32_t jri_decode(const uint8_t *, size_t, uint8_t *, size_t, uint8_t *, size_t, struct jri_report *);
@@ -26,7 +30,10 @@ ffi.cdef(
     uint32_t jri_decode_rows(const uint8_t *, size_t, uint32_t, struct jri_place *, uint32_t, uint8_t *, size_t,
                              struct jri_rows *);
     uint32_t jri_skip_rows(const uint8_t *, size_t, uint32_t, struct jri_place *, uint32_t, struct jri_rows *);
+    uint32_t jri_damages(const uint8_t *, size_t, uint32_t, struct jri_damage *, size_t, struct jri_damage_list *);
     uint64_t jri_refusal_text(uint32_t, uint64_t, uint8_t *, size_t);
+    uint64_t jri_end_text(const struct jri_report *, uint8_t *, size_t);
+    uint64_t jri_build_text(uint8_t *, size_t);
     """
 )
 
@@ -50,3 +57,9 @@ def refusal_text(number: int, detail: int) -> str:
     """The words for a refusal, as jri prints them."""
     text = ffi.new("uint8_t[64]")
     return bytes(ffi.buffer(text, library.jri_refusal_text(number, detail, text, 64))).decode("ascii")
+
+
+def build_text() -> str:
+    """The name and the version of the library's build."""
+    text = ffi.new("uint8_t[96]")
+    return bytes(ffi.buffer(text, library.jri_build_text(text, 96))).decode("ascii")
