@@ -20,6 +20,9 @@
 
 enum { MORE = 100, FILL = 7, THREADS = 8, TIMES = 3, OF_TEXT = 64, REFUSALS = 19, PAGE = 65536, FORGED = 200 };
 
+/* So many bytes behind structs of 8 bytes, which end at a page's end, too. */
+enum { ALIGNED_MORE = 104 };
+
 /* As many lines as a whole number of rows of MCUs has, whatever their height: 8, 16, 24 or 32. */
 enum { WHOLE_ROWS = 96 };
 
@@ -208,7 +211,7 @@ static void try_check(const struct trial *t) {
 /* Lists damage from an interval on into room for so many, while one request for memory is refused. How many requests there were. */
 static long list_damages(const struct trial *t, uint32_t first, size_t room, long k, struct jri_damage_list *list) {
     size_t size = room * sizeof(struct jri_damage);
-    uint8_t *bytes = buffer(size + MORE);
+    uint8_t *bytes = buffer(size + ALIGNED_MORE);
     struct jri_damage *damages = (struct jri_damage *)bytes;
     requests = 0;
     refused = k;
@@ -225,7 +228,7 @@ static long list_damages(const struct trial *t, uint32_t first, size_t room, lon
         }
         see(is_filled(bytes + list->count * sizeof *damages, size - list->count * sizeof *damages), t, "behind the damage");
     }
-    release(bytes, size + MORE);
+    release(bytes, size + ALIGNED_MORE);
     return made;
 }
 
