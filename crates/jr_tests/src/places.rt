@@ -1,6 +1,8 @@
 //! Rows of MCUs from places of a file on: one after the other, from an index, of a file that is cut at any byte and goes on, and from
 //! places that no call has given.
 
+ghost use Rattle.std.specs.Prelude.{◌<◌};
+
 use crate::arrival::{CONTINUATIONS, begins_with, header_of, lines_from};
 use jr_head::{Head, read_head};
 use jr_places::{FileBytes, RowPlace, decode_rows, lines_before, skip_rows, stands_at};
@@ -109,12 +111,14 @@ fn head_so_far(alloc: Global, bytes: &[u8]) -> Option<Head> {
 }
 
 /// The lines of a file that is decoded as far as they are settled each time that so many bytes have come, and to its end then.
-fn in_parts(alloc: Global, bytes: &[u8], part: usize) -> Result<Vec<u8>, Fail> {
+fn in_parts(alloc: Global, bytes: &[u8], part: usize) -> Result<Vec<u8>, Fail>
+    requires { 0 < part }
+{
     let mut shown = Vec::new(alloc);
     let mut place = TOP;
     let mut length: usize = 0;
-    for _ in 0..bytes.len() {
-        length = usize::saturating_add(length, part);
+    for more in bytes.chunks(part) {
+        length = usize::saturating_add(length, more.len());
         let come = front(bytes, length);
         if let Some(head) = head_so_far(alloc, come) {
             place = give(alloc, &head, so_far(come), &place, u32::MAX, &mut shown)?;
@@ -278,7 +282,7 @@ impl ScanBits {
     }
 }
 
-/// A file of 35 rows of ten data units, each of two bits and 63 codes of twelve: 33,162 bytes of data.
+/// A file of 35 rows of ten data units, each of two bits and 63 codes of twelve: 33,162 bytes of data, and the last unit is cut off.
 fn dense(alloc: Global) -> Result<Vec<u8>, Fail> {
     let mut bytes = file(alloc, "S Q F:0118:0050 D:00:03:05 A2:00:0A C")?;
     let mut bits = ScanBits { byte: 0, count: 0 };
