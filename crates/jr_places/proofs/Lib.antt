@@ -1,3 +1,6 @@
 pub mod RowLines
 pub mod Slices
 pub mod Passing
+pub mod Behind
+pub mod Longest
+pub mod Unstuffed
