@@ -4,3 +4,4 @@ pub mod Passing
 pub mod Behind
 pub mod Longest
 pub mod Unstuffed
+pub mod Splits

@@ -1,16 +1,16 @@
 -- How many bits an MCU has at most (T.81, F.1.2): ten data units, each of a code and eleven bits and 63 codes and ten bits each.
-use Rattle.std.proofs.Common.{◌≡◌, ℕ, zero, suc, ◌+◌, ◌-◌, ◌*◌, ◌<◌, ◌≤◌, Bool, List, [], ◌∷◌, ◌++◌, length, get_or, take, drop, replicate, inl, inr, sym, ap, ◌∙◌, length-append, arith}
+use Rattle.std.proofs.Common.{◌≡◌, ℕ, suc, ◌+◌, ◌*◌, ◌<◌, ◌≤◌, Bool, List, [], ◌∷◌, ◌++◌, length, get_or, take, drop, replicate, inl, inr, sym, ap, ◌∙◌, length-append, arith}
 use Rattle.std.specs.Prelude.{ℤ, pos}
 use Rattle.std.proofs.lemmas.List.{drop-append-le, take-append-drop, take-append-le}
 use Rattle.std.proofs.Math.Seq.{take-append_seam}
 use Rattle.std.proofs.lemmas.List.Concat.{flat_map-append}
 use Rattle.std.specs.List.{flat_map, AllByRecursion}
 use Rattle.jr_code.specs.Bits.{bits, bits_of, value}
-use Rattle.jr_code.specs.Code.{Table, IsWord}
+use Rattle.jr_code.specs.Code.{Table}
 use Rattle.jr_code.proofs.BitLemmas.{length-bits}
 use Rattle.jr_head.specs.HeadValue.{HeadValue}
 use Rattle.jr_head.specs.Geometry.{ac_of, dc_of, order_of}
-use Rattle.jr_mcu.specs.Block.{AcCode, IsAcCode, code_bits, entries, IsEnd, OthersAt, DifferenceAt, CodedAt, BlockAt}
+use Rattle.jr_mcu.specs.Block.{AcCode, IsAcCode, code_bits, entries, OthersAt, BlockAt}
 use Rattle.jr_mcu.specs.Block.AcCode.{ZeroRun, RunAndSize}
 use Rattle.jr_mcu.specs.Mcus.{Mcus, all_bits, block_of, component, prediction}
 use Rattle.jr_scan.specs.declared.place.Place.{Place}

@@ -30,5 +30,5 @@ run_put raw room part read found count inside within fits long few copied plain 
     let run = raw_run raw (take found room) read count fits (plain_each raw read count plain) is in
     let copy : take count part ≡ take count (drop read raw) = copied ∙ ap (take count) (rest_is raw read) in
     let there : take (found + count) (put_mid found (length room - found) room part) ≡ take found room ++ take count (drop read raw) =
-        taken_more room part found (length room - found) count within long (omega (arith, few, long)) ∙ ap (λ (l : List ℕ). take found room ++ l) copy in
+    taken_more room part found (length room - found) count within long (omega (arith, few, long)) ∙ ap (λ (l : List ℕ). take found room ++ l) copy in
     subst (λ (l : List ℕ). IsRaw (take (read + count) raw) l) (sym there) run

@@ -1,6 +1,8 @@
 //! What holds of MCUs that are read from a part of their interval's data.
 
-ghost use Rattle.std.specs.Prelude.{◌≤◌, ◌*◌, ℕ, ℤ, List, length};
+ghost use Rattle.std.specs.Prelude.{◌≡◌, ◌≤◌, ◌+◌, ◌*◌, ◌++◌, ◌∷◌, ℕ, ℤ, List, [], length};
+ghost use Rattle.jr_cut.specs.Cut.{CutFrom, IsRaw, IsStop};
+ghost use Rattle.jr_cut.specs.declared.scan_end.ScanEnd.{ScanEnd};
 ghost use Rattle.jr_head.specs.Geometry.{order_of};
 ghost use Rattle.jr_scan.specs.IntervalValue.{IntervalValue};
 ghost use Rattle.jr_scan.specs.Run.{HasNoMcu, IsRun, left_at, run_from};
@@ -19,4 +21,11 @@ pub fn run_behind()
 pub fn no_mcu_in_long_data()
     ensures { (i : IntervalValue) (more : List ℕ) (p : Place) → length (order_of i.head) ≤ 10 → p.bit ≤ 8 * length i.bytes → 16650 ≤ length (left_at i p) → HasNoMcu i p
         → HasNoMcu (with_more i more) p }
+{}
+
+/// Bytes at an offset of the file that are a segment and what follows it: where some of the first of them spell data, that data is a
+/// front of the segment's, and the bytes behind are the rest of the segment and what follows it; none where the data ends there.
+pub fn split_segment()
+    ensures { (n k at : ℕ) (raw found tail : List ℕ) (datas : List (List ℕ)) (end : ScanEnd) → IsRaw raw found → CutFrom n k at (raw ++ tail) datas end
+        → (rest : List ℕ) × (others : List (List ℕ)) × (datas ≡ (found ++ rest) ∷ others) × CutFrom n k (at + length raw) tail (rest ∷ others) end × (IsStop tail → rest ≡ []) }
 {}

@@ -1,4 +1,4 @@
-use Rattle.std.proofs.Common.{◌≡◌, ℕ, ◌+◌, ◌-◌, ◌<◌, ◌≤◌, ◌++◌, ◌∷◌, List, [], length, take, drop, sym, ap, subst, ◌∙◌, length-drop, arith, rules}
+use Rattle.std.proofs.Common.{◌≡◌, ℕ, ◌+◌, ◌-◌, ◌<◌, ◌≤◌, List, length, take, sym, ap, subst, length-drop, arith, rules}
 use Rattle.std.proofs.lemmas.List.{take_more_set}
 use borrow.Rule.Slice.PartMut.{put_mid}
 use Rattle.jr_base.specs.declared.marker.TheConstants.{PREFIX}
