@@ -7,11 +7,13 @@
 mod cursor;
 mod decoding;
 mod file_bytes;
+mod laws;
 mod place;
 mod rows;
 mod skipping;
 mod unstuffing;
 
 pub use file_bytes::FileBytes;
+pub use laws::{no_mcu_in_long_data, run_behind, split_segment};
 pub use place::{RowPlace, stands_at};
 pub use rows::{decode_rows, lines_before, lines_between, rows_with_room, skip_rows};

@@ -64,6 +64,9 @@ fn copy_plain(raw: &[u8], room: &mut [u8]) -> usize
     ensures within { result ≤ length raw.now }
     ensures fits { result ≤ length room.old }
     ensures long { length room.new ≡ length room.old }
+    ensures copied { take result room.new ≡ take result raw.now }
+    ensures plain { (k : ℕ) → k < result → slice_index raw.now k ≢ PREFIX }
+    ensures next { result < length raw.now → result < length room.old → slice_index raw.now result ≡ PREFIX }
 {
     let most = raw.len().min(room.len());
     let count = plain_count(&raw[..most]);
@@ -77,6 +80,8 @@ pub(crate) fn unstuff(raw: &[u8], room: &mut [u8]) -> Spelled
     ensures within { result.read ≤ length raw.now }
     ensures fits { result.found ≤ length room.old }
     ensures long { length room.new ≡ length room.old }
+    ensures spells { IsRaw (take result.read raw.now) (take result.found room.new) }
+    ensures stop { result.found < length room.old → IsStop (drop result.read raw.now) }
 {
     let mut read: usize = 0;
     let mut found: usize = 0;
