@@ -13,9 +13,9 @@ ghost use Rattle.jr_places.specs.Cursors.{HasWindow, IsCursor, Passes, StaysIn, 
 
 use crate::file_bytes::FileBytes;
 use crate::place::RowPlace;
-use crate::unstuffing::{data_length, fill_count, unstuff};
+use crate::unstuffing::{data_length, unstuff};
 use jr_base::Memory;
-use jr_cut::{ScanEnd, Stop, stop_at};
+use jr_cut::{ScanEnd, Stop, fill_count, stop_at};
 use jr_head::Head;
 use jr_scan::{IntervalRef, McuReader, Place};
 use std::alloc::Global;

@@ -5,41 +5,13 @@ ghost use Rattle.jr_base.specs.declared.marker.TheConstants.{PREFIX};
 ghost use Rattle.jr_cut.specs.Cut.{IsRaw, IsStop};
 
 use jr_base::marker::PREFIX;
-use memchr::memchr;
+use jr_cut::{fill_count, plain_count};
 
 /// Bytes that are read, and the bytes of data that they spell.
 #[derive(Clone, Copy)]
 pub(crate) struct Spelled {
     pub read: usize,
     pub found: usize,
-}
-
-/// How many bytes at the front are FF.
-pub(crate) fn fill_count(bytes: &[u8]) -> usize
-    ensures within { result ≤ length bytes.now }
-    ensures full { take result bytes.now ≡ replicate result PREFIX }
-    ensures next { result < length bytes.now → slice_index bytes.now result ≢ PREFIX }
-{
-    let mut n = 0;
-    for byte in bytes {
-        if *byte != PREFIX {
-            return n;
-        }
-        n += 1;
-    }
-    n
-}
-
-/// How many bytes at the front are not FF.
-fn plain_count(bytes: &[u8]) -> usize
-    ensures within { result ≤ length bytes.now }
-    ensures plain { (k : ℕ) → k < result → slice_index bytes.now k ≢ PREFIX }
-    ensures next { result < length bytes.now → slice_index bytes.now result ≡ PREFIX }
-{
-    match memchr(PREFIX, bytes) {
-        Some(at) => at,
-        None => bytes.len(),
-    }
 }
 
 /// How many bytes at the front spell data, up to a marker or to the end.
