@@ -1,3 +1,4 @@
 pub mod Calls
 pub mod Checks
+pub mod Canvases
 pub use Rattle.jri_engine.specs.Files

@@ -5,8 +5,11 @@
 
 mod answers;
 mod calls;
+mod canvas;
+mod canvas_calls;
 mod check;
 mod decode;
+mod laying;
 mod lines;
 mod measure;
 mod report;
@@ -15,6 +18,8 @@ pub mod status;
 mod text;
 
 pub use calls::{check_marks, decode_file, decode_lines, measure_file};
+pub use canvas_calls::decode_canvas;
+pub use laying::lay_out;
 pub use measure::Measure;
 pub use report::DecodeReport;
 pub use text::refusal_text;

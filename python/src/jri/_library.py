@@ -6,7 +6,7 @@ import os
 
 import cffi
 
-CALLS = 2
+CALLS = 3
 
 SOUND, NO_MEMORY, REFUSED, DAMAGED, NO_ROOM, NO_LINES = range(6)
 
