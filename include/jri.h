@@ -262,6 +262,42 @@ uint64_t jri_end_text(const struct jri_report *report, uint8_t *text, size_t tex
 /* Puts the name and the version of the build into the first bytes of `text`: at most 96. */
 uint64_t jri_build_text(uint8_t *text, size_t text_room);
 
+/* The layouts of a canvas: which bytes a pixel has there. Grey is spread to three by all but JRI_PLAIN. */
+enum {
+    JRI_PLAIN = 0,  /* a byte of grey, or one each of red, green and blue */
+    JRI_RGB24 = 1,  /* red, green, blue */
+    JRI_BGR24 = 2,  /* blue, green, red */
+    JRI_RGBX32 = 3, /* red, green, blue, 255 */
+    JRI_BGRX32 = 4  /* blue, green, red, 255 */
+};
+
+/* What jri_decode_canvas and jri_lay_out answer besides: there is no such layout, or a line is longer than the stride. */
+enum { JRI_NO_LAYOUT = 6 };
+
+/*
+ * Decodes a file onto a canvas: line k begins at canvas + k * stride, in a layout. It takes memory for the scan, for one row of
+ * MCUs and for its lines, and none for the picture. The room has to reach to the end of the last line, and no further.
+ *
+ * Proved: with JRI_SOUND and JRI_DAMAGED the lines of its picture stand on the canvas in this layout, each other byte of the canvas
+ * is as it was, and `marks` and `report` are as jri_decode has them; with any other answer all of both buffers is as it was, and
+ * with JRI_REFUSED `report` has the file's first fault. JRI_NO_ROOM is answered only where a line has no room on the canvas, or
+ * marks that were asked for have too little; JRI_NO_LAYOUT only where there is no such layout, or a line is longer than the stride;
+ * with JRI_NO_MEMORY the refusal is 19.
+ */
+uint32_t jri_decode_canvas(const uint8_t *file, size_t file_length, uint8_t *canvas, size_t canvas_room, size_t stride,
+                           uint32_t layout, uint8_t *marks, size_t marks_room, struct jri_report *report);
+
+/*
+ * Lays lines out that another call gave: so many pixels a line of one component or three, a line behind the other. They stand on the
+ * canvas as by jri_decode_canvas.
+ *
+ * Proved: with JRI_SOUND they do, and each other byte of the canvas is as it was; with any other answer all of it is as it was.
+ * JRI_NO_ROOM is answered only where a line has no room; JRI_NO_LAYOUT only where there is no such layout, a line is longer than
+ * the stride, the components are neither 1 nor 3, or the bytes are no whole lines of a pixel or more.
+ */
+uint32_t jri_lay_out(const uint8_t *lines, size_t lines_length, uint32_t width, uint32_t components, uint8_t *canvas,
+                     size_t canvas_room, size_t stride, uint32_t layout);
+
 #ifdef __cplusplus
 }
 #endif

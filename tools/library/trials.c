@@ -399,6 +399,62 @@ static void work_at_once(struct trial *t) {
         pthread_join(threads[i], NULL);
 }
 
+/* The bytes of a pixel in a layout. How many they are. */
+static size_t lay(uint32_t layout, const uint8_t *from, uint32_t components, uint8_t *to) {
+    const uint8_t *red = from, *green = from + (components == 3), *blue = from + (components == 3 ? 2 : 0);
+    int turned = layout == JRI_BGR24 || layout == JRI_BGRX32;
+    if (layout == JRI_PLAIN) {
+        memcpy(to, from, components);
+        return components;
+    }
+    to[0] = turned ? *blue : *red;
+    to[1] = *green;
+    to[2] = turned ? *red : *blue;
+    to[3] = 255;
+    return layout >= JRI_RGBX32 ? 4 : 3;
+}
+
+/* Whether a canvas has the picture in a layout, and behind each line but the last what it had before. */
+static int has_picture(const struct trial *t, const uint8_t *canvas, size_t stride, size_t size, uint32_t layout) {
+    for (uint32_t y = 0; y < t->measure.height; y++) {
+        const uint8_t *line = canvas + y * stride, *from = t->pixels + y * line_of(t);
+        uint8_t pixel[4];
+        for (uint32_t x = 0; x < t->measure.width; x++) {
+            size_t bytes = lay(layout, from + x * t->measure.components, t->measure.components, pixel);
+            if (memcmp(line + x * bytes, pixel, bytes))
+                return 0;
+        }
+        if (y + 1 < t->measure.height && !is_filled(line + size, stride - size))
+            return 0;
+    }
+    return 1;
+}
+
+/* Decodes onto a canvas of each layout that ends with its last line, and lays the picture out onto another. */
+static void try_canvas(const struct trial *t) {
+    for (uint32_t layout = JRI_PLAIN; layout <= JRI_BGRX32; layout++) {
+        uint8_t pixel[4];
+        size_t size = t->measure.width * lay(layout, t->pixels, t->measure.components, pixel), stride = size + 5;
+        size_t room = (t->measure.height - 1) * stride + size;
+        uint8_t *canvas = buffer(room), *other = buffer(room);
+        struct jri_report report;
+        see(jri_decode_canvas(t->file, t->length, canvas, room - 1, stride, layout, NULL, 0, &report) == JRI_NO_ROOM &&
+            is_filled(canvas, room), t, "a canvas without room");
+        see(jri_decode_canvas(t->file, t->length, canvas, room, size - 1, layout, NULL, 0, &report) == JRI_NO_LAYOUT &&
+            is_filled(canvas, room), t, "a stride that is too short");
+        see(jri_decode_canvas(t->file, t->length, canvas, room, stride, layout, NULL, 0, &report) == t->status &&
+            !memcmp(&report, &t->report, sizeof report) && has_picture(t, canvas, stride, size, layout), t, "a canvas");
+        see(jri_lay_out(t->pixels, t->measure.pixels, t->measure.width, t->measure.components, other, room - 1, stride, layout) ==
+            JRI_NO_ROOM && is_filled(other, room), t, "no room for lines");
+        see(jri_lay_out(t->pixels, t->measure.pixels, t->measure.width, t->measure.components, other, room, stride, layout) ==
+            JRI_SOUND && !memcmp(canvas, other, room), t, "lines laid out");
+        release(canvas, room);
+        release(other, room);
+    }
+    struct jri_report report;
+    see(jri_decode_canvas(t->file, t->length, NULL, 0, 300000, 5, NULL, 0, &report) == JRI_NO_LAYOUT, t, "no layout");
+}
+
 static void try_null(void) {
     struct trial none = {.name = "null pointers"};
     uint8_t text[OF_TEXT];
@@ -462,6 +518,7 @@ static void try_file(const char *name) {
     try_check(&t);
     try_damages(&t);
     try_rows(&t);
+    try_canvas(&t);
     work_at_once(&t);
     release(t.file, t.length);
     release(t.pixels, size);

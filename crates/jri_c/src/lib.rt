@@ -4,6 +4,7 @@
 #![tactic(auto)]
 
 ghost use Rattle.std.specs.Prelude.{◌≡◌, ◌≢◌, ◌<◌, ◌≤◌, length, drop};
+ghost use Rattle.jri_memory.specs.Canvases.{DecodesCanvas, LacksCanvas, LacksLayoutOf, LacksLinesToLay, LacksRoomToLay, LaysOut};
 ghost use Rattle.jri_memory.specs.Damages.{ListsDamages, TellsNoDamage};
 ghost use Rattle.jri_memory.specs.Checks.{ChecksFile, LacksMarkRoom};
 ghost use Rattle.jri_memory.specs.Calls.{DecodesFile, DecodesLines, TellsFault, IsMeasureOf, IsNumberOfSome, LacksLines, LacksRoom, LacksRoomForLines, TellsNoHead, TellsNoPicture, TellsNoRefusal};
@@ -11,8 +12,8 @@ ghost use Rattle.jri_memory.specs.Rows.{GivesRows, LacksRoomForRow, LacksRows, S
 
 use jri_memory::{
     Damage, DamageReport, DecodeReport, Measure, RowPlace, RowsReport, build_text, check_marks,
-    decode_file, decode_file_rows, decode_lines, end_text, list_damages, measure_file,
-    refusal_text, skip_file_rows,
+    decode_canvas, decode_file, decode_file_rows, decode_lines, end_text, lay_out, list_damages,
+    measure_file, refusal_text, skip_file_rows,
 };
 use std::alloc::Global;
 
@@ -237,4 +238,57 @@ pub extern "C" fn jri_build_text(text: &mut [u8]) -> u64
     ensures kept { drop result text.new ≡ drop result text.old }
 {
     build_text(text) as u64
+}
+
+/// Decodes a file onto a canvas, line k from byte `k * stride` on, in the layout of this number, and its marks into the front of
+/// `marks`, unless that has no room at all: 0, or 3 where an interval is damaged. With 1 for want of memory, 2 where the file is
+/// refused, 4 where a buffer has too little room, and 6 where there is no such layout or a line is longer than the stride, both
+/// are as they were.
+#[unsafe(no_mangle)]
+pub extern "C" fn jri_decode_canvas(
+    alloc: Global,
+    file: &[u8],
+    canvas: &mut [u8],
+    stride: usize,
+    layout: u32,
+    marks: &mut [u8],
+    report: &mut DecodeReport,
+) -> u32
+    ensures sound { result ≡ 0 → DecodesCanvas file.now stride layout canvas.old canvas.new marks.old marks.new report.new }
+    ensures damaged { result ≡ 3 → DecodesCanvas file.now stride layout canvas.old canvas.new marks.old marks.new report.new }
+    ensures undamaged { result ≡ 0 → report.new.damaged ≡ 0 }
+    ensures some_damaged { result ≡ 3 → 0 < report.new.damaged }
+    ensures refused { result ≡ 2 → TellsFault file.now report.new.refusal report.new.detail }
+    ensures memory { result ≡ 1 → report.new.refusal ≡ 19 }
+    ensures room { result ≡ 4 → LacksCanvas file.now stride layout (length canvas.old) (length marks.old) }
+    ensures room_alone { result ≡ 4 → TellsNoRefusal report.new }
+    ensures layout { result ≡ 6 → LacksLayoutOf file.now stride layout }
+    ensures layout_alone { result ≡ 6 → TellsNoRefusal report.new }
+    ensures no_picture { result ≢ 0 → result ≢ 3 → TellsNoPicture report.new }
+    ensures canvas { result ≢ 0 → result ≢ 3 → canvas.new ≡ canvas.old }
+    ensures marks { result ≢ 0 → result ≢ 3 → marks.new ≡ marks.old }
+    ensures few { result ≤ 6 }
+    ensures no_lines { result ≢ 5 }
+{
+    decode_canvas(alloc, file, canvas, stride, layout, marks, report)
+}
+
+/// Lays out lines that stand one behind the other, line k from byte `k * stride` of the canvas on: 0. With 4 where the canvas has
+/// too little room, and 6 where there are no such lines or no such layout, it is as it was.
+#[unsafe(no_mangle)]
+pub extern "C" fn jri_lay_out(
+    lines: &[u8],
+    width: u32,
+    components: u32,
+    canvas: &mut [u8],
+    stride: usize,
+    layout: u32,
+) -> u32
+    ensures done { result ≡ 0 → LaysOut lines.now width components stride layout canvas.old canvas.new }
+    ensures room { result ≡ 4 → LacksRoomToLay lines.now width components stride layout (length canvas.old) }
+    ensures layout { result ≡ 6 → LacksLinesToLay lines.now width components stride layout }
+    ensures canvas { result ≢ 0 → canvas.new ≡ canvas.old }
+    ensures few { result ≢ 0 → result ≢ 4 → result ≡ 6 }
+{
+    lay_out(lines, width, components, canvas, stride, layout)
 }

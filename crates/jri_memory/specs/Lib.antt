@@ -1,5 +1,6 @@
 pub mod Calls
 pub mod Checks
 pub mod Rows
+pub mod Canvases
 pub use Rattle.jri_engine.specs.Files
 pub mod Damages

@@ -5,9 +5,12 @@
 
 mod answers;
 mod calls;
+mod canvas;
+mod canvas_calls;
 mod check;
 mod damages;
 mod decode;
+mod laying;
 mod lines;
 mod measure;
 mod place_calls;
@@ -19,8 +22,10 @@ pub mod status;
 mod text;
 
 pub use calls::{check_marks, decode_file, decode_lines, measure_file};
+pub use canvas_calls::decode_canvas;
 pub use damages::{Damage, DamageReport, list_damages};
 pub use jr_places::RowPlace;
+pub use laying::lay_out;
 pub use measure::Measure;
 pub use place_calls::{decode_file_rows, skip_file_rows};
 pub use report::DecodeReport;

@@ -17,3 +17,6 @@ pub const NO_ROOM: u32 = 4;
 
 /// The picture has no such lines.
 pub const NO_LINES: u32 = 5;
+
+/// There is no such layout, or a line is longer than the stride.
+pub const NO_LAYOUT: u32 = 6;

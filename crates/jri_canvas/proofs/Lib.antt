@@ -1,0 +1,2 @@
+pub mod MorePixels
+pub mod Canvases

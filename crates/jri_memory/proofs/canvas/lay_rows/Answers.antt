@@ -1,0 +1,103 @@
+use Rattle.std.proofs.Common.{rules, arith, sym, subst, ap, ◌∙◌, ◌≡◌, ℕ, ◌+◌, ◌-◌, ◌*◌, ◌<◌, ◌≤◌, ◌^◌, min, length}
+use Rattle.std.specs.Int.{div_ceil}
+use Rattle.std.proofs.Math.Nat.{add-mul}
+use Rattle.std.proofs.lemmas.Grind.{div_ceil_times}
+use Rattle.jr_head.specs.HeadValue.{HeadValue}
+use Rattle.jr_head.specs.Geometry.{mcus_across, mcus_down, vertical_max}
+use Rattle.jr_paint.specs.Lines as paint
+use Rattle.jr_paint.proofs.Places.{below_div_ceil}
+use Rattle.jr_picture.specs.Samples.{samples_of}
+use Rattle.jr_rows.specs.Bands.{ShowsMcus}
+use Rattle.jr_rows.specs.Groups.{units_in}
+use Rattle.jr_rows.specs.MarkBytes.{PutsBetween, PutsRow}
+use Rattle.jr_rows.specs.Rows.{CountsMcus, CountsRow, coded_before, first_line, line_count}
+use Rattle.jr_rows.proofs.IntervalPlaces.{ends_few}
+use Rattle.jr_rows.proofs.PutMarks.{puts_both}
+use Rattle.jr_rows.proofs.ReadRows.{counts_both}
+use Rattle.jr_scan.specs.ScanValue.{ScanValue, intervals_of}
+use Rattle.jri_canvas.specs.Layouts.{StandOn, laid_line}
+use Rattle.jri_canvas.proofs.Canvases.{stand_both}
+use Rattle.jri_memory.proofs.canvas.lay_rows.Goals as goal
+
+pub with-marked-requires : goal.with-marked-requires
+with-marked-requires c =
+    let t = c.args.scan.now in
+    let keep = c.rows.invariant in
+    let marks : CountsRow t (length t.intervals) c.rows.rows.row c.decode-more.result = rw (keep.scan, keep.limit) at c.decode-more.ensures.counts in
+    let few = ends_few t.head (coded_before t.head (length t.intervals) (c.rows.rows.row + 1)) in
+    let room : intervals_of t.head < 2 ^ 32 = search (rules, arith) in
+    omega (arith, keep.counts.few, marks.few, few, room)
+
+pub lay_row-requires-clause-places : goal.lay_row-requires-clause-places
+lay_row-requires-clause-places c k from to =
+    let height : c.head-head.result.now.height ≡ c.args.scan.now.head.height = search rules in
+    omega (arith, c.requires.places k from (omega (arith, to, height)), c.rows.invariant.wide)
+
+pub rows-preserved : goal.rows-preserved
+rows-preserved c =
+    let t = c.args.scan.now in
+    let h = t.head in
+    let n = length t.intervals in
+    let form = c.args.form.now in
+    let keep = c.rows.invariant in
+    let row = c.rows.rows.row in
+    let deep = 8 * vertical_max h in
+    let bytes = c.decode-more.new.marks in
+    let groups = c.decode-more.new.self.lines.groups in
+    let head : c.head-head.result.now ≡ h = search rules in
+    let row_is : c.row-row.result ≡ row = search rules in
+    let next_row : c.decode-more.new.rows.row ≡ row + 1 = search rules in
+    let some : 0 < deep = search (rules, arith) in
+    let more : row < mcus_down h = search (rules, arith) in
+    let inside : row * deep < h.height = below_div_ceil row h.height deep some more in
+    let before : min (row * deep) h.height ≡ first_line h row = omega (arith, inside) in
+    let behind : first_line h row + line_count h row ≡ min ((row + 1) * deep) h.height = omega (arith, inside, add-mul row 1 deep) in
+    let end : first_line h row + line_count h row ≡ min (c.decode-more.new.rows.row * deep) h.height = behind ∙ ap (λ (k : ℕ). min (k * deep) h.height) (sym next_row) in
+    let marks : CountsRow t n row c.decode-more.result = rw (keep.scan, keep.limit) at c.decode-more.ensures.counts in
+    let puts : PutsRow t n row c.rows.marks bytes = rw (keep.scan, keep.limit) at c.decode-more.ensures.puts in
+    record {
+      scan = search rules;
+      limit = search rules;
+      within = search (rules, arith);
+      room = search rules;
+      long = search (rules, keep.long, c.lay_row.ensures.long);
+      wide = search (rules, keep.wide, c.lay_row.auto.canvas);
+      stand = λ b first.
+          let g = λ (k : ℕ). laid_line form (paint.line_of h (samples_of b) k) in
+          let shows : ShowsMcus b (row * mcus_across h) (units_in h groups) = (rw (keep.scan, keep.limit) at c.decode-more.ensures.units) b first in
+          let at_row = subst (λ (r : ℕ). b.scan.head ≡ c.head-head.result.now → ShowsMcus b (r * mcus_across c.head-head.result.now) (units_in c.head-head.result.now groups)
+          → StandOn form (first_line c.head-head.result.now r) (first_line c.head-head.result.now r + line_count c.head-head.result.now r) (λ k. laid_line form (paint.line_of c.head-head.result.now (samples_of b) k)) c.rows.canvas c.lay_row.new.canvas) row_is (c.lay_row.ensures.stand b) in
+          let there = subst (λ (d : HeadValue). b.scan.head ≡ d → ShowsMcus b (row * mcus_across d) (units_in d groups)
+          → StandOn form (first_line d row) (first_line d row + line_count d row) (λ k. laid_line form (paint.line_of d (samples_of b) k)) c.rows.canvas c.lay_row.new.canvas) head at_row (ap (λ (s : ScanValue). s.head) first.scan_is) shows in
+          let front : StandOn form 0 (first_line h row) g c.args.canvas.now c.rows.canvas = subst (λ (k : ℕ). StandOn form 0 k g c.args.canvas.now c.rows.canvas) before (keep.stand b first) in
+          subst (λ (k : ℕ). StandOn form 0 k g c.args.canvas.now c.lay_row.new.canvas) end
+          (stand_both form g c.requires.stride 0 (first_line h row) (first_line h row + line_count h row) c.args.canvas.now c.rows.canvas c.lay_row.new.canvas (omega arith) (omega arith) front there);
+      counts = subst (λ (k : ℕ). CountsMcus t n (coded_before h n 0) (coded_before h n k) c.with-marked.result) (sym next_row)
+          (counts_both t n _ _ _ c.rows.marked c.decode-more.result c.with-marked.result keep.counts marks c.with-marked.ensures.sound c.with-marked.ensures.damaged);
+      places = λ there. puts.long ∙ keep.places (omega (arith, there, puts.long));
+      puts = subst (λ (k : ℕ). PutsBetween t 0 k c.args.marks.now bytes) (sym next_row)
+          (puts_both t n _ _ _ c.args.marks.now c.rows.marks bytes (omega (arith, keep.counts.few)) keep.puts puts);
+    }
+
+pub returns-clause-stand : goal.returns-clause-stand
+returns-clause-stand c b first =
+    let h = c.args.scan.now.head in
+    let deep = 8 * vertical_max h in
+    let some : 0 < deep = search (rules, arith) in
+    let end : c.rows.rows.row ≡ mcus_down h = search (rules, arith) in
+    let all : h.height ≤ mcus_down h * deep = (div_ceil_times h.height deep some).0 in
+    let whole : min (c.rows.rows.row * deep) h.height ≡ h.height = ap (λ (k : ℕ). min (k * deep) h.height) end ∙ omega (arith, all) in
+    subst (λ (k : ℕ). StandOn c.args.form.now 0 k (λ j. laid_line c.args.form.now (paint.line_of h (samples_of b) j)) c.args.canvas.now c.rows.canvas) whole (c.rows.invariant.stand b first)
+
+pub returns-clause-counts : goal.returns-clause-counts
+returns-clause-counts c =
+    let t = c.args.scan.now in
+    let n = length t.intervals in
+    let end : c.rows.rows.row ≡ mcus_down t.head = search (rules, arith) in
+    subst (λ (k : ℕ). CountsMcus t n (coded_before t.head n 0) (coded_before t.head n k) c.rows.marked) end c.rows.invariant.counts
+
+pub returns-clause-puts : goal.returns-clause-puts
+returns-clause-puts c =
+    let t = c.args.scan.now in
+    let end : c.rows.rows.row ≡ mcus_down t.head = search (rules, arith) in
+    subst (λ (k : ℕ). PutsBetween t 0 k c.args.marks.now c.rows.marks) end c.rows.invariant.puts

@@ -1,0 +1,36 @@
+use Rattle.std.proofs.Common.{rules, arith, sym, subst, ◌≡◌, ◌<◌, ℕ, length}
+use Rattle.jr_head.specs.Geometry.{IsLawful, mcus_of}
+use Rattle.jr_scan.specs.ScanValue.{intervals_of}
+use Rattle.jr_piece.proofs.ScanLaws.{outcome}
+use Rattle.jr_picture.specs.Boards.{marks_of}
+use Rattle.jr_picture.specs.Samples.{samples_of}
+use Rattle.jr_rows.specs.Rows.{CountsRows}
+use Rattle.jr_rows.proofs.FirstBoards.{first_board, shows_first}
+use Rattle.jr_stream.specs.Stream.{HasCounts}
+use Rattle.jr_stream.proofs.WholePictures.{all_put}
+use Rattle.jri_memory.proofs.canvas.lay_scan.Goals as goal
+
+pub counts_of-requires-clause-counts : goal.counts_of-requires-clause-counts
+counts_of-requires-clause-counts c =
+    let t = c.args.scan.now in
+    let all : c.intervals-all.result ≡ length t.intervals = search rules in
+    subst (λ (n : ℕ). CountsRows t n c.lay_rows-marked.result) (sym all) c.lay_rows-marked.ensures.counts
+
+pub returns-clause-laid : goal.returns-clause-laid
+returns-clause-laid c =
+    let t = c.args.scan.now in
+    let n = length t.intervals in
+    let lawful = subst IsLawful c.head.ensures.value c.head.ensures.lawful in
+    let some : 0 < mcus_of t.head = search (rules, arith) in
+    let more : 0 < intervals_of t.head = search (rules, arith) in
+    let count : n ≡ intervals_of t.head = search rules in
+    let all : c.intervals-all.result ≡ n = search rules in
+    let counts = subst (λ (k : ℕ). HasCounts t k c.counts_of.result) all c.counts_of.ensures in
+    let board = first_board outcome t n (omega arith) in record {
+      marks = marks_of board.0;
+      f = samples_of board.0;
+      shows = shows_first t n board.0 board.1 lawful;
+      stand = c.lay_rows-marked.ensures.stand board.0 board.1;
+      put = all_put t some more count c.args.marks.now c.lay_rows-marked.new.marks c.requires.marks c.lay_rows-marked.ensures.puts board.0 board.1;
+      counted = counts board.0 board.1;
+    }

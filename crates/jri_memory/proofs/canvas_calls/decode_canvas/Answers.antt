@@ -1,0 +1,8 @@
+use Rattle.std.proofs.Common.{rules}
+use Rattle.jri_memory.proofs.canvas_calls.decode_canvas.Goals as goal
+
+pub returns-in-Ok-Some-clause-no_picture : goal.returns-in-Ok-Some-clause-no_picture
+returns-in-Ok-Some-clause-no_picture c unsound undamaged = absurd (undamaged (c.tell.ensures.done unsound))
+
+pub returns-in-Err-clause-room : goal.returns-in-Err-clause-room
+returns-in-Err-clause-room c e = c.in-Err.ensures.room (search (rules, c.tell_why.ensures.room e))

@@ -1,0 +1,98 @@
+-- Lines and pictures on a canvas.
+use Rattle.std.specs.Prelude.{◌≡◌, ◌≢◌, ℕ, ◌*◌, ◌<◌, ◌≤◌, ◌⊎◌, List, length, map, None}
+use Rattle.jr_head.specs.HeadValue.{HeadValue}
+use Rattle.jr_head.specs.Heads.{HeadOf}
+use Rattle.jr_head.specs.Geometry.{components_of}
+use Rattle.jr_paint.specs.Lines.{line_of}
+use Rattle.jr_picture.specs.declared.counts.Counts.{Counts}
+use Rattle.jr_picture.specs.declared.mark.Mark.{Mark}
+use Rattle.jr_picture.specs.Headline.{AreCounts, ShowsFirst}
+use Rattle.jr_rows.specs.MarkBytes.{mark_byte}
+use Rattle.jr_scan.specs.ScanValue.{ScanValue}
+use Rattle.jri_engine.specs.Files.{IsPictureOf, IsScanOfFile}
+use Rattle.jri_canvas.specs.Layouts.{HavePlaces, StandOn, laid_line, laid_line_size, layout_number, line_in, line_size, sample_count}
+use Rattle.jri_canvas.specs.declared.lines.CanvasLines.{CanvasLines}
+use Rattle.jri_memory.specs.Calls.{TellsReport, over}
+use Rattle.jri_memory.specs.declared.report.DecodeReport.{DecodeReport}
+
+-- a canvas has lines of this form, by the numbers of a call
+pub record HasNumbers (width components stride layout : ℕ) (c : CanvasLines) : Type 0 where
+  pub width_is : c.width ≡ width
+  pub components_are : sample_count c.pixels ≡ components
+  pub stride_is : c.stride ≡ stride
+  pub layout_is : layout_number c.layout ≡ layout
+
+-- and none reaches into the next
+pub record HasForm (width components stride layout : ℕ) (c : CanvasLines) : Type 0 where
+  pub numbers : HasNumbers width components stride layout c
+  pub narrow : laid_line_size c ≤ stride
+
+-- a line that is longer than the stride
+pub record IsTooWide (width components stride layout : ℕ) : Type 0 where
+  pub form : CanvasLines
+  pub numbers : HasNumbers width components stride layout form
+  pub wide : stride < laid_line_size form
+
+-- there is no such layout, or a line is longer than the stride
+abbrev pub LacksLayout : (width components stride layout : ℕ) → Type 0
+LacksLayout width components stride layout = (4 < layout) ⊎ IsTooWide width components stride layout
+
+-- all lines are laid out, from the top of the canvas
+pub record LaysOut (lines : List ℕ) (width components stride layout : ℕ) (old new : List ℕ) : Type 0 where
+  pub form : CanvasLines
+  pub is : HasForm width components stride layout form
+  pub count : ℕ
+  pub all : length lines ≡ count * line_size form
+  pub stand : StandOn form 0 count (λ k. laid_line form (line_in (line_size form) lines k)) old new
+
+-- so many lines have no room
+pub record LacksPlaces (width components stride layout count room : ℕ) : Type 0 where
+  pub form : CanvasLines
+  pub is : HasForm width components stride layout form
+  pub less : HavePlaces form 0 count room → ⊥
+
+-- these lines have no room
+pub record LacksRoomToLay (lines : List ℕ) (width components stride layout room : ℕ) : Type 0 where
+  pub count : ℕ
+  pub all : length lines ≡ count * (components * width)
+  pub less : LacksPlaces width components stride layout count room
+
+-- pixels of so many components there are none, these bytes are no whole lines, or they have no layout
+abbrev pub LacksLinesToLay : (lines : List ℕ) (width components stride layout : ℕ) → Type 0
+LacksLinesToLay lines width components stride layout =
+    ((components ≢ 1) × (components ≢ 3)) ⊎ ((count : ℕ) → 0 < width → length lines ≢ count * (components * width)) ⊎ LacksLayout width components stride layout
+
+-- the lines of the scan's picture are laid out, from the top of the canvas, and all its intervals are marked; where marks were
+-- asked for, the bytes are these; and these are their counts
+pub record LaysScan (scan : ScanValue) (form : CanvasLines) (old new old_bytes bytes : List ℕ) (c : Counts) : Type 0 where
+  pub marks : List Mark
+  pub f : ℕ → ℕ → ℕ → ℕ
+  pub shows : ShowsFirst scan (length scan.intervals) marks f
+  pub stand : StandOn form 0 scan.head.height (λ y. laid_line form (line_of scan.head f y)) old new
+  pub put : 0 < length old_bytes → bytes ≡ map mark_byte marks
+  pub counted : AreCounts marks c.sound c.damaged c.blank
+
+-- the lines of the file's picture are laid out, from the top of the canvas; where marks were asked for they are its own; and so is
+-- the report
+pub record DecodesCanvas (file : List ℕ) (stride layout : ℕ) (old new old_marks marks : List ℕ) (r : DecodeReport) : Type 0 where
+  pub scan : ScanValue
+  pub each : List Mark
+  pub f : ℕ → ℕ → ℕ → ℕ
+  pub is : IsPictureOf file None scan each f
+  pub form : CanvasLines
+  pub form_is : HasForm scan.head.width (components_of scan.head) stride layout form
+  pub stand : StandOn form 0 scan.head.height (λ y. laid_line form (line_of scan.head f y)) old new
+  pub marked : 0 < length old_marks → marks ≡ over (map mark_byte each) old_marks
+  pub reported : TellsReport scan each r
+
+-- the lines of the file's picture have no room on the canvas, or its marks have none, where they are asked for
+pub record LacksCanvas (file : List ℕ) (stride layout room marks : ℕ) : Type 0 where
+  pub scan : ScanValue
+  pub is : IsScanOfFile file scan
+  pub less : LacksPlaces scan.head.width (components_of scan.head) stride layout scan.head.height room ⊎ ((0 < marks) × (marks < length scan.intervals))
+
+-- the lines of the file's picture have no such layout at that stride
+pub record LacksLayoutOf (file : List ℕ) (stride layout : ℕ) : Type 0 where
+  pub head : HeadValue
+  pub is : HeadOf file head
+  pub less : LacksLayout head.width (components_of head) stride layout

@@ -1,0 +1,197 @@
+//! From the bytes of a file to its picture on a canvas of the caller's.
+
+ghost use Rattle.std.specs.Prelude.{◌≡◌, ◌≢◌, ◌+◌, ◌*◌, ◌<◌, ◌≤◌, ℕ, length, IfOk, IfErr, IfSome, None};
+ghost use Rattle.jr_segments.specs.declared.refusal.Refusal.TheVariants as refusal;
+ghost use Rattle.jr_head.specs.Heads.{RefusalOf};
+ghost use Rattle.jr_head.specs.Geometry.{components_of, mcus_across, mcus_down, vertical_max};
+ghost use Rattle.jr_paint.specs.Lines as paint;
+ghost use Rattle.jr_picture.specs.BoardValue.{BoardValue};
+ghost use Rattle.jr_picture.specs.Samples.{samples_of};
+ghost use Rattle.jr_rows.specs.Bands.{ShowsMcus, samples_in};
+ghost use Rattle.jr_rows.specs.Groups.{units_in};
+ghost use Rattle.jr_rows.specs.MarkBytes.{HasMarkRoom, PutsBetween};
+ghost use Rattle.jr_rows.specs.Rows.{CountsRows, HasFirst, HasSampleRoom, first_line, line_count};
+ghost use Rattle.jri_canvas.specs.Layouts.{HavePlaces, StandOn, laid_line, laid_line_size, line_size, sample_count};
+ghost use Rattle.jri_memory.specs.Canvases.{DecodesCanvas, LacksCanvas, LacksLayoutOf, LaysScan};
+
+use crate::decode::DecodeError;
+use crate::laying::form_of;
+use crate::report::DecodeReport;
+use crate::room::{asked_for, lacks_room};
+use jr_base::Memory;
+use jr_head::{Head, Kind, Refusal};
+use jr_picture::Counts;
+use jr_rows::{Marked, Rows, SampleRow, bytes_of_row, lines_of, shape_of};
+use jr_scan::Scan;
+use jr_stream::counts_of;
+use jri_canvas::{CanvasLines, Pixels, have_places, lay_lines};
+use jri_engine::scan_of_file;
+use std::alloc::Global;
+
+/// Paints `count` lines from line y on of the row of MCUs that is decoded into `lines`, and lays them out.
+fn lay_some(
+    head: &Head,
+    work: &mut SampleRow,
+    y: u32,
+    count: u32,
+    lines: &mut [u8],
+    form: &CanvasLines,
+    canvas: &mut [u8],
+)
+    requires room { HasSampleRoom head.now work.old }
+    requires inside { y + count ≤ head.now.height }
+    requires lines { length lines.old ≡ count * paint.line_size head.now }
+    requires line { line_size form.now ≡ paint.line_size head.now }
+    requires some { 0 < line_size form.now }
+    requires stride { laid_line_size form.now ≤ form.now.stride }
+    requires places { HavePlaces form.now 0 head.now.height (length canvas.old) }
+    ensures room { HasSampleRoom head.now work.new }
+    ensures stand { StandOn form.now y (y + count) (λ k. laid_line form.now (paint.line_of head.now (samples_in (record { head = head.now; groups = work.old.lines.groups })) k)) canvas.old canvas.new }
+{
+    work.paint_some(head, y, count, lines);
+    lay_lines(lines, form, y, count as usize, canvas);
+}
+
+/// Paints the lines of the row of MCUs that is decoded, and lays them out.
+fn lay_row(
+    head: &Head,
+    work: &mut SampleRow,
+    row: u32,
+    lines: &mut [u8],
+    form: &CanvasLines,
+    canvas: &mut [u8],
+)
+    requires row { row < mcus_down head.now }
+    requires room { HasSampleRoom head.now work.old }
+    requires lines { 8 * vertical_max head.now * paint.line_size head.now ≤ length lines.old }
+    requires line { line_size form.now ≡ paint.line_size head.now }
+    requires some { 0 < line_size form.now }
+    requires stride { laid_line_size form.now ≤ form.now.stride }
+    requires places { HavePlaces form.now 0 head.now.height (length canvas.old) }
+    ensures long { length lines.new ≡ length lines.old }
+    ensures room { HasSampleRoom head.now work.new }
+    ensures stand { (b : BoardValue) → b.scan.head ≡ head.now → ShowsMcus b (row * mcus_across head.now) (units_in head.now work.old.lines.groups)
+        → StandOn form.now (first_line head.now row) (first_line head.now row + line_count head.now row) (λ k. laid_line form.now (paint.line_of head.now (samples_of b) k)) canvas.old canvas.new }
+{
+    head.be_lawful();
+    let (y, count) = lines_of(head, row);
+    let size = count as usize * form.bytes_before();
+    lay_some(head, work, y, count, &mut lines[..size], form, canvas);
+}
+
+/// Decodes a scan, lays the lines of its picture out, and puts its marks, where these are asked for.
+fn lay_rows(
+    scan: &Scan,
+    work: &mut SampleRow,
+    lines: &mut [u8],
+    form: &CanvasLines,
+    canvas: &mut [u8],
+    marks: &mut [u8],
+) -> Marked
+    requires room { HasSampleRoom scan.now.head work.old }
+    requires lines { 8 * vertical_max scan.now.head * paint.line_size scan.now.head ≤ length lines.old }
+    requires line { line_size form.now ≡ paint.line_size scan.now.head }
+    requires some { 0 < line_size form.now }
+    requires stride { laid_line_size form.now ≤ form.now.stride }
+    requires places { HavePlaces form.now 0 scan.now.head.height (length canvas.old) }
+    requires marks { HasMarkRoom scan.now marks.old }
+    ensures stand { (b : BoardValue) → HasFirst scan.now (length scan.now.intervals) b → StandOn form.now 0 scan.now.head.height (λ k. laid_line form.now (paint.line_of scan.now.head (samples_of b) k)) canvas.old canvas.new }
+    ensures counts { CountsRows scan.now (length scan.now.intervals) result }
+    ensures puts { PutsBetween scan.now 0 (mcus_down scan.now.head) marks.old marks.new }
+{
+    let head = scan.head();
+    // By their contracts a picture has an MCU, and a scan as many intervals as its head says.
+    let _some = (head.mcus(), scan.intervals());
+    let down = shape_of(head).down;
+    let mut rows = Rows::of(scan, scan.intervals());
+    let mut marked = Marked::none();
+    'rows: while rows.row() < down {
+        let row = rows.row();
+        let more = work.decode(&mut rows, marks);
+        marked = marked.with(more);
+        lay_row(head, work, row, lines, form, canvas);
+    }
+    marked
+}
+
+/// Decodes a scan and lays out its picture. It takes memory for a row of MCUs and for its lines; nothing is written before it has
+/// that.
+fn lay_scan(
+    alloc: Global,
+    scan: &Scan,
+    form: &CanvasLines,
+    canvas: &mut [u8],
+    marks: &mut [u8],
+) -> Result<Counts, Memory>
+    requires line { line_size form.now ≡ paint.line_size scan.now.head }
+    requires some { 0 < line_size form.now }
+    requires stride { laid_line_size form.now ≤ form.now.stride }
+    requires places { HavePlaces form.now 0 scan.now.head.height (length canvas.old) }
+    requires marks { HasMarkRoom scan.now marks.old }
+    ensures laid { IfOk result (LaysScan scan.now form.now canvas.old canvas.new marks.old marks.new) }
+    ensures canvas { IfErr result (λ _. canvas.new ≡ canvas.old) }
+    ensures marks { IfErr result (λ _. marks.new ≡ marks.old) }
+{
+    let mut work = SampleRow::open(alloc, scan.head())?;
+    let mut lines = vec![in alloc; 0; bytes_of_row(scan.head())]?;
+    // By its contract a picture has an MCU.
+    let _some = scan.head().mcus();
+    let all = scan.intervals();
+    let marked = lay_rows(scan, &mut work, &mut lines, form, canvas, marks);
+    Ok(counts_of(scan, all, marked))
+}
+
+/// What the pixels of a picture are.
+fn pixels_in(head: &Head) -> Pixels
+    ensures components { sample_count result ≡ components_of head.now }
+    ensures line { sample_count result * head.now.width ≡ paint.line_size head.now }
+{
+    // By its contract a head has as many components as its kind says.
+    let _components = head.components();
+    match head.kind() {
+        Kind::Grey => Pixels::Grey,
+        Kind::Rgb => Pixels::Colour,
+        Kind::Ycc => Pixels::Colour,
+    }
+}
+
+/// Decodes a file onto a canvas; its marks fill the front of `marks`, unless that has no room at all. None where there is no such
+/// layout, or a line is longer than the stride; then, and where it fails, nothing is written.
+pub(crate) fn decode_on(
+    alloc: Global,
+    file: &[u8],
+    stride: usize,
+    layout: u32,
+    canvas: &mut [u8],
+    marks: &mut [u8],
+) -> Result<Option<DecodeReport>, DecodeError>
+    ensures decoded { IfOk result (λ o. IfSome o (λ r. DecodesCanvas file.now stride layout canvas.old canvas.new marks.old marks.new r)) }
+    ensures none { result ≡ Ok None → canvas.new ≡ canvas.old }
+    ensures no_marks { result ≡ Ok None → marks.new ≡ marks.old }
+    ensures refused { IfErr result (λ e. (f : Refusal) → e ≡ DecodeError.Refused f → f ≢ refusal.Memory → RefusalOf file.now f) }
+    ensures layout { result ≡ Ok None → LacksLayoutOf file.now stride layout }
+    ensures room { result ≡ Err DecodeError.NoRoom → LacksCanvas file.now stride layout (length canvas.old) (length marks.old) }
+    ensures canvas { IfErr result (λ _. canvas.new ≡ canvas.old) }
+    ensures marks { IfErr result (λ _. marks.new ≡ marks.old) }
+{
+    let scan = match scan_of_file(alloc, file) {
+        Ok(scan) => scan,
+        Err(refusal) => return Err(DecodeError::Refused(refusal)),
+    };
+    let head = scan.head();
+    let Some(form) = form_of(head.width(), pixels_in(head), stride, layout) else {
+        return Ok(None);
+    };
+    let count = scan.intervals();
+    if !have_places(&form, head.height() as usize, canvas.len()) {
+        return Err(DecodeError::NoRoom);
+    }
+    if lacks_room(marks, count) {
+        return Err(DecodeError::NoRoom);
+    }
+    let asked = asked_for(marks, count);
+    let Ok(counts) = lay_scan(alloc, &scan, &form, canvas, &mut marks[..asked]) else {
+        return Err(DecodeError::Refused(Refusal::Memory));
+    };
+    Ok(Some(DecodeReport::of(&scan, counts)))
+}

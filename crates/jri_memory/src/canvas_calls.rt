@@ -1,0 +1,50 @@
+//! The call that decodes onto a canvas.
+
+ghost use Rattle.std.specs.Prelude.{◌≡◌, ◌≢◌, ◌<◌, ◌≤◌, length};
+ghost use Rattle.jri_memory.specs.Calls.{TellsFault, TellsNoPicture, TellsNoRefusal};
+ghost use Rattle.jri_memory.specs.Canvases.{DecodesCanvas, LacksCanvas, LacksLayoutOf};
+
+use crate::answers::{tell, tell_why};
+use crate::canvas::decode_on;
+use crate::report::DecodeReport;
+use crate::status::NO_LAYOUT;
+use std::alloc::Global;
+
+/// Decodes a file onto a canvas, line k from byte `k * stride` on, in the layout of this number, and its marks into the front of
+/// `marks`, unless that has no room at all: 0, or 3 where an interval is damaged. With 1 for want of memory, 2 where the file is
+/// refused, 4 where a buffer has too little room, and 6 where there is no such layout or a line is longer than the stride, both
+/// are as they were.
+pub fn decode_canvas(
+    alloc: Global,
+    file: &[u8],
+    canvas: &mut [u8],
+    stride: usize,
+    layout: u32,
+    marks: &mut [u8],
+    report: &mut DecodeReport,
+) -> u32
+    ensures sound { result ≡ 0 → DecodesCanvas file.now stride layout canvas.old canvas.new marks.old marks.new report.new }
+    ensures damaged { result ≡ 3 → DecodesCanvas file.now stride layout canvas.old canvas.new marks.old marks.new report.new }
+    ensures undamaged { result ≡ 0 → report.new.damaged ≡ 0 }
+    ensures some_damaged { result ≡ 3 → 0 < report.new.damaged }
+    ensures refused { result ≡ 2 → TellsFault file.now report.new.refusal report.new.detail }
+    ensures memory { result ≡ 1 → report.new.refusal ≡ 19 }
+    ensures room { result ≡ 4 → LacksCanvas file.now stride layout (length canvas.old) (length marks.old) }
+    ensures room_alone { result ≡ 4 → TellsNoRefusal report.new }
+    ensures layout { result ≡ 6 → LacksLayoutOf file.now stride layout }
+    ensures layout_alone { result ≡ 6 → TellsNoRefusal report.new }
+    ensures no_picture { result ≢ 0 → result ≢ 3 → TellsNoPicture report.new }
+    ensures canvas { result ≢ 0 → result ≢ 3 → canvas.new ≡ canvas.old }
+    ensures marks { result ≢ 0 → result ≢ 3 → marks.new ≡ marks.old }
+    ensures few { result ≤ 6 }
+    ensures no_lines { result ≢ 5 }
+{
+    match decode_on(alloc, file, stride, layout, canvas, marks) {
+        Ok(Some(decoded)) => tell(decoded, report),
+        Ok(None) => {
+            *report = DecodeReport::empty();
+            NO_LAYOUT
+        }
+        Err(undecoded) => tell_why(undecoded, report),
+    }
+}

@@ -1,0 +1,85 @@
+//! Lines laid out on a canvas of the caller's.
+
+ghost use Rattle.std.specs.Prelude.{◌≡◌, ◌≢◌, ℕ, ◌*◌, ◌<◌, ◌≤◌, IfSome, None, length};
+ghost use Rattle.jri_canvas.specs.Layouts.{sample_count};
+ghost use Rattle.jri_memory.specs.Canvases.{HasForm, LacksLayout, LacksLinesToLay, LacksRoomToLay, LaysOut};
+
+use crate::status::{NO_LAYOUT, NO_ROOM, SOUND};
+use jri_canvas::{CanvasLines, Layout, Pixels, have_places, lay_lines};
+
+/// What pixels of so many components are.
+pub(crate) fn pixels_of(components: u32) -> Option<Pixels>
+    ensures some { IfSome result (λ p. sample_count p ≡ components) }
+    ensures not_grey { result ≡ None → components ≢ 1 }
+    ensures not_colour { result ≡ None → components ≢ 3 }
+{
+    match components {
+        1 => Some(Pixels::Grey),
+        3 => Some(Pixels::Colour),
+        _ => None,
+    }
+}
+
+/// What the lines of a canvas are, where none reaches into the next.
+pub(crate) fn form_of(width: u32, pixels: Pixels, stride: usize, layout: u32) -> Option<CanvasLines>
+    ensures form { IfSome result (λ c. HasForm width (sample_count pixels) stride layout c) }
+    ensures pixels { IfSome result (λ c. c.pixels ≡ pixels) }
+    ensures stride { IfSome result (λ c. width ≤ c.stride) }
+    ensures none { result ≡ None → LacksLayout width (sample_count pixels) stride layout }
+{
+    let form = CanvasLines {
+        width,
+        pixels,
+        layout: Layout::of_number(layout)?,
+        stride,
+    };
+    if stride < form.bytes() {
+        return None;
+    }
+    Some(form)
+}
+
+/// How many whole lines so many bytes are.
+fn whole_lines(bytes: usize, line: usize) -> Option<usize>
+    ensures whole { IfSome result (λ n. bytes ≡ n * line) }
+    ensures few { IfSome result (λ n. n ≤ bytes) }
+    ensures some { IfSome result (λ _. 0 < line) }
+    ensures none { result ≡ None → (n : ℕ) → 0 < line → bytes ≢ n * line }
+{
+    if bytes.checked_rem(line)? != 0 {
+        return None;
+    }
+    Some(bytes / line)
+}
+
+/// Lays out lines that stand one behind the other, line k from byte `k * stride` of the canvas on: 0. With 4 where the canvas has
+/// too little room, and 6 where there are no such lines or no such layout, it is as it was.
+pub fn lay_out(
+    lines: &[u8],
+    width: u32,
+    components: u32,
+    canvas: &mut [u8],
+    stride: usize,
+    layout: u32,
+) -> u32
+    ensures done { result ≡ 0 → LaysOut lines.now width components stride layout canvas.old canvas.new }
+    ensures room { result ≡ 4 → LacksRoomToLay lines.now width components stride layout (length canvas.old) }
+    ensures layout { result ≡ 6 → LacksLinesToLay lines.now width components stride layout }
+    ensures canvas { result ≢ 0 → canvas.new ≡ canvas.old }
+    ensures few { result ≢ 0 → result ≢ 4 → result ≡ 6 }
+{
+    let Some(pixels) = pixels_of(components) else {
+        return NO_LAYOUT;
+    };
+    let Some(form) = form_of(width, pixels, stride, layout) else {
+        return NO_LAYOUT;
+    };
+    let Some(count) = whole_lines(lines.len(), form.bytes_before()) else {
+        return NO_LAYOUT;
+    };
+    if !have_places(&form, count, canvas.len()) {
+        return NO_ROOM;
+    }
+    lay_lines(lines, &form, 0, count, canvas);
+    SOUND
+}
