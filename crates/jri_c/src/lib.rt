@@ -5,15 +5,16 @@
 
 ghost use Rattle.std.specs.Prelude.{◌≡◌, ◌≢◌, ◌<◌, ◌≤◌, length, drop};
 ghost use Rattle.jri_memory.specs.Canvases.{DecodesCanvas, LacksCanvas, LacksLayoutOf, LacksLinesToLay, LacksRoomToLay, LaysOut};
-ghost use Rattle.jri_memory.specs.Damages.{ListsDamages, TellsNoDamage};
+ghost use Rattle.jri_damages.specs.Damages.{ListsDamages, TellsNoDamage};
 ghost use Rattle.jri_memory.specs.Checks.{ChecksFile, LacksMarkRoom};
 ghost use Rattle.jri_memory.specs.Calls.{DecodesFile, DecodesLines, TellsFault, IsMeasureOf, IsNumberOfSome, LacksLines, LacksRoom, LacksRoomForLines, TellsNoHead, TellsNoPicture, TellsNoRefusal};
 ghost use Rattle.jri_memory.specs.Rows.{GivesRows, LacksRoomForRow, LacksRows, SkipsRows, TellsFaultSoFar, TellsNothing, are_all};
 
+use jri_damages::{Damage, DamageReport, list_damages};
 use jri_memory::{
-    Damage, DamageReport, DecodeReport, Measure, RowPlace, RowsReport, build_text, check_marks,
-    decode_canvas, decode_file, decode_file_rows, decode_lines, end_text, lay_out, list_damages,
-    measure_file, refusal_text, skip_file_rows,
+    DecodeReport, Measure, RowPlace, RowsReport, build_text, check_marks, decode_canvas,
+    decode_file, decode_file_rows, decode_lines, end_text, lay_out, measure_file, refusal_text,
+    skip_file_rows,
 };
 use std::alloc::Global;
 

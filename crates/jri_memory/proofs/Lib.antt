@@ -1,4 +1,3 @@
 pub mod Filled
-pub mod Listing
 pub mod Marks
 pub mod CanvasRows

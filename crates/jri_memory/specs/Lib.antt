@@ -3,4 +3,3 @@ pub mod Checks
 pub mod Rows
 pub mod Canvases
 pub use Rattle.jri_engine.specs.Files
-pub mod Damages

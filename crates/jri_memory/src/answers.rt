@@ -10,7 +10,7 @@ use crate::status::{DAMAGED, NO_MEMORY, NO_ROOM, REFUSED, SOUND};
 use jr_head::Refusal;
 
 /// The answer to a refusal.
-pub(crate) fn status_of(refusal: Refusal) -> u32
+pub fn status_of(refusal: Refusal) -> u32
     ensures memory { refusal ≡ Memory → result ≡ 1 }
     ensures refused { refusal ≢ Memory → result ≡ 2 }
     ensures of_the_file { result ≡ 2 → refusal ≢ Memory }

@@ -36,7 +36,7 @@ pub struct DecodeReport {
 }
 
 /// What a refusal tells beside its number.
-pub(crate) fn detail(refusal: Refusal) -> u64
+pub fn detail(refusal: Refusal) -> u64
     ensures { result ≡ detail_of refusal }
 {
     match refusal {

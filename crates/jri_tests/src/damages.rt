@@ -1,7 +1,8 @@
 //! The damaged intervals of files in memory, listed into buffers of some sizes, and the words for a scan's end.
 
+use jri_damages::{Damage, DamageReport, list_damages};
 use jri_memory::status::{DAMAGED, REFUSED, SOUND};
-use jri_memory::{Damage, DamageReport, DecodeReport, build_text, end_text, list_damages};
+use jri_memory::{DecodeReport, build_text, end_text};
 use std::alloc::Global;
 use std::test::Fail;
 use test_files::files::{file, front};

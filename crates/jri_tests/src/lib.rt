@@ -3,6 +3,8 @@
 #![tactic(auto)]
 
 #[cfg(test)]
+mod canvas;
+#[cfg(test)]
 mod counting;
 #[cfg(test)]
 mod damages;

@@ -1,6 +1,6 @@
 use Rattle.std.proofs.Common.{arith, rules, ◌≡◌}
-use Rattle.jri_memory.proofs.Listing.{damages_none, damages_one}
-use Rattle.jri_memory.proofs.damages.list_one.Goals as goal
+use Rattle.jri_damages.proofs.Listing.{damages_none, damages_one}
+use Rattle.jri_damages.proofs.damages.list_one.Goals as goal
 
 pub overflow_add-result : goal.overflow_add-result
 overflow_add-result c = search (rules, c.intervals-all.ensures.value, c.requires.few, c.requires.there)

@@ -7,8 +7,8 @@ use Rattle.jr_damage.specs.declared.segments.CodedSpan.{CodedSpan}
 use Rattle.jr_damage.specs.Coded.{AreSegmentsOf}
 use Rattle.jr_damage.specs.Map.{IsDamageOf}
 use Rattle.jr_damage.specs.Verdicts.{IsFileScan}
-use Rattle.jri_memory.specs.declared.damages.Damage.{Damage}
-use Rattle.jri_memory.specs.declared.damages.DamageReport.{DamageReport}
+use Rattle.jri_damages.specs.declared.damages.Damage.{Damage}
+use Rattle.jri_damages.specs.declared.damages.DamageReport.{DamageReport}
 
 -- the bytes of an interval as numbers, 0 where it has none
 abbrev pub TellsBytes : Option CodedSpan → Damage → Type 0

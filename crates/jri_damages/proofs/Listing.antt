@@ -7,8 +7,8 @@ use Rattle.jr_scan.specs.ScanValue.{ScanValue, interval_of}
 use Rattle.jr_damage.specs.declared.map.DamagedInterval.{DamagedInterval}
 use Rattle.jr_damage.specs.declared.segments.CodedSpan.{CodedSpan}
 use Rattle.jr_damage.specs.Map.{IsDamageOf}
-use Rattle.jri_memory.specs.declared.damages.Damage.{Damage}
-use Rattle.jri_memory.specs.Damages.{AreDamages, IsAt, IsListedAt, TellsDamage, damage_at, no_damage}
+use Rattle.jri_damages.specs.declared.damages.Damage.{Damage}
+use Rattle.jri_damages.specs.Damages.{AreDamages, IsAt, IsListedAt, TellsDamage, damage_at, no_damage}
 
 -- nothing is listed yet
 pub damages_begin : (s : ScanValue) (spans : List CodedSpan) (first : ℕ) (list : List Damage) → AreDamages s spans first first 0 list

@@ -1,6 +1,6 @@
 use Rattle.std.proofs.Common.{◌-◌, ◌≡◌, ℕ, ◌≤◌, length, drop}
-use Rattle.jri_memory.specs.Damages.{AreDamages}
-use Rattle.jri_memory.proofs.damages.list.Given as goal
+use Rattle.jri_damages.specs.Damages.{AreDamages}
+use Rattle.jri_damages.proofs.damages.list.Given as goal
 
 abbrev pub invariant-intervals : goal.invariant-intervals
 invariant-intervals l = AreDamages l.scan l.spans l.initial.first l.next l.count l.damages × (l.count ≤ l.next) × (l.next ≤ l.all) × (l.count ≤ length l.damages)

@@ -1,6 +1,6 @@
 use Rattle.std.proofs.Common.{arith, rules, ◌∙◌, ◌≡◌, ◌≤◌, length}
-use Rattle.jri_memory.proofs.Listing.{drop_on}
-use Rattle.jri_memory.proofs.damages.list.Goals as goal
+use Rattle.jri_damages.proofs.Listing.{drop_on}
+use Rattle.jri_damages.proofs.damages.list.Goals as goal
 
 pub intervals-preserved : goal.intervals-preserved
 intervals-preserved c =

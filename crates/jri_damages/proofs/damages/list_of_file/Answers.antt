@@ -1,6 +1,6 @@
 use Rattle.std.proofs.Common.{rules, refl, ◌≡◌}
 use Rattle.std.specs.Arc.{arc_value}
-use Rattle.jri_memory.proofs.damages.list_of_file.Goals as goal
+use Rattle.jri_damages.proofs.damages.list_of_file.Goals as goal
 
 pub returns-clause-listed : goal.returns-clause-listed
 returns-clause-listed c = record {

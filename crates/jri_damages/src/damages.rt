@@ -4,16 +4,15 @@ ghost use Rattle.std.specs.Prelude.{◌≡◌, ◌≢◌, ℕ, ◌+◌, ◌<◌,
 ghost use Rattle.jr_segments.specs.declared.refusal.Refusal.TheVariants as refusal;
 ghost use Rattle.jr_head.specs.Heads.{RefusalOf};
 ghost use Rattle.jri_memory.specs.Calls.{TellsFault, detail_of};
-ghost use Rattle.jri_memory.specs.Damages.{AreDamages, ListsDamages, TellsDamage, TellsNoDamage};
+ghost use Rattle.jri_damages.specs.Damages.{AreDamages, ListsDamages, TellsDamage, TellsNoDamage};
 ghost use Rattle.jr_segments.specs.Refusal.{number_of};
 
-use crate::answers::status_of;
-use crate::report::detail;
-use crate::status::{DAMAGED, SOUND};
 use jr_damage::{CodedSpan, DamagedInterval, coded_segments, damaged_interval};
 use jr_head::Refusal;
 use jr_scan::Scan;
 use jri_engine::scan_of_file;
+use jri_memory::status::{DAMAGED, SOUND};
+use jri_memory::{detail, status_of};
 use std::alloc::Global;
 
 /// An interval that has no decoding, as numbers.
