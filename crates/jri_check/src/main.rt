@@ -42,6 +42,14 @@ fn unread(error: &Error) -> ReadError {
     }
 }
 
+/// Makes room for all bytes of a file and one more, so that two reads take it and see its end; where the system tells no size, or
+/// there is no such room, reads take it part by part.
+fn make_room(bytes: &mut Vec<u8>, file: &File) {
+    if let Ok(data) = file.metadata() {
+        let _ = bytes.reserve(data.len().saturating_add(1).min(TOO_MANY) as usize);
+    }
+}
+
 /// What a name that is no text is told as.
 const UNTOLD: &str = "/?";
 
@@ -93,6 +101,7 @@ impl<'a> Folder for Disk<'a> {
             Err(error) => return Err(unread(&error)),
         };
         let mut bytes = Vec::new(alloc);
+        make_room(&mut bytes, &file);
         match file.take(TOO_MANY).read_to_end(&mut bytes) {
             Ok(_) => Ok(bytes),
             Err(error) => Err(unread(&error)),
