@@ -20,7 +20,7 @@ from typing import Any, BinaryIO, Deque, Dict, Iterable, Iterator, Literal, Opti
 import numpy
 import numpy.typing
 
-from ._library import CALLS, DAMAGED, NO_LINES, NO_MEMORY, NO_ROOM, REFUSED, SOUND, ffi, library, refusal_text
+from ._library import CALLS, DAMAGED, LAYOUTS, NO_LINES, NO_MEMORY, NO_ROOM, REFUSED, SOUND, ffi, library, refusal_text
 
 __all__ = [
     "MAX_PIXELS",
@@ -48,6 +48,7 @@ Pixels = numpy.typing.NDArray[numpy.uint8]
 Path = Union[str, "os.PathLike[str]"]
 Source = Union[bytes, bytearray, memoryview, mmap.mmap, numpy.typing.NDArray[Any], Path, BinaryIO]
 Verdict = Literal["sound", "damaged", "refused"]
+Layout = Literal["rgb", "bgr", "rgbx", "bgrx"]
 Ended = Literal["EOI", "marker", "out of step", "extra restart", "end of file"]
 
 #: The most pixels that are decoded where nothing else is said: a head of 150 bytes may claim 268,435,456.
@@ -195,31 +196,66 @@ def _array(head: Measure, out: Optional[Pixels]) -> Pixels:
     return out
 
 
+def _canvas(head: Measure, layout: Layout, out: Optional[Pixels]) -> Pixels:
+    """The array that is filled in a layout: the caller's may have lines that stand apart."""
+    if layout not in LAYOUTS:
+        raise ValueError(f"a layout is one of {', '.join(LAYOUTS)}")
+    shape = (head.height, head.width, LAYOUTS[layout][1])
+    if out is None:
+        return numpy.empty(shape, numpy.uint8)
+    is_lines = out.ndim == 3 and out.strides[1:] == (shape[2], 1) and out.strides[0] >= shape[1] * shape[2]
+    if out.shape != shape or out.dtype != numpy.uint8 or not (is_lines and out.flags.writeable):
+        raise ValueError(f"out has to be an array of uint8 of shape {shape}, of lines one behind the other, that can be written")
+    return out
+
+
+def _decode(file: Any, pixels: Pixels, marks: Pixels, layout: Optional[Layout], told: Any) -> int:
+    """Decodes a file into an array that has its shape."""
+    if layout is None:
+        return int(library.jri_decode(file, len(file), _room(pixels), pixels.nbytes, _room(marks), marks.nbytes, told))
+    stride, line = pixels.strides[0], pixels.shape[1] * pixels.shape[2]
+    room = (pixels.shape[0] - 1) * stride + line
+    canvas = ffi.cast("uint8_t *", pixels.ctypes.data)
+    number = LAYOUTS[layout][0]
+    return int(library.jri_decode_canvas(file, len(file), canvas, room, stride, number, _room(marks), marks.nbytes, told))
+
+
 def measure(source: Source) -> Measure:
     """What the head says; nothing is decoded."""
     return _measured(_bytes(source))
 
 
-def read(source: Source, *, out: Optional[Pixels] = None, max_pixels: int = MAX_PIXELS) -> Picture:
-    """The picture, sound or damaged, the marks of its intervals and the report. `out` is filled where it is given."""
+def read(
+    source: Source, *, out: Optional[Pixels] = None, layout: Optional[Layout] = None, max_pixels: int = MAX_PIXELS
+) -> Picture:
+    """The picture, sound or damaged, the marks of its intervals and the report. `out` is filled where it is given.
+
+    A layout, "rgb", "bgr", "rgbx" or "bgrx", gives each pixel three bytes, or four of which the last is 255, grey spread to
+    three; then the lines of `out` may stand apart.
+    """
     file = _bytes(source)
     head = _measured(file)
     if head.width * head.height > max_pixels:
         raise ValueError(f"{head.width} by {head.height} pixels are more than max_pixels")
-    pixels = _array(head, out)
+    pixels = _array(head, out) if layout is None else _canvas(head, layout, out)
     marks = numpy.empty(head.intervals, numpy.uint8)
     told = ffi.new("struct jri_report *")
-    status = library.jri_decode(file, len(file), _room(pixels), pixels.nbytes, _room(marks), marks.nbytes, told)
+    status = _decode(file, pixels, marks, layout, told)
     if status not in (SOUND, DAMAGED):
         _raise(status, told.refusal, told.detail)
     return Picture(pixels, marks, _reported(told))
 
 
 def decode(
-    source: Source, *, out: Optional[Pixels] = None, damaged: bool = True, max_pixels: int = MAX_PIXELS
+    source: Source,
+    *,
+    out: Optional[Pixels] = None,
+    layout: Optional[Layout] = None,
+    damaged: bool = True,
+    max_pixels: int = MAX_PIXELS,
 ) -> Pixels:
-    """The picture's pixels. With damaged=False a damaged file raises `Damaged`."""
-    picture = read(source, out=out, max_pixels=max_pixels)
+    """The picture's pixels, in a layout as `read` has them. With damaged=False a damaged file raises `Damaged`."""
+    picture = read(source, out=out, layout=layout, max_pixels=max_pixels)
     if picture.report.damaged and not damaged:
         raise Damaged(picture)
     return picture.pixels

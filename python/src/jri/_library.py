@@ -9,9 +9,12 @@ import cffi
 
 CALLS = 3
 
-SOUND, NO_MEMORY, REFUSED, DAMAGED, NO_ROOM, NO_LINES = range(6)
+SOUND, NO_MEMORY, REFUSED, DAMAGED, NO_ROOM, NO_LINES, NO_LAYOUT = range(7)
 
 ALL, MORE = range(2)
+
+#: The layouts of a canvas, and how many bytes a pixel has in each.
+LAYOUTS = {"rgb": (1, 3), "bgr": (2, 3), "rgbx": (3, 4), "bgrx": (4, 4)}
 
 ffi = cffi.FFI()
 ffi.cdef(
@@ -30,6 +33,7 @@ ffi.cdef(
     uint32_t jri_decode_rows(const uint8_t *, size_t, uint32_t, struct jri_place *, uint32_t, uint8_t *, size_t,
                              struct jri_rows *);
     uint32_t jri_skip_rows(const uint8_t *, size_t, uint32_t, struct jri_place *, uint32_t, struct jri_rows *);
+    uint32_t jri_decode_canvas(const uint8_t *, size_t, uint8_t *, size_t, size_t, uint32_t, uint8_t *, size_t, struct jri_report *);
     uint32_t jri_damages(const uint8_t *, size_t, uint32_t, struct jri_damage *, size_t, struct jri_damage_list *);
     uint64_t jri_refusal_text(uint32_t, uint64_t, uint8_t *, size_t);
     uint64_t jri_end_text(const struct jri_report *, uint8_t *, size_t);
