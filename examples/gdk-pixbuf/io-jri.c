@@ -70,6 +70,14 @@ static gboolean make_room(struct bytes *file, gsize more, GError **error) {
     return TRUE;
 }
 
+static gboolean append(struct bytes *file, const guint8 *data, gsize length, GError **error) {
+    if (!make_room(file, length, error))
+        return FALSE;
+    memcpy(file->data + file->length, data, length);
+    file->length += length;
+    return TRUE;
+}
+
 static void give_back(struct bytes *file) {
     g_free(file->data);
     *file = (struct bytes){0};
@@ -98,6 +106,12 @@ static gboolean is_of_another_kind(guint32 refusal) {
     }
 }
 
+/* Whether the other loader gets a file of another kind at its end alone. It can't wait for bytes of arithmetic data: by parts it
+ * fails, or doesn't return. A progressive file's frame is told by detail C2, and all but these may be arithmetic. */
+static gboolean is_handed_over_whole(const jri_head *head) {
+    return head->refusal == 4 || (head->refusal == 5 && head->detail != 0xC2);
+}
+
 static void size_other(GdkPixbufLoader *other, gint width, gint height, gpointer data) {
     struct loading *l = data;
     gint wanted_width = width, wanted_height = height;
@@ -121,8 +135,11 @@ static void update_other(GdkPixbufLoader *other, gint x, gint y, gint width, gin
         l->updated(l->pixbuf, x, y, width, height, l->user);
 }
 
-/* Gives all bytes that came to the other loader; where there is none the file is refused. */
+/* Gives all bytes that came to the other loader; where there is none the file is refused. A whole file gets an EOI at its end, so
+ * that the other loader doesn't wait for one that was cut off. */
 static gboolean hand_over(struct loading *l, GError **error) {
+    if (is_handed_over_whole(&l->head) && !append(&l->file, (const guint8 *)"\xFF\xD9", 2, error))
+        return FALSE;
     l->other = gdk_pixbuf_loader_new_with_type("jpeg", NULL);
     if (!l->other)
         return refuse(l->head.refusal, l->head.detail, error);
@@ -183,9 +200,12 @@ static gboolean read_head(struct loading *l, guint32 more, GError **error) {
         return TRUE;
     if (status == JRI_NO_MEMORY)
         return fail_for_memory(error);
-    if (is_of_another_kind(l->head.refusal))
+    if (!is_of_another_kind(l->head.refusal))
+        return refuse(l->head.refusal, l->head.detail, error);
+    if (more == JRI_ALL || !is_handed_over_whole(&l->head))
         return hand_over(l, error);
-    return refuse(l->head.refusal, l->head.detail, error);
+    l->awaited = G_MAXSIZE;
+    return TRUE;
 }
 
 /* Spreads so many bytes of grey to red, green and blue, in their own place: the last one first, since its three stand behind it. */
@@ -273,12 +293,10 @@ static gboolean load_increment(gpointer context, const guchar *data, guint lengt
         return gdk_pixbuf_loader_write(l->other, data, length, error);
     if (l->stage == IS_DONE)
         return TRUE;
-    if (!make_room(&l->file, length, error)) {
+    if (!append(&l->file, data, length, error)) {
         l->stage = HAS_FAILED;
         return FALSE;
     }
-    memcpy(l->file.data + l->file.length, data, length);
-    l->file.length += length;
     return l->file.length < l->awaited || advance(l, JRI_MORE, error);
 }
 
