@@ -20,6 +20,8 @@ enum { PART_OF_ROW = 8, LEAST_AWAITED = 256, MOST_AWAITED = 65536 };
 
 enum { CHANNELS = 3, GREY = 128 };
 
+static const guint8 END_OF_IMAGE[] = {0xFF, 0xD9};
+
 enum stage { READS_HEAD, DECODES, IS_DONE, HANDED_OVER, HAS_FAILED };
 
 struct bytes {
@@ -135,10 +137,10 @@ static void update_other(GdkPixbufLoader *other, gint x, gint y, gint width, gin
         l->updated(l->pixbuf, x, y, width, height, l->user);
 }
 
-/* Gives all bytes that came to the other loader; where there is none the file is refused. A whole file gets an EOI at its end, so
- * that the other loader doesn't wait for one that was cut off. */
-static gboolean hand_over(struct loading *l, GError **error) {
-    if (is_handed_over_whole(&l->head) && !append(&l->file, (const guint8 *)"\xFF\xD9", 2, error))
+/* Gives all bytes that came to the other loader; where there is none the file is refused. A whole file gets an EOI behind its end:
+ * else the other loader fails on some that were cut off. */
+static gboolean hand_over(struct loading *l, guint32 more, GError **error) {
+    if (more == JRI_ALL && !append(&l->file, END_OF_IMAGE, sizeof END_OF_IMAGE, error))
         return FALSE;
     l->other = gdk_pixbuf_loader_new_with_type("jpeg", NULL);
     if (!l->other)
@@ -203,7 +205,7 @@ static gboolean read_head(struct loading *l, guint32 more, GError **error) {
     if (!is_of_another_kind(l->head.refusal))
         return refuse(l->head.refusal, l->head.detail, error);
     if (more == JRI_ALL || !is_handed_over_whole(&l->head))
-        return hand_over(l, error);
+        return hand_over(l, more, error);
     l->awaited = G_MAXSIZE;
     return TRUE;
 }
@@ -259,8 +261,9 @@ static gboolean advance(struct loading *l, guint32 more, GError **error) {
 
 /* Goes on to the end of the file: of one that was cut off, what is missing stays grey. */
 static gboolean finish(struct loading *l, GError **error) {
-    gboolean is_good = advance(l, JRI_ALL, error);
-    return l->stage == HANDED_OVER ? gdk_pixbuf_loader_close(l->other, error) : is_good;
+    gboolean is_good = l->stage == HANDED_OVER ? gdk_pixbuf_loader_write(l->other, END_OF_IMAGE, sizeof END_OF_IMAGE, error)
+                                               : advance(l, JRI_ALL, error);
+    return is_good && l->stage == HANDED_OVER ? gdk_pixbuf_loader_close(l->other, error) : is_good;
 }
 
 static void clear(struct loading *l) {
@@ -289,15 +292,13 @@ static gpointer begin_load(GdkPixbufModuleSizeFunc size, GdkPixbufModulePrepared
 
 static gboolean load_increment(gpointer context, const guchar *data, guint length, GError **error) {
     struct loading *l = context;
-    if (l->stage == HANDED_OVER)
-        return gdk_pixbuf_loader_write(l->other, data, length, error);
     if (l->stage == IS_DONE)
         return TRUE;
-    if (!append(&l->file, data, length, error)) {
+    gboolean is_taken = l->stage == HANDED_OVER ? gdk_pixbuf_loader_write(l->other, data, length, error)
+                                                : append(&l->file, data, length, error);
+    if (!is_taken)
         l->stage = HAS_FAILED;
-        return FALSE;
-    }
-    return l->file.length < l->awaited || advance(l, JRI_MORE, error);
+    return is_taken && (l->file.length < l->awaited || advance(l, JRI_MORE, error));
 }
 
 static gboolean stop_load(gpointer context, GError **error) {
