@@ -3,7 +3,7 @@
  *
  * The bytes are kept as they arrive. Each time that about a row of MCUs more has come, the rows that are settled by now are decoded
  * straight into the pixbuf, each once, and told. A file that libjri doesn't decode since it is no baseline file, as a progressive
- * one, goes on to the loader of gdk-pixbuf that is named "jpeg", with all bytes that came and those that follow.
+ * one, goes on to the loader of gdk-pixbuf that is named "jpeg", with all bytes that came and those that follow, or at its end.
  */
 #define GDK_PIXBUF_ENABLE_BACKEND
 #include "orientation.h"
