@@ -1,16 +1,18 @@
 //! An example of a file that arrives: it reads standard input in parts, and behind each part writes the lines of the picture that
 //! the bytes so far settle. Who reads its output sees the picture grow while the file still comes.
 //!
-//! `arriving [BYTES] < photo.jpg > photo.ppm`: BYTES is the most that is read at once, 65536 where nothing is said. The exit status
-//! is 0, 1 for a stream that failed or want of memory, and 2 for a refused file or wrong words.
+//! `arriving [BYTES] < photo.jpg > photo.ppm`: BYTES is the most that is read at once, 65536 where nothing is said. Standard error
+//! tells how many restart intervals are sound and damaged. The exit status is 0, 3 where one is damaged, 1 for a stream that failed
+//! or want of memory, and 2 for a refused file or wrong words.
 #![tactic(auto)]
 
 ghost use Rattle.std.specs.Prelude.{◌≤◌};
 
-use jr_arrival::Arriving;
+use jr_arrival::{Arriving, Finished};
 use jr_base::Memory;
 use jr_head::Head;
 use jr_paint::{HEADER_ROOM, put_header};
+use jr_picture::Counts;
 use jr_rows::shape_of;
 use jr_scan::Scan;
 use jr_segments::Refusal;
@@ -132,13 +134,14 @@ fn write_rest<W: Write>(
     Ok(())
 }
 
-/// Writes the picture of a file that comes in parts of so many bytes at most.
+/// Writes the picture of a file that comes in parts of so many bytes at most; tells how many of its restart intervals are sound and
+/// damaged.
 fn show<I: Read, W: Write>(
     alloc: Global,
     part: usize,
     input: &mut I,
     out: &mut W,
-) -> Result<(), Failure> {
+) -> Result<Counts, Failure> {
     let mut arriving = Arriving::new(alloc);
     let mut pixels = None;
     let mut bytes = vec![in alloc; 0; part]?;
@@ -151,11 +154,12 @@ fn show<I: Read, W: Write>(
         write_settled(alloc, &mut arriving, &mut pixels, out)?;
     }
     let first = arriving.lines();
-    let scan = arriving.finish(alloc)?;
+    let Finished { scan, counts } = arriving.finish(alloc)?;
     if pixels.is_none() {
         begin(alloc, scan.head(), out)?;
     }
-    write_rest(alloc, &scan, first, out)
+    write_rest(alloc, &scan, first, out)?;
+    Ok(counts)
 }
 
 /// What the words ask for.
@@ -184,6 +188,13 @@ fn request_of(rt: &HostRuntime) -> Request {
         };
     }
     request
+}
+
+/// Tells how many restart intervals are sound and damaged, and answers the exit status.
+fn report<E: Write>(errors: &mut E, counts: &Counts) -> u8 {
+    let (sound, damaged) = (counts.sound, counts.damaged);
+    let _ = writeln!(errors, "intervals sound {sound} damaged {damaged}");
+    if damaged > 0 { 3 } else { 0 }
 }
 
 /// Tells why there is no picture, or no whole one, and answers the exit status.
@@ -219,7 +230,7 @@ fn main(rt: HostRuntime) -> ExitCode {
     };
     let shown = show(rt.alloc(), part, &mut rt.stdin(), &mut out);
     ExitCode::from(match shown {
-        Ok(()) => 0,
+        Ok(counts) => report(&mut errors, &counts),
         Err(failure) => tell(&mut errors, &failure),
     })
 }

@@ -6,5 +6,6 @@ pub mod RunsGoOn
 pub mod LinesStay
 pub mod SettledRows
 pub mod Readings
+pub mod Marks
 pub mod Reaching
 pub mod Arrivals

@@ -35,14 +35,15 @@ use Rattle.jr_picture.specs.Headline.{interval_number, within_interval}
 use Rattle.jr_picture.specs.Samples.{samples_of}
 use Rattle.jr_rows.specs.Bands.{ShowsMcus, samples_in, unit_shown, unit_shown_of}
 use Rattle.jr_rows.specs.Groups.{units_in}
-use Rattle.jr_rows.specs.Rows.{HasFirst, HasSampleRoom, ShowsBehind, ShowsFirstUnits, first_line, line_count}
+use Rattle.jr_rows.specs.Rows.{CountsMarks, HasFirst, HasSampleRoom, ShowsBehind, ShowsFirstUnits, first_line, line_count}
 use Rattle.jr_rows.specs.RowLinesValue.{RowLinesValue}
 use Rattle.jr_rows.specs.RowsValue.{SampleRowValue}
+use Rattle.jr_rows.specs.declared.marked.Marked.{Marked}
 use Rattle.jr_rows.proofs.GroupLists.{units_long}
 use Rattle.jr_rows.proofs.PaintedRows.{row_painted}
 use Rattle.jr_rows.proofs.IntervalPlaces.{interval_at, mcus_in_some, next_there}
 use Rattle.jr_rows.proofs.PictureRows.{row_inside}
-use Rattle.jr_rows.proofs.ReadRows.{posted_there, shown_more}
+use Rattle.jr_rows.proofs.ReadRows.{counts_none, posted_there, shown_more}
 use Rattle.jr_arrival.specs.Growing.{with_more}
 use Rattle.jr_arrival.specs.Coming.{AreComing, Becomes, Begins, ComingRowValue, HasGiven, HasNoMore, IsComing, IsOver, MayGoOn, ReadsAll, ReadsTo, StandsIn}
 use Rattle.jr_arrival.proofs.LinesStay.{interval_more}
@@ -102,6 +103,7 @@ coming_stays s t v b c = record {
   begun = λ i lt. over_stays s t i b (c.begun i lt);
   reads = reads_stays s t v.number v.mcu v.place b c.reads;
   shows = λ u then. c.shows u (becomes_more s t u b then);
+  counts = λ u then. c.counts u (becomes_more s t u b then);
 }
 
 -- ---- what MCUs of an interval show
@@ -180,7 +182,7 @@ module _ (s : ScanValue) (v : ComingRowValue) (lawful : IsLawful s.head) (some :
       (kept : (k : ℕ) → k < v.done * blocks_of s.head → get_or (units_in s.head w.lines.groups) k [] ≡ get_or (units_in s.head v.samples.lines.groups) k [])
       (codes : (t : ScanValue) → Becomes s t → (o : PieceValue) → o.interval ≡ interval_of t v.number → IsOutcome o → (k : ℕ) → k < n * blocks_of s.head → get_or (units_in s.head w.lines.groups) (v.done * blocks_of s.head + k) [] ≡ unit_in_piece o (v.mcu * blocks_of s.head + k)) where
     abbrev new : ComingRowValue
-    new = record { row = v.row; done = v.done + n; number = v.number; mcu = v.mcu + n; place = place; samples = w; lines = v.lines }
+    new = record { row = v.row; done = v.done + n; number = v.number; mcu = v.mcu + n; place = place; samples = w; lines = v.lines; marked = v.marked }
 
     -- by the head of whatever the scan may become
     module _ (t : ScanValue) (b : Becomes s t) where
@@ -210,6 +212,7 @@ module _ (s : ScanValue) (v : ComingRowValue) (lawful : IsLawful s.head) (some :
       begun = c.begun;
       reads = reads;
       shows = shows_on;
+      counts = c.counts;
     }
 
   -- whole MCUs
@@ -230,13 +233,13 @@ module _ (s : ScanValue) (v : ComingRowValue) (lawful : IsLawful s.head) (some :
         units k lt ∙ whole_codes longer lawful v.mcu zs p (next_stays i d.0 v.mcu zs p next) n ys q goes_on few o of_longer is k there
         ∙ ap (λ (m : ℕ). unit_in_piece o (v.mcu * m + k)) per_mcu
 
-    pub step_whole : IsComing s (record { row = v.row; done = v.done + n; number = v.number; mcu = v.mcu + n; place = Some q; samples = w; lines = v.lines })
+    pub step_whole : IsComing s (record { row = v.row; done = v.done + n; number = v.number; mcu = v.mcu + n; place = Some q; samples = w; lines = v.lines; marked = v.marked })
     step_whole =
         let first : FirstMcus (run_from i p n) n ys = record { to = q; run = run; none = λ lt. absurd (omega (arith, lt)) } in
         step n (Some q) w within few room (zs ++ ys, runs.going one_run runs_meet shorter_front i lawful v.mcu zs p next n n ys first few q run can) kept codes_whole
 
   -- grey ones behind the last whole one of an interval that is over
-  module _ (front n : ℕ) (zs : List (List ℤ)) (w : SampleRowValue) (over : IsOver s v.number) (far : front ≤ v.mcu) (longest : LongestFront (interval_of s v.number) front zs)
+  module _ (front n : ℕ) (zs : List (List ℤ)) (w : SampleRowValue) (over : IsOver s v.number) (more : 0 < n) (far : front ≤ v.mcu) (longest : LongestFront (interval_of s v.number) front zs)
       (within : v.done + n ≤ mcus_across s.head) (few : v.mcu + n ≤ mcus_in s.head v.number) (room : HasSampleRoom s.head w)
       (kept : (k : ℕ) → k < v.done * blocks_of s.head → get_or (units_in s.head w.lines.groups) k [] ≡ get_or (units_in s.head v.samples.lines.groups) k [])
       (grey : (k : ℕ) → k < n * blocks_of s.head → get_or (units_in s.head w.lines.groups) (v.done * blocks_of s.head + k) [] ≡ grey_unit) where
@@ -245,16 +248,17 @@ module _ (s : ScanValue) (v : ComingRowValue) (lawful : IsLawful s.head) (some :
         grey k lt ∙ grey_codes (interval_of s v.number) front v.mcu zs far longest o (same ∙ b.whole v.number over) is k
         ∙ ap (λ (m : ℕ). unit_in_piece o (v.mcu * m + k)) per_mcu
 
-    pub step_grey : IsComing s (record { row = v.row; done = v.done + n; number = v.number; mcu = v.mcu + n; place = None; samples = w; lines = v.lines })
-    step_grey = step n None w within few room (over, (front, zs, omega (arith, far), longest)) kept codes_grey
+    pub step_grey : IsComing s (record { row = v.row; done = v.done + n; number = v.number; mcu = v.mcu + n; place = None; samples = w; lines = v.lines; marked = v.marked })
+    step_grey = step n None w within few room (over, (front, zs, omega (arith, far, more), longest)) kept codes_grey
 
 started_next : (s : ScanValue) (v : ComingRowValue) → ReadsTo s (v.number + 1) 0 (Some start_of_interval)
 started_next s v = at_the_start (interval_of s (v.number + 1))
 
 -- on to the next interval
-pub step_next : (s : ScanValue) (v : ComingRowValue) → IsComing s v → IsOver s v.number → v.mcu ≡ mcus_in s.head v.number → v.done < mcus_across s.head
-    → IsComing s (record { row = v.row; done = v.done; number = v.number + 1; mcu = 0; place = Some start_of_interval; samples = v.samples; lines = v.lines })
-step_next s v c over all more =
+pub step_next : (s : ScanValue) (v : ComingRowValue) (m : Marked) → IsComing s v → IsOver s v.number → v.mcu ≡ mcus_in s.head v.number → v.done < mcus_across s.head
+    → ((t : ScanValue) → Becomes s t → interval_of t v.number ≡ interval_of s v.number → CountsMarks t (length t.intervals) 0 (v.number + 1) m)
+    → IsComing s (record { row = v.row; done = v.done; number = v.number + 1; mcu = 0; place = Some start_of_interval; samples = v.samples; lines = v.lines; marked = m })
+step_next s v m c over all more counts =
     let next = next_there s.head v.number v.mcu c.stands.number all (omega (arith, c.stands.at, more, row_inside s.head v.row c.stands.row)) in
     record {
       stands = record { row = c.stands.row; within = c.stands.within; number = next.0; few = omega arith; at = omega (arith, next.1, c.stands.at); room = c.stands.room };
@@ -262,6 +266,7 @@ step_next s v c over all more =
       begun = λ j lt. elim (cases_lt j v.number) [ inl l ↦ c.begun j l | inr g ↦ subst (λ (k : ℕ). IsOver s k) {x = v.number} {y = j} (omega (arith, g, lt)) over ];
       reads = started_next s v;
       shows = c.shows;
+      counts = λ t b. counts t b (b.whole v.number over);
     }
 
 -- which has an MCU
@@ -296,13 +301,13 @@ nothing_follows i first left zs ys p lawful next here some few =
 -- the grey MCUs of an interval stand behind a longest front
 pub far_front : (s : ScanValue) (number mcu : ℕ) (place : Option Place) → ReadsTo s number mcu place → ReadsAll s number mcu place → (front : ℕ) × (zs : List (List ℤ)) × (front ≤ mcu) × LongestFront (interval_of s number) front zs
 far_front s number mcu (Some p) r all = (mcu, all.0, omega arith, all.1)
-far_front s number mcu None r all = r.1
+far_front s number mcu None r all = (r.1.0, r.1.1, omega (arith, r.1.2), r.1.3)
 
 -- ---- a row of MCUs
 
 -- on to the next one
 pub step_row : (s : ScanValue) (v : ComingRowValue) → IsComing s v → 0 < vertical_max s.head → v.done ≡ mcus_across s.head → (lines : ℕ) → lines ≡ first_line s.head v.row + line_count s.head v.row → lines < s.head.height
-    → IsComing s (record { row = v.row + 1; done = 0; number = v.number; mcu = v.mcu; place = v.place; samples = v.samples; lines = lines })
+    → IsComing s (record { row = v.row + 1; done = 0; number = v.number; mcu = v.mcu; place = v.place; samples = v.samples; lines = lines; marked = v.marked })
 step_row s v c some whole lines given more =
     let deep = 8 * vertical_max s.head in
     let positive : 0 < deep = omega (arith, some) in
@@ -322,17 +327,19 @@ step_row s v c some whole lines given more =
       begun = c.begun;
       reads = c.reads;
       shows = λ t b board first k lt. absurd (omega (arith, lt));
+      counts = c.counts;
     }
 
 -- lines that are given of it
 pub step_lines : (s : ScanValue) (v : ComingRowValue) (n : ℕ) → IsComing s v → v.done ≡ mcus_across s.head → v.lines + n ≤ first_line s.head v.row + line_count s.head v.row → (v.lines + n < s.head.height → v.lines + n < first_line s.head v.row + line_count s.head v.row)
-    → IsComing s (record { row = v.row; done = v.done; number = v.number; mcu = v.mcu; place = v.place; samples = v.samples; lines = v.lines + n })
+    → IsComing s (record { row = v.row; done = v.done; number = v.number; mcu = v.mcu; place = v.place; samples = v.samples; lines = v.lines + n; marked = v.marked })
 step_lines s v n c whole few left = record {
   stands = record { row = c.stands.row; within = c.stands.within; number = c.stands.number; few = c.stands.few; at = c.stands.at; room = c.stands.room };
   given = record { from = omega (arith, c.given.from); to = few; none = λ lt. absurd (omega (arith, lt, whole)); left = left };
   begun = c.begun;
   reads = c.reads;
   shows = c.shows;
+  counts = c.counts;
 }
 
 -- the row's samples are painted as the picture's
@@ -379,6 +386,7 @@ begins_coming s v b down some high deep =
       begun = λ i lt. absurd (omega (arith, lt, b.number));
       reads = subst (λ (o : Option Place). ReadsTo s v.number v.mcu o) (sym b.place) (subst (λ (m : ℕ). ReadsTo s v.number m (Some start_of_interval)) (sym b.mcu) started);
       shows = λ t becomes board first k lt. let zero : v.done * blocks_of t.head ≡ 0 * blocks_of t.head = ap (λ (n : ℕ). n * blocks_of t.head) b.done in absurd (omega (arith, lt, zero));
+      counts = λ t becomes. counts_none t (length t.intervals) 0 v.number v.marked b.sound b.damaged (sym b.number);
     }
   where
     started : ReadsTo s v.number 0 (Some start_of_interval)
@@ -386,11 +394,12 @@ begins_coming s v b down some high deep =
 
 -- what is read of a row does not hang on what else its memory holds
 pub same_lines : (s : ScanValue) (v : ComingRowValue) (w : SampleRowValue) → IsComing s v → w.lines ≡ v.samples.lines → HasSampleRoom s.head w
-    → IsComing s (record { row = v.row; done = v.done; number = v.number; mcu = v.mcu; place = v.place; samples = w; lines = v.lines })
+    → IsComing s (record { row = v.row; done = v.done; number = v.number; mcu = v.mcu; place = v.place; samples = w; lines = v.lines; marked = v.marked })
 same_lines s v w c same room = record {
   stands = record { row = c.stands.row; within = c.stands.within; number = c.stands.number; few = c.stands.few; at = c.stands.at; room = room };
   given = record { from = c.given.from; to = c.given.to; none = c.given.none; left = c.given.left };
   begun = c.begun;
   reads = c.reads;
   shows = λ t b. subst (λ (l : RowLinesValue). ShowsFirstUnits t (length t.intervals) (v.row * mcus_across t.head) v.done (units_in t.head l.groups)) (sym same) (c.shows t b);
+  counts = c.counts;
 }

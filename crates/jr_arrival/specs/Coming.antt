@@ -12,8 +12,9 @@ use Rattle.jr_paint.specs.Lines.{next_lines_of}
 use Rattle.jr_picture.specs.BoardValue.{BoardValue}
 use Rattle.jr_picture.specs.Samples.{samples_of}
 use Rattle.jr_rows.specs.Groups.{units_in}
-use Rattle.jr_rows.specs.Rows.{HasFirst, HasSampleRoom, ShowsFirstUnits, first_line, line_count}
+use Rattle.jr_rows.specs.Rows.{CountsMarks, HasFirst, HasSampleRoom, ShowsFirstUnits, first_line, line_count}
 use Rattle.jr_rows.specs.RowsValue.{SampleRowValue}
+use Rattle.jr_rows.specs.declared.marked.Marked.{Marked}
 
 -- interval i is over: a later one has data, or a marker has ended the scan
 abbrev pub IsOver : ScanValue → ℕ → Type 0
@@ -28,7 +29,8 @@ pub record Becomes (s t : ScanValue) : Type 0 where
   pub end : s.ended ≢ EndOfFile → t.ended ≡ s.ended
 
 -- a row of MCUs and its samples, of how many MCUs; how many MCUs of which interval stand before its next one, and where that
--- starts: nowhere, where no further one of the interval is whole; and how many lines of the picture are given
+-- starts: nowhere, where no further one of the interval is whole; how many lines of the picture are given; and the marks of the
+-- intervals before that one
 pub record ComingRowValue : Type 0 where
   pub row : ℕ
   pub done : ℕ
@@ -37,11 +39,12 @@ pub record ComingRowValue : Type 0 where
   pub place : Option Place
   pub samples : SampleRowValue
   pub lines : ℕ
+  pub marked : Marked
 
 -- this is the place behind so many MCUs of an interval; without a place it is over, and has no more whole ones
 abbrev pub ReadsTo : ScanValue → (number mcu : ℕ) → Option Place → Type 0
 ReadsTo s number mcu (Some p) = (zs : List (List ℤ)) × IsNext (interval_of s number) mcu zs p
-ReadsTo s number mcu None = IsOver s number × ((front : ℕ) × (zs : List (List ℤ)) × (front ≤ mcu) × LongestFront (interval_of s number) front zs)
+ReadsTo s number mcu None = IsOver s number × ((front : ℕ) × (zs : List (List ℤ)) × (front < mcu) × LongestFront (interval_of s number) front zs)
 
 -- no further MCU of the interval is whole
 abbrev pub ReadsAll : ScanValue → (number mcu : ℕ) → Option Place → Type 0
@@ -73,6 +76,8 @@ pub record Begins (h : HeadValue) (v : ComingRowValue) : Type 0 where
   pub place : v.place ≡ Some start_of_interval
   pub room : HasSampleRoom h v.samples
   pub lines : v.lines ≡ 0
+  pub sound : v.marked.sound ≡ 0
+  pub damaged : v.marked.damaged ≡ 0
 
 -- so far the row is that of whatever the scan may become
 pub record IsComing (s : ScanValue) (v : ComingRowValue) : Type 0 where
@@ -81,6 +86,7 @@ pub record IsComing (s : ScanValue) (v : ComingRowValue) : Type 0 where
   pub begun : (i : ℕ) → i < v.number → IsOver s i
   pub reads : ReadsTo s v.number v.mcu v.place
   pub shows : (t : ScanValue) → Becomes s t → ShowsFirstUnits t (length t.intervals) (v.row * mcus_across t.head) v.done (units_in t.head v.samples.lines.groups)
+  pub counts : (t : ScanValue) → Becomes s t → CountsMarks t (length t.intervals) 0 v.number v.marked
 
 -- data of interval i, or of one behind, may come, and none behind it are there
 abbrev pub MayGoOn : ScanValue → ℕ → Type 0

@@ -4,16 +4,17 @@ ghost use Rattle.std.specs.Prelude.{◌≡◌, ◌≢◌, ◌+◌, ◌-◌, ◌*
 ghost use Rattle.jr_base.specs.declared.limits.TheConstants.{MAX_FILE_BYTES};
 ghost use Rattle.jr_head.specs.Heads.{HeadOf, RefusalOf};
 ghost use Rattle.jr_segments.specs.declared.refusal.Refusal.TheVariants as refusal;
+ghost use Rattle.jr_stream.specs.Stream.{HasCounts};
 ghost use Rattle.jr_arrival.specs.Arrival.{IsFinalFault};
-ghost use Rattle.jr_arrival.specs.Arriving.{GivesComing, Holds, IsArriving, given_of};
+ghost use Rattle.jr_arrival.specs.Arriving.{GivesComing, HasBegun, Holds, IsArriving, given_of};
 ghost use Rattle.jr_arrival.specs.Growing.{HasScan};
 ghost use Rattle.jr_arrival.specs.Settled.{GivesNext, WantsMore};
 
 use crate::coming::Coming;
+use crate::finished::Finished;
 use jr_base::Memory;
 use jr_base::limits::MAX_FILE_BYTES;
 use jr_head::{Head, read_head};
-use jr_scan::Scan;
 use jr_segments::Refusal;
 use std::alloc::Global;
 use std::marker::Model;
@@ -74,16 +75,17 @@ fn give(coming: &mut Option<Coming>, pixels: &mut [u8]) -> u32
     }
 }
 
-/// The scan of a file, in the memory of its bytes.
-fn scan_of(alloc: Global, bytes: Vec<u8>) -> Result<Scan, Refusal>
-    ensures scan { IfOk result (HasScan bytes.items) }
-    ensures refusal { IfErr result (λ f. f ≢ refusal.Memory → RefusalOf bytes.items f) }
+/// The scan of a file of which all bytes have come, and nothing is read yet. It copies them.
+fn coming_of(alloc: Global, bytes: &[u8]) -> Result<Coming, Refusal>
+    requires { length bytes.now ≤ MAX_FILE_BYTES }
+    ensures begun { IfOk result (λ c. HasBegun c bytes.now) }
+    ensures refusal { IfErr result (λ f. f ≢ refusal.Memory → RefusalOf bytes.now f) }
 {
-    let head = read_head(alloc, &bytes)?;
-    let Ok(scan) = Scan::cut_in_place(alloc, head, bytes) else {
+    let head = read_head(alloc, bytes)?;
+    let Ok(coming) = Coming::open(alloc, head, bytes) else {
         return Err(Refusal::Memory);
     };
-    Ok(scan)
+    Ok(coming)
 }
 
 impl Arriving {
@@ -189,13 +191,15 @@ impl Arriving {
         }
     }
 
-    /// Nothing more comes: the scan of the file, of whose picture lines are missing from `lines` on.
+    /// Nothing more comes: the scan of the file, of whose picture lines are missing from `lines` on, and how many of its restart
+    /// intervals are sound and damaged. The MCUs of lines that are not given are passed over.
     ///
     /// # Errors
     ///
     /// The file's refusal. `Memory` where memory was refused.
-    pub fn finish(self, alloc: Global) -> Result<Scan, Refusal>
-        ensures scan { IfOk result (λ s. (bytes : List ℕ) → IsArriving self bytes → HasScan bytes s) }
+    pub fn finish(self, alloc: Global) -> Result<Finished, Refusal>
+        ensures scan { IfOk result (λ r. (bytes : List ℕ) → IsArriving self bytes → HasScan bytes r.scan) }
+        ensures counts { IfOk result (λ r. HasCounts r.scan (length r.scan.intervals) r.counts) }
         ensures refusal { IfErr result (λ f. f ≢ refusal.Memory → (bytes : List ℕ) → IsArriving self bytes → RefusalOf bytes f) }
     {
         let Arriving {
@@ -206,12 +210,13 @@ impl Arriving {
         if count > MAX_FILE_BYTES as u64 {
             return Err(Refusal::TooLong);
         }
-        let Some(coming) = coming else {
-            return scan_of(alloc, bytes);
+        let coming = match coming {
+            Some(coming) => coming,
+            None => coming_of(alloc, &bytes)?,
         };
-        let Ok(scan) = coming.into_scan(alloc) else {
+        let Ok(finished) = coming.finish(alloc) else {
             return Err(Refusal::Memory);
         };
-        Ok(scan)
+        Ok(finished)
     }
 }

@@ -7,18 +7,21 @@ ghost use Rattle.jr_head.specs.Geometry.{mcus_across};
 ghost use Rattle.jr_head.specs.Heads.{RefusalOf};
 ghost use Rattle.jr_paint.specs.Lines.{line_size};
 ghost use Rattle.jr_scan.specs.GrowingScan.{HasCome};
+ghost use Rattle.jr_stream.specs.Stream.{HasCounts};
 ghost use Rattle.jr_arrival.specs.Arrival.{IsFinalFault};
 ghost use Rattle.jr_arrival.specs.Arriving.{HasBegun};
 ghost use Rattle.jr_arrival.specs.Coming.{AreComing, HasNoMore};
 ghost use Rattle.jr_arrival.specs.Settled.{GivesSettled, WantsMore};
 
 use crate::coming_row::ComingRow;
+use crate::finished::Finished;
 use crate::head::head_so_far;
 use jr_base::Memory;
 use jr_head::Head;
 use jr_rows::shape_of;
-use jr_scan::{GrowingScan, Scan};
+use jr_scan::GrowingScan;
 use jr_segments::Refusal;
+use jr_stream::counts_of;
 use std::alloc::Global;
 use std::marker::Model;
 
@@ -46,7 +49,7 @@ impl Model for Coming {
 
 impl Coming {
     /// The scan of the bytes so far of a file, of which nothing is read yet. It copies them.
-    fn open(alloc: Global, head: Head, bytes: &[u8]) -> Result<Coming, Memory>
+    pub(crate) fn open(alloc: Global, head: Head, bytes: &[u8]) -> Result<Coming, Memory>
         requires starts { head.scan_at ≤ length bytes.now }
         requires small { length bytes.now ≤ MAX_FILE_BYTES }
         ensures begun { IfOk result (λ c. HasCome c.growing bytes.now × (c.growing.scan.head ≡ head) × (c.row.lines ≡ 0) × (c.bytes ≡ length bytes.now)) }
@@ -137,11 +140,15 @@ impl Coming {
         self.row.give(&self.scan, pixels)
     }
 
-    /// Nothing more comes.
-    pub(crate) fn into_scan(self, alloc: Global) -> Result<Scan, Memory>
-        ensures { IfOk result (λ s. s ≡ self.growing.scan) }
+    /// Nothing more comes: the scan, and how many of its intervals are sound and damaged. It passes over the MCUs that are left.
+    pub(crate) fn finish(self, alloc: Global) -> Result<Finished, Memory>
+        ensures scan { IfOk result (λ r. r.scan ≡ self.growing.scan) }
+        ensures counts { IfOk result (λ r. HasCounts self.growing.scan (length self.growing.scan.intervals) r.counts) }
     {
-        let Coming { scan, .. } = self;
-        scan.into_scan(alloc)
+        let Coming { scan, row, .. } = self;
+        let marked = row.marks(&scan);
+        let scan = scan.into_scan(alloc)?;
+        let counts = counts_of(&scan, scan.intervals(), marked);
+        Ok(Finished { scan, counts })
     }
 }

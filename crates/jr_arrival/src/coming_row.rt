@@ -3,13 +3,15 @@
 ghost use Rattle.std.specs.Prelude.{◌≡◌, ◌+◌, ◌-◌, ◌*◌, ◌/◌, ◌<◌, ◌≤◌, min, true, false, length, take, IfOk};
 ghost use Rattle.jr_head.specs.Geometry.{mcus_across};
 ghost use Rattle.jr_paint.specs.Lines.{line_size};
-ghost use Rattle.jr_scan.specs.ScanValue.{mcus_in};
-ghost use Rattle.jr_rows.specs.Rows.{first_line, line_count};
-ghost use Rattle.jr_arrival.specs.Coming.{AreComing, Begins, HasNoMore, IsComing, IsOver, MayGoOn, ReadsAll};
+ghost use Rattle.jr_scan.specs.Mcus.{HasDecoding, HasNoDecoding};
+ghost use Rattle.jr_scan.specs.ScanValue.{ScanValue, interval_of, mcus_in};
+ghost use Rattle.jr_piece.specs.Strips.{TellsSound};
+ghost use Rattle.jr_rows.specs.Rows.{CountsMarks, first_line, line_count};
+ghost use Rattle.jr_arrival.specs.Coming.{AreComing, Becomes, Begins, HasNoMore, IsComing, IsOver, MayGoOn, ReadsAll, ReadsTo};
 
 use jr_base::Memory;
 use jr_head::Head;
-use jr_rows::{SampleRow, lines_of, shape_of};
+use jr_rows::{Marked, SampleRow, lines_of, shape_of};
 use jr_scan::{GrowingScan, McuReader, Place, ScanEnd};
 use std::alloc::Global;
 use std::marker::Model;
@@ -26,6 +28,29 @@ fn is_over(scan: &GrowingScan, i: u32) -> bool
         | ScanEnd::OutOfStep { .. }
         | ScanEnd::ExtraRestart(..) => true,
     }
+}
+
+/// Whether an interval has a decoding, of which so many MCUs stand before this place; without one no further MCU of it is whole. It
+/// passes over those that are left.
+fn is_sound(scan: &GrowingScan, i: u32, mcu: u32, place: Option<Place>) -> bool
+    requires number { i < length scan.now.scan.intervals }
+    requires few { mcu ≤ mcus_in scan.now.scan.head i }
+    requires reads { ReadsTo scan.now.scan i mcu place }
+    ensures sound { result ≡ true → HasDecoding (interval_of scan.now.scan i) }
+    ensures damaged { result ≡ false → HasNoDecoding (interval_of scan.now.scan i) }
+{
+    // By its contract the head is lawful.
+    let head = scan.head();
+    let Some(place) = place else {
+        return false;
+    };
+    let left = head.mcus_in(i) - mcu;
+    let interval = scan.interval_ref(i);
+    let bits = 8 * interval.bytes().len() as u64;
+    let mut reader = McuReader::at(interval, place, left);
+    let whole = reader.skip(left);
+    let end = reader.place();
+    whole == left && bits - end.bit < 8
 }
 
 /// How many lines of a picture from one on have room in so many bytes.
@@ -62,6 +87,8 @@ pub(crate) struct ComingRow {
     /// Where its next MCU starts; none where no further one is whole.
     place: Option<Place>,
     lines: u32,
+    /// The marks of the intervals before the one that is read.
+    marked: Marked,
 }
 
 impl Model for ComingRow {
@@ -69,7 +96,7 @@ impl Model for ComingRow {
 
     ghost Value = { ComingRowValue };
 
-    ghost view = { λ r. record { row = r.row; done = r.done; number = r.number; mcu = r.mcu; place = r.place; samples = r.samples; lines = r.lines } };
+    ghost view = { λ r. record { row = r.row; done = r.done; number = r.number; mcu = r.mcu; place = r.place; samples = r.samples; lines = r.lines; marked = r.marked } };
 }
 
 impl ComingRow {
@@ -85,6 +112,7 @@ impl ComingRow {
             mcu: 0,
             place: Some(Place::start()),
             lines: 0,
+            marked: Marked::none(),
         })
     }
 
@@ -93,6 +121,31 @@ impl ComingRow {
         ensures { result ≡ self.now.lines }
     {
         self.lines
+    }
+
+    /// The marks of the intervals up to the one that is read: its own is that of its data so far.
+    fn marks_so_far(&self, scan: &GrowingScan) -> Marked
+        requires coming { IsComing scan.now.scan self.now }
+        ensures counts { (t : ScanValue) → Becomes scan.now.scan t → interval_of t self.now.number ≡ interval_of scan.now.scan self.now.number → CountsMarks t (length t.intervals) 0 (self.now.number + 1) result }
+    {
+        // By its contract there is room for the numbers of all intervals.
+        let _most = scan.intervals();
+        let is_sound = is_sound(scan, self.number, self.mcu, self.place);
+        self.marked.with(Marked::one(is_sound))
+    }
+
+    /// The marks of all intervals, where nothing more comes.
+    pub(crate) fn marks(&self, scan: &GrowingScan) -> Marked
+        requires { IsComing scan.now.scan self.now }
+        ensures { CountsMarks scan.now.scan (length scan.now.scan.intervals) 0 (length scan.now.scan.intervals) result }
+    {
+        let mut marked = self.marks_so_far(scan);
+        let all = scan.intervals();
+        for i in self.number + 1..all {
+            let is_sound = is_sound(scan, i, 0, Some(Place::start()));
+            marked = marked.with(Marked::one(is_sound));
+        }
+        marked
     }
 
     /// Goes on to the next interval where this one is read to its end. False where that has not begun.
@@ -114,6 +167,7 @@ impl ComingRow {
         if !is_over(scan, self.number) {
             return false;
         }
+        self.marked = self.marks_so_far(scan);
         self.number += 1;
         self.mcu = 0;
         self.place = Some(Place::start());

@@ -12,10 +12,12 @@
 mod arriving;
 mod coming;
 mod coming_row;
+mod finished;
 mod head;
 mod laws;
 
 pub use arriving::Arriving;
+pub use finished::Finished;
 pub use head::head_so_far;
 pub use laws::{
     cut_is_final, fault_is_final, front_is_final, head_is_final, lines_are_final, mark_is_final,

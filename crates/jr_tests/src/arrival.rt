@@ -5,6 +5,7 @@ ghost use Rattle.std.specs.Prelude.{◌<◌};
 
 use jr_arrival::Arriving;
 use jr_head::{Refusal, read_head};
+use jr_picture::Counts;
 use jr_rows::shape_of;
 use jr_scan::{Scan, ScanEnd};
 use jr_stream::paint_scan_lines;
@@ -63,8 +64,13 @@ fn take_lines(
 }
 
 /// What is given while a file arrives in parts of so many bytes, at most so many lines at a look, and the lines that are missing
-/// then; none where it is refused.
-fn arrived(alloc: Global, bytes: &[u8], part: usize, most: u32) -> Result<Option<Vec<u8>>, Fail>
+/// then; and how many intervals are sound and damaged. None where it is refused.
+fn arrived(
+    alloc: Global,
+    bytes: &[u8],
+    part: usize,
+    most: u32,
+) -> Result<Option<(Vec<u8>, Counts)>, Fail>
     requires { 0 < part }
 {
     let mut arriving = Arriving::new(alloc);
@@ -76,11 +82,11 @@ fn arrived(alloc: Global, bytes: &[u8], part: usize, most: u32) -> Result<Option
         }
     }
     let lines = arriving.lines();
-    let Ok(scan) = arriving.finish(alloc) else {
+    let Ok(finished) = arriving.finish(alloc) else {
         return Ok(None);
     };
-    shown.extend_from_slice(lines_from(alloc, &scan, lines)?.as_slice())?;
-    Ok(Some(shown))
+    shown.extend_from_slice(lines_from(alloc, &finished.scan, lines)?.as_slice())?;
+    Ok(Some((shown, finished.counts)))
 }
 
 /// Whether a picture's text ends with these lines, and has its header before them.
@@ -118,7 +124,11 @@ fn check_parts<R: AllocGlobal + Abort>(rt: &R, cases: &[Case]) -> Result<(), Fai
             (1_000_000, 1),
         ] {
             let is_right = match arrived(rt.alloc(), bytes.as_slice(), part, most)? {
-                Some(lines) => is_text(expected.as_slice(), lines.as_slice()),
+                Some((lines, counts)) => {
+                    is_text(expected.as_slice(), lines.as_slice())
+                        && (counts.damaged > 0) == (case.status == 3)
+                        && counts.blank == 0
+                }
                 None => false,
             };
             assert!(rt; is_right, "{} by {part} and {most}", case.file);
@@ -302,6 +312,6 @@ fn tells_how_the_scan_ended(rt: HostRuntime) -> Result<(), Fail> {
     arriving.push(file(alloc, "G 63 FF")?.as_slice())?;
     arriving.push(b"\xD9")?;
     assert!(rt; arriving.bytes() == file(alloc, "G 63 E")?.len() as u64);
-    assert!(rt; arriving.finish(alloc)?.ended() == ScanEnd::EndOfImage);
+    assert!(rt; arriving.finish(alloc)?.scan.ended() == ScanEnd::EndOfImage);
     Ok(())
 }

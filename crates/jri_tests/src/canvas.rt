@@ -1,7 +1,8 @@
 //! Lines laid out on a canvas, and a file decoded onto one, in each layout; what stands behind lines stays.
 
+use crate::memory::NONE;
 use jri_memory::status::{NO_LAYOUT, NO_ROOM, SOUND};
-use jri_memory::{DecodeReport, decode_canvas, lay_out};
+use jri_memory::{decode_canvas, lay_out};
 use std::test::Fail;
 use test_files::files::file;
 
@@ -60,18 +61,7 @@ fn decodes_onto_a_canvas(rt: HostRuntime) -> Result<(), Fail> {
     let bytes = file(rt.alloc(), "GI 63 FF D0 63 E")?;
     let mut canvas = [BEFORE; 520];
     let mut marks = [BEFORE; 3];
-    let mut report = DecodeReport {
-        intervals: 0,
-        sound: 0,
-        damaged: 0,
-        blank: 0,
-        ended: 0,
-        found: 0,
-        due: 0,
-        refusal: 0,
-        at: 0,
-        detail: 0,
-    };
+    let mut report = NONE;
     let answer = decode_canvas(
         rt.alloc(),
         bytes.as_slice(),

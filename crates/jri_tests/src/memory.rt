@@ -18,7 +18,7 @@ use test_files::pictures::picture;
 const BEFORE: u8 = 7;
 
 /// A report of nothing.
-const NONE: DecodeReport = DecodeReport {
+pub(crate) const NONE: DecodeReport = DecodeReport {
     intervals: 0,
     sound: 0,
     damaged: 0,

@@ -14,7 +14,7 @@ pub returns-clause-coming : goal.returns-clause-coming
 returns-clause-coming c =
     let s : ScanValue = c.args.scan.now.scan in
     let i = c.self.inside in
-    let v : ComingRowValue = record { row = i.row; done = i.done; number = i.number; mcu = i.mcu; place = i.place; samples = i.samples; lines = i.lines } in
+    let v : ComingRowValue = record { row = i.row; done = i.done; number = i.number; mcu = i.mcu; place = i.place; samples = i.samples; lines = i.lines; marked = i.marked } in
     let coming : IsComing s v = subst (IsComing s) (sym c.self.view_is) c.requires.coming in
     let over : IsOver s i.number = subst (λ (r : ComingRowValue). IsOver s r.number) (sym c.self.view_is) c.requires.over in
     let all : ReadsAll s i.number i.mcu i.place = subst (λ (r : ComingRowValue). ReadsAll s r.number r.mcu r.place) (sym c.self.view_is) c.requires.all in
@@ -33,4 +33,4 @@ returns-clause-coming c =
     let room : HasSampleRoom s.head w = subst (λ (h : HeadValue). HasSampleRoom h w) e c.put_grey-grey.ensures.room in
     let kept = subst (λ (h : HeadValue). (k : ℕ) → k < i.done * blocks_of h → slice_index_or (units_in h w.lines.groups) k [] ≡ slice_index_or (units_in h i.samples.lines.groups) k []) e c.put_grey-grey.ensures.kept in
     let grey = subst (λ (h : HeadValue). (k : ℕ) → k < n * blocks_of h → slice_index_or (units_in h w.lines.groups) (i.done * blocks_of h + k) [] ≡ grey_unit) e c.put_grey-grey.ensures.grey in
-    step_grey s v lawful some_unit count coming front.0 n front.1 w over front.2 front.3 within few room kept grey
+    step_grey s v lawful some_unit count coming front.0 n front.1 w over c.put_grey-grey.ensures.some front.2 front.3 within few room kept grey

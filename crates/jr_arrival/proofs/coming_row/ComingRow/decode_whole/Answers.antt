@@ -25,7 +25,7 @@ returns-clause-coming c =
     let s : ScanValue = c.args.scan.now.scan in
     let i = c.self.inside in
     let p : Place = c.in-Some.place in
-    let v : ComingRowValue = record { row = i.row; done = i.done; number = i.number; mcu = i.mcu; place = i.place; samples = i.samples; lines = i.lines } in
+    let v : ComingRowValue = record { row = i.row; done = i.done; number = i.number; mcu = i.mcu; place = i.place; samples = i.samples; lines = i.lines; marked = i.marked } in
     let coming : IsComing s v = subst (IsComing s) (sym c.self.view_is) c.requires.coming in
     let reads : ReadsTo s i.number i.mcu (Some p) = subst (ReadsTo s i.number i.mcu) c.in-Some.is coming.reads in
     let interval = interval_of s i.number in
@@ -61,7 +61,7 @@ returns-clause-all c none =
     let s : ScanValue = c.args.scan.now.scan in
     let i = c.self.inside in
     let p : Place = c.in-Some.place in
-    let v : ComingRowValue = record { row = i.row; done = i.done; number = i.number; mcu = i.mcu; place = i.place; samples = i.samples; lines = i.lines } in
+    let v : ComingRowValue = record { row = i.row; done = i.done; number = i.number; mcu = i.mcu; place = i.place; samples = i.samples; lines = i.lines; marked = i.marked } in
     let coming : IsComing s v = subst (IsComing s) (sym c.self.view_is) c.requires.coming in
     let some : i.mcu < mcus_in s.head i.number = subst (λ (r : ComingRowValue). r.mcu < mcus_in s.head r.number) (sym c.self.view_is) c.requires.some in
     let reads : ReadsTo s i.number i.mcu (Some p) = subst (ReadsTo s i.number i.mcu) c.in-Some.is coming.reads in

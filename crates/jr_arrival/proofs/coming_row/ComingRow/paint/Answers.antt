@@ -14,7 +14,7 @@ pub pass_lines-requires-clause-coming : goal.pass_lines-requires-clause-coming
 pass_lines-requires-clause-coming c =
     let s : ScanValue = c.args.scan.now.scan in
     let i = c.self.inside in
-    let v : ComingRowValue = record { row = i.row; done = i.done; number = i.number; mcu = i.mcu; place = i.place; samples = i.samples; lines = i.lines } in
+    let v : ComingRowValue = record { row = i.row; done = i.done; number = i.number; mcu = i.mcu; place = i.place; samples = i.samples; lines = i.lines; marked = i.marked } in
     let coming : IsComing s v = subst (IsComing s) (sym c.self.view_is) c.requires.coming in
     let w : SampleRowValue = c.paint_some.new.self in
     same_lines s v w coming c.paint_some.ensures.kept (subst (λ (h : HeadValue). HasSampleRoom h w) c.head-head.ensures.value c.paint_some.ensures.room)
@@ -24,7 +24,7 @@ returns-clause-painted c =
     let s : ScanValue = c.args.scan.now.scan in
     let i = c.self.inside in
     let n = c.args.count in
-    let v : ComingRowValue = record { row = i.row; done = i.done; number = i.number; mcu = i.mcu; place = i.place; samples = i.samples; lines = i.lines } in
+    let v : ComingRowValue = record { row = i.row; done = i.done; number = i.number; mcu = i.mcu; place = i.place; samples = i.samples; lines = i.lines; marked = i.marked } in
     let coming : IsComing s v = subst (IsComing s) (sym c.self.view_is) c.requires.coming in
     let e : c.head-head.result.now ≡ s.head = c.head-head.ensures.value in
     let lawful : IsLawful s.head = subst IsLawful e c.head-head.ensures.lawful in

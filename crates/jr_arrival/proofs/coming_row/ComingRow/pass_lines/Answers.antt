@@ -17,7 +17,7 @@ pub returns-then-self-first-clause-coming : goal.returns-then-self-first-clause-
 returns-then-self-first-clause-coming c =
     let s : ScanValue = c.args.scan.now.scan in
     let i = c.self.inside in
-    let v : ComingRowValue = record { row = i.row; done = i.done; number = i.number; mcu = i.mcu; place = i.place; samples = i.samples; lines = i.lines } in
+    let v : ComingRowValue = record { row = i.row; done = i.done; number = i.number; mcu = i.mcu; place = i.place; samples = i.samples; lines = i.lines; marked = i.marked } in
     let coming : IsComing s v = subst (IsComing s) (sym c.self.view_is) c.requires.coming in
     let whole : i.done ≡ mcus_across s.head = subst (λ (r : ComingRowValue). r.done ≡ mcus_across s.head) (sym c.self.view_is) c.requires.whole in
     let few : Ends s v c.args.count = subst (λ (r : ComingRowValue). Ends s r c.args.count) (sym c.self.view_is) c.requires.inside in
@@ -36,7 +36,7 @@ returns-clause-coming c =
     let s : ScanValue = c.args.scan.now.scan in
     let i = c.self.inside in
     let n = c.args.count in
-    let v : ComingRowValue = record { row = i.row; done = i.done; number = i.number; mcu = i.mcu; place = i.place; samples = i.samples; lines = i.lines } in
+    let v : ComingRowValue = record { row = i.row; done = i.done; number = i.number; mcu = i.mcu; place = i.place; samples = i.samples; lines = i.lines; marked = i.marked } in
     let coming : IsComing s v = subst (IsComing s) (sym c.self.view_is) c.requires.coming in
     let whole : i.done ≡ mcus_across s.head = subst (λ (r : ComingRowValue). r.done ≡ mcus_across s.head) (sym c.self.view_is) c.requires.whole in
     let few : Ends s v n = subst (λ (r : ComingRowValue). Ends s r n) (sym c.self.view_is) c.requires.inside in
