@@ -1,26 +1,23 @@
 -- What a file that is still arriving holds, and what a look at it gives.
-use Rattle.std.proofs.Common.{◌≡◌, ℕ, ◌+◌, ◌-◌, ◌*◌, ◌/◌, ◌<◌, ◌≤◌, min, Option, Some, None, List, ◌++◌, length, length-append, refl, sym, ap, subst, ◌∙◌, take, inl, inr, true, false, arith}
+use Rattle.std.proofs.Common.{◌≡◌, ℕ, ◌+◌, ◌*◌, ◌<◌, ◌≤◌, Option, Some, None, List, ◌++◌, length, length-append, refl, sym, ap, subst, ◌∙◌, take, inl, inr, true, false, arith}
 use Rattle.std.specs.Option.{IfSome, is_some}
 use Rattle.std.proofs.lemmas.Bool.{cases_lt, lt-ltb}
 use Rattle.jr_base.specs.declared.limits.TheConstants.{MAX_FILE_BYTES}
 use Rattle.jr_head.specs.HeadValue.{HeadValue}
-use Rattle.jr_head.specs.Geometry.{IsLawful, vertical_max}
 use Rattle.jr_segments.specs.declared.refusal.Refusal.TheVariants.{TooLong}
 use Rattle.jr_head.specs.Heads.{HeadOf, RefusalOf}
-use Rattle.jr_paint.specs.Lines.{line_size, next_lines_of}
+use Rattle.jr_paint.specs.Lines.{line_size}
 use Rattle.jr_piece.proofs.ScanLaws.{outcome}
 use Rattle.jr_scan.specs.GrowingScan.{HasCome}
-use Rattle.jr_scan.specs.ScanValue.{ScanValue, interval_of}
-use Rattle.jr_picture.specs.declared.mark.Mark.{Mark}
-use Rattle.jr_picture.specs.Headline.{ShowsFirst}
+use Rattle.jr_scan.specs.ScanValue.{ScanValue}
 use Rattle.jr_picture.specs.Samples.{samples_of}
 use Rattle.jr_picture.specs.Boards.{marks_of}
 use Rattle.jr_rows.proofs.FirstBoards.{first_board, shows_first}
-use Rattle.jr_arrival.specs.Arrival.{CanBecome, IsFinalFault}
+use Rattle.jr_arrival.specs.Arrival.{IsFinalFault}
 use Rattle.jr_arrival.specs.Growing.{HasScan}
 use Rattle.jr_arrival.specs.Arriving.{ComingValue, GivesComing, HasBegun, Holds, given_of}
-use Rattle.jr_arrival.specs.Coming.{AreComing, Becomes}
-use Rattle.jr_arrival.specs.Settled.{AreFinal, GivesNext, NextLines, SoFarValue, WantsMore, lines_in}
+use Rattle.jr_arrival.specs.Coming.{AreComing}
+use Rattle.jr_arrival.specs.Settled.{AreFinal, GivesNext, WantsMore}
 use Rattle.jr_arrival.proofs.HeadsStay.{head_stays}
 use Rattle.jr_arrival.proofs.LinesStay.{one_lines}
 use Rattle.jr_arrival.proofs.ScansGoOn.{file_becomes}

@@ -1,5 +1,5 @@
 -- How many rows of MCUs the bytes so far settle, by where the reading of a scan stands.
-use Rattle.std.proofs.Common.{◌≡◌, ◌≢◌, ℕ, zero, suc, ◌+◌, ◌-◌, ◌*◌, ◌/◌, ◌<◌, ◌≤◌, ◌⊎◌, min, Bool, true, false, cond, inl, inr, Option, Some, None, List, [], length, refl, sym, ap, subst, ◌∙◌, arith}
+use Rattle.std.proofs.Common.{◌≡◌, ◌≢◌, ℕ, ◌+◌, ◌-◌, ◌*◌, ◌/◌, ◌<◌, ◌≤◌, ◌⊎◌, min, Bool, cond, inl, inr, Option, Some, None, refl, sym, ap, subst, ◌∙◌, arith}
 use Rattle.std.specs.Int.{div_ceil}
 use Rattle.std.proofs.lemmas.Bool.{cases_lt}
 use Rattle.std.proofs.lemmas.Bool.Decides.{eqb_tells}
@@ -20,9 +20,9 @@ use Rattle.jr_scan.specs.ScanValue.{ScanValue, interval_of, intervals_of, mcus_i
 use Rattle.jr_code.proofs.CodeLemmas.{one_word}
 use Rattle.jr_scan.proofs.LongestFronts.{longest_front}
 use Rattle.jr_scan.proofs.McuReaders.{front_of_run}
-use Rattle.jr_rows.specs.Rows.{first_line, line_count}
-use Rattle.jr_arrival.specs.Coming.{ComingRowValue, HasNoMore, IsComing, IsOver, MayGoOn, ReadsTo}
-use Rattle.jr_arrival.specs.Settled.{GivesSettled, HasRows, SoFarValue, lines_in}
+use Rattle.jr_rows.specs.Rows.{first_line}
+use Rattle.jr_arrival.specs.Coming.{ComingRowValue, HasNoMore, IsComing, MayGoOn, ReadsTo}
+use Rattle.jr_arrival.specs.Settled.{GivesSettled}
 use Rattle.jr_arrival.proofs.Readings.{over_or_going}
 use Rattle.jr_arrival.proofs.SettledRows.{has_rows, one_count}
 

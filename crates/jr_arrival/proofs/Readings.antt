@@ -1,5 +1,5 @@
 -- What is read of a row of MCUs is that of whatever the scan may become.
-use Rattle.std.proofs.Common.{◌≡◌, ◌≢◌, ℕ, ◌+◌, ◌-◌, ◌*◌, ◌/◌, ◌%◌, ◌<◌, ◌≤◌, ◌⊎◌, inl, inr, Option, Some, None, List, [], ◌∷◌, ◌++◌, length, get_or, refl, sym, ap, subst, ◌∙◌, append_assoc, length-append, arith}
+use Rattle.std.proofs.Common.{◌≡◌, ◌≢◌, ℕ, ◌+◌, ◌-◌, ◌*◌, ◌/◌, ◌%◌, ◌<◌, ◌≤◌, inl, inr, Option, Some, None, List, [], ◌∷◌, ◌++◌, length, get_or, refl, sym, ap, subst, ◌∙◌, append_assoc, length-append, arith}
 use Rattle.std.specs.Prelude.{ℤ}
 use Rattle.std.proofs.lemmas.Bool.{cases_lt}
 use Rattle.std.proofs.lemmas.List.{get_or-append_right}
@@ -8,8 +8,6 @@ use Rattle.std.proofs.Math.Nat.{add-mul, div-lt_iff_lt-mul, mul-le-mul_right}
 use Rattle.jr_head.specs.HeadValue.{HeadValue}
 use Rattle.jr_head.specs.Geometry.{IsLawful, blocks_of, order_of, mcus_across, mcus_down, quantiser_of, vertical_max}
 use Rattle.jr_head.proofs.SamplingLaws.{length-order}
-use Rattle.jr_cut.specs.declared.scan_end.ScanEnd.{ScanEnd}
-use Rattle.jr_cut.specs.declared.scan_end.ScanEnd.TheVariants.{EndOfFile}
 use Rattle.jr_idct.specs.Transform.{samples}
 use Rattle.jr_mcu.specs.Mcus.{component}
 use Rattle.jr_scan.specs.declared.place.Place.{Place}
@@ -17,7 +15,7 @@ use Rattle.jr_scan.specs.declared.place.RunEnd.TheVariants.{AllRead}
 use Rattle.jr_scan.specs.IntervalValue.{IntervalValue}
 use Rattle.jr_paint.specs.Lines.{next_lines_of}
 use Rattle.jr_paint.proofs.Places.{below_div_ceil, in_div_ceil}
-use Rattle.jr_scan.specs.Mcus.{Front, HasLongestFront, LongestFront}
+use Rattle.jr_scan.specs.Mcus.{HasLongestFront, LongestFront}
 use Rattle.jr_scan.specs.Run.{IsRun, run_from, start_of_interval}
 use Rattle.jr_scan.specs.ScanValue.{ScanValue, interval_of, intervals_of, mcus_in}
 use Rattle.jr_scan.proofs.McuReaders.{front_of_run}
@@ -45,7 +43,7 @@ use Rattle.jr_rows.proofs.IntervalPlaces.{interval_at, mcus_in_some, next_there}
 use Rattle.jr_rows.proofs.PictureRows.{row_inside}
 use Rattle.jr_rows.proofs.ReadRows.{counts_none, posted_there, shown_more}
 use Rattle.jr_arrival.specs.Growing.{with_more}
-use Rattle.jr_arrival.specs.Coming.{AreComing, Becomes, Begins, ComingRowValue, HasGiven, HasNoMore, IsComing, IsOver, MayGoOn, ReadsAll, ReadsTo, StandsIn}
+use Rattle.jr_arrival.specs.Coming.{AreComing, Becomes, Begins, ComingRowValue, HasGiven, IsComing, IsOver, MayGoOn, ReadsAll, ReadsTo, StandsIn}
 use Rattle.jr_arrival.proofs.LinesStay.{interval_more}
 use Rattle.jr_arrival.proofs.RunsGoOn.{run_is_final}
 
@@ -168,7 +166,7 @@ shown_on t n from done more at old new some e before kept there b first =
     (λ k lt. there b first k lt ∙ ap (λ (m : ℕ). unit_shown b (m + k / blocks_of t.head) (k % blocks_of t.head)) e)
 
 -- nothing of an interval is read at its start
-at_the_start : (i : IntervalValue) → (zs : List (List ℤ)) × IsNext i 0 zs start_of_interval
+pub at_the_start : (i : IntervalValue) → (zs : List (List ℤ)) × IsNext i 0 zs start_of_interval
 at_the_start i = let start = runs.at_start i in (start.blocks, start.next start_of_interval refl)
 
 -- ---- one step

@@ -1,5 +1,5 @@
 -- What the bytes so far settle of a picture.
-use Rattle.std.specs.Prelude.{◌≡◌, ◌≢◌, ℕ, ◌+◌, ◌-◌, ◌*◌, ◌/◌, ◌<◌, ◌⊎◌, min, List, [], length, take, slice_index_or}
+use Rattle.std.specs.Prelude.{◌≡◌, ◌≢◌, ℕ, ◌+◌, ◌-◌, ◌*◌, ◌/◌, ◌<◌, ◌⊎◌, min, List, length, take}
 use Rattle.jr_segments.specs.declared.refusal.Refusal.TheVariants.{EndsEarly, NotJpeg}
 use Rattle.jr_head.specs.Geometry.{mcus_across, mcus_down, vertical_max}
 use Rattle.jr_head.specs.Heads.{RefusalOf}

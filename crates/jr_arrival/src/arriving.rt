@@ -75,14 +75,20 @@ fn give(coming: &mut Option<Coming>, pixels: &mut [u8]) -> u32
     }
 }
 
-/// The scan of a file of which all bytes have come, and nothing is read yet. It copies them.
-fn coming_of(alloc: Global, bytes: &[u8]) -> Result<Coming, Refusal>
-    requires { length bytes.now ≤ MAX_FILE_BYTES }
-    ensures begun { IfOk result (λ c. HasBegun c bytes.now) }
-    ensures refusal { IfErr result (λ f. f ≢ refusal.Memory → RefusalOf bytes.now f) }
+/// The scan of a file of which all bytes have come: the one that has begun, or else that of the bytes that are kept, which it copies.
+fn begun(alloc: Global, kept: &[u8], coming: Option<Coming>) -> Result<Coming, Refusal>
+    requires { length kept.now ≤ MAX_FILE_BYTES }
+    ensures begun { IfOk result (λ c. (bytes : List ℕ) → Holds kept.now coming bytes → HasBegun c bytes) }
+    ensures refusal { IfErr result (λ f. f ≢ refusal.Memory → (bytes : List ℕ) → Holds kept.now coming bytes → RefusalOf bytes f) }
 {
-    let head = read_head(alloc, bytes)?;
-    let Ok(coming) = Coming::open(alloc, head, bytes) else {
+    if let Some(coming) = coming {
+        return Ok(coming);
+    }
+    let head = match read_head(alloc, kept) {
+        Ok(head) => head,
+        Err(refusal) => return Err(refusal),
+    };
+    let Ok(coming) = Coming::open(alloc, head, kept) else {
         return Err(Refusal::Memory);
     };
     Ok(coming)
@@ -210,9 +216,9 @@ impl Arriving {
         if count > MAX_FILE_BYTES as u64 {
             return Err(Refusal::TooLong);
         }
-        let coming = match coming {
-            Some(coming) => coming,
-            None => coming_of(alloc, &bytes)?,
+        let coming = match begun(alloc, &bytes, coming) {
+            Ok(coming) => coming,
+            Err(refusal) => return Err(refusal),
         };
         let Ok(finished) = coming.finish(alloc) else {
             return Err(Refusal::Memory);

@@ -146,6 +146,8 @@ impl Coming {
         ensures counts { IfOk result (λ r. HasCounts self.growing.scan (length self.growing.scan.intervals) r.counts) }
     {
         let Coming { scan, row, .. } = self;
+        // By its contract a picture has an MCU.
+        let _some = scan.head().mcus();
         let marked = row.marks(&scan);
         let scan = scan.into_scan(alloc)?;
         let counts = counts_of(&scan, scan.intervals(), marked);

@@ -39,7 +39,8 @@ fn is_sound(scan: &GrowingScan, i: u32, mcu: u32, place: Option<Place>) -> bool
     ensures sound { result ≡ true → HasDecoding (interval_of scan.now.scan i) }
     ensures damaged { result ≡ false → HasNoDecoding (interval_of scan.now.scan i) }
 {
-    // By its contract the head is lawful.
+    // By its contract there is room for the numbers of all intervals.
+    let _most = scan.intervals();
     let head = scan.head();
     let Some(place) = place else {
         return false;

@@ -1,4 +1,4 @@
-use Rattle.std.proofs.Common.{◌≡◌, ℕ, ◌+◌, ◌≤◌, Option, Some, List, ◌++◌, length, sym, ap, subst, ◌∙◌, arith, rules}
+use Rattle.std.proofs.Common.{Option, subst}
 use Rattle.jr_arrival.specs.Arriving.{ComingValue, HasBegun, Holds}
 use Rattle.jr_arrival.proofs.Arrivals.{begun_stays}
 use Rattle.jr_arrival.proofs.arriving.hold.Goals as goal

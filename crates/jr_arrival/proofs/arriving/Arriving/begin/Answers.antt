@@ -1,6 +1,6 @@
-use Rattle.std.proofs.Common.{◌≡◌, ℕ, ◌≤◌, Option, Some, None, false, List, length, refl, sym, ap, subst, ◌∙◌, arith, rules}
+use Rattle.std.proofs.Common.{◌≡◌, ℕ, false, List, length, sym, ap, subst, ◌∙◌, arith, rules}
 use Rattle.std.specs.Option.{is_some}
-use Rattle.jr_arrival.specs.Arriving.{ArrivingValue, ComingValue, HasBegun, Holds, IsArriving, given_of}
+use Rattle.jr_arrival.specs.Arriving.{ArrivingValue, HasBegun, IsArriving, given_of}
 use Rattle.jr_arrival.proofs.Arrivals.{none_given, none_kept}
 use Rattle.jr_arrival.proofs.arriving.Arriving.begin.Goals as goal
 

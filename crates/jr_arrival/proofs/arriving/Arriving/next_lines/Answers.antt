@@ -1,5 +1,5 @@
-use Rattle.std.proofs.Common.{◌≡◌, ℕ, ◌≤◌, Option, Some, None, List, length, refl, sym, ap, subst, ◌∙◌, arith, rules}
-use Rattle.jr_arrival.specs.Arriving.{ArrivingValue, ComingValue, Holds, IsArriving, given_of}
+use Rattle.std.proofs.Common.{◌≡◌, ℕ, None, sym, ap, subst, ◌∙◌}
+use Rattle.jr_arrival.specs.Arriving.{ArrivingValue, Holds, IsArriving, given_of}
 use Rattle.jr_arrival.specs.Settled.{GivesNext, WantsMore}
 use Rattle.jr_arrival.proofs.Arrivals.{look_given}
 use Rattle.jr_arrival.proofs.arriving.Arriving.next_lines.Goals as goal

@@ -1,5 +1,4 @@
-use Rattle.std.proofs.Common.{◌≡◌, ℕ, ◌+◌, ◌*◌, ◌<◌, ◌≤◌, List, [], ◌++◌, length, refl, sym, ap, subst, ◌∙◌, arith, rules}
-use Rattle.jr_head.specs.HeadValue.{HeadValue}
+use Rattle.std.proofs.Common.{◌≡◌, ◌*◌, ◌<◌, refl, arith, rules}
 use Rattle.jr_head.specs.Geometry.{IsLawful, mcus_down, vertical_max}
 use Rattle.jr_paint.proofs.Places.{in_div_ceil}
 use Rattle.jr_scan.specs.GrowingScan.{GrowingScanValue, HasCome}

@@ -1,10 +1,8 @@
-use Rattle.std.proofs.Common.{◌≡◌, ℕ, ◌+◌, ◌*◌, ◌<◌, ◌≤◌, Option, Some, length, sym, ap, subst, ◌∙◌, arith, rules}
+use Rattle.std.proofs.Common.{◌≡◌, ◌+◌, ◌<◌, Some, length, sym, ap, subst, ◌∙◌, arith}
 use Rattle.jr_head.specs.HeadValue.{HeadValue}
-use Rattle.jr_head.specs.Geometry.{IsLawful, blocks_of, mcus_across, mcus_of}
-use Rattle.jr_scan.specs.ScanValue.{ScanValue, interval_of, intervals_of, mcus_in}
+use Rattle.jr_head.specs.Geometry.{mcus_across}
+use Rattle.jr_scan.specs.ScanValue.{ScanValue, interval_of, mcus_in}
 use Rattle.jr_scan.specs.declared.place.Place.{Place}
-use Rattle.jr_rows.proofs.IntervalPlaces.{mcus_in_some, next_there}
-use Rattle.jr_rows.proofs.PictureRows.{row_inside}
 use Rattle.jr_rows.specs.Rows.{CountsMarks}
 use Rattle.jr_arrival.specs.Coming.{Becomes, ComingRowValue, IsComing, MayGoOn}
 use Rattle.jr_arrival.proofs.Readings.{all_read, next_inside, step_next}
@@ -28,9 +26,9 @@ returns-clause-coming c =
     let coming : IsComing s v = subst (IsComing s) (sym c.self.view_is) c.requires.coming in
     let more : i.done < mcus_across s.head = subst (λ (r : ComingRowValue). r.done < mcus_across s.head) (sym c.self.view_is) c.requires.more in
     let all : c.mcus_in.result ≡ mcus_in s.head i.number = c.mcus_in.ensures.value ∙ ap (λ (h : HeadValue). mcus_in h i.number) c.head.ensures.value in
-    let counts = subst (λ (r : ComingRowValue). (t : ScanValue) → Becomes s t → interval_of t r.number ≡ interval_of s r.number → CountsMarks t (length t.intervals) 0 (r.number + 1) c.marks_so_far.result) (sym c.self.view_is) c.marks_so_far.ensures.counts in
-    subst (λ (p : Place). IsComing s (record { row = i.row; done = i.done; number = i.number + 1; mcu = 0; place = Some p; samples = i.samples; lines = i.lines; marked = c.marks_so_far.result })) (sym c.start.ensures)
-    (step_next s v c.marks_so_far.result coming (c.is_over.ensures.over c.if-not-is_over.false) (omega (arith, coming.stands.few, all, c.if-self-mcus_in.false)) more counts)
+    let counts = subst (λ (r : ComingRowValue). (t : ScanValue) → Becomes s t → interval_of t r.number ≡ interval_of s r.number → CountsMarks t (length t.intervals) 0 (r.number + 1) c.marks_so_far-self-inside.result) (sym c.self.view_is) c.marks_so_far-self-inside.ensures.counts in
+    subst (λ (p : Place). IsComing s (record { row = i.row; done = i.done; number = i.number + 1; mcu = 0; place = Some p; samples = i.samples; lines = i.lines; marked = c.marks_so_far-self-inside.result })) (sym c.start.ensures)
+    (step_next s v c.marks_so_far-self-inside.result coming (c.is_over.ensures.over c.if-not-is_over.false) (omega (arith, coming.stands.few, all, c.if-self-mcus_in.false)) more counts)
 
 pub returns-clause-some : goal.returns-clause-some
 returns-clause-some c told =

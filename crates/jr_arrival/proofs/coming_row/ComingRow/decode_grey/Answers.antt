@@ -5,7 +5,7 @@ use Rattle.jr_piece.specs.Units.{grey_unit}
 use Rattle.jr_rows.specs.Groups.{units_in}
 use Rattle.jr_rows.specs.Rows.{HasSampleRoom}
 use Rattle.jr_rows.specs.RowsValue.{SampleRowValue}
-use Rattle.jr_scan.specs.ScanValue.{ScanValue, intervals_of, mcus_in}
+use Rattle.jr_scan.specs.ScanValue.{ScanValue, mcus_in}
 use Rattle.jr_arrival.specs.Coming.{ComingRowValue, IsComing, IsOver, ReadsAll}
 use Rattle.jr_arrival.proofs.Readings.{far_front, step_grey}
 use Rattle.jr_arrival.proofs.coming_row.ComingRow.decode_grey.Goals as goal

@@ -1,21 +1,19 @@
-use Rattle.std.proofs.Common.{◌≡◌, ℕ, ◌+◌, ◌-◌, ◌*◌, ◌<◌, ◌≤◌, Option, Some, List, [], ◌++◌, sym, ap, subst, ◌∙◌, arith, rules, slice_index_or}
-use Rattle.std.specs.Prelude.{ℤ}
+use Rattle.std.proofs.Common.{◌≡◌, ℕ, ◌+◌, ◌-◌, ◌*◌, ◌<◌, ◌≤◌, Some, [], sym, ap, subst, ◌∙◌, arith, rules, slice_index_or}
 use Rattle.jr_head.specs.HeadValue.{HeadValue}
 use Rattle.jr_head.specs.Geometry.{IsLawful, blocks_of, mcus_across}
 use Rattle.jr_scan.specs.declared.place.Place.{Place}
 use Rattle.jr_scan.specs.declared.place.RunEnd.TheVariants.{AllRead}
 use Rattle.jr_scan.specs.IntervalValue.{IntervalValue}
-use Rattle.jr_scan.specs.McuReader.{HasRead, McuReaderValue}
+use Rattle.jr_scan.specs.McuReader.{McuReaderValue}
 use Rattle.jr_scan.specs.Mcus.{HasLongestFront}
 use Rattle.jr_scan.specs.Run.{IsRun, RunOf, run_from}
-use Rattle.jr_scan.specs.ScanValue.{ScanValue, interval_of, intervals_of, mcus_in}
+use Rattle.jr_scan.specs.ScanValue.{ScanValue, interval_of, mcus_in}
 use Rattle.jr_piece.specs.Outcome.{unit_of}
-use Rattle.jr_piece.specs.Strips.{CanReadFrom, FirstMcus, IsNext}
+use Rattle.jr_piece.specs.Strips.{CanReadFrom, FirstMcus}
 use Rattle.jr_piece.proofs.StripRuns.{passed_part, passed_place}
 use Rattle.jr_rows.specs.Groups.{units_in}
 use Rattle.jr_rows.specs.Rows.{HasSampleRoom}
 use Rattle.jr_rows.specs.RowsValue.{SampleRowValue}
-use Rattle.jr_rows.specs.WholeMcus.{DecodesMcus}
 use Rattle.jr_arrival.specs.Coming.{ComingRowValue, IsComing, ReadsTo}
 use Rattle.jr_arrival.proofs.Readings.{nothing_follows, step_whole}
 use Rattle.jr_arrival.proofs.coming_row.ComingRow.decode_whole.Goals as goal

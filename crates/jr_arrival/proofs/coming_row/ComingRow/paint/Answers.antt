@@ -1,4 +1,4 @@
-use Rattle.std.proofs.Common.{◌≡◌, ℕ, ◌+◌, ◌*◌, ◌<◌, ◌≤◌, List, length, sym, ap, subst, ◌∙◌, arith, rules}
+use Rattle.std.proofs.Common.{◌≡◌, ◌+◌, ◌≤◌, sym, ap, subst, ◌∙◌}
 use Rattle.jr_head.specs.HeadValue.{HeadValue}
 use Rattle.jr_head.specs.Geometry.{IsLawful, mcus_across}
 use Rattle.jr_paint.specs.Lines.{next_lines_of}
