@@ -27,7 +27,8 @@ returns-then-whole-left-clause-sound c = λ e.
     c.interval_ref-interval.ensures c.at-reader.ensures.run c.at-reader.ensures.mcu c.skip-whole.ensures.run c.skip-whole.ensures.mcus c.skip-whole.ensures.most (read.0, read.3) c.skip-whole.ensures.ended c.place-end.ensures.value c.place-end.ensures.within c.place-end.ensures.in_range in
     let bytes : length c.bytes.result.now ≡ length i.bytes = ap (λ (l : List ℕ). length l) c.bytes.ensures.bytes ∙ ap (λ (x : IntervalValue). length x.bytes) c.interval_ref-interval.ensures in
     let short : 8 * length c.bytes.result.now - c.place-end.result.bit < 8 = search (rules, arith) in
-    has_all i lawful c.args.mcu (c.mcus_in.result - c.args.mcu) c.skip-whole.result c.in-Some.place c.place-end.result d c.if-whole-left.true (omega (arith, short, bytes))
+    let all : c.skip-whole.result ≡ c.mcus_in.result - c.args.mcu = search (rules, arith, c.if-whole-left.true) in
+    has_all i lawful c.args.mcu (c.mcus_in.result - c.args.mcu) c.skip-whole.result c.in-Some.place c.place-end.result d all (omega (arith, short, bytes))
 
 pub returns-then-whole-left-clause-damaged : goal.returns-then-whole-left-clause-damaged
 returns-then-whole-left-clause-damaged c = λ e.
