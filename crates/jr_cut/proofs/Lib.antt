@@ -1,4 +1,5 @@
 pub mod Cuts
+pub mod Slices
 pub mod Unstuffed
 pub mod CutLaw
 pub mod Segments

@@ -1,7 +1,9 @@
-//! What stands at the front of coded bytes: fill, or bytes that are data as they stand (T.81, B.1.1.2 and B.1.1.5).
+//! What stands at the front of coded bytes: fill, bytes that are data as they stand, or an entropy-coded segment (T.81, B.1.1.2 and
+//! B.1.1.5).
 
-ghost use Rattle.std.specs.Prelude.{◌≡◌, ◌≢◌, ℕ, ◌<◌, ◌≤◌, length, take, replicate, slice_index};
+ghost use Rattle.std.specs.Prelude.{◌≡◌, ◌≢◌, ℕ, ◌<◌, ◌≤◌, List, length, take, drop, replicate, slice_index};
 ghost use Rattle.jr_base.specs.declared.marker.TheConstants.{PREFIX};
+ghost use Rattle.jr_cut.specs.Cut.{IsRaw, IsStop};
 
 use jr_base::marker::PREFIX;
 use memchr::memchr;
@@ -31,5 +33,22 @@ pub fn plain_count(bytes: &[u8]) -> usize
     match memchr(PREFIX, bytes) {
         Some(at) => at,
         None => bytes.len(),
+    }
+}
+
+/// How many bytes at the front spell data, up to a marker or to the end.
+pub fn segment_length(bytes: &[u8]) -> usize
+    ensures within { result ≤ length bytes.now }
+    ensures data { (spelled : List ℕ) × IsRaw (take result bytes.now) spelled }
+    ensures stop { IsStop (drop result bytes.now) }
+{
+    let mut at: usize = 0;
+    'bytes: loop {
+        let end = at + plain_count(&bytes[at..]);
+        let next = end + fill_count(&bytes[end..]);
+        if next >= bytes.len() || bytes[next] != 0 {
+            return end;
+        }
+        at = next + 1;
     }
 }

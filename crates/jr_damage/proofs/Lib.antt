@@ -1,4 +1,3 @@
 mod Rows
 mod FoundSegments
-mod Slices
 mod Verdicts

@@ -8,7 +8,7 @@ ghost use Rattle.jr_damage.specs.Coded.{AreSegmentsOf};
 
 use jr_base::Memory;
 use jr_base::marker::RST0;
-use jr_cut::{fill_count, plain_count};
+use jr_cut::{fill_count, segment_length};
 use jr_scan::Scan;
 use std::alloc::Global;
 
@@ -18,23 +18,6 @@ use std::alloc::Global;
 pub struct CodedSpan {
     pub start: usize,
     pub end: usize,
-}
-
-/// How many bytes at the front code data, up to a marker or to the end.
-fn segment_length(bytes: &[u8]) -> usize
-    ensures within { result ≤ length bytes.now }
-    ensures data { (spelled : List ℕ) × IsRaw (take result bytes.now) spelled }
-    ensures stop { IsStop (drop result bytes.now) }
-{
-    let mut at: usize = 0;
-    'bytes: loop {
-        let end = at + plain_count(&bytes[at..]);
-        let next = end + fill_count(&bytes[end..]);
-        if next >= bytes.len() || bytes[next] != 0 {
-            return end;
-        }
-        at = next + 1;
-    }
 }
 
 /// Whether a marker of this code behind segment k is the restart marker before another one.

@@ -4,7 +4,7 @@ use Rattle.jr_cut.proofs.Cuts.{marker_read, all_fill}
 use Rattle.jr_head.specs.HeadValue.{HeadValue}
 use Rattle.jr_damage.specs.declared.segments.CodedSpan.{CodedSpan}
 use Rattle.jr_damage.proofs.FoundSegments.{Found, found_none, pushed_slice, found_end, found_all, found_more}
-use Rattle.jr_damage.proofs.Slices.{fill_full, fill_next}
+use Rattle.jr_cut.proofs.Slices.{fill_full, fill_next}
 use Rattle.jr_damage.proofs.segments.coded_segments.Goals as goal
 use Rattle.jr_damage.proofs.segments.coded_segments.Goals.{then-code_at-file-via-then-code_at-file, then-code_at-file-via-else-code_at-file+then-not-is_next}
 

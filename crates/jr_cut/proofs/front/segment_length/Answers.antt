@@ -2,9 +2,9 @@ use Rattle.std.proofs.Common.{◌+◌, ◌<◌, ◌≤◌, ◌++◌, ◌∷◌, 
 use Rattle.jr_base.specs.declared.marker.TheConstants.{PREFIX}
 use Rattle.jr_cut.proofs.Cuts.{stop_end, stop_code, rest_is, fill_some, raw_stuffed}
 use Rattle.jr_cut.proofs.Unstuffed.{raw_run}
-use Rattle.jr_damage.proofs.Slices.{fill_full, fill_next, plain_each, plain_next}
-use Rattle.jr_damage.proofs.segments.segment_length.Goals as goal
-use Rattle.jr_damage.proofs.segments.segment_length.Goals.{then-next-bytes-via-then-next-bytes, then-next-bytes-via-else-next-bytes+then-bytes-next-ne0}
+use Rattle.jr_cut.proofs.Slices.{fill_full, fill_next, plain_each, plain_next}
+use Rattle.jr_cut.proofs.front.segment_length.Goals as goal
+use Rattle.jr_cut.proofs.front.segment_length.Goals.{then-next-bytes-via-then-next-bytes, then-next-bytes-via-else-next-bytes+then-bytes-next-ne0}
 
 pub returns-then-next-bytes-clause-data : goal.returns-then-next-bytes-clause-data
 returns-then-next-bytes-clause-data c =

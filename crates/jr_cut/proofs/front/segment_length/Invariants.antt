@@ -1,6 +1,6 @@
 use Rattle.std.proofs.Common.{◌-◌, ◌≤◌, ℕ, List, length, take}
 use Rattle.jr_cut.specs.Cut.{IsRaw}
-use Rattle.jr_damage.proofs.segments.segment_length.Given as goal
+use Rattle.jr_cut.proofs.front.segment_length.Given as goal
 
 abbrev pub invariant-bytes : goal.invariant-bytes
 invariant-bytes l = (l.at ≤ length l.bytes) × ((spelled : List ℕ) × IsRaw (take l.at l.bytes) spelled)
