@@ -8,7 +8,7 @@ ghost use Rattle.jr_code.specs.Bits.{upper_bits};
 ghost use Rattle.jr_code.specs.Register.{bits_in};
 
 use crate::bits::Bits;
-use crate::packed::{Packed, places_of};
+use crate::packed::{LOOKED_UP, Packed, WINDOWS, places_of};
 use crate::register::Register;
 use crate::table::{CodeFault, CodeTable, word_count};
 use crate::words::Extended;
@@ -23,8 +23,8 @@ pub struct CodeBook {
     pub(crate) table: CodeTable,
     /// By eight bits: the symbol and length of the word of at most eight bits in front.
     entries: [Option<(u8, u8)>; 256],
-    /// By ten bits: the word in front and its extra bits, where both are within them.
-    pairs: [Packed; 1024],
+    /// By eleven bits: the word in front and its extra bits, where both are within them.
+    pairs: [Packed; WINDOWS],
     /// For each length from nine to sixteen bits: the least word, and how many words are shorter.
     long: [(u32, u32); 8],
 }
@@ -111,9 +111,17 @@ impl CodeBook {
     pub(crate) fn of(table: CodeTable) -> CodeBook
         ensures { result ≡ table }
     {
+        let pairs = table.pairs();
+        CodeBook::with_pairs(table, pairs)
+    }
+
+    /// The book of a table, given what eleven bits look up.
+    pub(crate) fn with_pairs(table: CodeTable, pairs: [Packed; WINDOWS]) -> CodeBook
+        requires { ArePairs table pairs }
+        ensures { result ≡ table }
+    {
         table.be_lawful();
         let entries = table.entries();
-        let pairs = table.pairs();
         let long = table.long();
         CodeBook {
             table,
@@ -163,12 +171,16 @@ impl CodeBook {
         ensures none { IfNone result (HasNoExtended self.now bits.old) }
         ensures unmoved { IfNone result (bits.new ≡ bits.old) }
     {
-        // Looked up before the refill, which then goes on beside it.
-        let both = self.pair(bits.register);
         let register = bits.register.refilled();
-        if both.long() <= bits.register.count {
-            bits.register = register.behind(both.long());
-            return Some((both.symbol(), i32::from(both.value())));
+        if register.count >= 32
+            && let Some((symbol, long)) = self.short_word(register)
+        {
+            let mut rest = Bits {
+                register: register.behind(u32::from(long)),
+            };
+            let value = rest.extra(u32::from(symbol % 16))?;
+            *bits = rest;
+            return Some((symbol, value));
         }
         let both = self.rare_pair(register.held, register.count)?;
         let count = u32::from(both.long);
@@ -196,7 +208,7 @@ impl CodeBook {
         Some(code)
     }
 
-    /// The same with a refill, which goes on beside the look-up and lasts for one more code of at most ten bits.
+    /// The same with a refill, which goes on beside the look-up and lasts for one more code that a look-up holds.
     #[inline(always)]
     pub fn read_places_and_refill(&self, bits: &mut Bits) -> Option<Packed>
         ensures found { IfSome result (λ p. TakesPlaces self.now p bits.old bits.new) }
@@ -214,14 +226,14 @@ impl CodeBook {
         Some(next)
     }
 
-    /// What the next ten bits look up, where zeros stand for those that the register hasn't: the word in front of the bits
+    /// What the next eleven bits look up, where zeros stand for those that the register hasn't: the word in front of the bits
     /// and its extra bits, where the register has them all.
     #[inline(always)]
     fn pair(&self, register: Register) -> Packed
         ensures front { (unpacked result).long ≤ register.entry.count → IsInFront self.now (unpacked result) register.entry.count (bits_in register.entry) }
         ensures goes { (unpacked result).long ≤ register.entry.count → GoesOn (unpacked result).symbol (places_in result) }
     {
-        self.pairs[register.upper(10) as usize]
+        self.pairs[register.upper(LOOKED_UP as u32) as usize]
     }
 
     /// The word that is in front of the first `count` bits of `held` and its extra bits, long ones or ones near the end of
