@@ -4,7 +4,7 @@ ghost use Rattle.std.specs.Prelude.{◌≡◌, ◌≢◌, ◌≤◌, ◌↔◌, 
 ghost use Rattle.jr_code.specs.Code.{same_table, IsLawfulTable, IsOverfull, space, lengths};
 
 use crate::book::CodeBook;
-use crate::packed::{Packed, WINDOWS};
+use crate::word_book::WordBook;
 use jr_base::Memory;
 use std::alloc::Global;
 use std::marker::Model;
@@ -68,20 +68,18 @@ impl CodeTable {
         })
     }
 
-    /// The book that words of this table are read by.
+    /// The book that words of this table are read by where they are those of other coefficients.
     pub fn book(&self) -> Result<CodeBook, Memory>
         ensures { IfOk result (λ b. b ≡ self.now) }
     {
         Ok(CodeBook::of(self.try_clone()?))
     }
 
-    /// The same for first coefficients, whose words are read without their extra bits: nothing is filled in that looks up both,
-    /// so it takes a tenth of the time.
-    pub fn first_book(&self) -> Result<CodeBook, Memory>
+    /// The book that words of this table are read by where they are those of first coefficients.
+    pub fn word_book(&self) -> Result<WordBook, Memory>
         ensures { IfOk result (λ b. b ≡ self.now) }
     {
-        let table = self.try_clone()?;
-        Ok(CodeBook::with_pairs(table, [Packed::NONE; WINDOWS]))
+        Ok(WordBook::of(self.try_clone()?))
     }
 
     /// What holds of every table, for callers that rest on it: it is lawful (T.81, Annex C).
