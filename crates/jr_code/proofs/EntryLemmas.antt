@@ -160,12 +160,12 @@ entry_all t b None entry = λ word rest s w e. omega (arith, entry word rest s w
 pub entries_all : (t : Table) (entries : List (Option (ℕ × ℕ))) → AreEntriesTo t 8 entries → AreEntries t entries
 entries_all t entries entered = λ b h. entry_all t b (slice_index_or entries b None) (entered b h)
 
--- ---- what ten bits look up
+-- ---- what eleven bits look up
 
-pub pairs_none : (t : Table) → ArePairs t (replicate 1024 nothing)
-pairs_none t = λ window h. rw (get_or-replicate 1024 window nothing outside h) ((λ short. absurd (omega (arith, short))), (λ short. absurd (omega (arith, short))))
+pub pairs_none : (t : Table) → ArePairs t (replicate 2048 nothing)
+pairs_none t = λ window h. rw (get_or-replicate 2048 window nothing outside h) ((λ short. absurd (omega (arith, short))), (λ short. absurd (omega (arith, short))))
 
-pub pairs_more : (t : Table) (pairs : List Packed) (i : ℕ) (p : Packed) → length pairs ≡ 1024 → i < 1024 → IsPackedPair t i p → ArePairs t pairs → ArePairs t (slice_set pairs i p)
+pub pairs_more : (t : Table) (pairs : List Packed) (i : ℕ) (p : Packed) → length pairs ≡ 2048 → i < 2048 → IsPackedPair t i p → ArePairs t pairs → ArePairs t (slice_set pairs i p)
 pairs_more t pairs i p all within pair entered = λ window h. ⊎_elim
     (λ same.
     let lt : i < length pairs = omega arith in
@@ -174,10 +174,10 @@ pairs_more t pairs i p all within pair entered = λ window h. ⊎_elim
     (cases_eq window i)
 
 -- the window's first bits are the word's
-pub word_ahead : (t : Table) (long window code s : ℕ) → long ≤ 10 → code * (1024 / 2 ^ long) ≤ window → window < code * (1024 / 2 ^ long) + 1024 / 2 ^ long
-    → IsWord t (bits_of long code) s → IsWord t (take long (bits_of 10 window)) s
+pub word_ahead : (t : Table) (long window code s : ℕ) → long ≤ 11 → code * (2048 / 2 ^ long) ≤ window → window < code * (2048 / 2 ^ long) + 2048 / 2 ^ long
+    → IsWord t (bits_of long code) s → IsWord t (take long (bits_of 11 window)) s
 word_ahead t long window code s h from to w =
-    let each : 1024 / 2 ^ long ≡ 2 ^ (10 - long) = windows_of 10 long h in
-    let times : code * (1024 / 2 ^ long) ≡ code * 2 ^ (10 - long) = ap (λ n. code * n) each in
-    let is : window / 2 ^ (10 - long) ≡ code = begins (10 - long) window code (omega arith) (omega arith) in
-    subst (λ bs. IsWord t bs s) (sym (take-bits_of long 10 window h ∙ ap (λ n. bits_of long n) is)) w
+    let each : 2048 / 2 ^ long ≡ 2 ^ (11 - long) = windows_of 11 long h in
+    let times : code * (2048 / 2 ^ long) ≡ code * 2 ^ (11 - long) = ap (λ n. code * n) each in
+    let is : window / 2 ^ (11 - long) ≡ code = begins (11 - long) window code (omega arith) (omega arith) in
+    subst (λ bs. IsWord t bs s) (sym (take-bits_of long 11 window h ∙ ap (λ n. bits_of long n) is)) w

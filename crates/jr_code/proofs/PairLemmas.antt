@@ -22,6 +22,18 @@ taken_apart t bs s n m v is size enough is_value = record {
   split = sym (take-append-drop n bs) ∙ ap (λ b. take n bs ++ b) (sym (take-append-drop m (drop n bs)) ∙ ap (λ b. take m (drop n bs) ++ b) (drop-drop m n bs));
 }
 
+-- a word, behind it bits of which the first are its extra bits, and what is left
+pub word_apart : (t : Table) (bs mid new : List Bool) (s n m : ℕ) (v : ℤ) → IsWord t (take n bs) s → mid ≡ drop n bs → m ≡ s % 16 → m ≤ length mid → v ≡ value (take m mid) → new ≡ drop m mid
+    → TakesExtended t s v bs new
+word_apart t bs mid new s n m v is left size enough is_value behind = record {
+  word = take n bs;
+  extra = take m mid;
+  is = is;
+  count = length-take-le m mid enough ∙ size;
+  value_is = is_value;
+  split = sym (take-append-drop n bs) ∙ ap (λ b. take n bs ++ b) (sym left ∙ sym (take-append-drop m mid) ∙ ap (λ b. take m mid ++ b) (sym behind));
+}
+
 -- what is in front of the first bits is in front of all
 pub taken_more : (t : Table) (bs more : List Bool) (s n : ℕ) (v : ℤ) → n ≤ length bs → TakesExtended t s v bs (drop n bs) → TakesExtended t s v (bs ++ more) (drop n (bs ++ more))
 taken_more t bs more s n v fits x = record {
@@ -34,21 +46,21 @@ taken_more t bs more s n v fits x = record {
       ∙ ap (λ b. x.word ++ (x.extra ++ b)) (sym (drop-append-le n bs more fits));
 }
 
--- a word in front of ten bits, and its extra bits, where these hold both
-pub pair_held : (t : Table) (w s n m : ℕ) (v : ℤ) → IsWord t (take n (bits_of 10 w)) s → m ≡ s % 16 → n + m ≤ 10 → v ≡ extend m (w / 2 ^ (10 - (n + m)) % 2 ^ m)
-    → (n + m ≤ 10) × TakesExtended t s v (bits_of 10 w) (drop (n + m) (bits_of 10 w))
+-- a word in front of eleven bits, and its extra bits, where these hold both
+pub pair_held : (t : Table) (w s n m : ℕ) (v : ℤ) → IsWord t (take n (bits_of 11 w)) s → m ≡ s % 16 → n + m ≤ 11 → v ≡ extend m (w / 2 ^ (11 - (n + m)) % 2 ^ m)
+    → (n + m ≤ 11) × TakesExtended t s v (bits_of 11 w) (drop (n + m) (bits_of 11 w))
 pair_held t w s n m v is size short is_value =
-    let behind = 10 - n in
-    let all : bits_of 10 w ++ [] ≡ bits_of 10 w = append-nil (bits_of 10 w) in
-    let left : drop n (bits_of 10 w) ≡ bits_of (10 - n) w ++ [] = ap (λ b. drop n b) (sym all) ∙ sym (drop-held n 10 w [] (omega arith)) in
-    let e : 10 - n - m ≡ 10 - (n + m) = omega arith in
-    let extra : take m (drop n (bits_of 10 w)) ≡ bits_of m (w / 2 ^ (10 - (n + m))) =
-    ap (λ b. take m b) left ∙ take-held m (10 - n) w [] (omega arith) ∙ ap (λ k. bits_of m (w / 2 ^ k)) e in
-    let enough : m ≤ length (drop n (bits_of 10 w)) = omega (arith, length-drop n (bits_of 10 w), length-bits_of 10 w) in
-    let value_is : v ≡ value (take m (drop n (bits_of 10 w))) =
-    is_value ∙ sym (ap value extra ∙ ap (λ l. extend l (number (bits_of m (w / 2 ^ (10 - (n + m)))))) (length-bits_of m (w / 2 ^ (10 - (n + m))))
-    ∙ ap (λ x. extend m x) (number-bits_of m (w / 2 ^ (10 - (n + m))))) in
-    (short, taken_apart t (bits_of 10 w) s n m v is size enough value_is)
+    let behind = 11 - n in
+    let all : bits_of 11 w ++ [] ≡ bits_of 11 w = append-nil (bits_of 11 w) in
+    let left : drop n (bits_of 11 w) ≡ bits_of (11 - n) w ++ [] = ap (λ b. drop n b) (sym all) ∙ sym (drop-held n 11 w [] (omega arith)) in
+    let e : 11 - n - m ≡ 11 - (n + m) = omega arith in
+    let extra : take m (drop n (bits_of 11 w)) ≡ bits_of m (w / 2 ^ (11 - (n + m))) =
+    ap (λ b. take m b) left ∙ take-held m (11 - n) w [] (omega arith) ∙ ap (λ k. bits_of m (w / 2 ^ k)) e in
+    let enough : m ≤ length (drop n (bits_of 11 w)) = omega (arith, length-drop n (bits_of 11 w), length-bits_of 11 w) in
+    let value_is : v ≡ value (take m (drop n (bits_of 11 w))) =
+    is_value ∙ sym (ap value extra ∙ ap (λ l. extend l (number (bits_of m (w / 2 ^ (11 - (n + m)))))) (length-bits_of m (w / 2 ^ (11 - (n + m))))
+    ∙ ap (λ x. extend m x) (number-bits_of m (w / 2 ^ (11 - (n + m))))) in
+    (short, taken_apart t (bits_of 11 w) s n m v is size enough value_is)
 
 -- what is in front of bits is in front of others that begin with as many of the same
 pub taken_from : (t : Table) (bs cs : List Bool) (s n : ℕ) (v : ℤ) → n ≤ length bs → take n cs ≡ take n bs → TakesExtended t s v bs (drop n bs) → TakesExtended t s v cs (drop n cs)
@@ -65,15 +77,15 @@ taken_from t bs cs s n v fits same x =
       split = sym (take-append-drop n cs) ∙ ap (λ f. f ++ drop n cs) (same ∙ front) ∙ append_assoc x.word x.extra (drop n cs);
     }
 
--- what ten bits look up is in front where the register has as many
-pub pair_front : (t : Table) (count held : ℕ) (more : List Bool) (e : Extended) → count < 64 → IsPair t (held / 2 ^ 54) e → e.long ≤ count
+-- what eleven bits look up is in front where the register has as many
+pub pair_front : (t : Table) (count held : ℕ) (more : List Bool) (e : Extended) → count < 64 → IsPair t (held / 2 ^ 53) e → e.long ≤ count
     → IsInFront t e count (upper_bits count held ++ more)
 pair_front t count held more e few pair long =
     let is = pair (omega (arith, few, long)) in
-    let ten : bits_of 10 (held / 2 ^ 54) ≡ upper_bits 10 held = sym (first_is 10 held (omega arith)) in
-    let same : take e.long (upper_bits count held ++ more) ≡ take e.long (bits_of 10 (held / 2 ^ 54)) =
-    take-front e.long count held more long (omega (arith, few)) ∙ sym (ap (λ b. take e.long b) ten ∙ take-take e.long 10 (bits_of 64 held) is.0) in
-    (long, taken_from t (bits_of 10 (held / 2 ^ 54)) (upper_bits count held ++ more) e.symbol e.long e.value (omega (arith, is.0, length-bits_of 10 (held / 2 ^ 54))) same is.1)
+    let looked_up : bits_of 11 (held / 2 ^ 53) ≡ upper_bits 11 held = sym (first_is 11 held (omega arith)) in
+    let same : take e.long (upper_bits count held ++ more) ≡ take e.long (bits_of 11 (held / 2 ^ 53)) =
+    take-front e.long count held more long (omega (arith, few)) ∙ sym (ap (λ b. take e.long b) looked_up ∙ take-take e.long 11 (bits_of 64 held) is.0) in
+    (long, taken_from t (bits_of 11 (held / 2 ^ 53)) (upper_bits count held ++ more) e.symbol e.long e.value (omega (arith, is.0, length-bits_of 11 (held / 2 ^ 53))) same is.1)
 
 -- without a word there is none with its extra bits
 pub no_word_none : (t : Table) (bs : List Bool) → HasNoFirstWord t bs → HasNoExtended t bs

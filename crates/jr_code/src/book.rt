@@ -8,35 +8,31 @@ ghost use Rattle.jr_code.specs.Bits.{upper_bits};
 ghost use Rattle.jr_code.specs.Register.{bits_in};
 
 use crate::bits::Bits;
-use crate::packed::{Packed, places_of};
+use crate::packed::{LOOKED_UP, Packed, WINDOWS, places_of};
 use crate::register::Register;
 use crate::table::{CodeFault, CodeTable, word_count};
-use crate::words::Extended;
+use crate::word_book::WordBook;
 use jr_base::Memory;
 use std::alloc::Global;
 use std::marker::Model;
 
-/// A code table (T.81, Annex C), read by eight bits at once and, for longer words, by length. Two are equal where their
-/// counts and symbols are.
+/// A code table (T.81, Annex C) by which coefficients behind the first are read, word and extra bits at once. Two are equal
+/// where their counts and symbols are.
 #[derive(Drop)]
 pub struct CodeBook {
-    pub(crate) table: CodeTable,
-    /// By eight bits: the symbol and length of the word of at most eight bits in front.
-    entries: [Option<(u8, u8)>; 256],
-    /// By ten bits: the word in front and its extra bits, where both are within them.
-    pairs: [Packed; 1024],
-    /// For each length from nine to sixteen bits: the least word, and how many words are shorter.
-    long: [(u32, u32); 8],
+    words: WordBook,
+    /// By eleven bits: the word in front and its extra bits, where both are within them.
+    pairs: [Packed; WINDOWS],
 }
 
 impl Model for CodeBook {
-    ghost use Rattle.jr_code.specs.Code.{Table, IsLawfulTable, AreEntries, ArePairs, AreLong};
+    ghost use Rattle.jr_code.specs.Code.{Table, IsLawfulTable, ArePairs};
 
     ghost Value = { Table };
 
-    ghost view = { λ b. b.table };
+    ghost view = { λ b. b.words };
 
-    ghost invariant = { λ b. AreEntries b.table b.entries × AreLong b.table b.long × ArePairs b.table b.pairs × IsLawfulTable b.table.counts b.table.symbols };
+    ghost invariant = { λ b. ArePairs b.words b.pairs × IsLawfulTable b.words.counts b.words.symbols };
 }
 
 impl PartialEq for CodeBook {
@@ -45,7 +41,7 @@ impl PartialEq for CodeBook {
     ghost laws = { Prim.search (comparing, rules) };
 
     fn eq(&self, other: &CodeBook) -> bool {
-        self.table.is_same(&other.table)
+        self.words.is_same(&other.words)
     }
 }
 
@@ -54,7 +50,7 @@ impl CodeBook {
     pub fn is_same(&self, other: &CodeBook) -> bool
         ensures { IsTrue result ↔ (self.now ≡ other.now) }
     {
-        self.table.is_same(&other.table)
+        self.words.is_same(&other.words)
     }
 
     /// The table of these counts, `counts[i]` of words of i + 1 bits, and of a symbol for each word in order (T.81, B.2.4.2
@@ -92,7 +88,7 @@ impl CodeBook {
     pub fn be_lawful(&self)
         ensures { IsLawfulTable self.now.counts self.now.symbols }
     {
-        let _ = &self.table;
+        let _ = &self.words;
     }
 
     /// The same table once more.
@@ -100,10 +96,8 @@ impl CodeBook {
         ensures { IfOk result (λ b. b ≡ self.now) }
     {
         Ok(CodeBook {
-            table: self.table.try_clone()?,
-            entries: self.entries,
+            words: self.words.try_clone()?,
             pairs: self.pairs,
-            long: self.long,
         })
     }
 
@@ -112,14 +106,10 @@ impl CodeBook {
         ensures { result ≡ table }
     {
         table.be_lawful();
-        let entries = table.entries();
         let pairs = table.pairs();
-        let long = table.long();
         CodeBook {
-            table,
-            entries,
+            words: WordBook::of(table),
             pairs,
-            long,
         }
     }
 
@@ -128,7 +118,7 @@ impl CodeBook {
     pub fn entries(&self) -> &[Option<(u8, u8)>; 256]
         ensures { AreEntries self.now result.now }
     {
-        &self.entries
+        self.words.entries()
     }
 
     /// Takes a word from the bits and gives its symbol (T.81, F.2.2.3, DECODE). Where no word is in front it gives None,
@@ -142,17 +132,7 @@ impl CodeBook {
         // Two words of this table that begin the same bits are one word with one symbol.
         ensures one_word { IsPrefixFree self.now }
     {
-        let register = bits.register.refilled();
-        if register.count >= 32
-            && let Some((symbol, long)) = self.short_word(register)
-        {
-            bits.register = register.behind(u32::from(long));
-            return Some(symbol);
-        }
-        let (symbol, long) = self.rare_word(register.held, register.count)?;
-        let count = u32::from(long);
-        bits.register = register.behind(count);
-        Some(symbol)
+        self.words.read(bits)
     }
 
     /// Takes a word and as many extra bits as the lower four bits of its symbol say, and gives the symbol and what the extra
@@ -163,18 +143,7 @@ impl CodeBook {
         ensures none { IfNone result (HasNoExtended self.now bits.old) }
         ensures unmoved { IfNone result (bits.new ≡ bits.old) }
     {
-        // Looked up before the refill, which then goes on beside it.
-        let both = self.pair(bits.register);
-        let register = bits.register.refilled();
-        if both.long() <= bits.register.count {
-            bits.register = register.behind(both.long());
-            return Some((both.symbol(), i32::from(both.value())));
-        }
-        let both = self.rare_pair(register.held, register.count)?;
-        let count = u32::from(both.long);
-        let value = i32::from(both.value);
-        bits.register = register.behind(count);
-        Some((both.symbol, value))
+        self.words.read_extended(bits)
     }
 
     /// Takes the code of a coefficient behind the first, or of the end of a block (T.81, F.1.2.2): a word and its extra bits.
@@ -196,7 +165,7 @@ impl CodeBook {
         Some(code)
     }
 
-    /// The same with a refill, which goes on beside the look-up and lasts for one more code of at most ten bits.
+    /// The same with a refill, which goes on beside the look-up and lasts for one more code that a look-up holds.
     #[inline(always)]
     pub fn read_places_and_refill(&self, bits: &mut Bits) -> Option<Packed>
         ensures found { IfSome result (λ p. TakesPlaces self.now p bits.old bits.new) }
@@ -214,43 +183,14 @@ impl CodeBook {
         Some(next)
     }
 
-    /// What the next ten bits look up, where zeros stand for those that the register hasn't: the word in front of the bits
+    /// What the next eleven bits look up, where zeros stand for those that the register hasn't: the word in front of the bits
     /// and its extra bits, where the register has them all.
     #[inline(always)]
     fn pair(&self, register: Register) -> Packed
         ensures front { (unpacked result).long ≤ register.entry.count → IsInFront self.now (unpacked result) register.entry.count (bits_in register.entry) }
         ensures goes { (unpacked result).long ≤ register.entry.count → GoesOn (unpacked result).symbol (places_in result) }
     {
-        self.pairs[register.upper(10) as usize]
-    }
-
-    /// The word that is in front of the first `count` bits of `held` and its extra bits, long ones or ones near the end of
-    /// all bits. By value, so that no address of a reader leaves its loop.
-    #[cold]
-    #[inline(never)]
-    fn rare_pair(&self, held: u64, count: u32) -> Option<Extended>
-        requires few { count < 64 }
-        requires clean { held % 2 ^ (64 - count) ≡ 0 }
-        ensures found { IfSome result (λ e. IsInFront self.now e count (upper_bits count held)) }
-        ensures none { IfNone result (HasNoExtended self.now (upper_bits count held)) }
-    {
-        let (symbol, long) = self.rare_word(held, count)?;
-        let register = Register {
-            rest: &[],
-            held,
-            count,
-        };
-        let mut rest = Bits {
-            register: register.behind(u32::from(long)),
-        };
-        let size = symbol % 16;
-        let count = u32::from(size);
-        let value = rest.extra(count)?;
-        Some(Extended {
-            symbol,
-            value: value as i16,
-            long: long + size,
-        })
+        self.pairs[register.upper(LOOKED_UP as u32) as usize]
     }
 
     /// The same of the code of a coefficient behind the first, or of the end of a block.
@@ -263,51 +203,8 @@ impl CodeBook {
         ensures goes { IfSome result (λ p. GoesOn (unpacked p).symbol (places_in p)) }
         ensures none { IfNone result (HasNoPlaces self.now (upper_bits count held)) }
     {
-        let both = self.rare_pair(held, count)?;
+        let both = self.words.rare_pair(held, count)?;
         let places = places_of(both.symbol)?;
         Some(Packed::of(both, places))
-    }
-
-    /// The word of at most eight bits that is in front of the bits.
-    #[inline(always)]
-    fn short_word(&self, register: Register) -> Option<(u8, u8)>
-        requires { 32 ≤ register.count }
-        ensures { IfSome result (λ f. (f.1 ≤ register.entry.count) × IsWord self.now (take f.1 (bits_in register.entry)) f.0) }
-    {
-        self.entries[register.first_bits(8) as usize]
-    }
-
-    /// The word that is in front of the first `count` bits of `held`, a long one or one near the end of all bits. In line
-    /// with what it calls, since the answers of calls go through memory.
-    #[inline(always)]
-    fn rare_word(&self, held: u64, count: u32) -> Option<(u8, u8)>
-        requires few { count < 64 }
-        requires clean { held % 2 ^ (64 - count) ≡ 0 }
-        ensures found { IfSome result (λ f. (f.1 ≤ count) × IsWord self.now (take f.1 (upper_bits count held)) f.0) }
-        ensures none { IfNone result (HasNoFirstWord self.now (upper_bits count held)) }
-    {
-        let register = Register {
-            rest: &[],
-            held,
-            count,
-        };
-        let (symbol, long) = self.first_word(register)?;
-        if u32::from(long) > count {
-            return None;
-        }
-        Some((symbol, long))
-    }
-
-    /// The word that is in front of the bits where these are as many; where they are fewer there is none.
-    #[inline(always)]
-    fn first_word(&self, register: Register) -> Option<(u8, u8)>
-        requires { register.rest.now ≡ [] }
-        ensures found { IfSome result (λ f. IsFirstWordWhereWhole self.now (bits_in register.entry) f.0 f.1) }
-        ensures none { IfNone result (HasNoFirstWord self.now (bits_in register.entry)) }
-    {
-        match self.entries[register.window(8) as usize] {
-            Some(word) => Some(word),
-            None => self.table.long_word(&self.long, register.window(16) as u16),
-        }
     }
 }

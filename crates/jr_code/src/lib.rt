@@ -7,6 +7,7 @@ mod laws;
 mod packed;
 mod register;
 mod table;
+mod word_book;
 mod words;
 
 pub use bits::Bits;
@@ -15,3 +16,4 @@ pub use jr_base::Memory;
 pub use laws::{each_place_has_a_word, one_word, same_table_tells};
 pub use packed::Packed;
 pub use table::{CodeFault, CodeTable, word_count};
+pub use word_book::WordBook;

@@ -5,6 +5,12 @@ ghost use Rattle.jr_code.specs.Code.{unpacked, places_in, GoesOn};
 
 use crate::words::Extended;
 
+/// How many bits a look-up takes.
+pub(crate) const LOOKED_UP: u8 = 11;
+
+/// How many numbers these bits write.
+pub(crate) const WINDOWS: usize = 2048;
+
 /// The places that stand for the end of a block: no block has as many.
 const TO_THE_END: u8 = 128;
 
@@ -56,19 +62,6 @@ impl Packed {
         ensures few { result < 256 }
     {
         self.number / 256 % 256
-    }
-
-    /// The symbol of the word.
-    #[inline(always)]
-    pub(crate) fn symbol(self) -> u8
-        ensures { result ≡ (unpacked self).symbol }
-    {
-        let size = self.number / 65536 % 16;
-        let places = self.places();
-        if places == 128 {
-            return size as u8;
-        }
-        ((16 * places.saturating_sub(1) + size) % 256) as u8
     }
 
     /// What the extra bits stand for.

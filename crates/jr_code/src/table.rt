@@ -4,6 +4,7 @@ ghost use Rattle.std.specs.Prelude.{◌≡◌, ◌≢◌, ◌≤◌, ◌↔◌, 
 ghost use Rattle.jr_code.specs.Code.{same_table, IsLawfulTable, IsOverfull, space, lengths};
 
 use crate::book::CodeBook;
+use crate::word_book::WordBook;
 use jr_base::Memory;
 use std::alloc::Global;
 use std::marker::Model;
@@ -67,11 +68,18 @@ impl CodeTable {
         })
     }
 
-    /// The book that words of this table are read by.
+    /// The book that words of this table are read by where they are those of other coefficients.
     pub fn book(&self) -> Result<CodeBook, Memory>
         ensures { IfOk result (λ b. b ≡ self.now) }
     {
         Ok(CodeBook::of(self.try_clone()?))
+    }
+
+    /// The book that words of this table are read by where they are those of first coefficients.
+    pub fn word_book(&self) -> Result<WordBook, Memory>
+        ensures { IfOk result (λ b. b ≡ self.now) }
+    {
+        Ok(WordBook::of(self.try_clone()?))
     }
 
     /// What holds of every table, for callers that rest on it: it is lawful (T.81, Annex C).

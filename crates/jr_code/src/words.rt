@@ -5,7 +5,7 @@ ghost use Rattle.jr_code.specs.Bits.{bits_of, number};
 ghost use Rattle.jr_code.specs.Code.{Table, IsWord, HasShortWordsOnly, AreEntries, AreEntriesTo, ArePairs, IsPair, AreLong, room, space, lengths};
 
 use crate::bits::extend;
-use crate::packed::{Packed, places_of};
+use crate::packed::{LOOKED_UP, Packed, WINDOWS, places_of};
 use crate::table::CodeTable;
 
 /// A word and its extra bits together.
@@ -42,20 +42,20 @@ impl CodeTable {
         }
     }
 
-    /// What each ten bits look up: the word that they begin with and its extra bits, where they hold both.
-    pub(crate) fn pairs(&self) -> [Packed; 1024]
+    /// What each eleven bits look up: the word that they begin with and its extra bits, where they hold both.
+    pub(crate) fn pairs(&self) -> [Packed; WINDOWS]
         ensures { ArePairs self.now result }
     {
-        let mut pairs = [Packed::NONE; 1024];
-        for i in 0..10u8 {
+        let mut pairs = [Packed::NONE; WINDOWS];
+        for i in 0..LOOKED_UP {
             self.enter_pairs(&mut pairs, i);
         }
         pairs
     }
 
     /// Enters the words of i + 1 bits, each with all its extra bits.
-    fn enter_pairs(&self, pairs: &mut [Packed; 1024], i: u8)
-        requires short { i < 10 }
+    fn enter_pairs(&self, pairs: &mut [Packed; WINDOWS], i: u8)
+        requires short { i < LOOKED_UP }
         requires entered { ArePairs self.now pairs.old }
         ensures { ArePairs self.now pairs.new }
     {
@@ -140,38 +140,39 @@ fn enter_word(entries: &mut [Option<(u8, u8)>; 256], code: usize, symbol: u8, lo
     }
 }
 
-/// Enters the word of an AC code: the ten bits that begin with it look up the word and its extra bits, where they hold both.
-fn enter_pair(pairs: &mut [Packed; 1024], code: usize, symbol: u8, long: u8)
-    requires short { long ≤ 10 }
+/// Enters the word of an AC code: the eleven bits that begin with it look up the word and its extra bits, where they hold both.
+fn enter_pair(pairs: &mut [Packed; WINDOWS], code: usize, symbol: u8, long: u8)
+    requires short { long ≤ LOOKED_UP }
     requires fits { code < 2 ^ long }
     ensures { (t : Table) → IsWord t (bits_of long code) symbol → ArePairs t pairs.old → ArePairs t pairs.new }
 {
-    if long + symbol % 16 > 10 {
+    if long + symbol % 16 > LOOKED_UP {
         return;
     }
     let Some(places) = places_of(symbol) else {
         return;
     };
-    let each = 1024usize >> long;
+    let each = WINDOWS >> long;
     let first = code * each;
     for window in first..first + each {
         pairs[window] = Packed::of(pair(window as u64, symbol, long), places);
     }
 }
 
-/// The word of that symbol and length that ten bits begin with, and its extra bits.
+/// The word of that symbol and length that eleven bits begin with, and its extra bits.
 #[inline(always)]
 fn pair(window: u64, symbol: u8, long: u8) -> Extended
-    requires held { long + symbol % 16 ≤ 10 }
-    requires ten { window < 1024 }
+    requires held { long + symbol % 16 ≤ LOOKED_UP }
+    requires extra { symbol % 16 ≤ 10 }
+    requires few { window < WINDOWS }
     ensures least { negsuc 1023 ≤ℤ result.value }
     ensures greatest { result.value ≤ℤ pos 1023 }
     ensures both { result.symbol ≡ symbol }
-    ensures pair { (t : Table) → IsWord t (take long (bits_of 10 window)) symbol → IsPair t window result }
+    ensures pair { (t : Table) → IsWord t (take long (bits_of LOOKED_UP window)) symbol → IsPair t window result }
 {
     let size = symbol % 16;
     let both = long + size;
-    let extra = (window >> (10 - both)) & ((1u64 << size) - 1);
+    let extra = (window >> (LOOKED_UP - both)) & ((1u64 << size) - 1);
     Extended {
         symbol,
         value: extend(u32::from(size), extra as u32) as i16,

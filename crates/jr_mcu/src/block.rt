@@ -4,10 +4,10 @@ ghost use Rattle.std.specs.Prelude.{◌≡◌, ℕ, ◌<◌, ◌≤◌, ◌^◌,
 ghost use Rattle.jr_mcu.specs.Step.{TakesDifference, HasNoDifference, TakesOthers, HasNoOthers, TakesCoded, HasNoCoded};
 
 use jr_block::Coefficients;
-use jr_code::{Bits, CodeBook};
+use jr_code::{Bits, CodeBook, WordBook};
 
 /// Takes the first coefficient's difference to its prediction (T.81, F.1.2.1).
-fn read_difference(dc: &CodeBook, bits: &mut Bits<'_>) -> Option<i16>
+fn read_difference(dc: &WordBook, bits: &mut Bits<'_>) -> Option<i16>
     ensures some { IfSome result (λ d. TakesDifference dc.now d bits.old bits.new) }
     ensures none { IfNone result (HasNoDifference dc.now bits.old) }
 {
@@ -100,7 +100,7 @@ fn skip_others(ac: &CodeBook, bits: &mut Bits<'_>) -> Option<()>
 
 /// Takes a block into the caller's memory, the difference of its first coefficient in place of it.
 pub(crate) fn read_block(
-    dc: &CodeBook,
+    dc: &WordBook,
     ac: &CodeBook,
     bits: &mut Bits<'_>,
     block: &mut Coefficients,
@@ -116,7 +116,7 @@ pub(crate) fn read_block(
 }
 
 /// Passes over a block, and gives the difference of its first coefficient.
-pub(crate) fn skip_block(dc: &CodeBook, ac: &CodeBook, bits: &mut Bits<'_>) -> Option<i16>
+pub(crate) fn skip_block(dc: &WordBook, ac: &CodeBook, bits: &mut Bits<'_>) -> Option<i16>
     ensures some { IfSome result (λ d. (others : List ℤ) × TakesCoded dc.now ac.now (d ∷ others) bits.old bits.new) }
     ensures none { IfNone result (HasNoCoded dc.now ac.now bits.old) }
 {

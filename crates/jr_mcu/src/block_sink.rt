@@ -6,7 +6,7 @@ ghost use Rattle.jr_mcu.specs.Step.{TakesBlock, HasNoBlock};
 
 use crate::predicting::{read_predicted, skip_predicted};
 use jr_block::Coefficients;
-use jr_code::{Bits, CodeBook};
+use jr_code::{Bits, CodeBook, WordBook};
 
 /// What becomes of the blocks of an MCU, one after the other.
 pub(crate) trait BlockSink {
@@ -15,7 +15,7 @@ pub(crate) trait BlockSink {
 
     /// Takes block k of an MCU, and gives its first coefficient, the prediction added.
     fn take(
-        dc: &CodeBook,
+        dc: &WordBook,
         ac: &CodeBook,
         bits: &mut Bits<'_>,
         prediction: i32,
@@ -36,7 +36,7 @@ impl BlockSink for Kept {
 
     #[inline(always)]
     fn take(
-        dc: &CodeBook,
+        dc: &WordBook,
         ac: &CodeBook,
         bits: &mut Bits<'_>,
         prediction: i32,
@@ -55,7 +55,7 @@ impl BlockSink for PassedOver {
 
     #[inline(always)]
     fn take(
-        dc: &CodeBook,
+        dc: &WordBook,
         ac: &CodeBook,
         bits: &mut Bits<'_>,
         prediction: i32,

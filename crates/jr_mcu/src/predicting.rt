@@ -6,7 +6,7 @@ ghost use Rattle.jr_mcu.specs.Step.{TakesBlock, HasNoBlock};
 
 use crate::block::{read_block, skip_block};
 use jr_block::Coefficients;
-use jr_code::{Bits, CodeBook};
+use jr_code::{Bits, CodeBook, WordBook};
 
 /// What a prediction and a difference make a first coefficient, where sixteen bits hold it.
 fn predicted_first(prediction: i32, difference: i16) -> Option<i16>
@@ -23,7 +23,7 @@ fn predicted_first(prediction: i32, difference: i16) -> Option<i16>
 
 /// Takes a block, the prediction added to its first coefficient, which it gives.
 pub(crate) fn read_predicted(
-    dc: &CodeBook,
+    dc: &WordBook,
     ac: &CodeBook,
     bits: &mut Bits<'_>,
     prediction: i32,
@@ -42,7 +42,7 @@ pub(crate) fn read_predicted(
 
 /// Passes over a block, and gives its first coefficient, the prediction added.
 pub(crate) fn skip_predicted(
-    dc: &CodeBook,
+    dc: &WordBook,
     ac: &CodeBook,
     bits: &mut Bits<'_>,
     prediction: i32,

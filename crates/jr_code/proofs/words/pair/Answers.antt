@@ -14,12 +14,12 @@ pub returns : goal.returns
 returns c =
     let m = c.args.symbol % 16 in
     let v = c.extend.result in
-    let extra = c.args.window / 2 ^ (10 - (c.args.long + c.args.symbol % 16)) in
+    let extra = c.args.window / 2 ^ (11 - (c.args.long + c.args.symbol % 16)) in
     let f32 : SFits w32 v = omega (arith, ints, c.extend.ensures.least, c.extend.ensures.greatest) in
     let f16 : SFits w16 v = omega (arith, ints, c.extend.ensures.least, c.extend.ensures.greatest) in
     let front = masked extra m (omega arith) in
     let is : v ≡ extend m (extra % 2 ^ m) = grind (arith, front, c.extend.ensures.value, c.from.ensures) in
-    let small : m ≤ 10 = omega (arith, c.requires.held) in
+    let small : m ≤ 10 = c.requires.extra in
     let few : 2 ^ m ≤ 2 ^ 10 = pow_mono small in
     let below : extra % 2 ^ m < 2 ^ m = mod-lt extra (pow_pos m) in
     let within : Within 1023 v = subst (Within 1023) (sym is) (extended_within m (extra % 2 ^ m) 1023 below (omega arith)) in

@@ -8,8 +8,8 @@ pub returns : goal.returns
 returns c =
     let r = c.args.register in
     let p = get_or c.self.inside.pairs c.upper.result outside in
-    let looked_up : IsPackedPair c.self.inside.table (r.held / 2 ^ 54) p = subst (λ w. IsPackedPair c.self.inside.table w p) c.upper.ensures.number (c.self.invariant.2 c.upper.result (omega arith)) in
+    let looked_up : IsPackedPair c.self.inside.words (r.held / 2 ^ 53) p = subst (λ w. IsPackedPair c.self.inside.words w p) c.upper.ensures.number (c.self.invariant.0 c.upper.result (omega arith)) in
     record {
-      front = λ long. rw (← c.self.view_is) (pair_front c.self.inside.table r.count r.held (bits r.rest.now) (unpacked p) (omega arith) looked_up.0 long);
+      front = λ long. rw (← c.self.view_is) (pair_front c.self.inside.words r.count r.held (bits r.rest.now) (unpacked p) (omega arith) looked_up.0 long);
       goes = λ long. looked_up.1 (omega (arith, long));
     }

@@ -10,14 +10,16 @@ use Rattle.jr_code.proofs.book.CodeBook.rare_places.Goals as goal
 pub returns-in_err-both-clause-none : goal.returns-in_err-both-clause-none
 returns-in_err-both-clause-none c =
     let bs = upper_bits c.args.count c.args.held in
-    if_none (HasNoPlaces c.args.self.now bs) c.from_residual.result (none_no_places c.args.self.now bs c.in_err-both.ensures.none)
+    let t = c.self.inside.words in
+    rw (← c.self.view_is) (if_none (HasNoPlaces t bs) c.from_residual.result (none_no_places t bs c.in_err-both.ensures.none))
 
 pub returns-in_err-places-clause-none : goal.returns-in_err-places-clause-none
 returns-in_err-places-clause-none c =
     let bs = upper_bits c.args.count c.args.held in
     let x = c.in_ok-both.both in
-    if_none (HasNoPlaces c.args.self.now bs) c.from_residual-in_err-places.result
-    (other_no_places c.args.self.now (one_word c.args.self.now) x.symbol x.value bs _ c.in_ok-both.ensures.found.1 c.in_err-places.ensures.none)
+    let t = c.self.inside.words in
+    rw (← c.self.view_is) (if_none (HasNoPlaces t bs) c.from_residual-in_err-places.result
+    (other_no_places t (one_word t) x.symbol x.value bs _ c.in_ok-both.ensures.found.1 c.in_err-places.ensures.none))
 
 pub of-requires-clause-least : goal.of-requires-clause-least
 of-requires-clause-least c =

@@ -3,4 +3,4 @@ use Rattle.jr_code.specs.Code.{ArePairs}
 use Rattle.jr_code.proofs.table.CodeTable.pairs.Given as goal
 
 abbrev pub invariant-loop-i : goal.invariant-loop-i
-invariant-loop-i l = record { all : length l.pairs ≡ 1024; entered : ArePairs l.self l.pairs }
+invariant-loop-i l = record { all : length l.pairs ≡ 2048; entered : ArePairs l.self l.pairs }

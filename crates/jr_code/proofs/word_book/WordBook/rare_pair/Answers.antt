@@ -9,7 +9,7 @@ use Rattle.jr_code.proofs.CodeLemmas.{one_word}
 use Rattle.jr_code.proofs.PairLemmas.{held_apart, held_short, no_word_none, too_few}
 use Rattle.jr_code.proofs.RegisterLemmas.{length-first}
 use Rattle.jr_code.proofs.ReadLemmas.{if_none}
-use Rattle.jr_code.proofs.book.CodeBook.rare_pair.Goals as goal
+use Rattle.jr_code.proofs.word_book.WordBook.rare_pair.Goals as goal
 
 pub returns-in_err-symbol-clause-none : goal.returns-in_err-symbol-clause-none
 returns-in_err-symbol-clause-none c =

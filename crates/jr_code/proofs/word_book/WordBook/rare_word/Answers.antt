@@ -3,7 +3,7 @@ use Rattle.jr_code.specs.Bits.{upper_bits}
 use Rattle.jr_code.specs.Code.{HasNoFirstWord, IsFirstWordWhereWhole}
 use Rattle.jr_code.proofs.RegisterLemmas.{length-first}
 use Rattle.jr_code.proofs.ReadLemmas.{if_none, nil_none, nil_word}
-use Rattle.jr_code.proofs.book.CodeBook.rare_word.Goals as goal
+use Rattle.jr_code.proofs.word_book.WordBook.rare_word.Goals as goal
 
 pub returns-in_err-symbol-clause-none : goal.returns-in_err-symbol-clause-none
 returns-in_err-symbol-clause-none c =

@@ -3,7 +3,7 @@ use Rattle.std.specs.Prelude.{None}
 use Rattle.jr_code.specs.Register.{bits_in}
 use Rattle.jr_code.proofs.ReadLemmas.{entry_word}
 use Rattle.jr_code.proofs.RegisterLemmas.{length-held, window_whole}
-use Rattle.jr_code.proofs.book.CodeBook.short_word.Goals as goal
+use Rattle.jr_code.proofs.word_book.WordBook.short_word.Goals as goal
 
 pub returns : goal.returns
 returns c =

@@ -1,0 +1,218 @@
+//! The words of a code table, read with their extra bits in line.
+
+ghost use Rattle.std.specs.Prelude.{◌≡◌, ◌≢◌, ◌<◌, ◌≤◌, ◌-◌, ◌%◌, ◌^◌, ◌↔◌, ◌++◌, ℕ, List, Bool, IsTrue, [], IfSome, IfNone, IfOk, take};
+ghost use Rattle.std.proofs.Common.{rules};
+ghost use Rattle.std.specs.Cmp.Rules.{comparing};
+ghost use Rattle.jr_code.specs.Code.{same_table, IsWord, IsLawfulTable, AreEntries, AreLong, IsFirstWordWhereWhole, HasNoFirstWord, TakesExtended, HasNoExtended, IsInFront, IsPrefixFree};
+ghost use Rattle.jr_code.specs.Bits.{upper_bits};
+ghost use Rattle.jr_code.specs.Register.{bits_in};
+
+use crate::bits::Bits;
+use crate::register::Register;
+use crate::table::CodeTable;
+use crate::words::Extended;
+use jr_base::Memory;
+use std::marker::Model;
+
+/// A code table (T.81, Annex C), read by eight bits at once and, for longer words, by length. First coefficients are read by
+/// it. Two are equal where their counts and symbols are.
+#[derive(Drop)]
+pub struct WordBook {
+    table: CodeTable,
+    /// By eight bits: the symbol and length of the word of at most eight bits in front.
+    entries: [Option<(u8, u8)>; 256],
+    /// For each length from nine to sixteen bits: the least word, and how many words are shorter.
+    long: [(u32, u32); 8],
+}
+
+impl Model for WordBook {
+    ghost use Rattle.jr_code.specs.Code.{Table, IsLawfulTable, AreEntries, AreLong};
+
+    ghost Value = { Table };
+
+    ghost view = { λ b. b.table };
+
+    ghost invariant = { λ b. AreEntries b.table b.entries × AreLong b.table b.long × IsLawfulTable b.table.counts b.table.symbols };
+}
+
+impl PartialEq for WordBook {
+    ghost eq = { same_table };
+
+    ghost laws = { Prim.search (comparing, rules) };
+
+    fn eq(&self, other: &WordBook) -> bool {
+        self.table.is_same(&other.table)
+    }
+}
+
+impl WordBook {
+    /// Whether both have the same counts and symbols.
+    pub fn is_same(&self, other: &WordBook) -> bool
+        ensures tells { result ≡ same_table self.now other.now }
+        ensures same { IsTrue result ↔ (self.now ≡ other.now) }
+    {
+        self.table.is_same(&other.table)
+    }
+
+    /// What holds of every book, for callers that rest on it: it is a lawful table (T.81, Annex C).
+    pub fn be_lawful(&self)
+        ensures { IsLawfulTable self.now.counts self.now.symbols }
+    {
+        let _ = &self.table;
+    }
+
+    /// The same table once more.
+    pub fn try_clone(&self) -> Result<WordBook, Memory>
+        ensures { IfOk result (λ b. b ≡ self.now) }
+    {
+        Ok(WordBook {
+            table: self.table.try_clone()?,
+            entries: self.entries,
+            long: self.long,
+        })
+    }
+
+    /// The book of a table.
+    pub(crate) fn of(table: CodeTable) -> WordBook
+        ensures { result ≡ table }
+    {
+        table.be_lawful();
+        let entries = table.entries();
+        let long = table.long();
+        WordBook {
+            table,
+            entries,
+            long,
+        }
+    }
+
+    /// For each eight bits the symbol and the length of the word of at most eight bits that begins them, None where there
+    /// is none.
+    pub fn entries(&self) -> &[Option<(u8, u8)>; 256]
+        ensures { AreEntries self.now result.now }
+    {
+        &self.entries
+    }
+
+    /// Takes a word from the bits and gives its symbol (T.81, F.2.2.3, DECODE). Where no word is in front it gives None,
+    /// and nothing moves.
+    #[inline(always)]
+    pub fn read(&self, bits: &mut Bits) -> Option<u8>
+        ensures found { IfSome result (λ s. (word : List Bool) × IsWord self.now word s × (bits.old ≡ word ++ bits.new)) }
+        // No word is a front of what is left.
+        ensures none { IfNone result ((word rest : List Bool) (s : ℕ) → IsWord self.now word s → bits.old ≢ word ++ rest) }
+        ensures unmoved { IfNone result (bits.new ≡ bits.old) }
+        // Two words of this table that begin the same bits are one word with one symbol.
+        ensures one_word { IsPrefixFree self.now }
+    {
+        let register = bits.register.refilled();
+        if register.count >= 32
+            && let Some((symbol, long)) = self.short_word(register)
+        {
+            bits.register = register.behind(u32::from(long));
+            return Some(symbol);
+        }
+        let (symbol, long) = self.rare_word(register.held, register.count)?;
+        let count = u32::from(long);
+        bits.register = register.behind(count);
+        Some(symbol)
+    }
+
+    /// Takes a word and as many extra bits as the lower four bits of its symbol say, and gives the symbol and what the extra
+    /// bits stand for (T.81, F.2.2.1 and F.2.2.2). Where no such are in front it gives None, and nothing moves.
+    #[inline(always)]
+    pub fn read_extended(&self, bits: &mut Bits) -> Option<(u8, i32)>
+        ensures found { IfSome result (λ r. TakesExtended self.now r.0 r.1 bits.old bits.new) }
+        ensures none { IfNone result (HasNoExtended self.now bits.old) }
+        ensures unmoved { IfNone result (bits.new ≡ bits.old) }
+    {
+        let register = bits.register.refilled();
+        if register.count >= 32
+            && let Some((symbol, long)) = self.short_word(register)
+        {
+            let mut rest = Bits {
+                register: register.behind(u32::from(long)),
+            };
+            let value = rest.extra(u32::from(symbol % 16))?;
+            *bits = rest;
+            return Some((symbol, value));
+        }
+        let both = self.rare_pair(register.held, register.count)?;
+        let count = u32::from(both.long);
+        let value = i32::from(both.value);
+        bits.register = register.behind(count);
+        Some((both.symbol, value))
+    }
+
+    /// The word that is in front of the first `count` bits of `held` and its extra bits, long ones or ones near the end of
+    /// all bits. By value, so that no address of a reader leaves its loop.
+    #[cold]
+    #[inline(never)]
+    pub(crate) fn rare_pair(&self, held: u64, count: u32) -> Option<Extended>
+        requires few { count < 64 }
+        requires clean { held % 2 ^ (64 - count) ≡ 0 }
+        ensures found { IfSome result (λ e. IsInFront self.now e count (upper_bits count held)) }
+        ensures none { IfNone result (HasNoExtended self.now (upper_bits count held)) }
+    {
+        let (symbol, long) = self.rare_word(held, count)?;
+        let register = Register {
+            rest: &[],
+            held,
+            count,
+        };
+        let mut rest = Bits {
+            register: register.behind(u32::from(long)),
+        };
+        let size = symbol % 16;
+        let count = u32::from(size);
+        let value = rest.extra(count)?;
+        Some(Extended {
+            symbol,
+            value: value as i16,
+            long: long + size,
+        })
+    }
+
+    /// The word of at most eight bits that is in front of the bits.
+    #[inline(always)]
+    fn short_word(&self, register: Register) -> Option<(u8, u8)>
+        requires { 32 ≤ register.count }
+        ensures { IfSome result (λ f. (f.1 ≤ register.entry.count) × IsWord self.now (take f.1 (bits_in register.entry)) f.0) }
+    {
+        self.entries[register.first_bits(8) as usize]
+    }
+
+    /// The word that is in front of the first `count` bits of `held`, a long one or one near the end of all bits. In line
+    /// with what it calls, since the answers of calls go through memory.
+    #[inline(always)]
+    fn rare_word(&self, held: u64, count: u32) -> Option<(u8, u8)>
+        requires few { count < 64 }
+        requires clean { held % 2 ^ (64 - count) ≡ 0 }
+        ensures found { IfSome result (λ f. (f.1 ≤ count) × IsWord self.now (take f.1 (upper_bits count held)) f.0) }
+        ensures none { IfNone result (HasNoFirstWord self.now (upper_bits count held)) }
+    {
+        let register = Register {
+            rest: &[],
+            held,
+            count,
+        };
+        let (symbol, long) = self.first_word(register)?;
+        if u32::from(long) > count {
+            return None;
+        }
+        Some((symbol, long))
+    }
+
+    /// The word that is in front of the bits where these are as many; where they are fewer there is none.
+    #[inline(always)]
+    fn first_word(&self, register: Register) -> Option<(u8, u8)>
+        requires { register.rest.now ≡ [] }
+        ensures found { IfSome result (λ f. IsFirstWordWhereWhole self.now (bits_in register.entry) f.0 f.1) }
+        ensures none { IfNone result (HasNoFirstWord self.now (bits_in register.entry)) }
+    {
+        match self.entries[register.window(8) as usize] {
+            Some(word) => Some(word),
+            None => self.table.long_word(&self.long, register.window(16) as u16),
+        }
+    }
+}
