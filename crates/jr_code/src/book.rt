@@ -1,9 +1,9 @@
 //! Code tables of a JPEG file.
 
-ghost use Rattle.std.specs.Prelude.{◌≡◌, ◌≢◌, ◌<◌, ◌≤◌, ◌-◌, ◌%◌, ◌^◌, ◌↔◌, ◌++◌, ℕ, List, Bool, IsTrue, [], length, IfSome, IfNone, IfOk, OnOk, take, drop, sum};
+ghost use Rattle.std.specs.Prelude.{◌≡◌, ◌≢◌, ◌<◌, ◌≤◌, ◌-◌, ◌%◌, ◌^◌, ◌↔◌, ◌++◌, ℕ, List, Bool, IsTrue, length, IfSome, IfNone, IfOk, OnOk, sum};
 ghost use Rattle.std.proofs.Common.{rules};
 ghost use Rattle.std.specs.Cmp.Rules.{comparing};
-ghost use Rattle.jr_code.specs.Code.{same_table, Table, IsWord, IsLawfulTable, HasTooMany, IsOverfull, space, lengths, AreEntries, ArePairs, AreLong, IsFirstWordWhereWhole, HasNoFirstWord, TakesExtended, HasNoExtended, TakesPlaces, HasNoPlaces, GoesOn, IsInFront, IsPrefixFree, unpacked, places_in};
+ghost use Rattle.jr_code.specs.Code.{same_table, Table, IsWord, IsLawfulTable, HasTooMany, IsOverfull, AreEntries, ArePairs, TakesExtended, HasNoExtended, TakesPlaces, HasNoPlaces, GoesOn, IsInFront, IsPrefixFree, unpacked, places_in};
 ghost use Rattle.jr_code.specs.Bits.{upper_bits};
 ghost use Rattle.jr_code.specs.Register.{bits_in};
 

@@ -1,4 +1,3 @@
-use Rattle.std.proofs.Common.{rules, ◌≡◌}
 use Rattle.jr_code.proofs.CodeLemmas.{one_word}
 use Rattle.jr_code.proofs.book.CodeBook.read.Goals as goal
 

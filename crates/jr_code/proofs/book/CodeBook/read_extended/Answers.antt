@@ -1,4 +1,3 @@
-use Rattle.std.proofs.Common.{rules, ◌≡◌}
 use Rattle.jr_code.proofs.book.CodeBook.read_extended.Goals as goal
 
 pub returns-clause-none : goal.returns-clause-none
