@@ -14,7 +14,7 @@ use Rattle.jr_segments.specs.declared.frame.FrameComponent.{FrameComponent}
 use Rattle.jr_segments.specs.declared.kind.Kind.{Kind}
 use Rattle.jr_segments.specs.declared.kind.Kind.TheVariants.{Grey, Rgb, Ycc}
 use Rattle.jr_segments.specs.Bytes.{byte}
-use Rattle.jr_segments.specs.Frames.{components, is_factor, have_factors, divides, is_ill_sampled, blocks, IsAccepted}
+use Rattle.jr_segments.specs.Frames.{is_factor, have_factors, divides, is_ill_sampled, blocks, IsAccepted}
 use Rattle.jr_segments.specs.Frames.{greatest_horizontal as frame_across, greatest_vertical as frame_down}
 use Rattle.jr_head.specs.Geometry.{no_component, units_of, component_count, greatest_across, greatest_down, IsSampled, IsSubsampled, IsCoded, AreLawful}
 use Rattle.jr_segments.specs.Marks.{kind_by}

@@ -1,4 +1,4 @@
-use Rattle.std.proofs.Common.{◌≡◌, ◌*◌, ◌<◌, ◌∙◌, refl, arith}
+use Rattle.std.proofs.Common.{◌*◌, ◌<◌, ◌∙◌, refl, arith}
 use Rattle.jr_head.specs.Geometry.{mcus_of}
 use Rattle.jr_head.proofs.IntervalLaws.{interval_starts}
 use Rattle.jr_head.proofs.head.Head.first_mcu.Goals as goal
