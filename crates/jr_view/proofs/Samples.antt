@@ -3,7 +3,6 @@ use Rattle.std.proofs.Common.{◌≡◌, ℕ, Bool, false, inl, inr, ◌+◌, �
 use Rattle.std.proofs.lemmas.Bool.{cases_lt}
 use Rattle.std.proofs.lemmas.List.{get_or-replicate, get_or_past, length-replicate}
 use Rattle.std.proofs.lemmas.Nat.{mod_below}
-use Rattle.jr_head.specs.HeadValue.{HeadValue}
 use Rattle.jr_head.specs.Geometry.{blocks_of, mcus_of}
 use Rattle.jr_paint.specs.Geometry.{spot_of}
 use Rattle.jr_piece.specs.Units.{grey_unit}

@@ -1,5 +1,5 @@
 -- A view that is a part of its picture and has seen all of it shows that picture.
-use Rattle.std.proofs.Common.{◌≡◌, ◌≢◌, ℕ, inl, inr, ◌+◌, ◌-◌, ◌*◌, ◌/◌, ◌%◌, ◌<◌, ◌≤◌, Bool, true, false, cond, Option, Some, None, List, length, get_or, map, refl, sym, ap, subst, ◌∙◌, arith}
+use Rattle.std.proofs.Common.{◌≡◌, ◌≢◌, ℕ, inl, inr, ◌+◌, ◌-◌, ◌*◌, ◌/◌, ◌%◌, ◌<◌, ◌≤◌, Bool, true, false, cond, Option, Some, None, List, length, get_or, map, sym, ap, subst, ◌∙◌, arith}
 use Rattle.std.specs.Prelude.{slice_get, slice_index}
 use Rattle.std.specs.List.{range_with_len}
 use Rattle.std.specs.Int.{div_ceil}
@@ -31,7 +31,7 @@ use Rattle.jr_picture.specs.Samples.{sample_in, sample_of_piece, samples_of}
 use Rattle.jr_picture.proofs.BoardPictures.{block_there, first_marked, picture, shown_is}
 use Rattle.jr_picture.proofs.Pictures.{one_picture}
 use Rattle.jr_view.specs.ViewValue.{ViewValue}
-use Rattle.jr_view.specs.Views.{has_seen, sample_in_view, unit_at}
+use Rattle.jr_view.specs.Views.{sample_in_view}
 use Rattle.jr_view.specs.Parts.{HasSeenAll, IsPartOfPicture}
 
 -- what T.81 gives for interval i

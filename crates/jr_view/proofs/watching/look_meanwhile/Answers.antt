@@ -1,5 +1,4 @@
 use Rattle.jr_view.proofs.Telling.{tells_then}
-use Rattle.jr_view.specs.Lookers.{Tells}
 use Rattle.jr_view.proofs.watching.look_meanwhile.Goals as goal
 
 pub returns-then-is_done : goal.returns-then-is_done

@@ -1,4 +1,3 @@
-use Rattle.std.proofs.Common.{rules}
 use Rattle.jr_view.proofs.Telling.{err_not_ok, told_all, tells_then}
 use Rattle.jr_view.proofs.watching.tell_all.Goals as goal
 

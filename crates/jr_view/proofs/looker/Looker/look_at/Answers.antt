@@ -1,4 +1,4 @@
-use Rattle.jr_view.proofs.Telling.{tells_nothing, tells_then}
+use Rattle.jr_view.proofs.Telling.{tells_then}
 use Rattle.jr_view.proofs.looker.Looker.look_at.Goals as goal
 
 pub returns-clause-tells : goal.returns-clause-tells

@@ -1,6 +1,6 @@
 use Rattle.std.proofs.Common.{rules, inl, inr, ◌≡◌, ◌<◌, true, length, sym, subst, arith}
 use Rattle.std.proofs.lemmas.Bool.{cases_lt}
-use Rattle.jr_view.specs.Lookers.{Tells, has_told}
+use Rattle.jr_view.specs.Lookers.{has_told}
 use Rattle.jr_view.proofs.Telling.{tells_then}
 use Rattle.jr_view.proofs.looker.Looker.tell_rest.Goals as goal
 

@@ -1,5 +1,4 @@
-use Rattle.std.proofs.Common.{rules, ◌≡◌, length, subst, arith}
-use Rattle.std.proofs.lemmas.Bool.{eqb-true}
+use Rattle.std.proofs.Common.{rules, ◌≡◌, length}
 use Rattle.jr_head.specs.Geometry.{mcus_down, mcus_of}
 use Rattle.jr_view.specs.Views.{whole_rows}
 use Rattle.jr_view.proofs.Rows.{whole_is_all}
