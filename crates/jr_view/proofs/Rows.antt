@@ -15,7 +15,9 @@ use Rattle.jr_head.specs.HeadValue.{HeadValue}
 use Rattle.jr_head.specs.Geometry.{mcus_across, mcus_down, mcus_of}
 use Rattle.jr_scan.specs.ScanValue.{ScanValue}
 use Rattle.jr_view.specs.ViewValue.{ViewValue}
-use Rattle.jr_view.specs.Views.{IsView, has_seen_row, whole_rows}
+use Rattle.jr_view.specs.Views.{IsView, has_seen, has_seen_row, whole_rows}
+use Rattle.jr_view.specs.Parts.{HasSeenAll}
+use Rattle.jr_view.proofs.Showing.{tells}
 
 abbrev weight : Bool → ℕ
 weight b = cond b 1 0
@@ -154,3 +156,40 @@ kept_view of us vs seen m rows more is long wide lt none one = record {
   seen = length-set seen m true ∙ is.seen;
   rows = omega (arith, is.rows, one, rows_more of.head seen m wide is.seen lt none);
 }
+
+-- each passes where as many pass as there are
+each_passes : (p : ℕ → Bool) (a n r : ℕ) → count_by p (range_with_len a n) ≡ n → a ≤ r → r < a + n → p r ≡ true
+each_passes p a zero r all le lt = absurd (omega arith)
+each_passes p a (suc n) r all le lt =
+    let sum : count_by p (range_with_len a (suc n)) ≡ weight (p a) + count_by p (range_with_len (a + 1) n) = sum_by-cons (λ k. weight (p k)) a (range_with_len (a + 1) n) in
+    let most : count_by p (range_with_len (a + 1) n) ≤ n = omega (arith, count_by-le-length p (range_with_len (a + 1) n), length-range_with_len (a + 1) n) in
+    elim (tells (p a)) [
+      | inl t ↦
+          let one : weight (p a) ≡ 1 = ap weight t in
+          elim (cases_order a r) [
+            | inl e ↦ ap p (sym e) ∙ t
+            | inr s ↦ elim s [
+              | inl before ↦ each_passes p (a + 1) n r (omega (arith, sum, one, all)) (omega arith) (omega arith)
+              | inr behind ↦ absurd (omega arith)
+            ]
+          ]
+      | inr f ↦
+          let none : weight (p a) ≡ 0 = ap weight f in
+          absurd (omega (arith, none, sum, most, all))
+    ]
+
+-- where each row was seen whole, each MCU was seen
+pub whole_is_all : (v : ViewValue) → length v.seen ≡ mcus_of v.scan.head → whole_rows v ≡ mcus_down v.scan.head → HasSeenAll v
+unfolding whole_rows
+whole_is_all v long all m lt =
+    let h = v.scan.head in
+    let a = mcus_across h in
+    let wide : 0 < a = some_of a (mcus_down h) (omega (arith, lt)) in
+    let turned : mcus_of h ≡ mcus_down h * a = omega arith in
+    let below : m / a < mcus_down h = div_below m a (mcus_down h) wide (omega (arith, lt, turned)) in
+    elim (tells (has_seen v m)) [
+      | inl t ↦ t
+      | inr f ↦
+          let no : true ≡ false = sym (each_passes (has_seen_row h v.seen) 0 (mcus_down h) (m / a) all (omega arith) (omega (arith, below))) ∙ not_whole h v.seen m wide long lt f in
+          absurd (cc no)
+    ]

@@ -3,7 +3,6 @@ use Rattle.std.proofs.Common.{◌≡◌, ℕ, Bool, false, inl, inr, ◌+◌, �
 use Rattle.std.proofs.lemmas.Bool.{cases_lt}
 use Rattle.std.proofs.lemmas.List.{get_or-replicate, get_or_past, length-replicate}
 use Rattle.std.proofs.lemmas.Nat.{mod_below}
-use Rattle.jr_head.specs.HeadValue.{HeadValue}
 use Rattle.jr_head.specs.Geometry.{blocks_of, mcus_of}
 use Rattle.jr_paint.specs.Geometry.{spot_of}
 use Rattle.jr_piece.specs.Units.{grey_unit}
@@ -29,7 +28,7 @@ grey_samples v grey c x y =
     ap (λ u. slice_index u (8 * (y % 8) + x % 8)) (grey s.mcu s.block) ∙ get_or-replicate 64 (8 * (y % 8) + x % 8) 128 0 below
 
 -- no MCU was seen where none is marked
-unseen : (n m : ℕ) → get_or (replicate n false) m false ≡ false
+pub unseen : (n m : ℕ) → get_or (replicate n false) m false ≡ false
 unseen n m = elim (cases_lt m n) [
   | inl lt ↦ get_or-replicate n m false false lt
   | inr le ↦ get_or_past (replicate n false) m false (omega (arith, le, length-replicate n false))

@@ -1,2 +1,5 @@
 pub mod ViewValue
 pub mod Views
+pub mod Parts
+pub mod Told
+pub mod Lookers

@@ -1,9 +1,14 @@
 //! What can be seen of a picture while it is decoded, for viewers.
 #![tactic(auto)]
 
+mod laws;
+mod looker;
+mod screen;
 mod shown;
 mod view;
 mod watching;
 
+pub use laws::whole_view_is_picture;
+pub use screen::Screen;
 pub use view::View;
-pub use watching::{Screen, watch};
+pub use watching::watch;

@@ -1,10 +1,12 @@
 //! What can be seen of a picture so far.
 
-ghost use Rattle.std.specs.Prelude.{◌≡◌, ℕ, ◌*◌, ◌+◌, ◌/◌, ◌<◌, ◌≤◌, ◌^◌, length, replicate, slice_index_or, true, false, IfOk};
+ghost use Rattle.std.specs.Prelude.{◌≡◌, ◌↔◌, IsTrue, ℕ, ◌*◌, ◌+◌, ◌/◌, ◌<◌, ◌≤◌, ◌^◌, length, replicate, slice_index_or, true, false, IfOk};
 ghost use Rattle.std.specs.Arc.{arc_value};
 ghost use Rattle.jr_head.specs.Geometry.{blocks_of, mcus_across, mcus_down, mcus_of};
 ghost use Rattle.jr_piece.specs.Units.{grey_unit};
-ghost use Rattle.jr_view.specs.Views.{IsNotOfPiece, IsNotOfStrip, IsOfPiece, IsOfStrip, IsSameAt, AddsMcu, AddsMcus, ShowsPiece, ShowsStripUnits, has_seen, has_seen_row, sample_in_view, sample_seen, unit_at, units_shown, whole_rows};
+ghost use Rattle.jr_scan.specs.ScanValue.{HasInterval};
+ghost use Rattle.jr_view.specs.Parts.{HasSeenAll, IsPartOfPicture};
+ghost use Rattle.jr_view.specs.Views.{IsNotOfPiece, IsNotOfStrip, IsOfPiece, IsOfStrip, IsSameAt, AddsMcu, AddsMcus, ShowsPiece, ShowsStripUnits, has_seen, has_seen_row, sample_in_view, sample_seen, size_of, unit_at, units_shown, whole_rows};
 
 use crate::shown::{GREY, Shown};
 use jr_code::Memory;
@@ -62,6 +64,19 @@ fn put_mcu(shown: &Shown<'_>, from: u32, units: &mut [[u8; 64]], start: usize, c
     shown.put(from, &mut units[start..start + count]);
 }
 
+/// How many MCUs each interval has but for the last one.
+fn interval_size(head: &Head) -> usize
+    ensures value { result ≡ size_of head.now }
+    ensures few { result < 2 ^ 32 }
+{
+    let restart = head.restart() as usize;
+    if restart == 0 {
+        head.mcus() as usize
+    } else {
+        restart
+    }
+}
+
 /// Whether all MCUs of the row that this one stands in were seen.
 fn is_row_whole(head: &Head, seen: &[bool], mcu: usize) -> bool
     requires mcu { mcu < mcus_of head.now }
@@ -84,9 +99,12 @@ impl View {
         ensures unseen { IfOk result (λ v. (mcu : ℕ) → has_seen v mcu ≡ false) }
         ensures grey { IfOk result (λ v. (mcu k : ℕ) → unit_at v mcu k ≡ grey_unit) }
         ensures samples { IfOk result (λ v. (c x y : ℕ) → sample_in_view v c x y ≡ 128) }
+        ensures part { IfOk result IsPartOfPicture }
     {
         let mcus = scan.head().mcus() as usize;
         let count = mcus * scan.head().order().len();
+        // By its contract a scan has as many intervals as its head says.
+        let _intervals = scan.intervals();
         Ok(View {
             scan: Arc::try_clone(scan)?,
             units: grey_units(alloc, count)?,
@@ -110,6 +128,14 @@ impl View {
         self.scan.head().mcus_down()
     }
 
+    /// Whether each MCU was seen.
+    pub fn is_whole(&self) -> bool
+        ensures rows { IsTrue result ↔ (whole_rows self.now ≡ mcus_down self.now.scan.head) }
+        ensures all { IsTrue result → HasSeenAll self.now }
+    {
+        self.rows == self.scan.head().mcus_down()
+    }
+
     /// Whether an MCU was seen.
     pub fn has_seen(&self, mcu: u32) -> bool
         ensures { result ≡ has_seen self.now mcu }
@@ -120,35 +146,35 @@ impl View {
         }
     }
 
-    /// Shows a strip, as far as the picture has its MCUs. Those that were seen before stay as they were.
+    /// Shows a strip, as far as the picture has its MCUs. Those that were seen before stay as they were. A view stays a part of
+    /// its picture where the strip is one of its own scan.
     pub fn show_strip(&mut self, strip: &Strip)
         ensures scan { self.new.scan ≡ self.old.scan }
         ensures seen { (mcu : ℕ) → IsOfStrip self.old strip.now mcu → has_seen self.new mcu ≡ true }
         ensures shown { (mcu : ℕ) → IsOfStrip self.old strip.now mcu → has_seen self.old mcu ≡ false → ShowsStripUnits self.new strip.now mcu }
         ensures kept { (mcu : ℕ) → has_seen self.old mcu ≡ true → IsSameAt self.old self.new mcu }
         ensures others { (mcu : ℕ) → IsNotOfStrip self.old strip.now mcu → IsSameAt self.old self.new mcu }
+        ensures part { IsPartOfPicture self.old → HasInterval self.old.scan strip.now.interval → IsPartOfPicture self.new }
     {
+        strip.be_strip();
         let restart = self.scan.head().restart() as usize;
         let first = strip.number() as usize * restart + strip.first() as usize;
         self.show(first, strip.mcus() as usize, &Shown::OfStrip(strip));
     }
 
     /// Shows a piece: all MCUs of its interval are seen then, and those behind its front are grey. Those that were seen
-    /// before stay as they were.
+    /// before stay as they were. A view stays a part of its picture where the piece is one of its own scan.
     pub fn show_piece(&mut self, piece: &Piece)
         ensures scan { self.new.scan ≡ self.old.scan }
         ensures seen { (mcu : ℕ) → IsOfPiece self.old piece.now mcu → has_seen self.new mcu ≡ true }
         ensures shown { (mcu : ℕ) → IsOfPiece self.old piece.now mcu → has_seen self.old mcu ≡ false → ShowsPiece self.new piece.now mcu }
         ensures kept { (mcu : ℕ) → has_seen self.old mcu ≡ true → IsSameAt self.old self.new mcu }
         ensures others { (mcu : ℕ) → IsNotOfPiece self.old piece.now mcu → IsSameAt self.old self.new mcu }
+        ensures part { IsPartOfPicture self.old → HasInterval self.old.scan piece.now.interval → IsPartOfPicture self.new }
     {
-        let restart = self.scan.head().restart() as usize;
-        let count = if restart == 0 {
-            self.scan.head().mcus() as usize
-        } else {
-            restart
-        };
-        let first = piece.number() as usize * restart;
+        piece.be_outcome();
+        let first = piece.number() as usize * self.scan.head().restart() as usize;
+        let count = interval_size(self.scan.head());
         self.show(first, count, &Shown::OfPiece(piece));
     }
 

@@ -1,135 +1,201 @@
 //! Looks at a decoding again and again while workers run it.
 
-ghost use Rattle.std.specs.Prelude.{◌≡◌, ◌≤◌, length, IfOk};
+ghost use Rattle.std.specs.Prelude.{◌≡◌, ◌<◌, ◌≤◌, ℕ, true, length, All, IfOk, IsOk, OnOk};
 ghost use Rattle.std.specs.Arc.{arc_value};
 ghost use Rattle.jr_base.specs.declared.limits.TheConstants.{MAX_WORKERS};
+ghost use Rattle.jr_view.specs.Lookers.{Tells, has_told};
+ghost use Rattle.jr_view.specs.Told.{IsTold};
 
-use jr_cells::StripCells;
+use crate::looker::Looker;
+use crate::screen::Screen;
 use jr_code::Memory;
-use jr_piece::{Piece, Strip};
+use jr_guesses::Beside;
 use jr_scan::Scan;
-use jr_wall::{Decoding, OpenGate};
+use jr_wall::{Decoding, Gate, Seat};
 use std::alloc::Global;
+use std::sync::atomic::{AtomicBool, Ordering};
 use std::sync::{Arc, Wait};
+use std::thread;
 use std::thread::{Threads, sleep};
 use std::time::{Clock, Duration};
 
-/// How many looks a watch takes at most, a thousandth of a second apart.
-const LOOKS: u32 = 60_000;
-
-/// What shows a decoding.
-pub trait Screen {
-    /// Shows a strip of a long interval, which can be seen from now on.
-    fn show_strip(&mut self, _strip: &Strip) {}
-
-    /// Shows a piece, which can be seen from now on; of a long interval it comes behind its strips.
-    fn show_piece(&mut self, piece: &Piece);
-
-    /// Called after each look. Whether nothing is left to show.
-    fn is_done(&mut self) -> bool;
-}
-
-/// Tells a screen of what can be seen, each strip and each piece once.
+/// What the calling thread looks by while workers run.
 #[derive(Drop)]
-struct Looker {
-    /// Which strips and pieces it has told of, in the order in which it looks for them.
-    told: Vec<bool>,
-    /// What it looks for next.
-    next: usize,
+struct Looking<'s, 'w, R, S: Screen> {
+    rt: &'s R,
+    decoding: &'s Decoding,
+    /// Whether all workers have ended.
+    has_ended: &'s AtomicBool,
+    looker: Looker,
+    screen: &'w mut S,
 }
 
-impl Looker {
-    /// One that has told of nothing. `Err` where memory is refused.
-    fn of(alloc: Global, decoding: &Decoding) -> Result<Looker, Memory> {
-        let mut count = decoding.cells().count() as usize;
-        for i in 0..decoding.cells().count() {
-            if let Some(strips) = decoding.strips(i) {
-                count = count.saturating_add(strips.count() as usize);
-            }
-        }
-        let told = vec![in alloc; false; count]?;
-        Ok(Looker { told, next: 0 })
-    }
+/// Tells of what can be seen by now: answers whether the screen has nothing left to show.
+fn look_and_ask<S: Screen>(decoding: &Decoding, looker: &mut Looker, screen: &mut S) -> bool
+    ensures { Tells S.becomes decoding.now.scan looker.old screen.old looker.new screen.new }
+{
+    looker.look(decoding, screen);
+    screen.is_done()
+}
 
-    /// Whether what it looks for now is there and was not told of; it is from now on.
-    fn is_new(&mut self, is_there: bool) -> bool {
-        let place = self.next;
-        self.next = place.saturating_add(1);
-        match self.told.get_mut(place) {
-            Some(is_told) if is_there && !*is_told => {
-                *is_told = true;
-                true
-            }
-            _ => false,
+/// Looks again and again, a thousandth of a second apart, until all workers have ended or the screen has nothing left to
+/// show.
+fn look_meanwhile<R: Wait + Clock, S: Screen>(
+    rt: &R,
+    decoding: &Decoding,
+    has_ended: &AtomicBool,
+    looker: &mut Looker,
+    screen: &mut S,
+)
+    ensures { Tells S.becomes decoding.now.scan looker.old screen.old looker.new screen.new }
+{
+    for _ in 0..u64::MAX {
+        let is_done = look_and_ask(decoding, looker, screen);
+        if is_done || has_ended.load(Ordering::SeqCst) {
+            return;
         }
+        sleep(rt, Duration::from_millis(1));
     }
+}
 
-    /// Tells of each strip of a long interval.
-    fn look_at_strips<S: Screen>(
-        &mut self,
-        strips: &StripCells,
-        screen: &mut S,
-    ) -> Result<(), Memory> {
-        let mut sight = strips.sight()?;
-        for place in 0..strips.count() {
-            let strip = strips.look(place, &mut sight);
-            if self.is_new(strip.is_some())
-                && let Some(strip) = strip
-            {
-                screen.show_strip(strip);
-            }
-        }
-        Ok(())
-    }
+impl<'s, 'w, R: Wait + Clock, S: Screen> Beside for Looking<'s, 'w, R, S> {
+    /// What was told, and the screen.
+    type Answer = (Looker, &'w mut S);
 
-    /// Tells a screen of each strip and each piece that can be seen by now, and that it was not told of.
-    fn look<S: Screen>(&mut self, decoding: &Decoding, screen: &mut S) -> Result<(), Memory> {
-        let cells = decoding.cells();
-        let mut sight = cells.sight()?;
-        self.next = 0;
-        for i in 0..cells.count() {
-            if let Some(strips) = decoding.strips(i) {
-                self.look_at_strips(strips, screen)?;
-            }
-            let piece = cells.look(i, &mut sight);
-            if self.is_new(piece.is_some())
-                && let Some(piece) = piece
-            {
-                screen.show_piece(piece);
-            }
-        }
-        Ok(())
+    ghost may = { λ l. Unit };
+
+    ghost gives = { λ l r. Tells S.becomes l.decoding.now.scan l.looker l.screen.now r.0 r.1.now × (r.1.ghost_name ≡ l.screen.ghost_name) };
+
+    fn run(self) -> (Looker, &'w mut S) {
+        let Looking {
+            rt,
+            decoding,
+            has_ended,
+            mut looker,
+            screen,
+        } = self;
+        look_meanwhile(rt, decoding, has_ended, &mut looker, screen);
+        (looker, screen)
     }
+}
+
+/// Runs a decoding from a thread of its own, which notes when all workers have ended, and `beside` in the calling one
+/// meanwhile. Where that thread can't be started nobody works.
+fn run_meanwhile<R: Threads + Wait + Sync, G: Gate + Sync, B: Beside + Drop>(
+    rt: &R,
+    decoding: &Decoding,
+    seats: Vec<Seat>,
+    gate: &G,
+    has_ended: &AtomicBool,
+    beside: B,
+) -> B::Answer
+    requires seats { All (λ s. s.desk ≡ decoding.now.desk) seats.items }
+    requires may { B.may beside }
+    ensures { B.gives beside result }
+{
+    thread::scope(
+        thread::scope_env(),
+        rt,
+        |scope| -> B::Answer
+            requires { B.may beside × All (λ s. s.desk ≡ decoding.now.desk) seats.items }
+            ensures { B.gives beside result }
+        {
+            let started = scope.spawn(
+                move ||
+                    requires { All (λ s. s.desk ≡ decoding.now.desk) seats.items }
+                {
+                    decoding.run(rt, seats, gate, |_| {});
+                    has_ended.store(true, Ordering::SeqCst);
+                },
+            );
+            if started.is_err() {
+                has_ended.store(true, Ordering::SeqCst);
+            }
+            beside.run()
+        },
+    )
+}
+
+/// Runs a decoding, and looks meanwhile: answers what was told.
+fn run_and_look<R: Threads + Wait + Clock + Sync, G: Gate + Sync, S: Screen>(
+    rt: &R,
+    decoding: &Decoding,
+    seats: Vec<Seat>,
+    gate: &G,
+    looker: Looker,
+    screen: &mut S,
+) -> Looker
+    requires { All (λ s. s.desk ≡ decoding.now.desk) seats.items }
+    ensures { Tells S.becomes decoding.now.scan looker screen.old result screen.new }
+{
+    let has_ended = AtomicBool::new(false);
+    let looking = Looking {
+        rt,
+        decoding,
+        has_ended: &has_ended,
+        looker,
+        screen,
+    };
+    let (looker, _screen) = run_meanwhile(rt, decoding, seats, gate, &has_ended, looking);
+    looker
+}
+
+/// Tells of what the workers have left, once they have ended.
+fn tell_last<S: Screen>(
+    alloc: Global,
+    decoding: &Decoding,
+    looker: &mut Looker,
+    screen: &mut S,
+) -> Result<(), Memory>
+    requires { length looker.old.pieces.items ≡ length decoding.now.scan.intervals }
+    ensures tells { Tells S.becomes decoding.now.scan looker.old screen.old looker.new screen.new }
+    ensures all { OnOk result ((i : ℕ) → i < length decoding.now.scan.intervals → has_told looker.new i ≡ true) }
+{
+    looker.look(decoding, screen);
+    looker.tell_rest(alloc, decoding.scan(), screen)?;
+    screen.is_done();
+    Ok(())
+}
+
+/// Runs a decoding, and tells a screen of all of it.
+fn tell_all<R: Threads + Wait + Clock + Sync, G: Gate + Sync, S: Screen>(
+    rt: &R,
+    alloc: Global,
+    decoding: &Decoding,
+    seats: Vec<Seat>,
+    gate: &G,
+    screen: &mut S,
+) -> Result<(), Memory>
+    requires { All (λ s. s.desk ≡ decoding.now.desk) seats.items }
+    ensures { IsTold S.becomes decoding.now.scan (IsOk result) screen.old screen.new }
+{
+    let looker = Looker::of(alloc, decoding)?;
+    let mut looker = run_and_look(rt, decoding, seats, gate, looker, screen);
+    tell_last(alloc, decoding, &mut looker, screen)?;
+    Ok(())
 }
 
 /// Decodes a scan by so many workers (1 to 64), and tells a screen meanwhile of what can be seen; gives what is decoded,
-/// once all workers have ended. The screen was told of all that they have shown then.
+/// once all workers have ended and the screen was told of each piece. The gate is asked and told as `Decoding::run` does.
+///
+/// The workers run beside one thread more, which waits for them.
 ///
 /// `Err` where memory is refused.
-pub fn watch<R: Threads + Wait + Clock + Sync, S: Screen>(
+pub fn watch<R: Threads + Wait + Clock + Sync, G: Gate + Sync, S: Screen>(
     rt: &R,
     alloc: Global,
     scan: Arc<Scan>,
     workers: u32,
+    gate: &G,
     screen: &mut S,
 ) -> Result<Decoding, Memory>
     requires some { 1 ≤ workers }
     requires few { workers ≤ MAX_WORKERS }
     ensures scan { IfOk result (λ d. d.scan ≡ arc_value scan) }
     ensures all { IfOk result (λ d. d.desk.limit ≡ length (arc_value scan).intervals) }
+    ensures told { IsTold S.becomes (arc_value scan) (IsOk result) screen.old screen.new }
 {
     let (decoding, seats) = Decoding::open(alloc, scan, workers, None)?;
-    let mut looker = Looker::of(alloc, &decoding)?;
-    decoding.run(rt, seats, &OpenGate, |decoding| {
-        for _ in 0..LOOKS {
-            let _ = looker.look(decoding, screen);
-            if screen.is_done() {
-                return;
-            }
-            sleep(rt, Duration::from_millis(1));
-        }
-    });
-    looker.look(&decoding, screen)?;
-    screen.is_done();
+    tell_all(rt, alloc, &decoding, seats, gate, screen)?;
     Ok(decoding)
 }

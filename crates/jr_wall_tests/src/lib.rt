@@ -32,3 +32,5 @@ mod unit_readers;
 mod viewers;
 #[cfg(test)]
 mod views;
+#[cfg(test)]
+mod watched;

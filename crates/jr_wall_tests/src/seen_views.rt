@@ -3,14 +3,11 @@
 use crate::shown::{decoded, next_strip, piece};
 use jr_paint::{Samples, Tally, write_netpbm};
 use jr_scan::Scan;
-use jr_view::{Screen, View, watch};
+use jr_view::View;
 use jr_wall::{Piece, Strip, StripReader, decode_alone};
 use std::alloc::Global;
-use std::process::Abort;
-use std::sync::{Arc, Wait};
+use std::sync::Arc;
 use std::test::Fail;
-use std::thread::Threads;
-use std::time::Clock;
 use test_files::files::{COLOURED_DAMAGED, LONG, LONG_COLOURED, MIXED, TEN};
 use test_files::scans::scan;
 
@@ -25,7 +22,7 @@ fn text_of<S: Samples>(alloc: Global, picture: &S) -> Result<Vec<u8>, Fail> {
 }
 
 /// Whether a view shows what a board of all intervals does, and all rows of MCUs.
-fn shows_all(alloc: Global, view: &View, scan: &Arc<Scan>) -> Result<bool, Fail> {
+pub(crate) fn shows_all(alloc: Global, view: &View, scan: &Arc<Scan>) -> Result<bool, Fail> {
     let board = decode_alone(alloc, scan, None)?;
     let is_same = text_of(alloc, view)?.as_slice() == text_of(alloc, &board)?.as_slice();
     Ok(is_same && view.rows() == view.mcu_rows())
@@ -46,15 +43,15 @@ fn strips_of(alloc: Global, scan: &Scan, each: u32) -> Result<Vec<Strip>, Fail> 
     Ok(strips)
 }
 
-fn view_of(alloc: Global, scan: &Arc<Scan>) -> Result<View, Fail> {
+pub(crate) fn view_of(alloc: Global, scan: &Arc<Scan>) -> Result<View, Fail> {
     Ok(View::of(alloc, scan)?)
 }
 
-fn show_piece(view: &mut View, piece: &Piece) {
+pub(crate) fn show_piece(view: &mut View, piece: &Piece) {
     view.show_piece(piece);
 }
 
-fn show_strip(view: &mut View, strip: &Strip) {
+pub(crate) fn show_strip(view: &mut View, strip: &Strip) {
     view.show_strip(strip);
 }
 
@@ -123,65 +120,4 @@ fn shows_a_strip_before_its_piece(rt: HostRuntime) -> Result<(), Fail> {
         assert!(rt; shows_all(alloc, &view, &scan)?, "{words}");
     }
     Ok(())
-}
-
-/// A view, and how many MCUs of strips and how many pieces it was told of.
-#[derive(Drop)]
-struct Told {
-    view: View,
-    mcus: u32,
-    pieces: u32,
-}
-
-impl Screen for Told {
-    fn show_strip(&mut self, strip: &Strip) {
-        show_strip(&mut self.view, strip);
-        self.mcus = self.mcus.saturating_add(strip.mcus());
-    }
-
-    fn show_piece(&mut self, piece: &Piece) {
-        show_piece(&mut self.view, piece);
-        self.pieces = self.pieces.saturating_add(1);
-    }
-
-    fn is_done(&mut self) -> bool {
-        self.view.rows() == self.view.mcu_rows()
-    }
-}
-
-/// How many intervals are blank behind a decoding that is watched.
-fn blank_behind<R: Threads + Wait + Clock + Sync + AllocGlobal>(
-    rt: &R,
-    scan: &Arc<Scan>,
-    told: &mut Told,
-) -> Result<u32, Fail> {
-    let decoding = watch(rt, rt.alloc(), Arc::try_clone(scan)?, 2, told)?;
-    Ok(decoding.finish()?.blank())
-}
-
-/// Watches a file, and finds that it was told of each piece once, and of strips of so many MCUs.
-fn check_watched<R: Threads + Wait + Clock + Sync + AllocGlobal + Abort>(
-    rt: &R,
-    words: &str,
-    mcus: u32,
-) -> Result<(), Fail> {
-    let scan = scan(rt.alloc(), words)?;
-    let mut told = Told {
-        view: view_of(rt.alloc(), &scan)?,
-        mcus: 0,
-        pieces: 0,
-    };
-    assert!(rt; blank_behind(rt, &scan, &mut told)? == 0);
-    assert!(rt;
-        told.pieces == scan.intervals() && told.mcus == mcus,
-        "{words}"
-    );
-    assert!(rt; shows_all(rt.alloc(), &told.view, &scan)?, "{words}");
-    Ok(())
-}
-
-#[test]
-fn watches_each_strip_and_each_piece_once(rt: HostRuntime) -> Result<(), Fail> {
-    check_watched(&rt, MIXED, 0)?;
-    check_watched(&rt, LONG, 1056)
 }

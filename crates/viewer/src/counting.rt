@@ -1,7 +1,7 @@
 //! Tells how many intervals can be seen.
 
 use jr_view::Screen;
-use jr_wall::Piece;
+use jr_wall::{Piece, Strip};
 use std::io::Write;
 
 /// How many of all intervals can be seen, how many of them are damaged, and how many it told of last.
@@ -27,6 +27,8 @@ impl<E> Counter<'_, E> {
 }
 
 impl<E: Write> Screen for Counter<'_, E> {
+    fn show_strip(&mut self, _strip: &Strip) {}
+
     fn show_piece(&mut self, piece: &Piece) {
         self.seen = self.seen.saturating_add(1);
         self.damaged = self.damaged.saturating_add(u32::from(!piece.is_sound()));

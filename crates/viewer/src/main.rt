@@ -15,6 +15,7 @@ use jr_head::read_head;
 use jr_paint::Tally;
 use jr_scan::Scan;
 use jr_view::{View, watch};
+use jr_wall::OpenGate;
 use std::alloc::Global;
 use std::io::Write;
 use std::process::ExitCode;
@@ -59,7 +60,7 @@ fn show<R: Threads + Wait + Clock + Sync, W: Write, E: Write>(
             out,
             twentieths: 0,
         };
-        let decoding = watch(rt, alloc, scan, WORKERS, &mut frames)?;
+        let decoding = watch(rt, alloc, scan, WORKERS, &OpenGate, &mut frames)?;
         drop(frames);
         write(&decoding.finish()?, out);
     } else {
@@ -70,7 +71,7 @@ fn show<R: Threads + Wait + Clock + Sync, W: Write, E: Write>(
             damaged: 0,
             told: 0,
         };
-        watch(rt, alloc, scan, WORKERS, &mut counter)?;
+        watch(rt, alloc, scan, WORKERS, &OpenGate, &mut counter)?;
         counter.tell(out);
     }
     Ok(())

@@ -1,9 +1,10 @@
-use Rattle.std.proofs.Common.{◌≡◌, ◌*◌, false, length, replicate, ap, ◌∙◌}
+use Rattle.std.proofs.Common.{rules, Bool, List, get_or, ◌≡◌, ◌*◌, false, length, replicate, ap, ◌∙◌}
 use Rattle.std.specs.Arc.{arc_value}
 use Rattle.jr_head.specs.Geometry.{blocks_of, mcus_of}
 use Rattle.jr_scan.specs.ScanValue.{ScanValue}
 use Rattle.jr_piece.specs.Units.{grey_unit}
-use Rattle.jr_view.proofs.Samples.{each_grey, grey_samples, new_view}
+use Rattle.jr_view.proofs.Parts.{new_part}
+use Rattle.jr_view.proofs.Samples.{each_grey, grey_samples, new_view, unseen}
 use Rattle.jr_view.proofs.view.View.of.Goals as goal
 
 pub invariant_of-result : goal.invariant_of-result
@@ -24,3 +25,8 @@ returns-clause-grey c mcu k =
 
 pub returns-clause-samples : goal.returns-clause-samples
 returns-clause-samples c = grey_samples _ (returns-clause-grey c)
+
+pub returns-clause-part : goal.returns-clause-part
+returns-clause-part c =
+    let seen : c.in_ok-vec.field-0.items ≡ replicate c.mcus-mcus.result false = c.in_ok-vec.ensures.items_if_clones_equal (λ y e. e) in
+    new_part _ (search rules) (λ mcu. ap (λ (bs : List Bool). get_or bs mcu false) seen ∙ unseen c.mcus-mcus.result mcu) (returns-clause-grey c)

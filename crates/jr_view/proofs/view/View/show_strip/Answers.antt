@@ -2,6 +2,7 @@ use Rattle.std.proofs.Common.{rules, ◌≡◌, ℕ, ◌-◌, ◌*◌, false, sy
 use Rattle.jr_head.specs.Geometry.{blocks_of}
 use Rattle.jr_scan.specs.ScanValue.{ScanValue}
 use Rattle.jr_view.specs.Views.{AddsMcus, IsOfStrip, ShowsUnits, first_of_strip, has_seen}
+use Rattle.jr_view.proofs.Parts.{strip_part}
 use Rattle.jr_view.proofs.view.View.show_strip.Goals as goal
 
 shows : (c : goal.After-show) → AddsMcus c.args.self.now (first_of_strip c.args.self.now.scan.head c.args.strip.now) c.args.strip.now.mcus c.args.strip.now.samples c.show.new.self
@@ -19,3 +20,6 @@ returns-clause-shown c =
 
 pub returns-clause-others : goal.returns-clause-others
 returns-clause-others c = (shows c).others
+
+pub returns-clause-part : goal.returns-clause-part
+returns-clause-part c = strip_part c.args.self.now c.show.new.self c.args.strip.now (shows c) c.be_strip.ensures

@@ -1,0 +1,246 @@
+-- What a screen was told of, where it is told of one thing more.
+use Rattle.std.proofs.Common.{Ok, Err, ◌≡◌, ◌≢◌, ℕ, inl, inr, ◌⊎◌, ◌+◌, ◌<◌, ◌≤◌, ◌==◌, ◌&&◌, leb, Bool, true, false, cond, List, [], ◌∷◌, ◌++◌, length, get_or, set, refl, sym, ap, subst, ◌∙◌, arith}
+use Rattle.std.specs.Prelude.{IsErr, IsOk}
+use Rattle.std.specs.List.{AllByRecursion, count_by}
+use Rattle.std.specs.declared.result.Result.{Result}
+use Rattle.std.proofs.lemmas.Bool.{eqb-true}
+use Rattle.std.proofs.lemmas.Bool.Decides.{eqb_tells, leb_tells}
+use Rattle.std.proofs.lemmas.List.{append_assoc, append-nil, get_or-set_other, get_or-set_same}
+use Rattle.std.proofs.lemmas.List.Sums.{sum_by-append, sum_by-cons}
+use Rattle.jr_scan.specs.ScanValue.{ScanValue}
+use Rattle.jr_piece.specs.PieceValue.{PieceValue}
+use Rattle.jr_piece.specs.StripValue.{StripValue}
+use Rattle.jr_view.specs.declared.looker.Looker.{Looker}
+use Rattle.jr_view.specs.Told.{Told, StripOf, PieceOf, Asked, AreInOrder, Becomes, IsOfScan, IsTold, is_late, is_piece, is_strip}
+use Rattle.jr_view.specs.Lookers.{Keeps, Tells, has_told}
+use Rattle.jr_view.proofs.Showing.{tells}
+
+-- one more is counted or not
+count_more : (p : Told → Bool) (ts : List Told) (t : Told) → count_by p (ts ++ t ∷ []) ≡ count_by p ts + cond (p t) 1 0
+count_more p ts t = omega (arith, sum_by-append (λ u. cond {A = ℕ} (p u) 1 0) ts (t ∷ []), sum_by-cons (λ u. cond {A = ℕ} (p u) 1 0) t [])
+
+no_more : (p : Told → Bool) (ts : List Told) (t : Told) → p t ≡ false → count_by p (ts ++ t ∷ []) ≡ count_by p ts
+no_more p ts t miss =
+    let none : cond {A = ℕ} (p t) 1 0 ≡ 0 = ap (λ (b : Bool). cond {A = ℕ} b 1 0) miss in
+    omega (arith, count_more p ts t, none)
+
+one_more : (p : Told → Bool) (ts : List Told) (t : Told) → p t ≡ true → count_by p (ts ++ t ∷ []) ≡ count_by p ts + 1
+one_more p ts t hit =
+    let one : cond {A = ℕ} (p t) 1 0 ≡ 1 = ap (λ (b : Bool). cond {A = ℕ} b 1 0) hit in
+    omega (arith, count_more p ts t, one)
+
+-- all are of the scan, where one more is
+all_more : (scan : ScanValue) (ts : List Told) (t : Told) → AllByRecursion (IsOfScan scan) ts → IsOfScan scan t → AllByRecursion (IsOfScan scan) (ts ++ t ∷ [])
+all_more scan [] t all is = (is, tt)
+all_more scan (u ∷ ts) t all is = (all.0, all_more scan ts t all.1 is)
+
+-- a number is itself
+same_number : (n : ℕ) → (n == n) ≡ true
+same_number n = elim (eqb_tells n n) [
+  | inl t ↦ t.0
+  | inr f ↦ absurd (f.1 refl)
+]
+
+-- what is told as this is
+abbrev same_as : Told → Told → Bool
+same_as (StripOf s) t = is_strip s.interval.number s.first t
+same_as (PieceOf p) t = is_piece p.interval.number t
+same_as Asked t = false
+
+same_itself : (u t : Told) → is_late u t ≡ true → same_as u u ≡ true
+same_itself (StripOf s) t hit = ap (λ (b : Bool). b && (s.first == s.first)) (same_number s.interval.number) ∙ same_number s.first
+same_itself (PieceOf p) t hit = same_number p.interval.number
+same_itself Asked t hit = absurd (cc hit)
+
+-- they stay in order by what does not come too late behind any of them
+order_more : (ts : List Told) (t : Told) → AreInOrder ts → ((u : Told) → is_late u t ≡ true → count_by (same_as u) ts ≡ 0) → AreInOrder (ts ++ t ∷ [])
+order_more [] t o new = (refl, tt)
+order_more (u ∷ ts) t o new =
+    let here : count_by (is_late u) (ts ++ t ∷ []) ≡ 0 = elim (tells (is_late u t)) [
+      | inl hit ↦
+          let one : cond {A = ℕ} (same_as u u) 1 0 ≡ 1 = ap (λ (b : Bool). cond {A = ℕ} b 1 0) (same_itself u t hit) in
+          absurd (omega (arith, new u hit, one, sum_by-cons (λ v. cond (same_as u v) 1 0) u ts))
+      | inr miss ↦ no_more (is_late u) ts t miss ∙ o.0
+    ] in (
+      here,
+      order_more ts t o.1 (λ v hit. omega (arith, new v hit, sum_by-cons (λ w. cond (same_as v w) 1 0) u ts)),
+    )
+
+-- a failure is no success
+pub err_not_ok : {T E : Type 0} (r : Result T E) → IsErr r → IsOk r → ⊥
+err_not_ok (Ok x) err ok = absurd (cc err)
+err_not_ok (Err e) err ok = absurd (cc ok)
+
+-- what is told in two parts
+pub told_then : {S : Type 0} (becomes : S → Told → S → Type 0) (a b c : S) (ts us : List Told) → Becomes becomes a ts b → Becomes becomes b us c → Becomes becomes a (ts ++ us) c
+told_then becomes a b c [] us p q = subst (λ s. Becomes becomes s us c) p q
+told_then becomes a b c (t ∷ ts) us p q = (p.0, p.1, told_then becomes p.0 b c ts us p.2 q)
+
+-- whether a strip is that of this interval and this first MCU
+strip_tells : (i first : ℕ) (s : StripValue) → ((is_strip i first (StripOf s) ≡ true) × (s.interval.number ≡ i) × (s.first ≡ first)) ⊎ ((is_strip i first (StripOf s) ≡ false) × ((s.interval.number ≡ i) → s.first ≢ first))
+strip_tells i first s = elim (eqb_tells s.interval.number i) [
+  | inl t ↦ elim (eqb_tells s.first first) [
+    | inl u ↦ inl (ap (λ (b : Bool). b && (s.first == first)) t.0 ∙ u.0, t.1, u.1)
+    | inr f ↦ inr (ap (λ (b : Bool). b && (s.first == first)) t.0 ∙ f.0, λ e. f.1)
+  ]
+  | inr f ↦ inr (ap (λ (b : Bool). b && (s.first == first)) f.0, λ e. absurd (f.1 e))
+]
+
+-- no piece of an interval was told that is not marked
+no_piece : (scan : ScanValue) (l : Looker) (ts : List Told) (i : ℕ) → has_told l i ≡ false → Keeps scan l ts → count_by (is_piece i) ts ≡ 0
+no_piece scan l ts i untold k = k.pieces i ∙ ap (λ (b : Bool). cond {A = ℕ} b 1 0) untold
+
+strip_is_new : (scan : ScanValue) (l : Looker) (s : StripValue) (ts : List Told) → has_told l s.interval.number ≡ false → get_or l.strips.items s.interval.number 0 ≤ s.first → Keeps scan l ts
+    → (u : Told) → is_late u (StripOf s) ≡ true → count_by (same_as u) ts ≡ 0
+strip_is_new scan l s ts untold next k (StripOf t) hit = elim (eqb_tells s.interval.number t.interval.number) [
+  | inl y ↦ elim (leb_tells s.first t.first) [
+    | inl le ↦ k.next t.interval.number t.first (omega (arith, next, le.1, ap (λ n. get_or l.strips.items n 0) y.1))
+    | inr gt ↦
+        let miss : true ≡ false = sym hit ∙ ap (λ (b : Bool). b && leb s.first t.first) y.0 ∙ gt.0 in
+        absurd (cc miss)
+  ]
+  | inr f ↦
+      let miss : true ≡ false = sym hit ∙ ap (λ (b : Bool). b && leb s.first t.first) f.0 in
+      absurd (cc miss)
+]
+strip_is_new scan l s ts untold next k (PieceOf p) hit = no_piece scan l ts p.interval.number (ap (has_told l) (sym (eqb-true s.interval.number p.interval.number hit)) ∙ untold) k
+strip_is_new scan l s ts untold next k Asked hit = absurd (cc hit)
+
+piece_is_new : (scan : ScanValue) (l : Looker) (p : PieceValue) (ts : List Told) → has_told l p.interval.number ≡ false → Keeps scan l ts → (u : Told) → is_late u (PieceOf p) ≡ true → count_by (same_as u) ts ≡ 0
+piece_is_new scan l p ts untold k (StripOf t) hit = absurd (cc hit)
+piece_is_new scan l p ts untold k (PieceOf q) hit = no_piece scan l ts q.interval.number (ap (has_told l) (sym (eqb-true p.interval.number q.interval.number hit)) ∙ untold) k
+piece_is_new scan l p ts untold k Asked hit = absurd (cc hit)
+
+asked_is_new : (ts : List Told) (u : Told) → is_late u Asked ≡ true → count_by (same_as u) ts ≡ 0
+asked_is_new ts (StripOf t) hit = absurd (cc hit)
+asked_is_new ts (PieceOf q) hit = absurd (cc hit)
+asked_is_new ts Asked hit = absurd (cc hit)
+
+-- a strip behind those that were told, of an interval whose piece was not
+pub keeps_strip : (scan : ScanValue) (l m : Looker) (s : StripValue) (ts : List Told) → s.interval.number < length l.strips.items → has_told l s.interval.number ≡ false → get_or l.strips.items s.interval.number 0 ≤ s.first
+    → m.pieces.items ≡ l.pieces.items → m.strips.items ≡ set l.strips.items s.interval.number (s.first + 1) → IsOfScan scan (StripOf s) → Keeps scan l ts → Keeps scan m (ts ++ StripOf s ∷ [])
+keeps_strip scan l m s ts lt untold next same now is k =
+    let i = s.interval.number in
+    let t = StripOf s in
+    let at = λ (j : ℕ). ap (λ (ns : List ℕ). get_or ns j 0) now in
+    record {
+      own = all_more scan ts t k.own is;
+      pieces = λ j. no_more (is_piece j) ts t refl ∙ k.pieces j ∙ ap (λ (bs : List Bool). cond {A = ℕ} (get_or bs j false) 1 0) (sym same);
+      strips = λ j first. elim (strip_tells j first s) [
+        | inl y ↦
+            let none = k.next j first (omega (arith, next, ap (λ n. get_or l.strips.items n 0) y.1, y.2)) in
+            omega (arith, one_more (is_strip j first) ts t y.0, none)
+        | inr n ↦ omega (arith, no_more (is_strip j first) ts t n.0, k.strips j first)
+      ];
+      next = λ j first le. elim (strip_tells j first s) [
+        | inl y ↦
+            let here = get_or-set_same l.strips.items i (s.first + 1) 0 lt in
+            absurd (omega (arith, le, at j, here, ap (λ n. get_or (set l.strips.items i (s.first + 1)) n 0) y.1, y.2))
+        | inr n ↦ no_more (is_strip j first) ts t n.0 ∙ elim (eqb_tells i j) [
+          | inl y ↦
+              let here = get_or-set_same l.strips.items i (s.first + 1) 0 lt in
+              let there = ap (λ n. get_or (set l.strips.items i (s.first + 1)) n 0) y.1 in
+              let was = ap (λ n. get_or l.strips.items n 0) y.1 in
+              k.next j first (omega (arith, le, at j, here, there, was, next))
+          | inr f ↦ k.next j first (omega (arith, le, at j, get_or-set_other l.strips.items i j (s.first + 1) 0 (λ e. f.1 (sym e))))
+        ]
+      ];
+      order = order_more ts t k.order (strip_is_new scan l s ts untold next k);
+    }
+
+-- a piece that was not told
+pub keeps_piece : (scan : ScanValue) (l m : Looker) (p : PieceValue) (ts : List Told) → p.interval.number < length l.pieces.items → has_told l p.interval.number ≡ false
+    → m.strips.items ≡ l.strips.items → m.pieces.items ≡ set l.pieces.items p.interval.number true → IsOfScan scan (PieceOf p) → Keeps scan l ts → Keeps scan m (ts ++ PieceOf p ∷ [])
+keeps_piece scan l m p ts lt untold same now is k =
+    let i = p.interval.number in
+    let t = PieceOf p in
+    let bit = λ (b : Bool). cond {A = ℕ} b 1 0 in
+    record {
+      own = all_more scan ts t k.own is;
+      pieces = λ j. elim (eqb_tells i j) [
+        | inl y ↦
+            let was : bit (has_told l j) ≡ 0 = ap bit (ap (has_told l) (sym y.1) ∙ untold) in
+            let hit : bit (has_told m j) ≡ 1 = ap bit (ap (has_told m) (sym y.1) ∙ ap (λ (bs : List Bool). get_or bs i false) now ∙ get_or-set_same l.pieces.items i true false lt) in
+            omega (arith, one_more (is_piece j) ts t y.0, k.pieces j, was, hit)
+        | inr f ↦
+            no_more (is_piece j) ts t f.0 ∙ k.pieces j
+            ∙ ap bit (sym (ap (λ (bs : List Bool). get_or bs j false) now ∙ get_or-set_other l.pieces.items i j true false (λ e. f.1 (sym e))))
+      ];
+      strips = λ j first. omega (arith, no_more (is_strip j first) ts t refl, k.strips j first);
+      next = λ j first le. no_more (is_strip j first) ts t refl ∙ k.next j first (subst (λ (ns : List ℕ). get_or ns j 0 ≤ first) same le);
+      order = order_more ts t k.order (piece_is_new scan l p ts untold k);
+    }
+
+keeps_asked : (scan : ScanValue) (l : Looker) (ts : List Told) → Keeps scan l ts → Keeps scan l (ts ++ Asked ∷ [])
+keeps_asked scan l ts k = record {
+  own = all_more scan ts Asked k.own tt;
+  pieces = λ j. no_more (is_piece j) ts Asked refl ∙ k.pieces j;
+  strips = λ j first. omega (arith, no_more (is_strip j first) ts Asked refl, k.strips j first);
+  next = λ j first le. no_more (is_strip j first) ts Asked refl ∙ k.next j first le;
+  order = order_more ts Asked k.order (asked_is_new ts);
+}
+
+-- nothing is told yet
+pub keeps_nothing : (l : Looker) → ((i : ℕ) → has_told l i ≡ false) → (scan : ScanValue) → Keeps scan l []
+keeps_nothing l none scan = record {
+  own = tt;
+  pieces = λ i. ap (λ (b : Bool). cond {A = ℕ} b 1 0) (sym (none i));
+  strips = λ i first. omega arith;
+  next = λ i first le. refl;
+  order = tt;
+}
+
+module _ {S : Type 0} (becomes : S → Told → S → Type 0) (scan : ScanValue) where
+  pub tells_nothing : (l : Looker) (a : S) → Tells becomes scan l a l a
+  tells_nothing l a = record {
+    told = [];
+    screen = refl;
+    keeps = λ before k. subst (Keeps scan l) (sym (append-nil before)) k;
+    count = refl;
+    remembers = λ i t. t;
+  }
+
+  pub tells_one : (l m : Looker) (a b : S) (t : Told) → becomes a t b → ((before : List Told) → Keeps scan l before → Keeps scan m (before ++ t ∷ [])) → length m.pieces.items ≡ length l.pieces.items → ((i : ℕ) → has_told l i ≡ true → has_told m i ≡ true)
+      → Tells becomes scan l a m b
+  tells_one l m a b t step keeps count remembers = record { told = t ∷ []; screen = (b, step, refl); keeps = keeps; count = count; remembers = remembers }
+
+  pub tells_then : (l m n : Looker) (a b c : S) → Tells becomes scan l a m b → Tells becomes scan m b n c → Tells becomes scan l a n c
+  tells_then l m n a b c p q = record {
+    told = p.told ++ q.told;
+    screen = told_then becomes a b c p.told q.told p.screen q.screen;
+    keeps = λ before k. subst (Keeps scan n) (append_assoc before p.told q.told) (q.keeps (before ++ p.told) (p.keeps before k));
+    count = q.count ∙ p.count;
+    remembers = λ i t. q.remembers i (p.remembers i t);
+  }
+
+  pub tells_asked : (l m : Looker) (a b c : S) → Tells becomes scan l a m b → becomes b Asked c → Tells becomes scan l a m c
+  tells_asked l m a b c p step = tells_then l m m a b c p (tells_one m m b c Asked step (keeps_asked scan m) refl (λ i t. t))
+
+  one_at_most : (b : Bool) → cond {A = ℕ} b 1 0 ≤ 1
+  one_at_most true = omega arith
+  one_at_most false = omega arith
+
+  -- what was told from the start on
+  pub told_all : (ended : Type 0) (l m : Looker) (a b : S) → Keeps scan l [] → Tells becomes scan l a m b → (ended → (i : ℕ) → i < length scan.intervals → has_told m i ≡ true) → IsTold becomes scan ended a b
+  told_all ended l m a b nothing t all =
+      let k = t.keeps [] nothing in
+      record {
+        told = t.told;
+        screen = t.screen;
+        own = k.own;
+        strips = k.strips;
+        pieces = λ i. omega (arith, k.pieces i, one_at_most (has_told m i));
+        order = k.order;
+        all = λ e i lt. k.pieces i ∙ ap (λ (b : Bool). cond {A = ℕ} b 1 0) (all e i lt);
+      }
+
+  pub told_nothing : (ended : Type 0) (a : S) → (ended → ⊥) → IsTold becomes scan ended a a
+  told_nothing ended a miss = record {
+    told = [];
+    screen = refl;
+    own = tt;
+    strips = λ i first. omega arith;
+    pieces = λ i. omega arith;
+    order = tt;
+    all = λ e. absurd (miss e);
+  }

@@ -1,0 +1,238 @@
+//! Tells a screen of what can be seen.
+
+ghost use Rattle.std.specs.Prelude.{◌≡◌, ◌<◌, ◌++◌, ◌∷◌, [], ℕ, List, length, true, false, IfOk, OnOk};
+ghost use Rattle.jr_scan.specs.ScanValue.{HasInterval, ScanValue};
+ghost use Rattle.jr_view.specs.Lookers.{Keeps, Tells, has_told};
+ghost use Rattle.jr_view.specs.Told.{Told, PieceOf, StripOf};
+
+use crate::screen::Screen;
+use jr_cells::{Sight, StripCells};
+use jr_code::Memory;
+use jr_piece::{Piece, Strip};
+use jr_scan::Scan;
+use jr_wall::Decoding;
+use std::alloc::Global;
+
+/// Tells a screen of each strip of an interval in their order, and then of its piece.
+#[derive(Drop)]
+pub(crate) struct Looker {
+    /// Whether it has told of the piece of each interval.
+    pieces: Vec<bool>,
+    /// Of each interval that may be long, the first MCU that a strip may begin with by now.
+    strips: Vec<u32>,
+}
+
+/// How many of the first intervals there are up to the last long one.
+fn count_up_to_long(decoding: &Decoding) -> usize {
+    let mut count = 0;
+    for i in 0..decoding.scan().intervals() {
+        if decoding.strips(i).is_some() {
+            count = i as usize + 1;
+        }
+    }
+    count
+}
+
+impl Looker {
+    /// One that has told of nothing. `Err` where memory is refused.
+    pub(crate) fn of(alloc: Global, decoding: &Decoding) -> Result<Looker, Memory>
+        ensures nothing { IfOk result (λ l. (scan : ScanValue) → Keeps scan l []) }
+        ensures count { IfOk result (λ l. length l.pieces.items ≡ length decoding.now.scan.intervals) }
+    {
+        let intervals = decoding.scan().intervals() as usize;
+        Ok(Looker {
+            pieces: vec![in alloc; false; intervals]?,
+            strips: vec![in alloc; 0; count_up_to_long(decoding)]?,
+        })
+    }
+
+    /// Whether it has told of the piece of interval i.
+    fn has_told(&self, i: u32) -> bool
+        ensures { result ≡ has_told self.now i }
+    {
+        match self.pieces.get(i as usize) {
+            Some(is_told) => *is_told,
+            None => false,
+        }
+    }
+
+    /// Notes a strip, unless its interval's piece was told, or a strip that begins with its first MCU or a later one. Whether it
+    /// was noted.
+    fn note_strip(&mut self, strip: &Strip) -> bool
+        ensures new { result ≡ true → (scan : ScanValue) (told : List Told) → strip.now.interval.number < length scan.intervals → Keeps scan self.old told → Keeps scan self.new (told ++ StripOf strip.now ∷ []) }
+        ensures old { result ≡ false → self.new ≡ self.old }
+        ensures pieces { self.new.pieces ≡ self.old.pieces }
+    {
+        strip.be_strip();
+        let number = strip.number();
+        let at = number as usize;
+        if at >= self.strips.len() || self.has_told(number) {
+            return false;
+        }
+        let first = strip.first();
+        let Some(next) = first.checked_add(1) else {
+            return false;
+        };
+        if first < self.strips[at] {
+            return false;
+        }
+        self.strips[at] = next;
+        true
+    }
+
+    /// Notes a piece, unless it was told. Whether it was noted.
+    fn note_piece(&mut self, piece: &Piece) -> bool
+        ensures new { result ≡ true → (scan : ScanValue) (told : List Told) → HasInterval scan piece.now.interval → Keeps scan self.old told → Keeps scan self.new (told ++ PieceOf piece.now ∷ []) }
+        ensures old { result ≡ false → self.new ≡ self.old }
+        ensures count { length self.new.pieces.items ≡ length self.old.pieces.items }
+        ensures told { piece.now.interval.number < length self.old.pieces.items → has_told self.new piece.now.interval.number ≡ true }
+        ensures others { (i : ℕ) → has_told self.old i ≡ true → has_told self.new i ≡ true }
+    {
+        piece.be_outcome();
+        let at = piece.number() as usize;
+        if at >= self.pieces.len() || self.pieces[at] {
+            return false;
+        }
+        self.pieces[at] = true;
+        true
+    }
+
+    /// Tells of a strip, where it is the next one of its interval.
+    fn tell_strip<S: Screen>(&mut self, strip: &Strip, screen: &mut S)
+        ensures { (scan : ScanValue) → strip.now.interval.number < length scan.intervals → Tells S.becomes scan self.old screen.old self.new screen.new }
+    {
+        if self.note_strip(strip) {
+            screen.show_strip(strip);
+        }
+    }
+
+    /// Tells of a piece that it has not told of.
+    fn tell_piece<S: Screen>(&mut self, piece: &Piece, screen: &mut S)
+        ensures tells { (scan : ScanValue) → HasInterval scan piece.now.interval → Tells S.becomes scan self.old screen.old self.new screen.new }
+        ensures told { piece.now.interval.number < length self.old.pieces.items → has_told self.new piece.now.interval.number ≡ true }
+    {
+        if self.note_piece(piece) {
+            screen.show_piece(piece);
+        }
+    }
+
+    /// The place of the next strip of an interval.
+    fn next_place(&self, cells: &StripCells) -> u32 {
+        match self.strips.get(cells.number() as usize) {
+            Some(next) => next.div_ceil(cells.each()),
+            None => 0,
+        }
+    }
+
+    /// Tells of the next strips of a long interval, as far as they are there one behind the other.
+    fn look_at_strips<S: Screen>(&mut self, cells: &StripCells, screen: &mut S)
+        ensures { (scan : ScanValue) → cells.now.number < length scan.intervals → Tells S.becomes scan self.old screen.old self.new screen.new }
+    {
+        let Ok(mut sight) = cells.sight() else {
+            return;
+        };
+        for place in self.next_place(cells)..cells.count() {
+            let Some(strip) = cells.look(place, &mut sight) else {
+                return;
+            };
+            self.tell_strip(strip, screen);
+        }
+    }
+
+    /// Tells of the next strips of interval i, if that is long.
+    fn look_for_strips<S: Screen>(&mut self, i: u32, decoding: &Decoding, screen: &mut S)
+        requires { i < length decoding.now.scan.intervals }
+        ensures { Tells S.becomes decoding.now.scan self.old screen.old self.new screen.new }
+    {
+        if let Some(cells) = decoding.strips(i) {
+            self.look_at_strips(cells, screen);
+        }
+    }
+
+    /// Tells of the piece of interval i, if that is there.
+    fn look_for_piece<S: Screen>(
+        &mut self,
+        i: u32,
+        decoding: &Decoding,
+        sight: &mut Sight,
+        screen: &mut S,
+    )
+        requires cell { i < length decoding.now.cells }
+        requires sight { sight.old.cells ≡ decoding.now.cells }
+        ensures sight { sight.new.cells ≡ sight.old.cells }
+        ensures tells { Tells S.becomes decoding.now.scan self.old screen.old self.new screen.new }
+    {
+        if let Some(piece) = decoding.cells().look(i, sight)
+            && piece.is_for(decoding.scan())
+        {
+            self.tell_piece(piece, screen);
+        }
+    }
+
+    /// Tells of what can be seen of interval i by now.
+    fn look_at<S: Screen>(&mut self, i: u32, decoding: &Decoding, sight: &mut Sight, screen: &mut S)
+        requires cell { i < length decoding.now.cells }
+        requires interval { i < length decoding.now.scan.intervals }
+        requires sight { sight.old.cells ≡ decoding.now.cells }
+        ensures sight { sight.new.cells ≡ sight.old.cells }
+        ensures tells { Tells S.becomes decoding.now.scan self.old screen.old self.new screen.new }
+    {
+        if self.has_told(i) {
+            return;
+        }
+        self.look_for_strips(i, decoding, screen);
+        self.look_for_piece(i, decoding, sight, screen);
+    }
+
+    /// Tells of what can be seen by now. What memory is refused for comes later.
+    pub(crate) fn look<S: Screen>(&mut self, decoding: &Decoding, screen: &mut S)
+        ensures { Tells S.becomes decoding.now.scan self.old screen.old self.new screen.new }
+    {
+        let Ok(mut sight) = decoding.cells().sight() else {
+            return;
+        };
+        let count = decoding.cells().count().min(decoding.scan().intervals());
+        for i in 0..count {
+            self.look_at(i, decoding, &mut sight, screen);
+        }
+    }
+
+    /// Tells of the piece of interval i, which it decodes itself, unless it was told.
+    fn tell_decoded<S: Screen>(
+        &mut self,
+        alloc: Global,
+        scan: &Scan,
+        i: u32,
+        screen: &mut S,
+    ) -> Result<(), Memory>
+        requires { i < length scan.now.intervals }
+        ensures tells { Tells S.becomes scan.now self.old screen.old self.new screen.new }
+        ensures told { OnOk result (i < length self.old.pieces.items → has_told self.new i ≡ true) }
+    {
+        if self.has_told(i) {
+            return Ok(());
+        }
+        let Ok(piece) = Piece::make(alloc, scan.interval(i)?) else {
+            return Err(Memory);
+        };
+        self.tell_piece(&piece, screen);
+        Ok(())
+    }
+
+    /// Tells of the pieces that it has not told of: no worker has hung them.
+    pub(crate) fn tell_rest<S: Screen>(
+        &mut self,
+        alloc: Global,
+        scan: &Scan,
+        screen: &mut S,
+    ) -> Result<(), Memory>
+        requires { length self.old.pieces.items ≡ length scan.now.intervals }
+        ensures tells { Tells S.becomes scan.now self.old screen.old self.new screen.new }
+        ensures all { OnOk result ((i : ℕ) → i < length scan.now.intervals → has_told self.new i ≡ true) }
+    {
+        for i in 0..scan.intervals() {
+            self.tell_decoded(alloc, scan, i, screen)?;
+        }
+        Ok(())
+    }
+}

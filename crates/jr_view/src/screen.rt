@@ -1,0 +1,25 @@
+//! What shows a decoding.
+
+ghost use Rattle.jr_view.specs.Told.{Told, Asked, PieceOf, StripOf};
+
+use jr_piece::{Piece, Strip};
+
+/// What shows a decoding.
+pub trait Screen {
+    ghost use Rattle.jr_view.specs.Told.{Told};
+
+    // What becomes of it by what it is told.
+    ghost becomes: { Self → Told → Self → Type 0 } = { λ _ _ _. Unit {0} };
+
+    /// Shows a strip of a long interval, which can be seen from now on.
+    fn show_strip(&mut self, strip: &Strip)
+        ensures { becomes self.old (StripOf strip.now) self.new };
+
+    /// Shows a piece, which can be seen from now on; of a long interval it comes behind its strips.
+    fn show_piece(&mut self, piece: &Piece)
+        ensures { becomes self.old (PieceOf piece.now) self.new };
+
+    /// Called after each look. Whether nothing is left to show.
+    fn is_done(&mut self) -> bool
+        ensures { becomes self.old Asked self.new };
+}
