@@ -1,10 +1,10 @@
 -- Pixels that a vector of sixteen bytes adds.
-use Rattle.std.proofs.Common.{◌≡◌, ℕ, zero, suc, ◌+◌, ◌*◌, ◌<◌, ◌≤◌, List, [], ◌∷◌, ◌++◌, length, take, get_or, arith, refl, sym, ap, ap₂, ◌∙◌, add-zero, length-take-le, take_all, take-take}
+use Rattle.std.proofs.Common.{◌≡◌, ℕ, zero, suc, ◌+◌, ◌*◌, ◌<◌, ◌≤◌, List, [], ◌∷◌, ◌++◌, length, take, get_or, arith, refl, sym, ap, ap₂, ◌∙◌, length-take-le, take_all, take-take}
 use Rattle.std.specs.List.{flat_map, range_with_len}
 use Rattle.std.specs.Simd.Lanes.{chunk, put_chunk}
 use Rattle.std.proofs.lemmas.List.Concat.{flat_map-append}
 use Rattle.std.proofs.lemmas.Simd.{get_or-chunk, take_more_put_chunk}
-use Rattle.jri_canvas.specs.Layouts.{coloured, laid, pixel_of, sample_count}
+use Rattle.jri_canvas.specs.Layouts.{coloured, laid, pixel_of}
 use Rattle.jri_canvas.specs.declared.layout.Order.{Order}
 use Rattle.jri_canvas.specs.declared.layout.Order.TheVariants.{Rgb}
 use Rattle.jri_canvas.specs.declared.layout.Pixels.TheVariants.{Grey, Colour}
@@ -14,7 +14,9 @@ use Rattle.jri_canvas.proofs.MorePixels.{range-append}
 flat_map-moved : (f g : ℕ → List ℕ) (a b n : ℕ) → ((k : ℕ) → k < n → f (a + k) ≡ g (b + k)) → flat_map f (range_with_len a n) ≡ flat_map g (range_with_len b n)
 flat_map-moved f g a b zero h = refl
 flat_map-moved f g a b (suc n) h =
-    let first : f a ≡ g b = rw (add-zero, add-zero) at (h 0 (omega arith)) in
+    let from : a ≡ a + 0 = omega arith in
+    let to : b + 0 ≡ b = omega arith in
+    let first : f a ≡ g b = ap f from ∙ h 0 (omega arith) ∙ ap g to in
     let others = flat_map-moved f g (a + 1) (b + 1) n (λ k p. let e : a + 1 + k ≡ a + suc k = omega arith in let e' : b + 1 + k ≡ b + suc k = omega arith in rw (e, e') (h (suc k) (omega arith))) in
     ap₂ (λ x y. x ++ y) first others
 
@@ -32,6 +34,14 @@ colours_in o line m size n le =
     let green : get_or part (3 * k + 1) 0 ≡ at (3 * (m + k) + 1) = get_or-chunk (3 * m) size line (3 * k + 1) 0 (omega (arith, lt, le)) ∙ ap at f in
     let blue : get_or part (3 * k + 2) 0 ≡ at (3 * (m + k) + 2) = get_or-chunk (3 * m) size line (3 * k + 2) 0 (omega (arith, lt, le)) ∙ ap at g in
     ap (pixel_of o Colour part) none ∙ (λ t. laid o (red t) (green t) (blue t)))
+
+greys_in : (o : Order) (line : List ℕ) (m size n : ℕ) → n ≤ size → coloured o Grey (chunk m size line) n ≡ flat_map (pixel_of o Grey line) (range_with_len m n)
+greys_in o line m size n le =
+    let part = chunk m size line in
+    flat_map-moved (pixel_of o Grey part) (pixel_of o Grey line) 0 m n (λ k lt.
+    let none : 0 + k ≡ k = omega arith in
+    let grey : get_or part k 0 ≡ get_or line (m + k) 0 = get_or-chunk m size line k 0 (omega (arith, lt, le)) in
+    ap (pixel_of o Grey part) none ∙ (λ t. laid o (grey t) (grey t) (grey t)))
 
 -- more than the first of two lists
 take_past : (xs ys : List ℕ) (n l : ℕ) → n ≡ length xs + l → take n (xs ++ ys) ≡ xs ++ take l ys
@@ -67,15 +77,23 @@ fives_more o line out v n long room is before =
     ∙ ap (coloured o Colour line) next
 
 -- four pixels of four bytes
+fours_stored : (f : ℕ → List ℕ) (out v : List ℕ) (n : ℕ) → length v ≡ 16 → 16 * n + 16 ≤ length out → v ≡ flat_map f (range_with_len (4 * n) 4) → take (4 * (4 * n)) out ≡ flat_map f (range_with_len 0 (4 * n))
+    → take (4 * (4 * (n + 1))) (put_chunk (16 * n) out v) ≡ flat_map f (range_with_len 0 (4 * (n + 1)))
+fours_stored f out v n long room is before =
+    let to : 16 * n ≡ 4 * (4 * n) = omega arith in
+    let next : 4 * n + 4 ≡ 4 * (n + 1) = omega arith in
+    pixels_more f (4 * n) 4 (16 * n) 16 (4 * (4 * (n + 1))) out v (omega arith) (omega (arith, long)) (omega (arith, long, room)) (ap (λ (i : ℕ). take i out) to ∙ before) (take_all 16 v (omega (arith, long)) ∙ is)
+    ∙ ap (λ (m : ℕ). flat_map f (range_with_len 0 m)) next
+
 pub fours_more : (o : Order) (line out v : List ℕ) (n : ℕ) → length v ≡ 16 → 16 * n + 16 ≤ length out → v ≡ coloured o Colour (chunk (12 * n) 16 line) 4 → take (4 * (4 * n)) out ≡ coloured o Colour line (4 * n)
     → take (4 * (4 * (n + 1))) (put_chunk (16 * n) out v) ≡ coloured o Colour line (4 * (n + 1))
 fours_more o line out v n long room is before =
     let from : 12 * n ≡ 3 * (4 * n) = omega arith in
-    let to : 16 * n ≡ 4 * (4 * n) = omega arith in
-    let next : 4 * n + 4 ≡ 4 * (n + 1) = omega arith in
-    let new : take 16 v ≡ flat_map (pixel_of o Colour line) (range_with_len (4 * n) 4) = take_all 16 v (omega (arith, long)) ∙ is ∙ ap (λ (i : ℕ). coloured o Colour (chunk i 16 line) 4) from ∙ colours_in o line (4 * n) 16 4 (omega arith) in
-    pixels_more (pixel_of o Colour line) (4 * n) 4 (16 * n) 16 (4 * (4 * (n + 1))) out v (omega arith) (omega (arith, long)) (omega (arith, long, room)) (ap (λ (i : ℕ). take i out) to ∙ before) new
-    ∙ ap (coloured o Colour line) next
+    fours_stored (pixel_of o Colour line) out v n long room (is ∙ ap (λ (i : ℕ). coloured o Colour (chunk i 16 line) 4) from ∙ colours_in o line (4 * n) 16 4 (omega arith)) before
+
+pub grey_fours_more : (o : Order) (line out v : List ℕ) (n : ℕ) → length v ≡ 16 → 16 * n + 16 ≤ length out → v ≡ coloured o Grey (chunk (4 * n) 16 line) 4 → take (4 * (4 * n)) out ≡ coloured o Grey line (4 * n)
+    → take (4 * (4 * (n + 1))) (put_chunk (16 * n) out v) ≡ coloured o Grey line (4 * (n + 1))
+grey_fours_more o line out v n long room is before = fours_stored (pixel_of o Grey line) out v n long room (is ∙ greys_in o line (4 * n) 16 4 (omega arith)) before
 
 -- red, green and blue stand as they are
 pub in_order : (line : List ℕ) (n : ℕ) → length line ≡ 3 * n → coloured Rgb Colour line n ≡ line

@@ -6,7 +6,7 @@ ghost use Rattle.jri_canvas.specs.declared.layout.Order.TheVariants as order;
 ghost use Rattle.jri_canvas.specs.declared.layout.Pixels.TheVariants as pixels;
 
 use crate::layout::{Layout, Order, Pixels};
-use crate::shuffles::{copy_by_fours, turn_by_fives, turn_by_fours};
+use crate::shuffles::{copy_by_fours, spread_by_fours, turn_by_fives, turn_by_fours};
 
 /// Each byte of grey three times.
 fn spread_to_three(line: &[u8], out: &mut [u8])
@@ -22,19 +22,30 @@ fn spread_to_three(line: &[u8], out: &mut [u8])
     }
 }
 
-/// Each byte of grey three times, and 255.
-fn spread_to_four(line: &[u8], out: &mut [u8])
-    requires { length out.old ≡ 4 * length line.now }
-    ensures rgbx { out.new ≡ coloured order.Rgbx pixels.Grey line.now (length line.now) }
-    ensures bgrx { out.new ≡ coloured order.Bgrx pixels.Grey line.now (length line.now) }
+/// Each byte of grey behind those that are done three times, and 255.
+fn spread_rest_to_four(line: &[u8], done: usize, out: &mut [u8])
+    requires room { length out.old ≡ 4 * length line.now }
+    requires few { done ≤ length line.now }
+    requires front { take (4 * done) out.old ≡ coloured order.Rgbx pixels.Grey line.now done }
+    ensures { out.new ≡ coloured order.Rgbx pixels.Grey line.now (length line.now) }
 {
-    for x in 0..line.len() {
+    for x in done..line.len() {
         let grey = line[x];
         out[4 * x] = grey;
         out[4 * x + 1] = grey;
         out[4 * x + 2] = grey;
         out[4 * x + 3] = 255;
     }
+}
+
+/// Each byte of grey three times, and 255.
+fn spread_to_four(line: &[u8], out: &mut [u8])
+    requires { length out.old ≡ 4 * length line.now }
+    ensures rgbx { out.new ≡ coloured order.Rgbx pixels.Grey line.now (length line.now) }
+    ensures bgrx { out.new ≡ coloured order.Bgrx pixels.Grey line.now (length line.now) }
+{
+    let done = spread_by_fours(line, out);
+    spread_rest_to_four(line, done, out);
 }
 
 /// Red, green and blue of each pixel.

@@ -37,6 +37,17 @@ fn turned_with_fourth(bytes: u8x16) -> u8x16
     )
 }
 
+/// Each of four bytes of grey three times, and 255.
+#[inline(always)]
+fn spread_with_fourth(bytes: u8x16) -> u8x16
+    ensures { result ≡ coloured order.Rgbx pixels.Grey bytes 4 }
+{
+    bytes.shuffle(
+        Simd::splat(255),
+        [0, 0, 0, 16, 1, 1, 1, 16, 2, 2, 2, 16, 3, 3, 3, 16],
+    )
+}
+
 /// Lays out blue, green and red of the first pixels, five at a time: answers how many.
 pub(crate) fn turn_by_fives(line: &[u8], width: usize, out: &mut [u8]) -> usize
     requires line { length line.now ≡ 3 * width }
@@ -78,6 +89,20 @@ pub(crate) fn turn_by_fours(line: &[u8], width: usize, out: &mut [u8]) -> usize
     for n in 0..count {
         let bytes = u8x16::from_slice(&line[12 * n..]);
         turned_with_fourth(bytes).copy_to_slice(&mut out[16 * n..]);
+    }
+    4 * count
+}
+
+/// Lays out the first bytes of grey three times each, and 255, four at a time: answers how many.
+pub(crate) fn spread_by_fours(line: &[u8], out: &mut [u8]) -> usize
+    requires { length out.old ≡ 4 * length line.now }
+    ensures few { result ≤ length line.now }
+    ensures front { take (4 * result) out.new ≡ coloured order.Rgbx pixels.Grey line.now result }
+{
+    let count = line.len().saturating_sub(12) / 4;
+    for n in 0..count {
+        let bytes = u8x16::from_slice(&line[4 * n..]);
+        spread_with_fourth(bytes).copy_to_slice(&mut out[16 * n..]);
     }
     4 * count
 }

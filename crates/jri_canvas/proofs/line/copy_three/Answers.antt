@@ -1,4 +1,4 @@
-use Rattle.std.proofs.Common.{rules, sym, ◌∙◌}
+use Rattle.std.proofs.Common.{rules, sym}
 use Rattle.jri_canvas.proofs.Vectors.{in_order}
 use Rattle.jri_canvas.proofs.line.copy_three.Goals as goal
 
