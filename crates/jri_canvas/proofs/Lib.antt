@@ -1,2 +1,3 @@
 pub mod MorePixels
 pub mod Canvases
+pub mod Vectors

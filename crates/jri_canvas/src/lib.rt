@@ -4,6 +4,7 @@
 mod layout;
 mod line;
 mod lines;
+mod shuffles;
 
 pub use layout::{Layout, Order, Pixels};
 pub use line::lay_line;

@@ -1,11 +1,12 @@
 //! A line laid out.
 
-ghost use Rattle.std.specs.Prelude.{◌≡◌, ◌*◌, length};
+ghost use Rattle.std.specs.Prelude.{◌≡◌, ◌*◌, ◌≤◌, length, take};
 ghost use Rattle.jri_canvas.specs.Layouts.{coloured, laid_pixels, laid_size, sample_count};
 ghost use Rattle.jri_canvas.specs.declared.layout.Order.TheVariants as order;
 ghost use Rattle.jri_canvas.specs.declared.layout.Pixels.TheVariants as pixels;
 
 use crate::layout::{Layout, Order, Pixels};
+use crate::shuffles::{copy_by_fours, spread_by_fours, turn_by_fives, turn_by_fours};
 
 /// Each byte of grey three times.
 fn spread_to_three(line: &[u8], out: &mut [u8])
@@ -21,13 +22,14 @@ fn spread_to_three(line: &[u8], out: &mut [u8])
     }
 }
 
-/// Each byte of grey three times, and 255.
-fn spread_to_four(line: &[u8], out: &mut [u8])
-    requires { length out.old ≡ 4 * length line.now }
-    ensures rgbx { out.new ≡ coloured order.Rgbx pixels.Grey line.now (length line.now) }
-    ensures bgrx { out.new ≡ coloured order.Bgrx pixels.Grey line.now (length line.now) }
+/// Each byte of grey behind those that are done three times, and 255.
+fn spread_rest_to_four(line: &[u8], done: usize, out: &mut [u8])
+    requires room { length out.old ≡ 4 * length line.now }
+    requires few { done ≤ length line.now }
+    requires front { take (4 * done) out.old ≡ coloured order.Rgbx pixels.Grey line.now done }
+    ensures { out.new ≡ coloured order.Rgbx pixels.Grey line.now (length line.now) }
 {
-    for x in 0..line.len() {
+    for x in done..line.len() {
         let grey = line[x];
         out[4 * x] = grey;
         out[4 * x + 1] = grey;
@@ -36,16 +38,37 @@ fn spread_to_four(line: &[u8], out: &mut [u8])
     }
 }
 
+/// Each byte of grey three times, and 255.
+fn spread_to_four(line: &[u8], out: &mut [u8])
+    requires { length out.old ≡ 4 * length line.now }
+    ensures rgbx { out.new ≡ coloured order.Rgbx pixels.Grey line.now (length line.now) }
+    ensures bgrx { out.new ≡ coloured order.Bgrx pixels.Grey line.now (length line.now) }
+{
+    let done = spread_by_fours(line, out);
+    spread_rest_to_four(line, done, out);
+}
+
 /// Red, green and blue of each pixel.
 fn copy_three(line: &[u8], width: usize, out: &mut [u8])
     requires line { length line.now ≡ 3 * width }
     requires room { length out.old ≡ 3 * width }
     ensures { out.new ≡ coloured order.Rgb pixels.Colour line.now width }
 {
-    for x in 0..width {
-        out[3 * x] = line[3 * x];
+    out.copy_from_slice(line);
+}
+
+/// Blue, green and red of the pixels behind those that are done.
+fn turn_rest(line: &[u8], done: usize, width: usize, out: &mut [u8])
+    requires line { length line.now ≡ 3 * width }
+    requires room { length out.old ≡ 3 * width }
+    requires few { done ≤ width }
+    requires front { take (3 * done) out.old ≡ coloured order.Bgr pixels.Colour line.now done }
+    ensures { out.new ≡ coloured order.Bgr pixels.Colour line.now width }
+{
+    for x in done..width {
+        out[3 * x] = line[3 * x + 2];
         out[3 * x + 1] = line[3 * x + 1];
-        out[3 * x + 2] = line[3 * x + 2];
+        out[3 * x + 2] = line[3 * x];
     }
 }
 
@@ -55,10 +78,23 @@ fn turn_three(line: &[u8], width: usize, out: &mut [u8])
     requires room { length out.old ≡ 3 * width }
     ensures { out.new ≡ coloured order.Bgr pixels.Colour line.now width }
 {
-    for x in 0..width {
-        out[3 * x] = line[3 * x + 2];
-        out[3 * x + 1] = line[3 * x + 1];
-        out[3 * x + 2] = line[3 * x];
+    let done = turn_by_fives(line, width, out);
+    turn_rest(line, done, width, out);
+}
+
+/// Red, green and blue of the pixels behind those that are done, and 255.
+fn copy_rest_to_four(line: &[u8], done: usize, width: usize, out: &mut [u8])
+    requires line { length line.now ≡ 3 * width }
+    requires room { length out.old ≡ 4 * width }
+    requires few { done ≤ width }
+    requires front { take (4 * done) out.old ≡ coloured order.Rgbx pixels.Colour line.now done }
+    ensures { out.new ≡ coloured order.Rgbx pixels.Colour line.now width }
+{
+    for x in done..width {
+        out[4 * x] = line[3 * x];
+        out[4 * x + 1] = line[3 * x + 1];
+        out[4 * x + 2] = line[3 * x + 2];
+        out[4 * x + 3] = 255;
     }
 }
 
@@ -68,10 +104,22 @@ fn copy_to_four(line: &[u8], width: usize, out: &mut [u8])
     requires room { length out.old ≡ 4 * width }
     ensures { out.new ≡ coloured order.Rgbx pixels.Colour line.now width }
 {
-    for x in 0..width {
-        out[4 * x] = line[3 * x];
+    let done = copy_by_fours(line, width, out);
+    copy_rest_to_four(line, done, width, out);
+}
+
+/// Blue, green and red of the pixels behind those that are done, and 255.
+fn turn_rest_to_four(line: &[u8], done: usize, width: usize, out: &mut [u8])
+    requires line { length line.now ≡ 3 * width }
+    requires room { length out.old ≡ 4 * width }
+    requires few { done ≤ width }
+    requires front { take (4 * done) out.old ≡ coloured order.Bgrx pixels.Colour line.now done }
+    ensures { out.new ≡ coloured order.Bgrx pixels.Colour line.now width }
+{
+    for x in done..width {
+        out[4 * x] = line[3 * x + 2];
         out[4 * x + 1] = line[3 * x + 1];
-        out[4 * x + 2] = line[3 * x + 2];
+        out[4 * x + 2] = line[3 * x];
         out[4 * x + 3] = 255;
     }
 }
@@ -82,12 +130,8 @@ fn turn_to_four(line: &[u8], width: usize, out: &mut [u8])
     requires room { length out.old ≡ 4 * width }
     ensures { out.new ≡ coloured order.Bgrx pixels.Colour line.now width }
 {
-    for x in 0..width {
-        out[4 * x] = line[3 * x + 2];
-        out[4 * x + 1] = line[3 * x + 1];
-        out[4 * x + 2] = line[3 * x];
-        out[4 * x + 3] = 255;
-    }
+    let done = turn_by_fours(line, width, out);
+    turn_rest_to_four(line, done, width, out);
 }
 
 /// Lays out a line of so many pixels.

@@ -1,12 +1,6 @@
-use Rattle.std.proofs.Common.{◌+◌, ◌*◌, arith, refl, rules, slice_index}
-use Rattle.jri_canvas.specs.Layouts.{pixel_of}
-use Rattle.jri_canvas.specs.declared.layout.Order.TheVariants as order
-use Rattle.jri_canvas.specs.declared.layout.Pixels.TheVariants as pixels
-use Rattle.jri_canvas.proofs.MorePixels.{three_more}
+use Rattle.std.proofs.Common.{rules, sym}
+use Rattle.jri_canvas.proofs.Vectors.{in_order}
 use Rattle.jri_canvas.proofs.line.copy_three.Goals as goal
 
-pub loop-x-preserved : goal.loop-x-preserved
-loop-x-preserved c =
-    let line = slice_index c.args.line.now in
-    let i = c.loop-x.x in
-    search (rules, three_more (pixel_of order.Rgb pixels.Colour c.args.line.now) i c.loop-x.out (line (3 * i)) (line (3 * i + 1)) (line (3 * i + 2)) (omega arith) refl c.loop-x.invariant)
+pub returns : goal.returns
+returns c = search (rules, sym (in_order c.args.line.now c.args.width c.requires.line))

@@ -1,4 +1,4 @@
-use Rattle.std.proofs.Common.{rules, arith, ◌≡◌, ◌<◌, ◌≤◌, ◌-◌, ◌/◌}
+use Rattle.std.proofs.Common.{rules, arith, ◌-◌}
 use Rattle.std.proofs.Math.Nat.{le-div_iff_mul-le}
 use Rattle.jri_canvas.proofs.lines.have_places.Goals as goal
 

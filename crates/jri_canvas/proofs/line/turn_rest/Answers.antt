@@ -3,7 +3,7 @@ use Rattle.jri_canvas.specs.Layouts.{pixel_of}
 use Rattle.jri_canvas.specs.declared.layout.Order.TheVariants as order
 use Rattle.jri_canvas.specs.declared.layout.Pixels.TheVariants as pixels
 use Rattle.jri_canvas.proofs.MorePixels.{three_more}
-use Rattle.jri_canvas.proofs.line.turn_three.Goals as goal
+use Rattle.jri_canvas.proofs.line.turn_rest.Goals as goal
 
 pub loop-x-preserved : goal.loop-x-preserved
 loop-x-preserved c =

@@ -3,7 +3,7 @@ use Rattle.jri_canvas.specs.Layouts.{pixel_of}
 use Rattle.jri_canvas.specs.declared.layout.Order.TheVariants as order
 use Rattle.jri_canvas.specs.declared.layout.Pixels.TheVariants as pixels
 use Rattle.jri_canvas.proofs.MorePixels.{four_more}
-use Rattle.jri_canvas.proofs.line.copy_to_four.Goals as goal
+use Rattle.jri_canvas.proofs.line.copy_rest_to_four.Goals as goal
 
 pub loop-x-preserved : goal.loop-x-preserved
 loop-x-preserved c =

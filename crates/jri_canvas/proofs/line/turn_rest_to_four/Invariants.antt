@@ -1,0 +1,8 @@
+use Rattle.std.proofs.Common.{◌≡◌, ◌*◌, take}
+use Rattle.jri_canvas.specs.Layouts.{coloured}
+use Rattle.jri_canvas.specs.declared.layout.Order.TheVariants as order
+use Rattle.jri_canvas.specs.declared.layout.Pixels.TheVariants as pixels
+use Rattle.jri_canvas.proofs.line.turn_rest_to_four.Given as goal
+
+abbrev pub invariant-loop-x : goal.invariant-loop-x
+invariant-loop-x l = take (4 * l.x) l.out ≡ coloured order.Bgrx pixels.Colour l.line l.x

@@ -1,0 +1,8 @@
+use Rattle.std.proofs.Common.{◌≡◌, ◌*◌, take}
+use Rattle.jri_canvas.specs.Layouts.{coloured}
+use Rattle.jri_canvas.specs.declared.layout.Order.TheVariants as order
+use Rattle.jri_canvas.specs.declared.layout.Pixels.TheVariants as pixels
+use Rattle.jri_canvas.proofs.shuffles.turn_by_fours.Given as goal
+
+abbrev pub invariant-loop-n : goal.invariant-loop-n
+invariant-loop-n l = take (4 * (4 * l.n)) l.out ≡ coloured order.Bgrx pixels.Colour l.line (4 * l.n)
