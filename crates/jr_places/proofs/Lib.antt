@@ -5,3 +5,6 @@ pub mod Behind
 pub mod Longest
 pub mod Unstuffed
 pub mod Splits
+pub mod Spelled
+pub mod Threes
+pub mod Windows

@@ -1,19 +1,19 @@
 //! A cursor that goes over the MCUs of a scan, a window of the file's bytes at a time.
 
 ghost use Rattle.std.specs.List.{All};
-ghost use Rattle.std.specs.Prelude.{◌≡◌, ◌≤◌, ◌<◌, ◌+◌, ◌-◌, ◌*◌, ◌^◌, [], length, drop, true, IfOk};
-ghost use Rattle.jr_cut.specs.Cut.{IsStop};
+ghost use Rattle.std.specs.Prelude.{◌≡◌, ◌≢◌, ◌≤◌, ◌<◌, ◌+◌, ◌-◌, ◌*◌, ◌^◌, ℕ, List, [], ◌++◌, length, take, drop, min, max, true, IfOk};
+ghost use Rattle.jr_cut.specs.Cut.{IsRaw, IsStop};
 ghost use Rattle.jr_head.specs.Geometry.{mcus_across, mcus_down, mcus_of};
 ghost use Rattle.jr_head.specs.Intervals.{intervals_of, mcus_in};
 ghost use Rattle.jr_mcu.specs.Block.{IsInDcRange};
 ghost use Rattle.jr_scan.specs.McuReader.{HasRead};
 ghost use Rattle.jr_scan.specs.Run.{run_from};
 ghost use Rattle.jr_places.specs.Places.{IsIn, StandsAt, mcus_before};
-ghost use Rattle.jr_places.specs.Cursors.{HasWindow, IsCursor, Passes, StaysIn, in_window};
+ghost use Rattle.jr_places.specs.Cursors.{HasWindow, IsCursor, IsOffset, Passes, StaysIn, in_window, number_of};
 
 use crate::file_bytes::FileBytes;
 use crate::place::RowPlace;
-use crate::unstuffing::{data_length, unstuff};
+use crate::unstuffing::{data_length, spelled_length, unstuff};
 use jr_base::Memory;
 use jr_cut::{ScanEnd, Stop, fill_count, stop_at};
 use jr_head::Head;
@@ -51,20 +51,27 @@ pub(crate) struct ScanCursor<'a> {
     pub reading: Reading,
 }
 
-/// What sixteen bits hold of each of these numbers.
+/// What sixteen bits hold of a number.
+fn in_sixteen_bits(prediction: i32) -> i32
+    ensures in_range { IsInDcRange result }
+    ensures kept { IsInDcRange prediction → result ≡ prediction }
+{
+    prediction.clamp(-32768, 32767)
+}
+
+/// What they hold of each of these.
 fn in_range(predictions: [i32; 3]) -> [i32; 3]
-    ensures { All IsInDcRange result }
+    ensures in_range { All IsInDcRange result }
+    ensures kept { All IsInDcRange predictions → result ≡ predictions }
 {
     let [a, b, c] = predictions;
-    [
-        a.clamp(-32768, 32767),
-        b.clamp(-32768, 32767),
-        c.clamp(-32768, 32767),
-    ]
+    [in_sixteen_bits(a), in_sixteen_bits(b), in_sixteen_bits(c)]
 }
 
 /// The number of a reading.
-fn number_of(reading: Reading) -> u32 {
+fn number_of(reading: Reading) -> u32
+    ensures { result ≡ number_of reading }
+{
     match reading {
         Reading::GoesOn => 0,
         Reading::IsStuck => 1,
@@ -73,7 +80,9 @@ fn number_of(reading: Reading) -> u32 {
 }
 
 /// The reading of a number.
-fn reading_of(number: u32) -> Reading {
+fn reading_of(number: u32) -> Reading
+    ensures { number_of result ≡ min number 2 }
+{
     match number {
         0 => Reading::GoesOn,
         1 => Reading::IsStuck,
@@ -83,7 +92,8 @@ fn reading_of(number: u32) -> Reading {
 
 /// The offset of a place in a file whose scan begins at another: no byte before the scan's, and none past the end.
 fn offset_of(place: &RowPlace, scan_at: u64, length: usize) -> usize
-    ensures { result ≤ length }
+    ensures within { result ≤ length }
+    ensures there { max place.now.at scan_at ≤ length → result ≡ max place.now.at scan_at }
 {
     let at = place.at.max(scan_at);
     if at < length as u64 {
@@ -126,9 +136,12 @@ impl<'a> ScanCursor<'a> {
 
     /// Puts the window where data begin at an offset of the file, of which so many bits are taken.
     fn go_to(&mut self, at: usize, bit: u64)
-        requires window { HasWindow self.old }
+        requires room { length self.old.room.items ≡ WINDOW }
+        requires in_range { All IsInDcRange self.old.place.predictions }
         requires at { at ≤ length self.old.file.bytes.now }
         ensures stays { StaysIn self.old self.new }
+        ensures at { self.new.at ≡ at }
+        ensures bit { self.new.place.bit ≡ min bit (8 * self.new.found) }
         ensures reading { self.new.reading ≡ self.old.reading }
         ensures predictions { self.new.place.predictions ≡ self.old.place.predictions }
     {
@@ -139,24 +152,20 @@ impl<'a> ScanCursor<'a> {
     }
 
     /// The offset in the file of a byte of the window's data.
-    fn offset(&mut self, byte: usize) -> usize
-        requires window { HasWindow self.old }
-        requires byte { byte ≤ self.old.found }
-        ensures stays { StaysIn self.old self.new }
-        ensures reading { self.new.reading ≡ self.old.reading }
-        ensures place { self.new.place ≡ self.old.place }
-        ensures within { result ≤ length self.old.file.bytes.now }
+    fn offset(&self, byte: usize) -> usize
+        requires window { HasWindow self.now }
+        requires byte { byte ≤ self.now.found }
+        ensures { IsOffset self.now byte result }
     {
-        self.at + unstuff(&self.file.bytes[self.at..], &mut self.room[..byte]).read
+        self.at + spelled_length(&self.file.bytes[self.at..], byte)
     }
 
     /// The place before a row of MCUs, where it stands.
-    pub(crate) fn row_place(&mut self, row: u32) -> RowPlace
-        requires { HasWindow self.old }
-        ensures stays { StaysIn self.old self.new }
+    pub(crate) fn row_place(&self, row: u32) -> RowPlace
+        requires { HasWindow self.now }
         ensures row { result.row ≡ row }
-        ensures interval { result.interval ≡ self.old.interval }
-        ensures mcu { result.mcu ≡ self.old.mcu }
+        ensures interval { result.interval ≡ self.now.interval }
+        ensures mcu { result.mcu ≡ self.now.mcu }
     {
         RowPlace {
             at: self.offset((self.place.bit / 8) as usize) as u64,
@@ -207,6 +216,7 @@ impl<'a> ScanCursor<'a> {
     fn end_of_data(&self) -> usize
         requires { HasWindow self.now }
         ensures within { result ≤ length self.now.file.bytes.now }
+        ensures spells { (read : ℕ) × (found : List ℕ) × (result ≡ self.now.at + read) × IsRaw (take read (drop self.now.at self.now.file.bytes.now)) found }
         ensures stop { IsStop (drop result self.now.file.bytes.now) }
     {
         self.at + data_length(&self.file.bytes[self.at..])
@@ -216,7 +226,11 @@ impl<'a> ScanCursor<'a> {
     fn leave(&mut self, at: usize, reading: Reading)
         requires window { HasWindow self.old }
         requires at { at ≤ length self.old.file.bytes.now }
-        ensures { StaysIn self.old self.new }
+        requires stop { IsStop (drop at self.old.file.bytes.now) }
+        ensures stays { StaysIn self.old self.new }
+        ensures at { self.new.at ≡ at }
+        ensures bit { self.new.place.bit ≡ 0 }
+        ensures reading { self.new.reading ≡ reading }
     {
         self.at = at;
         self.found = 0;

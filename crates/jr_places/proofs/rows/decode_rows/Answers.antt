@@ -4,7 +4,7 @@ use borrow.Rule.Slice.PartMut.{put_mid}
 use Rattle.jr_head.specs.Geometry.{mcus_across}
 use Rattle.jr_paint.specs.Lines.{line_size}
 use Rattle.jr_places.specs.Places.{IsIn, lines_between, mcus_before}
-use Rattle.jr_places.proofs.Passing.{is_kept, kept_more}
+use Rattle.jr_places.proofs.Passing.{kept_more}
 use Rattle.jr_places.proofs.rows.decode_rows.Goals as goal
 
 pub rows-preserved : goal.rows-preserved
@@ -15,7 +15,6 @@ rows-preserved c =
     let row = c.rows.next.row in
     let new = c.row_place-next.result in
     let d = c.decode_row.new.cursor in
-    let stays = c.row_place-next.ensures.stays in
     let next : new.row ≡ row + 1 = c.row_place-next.ensures.row in
     let is_in : IsIn h d.interval d.mcu = c.decode_row.ensures.cursor.is_in in
     let interval : new.interval ≡ d.interval = c.row_place-next.ensures.interval in
@@ -34,10 +33,10 @@ rows-preserved c =
     let behind : drop to (put_mid from (to - from) old pix) ≡ drop to c.args.pixels.now =
     drop-put_mid from (to - from) old pix to (omega (arith, order)) (omega (arith, order, within)) long ∙ kept_more old c.args.pixels.now from to order before in
     record {
-      cursor = is_kept h d.interval d.mcu c.row_place-next.new.self stays.window stays.interval stays.mcu is_in;
-      file = stays.file ∙ c.decode_row.ensures.file ∙ keep.file;
+      cursor = c.decode_row.ensures.cursor;
+      file = c.decode_row.ensures.file ∙ keep.file;
       room = c.paint_row.ensures.samples;
-      at = ap (λ (k : ℕ). mcus_before h k c.row_place-next.new.self.mcu) stays.interval ∙ ap (mcus_before h d.interval) stays.mcu ∙ whole;
+      at = whole;
       stands = record {
         row = omega (arith, next, c.rows-test.true, c.end_of_rows-end.ensures.few);
         is_in = subst (λ (k : ℕ). IsIn h k new.mcu) (sym interval) (subst (IsIn h d.interval) (sym mcu) is_in);
