@@ -8,3 +8,7 @@ pub mod Splits
 pub mod Spelled
 pub mod Threes
 pub mod Windows
+pub mod Going
+pub mod ReadOn
+pub mod Steps
+pub mod Standing

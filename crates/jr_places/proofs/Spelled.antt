@@ -62,7 +62,7 @@ module _ (r a q b s t : List ℕ) (hr : IsRaw r a) (hq : IsRaw q b) (e : r ++ s 
         absurd (omega (arith, l, long_r, long_q, none, ap length c.are, length-append hr.parts c.others))
   ]
 
-nothing_spelled : (raw found : List ℕ) → IsRaw raw found → length found ≡ 0 → raw ≡ []
+pub nothing_spelled : (raw found : List ℕ) → IsRaw raw found → length found ≡ 0 → raw ≡ []
 nothing_spelled raw found is none = go is.parts (sym (length-map is.parts byte_spelled) ∙ ap length (sym is.means) ∙ none) is.spelled
   where
     go : (parts : List Spelling) → length parts ≡ 0 → raw ≡ flat_map spelling parts → raw ≡ []

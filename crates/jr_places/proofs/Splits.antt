@@ -50,7 +50,7 @@ all_behind (p ∷ ps) qs h = all_behind ps qs h.1
 pub marker_stop : (tail : List ℕ) (code : ℕ) → HasMarker tail code → code ≢ 0 → code ≢ PREFIX → IsStop tail
 marker_stop tail code h not_0 not_prefix = record { more = suc h.0; rest = code ∷ h.1; spelled = h.2 ∙ run_of h.0 code h.1; stops = inr (omega arith, code, h.1, not_0, not_prefix, refl) }
 
-ending_stop : (n k at : ℕ) (tail : List ℕ) (end : ScanEnd) → IsEnding n k at tail end → IsStop tail
+pub ending_stop : (n k at : ℕ) (tail : List ℕ) (end : ScanEnd) → IsEnding n k at tail end → IsStop tail
 ending_stop n k at tail EndOfFile h = record { more = h.0; rest = []; spelled = h.1 ∙ sym (append-nil (replicate h.0 PREFIX)); stops = inl refl }
 ending_stop n k at tail EndOfImage h = marker_stop tail EOI h (λ e. omega arith) (λ e. omega arith)
 ending_stop n k at tail (ExtraRestart o) h = marker_stop tail (RST0 + h.0) h.2 (λ e. omega arith) (λ e. omega (arith, h.1))

@@ -4,6 +4,7 @@ use Rattle.std.specs.List.{All}
 use Rattle.jr_head.specs.HeadValue.{HeadValue}
 use Rattle.jr_head.specs.Intervals.{mcus_in}
 use Rattle.jr_mcu.specs.Block.{IsInDcRange}
+use Rattle.jr_mcu.specs.Mcus.{no_predictions}
 use Rattle.jr_cut.specs.Cut.{IsRaw, IsStop}
 use Rattle.jr_scan.specs.IntervalValue.{IntervalValue}
 use Rattle.jr_scan.specs.Run.{HasNoMcu, left_at}
@@ -86,3 +87,11 @@ pub record IsOffset (c : ScanCursor) (byte at : ℕ) : Type 0 where
   pub is : at ≡ c.at + read
   pub within : at ≤ length c.file.bytes.now
   pub spelled : IsRaw (take read (drop c.at c.file.bytes.now)) (take byte (take c.found c.room.items))
+
+-- before the first MCU of the next interval, to whose data it has gone
+abbrev pub begun : ScanCursor → ScanCursor
+begun c = record c { interval = c.interval + 1; mcu = 0; place = record { bit = c.place.bit; predictions = no_predictions } }
+
+-- a step to where the next interval begins, or to the scan's end
+abbrev pub Follows : HeadValue → (old new : ScanCursor) → Type 0
+Follows h old new = (whole : List ℕ) (t : ScanValue) → MayBe old.file h whole t → StandsIn whole t old → StandsIn whole t (begun new)

@@ -1,11 +1,13 @@
 //! A row of MCUs, decoded.
 
-ghost use Rattle.std.specs.Prelude.{◌≡◌, ◌+◌, ◌*◌, ◌<◌, ◌≤◌, true};
+ghost use Rattle.std.specs.Prelude.{◌≡◌, ◌≢◌, ◌+◌, ◌*◌, ◌<◌, ◌≤◌, true};
 ghost use Rattle.jr_head.specs.Geometry.{mcus_across, mcus_down, mcus_of};
 ghost use Rattle.jr_head.specs.Intervals.{mcus_in};
 ghost use Rattle.jr_rows.specs.Rows.{HasSampleRoom};
 ghost use Rattle.jr_places.specs.Places.{mcus_before};
-ghost use Rattle.jr_places.specs.Cursors.{IsCursor, Passes, PassesIn};
+ghost use Rattle.jr_places.specs.declared.cursor.Reading.TheVariants.{GoesOn};
+ghost use Rattle.jr_places.specs.Cursors.{IsCursor, NoneFollows, Passes, PassesIn, StaysTrue, in_window};
+ghost use Rattle.jr_scan.specs.Run.{HasNoMcu};
 
 use crate::cursor::{Reading, ScanCursor};
 use jr_head::Head;
@@ -18,8 +20,13 @@ fn decode_near(cursor: &mut ScanCursor<'_>, head: &Head, samples: &mut SampleRow
     requires room { HasSampleRoom head.now samples.old }
     ensures room { HasSampleRoom head.now samples.new }
     ensures passes { PassesIn head.now cursor.old cursor.new result }
+    ensures stands { StaysTrue head.now cursor.old cursor.new }
+    ensures near { cursor.new ≡ record cursor.old { mcu = cursor.old.mcu + result; place = cursor.new.place } }
+    ensures bit { result ≡ 0 → cursor.new.place.bit ≡ cursor.old.place.bit }
+    ensures none { result ≡ 0 → cursor.new.mcu < mcus_in head.now cursor.new.interval → HasNoMcu (in_window head.now cursor.new) cursor.new.place }
     ensures few { done + result ≤ mcus_across head.now }
 {
+    head.be_lawful();
     // By its contract there is room for the numbers of the interval's MCUs.
     let _most = head.mcus_in(cursor.interval);
     let mut reader = cursor.reader(head);
@@ -36,6 +43,8 @@ fn decode_whole(cursor: &mut ScanCursor<'_>, head: &Head, samples: &mut SampleRo
     requires room { HasSampleRoom head.now samples.old }
     ensures room { HasSampleRoom head.now samples.new }
     ensures passes { PassesIn head.now cursor.old cursor.new result }
+    ensures stands { StaysTrue head.now cursor.old cursor.new }
+    ensures none { result ≡ 0 → cursor.old.mcu < mcus_in head.now cursor.old.interval → cursor.new.reading ≡ GoesOn → NoneFollows head.now cursor.new }
     ensures few { done + result ≤ mcus_across head.now }
 {
     if cursor.reading != Reading::GoesOn {
@@ -54,11 +63,14 @@ fn decode_grey(cursor: &mut ScanCursor<'_>, head: &Head, samples: &mut SampleRow
     requires within { done < mcus_across head.now }
     requires room { HasSampleRoom head.now samples.old }
     requires some { cursor.old.mcu < mcus_in head.now cursor.old.interval }
+    requires over { cursor.old.reading ≢ GoesOn }
     ensures room { HasSampleRoom head.now samples.new }
     ensures passes { PassesIn head.now cursor.old cursor.new result }
+    ensures stands { StaysTrue head.now cursor.old cursor.new }
     ensures few { done + result ≤ mcus_across head.now }
     ensures some { 0 < result }
 {
+    head.be_lawful();
     let left = head.mcus_in(cursor.interval) - cursor.mcu;
     let some = left.min(shape_of(head).across - done);
     let grey = samples.put_grey(head, done, some);
@@ -74,6 +86,7 @@ fn decode_some(cursor: &mut ScanCursor<'_>, head: &Head, samples: &mut SampleRow
     requires more { mcus_before head.now cursor.old.interval cursor.old.mcu < mcus_of head.now }
     ensures room { HasSampleRoom head.now samples.new }
     ensures passes { Passes head.now cursor.old cursor.new result }
+    ensures stands { StaysTrue head.now cursor.old cursor.new }
     ensures few { done + result ≤ mcus_across head.now }
     ensures all { cursor.old.file.are_all ≡ true → 0 < result }
 {
@@ -84,7 +97,7 @@ fn decode_some(cursor: &mut ScanCursor<'_>, head: &Head, samples: &mut SampleRow
     if whole > 0 {
         return whole;
     }
-    if !cursor.give_up() {
+    if !cursor.give_up(head) {
         return 0;
     }
     decode_grey(cursor, head, samples, done)
@@ -104,6 +117,7 @@ pub(crate) fn decode_row(
     ensures room { HasSampleRoom head.now samples.new }
     ensures cursor { IsCursor head.now cursor.new }
     ensures file { cursor.new.file ≡ cursor.old.file }
+    ensures stands { StaysTrue head.now cursor.old cursor.new }
     ensures whole { result ≡ true → mcus_before head.now cursor.new.interval cursor.new.mcu ≡ (row + 1) * mcus_across head.now }
     ensures all { cursor.old.file.are_all ≡ true → result ≡ true }
 {

@@ -3,6 +3,8 @@ use Rattle.std.proofs.lemmas.Slice.{drop-put_mid}
 use borrow.Rule.Slice.PartMut.{put_mid}
 use Rattle.jr_head.specs.Geometry.{mcus_across}
 use Rattle.jr_paint.specs.Lines.{line_size}
+use Rattle.jr_places.specs.declared.file_bytes.FileBytes.{FileBytes}
+use Rattle.jr_places.specs.Meaning.{IsPlaceIn, MayBe}
 use Rattle.jr_places.specs.Places.{IsIn, lines_between, mcus_before}
 use Rattle.jr_places.proofs.Passing.{kept_more}
 use Rattle.jr_places.proofs.rows.decode_rows.Goals as goal
@@ -45,6 +47,19 @@ rows-preserved c =
       on = omega (arith, next, keep.on);
       few = omega (arith, next, c.rows-test.true);
       none = λ e. absurd (omega (arith, next, e, keep.on));
+      place = λ whole t may is.
+          let before = keep.place whole t may is in
+          let here : MayBe c.rows.cursor.file h whole t = subst (λ (f : FileBytes). MayBe f h whole t) (sym keep.file) may in
+          let stands = c.decode_row.ensures.stands whole t here before.0 in
+          let file : d.file ≡ c.args.file = c.decode_row.ensures.file ∙ keep.file in
+          let there : MayBe d.file h whole t = subst (λ (f : FileBytes). MayBe f h whole t) (sym file) may in
+          (stands, subst (λ (f : FileBytes). IsPlaceIn f.bytes.now whole t new) file (c.row_place-next.ensures.place h whole t there stands));
       long = search (rules, arith, keep.long, long, order, within);
       kept = ap (λ (k : ℕ). drop k (put_mid from (to - from) old pix)) (sym to_is) ∙ behind ∙ ap (λ (k : ℕ). drop k c.args.pixels.now) to_is;
     }
+
+pub returns-then-not-decode_row-clause-place : goal.returns-then-not-decode_row-clause-place
+returns-then-not-decode_row-clause-place c whole t may is = (c.rows.invariant.place whole t may is).1
+
+pub returns-clause-place : goal.returns-clause-place
+returns-clause-place c whole t may is = (c.rows.invariant.place whole t may is).1

@@ -1,5 +1,7 @@
 use Rattle.std.proofs.Common.{◌≡◌, ℕ, ◌+◌, ◌-◌, ◌*◌, ◌≤◌, sym, ap, subst, ◌∙◌, arith, rules}
 use Rattle.jr_head.specs.Geometry.{mcus_across}
+use Rattle.jr_places.specs.declared.file_bytes.FileBytes.{FileBytes}
+use Rattle.jr_places.specs.Meaning.{IsPlaceIn, MayBe}
 use Rattle.jr_places.specs.Places.{IsIn, mcus_before}
 use Rattle.jr_places.proofs.rows.skip_rows.Goals as goal
 
@@ -28,4 +30,17 @@ rows-preserved c =
       on = omega (arith, next, keep.on);
       few = omega (arith, next, c.rows-test.true);
       none = λ e. absurd (omega (arith, next, e, keep.on));
+      place = λ whole t may is.
+          let before = keep.place whole t may is in
+          let here : MayBe c.rows.cursor.file h whole t = subst (λ (f : FileBytes). MayBe f h whole t) (sym keep.file) may in
+          let stands = c.skip_row.ensures.stands whole t here before.0 in
+          let file : d.file ≡ c.args.file = c.skip_row.ensures.file ∙ keep.file in
+          let there : MayBe d.file h whole t = subst (λ (f : FileBytes). MayBe f h whole t) (sym file) may in
+          (stands, subst (λ (f : FileBytes). IsPlaceIn f.bytes.now whole t new) file (c.row_place-next.ensures.place h whole t there stands));
     }
+
+pub returns-then-not-skip_row-clause-place : goal.returns-then-not-skip_row-clause-place
+returns-then-not-skip_row-clause-place c whole t may is = (c.rows.invariant.place whole t may is).1
+
+pub returns-clause-place : goal.returns-clause-place
+returns-clause-place c whole t may is = (c.rows.invariant.place whole t may is).1
