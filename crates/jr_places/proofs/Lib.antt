@@ -12,3 +12,4 @@ pub mod Going
 pub mod ReadOn
 pub mod Steps
 pub mod Standing
+pub mod GivenPlaces

@@ -65,7 +65,7 @@ bits_behind c at w off =
 
 -- the place where a cursor stands
 pub place_true : (h : HeadValue) (c : ScanCursor) (p : RowPlace) → HasWindow c → IsOffset c (c.place.bit / 8) p.at → p.bit ≡ c.place.bit % 8 → p.predictions ≡ c.place.predictions → p.interval ≡ c.interval → p.mcu ≡ c.mcu → p.state ≡ number_of c.reading
-    → (whole : List ℕ) (t : ScanValue) → MayBe c.file h whole t → StandsIn whole t c → IsPlaceIn c.file.bytes.now whole t p
+    → (whole : List ℕ) (t : ScanValue) → MayBe c.file.bytes.now c.file.are_all h whole t → StandsIn whole t c → IsPlaceIn c.file.bytes.now whole t p
 place_true h c p w off bit predictions interval mcu state whole t may s =
     let at : offset_in t.head p ≡ p.at = omega (arith, s.from, off.is) in
     let q : Place = record { bit = p.bit; predictions = p.predictions } in

@@ -41,7 +41,7 @@ use Rattle.jr_places.proofs.Splits.{ending_stop, marker_stop}
 -- ---- one step behind the other
 
 pub true_on : (h : HeadValue) (a b c : ScanCursor) → b.file ≡ a.file → StaysTrue h a b → StaysTrue h b c → StaysTrue h a c
-true_on h a b c same ab bc whole t may s = bc whole t (subst (λ (f : FileBytes). MayBe f h whole t) (sym same) may) (ab whole t may s)
+true_on h a b c same ab bc whole t may s = bc whole t (subst (λ (f : FileBytes). MayBe f.bytes.now f.are_all h whole t) (sym same) may) (ab whole t may s)
 
 -- ---- over MCUs of its interval
 
@@ -79,7 +79,7 @@ module _ (h : HeadValue) (c : ScanCursor) (lawful : IsLawful h) (is : IsCursor h
 
 -- ---- to a later byte of its data
 
-pub moved : (h : HeadValue) (c : ScanCursor) (at : ℕ) (q : Place) → IsOffset c (c.place.bit / 8) at → HasWindow c → q.bit ≡ c.place.bit % 8 → q.predictions ≡ c.place.predictions → (whole : List ℕ) (t : ScanValue) → MayBe c.file h whole t
+pub moved : (h : HeadValue) (c : ScanCursor) (at : ℕ) (q : Place) → IsOffset c (c.place.bit / 8) at → HasWindow c → q.bit ≡ c.place.bit % 8 → q.predictions ≡ c.place.predictions → (whole : List ℕ) (t : ScanValue) → MayBe c.file.bytes.now c.file.are_all h whole t
     → MeansAt whole t (number_of c.reading) c.interval c.mcu c.at c.place → MeansAt whole t (number_of c.reading) c.interval c.mcu at q
 moved h c at q off w bit predictions whole t may = go c.reading
   where
@@ -143,7 +143,7 @@ stop_whole bytes more end fill within s next final =
 
 module _ (h : HeadValue) (c : ScanCursor) (w : HasWindow c) (end read : ℕ) (found : List ℕ) (there : end ≡ c.at + read) (within : end ≤ length c.file.bytes.now) (raw : IsRaw (take read (drop c.at c.file.bytes.now)) found) where
   -- where no further MCU is whole
-  pub stuck_true : IsIn h c.interval c.mcu → IsLawful h → NoneFollows h c → c.reading ≡ GoesOn → IsStop (drop end c.file.bytes.now) → (whole : List ℕ) (t : ScanValue) (may : MayBe c.file h whole t) → IsStop (drop end whole) → StandsIn whole t c → IsStuckAt whole t c.interval c.mcu end
+  pub stuck_true : IsIn h c.interval c.mcu → IsLawful h → NoneFollows h c → c.reading ≡ GoesOn → IsStop (drop end c.file.bytes.now) → (whole : List ℕ) (t : ScanValue) (may : MayBe c.file.bytes.now c.file.are_all h whole t) → IsStop (drop end whole) → StandsIn whole t c → IsStuckAt whole t c.interval c.mcu end
   stuck_true is_in lawful none going here whole t may stop s =
       let bytes = c.file.bytes.now in
       let spells = w.spells in
@@ -170,7 +170,7 @@ module _ (h : HeadValue) (c : ScanCursor) (w : HasWindow c) (end read : ℕ) (fo
       }
 
   -- the interval has ended there
-  its_end : (whole : List ℕ) (t : ScanValue) (may : MayBe c.file h whole t) → IsStop (drop end whole) → c.reading ≢ HasEnded → StandsIn whole t c → (before : List ℕ) × (g : GoesOnAt whole t c.interval end before) × (g.rest ≡ [])
+  its_end : (whole : List ℕ) (t : ScanValue) (may : MayBe c.file.bytes.now c.file.are_all h whole t) → IsStop (drop end whole) → c.reading ≢ HasEnded → StandsIn whole t c → (before : List ℕ) × (g : GoesOnAt whole t c.interval end before) × (g.rest ≡ [])
   its_end whole t may stop over s = go c.reading over s.means
     where
       on : (before : List ℕ) (g : GoesOnAt whole t c.interval c.at before) → (b : List ℕ) × (g : GoesOnAt whole t c.interval end b) × (g.rest ≡ [])
@@ -188,7 +188,7 @@ module _ (h : HeadValue) (c : ScanCursor) (w : HasWindow c) (end read : ℕ) (fo
   tail_whole whole more e = ap (drop end) e ∙ drop-append-le end c.file.bytes.now more within
 
   -- the next one begins behind its marker
-  pub next_true : (whole : List ℕ) (t : ScanValue) (may : MayBe c.file h whole t) → c.reading ≢ HasEnded → StandsIn whole t c → (more : ℕ) → c.interval + 1 < intervals_of h → drop end c.file.bytes.now ≡ marker more (RST0 + c.interval % 8) ++ drop (more + 2) (drop end c.file.bytes.now)
+  pub next_true : (whole : List ℕ) (t : ScanValue) (may : MayBe c.file.bytes.now c.file.are_all h whole t) → c.reading ≢ HasEnded → StandsIn whole t c → (more : ℕ) → c.interval + 1 < intervals_of h → drop end c.file.bytes.now ≡ marker more (RST0 + c.interval % 8) ++ drop (more + 2) (drop end c.file.bytes.now)
       → end + (more + 2) ≤ length c.file.bytes.now → (p : Place) → p ≡ start_of_interval → ReadsAt whole t (c.interval + 1) 0 (end + (more + 2)) p
   next_true whole t may over s more room starts inside p first =
       let bytes = c.file.bytes.now in
@@ -203,7 +203,7 @@ module _ (h : HeadValue) (c : ScanCursor) (w : HasWindow c) (end read : ℕ) (fo
       (next_on whole t c.interval end there.0 there.1 there.2 more rest (subst (λ (g : HeadValue). c.interval + 1 < intervals_of g) (sym may.head) room) begins behind_it)
 
   -- or the scan has ended
-  pub ended_true : (whole : List ℕ) (t : ScanValue) (may : MayBe c.file h whole t) → c.reading ≢ HasEnded → StandsIn whole t c → (e : ScanEnd) → IsEnding (intervals_of h) c.interval end (drop end c.file.bytes.now) e → (e ≢ EndOfFile) ⊎ (may.more ≡ []) → HasNoData t (c.interval + 1)
+  pub ended_true : (whole : List ℕ) (t : ScanValue) (may : MayBe c.file.bytes.now c.file.are_all h whole t) → c.reading ≢ HasEnded → StandsIn whole t c → (e : ScanEnd) → IsEnding (intervals_of h) c.interval end (drop end c.file.bytes.now) e → (e ≢ EndOfFile) ⊎ (may.more ≡ []) → HasNoData t (c.interval + 1)
   ended_true whole t may over s e ending final =
       let there_too : IsEnding (intervals_of h) c.interval end (drop end whole) e =
       subst (λ (x : List ℕ). IsEnding (intervals_of h) c.interval end x e) (sym (tail_whole whole may.more may.is)) (ending_more (intervals_of h) c.interval end (drop end c.file.bytes.now) may.more e final ending) in

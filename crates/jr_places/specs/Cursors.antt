@@ -79,7 +79,7 @@ pub record StandsIn (whole : List ℕ) (t : ScanValue) (c : ScanCursor) : Type 0
 
 -- a step that leaves it there, in each file that its bytes may be
 abbrev pub StaysTrue : HeadValue → (old new : ScanCursor) → Type 0
-StaysTrue h old new = (whole : List ℕ) (t : ScanValue) → MayBe old.file h whole t → StandsIn whole t old → StandsIn whole t new
+StaysTrue h old new = (whole : List ℕ) (t : ScanValue) → MayBe old.file.bytes.now old.file.are_all h whole t → StandsIn whole t old → StandsIn whole t new
 
 -- that offset in the file stands behind so many bytes of the window's data
 pub record IsOffset (c : ScanCursor) (byte at : ℕ) : Type 0 where
@@ -94,4 +94,4 @@ begun c = record c { interval = c.interval + 1; mcu = 0; place = record { bit = 
 
 -- a step to where the next interval begins, or to the scan's end
 abbrev pub Follows : HeadValue → (old new : ScanCursor) → Type 0
-Follows h old new = (whole : List ℕ) (t : ScanValue) → MayBe old.file h whole t → StandsIn whole t old → StandsIn whole t (begun new)
+Follows h old new = (whole : List ℕ) (t : ScanValue) → MayBe old.file.bytes.now old.file.are_all h whole t → StandsIn whole t old → StandsIn whole t (begun new)

@@ -1,13 +1,13 @@
 -- What a place is in a file (T.81, B.1.1.5 and E.1.4).
-use Rattle.std.specs.Prelude.{◌≡◌, ℕ, zero, suc, ◌+◌, ◌*◌, ◌<◌, ◌≤◌, max, true, List, [], ◌∷◌, ◌++◌, length, replicate, take, drop, ℤ, slice_index_or}
+use Rattle.std.specs.Prelude.{◌≡◌, ℕ, zero, suc, ◌+◌, ◌*◌, ◌<◌, ◌≤◌, max, Bool, true, List, [], ◌∷◌, ◌++◌, length, replicate, take, drop, ℤ, slice_index_or}
 use Rattle.jr_cut.specs.Cut.{CutFrom, IsRaw}
 use Rattle.jr_head.specs.HeadValue.{HeadValue}
+use Rattle.jr_mcu.specs.Mcus.{no_predictions}
 use Rattle.jr_scan.specs.declared.place.Place.{Place}
 use Rattle.jr_scan.specs.IntervalValue.{IntervalValue}
 use Rattle.jr_scan.specs.Mcus.{LongestFront}
 use Rattle.jr_scan.specs.ScanValue.{ScanValue, IsScanOf, interval_of, intervals_of}
 use Rattle.jr_piece.specs.Strips.{IsNext}
-use Rattle.jr_places.specs.declared.file_bytes.FileBytes.{FileBytes}
 use Rattle.jr_places.specs.declared.place.RowPlace.{RowPlace}
 
 -- an interval with other data before it
@@ -24,10 +24,10 @@ with_more i more = record { number = i.number; mcus = i.mcus; bytes = i.bytes ++
 
 -- a file that these bytes may be: that which they are where they are all of it, else any that begins with them; and its scan, by that
 -- head
-pub record MayBe (file : FileBytes) (h : HeadValue) (whole : List ℕ) (t : ScanValue) : Type 0 where
+pub record MayBe (bytes : List ℕ) (all : Bool) (h : HeadValue) (whole : List ℕ) (t : ScanValue) : Type 0 where
   pub more : List ℕ
-  pub is : whole ≡ file.bytes.now ++ more
-  pub all : file.are_all ≡ true → more ≡ []
+  pub is : whole ≡ bytes ++ more
+  pub none : all ≡ true → more ≡ []
   pub head : t.head ≡ h
   pub scan : IsScanOf whole t
 
@@ -86,3 +86,7 @@ pub record IsPlaceIn (bytes whole : List ℕ) (t : ScanValue) (p : RowPlace) : T
   pub bit : p.bit < 8
   pub come : HasBits bytes (offset_in t.head p) p.bit
   pub means : MeansAt whole t p.state p.interval p.mcu (offset_in t.head p) (record { bit = p.bit; predictions = p.predictions })
+
+-- the place before the first row
+abbrev pub top : RowPlace
+top = record { at = 0; bit = 0; row = 0; interval = 0; mcu = 0; predictions = no_predictions; state = 0 }

@@ -122,7 +122,7 @@ impl<'a> ScanCursor<'a> {
         ensures cursor { IfOk result (IsCursor head.now) }
         ensures file { IfOk result (λ c. c.file ≡ file.entry) }
         ensures at { IfOk result (λ c. mcus_before head.now c.interval c.mcu ≡ place.now.row * mcus_across head.now) }
-        ensures stands { (whole : List ℕ) (t : ScanValue) → MayBe file.entry head.now whole t → IsPlaceIn file.entry.bytes.now whole t place.now → IfOk result (StandsIn whole t) }
+        ensures stands { (whole : List ℕ) (t : ScanValue) → MayBe file.entry.bytes.now file.entry.are_all head.now whole t → IsPlaceIn file.entry.bytes.now whole t place.now → IfOk result (StandsIn whole t) }
     {
         let mut cursor = ScanCursor {
             file,
@@ -174,7 +174,7 @@ impl<'a> ScanCursor<'a> {
         ensures row { result.row ≡ row }
         ensures interval { result.interval ≡ self.now.interval }
         ensures mcu { result.mcu ≡ self.now.mcu }
-        ensures place { (h : HeadValue) (whole : List ℕ) (t : ScanValue) → MayBe self.now.file h whole t → StandsIn whole t self.now → IsPlaceIn self.now.file.bytes.now whole t result }
+        ensures place { (h : HeadValue) (whole : List ℕ) (t : ScanValue) → MayBe self.now.file.bytes.now self.now.file.are_all h whole t → StandsIn whole t self.now → IsPlaceIn self.now.file.bytes.now whole t result }
     {
         RowPlace {
             at: self.offset((self.place.bit / 8) as usize) as u64,

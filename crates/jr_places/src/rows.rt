@@ -113,7 +113,7 @@ pub fn decode_rows(
     ensures few { IfOk result (λ p. p.row ≤ place.now.row + rows_to_give head.now place.now.row rows (length pixels.old)) }
     ensures all { file.entry.are_all ≡ true → IfOk result (λ p. p.row ≡ place.now.row + rows_to_give head.now place.now.row rows (length pixels.old)) }
     ensures none { IfOk result (λ p. p.row ≡ place.now.row → p ≡ place.now) }
-    ensures place { (whole : List ℕ) (t : ScanValue) → MayBe file.entry head.now whole t → IsPlaceIn file.entry.bytes.now whole t place.now → IfOk result (IsPlaceIn file.entry.bytes.now whole t) }
+    ensures place { (whole : List ℕ) (t : ScanValue) → MayBe file.entry.bytes.now file.entry.are_all head.now whole t → IsPlaceIn file.entry.bytes.now whole t place.now → IfOk result (IsPlaceIn file.entry.bytes.now whole t) }
     ensures kept { IfOk result (λ p. drop (lines_between head.now place.now.row p.row * line_size head.now) pixels.new ≡ drop (lines_between head.now place.now.row p.row * line_size head.now) pixels.old) }
     ensures long { length pixels.new ≡ length pixels.old }
     ensures memory { IfErr result (λ _. pixels.new ≡ pixels.old) }
@@ -148,7 +148,7 @@ pub fn skip_rows(
     ensures few { IfOk result (λ p. p.row ≤ place.now.row + min rows (mcus_down head.now - place.now.row)) }
     ensures all { file.entry.are_all ≡ true → IfOk result (λ p. p.row ≡ place.now.row + min rows (mcus_down head.now - place.now.row)) }
     ensures none { IfOk result (λ p. p.row ≡ place.now.row → p ≡ place.now) }
-    ensures place { (whole : List ℕ) (t : ScanValue) → MayBe file.entry head.now whole t → IsPlaceIn file.entry.bytes.now whole t place.now → IfOk result (IsPlaceIn file.entry.bytes.now whole t) }
+    ensures place { (whole : List ℕ) (t : ScanValue) → MayBe file.entry.bytes.now file.entry.are_all head.now whole t → IsPlaceIn file.entry.bytes.now whole t place.now → IfOk result (IsPlaceIn file.entry.bytes.now whole t) }
 {
     let mut cursor = ScanCursor::open(alloc, head, file, place)?;
     let most = rows.min(shape_of(head).down - place.row);

@@ -32,10 +32,10 @@ rows-preserved c =
       none = λ e. absurd (omega (arith, next, e, keep.on));
       place = λ whole t may is.
           let before = keep.place whole t may is in
-          let here : MayBe c.rows.cursor.file h whole t = subst (λ (f : FileBytes). MayBe f h whole t) (sym keep.file) may in
+          let here : MayBe c.rows.cursor.file.bytes.now c.rows.cursor.file.are_all h whole t = subst (λ (f : FileBytes). MayBe f.bytes.now f.are_all h whole t) (sym keep.file) may in
           let stands = c.skip_row.ensures.stands whole t here before.0 in
           let file : d.file ≡ c.args.file = c.skip_row.ensures.file ∙ keep.file in
-          let there : MayBe d.file h whole t = subst (λ (f : FileBytes). MayBe f h whole t) (sym file) may in
+          let there : MayBe d.file.bytes.now d.file.are_all h whole t = subst (λ (f : FileBytes). MayBe f.bytes.now f.are_all h whole t) (sym file) may in
           (stands, subst (λ (f : FileBytes). IsPlaceIn f.bytes.now whole t new) file (c.row_place-next.ensures.place h whole t there stands));
     }
 

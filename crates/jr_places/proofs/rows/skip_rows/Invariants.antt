@@ -16,7 +16,7 @@ invariant-rows l =
       on : l.place.row ≤ l.next.row;
       few : l.next.row ≤ l.place.row + l.most;
       none : l.next.row ≡ l.place.row → l.next ≡ l.place;
-      place : (whole : List ℕ) (t : ScanValue) → MayBe l.file h whole t → IsPlaceIn l.file.bytes.now whole t l.place → StandsIn whole t l.cursor × IsPlaceIn l.file.bytes.now whole t l.next;
+      place : (whole : List ℕ) (t : ScanValue) → MayBe l.file.bytes.now l.file.are_all h whole t → IsPlaceIn l.file.bytes.now whole t l.place → StandsIn whole t l.cursor × IsPlaceIn l.file.bytes.now whole t l.next;
     }
 
 abbrev pub decreases-rows : goal.decreases-rows

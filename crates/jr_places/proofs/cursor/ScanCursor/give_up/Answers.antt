@@ -14,6 +14,6 @@ returns-clause-stands c whole t may s =
     let e = c.end_of_data-end.ensures in
     let l = c.leave.ensures in
     let going : i.reading ≡ GoesOn = search rules in
-    let stop : IsStop (drop end whole) = subst (λ (w : List ℕ). IsStop (drop end w)) (sym may.is) (c.ends_at.ensures.ends c.if-not-ends_at.false may.more may.all) in
+    let stop : IsStop (drop end whole) = subst (λ (w : List ℕ). IsStop (drop end w)) (sym may.is) (c.ends_at.ensures.ends c.if-not-ends_at.false may.more may.none) in
     let stuck = stuck_true h i c.requires.cursor.window end e.spells.0 e.spells.1 e.spells.2 e.within e.spells.3 c.requires.cursor.is_in c.be_lawful.ensures (c.requires.none going) going e.stop whole t may stop s in
     stands_by whole t d i.interval i.mcu end IsStuck d.place l.stays.interval l.stays.mcu l.at l.reading refl (omega (arith, s.from, e.spells.2)) stuck

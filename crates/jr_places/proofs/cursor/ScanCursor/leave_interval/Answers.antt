@@ -64,6 +64,6 @@ returns-else-not-is_final-clause-follows c told over whole t may s =
     let n = intervals_of h in
     let tail = drop end i.file.bytes.now in
     let ending : IsStopOf n i.interval end tail (End c.in-End.ended) = subst (IsStopOf n i.interval end tail) c.in-End.is c.stop_behind.ensures.is in
-    let final = c.is_final.ensures.ends c.if-not-is_final.false may.more may.all in
+    let final = c.is_final.ensures.ends c.if-not-is_final.false may.more may.none in
     let none = ended_true h i c.requires.window end o.spells.0 o.spells.1 o.spells.2 o.within o.spells.3 whole t may over s c.in-End.ended ending final in
     stands_by whole t (begun d) (i.interval + 1) 0 end HasEnded (begun d).place (ap (λ (k : ℕ). k + 1) l.stays.interval) refl l.at l.reading refl (omega (arith, s.from, o.spells.2)) none
