@@ -13,3 +13,6 @@ pub mod ReadOn
 pub mod Steps
 pub mod Standing
 pub mod GivenPlaces
+pub mod ShownMcus
+pub mod ShownSteps
+pub mod PaintedLines

@@ -70,14 +70,18 @@ module _ (whole : List ℕ) (t : ScanValue) (i mcu at left : ℕ) (found rest : 
   whole_data = ap (λ (x : List ℕ). r.before ++ x) (sym is) ∙ sym (its_data whole t i at r.before r.on)
 
   -- further MCUs
+  pub run_on : (n : ℕ) (ys : List (List ℤ)) (q : Place) → p.bit ≤ 8 * length found → q.bit ≤ 8 * length found → IsRun (run_from near p n) ys q AllRead → IsRun (run_from (interval_of t i) (behind r.before p) n) ys (behind r.before q) AllRead
+  run_on n ys q from to run =
+      let before = r.before in
+      let longer = run_behind (with_more near rest) before p n ys q AllRead (run_more near rest p q n ys from to run) in
+      subst (λ (b : List ℕ). IsRun (run_from (interval i (mcus_in h i) b h) (behind before p) n) ys (behind before q) AllRead) whole_data
+      (renumbered i left i (mcus_in h i) (before ++ (found ++ rest)) h (behind before p) (behind before q) n ys longer)
+
   pub reads_on : (n : ℕ) (ys : List (List ℤ)) (q : Place) → p.bit ≤ 8 * length found → q.bit ≤ 8 * length found → All IsInDcRange q.predictions → mcu + n ≤ mcus_in h i → IsRun (run_from near p n) ys q AllRead → ReadsAt whole t i (mcu + n) at q
   reads_on n ys q from to in_range few run =
       let all = interval_of t i in
       let before = r.before in
-      let longer = run_behind (with_more near rest) before p n ys q AllRead (run_more near rest p q n ys from to run) in
-      let there : IsRun (run_from all (behind before p) n) ys (behind before q) AllRead =
-      subst (λ (b : List ℕ). IsRun (run_from (interval i (mcus_in h i) b h) (behind before p) n) ys (behind before q) AllRead) whole_data
-      (renumbered i left i (mcus_in h i) (before ++ (found ++ rest)) h (behind before p) (behind before q) n ys longer) in
+      let there = run_on n ys q from to run in
       let can : CanReadFrom all (behind before q) = (omega (arith, to, ap length whole_data, length-append before (found ++ rest), length-append found rest), in_range) in
       let here : FirstMcus (run_from all (behind before p) n) n ys = record { to = behind before q; run = there; none = λ lt. absurd (omega (arith, lt)) } in
       record { before = before; on = r.on; blocks = r.blocks ++ ys; next = runs.going one_run runs_meet shorter_front all lawful mcu r.blocks (behind before p) r.next n n ys here few (behind before q) there can }

@@ -1,11 +1,16 @@
-use Rattle.std.proofs.Common.{◌≡◌, ℕ, ◌+◌, ◌-◌, ◌*◌, ◌≤◌, length, drop, sym, ap, subst, ◌∙◌, arith, rules}
-use Rattle.std.proofs.lemmas.Slice.{drop-put_mid}
+use Rattle.std.proofs.Common.{◌≡◌, ℕ, ◌+◌, ◌-◌, ◌*◌, ◌≤◌, ◌++◌, List, length, take, drop, refl, sym, ap, subst, ◌∙◌, arith, rules}
+use Rattle.std.proofs.lemmas.Slice.{drop-put_mid, take-put_mid}
 use borrow.Rule.Slice.PartMut.{put_mid}
 use Rattle.jr_head.specs.Geometry.{mcus_across}
-use Rattle.jr_paint.specs.Lines.{line_size}
+use Rattle.jr_paint.specs.Lines.{line_size, next_lines_of}
+use Rattle.jr_paint.proofs.PixelLaws.{next_lines_more}
+use Rattle.jr_rows.specs.Rows.{line_count}
+use Rattle.std.specs.Prelude.{true, false}
+use Rattle.jr_places.proofs.PaintedLines.{no_lines}
+use Rattle.jr_places.proofs.RowLines.{before_more, next_row}
 use Rattle.jr_places.specs.declared.file_bytes.FileBytes.{FileBytes}
 use Rattle.jr_places.specs.Meaning.{IsPlaceIn, MayBe}
-use Rattle.jr_places.specs.Places.{IsIn, lines_between, mcus_before}
+use Rattle.jr_places.specs.Places.{IsIn, lines_before, lines_between, mcus_before}
 use Rattle.jr_places.proofs.Passing.{kept_more}
 use Rattle.jr_places.proofs.rows.decode_rows.Goals as goal
 
@@ -55,6 +60,21 @@ rows-preserved c =
           let there : MayBe d.file.bytes.now d.file.are_all h whole t = subst (λ (f : FileBytes). MayBe f.bytes.now f.are_all h whole t) (sym file) may in
           (stands, subst (λ (f : FileBytes). IsPlaceIn f.bytes.now whole t new) file (c.row_place-next.ensures.place h whole t there stands));
       long = search (rules, arith, keep.long, long, order, within);
+      lines = λ whole t marks f may is shows.
+          let y = lines_before h p.row in
+          let n = lines_between h p.row row in
+          let m = line_count h row in
+          let before = keep.lines whole t marks f may is shows in
+          let here : MayBe c.rows.cursor.file.bytes.now c.rows.cursor.file.are_all h whole t = subst (λ (f : FileBytes). MayBe f.bytes.now f.are_all h whole t) (sym keep.file) may in
+          let shown = c.decode_row.ensures.shows c.if-not-decode_row.false whole t here (keep.place whole t may is).0 in
+          let some = c.be_lawful.ensures.components.down in
+          let there : y + n ≡ lines_before h row = omega (arith, before_more h some p.row row keep.on) in
+          let sum : n + m ≡ lines_between h p.row new.row = sym (next_row h some p.row row keep.on (omega (arith, c.rows-test.true, c.end_of_rows-end.ensures.few))) ∙ ap (lines_between h p.row) (sym next) in
+          let painted : pix ≡ next_lines_of h f (y + n) m = c.paint_row.ensures.painted t marks f may.head shown shows ∙ ap (λ (k : ℕ). next_lines_of h f k m) (sym there) in
+          ap (λ (k : ℕ). take k (put_mid from (to - from) old pix)) (sym to_is)
+          ∙ take-put_mid from (to - from) old pix to (omega (arith, long, order)) (omega (arith, order, within))
+          ∙ ap (λ (k : ℕ). take k old ++ pix) from_is
+          ∙ ap (λ (z : List ℕ). z ++ pix) before ∙ ap (λ (z : List ℕ). next_lines_of h f y n ++ z) painted ∙ sym (next_lines_more h f y n m) ∙ ap (next_lines_of h f y) sum;
       kept = ap (λ (k : ℕ). drop k (put_mid from (to - from) old pix)) (sym to_is) ∙ behind ∙ ap (λ (k : ℕ). drop k c.args.pixels.now) to_is;
     }
 
@@ -63,3 +83,36 @@ returns-then-not-decode_row-clause-place c whole t may is = (c.rows.invariant.pl
 
 pub returns-clause-place : goal.returns-clause-place
 returns-clause-place c whole t may is = (c.rows.invariant.place whole t may is).1
+
+pub returns-then-not-decode_row-clause-lines : goal.returns-then-not-decode_row-clause-lines
+returns-then-not-decode_row-clause-lines c = c.rows.invariant.lines
+
+pub returns-clause-lines : goal.returns-clause-lines
+returns-clause-lines c = c.rows.invariant.lines
+
+pub returns-then-not-decode_row-clause-all : goal.returns-then-not-decode_row-clause-all
+returns-then-not-decode_row-clause-all c all =
+    let told : c.decode_row.result ≡ true = c.decode_row.ensures.all (ap (λ (f : FileBytes). f.are_all) c.rows.invariant.file ∙ all) in
+    absurd (let wrong : true ≡ false = sym told ∙ c.if-not-decode_row.true in cc)
+
+pub bytes_of_row-from-requires-clause-room : goal.bytes_of_row-from-requires-clause-room
+bytes_of_row-from-requires-clause-room c = omega (arith, c.end_of_rows-end.ensures.fits (c.rows.next.row + 1) (omega (arith, c.rows-test.true)), c.rows.invariant.long)
+
+pub rows-init : goal.rows-init
+rows-init c =
+    let h = c.args.head.now in
+    let e = c.in_ok-cursor.ensures in
+    record {
+      cursor = e.cursor;
+      file = e.file;
+      room = c.in_ok-samples.ensures;
+      at = e.at;
+      stands = c.requires.stands;
+      on = omega arith;
+      few = omega (arith, c.end_of_rows-end.ensures.value);
+      none = λ same. refl;
+      place = λ whole t may is. (e.stands whole t may is, is);
+      long = refl;
+      lines = λ whole t marks f may is shows. no_lines h f (lines_before h c.args.place.now.row) (lines_between h c.args.place.now.row c.args.place.now.row) c.args.pixels.now (omega arith);
+      kept = refl;
+    }
