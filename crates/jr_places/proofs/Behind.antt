@@ -24,7 +24,7 @@ module _ (i : IntervalValue) (front : List ℕ) where
       ∙ drop-append_seam (bits front) (bits i.bytes) in
       sym (drop-drop p.bit (8 * length front) (bits (front ++ i.bytes))) ∙ ap (drop p.bit) seam
 
-  none_behind : (p : Place) → HasNoMcu i p → HasNoMcu (with_before i front) (behind front p)
+  pub none_behind : (p : Place) → HasNoMcu i p → HasNoMcu (with_before i front) (behind front p)
   none_behind p none = subst (BeginsNoMcu i.head p.predictions) (sym (left_behind p)) none
 
   ends_behind : (p : Place) (k count : ℕ) (to : Place) (end : RunEnd) → EndsAs (run_from i p k) count to end → EndsAs (run_from (with_before i front) (behind front p) k) count (behind front to) end

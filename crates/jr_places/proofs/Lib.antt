@@ -5,3 +5,14 @@ pub mod Behind
 pub mod Longest
 pub mod Unstuffed
 pub mod Splits
+pub mod Spelled
+pub mod Threes
+pub mod Windows
+pub mod Going
+pub mod ReadOn
+pub mod Steps
+pub mod Standing
+pub mod GivenPlaces
+pub mod ShownMcus
+pub mod ShownSteps
+pub mod PaintedLines

@@ -25,7 +25,7 @@ module _ (h : HeadValue) (c : ScanCursor) (r r' : McuReaderValue) (n : ℕ) (is 
       let bytes : length r'.run.interval.bytes ≡ length (take c.found c.room.items) = ap (λ (o : RunOf). length o.interval.bytes) (same ∙ run) in
       record {
         is = record {
-          window = record { room = is.window.room; found = is.window.found; at = is.window.at; bit = omega (arith, within, bytes, long); in_range = in_range };
+          window = record { room = is.window.room; found = is.window.found; at = is.window.at; bit = omega (arith, within, bytes, long); in_range = in_range; spells = is.window.spells };
           is_in = record { number = is.is_in.number; few = passed_few };
         };
         file = refl;

@@ -10,13 +10,13 @@ use Rattle.jr_cut.specs.Cut.{Spelling, IsSpelling, spelling, byte_spelled, IsRaw
 use Rattle.jr_cut.specs.Cut.Spelling.{Plain, Stuffed}
 use Rattle.jr_cut.proofs.Cuts.{run_same, stop_some}
 
-zero_not : ◌≢◌ {A = ℕ} 0 PREFIX
+pub zero_not : ◌≢◌ {A = ℕ} 0 PREFIX
 zero_not e = omega arith
 
-run_of : (more code : ℕ) (rest : List ℕ) → marker more code ++ rest ≡ replicate (suc more) PREFIX ++ (code ∷ rest)
+pub run_of : (more code : ℕ) (rest : List ℕ) → marker more code ++ rest ≡ replicate (suc more) PREFIX ++ (code ∷ rest)
 run_of more code rest = ap (λ (x : List ℕ). PREFIX ∷ x) (append_assoc (replicate more PREFIX) (code ∷ []) rest)
 
-same_spelling : (p q : Spelling) (x y : List ℕ) → IsSpelling p → IsSpelling q → spelling p ++ x ≡ spelling q ++ y → (p ≡ q) × (x ≡ y)
+pub same_spelling : (p q : Spelling) (x y : List ℕ) → IsSpelling p → IsSpelling q → spelling p ++ x ≡ spelling q ++ y → (p ≡ q) × (x ≡ y)
 same_spelling (Plain a) (Plain b) x y hp hq e = let h : a ≡ b = cc in (ap Plain h, cc)
 same_spelling (Plain a) (Stuffed n) x y hp hq e = let h : a ≡ PREFIX = cc in absurd (hp h)
 same_spelling (Stuffed m) (Plain b) x y hp hq e = let h : b ≡ PREFIX = cc in absurd (hq h)
@@ -25,7 +25,7 @@ same_spelling (Stuffed m) (Stuffed n) x y hp hq e =
     let h : m ≡ n = omega (arith, r.0) in
     (ap Stuffed h, r.2)
 
-not_stop : (tail y : List ℕ) (p : Spelling) → IsStop tail → IsSpelling p → tail ≡ spelling p ++ y → ⊥
+pub not_stop : (tail y : List ℕ) (p : Spelling) → IsStop tail → IsSpelling p → tail ≡ spelling p ++ y → ⊥
 not_stop tail y (Plain b) stop hp e = omega (arith, (stop_some tail 0 b y stop e hp).0)
 not_stop tail y (Stuffed m) stop hp e = (stop_some tail (suc m) 0 y stop (e ∙ run_of m 0 y) zero_not).1 refl
 
@@ -35,7 +35,7 @@ pub record Begins (ps qs : List Spelling) (s t : List ℕ) : Type 0 where
   pub are : qs ≡ ps ++ others
   pub rest : s ≡ flat_map spelling others ++ t
 
-begin_parts : (ps qs : List Spelling) (s t : List ℕ) → AllByRecursion IsSpelling ps → AllByRecursion IsSpelling qs → IsStop t → flat_map spelling ps ++ s ≡ flat_map spelling qs ++ t → Begins ps qs s t
+pub begin_parts : (ps qs : List Spelling) (s t : List ℕ) → AllByRecursion IsSpelling ps → AllByRecursion IsSpelling qs → IsStop t → flat_map spelling ps ++ s ≡ flat_map spelling qs ++ t → Begins ps qs s t
 begin_parts [] qs s t hp hq ht e = record { others = qs; are = refl; rest = e }
 begin_parts (p ∷ ps) [] s t hp hq ht e = absurd (not_stop t (flat_map spelling ps ++ s) p ht hp.0 (sym e ∙ append_assoc (spelling p) (flat_map spelling ps) s))
 begin_parts (p ∷ ps) (q ∷ qs) s t hp hq ht e =
@@ -43,24 +43,24 @@ begin_parts (p ∷ ps) (q ∷ qs) s t hp hq ht e =
     let b = begin_parts ps qs s t hp.1 hq.1 ht first.1 in
     record { others = b.others; are = ap (λ (r : Spelling). r ∷ qs) (sym first.0) ∙ ap (λ (l : List Spelling). p ∷ l) b.are; rest = b.rest }
 
-all_behind : (ps qs : List Spelling) → AllByRecursion IsSpelling (ps ++ qs) → AllByRecursion IsSpelling qs
+pub all_behind : (ps qs : List Spelling) → AllByRecursion IsSpelling (ps ++ qs) → AllByRecursion IsSpelling qs
 all_behind [] qs h = h
 all_behind (p ∷ ps) qs h = all_behind ps qs h.1
 
-marker_stop : (tail : List ℕ) (code : ℕ) → HasMarker tail code → code ≢ 0 → code ≢ PREFIX → IsStop tail
+pub marker_stop : (tail : List ℕ) (code : ℕ) → HasMarker tail code → code ≢ 0 → code ≢ PREFIX → IsStop tail
 marker_stop tail code h not_0 not_prefix = record { more = suc h.0; rest = code ∷ h.1; spelled = h.2 ∙ run_of h.0 code h.1; stops = inr (omega arith, code, h.1, not_0, not_prefix, refl) }
 
-ending_stop : (n k at : ℕ) (tail : List ℕ) (end : ScanEnd) → IsEnding n k at tail end → IsStop tail
+pub ending_stop : (n k at : ℕ) (tail : List ℕ) (end : ScanEnd) → IsEnding n k at tail end → IsStop tail
 ending_stop n k at tail EndOfFile h = record { more = h.0; rest = []; spelled = h.1 ∙ sym (append-nil (replicate h.0 PREFIX)); stops = inl refl }
 ending_stop n k at tail EndOfImage h = marker_stop tail EOI h (λ e. omega arith) (λ e. omega arith)
 ending_stop n k at tail (ExtraRestart o) h = marker_stop tail (RST0 + h.0) h.2 (λ e. omega arith) (λ e. omega (arith, h.1))
 ending_stop n k at tail (OutOfStep f x o) h = marker_stop tail (RST0 + f) h.1 (λ e. omega arith) (λ e. omega (arith, h.0))
 ending_stop n k at tail (OtherMarker c o) h = marker_stop tail c h.2 (λ e. omega (arith, h.0)) (λ e. omega (arith, h.1))
 
-abbrev next_marker : (k : ℕ) (p : CodedSegment) (ps : List CodedSegment) (tail : List ℕ) → HasMarker (with_markers k (p ∷ ps) ++ tail) (RST0 + k % 8)
+abbrev pub next_marker : (k : ℕ) (p : CodedSegment) (ps : List CodedSegment) (tail : List ℕ) → HasMarker (with_markers k (p ∷ ps) ++ tail) (RST0 + k % 8)
 next_marker k p ps tail = (p.more, (p.raw ++ with_markers (suc k) ps) ++ tail, append_assoc (marker p.more (RST0 + k % 8)) (p.raw ++ with_markers (suc k) ps) tail)
 
-next_stop : (k : ℕ) (p : CodedSegment) (ps : List CodedSegment) (tail : List ℕ) → IsStop (with_markers k (p ∷ ps) ++ tail)
+pub next_stop : (k : ℕ) (p : CodedSegment) (ps : List CodedSegment) (tail : List ℕ) → IsStop (with_markers k (p ∷ ps) ++ tail)
 next_stop k p ps tail = marker_stop (with_markers k (p ∷ ps) ++ tail) (RST0 + k % 8) (next_marker k p ps tail) (λ e. omega arith) (λ e. omega arith)
 
 markers_stop : (n j k at : ℕ) (ps : List CodedSegment) (tail : List ℕ) (end : ScanEnd) → IsEnding n j at tail end → IsStop (with_markers k ps ++ tail)

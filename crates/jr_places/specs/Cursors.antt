@@ -1,13 +1,27 @@
 -- A cursor over the MCUs of a scan.
-use Rattle.std.specs.Prelude.{◌≡◌, ℕ, ◌+◌, ◌-◌, ◌*◌, ◌≤◌, length, take}
+use Rattle.std.specs.Prelude.{◌≡◌, ℕ, ◌+◌, ◌-◌, ◌*◌, ◌<◌, ◌≤◌, ◌⊎◌, List, length, take, drop}
 use Rattle.std.specs.List.{All}
 use Rattle.jr_head.specs.HeadValue.{HeadValue}
 use Rattle.jr_head.specs.Intervals.{mcus_in}
 use Rattle.jr_mcu.specs.Block.{IsInDcRange}
+use Rattle.jr_mcu.specs.Mcus.{no_predictions}
+use Rattle.jr_cut.specs.Cut.{IsRaw, IsStop}
 use Rattle.jr_scan.specs.IntervalValue.{IntervalValue}
+use Rattle.jr_scan.specs.Run.{HasNoMcu, left_at}
+use Rattle.jr_scan.specs.ScanValue.{ScanValue}
+use Rattle.jr_places.specs.declared.cursor.Reading.{Reading}
+use Rattle.jr_places.specs.declared.cursor.Reading.TheVariants.{GoesOn, IsStuck, HasEnded}
 use Rattle.jr_places.specs.declared.cursor.ScanCursor.{ScanCursor}
 use Rattle.jr_places.specs.declared.cursor.TheConstants.{WINDOW}
+use Rattle.jr_places.specs.Meaning.{MayBe, MeansAt}
 use Rattle.jr_places.specs.Places.{IsIn, mcus_before}
+
+-- the bytes from that offset on spell this data: all of it up to a marker or the end, or as much as a window has
+pub record Spells (bytes : List ℕ) (at : ℕ) (found : List ℕ) : Type 0 where
+  pub read : ℕ
+  pub within : at + read ≤ length bytes
+  pub spelled : IsRaw (take read (drop at bytes)) found
+  pub stop : length found < WINDOW → IsStop (drop (at + read) bytes)
 
 -- its window is one of the file, and it stands in the window
 pub record HasWindow (c : ScanCursor) : Type 0 where
@@ -16,6 +30,7 @@ pub record HasWindow (c : ScanCursor) : Type 0 where
   pub at : c.at ≤ length c.file.bytes.now
   pub bit : c.place.bit ≤ 8 * c.found
   pub in_range : All IsInDcRange c.place.predictions
+  pub spells : Spells c.file.bytes.now c.at (take c.found c.room.items)
 
 -- and so do the numbers of its interval and MCU
 pub record IsCursor (h : HeadValue) (c : ScanCursor) : Type 0 where
@@ -45,3 +60,38 @@ pub record Passes (h : HeadValue) (old new : ScanCursor) (mcus : ℕ) : Type 0 w
 -- the rest of the interval, as far as its data stand in the window
 abbrev pub in_window : HeadValue → ScanCursor → IntervalValue
 in_window h c = record { number = c.interval; mcus = mcus_in h c.interval - c.mcu; bytes = take c.found c.room.items; head = h }
+
+-- no MCU follows in the window, to the end of the interval's data or by more bits than an MCU has
+pub record NoneFollows (h : HeadValue) (c : ScanCursor) : Type 0 where
+  pub none : HasNoMcu (in_window h c) c.place
+  pub far : (c.found < WINDOW) ⊎ (16650 ≤ length (left_at (in_window h c) c.place))
+
+-- the number of a reading
+abbrev pub number_of : Reading → ℕ
+number_of GoesOn = 0
+number_of IsStuck = 1
+number_of HasEnded = 2
+
+-- it stands where it says in that file, of that scan
+pub record StandsIn (whole : List ℕ) (t : ScanValue) (c : ScanCursor) : Type 0 where
+  pub from : t.head.scan_at ≤ c.at
+  pub means : MeansAt whole t (number_of c.reading) c.interval c.mcu c.at c.place
+
+-- a step that leaves it there, in each file that its bytes may be
+abbrev pub StaysTrue : HeadValue → (old new : ScanCursor) → Type 0
+StaysTrue h old new = (whole : List ℕ) (t : ScanValue) → MayBe old.file.bytes.now old.file.are_all h whole t → StandsIn whole t old → StandsIn whole t new
+
+-- that offset in the file stands behind so many bytes of the window's data
+pub record IsOffset (c : ScanCursor) (byte at : ℕ) : Type 0 where
+  pub read : ℕ
+  pub is : at ≡ c.at + read
+  pub within : at ≤ length c.file.bytes.now
+  pub spelled : IsRaw (take read (drop c.at c.file.bytes.now)) (take byte (take c.found c.room.items))
+
+-- before the first MCU of the next interval, to whose data it has gone
+abbrev pub begun : ScanCursor → ScanCursor
+begun c = record c { interval = c.interval + 1; mcu = 0; place = record { bit = c.place.bit; predictions = no_predictions } }
+
+-- a step to where the next interval begins, or to the scan's end
+abbrev pub Follows : HeadValue → (old new : ScanCursor) → Type 0
+Follows h old new = (whole : List ℕ) (t : ScanValue) → MayBe old.file.bytes.now old.file.are_all h whole t → StandsIn whole t old → StandsIn whole t (begun new)

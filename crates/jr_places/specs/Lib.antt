@@ -1,3 +1,4 @@
 pub mod Places
 pub mod Cursors
 pub mod Meaning
+pub mod Shown

@@ -1,19 +1,26 @@
 //! A cursor that goes over the MCUs of a scan, a window of the file's bytes at a time.
 
 ghost use Rattle.std.specs.List.{All};
-ghost use Rattle.std.specs.Prelude.{◌≡◌, ◌≤◌, ◌<◌, ◌+◌, ◌-◌, ◌*◌, ◌^◌, [], length, drop, true, IfOk};
-ghost use Rattle.jr_cut.specs.Cut.{IsStop};
+ghost use Rattle.std.specs.Prelude.{◌≡◌, ◌≢◌, ◌⊎◌, ◌≤◌, ◌<◌, ◌+◌, ◌-◌, ◌*◌, ◌^◌, ℕ, List, [], ◌++◌, length, take, drop, min, max, true, false, IfOk};
+ghost use Rattle.jr_cut.specs.Cut.{IsRaw, IsStop};
+ghost use Rattle.jr_cut.specs.OpenSegments.{IsStopOf};
 ghost use Rattle.jr_head.specs.Geometry.{mcus_across, mcus_down, mcus_of};
 ghost use Rattle.jr_head.specs.Intervals.{intervals_of, mcus_in};
 ghost use Rattle.jr_mcu.specs.Block.{IsInDcRange};
 ghost use Rattle.jr_scan.specs.McuReader.{HasRead};
 ghost use Rattle.jr_scan.specs.Run.{run_from};
 ghost use Rattle.jr_places.specs.Places.{IsIn, StandsAt, mcus_before};
-ghost use Rattle.jr_places.specs.Cursors.{HasWindow, IsCursor, Passes, StaysIn, in_window};
+ghost use Rattle.jr_places.specs.Cursors.{HasWindow, IsCursor, IsOffset, Follows, NoneFollows, Passes, StandsIn, StaysIn, StaysTrue, begun, in_window, number_of};
+ghost use Rattle.jr_places.specs.Meaning.{IsPlaceIn, MayBe};
+ghost use Rattle.jr_places.specs.declared.cursor.Reading.TheVariants.{GoesOn, HasEnded};
+ghost use Rattle.jr_cut.specs.declared.scan_end.ScanEnd.TheVariants.{EndOfFile};
+ghost use Rattle.jr_head.specs.HeadValue.{HeadValue};
+ghost use Rattle.jr_scan.specs.ScanValue.{ScanValue};
+ghost use Rattle.jr_places.specs.declared.cursor.TheConstants.{WINDOW};
 
 use crate::file_bytes::FileBytes;
 use crate::place::RowPlace;
-use crate::unstuffing::{data_length, unstuff};
+use crate::unstuffing::{data_length, spelled_length, unstuff};
 use jr_base::Memory;
 use jr_cut::{ScanEnd, Stop, fill_count, stop_at};
 use jr_head::Head;
@@ -51,20 +58,27 @@ pub(crate) struct ScanCursor<'a> {
     pub reading: Reading,
 }
 
-/// What sixteen bits hold of each of these numbers.
+/// What sixteen bits hold of a number.
+fn in_sixteen_bits(prediction: i32) -> i32
+    ensures in_range { IsInDcRange result }
+    ensures kept { IsInDcRange prediction → result ≡ prediction }
+{
+    prediction.clamp(-32768, 32767)
+}
+
+/// What they hold of each of these.
 fn in_range(predictions: [i32; 3]) -> [i32; 3]
-    ensures { All IsInDcRange result }
+    ensures in_range { All IsInDcRange result }
+    ensures kept { All IsInDcRange predictions → result ≡ predictions }
 {
     let [a, b, c] = predictions;
-    [
-        a.clamp(-32768, 32767),
-        b.clamp(-32768, 32767),
-        c.clamp(-32768, 32767),
-    ]
+    [in_sixteen_bits(a), in_sixteen_bits(b), in_sixteen_bits(c)]
 }
 
 /// The number of a reading.
-fn number_of(reading: Reading) -> u32 {
+fn number_of(reading: Reading) -> u32
+    ensures { result ≡ number_of reading }
+{
     match reading {
         Reading::GoesOn => 0,
         Reading::IsStuck => 1,
@@ -73,7 +87,9 @@ fn number_of(reading: Reading) -> u32 {
 }
 
 /// The reading of a number.
-fn reading_of(number: u32) -> Reading {
+fn reading_of(number: u32) -> Reading
+    ensures { number_of result ≡ min number 2 }
+{
     match number {
         0 => Reading::GoesOn,
         1 => Reading::IsStuck,
@@ -83,7 +99,8 @@ fn reading_of(number: u32) -> Reading {
 
 /// The offset of a place in a file whose scan begins at another: no byte before the scan's, and none past the end.
 fn offset_of(place: &RowPlace, scan_at: u64, length: usize) -> usize
-    ensures { result ≤ length }
+    ensures within { result ≤ length }
+    ensures there { max place.now.at scan_at ≤ length → result ≡ max place.now.at scan_at }
 {
     let at = place.at.max(scan_at);
     if at < length as u64 {
@@ -105,6 +122,7 @@ impl<'a> ScanCursor<'a> {
         ensures cursor { IfOk result (IsCursor head.now) }
         ensures file { IfOk result (λ c. c.file ≡ file.entry) }
         ensures at { IfOk result (λ c. mcus_before head.now c.interval c.mcu ≡ place.now.row * mcus_across head.now) }
+        ensures stands { (whole : List ℕ) (t : ScanValue) → MayBe file.entry.bytes.now file.entry.are_all head.now whole t → IsPlaceIn file.entry.bytes.now whole t place.now → IfOk result (StandsIn whole t) }
     {
         let mut cursor = ScanCursor {
             file,
@@ -126,9 +144,12 @@ impl<'a> ScanCursor<'a> {
 
     /// Puts the window where data begin at an offset of the file, of which so many bits are taken.
     fn go_to(&mut self, at: usize, bit: u64)
-        requires window { HasWindow self.old }
+        requires room { length self.old.room.items ≡ WINDOW }
+        requires in_range { All IsInDcRange self.old.place.predictions }
         requires at { at ≤ length self.old.file.bytes.now }
         ensures stays { StaysIn self.old self.new }
+        ensures at { self.new.at ≡ at }
+        ensures bit { self.new.place.bit ≡ min bit (8 * self.new.found) }
         ensures reading { self.new.reading ≡ self.old.reading }
         ensures predictions { self.new.place.predictions ≡ self.old.place.predictions }
     {
@@ -139,24 +160,21 @@ impl<'a> ScanCursor<'a> {
     }
 
     /// The offset in the file of a byte of the window's data.
-    fn offset(&mut self, byte: usize) -> usize
-        requires window { HasWindow self.old }
-        requires byte { byte ≤ self.old.found }
-        ensures stays { StaysIn self.old self.new }
-        ensures reading { self.new.reading ≡ self.old.reading }
-        ensures place { self.new.place ≡ self.old.place }
-        ensures within { result ≤ length self.old.file.bytes.now }
+    fn offset(&self, byte: usize) -> usize
+        requires window { HasWindow self.now }
+        requires byte { byte ≤ self.now.found }
+        ensures { IsOffset self.now byte result }
     {
-        self.at + unstuff(&self.file.bytes[self.at..], &mut self.room[..byte]).read
+        self.at + spelled_length(&self.file.bytes[self.at..], byte)
     }
 
     /// The place before a row of MCUs, where it stands.
-    pub(crate) fn row_place(&mut self, row: u32) -> RowPlace
-        requires { HasWindow self.old }
-        ensures stays { StaysIn self.old self.new }
+    pub(crate) fn row_place(&self, row: u32) -> RowPlace
+        requires { HasWindow self.now }
         ensures row { result.row ≡ row }
-        ensures interval { result.interval ≡ self.old.interval }
-        ensures mcu { result.mcu ≡ self.old.mcu }
+        ensures interval { result.interval ≡ self.now.interval }
+        ensures mcu { result.mcu ≡ self.now.mcu }
+        ensures place { (h : HeadValue) (whole : List ℕ) (t : ScanValue) → MayBe self.now.file.bytes.now self.now.file.are_all h whole t → StandsIn whole t self.now → IsPlaceIn self.now.file.bytes.now whole t result }
     {
         RowPlace {
             at: self.offset((self.place.bit / 8) as usize) as u64,
@@ -172,7 +190,11 @@ impl<'a> ScanCursor<'a> {
     /// Moves the window to the next MCU where the interval's data may go on behind it. False where it does not move.
     pub(crate) fn slide(&mut self) -> bool
         requires { HasWindow self.old }
-        ensures { StaysIn self.old self.new }
+        ensures stays { StaysIn self.old self.new }
+        ensures reading { self.new.reading ≡ self.old.reading }
+        ensures moved { result ≡ true → self.new.place.bit < 8 }
+        ensures kept { result ≡ false → (self.new ≡ self.old) × ((self.old.found < WINDOW) ⊎ (self.old.place.bit < 8)) }
+        ensures stands { (h : HeadValue) → StaysTrue h self.old self.new }
     {
         if self.found < self.room.len() || self.place.bit < 8 {
             return false;
@@ -207,6 +229,7 @@ impl<'a> ScanCursor<'a> {
     fn end_of_data(&self) -> usize
         requires { HasWindow self.now }
         ensures within { result ≤ length self.now.file.bytes.now }
+        ensures spells { (read : ℕ) × (found : List ℕ) × (result ≡ self.now.at + read) × IsRaw (take read (drop self.now.at self.now.file.bytes.now)) found }
         ensures stop { IsStop (drop result self.now.file.bytes.now) }
     {
         self.at + data_length(&self.file.bytes[self.at..])
@@ -216,7 +239,11 @@ impl<'a> ScanCursor<'a> {
     fn leave(&mut self, at: usize, reading: Reading)
         requires window { HasWindow self.old }
         requires at { at ≤ length self.old.file.bytes.now }
-        ensures { StaysIn self.old self.new }
+        requires stop { IsStop (drop at self.old.file.bytes.now) }
+        ensures stays { StaysIn self.old self.new }
+        ensures at { self.new.at ≡ at }
+        ensures bit { self.new.place.bit ≡ 0 }
+        ensures reading { self.new.reading ≡ reading }
     {
         self.at = at;
         self.found = 0;
@@ -224,22 +251,66 @@ impl<'a> ScanCursor<'a> {
         self.reading = reading;
     }
 
+    /// Whether the data end there whatever comes behind the bytes: whether the marker is there, or none comes.
+    fn ends_at(&self, end: usize) -> bool
+        requires within { end ≤ length self.now.file.bytes.now }
+        requires stop { IsStop (drop end self.now.file.bytes.now) }
+        ensures ends { result ≡ true → (more : List ℕ) → (self.now.file.are_all ≡ true → more ≡ []) → IsStop (drop end (self.now.file.bytes.now ++ more)) }
+        ensures all { self.now.file.are_all ≡ true → result ≡ true }
+    {
+        let fill = fill_count(&self.file.bytes[end..]);
+        if end + fill < self.file.bytes.len() {
+            return true;
+        }
+        self.file.are_all
+    }
+
     /// No further MCU of the interval is whole. False where its end has not come: its last MCUs are settled once it has.
-    pub(crate) fn give_up(&mut self) -> bool
-        requires { HasWindow self.old }
+    pub(crate) fn give_up(&mut self, head: &Head) -> bool
+        requires cursor { IsCursor head.now self.old }
+        requires none { self.old.reading ≡ GoesOn → NoneFollows head.now self.old }
         ensures stays { StaysIn self.old self.new }
+        ensures over { result ≡ true → self.new.reading ≢ GoesOn }
+        ensures stands { StaysTrue head.now self.old self.new }
         ensures all { self.old.file.are_all ≡ true → result ≡ true }
     {
+        head.be_lawful();
         if self.reading != Reading::GoesOn {
             return true;
         }
         let end = self.end_of_data();
-        let marker = end + fill_count(&self.file.bytes[end..]);
-        if marker == self.file.bytes.len() && !self.file.are_all {
+        if !self.ends_at(end) {
             return false;
         }
         self.leave(end, Reading::IsStuck);
         true
+    }
+
+    /// What stands behind the interval's data, which end there.
+    fn stop_behind(&self, head: &Head, end: usize) -> Stop
+        requires number { self.now.interval < intervals_of head.now }
+        requires within { end ≤ length self.now.file.bytes.now }
+        requires stop { IsStop (drop end self.now.file.bytes.now) }
+        ensures is { IsStopOf (intervals_of head.now) self.now.interval end (drop end self.now.file.bytes.now) result }
+        ensures long { length self.now.file.bytes.now < 2 ^ 64 }
+    {
+        let tail = &self.file.bytes[end..];
+        let fill = fill_count(tail);
+        stop_at(tail, fill, end as u64, self.interval, head.intervals())
+    }
+
+    /// Whether what ends the scan ends it whatever comes behind the bytes.
+    fn is_final(&self, ended: ScanEnd) -> bool
+        ensures ends { result ≡ true → (more : List ℕ) → (self.now.file.are_all ≡ true → more ≡ []) → (ended ≢ EndOfFile) ⊎ (more ≡ []) }
+        ensures all { self.now.file.are_all ≡ true → result ≡ true }
+    {
+        match ended {
+            ScanEnd::EndOfFile => self.file.are_all,
+            ScanEnd::EndOfImage
+            | ScanEnd::OtherMarker(..)
+            | ScanEnd::OutOfStep { .. }
+            | ScanEnd::ExtraRestart(..) => true,
+        }
     }
 
     /// Goes to what follows the interval: the next one's data, or the scan's end. False where neither has come.
@@ -247,18 +318,22 @@ impl<'a> ScanCursor<'a> {
         requires window { HasWindow self.old }
         requires number { self.old.interval < intervals_of head.now }
         ensures stays { StaysIn self.old self.new }
+        ensures follows { result ≡ true → self.old.reading ≢ HasEnded → Follows head.now self.old self.new }
+        ensures kept { result ≡ false → self.new ≡ self.old }
         ensures all { self.old.file.are_all ≡ true → result ≡ true }
     {
         let end = self.end_of_data();
-        let tail = &self.file.bytes[end..];
-        let fill = fill_count(tail);
-        match stop_at(tail, fill, end as u64, self.interval, head.intervals()) {
+        match self.stop_behind(head, end) {
             Stop::Restart(marker) => {
                 self.leave(end, Reading::GoesOn);
                 self.go_to(end + marker, 0);
             }
-            Stop::End(ScanEnd::EndOfFile) if !self.file.are_all => return false,
-            Stop::End(_) => self.leave(end, Reading::HasEnded),
+            Stop::End(ended) => {
+                if !self.is_final(ended) {
+                    return false;
+                }
+                self.leave(end, Reading::HasEnded);
+            }
         }
         true
     }
@@ -268,6 +343,8 @@ impl<'a> ScanCursor<'a> {
         requires window { HasWindow self.old }
         requires number { self.old.interval < intervals_of head.now }
         ensures stays { StaysIn self.old self.new }
+        ensures follows { result ≡ true → Follows head.now self.old self.new }
+        ensures kept { result ≡ false → self.new ≡ self.old }
         ensures all { self.old.file.are_all ≡ true → result ≡ true }
     {
         self.reading == Reading::HasEnded || self.leave_interval(head)
@@ -278,9 +355,7 @@ impl<'a> ScanCursor<'a> {
         requires window { HasWindow self.old }
         requires number { self.old.interval + 1 < 2 ^ 32 }
         ensures window { HasWindow self.new }
-        ensures file { self.new.file ≡ self.old.file }
-        ensures interval { self.new.interval ≡ self.old.interval + 1 }
-        ensures mcu { self.new.mcu ≡ 0 }
+        ensures is { self.new ≡ begun self.old }
     {
         self.interval += 1;
         self.mcu = 0;
@@ -292,6 +367,7 @@ impl<'a> ScanCursor<'a> {
         requires cursor { IsCursor head.now self.old }
         requires more { mcus_before head.now self.old.interval self.old.mcu < mcus_of head.now }
         ensures passes { Passes head.now self.old self.new 0 }
+        ensures stands { StaysTrue head.now self.old self.new }
         ensures some { result ≡ true → self.new.mcu < mcus_in head.now self.new.interval }
         ensures all { self.old.file.are_all ≡ true → result ≡ true }
     {

@@ -1,11 +1,16 @@
 //! A row of MCUs, decoded.
 
-ghost use Rattle.std.specs.Prelude.{◌≡◌, ◌+◌, ◌*◌, ◌<◌, ◌≤◌, true};
+ghost use Rattle.std.specs.Prelude.{◌≡◌, ◌≢◌, ◌+◌, ◌*◌, ◌<◌, ◌≤◌, ℕ, List, true};
 ghost use Rattle.jr_head.specs.Geometry.{mcus_across, mcus_down, mcus_of};
 ghost use Rattle.jr_head.specs.Intervals.{mcus_in};
 ghost use Rattle.jr_rows.specs.Rows.{HasSampleRoom};
 ghost use Rattle.jr_places.specs.Places.{mcus_before};
-ghost use Rattle.jr_places.specs.Cursors.{IsCursor, Passes, PassesIn};
+ghost use Rattle.jr_places.specs.declared.cursor.Reading.TheVariants.{GoesOn};
+ghost use Rattle.jr_places.specs.Cursors.{IsCursor, NoneFollows, Passes, PassesIn, StandsIn, StaysTrue, in_window};
+ghost use Rattle.jr_scan.specs.ScanValue.{ScanValue};
+ghost use Rattle.jr_places.specs.Meaning.{MayBe};
+ghost use Rattle.jr_places.specs.Shown.{ShowsMore, ShowsRow};
+ghost use Rattle.jr_scan.specs.Run.{HasNoMcu};
 
 use crate::cursor::{Reading, ScanCursor};
 use jr_head::Head;
@@ -16,12 +21,20 @@ fn decode_near(cursor: &mut ScanCursor<'_>, head: &Head, samples: &mut SampleRow
     requires cursor { IsCursor head.now cursor.old }
     requires within { done < mcus_across head.now }
     requires room { HasSampleRoom head.now samples.old }
+    requires going { cursor.old.reading ≡ GoesOn }
     ensures room { HasSampleRoom head.now samples.new }
     ensures passes { PassesIn head.now cursor.old cursor.new result }
+    ensures stands { StaysTrue head.now cursor.old cursor.new }
+    ensures shows { ShowsMore head.now cursor.old done result samples.old.lines.groups samples.new.lines.groups }
+    ensures near { cursor.new ≡ record cursor.old { mcu = cursor.old.mcu + result; place = cursor.new.place } }
+    ensures bit { result ≡ 0 → cursor.new.place.bit ≡ cursor.old.place.bit }
+    ensures none { result ≡ 0 → cursor.new.mcu < mcus_in head.now cursor.new.interval → HasNoMcu (in_window head.now cursor.new) cursor.new.place }
     ensures few { done + result ≤ mcus_across head.now }
 {
-    // By its contract there is room for the numbers of the interval's MCUs.
+    head.be_lawful();
+    // By their contracts there is room for the numbers of the interval's MCUs, and an MCU has a data unit.
     let _most = head.mcus_in(cursor.interval);
+    let _some = head.order().len();
     let mut reader = cursor.reader(head);
     let whole = samples.decode_whole(head, &mut reader, done);
     let place = reader.place();
@@ -36,6 +49,9 @@ fn decode_whole(cursor: &mut ScanCursor<'_>, head: &Head, samples: &mut SampleRo
     requires room { HasSampleRoom head.now samples.old }
     ensures room { HasSampleRoom head.now samples.new }
     ensures passes { PassesIn head.now cursor.old cursor.new result }
+    ensures stands { StaysTrue head.now cursor.old cursor.new }
+    ensures shows { ShowsMore head.now cursor.old done result samples.old.lines.groups samples.new.lines.groups }
+    ensures none { result ≡ 0 → cursor.old.mcu < mcus_in head.now cursor.old.interval → cursor.new.reading ≡ GoesOn → NoneFollows head.now cursor.new }
     ensures few { done + result ≤ mcus_across head.now }
 {
     if cursor.reading != Reading::GoesOn {
@@ -54,11 +70,17 @@ fn decode_grey(cursor: &mut ScanCursor<'_>, head: &Head, samples: &mut SampleRow
     requires within { done < mcus_across head.now }
     requires room { HasSampleRoom head.now samples.old }
     requires some { cursor.old.mcu < mcus_in head.now cursor.old.interval }
+    requires over { cursor.old.reading ≢ GoesOn }
     ensures room { HasSampleRoom head.now samples.new }
     ensures passes { PassesIn head.now cursor.old cursor.new result }
+    ensures stands { StaysTrue head.now cursor.old cursor.new }
+    ensures shows { ShowsMore head.now cursor.old done result samples.old.lines.groups samples.new.lines.groups }
     ensures few { done + result ≤ mcus_across head.now }
     ensures some { 0 < result }
 {
+    head.be_lawful();
+    // By its contract an MCU has a data unit.
+    let _some = head.order().len();
     let left = head.mcus_in(cursor.interval) - cursor.mcu;
     let some = left.min(shape_of(head).across - done);
     let grey = samples.put_grey(head, done, some);
@@ -74,6 +96,8 @@ fn decode_some(cursor: &mut ScanCursor<'_>, head: &Head, samples: &mut SampleRow
     requires more { mcus_before head.now cursor.old.interval cursor.old.mcu < mcus_of head.now }
     ensures room { HasSampleRoom head.now samples.new }
     ensures passes { Passes head.now cursor.old cursor.new result }
+    ensures stands { StaysTrue head.now cursor.old cursor.new }
+    ensures shows { 0 < result → ShowsMore head.now cursor.old done result samples.old.lines.groups samples.new.lines.groups }
     ensures few { done + result ≤ mcus_across head.now }
     ensures all { cursor.old.file.are_all ≡ true → 0 < result }
 {
@@ -84,7 +108,7 @@ fn decode_some(cursor: &mut ScanCursor<'_>, head: &Head, samples: &mut SampleRow
     if whole > 0 {
         return whole;
     }
-    if !cursor.give_up() {
+    if !cursor.give_up(head) {
         return 0;
     }
     decode_grey(cursor, head, samples, done)
@@ -104,6 +128,8 @@ pub(crate) fn decode_row(
     ensures room { HasSampleRoom head.now samples.new }
     ensures cursor { IsCursor head.now cursor.new }
     ensures file { cursor.new.file ≡ cursor.old.file }
+    ensures stands { StaysTrue head.now cursor.old cursor.new }
+    ensures shows { result ≡ true → (whole : List ℕ) (t : ScanValue) → MayBe cursor.old.file.bytes.now cursor.old.file.are_all head.now whole t → StandsIn whole t cursor.old → ShowsRow t row samples.new.lines.groups }
     ensures whole { result ≡ true → mcus_before head.now cursor.new.interval cursor.new.mcu ≡ (row + 1) * mcus_across head.now }
     ensures all { cursor.old.file.are_all ≡ true → result ≡ true }
 {

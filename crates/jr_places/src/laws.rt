@@ -7,7 +7,9 @@ ghost use Rattle.jr_head.specs.Geometry.{order_of};
 ghost use Rattle.jr_scan.specs.IntervalValue.{IntervalValue};
 ghost use Rattle.jr_scan.specs.Run.{HasNoMcu, IsRun, left_at, run_from};
 ghost use Rattle.jr_scan.specs.declared.place.RunEnd.{RunEnd};
-ghost use Rattle.jr_places.specs.Meaning.{behind, with_before, with_more};
+ghost use Rattle.jr_scan.specs.ScanValue.{ScanValue, IsScanOf};
+ghost use Rattle.jr_places.specs.declared.place.RowPlace.{RowPlace};
+ghost use Rattle.jr_places.specs.Meaning.{IsPlaceIn, behind, top, with_before, with_more};
 
 use jr_scan::Place;
 
@@ -28,4 +30,14 @@ pub fn no_mcu_in_long_data()
 pub fn split_segment()
     ensures { (n k at : ℕ) (raw found tail : List ℕ) (datas : List (List ℕ)) (end : ScanEnd) → IsRaw raw found → CutFrom n k at (raw ++ tail) datas end
         → (rest : List ℕ) × (others : List (List ℕ)) × (datas ≡ (found ++ rest) ∷ others) × CutFrom n k (at + length raw) tail (rest ∷ others) end × (IsStop tail → rest ≡ []) }
+{}
+
+/// The top is a place of every file whose scan header has come.
+pub fn top_is_place()
+    ensures { (bytes whole : List ℕ) (t : ScanValue) → IsScanOf whole t → t.head.scan_at ≤ length bytes → IsPlaceIn bytes whole t top }
+{}
+
+/// A place that some bytes have come to is one that more bytes have come to.
+pub fn place_stays()
+    ensures { (bytes more whole : List ℕ) (t : ScanValue) (p : RowPlace) → IsPlaceIn bytes whole t p → IsPlaceIn (bytes ++ more) whole t p }
 {}

@@ -1,9 +1,14 @@
 //! Rows of MCUs from a place on, decoded and painted, or passed over.
 
-ghost use Rattle.std.specs.Prelude.{ℕ, ◌≡◌, ◌+◌, ◌-◌, ◌*◌, ◌/◌, ◌<◌, ◌≤◌, min, length, drop, true, IfOk, IfErr};
+ghost use Rattle.std.specs.Prelude.{ℕ, List, ◌≡◌, ◌+◌, ◌-◌, ◌*◌, ◌/◌, ◌<◌, ◌≤◌, min, length, take, drop, true, IfOk, IfErr};
 ghost use Rattle.jr_head.specs.Geometry.{mcus_across, mcus_down};
-ghost use Rattle.jr_paint.specs.Lines.{line_size};
+ghost use Rattle.jr_paint.specs.Lines.{line_size, next_lines_of};
+ghost use Rattle.jr_picture.specs.declared.mark.Mark.{Mark};
+ghost use Rattle.jr_picture.specs.Headline.{ShowsFirst};
+ghost use Rattle.jr_places.specs.Shown.{AreLines, ShowsRow};
 ghost use Rattle.jr_rows.specs.Rows.{HasSampleRoom, line_count};
+ghost use Rattle.jr_scan.specs.ScanValue.{ScanValue};
+ghost use Rattle.jr_places.specs.Meaning.{IsPlaceIn, MayBe};
 ghost use Rattle.jr_places.specs.Places.{StandsAt, lines_before, lines_between, rows_to_give, rows_with_room};
 
 use crate::cursor::ScanCursor;
@@ -89,7 +94,10 @@ fn paint_row(head: &Head, samples: &mut SampleRow, row: u32, pixels: &mut [u8])
     requires pixels { length pixels.old ≡ line_count head.now row * line_size head.now }
     ensures samples { HasSampleRoom head.now samples.new }
     ensures long { length pixels.new ≡ length pixels.old }
+    ensures painted { (t : ScanValue) (marks : List Mark) (f : ℕ → ℕ → ℕ → ℕ) → t.head ≡ head.now → ShowsRow t row samples.old.lines.groups → ShowsFirst t (length t.intervals) marks f
+        → pixels.new ≡ next_lines_of head.now f (lines_before head.now row) (line_count head.now row) }
 {
+    head.be_lawful();
     let (y, count) = lines_of(head, row);
     samples.paint_some(head, y, count, pixels);
 }
@@ -111,10 +119,14 @@ pub fn decode_rows(
     ensures few { IfOk result (λ p. p.row ≤ place.now.row + rows_to_give head.now place.now.row rows (length pixels.old)) }
     ensures all { file.entry.are_all ≡ true → IfOk result (λ p. p.row ≡ place.now.row + rows_to_give head.now place.now.row rows (length pixels.old)) }
     ensures none { IfOk result (λ p. p.row ≡ place.now.row → p ≡ place.now) }
+    ensures place { (whole : List ℕ) (t : ScanValue) → MayBe file.entry.bytes.now file.entry.are_all head.now whole t → IsPlaceIn file.entry.bytes.now whole t place.now → IfOk result (IsPlaceIn file.entry.bytes.now whole t) }
+    ensures lines { IfOk result (λ p. AreLines file.entry.bytes.now file.entry.are_all head.now place.now (lines_before head.now place.now.row) (lines_between head.now place.now.row p.row)
+        (take (lines_between head.now place.now.row p.row * line_size head.now) pixels.new)) }
     ensures kept { IfOk result (λ p. drop (lines_between head.now place.now.row p.row * line_size head.now) pixels.new ≡ drop (lines_between head.now place.now.row p.row * line_size head.now) pixels.old) }
     ensures long { length pixels.new ≡ length pixels.old }
     ensures memory { IfErr result (λ _. pixels.new ≡ pixels.old) }
 {
+    head.be_lawful();
     let mut samples = SampleRow::open(alloc, head)?;
     let mut cursor = ScanCursor::open(alloc, head, file, place)?;
     let end = end_of_rows(head, place.row, rows, pixels.len());
@@ -145,6 +157,7 @@ pub fn skip_rows(
     ensures few { IfOk result (λ p. p.row ≤ place.now.row + min rows (mcus_down head.now - place.now.row)) }
     ensures all { file.entry.are_all ≡ true → IfOk result (λ p. p.row ≡ place.now.row + min rows (mcus_down head.now - place.now.row)) }
     ensures none { IfOk result (λ p. p.row ≡ place.now.row → p ≡ place.now) }
+    ensures place { (whole : List ℕ) (t : ScanValue) → MayBe file.entry.bytes.now file.entry.are_all head.now whole t → IsPlaceIn file.entry.bytes.now whole t place.now → IfOk result (IsPlaceIn file.entry.bytes.now whole t) }
 {
     let mut cursor = ScanCursor::open(alloc, head, file, place)?;
     let most = rows.min(shape_of(head).down - place.row);

@@ -1,10 +1,12 @@
 //! A row of MCUs, passed over by reading its bits alone.
 
-ghost use Rattle.std.specs.Prelude.{◌≡◌, ◌+◌, ◌*◌, ◌<◌, ◌≤◌, true};
+ghost use Rattle.std.specs.Prelude.{◌≡◌, ◌≢◌, ◌+◌, ◌*◌, ◌<◌, ◌≤◌, true};
 ghost use Rattle.jr_head.specs.Geometry.{mcus_across, mcus_down, mcus_of};
 ghost use Rattle.jr_head.specs.Intervals.{mcus_in};
 ghost use Rattle.jr_places.specs.Places.{mcus_before};
-ghost use Rattle.jr_places.specs.Cursors.{IsCursor, Passes, PassesIn};
+ghost use Rattle.jr_places.specs.declared.cursor.Reading.TheVariants.{GoesOn};
+ghost use Rattle.jr_places.specs.Cursors.{IsCursor, NoneFollows, Passes, PassesIn, StaysTrue, in_window};
+ghost use Rattle.jr_scan.specs.Run.{HasNoMcu};
 
 use crate::cursor::{Reading, ScanCursor};
 use jr_head::Head;
@@ -14,8 +16,13 @@ use jr_rows::shape_of;
 fn skip_near(cursor: &mut ScanCursor<'_>, head: &Head, mcus: u32) -> u32
     requires cursor { IsCursor head.now cursor.old }
     ensures passes { PassesIn head.now cursor.old cursor.new result }
+    ensures stands { StaysTrue head.now cursor.old cursor.new }
+    ensures near { cursor.new ≡ record cursor.old { mcu = cursor.old.mcu + result; place = cursor.new.place } }
+    ensures bit { result ≡ 0 → cursor.new.place.bit ≡ cursor.old.place.bit }
+    ensures none { result < mcus → cursor.new.mcu < mcus_in head.now cursor.new.interval → HasNoMcu (in_window head.now cursor.new) cursor.new.place }
     ensures few { result ≤ mcus }
 {
+    head.be_lawful();
     // By its contract there is room for the numbers of the interval's MCUs.
     let _most = head.mcus_in(cursor.interval);
     let mut reader = cursor.reader(head);
@@ -29,6 +36,8 @@ fn skip_near(cursor: &mut ScanCursor<'_>, head: &Head, mcus: u32) -> u32
 fn skip_whole(cursor: &mut ScanCursor<'_>, head: &Head, mcus: u32) -> u32
     requires cursor { IsCursor head.now cursor.old }
     ensures passes { PassesIn head.now cursor.old cursor.new result }
+    ensures stands { StaysTrue head.now cursor.old cursor.new }
+    ensures none { result ≡ 0 → 0 < mcus → cursor.old.mcu < mcus_in head.now cursor.old.interval → cursor.new.reading ≡ GoesOn → NoneFollows head.now cursor.new }
     ensures few { result ≤ mcus }
 {
     if cursor.reading != Reading::GoesOn {
@@ -45,10 +54,13 @@ fn skip_whole(cursor: &mut ScanCursor<'_>, head: &Head, mcus: u32) -> u32
 fn skip_grey(cursor: &mut ScanCursor<'_>, head: &Head, mcus: u32) -> u32
     requires cursor { IsCursor head.now cursor.old }
     requires some { cursor.old.mcu < mcus_in head.now cursor.old.interval }
+    requires over { cursor.old.reading ≢ GoesOn }
     ensures passes { PassesIn head.now cursor.old cursor.new result }
+    ensures stands { StaysTrue head.now cursor.old cursor.new }
     ensures few { result ≤ mcus }
     ensures some { 0 < mcus → 0 < result }
 {
+    head.be_lawful();
     let left = head.mcus_in(cursor.interval) - cursor.mcu;
     let grey = left.min(mcus);
     cursor.pass(grey, cursor.place);
@@ -59,9 +71,11 @@ fn skip_grey(cursor: &mut ScanCursor<'_>, head: &Head, mcus: u32) -> u32
 fn skip_some(cursor: &mut ScanCursor<'_>, head: &Head, mcus: u32) -> u32
     requires cursor { IsCursor head.now cursor.old }
     requires more { mcus_before head.now cursor.old.interval cursor.old.mcu < mcus_of head.now }
+    requires some { 0 < mcus }
     ensures passes { Passes head.now cursor.old cursor.new result }
+    ensures stands { StaysTrue head.now cursor.old cursor.new }
     ensures few { result ≤ mcus }
-    ensures all { cursor.old.file.are_all ≡ true → 0 < mcus → 0 < result }
+    ensures all { cursor.old.file.are_all ≡ true → 0 < result }
 {
     if !cursor.advance(head) {
         return 0;
@@ -70,7 +84,7 @@ fn skip_some(cursor: &mut ScanCursor<'_>, head: &Head, mcus: u32) -> u32
     if whole > 0 {
         return whole;
     }
-    if !cursor.give_up() {
+    if !cursor.give_up(head) {
         return 0;
     }
     skip_grey(cursor, head, mcus)
@@ -83,6 +97,7 @@ pub(crate) fn skip_row(cursor: &mut ScanCursor<'_>, head: &Head, row: u32) -> bo
     requires at { mcus_before head.now cursor.old.interval cursor.old.mcu ≡ row * mcus_across head.now }
     ensures cursor { IsCursor head.now cursor.new }
     ensures file { cursor.new.file ≡ cursor.old.file }
+    ensures stands { StaysTrue head.now cursor.old cursor.new }
     ensures whole { result ≡ true → mcus_before head.now cursor.new.interval cursor.new.mcu ≡ (row + 1) * mcus_across head.now }
     ensures all { cursor.old.file.are_all ≡ true → result ≡ true }
 {

@@ -1,6 +1,6 @@
 //! Bytes of a scan, and the data that they spell (T.81, B.1.1.5 and F.1.2.3).
 
-ghost use Rattle.std.specs.Prelude.{◌≡◌, ◌≢◌, ◌<◌, ◌≤◌, ◌+◌, ℕ, List, length, take, drop, replicate, slice_index, min};
+ghost use Rattle.std.specs.Prelude.{◌≡◌, ◌≢◌, ◌<◌, ◌≤◌, ◌+◌, ◌++◌, ℕ, List, length, take, drop, replicate, slice_index, min};
 ghost use Rattle.jr_base.specs.declared.marker.TheConstants.{PREFIX};
 ghost use Rattle.jr_cut.specs.Cut.{IsRaw, IsStop};
 
@@ -68,5 +68,36 @@ pub(crate) fn unstuff(raw: &[u8], room: &mut [u8]) -> Spelled
         room[found] = PREFIX;
         found += 1;
         read = next + 1;
+    }
+}
+
+/// How many plain bytes stand at the front of `raw`, at most so many.
+fn plain_within(raw: &[u8], most: usize) -> usize
+    ensures within { result ≤ length raw.now }
+    ensures few { result ≤ most }
+    ensures plain { (k : ℕ) → k < result → slice_index raw.now k ≢ PREFIX }
+    ensures next { result < length raw.now → result < most → slice_index raw.now result ≡ PREFIX }
+{
+    let most = raw.len().min(most);
+    plain_count(&raw[..most])
+}
+
+/// How many bytes at the front of `raw` spell so many bytes of data, or as many as there are up to a marker or the end.
+pub(crate) fn spelled_length(raw: &[u8], count: usize) -> usize
+    ensures within { result ≤ length raw.now }
+    ensures spells { (found : List ℕ) × IsRaw (take result raw.now) found × (length found ≤ count) × (length found < count → IsStop (drop result raw.now)) }
+{
+    let mut at: usize = 0;
+    let mut found: usize = 0;
+    'bytes: loop {
+        let plain = plain_within(&raw[at..], count - found);
+        let end = at + plain;
+        found += plain;
+        let next = end + fill_count(&raw[end..]);
+        if found == count || next >= raw.len() || raw[next] != 0 {
+            return end;
+        }
+        found += 1;
+        at = next + 1;
     }
 }

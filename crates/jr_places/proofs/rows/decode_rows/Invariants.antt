@@ -1,9 +1,12 @@
-use Rattle.std.proofs.Common.{◌≡◌, ◌-◌, ◌*◌, ◌≤◌, length, drop}
+use Rattle.std.proofs.Common.{ℕ, List, ◌≡◌, ◌-◌, ◌*◌, ◌≤◌, length, take, drop}
 use Rattle.jr_head.specs.Geometry.{mcus_across}
 use Rattle.jr_paint.specs.Lines.{line_size}
 use Rattle.jr_rows.specs.Rows.{HasSampleRoom}
-use Rattle.jr_places.specs.Places.{StandsAt, lines_between, mcus_before}
-use Rattle.jr_places.specs.Cursors.{IsCursor}
+use Rattle.jr_places.specs.Places.{StandsAt, lines_before, lines_between, mcus_before}
+use Rattle.jr_places.specs.Shown.{AreLines}
+use Rattle.jr_places.specs.Cursors.{IsCursor, StandsIn}
+use Rattle.jr_scan.specs.ScanValue.{ScanValue}
+use Rattle.jr_places.specs.Meaning.{IsPlaceIn, MayBe}
 use Rattle.jr_places.proofs.rows.decode_rows.Given as goal
 
 abbrev pub invariant-rows : goal.invariant-rows
@@ -18,7 +21,9 @@ invariant-rows l =
       on : l.place.row ≤ l.next.row;
       few : l.next.row ≤ l.end;
       none : l.next.row ≡ l.place.row → l.next ≡ l.place;
+      place : (whole : List ℕ) (t : ScanValue) → MayBe l.file.bytes.now l.file.are_all h whole t → IsPlaceIn l.file.bytes.now whole t l.place → StandsIn whole t l.cursor × IsPlaceIn l.file.bytes.now whole t l.next;
       long : length l.pixels ≡ length l.initial.pixels;
+      lines : AreLines l.file.bytes.now l.file.are_all h l.place (lines_before h l.place.row) (lines_between h l.place.row l.next.row) (take bytes l.pixels);
       kept : drop bytes l.pixels ≡ drop bytes l.initial.pixels;
     }
 

@@ -1,7 +1,9 @@
-use Rattle.std.proofs.Common.{◌≡◌, ◌+◌, ◌-◌, ◌*◌, ◌≤◌}
+use Rattle.std.proofs.Common.{ℕ, List, ◌≡◌, ◌+◌, ◌-◌, ◌*◌, ◌≤◌}
 use Rattle.jr_head.specs.Geometry.{mcus_across}
 use Rattle.jr_places.specs.Places.{StandsAt, mcus_before}
-use Rattle.jr_places.specs.Cursors.{IsCursor}
+use Rattle.jr_places.specs.Cursors.{IsCursor, StandsIn}
+use Rattle.jr_scan.specs.ScanValue.{ScanValue}
+use Rattle.jr_places.specs.Meaning.{IsPlaceIn, MayBe}
 use Rattle.jr_places.proofs.rows.skip_rows.Given as goal
 
 abbrev pub invariant-rows : goal.invariant-rows
@@ -14,6 +16,7 @@ invariant-rows l =
       on : l.place.row ≤ l.next.row;
       few : l.next.row ≤ l.place.row + l.most;
       none : l.next.row ≡ l.place.row → l.next ≡ l.place;
+      place : (whole : List ℕ) (t : ScanValue) → MayBe l.file.bytes.now l.file.are_all h whole t → IsPlaceIn l.file.bytes.now whole t l.place → StandsIn whole t l.cursor × IsPlaceIn l.file.bytes.now whole t l.next;
     }
 
 abbrev pub decreases-rows : goal.decreases-rows

@@ -1,7 +1,7 @@
 use Rattle.std.proofs.Common.{◌≡◌, ◌+◌, ◌-◌, ◌*◌, ◌≤◌}
 use Rattle.jr_head.specs.Geometry.{mcus_across}
 use Rattle.jr_places.specs.Places.{mcus_before}
-use Rattle.jr_places.specs.Cursors.{IsCursor}
+use Rattle.jr_places.specs.Cursors.{IsCursor, StaysTrue}
 use Rattle.jr_places.proofs.skipping.skip_row.Given as goal
 
 abbrev pub invariant-mcus : goal.invariant-mcus
@@ -9,6 +9,7 @@ invariant-mcus l =
     let h = l.head in record {
       cursor : IsCursor h l.cursor;
       file : l.cursor.file ≡ l.initial.cursor.file;
+      stands : StaysTrue h l.initial.cursor l.cursor;
       few : l.done ≤ mcus_across h;
       at : mcus_before h l.cursor.interval l.cursor.mcu ≡ l.row * mcus_across h + l.done;
     }

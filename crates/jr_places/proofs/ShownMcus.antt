@@ -1,0 +1,118 @@
+-- What MCUs of an interval show.
+use Rattle.std.proofs.Common.{◌≡◌, ◌≢◌, ℕ, zero, suc, ◌+◌, ◌-◌, ◌*◌, ◌/◌, ◌%◌, ◌<◌, ◌≤◌, Some, List, [], ◌++◌, length, drop, replicate, get_or, take, refl, sym, ap, subst, ◌∙◌, length-append, length-take-le, arith}
+use Rattle.std.specs.Prelude.{ℤ}
+use Rattle.std.proofs.lemmas.List.{get_or-append_right}
+use Rattle.std.proofs.lemmas.Nat.{div-add-mod'}
+use Rattle.std.proofs.Math.ListN.{length-replicate}
+use Rattle.std.proofs.Math.Nat.{add-mul, div-lt_iff_lt-mul, mul-le-mul_left, mul-le-mul_right}
+use Rattle.jr_code.specs.Bits.{bits}
+use Rattle.jr_head.specs.HeadValue.{HeadValue}
+use Rattle.jr_head.specs.Geometry.{IsLawful, blocks_of, order_of, quantiser_of}
+use Rattle.jr_head.specs.Intervals.{interval_number, within_interval}
+use Rattle.jr_head.proofs.SamplingLaws.{length-order}
+use Rattle.jr_idct.specs.Transform.{samples}
+use Rattle.jr_mcu.specs.Mcus.{component}
+use Rattle.jr_mcu.proofs.LongMcus.{mcus_long}
+use Rattle.jr_mcu.proofs.McuLaws.{no_blocks}
+use Rattle.jr_scan.specs.declared.place.Place.{Place}
+use Rattle.jr_scan.specs.declared.place.RunEnd.TheVariants.{AllRead}
+use Rattle.jr_scan.specs.IntervalValue.{IntervalValue}
+use Rattle.jr_scan.specs.Mcus.{Front, LongestFront}
+use Rattle.jr_scan.specs.Run.{IsRun, run_from}
+use Rattle.jr_scan.specs.ScanValue.{ScanValue, IsScanOf, interval_of, intervals_of, mcus_in}
+use Rattle.jr_piece.specs.PieceValue.{PieceValue}
+use Rattle.jr_piece.specs.Outcome.{IsOutcome, unit_of}
+use Rattle.jr_piece.specs.Strips.{FirstMcus, IsNext}
+use Rattle.jr_piece.specs.Units.{grey_unit, unit_in_piece}
+use Rattle.jr_piece.proofs.ScanLaws.{one_front, one_run, runs_meet, shorter_front}
+use Rattle.jr_piece.proofs.Strips.{component_on}
+use Rattle.jr_piece.proofs.StripRuns as runs
+use Rattle.jr_piece.proofs.UnitReading.{shown, behind}
+use Rattle.jr_picture.specs.BoardValue.{BoardValue}
+use Rattle.jr_picture.specs.Boards.{piece_at}
+use Rattle.jr_rows.specs.Bands.{unit_shown, unit_shown_of}
+use Rattle.jr_rows.specs.Groups.{units_in}
+use Rattle.jr_rows.specs.Rows.{HasFirst, ShowsBehind, ShowsFirstUnits}
+use Rattle.jr_rows.proofs.IntervalPlaces.{interval_at}
+use Rattle.jr_rows.proofs.ReadRows.{posted_there, shown_more}
+use Rattle.jr_places.specs.Meaning.{HasNoData, HasNoMore}
+
+-- those that are there
+module _ (i : IntervalValue) (lawful : IsLawful i.head) (first : ℕ) (zs : List (List ℤ)) (p : Place) (next : IsNext i first zs p) (n : ℕ) (ys : List (List ℤ)) (q : Place) (run : IsRun (run_from i p n) ys q AllRead) (few : first + n ≤ i.mcus) where
+  abbrev per : ℕ
+  per = length (order_of i.head)
+
+  here : FirstMcus (run_from i p n) n ys
+  here = record { to = q; run = run; none = λ lt. absurd (omega (arith, lt)) }
+
+  block_there : (k : ℕ) → get_or ys k [] ≡ get_or (zs ++ ys) (first * per + k) []
+  block_there k =
+      let long : length zs ≡ first * per = next.run.mcus.0 ∙ ap (λ (m : ℕ). m * per) next.run.ends in
+      let there : first * per + k - length zs ≡ k = omega (arith, long) in
+      sym (get_or-append_right zs ys (length zs) (first * per + k) [] refl (omega (arith, long)) ∙ ap (λ (m : ℕ). get_or ys m []) there)
+
+  pub whole_codes : (o : PieceValue) → o.interval ≡ i → IsOutcome o → (k : ℕ) → k < n * per → unit_of i.head ys k ≡ unit_in_piece o (first * per + k)
+  whole_codes o same is k lt =
+      let front = runs.front one_run runs_meet shorter_front i lawful first zs p next n n ys here few in
+      ap (λ (z : List ℤ). samples z (quantiser_of i.head (component i.head k))) (block_there k)
+      ∙ ap (λ (c : ℕ). samples (get_or (zs ++ ys) (first * per + k) []) (quantiser_of i.head c)) (sym (component_on i.head first k))
+      ∙ shown one_front shorter_front i o same is (first + n) (zs ++ ys) front (first * per + k) (omega (arith, lt, add-mul first n per))
+
+-- those behind the last whole one
+pub grey_codes : (i : IntervalValue) (front mcu : ℕ) (zs : List (List ℤ)) → front ≤ mcu → LongestFront i front zs → (o : PieceValue) → o.interval ≡ i → IsOutcome o → (k : ℕ) → grey_unit ≡ unit_in_piece o (mcu * length (order_of i.head) + k)
+grey_codes i front mcu zs le longest o same is k =
+    let past : front * length (order_of i.head) ≤ mcu * length (order_of i.head) = mul-le-mul_right {m = front} {n = mcu} (length (order_of i.head)) le in
+    behind one_front shorter_front i o same is front zs longest (mcu * length (order_of i.head) + k) (omega (arith, past))
+
+-- no data is of no MCU
+pub nothing_whole : (t : ScanValue) (i mcu : ℕ) → 0 < blocks_of t.head → get_or t.intervals i [] ≡ [] → HasNoMore t i mcu
+nothing_whole t i mcu some none = record {
+  front = 0;
+  blocks = [];
+  few = omega arith;
+  longest = record {
+    front = record { at_most = omega arith; taken = []; rest = bits (get_or t.intervals i []); mcus = (omega arith, no_blocks t.head _); spelled = refl };
+    longest = λ j ys f.
+        let long = mcus_long t.head _ j ys f.taken f.mcus in
+        let empty : length (bits (get_or t.intervals i [])) ≡ length (bits []) = ap (λ (b : List ℕ). length (bits b)) none in
+        let each : j * 1 ≤ j * length (order_of t.head) = mul-le-mul_left {m = 1} {n = length (order_of t.head)} j (omega (arith, some, length-order 0 t.head.components)) in
+        omega (arith, long, each, empty, ap length f.spelled, length-append f.taken f.rest);
+  };
+}
+
+-- where data units are those of each outcome of an interval, they are those that a board shows
+module _ (t : ScanValue) (n number mcu mcus before : ℕ) (units : List (List ℕ)) (some : 0 < blocks_of t.head) (number_few : number < intervals_of t.head) (marked : number < n) (few : mcu + mcus ≤ mcus_in t.head number)
+    (codes : (o : PieceValue) → o.interval ≡ interval_of t number → IsOutcome o → (k : ℕ) → k < mcus * blocks_of t.head → get_or units (before + k) [] ≡ unit_in_piece o (mcu * blocks_of t.head + k)) where
+  abbrev h : HeadValue
+  h = t.head
+
+  abbrev m : ℕ
+  m = blocks_of h
+
+  pub shown_there : ShowsBehind t n (number * h.restart + mcu) before mcus units
+  shown_there b first k lt =
+      let j = k / m in
+      let near : j < mcus = (div-lt_iff_lt-mul some).1 lt in
+      let place = interval_at h number (mcu + j) number_few (omega (arith, near, few)) in
+      let at : number * h.restart + mcu + j ≡ number * h.restart + (mcu + j) = omega arith in
+      let p = posted_there t n b first number marked in
+      let unit = codes p.piece p.interval p.outcome k lt in
+      let per : mcu * m + k ≡ (mcu + j) * m + k % m = omega (arith, div-add-mod' k m, add-mul mcu j m) in
+      let turned : unit_shown_of h (k % m) (Some p.piece) ((mcu + j) * m + k % m) ≡ unit_shown_of h (k % m) (piece_at b (interval_number h (number * h.restart + mcu + j))) (within_interval h (number * h.restart + mcu + j) * m + k % m) =
+      ap (λ q. unit_shown_of h (k % m) q ((mcu + j) * m + k % m)) (sym p.at)
+      ∙ ap (λ x. unit_shown_of h (k % m) (piece_at b number) (x * m + k % m)) (sym (ap (within_interval h) at ∙ place.1))
+      ∙ ap (λ x. unit_shown_of h (k % m) (piece_at b x) (within_interval h (number * h.restart + mcu + j) * m + k % m)) (sym (ap (interval_number h) at ∙ place.0)) in
+      unit ∙ ap (unit_in_piece p.piece) per ∙ turned
+      ∙ ap (λ (g : HeadValue). unit_shown_of g (k % m) (piece_at b (interval_number g (number * h.restart + mcu + j))) (within_interval g (number * h.restart + mcu + j) * blocks_of g + k % m)) (ap (λ (u : ScanValue). u.head) (sym first.scan_is))
+
+-- more of the row behind what is shown of it
+pub shown_on : (t : ScanValue) (n from done more at : ℕ) (old new : List (List ℕ)) → 0 < blocks_of t.head → at ≡ from + done → ShowsFirstUnits t n from done old
+    → ((k : ℕ) → k < done * blocks_of t.head → get_or new k [] ≡ get_or old k []) → ShowsBehind t n at (done * blocks_of t.head) more new → ShowsFirstUnits t n from (done + more) new
+shown_on t n from done more at old new some e before kept there b first =
+    shown_more (blocks_of t.head) done more from (unit_shown b) (λ k. get_or old k []) (λ k. get_or new k []) some (before b first) kept
+    (λ k lt. there b first k lt ∙ ap (λ (m : ℕ). unit_shown b (m + k / blocks_of t.head) (k % blocks_of t.head)) e)
+
+-- a scan has its intervals
+pub all_marked : (whole : List ℕ) (t : ScanValue) → IsScanOf whole t → intervals_of t.head ≤ length t.intervals
+all_marked whole t s =
+    omega (arith, ap length s.intervals, length-append s.segments (replicate {A = List ℕ} (intervals_of t.head - length s.segments) []), length-replicate {A = List ℕ} (intervals_of t.head - length s.segments) [])

@@ -1,0 +1,241 @@
+-- What a cursor's steps keep true in each file that its bytes may be.
+use Rattle.std.proofs.Common.{◌≡◌, ◌≢◌, ℕ, zero, suc, ◌+◌, ◌-◌, ◌*◌, ◌/◌, ◌%◌, ◌<◌, ◌≤◌, ◌⊎◌, inl, inr, List, [], ◌∷◌, ◌++◌, length, replicate, take, drop, get_or, refl, sym, ap, subst, ◌∙◌, append_assoc, length-append, length-drop, length-take-le, arith}
+use Rattle.std.specs.Prelude.{ℤ, min}
+use Rattle.std.specs.List.{All}
+use Rattle.std.proofs.lemmas.List.{append-nil, drop-append-le, drop-drop}
+use Rattle.std.proofs.lemmas.Nat.{div-add-mod'}
+use Rattle.jr_base.specs.declared.marker.TheConstants.{PREFIX, RST0}
+use Rattle.jr_cut.specs.Cut.{IsRaw, IsStop, IsEnding, marker}
+use Rattle.jr_cut.specs.OpenSegments.{BeginsWithRestart}
+use Rattle.jr_cut.specs.declared.scan_end.ScanEnd.{ScanEnd}
+use Rattle.jr_cut.specs.declared.scan_end.ScanEnd.TheVariants.{EndOfFile}
+use Rattle.jr_cut.proofs.Cuts.{rest_is}
+use Rattle.jr_head.specs.HeadValue.{HeadValue}
+use Rattle.jr_head.specs.Geometry.{IsLawful}
+use Rattle.jr_head.specs.Intervals.{intervals_of, mcus_in}
+use Rattle.jr_mcu.specs.Block.{IsInDcRange}
+use Rattle.jr_mcu.specs.Mcus.{no_predictions}
+use Rattle.jr_scan.specs.declared.place.Place.{Place}
+use Rattle.jr_scan.specs.declared.place.RunEnd.TheVariants.{AllRead}
+use Rattle.std.proofs.lemmas.Bool.{cases_lt}
+use Rattle.jr_code.specs.Bits.{bits}
+use Rattle.jr_code.proofs.BitLemmas.{length-bits}
+use Rattle.jr_scan.specs.McuReader.{McuReaderValue}
+use Rattle.jr_scan.specs.McuReader as readers
+use Rattle.jr_scan.specs.Run.{HasNoMcu, IsRun, RunOf, left_at, run_from, start_of_interval}
+use Rattle.jr_scan.specs.ScanValue.{ScanValue, interval_of}
+use Rattle.jr_piece.specs.Strips.{IsNext}
+use Rattle.jr_places.specs.declared.cursor.Reading.{Reading}
+use Rattle.jr_places.specs.declared.cursor.Reading.TheVariants.{GoesOn, IsStuck, HasEnded}
+use Rattle.jr_places.specs.declared.cursor.ScanCursor.{ScanCursor}
+use Rattle.jr_places.specs.declared.cursor.TheConstants.{WINDOW}
+use Rattle.jr_places.specs.declared.file_bytes.FileBytes.{FileBytes}
+use Rattle.jr_places.specs.Meaning.{GoesOnAt, HasNoData, HasNoMore, IsStuckAt, MayBe, MeansAt, ReadsAt, behind}
+use Rattle.jr_places.specs.Places.{IsIn}
+use Rattle.jr_places.specs.Cursors.{Follows, HasWindow, IsCursor, IsOffset, NoneFollows, StandsIn, StaysIn, StaysTrue, begun, in_window, number_of}
+use Rattle.jr_places.proofs.Going.{OnBy, ended_on, ending_more, next_on, on_by}
+use Rattle.jr_places.proofs.ReadOn.{none_on, reads_first, reads_on}
+use Rattle.jr_places.proofs.Spelled.{one_stop, split_at}
+use Rattle.jr_places.proofs.Splits.{ending_stop, marker_stop}
+
+-- ---- one step behind the other
+
+pub true_on : (h : HeadValue) (a b c : ScanCursor) → b.file ≡ a.file → StaysTrue h a b → StaysTrue h b c → StaysTrue h a c
+true_on h a b c same ab bc whole t may s = bc whole t (subst (λ (f : FileBytes). MayBe f.bytes.now f.are_all h whole t) (sym same) may) (ab whole t may s)
+
+-- ---- over MCUs of its interval
+
+module _ (h : HeadValue) (c : ScanCursor) (lawful : IsLawful h) (is : IsCursor h c) (n : ℕ) (q : Place) (few : c.mcu + n ≤ mcus_in h c.interval) where
+  abbrev passed : ScanCursor
+  passed = record c { mcu = c.mcu + n; place = q }
+
+  found_long : length (take c.found c.room.items) ≡ c.found
+  found_long = length-take-le c.found c.room.items (omega (arith, is.window.found, is.window.room))
+
+  -- over whole ones
+  pub passes_true : (ys : List (List ℤ)) → IsRun (run_from (in_window h c) c.place n) ys q AllRead → q.bit ≤ 8 * c.found → All IsInDcRange q.predictions → StaysTrue h c passed
+  passes_true ys run to in_range whole t may s = record { from = s.from; means = go c.reading s.means }
+    where
+      go : (r : Reading) → MeansAt whole t (number_of r) c.interval c.mcu c.at c.place → MeansAt whole t (number_of r) c.interval (c.mcu + n) c.at q
+      go GoesOn means =
+          let w = is.window.spells in
+          let found = take c.found c.room.items in
+          let o = on_by c.file.bytes.now may.more whole t c.interval c.at w.read means.before found may.is means.on w.within w.spelled in
+          let e = may.head in
+          reads_on whole t c.interval c.mcu c.at (mcus_in h c.interval - c.mcu) found o.on.rest c.place (subst IsLawful (sym e) lawful) means o.is n ys q (omega (arith, is.window.bit, found_long)) (omega (arith, to, found_long)) in_range
+          (subst (λ (g : HeadValue). c.mcu + n ≤ mcus_in g c.interval) (sym e) few)
+          (subst (λ (g : HeadValue). IsRun (run_from (record { number = c.interval; mcus = mcus_in h c.interval - c.mcu; bytes = found; head = g }) c.place n) ys q AllRead) (sym e) run)
+      go IsStuck means = record { before = means.before; on = means.on; no_more = record { front = means.no_more.front; blocks = means.no_more.blocks; few = omega (arith, means.no_more.few); longest = means.no_more.longest } }
+      go HasEnded means = means
+
+  -- over others where no further one is whole
+  pub grey_true : c.reading ≢ GoesOn → StaysTrue h c passed
+  grey_true over whole t may s = record { from = s.from; means = go c.reading over s.means }
+    where
+      go : (r : Reading) → r ≢ GoesOn → MeansAt whole t (number_of r) c.interval c.mcu c.at c.place → MeansAt whole t (number_of r) c.interval (c.mcu + n) c.at q
+      go GoesOn none means = absurd (none refl)
+      go IsStuck none means = record { before = means.before; on = means.on; no_more = record { front = means.no_more.front; blocks = means.no_more.blocks; few = omega (arith, means.no_more.few); longest = means.no_more.longest } }
+      go HasEnded none means = means
+
+-- ---- to a later byte of its data
+
+pub moved : (h : HeadValue) (c : ScanCursor) (at : ℕ) (q : Place) → IsOffset c (c.place.bit / 8) at → HasWindow c → q.bit ≡ c.place.bit % 8 → q.predictions ≡ c.place.predictions → (whole : List ℕ) (t : ScanValue) → MayBe c.file.bytes.now c.file.are_all h whole t
+    → MeansAt whole t (number_of c.reading) c.interval c.mcu c.at c.place → MeansAt whole t (number_of c.reading) c.interval c.mcu at q
+moved h c at q off w bit predictions whole t may = go c.reading
+  where
+    byte : ℕ
+    byte = c.place.bit / 8
+
+    front : List ℕ
+    front = take byte (take c.found c.room.items)
+
+    front_long : length front ≡ byte
+    front_long =
+        let found_long = length-take-le c.found c.room.items (omega (arith, w.found, w.room)) in
+        length-take-le byte (take c.found c.room.items) (omega (arith, found_long, w.bit))
+
+    on : (before : List ℕ) (g : GoesOnAt whole t c.interval c.at before) → GoesOnAt whole t c.interval at (before ++ front)
+    on before g =
+        let o = on_by c.file.bytes.now may.more whole t c.interval c.at off.read before front may.is g (omega (arith, off.is, off.within)) off.spelled in
+        subst (λ (k : ℕ). GoesOnAt whole t c.interval k (before ++ front)) (sym off.is) o.on
+
+    same : (before : List ℕ) → behind before c.place ≡ behind (before ++ front) q
+    same before =
+        let b : 8 * length before + c.place.bit ≡ 8 * length (before ++ front) + q.bit = omega (arith, length-append before front, front_long, bit) in
+        ap (λ (k : ℕ). (let p : Place = record { bit = k; predictions = c.place.predictions } in p)) b ∙ ap (λ (l : List ℤ). (let p : Place = record { bit = 8 * length (before ++ front) + q.bit; predictions = l } in p)) (sym predictions)
+
+    go : (r : Reading) → MeansAt whole t (number_of r) c.interval c.mcu c.at c.place → MeansAt whole t (number_of r) c.interval c.mcu at q
+    go GoesOn means = record { before = means.before ++ front; on = on means.before means.on; blocks = means.blocks; next = subst (IsNext (interval_of t c.interval) c.mcu means.blocks) (same means.before) means.next }
+    go IsStuck means = record { before = means.before ++ front; on = on means.before means.on; no_more = means.no_more }
+    go HasEnded means = means
+
+-- ---- behind its data
+
+get-fill : (n k : ℕ) → k < n → get_or (replicate n PREFIX) k 0 ≡ PREFIX
+get-fill zero k lt = absurd (omega (arith, lt))
+get-fill (suc n) zero lt = refl
+get-fill (suc n) (suc k) lt = get-fill n k (omega (arith, lt))
+
+length-fill : (n : ℕ) → length (replicate n PREFIX) ≡ n
+length-fill zero = refl
+length-fill (suc n) = ap suc (length-fill n)
+
+-- a marker that is there stays
+pub stop_stays : (tail more : List ℕ) (fill : ℕ) → IsStop tail → (fill < length tail → get_or tail fill 0 ≢ PREFIX) → (more ≡ []) ⊎ (fill < length tail) → IsStop (tail ++ more)
+stop_stays tail more fill s next (inl none) = subst IsStop (sym (ap (λ (x : List ℕ). tail ++ x) none ∙ append-nil tail)) s
+stop_stays tail more fill s next (inr lt) = elim s.stops [
+  | inl e ↦
+      let all : tail ≡ replicate s.more PREFIX = s.spelled ∙ ap (λ (x : List ℕ). replicate s.more PREFIX ++ x) e ∙ append-nil (replicate s.more PREFIX) in
+      absurd (next lt (ap (λ (x : List ℕ). get_or x fill 0) all ∙ get-fill s.more fill (omega (arith, lt, ap length all, length-fill s.more))))
+  | inr o ↦ record {
+    more = s.more;
+    rest = s.rest ++ more;
+    spelled = ap (λ (x : List ℕ). x ++ more) s.spelled ∙ append_assoc (replicate s.more PREFIX) s.rest more;
+    stops = inr (o.0, o.1, o.2 ++ more, o.3, o.4, ap (λ (x : List ℕ). x ++ more) o.5);
+  }
+]
+
+pub stop_whole : (bytes more : List ℕ) (end fill : ℕ) → end ≤ length bytes → IsStop (drop end bytes) → (fill < length (take (length bytes - end) (drop end bytes)) → get_or (take (length bytes - end) (drop end bytes)) fill 0 ≢ PREFIX)
+    → (more ≡ []) ⊎ (end + fill < length bytes) → IsStop (drop end (bytes ++ more))
+stop_whole bytes more end fill within s next final =
+    let there = subst (λ (x : List ℕ). fill < length x → get_or x fill 0 ≢ PREFIX) (rest_is bytes end) next in
+    subst IsStop (sym (drop-append-le end bytes more within)) (stop_stays (drop end bytes) more fill s there (elim final [ inl none ↦ inl none | inr lt ↦ inr (omega (arith, lt, length-drop end bytes)) ]))
+
+module _ (h : HeadValue) (c : ScanCursor) (w : HasWindow c) (end read : ℕ) (found : List ℕ) (there : end ≡ c.at + read) (within : end ≤ length c.file.bytes.now) (raw : IsRaw (take read (drop c.at c.file.bytes.now)) found) where
+  -- where no further MCU is whole
+  pub stuck_true : IsIn h c.interval c.mcu → IsLawful h → NoneFollows h c → c.reading ≡ GoesOn → IsStop (drop end c.file.bytes.now) → (whole : List ℕ) (t : ScanValue) (may : MayBe c.file.bytes.now c.file.are_all h whole t) → IsStop (drop end whole) → StandsIn whole t c → IsStuckAt whole t c.interval c.mcu end
+  stuck_true is_in lawful none going here whole t may stop s =
+      let bytes = c.file.bytes.now in
+      let spells = w.spells in
+      let window = take c.found c.room.items in
+      let means : ReadsAt whole t c.interval c.mcu c.at c.place = subst (λ (r : Reading). MeansAt whole t (number_of r) c.interval c.mcu c.at c.place) going s.means in
+      let e = may.head in
+      let found_long : length window ≡ c.found = length-take-le c.found c.room.items (omega (arith, w.found, w.room)) in
+      let o = on_by bytes may.more whole t c.interval c.at read means.before found may.is means.on (omega (arith, there, within)) raw in
+      let stopped : o.on.rest ≡ [] = o.none (subst (λ (k : ℕ). IsStop (drop k whole)) there stop) in
+      let by : (rest : List ℕ) → means.on.rest ≡ window ++ rest → (rest ≡ []) ⊎ (16650 ≤ length (left_at (record { number = c.interval; mcus = mcus_in h c.interval - c.mcu; bytes = window; head = t.head }) c.place)) → HasNoMore t c.interval c.mcu =
+      λ rest rest_is far. none_on whole t c.interval c.mcu c.at (mcus_in h c.interval - c.mcu) window rest c.place (subst IsLawful (sym e) lawful) means rest_is (omega (arith, w.bit, found_long)) (subst (λ (g : HeadValue). c.mcu ≤ mcus_in g c.interval) (sym e) is_in.few)
+      (subst (λ (g : HeadValue). HasNoMcu (record { number = c.interval; mcus = mcus_in h c.interval - c.mcu; bytes = window; head = g }) c.place) (sym e) none.none) far in
+      record {
+        before = means.before ++ found;
+        on = subst (λ (k : ℕ). GoesOnAt whole t c.interval k (means.before ++ found)) (sym there) o.on;
+        no_more = elim none.far [
+          | inl short ↦
+              let same = one_stop (take spells.read (drop c.at bytes)) window (take read (drop c.at bytes)) found (drop (c.at + spells.read) bytes) (drop (c.at + read) bytes) spells.spelled raw (sym (split_at bytes c.at spells.read) ∙ split_at bytes c.at read) (spells.stop (omega (arith, short, found_long))) (subst (λ (k : ℕ). IsStop (drop k bytes)) there here) in
+              by o.on.rest (o.is ∙ ap (λ (x : List ℕ). x ++ o.on.rest) same.0) (inl stopped)
+          | inr long ↦
+              let p = on_by bytes may.more whole t c.interval c.at spells.read means.before window may.is means.on spells.within spells.spelled in
+              by p.on.rest p.is (inr long)
+        ];
+      }
+
+  -- the interval has ended there
+  its_end : (whole : List ℕ) (t : ScanValue) (may : MayBe c.file.bytes.now c.file.are_all h whole t) → IsStop (drop end whole) → c.reading ≢ HasEnded → StandsIn whole t c → (before : List ℕ) × (g : GoesOnAt whole t c.interval end before) × (g.rest ≡ [])
+  its_end whole t may stop over s = go c.reading over s.means
+    where
+      on : (before : List ℕ) (g : GoesOnAt whole t c.interval c.at before) → (b : List ℕ) × (g : GoesOnAt whole t c.interval end b) × (g.rest ≡ [])
+      on before g =
+          let o = on_by c.file.bytes.now may.more whole t c.interval c.at read before found may.is g (omega (arith, there, within)) raw in
+          let n = o.none (subst (λ (k : ℕ). IsStop (drop k whole)) there stop) in
+          subst (λ (k : ℕ). (b : List ℕ) × (g : GoesOnAt whole t c.interval k b) × (g.rest ≡ [])) (sym there) (before ++ found, o.on, n)
+
+      go : (r : Reading) → r ≢ HasEnded → MeansAt whole t (number_of r) c.interval c.mcu c.at c.place → (b : List ℕ) × (g : GoesOnAt whole t c.interval end b) × (g.rest ≡ [])
+      go GoesOn some means = on means.before means.on
+      go IsStuck some means = on means.before means.on
+      go HasEnded some means = absurd (some refl)
+
+  tail_whole : (whole : List ℕ) (more : List ℕ) → whole ≡ c.file.bytes.now ++ more → drop end whole ≡ drop end c.file.bytes.now ++ more
+  tail_whole whole more e = ap (drop end) e ∙ drop-append-le end c.file.bytes.now more within
+
+  -- the next one begins behind its marker
+  pub next_true : (whole : List ℕ) (t : ScanValue) (may : MayBe c.file.bytes.now c.file.are_all h whole t) → c.reading ≢ HasEnded → StandsIn whole t c → (more : ℕ) → c.interval + 1 < intervals_of h → drop end c.file.bytes.now ≡ marker more (RST0 + c.interval % 8) ++ drop (more + 2) (drop end c.file.bytes.now)
+      → end + (more + 2) ≤ length c.file.bytes.now → (p : Place) → p ≡ start_of_interval → ReadsAt whole t (c.interval + 1) 0 (end + (more + 2)) p
+  next_true whole t may over s more room starts inside p first =
+      let bytes = c.file.bytes.now in
+      let code = RST0 + c.interval % 8 in
+      let rest = drop (more + 2) (drop end bytes) ++ may.more in
+      let begins : drop end whole ≡ marker more code ++ rest = tail_whole whole may.more may.is ∙ ap (λ (x : List ℕ). x ++ may.more) starts ∙ append_assoc (marker more code) (drop (more + 2) (drop end bytes)) may.more in
+      let behind_it : drop (end + (more + 2)) whole ≡ rest =
+      ap (drop (end + (more + 2))) may.is ∙ drop-append-le (end + (more + 2)) bytes may.more inside ∙ ap (λ (x : List ℕ). x ++ may.more) (sym (drop-drop (more + 2) end bytes)) in
+      let stop : IsStop (drop end whole) = marker_stop (drop end whole) code (more, rest, begins) (λ e. omega arith) (λ e. omega arith) in
+      let there = its_end whole t may stop over s in
+      reads_first whole t (c.interval + 1) (end + (more + 2)) p first
+      (next_on whole t c.interval end there.0 there.1 there.2 more rest (subst (λ (g : HeadValue). c.interval + 1 < intervals_of g) (sym may.head) room) begins behind_it)
+
+  -- or the scan has ended
+  pub ended_true : (whole : List ℕ) (t : ScanValue) (may : MayBe c.file.bytes.now c.file.are_all h whole t) → c.reading ≢ HasEnded → StandsIn whole t c → (e : ScanEnd) → IsEnding (intervals_of h) c.interval end (drop end c.file.bytes.now) e → (e ≢ EndOfFile) ⊎ (may.more ≡ []) → HasNoData t (c.interval + 1)
+  ended_true whole t may over s e ending final =
+      let there_too : IsEnding (intervals_of h) c.interval end (drop end whole) e =
+      subst (λ (x : List ℕ). IsEnding (intervals_of h) c.interval end x e) (sym (tail_whole whole may.more may.is)) (ending_more (intervals_of h) c.interval end (drop end c.file.bytes.now) may.more e final ending) in
+      let there = its_end whole t may (ending_stop (intervals_of h) c.interval end (drop end whole) e there_too) over s in
+      ended_on whole t c.interval end there.0 there.1 there.2 end e (subst (λ (g : HeadValue). IsEnding (intervals_of g) c.interval end (drop end whole) e) (sym may.head) there_too)
+
+-- a restart marker lies in the bytes
+pub restart_within : (bytes : List ℕ) (end k count : ℕ) → end ≤ length bytes → BeginsWithRestart k (drop end bytes) count → end + count ≤ length bytes
+restart_within bytes end k count within b =
+    let code = RST0 + k % 8 in
+    omega (arith, within, b.long, ap length b.spelled, length-append (marker b.more code) (drop count (drop end bytes)), length-append (replicate b.more PREFIX) (code ∷ []), length-fill b.more, length-drop count (drop end bytes), length-drop end bytes)
+
+-- where a reader of the window has ended and MCUs are left, none follows
+pub none_left : (h : HeadValue) (c : ScanCursor) (r r' : McuReaderValue) (n : ℕ) (q : Place) → r.run ≡ run_from (in_window h c) c.place (mcus_in h c.interval - c.mcu) → r.mcu ≡ 0 → r'.run ≡ r.run → r'.mcu ≡ r.mcu + n → q ≡ r'.place → readers.HasEnded r'
+    → (d : ScanCursor) → d ≡ record c { mcu = c.mcu + n; place = q } → d.mcu < mcus_in h d.interval → HasNoMcu (in_window h d) d.place
+none_left h c r r' n q run zero_is same mcu place ended d is more =
+    subst (λ (e : ScanCursor). e.mcu < mcus_in h e.interval → HasNoMcu (in_window h e) e.place) (sym is) (λ lt. elim ended [
+      | inl full ↦ absurd (omega (arith, full, lt, mcu, zero_is, ap (λ (o : RunOf). o.mcus) (same ∙ run)))
+      | inr stuck ↦ subst (HasNoMcu (in_window h c)) (sym place) (subst (λ (o : RunOf). HasNoMcu o.interval r'.place) (same ∙ run) stuck)
+    ]) more
+
+-- and to the end of the data, or by more bits than an MCU has
+pub none_follows : (h : HeadValue) (c : ScanCursor) → HasWindow c → HasNoMcu (in_window h c) c.place → (c.found < WINDOW) ⊎ (c.place.bit < 8) → NoneFollows h c
+none_follows h c w none near = record {
+  none = none;
+  far = elim (cases_lt c.found WINDOW) [
+    | inl lt ↦ inl lt
+    | inr full ↦ elim near [
+      | inl lt ↦ inl lt
+      | inr low ↦
+          let long : length (take c.found c.room.items) ≡ c.found = length-take-le c.found c.room.items (omega (arith, w.found, w.room)) in
+          inr (omega (arith, full, low, long, length-drop c.place.bit (bits (take c.found c.room.items)), length-bits (take c.found c.room.items)))
+    ]
+  ];
+}

@@ -1,0 +1,49 @@
+use Rattle.std.proofs.Common.{◌≡◌, ◌<◌, ◌+◌, ◌*◌, ℕ, inl, inr, sym, ap, subst, ◌∙◌, arith, rules}
+use Rattle.jr_head.specs.Intervals.{mcus_in}
+use Rattle.jr_places.specs.declared.cursor.ScanCursor.{ScanCursor}
+use Rattle.jr_places.specs.Cursors.{NoneFollows}
+use Rattle.jr_places.specs.Places.{mcus_before}
+use Rattle.jr_places.proofs.ShownSteps.{shows_after}
+use Rattle.jr_places.proofs.Steps.{none_follows, true_on}
+use Rattle.jr_places.proofs.decoding.decode_whole.Goals as goal
+use Rattle.jr_places.proofs.decoding.decode_whole.Goals.{then-some-gt0-via-then-some-gt0, then-some-gt0-via-else-some-gt0+then-not-slide}
+
+pub returns-then-some-gt0-clause-none : goal.returns-then-some-gt0-clause-none
+returns-then-some-gt0-clause-none c none more going =
+    let h = c.args.head.now in
+    let d = c.decode_near-some.new.cursor in
+    let e = c.decode_near-some.ensures in
+    elim c.then-some-gt0.branch [
+      | then-some-gt0-via-then-some-gt0 w ↦ absurd (omega (arith, w.if-some-gt0.true, none))
+      | then-some-gt0-via-else-some-gt0+then-not-slide w ↦
+          let kept = w.slide.ensures.kept w.if-not-slide.true in
+          let left : d.mcu < mcus_in h d.interval = subst (λ (k : ℕ). d.mcu < mcus_in h k) (sym e.passes.interval) (omega (arith, e.passes.mcu, none, more)) in
+          subst (NoneFollows h) (sym (w.cursor-is ∙ kept.0)) (none_follows h d e.passes.is.window (e.none none left) kept.1)
+    ]
+
+pub returns-clause-none : goal.returns-clause-none
+returns-clause-none c none more going =
+    let h = c.args.head.now in
+    let d = c.decode_near.new.cursor in
+    let e = c.decode_near.ensures in
+    let s = c.slide.ensures in
+    let interval : d.interval ≡ c.args.cursor.now.interval = e.passes.interval ∙ s.stays.interval ∙ c.decode_near-some.ensures.passes.interval in
+    let left : d.mcu < mcus_in h d.interval = subst (λ (k : ℕ). d.mcu < mcus_in h k) (sym interval) (omega (arith, e.passes.mcu, none, more, s.stays.mcu, c.decode_near-some.ensures.passes.mcu, c.if-some-gt0.false)) in
+    none_follows h d e.passes.is.window (e.none none left) (inr (omega (arith, e.bit none, s.moved c.if-not-slide.false)))
+
+pub returns-then-some-gt0-clause-shows : goal.returns-then-some-gt0-clause-shows
+returns-then-some-gt0-clause-shows c = c.decode_near-some.ensures.shows
+
+pub returns-clause-shows : goal.returns-clause-shows
+returns-clause-shows c =
+    let h = c.args.head.now in
+    let i = c.args.cursor.now in
+    let d = c.slide.new.self in
+    let first = c.decode_near-some.ensures in
+    let s = c.slide.ensures in
+    let none : c.decode_near-some.result ≡ 0 = omega (arith, c.if-some-gt0.false) in
+    let file : d.file ≡ i.file = s.stays.file ∙ first.passes.file in
+    let interval : d.interval ≡ i.interval = s.stays.interval ∙ first.passes.interval in
+    let passed : mcus_before h d.interval d.mcu ≡ mcus_before h i.interval i.mcu = omega (arith, ap (λ (k : ℕ). k * h.restart) interval, s.stays.mcu, first.passes.mcu, none) in
+    shows_after h i d c.args.done c.decode_near-some.result c.decode_near.result c.args.samples.now.lines.groups c.decode_near-some.new.samples.lines.groups c.decode_near.new.samples.lines.groups none file passed
+    (true_on h i c.decode_near-some.new.cursor d first.passes.file first.stands (s.stands h)) first.shows c.decode_near.ensures.shows
