@@ -1,5 +1,4 @@
 pub mod RowLines
-pub mod Slices
 pub mod Passing
 pub mod Behind
 pub mod Longest

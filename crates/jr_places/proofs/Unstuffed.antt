@@ -8,7 +8,7 @@ use Rattle.jr_base.specs.declared.marker.TheConstants.{PREFIX}
 use Rattle.jr_cut.specs.Cut.{IsRaw}
 use Rattle.jr_cut.proofs.Cuts.{rest_is}
 use Rattle.jr_cut.proofs.Unstuffed.{raw_run}
-use Rattle.jr_places.proofs.Slices.{plain_each}
+use Rattle.jr_cut.proofs.Slices.{plain_each}
 
 taken_more : (room part : List ℕ) (found k count : ℕ) → found ≤ length room → length part ≡ k → count ≤ k → take (found + count) (put_mid found k room part) ≡ take found room ++ take count part
 taken_more room part found k count within long few =

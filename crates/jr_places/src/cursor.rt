@@ -20,9 +20,9 @@ ghost use Rattle.jr_places.specs.declared.cursor.TheConstants.{WINDOW};
 
 use crate::file_bytes::FileBytes;
 use crate::place::RowPlace;
-use crate::unstuffing::{data_length, spelled_length, unstuff};
+use crate::unstuffing::{spelled_length, unstuff};
 use jr_base::Memory;
-use jr_cut::{ScanEnd, Stop, fill_count, stop_at};
+use jr_cut::{ScanEnd, Stop, fill_count, segment_length, stop_at};
 use jr_head::Head;
 use jr_scan::{IntervalRef, McuReader, Place};
 use std::alloc::Global;
@@ -232,7 +232,7 @@ impl<'a> ScanCursor<'a> {
         ensures spells { (read : ℕ) × (found : List ℕ) × (result ≡ self.now.at + read) × IsRaw (take read (drop self.now.at self.now.file.bytes.now)) found }
         ensures stop { IsStop (drop result self.now.file.bytes.now) }
     {
-        self.at + data_length(&self.file.bytes[self.at..])
+        self.at + segment_length(&self.file.bytes[self.at..])
     }
 
     /// Goes to an offset of the file behind the interval's data.

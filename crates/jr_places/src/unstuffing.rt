@@ -14,23 +14,6 @@ pub(crate) struct Spelled {
     pub found: usize,
 }
 
-/// How many bytes at the front spell data, up to a marker or to the end.
-pub(crate) fn data_length(bytes: &[u8]) -> usize
-    ensures within { result ≤ length bytes.now }
-    ensures spells { (spelled : List ℕ) × IsRaw (take result bytes.now) spelled }
-    ensures stop { IsStop (drop result bytes.now) }
-{
-    let mut at: usize = 0;
-    'bytes: loop {
-        let end = at + plain_count(&bytes[at..]);
-        let next = end + fill_count(&bytes[end..]);
-        if next >= bytes.len() || bytes[next] != 0 {
-            return end;
-        }
-        at = next + 1;
-    }
-}
-
 /// Copies the plain bytes at the front of `raw` to that of `room`, as many as have room: answers how many.
 fn copy_plain(raw: &[u8], room: &mut [u8]) -> usize
     ensures within { result ≤ length raw.now }

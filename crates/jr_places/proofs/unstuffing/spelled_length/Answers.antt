@@ -2,7 +2,7 @@ use Rattle.std.proofs.Common.{◌≡◌, ◌+◌, ◌-◌, ◌<◌, ◌≤◌, �
 use Rattle.jr_base.specs.declared.marker.TheConstants.{PREFIX}
 use Rattle.jr_cut.proofs.Cuts.{stop_end, stop_code, rest_is, fill_some, raw_stuffed}
 use Rattle.jr_cut.proofs.Unstuffed.{raw_run}
-use Rattle.jr_places.proofs.Slices.{fill_full, fill_next, plain_each, plain_next}
+use Rattle.jr_cut.proofs.Slices.{fill_full, fill_next, plain_each, plain_next}
 use Rattle.jr_places.proofs.unstuffing.spelled_length.Goals as goal
 use Rattle.jr_places.proofs.unstuffing.spelled_length.Goals.{then-found-count-via-then-found-count, then-found-count-via-else-found-count+then-next-raw, then-found-count-via-else-found-count+else-next-raw+then-raw-next-ne0}
 

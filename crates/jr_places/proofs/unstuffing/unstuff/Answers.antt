@@ -4,7 +4,7 @@ use borrow.Rule.Slice.PartMut.{put_mid}
 use Rattle.jr_base.specs.declared.marker.TheConstants.{PREFIX}
 use Rattle.jr_cut.specs.Cut.{IsRaw}
 use Rattle.jr_cut.proofs.Cuts.{stop_end, stop_code, rest_is, fill_some, raw_stuffed}
-use Rattle.jr_places.proofs.Slices.{fill_full, fill_next, plain_next}
+use Rattle.jr_cut.proofs.Slices.{fill_full, fill_next, plain_next}
 use Rattle.jr_places.proofs.Unstuffed.{run_put}
 use Rattle.jr_places.proofs.unstuffing.unstuff.Goals as goal
 use Rattle.jr_places.proofs.unstuffing.unstuff.Goals.{then-found-room-via-then-found-room, then-found-room-via-else-found-room+then-next-raw, then-found-room-via-else-found-room+else-next-raw+then-raw-next-ne0}
