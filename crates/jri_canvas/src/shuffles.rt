@@ -59,6 +59,7 @@ pub(crate) fn turn_by_fives(line: &[u8], width: usize, out: &mut [u8]) -> usize
     ensures few { result ≤ width }
     ensures front { take (3 * result) out.new ≡ coloured order.Bgr pixels.Colour line.now result }
 {
+    // A vector reads and writes a byte behind its five pixels.
     let count = width.saturating_sub(1) / 5;
     for n in 0..count {
         let bytes = u8x16::from_slice(&line[15 * n..]);
@@ -74,6 +75,7 @@ pub(crate) fn copy_by_fours(line: &[u8], width: usize, out: &mut [u8]) -> usize
     ensures few { result ≤ width }
     ensures front { take (4 * result) out.new ≡ coloured order.Rgbx pixels.Colour line.now result }
 {
+    // A vector reads four bytes behind its four pixels.
     let count = width.saturating_sub(2) / 4;
     for n in 0..count {
         let bytes = u8x16::from_slice(&line[12 * n..]);
@@ -89,6 +91,7 @@ pub(crate) fn turn_by_fours(line: &[u8], width: usize, out: &mut [u8]) -> usize
     ensures few { result ≤ width }
     ensures front { take (4 * result) out.new ≡ coloured order.Bgrx pixels.Colour line.now result }
 {
+    // A vector reads four bytes behind its four pixels.
     let count = width.saturating_sub(2) / 4;
     for n in 0..count {
         let bytes = u8x16::from_slice(&line[12 * n..]);
