@@ -77,23 +77,25 @@ fives_more o line out v n long room is before =
     ∙ ap (coloured o Colour line) next
 
 -- four pixels of four bytes
-fours_stored : (f : ℕ → List ℕ) (out v : List ℕ) (n : ℕ) → length v ≡ 16 → 16 * n + 16 ≤ length out → v ≡ flat_map f (range_with_len (4 * n) 4) → take (4 * (4 * n)) out ≡ flat_map f (range_with_len 0 (4 * n))
-    → take (4 * (4 * (n + 1))) (put_chunk (16 * n) out v) ≡ flat_map f (range_with_len 0 (4 * (n + 1)))
-fours_stored f out v n long room is before =
-    let to : 16 * n ≡ 4 * (4 * n) = omega arith in
-    let next : 4 * n + 4 ≡ 4 * (n + 1) = omega arith in
-    pixels_more f (4 * n) 4 (16 * n) 16 (4 * (4 * (n + 1))) out v (omega arith) (omega (arith, long)) (omega (arith, long, room)) (ap (λ (i : ℕ). take i out) to ∙ before) (take_all 16 v (omega (arith, long)) ∙ is)
-    ∙ ap (λ (m : ℕ). flat_map f (range_with_len 0 m)) next
-
 pub fours_more : (o : Order) (line out v : List ℕ) (n : ℕ) → length v ≡ 16 → 16 * n + 16 ≤ length out → v ≡ coloured o Colour (chunk (12 * n) 16 line) 4 → take (4 * (4 * n)) out ≡ coloured o Colour line (4 * n)
     → take (4 * (4 * (n + 1))) (put_chunk (16 * n) out v) ≡ coloured o Colour line (4 * (n + 1))
 fours_more o line out v n long room is before =
     let from : 12 * n ≡ 3 * (4 * n) = omega arith in
-    fours_stored (pixel_of o Colour line) out v n long room (is ∙ ap (λ (i : ℕ). coloured o Colour (chunk i 16 line) 4) from ∙ colours_in o line (4 * n) 16 4 (omega arith)) before
+    let to : 16 * n ≡ 4 * (4 * n) = omega arith in
+    let next : 4 * n + 4 ≡ 4 * (n + 1) = omega arith in
+    let new : take 16 v ≡ flat_map (pixel_of o Colour line) (range_with_len (4 * n) 4) = take_all 16 v (omega (arith, long)) ∙ is ∙ ap (λ (i : ℕ). coloured o Colour (chunk i 16 line) 4) from ∙ colours_in o line (4 * n) 16 4 (omega arith) in
+    pixels_more (pixel_of o Colour line) (4 * n) 4 (16 * n) 16 (4 * (4 * (n + 1))) out v (omega arith) (omega (arith, long)) (omega (arith, long, room)) (ap (λ (i : ℕ). take i out) to ∙ before) new
+    ∙ ap (coloured o Colour line) next
 
-pub grey_fours_more : (o : Order) (line out v : List ℕ) (n : ℕ) → length v ≡ 16 → 16 * n + 16 ≤ length out → v ≡ coloured o Grey (chunk (4 * n) 16 line) 4 → take (4 * (4 * n)) out ≡ coloured o Grey line (4 * n)
-    → take (4 * (4 * (n + 1))) (put_chunk (16 * n) out v) ≡ coloured o Grey line (4 * (n + 1))
-grey_fours_more o line out v n long room is before = fours_stored (pixel_of o Grey line) out v n long room (is ∙ greys_in o line (4 * n) 16 4 (omega arith)) before
+-- sixteen grey pixels of four bytes
+pub sixteens_more : (o : Order) (line out v : List ℕ) (n : ℕ) → length v ≡ 64 → 64 * n + 64 ≤ length out → v ≡ coloured o Grey (chunk (16 * n) 16 line) 16 → take (4 * (16 * n)) out ≡ coloured o Grey line (16 * n)
+    → take (4 * (16 * (n + 1))) (put_chunk (64 * n) out v) ≡ coloured o Grey line (16 * (n + 1))
+sixteens_more o line out v n long room is before =
+    let to : 64 * n ≡ 4 * (16 * n) = omega arith in
+    let next : 16 * n + 16 ≡ 16 * (n + 1) = omega arith in
+    let new : take 64 v ≡ flat_map (pixel_of o Grey line) (range_with_len (16 * n) 16) = take_all 64 v (omega (arith, long)) ∙ is ∙ greys_in o line (16 * n) 16 16 (omega arith) in
+    pixels_more (pixel_of o Grey line) (16 * n) 16 (64 * n) 64 (4 * (16 * (n + 1))) out v (omega arith) (omega (arith, long)) (omega (arith, long, room)) (ap (λ (i : ℕ). take i out) to ∙ before) new
+    ∙ ap (coloured o Grey line) next
 
 -- red, green and blue stand as they are
 pub in_order : (line : List ℕ) (n : ℕ) → length line ≡ 3 * n → coloured Rgb Colour line n ≡ line

@@ -6,7 +6,7 @@ ghost use Rattle.jri_canvas.specs.declared.layout.Order.TheVariants as order;
 ghost use Rattle.jri_canvas.specs.declared.layout.Pixels.TheVariants as pixels;
 
 use crate::layout::{Layout, Order, Pixels};
-use crate::shuffles::{copy_by_fours, spread_by_fours, turn_by_fives, turn_by_fours};
+use crate::shuffles::{copy_by_fours, spread_by_sixteens, turn_by_fives, turn_by_fours};
 
 /// Each byte of grey three times.
 fn spread_to_three(line: &[u8], out: &mut [u8])
@@ -44,7 +44,7 @@ fn spread_to_four(line: &[u8], out: &mut [u8])
     ensures rgbx { out.new ≡ coloured order.Rgbx pixels.Grey line.now (length line.now) }
     ensures bgrx { out.new ≡ coloured order.Bgrx pixels.Grey line.now (length line.now) }
 {
-    let done = spread_by_fours(line, out);
+    let done = spread_by_sixteens(line, out);
     spread_rest_to_four(line, done, out);
 }
 

@@ -37,14 +37,18 @@ fn turned_with_fourth(bytes: u8x16) -> u8x16
     )
 }
 
-/// Each of four bytes of grey three times, and 255.
+/// Each byte of grey three times, and 255.
 #[inline(always)]
-fn spread_with_fourth(bytes: u8x16) -> u8x16
-    ensures { result ≡ coloured order.Rgbx pixels.Grey bytes 4 }
+fn spread_with_fourth(bytes: u8x16) -> u8x64
+    ensures { result ≡ coloured order.Rgbx pixels.Grey bytes 16 }
 {
     bytes.shuffle(
         Simd::splat(255),
-        [0, 0, 0, 16, 1, 1, 1, 16, 2, 2, 2, 16, 3, 3, 3, 16],
+        [
+            0, 0, 0, 16, 1, 1, 1, 16, 2, 2, 2, 16, 3, 3, 3, 16, 4, 4, 4, 16, 5, 5, 5, 16, 6, 6, 6,
+            16, 7, 7, 7, 16, 8, 8, 8, 16, 9, 9, 9, 16, 10, 10, 10, 16, 11, 11, 11, 16, 12, 12, 12,
+            16, 13, 13, 13, 16, 14, 14, 14, 16, 15, 15, 15, 16,
+        ],
     )
 }
 
@@ -55,6 +59,7 @@ pub(crate) fn turn_by_fives(line: &[u8], width: usize, out: &mut [u8]) -> usize
     ensures few { result ≤ width }
     ensures front { take (3 * result) out.new ≡ coloured order.Bgr pixels.Colour line.now result }
 {
+    // A vector reads and writes a byte behind its five pixels.
     let count = width.saturating_sub(1) / 5;
     for n in 0..count {
         let bytes = u8x16::from_slice(&line[15 * n..]);
@@ -70,6 +75,7 @@ pub(crate) fn copy_by_fours(line: &[u8], width: usize, out: &mut [u8]) -> usize
     ensures few { result ≤ width }
     ensures front { take (4 * result) out.new ≡ coloured order.Rgbx pixels.Colour line.now result }
 {
+    // A vector reads four bytes behind its four pixels.
     let count = width.saturating_sub(2) / 4;
     for n in 0..count {
         let bytes = u8x16::from_slice(&line[12 * n..]);
@@ -85,6 +91,7 @@ pub(crate) fn turn_by_fours(line: &[u8], width: usize, out: &mut [u8]) -> usize
     ensures few { result ≤ width }
     ensures front { take (4 * result) out.new ≡ coloured order.Bgrx pixels.Colour line.now result }
 {
+    // A vector reads four bytes behind its four pixels.
     let count = width.saturating_sub(2) / 4;
     for n in 0..count {
         let bytes = u8x16::from_slice(&line[12 * n..]);
@@ -93,16 +100,16 @@ pub(crate) fn turn_by_fours(line: &[u8], width: usize, out: &mut [u8]) -> usize
     4 * count
 }
 
-/// Lays out the first bytes of grey three times each, and 255, four at a time: answers how many.
-pub(crate) fn spread_by_fours(line: &[u8], out: &mut [u8]) -> usize
+/// Lays out the first bytes of grey three times each, and 255, sixteen at a time: answers how many.
+pub(crate) fn spread_by_sixteens(line: &[u8], out: &mut [u8]) -> usize
     requires { length out.old ≡ 4 * length line.now }
     ensures few { result ≤ length line.now }
     ensures front { take (4 * result) out.new ≡ coloured order.Rgbx pixels.Grey line.now result }
 {
-    let count = line.len().saturating_sub(12) / 4;
+    let count = line.len() / 16;
     for n in 0..count {
-        let bytes = u8x16::from_slice(&line[4 * n..]);
-        spread_with_fourth(bytes).copy_to_slice(&mut out[16 * n..]);
+        let bytes = u8x16::from_slice(&line[16 * n..]);
+        spread_with_fourth(bytes).copy_to_slice(&mut out[64 * n..]);
     }
-    4 * count
+    16 * count
 }

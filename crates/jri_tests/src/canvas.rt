@@ -33,6 +33,46 @@ fn lays_out_colours(rt: HostRuntime) -> Result<(), Fail> {
     Ok(())
 }
 
+/// A line of seven pixels: vectors take the first four or five.
+const SEVEN: [u8; 21] = [
+    1, 2, 3, 4, 5, 6, 7, 8, 9, 10, 11, 12, 13, 14, 15, 16, 17, 18, 19, 20, 21,
+];
+
+/// What a canvas of 29 bytes has of it, by layout.
+const LONGER: [(u32, [u8; 29]); 3] = [
+    (
+        2,
+        [
+            3, 2, 1, 6, 5, 4, 9, 8, 7, 12, 11, 10, 15, 14, 13, 18, 17, 16, 21, 20, 19, 7, 7, 7, 7,
+            7, 7, 7, 7,
+        ],
+    ),
+    (
+        3,
+        [
+            1, 2, 3, 255, 4, 5, 6, 255, 7, 8, 9, 255, 10, 11, 12, 255, 13, 14, 15, 255, 16, 17, 18,
+            255, 19, 20, 21, 255, 7,
+        ],
+    ),
+    (
+        4,
+        [
+            3, 2, 1, 255, 6, 5, 4, 255, 9, 8, 7, 255, 12, 11, 10, 255, 15, 14, 13, 255, 18, 17, 16,
+            255, 21, 20, 19, 255, 7,
+        ],
+    ),
+];
+
+#[test]
+fn lays_out_a_longer_line(rt: HostRuntime) -> Result<(), Fail> {
+    for (layout, expected) in &LONGER {
+        let mut canvas = [BEFORE; 29];
+        let found = lay_out(&SEVEN, 7, 3, &mut canvas, 29, *layout);
+        assert!(rt; found == SOUND && canvas == *expected, "{layout}");
+    }
+    Ok(())
+}
+
 /// Two lines of one grey pixel, four bytes apart.
 const GREYS: [(u32, usize, u32, [u8; 8]); 5] = [
     (0, 4, SOUND, [1, 7, 7, 7, 2, 7, 7, 7]),
