@@ -14,6 +14,6 @@ mod skipping;
 mod unstuffing;
 
 pub use file_bytes::FileBytes;
-pub use laws::{no_mcu_in_long_data, run_behind, split_segment};
+pub use laws::{no_mcu_in_long_data, place_stays, run_behind, split_segment, top_is_place};
 pub use place::{RowPlace, stands_at};
 pub use rows::{decode_rows, lines_before, lines_between, rows_with_room, skip_rows};

@@ -103,8 +103,9 @@ fn paint_row(head: &Head, samples: &mut SampleRow, row: u32, pixels: &mut [u8])
 }
 
 /// Decodes the next rows of MCUs from a place on, at most so many, as many as have room for their lines and as are settled, into the
-/// front of `pixels`, and answers the place behind them. It takes memory for a window and for one row of MCUs, before it writes the
-/// first pixel.
+/// front of `pixels`, and answers the place behind them. Where the place is one of a file that the bytes may be (all of them, or the
+/// first ones), the lines are those of its picture, and so is the place behind. It takes memory for a window and for one row of MCUs,
+/// before it writes the first pixel.
 pub fn decode_rows(
     alloc: Global,
     head: &Head,
@@ -143,7 +144,7 @@ pub fn decode_rows(
 }
 
 /// Passes over the next rows of MCUs from a place on, at most so many and as many as are settled, by reading their bits alone, and
-/// answers the place behind them. It takes memory for a window.
+/// answers the place behind them: one of each file that the bytes may be of which the given place is one. It takes memory for a window.
 pub fn skip_rows(
     alloc: Global,
     head: &Head,

@@ -9,8 +9,6 @@ use Rattle.jr_head.specs.Geometry.{mcus_down}
 use Rattle.jr_paint.specs.Lines.{line_size}
 use Rattle.jr_arrival.specs.Arrival.{IsFinalFault}
 use Rattle.jr_arrival.specs.Settled.{WantsMore}
-use Rattle.jr_scan.specs.ScanValue.{ScanValue}
-use Rattle.jr_places.specs.Meaning.{IsPlaceIn, MayBe}
 use Rattle.jr_places.specs.declared.place.RowPlace.{RowPlace}
 use Rattle.jr_places.specs.Places.{StandsAt, lines_before, lines_between, rows_to_give, rows_with_room}
 use Rattle.jri_memory.specs.Calls.{detail_of}
@@ -49,7 +47,7 @@ pub record HasRowAt (h : HeadValue) (p : RowPlace) (rows : ℕ) : Type 0 where
   pub some : 0 < rows
 
 -- the place has moved on over the next rows of MCUs, at most so many: over as many where all bytes are there, and else over those
--- that are settled. Where it was one of a file that the bytes may be, it still is. The report tells how many they are, and their lines
+-- that are settled. The report tells how many they are, and their lines
 pub record MovesOn (bytes : List ℕ) (all : Bool) (most : ℕ) (old new : RowPlace) (h : HeadValue) (r : RowsReport) : Type 0 where
   pub head : HeadOf bytes h
   pub from : StandsAt h old
@@ -58,7 +56,6 @@ pub record MovesOn (bytes : List ℕ) (all : Bool) (most : ℕ) (old new : RowPl
   pub few : r.rows ≤ most
   pub whole : all ≡ true → r.rows ≡ most
   pub none : r.rows ≡ 0 → new ≡ old
-  pub place : (whole : List ℕ) (t : ScanValue) → MayBe bytes all h whole t → IsPlaceIn bytes whole t old → IsPlaceIn bytes whole t new
   pub lines : r.lines ≡ lines_between h old.row new.row
   pub first : r.first_line ≡ lines_before h old.row
   pub refusal : r.refusal ≡ 0

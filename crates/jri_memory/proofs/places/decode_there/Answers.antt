@@ -19,7 +19,6 @@ returns-clause-given c =
         few = omega (arith, report.rows, told.few);
         whole = λ all. let rows = told.all all in omega (arith, report.rows, rows);
         none = λ zero. told.none (omega (arith, report.rows, zero));
-        place = told.place;
         lines = report.lines;
         first = report.first;
         refusal = report.refusal;
