@@ -1,5 +1,7 @@
-use Rattle.std.proofs.Common.{◌≡◌, ℕ, ◌+◌, ◌*◌, drop, inr, sym, ap, ◌∙◌, arith}
+use Rattle.std.proofs.Common.{◌≡◌, ℕ, ◌+◌, ◌*◌, take, drop, inr, sym, ap, subst, ◌∙◌, arith}
 use Rattle.jr_paint.specs.Lines.{line_size}
+use Rattle.jr_places.specs.Places.{lines_between}
+use Rattle.jr_places.specs.Shown.{AreLines}
 use Rattle.jri_memory.proofs.places.decode_there.Goals as goal
 
 pub returns-clause-given : goal.returns-clause-given
@@ -8,6 +10,9 @@ returns-clause-given c =
     let there = c.has_row_at.ensures.there c.if-not-has_row_at.false in
     let told = c.in-Ok.ensures in
     let report = c.of-report.ensures in
+    let bytes = c.args.file.bytes.now in
+    let are_all = c.args.file.are_all in
+    let pixels = c.decode_rows.new.pixels in
     inr (record {
       h = h;
       there = there;
@@ -19,11 +24,14 @@ returns-clause-given c =
         few = omega (arith, report.rows, told.few);
         whole = λ all. let rows = told.all all in omega (arith, report.rows, rows);
         none = λ zero. told.none (omega (arith, report.rows, zero));
+        place = told.place;
         lines = report.lines;
         first = report.first;
         refusal = report.refusal;
         detail = report.detail;
       };
+      are = subst (λ (n : ℕ). AreLines bytes are_all h c.args.place.now c.of-report.result.first_line n (take (n * line_size h) pixels)) (sym report.lines)
+          (subst (λ (k : ℕ). AreLines bytes are_all h c.args.place.now k (lines_between h c.args.place.now.row c.in-Ok.next.row) (take (lines_between h c.args.place.now.row c.in-Ok.next.row * line_size h) pixels)) (sym report.first) told.lines);
       long = told.long;
       behind = ap (λ (k : ℕ). drop (k * line_size h) c.decode_rows.new.pixels) report.lines ∙ told.kept ∙ ap (λ (k : ℕ). drop (k * line_size h) c.args.pixels.now) (sym report.lines);
     })
