@@ -1,5 +1,5 @@
 -- What the calls give that decode or pass over rows of MCUs from a place on.
-use Rattle.std.specs.Prelude.{◌≡◌, ◌≢◌, ℕ, ◌-◌, ◌+◌, ◌*◌, ◌<◌, ◌≤◌, ◌⊎◌, ◌==◌, min, Bool, true, false, List, length, drop}
+use Rattle.std.specs.Prelude.{◌≡◌, ◌≢◌, ℕ, ◌-◌, ◌+◌, ◌*◌, ◌<◌, ◌≤◌, ◌⊎◌, ◌==◌, min, Bool, true, false, List, length, take, drop}
 use Rattle.jr_segments.specs.declared.refusal.Refusal.{Refusal}
 use Rattle.jr_segments.specs.declared.refusal.Refusal.TheVariants.{Memory}
 use Rattle.jr_segments.specs.Refusal.{number_of}
@@ -9,6 +9,9 @@ use Rattle.jr_head.specs.Geometry.{mcus_down}
 use Rattle.jr_paint.specs.Lines.{line_size}
 use Rattle.jr_arrival.specs.Arrival.{IsFinalFault}
 use Rattle.jr_arrival.specs.Settled.{WantsMore}
+use Rattle.jr_scan.specs.ScanValue.{ScanValue}
+use Rattle.jr_places.specs.Meaning.{IsPlaceIn, MayBe}
+use Rattle.jr_places.specs.Shown.{AreLines}
 use Rattle.jr_places.specs.declared.place.RowPlace.{RowPlace}
 use Rattle.jr_places.specs.Places.{StandsAt, lines_before, lines_between, rows_to_give, rows_with_room}
 use Rattle.jri_memory.specs.Calls.{detail_of}
@@ -47,7 +50,7 @@ pub record HasRowAt (h : HeadValue) (p : RowPlace) (rows : ℕ) : Type 0 where
   pub some : 0 < rows
 
 -- the place has moved on over the next rows of MCUs, at most so many: over as many where all bytes are there, and else over those
--- that are settled. The report tells how many they are, and their lines
+-- that are settled. Where it was one of a file that the bytes may be, it still is. The report tells how many they are, and their lines
 pub record MovesOn (bytes : List ℕ) (all : Bool) (most : ℕ) (old new : RowPlace) (h : HeadValue) (r : RowsReport) : Type 0 where
   pub head : HeadOf bytes h
   pub from : StandsAt h old
@@ -56,6 +59,7 @@ pub record MovesOn (bytes : List ℕ) (all : Bool) (most : ℕ) (old new : RowPl
   pub few : r.rows ≤ most
   pub whole : all ≡ true → r.rows ≡ most
   pub none : r.rows ≡ 0 → new ≡ old
+  pub place : (whole : List ℕ) (t : ScanValue) → MayBe bytes all h whole t → IsPlaceIn bytes whole t old → IsPlaceIn bytes whole t new
   pub lines : r.lines ≡ lines_between h old.row new.row
   pub first : r.first_line ≡ lines_before h old.row
   pub refusal : r.refusal ≡ 0
@@ -68,11 +72,13 @@ pub record AwaitsHead (bytes : List ℕ) (all : Bool) (old new : RowPlace) (r : 
   pub place : new ≡ old
   pub told : TellsNothing r
 
--- rows are decoded, as many as were asked for and have room in the pixels; what stands behind their lines is as it was
+-- rows are decoded, as many as were asked for and have room in the pixels: their lines are those of the picture of each file that the
+-- bytes may be, where the place was one of it; what stands behind their lines is as it was
 pub record DecodesRows (bytes : List ℕ) (all : Bool) (rows : ℕ) (old new : RowPlace) (old_pixels pixels : List ℕ) (r : RowsReport) : Type 0 where
   pub h : HeadValue
   pub there : HasRowAt h old rows
   pub moves : MovesOn bytes all (rows_to_give h old.row rows (length old_pixels)) old new h r
+  pub are : AreLines bytes all h old (lines_before h old.row) r.lines (take (r.lines * line_size h) pixels)
   pub long : length pixels ≡ length old_pixels
   pub behind : drop (r.lines * line_size h) pixels ≡ drop (r.lines * line_size h) old_pixels
 

@@ -1,5 +1,6 @@
-use Rattle.std.proofs.Common.{◌≡◌, ℕ, ◌+◌, ◌*◌, drop, inr, sym, ap, ◌∙◌, arith}
-use Rattle.jr_paint.specs.Lines.{line_size}
+use Rattle.std.proofs.Common.{◌≡◌, ℕ, ◌+◌, ◌*◌, take, drop, inr, sym, ap, ◌∙◌, arith}
+use Rattle.jr_paint.specs.Lines.{line_size, next_lines_of}
+use Rattle.jr_places.specs.Places.{lines_before}
 use Rattle.jri_memory.proofs.places.decode_there.Goals as goal
 
 pub returns-clause-given : goal.returns-clause-given
@@ -19,11 +20,13 @@ returns-clause-given c =
         few = omega (arith, report.rows, told.few);
         whole = λ all. let rows = told.all all in omega (arith, report.rows, rows);
         none = λ zero. told.none (omega (arith, report.rows, zero));
+        place = told.place;
         lines = report.lines;
         first = report.first;
         refusal = report.refusal;
         detail = report.detail;
       };
+      are = λ whole t marks f may is shows. ap (λ (k : ℕ). take (k * line_size h) c.decode_rows.new.pixels) report.lines ∙ told.lines whole t marks f may is shows ∙ ap (next_lines_of h f (lines_before h c.args.place.now.row)) (sym report.lines);
       long = told.long;
       behind = ap (λ (k : ℕ). drop (k * line_size h) c.decode_rows.new.pixels) report.lines ∙ told.kept ∙ ap (λ (k : ℕ). drop (k * line_size h) c.args.pixels.now) (sym report.lines);
     })
