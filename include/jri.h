@@ -211,10 +211,12 @@ uint32_t jri_check(const uint8_t *file, size_t file_length, uint8_t *marks, size
  * as behind its last, or none was asked for; JRI_NO_ROOM only where the pixels have too little room for the next row; with
  * JRI_NO_MEMORY the refusal is 19. All of this holds of any place, whatever its numbers.
  *
- * Tested: where the place is the top, or was given by a call with JRI_MORE on bytes with which these begin, or by any call on these
- * very bytes, the lines are those that jri_decode gives of these bytes, or, with JRI_MORE, of every file that begins with them: no
- * line that was shown is taken back. With JRI_MORE each row is given whose MCUs are there, or whose intervals have ended. Where the
- * place is anything else the lines mean nothing. JRI_NO_MEMORY is answered only where memory was refused.
+ * Proved, too: where the place is the top, or was given by a call with JRI_MORE on bytes with which these begin, or, with JRI_ALL, by
+ * any call on these very bytes, the lines are those that jri_decode gives of these bytes, or, with JRI_MORE, of every file that begins
+ * with them: no line that was shown is taken back. Where the place is anything else the lines mean nothing.
+ *
+ * Tested: with JRI_MORE each row is given whose MCUs are there, or whose intervals have ended. JRI_NO_MEMORY is answered only where
+ * memory was refused.
  *
  * JRI_DAMAGED is not answered: that an interval has no decoding is jri_check's to tell.
  */
@@ -226,7 +228,8 @@ uint32_t jri_decode_rows(const uint8_t *file, size_t file_length, uint32_t more,
  * pass gives a place before each so many rows, an index: from there on each thread, and each look at a part, decodes its own rows
  * only. It takes memory for a few thousand bytes of the scan.
  *
- * Proved: as of jri_decode_rows, but for pixels and their room. Tested: the place is the one that jri_decode_rows gives.
+ * Proved: as of jri_decode_rows, but for pixels and their room: so rows that are decoded from its places on are the picture's. Tested:
+ * the place's numbers are those that jri_decode_rows gives.
  */
 uint32_t jri_skip_rows(const uint8_t *file, size_t file_length, uint32_t more, struct jri_place *place, uint32_t rows,
                        struct jri_rows *report);

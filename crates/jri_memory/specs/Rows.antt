@@ -72,13 +72,13 @@ pub record AwaitsHead (bytes : List ℕ) (all : Bool) (old new : RowPlace) (r : 
   pub place : new ≡ old
   pub told : TellsNothing r
 
--- rows are decoded, as many as were asked for and have room in the pixels: lines of the picture of each file that the bytes may be, of
--- which the place was one. What stands behind their lines is as it was
+-- rows are decoded, as many as were asked for and have room in the pixels: their lines are those of the picture of each file that the
+-- bytes may be, where the place was one of it; what stands behind their lines is as it was
 pub record DecodesRows (bytes : List ℕ) (all : Bool) (rows : ℕ) (old new : RowPlace) (old_pixels pixels : List ℕ) (r : RowsReport) : Type 0 where
   pub h : HeadValue
   pub there : HasRowAt h old rows
   pub moves : MovesOn bytes all (rows_to_give h old.row rows (length old_pixels)) old new h r
-  pub are : AreLines bytes all h old r.first_line r.lines (take (r.lines * line_size h) pixels)
+  pub are : AreLines bytes all h old (lines_before h old.row) r.lines (take (r.lines * line_size h) pixels)
   pub long : length pixels ≡ length old_pixels
   pub behind : drop (r.lines * line_size h) pixels ≡ drop (r.lines * line_size h) old_pixels
 

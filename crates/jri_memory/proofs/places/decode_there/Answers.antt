@@ -1,7 +1,6 @@
-use Rattle.std.proofs.Common.{◌≡◌, ℕ, ◌+◌, ◌*◌, take, drop, inr, sym, ap, subst, ◌∙◌, arith}
-use Rattle.jr_paint.specs.Lines.{line_size}
-use Rattle.jr_places.specs.Places.{lines_between}
-use Rattle.jr_places.specs.Shown.{AreLines}
+use Rattle.std.proofs.Common.{◌≡◌, ℕ, ◌+◌, ◌*◌, take, drop, inr, sym, ap, ◌∙◌, arith}
+use Rattle.jr_paint.specs.Lines.{line_size, next_lines_of}
+use Rattle.jr_places.specs.Places.{lines_before}
 use Rattle.jri_memory.proofs.places.decode_there.Goals as goal
 
 pub returns-clause-given : goal.returns-clause-given
@@ -30,8 +29,7 @@ returns-clause-given c =
         refusal = report.refusal;
         detail = report.detail;
       };
-      are = subst (λ (n : ℕ). AreLines bytes are_all h c.args.place.now c.of-report.result.first_line n (take (n * line_size h) pixels)) (sym report.lines)
-          (subst (λ (k : ℕ). AreLines bytes are_all h c.args.place.now k (lines_between h c.args.place.now.row c.in-Ok.next.row) (take (lines_between h c.args.place.now.row c.in-Ok.next.row * line_size h) pixels)) (sym report.first) told.lines);
+      are = λ whole t marks f may is shows. ap (λ (k : ℕ). take (k * line_size h) c.decode_rows.new.pixels) report.lines ∙ told.lines whole t marks f may is shows ∙ ap (next_lines_of h f (lines_before h c.args.place.now.row)) (sym report.lines);
       long = told.long;
       behind = ap (λ (k : ℕ). drop (k * line_size h) c.decode_rows.new.pixels) report.lines ∙ told.kept ∙ ap (λ (k : ℕ). drop (k * line_size h) c.args.pixels.now) (sym report.lines);
     })
