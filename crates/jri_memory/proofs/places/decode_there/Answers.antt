@@ -9,9 +9,6 @@ returns-clause-given c =
     let there = c.has_row_at.ensures.there c.if-not-has_row_at.false in
     let told = c.in-Ok.ensures in
     let report = c.of-report.ensures in
-    let bytes = c.args.file.bytes.now in
-    let are_all = c.args.file.are_all in
-    let pixels = c.decode_rows.new.pixels in
     inr (record {
       h = h;
       there = there;
