@@ -1,6 +1,7 @@
 //! What can be seen of a picture while it is decoded, for viewers.
 #![tactic(auto)]
 
+mod arriving_view;
 mod laws;
 mod looker;
 mod screen;
@@ -8,6 +9,7 @@ mod shown;
 mod view;
 mod watching;
 
+pub use arriving_view::ArrivingView;
 pub use laws::whole_view_is_picture;
 pub use screen::Screen;
 pub use view::View;

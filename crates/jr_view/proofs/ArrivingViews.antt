@@ -1,0 +1,200 @@
+-- What a view of a file that is still arriving shows, as bytes and lines come.
+use Rattle.std.proofs.Common.{◌≡◌, ◌≢◌, ℕ, ◌+◌, ◌-◌, ◌*◌, ◌/◌, ◌<◌, ◌≤◌, min, inl, inr, List, [], ◌++◌, length, length-append, get_or, take, drop, replicate, refl, sym, ap, ap₂, subst, ◌∙◌, append_assoc, arith}
+use Rattle.std.specs.Prelude.{All}
+use Rattle.std.proofs.lemmas.Bool.{cases_lt}
+use Rattle.std.proofs.lemmas.List.{drop-drop, drop-replicate, get_or_default, length-replicate, nil_from_length, take-take}
+use Rattle.std.proofs.lemmas.List.Elements.{All-append}
+use Rattle.std.proofs.lemmas.Nat.{le-div}
+use Rattle.std.proofs.Math.Nat.{add-mul, mul-le-mul_right}
+use Rattle.jr_base.specs.declared.limits.TheConstants.{MAX_FILE_BYTES}
+use Rattle.jr_head.specs.HeadValue.{HeadValue}
+use Rattle.jr_head.specs.Heads.{HeadOf, HasOneFault, HasOneHead}
+use Rattle.jr_head.proofs.OneHeadLaws.{one_head_or_one_fault}
+use Rattle.jr_paint.specs.Lines.{line_size, next_lines_of}
+use Rattle.jr_paint.proofs.PixelLaws.{next_lines_more}
+use Rattle.jr_arrival.specs.Arrival.{CanBecome}
+use Rattle.jr_arrival.specs.Arriving.{ArrivingValue, IsArriving, given_of}
+use Rattle.jr_arrival.specs.Settled.{AreFinal, GivesNext, NextLines}
+use Rattle.jr_arrival.proofs.HeadsStay.{head_stays}
+use Rattle.jr_view.specs.ArrivingViews.{ArrivingViewValue, AreSettled, HasLines, IsSeen, ShowsLines, lines_shown}
+
+-- what more bytes can become, those before can
+pub final_stays : (bytes more : List ℕ) (first count : ℕ) (pixels : List ℕ) → AreFinal bytes first count pixels → AreFinal (bytes ++ more) first count pixels
+final_stays bytes more first count pixels are file t marks f can has shows =
+    are file t marks f (record { more = more ++ can.more; is = can.is ∙ append_assoc bytes more can.more; are_bytes = can.are_bytes; small = can.small }) has shows
+
+-- bytes have one head
+pub one_head : (bytes : List ℕ) (g h : HeadValue) → All (λ b. b < 256) bytes → HeadOf bytes g → HeadOf bytes h → g ≡ h
+one_head bytes g h each a b = elim (one_head_or_one_fault bytes each) [ inl one ↦ one.only g a ∙ sym (one.only h b) | inr fault ↦ absurd (fault.no_head g a) ]
+
+-- no line is final of whatever the bytes
+pub no_lines : (bytes pixels : List ℕ) (line : ℕ) → AreFinal bytes 0 0 (take (0 * line) pixels)
+no_lines bytes pixels line file t marks f can has shows = let zero : 0 * line ≡ 0 = omega arith in ap (λ (k : ℕ). take k pixels) zero
+
+-- ---- more bytes
+
+lines_stay : (bytes more : List ℕ) (h : HeadValue) (lines : ℕ) (pixels : List ℕ) → ShowsLines bytes h lines pixels → ShowsLines (bytes ++ more) h lines pixels
+lines_stay bytes more h lines pixels s = record { size = s.size; few = s.few; shown = final_stays bytes more 0 lines (take (lines * line_size h) pixels) s.shown; grey = s.grey }
+
+pub seen_more : (a b : ArrivingValue) (pixels : List ℕ) (room : ℕ) (bytes more : List ℕ) → All (λ b. b < 256) more → given_of b.coming ≡ given_of a.coming → IsArriving b (bytes ++ more)
+    → IsSeen (record { arriving = a; pixels = pixels; room = room }) bytes → IsSeen (record { arriving = b; pixels = pixels; room = room }) (bytes ++ more)
+seen_more a b pixels room bytes more each lines come seen = record {
+  are_bytes = All-append (λ b. b < 256) bytes more seen.are_bytes each;
+  arriving = come;
+  none = λ e. lines ∙ seen.none e;
+  some = λ some small.
+      let long = length-append bytes more in
+      let has = seen.some some (omega (arith, small, long)) in
+      record {
+        head = has.head;
+        is_head = head_stays bytes more small has.head has.is_head;
+        lines = subst (λ (n : ℕ). ShowsLines (bytes ++ more) has.head n pixels) (sym lines) (lines_stay bytes more has.head (given_of a.coming) pixels has.lines);
+        room = has.room;
+      };
+}
+
+-- what a slice of bytes has
+pub all_bytes : (xs : List ℕ) → ((k : ℕ) → get_or xs k 0 < 256) → All (λ b. b < 256) xs
+all_bytes xs each k d l = subst (λ (b : ℕ). b < 256) (get_or_default xs k 0 d l) (each k)
+
+pub not_empty : (old new : List ℕ) → length new ≡ length old → old ≢ [] → new ≢ []
+not_empty old new long some e = some (nil_from_length old (sym long ∙ ap (λ (l : List ℕ). length l) e))
+
+-- ---- the head is there
+
+grey_shown : (bytes : List ℕ) (h : HeadValue) (pixels : List ℕ) → pixels ≡ replicate (h.height * line_size h) 128 → ShowsLines bytes h 0 pixels
+grey_shown bytes h pixels grey =
+    let zero : 0 * line_size h ≡ 0 = omega arith in
+    let all : h.height - 0 ≡ h.height = omega arith in
+    record {
+      size = ap (λ (l : List ℕ). length l) grey ∙ length-replicate (h.height * line_size h) 128;
+      few = omega arith;
+      shown = no_lines bytes pixels (line_size h);
+      grey = ap (λ (k : ℕ). drop k pixels) zero ∙ grey ∙ ap (λ (k : ℕ). replicate (k * line_size h) 128) (sym all);
+    }
+
+pub seen_grey : (a b : ArrivingValue) (h : HeadValue) (old pixels : List ℕ) (room next : ℕ) (bytes : List ℕ) → old ≡ [] → given_of b.coming ≡ given_of a.coming → IsArriving b bytes → (length bytes ≤ MAX_FILE_BYTES → HeadOf bytes h)
+    → pixels ≡ replicate (h.height * line_size h) 128 → line_size h ≤ next → IsSeen (record { arriving = a; pixels = old; room = room }) bytes → IsSeen (record { arriving = b; pixels = pixels; room = next }) bytes
+seen_grey a b h old pixels room next bytes empty lines come head grey wide seen =
+    let zero : given_of b.coming ≡ 0 = lines ∙ seen.none empty in
+    record {
+      are_bytes = seen.are_bytes;
+      arriving = come;
+      none = λ e. zero;
+      some = λ some small. record {
+        head = h;
+        is_head = head small;
+        lines = subst (λ (n : ℕ). ShowsLines bytes h n pixels) (sym zero) (grey_shown bytes h pixels grey);
+        room = wide;
+      };
+    }
+
+-- the file as it is looked at shows the same
+pub seen_same : (a b : ArrivingValue) (pixels : List ℕ) (room next : ℕ) (bytes : List ℕ) → given_of b.coming ≡ given_of a.coming → IsArriving b bytes → next ≡ room
+    → IsSeen (record { arriving = a; pixels = pixels; room = room }) bytes → IsSeen (record { arriving = b; pixels = pixels; room = next }) bytes
+seen_same a b pixels room next bytes lines come same seen = record {
+  are_bytes = seen.are_bytes;
+  arriving = come;
+  none = λ e. lines ∙ seen.none e;
+  some = λ some small.
+      let has = seen.some some small in
+      record {
+        head = has.head;
+        is_head = has.is_head;
+        lines = subst (λ (n : ℕ). ShowsLines bytes has.head n pixels) (sym lines) has.lines;
+        room = omega (arith, has.room, same);
+      };
+}
+
+-- ---- further lines
+
+-- lines are put behind those that are shown, of so many bytes a line
+pub record Puts (old new row : List ℕ) (first n line : ℕ) : Type 0 where
+  pub long : length new ≡ length old
+  pub before : take (first * line) new ≡ take (first * line) old
+  pub put : take ((first + n) * line) new ≡ take (first * line) old ++ take (n * line) row
+  pub behind : drop ((first + n) * line) new ≡ drop ((first + n) * line) old
+
+more_lines : (bytes : List ℕ) (h : HeadValue) (first n : ℕ) (old new row : List ℕ) → first + n ≤ h.height → Puts old new row first n (line_size h) → AreFinal bytes first n (take (n * line_size h) row)
+    → ShowsLines bytes h first old → ShowsLines bytes h (first + n) new
+more_lines bytes h first n old new row high puts are s =
+    let line = line_size h in
+    let rest = h.height - (first + n) in
+    let sum = add-mul first n line in
+    let left : h.height - first ≡ n + rest = omega (arith, high) in
+    let size : (h.height - first) * line - n * line ≡ rest * line = let e : (h.height - first) * line ≡ (n + rest) * line = ap (λ (k : ℕ). k * line) left in let d = add-mul n rest line in omega (arith, e, d) in
+    let at : first * line + n * line ≡ (first + n) * line = sym sum in
+    record {
+      size = puts.long ∙ s.size;
+      few = high;
+      shown = λ file t marks f can has shows.
+          let zero : 0 + first ≡ first = omega arith in
+          puts.put ∙ ap₂ (λ (x y : List ℕ). x ++ y) (s.shown file t marks f can has shows) (are file t marks f can has shows ∙ ap (λ (k : ℕ). next_lines_of t.head f k n) (sym zero)) ∙ sym (next_lines_more t.head f 0 first n);
+      grey = puts.behind ∙ ap (λ (k : ℕ). drop k old) (sym at) ∙ sym (drop-drop (n * line) (first * line) old) ∙ ap (λ (l : List ℕ). drop (n * line) l) s.grey
+          ∙ drop-replicate (n * line) ((h.height - first) * line) 128 ∙ ap (λ (k : ℕ). replicate k 128) size;
+    }
+
+module _ (a b : ArrivingValue) (old row : List ℕ) (room n : ℕ) (bytes : List ℕ) (some : old ≢ []) (wide : length row ≡ room) (lines : given_of b.coming ≡ given_of a.coming + n) (come : IsArriving b bytes)
+    (next : GivesNext bytes (given_of a.coming) n row) (seen : IsSeen (record { arriving = a; pixels = old; room = room }) bytes) where
+  -- the head that the view has is the bytes'
+  there : (x : NextLines bytes (given_of a.coming) n row) → HasLines (record { arriving = a; pixels = old; room = room }) bytes
+  there x = seen.some some x.scan.head.small
+
+  is_theirs : (x : NextLines bytes (given_of a.coming) n row) → x.settled.scan.head ≡ (there x).head
+  is_theirs x = one_head bytes x.settled.scan.head (there x).head seen.are_bytes x.scan.head (there x).is_head
+
+  pub seen_row : (new : List ℕ) (g : HeadValue) → 0 < n → (length bytes ≤ MAX_FILE_BYTES → HeadOf bytes g) → Puts old new row (given_of a.coming) n (line_size g) → IsSeen (record { arriving = b; pixels = new; room = length row }) bytes
+  seen_row new g more head puts = elim next [
+    | inl none ↦ absurd (omega (arith, none.0, more))
+    | inr x ↦
+        let first = given_of a.coming in
+        let has = there x in
+        let h = has.head in
+        let theirs = is_theirs x in
+        let same : g ≡ h = one_head bytes g h seen.are_bytes (head x.scan.head.small) has.is_head in
+        let few : first + n ≤ x.settled.scan.head.height = omega (arith, x.count, more) in
+        let high : first + n ≤ h.height = subst (λ (v : HeadValue). first + n ≤ v.height) theirs few in
+        let are : AreFinal bytes first n (take (n * line_size h) row) = subst (λ (v : HeadValue). AreFinal bytes first n (take (n * line_size v) row)) theirs x.are in
+        let puts' : Puts old new row first n (line_size h) = subst (λ (v : HeadValue). Puts old new row first n (line_size v)) same puts in
+        record {
+          are_bytes = seen.are_bytes;
+          arriving = come;
+          none = λ e. absurd (not_empty old new puts.long some e);
+          some = λ is small. record {
+            head = h;
+            is_head = has.is_head;
+            lines = subst (λ (k : ℕ). ShowsLines bytes h k new) (sym lines) (more_lines bytes h first n old new row high puts' are has.lines);
+            room = omega (arith, has.room, wide);
+          };
+        }
+  ]
+
+  -- where no line is given, all that are settled are shown
+  pub all_settled : n ≡ 0 → AreSettled bytes (given_of b.coming)
+  all_settled none = elim next [
+    | inl w ↦ inl w.1
+    | inr x ↦
+        let has = there x in
+        let h = has.head in
+        let line = line_size h in
+        let theirs = is_theirs x in
+        let some_line : 0 < line = elim (cases_lt 0 line) [
+          | inl l ↦ l
+          | inr g ↦
+              let z : line ≡ 0 = omega (arith, g) in
+              let size : h.height * line ≡ 0 = ap (λ (k : ℕ). h.height * k) z ∙ omega arith in
+              absurd (some (nil_from_length old (has.lines.size ∙ size)))
+        ] in
+        let one : 1 ≤ length row / line = le-div 1 (length row) line some_line (omega (arith, has.room, wide)) in
+        let one' : 1 ≤ length row / line_size x.settled.scan.head = subst (λ (v : HeadValue). 1 ≤ length row / line_size v) (sym theirs) one in
+        inr (x.settled, x.scan, x.rows, omega (arith, x.count, none, lines, one'))
+  ]
+
+-- what was shown stays as it was
+pub row_keeps : (old new row : List ℕ) (first n : ℕ) (bytes : List ℕ) (g h : HeadValue) → All (λ b. b < 256) bytes → HeadOf bytes g → HeadOf bytes h → Puts old new row first n (line_size g) → take (first * line_size h) new ≡ take (first * line_size h) old
+row_keeps old new row first n bytes g h each is_g is_h puts = let same = one_head bytes g h each is_g is_h in subst (λ (v : HeadValue). take (first * line_size v) new ≡ take (first * line_size v) old) same puts.before
+
+pub still_kept : (first later line : ℕ) (old now new : List ℕ) → first ≤ later → take (first * line) now ≡ take (first * line) old → take (later * line) new ≡ take (later * line) now → take (first * line) new ≡ take (first * line) old
+still_kept first later line old now new le before after =
+    let less : first * line ≤ later * line = mul-le-mul_right {m = first} {n = later} line le in
+    sym (take-take (first * line) (later * line) new less) ∙ ap (λ (l : List ℕ). take (first * line) l) after ∙ take-take (first * line) (later * line) now less ∙ before
