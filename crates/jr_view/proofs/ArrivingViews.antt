@@ -1,22 +1,30 @@
 -- What a view of a file that is still arriving shows, as bytes and lines come.
-use Rattle.std.proofs.Common.{◌≡◌, ◌≢◌, ℕ, ◌+◌, ◌-◌, ◌*◌, ◌/◌, ◌<◌, ◌≤◌, min, inl, inr, List, [], ◌++◌, length, length-append, get_or, take, drop, replicate, refl, sym, ap, ap₂, subst, ◌∙◌, append_assoc, arith}
+use Rattle.std.proofs.Common.{◌≡◌, ◌≢◌, ℕ, ◌+◌, ◌-◌, ◌*◌, ◌/◌, ◌<◌, ◌≤◌, ◌⊎◌, min, inl, inr, List, [], ◌∷◌, ◌++◌, length, length-append, get_or, take, drop, replicate, refl, sym, ap, ap₂, subst, ◌∙◌, append_assoc, arith}
 use Rattle.std.specs.Prelude.{All}
 use Rattle.std.proofs.lemmas.Bool.{cases_lt}
-use Rattle.std.proofs.lemmas.List.{drop-drop, drop-replicate, get_or_default, length-replicate, nil_from_length, take-take}
+use Rattle.std.proofs.lemmas.List.{append-nil, drop-drop, drop-replicate, drop_at, get_or_default, length-drop, length-replicate, length-take-le, nil_from_length, take-append-drop, take-append-le, take-take, take_all}
 use Rattle.std.proofs.lemmas.List.Elements.{All-append}
 use Rattle.std.proofs.lemmas.Nat.{le-div}
-use Rattle.std.proofs.Math.Nat.{add-mul, mul-le-mul_right}
+use borrow.Rule.Slice.PartMut.{put_mid}
+use Rattle.std.proofs.Math.Nat.{add-mul, div-mul-le_self, mul-le-mul_right}
 use Rattle.jr_base.specs.declared.limits.TheConstants.{MAX_FILE_BYTES}
 use Rattle.jr_head.specs.HeadValue.{HeadValue}
 use Rattle.jr_head.specs.Heads.{HeadOf, HasOneFault, HasOneHead}
 use Rattle.jr_head.proofs.OneHeadLaws.{one_head_or_one_fault}
 use Rattle.jr_paint.specs.Lines.{line_size, next_lines_of}
 use Rattle.jr_paint.proofs.PixelLaws.{next_lines_more}
+use Rattle.jr_scan.specs.ScanValue.{ScanValue}
+use Rattle.jr_picture.specs.declared.mark.Mark.{Mark}
+use Rattle.jr_picture.specs.Headline.{ShowsFirst}
+use Rattle.jr_rows.specs.declared.marked.Marked.{Marked}
+use Rattle.jr_stream.specs.SomeLines.{PaintsLines}
 use Rattle.jr_arrival.specs.Arrival.{CanBecome}
 use Rattle.jr_arrival.specs.Arriving.{ArrivingValue, IsArriving, given_of}
+use Rattle.jr_arrival.specs.Growing.{HasScan}
 use Rattle.jr_arrival.specs.Settled.{AreFinal, GivesNext, NextLines}
 use Rattle.jr_arrival.proofs.HeadsStay.{head_stays}
-use Rattle.jr_view.specs.ArrivingViews.{ArrivingViewValue, AreSettled, HasLines, IsSeen, ShowsLines, lines_shown}
+use Rattle.jr_arrival.proofs.LinesStay.{one_lines}
+use Rattle.jr_view.specs.ArrivingViews.{ArrivingViewValue, AreSettled, HasLines, IsPictureOf, IsSeen, KeepsLines, ShowsLines, lines_shown, view_of}
 
 -- what more bytes can become, those before can
 pub final_stays : (bytes more : List ℕ) (first count : ℕ) (pixels : List ℕ) → AreFinal bytes first count pixels → AreFinal (bytes ++ more) first count pixels
@@ -56,6 +64,10 @@ seen_more a b pixels room bytes more each lines come seen = record {
 -- what a slice of bytes has
 pub all_bytes : (xs : List ℕ) → ((k : ℕ) → get_or xs k 0 < 256) → All (λ b. b < 256) xs
 all_bytes xs each k d l = subst (λ (b : ℕ). b < 256) (get_or_default xs k 0 d l) (each k)
+
+none_or_some : (xs : List ℕ) → (xs ≡ []) ⊎ (xs ≢ [])
+none_or_some [] = inl refl
+none_or_some (x ∷ xs) = inr (λ e. absurd cc)
 
 pub not_empty : (old new : List ℕ) → length new ≡ length old → old ≢ [] → new ≢ []
 not_empty old new long some e = some (nil_from_length old (sym long ∙ ap (λ (l : List ℕ). length l) e))
@@ -169,6 +181,24 @@ module _ (a b : ArrivingValue) (old row : List ℕ) (room n : ℕ) (bytes : List
         }
   ]
 
+  -- there is room for them
+  pub row_fits : (g : HeadValue) → 0 < n → (length bytes ≤ MAX_FILE_BYTES → HeadOf bytes g) → (n * line_size g ≤ length row) × ((given_of a.coming + n) * line_size g ≤ length old)
+  row_fits g more head = elim next [
+    | inl none ↦ absurd (omega (arith, none.0, more))
+    | inr x ↦
+        let first = given_of a.coming in
+        let has = there x in
+        let h = has.head in
+        let line = line_size h in
+        let same : g ≡ h = one_head bytes g h seen.are_bytes (head x.scan.head.small) has.is_head in
+        let count : n ≤ length row / line = subst (λ (v : HeadValue). n ≤ length row / line_size v) (is_theirs x) (omega (arith, x.count)) in
+        let few : first + n ≤ x.settled.scan.head.height = omega (arith, x.count, more) in
+        let high : first + n ≤ h.height = subst (λ (v : HeadValue). first + n ≤ v.height) (is_theirs x) few in
+        let room : n * line ≤ length row = omega (arith, mul-le-mul_right {m = n} {n = length row / line} line count, div-mul-le_self (length row) line) in
+        let inside : (first + n) * line ≤ length old = omega (arith, mul-le-mul_right {m = first + n} {n = h.height} line high, has.lines.size) in
+        subst (λ (v : HeadValue). (n * line_size v ≤ length row) × ((first + n) * line_size v ≤ length old)) (sym same) (room, inside)
+  ]
+
   -- where no line is given, all that are settled are shown
   pub all_settled : n ≡ 0 → AreSettled bytes (given_of b.coming)
   all_settled none = elim next [
@@ -191,10 +221,75 @@ module _ (a b : ArrivingValue) (old row : List ℕ) (room n : ℕ) (bytes : List
   ]
 
 -- what was shown stays as it was
-pub row_keeps : (old new row : List ℕ) (first n : ℕ) (bytes : List ℕ) (g h : HeadValue) → All (λ b. b < 256) bytes → HeadOf bytes g → HeadOf bytes h → Puts old new row first n (line_size g) → take (first * line_size h) new ≡ take (first * line_size h) old
-row_keeps old new row first n bytes g h each is_g is_h puts = let same = one_head bytes g h each is_g is_h in subst (λ (v : HeadValue). take (first * line_size v) new ≡ take (first * line_size v) old) same puts.before
+pub row_keeps : (old new : List ℕ) (first : ℕ) (bytes : List ℕ) (g h : HeadValue) → All (λ b. b < 256) bytes → HeadOf bytes g → HeadOf bytes h → take (first * line_size g) new ≡ take (first * line_size g) old
+    → take (first * line_size h) new ≡ take (first * line_size h) old
+row_keeps old new first bytes g h each is_g is_h before = let same = one_head bytes g h each is_g is_h in subst (λ (v : HeadValue). take (first * line_size v) new ≡ take (first * line_size v) old) same before
 
 pub still_kept : (first later line : ℕ) (old now new : List ℕ) → first ≤ later → take (first * line) now ≡ take (first * line) old → take (later * line) new ≡ take (later * line) now → take (first * line) new ≡ take (first * line) old
 still_kept first later line old now new le before after =
     let less : first * line ≤ later * line = mul-le-mul_right {m = first} {n = later} line le in
     sym (take-take (first * line) (later * line) new less) ∙ ap (λ (l : List ℕ). take (first * line) l) after ∙ take-take (first * line) (later * line) now less ∙ before
+
+pub keeps_more : (old now new : ArrivingViewValue) → ((bytes : List ℕ) → IsSeen old bytes → IsSeen now bytes) → lines_shown old ≤ lines_shown now → KeepsLines old now → KeepsLines now new → KeepsLines old new
+keeps_more old now new on le before after bytes h seen is = still_kept (lines_shown old) (lines_shown now) (line_size h) old.pixels now.pixels new.pixels le (before bytes h seen is) (after bytes h (on bytes seen) is)
+
+-- room for lines takes none away
+pub keeps_open : (a b : ArrivingValue) (old new row next : List ℕ) → (old ≢ [] → new ≡ old) → KeepsLines (view_of a old row) (view_of b new next)
+keeps_open a b old new row next same bytes h seen is = elim (none_or_some old) [
+  | inl e ↦
+      let zero : given_of a.coming * line_size h ≡ 0 = ap (λ (n : ℕ). n * line_size h) (seen.none e) ∙ omega arith in
+      ap (λ (k : ℕ). take k new) zero ∙ ap (λ (k : ℕ). take k old) (sym zero)
+  | inr some ↦ ap (λ (l : List ℕ). take (given_of a.coming * line_size h) l) (same some)
+]
+
+-- what a slice of all elements has in their place
+pub with_items_is : (v : ℕ) (old new : List ℕ) → v ≡ length old → length new ≡ length old → take v (new ++ drop (length new) old) ≡ new
+with_items_is v old new is long = take-append-le v new (drop (length new) old) (omega (arith, is, long)) ∙ take_all v new (omega (arith, is, long))
+
+-- ---- nothing more comes
+
+-- what is put behind the first elements
+pub put_behind : (a : ℕ) (xs ys : List ℕ) → a ≤ length xs → drop a (put_mid a (length xs - a) xs ys) ≡ ys
+put_behind a xs ys le =
+    let post = drop (length xs - a) (drop a xs) in
+    let none : length post ≡ 0 = length-drop (length xs - a) (drop a xs) ∙ ap (λ (n : ℕ). n - (length xs - a)) (length-drop a xs) ∙ omega arith in
+    drop_at (take a xs) (ys ++ post) a (length-take-le a xs le) ∙ ap (λ (l : List ℕ). ys ++ l) (nil_from_length post none) ∙ append-nil ys
+
+-- further lines of one picture are those of another
+pub rest_same : (scan : ScanValue) (first count : ℕ) (tail : List ℕ) (m : Marked) → first + count ≤ scan.head.height → PaintsLines scan first count tail m → (marks : List Mark) (f : ℕ → ℕ → ℕ → ℕ) → ShowsFirst scan (length scan.intervals) marks f
+    → tail ≡ next_lines_of scan.head f first count
+rest_same scan first count tail m high p marks f shows = p.lines ∙ one_lines scan (length scan.intervals) p.marks marks p.f f first count high p.shows shows
+
+module _ (a : ArrivingValue) (old : List ℕ) (room : ℕ) (bytes : List ℕ) (scan : ScanValue) (has : HasScan bytes scan) (seen : IsSeen (record { arriving = a; pixels = old; room = room }) bytes) where
+  -- the lines that are shown are lines of the scan's picture
+  shown_there : old ≢ [] → ShowsLines bytes scan.head (given_of a.coming) old
+  shown_there some =
+      let there = seen.some some has.head.small in
+      subst (λ (h : HeadValue). ShowsLines bytes h (given_of a.coming) old) (one_head bytes there.head scan.head seen.are_bytes there.is_head has.head) there.lines
+
+  pub few_shown : given_of a.coming ≤ scan.head.height
+  few_shown = elim (none_or_some old) [ inl e ↦ omega (arith, seen.none e) | inr some ↦ (shown_there some).few ]
+
+  pub size_whole : (whole : List ℕ) → (old ≢ [] → whole ≡ old) → (old ≡ [] → length whole ≡ scan.head.height * line_size scan.head) → length whole ≡ scan.head.height * line_size scan.head
+  size_whole whole there none = elim (none_or_some old) [ inl e ↦ none e | inr some ↦ ap (λ (l : List ℕ). length l) (there some) ∙ (shown_there some).size ]
+
+  shown_final : (whole : List ℕ) → (old ≢ [] → whole ≡ old) → AreFinal bytes 0 (given_of a.coming) (take (given_of a.coming * line_size scan.head) whole)
+  shown_final whole there = elim (none_or_some old) [
+    | inl e ↦ subst (λ (n : ℕ). AreFinal bytes 0 n (take (n * line_size scan.head) whole)) (sym (seen.none e)) (no_lines bytes whole (line_size scan.head))
+    | inr some ↦ subst (λ (l : List ℕ). AreFinal bytes 0 (given_of a.coming) (take (given_of a.coming * line_size scan.head) l)) (sym (there some)) (shown_there some).shown
+  ]
+
+  -- with the others they are the picture
+  pub whole_picture : (whole painted : List ℕ) → (old ≢ [] → whole ≡ old) → take (given_of a.coming * line_size scan.head) painted ≡ take (given_of a.coming * line_size scan.head) whole
+      → ((marks : List Mark) (f : ℕ → ℕ → ℕ → ℕ) → ShowsFirst scan (length scan.intervals) marks f → drop (given_of a.coming * line_size scan.head) painted ≡ next_lines_of scan.head f (given_of a.coming) (scan.head.height - given_of a.coming))
+      → IsPictureOf scan painted
+  whole_picture whole painted there before rest marks f shows =
+      let h = scan.head in
+      let first = given_of a.coming in
+      let size = first * line_size h in
+      let left = h.height - first in
+      let itself : CanBecome bytes bytes = record { more = []; is = sym (append-nil bytes); are_bytes = seen.are_bytes; small = has.head.small } in
+      let front : take size painted ≡ next_lines_of h f 0 first = before ∙ shown_final whole there bytes scan marks f itself has shows in
+      let zero : 0 + first ≡ first = omega arith in
+      let all : first + left ≡ h.height = let few = few_shown in omega (arith, few) in
+      sym (take-append-drop size painted) ∙ ap₂ (λ (x y : List ℕ). x ++ y) front (rest marks f shows ∙ ap (λ (k : ℕ). next_lines_of h f k left) (sym zero)) ∙ sym (next_lines_more h f 0 first left) ∙ ap (next_lines_of h f 0) all

@@ -18,6 +18,10 @@ pub record ArrivingViewValue : Type 0 where
   pub pixels : List ℕ
   pub room : ℕ
 
+-- the view of a file that has come so far, with these lines and this room
+abbrev pub view_of : ArrivingValue → (pixels row : List ℕ) → ArrivingViewValue
+view_of arriving pixels row = record { arriving = arriving; pixels = pixels; room = length row }
+
 -- how many lines are shown
 abbrev pub lines_shown : ArrivingViewValue → ℕ
 lines_shown v = given_of v.arriving.coming

@@ -2,6 +2,7 @@
 #![tactic(auto)]
 
 mod arriving_view;
+mod finished_view;
 mod laws;
 mod looker;
 mod screen;
@@ -10,6 +11,7 @@ mod view;
 mod watching;
 
 pub use arriving_view::ArrivingView;
+pub use finished_view::FinishedView;
 pub use laws::whole_view_is_picture;
 pub use screen::Screen;
 pub use view::View;
