@@ -246,6 +246,16 @@ keeps_open a b old new row next same bytes h seen is = elim (none_or_some old) [
 pub with_items_is : (v : ℕ) (old new : List ℕ) → v ≡ length old → length new ≡ length old → take v (new ++ drop (length new) old) ≡ new
 with_items_is v old new is long = take-append-le v new (drop (length new) old) (omega (arith, is, long)) ∙ take_all v new (omega (arith, is, long))
 
+-- a view by the slices of its lines
+pub seen_as : (b : ArrivingValue) (pixels row ps rs : List ℕ) → ps ≡ pixels → rs ≡ row → (bytes : List ℕ) → IsSeen (view_of b pixels row) bytes → IsSeen (view_of b ps rs) bytes
+seen_as b pixels row ps rs ep er bytes seen = subst (λ (l : List ℕ). IsSeen (view_of b l rs) bytes) (sym ep) (subst (λ (l : List ℕ). IsSeen (view_of b pixels l) bytes) (sym er) seen)
+
+pub keeps_as : (b d : ArrivingValue) (pixels row ps rs ps' rs' pixels' row' : List ℕ) → ps ≡ pixels → rs ≡ row → pixels' ≡ ps' → row' ≡ rs' → KeepsLines (view_of b ps rs) (view_of d ps' rs') → KeepsLines (view_of b pixels row) (view_of d pixels' row')
+keeps_as b d pixels row ps rs ps' rs' pixels' row' ep er ep' er' keeps =
+    subst (λ (l : List ℕ). KeepsLines (view_of b pixels row) (view_of d l row')) (sym ep')
+    (subst (λ (l : List ℕ). KeepsLines (view_of b pixels row) (view_of d ps' l)) (sym er')
+    (subst (λ (l : List ℕ). KeepsLines (view_of b l row) (view_of d ps' rs')) ep (subst (λ (l : List ℕ). KeepsLines (view_of b ps l) (view_of d ps' rs')) er keeps)))
+
 -- ---- nothing more comes
 
 -- what is put behind the first elements
