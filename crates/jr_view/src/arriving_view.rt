@@ -277,12 +277,7 @@ impl ArrivingView {
         ensures refusal { IfErr result (λ f. f ≢ refusal.Memory → (bytes : List ℕ) → IsSeen self.old bytes → RefusalOf bytes f) }
         ensures stays { IfErr result (λ f. (bytes : List ℕ) → IsSeen self.old bytes → IsFinalFault bytes f) }
     {
-        show_settled(
-            alloc,
-            &mut self.arriving,
-            &mut self.row,
-            &mut self.pixels,
-        )
+        show_settled(alloc, &mut self.arriving, &mut self.row, &mut self.pixels)
     }
 
     /// Nothing more comes: the picture of the file, of which the lines are decoded that were missing, with its scan and how many of
@@ -298,7 +293,9 @@ impl ArrivingView {
         ensures refusal { IfErr result (λ f. f ≢ refusal.Memory → (bytes : List ℕ) → IsSeen self bytes → RefusalOf bytes f) }
     {
         let ArrivingView {
-            arriving, pixels, ..
+            arriving,
+            pixels,
+            ..
         } = self;
         let first = arriving.lines();
         let Finished { scan, counts } = match arriving.finish(alloc) {
