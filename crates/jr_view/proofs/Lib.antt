@@ -1,3 +1,4 @@
+pub mod ArrivingViews
 pub mod Parts
 pub mod Rows
 pub mod Samples

@@ -1,6 +1,8 @@
 //! What can be seen of a picture while it is decoded, for viewers.
 #![tactic(auto)]
 
+mod arriving_view;
+mod finished_view;
 mod laws;
 mod looker;
 mod screen;
@@ -8,6 +10,8 @@ mod shown;
 mod view;
 mod watching;
 
+pub use arriving_view::ArrivingView;
+pub use finished_view::FinishedView;
 pub use laws::whole_view_is_picture;
 pub use screen::Screen;
 pub use view::View;

@@ -1,0 +1,36 @@
+use Rattle.std.proofs.Common.{◌≢◌, [], arith}
+use Rattle.jr_view.specs.ArrivingViews.{view_of}
+use Rattle.jr_view.proofs.ArrivingViews.{keeps_more, not_empty}
+use Rattle.jr_view.proofs.arriving_view.show_all.Goals as goal
+
+pub returns-in-Err-clause-kept : goal.returns-in-Err-clause-kept
+returns-in-Err-clause-kept c =
+    let a = c.args in
+    let r = c.rows in
+    let s = c.show_next.new in
+    keeps_more (view_of a.arriving.now a.pixels.now a.row.now) (view_of r.arriving r.pixels r.row) (view_of s.arriving s.pixels s.row) r.invariant.seen r.invariant.lines r.invariant.kept c.show_next.ensures.kept
+
+pub returns-in-Err-clause-refusal : goal.returns-in-Err-clause-refusal
+returns-in-Err-clause-refusal c other bytes seen = c.in-Err.ensures.refusal other bytes (c.rows.invariant.seen bytes seen).arriving
+
+pub returns-then-count-eq0-clause-kept : goal.returns-then-count-eq0-clause-kept
+returns-then-count-eq0-clause-kept c =
+    let a = c.args in
+    let r = c.rows in
+    let s = c.show_next.new in
+    keeps_more (view_of a.arriving.now a.pixels.now a.row.now) (view_of r.arriving r.pixels r.row) (view_of s.arriving s.pixels s.row) r.invariant.seen r.invariant.lines r.invariant.kept c.show_next.ensures.kept
+
+pub returns-then-count-eq0-clause-settled : goal.returns-then-count-eq0-clause-settled
+returns-then-count-eq0-clause-settled c bytes seen = c.in-Ok.ensures.settled c.if-count-eq0.true bytes (c.rows.invariant.seen bytes seen)
+
+pub rows-preserved : goal.rows-preserved
+rows-preserved c =
+    let a = c.args in
+    let r = c.rows in
+    let s = c.show_next.new in
+    record {
+      some = not_empty r.pixels s.pixels c.show_next.auto.pixels r.invariant.some;
+      seen = λ bytes seen. c.show_next.ensures.seen bytes (r.invariant.seen bytes seen);
+      lines = omega (arith, r.invariant.lines, c.in-Ok.ensures.lines);
+      kept = keeps_more (view_of a.arriving.now a.pixels.now a.row.now) (view_of r.arriving r.pixels r.row) (view_of s.arriving s.pixels s.row) r.invariant.seen r.invariant.lines r.invariant.kept c.show_next.ensures.kept;
+    }
