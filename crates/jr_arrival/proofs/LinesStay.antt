@@ -4,7 +4,7 @@ use Rattle.std.specs.Prelude.{ℤ}
 use Rattle.std.proofs.lemmas.Bool.{cases_lt}
 use Rattle.std.proofs.lemmas.List.{get_or-take}
 use Rattle.std.proofs.lemmas.Nat.{div-add-mod', div-mul-add, mod_below}
-use Rattle.std.proofs.Math.Nat.{div-div-eq-div-mul, mul-div-mul_left, mul-le-mul_right}
+use Rattle.std.proofs.Math.Nat.{div-div-eq-div-mul, div-lt_iff_lt-mul, mul-div-mul_left, mul-le-mul_right}
 use Rattle.jr_head.specs.HeadValue.{HeadValue}
 use Rattle.jr_head.specs.Geometry.{order_of, blocks_of, components_of, horizontal_of, vertical_of, horizontal_max, vertical_max, mcus_across, quantiser_of}
 use Rattle.jr_head.proofs.SamplingLaws.{length-order}
@@ -23,12 +23,13 @@ use Rattle.jr_picture.specs.declared.mark.Mark.{Mark}
 use Rattle.jr_picture.specs.declared.mark.Mark.TheVariants.{Blank, Sound, Damaged}
 use Rattle.jr_picture.specs.Headline.{interval_number, within_interval, spot_of, place_in, unit_number, decoded_sample, Holds, Shows, mark_in, ShowsFirst}
 use Rattle.jr_picture.proofs.BoardPictures.{block_there}
-use Rattle.jr_picture.proofs.Pictures.{line_same, same_samples}
+use Rattle.jr_picture.proofs.Pictures.{line_same}
 use Rattle.jr_rows.specs.Rows.{first_line, line_count}
+use Rattle.jr_settled.specs.More.{with_more}
+use Rattle.jr_settled.proofs.MoreData.{front_is_final}
 use Rattle.jr_arrival.specs.Arrival.{CanBecome}
-use Rattle.jr_arrival.specs.Growing.{HasScan, HasEndedAt, KeepsScan, IsSettled, RowIsSettled, with_more, lines_of_row}
+use Rattle.jr_arrival.specs.Growing.{HasScan, HasEndedAt, KeepsScan, IsSettled, RowIsSettled, lines_of_row}
 use Rattle.jr_arrival.proofs.ScansGoOn.{scan_is_final}
-use Rattle.jr_arrival.proofs.RunsGoOn.{front_is_final}
 
 -- ---- one interval
 
@@ -95,12 +96,6 @@ row_of r k a m some lt =
     let turned : n * a ≡ a * n = grind arith in
     let whole : m * (8 * a) ≡ a * (8 * m) = grind arith in
     div-div-eq-div-mul (n * a) m (8 * a) ∙ ap (λ (d : ℕ). n * a / d) whole ∙ ap (λ (z : ℕ). z / (a * (8 * m))) turned ∙ mul-div-mul_left n (8 * m) some ∙ div-mul-add r (8 * m) k lt
-
-pub div_below : (n rows deep : ℕ) → 0 < deep → n < rows * deep → n / deep < rows
-div_below n rows deep some lt = elim (cases_lt (n / deep) rows) [
-  | inl l ↦ l
-  | inr g ↦ absurd (omega (arith, lt, div-add-mod' n deep, mul-le-mul_right deep g))
-]
 
 module _ (bytes : List ℕ) (s t : ScanValue) (n : ℕ) (k m : List Mark) (f g : ℕ → ℕ → ℕ → ℕ) (keeps : KeepsScan bytes s t) (a : ShowsFirst s n k f) (b : ShowsFirst t n m g) where
   abbrev h : HeadValue
@@ -191,7 +186,7 @@ module _ (bytes : List ℕ) (s t : ScanValue) (n : ℕ) (k m : List Mark) (f g :
       (λ j lt.
       let deep = 8 * vertical_max h in
       let some : 0 < deep = omega (arith, a.lawful.components.down) in
-      let row : (y + j) / deep < rows = div_below (y + j) rows deep some (omega (arith, lt, few)) in
+      let row : (y + j) / deep < rows = (div-lt_iff_lt-mul some).1 (omega (arith, lt, few)) in
       (omega (arith, lt, few), settled ((y + j) / deep) row))
 
 pub lines_are_final : (bytes file : List ℕ) (s t : ScanValue) (row n : ℕ) (k m : List Mark) (f g : ℕ → ℕ → ℕ → ℕ) → CanBecome bytes file → HasScan bytes s → HasScan file t → RowIsSettled bytes s row → ShowsFirst s n k f → ShowsFirst t n m g
@@ -205,14 +200,3 @@ mark_is_final bytes file s t i n k m f g can x y e a b = ended_mark bytes s t n 
 pub lines_of_rows_are_final : (bytes file : List ℕ) (s t : ScanValue) (y count rows n : ℕ) (k m : List Mark) (f g : ℕ → ℕ → ℕ → ℕ) → CanBecome bytes file → HasScan bytes s → HasScan file t → ((row : ℕ) → row < rows → RowIsSettled bytes s row)
     → y + count ≤ min s.head.height (rows * (8 * vertical_max s.head)) → ShowsFirst s n k f → ShowsFirst t n m g → next_lines_of s.head f y count ≡ next_lines_of t.head g y count
 lines_of_rows_are_final bytes file s t y count rows n k m f g can x z settled few a b = first_lines bytes s t n k m f g (scan_is_final bytes file s t can x z) a b y count rows settled few
-
--- two pictures of a scan have the same lines
-pub one_lines : (t : ScanValue) (n : ℕ) (k m : List Mark) (f g : ℕ → ℕ → ℕ → ℕ) (first count : ℕ) → first + count ≤ t.head.height → ShowsFirst t n k f → ShowsFirst t n m g → next_lines_of t.head f first count ≡ next_lines_of t.head g first count
-one_lines t n k m f g first count high a b =
-    let h = t.head in
-    let l = a.lawful in
-    flat_map-moved (line_of h f) (line_of h g) first first count
-    (λ j lt. line_same h l f g (first + j)
-    (λ c x p left.
-    same_samples one_decoding one_front t n k m f g a.picture b.picture a.first b.first c x ((first + j) * vertical_of h c / vertical_max h) p left
-    (scaled_below (first + j) h.height (vertical_of h c) (vertical_max h) (sampled_at h c l p).down l.components.down (omega (arith, lt, high)))))

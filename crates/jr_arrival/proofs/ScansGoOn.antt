@@ -1,9 +1,7 @@
 -- More bytes keep the head, and the data of each interval.
 use Rattle.std.proofs.Common.{◌≡◌, ◌≢◌, ℕ, zero, suc, ◌+◌, ◌-◌, ◌<◌, ◌≤◌, ◌⊎◌, List, [], ◌∷◌, ◌++◌, length, replicate, drop, get_or, refl, sym, ap, subst, ◌∙◌, inl, inr, length-append, arith}
-use Rattle.std.proofs.Math.ListN.{length-replicate}
 use Rattle.std.proofs.lemmas.Bool.{cases_lt}
 use Rattle.std.proofs.lemmas.List.{append-nil, drop-append-le, get_or_past}
-use Rattle.jr_scan.proofs.Scans.{cut_few}
 use Rattle.jr_arrival.specs.Coming.{Becomes, IsOver}
 use Rattle.jr_head.specs.HeadValue.{HeadValue}
 use Rattle.jr_head.specs.Heads.{HeadOf, HasOneHead, HasOneFault}
@@ -12,6 +10,7 @@ use Rattle.jr_cut.specs.declared.scan_end.ScanEnd.TheVariants.{EndOfFile}
 use Rattle.jr_cut.specs.Cut.{IsCut, Cutting}
 use Rattle.jr_scan.specs.IntervalValue.{IntervalValue}
 use Rattle.jr_scan.specs.ScanValue.{ScanValue, IsScanOf, interval_of, intervals_of, mcus_in}
+use Rattle.jr_settled.proofs.ShownMcus.{count_is}
 use Rattle.jr_arrival.specs.Arrival.{CanBecome}
 use Rattle.jr_arrival.specs.Growing.{GrowsTo, HasEndedAt, HasScan, KeepsScan}
 use Rattle.jr_arrival.proofs.HeadsStay.{head_is_final}
@@ -57,12 +56,6 @@ same_interval : (s t : ScanValue) (i : ℕ) → t.head ≡ s.head → get_or t.i
 same_interval s t i h d =
     ap (λ (g : HeadValue). (let v : IntervalValue = record { number = i; mcus = mcus_in g i; bytes = get_or t.intervals i []; head = g } in v)) h
     ∙ ap (λ (b : List ℕ). (let v : IntervalValue = record { number = i; mcus = mcus_in s.head i; bytes = b; head = s.head } in v)) d
-
--- a scan has as many intervals as its head says
-pub count_is : (file : List ℕ) (s : ScanValue) → IsScanOf file s → length s.intervals ≡ intervals_of s.head
-count_is file s c =
-    let few = cut_few _ _ _ c.segments s.ended c.cut in
-    omega (arith, few, ap length c.intervals, length-append c.segments (replicate (intervals_of s.head - length c.segments) []), length-replicate {A = List ℕ} (intervals_of s.head - length c.segments) [])
 
 -- the scans of bytes, and of more
 module _ (bytes more : List ℕ) (s t : ScanValue) (heads : t.head ≡ s.head) (starts : s.head.scan_at ≤ length bytes) (a : IsScanOf bytes s) (b : IsScanOf (bytes ++ more) t) where

@@ -5,7 +5,7 @@ use Rattle.std.proofs.lemmas.Bool.{cases_lt}
 use Rattle.std.proofs.lemmas.Bool.Decides.{eqb_tells}
 use Rattle.std.proofs.lemmas.List.{get_or_past}
 use Rattle.std.proofs.lemmas.Nat.{div-add-mod', mod_below}
-use Rattle.std.proofs.Math.Nat.{mul-le-mul_right}
+use Rattle.std.proofs.Math.Nat.{div-lt_iff_lt-mul, mul-le-mul_right}
 use Rattle.jr_head.specs.Geometry.{mcus_across, mcus_down, mcus_of}
 use Rattle.jr_head.specs.Intervals.{first_mcu_of, interval_number, within_interval}
 use Rattle.jr_piece.proofs.ScanLaws.{shorter_front}
@@ -16,7 +16,6 @@ use Rattle.jr_arrival.specs.Growing.{HasEndedAt, IsSettled, RowIsSettled}
 use Rattle.jr_scan.specs.GrowingScan.{IsLatest}
 use Rattle.jr_arrival.specs.Settled.{HasRows, SettlesRows}
 use Rattle.jr_arrival.proofs.ScansGoOn.{data_at}
-use Rattle.jr_arrival.proofs.LinesStay.{div_below}
 
 -- ---- there is one latest interval, and one number of its whole MCUs
 
@@ -68,7 +67,7 @@ module _ (bytes : List ℕ) (s : ScanValue) (c : IsScanOf bytes s) (i : ℕ) (la
         let most : front ≤ r = omega (arith, whole.at_most, ap (λ (t : Bool). cond t (mcus_of s.head) (min r (mcus_of s.head - i * r))) e) in
         let split = div-add-mod' m r in
         let low = mod_below m r (some refl) in
-        let below : m / r < i + 1 = div_below m (i + 1) r (some refl) (let next : (i + 1) * r ≡ i * r + r = grind arith in omega (arith, lt, most, next)) in
+        let below : m / r < i + 1 = (div-lt_iff_lt-mul (some refl)).1 (let next : (i + 1) * r ≡ i * r + r = grind arith in omega (arith, lt, most, next)) in
         elim (cases_lt (m / r) i) [
           | inl l ↦ inl l
           | inr g ↦

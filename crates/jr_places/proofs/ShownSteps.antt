@@ -14,6 +14,7 @@ use Rattle.jr_piece.specs.Outcome.{IsOutcome, unit_of}
 use Rattle.jr_piece.specs.Units.{grey_unit, unit_in_piece}
 use Rattle.jr_rows.specs.Groups.{units_in}
 use Rattle.jr_rows.specs.Rows.{ShowsFirstUnits}
+use Rattle.jr_settled.proofs.ShownMcus.{count_is, grey_codes, shown_on, shown_there, whole_codes}
 use Rattle.jr_places.specs.declared.cursor.Reading.{Reading}
 use Rattle.jr_places.specs.declared.cursor.Reading.TheVariants.{GoesOn, IsStuck, HasEnded}
 use Rattle.jr_places.specs.declared.cursor.ScanCursor.{ScanCursor}
@@ -23,8 +24,7 @@ use Rattle.jr_places.specs.Places.{mcus_before}
 use Rattle.jr_places.specs.Cursors.{IsCursor, StandsIn, StaysTrue, in_window, number_of}
 use Rattle.jr_places.specs.Shown.{ShowsMore}
 use Rattle.jr_places.proofs.Going.{on_by}
-use Rattle.jr_places.proofs.ReadOn.{run_on}
-use Rattle.jr_places.proofs.ShownMcus.{all_marked, grey_codes, nothing_whole, shown_on, shown_there, whole_codes}
+use Rattle.jr_places.proofs.ReadOn.{nothing_whole, run_on}
 
 -- ---- one step behind the other
 
@@ -65,7 +65,7 @@ module _ (h : HeadValue) (c : ScanCursor) (lawful : IsLawful h) (some : 0 < bloc
         → ShowsFirstUnits t (length t.intervals) from (done + n) (units_in t.head new)
     step codes =
         shown_on t (length t.intervals) from done n (mcus_before t.head c.interval c.mcu) (units_in t.head old) (units_in t.head new) some_t at_t before (subst (λ (g : HeadValue). Kept g done old new) (sym may.head) kept)
-        (shown_there t (length t.intervals) c.interval c.mcu n (done * blocks_of t.head) (units_in t.head new) some_t number_t (omega (arith, number_t, all_marked whole t may.scan)) few_t codes)
+        (shown_there t (length t.intervals) c.interval c.mcu n (done * blocks_of t.head) (units_in t.head new) some_t number_t (omega (arith, number_t, count_is whole t may.scan)) few_t codes)
 
   per_of : (t : ScanValue) → length (order_of t.head) ≡ blocks_of t.head
   per_of t = length-order 0 t.head.components

@@ -25,6 +25,8 @@ use Rattle.jr_scan.specs.McuReader as readers
 use Rattle.jr_scan.specs.Run.{HasNoMcu, IsRun, RunOf, left_at, run_from, start_of_interval}
 use Rattle.jr_scan.specs.ScanValue.{ScanValue, interval_of}
 use Rattle.jr_piece.specs.Strips.{IsNext}
+use Rattle.jr_settled.proofs.Endings.{ending_stop, marker_stop}
+use Rattle.jr_settled.proofs.Spellings.{one_stop}
 use Rattle.jr_places.specs.declared.cursor.Reading.{Reading}
 use Rattle.jr_places.specs.declared.cursor.Reading.TheVariants.{GoesOn, IsStuck, HasEnded}
 use Rattle.jr_places.specs.declared.cursor.ScanCursor.{ScanCursor}
@@ -35,8 +37,7 @@ use Rattle.jr_places.specs.Places.{IsIn}
 use Rattle.jr_places.specs.Cursors.{Follows, HasWindow, IsCursor, IsOffset, NoneFollows, StandsIn, StaysIn, StaysTrue, begun, in_window, number_of}
 use Rattle.jr_places.proofs.Going.{OnBy, ended_on, ending_more, next_on, on_by}
 use Rattle.jr_places.proofs.ReadOn.{none_on, reads_first, reads_on}
-use Rattle.jr_places.proofs.Spelled.{one_stop, split_at}
-use Rattle.jr_places.proofs.Splits.{ending_stop, marker_stop}
+use Rattle.jr_places.proofs.Spelled.{split_at}
 
 -- ---- one step behind the other
 

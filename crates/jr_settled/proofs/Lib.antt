@@ -1,0 +1,5 @@
+pub mod Spellings
+pub mod Endings
+pub mod MoreData
+pub mod ShownMcus
+pub mod LinesOfPictures
