@@ -10,7 +10,6 @@ use Rattle.jr_paint.specs.Lines.{line_size}
 use Rattle.jr_scan.specs.GrowingScan.{HasCome}
 use Rattle.jr_scan.specs.ScanValue.{ScanValue}
 use Rattle.jr_settled.proofs.LinesOfPictures.{of_picture}
-use Rattle.jr_arrival.specs.Arrival.{IsFinalFault}
 use Rattle.jr_arrival.specs.Growing.{HasScan}
 use Rattle.jr_arrival.specs.Arriving.{ComingValue, GivesComing, HasBegun, Holds, given_of}
 use Rattle.jr_arrival.specs.Coming.{AreComing}
@@ -64,9 +63,6 @@ look_given kept bytes (Some c) n pixels holds none wants given = given_next c by
 -- what is too long
 pub is_too_long : (bytes : List ℕ) → MAX_FILE_BYTES < length bytes → RefusalOf bytes TooLong
 is_too_long bytes l = let e = lt-ltb MAX_FILE_BYTES (length bytes) l in inl (rw e refl)
-
-pub too_long_final : (bytes : List ℕ) → IsFinalFault bytes TooLong
-too_long_final bytes = record { not_early = λ e. absurd cc; start = λ e. absurd cc }
 
 pub begun_scan : (c : ComingValue) (bytes : List ℕ) → HasBegun c bytes → HasScan bytes c.growing.scan
 begun_scan c bytes begun = record { head = begun.0; scan = begun.1.scan }

@@ -4,7 +4,7 @@ use Rattle.std.specs.Prelude.{ℤ}
 use Rattle.std.proofs.lemmas.Bool.{cases_lt}
 use Rattle.std.proofs.lemmas.List.{get_or-take}
 use Rattle.std.proofs.lemmas.Nat.{div-add-mod', div-mul-add, mod_below}
-use Rattle.std.proofs.Math.Nat.{div-div-eq-div-mul, div-lt_iff_lt-mul, mul-div-mul_left, mul-le-mul_right}
+use Rattle.std.proofs.Math.Nat.{div-div-eq-div-mul, mul-div-mul_left, mul-le-mul_right}
 use Rattle.jr_head.specs.HeadValue.{HeadValue}
 use Rattle.jr_head.specs.Geometry.{order_of, blocks_of, components_of, horizontal_of, vertical_of, horizontal_max, vertical_max, mcus_across, quantiser_of}
 use Rattle.jr_head.proofs.SamplingLaws.{length-order}
@@ -179,16 +179,6 @@ module _ (bytes : List ℕ) (s t : ScanValue) (n : ℕ) (k m : List Mark) (f g :
       (omega (arith, lt), subst (λ (r : ℕ). RowIsSettled bytes s r) (sym at) settled))
       ∙ ap (λ (v : HeadValue). next_lines_of t.head g (first_line v row) (line_count v row)) (sym keeps.head)
 
-  -- lines of the first rows
-  first_lines : (y count rows : ℕ) → ((row : ℕ) → row < rows → RowIsSettled bytes s row) → y + count ≤ min h.height (rows * (8 * vertical_max h)) → next_lines_of h f y count ≡ next_lines_of t.head g y count
-  first_lines y count rows settled few =
-      some_lines y count
-      (λ j lt.
-      let deep = 8 * vertical_max h in
-      let some : 0 < deep = omega (arith, a.lawful.components.down) in
-      let row : (y + j) / deep < rows = (div-lt_iff_lt-mul some).1 (omega (arith, lt, few)) in
-      (omega (arith, lt, few), settled ((y + j) / deep) row))
-
 pub lines_are_final : (bytes file : List ℕ) (s t : ScanValue) (row n : ℕ) (k m : List Mark) (f g : ℕ → ℕ → ℕ → ℕ) → CanBecome bytes file → HasScan bytes s → HasScan file t → RowIsSettled bytes s row → ShowsFirst s n k f → ShowsFirst t n m g
     → lines_of_row s.head f row ≡ lines_of_row t.head g row
 lines_are_final bytes file s t row n k m f g can x y settled a b = kept_lines bytes s t n k m f g (scan_is_final bytes file s t can x y) a b row settled
@@ -196,7 +186,3 @@ lines_are_final bytes file s t row n k m f g can x y settled a b = kept_lines by
 pub mark_is_final : (bytes file : List ℕ) (s t : ScanValue) (i n : ℕ) (k m : List Mark) (f g : ℕ → ℕ → ℕ → ℕ) → CanBecome bytes file → HasScan bytes s → HasScan file t → HasEndedAt bytes s i → ShowsFirst s n k f → ShowsFirst t n m g
     → mark_in k i ≡ mark_in m i
 mark_is_final bytes file s t i n k m f g can x y e a b = ended_mark bytes s t n k m f g (scan_is_final bytes file s t can x y) a b i e
-
-pub lines_of_rows_are_final : (bytes file : List ℕ) (s t : ScanValue) (y count rows n : ℕ) (k m : List Mark) (f g : ℕ → ℕ → ℕ → ℕ) → CanBecome bytes file → HasScan bytes s → HasScan file t → ((row : ℕ) → row < rows → RowIsSettled bytes s row)
-    → y + count ≤ min s.head.height (rows * (8 * vertical_max s.head)) → ShowsFirst s n k f → ShowsFirst t n m g → next_lines_of s.head f y count ≡ next_lines_of t.head g y count
-lines_of_rows_are_final bytes file s t y count rows n k m f g can x z settled few a b = first_lines bytes s t n k m f g (scan_is_final bytes file s t can x z) a b y count rows settled few

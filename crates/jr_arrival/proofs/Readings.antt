@@ -217,11 +217,6 @@ all_read s number mcu (Some p) going r all =
     (r.0, record { front = front_of_run (interval_of s number) mcu r.0 p r.1.run (omega (arith, all)); longest = λ j ys f. omega (arith, f.at_most, all) })
 all_read s number mcu None going r all = absurd (over_or_going s number r.0 going)
 
--- and so are those that no further one follows
-pub none_follows : (s : ScanValue) (number mcu : ℕ) (place : Option Place) → MayGoOn s number → ReadsTo s number mcu place → ReadsAll s number mcu place → HasLongestFront (interval_of s number) mcu
-none_follows s number mcu (Some p) going r all = all
-none_follows s number mcu None going r all = absurd (over_or_going s number r.0 going)
-
 -- a reader that reads nothing stands there
 pub nothing_follows : (i : IntervalValue) (first left : ℕ) (zs ys : List (List ℤ)) (p : Place) → IsLawful i.head → IsNext i first zs p → FirstMcus (run_from i p left) 0 ys → 0 < left → first ≤ i.mcus → HasLongestFront i (first + 0)
 nothing_follows i first left zs ys p lawful next here some few =

@@ -95,21 +95,3 @@ settles s i front latest longest some bytes has row lt = row_settled bytes s has
 -- where a marker has ended the scan all is settled
 pub settles_all : (s : ScanValue) → s.ended ≢ EndOfFile → SettlesRows s (mcus_down s.head)
 settles_all s n bytes has row lt m from to = inl (has.scan, inl n)
-
-pub some_factor : (a b n : ℕ) → n ≡ a * b → 0 < n → 0 < a
-some_factor a b n e some = elim (cases_lt 0 a) [
-  | inl l ↦ l
-  | inr g ↦
-      let zero_is : a ≡ 0 = omega (arith, g) in
-      let none : a * b ≡ 0 * b = ap (λ (x : ℕ). x * b) zero_is in
-      absurd (omega (arith, e, some, none))
-]
-
-pub div_few : (n rows deep : ℕ) → 0 < deep → n ≤ rows * deep → n / deep ≤ rows
-div_few n rows deep some le = elim (cases_lt rows (n / deep)) [
-  | inl l ↦
-      let more : (rows + 1) * deep ≤ n / deep * deep = mul-le-mul_right deep (omega (arith, l)) in
-      let next : (rows + 1) * deep ≡ rows * deep + deep = grind arith in
-      absurd (omega (arith, le, more, next, some, div-add-mod' n deep))
-  | inr g ↦ g
-]

@@ -69,15 +69,6 @@ module _ (h : HeadValue) (c : ScanCursor) (lawful : IsLawful h) (is : IsCursor h
       go IsStuck means = record { before = means.before; on = means.on; no_more = record { front = means.no_more.front; blocks = means.no_more.blocks; few = omega (arith, means.no_more.few); longest = means.no_more.longest } }
       go HasEnded means = means
 
-  -- over others where no further one is whole
-  pub grey_true : c.reading ≢ GoesOn → StaysTrue h c passed
-  grey_true over whole t may s = record { from = s.from; means = go c.reading over s.means }
-    where
-      go : (r : Reading) → r ≢ GoesOn → MeansAt whole t (number_of r) c.interval c.mcu c.at c.place → MeansAt whole t (number_of r) c.interval (c.mcu + n) c.at q
-      go GoesOn none means = absurd (none refl)
-      go IsStuck none means = record { before = means.before; on = means.on; no_more = record { front = means.no_more.front; blocks = means.no_more.blocks; few = omega (arith, means.no_more.few); longest = means.no_more.longest } }
-      go HasEnded none means = means
-
 -- ---- to a later byte of its data
 
 pub moved : (h : HeadValue) (c : ScanCursor) (at : ℕ) (q : Place) → IsOffset c (c.place.bit / 8) at → HasWindow c → q.bit ≡ c.place.bit % 8 → q.predictions ≡ c.place.predictions → (whole : List ℕ) (t : ScanValue) → MayBe c.file.bytes.now c.file.are_all h whole t
