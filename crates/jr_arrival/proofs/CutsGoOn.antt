@@ -7,7 +7,7 @@ use Rattle.jr_cut.specs.declared.scan_end.ScanEnd.TheVariants.{EndOfFile}
 use Rattle.jr_cut.specs.Cut.{IsRaw, CodedSegment, with_markers, HasMarker, IsEnding, CutFrom, Cutting}
 use Rattle.jr_cut.proofs.CutLaw.{one_cut}
 use Rattle.jr_cut.proofs.OpenSegments.{ending_more}
-use Rattle.jr_settled.proofs.Endings.{behind_marker, ending_not_next, ending_stop, markers_stop, next_marker, next_stop}
+use Rattle.jr_settled.proofs.Endings.{behind_marker, bytes_of, ending_not_next, ending_stop, markers_stop, next_marker, next_stop}
 use Rattle.jr_settled.proofs.Spellings.{begins_stopped, one_stop}
 use Rattle.jr_arrival.specs.Growing.{GrowsTo}
 
@@ -20,9 +20,6 @@ goes_on_first first first' ds es e g = record {
   is = ap (λ (l : List (List ℕ)). first ∷ l) g.is;
   longer_is = ap (λ (x : List ℕ). x ∷ es) (sym e) ∙ ap (λ (l : List (List ℕ)). first ∷ l) g.longer_is;
 }
-
-abbrev bytes_of : List CodedSegment → List (List ℕ)
-bytes_of ps = map (λ p. p.bytes) ps
 
 segments_go_on : (n k i j o : ℕ) (raw raw' first first' more tail' : List ℕ) (ps qs : List CodedSegment) (end : ScanEnd)
     → IsRaw raw first → IsRaw raw' first' → AllByRecursion (λ p. IsRaw p.raw p.bytes) ps → AllByRecursion (λ p. IsRaw p.raw p.bytes) qs

@@ -10,7 +10,7 @@ use Rattle.jr_cut.specs.declared.scan_end.ScanEnd.TheVariants.{EndOfFile}
 use Rattle.jr_cut.specs.Cut.{IsCut, Cutting}
 use Rattle.jr_scan.specs.IntervalValue.{IntervalValue}
 use Rattle.jr_scan.specs.ScanValue.{ScanValue, IsScanOf, interval_of, intervals_of, mcus_in}
-use Rattle.jr_settled.proofs.ShownMcus.{count_is}
+use Rattle.jr_settled.proofs.ScanIntervals.{count_is, none_in}
 use Rattle.jr_arrival.specs.Arrival.{CanBecome}
 use Rattle.jr_arrival.specs.Growing.{GrowsTo, HasEndedAt, HasScan, KeepsScan}
 use Rattle.jr_arrival.proofs.HeadsStay.{head_is_final}
@@ -27,14 +27,9 @@ same_head bytes file g h can a b = one_head file h g (one_head_or_one_fault file
 
 -- ---- the intervals' data
 
-get_nothing : (m i : ℕ) → get_or (replicate {A = List ℕ} m []) i [] ≡ []
-get_nothing zero i = refl
-get_nothing (suc m) zero = refl
-get_nothing (suc m) (suc i) = get_nothing m i
-
 -- behind the segments there is nothing
 get_padded : (ds : List (List ℕ)) (m i : ℕ) → get_or (ds ++ replicate m []) i [] ≡ get_or ds i []
-get_padded [] m i = get_nothing m i
+get_padded [] m i = none_in m i
 get_padded (d ∷ ds) m zero = refl
 get_padded (d ∷ ds) m (suc i) = get_padded ds m i
 

@@ -10,7 +10,8 @@ use Rattle.jr_cut.specs.Cut.{IsRaw, marker, CodedSegment, with_markers, HasMarke
 use Rattle.jr_cut.proofs.OpenSegments.{ending_more as marked_more}
 use Rattle.jr_cut.proofs.Segments.{length_marker}
 use Rattle.jr_scan.specs.ScanValue.{ScanValue, intervals_of}
-use Rattle.jr_settled.proofs.Endings.{behind_marker, ending_not_next, marker_stop, next_marker}
+use Rattle.jr_settled.proofs.Endings.{behind_marker, bytes_of, ending_not_next, next_marker}
+use Rattle.jr_settled.proofs.ScanIntervals.{none_in}
 use Rattle.jr_places.specs.Meaning.{GoesOnAt, HasNoData}
 use Rattle.jr_places.proofs.Splits.{split_cut}
 use Rattle.jr_places.proofs.Spelled.{front_whole, length_front, nothing_spelled, split_at}
@@ -20,9 +21,6 @@ use Rattle.jr_places.proofs.Spelled.{front_whole, length_front, nothing_spelled,
 pub ending_more : (n k at : ℕ) (tail more : List ℕ) (end : ScanEnd) → (end ≢ EndOfFile) ⊎ (more ≡ []) → IsEnding n k at tail end → IsEnding n k at (tail ++ more) end
 ending_more n k at tail more end (inl not_file) h = marked_more n k at tail more end not_file h
 ending_more n k at tail more end (inr none) h = subst (λ (t : List ℕ). IsEnding n k at t end) (sym (ap (λ (x : List ℕ). tail ++ x) none ∙ append-nil tail)) h
-
-abbrev bytes_of : List CodedSegment → List (List ℕ)
-bytes_of ps = map (λ p. p.bytes) ps
 
 -- the segment behind one without data, and those that follow it
 pub record NextCut (n i at : ℕ) (bytes : List ℕ) (others : List (List ℕ)) (end : ScanEnd) : Type 0 where
@@ -114,11 +112,6 @@ pub its_data : (whole : List ℕ) (t : ScanValue) (i at : ℕ) (before : List �
 its_data whole t i at before g =
     let here : i + 0 ≡ i = omega arith in
     ap (λ (k : ℕ). get_or t.intervals k []) (sym here) ∙ sym (get_or-drop i t.intervals 0 []) ∙ ap (λ (l : List (List ℕ)). get_or l 0 []) g.datas
-
-none_in : (n k : ℕ) → get_or (replicate {A = List ℕ} n []) k [] ≡ []
-none_in zero k = refl
-none_in (suc n) zero = refl
-none_in (suc n) (suc k) = none_in n k
 
 module _ (whole : List ℕ) (t : ScanValue) (i at : ℕ) (before : List ℕ) (g : GoesOnAt whole t i at before) (none : g.rest ≡ []) where
   cut_there : CutFrom (intervals_of t.head) i at (drop at whole) ([] ∷ g.others) t.ended

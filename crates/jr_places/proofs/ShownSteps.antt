@@ -14,7 +14,8 @@ use Rattle.jr_piece.specs.Outcome.{IsOutcome, unit_of}
 use Rattle.jr_piece.specs.Units.{grey_unit, unit_in_piece}
 use Rattle.jr_rows.specs.Groups.{units_in}
 use Rattle.jr_rows.specs.Rows.{ShowsFirstUnits}
-use Rattle.jr_settled.proofs.ShownMcus.{count_is, grey_codes, shown_on, shown_there, whole_codes}
+use Rattle.jr_settled.proofs.ScanIntervals.{count_is}
+use Rattle.jr_settled.proofs.ShownMcus.{grey_codes, shown_on, shown_there, whole_codes}
 use Rattle.jr_places.specs.declared.cursor.Reading.{Reading}
 use Rattle.jr_places.specs.declared.cursor.Reading.TheVariants.{GoesOn, IsStuck, HasEnded}
 use Rattle.jr_places.specs.declared.cursor.ScanCursor.{ScanCursor}

@@ -18,7 +18,10 @@ ending_stop n k at tail (ExtraRestart o) h = marker_stop tail (RST0 + h.0) h.2 (
 ending_stop n k at tail (OutOfStep f x o) h = marker_stop tail (RST0 + f) h.1 (λ e. omega arith) (λ e. omega (arith, h.0))
 ending_stop n k at tail (OtherMarker c o) h = marker_stop tail c h.2 (λ e. omega (arith, h.0)) (λ e. omega (arith, h.1))
 
--- ---- the next segment's marker
+-- ---- the next segment and its marker
+
+abbrev pub bytes_of : List CodedSegment → List (List ℕ)
+bytes_of ps = map (λ p. p.bytes) ps
 
 abbrev pub next_marker : (k : ℕ) (p : CodedSegment) (ps : List CodedSegment) (tail : List ℕ) → HasMarker (with_markers k (p ∷ ps) ++ tail) (RST0 + k % 8)
 next_marker k p ps tail = (p.more, (p.raw ++ with_markers (suc k) ps) ++ tail, append_assoc (marker p.more (RST0 + k % 8)) (p.raw ++ with_markers (suc k) ps) tail)

@@ -1,9 +1,8 @@
 -- What MCUs of an interval show.
-use Rattle.std.proofs.Common.{◌≡◌, ℕ, ◌+◌, ◌-◌, ◌*◌, ◌/◌, ◌%◌, ◌<◌, ◌≤◌, Some, List, [], ◌++◌, length, replicate, get_or, sym, ap, ◌∙◌, length-append, arith}
+use Rattle.std.proofs.Common.{◌≡◌, ℕ, ◌+◌, ◌*◌, ◌/◌, ◌%◌, ◌<◌, ◌≤◌, Some, List, [], ◌++◌, length, get_or, sym, ap, ◌∙◌, arith}
 use Rattle.std.specs.Prelude.{ℤ}
 use Rattle.std.proofs.lemmas.List.{get_or-append_right}
 use Rattle.std.proofs.lemmas.Nat.{div-add-mod'}
-use Rattle.std.proofs.Math.ListN.{length-replicate}
 use Rattle.std.proofs.Math.Nat.{add-mul, div-lt_iff_lt-mul, mul-le-mul_right}
 use Rattle.jr_head.specs.HeadValue.{HeadValue}
 use Rattle.jr_head.specs.Geometry.{IsLawful, blocks_of, order_of, quantiser_of}
@@ -15,8 +14,7 @@ use Rattle.jr_scan.specs.declared.place.RunEnd.TheVariants.{AllRead}
 use Rattle.jr_scan.specs.IntervalValue.{IntervalValue}
 use Rattle.jr_scan.specs.Mcus.{LongestFront}
 use Rattle.jr_scan.specs.Run.{IsRun, run_from}
-use Rattle.jr_scan.specs.ScanValue.{ScanValue, IsScanOf, interval_of, intervals_of, mcus_in}
-use Rattle.jr_scan.proofs.Scans.{cut_few}
+use Rattle.jr_scan.specs.ScanValue.{ScanValue, interval_of, intervals_of, mcus_in}
 use Rattle.jr_piece.specs.PieceValue.{PieceValue}
 use Rattle.jr_piece.specs.Outcome.{IsOutcome, unit_of}
 use Rattle.jr_piece.specs.Strips.{FirstMcus, IsNext}
@@ -89,9 +87,3 @@ pub shown_on : (t : ScanValue) (n from done more at : ℕ) (old new : List (List
 shown_on t n from done more at old new some e before kept there b first =
     shown_more (blocks_of t.head) done more from (unit_shown b) (λ k. get_or old k []) (λ k. get_or new k []) some (before b first) kept
     (λ k lt. there b first k lt ∙ ap (λ (m : ℕ). unit_shown b (m + k / blocks_of t.head) (k % blocks_of t.head)) e)
-
--- a scan has as many intervals as its head says
-pub count_is : (file : List ℕ) (s : ScanValue) → IsScanOf file s → length s.intervals ≡ intervals_of s.head
-count_is file s c =
-    let few = cut_few _ _ _ c.segments s.ended c.cut in
-    omega (arith, few, ap length c.intervals, length-append c.segments (replicate (intervals_of s.head - length c.segments) []), length-replicate {A = List ℕ} (intervals_of s.head - length c.segments) [])
