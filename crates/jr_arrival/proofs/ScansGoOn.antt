@@ -33,7 +33,7 @@ get_padded [] m i = none_in m i
 get_padded (d ∷ ds) m zero = refl
 get_padded (d ∷ ds) m (suc i) = get_padded ds m i
 
-pub data_at : (s : ScanValue) (segments : List (List ℕ)) (m i : ℕ) → s.intervals ≡ segments ++ replicate m [] → get_or s.intervals i [] ≡ get_or segments i []
+data_at : (s : ScanValue) (segments : List (List ℕ)) (m i : ℕ) → s.intervals ≡ segments ++ replicate m [] → get_or s.intervals i [] ≡ get_or segments i []
 data_at s segments m i e = ap (λ (l : List (List ℕ)). get_or l i []) e ∙ get_padded segments m i
 
 get_more : (ended : List (List ℕ)) (last more : List ℕ) (others : List (List ℕ)) (i : ℕ) → (rest : List ℕ) × (get_or (ended ++ (last ++ more) ∷ others) i [] ≡ get_or (ended ++ last ∷ []) i [] ++ rest)
