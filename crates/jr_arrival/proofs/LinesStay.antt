@@ -15,7 +15,7 @@ use Rattle.jr_paint.proofs.PixelLaws.{flat_map-moved}
 use Rattle.jr_paint.proofs.Places.{mcu_inside}
 use Rattle.jr_idct.specs.Transform.{samples}
 use Rattle.jr_scan.specs.IntervalValue.{IntervalValue}
-use Rattle.jr_scan.specs.ScanValue.{ScanValue, interval_of, mcus_in}
+use Rattle.jr_scan.specs.ScanValue.{ScanValue, interval_of}
 use Rattle.jr_mcu.specs.Mcus.{component, block_of}
 use Rattle.jr_scan.specs.Mcus.{Front}
 use Rattle.jr_piece.proofs.ScanLaws.{one_decoding, one_front, shorter_front}
@@ -29,7 +29,7 @@ use Rattle.jr_settled.specs.More.{with_more}
 use Rattle.jr_settled.proofs.MoreData.{front_is_final}
 use Rattle.jr_arrival.specs.Arrival.{CanBecome}
 use Rattle.jr_arrival.specs.Growing.{HasScan, HasEndedAt, KeepsScan, IsSettled, RowIsSettled, lines_of_row}
-use Rattle.jr_arrival.proofs.ScansGoOn.{scan_is_final}
+use Rattle.jr_arrival.proofs.ScansGoOn.{interval_is, scan_is_final}
 
 -- ---- one interval
 
@@ -85,9 +85,7 @@ front_shown i f Damaged not_blank p k zs front c x y held lt =
 -- ---- two pictures
 
 pub interval_more : (s t : ScanValue) (i : ℕ) (rest : List ℕ) → t.head ≡ s.head → get_or t.intervals i [] ≡ get_or s.intervals i [] ++ rest → interval_of t i ≡ with_more (interval_of s i) rest
-interval_more s t i rest h d =
-    ap (λ (g : HeadValue). (let v : IntervalValue = record { number = i; mcus = mcus_in g i; bytes = get_or t.intervals i []; head = g } in v)) h
-    ∙ ap (λ (b : List ℕ). (let v : IntervalValue = record { number = i; mcus = mcus_in s.head i; bytes = b; head = s.head } in v)) d
+interval_more s t i rest h d = interval_is s t i (get_or s.intervals i [] ++ rest) h d
 
 -- the line of samples that line k of a row of MCUs takes lies in that row
 row_of : (r k a m : ℕ) → 0 < a → k < 8 * m → (r * (8 * m) + k) * a / m / (8 * a) ≡ r

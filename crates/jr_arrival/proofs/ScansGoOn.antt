@@ -47,8 +47,9 @@ get_ended [] last last' others i lt = absurd (omega (arith, lt))
 get_ended (e ∷ ended) last last' others zero lt = refl
 get_ended (e ∷ ended) last last' others (suc i) lt = get_ended ended last last' others i (omega (arith, lt))
 
-same_interval : (s t : ScanValue) (i : ℕ) → t.head ≡ s.head → get_or t.intervals i [] ≡ get_or s.intervals i [] → interval_of t i ≡ interval_of s i
-same_interval s t i h d =
+-- an interval of a scan with the same head, by its data
+pub interval_is : (s t : ScanValue) (i : ℕ) (bytes : List ℕ) → t.head ≡ s.head → get_or t.intervals i [] ≡ bytes → interval_of t i ≡ record { number = i; mcus = mcus_in s.head i; bytes = bytes; head = s.head }
+interval_is s t i bytes h d =
     ap (λ (g : HeadValue). (let v : IntervalValue = record { number = i; mcus = mcus_in g i; bytes = get_or t.intervals i []; head = g } in v)) h
     ∙ ap (λ (b : List ℕ). (let v : IntervalValue = record { number = i; mcus = mcus_in s.head i; bytes = b; head = s.head } in v)) d
 
@@ -102,7 +103,7 @@ module _ (bytes more : List ℕ) (s t : ScanValue) (heads : t.head ≡ s.head) (
   kept = record {
     head = heads;
     so_far = data_goes_on;
-    whole = λ i e. same_interval s t i heads (data_ended i e.0 e.1);
+    whole = λ i e. interval_is s t i (get_or s.intervals i []) heads (data_ended i e.0 e.1);
     end = λ n. (finished a n).1;
   }
 

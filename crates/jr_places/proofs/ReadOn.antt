@@ -9,7 +9,7 @@ use Rattle.jr_head.specs.HeadValue.{HeadValue}
 use Rattle.jr_head.specs.Geometry.{IsLawful, blocks_of, order_of}
 use Rattle.jr_head.proofs.SamplingLaws.{length-order}
 use Rattle.jr_mcu.specs.Block.{IsInDcRange}
-use Rattle.jr_mcu.specs.Mcus.{all_bits, predicted}
+use Rattle.jr_mcu.specs.Mcus.{all_bits}
 use Rattle.jr_mcu.proofs.LongMcus.{mcus_long}
 use Rattle.jr_mcu.proofs.McuLaws.{no_blocks}
 use Rattle.jr_scan.specs.declared.place.Place.{Place}
@@ -17,6 +17,7 @@ use Rattle.jr_scan.specs.declared.place.RunEnd.TheVariants.{AllRead}
 use Rattle.jr_scan.specs.IntervalValue.{IntervalValue}
 use Rattle.jr_scan.specs.Run.{HasNoMcu, IsRun, left_at, run_from, start_of_interval}
 use Rattle.jr_scan.specs.ScanValue.{ScanValue, interval_of, mcus_in}
+use Rattle.jr_scan.proofs.McuReaders.{no_run}
 use Rattle.jr_piece.specs.Strips.{CanReadFrom, FirstMcus, IsNext}
 use Rattle.jr_piece.proofs.ScanLaws.{one_run, runs_meet, shorter_front}
 use Rattle.jr_piece.proofs.StripRuns as runs
@@ -33,18 +34,6 @@ interval n m bytes h = record { number = n; mcus = m; bytes = bytes; head = h }
 -- the numbers of an interval don't matter to its runs
 renumbered : (i m j n : ℕ) (bytes : List ℕ) (h : HeadValue) (p q : Place) (k : ℕ) (ys : List (List ℤ)) → IsRun (run_from (interval i m bytes h) p k) ys q AllRead → IsRun (run_from (interval j n bytes h) p k) ys q AllRead
 renumbered i m j n bytes h p q k ys a = record { count = a.count; few = a.few; taken = a.taken; mcus = a.mcus; spelled = a.spelled; bit = a.bit; predictions = a.predictions; ends = a.ends }
-
-nothing_run : (i : IntervalValue) (first : ℕ) (zs : List (List ℤ)) (p : Place) → IsNext i first zs p → IsRun (run_from i p 0) [] p AllRead
-nothing_run i first zs p next = record {
-  count = 0;
-  few = omega arith;
-  taken = [];
-  mcus = (omega arith, no_blocks i.head p.predictions);
-  spelled = refl;
-  bit = omega arith;
-  predictions = next.run.predictions ∙ ap (λ (s : List ℤ). predicted i.head s []) (sym next.run.predictions);
-  ends = refl;
-}
 
 module _ (whole : List ℕ) (t : ScanValue) (i mcu at left : ℕ) (found rest : List ℕ) (p : Place) (lawful : IsLawful t.head) (r : ReadsAt whole t i mcu at p) (is : r.on.rest ≡ found ++ rest) where
   abbrev h : HeadValue
@@ -85,7 +74,7 @@ module _ (whole : List ℕ) (t : ScanValue) (i mcu at left : ℕ) (found rest : 
       ] in
       let there : HasNoMcu all (behind before p) =
       subst (λ (b : List ℕ). HasNoMcu (interval i (mcus_in h i) b h) (behind before p)) whole_data (none_behind (with_more near rest) before p longer) in
-      let here : FirstMcus (run_from all (behind before p) 1) 0 [] = record { to = behind before p; run = nothing_run all mcu r.blocks (behind before p) r.next; none = λ lt. there } in
+      let here : FirstMcus (run_from all (behind before p) 1) 0 [] = record { to = behind before p; run = no_run all (behind before p) (ap length r.next.run.predictions); none = λ lt. there } in
       record {
         front = mcu + 0;
         blocks = r.blocks ++ [];

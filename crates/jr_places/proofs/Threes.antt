@@ -1,15 +1,8 @@
 -- Three numbers as a list.
-use Rattle.std.proofs.Common.{◌≡◌, ℕ, zero, suc, ◌<◌, List, [], ◌∷◌, length, get_or, refl, sym, ap, subst, ◌∙◌, w32, of_z, to_z, arith}
+use Rattle.std.proofs.Common.{◌≡◌, List, [], ◌∷◌, length, get_or, refl, sym, ap, subst, ◌∙◌, w32, of_z, to_z, arith}
 use Rattle.std.specs.Prelude.{ℤ, pos}
-use Rattle.std.specs.List.{All}
 use Rattle.std.proofs.lemmas.Int.{ints, to_z-of_z}
 use Rattle.jr_mcu.specs.Block.{IsInDcRange}
-
-pub all_three : (P : ℤ → Type 0) (x y z : ℤ) → P x → P y → P z → All P (x ∷ y ∷ z ∷ [])
-all_three P x y z a b c zero d lt = a
-all_three P x y z a b c (suc zero) d lt = b
-all_three P x y z a b c (suc (suc zero)) d lt = c
-all_three P x y z a b c (suc (suc (suc k))) d lt = absurd (omega (arith, lt))
 
 pub same_three : (ps : List ℤ) (x y z : ℤ) → length ps ≡ 3 → x ≡ get_or ps 0 (pos 0) → y ≡ get_or ps 1 (pos 0) → z ≡ get_or ps 2 (pos 0) → ◌≡◌ {A = List ℤ} (x ∷ y ∷ z ∷ []) ps
 same_three [] x y z n a b c = absurd (omega (arith, n))
