@@ -16,11 +16,9 @@ pub row_lines : (t : ScanValue) (marks : List Mark) (f : ℕ → ℕ → ℕ →
     → next_lines_of t.head (samples_in (record { head = t.head; groups = groups })) (first_line t.head row) (line_count t.head row) ≡ next_lines_of t.head f (first_line t.head row) (line_count t.head row)
 row_lines t marks f row groups inside shown shows =
     let h = t.head in
-    let y = first_line h row in
-    let count = line_count h row in
-    let high : y < h.height = below_div_ceil row h.height (8 * vertical_max h) (omega (arith, shows.lawful.components.down)) inside in
-    of_picture t marks f y count (next_lines_of h (samples_in (record { head = h; groups = groups })) y count) (omega (arith, high)) shows
-    (λ b first. row_of_board t (length t.intervals) row groups shows.lawful inside shown b first y count (omega arith) (omega arith))
+    let high : first_line h row < h.height = below_div_ceil row h.height (8 * vertical_max h) (omega (arith, shows.lawful.components.down)) inside in
+    of_picture t marks f (first_line h row) (line_count h row) (next_lines_of h (samples_in (record { head = h; groups = groups })) (first_line h row) (line_count h row)) (omega (arith, high)) shows
+    (λ b first. row_of_board t (length t.intervals) row groups shows.lawful inside shown b first (first_line h row) (line_count h row) (omega arith) (omega arith))
 
 -- no lines
 pub no_lines : (h : HeadValue) (f : ℕ → ℕ → ℕ → ℕ) (y n : ℕ) (pixels : List ℕ) → n ≡ 0 → take (n * line_size h) pixels ≡ next_lines_of h f y n
