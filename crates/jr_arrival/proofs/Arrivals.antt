@@ -7,19 +7,14 @@ use Rattle.jr_head.specs.HeadValue.{HeadValue}
 use Rattle.jr_segments.specs.declared.refusal.Refusal.TheVariants.{TooLong}
 use Rattle.jr_head.specs.Heads.{HeadOf, RefusalOf}
 use Rattle.jr_paint.specs.Lines.{line_size}
-use Rattle.jr_piece.proofs.ScanLaws.{outcome}
 use Rattle.jr_scan.specs.GrowingScan.{HasCome}
 use Rattle.jr_scan.specs.ScanValue.{ScanValue}
-use Rattle.jr_picture.specs.Samples.{samples_of}
-use Rattle.jr_picture.specs.Boards.{marks_of}
-use Rattle.jr_rows.proofs.FirstBoards.{first_board, shows_first}
-use Rattle.jr_arrival.specs.Arrival.{IsFinalFault}
+use Rattle.jr_settled.proofs.LinesOfPictures.{of_picture}
 use Rattle.jr_arrival.specs.Growing.{HasScan}
 use Rattle.jr_arrival.specs.Arriving.{ComingValue, GivesComing, HasBegun, Holds, given_of}
 use Rattle.jr_arrival.specs.Coming.{AreComing}
 use Rattle.jr_arrival.specs.Settled.{AreFinal, GivesNext, WantsMore}
 use Rattle.jr_arrival.proofs.HeadsStay.{head_stays}
-use Rattle.jr_arrival.proofs.LinesStay.{one_lines}
 use Rattle.jr_arrival.proofs.ScansGoOn.{file_becomes}
 
 -- with more bytes it holds the longer file's scan
@@ -32,8 +27,7 @@ begun_stays c d bytes more small head count come (h, has, n) =
 pub coming_final : (bytes : List ℕ) (s : ScanValue) (first count : ℕ) (pixels : List ℕ) → first + count ≤ s.head.height → HasScan bytes s → AreComing s first count pixels → AreFinal bytes first count pixels
 coming_final bytes s first count pixels high has are file t marks f can there shows =
     let becomes = file_becomes bytes file s t can has there in
-    let b = first_board outcome t (length t.intervals) (omega arith) in
-    are t becomes b.0 b.1 ∙ one_lines t (length t.intervals) (marks_of b.0) marks (samples_of b.0) f first count (subst (λ (h : HeadValue). first + count ≤ h.height) (sym becomes.head) high) (shows_first t (length t.intervals) b.0 b.1 shows.lawful) shows
+    of_picture t marks f first count pixels (subst (λ (h : HeadValue). first + count ≤ h.height) (sym becomes.head) high) shows (are t becomes)
 
 pub given_next : (c : ComingValue) (bytes : List ℕ) (first n : ℕ) (pixels : List ℕ) → HasBegun c bytes → GivesComing c first n pixels → GivesNext bytes first n pixels
 given_next c bytes first n pixels begun given =
@@ -69,9 +63,6 @@ look_given kept bytes (Some c) n pixels holds none wants given = given_next c by
 -- what is too long
 pub is_too_long : (bytes : List ℕ) → MAX_FILE_BYTES < length bytes → RefusalOf bytes TooLong
 is_too_long bytes l = let e = lt-ltb MAX_FILE_BYTES (length bytes) l in inl (rw e refl)
-
-pub too_long_final : (bytes : List ℕ) → IsFinalFault bytes TooLong
-too_long_final bytes = record { not_early = λ e. absurd cc; start = λ e. absurd cc }
 
 pub begun_scan : (c : ComingValue) (bytes : List ℕ) → HasBegun c bytes → HasScan bytes c.growing.scan
 begun_scan c bytes begun = record { head = begun.0; scan = begun.1.scan }

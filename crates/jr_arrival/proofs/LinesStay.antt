@@ -15,7 +15,7 @@ use Rattle.jr_paint.proofs.PixelLaws.{flat_map-moved}
 use Rattle.jr_paint.proofs.Places.{mcu_inside}
 use Rattle.jr_idct.specs.Transform.{samples}
 use Rattle.jr_scan.specs.IntervalValue.{IntervalValue}
-use Rattle.jr_scan.specs.ScanValue.{ScanValue, interval_of, mcus_in}
+use Rattle.jr_scan.specs.ScanValue.{ScanValue, interval_of}
 use Rattle.jr_mcu.specs.Mcus.{component, block_of}
 use Rattle.jr_scan.specs.Mcus.{Front}
 use Rattle.jr_piece.proofs.ScanLaws.{one_decoding, one_front, shorter_front}
@@ -23,12 +23,13 @@ use Rattle.jr_picture.specs.declared.mark.Mark.{Mark}
 use Rattle.jr_picture.specs.declared.mark.Mark.TheVariants.{Blank, Sound, Damaged}
 use Rattle.jr_picture.specs.Headline.{interval_number, within_interval, spot_of, place_in, unit_number, decoded_sample, Holds, Shows, mark_in, ShowsFirst}
 use Rattle.jr_picture.proofs.BoardPictures.{block_there}
-use Rattle.jr_picture.proofs.Pictures.{line_same, same_samples}
+use Rattle.jr_picture.proofs.Pictures.{line_same}
 use Rattle.jr_rows.specs.Rows.{first_line, line_count}
+use Rattle.jr_settled.specs.More.{with_more}
+use Rattle.jr_settled.proofs.MoreData.{front_is_final}
 use Rattle.jr_arrival.specs.Arrival.{CanBecome}
-use Rattle.jr_arrival.specs.Growing.{HasScan, HasEndedAt, KeepsScan, IsSettled, RowIsSettled, with_more, lines_of_row}
-use Rattle.jr_arrival.proofs.ScansGoOn.{scan_is_final}
-use Rattle.jr_arrival.proofs.RunsGoOn.{front_is_final}
+use Rattle.jr_arrival.specs.Growing.{HasScan, HasEndedAt, KeepsScan, IsSettled, RowIsSettled, lines_of_row}
+use Rattle.jr_arrival.proofs.ScansGoOn.{interval_is, scan_is_final}
 
 -- ---- one interval
 
@@ -84,9 +85,7 @@ front_shown i f Damaged not_blank p k zs front c x y held lt =
 -- ---- two pictures
 
 pub interval_more : (s t : ScanValue) (i : ℕ) (rest : List ℕ) → t.head ≡ s.head → get_or t.intervals i [] ≡ get_or s.intervals i [] ++ rest → interval_of t i ≡ with_more (interval_of s i) rest
-interval_more s t i rest h d =
-    ap (λ (g : HeadValue). (let v : IntervalValue = record { number = i; mcus = mcus_in g i; bytes = get_or t.intervals i []; head = g } in v)) h
-    ∙ ap (λ (b : List ℕ). (let v : IntervalValue = record { number = i; mcus = mcus_in s.head i; bytes = b; head = s.head } in v)) d
+interval_more s t i rest h d = interval_is s t i (get_or s.intervals i [] ++ rest) h d
 
 -- the line of samples that line k of a row of MCUs takes lies in that row
 row_of : (r k a m : ℕ) → 0 < a → k < 8 * m → (r * (8 * m) + k) * a / m / (8 * a) ≡ r
@@ -95,12 +94,6 @@ row_of r k a m some lt =
     let turned : n * a ≡ a * n = grind arith in
     let whole : m * (8 * a) ≡ a * (8 * m) = grind arith in
     div-div-eq-div-mul (n * a) m (8 * a) ∙ ap (λ (d : ℕ). n * a / d) whole ∙ ap (λ (z : ℕ). z / (a * (8 * m))) turned ∙ mul-div-mul_left n (8 * m) some ∙ div-mul-add r (8 * m) k lt
-
-pub div_below : (n rows deep : ℕ) → 0 < deep → n < rows * deep → n / deep < rows
-div_below n rows deep some lt = elim (cases_lt (n / deep) rows) [
-  | inl l ↦ l
-  | inr g ↦ absurd (omega (arith, lt, div-add-mod' n deep, mul-le-mul_right deep g))
-]
 
 module _ (bytes : List ℕ) (s t : ScanValue) (n : ℕ) (k m : List Mark) (f g : ℕ → ℕ → ℕ → ℕ) (keeps : KeepsScan bytes s t) (a : ShowsFirst s n k f) (b : ShowsFirst t n m g) where
   abbrev h : HeadValue
@@ -184,16 +177,6 @@ module _ (bytes : List ℕ) (s t : ScanValue) (n : ℕ) (k m : List Mark) (f g :
       (omega (arith, lt), subst (λ (r : ℕ). RowIsSettled bytes s r) (sym at) settled))
       ∙ ap (λ (v : HeadValue). next_lines_of t.head g (first_line v row) (line_count v row)) (sym keeps.head)
 
-  -- lines of the first rows
-  first_lines : (y count rows : ℕ) → ((row : ℕ) → row < rows → RowIsSettled bytes s row) → y + count ≤ min h.height (rows * (8 * vertical_max h)) → next_lines_of h f y count ≡ next_lines_of t.head g y count
-  first_lines y count rows settled few =
-      some_lines y count
-      (λ j lt.
-      let deep = 8 * vertical_max h in
-      let some : 0 < deep = omega (arith, a.lawful.components.down) in
-      let row : (y + j) / deep < rows = div_below (y + j) rows deep some (omega (arith, lt, few)) in
-      (omega (arith, lt, few), settled ((y + j) / deep) row))
-
 pub lines_are_final : (bytes file : List ℕ) (s t : ScanValue) (row n : ℕ) (k m : List Mark) (f g : ℕ → ℕ → ℕ → ℕ) → CanBecome bytes file → HasScan bytes s → HasScan file t → RowIsSettled bytes s row → ShowsFirst s n k f → ShowsFirst t n m g
     → lines_of_row s.head f row ≡ lines_of_row t.head g row
 lines_are_final bytes file s t row n k m f g can x y settled a b = kept_lines bytes s t n k m f g (scan_is_final bytes file s t can x y) a b row settled
@@ -201,18 +184,3 @@ lines_are_final bytes file s t row n k m f g can x y settled a b = kept_lines by
 pub mark_is_final : (bytes file : List ℕ) (s t : ScanValue) (i n : ℕ) (k m : List Mark) (f g : ℕ → ℕ → ℕ → ℕ) → CanBecome bytes file → HasScan bytes s → HasScan file t → HasEndedAt bytes s i → ShowsFirst s n k f → ShowsFirst t n m g
     → mark_in k i ≡ mark_in m i
 mark_is_final bytes file s t i n k m f g can x y e a b = ended_mark bytes s t n k m f g (scan_is_final bytes file s t can x y) a b i e
-
-pub lines_of_rows_are_final : (bytes file : List ℕ) (s t : ScanValue) (y count rows n : ℕ) (k m : List Mark) (f g : ℕ → ℕ → ℕ → ℕ) → CanBecome bytes file → HasScan bytes s → HasScan file t → ((row : ℕ) → row < rows → RowIsSettled bytes s row)
-    → y + count ≤ min s.head.height (rows * (8 * vertical_max s.head)) → ShowsFirst s n k f → ShowsFirst t n m g → next_lines_of s.head f y count ≡ next_lines_of t.head g y count
-lines_of_rows_are_final bytes file s t y count rows n k m f g can x z settled few a b = first_lines bytes s t n k m f g (scan_is_final bytes file s t can x z) a b y count rows settled few
-
--- two pictures of a scan have the same lines
-pub one_lines : (t : ScanValue) (n : ℕ) (k m : List Mark) (f g : ℕ → ℕ → ℕ → ℕ) (first count : ℕ) → first + count ≤ t.head.height → ShowsFirst t n k f → ShowsFirst t n m g → next_lines_of t.head f first count ≡ next_lines_of t.head g first count
-one_lines t n k m f g first count high a b =
-    let h = t.head in
-    let l = a.lawful in
-    flat_map-moved (line_of h f) (line_of h g) first first count
-    (λ j lt. line_same h l f g (first + j)
-    (λ c x p left.
-    same_samples one_decoding one_front t n k m f g a.picture b.picture a.first b.first c x ((first + j) * vertical_of h c / vertical_max h) p left
-    (scaled_below (first + j) h.height (vertical_of h c) (vertical_max h) (sampled_at h c l p).down l.components.down (omega (arith, lt, high)))))

@@ -97,9 +97,6 @@ module _ (s : ScanValue) (v : ComingRowValue) (lawful : IsLawful s.head) (c : Is
   positive : 0 < deep
   positive = let some = lawful.components.down in omega (arith, some)
 
-  across_some : v.done < mcus_across s.head → 0 < mcus_across s.head
-  across_some lt = omega (arith, lt)
-
   row_high : first_line s.head v.row < s.head.height
   row_high = below_div_ceil v.row s.head.height deep positive c.stands.row
 

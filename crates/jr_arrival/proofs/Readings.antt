@@ -2,19 +2,15 @@
 use Rattle.std.proofs.Common.{◌≡◌, ◌≢◌, ℕ, ◌+◌, ◌-◌, ◌*◌, ◌/◌, ◌%◌, ◌<◌, ◌≤◌, inl, inr, Option, Some, None, List, [], ◌∷◌, ◌++◌, length, get_or, refl, sym, ap, subst, ◌∙◌, append_assoc, length-append, arith}
 use Rattle.std.specs.Prelude.{ℤ}
 use Rattle.std.proofs.lemmas.Bool.{cases_lt}
-use Rattle.std.proofs.lemmas.List.{get_or-append_right}
-use Rattle.std.proofs.lemmas.Nat.{div-add-mod'}
-use Rattle.std.proofs.Math.Nat.{add-mul, div-lt_iff_lt-mul, mul-le-mul_right}
+use Rattle.std.proofs.Math.Nat.{add-mul}
 use Rattle.jr_head.specs.HeadValue.{HeadValue}
-use Rattle.jr_head.specs.Geometry.{IsLawful, blocks_of, order_of, mcus_across, mcus_down, quantiser_of, vertical_max}
+use Rattle.jr_head.specs.Geometry.{IsLawful, blocks_of, order_of, mcus_across, mcus_down, vertical_max}
 use Rattle.jr_head.proofs.SamplingLaws.{length-order}
-use Rattle.jr_idct.specs.Transform.{samples}
-use Rattle.jr_mcu.specs.Mcus.{component}
 use Rattle.jr_scan.specs.declared.place.Place.{Place}
 use Rattle.jr_scan.specs.declared.place.RunEnd.TheVariants.{AllRead}
 use Rattle.jr_scan.specs.IntervalValue.{IntervalValue}
 use Rattle.jr_paint.specs.Lines.{next_lines_of}
-use Rattle.jr_paint.proofs.Places.{below_div_ceil, in_div_ceil}
+use Rattle.jr_paint.proofs.Places.{in_div_ceil}
 use Rattle.jr_scan.specs.Mcus.{HasLongestFront, LongestFront}
 use Rattle.jr_scan.specs.Run.{IsRun, run_from, start_of_interval}
 use Rattle.jr_scan.specs.ScanValue.{ScanValue, interval_of, intervals_of, mcus_in}
@@ -24,28 +20,24 @@ use Rattle.jr_piece.specs.Outcome.{IsOutcome, unit_of}
 use Rattle.jr_piece.specs.Strips.{CanReadFrom, FirstMcus, IsNext}
 use Rattle.jr_piece.specs.Units.{grey_unit, unit_in_piece}
 use Rattle.jr_piece.proofs.ScanLaws.{one_front, one_run, runs_meet, shorter_front}
-use Rattle.jr_piece.proofs.Strips.{component_on}
 use Rattle.jr_piece.proofs.StripRuns as runs
-use Rattle.jr_piece.proofs.UnitReading.{shown, behind}
 use Rattle.jr_picture.specs.BoardValue.{BoardValue}
-use Rattle.jr_picture.specs.Boards.{piece_at}
-use Rattle.jr_picture.specs.Headline.{interval_number, within_interval}
 use Rattle.jr_picture.specs.Samples.{samples_of}
-use Rattle.jr_rows.specs.Bands.{ShowsMcus, samples_in, unit_shown, unit_shown_of}
+use Rattle.jr_rows.specs.Bands.{samples_in}
 use Rattle.jr_rows.specs.Groups.{units_in}
-use Rattle.jr_rows.specs.Rows.{CountsMarks, HasFirst, HasSampleRoom, ShowsBehind, ShowsFirstUnits, first_line, line_count}
+use Rattle.jr_rows.specs.Rows.{CountsMarks, HasFirst, HasSampleRoom, ShowsFirstUnits, first_line, line_count}
 use Rattle.jr_rows.specs.RowLinesValue.{RowLinesValue}
 use Rattle.jr_rows.specs.RowsValue.{SampleRowValue}
 use Rattle.jr_rows.specs.declared.marked.Marked.{Marked}
-use Rattle.jr_rows.proofs.GroupLists.{units_long}
-use Rattle.jr_rows.proofs.PaintedRows.{row_painted}
-use Rattle.jr_rows.proofs.IntervalPlaces.{interval_at, mcus_in_some, next_there}
+use Rattle.jr_rows.proofs.IntervalPlaces.{mcus_in_some, next_there}
 use Rattle.jr_rows.proofs.PictureRows.{row_inside}
-use Rattle.jr_rows.proofs.ReadRows.{counts_none, posted_there, shown_more}
-use Rattle.jr_arrival.specs.Growing.{with_more}
+use Rattle.jr_rows.proofs.ReadRows.{counts_none}
+use Rattle.jr_settled.specs.More.{with_more}
+use Rattle.jr_settled.proofs.LinesOfPictures.{row_of_board}
+use Rattle.jr_settled.proofs.MoreData.{run_is_final}
+use Rattle.jr_settled.proofs.ShownMcus.{grey_codes, shown_on, shown_there, whole_codes}
 use Rattle.jr_arrival.specs.Coming.{AreComing, Becomes, Begins, ComingRowValue, HasGiven, IsComing, IsOver, MayGoOn, ReadsAll, ReadsTo, StandsIn}
 use Rattle.jr_arrival.proofs.LinesStay.{interval_more}
-use Rattle.jr_arrival.proofs.RunsGoOn.{run_is_final}
 
 -- ---- what a scan may become
 
@@ -103,67 +95,6 @@ coming_stays s t v b c = record {
   shows = λ u then. c.shows u (becomes_more s t u b then);
   counts = λ u then. c.counts u (becomes_more s t u b then);
 }
-
--- ---- what MCUs of an interval show
-
--- those that are there
-module _ (i : IntervalValue) (lawful : IsLawful i.head) (first : ℕ) (zs : List (List ℤ)) (p : Place) (next : IsNext i first zs p) (n : ℕ) (ys : List (List ℤ)) (q : Place) (run : IsRun (run_from i p n) ys q AllRead) (few : first + n ≤ i.mcus) where
-  abbrev per : ℕ
-  per = length (order_of i.head)
-
-  here : FirstMcus (run_from i p n) n ys
-  here = record { to = q; run = run; none = λ lt. absurd (omega (arith, lt)) }
-
-  block_there : (k : ℕ) → get_or ys k [] ≡ get_or (zs ++ ys) (first * per + k) []
-  block_there k =
-      let long : length zs ≡ first * per = next.run.mcus.0 ∙ ap (λ (m : ℕ). m * per) next.run.ends in
-      let there : first * per + k - length zs ≡ k = omega (arith, long) in
-      sym (get_or-append_right zs ys (length zs) (first * per + k) [] refl (omega (arith, long)) ∙ ap (λ (m : ℕ). get_or ys m []) there)
-
-  pub whole_codes : (o : PieceValue) → o.interval ≡ i → IsOutcome o → (k : ℕ) → k < n * per → unit_of i.head ys k ≡ unit_in_piece o (first * per + k)
-  whole_codes o same is k lt =
-      let front = runs.front one_run runs_meet shorter_front i lawful first zs p next n n ys here few in
-      ap (λ (z : List ℤ). samples z (quantiser_of i.head (component i.head k))) (block_there k)
-      ∙ ap (λ (c : ℕ). samples (get_or (zs ++ ys) (first * per + k) []) (quantiser_of i.head c)) (sym (component_on i.head first k))
-      ∙ shown one_front shorter_front i o same is (first + n) (zs ++ ys) front (first * per + k) (omega (arith, lt, add-mul first n per))
-
--- those behind the last whole one
-pub grey_codes : (i : IntervalValue) (front mcu : ℕ) (zs : List (List ℤ)) → front ≤ mcu → LongestFront i front zs → (o : PieceValue) → o.interval ≡ i → IsOutcome o → (k : ℕ) → grey_unit ≡ unit_in_piece o (mcu * length (order_of i.head) + k)
-grey_codes i front mcu zs le longest o same is k =
-    let past : front * length (order_of i.head) ≤ mcu * length (order_of i.head) = mul-le-mul_right {m = front} {n = mcu} (length (order_of i.head)) le in
-    behind one_front shorter_front i o same is front zs longest (mcu * length (order_of i.head) + k) (omega (arith, past))
-
--- where data units are those of each outcome of an interval, they are those that a board shows
-module _ (t : ScanValue) (n number mcu mcus before : ℕ) (units : List (List ℕ)) (some : 0 < blocks_of t.head) (number_few : number < intervals_of t.head) (marked : number < n) (few : mcu + mcus ≤ mcus_in t.head number)
-    (codes : (o : PieceValue) → o.interval ≡ interval_of t number → IsOutcome o → (k : ℕ) → k < mcus * blocks_of t.head → get_or units (before + k) [] ≡ unit_in_piece o (mcu * blocks_of t.head + k)) where
-  abbrev h : HeadValue
-  h = t.head
-
-  abbrev m : ℕ
-  m = blocks_of h
-
-  pub shown_there : ShowsBehind t n (number * h.restart + mcu) before mcus units
-  shown_there b first k lt =
-      let j = k / m in
-      let near : j < mcus = (div-lt_iff_lt-mul some).1 lt in
-      let place = interval_at h number (mcu + j) number_few (omega (arith, near, few)) in
-      let at : number * h.restart + mcu + j ≡ number * h.restart + (mcu + j) = omega arith in
-      let p = posted_there t n b first number marked in
-      let unit = codes p.piece p.interval p.outcome k lt in
-      let per : mcu * m + k ≡ (mcu + j) * m + k % m = omega (arith, div-add-mod' k m, add-mul mcu j m) in
-      let turned : unit_shown_of h (k % m) (Some p.piece) ((mcu + j) * m + k % m) ≡ unit_shown_of h (k % m) (piece_at b (interval_number h (number * h.restart + mcu + j))) (within_interval h (number * h.restart + mcu + j) * m + k % m) =
-      ap (λ q. unit_shown_of h (k % m) q ((mcu + j) * m + k % m)) (sym p.at)
-      ∙ ap (λ x. unit_shown_of h (k % m) (piece_at b number) (x * m + k % m)) (sym (ap (within_interval h) at ∙ place.1))
-      ∙ ap (λ x. unit_shown_of h (k % m) (piece_at b x) (within_interval h (number * h.restart + mcu + j) * m + k % m)) (sym (ap (interval_number h) at ∙ place.0)) in
-      unit ∙ ap (unit_in_piece p.piece) per ∙ turned
-      ∙ ap (λ (g : HeadValue). unit_shown_of g (k % m) (piece_at b (interval_number g (number * h.restart + mcu + j))) (within_interval g (number * h.restart + mcu + j) * blocks_of g + k % m)) (ap (λ (u : ScanValue). u.head) (sym first.scan_is))
-
--- more of the row behind what is shown of it
-pub shown_on : (t : ScanValue) (n from done more at : ℕ) (old new : List (List ℕ)) → 0 < blocks_of t.head → at ≡ from + done → ShowsFirstUnits t n from done old
-    → ((k : ℕ) → k < done * blocks_of t.head → get_or new k [] ≡ get_or old k []) → ShowsBehind t n at (done * blocks_of t.head) more new → ShowsFirstUnits t n from (done + more) new
-shown_on t n from done more at old new some e before kept there b first =
-    shown_more (blocks_of t.head) done more from (unit_shown b) (λ k. get_or old k []) (λ k. get_or new k []) some (before b first) kept
-    (λ k lt. there b first k lt ∙ ap (λ (m : ℕ). unit_shown b (m + k / blocks_of t.head) (k % blocks_of t.head)) e)
 
 -- nothing of an interval is read at its start
 pub at_the_start : (i : IntervalValue) → (zs : List (List ℤ)) × IsNext i 0 zs start_of_interval
@@ -286,11 +217,6 @@ all_read s number mcu (Some p) going r all =
     (r.0, record { front = front_of_run (interval_of s number) mcu r.0 p r.1.run (omega (arith, all)); longest = λ j ys f. omega (arith, f.at_most, all) })
 all_read s number mcu None going r all = absurd (over_or_going s number r.0 going)
 
--- and so are those that no further one follows
-pub none_follows : (s : ScanValue) (number mcu : ℕ) (place : Option Place) → MayGoOn s number → ReadsTo s number mcu place → ReadsAll s number mcu place → HasLongestFront (interval_of s number) mcu
-none_follows s number mcu (Some p) going r all = all
-none_follows s number mcu None going r all = absurd (over_or_going s number r.0 going)
-
 -- a reader that reads nothing stands there
 pub nothing_follows : (i : IntervalValue) (first left : ℕ) (zs ys : List (List ℤ)) (p : Place) → IsLawful i.head → IsNext i first zs p → FirstMcus (run_from i p left) 0 ys → 0 < left → first ≤ i.mcus → HasLongestFront i (first + 0)
 nothing_follows i first left zs ys p lawful next here some few =
@@ -348,21 +274,13 @@ module _ (s : ScanValue) (v : ComingRowValue) (lawful : IsLawful s.head) (c : Is
   abbrev PaintedBy : HeadValue → Type 0
   PaintedBy g = next_lines_of g (samples_in (record { head = g; groups = groups })) v.lines n ≡ next_lines_of t.head (samples_of board) v.lines n
 
-  shows_all : ShowsMcus board (v.row * mcus_across t.head) (units_in t.head groups)
-  shows_all =
-      let all : v.done ≡ mcus_across t.head = whole ∙ ap mcus_across (sym b.head) in
-      subst (λ (u : ScanValue). (k : ℕ) → k < length (units_in t.head groups) → get_or (units_in t.head groups) k [] ≡ unit_shown board (v.row * mcus_across t.head + k / blocks_of u.head) (k % blocks_of u.head)) (sym first.scan_is)
-      (λ k lt. c.shows t b board first k (omega (arith, lt, units_long t.head groups, ap (λ (m : ℕ). m * blocks_of t.head) all)))
-
   painted_there : PaintedBy t.head
   painted_there =
-      let there : HasGiven t.head v = subst (λ (g : HeadValue). HasGiven g v) (sym b.head) c.given in
-      let end : v.lines + n ≤ first_line t.head v.row + line_count t.head v.row = subst (λ (g : HeadValue). v.lines + n ≤ first_line g v.row + line_count g v.row) (sym b.head) few in
-      let deep = 8 * vertical_max t.head in
-      let positive : 0 < deep = let some : 0 < vertical_max t.head = subst (λ (g : HeadValue). 0 < vertical_max g) (sym b.head) lawful.components.down in omega (arith, some) in
-      let from = v.lines - v.row * deep in
-      let high : first_line t.head v.row < t.head.height = below_div_ceil v.row t.head.height deep positive (subst (λ (g : HeadValue). v.row < mcus_down g) (sym b.head) c.stands.row) in
-      row_painted board t.head (ap (λ (u : ScanValue). u.head) first.scan_is) (subst IsLawful (sym b.head) lawful) groups v.row shows_all v.lines n from (omega (arith, there.from)) (omega (arith, end, there.from)) (omega (arith, end, high))
+      let e = sym b.head in
+      let all : ShowsFirstUnits t (length t.intervals) (v.row * mcus_across t.head) (mcus_across t.head) (units_in t.head groups) =
+      subst (λ (k : ℕ). ShowsFirstUnits t (length t.intervals) (v.row * mcus_across t.head) k (units_in t.head groups)) (whole ∙ ap mcus_across e) (c.shows t b) in
+      let end = subst (λ (g : HeadValue). v.lines + n ≤ first_line g v.row + line_count g v.row) e few in
+      row_of_board t (length t.intervals) v.row groups (subst IsLawful e lawful) (subst (λ (g : HeadValue). v.row < mcus_down g) e c.stands.row) all board first v.lines n (subst (λ (g : HeadValue). HasGiven g v) e c.given).from end
 
   pub lines_are : PaintedBy s.head
   lines_are = subst PaintedBy b.head painted_there

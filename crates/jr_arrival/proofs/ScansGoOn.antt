@@ -1,9 +1,7 @@
 -- More bytes keep the head, and the data of each interval.
 use Rattle.std.proofs.Common.{◌≡◌, ◌≢◌, ℕ, zero, suc, ◌+◌, ◌-◌, ◌<◌, ◌≤◌, ◌⊎◌, List, [], ◌∷◌, ◌++◌, length, replicate, drop, get_or, refl, sym, ap, subst, ◌∙◌, inl, inr, length-append, arith}
-use Rattle.std.proofs.Math.ListN.{length-replicate}
 use Rattle.std.proofs.lemmas.Bool.{cases_lt}
 use Rattle.std.proofs.lemmas.List.{append-nil, drop-append-le, get_or_past}
-use Rattle.jr_scan.proofs.Scans.{cut_few}
 use Rattle.jr_arrival.specs.Coming.{Becomes, IsOver}
 use Rattle.jr_head.specs.HeadValue.{HeadValue}
 use Rattle.jr_head.specs.Heads.{HeadOf, HasOneHead, HasOneFault}
@@ -12,6 +10,7 @@ use Rattle.jr_cut.specs.declared.scan_end.ScanEnd.TheVariants.{EndOfFile}
 use Rattle.jr_cut.specs.Cut.{IsCut, Cutting}
 use Rattle.jr_scan.specs.IntervalValue.{IntervalValue}
 use Rattle.jr_scan.specs.ScanValue.{ScanValue, IsScanOf, interval_of, intervals_of, mcus_in}
+use Rattle.jr_settled.proofs.ScanIntervals.{count_is, none_in}
 use Rattle.jr_arrival.specs.Arrival.{CanBecome}
 use Rattle.jr_arrival.specs.Growing.{GrowsTo, HasEndedAt, HasScan, KeepsScan}
 use Rattle.jr_arrival.proofs.HeadsStay.{head_is_final}
@@ -28,18 +27,13 @@ same_head bytes file g h can a b = one_head file h g (one_head_or_one_fault file
 
 -- ---- the intervals' data
 
-get_nothing : (m i : ℕ) → get_or (replicate {A = List ℕ} m []) i [] ≡ []
-get_nothing zero i = refl
-get_nothing (suc m) zero = refl
-get_nothing (suc m) (suc i) = get_nothing m i
-
 -- behind the segments there is nothing
 get_padded : (ds : List (List ℕ)) (m i : ℕ) → get_or (ds ++ replicate m []) i [] ≡ get_or ds i []
-get_padded [] m i = get_nothing m i
+get_padded [] m i = none_in m i
 get_padded (d ∷ ds) m zero = refl
 get_padded (d ∷ ds) m (suc i) = get_padded ds m i
 
-pub data_at : (s : ScanValue) (segments : List (List ℕ)) (m i : ℕ) → s.intervals ≡ segments ++ replicate m [] → get_or s.intervals i [] ≡ get_or segments i []
+data_at : (s : ScanValue) (segments : List (List ℕ)) (m i : ℕ) → s.intervals ≡ segments ++ replicate m [] → get_or s.intervals i [] ≡ get_or segments i []
 data_at s segments m i e = ap (λ (l : List (List ℕ)). get_or l i []) e ∙ get_padded segments m i
 
 get_more : (ended : List (List ℕ)) (last more : List ℕ) (others : List (List ℕ)) (i : ℕ) → (rest : List ℕ) × (get_or (ended ++ (last ++ more) ∷ others) i [] ≡ get_or (ended ++ last ∷ []) i [] ++ rest)
@@ -53,16 +47,11 @@ get_ended [] last last' others i lt = absurd (omega (arith, lt))
 get_ended (e ∷ ended) last last' others zero lt = refl
 get_ended (e ∷ ended) last last' others (suc i) lt = get_ended ended last last' others i (omega (arith, lt))
 
-same_interval : (s t : ScanValue) (i : ℕ) → t.head ≡ s.head → get_or t.intervals i [] ≡ get_or s.intervals i [] → interval_of t i ≡ interval_of s i
-same_interval s t i h d =
+-- an interval of a scan with the same head, by its data
+pub interval_is : (s t : ScanValue) (i : ℕ) (bytes : List ℕ) → t.head ≡ s.head → get_or t.intervals i [] ≡ bytes → interval_of t i ≡ record { number = i; mcus = mcus_in s.head i; bytes = bytes; head = s.head }
+interval_is s t i bytes h d =
     ap (λ (g : HeadValue). (let v : IntervalValue = record { number = i; mcus = mcus_in g i; bytes = get_or t.intervals i []; head = g } in v)) h
     ∙ ap (λ (b : List ℕ). (let v : IntervalValue = record { number = i; mcus = mcus_in s.head i; bytes = b; head = s.head } in v)) d
-
--- a scan has as many intervals as its head says
-pub count_is : (file : List ℕ) (s : ScanValue) → IsScanOf file s → length s.intervals ≡ intervals_of s.head
-count_is file s c =
-    let few = cut_few _ _ _ c.segments s.ended c.cut in
-    omega (arith, few, ap length c.intervals, length-append c.segments (replicate (intervals_of s.head - length c.segments) []), length-replicate {A = List ℕ} (intervals_of s.head - length c.segments) [])
 
 -- the scans of bytes, and of more
 module _ (bytes more : List ℕ) (s t : ScanValue) (heads : t.head ≡ s.head) (starts : s.head.scan_at ≤ length bytes) (a : IsScanOf bytes s) (b : IsScanOf (bytes ++ more) t) where
@@ -114,7 +103,7 @@ module _ (bytes more : List ℕ) (s t : ScanValue) (heads : t.head ≡ s.head) (
   kept = record {
     head = heads;
     so_far = data_goes_on;
-    whole = λ i e. same_interval s t i heads (data_ended i e.0 e.1);
+    whole = λ i e. interval_is s t i (get_or s.intervals i []) heads (data_ended i e.0 e.1);
     end = λ n. (finished a n).1;
   }
 

@@ -8,10 +8,11 @@ use Rattle.jr_scan.specs.declared.place.Place.{Place}
 use Rattle.jr_cut.specs.declared.scan_end.ScanEnd.TheVariants.{EndOfFile}
 use Rattle.jr_scan.specs.IntervalValue.{IntervalValue}
 use Rattle.jr_scan.specs.ScanValue.{ScanValue, IsScanOf, interval_of}
-use Rattle.jr_scan.specs.Run.{HasNoMcu, RunOf}
+use Rattle.jr_scan.specs.Run.{HasNoMcu}
 use Rattle.jr_scan.specs.Mcus.{Front}
 use Rattle.jr_paint.specs.Lines.{next_lines_of}
 use Rattle.jr_rows.specs.Rows.{first_line, line_count}
+use Rattle.jr_settled.specs.More.{with_more}
 
 -- of the segments that bytes are cut into, all but the last are kept by more bytes; the last one's data may go on, and others follow
 pub record GrowsTo (datas longer : List (List ℕ)) : Type 0 where
@@ -38,14 +39,6 @@ pub record KeepsScan (bytes : List ℕ) (s t : ScanValue) : Type 0 where
   pub so_far : (i : ℕ) → (more : List ℕ) × (slice_index_or t.intervals i [] ≡ slice_index_or s.intervals i [] ++ more)
   pub whole : (i : ℕ) → HasEndedAt bytes s i → interval_of t i ≡ interval_of s i
   pub end : s.ended ≢ EndOfFile → t.ended ≡ s.ended
-
--- an interval with more data behind
-abbrev pub with_more : IntervalValue → List ℕ → IntervalValue
-with_more i more = record { number = i.number; mcus = i.mcus; bytes = i.bytes ++ more; head = i.head }
-
--- a run of an interval with more data behind
-abbrev pub run_with_more : RunOf → List ℕ → RunOf
-run_with_more r more = record { interval = with_more r.interval more; from = r.from; mcus = r.mcus }
 
 -- whatever data comes, no whole MCU follows that place: its bits are of no code
 abbrev pub IsStuck : IntervalValue → Place → Type 0

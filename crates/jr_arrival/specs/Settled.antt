@@ -12,7 +12,7 @@ use Rattle.jr_scan.specs.ScanValue.{ScanValue, interval_of}
 use Rattle.jr_picture.specs.declared.mark.Mark.{Mark}
 use Rattle.jr_picture.specs.Headline.{ShowsFirst}
 use Rattle.jr_arrival.specs.Arrival.{CanBecome}
-use Rattle.jr_arrival.specs.Growing.{HasScan, RowIsSettled}
+use Rattle.jr_arrival.specs.Growing.{HasScan}
 
 -- the bytes' refusal says that some are missing
 abbrev pub WantsMore : List ℕ → Type 0
@@ -23,10 +23,6 @@ WantsMore bytes = RefusalOf bytes EndsEarly ⊎ (RefusalOf bytes NotJpeg × (len
 pub record HasRows (s : ScanValue) (rows : ℕ) : Type 0 where
   pub ended : s.ended ≢ EndOfFile → rows ≡ mcus_down s.head
   pub coming : s.ended ≡ EndOfFile → (i front : ℕ) → IsLatest s i → HasLongestFront (interval_of s i) front → rows ≡ (first_mcu_of s.head i + front) / mcus_across s.head
-
--- whatever bytes the scan was cut from, they settle the first rows
-abbrev pub SettlesRows : ScanValue → ℕ → Type 0
-SettlesRows s rows = (bytes : List ℕ) → HasScan bytes s → (row : ℕ) → row < rows → RowIsSettled bytes s row
 
 -- what the bytes so far settle: the scan that they are cut into, and how many rows of MCUs
 pub record SoFarValue : Type 0 where

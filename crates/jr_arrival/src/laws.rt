@@ -15,8 +15,9 @@ ghost use Rattle.jr_scan.specs.Mcus.{Front};
 ghost use Rattle.jr_scan.specs.Run.{RunOf, IsRun};
 ghost use Rattle.jr_picture.specs.declared.mark.Mark.{Mark};
 ghost use Rattle.jr_picture.specs.Headline.{ShowsFirst, mark_in};
+ghost use Rattle.jr_settled.specs.More.{run_with_more, with_more};
 ghost use Rattle.jr_arrival.specs.Arrival.{CanBecome, IsFinalFault};
-ghost use Rattle.jr_arrival.specs.Growing.{GrowsTo, HasScan, HasEndedAt, KeepsScan, IsStuck, RowIsSettled, lines_of_row, run_with_more, with_more};
+ghost use Rattle.jr_arrival.specs.Growing.{GrowsTo, HasScan, HasEndedAt, KeepsScan, IsStuck, RowIsSettled, lines_of_row};
 
 /// A head that is accepted of the bytes so far is the head of every file that they can become (T.81, B.2).
 pub fn head_is_final()

@@ -2,51 +2,25 @@
 use Rattle.std.proofs.Common.{◌≡◌, ◌≢◌, ℕ, zero, suc, ◌+◌, ◌-◌, ◌*◌, ◌%◌, ◌<◌, ◌≤◌, ◌⊎◌, inl, inr, List, [], ◌∷◌, ◌++◌, length, replicate, take, drop, map, get_or, refl, sym, ap, subst, ◌∙◌, append_assoc, length-append, length-drop, add-one, arith}
 use Rattle.std.specs.Prelude.{true}
 use Rattle.std.specs.List.{AllByRecursion}
-use Rattle.std.proofs.Math.ListN.{length-replicate}
 use Rattle.std.proofs.lemmas.List.{append-nil, drop-append-le, drop-drop, get_or-drop}
-use Rattle.jr_base.specs.declared.marker.TheConstants.{EOI, PREFIX, RST0, SOI}
+use Rattle.jr_base.specs.declared.marker.TheConstants.{RST0}
 use Rattle.jr_cut.specs.declared.scan_end.ScanEnd.{ScanEnd}
-use Rattle.jr_cut.specs.declared.scan_end.ScanEnd.TheVariants.{EndOfImage, OtherMarker, OutOfStep, ExtraRestart, EndOfFile}
+use Rattle.jr_cut.specs.declared.scan_end.ScanEnd.TheVariants.{EndOfFile}
 use Rattle.jr_cut.specs.Cut.{IsRaw, marker, CodedSegment, with_markers, HasMarker, IsEnding, CutFrom, IsStop}
-use Rattle.jr_cut.proofs.Cuts.{run_same, run_end}
+use Rattle.jr_cut.proofs.OpenSegments.{ending_more as marked_more}
+use Rattle.jr_cut.proofs.Segments.{length_marker}
 use Rattle.jr_scan.specs.ScanValue.{ScanValue, intervals_of}
+use Rattle.jr_settled.proofs.Endings.{behind_marker, bytes_of, ending_not_next, next_marker}
+use Rattle.jr_settled.proofs.ScanIntervals.{none_in}
 use Rattle.jr_places.specs.Meaning.{GoesOnAt, HasNoData}
-use Rattle.jr_places.proofs.Splits.{marker_stop, next_marker, run_of, split_cut}
+use Rattle.jr_places.proofs.Splits.{split_cut}
 use Rattle.jr_places.proofs.Spelled.{front_whole, length_front, nothing_spelled, split_at}
 
 -- ---- what follows a segment
 
-same_marker : (tail : List ℕ) (a b : ℕ) → HasMarker tail a → HasMarker tail b → a ≢ PREFIX → b ≢ PREFIX → a ≡ b
-same_marker tail a b f g ha hb = (run_same (suc f.0) (suc g.0) a b f.1 g.1 ha hb (sym (run_of f.0 a f.1) ∙ sym f.2 ∙ g.2 ∙ run_of g.0 b g.1)).1
-
-other_restart : (c j : ℕ) → (c < RST0) ⊎ ((c ≡ SOI) ⊎ (EOI < c)) → j < 8 → RST0 + j ≡ c → ⊥
-other_restart c j (inl l) h e = omega arith
-other_restart c j (inr (inl q)) h e = omega arith
-other_restart c j (inr (inr g)) h e = omega arith
-
--- what a marker of the next number is not
-ending_not_next : (n k at : ℕ) (tail : List ℕ) (end : ScanEnd) → IsEnding n k at tail end → HasMarker tail (RST0 + k % 8) → k + 1 < n → ⊥
-ending_not_next n k at tail EndOfFile h m room = run_end (suc m.0) h.0 (RST0 + k % 8) m.1 (λ e. omega arith) (sym (run_of m.0 (RST0 + k % 8) m.1) ∙ sym m.2 ∙ h.1)
-ending_not_next n k at tail EndOfImage h m room = let e = same_marker tail EOI (RST0 + k % 8) h m (λ e. omega arith) (λ e. omega arith) in omega (arith, e)
-ending_not_next n k at tail (ExtraRestart o) h m room = omega (arith, h.3)
-ending_not_next n k at tail (OutOfStep f x o) h m room =
-    let e = same_marker tail (RST0 + f) (RST0 + k % 8) h.1 m (λ e. omega (arith, h.0)) (λ e. omega arith) in
-    let same : f ≡ x = omega (arith, e, h.3) in h.4 same
-ending_not_next n k at tail (OtherMarker c o) h m room = other_restart c (k % 8) h.3 (omega arith) (same_marker tail (RST0 + k % 8) c m h.2 (λ e. omega arith) (λ e. omega (arith, h.1)))
-
-marker_more : (tail more : List ℕ) (code : ℕ) → HasMarker tail code → HasMarker (tail ++ more) code
-marker_more tail more code h = (h.0, h.1 ++ more, ap (λ (t : List ℕ). t ++ more) h.2 ∙ append_assoc (marker h.0 code) h.1 more)
-
 pub ending_more : (n k at : ℕ) (tail more : List ℕ) (end : ScanEnd) → (end ≢ EndOfFile) ⊎ (more ≡ []) → IsEnding n k at tail end → IsEnding n k at (tail ++ more) end
+ending_more n k at tail more end (inl not_file) h = marked_more n k at tail more end not_file h
 ending_more n k at tail more end (inr none) h = subst (λ (t : List ℕ). IsEnding n k at t end) (sym (ap (λ (x : List ℕ). tail ++ x) none ∙ append-nil tail)) h
-ending_more n k at tail more EndOfFile (inl not_file) h = absurd (not_file refl)
-ending_more n k at tail more EndOfImage (inl not_file) h = marker_more tail more EOI h
-ending_more n k at tail more (ExtraRestart o) (inl not_file) h = (h.0, h.1, marker_more tail more (RST0 + h.0) h.2, h.3, h.4)
-ending_more n k at tail more (OutOfStep f x o) (inl not_file) h = (h.0, marker_more tail more (RST0 + f) h.1, h.2, h.3, h.4, h.5)
-ending_more n k at tail more (OtherMarker c o) (inl not_file) h = (h.0, h.1, marker_more tail more c h.2, h.3, h.4)
-
-abbrev bytes_of : List CodedSegment → List (List ℕ)
-bytes_of ps = map (λ p. p.bytes) ps
 
 -- the segment behind one without data, and those that follow it
 pub record NextCut (n i at : ℕ) (bytes : List ℕ) (others : List (List ℕ)) (end : ScanEnd) : Type 0 where
@@ -76,12 +50,9 @@ module _ (n i at : ℕ) (tail : List ℕ) (others : List (List ℕ)) (end : Scan
           let here : i + 0 ≡ i = omega arith in
           absurd (ending_not_next n i (at + length (c.raw ++ [])) c.tail end (subst (λ (k : ℕ). IsEnding n k (at + length (c.raw ++ [])) c.tail end) here ends) (subst (λ (x : List ℕ). HasMarker x (RST0 + i % 8)) spelled (more, rest, starts)) room)
       go (p ∷ ps) are spelled each few ends =
-          let code = RST0 + i % 8 in
-          let not_ff : code ≢ PREFIX = λ z. omega arith in
-          let behind = (p.raw ++ with_markers (suc i) ps) ++ c.tail in
-          let m = run_same (suc more) (suc p.more) code code rest behind not_ff not_ff (sym (run_of more code rest) ∙ sym starts ∙ spelled ∙ (next_marker i p ps c.tail).2 ∙ run_of p.more code behind) in
+          let m = behind_marker i more rest p ps c.tail (sym starts ∙ spelled) in
           let long : at + length (c.raw ++ with_markers i (p ∷ ps)) ≡ at + (more + 2) + length (p.raw ++ with_markers (suc i) ps) =
-          omega (arith, m.0, ap length no_raw, length-append c.raw (with_markers i (p ∷ ps)), length-append (marker p.more code) (p.raw ++ with_markers (suc i) ps), length-append (replicate p.more PREFIX) (code ∷ []), length-replicate {A = ℕ} p.more PREFIX) in
+          omega (arith, m.0, ap length no_raw, length-append c.raw (with_markers i (p ∷ ps)), length-append (marker p.more (RST0 + i % 8)) (p.raw ++ with_markers (suc i) ps), length_marker p.more (RST0 + i % 8)) in
           let number : i + length (p ∷ ps) ≡ suc i + length ps = omega arith in
           let cut : CutFrom n (suc i) (at + (more + 2)) rest (p.bytes ∷ bytes_of ps) end = record {
             raw = p.raw;
@@ -91,7 +62,7 @@ module _ (n i at : ℕ) (tail : List ℕ) (others : List (List ℕ)) (end : Scan
             is_raw = each.0;
             each = each.1;
             few = omega (arith, few);
-            spelled = m.2 ∙ append_assoc p.raw (with_markers (suc i) ps) c.tail;
+            spelled = m.1;
             means = refl;
             ends = subst (λ (o : ℕ). IsEnding n (suc i + length ps) o c.tail end) long (subst (λ (k : ℕ). IsEnding n k (at + length (c.raw ++ with_markers i (p ∷ ps))) c.tail end) number ends);
           } in
@@ -141,11 +112,6 @@ pub its_data : (whole : List ℕ) (t : ScanValue) (i at : ℕ) (before : List �
 its_data whole t i at before g =
     let here : i + 0 ≡ i = omega arith in
     ap (λ (k : ℕ). get_or t.intervals k []) (sym here) ∙ sym (get_or-drop i t.intervals 0 []) ∙ ap (λ (l : List (List ℕ)). get_or l 0 []) g.datas
-
-none_in : (n k : ℕ) → get_or (replicate {A = List ℕ} n []) k [] ≡ []
-none_in zero k = refl
-none_in (suc n) zero = refl
-none_in (suc n) (suc k) = none_in n k
 
 module _ (whole : List ℕ) (t : ScanValue) (i at : ℕ) (before : List ℕ) (g : GoesOnAt whole t i at before) (none : g.rest ≡ []) where
   cut_there : CutFrom (intervals_of t.head) i at (drop at whole) ([] ∷ g.others) t.ended

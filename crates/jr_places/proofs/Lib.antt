@@ -12,6 +12,5 @@ pub mod ReadOn
 pub mod Steps
 pub mod Standing
 pub mod GivenPlaces
-pub mod ShownMcus
 pub mod ShownSteps
 pub mod PaintedLines

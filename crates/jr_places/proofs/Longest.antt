@@ -1,13 +1,11 @@
 -- How many bits an MCU has at most (T.81, F.1.2): ten data units, each of a code and eleven bits and 63 codes and ten bits each.
 use Rattle.std.proofs.Common.{◌≡◌, ℕ, suc, ◌+◌, ◌*◌, ◌<◌, ◌≤◌, Bool, List, [], ◌∷◌, ◌++◌, length, get_or, take, drop, replicate, inl, inr, sym, ap, ◌∙◌, length-append, arith}
 use Rattle.std.specs.Prelude.{ℤ, pos}
-use Rattle.std.proofs.lemmas.List.{drop-append-le, take-append-drop, take-append-le}
+use Rattle.std.proofs.lemmas.List.{take-append-drop, take-append-le}
 use Rattle.std.proofs.Math.Seq.{take-append_seam}
-use Rattle.std.proofs.lemmas.List.Concat.{flat_map-append}
 use Rattle.std.specs.List.{flat_map, AllByRecursion}
-use Rattle.jr_code.specs.Bits.{bits, bits_of, value}
+use Rattle.jr_code.specs.Bits.{bits, value}
 use Rattle.jr_code.specs.Code.{Table}
-use Rattle.jr_code.proofs.BitLemmas.{length-bits}
 use Rattle.jr_head.specs.HeadValue.{HeadValue}
 use Rattle.jr_head.specs.Geometry.{ac_of, dc_of, order_of}
 use Rattle.jr_mcu.specs.Block.{AcCode, IsAcCode, code_bits, entries, OthersAt, BlockAt}
@@ -16,7 +14,8 @@ use Rattle.jr_mcu.specs.Mcus.{Mcus, all_bits, block_of, component, prediction}
 use Rattle.jr_scan.specs.declared.place.Place.{Place}
 use Rattle.jr_scan.specs.IntervalValue.{IntervalValue}
 use Rattle.jr_scan.specs.Run.{HasNoMcu, left_at}
-use Rattle.jr_places.specs.Meaning.{with_more}
+use Rattle.jr_settled.specs.More.{with_more}
+use Rattle.jr_settled.proofs.MoreData.{left_more}
 
 code_short : (ac : Table) (c : AcCode) → IsAcCode ac c → (length (code_bits c) ≤ 26) × (1 ≤ length (entries c))
 code_short ac (ZeroRun word) w = (omega (arith, w.short), omega arith)
@@ -69,7 +68,5 @@ front_of taken rest left more e short =
 -- where so many bits begin with no MCU, none begins them with more data behind
 pub none_in_long : (i : IntervalValue) (more : List ℕ) (p : Place) → length (order_of i.head) ≤ 10 → p.bit ≤ 8 * length i.bytes → 16650 ≤ length (left_at i p) → HasNoMcu i p → HasNoMcu (with_more i more) p
 none_in_long i more p few within long none ys taken rest m e =
-    let left : left_at (with_more i more) p ≡ left_at i p ++ bits more =
-    ap (drop p.bit) (flat_map-append (bits_of 8) i.bytes more) ∙ drop-append-le p.bit (bits i.bytes) (bits more) (omega (arith, within, length-bits i.bytes)) in
     let short : length taken ≤ 16650 = omega (arith, mcus_short i.head p.predictions 1 ys taken m, few) in
-    none ys taken (drop (length taken) (left_at i p)) m (front_of taken rest (left_at i p) (bits more) (sym left ∙ e) (omega (arith, short, long)))
+    none ys taken (drop (length taken) (left_at i p)) m (front_of taken rest (left_at i p) (bits more) (sym (left_more i more p within) ∙ e) (omega (arith, short, long)))

@@ -2,25 +2,28 @@
 use Rattle.std.proofs.Common.{◌≡◌, ℕ, zero, suc, ◌+◌, ◌-◌, ◌*◌, ◌<◌, ◌≤◌, ◌⊎◌, inl, inr, Bool, List, [], ◌∷◌, ◌++◌, length, drop, get_or, refl, sym, ap, subst, ◌∙◌, append_assoc, length-append, length-drop, arith}
 use Rattle.std.specs.Prelude.{ℤ}
 use Rattle.std.specs.List.{All}
-use Rattle.std.proofs.lemmas.List.{append-nil, drop-append-le}
-use Rattle.std.proofs.lemmas.List.Concat.{flat_map-append}
-use Rattle.jr_code.specs.Bits.{bits, bits_of}
-use Rattle.jr_code.proofs.BitLemmas.{length-bits}
+use Rattle.std.proofs.lemmas.List.{append-nil}
+use Rattle.std.proofs.Math.Nat.{mul-le-mul_left}
+use Rattle.jr_code.specs.Bits.{bits}
 use Rattle.jr_head.specs.HeadValue.{HeadValue}
-use Rattle.jr_head.specs.Geometry.{IsLawful, order_of}
+use Rattle.jr_head.specs.Geometry.{IsLawful, blocks_of, order_of}
 use Rattle.jr_head.proofs.SamplingLaws.{length-order}
 use Rattle.jr_mcu.specs.Block.{IsInDcRange}
-use Rattle.jr_mcu.specs.Mcus.{all_bits, predicted}
+use Rattle.jr_mcu.specs.Mcus.{all_bits}
+use Rattle.jr_mcu.proofs.LongMcus.{mcus_long}
 use Rattle.jr_mcu.proofs.McuLaws.{no_blocks}
 use Rattle.jr_scan.specs.declared.place.Place.{Place}
 use Rattle.jr_scan.specs.declared.place.RunEnd.TheVariants.{AllRead}
 use Rattle.jr_scan.specs.IntervalValue.{IntervalValue}
 use Rattle.jr_scan.specs.Run.{HasNoMcu, IsRun, left_at, run_from, start_of_interval}
 use Rattle.jr_scan.specs.ScanValue.{ScanValue, interval_of, mcus_in}
+use Rattle.jr_scan.proofs.McuReaders.{no_run}
 use Rattle.jr_piece.specs.Strips.{CanReadFrom, FirstMcus, IsNext}
 use Rattle.jr_piece.proofs.ScanLaws.{one_run, runs_meet, shorter_front}
 use Rattle.jr_piece.proofs.StripRuns as runs
-use Rattle.jr_places.specs.Meaning.{GoesOnAt, HasNoMore, ReadsAt, behind, with_before, with_more}
+use Rattle.jr_settled.specs.More.{with_more}
+use Rattle.jr_settled.proofs.MoreData.{run_is_final}
+use Rattle.jr_places.specs.Meaning.{GoesOnAt, HasNoMore, ReadsAt, behind, with_before}
 use Rattle.jr_places.proofs.Behind.{none_behind, run_behind}
 use Rattle.jr_places.proofs.Going.{its_data}
 use Rattle.jr_places.proofs.Longest.{none_in_long}
@@ -28,36 +31,9 @@ use Rattle.jr_places.proofs.Longest.{none_in_long}
 abbrev interval : (n m : ℕ) → List ℕ → HeadValue → IntervalValue
 interval n m bytes h = record { number = n; mcus = m; bytes = bytes; head = h }
 
-left_more : (i : IntervalValue) (more : List ℕ) (p : Place) → p.bit ≤ 8 * length i.bytes → left_at (with_more i more) p ≡ left_at i p ++ bits more
-left_more i more p within = ap (drop p.bit) (flat_map-append (bits_of 8) i.bytes more) ∙ drop-append-le p.bit (bits i.bytes) (bits more) (omega (arith, within, length-bits i.bytes))
-
-run_more : (i : IntervalValue) (more : List ℕ) (p q : Place) (n : ℕ) (ys : List (List ℤ)) → p.bit ≤ 8 * length i.bytes → q.bit ≤ 8 * length i.bytes → IsRun (run_from i p n) ys q AllRead → IsRun (run_from (with_more i more) p n) ys q AllRead
-run_more i more p q n ys from to a = record {
-  count = a.count;
-  few = a.few;
-  taken = a.taken;
-  mcus = a.mcus;
-  spelled = left_more i more p from ∙ ap (λ (b : List Bool). b ++ bits more) a.spelled ∙ append_assoc a.taken (left_at i q) (bits more) ∙ ap (λ (b : List Bool). a.taken ++ b) (sym (left_more i more q to));
-  bit = a.bit;
-  predictions = a.predictions;
-  ends = a.ends;
-}
-
 -- the numbers of an interval don't matter to its runs
 renumbered : (i m j n : ℕ) (bytes : List ℕ) (h : HeadValue) (p q : Place) (k : ℕ) (ys : List (List ℤ)) → IsRun (run_from (interval i m bytes h) p k) ys q AllRead → IsRun (run_from (interval j n bytes h) p k) ys q AllRead
 renumbered i m j n bytes h p q k ys a = record { count = a.count; few = a.few; taken = a.taken; mcus = a.mcus; spelled = a.spelled; bit = a.bit; predictions = a.predictions; ends = a.ends }
-
-nothing_run : (i : IntervalValue) (first : ℕ) (zs : List (List ℤ)) (p : Place) → IsNext i first zs p → IsRun (run_from i p 0) [] p AllRead
-nothing_run i first zs p next = record {
-  count = 0;
-  few = omega arith;
-  taken = [];
-  mcus = (omega arith, no_blocks i.head p.predictions);
-  spelled = refl;
-  bit = omega arith;
-  predictions = next.run.predictions ∙ ap (λ (s : List ℤ). predicted i.head s []) (sym next.run.predictions);
-  ends = refl;
-}
 
 module _ (whole : List ℕ) (t : ScanValue) (i mcu at left : ℕ) (found rest : List ℕ) (p : Place) (lawful : IsLawful t.head) (r : ReadsAt whole t i mcu at p) (is : r.on.rest ≡ found ++ rest) where
   abbrev h : HeadValue
@@ -73,7 +49,7 @@ module _ (whole : List ℕ) (t : ScanValue) (i mcu at left : ℕ) (found rest : 
   pub run_on : (n : ℕ) (ys : List (List ℤ)) (q : Place) → p.bit ≤ 8 * length found → q.bit ≤ 8 * length found → IsRun (run_from near p n) ys q AllRead → IsRun (run_from (interval_of t i) (behind r.before p) n) ys (behind r.before q) AllRead
   run_on n ys q from to run =
       let before = r.before in
-      let longer = run_behind (with_more near rest) before p n ys q AllRead (run_more near rest p q n ys from to run) in
+      let longer = run_behind (with_more near rest) before p n ys q AllRead (run_is_final (run_from near p n) rest ys q from run) in
       subst (λ (b : List ℕ). IsRun (run_from (interval i (mcus_in h i) b h) (behind before p) n) ys (behind before q) AllRead) whole_data
       (renumbered i left i (mcus_in h i) (before ++ (found ++ rest)) h (behind before p) (behind before q) n ys longer)
 
@@ -98,7 +74,7 @@ module _ (whole : List ℕ) (t : ScanValue) (i mcu at left : ℕ) (found rest : 
       ] in
       let there : HasNoMcu all (behind before p) =
       subst (λ (b : List ℕ). HasNoMcu (interval i (mcus_in h i) b h) (behind before p)) whole_data (none_behind (with_more near rest) before p longer) in
-      let here : FirstMcus (run_from all (behind before p) 1) 0 [] = record { to = behind before p; run = nothing_run all mcu r.blocks (behind before p) r.next; none = λ lt. there } in
+      let here : FirstMcus (run_from all (behind before p) 1) 0 [] = record { to = behind before p; run = no_run all (behind before p) (ap length r.next.run.predictions); none = λ lt. there } in
       record {
         front = mcu + 0;
         blocks = r.blocks ++ [];
@@ -122,3 +98,19 @@ nothing_taken i p q ys a =
     go : (parts : List (List Bool)) → length parts ≡ 0 → a.taken ≡ all_bits parts → length a.taken ≡ 0
     go [] n e = ap length e
     go (b ∷ bs) n e = absurd (omega (arith, n))
+
+-- no data is of no MCU
+pub nothing_whole : (t : ScanValue) (i mcu : ℕ) → 0 < blocks_of t.head → get_or t.intervals i [] ≡ [] → HasNoMore t i mcu
+nothing_whole t i mcu some none = record {
+  front = 0;
+  blocks = [];
+  few = omega arith;
+  longest = record {
+    front = record { at_most = omega arith; taken = []; rest = bits (get_or t.intervals i []); mcus = (omega arith, no_blocks t.head _); spelled = refl };
+    longest = λ j ys f.
+        let long = mcus_long t.head _ j ys f.taken f.mcus in
+        let empty : length (bits (get_or t.intervals i [])) ≡ length (bits []) = ap (λ (b : List ℕ). length (bits b)) none in
+        let each : j * 1 ≤ j * length (order_of t.head) = mul-le-mul_left {m = 1} {n = length (order_of t.head)} j (omega (arith, some, length-order 0 t.head.components)) in
+        omega (arith, long, each, empty, ap length f.spelled, length-append f.taken f.rest);
+  };
+}

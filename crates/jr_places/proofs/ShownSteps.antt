@@ -14,6 +14,8 @@ use Rattle.jr_piece.specs.Outcome.{IsOutcome, unit_of}
 use Rattle.jr_piece.specs.Units.{grey_unit, unit_in_piece}
 use Rattle.jr_rows.specs.Groups.{units_in}
 use Rattle.jr_rows.specs.Rows.{ShowsFirstUnits}
+use Rattle.jr_settled.proofs.ScanIntervals.{count_is}
+use Rattle.jr_settled.proofs.ShownMcus.{grey_codes, shown_on, shown_there, whole_codes}
 use Rattle.jr_places.specs.declared.cursor.Reading.{Reading}
 use Rattle.jr_places.specs.declared.cursor.Reading.TheVariants.{GoesOn, IsStuck, HasEnded}
 use Rattle.jr_places.specs.declared.cursor.ScanCursor.{ScanCursor}
@@ -23,21 +25,7 @@ use Rattle.jr_places.specs.Places.{mcus_before}
 use Rattle.jr_places.specs.Cursors.{IsCursor, StandsIn, StaysTrue, in_window, number_of}
 use Rattle.jr_places.specs.Shown.{ShowsMore}
 use Rattle.jr_places.proofs.Going.{on_by}
-use Rattle.jr_places.proofs.ReadOn.{run_on}
-use Rattle.jr_places.proofs.ShownMcus.{all_marked, grey_codes, nothing_whole, shown_on, shown_there, whole_codes}
-
--- ---- one step behind the other
-
-pub shows_then : (h : HeadValue) (a b : ScanCursor) (done n m : ℕ) (old mid new : List (List ℕ)) → b.file ≡ a.file → mcus_before h b.interval b.mcu ≡ mcus_before h a.interval a.mcu + n → StaysTrue h a b → ShowsMore h a done n old mid → ShowsMore h b (done + n) m mid new → ShowsMore h a done (n + m) old new
-shows_then h a b done n m old mid new same passed stays first second from at whole t may s before =
-    let there : MayBe b.file.bytes.now b.file.are_all h whole t = subst (λ (f : FileBytes). MayBe f.bytes.now f.are_all h whole t) (sym same) may in
-    let sum : done + n + m ≡ done + (n + m) = omega arith in
-    subst (λ (k : ℕ). ShowsFirstUnits t (length t.intervals) from k (units_in t.head new)) sum (second from (omega (arith, passed, at)) whole t there (stays whole t may s) (first from at whole t may s before))
-
-pub shows_none : (h : HeadValue) (c : ScanCursor) (done n : ℕ) (units : List (List ℕ)) → n ≡ 0 → ShowsMore h c done n units units
-shows_none h c done n units none from at whole t may s before =
-    let same : done ≡ done + n = omega (arith, none) in
-    subst (λ (k : ℕ). ShowsFirstUnits t (length t.intervals) from k (units_in t.head units)) same before
+use Rattle.jr_places.proofs.ReadOn.{nothing_whole, run_on}
 
 abbrev Kept : HeadValue → ℕ → (old new : List (List ℕ)) → Type 0
 Kept h done old new = (k : ℕ) → k < done * blocks_of h → get_or (units_in h new) k [] ≡ get_or (units_in h old) k []
@@ -65,7 +53,7 @@ module _ (h : HeadValue) (c : ScanCursor) (lawful : IsLawful h) (some : 0 < bloc
         → ShowsFirstUnits t (length t.intervals) from (done + n) (units_in t.head new)
     step codes =
         shown_on t (length t.intervals) from done n (mcus_before t.head c.interval c.mcu) (units_in t.head old) (units_in t.head new) some_t at_t before (subst (λ (g : HeadValue). Kept g done old new) (sym may.head) kept)
-        (shown_there t (length t.intervals) c.interval c.mcu n (done * blocks_of t.head) (units_in t.head new) some_t number_t (omega (arith, number_t, all_marked whole t may.scan)) few_t codes)
+        (shown_there t (length t.intervals) c.interval c.mcu n (done * blocks_of t.head) (units_in t.head new) some_t number_t (omega (arith, number_t, count_is whole t may.scan)) few_t codes)
 
   per_of : (t : ScanValue) → length (order_of t.head) ≡ blocks_of t.head
   per_of t = length-order 0 t.head.components
@@ -114,10 +102,6 @@ shows_after h a b done n m old mid new none same passed stays first second from 
     let here : done + n ≡ done = omega (arith, none) in
     second from (passed ∙ at) whole t (subst (λ (f : FileBytes). MayBe f.bytes.now f.are_all h whole t) (sym same) may) (stays whole t may s)
     (subst (λ (k : ℕ). ShowsFirstUnits t (length t.intervals) from k (units_in t.head mid)) here (first from at whole t may s before))
-
--- of no MCU
-pub shows_zero : (t : ScanValue) (n from done : ℕ) (units : List (List ℕ)) → done ≡ 0 → ShowsFirstUnits t n from done units
-shows_zero t n from done units none b first k lt = absurd (omega (arith, lt, ap (λ (d : ℕ). d * blocks_of t.head) none))
 
 pub row_shown : (t : ScanValue) (h : HeadValue) (n row done : ℕ) (units : List (List ℕ)) → t.head ≡ h → done ≡ mcus_across h → ShowsFirstUnits t n (row * mcus_across h) done units → ShowsFirstUnits t n (row * mcus_across t.head) (mcus_across t.head) units
 row_shown t h n row done units e all shown =

@@ -11,6 +11,7 @@ use Rattle.jr_mcu.specs.Block.{IsInDcRange}
 use Rattle.jr_scan.specs.declared.place.Place.{Place}
 use Rattle.jr_scan.specs.ScanValue.{ScanValue, interval_of}
 use Rattle.jr_piece.specs.Strips.{IsNext}
+use Rattle.jr_settled.proofs.Spellings.{further, up_to_stop}
 use Rattle.jr_places.specs.declared.cursor.Reading.{Reading}
 use Rattle.jr_places.specs.declared.cursor.Reading.TheVariants.{GoesOn, IsStuck, HasEnded}
 use Rattle.jr_places.specs.declared.cursor.ScanCursor.{ScanCursor}
@@ -19,7 +20,7 @@ use Rattle.jr_places.specs.declared.file_bytes.FileBytes.{FileBytes}
 use Rattle.jr_places.specs.declared.place.RowPlace.{RowPlace}
 use Rattle.jr_places.specs.Meaning.{HasBits, IsPlaceIn, MayBe, MeansAt, behind, offset_in}
 use Rattle.jr_places.specs.Cursors.{HasWindow, IsOffset, Spells, StandsIn, number_of}
-use Rattle.jr_places.proofs.Spelled.{further, split_at, up_to_stop}
+use Rattle.jr_places.proofs.Spelled.{split_at}
 use Rattle.jr_places.proofs.Steps.{moved}
 
 pub stands_by : (whole : List ℕ) (t : ScanValue) (d : ScanCursor) (i m at : ℕ) (r : Reading) (p : Place) → d.interval ≡ i → d.mcu ≡ m → d.at ≡ at → d.reading ≡ r → d.place ≡ p → t.head.scan_at ≤ at → MeansAt whole t (number_of r) i m at p → StandsIn whole t d

@@ -25,6 +25,8 @@ use Rattle.jr_scan.specs.McuReader as readers
 use Rattle.jr_scan.specs.Run.{HasNoMcu, IsRun, RunOf, left_at, run_from, start_of_interval}
 use Rattle.jr_scan.specs.ScanValue.{ScanValue, interval_of}
 use Rattle.jr_piece.specs.Strips.{IsNext}
+use Rattle.jr_settled.proofs.Endings.{ending_stop, marker_stop}
+use Rattle.jr_settled.proofs.Spellings.{one_stop}
 use Rattle.jr_places.specs.declared.cursor.Reading.{Reading}
 use Rattle.jr_places.specs.declared.cursor.Reading.TheVariants.{GoesOn, IsStuck, HasEnded}
 use Rattle.jr_places.specs.declared.cursor.ScanCursor.{ScanCursor}
@@ -35,8 +37,7 @@ use Rattle.jr_places.specs.Places.{IsIn}
 use Rattle.jr_places.specs.Cursors.{Follows, HasWindow, IsCursor, IsOffset, NoneFollows, StandsIn, StaysIn, StaysTrue, begun, in_window, number_of}
 use Rattle.jr_places.proofs.Going.{OnBy, ended_on, ending_more, next_on, on_by}
 use Rattle.jr_places.proofs.ReadOn.{none_on, reads_first, reads_on}
-use Rattle.jr_places.proofs.Spelled.{one_stop, split_at}
-use Rattle.jr_places.proofs.Splits.{ending_stop, marker_stop}
+use Rattle.jr_places.proofs.Spelled.{split_at}
 
 -- ---- one step behind the other
 
@@ -67,15 +68,6 @@ module _ (h : HeadValue) (c : ScanCursor) (lawful : IsLawful h) (is : IsCursor h
           (subst (λ (g : HeadValue). IsRun (run_from (record { number = c.interval; mcus = mcus_in h c.interval - c.mcu; bytes = found; head = g }) c.place n) ys q AllRead) (sym e) run)
       go IsStuck means = record { before = means.before; on = means.on; no_more = record { front = means.no_more.front; blocks = means.no_more.blocks; few = omega (arith, means.no_more.few); longest = means.no_more.longest } }
       go HasEnded means = means
-
-  -- over others where no further one is whole
-  pub grey_true : c.reading ≢ GoesOn → StaysTrue h c passed
-  grey_true over whole t may s = record { from = s.from; means = go c.reading over s.means }
-    where
-      go : (r : Reading) → r ≢ GoesOn → MeansAt whole t (number_of r) c.interval c.mcu c.at c.place → MeansAt whole t (number_of r) c.interval (c.mcu + n) c.at q
-      go GoesOn none means = absurd (none refl)
-      go IsStuck none means = record { before = means.before; on = means.on; no_more = record { front = means.no_more.front; blocks = means.no_more.blocks; few = omega (arith, means.no_more.few); longest = means.no_more.longest } }
-      go HasEnded none means = means
 
 -- ---- to a later byte of its data
 

@@ -18,10 +18,6 @@ with_before i front = record { number = i.number; mcus = i.mcus; bytes = front +
 abbrev pub behind : List ℕ → Place → Place
 behind front p = record { bit = 8 * length front + p.bit; predictions = p.predictions }
 
--- an interval with more data behind
-abbrev pub with_more : IntervalValue → List ℕ → IntervalValue
-with_more i more = record { number = i.number; mcus = i.mcus; bytes = i.bytes ++ more; head = i.head }
-
 -- a file that these bytes may be: that which they are where they are all of it, else any that begins with them; and its scan, by that
 -- head
 pub record MayBe (bytes : List ℕ) (all : Bool) (h : HeadValue) (whole : List ℕ) (t : ScanValue) : Type 0 where

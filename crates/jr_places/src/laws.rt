@@ -8,8 +8,9 @@ ghost use Rattle.jr_scan.specs.IntervalValue.{IntervalValue};
 ghost use Rattle.jr_scan.specs.Run.{HasNoMcu, IsRun, left_at, run_from};
 ghost use Rattle.jr_scan.specs.declared.place.RunEnd.{RunEnd};
 ghost use Rattle.jr_scan.specs.ScanValue.{ScanValue, IsScanOf};
+ghost use Rattle.jr_settled.specs.More.{with_more};
 ghost use Rattle.jr_places.specs.declared.place.RowPlace.{RowPlace};
-ghost use Rattle.jr_places.specs.Meaning.{IsPlaceIn, behind, top, with_before, with_more};
+ghost use Rattle.jr_places.specs.Meaning.{IsPlaceIn, behind, top, with_before};
 
 use jr_scan::Place;
 

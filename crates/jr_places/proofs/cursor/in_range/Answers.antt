@@ -1,12 +1,13 @@
 use Rattle.std.proofs.Common.{◌≡◌, ◌<◌, ◌∙◌, get_or, length, arith, rules}
 use Rattle.std.specs.Prelude.{pos}
 use Rattle.jr_mcu.specs.Block.{IsInDcRange}
-use Rattle.jr_places.proofs.Threes.{all_three, in_range_written, same_three, written}
+use Rattle.jr_mcu.proofs.Greater.{three_all}
+use Rattle.jr_places.proofs.Threes.{in_range_written, same_three, written}
 use Rattle.jr_places.proofs.cursor.in_range.Goals as goal
 
 pub returns-clause-in_range : goal.returns-clause-in_range
 returns-clause-in_range c =
-    all_three IsInDcRange _ _ _ (in_range_written c.in_sixteen_bits.result c.in_sixteen_bits.ensures.in_range) (in_range_written c.in_sixteen_bits-2.result c.in_sixteen_bits-2.ensures.in_range) (in_range_written c.in_sixteen_bits-3.result c.in_sixteen_bits-3.ensures.in_range)
+    three_all IsInDcRange _ _ _ (in_range_written c.in_sixteen_bits.result c.in_sixteen_bits.ensures.in_range) (in_range_written c.in_sixteen_bits-2.result c.in_sixteen_bits-2.ensures.in_range) (in_range_written c.in_sixteen_bits-3.result c.in_sixteen_bits-3.ensures.in_range)
 
 pub returns-clause-kept : goal.returns-clause-kept
 returns-clause-kept c all =

@@ -1,25 +1,20 @@
 -- What MCUs of an interval show.
-use Rattle.std.proofs.Common.{◌≡◌, ◌≢◌, ℕ, zero, suc, ◌+◌, ◌-◌, ◌*◌, ◌/◌, ◌%◌, ◌<◌, ◌≤◌, Some, List, [], ◌++◌, length, drop, replicate, get_or, take, refl, sym, ap, subst, ◌∙◌, length-append, length-take-le, arith}
+use Rattle.std.proofs.Common.{◌≡◌, ℕ, ◌+◌, ◌-◌, ◌*◌, ◌/◌, ◌%◌, ◌<◌, ◌≤◌, Some, List, [], ◌++◌, length, get_or, refl, sym, ap, ◌∙◌, arith}
 use Rattle.std.specs.Prelude.{ℤ}
 use Rattle.std.proofs.lemmas.List.{get_or-append_right}
 use Rattle.std.proofs.lemmas.Nat.{div-add-mod'}
-use Rattle.std.proofs.Math.ListN.{length-replicate}
-use Rattle.std.proofs.Math.Nat.{add-mul, div-lt_iff_lt-mul, mul-le-mul_left, mul-le-mul_right}
-use Rattle.jr_code.specs.Bits.{bits}
+use Rattle.std.proofs.Math.Nat.{add-mul, div-lt_iff_lt-mul, mul-le-mul_right}
 use Rattle.jr_head.specs.HeadValue.{HeadValue}
 use Rattle.jr_head.specs.Geometry.{IsLawful, blocks_of, order_of, quantiser_of}
 use Rattle.jr_head.specs.Intervals.{interval_number, within_interval}
-use Rattle.jr_head.proofs.SamplingLaws.{length-order}
 use Rattle.jr_idct.specs.Transform.{samples}
 use Rattle.jr_mcu.specs.Mcus.{component}
-use Rattle.jr_mcu.proofs.LongMcus.{mcus_long}
-use Rattle.jr_mcu.proofs.McuLaws.{no_blocks}
 use Rattle.jr_scan.specs.declared.place.Place.{Place}
 use Rattle.jr_scan.specs.declared.place.RunEnd.TheVariants.{AllRead}
 use Rattle.jr_scan.specs.IntervalValue.{IntervalValue}
-use Rattle.jr_scan.specs.Mcus.{Front, LongestFront}
+use Rattle.jr_scan.specs.Mcus.{LongestFront}
 use Rattle.jr_scan.specs.Run.{IsRun, run_from}
-use Rattle.jr_scan.specs.ScanValue.{ScanValue, IsScanOf, interval_of, intervals_of, mcus_in}
+use Rattle.jr_scan.specs.ScanValue.{ScanValue, interval_of, intervals_of, mcus_in}
 use Rattle.jr_piece.specs.PieceValue.{PieceValue}
 use Rattle.jr_piece.specs.Outcome.{IsOutcome, unit_of}
 use Rattle.jr_piece.specs.Strips.{FirstMcus, IsNext}
@@ -28,14 +23,11 @@ use Rattle.jr_piece.proofs.ScanLaws.{one_front, one_run, runs_meet, shorter_fron
 use Rattle.jr_piece.proofs.Strips.{component_on}
 use Rattle.jr_piece.proofs.StripRuns as runs
 use Rattle.jr_piece.proofs.UnitReading.{shown, behind}
-use Rattle.jr_picture.specs.BoardValue.{BoardValue}
 use Rattle.jr_picture.specs.Boards.{piece_at}
 use Rattle.jr_rows.specs.Bands.{unit_shown, unit_shown_of}
-use Rattle.jr_rows.specs.Groups.{units_in}
-use Rattle.jr_rows.specs.Rows.{HasFirst, ShowsBehind, ShowsFirstUnits}
+use Rattle.jr_rows.specs.Rows.{ShowsBehind, ShowsFirstUnits}
 use Rattle.jr_rows.proofs.IntervalPlaces.{interval_at}
 use Rattle.jr_rows.proofs.ReadRows.{posted_there, shown_more}
-use Rattle.jr_places.specs.Meaning.{HasNoData, HasNoMore}
 
 -- those that are there
 module _ (i : IntervalValue) (lawful : IsLawful i.head) (first : ℕ) (zs : List (List ℤ)) (p : Place) (next : IsNext i first zs p) (n : ℕ) (ys : List (List ℤ)) (q : Place) (run : IsRun (run_from i p n) ys q AllRead) (few : first + n ≤ i.mcus) where
@@ -63,22 +55,6 @@ pub grey_codes : (i : IntervalValue) (front mcu : ℕ) (zs : List (List ℤ)) �
 grey_codes i front mcu zs le longest o same is k =
     let past : front * length (order_of i.head) ≤ mcu * length (order_of i.head) = mul-le-mul_right {m = front} {n = mcu} (length (order_of i.head)) le in
     behind one_front shorter_front i o same is front zs longest (mcu * length (order_of i.head) + k) (omega (arith, past))
-
--- no data is of no MCU
-pub nothing_whole : (t : ScanValue) (i mcu : ℕ) → 0 < blocks_of t.head → get_or t.intervals i [] ≡ [] → HasNoMore t i mcu
-nothing_whole t i mcu some none = record {
-  front = 0;
-  blocks = [];
-  few = omega arith;
-  longest = record {
-    front = record { at_most = omega arith; taken = []; rest = bits (get_or t.intervals i []); mcus = (omega arith, no_blocks t.head _); spelled = refl };
-    longest = λ j ys f.
-        let long = mcus_long t.head _ j ys f.taken f.mcus in
-        let empty : length (bits (get_or t.intervals i [])) ≡ length (bits []) = ap (λ (b : List ℕ). length (bits b)) none in
-        let each : j * 1 ≤ j * length (order_of t.head) = mul-le-mul_left {m = 1} {n = length (order_of t.head)} j (omega (arith, some, length-order 0 t.head.components)) in
-        omega (arith, long, each, empty, ap length f.spelled, length-append f.taken f.rest);
-  };
-}
 
 -- where data units are those of each outcome of an interval, they are those that a board shows
 module _ (t : ScanValue) (n number mcu mcus before : ℕ) (units : List (List ℕ)) (some : 0 < blocks_of t.head) (number_few : number < intervals_of t.head) (marked : number < n) (few : mcu + mcus ≤ mcus_in t.head number)
@@ -111,8 +87,3 @@ pub shown_on : (t : ScanValue) (n from done more at : ℕ) (old new : List (List
 shown_on t n from done more at old new some e before kept there b first =
     shown_more (blocks_of t.head) done more from (unit_shown b) (λ k. get_or old k []) (λ k. get_or new k []) some (before b first) kept
     (λ k lt. there b first k lt ∙ ap (λ (m : ℕ). unit_shown b (m + k / blocks_of t.head) (k % blocks_of t.head)) e)
-
--- a scan has its intervals
-pub all_marked : (whole : List ℕ) (t : ScanValue) → IsScanOf whole t → intervals_of t.head ≤ length t.intervals
-all_marked whole t s =
-    omega (arith, ap length s.intervals, length-append s.segments (replicate {A = List ℕ} (intervals_of t.head - length s.segments) []), length-replicate {A = List ℕ} (intervals_of t.head - length s.segments) [])

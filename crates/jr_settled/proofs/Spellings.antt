@@ -1,0 +1,98 @@
+-- Bytes that spell data, beside others that begin as they do.
+use Rattle.std.proofs.Common.{◌≡◌, ◌≢◌, ℕ, suc, ◌<◌, ◌≤◌, List, [], ◌∷◌, ◌++◌, length, replicate, map, refl, sym, ap, subst, ◌∙◌, inl, inr, append_assoc, length-append, arith}
+use Rattle.std.specs.List.{flat_map, AllByRecursion}
+use Rattle.std.proofs.lemmas.Bool.{cases_lt}
+use Rattle.std.proofs.lemmas.List.{append-nil, map-append, length-map}
+use Rattle.jr_base.specs.declared.marker.TheConstants.{PREFIX}
+use Rattle.jr_cut.specs.Cut.{Spelling, IsSpelling, spelling, byte_spelled, IsRaw, marker, IsStop}
+use Rattle.jr_cut.specs.Cut.Spelling.{Plain, Stuffed}
+use Rattle.jr_cut.proofs.Cuts.{run_same, stop_some}
+
+zero_not : ◌≢◌ {A = ℕ} 0 PREFIX
+zero_not e = omega arith
+
+pub run_of : (more code : ℕ) (rest : List ℕ) → marker more code ++ rest ≡ replicate (suc more) PREFIX ++ (code ∷ rest)
+run_of more code rest = ap (λ (x : List ℕ). PREFIX ∷ x) (append_assoc (replicate more PREFIX) (code ∷ []) rest)
+
+same_spelling : (p q : Spelling) (x y : List ℕ) → IsSpelling p → IsSpelling q → spelling p ++ x ≡ spelling q ++ y → (p ≡ q) × (x ≡ y)
+same_spelling (Plain a) (Plain b) x y hp hq e = let h : a ≡ b = cc in (ap Plain h, cc)
+same_spelling (Plain a) (Stuffed n) x y hp hq e = let h : a ≡ PREFIX = cc in absurd (hp h)
+same_spelling (Stuffed m) (Plain b) x y hp hq e = let h : b ≡ PREFIX = cc in absurd (hq h)
+same_spelling (Stuffed m) (Stuffed n) x y hp hq e =
+    let r = run_same (suc m) (suc n) 0 0 x y zero_not zero_not (sym (run_of m 0 x) ∙ e ∙ run_of n 0 y) in
+    let h : m ≡ n = omega (arith, r.0) in
+    (ap Stuffed h, r.2)
+
+not_stop : (tail y : List ℕ) (p : Spelling) → IsStop tail → IsSpelling p → tail ≡ spelling p ++ y → ⊥
+not_stop tail y (Plain b) stop hp e = omega (arith, (stop_some tail 0 b y stop e hp).0)
+not_stop tail y (Stuffed m) stop hp e = (stop_some tail (suc m) 0 y stop (e ∙ run_of m 0 y) zero_not).1 refl
+
+-- the fewer spellings of the same bytes begin the others
+record Begins (ps qs : List Spelling) (s t : List ℕ) : Type 0 where
+  pub others : List Spelling
+  pub are : qs ≡ ps ++ others
+  pub rest : s ≡ flat_map spelling others ++ t
+
+begin : (ps qs : List Spelling) (s t : List ℕ) → AllByRecursion IsSpelling ps → AllByRecursion IsSpelling qs → length ps ≤ length qs → flat_map spelling ps ++ s ≡ flat_map spelling qs ++ t → Begins ps qs s t
+begin [] qs s t hp hq le e = record { others = qs; are = refl; rest = e }
+begin (p ∷ ps) [] s t hp hq le e = absurd (omega (arith, le))
+begin (p ∷ ps) (q ∷ qs) s t hp hq le e =
+    let first = same_spelling p q (flat_map spelling ps ++ s) (flat_map spelling qs ++ t) hp.0 hq.0 (sym (append_assoc (spelling p) (flat_map spelling ps) s) ∙ e ∙ append_assoc (spelling q) (flat_map spelling qs) t) in
+    let b = begin ps qs s t hp.1 hq.1 (omega (arith, le)) first.1 in
+    record { others = b.others; are = ap (λ (r : Spelling). r ∷ qs) (sym first.0) ∙ ap (λ (l : List Spelling). p ∷ l) b.are; rest = b.rest }
+
+all_behind : (ps qs : List Spelling) → AllByRecursion IsSpelling (ps ++ qs) → AllByRecursion IsSpelling qs
+all_behind [] qs h = h
+all_behind (p ∷ ps) qs h = all_behind ps qs h.1
+
+none_behind : (others : List Spelling) (s t : List ℕ) → IsStop s → AllByRecursion IsSpelling others → s ≡ flat_map spelling others ++ t → others ≡ []
+none_behind [] s t stop each e = refl
+none_behind (p ∷ ps) s t stop each e = absurd (not_stop s (flat_map spelling ps ++ t) p stop each.0 (e ∙ append_assoc (spelling p) (flat_map spelling ps) t))
+
+-- the data that is spelled further: none behind a stop
+pub record Further (r a q b s t : List ℕ) : Type 0 where
+  pub raw : List ℕ
+  pub added : List ℕ
+  pub is : b ≡ a ++ added
+  pub spelled : s ≡ raw ++ t
+  pub raw_is : IsRaw raw added
+  pub none : IsStop s → (added ≡ []) × (s ≡ t)
+
+module _ (r a q b s t : List ℕ) (hr : IsRaw r a) (hq : IsRaw q b) (e : r ++ s ≡ q ++ t) where
+  pub further : length a ≤ length b → Further r a q b s t
+  further le =
+      let long_r : length a ≡ length hr.parts = ap length hr.means ∙ length-map hr.parts byte_spelled in
+      let long_q : length b ≡ length hq.parts = ap length hq.means ∙ length-map hq.parts byte_spelled in
+      let parts : flat_map spelling hr.parts ++ s ≡ flat_map spelling hq.parts ++ t = ap (λ (x : List ℕ). x ++ s) (sym hr.spelled) ∙ e ∙ ap (λ (x : List ℕ). x ++ t) hq.spelled in
+      let c = begin hr.parts hq.parts s t hr.each hq.each (omega (arith, le, long_r, long_q)) parts in
+      let each = all_behind hr.parts c.others (subst (AllByRecursion IsSpelling) c.are hq.each) in
+      record {
+        raw = flat_map spelling c.others;
+        added = map byte_spelled c.others;
+        is = hq.means ∙ ap (map byte_spelled) c.are ∙ map-append byte_spelled hr.parts c.others ∙ ap (λ (x : List ℕ). x ++ map byte_spelled c.others) (sym hr.means);
+        spelled = c.rest;
+        raw_is = record { parts = c.others; each = each; spelled = refl; means = refl };
+        none = λ stop.
+            let empty = none_behind c.others s t stop each c.rest in
+            (ap (map byte_spelled) empty, c.rest ∙ ap (λ (os : List Spelling). flat_map spelling os ++ t) empty);
+      }
+
+  -- up to a stop as much is spelled as can be
+  pub up_to_stop : IsStop s → length b ≤ length a
+  up_to_stop stop = elim (cases_lt (length a) (length b)) [
+    | inr g ↦ g
+    | inl l ↦
+        let f = further (omega (arith, l)) in
+        absurd (omega (arith, l, ap length f.is, length-append a f.added, ap length (f.none stop).0))
+  ]
+
+-- data up to a stop begins with all that is spelled before
+pub begins_stopped : (r a q b s t : List ℕ) → IsRaw r a → IsRaw q b → r ++ s ≡ q ++ t → IsStop t → Further r a q b s t
+begins_stopped r a q b s t hr hq e stop = further r a q b s t hr hq e (up_to_stop q b r a t s hq hr (sym e) stop)
+
+-- two ways up to a stop are one
+pub one_stop : (r a q b s t : List ℕ) → IsRaw r a → IsRaw q b → r ++ s ≡ q ++ t → IsStop s → IsStop t → (b ≡ a) × (s ≡ t)
+one_stop r a q b s t hr hq e hs ht =
+    let f = begins_stopped r a q b s t hr hq e ht in
+    let none = f.none hs in
+    (f.is ∙ ap (λ (x : List ℕ). a ++ x) none.0 ∙ append-nil a, none.1)
