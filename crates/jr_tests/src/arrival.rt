@@ -63,6 +63,41 @@ fn take_lines(
     Ok(Some(()))
 }
 
+/// Pushes a file in parts of so many bytes, and takes the lines, at most so many at a look. None where it is refused.
+fn push_parts(
+    alloc: Global,
+    arriving: &mut Arriving,
+    bytes: &[u8],
+    part: usize,
+    most: u32,
+) -> Result<Option<Vec<u8>>, Fail>
+    requires { 0 < part }
+{
+    let mut shown = Vec::new(alloc);
+    for more in bytes.chunks(part) {
+        arriving.push(more)?;
+        if take_lines(alloc, arriving, most, &mut shown)?.is_none() {
+            return Ok(None);
+        }
+    }
+    Ok(Some(shown))
+}
+
+/// Puts the lines that are missing at the file's end behind those that were given, and tells how many intervals are sound and
+/// damaged. None where it is refused.
+fn put_missing(
+    alloc: Global,
+    arriving: Arriving,
+    shown: &mut Vec<u8>,
+) -> Result<Option<Counts>, Fail> {
+    let lines = arriving.lines();
+    let Ok(finished) = arriving.finish(alloc) else {
+        return Ok(None);
+    };
+    shown.extend_from_slice(lines_from(alloc, &finished.scan, lines)?.as_slice())?;
+    Ok(Some(finished.counts))
+}
+
 /// What is given while a file arrives in parts of so many bytes, at most so many lines at a look, and the lines that are missing
 /// then; and how many intervals are sound and damaged. None where it is refused.
 fn arrived(
@@ -74,19 +109,13 @@ fn arrived(
     requires { 0 < part }
 {
     let mut arriving = Arriving::new(alloc);
-    let mut shown = Vec::new(alloc);
-    for more in bytes.chunks(part) {
-        arriving.push(more)?;
-        if take_lines(alloc, &mut arriving, most, &mut shown)?.is_none() {
-            return Ok(None);
-        }
-    }
-    let lines = arriving.lines();
-    let Ok(finished) = arriving.finish(alloc) else {
+    let Some(mut shown) = push_parts(alloc, &mut arriving, bytes, part, most)? else {
         return Ok(None);
     };
-    shown.extend_from_slice(lines_from(alloc, &finished.scan, lines)?.as_slice())?;
-    Ok(Some((shown, finished.counts)))
+    match put_missing(alloc, arriving, &mut shown)? {
+        Some(counts) => Ok(Some((shown, counts))),
+        None => Ok(None),
+    }
 }
 
 /// Whether a picture's text ends with these lines, and has its header before them.
@@ -162,15 +191,24 @@ fn gives_three_components_in_parts(rt: HostRuntime) -> Result<(), Fail> {
     check_parts(&rt, &cases::three_components())
 }
 
-/// The lines that a file's first bytes settle; none where it is refused.
-fn given_of(alloc: Global, bytes: &[u8]) -> Result<Option<Vec<u8>>, Fail> {
-    let mut arriving = Arriving::new(alloc);
+/// Pushes bytes, and gives the lines that they settle; none where the file is refused.
+fn push_and_take(
+    alloc: Global,
+    arriving: &mut Arriving,
+    bytes: &[u8],
+) -> Result<Option<Vec<u8>>, Fail> {
     let mut shown = Vec::new(alloc);
     arriving.push(bytes)?;
-    if take_lines(alloc, &mut arriving, u32::MAX, &mut shown)?.is_none() {
+    if take_lines(alloc, arriving, u32::MAX, &mut shown)?.is_none() {
         return Ok(None);
     }
     Ok(Some(shown))
+}
+
+/// The lines that a file's first bytes settle; none where it is refused.
+fn given_of(alloc: Global, bytes: &[u8]) -> Result<Option<Vec<u8>>, Fail> {
+    let mut arriving = Arriving::new(alloc);
+    push_and_take(alloc, &mut arriving, bytes)
 }
 
 /// Whether a whole file's picture begins with these lines; where it is refused there are none.
@@ -290,28 +328,60 @@ const HEADS: [(&str, Option<Refusal>); 14] = [
     ("FF D8 FF DD 00 05 00 01 00", Some(Refusal::BadLength(0xDD))),
 ];
 
+/// Why a file is refused once bytes are pushed: at a look, and where lines are wanted.
+fn push_and_begin(
+    alloc: Global,
+    arriving: &mut Arriving,
+    bytes: &[u8],
+) -> Result<[Option<Refusal>; 2], Fail> {
+    arriving.push(bytes)?;
+    let begun = arriving.begin(alloc).err();
+    Ok([begun, arriving.next_lines(alloc, &mut []).err()])
+}
+
+/// Why a file is refused that begins so: at a look, and where lines are wanted.
+fn refusals_of(alloc: Global, bytes: &[u8]) -> Result<[Option<Refusal>; 2], Fail> {
+    let mut arriving = Arriving::new(alloc);
+    push_and_begin(alloc, &mut arriving, bytes)
+}
+
 #[test]
 fn refuses_once_no_byte_can_mend_it(rt: HostRuntime) -> Result<(), Fail> {
-    let alloc = rt.alloc();
-    for (words, refusal) in HEADS {
-        let mut arriving = Arriving::new(alloc);
-        arriving.push(file(alloc, words)?.as_slice())?;
-        assert!(rt; arriving.begin(alloc).err() == refusal, "{words}");
-        assert!(rt;
-            arriving.next_lines(alloc, &mut []).err() == refusal,
-            "{words}"
-        );
+    for (words, refusal) in &HEADS {
+        let bytes = file(rt.alloc(), words)?;
+        let found = refusals_of(rt.alloc(), bytes.as_slice())?;
+        assert!(rt; found == [*refusal; 2], "{words}");
     }
     Ok(())
 }
 
+/// How many bytes have come once both are pushed; none for want of memory.
+fn push_both(arriving: &mut Arriving, first: &[u8], second: &[u8]) -> Option<u64> {
+    arriving.push(first).ok()?;
+    arriving.push(second).ok()?;
+    Some(arriving.bytes())
+}
+
+/// How the scan ended of a file that has come; none where it is refused.
+fn end_of(alloc: Global, arriving: Arriving) -> Option<ScanEnd> {
+    match arriving.finish(alloc) {
+        Ok(finished) => Some(finished.scan.ended()),
+        Err(_) => None,
+    }
+}
+
+/// How many bytes have come of a file in two parts, and how its scan ended.
+fn count_and_end(alloc: Global, first: &[u8], second: &[u8]) -> (Option<u64>, Option<ScanEnd>) {
+    let mut arriving = Arriving::new(alloc);
+    let count = push_both(&mut arriving, first, second);
+    (count, end_of(alloc, arriving))
+}
+
 #[test]
 fn tells_how_the_scan_ended(rt: HostRuntime) -> Result<(), Fail> {
-    let alloc = rt.alloc();
-    let mut arriving = Arriving::new(alloc);
-    arriving.push(file(alloc, "G 63 FF")?.as_slice())?;
-    arriving.push(b"\xD9")?;
-    assert!(rt; arriving.bytes() == file(alloc, "G 63 E")?.len() as u64);
-    assert!(rt; arriving.finish(alloc)?.scan.ended() == ScanEnd::EndOfImage);
+    let first = file(rt.alloc(), "G 63 FF")?;
+    let length = file(rt.alloc(), "G 63 E")?.len() as u64;
+    let found = count_and_end(rt.alloc(), first.as_slice(), &[0xD9]);
+    assert!(rt; found == (Some(length), Some(ScanEnd::EndOfImage)));
     Ok(())
 }
