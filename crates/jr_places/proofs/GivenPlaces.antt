@@ -1,12 +1,11 @@
 -- The top is a place, and a place stays one.
-use Rattle.std.proofs.Common.{◌≡◌, ℕ, ◌+◌, ◌-◌, ◌*◌, ◌≤◌, List, [], ◌∷◌, ◌++◌, length, replicate, take, drop, map, refl, sym, ap, subst, ◌∙◌, length-append, arith}
-use Rattle.std.specs.Prelude.{max}
+use Rattle.std.proofs.Common.{◌≡◌, ℕ, ◌-◌, ◌≤◌, List, [], ◌++◌, length, replicate, drop, map, refl, sym, ap, subst, ◌∙◌, length-append, arith}
 use Rattle.jr_cut.specs.Cut.{CodedSegment, CutFrom, IsRaw}
 use Rattle.jr_cut.proofs.Cuts.{raw_none}
 use Rattle.jr_scan.specs.Run.{start_of_interval}
 use Rattle.jr_scan.specs.ScanValue.{ScanValue, IsScanOf, intervals_of}
 use Rattle.jr_places.specs.declared.place.RowPlace.{RowPlace}
-use Rattle.jr_places.specs.Meaning.{GoesOnAt, HasBits, IsPlaceIn, MeansAt, offset_in, top}
+use Rattle.jr_places.specs.Meaning.{GoesOnAt, IsPlaceIn, MeansAt, offset_in, top}
 use Rattle.jr_places.proofs.ReadOn.{reads_first}
 use Rattle.jr_places.proofs.Spelled.{front_whole}
 

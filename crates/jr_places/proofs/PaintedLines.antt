@@ -1,5 +1,5 @@
 -- The lines of a row whose MCUs are the picture's.
-use Rattle.std.proofs.Common.{◌≡◌, ℕ, ◌+◌, ◌*◌, ◌<◌, ◌≤◌, List, length, take, sym, ap, ◌∙◌, arith}
+use Rattle.std.proofs.Common.{◌≡◌, ℕ, ◌*◌, ◌<◌, List, length, take, sym, ap, ◌∙◌, arith}
 use Rattle.jr_head.specs.HeadValue.{HeadValue}
 use Rattle.jr_head.specs.Geometry.{mcus_down, vertical_max}
 use Rattle.jr_paint.specs.Lines.{line_size, next_lines_of}

@@ -1,5 +1,5 @@
 -- What is read of an interval from a part of its data is read of all of it.
-use Rattle.std.proofs.Common.{◌≡◌, ℕ, zero, suc, ◌+◌, ◌-◌, ◌*◌, ◌<◌, ◌≤◌, ◌⊎◌, inl, inr, Bool, List, [], ◌∷◌, ◌++◌, length, drop, get_or, refl, sym, ap, subst, ◌∙◌, append_assoc, length-append, length-drop, arith}
+use Rattle.std.proofs.Common.{◌≡◌, ℕ, ◌+◌, ◌*◌, ◌<◌, ◌≤◌, ◌⊎◌, inl, inr, Bool, List, [], ◌∷◌, ◌++◌, length, get_or, refl, sym, ap, subst, ◌∙◌, length-append, arith}
 use Rattle.std.specs.Prelude.{ℤ}
 use Rattle.std.specs.List.{All}
 use Rattle.std.proofs.lemmas.List.{append-nil}
@@ -18,12 +18,12 @@ use Rattle.jr_scan.specs.IntervalValue.{IntervalValue}
 use Rattle.jr_scan.specs.Run.{HasNoMcu, IsRun, left_at, run_from, start_of_interval}
 use Rattle.jr_scan.specs.ScanValue.{ScanValue, interval_of, mcus_in}
 use Rattle.jr_scan.proofs.McuReaders.{no_run}
-use Rattle.jr_piece.specs.Strips.{CanReadFrom, FirstMcus, IsNext}
+use Rattle.jr_piece.specs.Strips.{CanReadFrom, FirstMcus}
 use Rattle.jr_piece.proofs.ScanLaws.{one_run, runs_meet, shorter_front}
 use Rattle.jr_piece.proofs.StripRuns as runs
 use Rattle.jr_settled.specs.More.{with_more}
 use Rattle.jr_settled.proofs.MoreData.{run_is_final}
-use Rattle.jr_places.specs.Meaning.{GoesOnAt, HasNoMore, ReadsAt, behind, with_before}
+use Rattle.jr_places.specs.Meaning.{GoesOnAt, HasNoMore, ReadsAt, behind}
 use Rattle.jr_places.proofs.Behind.{none_behind, run_behind}
 use Rattle.jr_places.proofs.Going.{its_data}
 use Rattle.jr_places.proofs.Longest.{none_in_long}

@@ -22,7 +22,7 @@ use Rattle.jr_places.specs.declared.cursor.ScanCursor.{ScanCursor}
 use Rattle.jr_places.specs.declared.file_bytes.FileBytes.{FileBytes}
 use Rattle.jr_places.specs.Meaning.{HasNoMore, MayBe, MeansAt, ReadsAt, behind}
 use Rattle.jr_places.specs.Places.{mcus_before}
-use Rattle.jr_places.specs.Cursors.{IsCursor, StandsIn, StaysTrue, in_window, number_of}
+use Rattle.jr_places.specs.Cursors.{IsCursor, StaysTrue, in_window, number_of}
 use Rattle.jr_places.specs.Shown.{ShowsMore}
 use Rattle.jr_places.proofs.Going.{on_by}
 use Rattle.jr_places.proofs.ReadOn.{nothing_whole, run_on}

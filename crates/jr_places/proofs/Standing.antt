@@ -1,24 +1,21 @@
 -- Where a cursor stands, by its numbers.
-use Rattle.std.proofs.Common.{◌≡◌, ℕ, zero, suc, ◌+◌, ◌-◌, ◌*◌, ◌/◌, ◌%◌, ◌<◌, ◌≤◌, inl, inr, List, ◌++◌, length, take, drop, refl, sym, ap, subst, ◌∙◌, length-append, length-drop, length-take-le, arith}
-use Rattle.std.specs.Prelude.{ℤ, max, min}
+use Rattle.std.proofs.Common.{◌≡◌, ℕ, zero, suc, ◌+◌, ◌*◌, ◌/◌, ◌%◌, ◌<◌, ◌≤◌, inl, inr, List, ◌++◌, length, take, drop, sym, ap, subst, ◌∙◌, length-append, length-drop, length-take-le, arith}
+use Rattle.std.specs.Prelude.{ℤ, min}
 use Rattle.std.specs.List.{All}
 use Rattle.std.proofs.lemmas.Bool.{cases_lt}
-use Rattle.std.proofs.lemmas.List.{take-append-drop}
 use Rattle.std.proofs.Math.Seq.{take-append_seam}
-use Rattle.jr_cut.specs.Cut.{IsRaw, IsStop}
+use Rattle.jr_cut.specs.Cut.{IsRaw}
 use Rattle.jr_head.specs.HeadValue.{HeadValue}
 use Rattle.jr_mcu.specs.Block.{IsInDcRange}
 use Rattle.jr_scan.specs.declared.place.Place.{Place}
-use Rattle.jr_scan.specs.ScanValue.{ScanValue, interval_of}
-use Rattle.jr_piece.specs.Strips.{IsNext}
+use Rattle.jr_scan.specs.ScanValue.{ScanValue}
 use Rattle.jr_settled.proofs.Spellings.{further, up_to_stop}
 use Rattle.jr_places.specs.declared.cursor.Reading.{Reading}
-use Rattle.jr_places.specs.declared.cursor.Reading.TheVariants.{GoesOn, IsStuck, HasEnded}
 use Rattle.jr_places.specs.declared.cursor.ScanCursor.{ScanCursor}
 use Rattle.jr_places.specs.declared.cursor.TheConstants.{WINDOW}
 use Rattle.jr_places.specs.declared.file_bytes.FileBytes.{FileBytes}
 use Rattle.jr_places.specs.declared.place.RowPlace.{RowPlace}
-use Rattle.jr_places.specs.Meaning.{HasBits, IsPlaceIn, MayBe, MeansAt, behind, offset_in}
+use Rattle.jr_places.specs.Meaning.{HasBits, IsPlaceIn, MayBe, MeansAt, offset_in}
 use Rattle.jr_places.specs.Cursors.{HasWindow, IsOffset, Spells, StandsIn, number_of}
 use Rattle.jr_places.proofs.Spelled.{split_at}
 use Rattle.jr_places.proofs.Steps.{moved}

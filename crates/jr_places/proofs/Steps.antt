@@ -1,9 +1,8 @@
 -- What a cursor's steps keep true in each file that its bytes may be.
 use Rattle.std.proofs.Common.{◌≡◌, ◌≢◌, ℕ, zero, suc, ◌+◌, ◌-◌, ◌*◌, ◌/◌, ◌%◌, ◌<◌, ◌≤◌, ◌⊎◌, inl, inr, List, [], ◌∷◌, ◌++◌, length, replicate, take, drop, get_or, refl, sym, ap, subst, ◌∙◌, append_assoc, length-append, length-drop, length-take-le, arith}
-use Rattle.std.specs.Prelude.{ℤ, min}
+use Rattle.std.specs.Prelude.{ℤ}
 use Rattle.std.specs.List.{All}
 use Rattle.std.proofs.lemmas.List.{append-nil, drop-append-le, drop-drop}
-use Rattle.std.proofs.lemmas.Nat.{div-add-mod'}
 use Rattle.jr_base.specs.declared.marker.TheConstants.{PREFIX, RST0}
 use Rattle.jr_cut.specs.Cut.{IsRaw, IsStop, IsEnding, marker}
 use Rattle.jr_cut.specs.OpenSegments.{BeginsWithRestart}
@@ -14,7 +13,6 @@ use Rattle.jr_head.specs.HeadValue.{HeadValue}
 use Rattle.jr_head.specs.Geometry.{IsLawful}
 use Rattle.jr_head.specs.Intervals.{intervals_of, mcus_in}
 use Rattle.jr_mcu.specs.Block.{IsInDcRange}
-use Rattle.jr_mcu.specs.Mcus.{no_predictions}
 use Rattle.jr_scan.specs.declared.place.Place.{Place}
 use Rattle.jr_scan.specs.declared.place.RunEnd.TheVariants.{AllRead}
 use Rattle.std.proofs.lemmas.Bool.{cases_lt}
@@ -34,8 +32,8 @@ use Rattle.jr_places.specs.declared.cursor.TheConstants.{WINDOW}
 use Rattle.jr_places.specs.declared.file_bytes.FileBytes.{FileBytes}
 use Rattle.jr_places.specs.Meaning.{GoesOnAt, HasNoData, HasNoMore, IsStuckAt, MayBe, MeansAt, ReadsAt, behind}
 use Rattle.jr_places.specs.Places.{IsIn}
-use Rattle.jr_places.specs.Cursors.{Follows, HasWindow, IsCursor, IsOffset, NoneFollows, StandsIn, StaysIn, StaysTrue, begun, in_window, number_of}
-use Rattle.jr_places.proofs.Going.{OnBy, ended_on, ending_more, next_on, on_by}
+use Rattle.jr_places.specs.Cursors.{HasWindow, IsCursor, IsOffset, NoneFollows, StandsIn, StaysTrue, in_window, number_of}
+use Rattle.jr_places.proofs.Going.{ended_on, ending_more, next_on, on_by}
 use Rattle.jr_places.proofs.ReadOn.{none_on, reads_first, reads_on}
 use Rattle.jr_places.proofs.Spelled.{split_at}
 

@@ -1,5 +1,5 @@
 -- Three numbers as a list.
-use Rattle.std.proofs.Common.{◌≡◌, List, [], ◌∷◌, length, get_or, refl, sym, ap, subst, ◌∙◌, w32, of_z, to_z, arith}
+use Rattle.std.proofs.Common.{◌≡◌, List, [], ◌∷◌, length, get_or, sym, ap, subst, ◌∙◌, w32, of_z, to_z, arith}
 use Rattle.std.specs.Prelude.{ℤ, pos}
 use Rattle.std.proofs.lemmas.Int.{ints, to_z-of_z}
 use Rattle.jr_mcu.specs.Block.{IsInDcRange}

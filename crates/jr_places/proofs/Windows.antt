@@ -1,11 +1,8 @@
 -- The window of a cursor, and what its data spell.
-use Rattle.std.proofs.Common.{◌≡◌, ℕ, ◌+◌, ◌-◌, ◌*◌, ◌<◌, ◌≤◌, List, [], ◌++◌, length, take, drop, refl, sym, ap, subst, ◌∙◌, length-take-le, arith}
-use Rattle.std.proofs.lemmas.List.{take-append-drop, take_all}
-use Rattle.std.specs.List.{All}
+use Rattle.std.proofs.Common.{◌≡◌, ℕ, ◌+◌, ◌<◌, ◌≤◌, List, ◌++◌, length, take, drop, sym, subst, length-take-le, arith}
+use Rattle.std.proofs.lemmas.List.{take-append-drop}
 use Rattle.jr_cut.specs.Cut.{IsRaw, IsStop}
-use Rattle.jr_cut.proofs.Cuts.{raw_none, rest_is}
-use Rattle.jr_places.specs.declared.cursor.TheConstants.{WINDOW}
-use Rattle.jr_places.specs.declared.cursor.ScanCursor.{ScanCursor}
+use Rattle.jr_cut.proofs.Cuts.{raw_none}
 use Rattle.jr_places.specs.Cursors.{Spells}
 use Rattle.jr_places.proofs.Spelled.{same_spelled}
 

@@ -1,7 +1,7 @@
-//! What data so far settle: of a restart interval, whatever data comes behind it, and of a row of MCUs, in whichever picture of the scan.
+//! What data so far settle of an interval and of a picture's rows, whatever data comes.
 //!
-//! Here stand the facts that those who read a scan in parts share: where the data of a segment stops, what whole MCUs of it stay, and
-//! what data units and lines of them a picture shows.
+//! Those who read a file in parts share it: where the data of a segment stops, which whole MCUs stay as more data comes, and that each
+//! picture of a scan has the same lines.
 #![tactic(auto)]
 
 mod laws;

@@ -1,4 +1,4 @@
-use Rattle.std.proofs.Common.{◌≡◌, ◌<◌, ◌∙◌, get_or, length, arith, rules}
+use Rattle.std.proofs.Common.{◌≡◌, ◌∙◌, get_or, length, arith, rules}
 use Rattle.std.specs.Prelude.{pos}
 use Rattle.jr_mcu.specs.Block.{IsInDcRange}
 use Rattle.jr_mcu.proofs.Greater.{three_all}

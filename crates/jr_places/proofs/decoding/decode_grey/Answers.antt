@@ -1,5 +1,5 @@
 use Rattle.std.proofs.Common.{◌≡◌, ◌+◌, ◌-◌, ◌<◌, ◌≤◌, min, arith, rules}
-use Rattle.jr_head.specs.Geometry.{blocks_of, mcus_across}
+use Rattle.jr_head.specs.Geometry.{blocks_of}
 use Rattle.jr_head.specs.Intervals.{mcus_in}
 use Rattle.jr_places.proofs.ShownSteps.{grey_shows}
 use Rattle.jr_places.proofs.decoding.decode_grey.Goals as goal

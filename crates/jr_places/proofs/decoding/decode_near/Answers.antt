@@ -1,4 +1,4 @@
-use Rattle.std.proofs.Common.{◌≡◌, ◌+◌, ◌-◌, ◌*◌, ◌<◌, ◌≤◌, [], ℕ, List, length, take, subst, sym, ap, refl, ◌∙◌, length-take-le, slice_index_or, arith, rules}
+use Rattle.std.proofs.Common.{◌≡◌, ◌+◌, ◌-◌, ◌*◌, ◌<◌, [], ℕ, length, take, subst, sym, ap, refl, ◌∙◌, length-take-le, slice_index_or, arith, rules}
 use Rattle.jr_head.specs.HeadValue.{HeadValue}
 use Rattle.jr_head.specs.Geometry.{blocks_of}
 use Rattle.jr_head.specs.Intervals.{mcus_in}

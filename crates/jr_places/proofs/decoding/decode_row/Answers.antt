@@ -1,4 +1,4 @@
-use Rattle.std.proofs.Common.{◌≡◌, ◌+◌, ◌*◌, ◌<◌, ℕ, List, length, sym, ap, subst, ◌∙◌, arith, rules}
+use Rattle.std.proofs.Common.{◌≡◌, ◌*◌, ◌<◌, length, sym, subst, ◌∙◌, arith, rules}
 use Rattle.jr_head.specs.Geometry.{mcus_across}
 use Rattle.jr_rows.specs.Groups.{units_in}
 use Rattle.jr_places.specs.declared.file_bytes.FileBytes.{FileBytes}

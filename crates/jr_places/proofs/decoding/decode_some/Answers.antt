@@ -1,4 +1,4 @@
-use Rattle.std.proofs.Common.{◌≡◌, ◌+◌, ◌*◌, ℕ, ap, ◌∙◌, arith, rules}
+use Rattle.std.proofs.Common.{◌≡◌, ◌*◌, ℕ, ap, ◌∙◌, arith}
 use Rattle.jr_places.specs.Places.{mcus_before}
 use Rattle.jr_places.proofs.ShownSteps.{shows_after, shows_moved}
 use Rattle.jr_places.proofs.Steps.{true_on}

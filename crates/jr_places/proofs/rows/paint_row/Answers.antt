@@ -1,6 +1,6 @@
-use Rattle.std.proofs.Common.{◌≡◌, ◌<◌, ◌*◌, ℕ, List, sym, ap, subst, ◌∙◌, arith, rules}
+use Rattle.std.proofs.Common.{◌≡◌, ◌<◌, ℕ, sym, ap, subst, ◌∙◌}
 use Rattle.jr_head.specs.HeadValue.{HeadValue}
-use Rattle.jr_head.specs.Geometry.{mcus_down, vertical_max}
+use Rattle.jr_head.specs.Geometry.{mcus_down}
 use Rattle.jr_paint.specs.Lines.{next_lines_of}
 use Rattle.jr_rows.specs.Bands.{samples_in}
 use Rattle.jr_rows.specs.Rows.{first_line, line_count}

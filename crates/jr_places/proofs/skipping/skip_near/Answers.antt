@@ -1,9 +1,8 @@
-use Rattle.std.proofs.Common.{◌≡◌, ◌+◌, ◌-◌, ◌*◌, ◌<◌, ◌≤◌, [], ℕ, List, length, take, subst, sym, ap, refl, ◌∙◌, length-take-le, inl, inr, arith, rules}
-use Rattle.std.specs.Prelude.{ℤ}
+use Rattle.std.proofs.Common.{◌≡◌, ◌+◌, ◌-◌, [], ℕ, length, take, subst, sym, ap, refl, ◌∙◌, length-take-le, arith, rules}
 use Rattle.jr_head.specs.Intervals.{mcus_in}
 use Rattle.jr_scan.specs.declared.place.Place.{Place}
 use Rattle.jr_scan.specs.declared.place.RunEnd.TheVariants.{AllRead}
-use Rattle.jr_scan.specs.Run.{HasNoMcu, IsRun, RunOf, run_from}
+use Rattle.jr_scan.specs.Run.{IsRun, RunOf, run_from}
 use Rattle.jr_piece.proofs.StripRuns.{passed_place}
 use Rattle.jr_places.specs.declared.cursor.ScanCursor.{ScanCursor}
 use Rattle.jr_places.specs.Cursors.{PassesIn, StaysTrue, in_window}

@@ -1,6 +1,5 @@
-use Rattle.std.proofs.Common.{◌≡◌, ◌<◌, ◌+◌, ℕ, inl, inr, sym, ap, subst, ◌∙◌, arith, rules}
+use Rattle.std.proofs.Common.{◌≡◌, ◌<◌, ℕ, inr, sym, subst, ◌∙◌, arith}
 use Rattle.jr_head.specs.Intervals.{mcus_in}
-use Rattle.jr_places.specs.declared.cursor.ScanCursor.{ScanCursor}
 use Rattle.jr_places.specs.Cursors.{NoneFollows}
 use Rattle.jr_places.proofs.Steps.{none_follows}
 use Rattle.jr_places.proofs.skipping.skip_whole.Goals as goal

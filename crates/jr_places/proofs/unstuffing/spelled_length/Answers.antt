@@ -1,4 +1,4 @@
-use Rattle.std.proofs.Common.{◌≡◌, ◌+◌, ◌-◌, ◌<◌, ◌≤◌, ◌++◌, ◌∷◌, [], length, take, drop, ap, length-append, length-drop, length-take-le, arith, rules}
+use Rattle.std.proofs.Common.{◌≡◌, ◌+◌, ◌-◌, ◌<◌, ◌≤◌, ◌++◌, ◌∷◌, [], length, take, drop, ap, length-append, length-drop, length-take-le, arith}
 use Rattle.jr_base.specs.declared.marker.TheConstants.{PREFIX}
 use Rattle.jr_cut.proofs.Cuts.{stop_end, stop_code, rest_is, fill_some, raw_stuffed}
 use Rattle.jr_cut.proofs.Unstuffed.{raw_run}

@@ -1,4 +1,4 @@
-use Rattle.std.proofs.Common.{◌≡◌, ◌≤◌, ◌++◌, ◌∙◌, drop, sym, subst, refl, List, ℕ, arith, rules}
+use Rattle.std.proofs.Common.{◌≡◌, drop, sym, subst, refl, List, ℕ, arith, rules}
 use Rattle.jr_cut.specs.Cut.{IsStop}
 use Rattle.jr_places.specs.declared.cursor.Reading.TheVariants.{GoesOn, IsStuck}
 use Rattle.jr_places.proofs.Standing.{stands_by}

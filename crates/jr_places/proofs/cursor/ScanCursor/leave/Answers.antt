@@ -1,4 +1,4 @@
-use Rattle.std.proofs.Common.{refl, arith, rules}
+use Rattle.std.proofs.Common.{refl, arith}
 use Rattle.jr_places.proofs.Windows.{stopped}
 use Rattle.jr_places.proofs.cursor.ScanCursor.leave.Goals as goal
 

@@ -1,5 +1,4 @@
-use Rattle.std.proofs.Common.{◌≡◌, ◌+◌, ◌-◌, ◌*◌, ◌%◌, ◌<◌, ◌≤◌, ◌++◌, ◌∙◌, ℕ, min, length, drop, refl, sym, ap, subst, arith, rules}
-use Rattle.jr_cut.specs.declared.stop.Stop.{Stop}
+use Rattle.std.proofs.Common.{◌≡◌, ◌+◌, ◌%◌, ◌++◌, ◌∙◌, ℕ, drop, refl, ap, subst, arith, rules}
 use Rattle.jr_cut.specs.declared.stop.Stop.TheVariants.{End, Restart}
 use Rattle.jr_cut.specs.OpenSegments.{IsStopOf}
 use Rattle.jr_base.specs.declared.marker.TheConstants.{RST0}

@@ -1,4 +1,4 @@
-use Rattle.std.proofs.Common.{◌≡◌, ◌+◌, ◌-◌, ◌<◌, ◌≤◌, ℕ, List, length, take, drop, refl, ap, subst, length-take-le, length-drop, arith, rules}
+use Rattle.std.proofs.Common.{◌≡◌, ◌<◌, ℕ, List, length, take, drop, refl, ap, subst, length-take-le, length-drop, arith}
 use Rattle.jr_cut.specs.Cut.{IsRaw, IsStop}
 use Rattle.jr_cut.proofs.Cuts.{rest_is}
 use Rattle.jr_places.proofs.Windows.{offset_spelled}

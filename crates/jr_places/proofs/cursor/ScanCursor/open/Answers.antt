@@ -1,7 +1,6 @@
-use Rattle.std.proofs.Common.{◌≡◌, ◌≤◌, ℕ, ◌∙◌, ◌*◌, length, max, min, refl, sym, ap, subst, arith, rules}
-use Rattle.std.specs.List.{All}
+use Rattle.std.proofs.Common.{◌≡◌, ℕ, ◌∙◌, ◌*◌, max, min, refl, sym, ap, arith, rules}
 use Rattle.jr_head.specs.HeadValue.{HeadValue}
-use Rattle.jr_places.specs.Meaning.{HasBits, MeansAt, offset_in}
+use Rattle.jr_places.specs.Meaning.{offset_in}
 use Rattle.jr_places.proofs.Passing.{is_kept}
 use Rattle.jr_places.proofs.Standing.{gone, opened, stands_by}
 use Rattle.jr_places.proofs.cursor.ScanCursor.open.Goals as goal

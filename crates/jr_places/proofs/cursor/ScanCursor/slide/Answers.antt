@@ -1,4 +1,4 @@
-use Rattle.std.proofs.Common.{◌≡◌, ◌%◌, ◌≤◌, refl, arith, rules}
+use Rattle.std.proofs.Common.{◌≡◌, ◌%◌, refl, arith}
 use Rattle.jr_places.proofs.Standing.{bits_behind, gone, place_by, stands_by}
 use Rattle.jr_places.proofs.Steps.{moved}
 use Rattle.jr_places.proofs.cursor.ScanCursor.slide.Goals as goal
