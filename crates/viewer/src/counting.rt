@@ -14,15 +14,19 @@ pub struct Counter<'a, E> {
     pub told: u32,
 }
 
+/// Tells how many can be seen, and how many of them are damaged.
+pub fn tell_of<W: Write>(seen: u32, damaged: u32, out: &mut W) {
+    let plural = if seen == 1 { "" } else { "s" };
+    let _ = writeln!(
+        out,
+        "{seen} interval{plural} can be seen, {damaged} of them damaged"
+    );
+}
+
 impl<E> Counter<'_, E> {
     /// Tells how many can be seen.
     pub fn tell<W: Write>(&self, out: &mut W) {
-        let (seen, damaged) = (self.seen, self.damaged);
-        let plural = if seen == 1 { "" } else { "s" };
-        let _ = writeln!(
-            out,
-            "{seen} interval{plural} can be seen, {damaged} of them damaged"
-        );
+        tell_of(self.seen, self.damaged, out);
     }
 }
 

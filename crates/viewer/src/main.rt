@@ -1,10 +1,12 @@
-//! An example of a viewer: while workers decode a JPEG file, it looks at what is finished, and never waits for them.
+//! An example of a viewer: while workers decode a JPEG file, it looks at what is finished, and never waits for them; and while
+//! a file comes on standard input, it shows what has come.
 //!
 //! `viewer FILE ..` tells of each file how many intervals can be seen; what stands on standard output is the same on every
 //! schedule. `viewer --frames FILE ..` writes Netpbm pictures of what can be seen, one each time that more can; a file's
-//! last one is finished.
+//! last one is finished. `-` is standard input: a file that comes in parts, as through a pipe that stalls.
 #![tactic(auto)]
 
+mod coming;
 mod counting;
 mod frames;
 
@@ -77,6 +79,19 @@ fn show<R: Threads + Wait + Clock + Sync, W: Write, E: Write>(
     Ok(())
 }
 
+/// Shows the file that comes on standard input; where that fails `errors` is told why, and the exit status is given.
+fn show_input<W: Write, E: Write>(
+    rt: &HostRuntime,
+    has_frames: bool,
+    out: &mut Tally<W>,
+    errors: &mut E,
+) -> Result<(), u8> {
+    match coming::show(rt.alloc(), &mut rt.stdin(), has_frames, out) {
+        Ok(()) => Ok(()),
+        Err(failure) => Err(failure.tell(errors)),
+    }
+}
+
 fn main(rt: HostRuntime) -> ExitCode {
     let (mut out, mut errors) = (Tally::of(rt.stdout()), rt.stderr());
     let Ok(words) = env::args(&rt) else {
@@ -88,12 +103,20 @@ fn main(rt: HostRuntime) -> ExitCode {
             has_frames = true;
             continue;
         }
-        let scan = match scan_of(&rt, word.as_str(), &mut errors) {
-            Ok(scan) => scan,
-            Err(status) => return ExitCode::from(status),
+        let shown = if word.as_str() == "-" {
+            show_input(&rt, has_frames, &mut out, &mut errors)
+        } else {
+            match scan_of(&rt, word.as_str(), &mut errors) {
+                Ok(scan) => show(&rt, rt.alloc(), scan, has_frames, &mut out, &mut errors).map_err(
+                    |_| 1,
+                ),
+                Err(status) => Err(status),
+            }
         };
-        let done = show(&rt, rt.alloc(), scan, has_frames, &mut out, &mut errors);
-        if done.is_err() || out.failed() {
+        if let Err(status) = shown {
+            return ExitCode::from(status);
+        }
+        if out.failed() {
             return ExitCode::from(1);
         }
     }
