@@ -23,7 +23,7 @@ use Rattle.jr_arrival.specs.Arriving.{ArrivingValue, IsArriving, given_of}
 use Rattle.jr_arrival.specs.Growing.{HasScan}
 use Rattle.jr_arrival.specs.Settled.{AreFinal, GivesNext, NextLines}
 use Rattle.jr_arrival.proofs.HeadsStay.{head_stays}
-use Rattle.jr_arrival.proofs.LinesStay.{one_lines}
+use Rattle.jr_settled.proofs.LinesOfPictures.{one_lines}
 use Rattle.jr_view.specs.ArrivingViews.{ArrivingViewValue, AreSettled, HasLines, IsPictureOf, IsSeen, KeepsLines, ShowsLines, lines_shown, view_of}
 
 -- what more bytes can become, those before can
