@@ -41,14 +41,20 @@ fn run_on<R: Threads + Wait + Sync + AllocGlobal>(
     Ok((lines, status))
 }
 
+/// Puts the sound file, a damaged one, a refused one and an old picture into the folder.
+fn put_files(alloc: Global, machine: &mut Machine, sound: &[u8]) -> Result<(), Fail> {
+    machine.put("sound.jpg", sound, false)?;
+    machine.put("damaged.jpg", file(alloc, DAMAGED)?.as_slice(), false)?;
+    machine.put("refused.jpg", b"GIF", false)?;
+    machine.put("old.pgm", b"old", false)?;
+    Ok(())
+}
+
 /// A machine with a file on standard input, as `sound.jpg` and as `x.ppm`, and damaged and refused ones.
 fn machine(alloc: Global) -> Result<Machine, Fail> {
     let sound = file(alloc, SOUND)?;
     let mut machine = Machine::new(alloc, sound.as_slice())?;
-    machine.put("sound.jpg", sound.as_slice(), false)?;
-    machine.put("damaged.jpg", file(alloc, DAMAGED)?.as_slice(), false)?;
-    machine.put("refused.jpg", b"GIF", false)?;
-    machine.put("old.pgm", b"old", false)?;
+    put_files(alloc, &mut machine, sound.as_slice())?;
     Ok(machine)
 }
 
@@ -108,21 +114,42 @@ fn writes_to_standard_output(rt: HostRuntime) -> Result<(), Fail> {
     Ok(())
 }
 
+/// A run ends with this status, and tells these lines where they are looked at.
+fn check_run<R: Threads + Wait + Sync + AllocGlobal + Abort>(
+    rt: &R,
+    machine: &mut Machine,
+    line: &str,
+    told: Option<&str>,
+    wanted: u8,
+) -> Result<(), Fail> {
+    let (lines, status) = run_on(rt, machine, line)?;
+    let is_told = match told {
+        Some(told) => lines.as_slice() == told.as_bytes(),
+        None => true,
+    };
+    assert!(rt; is_told, "lines of {line}");
+    assert!(rt; status == wanted, "status of {line}");
+    Ok(())
+}
+
+/// Words of runs on damaged files, their lines and the exit status.
+const ON_DAMAGE: [(&str, &str, u8); 3] = [
+    ("damaged.jpg", DAMAGED_LINES, 3),
+    (
+        "--first 1 damaged.jpg",
+        "intervals 2 sound 1 damaged 0 blank 1\nscan ended at EOI\n",
+        0,
+    ),
+    ("--quiet damaged.jpg", "", 3),
+];
+
 /// A damaged file ends with status 3, and its blank intervals are as many as the words say.
 #[test]
 fn tells_damage(rt: HostRuntime) -> Result<(), Fail> {
-    let mut machine = machine(rt.alloc())?;
-    let (lines, status) = run_on(&rt, &mut machine, "damaged.jpg")?;
-    assert!(rt; lines.as_slice() == DAMAGED_LINES.as_bytes());
-    assert!(rt; status == 3);
-    let mut machine = self::machine(rt.alloc())?;
-    let (lines, status) = run_on(&rt, &mut machine, "--first 1 damaged.jpg")?;
-    let told = "intervals 2 sound 1 damaged 0 blank 1\nscan ended at EOI\n";
-    assert!(rt; lines.as_slice() == told.as_bytes());
-    assert!(rt; status == 0);
-    let mut machine = self::machine(rt.alloc())?;
-    let (lines, status) = run_on(&rt, &mut machine, "--quiet damaged.jpg")?;
-    assert!(rt; lines.is_empty() && status == 3);
+    for (line, told, status) in &ON_DAMAGE {
+        let mut machine = machine(rt.alloc())?;
+        check_run(&rt, &mut machine, line, Some(told), *status)?;
+    }
     Ok(())
 }
 
@@ -141,55 +168,86 @@ fn has<R: Abort>(
     Ok(())
 }
 
-#[test]
-fn places_a_picture(rt: HostRuntime) -> Result<(), Fail> {
-    let whole = picture(rt.alloc(), SOUND_PICTURE)?;
-    let mut machine = machine(rt.alloc())?;
-    let (lines, status) = run_on(&rt, &mut machine, "-o new.pgm sound.jpg")?;
-    assert!(rt; lines.as_slice() == SOUND_LINES.as_bytes() && status == 0);
-    has(&rt, &machine, "new.pgm", whole.as_slice(), FILES + 1)?;
-    let (_lines, status) = run_on(&rt, &mut machine, "--output old.pgm --quiet sound.jpg")?;
-    assert!(rt; status == 0);
-    has(&rt, &machine, "old.pgm", whole.as_slice(), FILES + 1)?;
-    let (_lines, status) = run_on(&rt, &mut machine, "-o new.pgm damaged.jpg")?;
-    assert!(rt; status == 3);
-    let damaged = picture(rt.alloc(), "P5 16 8 : 8*136 8*128")?;
-    has(&rt, &machine, "new.pgm", damaged.as_slice(), FILES + 1)?;
+/// The folder has this picture in a file, and one file more than at first.
+fn has_picture<R: AllocGlobal + Abort>(
+    rt: &R,
+    machine: &Machine,
+    name: &str,
+    words: &str,
+) -> Result<(), Fail> {
+    let whole = picture(rt.alloc(), words)?;
+    has(rt, machine, name, whole.as_slice(), FILES + 1)
+}
+
+/// A new picture, one in place of an old file, and one in place of the new picture.
+fn check_places<R: Threads + Wait + Sync + AllocGlobal + Abort>(
+    rt: &R,
+    machine: &mut Machine,
+) -> Result<(), Fail> {
+    check_run(rt, machine, "-o new.pgm sound.jpg", Some(SOUND_LINES), 0)?;
+    has_picture(rt, machine, "new.pgm", SOUND_PICTURE)?;
+    check_run(rt, machine, "--output old.pgm --quiet sound.jpg", None, 0)?;
+    has_picture(rt, machine, "old.pgm", SOUND_PICTURE)?;
+    check_run(rt, machine, "-o new.pgm damaged.jpg", None, 3)?;
+    has_picture(rt, machine, "new.pgm", "P5 16 8 : 8*136 8*128")?;
     assert!(rt; machine.written()?.is_empty());
     Ok(())
+}
+
+#[test]
+fn places_a_picture(rt: HostRuntime) -> Result<(), Fail> {
+    let mut machine = machine(rt.alloc())?;
+    check_places(&rt, &mut machine)
+}
+
+fn check_parts<R: Threads + Wait + Sync + AllocGlobal + Abort>(
+    rt: &R,
+    machine: &mut Machine,
+) -> Result<(), Fail> {
+    machine.put("a/.jri-1.part", b"other", false)?;
+    check_run(rt, machine, "-o a/new.pgm", None, 0)?;
+    let whole = picture(rt.alloc(), SOUND_PICTURE)?;
+    has(rt, machine, "a/new.pgm", whole.as_slice(), FILES + 2)?;
+    has(rt, machine, "a/.jri-1.part", b"other", FILES + 2)
 }
 
 /// Parts that other runs have left are passed over, and stay.
 #[test]
 fn passes_over_other_parts(rt: HostRuntime) -> Result<(), Fail> {
-    let whole = picture(rt.alloc(), SOUND_PICTURE)?;
     let mut machine = machine(rt.alloc())?;
-    machine.put("a/.jri-1.part", b"other", false)?;
-    let (_lines, status) = run_on(&rt, &mut machine, "-o a/new.pgm")?;
-    assert!(rt; status == 0);
-    has(&rt, &machine, "a/new.pgm", whole.as_slice(), FILES + 2)?;
-    has(&rt, &machine, "a/.jri-1.part", b"other", FILES + 2)
+    check_parts(&rt, &mut machine)
+}
+
+/// Words that give no picture, their lines where these are looked at, and the exit status.
+const KEEPING: [(&str, Option<&str>, u8); 3] = [
+    ("-o old.pgm refused.jpg", Some(REFUSED_LINE), 2),
+    ("-o old.pgm none.jpg", Some("cannot open the file\n"), 1),
+    ("-o old.pgm --workers 0 sound.jpg", None, 2),
+];
+
+fn check_keeping<R: Threads + Wait + Sync + AllocGlobal + Abort>(
+    rt: &R,
+    machine: &mut Machine,
+    line: &str,
+    told: Option<&str>,
+    wanted: u8,
+) -> Result<(), Fail> {
+    check_run(rt, machine, line, told, wanted)?;
+    has(rt, machine, "old.pgm", b"old", FILES)
 }
 
 /// With a status that no picture has, the file is as it was, and no part is left.
 #[test]
 fn leaves_a_file_as_it_was(rt: HostRuntime) -> Result<(), Fail> {
-    for (line, told, wanted) in [
-        ("-o old.pgm refused.jpg", REFUSED_LINE, 2),
-        ("-o old.pgm none.jpg", "cannot open the file\n", 1),
-        ("-o old.pgm --workers 0 sound.jpg", "", 2),
-    ] {
+    for (line, told, wanted) in &KEEPING {
         let mut machine = machine(rt.alloc())?;
-        let (lines, status) = run_on(&rt, &mut machine, line)?;
-        assert!(rt;
-            told.is_empty() || lines.as_slice() == told.as_bytes(),
-            "{line}"
-        );
-        assert!(rt; status == wanted, "{line}");
-        has(&rt, &machine, "old.pgm", b"old", FILES)?;
+        check_keeping(&rt, &mut machine, line, *told, *wanted)?;
     }
     Ok(())
 }
+
+/// Words of a run whose picture is placed into the folder.
+const INTO_FOLDER: &str = "-o old.pgm --verbose sound.jpg";
 
 /// A full disk, a folder that takes no file, and one in which none can be renamed.
 #[test]
@@ -201,16 +259,12 @@ fn tells_of_folders_that_fail(rt: HostRuntime) -> Result<(), Fail> {
             1 => machine.can_create = false,
             _ => machine.can_rename = false,
         }
-        let (lines, status) = run_on(&rt, &mut machine, "-o old.pgm --verbose sound.jpg")?;
-        let reason = if fault == 0 {
-            "no storage space"
+        let told = if fault == 0 {
+            "cannot write the picture: old.pgm: no storage space\n"
         } else {
-            "permission denied"
+            "cannot write the picture: old.pgm: permission denied\n"
         };
-        let told = format!(in rt.alloc(); "cannot write the picture: old.pgm: {reason}\n")?;
-        assert!(rt; lines.as_slice() == told.as_bytes(), "fault {fault}");
-        assert!(rt; status == 1, "fault {fault}");
-        has(&rt, &machine, "old.pgm", b"old", FILES)?;
+        check_keeping(&rt, &mut machine, INTO_FOLDER, Some(told), 1)?;
     }
     Ok(())
 }
@@ -228,51 +282,58 @@ fn writes_into_a_device(rt: HostRuntime) -> Result<(), Fail> {
     has(&rt, &machine, "null", whole.as_slice(), FILES + 1)
 }
 
+/// Words, why standard output takes no more, and the lines.
+const REFUSALS: [(&str, ErrorKind, &str); 4] = [
+    ("--quiet", ErrorKind::BrokenPipe, ""),
+    (
+        "--quiet",
+        ErrorKind::StorageFull,
+        "cannot write the picture\n",
+    ),
+    ("", ErrorKind::BrokenPipe, "cannot write the picture\n"),
+    (
+        "--verbose",
+        ErrorKind::BrokenPipe,
+        "cannot write the picture: standard output: broken pipe\n",
+    ),
+];
+
 /// The reader of the picture goes away.
 #[test]
 fn ends_without_a_line_where_the_reader_has_gone(rt: HostRuntime) -> Result<(), Fail> {
-    for (line, refusal, told) in [
-        ("--quiet", ErrorKind::BrokenPipe, ""),
-        (
-            "--quiet",
-            ErrorKind::StorageFull,
-            "cannot write the picture\n",
-        ),
-        ("", ErrorKind::BrokenPipe, "cannot write the picture\n"),
-        (
-            "--verbose",
-            ErrorKind::BrokenPipe,
-            "cannot write the picture: standard output: broken pipe\n",
-        ),
-    ] {
+    for (line, refusal, told) in &REFUSALS {
         let mut machine = machine(rt.alloc())?;
         machine.room = 5;
-        machine.refusal = refusal;
-        let (lines, status) = run_on(&rt, &mut machine, line)?;
-        assert!(rt; lines.as_slice() == told.as_bytes(), "{line}");
-        assert!(rt; status == 1, "{line}");
+        machine.refusal = *refusal;
+        check_run(&rt, &mut machine, line, Some(told), 1)?;
     }
     Ok(())
+}
+
+/// Words of runs whose standard output is a terminal, their lines and the exit status.
+const ON_TERMINALS: [(&str, &str, u8); 6] = [
+    ("sound.jpg", ONTO_TERMINAL, 2),
+    ("", ONTO_TERMINAL, 2),
+    ("none.jpg", ONTO_TERMINAL, 2),
+    ("--force sound.jpg", SOUND_LINES, 0),
+    ("-o - sound.jpg", SOUND_LINES, 0),
+    ("-o new.pgm sound.jpg", SOUND_LINES, 0),
+];
+
+/// Whether standard output or a new file has something.
+fn has_written(machine: &Machine) -> Result<bool, Fail> {
+    Ok(!machine.written()?.is_empty() || machine.files.len() > FILES)
 }
 
 /// A picture goes onto a terminal only where the words say so.
 #[test]
 fn keeps_pictures_from_terminals(rt: HostRuntime) -> Result<(), Fail> {
-    for (line, told, wanted) in [
-        ("sound.jpg", ONTO_TERMINAL, 2),
-        ("", ONTO_TERMINAL, 2),
-        ("none.jpg", ONTO_TERMINAL, 2),
-        ("--force sound.jpg", SOUND_LINES, 0),
-        ("-o - sound.jpg", SOUND_LINES, 0),
-        ("-o new.pgm sound.jpg", SOUND_LINES, 0),
-    ] {
+    for (line, told, wanted) in &ON_TERMINALS {
         let mut machine = machine(rt.alloc())?;
         machine.has_output_terminal = true;
-        let (lines, status) = run_on(&rt, &mut machine, line)?;
-        assert!(rt; lines.as_slice() == told.as_bytes(), "lines of {line}");
-        assert!(rt; status == wanted, "status of {line}");
-        let is_written = !machine.written()?.is_empty() || machine.files.len() > FILES;
-        assert!(rt; is_written == (wanted == 0), "picture of {line}");
+        check_run(&rt, &mut machine, line, Some(told), *wanted)?;
+        let is_written = has_written(&machine)?;
+        assert!(rt; is_written == (*wanted == 0), "picture of {line}");
     }
     Ok(())
 }
