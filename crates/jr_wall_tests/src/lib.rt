@@ -3,8 +3,6 @@
 #![tactic(auto)]
 
 #[cfg(test)]
-mod arriving_views;
-#[cfg(test)]
 mod boards;
 #[cfg(test)]
 mod cells;
