@@ -3,6 +3,8 @@
 #![tactic(auto)]
 
 #[cfg(test)]
+mod arriving_views;
+#[cfg(test)]
 mod boards;
 #[cfg(test)]
 mod cells;

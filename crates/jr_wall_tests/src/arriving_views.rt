@@ -1,0 +1,132 @@
+//! What a view shows of a file that is still arriving.
+
+ghost use Rattle.std.specs.Prelude.{◌<◌};
+
+use jr_head::Refusal;
+use jr_view::{ArrivingView, FinishedView};
+use std::alloc::Global;
+use std::process::Abort;
+use std::test::Fail;
+use test_files::cases;
+use test_files::cases::Case;
+use test_files::files::file;
+use test_files::pictures::picture;
+
+/// Takes more bytes, and shows what they settle: whether no fewer lines are shown than before.
+fn take(alloc: Global, view: &mut ArrivingView, more: &[u8]) -> Result<bool, Fail> {
+    let lines = view.lines();
+    view.push(more)?;
+    view.show(alloc)?;
+    Ok(view.lines() >= lines)
+}
+
+/// Takes bytes in parts of so many: whether the lines that are shown never become fewer.
+fn take_all(alloc: Global, view: &mut ArrivingView, bytes: &[u8], part: usize) -> Result<bool, Fail>
+    requires { 0 < part }
+{
+    for more in bytes.chunks(part) {
+        if !take(alloc, view, more)? {
+            return Ok(false);
+        }
+    }
+    Ok(true)
+}
+
+/// Whether what stands there at the end is the picture of a case, and damaged where that is.
+fn is_case(finished: &FinishedView, text: &[u8], case: &Case) -> bool {
+    let lines = finished.pixels.as_slice();
+    let is_picture = text.ends_with(lines) && text.len() < lines.len().saturating_add(32);
+    is_picture && (finished.counts.damaged > 0) == (case.status == 3)
+}
+
+/// Whether a case that comes in parts of so many bytes is shown at the end.
+fn shows_case(alloc: Global, case: &Case, part: usize) -> Result<bool, Fail>
+    requires { 0 < part }
+{
+    let bytes = file(alloc, case.file)?;
+    let text = picture(alloc, case.picture)?;
+    let mut view = ArrivingView::new(alloc);
+    let grows = take_all(alloc, &mut view, bytes.as_slice(), part)?;
+    let finished = view.finish(alloc)?;
+    Ok(grows && is_case(&finished, text.as_slice(), case))
+}
+
+/// Sees that cases are shown at the end, by bytes, in parts and whole.
+fn check_cases<R: AllocGlobal + Abort>(rt: &R, cases: &[Case]) -> Result<(), Fail> {
+    for case in cases {
+        for part in [1, 7, 1_000_000] {
+            assert!(rt;
+                shows_case(rt.alloc(), case, part)?,
+                "{} by {part}",
+                case.file
+            );
+        }
+    }
+    Ok(())
+}
+
+#[test]
+fn shows_restart_intervals_at_the_end(rt: HostRuntime) -> Result<(), Fail> {
+    check_cases(&rt, &cases::restart_intervals())
+}
+
+#[test]
+fn shows_three_components_at_the_end(rt: HostRuntime) -> Result<(), Fail> {
+    check_cases(&rt, &cases::three_components())
+}
+
+/// What has come, how many lines of 8 by 24 pixels are shown then, and how many bytes of them there are. The words 00, 01 and 10
+/// code no, three and eleven extra bits, no word begins with 11, and 0 ends a block: 011000 is a block.
+const SHOWN: [(&str, u32, usize); 8] = [
+    ("FF", 0, 0),
+    ("S Q", 0, 0),
+    ("S Q F:0018:0008 D:00:03:0B A", 0, 0),
+    ("S Q F:0018:0008 D:00:03:0B A C", 0, 192),
+    ("S Q F:0018:0008 D:00:03:0B A C 61", 8, 192),
+    ("S Q F:0018:0008 D:00:03:0B A C 61 86", 16, 192),
+    ("S Q F:0018:0008 D:00:03:0B A C E0 FF", 0, 192),
+    ("S Q F:0018:0008 D:00:03:0B A C 61 86 3F", 24, 192),
+];
+
+/// Whether all bytes of a view behind its lines of 8 pixels are mid-grey.
+fn is_grey_behind(view: &ArrivingView) -> bool {
+    let shown = (view.lines() as usize).saturating_mul(8);
+    for (i, sample) in view.pixels().iter().enumerate() {
+        if i >= shown && *sample != 128 {
+            return false;
+        }
+    }
+    true
+}
+
+/// Whether so many lines are shown of these words, and so many bytes are there, mid-grey behind the lines.
+fn shows(alloc: Global, words: &str, lines: u32, size: usize) -> Result<bool, Fail> {
+    let bytes = file(alloc, words)?;
+    let mut view = ArrivingView::new(alloc);
+    let grows = take(alloc, &mut view, bytes.as_slice())?;
+    Ok(grows && view.lines() == lines && view.pixels().len() == size && is_grey_behind(&view))
+}
+
+#[test]
+fn shows_settled_lines_and_grey_behind(rt: HostRuntime) -> Result<(), Fail> {
+    for (words, lines, size) in SHOWN {
+        assert!(rt; shows(rt.alloc(), words, lines, size)?, "{words}");
+    }
+    Ok(())
+}
+
+#[test]
+fn refuses_what_no_byte_can_mend(rt: HostRuntime) -> Result<(), Fail> {
+    let alloc = rt.alloc();
+    for (words, refusal) in [
+        ("FF D9", Refusal::NotJpeg),
+        ("FF D8 FF C2", Refusal::NotBaseline(0xC2)),
+        ("FF D8 FF DB 00 01", Refusal::BadLength(0xDB)),
+    ] {
+        let mut view = ArrivingView::new(alloc);
+        view.push(file(alloc, words)?.as_slice())?;
+        assert!(rt; view.show(alloc).err() == Some(refusal), "{words}");
+        assert!(rt; view.lines() == 0 && view.pixels().is_empty());
+    }
+    Ok(())
+}
