@@ -21,12 +21,7 @@ fn take(alloc: Global, view: &mut ArrivingView, more: &[u8]) -> Result<bool, Fai
 }
 
 /// Takes bytes in parts of so many: whether the lines that are shown never become fewer.
-fn take_all(
-    alloc: Global,
-    view: &mut ArrivingView,
-    bytes: &[u8],
-    part: usize,
-) -> Result<bool, Fail>
+fn take_all(alloc: Global, view: &mut ArrivingView, bytes: &[u8], part: usize) -> Result<bool, Fail>
     requires { 0 < part }
 {
     for more in bytes.chunks(part) {
@@ -60,7 +55,11 @@ fn shows_case(alloc: Global, case: &Case, part: usize) -> Result<bool, Fail>
 fn check_cases<R: AllocGlobal + Abort>(rt: &R, cases: &[Case]) -> Result<(), Fail> {
     for case in cases {
         for part in [1, 7, 1_000_000] {
-            assert!(rt; shows_case(rt.alloc(), case, part)?, "{} by {part}", case.file);
+            assert!(rt;
+                shows_case(rt.alloc(), case, part)?,
+                "{} by {part}",
+                case.file
+            );
         }
     }
     Ok(())
