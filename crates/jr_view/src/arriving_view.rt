@@ -2,18 +2,15 @@
 
 ghost use Rattle.std.specs.Prelude.{◌≡◌, ◌≢◌, ℕ, ◌+◌, ◌*◌, ◌<◌, ◌≤◌, ◌++◌, List, [], length, take, drop, replicate, IfOk, IfErr, IfSome, IfNone};
 ghost use Rattle.jr_base.specs.declared.limits.TheConstants.{MAX_FILE_BYTES};
-ghost use Rattle.jr_head.specs.HeadValue.{HeadValue};
 ghost use Rattle.jr_head.specs.Heads.{HeadOf, RefusalOf};
-ghost use Rattle.jr_paint.specs.Lines.{line_size, next_lines_of};
-ghost use Rattle.jr_picture.specs.declared.mark.Mark.{Mark};
-ghost use Rattle.jr_picture.specs.Headline.{ShowsFirst};
+ghost use Rattle.jr_paint.specs.Lines.{line_size};
 ghost use Rattle.jr_segments.specs.declared.refusal.Refusal.TheVariants as refusal;
 ghost use Rattle.jr_stream.specs.Stream.{HasCounts};
 ghost use Rattle.jr_arrival.specs.Arrival.{IsFinalFault};
 ghost use Rattle.jr_arrival.specs.Arriving.{IsArriving, given_of};
 ghost use Rattle.jr_arrival.specs.Growing.{HasScan};
 ghost use Rattle.jr_arrival.specs.Settled.{WantsMore};
-ghost use Rattle.jr_view.specs.ArrivingViews.{AreSettled, HasLines, IsPictureOf, IsSeen, KeepsLines, lines_shown, view_of};
+ghost use Rattle.jr_view.specs.ArrivingViews.{AreSettled, IsPictureOf, IsSeen, KeepsLines, lines_shown, view_of};
 
 use crate::finished_view::{FinishedView, paint_rest};
 use crate::shown::GREY;

@@ -1,4 +1,4 @@
-use Rattle.std.proofs.Common.{◌≡◌, [], eqb, true, length, refl, sym, ◌∙◌, rules}
+use Rattle.std.proofs.Common.{◌≡◌, [], eqb, true, length, refl, rules}
 use Rattle.std.proofs.lemmas.Bool.{eqb-true}
 use Rattle.std.proofs.lemmas.List.{nil_from_length}
 use Rattle.jr_view.proofs.ArrivingViews.{seen_grey, seen_same}

@@ -1,4 +1,4 @@
-use Rattle.std.proofs.Common.{rules, arith, ◌≡◌, ◌+◌, ◌-◌, ◌*◌, ◌≤◌, length, sym, subst, take, drop, ℕ}
+use Rattle.std.proofs.Common.{rules, arith, ◌≡◌, ◌+◌, ◌-◌, ◌*◌, ◌≤◌, length, sym, subst, drop, ℕ}
 use Rattle.std.proofs.Math.Nat.{add-mul}
 use borrow.Rule.Slice.PartMut.{drop_put, put_mid}
 use Rattle.jr_view.proofs.arriving_view.put_lines.Goals as goal

@@ -1,4 +1,4 @@
-use Rattle.std.proofs.Common.{◌≢◌, [], arith}
+use Rattle.std.proofs.Common.{arith}
 use Rattle.jr_view.specs.ArrivingViews.{view_of}
 use Rattle.jr_view.proofs.ArrivingViews.{keeps_more, not_empty}
 use Rattle.jr_view.proofs.arriving_view.show_all.Goals as goal

@@ -1,4 +1,4 @@
-use Rattle.std.proofs.Common.{◌≡◌, ◌≢◌, ℕ, ◌-◌, ◌^◌, ◌≤◌, List, [], length}
+use Rattle.std.proofs.Common.{◌≢◌, ℕ, ◌-◌, ◌^◌, ◌≤◌, List, []}
 use Rattle.jr_arrival.specs.Arriving.{given_of}
 use Rattle.jr_view.specs.ArrivingViews.{IsSeen, KeepsLines, view_of}
 use Rattle.jr_view.proofs.arriving_view.show_all.Given as goal

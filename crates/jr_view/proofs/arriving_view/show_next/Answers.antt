@@ -1,9 +1,6 @@
-use Rattle.std.proofs.Common.{◌≡◌, ℕ, ◌+◌, ◌*◌, ◌<◌, ◌≤◌, List, length, take, refl, sym, ap, subst, ◌∙◌, arith, rules}
-use Rattle.jr_base.specs.declared.limits.TheConstants.{MAX_FILE_BYTES}
-use Rattle.jr_head.specs.HeadValue.{HeadValue}
-use Rattle.jr_head.specs.Heads.{HeadOf}
+use Rattle.std.proofs.Common.{◌≡◌, ℕ, ◌+◌, ◌*◌, ◌<◌, ◌≤◌, length, take, sym, subst, arith}
 use Rattle.jr_paint.specs.Lines.{line_size}
-use Rattle.jr_arrival.specs.Arriving.{IsArriving, given_of}
+use Rattle.jr_arrival.specs.Arriving.{given_of}
 use Rattle.jr_view.proofs.ArrivingViews.{Puts, all_settled, row_fits, row_keeps, seen_row, seen_same}
 use Rattle.jr_view.proofs.arriving_view.show_next.Goals as goal
 

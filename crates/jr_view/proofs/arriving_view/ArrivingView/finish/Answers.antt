@@ -1,10 +1,9 @@
-use Rattle.std.proofs.Common.{◌≡◌, ◌≢◌, [], ℕ, ◌-◌, ◌*◌, ◌≤◌, List, length, take, drop, sym, ap, subst, ◌∙◌, arith}
+use Rattle.std.proofs.Common.{◌≡◌, [], ℕ, ◌-◌, ◌*◌, List, length, take, drop, sym, ap, subst, ◌∙◌, arith}
 use Rattle.jr_head.specs.HeadValue.{HeadValue}
 use Rattle.jr_paint.specs.Lines.{line_size, next_lines_of}
 use Rattle.jr_picture.specs.declared.mark.Mark.{Mark}
 use Rattle.jr_picture.specs.Headline.{ShowsFirst}
 use Rattle.jr_arrival.specs.Arriving.{given_of}
-use Rattle.jr_arrival.specs.Growing.{HasScan}
 use Rattle.jr_view.specs.ArrivingViews.{ArrivingViewValue, IsPictureOf, IsSeen}
 use Rattle.jr_view.proofs.ArrivingViews.{few_shown, size_whole, whole_picture, with_items_is}
 use Rattle.jr_view.proofs.arriving_view.ArrivingView.finish.Goals as goal

@@ -1,4 +1,4 @@
-use Rattle.std.proofs.Common.{◌≡◌, ◌≢◌, [], ℕ, List, length, subst}
+use Rattle.std.proofs.Common.{◌≡◌, ◌≢◌, [], ℕ, List, subst}
 use Rattle.std.specs.Prelude.{IfErr, IfOk}
 use Rattle.jr_head.specs.Heads.{RefusalOf}
 use Rattle.jr_segments.specs.declared.refusal.Refusal.TheVariants.{Memory}
