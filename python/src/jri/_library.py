@@ -16,7 +16,8 @@ ALL, MORE = range(2)
 #: The layouts of a canvas, and how many bytes a pixel has in each.
 LAYOUTS = {"rgb": (1, 3), "bgr": (2, 3), "rgbx": (3, 4), "bgrx": (4, 4)}
 
-ffi = cffi.FFI()
+# Checkers that have stubs of cffi know no struct and no call that is declared here.
+ffi: Any = cffi.FFI()
 ffi.cdef(
     """
     struct jri_measure { uint32_t width, height, kind, components, intervals, refusal; uint64_t pixels, detail; };

@@ -8,8 +8,12 @@ from PIL import Image, JpegImagePlugin
 
 import jri
 
+# What Pillow's plug-in has beside its own stubs, where a checker has these.
+_plugin: Any = JpegImagePlugin
+_JpegImageFile: Any = JpegImagePlugin.JpegImageFile
 
-class JriImageFile(JpegImagePlugin.JpegImageFile):  # type: ignore[misc]
+
+class JriImageFile(_JpegImageFile):  # type: ignore[misc]
     """A JPEG file whose pixels libjri decodes, where it does and nobody asked for a smaller picture."""
 
     _is_scaled = False
@@ -49,18 +53,18 @@ class JriImageFile(JpegImagePlugin.JpegImageFile):  # type: ignore[misc]
 
 def register() -> None:
     """From now on Pillow opens JPEG files by this class."""
-    Image.register_open("JPEG", _opened, JpegImagePlugin._accept)
+    Image.register_open("JPEG", _opened, _plugin._accept)
 
 
 def unregister() -> None:
     """Pillow opens JPEG files as it does by itself."""
-    Image.register_open("JPEG", JpegImagePlugin.jpeg_factory, JpegImagePlugin._accept)
+    Image.register_open("JPEG", _plugin.jpeg_factory, _plugin._accept)
 
 
 def _opened(fp: Any = None, filename: Any = None) -> Any:
     """The file as Pillow's own plug-in opens it, by this class where it is of one picture."""
-    picture = JpegImagePlugin.jpeg_factory(fp, filename)
-    if type(picture) is not JpegImagePlugin.JpegImageFile:
+    picture = _plugin.jpeg_factory(fp, filename)
+    if type(picture) is not _JpegImageFile:
         return picture
     picture.__class__ = JriImageFile
     return picture
