@@ -9,6 +9,7 @@ mod decoding;
 mod glimpse;
 mod headline;
 mod jobs;
+mod laws;
 mod painting;
 mod strips;
 mod sweeping;
@@ -25,4 +26,5 @@ pub use jr_piece::{
     CodedStrip, OrderError, Piece, PlacedStrip, Strip, StripReader, one_outcome, one_strip,
     strip_is_final, strips_meet, whole_strip_is_outcome,
 };
+pub use laws::pieces_are_of_their_data;
 pub use workers::{decode_all, decode_alone, work};

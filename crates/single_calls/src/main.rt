@@ -6,9 +6,13 @@
 //!
 //! `single_calls FILE ..` decodes each file by 1, 2 and 4 workers in turns, and tells the least microseconds that
 //! `decode_all` takes with each number of workers, for `tools/bench-beside-djpeg --decoding`. It keeps no picture.
+//!
+//! `single_calls --guesses FILE ..` reads each file by guesses, and tells how many of them come into step and how many MCUs
+//! are taken over, for `tools/compare-workers`.
 #![tactic(auto)]
 
 mod caller;
+mod guesses;
 mod intervals;
 mod keeping;
 mod strips;
@@ -16,6 +20,7 @@ mod times;
 mod writing;
 
 use caller::Caller;
+use guesses::{guess_counts, tell_guesses};
 use std::env;
 use std::io::{Read, Write};
 use std::process::ExitCode;
@@ -65,31 +70,59 @@ fn tell<W: Write>(out: &mut W, outcomes: &[Outcome]) {
     }
 }
 
-fn main(rt: HostRuntime) -> ExitCode {
-    let Ok(words) = env::args(&rt) else {
-        return ExitCode::from(1);
+/// The word behind which files are read by guesses.
+const GUESSES: &str = "--guesses";
+
+/// Tells how long a file takes, or what guesses of it come to; or gives the exit status where there is no such file, or memory
+/// is refused.
+fn tell_of_file(rt: &HostRuntime, name: &str, is_guessed: bool) -> Result<(), u8> {
+    let Some(scan) = scan_of(rt, name) else {
+        return Err(2);
     };
-    let mut has_names = false;
-    for name in words.skip(1) {
-        has_names = true;
-        let Some(scan) = scan_of(&rt, name.as_str()) else {
-            return ExitCode::from(2);
+    if is_guessed {
+        let Some(counts) = guess_counts(rt.alloc(), &scan) else {
+            return Err(1);
         };
-        let Some(times) = least_times(&rt, rt.alloc(), &scan) else {
-            return ExitCode::from(1);
-        };
-        times::tell(&mut rt.stdout(), &times);
+        tell_guesses(&mut rt.stdout(), &counts);
+        return Ok(());
     }
-    if has_names {
-        return ExitCode::SUCCESS;
-    }
+    let Some(times) = least_times(rt, rt.alloc(), &scan) else {
+        return Err(1);
+    };
+    times::tell(&mut rt.stdout(), &times);
+    Ok(())
+}
+
+/// Makes each call on the file on standard input, and gives the exit status.
+fn make_calls_on_input(rt: &HostRuntime) -> u8 {
     let mut file = Vec::new(rt.alloc());
     let is_read = rt.stdin().read_to_end(&mut file).is_ok();
     let caller = Caller::of(rt.alloc(), file.as_slice(), rt.stderr());
     let (Some(mut caller), true) = (caller, is_read) else {
+        return 1;
+    };
+    let outcomes = make_calls(rt, &mut caller);
+    tell(&mut rt.stdout(), &outcomes);
+    0
+}
+
+fn main(rt: HostRuntime) -> ExitCode {
+    let Ok(words) = env::args(&rt) else {
         return ExitCode::from(1);
     };
-    let outcomes = make_calls(&rt, &mut caller);
-    tell(&mut rt.stdout(), &outcomes);
-    ExitCode::SUCCESS
+    let (mut has_words, mut is_guessed) = (false, false);
+    for word in words.skip(1) {
+        has_words = true;
+        if word.as_str() == GUESSES {
+            is_guessed = true;
+            continue;
+        }
+        if let Err(status) = tell_of_file(&rt, word.as_str(), is_guessed) {
+            return ExitCode::from(status);
+        }
+    }
+    if has_words {
+        return ExitCode::SUCCESS;
+    }
+    ExitCode::from(make_calls_on_input(&rt))
 }

@@ -1,0 +1,116 @@
+//! How many MCUs of a file guesses have, and how many guesses come into step with it.
+
+ghost use Rattle.std.specs.Prelude.{◌≡◌, ◌<◌, length};
+ghost use Rattle.jr_scan.specs.ScanValue.{interval_of};
+
+use jr_guesses::windows_of;
+use jr_scan::{Guess, McuReader, Scan};
+use std::alloc::Global;
+use std::io::Write;
+
+/// For so many MCUs a guess has room.
+const MOST_MCUS: u32 = 4096;
+
+/// What guesses come to where a reader goes over all intervals of a file by them, one after the other.
+#[derive(Clone, Copy)]
+pub(crate) struct GuessCounts {
+    /// How many guesses are made.
+    guesses: u32,
+    /// Of how many of them the reader takes an MCU over.
+    in_step: u32,
+    /// How many MCUs it takes over.
+    taken_over: u32,
+    /// How many it reads itself.
+    read: u32,
+}
+
+/// Passes over the next MCU, and tells whether a guess had it. None where no whole one follows.
+fn pass(reader: &mut McuReader<'_>, guess: &Guess<'_>) -> Option<bool>
+    requires same { guess.now.interval ≡ reader.old.run.interval }
+    ensures run { reader.new.run ≡ reader.old.run }
+{
+    let bit = reader.place().bit;
+    if let Some(at) = guess.find(bit)
+        && reader.skip_guessed(guess, at, 1) == 1
+    {
+        return Some(true);
+    }
+    if reader.skip(1) == 1 {
+        Some(false)
+    } else {
+        None
+    }
+}
+
+/// Passes over the MCUs that start before a bit, by a guess.
+fn pass_by(reader: &mut McuReader<'_>, guess: &Guess<'_>, to: u64, counts: &mut GuessCounts)
+    requires same { guess.now.interval ≡ reader.old.run.interval }
+    ensures run { reader.new.run ≡ reader.old.run }
+{
+    for _mcu in 0..reader.interval().mcus() {
+        if reader.place().bit >= to {
+            return;
+        }
+        match pass(reader, guess) {
+            Some(true) => counts.taken_over = counts.taken_over.saturating_add(1),
+            Some(false) => counts.read = counts.read.saturating_add(1),
+            None => return,
+        }
+    }
+}
+
+/// Where the k-th of some windows of an interval's bits begins.
+fn window_start(bits: u64, k: u64, windows: u64) -> u64 {
+    bits.saturating_mul(k) / windows.max(1)
+}
+
+/// Goes over an interval by guesses of all its bits but the first ones. None where memory is refused.
+fn count_interval(alloc: Global, scan: &Scan, number: u32, counts: &mut GuessCounts) -> Option<()>
+    requires { number < length scan.now.intervals }
+{
+    let windows = windows_of(scan, number);
+    let bits = 8 * scan.interval_ref(number).bytes().len() as u64;
+    let mut reader = McuReader::over(scan.interval_ref(number));
+    let mut guess = Guess::open(alloc, scan.interval_ref(number), MOST_MCUS).ok()?;
+    pass_by(&mut reader, &guess, window_start(bits, 1, windows), counts);
+    for k in 1..windows {
+        let from = window_start(bits, k, windows);
+        let to = window_start(bits, k + 1, windows);
+        guess.read(scan.interval_ref(number), from, to);
+        let before = counts.taken_over;
+        pass_by(&mut reader, &guess, to, counts);
+        counts.guesses = counts.guesses.saturating_add(1);
+        if counts.taken_over > before {
+            counts.in_step = counts.in_step.saturating_add(1);
+        }
+    }
+    Some(())
+}
+
+/// What guesses of a scan's intervals come to. None where memory is refused.
+pub(crate) fn guess_counts(alloc: Global, scan: &Scan) -> Option<GuessCounts> {
+    let mut counts = GuessCounts {
+        guesses: 0,
+        in_step: 0,
+        taken_over: 0,
+        read: 0,
+    };
+    for number in 0..scan.intervals() {
+        count_interval(alloc, scan, number, &mut counts)?;
+    }
+    Some(counts)
+}
+
+/// A line of these counts.
+pub(crate) fn tell_guesses<W: Write>(out: &mut W, counts: &GuessCounts) {
+    let GuessCounts {
+        guesses,
+        in_step,
+        taken_over,
+        read,
+    } = counts;
+    let _ = writeln!(
+        out,
+        "guesses {guesses}, in step {in_step}, MCUs taken over {taken_over}, read {read}"
+    );
+}
