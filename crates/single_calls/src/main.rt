@@ -73,37 +73,12 @@ fn tell<W: Write>(out: &mut W, outcomes: &[Outcome]) {
 /// The word behind which files are read by guesses.
 const GUESSES: &str = "--guesses";
 
-/// Tells how long a file takes, or what guesses of it come to; or gives the exit status where there is no such file, or memory
-/// is refused.
-fn tell_of_file(rt: &HostRuntime, name: &str, is_guessed: bool) -> Result<(), u8> {
-    let Some(scan) = scan_of(rt, name) else {
-        return Err(2);
-    };
-    if is_guessed {
-        let Some(counts) = guess_counts(rt.alloc(), &scan) else {
-            return Err(1);
-        };
-        tell_guesses(&mut rt.stdout(), &counts);
-        return Ok(());
-    }
-    let Some(times) = least_times(rt, rt.alloc(), &scan) else {
-        return Err(1);
-    };
-    times::tell(&mut rt.stdout(), &times);
-    Ok(())
-}
-
-/// Makes each call on the file on standard input, and gives the exit status.
-fn make_calls_on_input(rt: &HostRuntime) -> u8 {
-    let mut file = Vec::new(rt.alloc());
-    let is_read = rt.stdin().read_to_end(&mut file).is_ok();
-    let caller = Caller::of(rt.alloc(), file.as_slice(), rt.stderr());
-    let (Some(mut caller), true) = (caller, is_read) else {
-        return 1;
-    };
-    let outcomes = make_calls(rt, &mut caller);
-    tell(&mut rt.stdout(), &outcomes);
-    0
+/// Tells what guesses of a file come to. None where there is no such file, or memory is refused.
+fn tell_guesses_of(rt: &HostRuntime, name: &str) -> Option<()> {
+    let scan = scan_of(rt, name)?;
+    let counts = guess_counts(rt.alloc(), &scan)?;
+    tell_guesses(&mut rt.stdout(), &counts);
+    Some(())
 }
 
 fn main(rt: HostRuntime) -> ExitCode {
@@ -117,12 +92,30 @@ fn main(rt: HostRuntime) -> ExitCode {
             is_guessed = true;
             continue;
         }
-        if let Err(status) = tell_of_file(&rt, word.as_str(), is_guessed) {
-            return ExitCode::from(status);
+        if is_guessed {
+            let Some(()) = tell_guesses_of(&rt, word.as_str()) else {
+                return ExitCode::from(2);
+            };
+            continue;
         }
+        let Some(scan) = scan_of(&rt, word.as_str()) else {
+            return ExitCode::from(2);
+        };
+        let Some(times) = least_times(&rt, rt.alloc(), &scan) else {
+            return ExitCode::from(1);
+        };
+        times::tell(&mut rt.stdout(), &times);
     }
     if has_words {
         return ExitCode::SUCCESS;
     }
-    ExitCode::from(make_calls_on_input(&rt))
+    let mut file = Vec::new(rt.alloc());
+    let is_read = rt.stdin().read_to_end(&mut file).is_ok();
+    let caller = Caller::of(rt.alloc(), file.as_slice(), rt.stderr());
+    let (Some(mut caller), true) = (caller, is_read) else {
+        return ExitCode::from(1);
+    };
+    let outcomes = make_calls(&rt, &mut caller);
+    tell(&mut rt.stdout(), &outcomes);
+    ExitCode::SUCCESS
 }
