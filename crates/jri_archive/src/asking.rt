@@ -30,6 +30,16 @@ fn workers_argument<'a>(alloc: Global) -> Arg<'a> {
         .default_value("4")
 }
 
+/// Whether folders are gone through.
+fn recursive_argument<'a>(alloc: Global) -> Arg<'a> {
+    flag(
+        alloc,
+        "recursive",
+        "Checks the JPEG files in folders, and in their folders",
+    )
+    .short('r')
+}
+
 /// A list of names.
 fn list_argument<'a>(alloc: Global) -> Arg<'a> {
     Arg::new(alloc, "files0-from")
@@ -43,47 +53,56 @@ fn list_argument<'a>(alloc: Global) -> Arg<'a> {
 
 /// The files.
 fn files_argument<'a>(alloc: Global) -> Result<Arg<'a>, AllocError> {
-    Ok(
-        Arg::new(alloc, "files")
-            .action(ArgAction::Append)
-            .num_args(1..)
-            .required_unless_present("files0-from")?
-            .value_name("FILE")
-            .help("The JPEG files"),
-    )
+    Arg::new(alloc, "files")
+        .action(ArgAction::Append)
+        .num_args(1..)
+        .value_name("FILE")
+        .help("The JPEG files")
+        .required_unless_present("files0-from")
 }
 
-/// `jri_check [--map] [--json] [--quiet] [--counts] [--workers N] [-r] [--files0-from LIST] FILE..`.
-fn command<'a>(alloc: Global) -> Result<Command<'a>, AllocError> {
-    let map = flag(
-        alloc,
-        "map",
-        "A line for each damaged restart interval, too",
-    );
-    let json = flag(alloc, "json", "Each line is a JSON object");
-    let quiet = flag(alloc, "quiet", "Tells nothing of sound files");
-    let counts = flag(
-        alloc,
-        "counts",
-        "The last line tells how many files are what",
-    );
-    let recursive = flag(
-        alloc,
-        "recursive",
-        "Checks the JPEG files in folders, and in their folders",
-    );
+/// The words that tell what is told.
+fn with_telling_words<'a>(alloc: Global, command: Command<'a>) -> Result<Command<'a>, AllocError> {
+    command
+        .arg(flag(
+            alloc,
+            "map",
+            "A line for each damaged restart interval, too",
+        ))?
+        .arg(flag(alloc, "json", "Each line is a JSON object"))?
+        .arg(flag(alloc, "quiet", "Tells nothing of sound files"))?
+        .arg(flag(
+            alloc,
+            "counts",
+            "The last line tells how many files are what",
+        ))
+}
+
+/// The words that tell how many files are checked at once, and where further ones are found.
+fn with_finding_words<'a>(alloc: Global, command: Command<'a>) -> Result<Command<'a>, AllocError> {
+    command
+        .arg(workers_argument(alloc))?
+        .arg(recursive_argument(alloc))?
+        .arg(list_argument(alloc))
+}
+
+/// The words that tell which files are checked.
+fn with_file_words<'a>(alloc: Global, command: Command<'a>) -> Result<Command<'a>, AllocError> {
+    command.arg(files_argument(alloc)?)
+}
+
+/// The program, without its words.
+fn wordless<'a>(alloc: Global) -> Command<'a> {
     Command::new(alloc, "jri_check")
         .about("Tells which baseline JPEG files are sound, and what is damaged of the others")
         .version(VERSION)
         .no_binary_name(true)
-        .arg(map)?
-        .arg(json)?
-        .arg(quiet)?
-        .arg(counts)?
-        .arg(workers_argument(alloc))?
-        .arg(recursive.short('r'))?
-        .arg(list_argument(alloc))?
-        .arg(files_argument(alloc)?)
+}
+
+/// `jri_check [--map] [--json] [--quiet] [--counts] [--workers N] [-r] [--files0-from LIST] FILE..`.
+fn command<'a>(alloc: Global) -> Result<Command<'a>, AllocError> {
+    let command = with_telling_words(alloc, wordless(alloc))?;
+    with_file_words(alloc, with_finding_words(alloc, command)?)
 }
 
 fn refusal(alloc: Global, error: &Error) -> RequestError {
@@ -122,6 +141,40 @@ fn list_in(alloc: Global, matches: &ArgMatches<'_>) -> Result<Option<String>, Al
     }
 }
 
+/// What a line tells.
+fn form_in(matches: &ArgMatches<'_>) -> LineForm {
+    LineForm {
+        has_map: matches.get_flag("map"),
+        is_json: matches.get_flag("json"),
+        is_quiet: matches.get_flag("quiet"),
+    }
+}
+
+/// What words that are right ask for.
+fn request_in(
+    alloc: Global,
+    words: &[Vec<u8>],
+    matches: &ArgMatches<'_>,
+) -> Result<CheckRequest, RequestError>
+    ensures some { IfOk result (λ a. 1 ≤ a.workers) }
+    ensures few { IfOk result (λ a. a.workers ≤ MAX_WORKERS) }
+{
+    let names = names_in(alloc, words, matches)?;
+    let names_from = list_in(alloc, matches)?;
+    match matches.get_one::<u32>("workers") {
+        // the range of the argument's values, which the parser's contract does not repeat
+        Some(workers) if (1..=MAX_WORKERS).contains(&workers) => Ok(CheckRequest {
+            workers,
+            form: form_in(matches),
+            has_counts: matches.get_flag("counts"),
+            is_recursive: matches.get_flag("recursive"),
+            names_from,
+            names,
+        }),
+        _ => Err(RequestError::Wrong(String::new(alloc))),
+    }
+}
+
 /// What the words after the program's name ask for: `--workers` from 1 to 64, 4 where it isn't there; one name or more, or
 /// `--files0-from`; and what is told. `RequestError` has the text to print where they ask for help or
 /// the version or are wrong.
@@ -130,26 +183,8 @@ pub fn asked(alloc: Global, words: &[Vec<u8>]) -> Result<CheckRequest, RequestEr
     ensures few { IfOk result (λ a. a.workers ≤ MAX_WORKERS) }
 {
     let texts = texts(alloc, words)?;
-    let matches = match command(alloc)?.try_get_matches_from(texts.as_slice()) {
-        Ok(matches) => matches,
-        Err(error) => return Err(refusal(alloc, &error)),
-    };
-    let names = names_in(alloc, words, &matches)?;
-    let names_from = list_in(alloc, &matches)?;
-    match matches.get_one::<u32>("workers") {
-        // the range of the argument's values, which the parser's contract does not repeat
-        Some(workers) if (1..=MAX_WORKERS).contains(&workers) => Ok(CheckRequest {
-            workers,
-            form: LineForm {
-                has_map: matches.get_flag("map"),
-                is_json: matches.get_flag("json"),
-                is_quiet: matches.get_flag("quiet"),
-            },
-            has_counts: matches.get_flag("counts"),
-            is_recursive: matches.get_flag("recursive"),
-            names_from,
-            names,
-        }),
-        _ => Err(RequestError::Wrong(String::new(alloc))),
+    match command(alloc)?.try_get_matches_from(texts.as_slice()) {
+        Ok(matches) => request_in(alloc, words, &matches),
+        Err(error) => Err(refusal(alloc, &error)),
     }
 }

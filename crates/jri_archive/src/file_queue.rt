@@ -13,6 +13,7 @@ use crate::one_check::OneCheck;
 use crate::outcome::Outcome;
 use crate::telling::{tell, tell_counts, tell_map};
 use jr_damage::{coded_segments, damaged_interval};
+use jri_names::NamesError;
 use std::alloc::{AllocError, Global};
 use std::io::{Error, Write};
 use std::marker::{Model, PhantomData};
@@ -146,6 +147,22 @@ pub(crate) fn write_counts<O: Write>(
     Ok(())
 }
 
+/// Erases how far it is, on a terminal, or writes it.
+fn write_progress<E: Write>(
+    errors: &mut E,
+    told: u64,
+    files: Option<u64>,
+    is_shown: bool,
+) -> Result<(), Error> {
+    match files {
+        None if is_shown => write!(errors, "\r\x1B[K{told} files"),
+        Some(files) if is_shown && told < files => {
+            write!(errors, "\r\x1B[K{told} of {files} files")
+        }
+        _ => write!(errors, "\r\x1B[K"),
+    }
+}
+
 impl<S: OneCheck, O: Write, E: Write + Drop> FileQueue<S, O, E> {
     /// No file is told of yet. There are so many, where that is known.
     pub(crate) fn of(
@@ -181,7 +198,7 @@ impl<S: OneCheck, O: Write, E: Write + Drop> FileQueue<S, O, E> {
     }
 
     /// It is known by now how many files there are, if it was not known before.
-    pub(crate) fn set_files(&mut self, files: u64) {
+    fn set_files(&mut self, files: u64) {
         if self.files.is_none() {
             self.files = Some(files);
         }
@@ -221,24 +238,27 @@ impl<S: OneCheck, O: Write, E: Write + Drop> FileQueue<S, O, E> {
     {
         let (told, files) = (self.told, self.files);
         if let Some(errors) = &mut self.progress {
-            let _ = match files {
-                None if is_shown => write!(errors, "\r\x1B[K{told} files"),
-                Some(files) if is_shown && told < files => {
-                    write!(errors, "\r\x1B[K{told} of {files} files")
-                }
-                _ => write!(errors, "\r\x1B[K"),
-            };
+            let _ = write_progress(errors, told, files, is_shown);
             let _ = errors.flush();
         }
     }
 
     /// Notes why no further file is told of.
-    pub(crate) fn end(&mut self, end: CheckEnd)
+    fn end(&mut self, end: CheckEnd)
         ensures told { self.new.told ≡ self.old.told }
         ensures end { is_open self.old.report.end ≡ true → self.new.report.end ≡ end }
     {
         if !self.is_over() {
             self.report.end = end;
+        }
+    }
+
+    /// No further name is claimed, after so many: there is none, or it could not be read.
+    pub(crate) fn end_names(&mut self, error: Option<NamesError>, claimed: u64) {
+        match error {
+            None => self.set_files(claimed),
+            Some(NamesError::Read) => self.end(CheckEnd::NamesUnread),
+            Some(NamesError::Memory) => self.end(CheckEnd::Memory),
         }
     }
 

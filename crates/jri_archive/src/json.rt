@@ -1,5 +1,6 @@
 //! The lines that are told of a file, as JSON objects.
 
+use crate::checking::Checked;
 use crate::counts::FileCounts;
 use crate::outcome::Outcome;
 use crate::telling::put_end;
@@ -8,6 +9,28 @@ use jr_head::Refusal;
 use jr_scan::ScanEnd;
 use jri_names::{ReadError, put_string};
 use std::alloc::AllocError;
+
+/// Puts the lines of the picture that are not as they were.
+fn put_lines(line: &mut String, lines: Lines) -> Result<(), AllocError> {
+    let Lines { first, last } = lines;
+    write!(line, ",\"first_line\":{first},\"last_line\":{last}")
+}
+
+/// Puts which MCUs an interval has.
+fn put_mcus(line: &mut String, mcus: McuRange) -> Result<(), AllocError> {
+    let McuRange { first, count } = mcus;
+    let last = first.saturating_add(count.saturating_sub(1));
+    write!(line, ",\"first_mcu\":{first},\"last_mcu\":{last}")
+}
+
+/// Puts where an interval's bytes are, where it has some.
+fn put_bytes(line: &mut String, bytes: Option<CodedSpan>) -> Result<(), AllocError> {
+    let Some(CodedSpan { start, end }) = bytes else {
+        return Ok(());
+    };
+    let last = end.saturating_sub(1);
+    write!(line, ",\"first_byte\":{start},\"last_byte\":{last}")
+}
 
 /// Puts the first member, the file's name.
 fn put_file(line: &mut String, name: &[u8]) -> Result<(), AllocError> {
@@ -27,36 +50,40 @@ fn put_scan_end(line: &mut String, ended: ScanEnd) -> Result<(), AllocError> {
 
 /// Puts what is damaged of a scan.
 fn put_damage(line: &mut String, damaged: u32, lines: Option<Lines>) -> Result<(), AllocError> {
-    let Some(Lines { first, last }) = lines else {
+    let Some(lines) = lines else {
         return line.push_str(",\"is\":\"sound\"");
     };
-    write!(
-        line,
-        ",\"is\":\"damaged\",\"damaged\":{damaged},\"first_line\":{first},\"last_line\":{last}"
-    )
+    write!(line, ",\"is\":\"damaged\",\"damaged\":{damaged}")?;
+    put_lines(line, lines)
 }
 
-/// Puts the object of a file, with the line's end: `is` is `sound`, `damaged`, `refused`, `unread` or `out of memory`.
-pub fn tell_object(line: &mut String, name: &[u8], outcome: &Outcome) -> Result<(), AllocError> {
-    put_file(line, name)?;
+/// Puts what the check of a file's scan came to.
+fn put_checked(line: &mut String, checked: &Checked) -> Result<(), AllocError> {
+    put_damage(line, checked.verdict.damaged, checked.verdict.lines)?;
+    write!(line, ",\"intervals\":{}", checked.scan.intervals())?;
+    put_scan_end(line, checked.scan.ended())
+}
+
+/// Puts what became of a file.
+fn put_outcome(line: &mut String, outcome: &Outcome) -> Result<(), AllocError> {
     match outcome {
-        Outcome::Checked(checked) => {
-            put_damage(line, checked.verdict.damaged, checked.verdict.lines)?;
-            write!(line, ",\"intervals\":{}", checked.scan.intervals())?;
-            put_scan_end(line, checked.scan.ended())?;
-        }
+        Outcome::Checked(checked) => put_checked(line, checked),
         Outcome::Refused(Refusal::Memory) | Outcome::Unread(ReadError::Memory) => {
-            line.push_str(",\"is\":\"out of memory\"")?;
+            line.push_str(",\"is\":\"out of memory\"")
         }
         Outcome::Refused(refusal) => write!(
             line,
             ",\"is\":\"refused\",\"refusal\":{},\"why\":\"{refusal}\"",
             refusal.number()
-        )?,
-        Outcome::Unread(error) => {
-            write!(line, ",\"is\":\"unread\",\"why\":\"{}\"", error.text())?;
-        }
+        ),
+        Outcome::Unread(error) => write!(line, ",\"is\":\"unread\",\"why\":\"{}\"", error.text()),
     }
+}
+
+/// Puts the object of a file, with the line's end: `is` is `sound`, `damaged`, `refused`, `unread` or `out of memory`.
+pub fn tell_object(line: &mut String, name: &[u8], outcome: &Outcome) -> Result<(), AllocError> {
+    put_file(line, name)?;
+    put_outcome(line, outcome)?;
     line.push_str("}\n")
 }
 
@@ -68,19 +95,10 @@ pub fn tell_interval_object(
     damaged: &DamagedInterval,
 ) -> Result<(), AllocError> {
     put_file(line, name)?;
-    let McuRange { first, count } = damaged.mcus;
-    let last = first.saturating_add(count.saturating_sub(1));
-    write!(
-        line,
-        ",\"interval\":{},\"first_mcu\":{first},\"last_mcu\":{last}",
-        damaged.number
-    )?;
-    let Lines { first, last } = damaged.lines;
-    write!(line, ",\"first_line\":{first},\"last_line\":{last}")?;
-    if let Some(CodedSpan { start, end }) = damaged.bytes {
-        let last = end.saturating_sub(1);
-        write!(line, ",\"first_byte\":{start},\"last_byte\":{last}")?;
-    }
+    write!(line, ",\"interval\":{}", damaged.number)?;
+    put_mcus(line, damaged.mcus)?;
+    put_lines(line, damaged.lines)?;
+    put_bytes(line, damaged.bytes)?;
     writeln!(line, ",\"decodable\":{}}}", damaged.decodable)
 }
 

@@ -145,6 +145,15 @@ impl<
     O: Write + Send + Drop,
     E: Write + Send + Drop,
 > Sharing<S, F, I, O, E> {
+    /// The next name, where there is one, and how many are claimed then.
+    fn next_name<R: Wait>(&self, rt: &R) -> (Result<Option<(u64, NamedFile)>, NamesError>, u64)
+        ensures { IfOk result.0 (λ o. IfSome o (λ c. IsClaimOf S.names c.0 c.1)) }
+    {
+        let mut names = self.names.lock(rt);
+        let file = names.claim(self.alloc, &self.folder);
+        (file, names.claimed())
+    }
+
     /// A file that nobody has claimed; none where there is none, and where lines can no longer be told.
     fn claim<R: Wait>(&self, rt: &R) -> Option<(u64, NamedFile)>
         ensures { IfSome result (λ c. IsClaimOf S.names c.0 c.1) }
@@ -152,19 +161,13 @@ impl<
         if self.desk.lock(rt).is_over() {
             return None;
         }
-        let mut names = self.names.lock(rt);
-        let file = names.claim(self.alloc, &self.folder);
-        let claimed = names.claimed();
-        drop(names);
-        if let Ok(Some(file)) = file {
-            return Some(file);
-        }
-        let mut desk = self.desk.lock(rt);
-        match file {
-            Err(NamesError::Read) => desk.end(CheckEnd::NamesUnread),
-            Err(NamesError::Memory) => desk.end(CheckEnd::Memory),
-            Ok(_) => desk.set_files(claimed),
-        }
+        let (file, claimed) = self.next_name(rt);
+        let error = match file {
+            Ok(Some(file)) => return Some(file),
+            Ok(None) => None,
+            Err(error) => Some(error),
+        };
+        self.desk.lock(rt).end_names(error, claimed);
         None
     }
 
@@ -234,16 +237,20 @@ impl<
     }
 }
 
-/// Writes the counts where they are asked for, and notes whether they could be written.
+/// Writes the counts where they are asked for and lines can still be told, and notes whether they could be written.
 fn with_counts<O: Write>(
     alloc: Global,
     out: &mut O,
     report: CheckReport,
+    has_counts: bool,
     is_json: bool,
 ) -> CheckReport
     ensures counts { result.counts ≡ report.counts }
     ensures end { result.end ≡ CheckEnd.AllTold → report.end ≡ CheckEnd.AllTold }
 {
+    if !has_counts || matches!(report.end, CheckEnd::Unwritten | CheckEnd::Memory) {
+        return report;
+    }
     let end = match write_counts(alloc, out, report.counts, is_json) {
         Ok(()) => return report,
         Err(TellError::Write) => CheckEnd::Unwritten,
@@ -320,9 +327,6 @@ pub fn check_all<
     let (report, mut out) = check_as::<Brand, R, F, I, O, E>(
         rt, alloc, folder, asked, list, out, progress,
     );
-    if !has_counts || matches!(report.end, CheckEnd::Unwritten | CheckEnd::Memory) {
-        return (report, out);
-    }
-    let report = with_counts(alloc, &mut out, report, form.is_json);
+    let report = with_counts(alloc, &mut out, report, has_counts, form.is_json);
     (report, out)
 }

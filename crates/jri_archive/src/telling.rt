@@ -59,19 +59,26 @@ fn put_intervals(line: &mut String, intervals: u32) -> Result<(), AllocError> {
     }
 }
 
-fn put_checked(line: &mut String, checked: &Checked) -> Result<(), AllocError> {
-    match checked.verdict.lines {
-        None => {
-            line.push_str("sound, ")?;
-            put_intervals(line, checked.scan.intervals())?;
-        }
-        Some(Lines { first, last }) => {
-            write!(line, "damaged, {} of ", checked.verdict.damaged)?;
-            put_intervals(line, checked.scan.intervals())?;
-            write!(line, ", lines {first} to {last}")?;
-        }
-    }
-    let ended = checked.scan.ended();
+/// Puts the lines of the picture that are not as they were.
+fn put_lines(line: &mut String, lines: Lines) -> Result<(), AllocError> {
+    let Lines { first, last } = lines;
+    write!(line, ", lines {first} to {last}")
+}
+
+/// Puts what is damaged of a scan.
+fn put_damage(line: &mut String, checked: &Checked) -> Result<(), AllocError> {
+    let intervals = checked.scan.intervals();
+    let Some(lines) = checked.verdict.lines else {
+        line.push_str("sound, ")?;
+        return put_intervals(line, intervals);
+    };
+    write!(line, "damaged, {} of ", checked.verdict.damaged)?;
+    put_intervals(line, intervals)?;
+    put_lines(line, lines)
+}
+
+/// Puts what ended the scan, where it isn't EOI.
+fn put_scan_end(line: &mut String, ended: ScanEnd) -> Result<(), AllocError> {
     if ended == ScanEnd::EndOfImage {
         return Ok(());
     }
@@ -79,19 +86,43 @@ fn put_checked(line: &mut String, checked: &Checked) -> Result<(), AllocError> {
     put_end(line, ended)
 }
 
+/// Puts what became of a file.
+fn put_outcome(line: &mut String, outcome: &Outcome) -> Result<(), AllocError> {
+    match outcome {
+        Outcome::Checked(checked) => {
+            put_damage(line, checked)?;
+            put_scan_end(line, checked.scan.ended())
+        }
+        Outcome::Refused(Refusal::Memory) | Outcome::Unread(ReadError::Memory) => {
+            line.push_str("out of memory")
+        }
+        Outcome::Refused(refusal) => write!(line, "refused {}: {refusal}", refusal.number()),
+        Outcome::Unread(error) => write!(line, "cannot be read: {}", error.text()),
+    }
+}
+
 /// Puts the line of a file, with its end.
 pub fn tell(line: &mut String, name: &[u8], outcome: &Outcome) -> Result<(), AllocError> {
     put_name(line, name)?;
     line.push_str(": ")?;
-    match outcome {
-        Outcome::Checked(checked) => put_checked(line, checked)?,
-        Outcome::Refused(Refusal::Memory) | Outcome::Unread(ReadError::Memory) => line.push_str(
-            "out of memory",
-        )?,
-        Outcome::Refused(refusal) => write!(line, "refused {}: {refusal}", refusal.number())?,
-        Outcome::Unread(error) => write!(line, "cannot be read: {}", error.text())?,
-    }
+    put_outcome(line, outcome)?;
     line.push_str("\n")
+}
+
+/// Puts which MCUs an interval has.
+fn put_mcus(line: &mut String, mcus: McuRange) -> Result<(), AllocError> {
+    let McuRange { first, count } = mcus;
+    let last = first.saturating_add(count.saturating_sub(1));
+    write!(line, ", MCUs {first} to {last}")
+}
+
+/// Puts where an interval's bytes are.
+fn put_bytes(line: &mut String, bytes: Option<CodedSpan>) -> Result<(), AllocError> {
+    let Some(CodedSpan { start, end }) = bytes else {
+        return line.push_str(", no bytes");
+    };
+    let last = end.saturating_sub(1);
+    write!(line, ", bytes {start} to {last}")
 }
 
 /// Puts the line of a damaged interval, with its end. All is counted from 0, and ranges are told with their last one.
@@ -101,20 +132,11 @@ pub fn tell_map(
     damaged: &DamagedInterval,
 ) -> Result<(), AllocError> {
     put_name(line, name)?;
-    let number = damaged.number;
-    let McuRange { first, count } = damaged.mcus;
-    let last = first.saturating_add(count.saturating_sub(1));
-    write!(line, ": interval {number}, MCUs {first} to {last}")?;
-    let Lines { first, last } = damaged.lines;
-    write!(line, ", lines {first} to {last}")?;
-    match damaged.bytes {
-        None => line.push_str(", no bytes")?,
-        Some(CodedSpan { start, end }) => {
-            let last = end.saturating_sub(1);
-            write!(line, ", bytes {start} to {last}")?;
-        }
-    }
-    let decodable = damaged.decodable;
+    write!(line, ": interval {}", damaged.number)?;
+    put_mcus(line, damaged.mcus)?;
+    put_lines(line, damaged.lines)?;
+    put_bytes(line, damaged.bytes)?;
+    let (decodable, count) = (damaged.decodable, damaged.mcus.count);
     writeln!(line, ", {decodable} of {count} MCUs decodable")
 }
 

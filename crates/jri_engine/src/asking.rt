@@ -80,25 +80,25 @@ fn flag_word<'a>(alloc: Global, name: &'a str, help: &'a str) -> Arg<'a>
 fn with_decoding_words<'a>(alloc: Global, command: Command<'a>) -> Result<Command<'a>, AllocError>
     ensures { IfOk result (λ c. app_of c ≡ decoding_app (app_of command.entry)) }
 {
-    let workers = workers_word(alloc);
-    let first = first_word(alloc);
-    let file = file_word(alloc);
-    command.arg(workers)?.arg(first)?.arg(file)
+    command
+        .arg(workers_word(alloc))?
+        .arg(first_word(alloc))?
+        .arg(file_word(alloc))
 }
 
 /// The words that tell where the picture goes, and what is told on standard error.
 fn with_writing_words<'a>(alloc: Global, command: Command<'a>) -> Result<Command<'a>, AllocError>
     ensures { IfOk result (λ c. app_of c ≡ writing_app (app_of command.entry)) }
 {
-    let output = output_word(alloc);
-    let force = flag_word(alloc, "force", "Write the picture onto a terminal, too");
-    let quiet = flag_word(alloc, "quiet", "Leave out the report; errors are told");
-    let verbose = flag_word(
-        alloc,
-        "verbose",
-        "Tell the file's name and the system's reason, too",
-    );
-    command.arg(output)?.arg(force)?.arg(quiet)?.arg(verbose)
+    command
+        .arg(output_word(alloc))?
+        .arg(flag_word(alloc, "force", "Write the picture onto a terminal, too"))?
+        .arg(flag_word(alloc, "quiet", "Leave out the report; errors are told"))?
+        .arg(flag_word(
+            alloc,
+            "verbose",
+            "Tell the file's name and the system's reason, too",
+        ))
 }
 
 /// `jri [--workers N] [--first K] [-o PICTURE] [--force] [--quiet] [--verbose] [FILE]`.

@@ -10,6 +10,6 @@ returns c =
     let a = app_of c.args.command in
     let b = with_rule a workers_rule in
     let d = with_rule b first_rule in
-    let one = adds c.args.command c.workers_word-workers.result c.in_ok-arg.field-0 a workers_rule c.in_ok-arg.ensures c.workers_word-workers.ensures.local refl c.workers_word-workers.ensures.rule in
-    let two = adds c.in_ok-arg.field-0 c.first_word-first.result c.in_ok-arg-2.field-0 b first_rule c.in_ok-arg-2.ensures c.first_word-first.ensures.local one c.first_word-first.ensures.rule in
-    IfOk-weaker c.arg-3.result _ _ (λ new h. adds c.in_ok-arg-2.field-0 c.file_word-file.result new d file_rule h c.file_word-file.ensures.local two c.file_word-file.ensures.rule) c.arg-3.ensures
+    let one = adds c.args.command c.workers_word.result c.in_ok-arg.field-0 a workers_rule c.in_ok-arg.ensures c.workers_word.ensures.local refl c.workers_word.ensures.rule in
+    let two = adds c.in_ok-arg.field-0 c.first_word.result c.in_ok-arg-2.field-0 b first_rule c.in_ok-arg-2.ensures c.first_word.ensures.local one c.first_word.ensures.rule in
+    IfOk-weaker c.arg-3.result _ _ (λ new h. adds c.in_ok-arg-2.field-0 c.file_word.result new d file_rule h c.file_word.ensures.local two c.file_word.ensures.rule) c.arg-3.ensures
