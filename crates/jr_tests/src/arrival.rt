@@ -3,7 +3,7 @@
 
 ghost use Rattle.std.specs.Prelude.{◌<◌};
 
-use jr_arrival::Arriving;
+use jr_arrival::{Arriving, Finished};
 use jr_head::{Refusal, read_head};
 use jr_picture::Counts;
 use jr_rows::shape_of;
@@ -14,7 +14,7 @@ use std::process::Abort;
 use std::test::Fail;
 use test_files::cases;
 use test_files::cases::Case;
-use test_files::files::{COLOURED, COLOURED_DAMAGED, MIXED, TEN, file, front};
+use test_files::files::{COLOURED, COLOURED_DAMAGED, MIXED, TEN, file, front, put_parts};
 use test_files::pictures::picture;
 
 /// The lines of a scan's picture from one on.
@@ -36,6 +36,26 @@ fn size_of(arriving: &Arriving) -> Option<(usize, u32)> {
     Some((shape_of(head).line, head.height()))
 }
 
+/// Puts the lines of so many bytes that the bytes so far settle behind those that are there, as many at a look as there is room for.
+fn put_lines(
+    alloc: Global,
+    arriving: &mut Arriving,
+    line: usize,
+    height: u32,
+    room: &mut [u8],
+    shown: &mut Vec<u8>,
+) -> Result<(), Fail> {
+    for _ in 0..height {
+        let count = arriving.next_lines(alloc, room)?;
+        let length = usize::saturating_mul(count as usize, line);
+        shown.extend_from_slice(room.get(..length).ok_or("too many lines")?)?;
+        if count == 0 {
+            return Ok(());
+        }
+    }
+    Ok(())
+}
+
 /// Puts the lines that the bytes so far settle behind those that are there, at most so many at a look, until no more are given.
 /// None where the file is refused.
 fn take_lines(
@@ -47,18 +67,10 @@ fn take_lines(
     if arriving.begin(alloc).is_err() {
         return Ok(None);
     }
-    let Some((line, height)) = size_of(arriving) else {
-        return Ok(Some(()));
-    };
-    let lines = u32::min(most, height) as usize;
-    let mut room = vec![in alloc; 0; usize::saturating_mul(lines, line)]?;
-    for _ in 0..height {
-        let count = arriving.next_lines(alloc, room.as_mut_slice())?;
-        let length = usize::saturating_mul(count as usize, line);
-        shown.extend_from_slice(room.as_slice().get(..length).ok_or("too many lines")?)?;
-        if count == 0 {
-            return Ok(Some(()));
-        }
+    if let Some((line, height)) = size_of(arriving) {
+        let lines = u32::min(most, height) as usize;
+        let mut room = vec![in alloc; 0; usize::saturating_mul(lines, line)]?;
+        put_lines(alloc, arriving, line, height, &mut room, shown)?;
     }
     Ok(Some(()))
 }
@@ -83,19 +95,16 @@ fn push_parts(
     Ok(Some(shown))
 }
 
-/// Puts the lines that are missing at the file's end behind those that were given, and tells how many intervals are sound and
-/// damaged. None where it is refused.
-fn put_missing(
+/// What was given, the lines from one on behind it, and how many intervals are sound and damaged.
+fn with_missing(
     alloc: Global,
-    arriving: Arriving,
-    shown: &mut Vec<u8>,
-) -> Result<Option<Counts>, Fail> {
-    let lines = arriving.lines();
-    let Ok(finished) = arriving.finish(alloc) else {
-        return Ok(None);
-    };
-    shown.extend_from_slice(lines_from(alloc, &finished.scan, lines)?.as_slice())?;
-    Ok(Some(finished.counts))
+    mut shown: Vec<u8>,
+    finished: &Finished,
+    lines: u32,
+) -> Result<Option<(Vec<u8>, Counts)>, Fail> {
+    let missing = lines_from(alloc, &finished.scan, lines)?;
+    shown.extend_from_slice(missing.as_slice())?;
+    Ok(Some((shown, finished.counts)))
 }
 
 /// What is given while a file arrives in parts of so many bytes, at most so many lines at a look, and the lines that are missing
@@ -109,12 +118,12 @@ fn arrived(
     requires { 0 < part }
 {
     let mut arriving = Arriving::new(alloc);
-    let Some(mut shown) = push_parts(alloc, &mut arriving, bytes, part, most)? else {
-        return Ok(None);
-    };
-    match put_missing(alloc, arriving, &mut shown)? {
-        Some(counts) => Ok(Some((shown, counts))),
-        None => Ok(None),
+    let shown = push_parts(alloc, &mut arriving, bytes, part, most);
+    let lines = arriving.lines();
+    let finished = arriving.finish(alloc);
+    match (shown?, finished) {
+        (Some(shown), Ok(finished)) => with_missing(alloc, shown, &finished, lines),
+        _ => Ok(None),
     }
 }
 
@@ -212,7 +221,7 @@ fn given_of(alloc: Global, bytes: &[u8]) -> Result<Option<Vec<u8>>, Fail> {
 }
 
 /// Whether a whole file's picture begins with these lines; where it is refused there are none.
-pub(crate) fn begins_with(alloc: Global, bytes: &[u8], lines: &[u8]) -> Result<bool, Fail> {
+fn begins_with(alloc: Global, bytes: &[u8], lines: &[u8]) -> Result<bool, Fail> {
     let Ok(head) = read_head(alloc, bytes) else {
         return Ok(lines.is_empty());
     };
@@ -222,7 +231,7 @@ pub(crate) fn begins_with(alloc: Global, bytes: &[u8], lines: &[u8]) -> Result<b
 }
 
 /// What stands behind the bytes so far in some files that they can become.
-pub(crate) const CONTINUATIONS: [&str; 9] = [
+const CONTINUATIONS: [&str; 9] = [
     "",
     "E",
     "FF",
@@ -234,41 +243,71 @@ pub(crate) const CONTINUATIONS: [&str; 9] = [
     "E0 E0 E0 FF D0 E0",
 ];
 
-/// What is given of each front of a file is shown by the file, and by each continuation.
-fn check_continuations<R: AllocGlobal + Abort>(rt: &R, words: &str) -> Result<(), Fail> {
-    let alloc = rt.alloc();
-    let whole = file(alloc, words)?;
-    for length in 0..whole.len() {
-        let so_far = front(whole.as_slice(), length);
-        if let Some(lines) = given_of(alloc, so_far)? {
-            assert!(rt;
-                begins_with(alloc, whole.as_slice(), lines.as_slice())?,
-                "{words} at {length}"
-            );
-            for more in CONTINUATIONS {
-                let mut longer = so_far.to_vec(alloc)?;
-                longer.extend_from_slice(file(alloc, more)?.as_slice())?;
-                assert!(rt;
-                    begins_with(alloc, longer.as_slice(), lines.as_slice())?,
-                    "{words} at {length} and {more}"
-                );
-            }
-        }
+/// Whether a picture begins with these lines, of a file that goes on so.
+fn goes_on_with(alloc: Global, so_far: &[u8], more: &str, lines: &[u8]) -> Result<bool, Fail> {
+    let mut longer = so_far.to_vec(alloc)?;
+    put_parts(&mut longer, more)?;
+    begins_with(alloc, longer.as_slice(), lines)
+}
+
+/// What is given of a front of a file is shown by each continuation.
+pub(crate) fn check_shown<R: AllocGlobal + Abort>(
+    rt: &R,
+    words: &str,
+    so_far: &[u8],
+    lines: &[u8],
+) -> Result<(), Fail> {
+    let length = so_far.len();
+    for more in &CONTINUATIONS {
+        let is_shown = goes_on_with(rt.alloc(), so_far, more, lines)?;
+        assert!(rt; is_shown, "{words} at {length} and {more}");
     }
     Ok(())
 }
 
+/// It is shown by the file too.
+fn check_front<R: AllocGlobal + Abort>(
+    rt: &R,
+    words: &str,
+    whole: &[u8],
+    so_far: &[u8],
+) -> Result<(), Fail> {
+    if let Some(lines) = given_of(rt.alloc(), so_far)? {
+        let is_shown = begins_with(rt.alloc(), whole, lines.as_slice())?;
+        assert!(rt; is_shown, "{words} at {}", so_far.len());
+        check_shown(rt, words, so_far, lines.as_slice())?;
+    }
+    Ok(())
+}
+
+/// What is given of each front of a file is shown by the file, and by each continuation.
+fn check_continuations<R: AllocGlobal + Abort>(rt: &R, words: &str) -> Result<(), Fail> {
+    let whole = file(rt.alloc(), words)?;
+    for length in 0..whole.len() {
+        check_front(rt, words, whole.as_slice(), front(whole.as_slice(), length))?;
+    }
+    Ok(())
+}
+
+/// Files whose fronts go on in each way.
+const GOING_ON: [&str; 8] = [
+    "S Q F:0018:0008 D A I C 63 FF D0 E0 FF D1 63 E",
+    // Of the first interval the second MCU is lost, and so is the one of the interval behind it.
+    "S Q F:0018:0010 D A I:0002 C 61 FF D0 E0 FF D1 63 E",
+    "S Q F:0018:0008 D A C 61 8F 63 E",
+    "S Q F:0010:0018 D A C 61 8F 63 1F FF 00 E",
+    COLOURED,
+    COLOURED_DAMAGED,
+    MIXED,
+    TEN,
+];
+
 #[test]
 fn each_continuation_shows_what_was_given(rt: HostRuntime) -> Result<(), Fail> {
-    check_continuations(&rt, "S Q F:0018:0008 D A I C 63 FF D0 E0 FF D1 63 E")?;
-    // Of the first interval the second MCU is lost, and so is the one of the interval behind it.
-    check_continuations(&rt, "S Q F:0018:0010 D A I:0002 C 61 FF D0 E0 FF D1 63 E")?;
-    check_continuations(&rt, "S Q F:0018:0008 D A C 61 8F 63 E")?;
-    check_continuations(&rt, "S Q F:0010:0018 D A C 61 8F 63 1F FF 00 E")?;
-    check_continuations(&rt, COLOURED)?;
-    check_continuations(&rt, COLOURED_DAMAGED)?;
-    check_continuations(&rt, MIXED)?;
-    check_continuations(&rt, TEN)
+    for words in &GOING_ON {
+        check_continuations(&rt, words)?;
+    }
+    Ok(())
 }
 
 /// What has come, and how many lines of 8 by 24 pixels are given then. The words 00, 01 and 10 code no, three and eleven extra
@@ -294,17 +333,21 @@ const GIVEN: [(&str, usize); 16] = [
     ("02 FF FF 00 E0", 24),
 ];
 
+/// How many bytes of lines are given once these have come.
+fn settled(alloc: Global, words: &str) -> Result<usize, Fail> {
+    let mut bytes = file(alloc, "S Q F:0018:0008 D:00:03:0B A C")?;
+    put_parts(&mut bytes, words)?;
+    let lines = given_of(alloc, bytes.as_slice())?;
+    Ok(lines.ok_or("refused")?.len())
+}
+
 #[test]
 fn gives_lines_as_soon_as_they_are_settled(rt: HostRuntime) -> Result<(), Fail> {
-    let alloc = rt.alloc();
-    for (words, count) in GIVEN {
-        let mut bytes = file(alloc, "S Q F:0018:0008 D:00:03:0B A C")?;
-        bytes.extend_from_slice(file(alloc, words)?.as_slice())?;
-        let lines = given_of(alloc, bytes.as_slice())?.ok_or("refused")?;
+    for (words, count) in &GIVEN {
+        let length = settled(rt.alloc(), words)?;
         assert!(rt;
-            lines.len() == usize::saturating_mul(8, count),
-            "{words}: {}",
-            lines.len()
+            length == usize::saturating_mul(8, *count),
+            "{words}: {length}"
         );
     }
     Ok(())
@@ -345,11 +388,16 @@ fn refusals_of(alloc: Global, bytes: &[u8]) -> Result<[Option<Refusal>; 2], Fail
     push_and_begin(alloc, &mut arriving, bytes)
 }
 
+/// The same of a file in the notation of files.
+fn refusals_in(alloc: Global, words: &str) -> Result<[Option<Refusal>; 2], Fail> {
+    let bytes = file(alloc, words)?;
+    refusals_of(alloc, bytes.as_slice())
+}
+
 #[test]
 fn refuses_once_no_byte_can_mend_it(rt: HostRuntime) -> Result<(), Fail> {
     for (words, refusal) in &HEADS {
-        let bytes = file(rt.alloc(), words)?;
-        let found = refusals_of(rt.alloc(), bytes.as_slice())?;
+        let found = refusals_in(rt.alloc(), words)?;
         assert!(rt; found == [*refusal; 2], "{words}");
     }
     Ok(())

@@ -1,5 +1,7 @@
 //! Bits, and books of code tables beside a plain reader.
 
+ghost use Rattle.std.specs.Prelude.{◌<◌};
+
 mod ends;
 mod limits;
 mod places;
@@ -77,23 +79,53 @@ const WORDS: [(&[u8; 16], &[u8], Option<u8>, u64); 9] = [
     (&[0; 16], &[0x00], None, 8),
 ];
 
+/// What is read of the first word of these bytes.
+fn first_word(book: &CodeBook, bytes: &[u8]) -> Result<(Option<u8>, u64), Fail> {
+    let mut bits = bits_of(bytes)?;
+    Ok(read(book, &mut bits))
+}
+
+/// The same by the book of these counts.
+fn first_word_of(
+    alloc: Global,
+    counts: &[u8; 16],
+    bytes: &[u8],
+) -> Result<(Option<u8>, u64), Fail> {
+    let book = book_of(alloc, counts)?;
+    first_word(&book, bytes)
+}
+
 #[test]
 fn reads_words(rt: HostRuntime) -> Result<(), Fail> {
     for (counts, bytes, symbol, left) in &WORDS {
-        let book = book_of(rt.alloc(), counts)?;
-        let mut bits = bits_of(bytes)?;
-        assert!(rt; read(&book, &mut bits) == (*symbol, *left));
+        let found = first_word_of(rt.alloc(), counts, bytes)?;
+        assert!(rt; found == (*symbol, *left));
     }
     Ok(())
+}
+
+/// What is read of the first two words of these bytes.
+fn two_words(book: &CodeBook, bytes: &[u8]) -> Result<[(Option<u8>, u64); 2], Fail> {
+    let mut bits = bits_of(bytes)?;
+    let first = read(book, &mut bits);
+    Ok([first, read(book, &mut bits)])
+}
+
+/// The same by the book of these counts.
+fn two_words_of(
+    alloc: Global,
+    counts: &[u8; 16],
+    bytes: &[u8],
+) -> Result<[(Option<u8>, u64); 2], Fail> {
+    let book = book_of(alloc, counts)?;
+    two_words(&book, bytes)
 }
 
 /// Behind the word 0 seven bits are left, which no word of this table begins.
 #[test]
 fn reads_no_word_behind_the_last(rt: HostRuntime) -> Result<(), Fail> {
-    let book = book_of(rt.alloc(), &EACH_LENGTH)?;
-    let mut bits = bits_of(&[0x7F])?;
-    assert!(rt; read(&book, &mut bits) == (Some(0), 7));
-    assert!(rt; read(&book, &mut bits) == (None, 7));
+    let found = two_words_of(rt.alloc(), &EACH_LENGTH, &[0x7F])?;
+    assert!(rt; found == [(Some(0), 7), (None, 7)]);
     Ok(())
 }
 
@@ -101,9 +133,8 @@ fn reads_no_word_behind_the_last(rt: HostRuntime) -> Result<(), Fail> {
 fn looks_up_bytes(rt: HostRuntime) -> Result<(), Fail> {
     let book = book_of(rt.alloc(), &LUMINANCE_DC)?;
     let entries = book.entries();
-    assert!(rt; entries[0] == Some((0, 2)));
-    assert!(rt; entries[0xFE] == Some((10, 8)));
-    assert!(rt; entries[0xFF] == None);
+    let found = [entries[0], entries[0xFE], entries[0xFF]];
+    assert!(rt; found == [Some((0, 2)), Some((10, 8)), None]);
     Ok(())
 }
 
@@ -172,16 +203,36 @@ const BYTES: [u8; 16] = [
     0x00, 0xFF, 0xFE, 0x5A, 0x37, 0xFF, 0x7F, 0xFC, 0x91, 0x0E, 0xFF, 0xFF, 0x80, 0xE7, 0xFD, 0x24,
 ];
 
-#[test]
-fn reads_as_the_plain_reader_up_to_each_end(rt: HostRuntime) -> Result<(), Fail> {
-    for counts in [LUMINANCE_DC, EACH_LENGTH, FULL] {
-        let book = book_of(rt.alloc(), &counts)?;
-        for end in 0..=16usize {
-            check_words(&rt, &book, &counts, &BYTES[..end])?;
-            check_extended_words(&rt, &book, &counts, &BYTES[..end])?;
-        }
+/// The same of both up to each end of the bytes.
+fn check_fronts(
+    rt: &impl Abort,
+    book: &CodeBook,
+    counts: &[u8; 16],
+    bytes: &[u8],
+) -> Result<(), Fail> {
+    for end in 0..=bytes.len() {
+        check_words(rt, book, counts, &bytes[..end])?;
+        check_extended_words(rt, book, counts, &bytes[..end])?;
     }
     Ok(())
+}
+
+/// The same of the book of these counts.
+fn check_fronts_of(
+    rt: &impl Abort,
+    alloc: Global,
+    counts: &[u8; 16],
+    bytes: &[u8],
+) -> Result<(), Fail> {
+    let book = book_of(alloc, counts)?;
+    check_fronts(rt, &book, counts, bytes)
+}
+
+#[test]
+fn reads_as_the_plain_reader_up_to_each_end(rt: HostRuntime) -> Result<(), Fail> {
+    check_fronts_of(&rt, rt.alloc(), &LUMINANCE_DC, &BYTES)?;
+    check_fronts_of(&rt, rt.alloc(), &EACH_LENGTH, &BYTES)?;
+    check_fronts_of(&rt, rt.alloc(), &FULL, &BYTES)
 }
 
 /// The symbols 0 to 15 from the one given on, so that each word has another number of extra bits.
@@ -211,20 +262,36 @@ fn check_up_to_each_end(
     Ok(())
 }
 
+/// A word of so many ones and a zero, these extra bits, and some more bytes.
+fn word_and_extra_bits(ones: u32, extra: u32) -> [u8; 8]
+    requires { ones < 16 }
+{
+    let word = !(u32::MAX >> ones);
+    let [a, b, c, d] = (word | (extra >> (ones + 1))).to_be_bytes();
+    [a, b, c, d, 0x7E, 0x81, 0xFF, 0x00]
+}
+
+/// The same for words of each length and extra bits of both halves.
+fn check_each_length(rt: &impl Abort, book: &CodeBook, symbols: &[u8; 16]) -> Result<(), Fail> {
+    for ones in 0..16u32 {
+        check_up_to_each_end(rt, book, symbols, word_and_extra_bits(ones, 0x5A96_C3F1))?;
+        check_up_to_each_end(rt, book, symbols, word_and_extra_bits(ones, 0xA569_3C0E))?;
+    }
+    Ok(())
+}
+
+/// The same of the book with these symbols.
+fn check_symbols(rt: &impl Abort, alloc: Global, symbols: &[u8; 16]) -> Result<(), Fail> {
+    let book = book_with(alloc, &EACH_LENGTH, symbols)?;
+    check_each_length(rt, &book, symbols)
+}
+
 /// Words of one to sixteen bits, which are ones and then a zero, each with 0 to 15 extra bits of both halves, far from
 /// the end of the bits and near it.
 #[test]
 fn reads_each_length_with_each_number_of_extra_bits(rt: HostRuntime) -> Result<(), Fail> {
     for first in 0..16u8 {
-        let symbols = symbols_from(first);
-        let book = book_with(rt.alloc(), &EACH_LENGTH, &symbols)?;
-        for ones in 0..16u32 {
-            let word = !(u32::MAX >> ones);
-            for extra in [0x5A96_C3F1u32, 0xA569_3C0E] {
-                let [a, b, c, d] = (word | (extra >> (ones + 1))).to_be_bytes();
-                check_up_to_each_end(&rt, &book, &symbols, [a, b, c, d, 0x7E, 0x81, 0xFF, 0x00])?;
-            }
-        }
+        check_symbols(&rt, rt.alloc(), &symbols_from(first))?;
     }
     Ok(())
 }
@@ -250,13 +317,17 @@ const EXTRA_BITS: [(u32, [u8; 2], i32); 11] = [
     (11, [0xFF, 0xE0], 2047),
 ];
 
+/// What so many extra bits of these bytes stand for, and how many are left.
+fn extra_of(bytes: &[u8; 2], size: u32) -> (Option<i32>, u64) {
+    let mut bits = Bits::over(bytes);
+    extra(&mut bits, size)
+}
+
 #[test]
 fn reads_extra_bits(rt: HostRuntime) {
     for (size, bytes, value) in &EXTRA_BITS {
-        let size = *size;
-        let mut bits = Bits::over(bytes);
-        let left = 16u64.saturating_sub(u64::from(size));
-        assert!(rt; extra(&mut bits, size) == (Some(*value), left));
+        let left = 16u64.saturating_sub(u64::from(*size));
+        assert!(rt; extra_of(bytes, *size) == (Some(*value), left));
     }
 }
 
@@ -272,13 +343,28 @@ const EXTENDED_WORDS: [(&[u8], Option<(u8, i32)>, u64); 8] = [
     (&[0b1111_1111], None, 8),
 ];
 
+/// What is read of the first word of these bytes and its extra bits.
+fn first_extended_word(book: &CodeBook, bytes: &[u8]) -> Result<(Option<(u8, i32)>, u64), Fail> {
+    let mut bits = bits_of(bytes)?;
+    Ok(read_extended(book, &mut bits))
+}
+
+/// The same by the book of these counts.
+fn first_extended_word_of(
+    alloc: Global,
+    counts: &[u8; 16],
+    bytes: &[u8],
+) -> Result<(Option<(u8, i32)>, u64), Fail> {
+    let book = book_of(alloc, counts)?;
+    first_extended_word(&book, bytes)
+}
+
 /// By the table of Annex K.3 the word of 3 is 100, that of 0 is 00 and that of 6 is 1110.
 #[test]
 fn reads_words_with_extra_bits(rt: HostRuntime) -> Result<(), Fail> {
-    let book = book_of(rt.alloc(), &LUMINANCE_DC)?;
     for (bytes, answer, left) in &EXTENDED_WORDS {
-        let mut bits = bits_of(bytes)?;
-        assert!(rt; read_extended(&book, &mut bits) == (*answer, *left));
+        let found = first_extended_word_of(rt.alloc(), &LUMINANCE_DC, bytes)?;
+        assert!(rt; found == (*answer, *left));
     }
     Ok(())
 }
@@ -325,23 +411,31 @@ fn fault_of(alloc: Global, counts: &[u8; 16], symbols: &[u8]) -> Option<CodeFaul
     CodeBook::new(alloc, counts, symbols).err()
 }
 
+const TWO: [u8; 16] = [2, 0, 0, 0, 0, 0, 0, 0, 0, 0, 0, 0, 0, 0, 0, 0];
+
+const THREE: [u8; 16] = [3, 0, 0, 0, 0, 0, 0, 0, 0, 0, 0, 0, 0, 0, 0, 0];
+
+/// A word more than a table may have.
+const MOST: [u8; 16] = [0, 0, 0, 0, 0, 0, 0, 0, 0, 0, 0, 0, 0, 0, 2, 255];
+
+/// Counts and symbols, and why they are no table.
+const FAULTS: [(&[u8; 16], &[u8], Option<CodeFault>); 5] = [
+    (&THREE, &[0, 1, 2], Some(CodeFault::Overfull)),
+    (&THREE, &[0, 1], Some(CodeFault::TooMany)),
+    (&MOST, &[0; 257], Some(CodeFault::TooMany)),
+    (&TWO, &[5, 5], None),
+    (
+        &FULL,
+        &[0, 1, 2, 3, 4, 5, 6, 7, 8, 9, 10, 11, 12, 13, 14, 15, 16],
+        None,
+    ),
+];
+
 #[test]
-fn refuses_what_is_no_table(rt: HostRuntime) -> Result<(), Fail> {
-    let two = [2, 0, 0, 0, 0, 0, 0, 0, 0, 0, 0, 0, 0, 0, 0, 0];
-    let three = [3, 0, 0, 0, 0, 0, 0, 0, 0, 0, 0, 0, 0, 0, 0, 0];
-    let most = [0, 0, 0, 0, 0, 0, 0, 0, 0, 0, 0, 0, 0, 0, 2, 255];
-    let symbols = symbols_up_to_255();
-    let rows: [(&[u8; 16], &[u8], Option<CodeFault>); 5] = [
-        (&three, &[0, 1, 2], Some(CodeFault::Overfull)),
-        (&three, &[0, 1], Some(CodeFault::TooMany)),
-        (&most, &[0; 257], Some(CodeFault::TooMany)),
-        (&two, &[5, 5], None),
-        (&FULL, &symbols[..17], None),
-    ];
-    for (counts, symbols, fault) in &rows {
+fn refuses_what_is_no_table(rt: HostRuntime) {
+    for (counts, symbols, fault) in &FAULTS {
         assert!(rt; fault_of(rt.alloc(), counts, symbols) == *fault);
     }
-    Ok(())
 }
 
 fn is_its_clone(book: &CodeBook) -> Result<bool, Fail> {
@@ -355,12 +449,24 @@ fn is_book_of(alloc: Global, book: &CodeBook, symbols: &[u8]) -> Result<bool, Fa
     Ok(*book == other)
 }
 
+/// Whether a book is equal to its clone, to a book of the same symbols, and to one of others.
+fn comparisons(alloc: Global, book: &CodeBook, symbols: &[u8; 256]) -> Result<[bool; 3], Fail> {
+    Ok([
+        is_its_clone(book)?,
+        is_book_of(alloc, book, &symbols[..16])?,
+        is_book_of(alloc, book, &symbols[1..17])?,
+    ])
+}
+
+/// The same of the book with a word of each length.
+fn comparisons_of(alloc: Global, symbols: &[u8; 256]) -> Result<[bool; 3], Fail> {
+    let book = book_with(alloc, &EACH_LENGTH, &symbols[..16])?;
+    comparisons(alloc, &book, symbols)
+}
+
 #[test]
 fn compares_by_counts_and_symbols(rt: HostRuntime) -> Result<(), Fail> {
-    let symbols = symbols_up_to_255();
-    let each = book_with(rt.alloc(), &EACH_LENGTH, &symbols[..16])?;
-    assert!(rt; is_its_clone(&each)?);
-    assert!(rt; is_book_of(rt.alloc(), &each, &symbols[..16])?);
-    assert!(rt; !is_book_of(rt.alloc(), &each, &symbols[1..17])?);
+    let found = comparisons_of(rt.alloc(), &symbols_up_to_255())?;
+    assert!(rt; found == [true, true, false]);
     Ok(())
 }

@@ -4,6 +4,7 @@ ghost use Rattle.std.specs.Prelude.{◌≡◌, length, All, IfOk};
 
 use jr_desk::{Desk, Seat};
 use std::alloc::{AllocError, Global};
+use std::process::Abort;
 use std::test::Fail;
 use std::thread;
 use std::thread::Threads;
@@ -137,16 +138,35 @@ fn seats_and_numbers(
     Ok((seats, all))
 }
 
-#[test]
-fn four_threads_draw_each_number_once(rt: HostRuntime) -> Result<(), Fail> {
-    let (desk, seats) = Desk::open(rt.alloc(), 1000, 4)?;
-    let turns = claim_in_threads(&rt, rt.alloc(), &desk, seats)?;
-    let (ended, mut numbers) = seats_and_numbers(rt.alloc(), &desk, turns)?;
-    assert!(rt; desk.gather(ended).total() == 1000);
-    numbers.sort()?;
-    assert!(rt; numbers.len() == 1000);
+/// The same of what seats of this desk draw, each in a thread of its own.
+fn drawn_in_threads<R: Threads + Sync>(
+    rt: &R,
+    alloc: Global,
+    desk: &Desk,
+    seats: Vec<Seat>,
+) -> Result<(Vec<Seat>, Vec<u32>), Fail>
+    requires { All (λ s. s.desk ≡ desk.now) seats.items }
+    ensures len { IfOk result (λ r. length r.0.items ≡ length seats.items) }
+    ensures desk { IfOk result (λ r. All (λ s. s.desk ≡ desk.now) r.0.items) }
+{
+    let turns = claim_in_threads(rt, alloc, desk, seats)?;
+    seats_and_numbers(alloc, desk, turns)
+}
+
+/// Whether these are the numbers below a limit in their order.
+fn check_numbers(rt: &impl Abort, numbers: &[u32], limit: usize) {
+    assert!(rt; numbers.len() == limit);
     for (place, number) in numbers.iter().enumerate() {
         assert!(rt; *number as usize == place, "place {place}");
     }
+}
+
+#[test]
+fn four_threads_draw_each_number_once(rt: HostRuntime) -> Result<(), Fail> {
+    let (desk, seats) = Desk::open(rt.alloc(), 1000, 4)?;
+    let (ended, mut numbers) = drawn_in_threads(&rt, rt.alloc(), &desk, seats)?;
+    assert!(rt; desk.gather(ended).total() == 1000);
+    numbers.sort()?;
+    check_numbers(&rt, numbers.as_slice(), 1000);
     Ok(())
 }

@@ -54,53 +54,78 @@ fn coefficients_with(first: i16, place: usize, value: i16) -> Coefficients
     coefficients
 }
 
+/// What the matrix gives of a block with two coefficients, the second one at a place.
+fn matrix_of(quantiser: u16, block: (i16, usize, i16)) -> [u8; 64]
+    requires { block.1 < 64 }
+{
+    let (first, place, value) = block;
+    let coefficients = block_with(i32::from(first), place, i32::from(value));
+    matrix_transform(&coefficients, &[quantiser; 64])
+}
+
+/// What is given of two such blocks beside each other, and of each of them alone.
+fn together_and_alone(
+    quantiser: u16,
+    first: (i16, usize, i16),
+    second: (i16, usize, i16),
+) -> [[u8; 64]; 4]
+    requires first { first.1 < 64 }
+    requires second { second.1 < 64 }
+{
+    let a = coefficients_with(first.0, first.1, first.2);
+    let b = coefficients_with(second.0, second.1, second.2);
+    let quantisers = Quantisers::of([quantiser; 64]);
+    let (of_a, of_b) = transform_two(&a, &b, &quantisers);
+    [
+        of_a,
+        of_b,
+        transform_one(&a, &quantisers),
+        transform_one(&b, &quantisers),
+    ]
+}
+
 /// Two blocks beside each other, and each of them alone, give what the matrix gives.
 fn check_two(rt: &impl Abort, quantiser: u16, first: (i16, usize, i16), second: (i16, usize, i16))
     requires first { first.1 < 64 }
     requires second { second.1 < 64 }
 {
-    let elements = [quantiser; 64];
-    let left = matrix_transform(
-        &block_with(i32::from(first.0), first.1, i32::from(first.2)),
-        &elements,
-    );
-    let right = matrix_transform(
-        &block_with(i32::from(second.0), second.1, i32::from(second.2)),
-        &elements,
-    );
-    let a = coefficients_with(first.0, first.1, first.2);
-    let b = coefficients_with(second.0, second.1, second.2);
-    let quantisers = Quantisers::of(elements);
-    let (of_a, of_b) = transform_two(&a, &b, &quantisers);
-    assert!(rt; of_a == left);
-    assert!(rt; of_b == right);
-    assert!(rt; transform_one(&a, &quantisers) == left);
-    assert!(rt; transform_one(&b, &quantisers) == right);
+    let left = matrix_of(quantiser, first);
+    let right = matrix_of(quantiser, second);
+    assert!(rt; together_and_alone(quantiser, first, second) == [left, right, left, right]);
+}
+
+/// What is given of a block with a first coefficient alone, at quantisers of 16.
+fn first_alone(first: i16) -> [u8; 64] {
+    transform(&block_with(0, 0, i32::from(first)), &[16; 64])
 }
 
 #[test]
-fn transforms_first_coefficients(rt: HostRuntime) -> Result<(), Fail> {
-    let quantisers = [16; 64];
-    assert!(rt; transform(&block_with(0, 0, 4), &quantisers) == [136; 64]);
-    assert!(rt; transform(&block_with(0, 0, 0), &quantisers) == [128; 64]);
-    assert!(rt; transform(&block_with(0, 0, -4), &quantisers) == [120; 64]);
-    assert!(rt; transform(&block_with(0, 0, 16), &quantisers) == [160; 64]);
-    assert!(rt; transform(&block_with(0, 0, 2047), &quantisers) == [255; 64]);
-    Ok(())
+fn transforms_first_coefficients(rt: HostRuntime) {
+    for (first, sample) in [(4, 136), (0, 128), (-4, 120), (16, 160), (2047, 255)] {
+        assert!(rt; first_alone(first) == [sample; 64]);
+    }
+}
+
+/// What is given of a block with two coefficients, the second one beside the first, at quantisers of 16.
+fn two_coefficients(first: i16, second: i16) -> [u8; 64] {
+    transform(
+        &block_with(i32::from(first), 1, i32::from(second)),
+        &[16; 64],
+    )
+}
+
+fn check_lines(rt: &impl Abort, samples: &[u8; 64], expected: [u8; 8]) {
+    for line in samples.as_chunks::<8>().0 {
+        assert!(rt; *line == expected);
+    }
 }
 
 #[test]
-fn transforms_lines_alike(rt: HostRuntime) -> Result<(), Fail> {
-    let quantisers = [16; 64];
-    let ramp = transform(&block_with(0, 1, 1), &quantisers);
-    let clamped = transform(&block_with(4, 1, 1023), &quantisers);
-    for line in ramp.as_chunks::<8>().0 {
-        assert!(rt; *line == [131, 130, 130, 129, 127, 126, 126, 125]);
-    }
-    for line in clamped.as_chunks::<8>().0 {
-        assert!(rt; *line == [255, 255, 255, 255, 0, 0, 0, 0]);
-    }
-    Ok(())
+fn transforms_lines_alike(rt: HostRuntime) {
+    let ramp = two_coefficients(0, 1);
+    let clamped = two_coefficients(4, 1023);
+    check_lines(&rt, &ramp, [131, 130, 130, 129, 127, 126, 126, 125]);
+    check_lines(&rt, &clamped, [255, 255, 255, 255, 0, 0, 0, 0]);
 }
 
 /// The samples of a block of 4 and of 1 at the last place.
@@ -131,25 +156,28 @@ fn transforms_as_the_matrix(rt: HostRuntime) -> Result<(), Fail> {
     Ok(())
 }
 
-#[test]
-fn transforms_at_the_limit_of_lanes(rt: HostRuntime) -> Result<(), Fail> {
-    for value in [1096, 1097, -1096, -1097] {
-        let samples = transform(&flat_block(value), &[1; 64]);
-        assert!(rt; samples == matrix_transform(&flat_block(value), &[1; 64]));
-    }
-    Ok(())
+/// A block whose coefficients are all equal gives what the matrix gives, and so its first sample.
+fn check_flat(rt: &impl Abort, value: i32, quantiser: u16) -> u8
+    requires { IsWithin 32768 value }
+{
+    let (coefficients, quantisers) = (flat_block(value), [quantiser; 64]);
+    let samples = transform(&coefficients, &quantisers);
+    assert!(rt; samples == matrix_transform(&coefficients, &quantisers));
+    samples[0]
 }
 
 #[test]
-fn transforms_greatest_coefficients(rt: HostRuntime) -> Result<(), Fail> {
-    let quantisers = [65535; 64];
-    let high = transform(&flat_block(32768), &quantisers);
-    let low = transform(&flat_block(-32768), &quantisers);
-    assert!(rt; high == matrix_transform(&flat_block(32768), &quantisers));
-    assert!(rt; low == matrix_transform(&flat_block(-32768), &quantisers));
-    assert!(rt; high[0] == 255);
-    assert!(rt; low[0] == 0);
-    Ok(())
+fn transforms_at_the_limit_of_lanes(rt: HostRuntime) {
+    for value in [1096, 1097, -1096, -1097] {
+        check_flat(&rt, value, 1);
+    }
+}
+
+#[test]
+fn transforms_greatest_coefficients(rt: HostRuntime) {
+    let high = check_flat(&rt, 32768, 65535);
+    let low = check_flat(&rt, -32768, 65535);
+    assert!(rt; (high, low) == (255, 0));
 }
 
 /// Quantisers and coefficients whose products reach 1096, pass it by one, or are as large as they can be.

@@ -1,7 +1,7 @@
 //! Files so large that several workers check one together: they give the lines that one worker gives, and that were worked out by
 //! hand.
 
-use jri_archive::{CheckReport, CheckRequest, Entry, Folder, LineForm, ReadError, check_all};
+use jri_archive::{CheckRequest, Entry, Folder, LineForm, ReadError, check_all};
 use std::alloc::Global;
 use std::io::{BufReader, Cursor};
 use std::process::Abort;
@@ -70,15 +70,11 @@ fn large_file(alloc: Global, head: &str, each: usize) -> Result<Vec<u8>, Fail> {
 /// There is no list of names.
 const NO_LIST: Option<BufReader<Cursor<[u8; 1]>>> = None;
 
-/// Checks the file by so many workers, with a map: what it came to, and the lines.
-fn told<R: Threads + Wait + Sync + AllocGlobal>(
-    rt: &R,
-    bytes: &[u8],
-    workers: u32,
-) -> Result<(CheckReport, Vec<u8>), Fail> {
-    let mut names = Vec::new(rt.alloc());
-    names.push(b"a".to_vec(rt.alloc())?)?;
-    let asked = CheckRequest {
+/// What is asked for one file that is checked by so many workers, with a map.
+fn request(alloc: Global, workers: u32) -> Result<CheckRequest, Fail> {
+    let mut names = Vec::new(alloc);
+    names.push(b"a".to_vec(alloc)?)?;
+    Ok(CheckRequest {
         workers,
         form: LineForm {
             has_map: true,
@@ -89,18 +85,21 @@ fn told<R: Threads + Wait + Sync + AllocGlobal>(
         is_recursive: false,
         names_from: None,
         names,
-    };
+    })
+}
+
+/// The lines of the file, checked by so many workers, with a map.
+fn told<R: Threads + Wait + Sync + AllocGlobal>(
+    rt: &R,
+    bytes: &[u8],
+    workers: u32,
+) -> Result<Vec<u8>, Fail> {
+    let asked = request(rt.alloc(), workers)?;
     let nowhere: Option<Vec<u8>> = None;
     let out = Vec::new(rt.alloc());
-    Ok(check_all(
-        rt,
-        rt.alloc(),
-        Single { bytes },
-        asked,
-        NO_LIST,
-        out,
-        nowhere,
-    ))
+    let folder = Single { bytes };
+    let (_report, lines) = check_all(rt, rt.alloc(), folder, asked, NO_LIST, out, nowhere);
+    Ok(lines)
 }
 
 /// Whether each number of workers gives these lines.
@@ -110,7 +109,7 @@ fn check<R: Threads + Wait + Sync + AllocGlobal + Abort>(
     lines: &str,
 ) -> Result<(), Fail> {
     for workers in [1, 2, 3, 4, 8, 64] {
-        let (_came_to, found) = told(rt, bytes, workers)?;
+        let found = told(rt, bytes, workers)?;
         assert!(rt; found.as_slice() == lines.as_bytes(), "{workers} workers");
     }
     Ok(())

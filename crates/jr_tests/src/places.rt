@@ -3,7 +3,7 @@
 
 ghost use Rattle.std.specs.Prelude.{◌<◌};
 
-use crate::arrival::{CONTINUATIONS, begins_with, header_of, lines_from};
+use crate::arrival::{check_shown, header_of, lines_from};
 use jr_head::{Head, read_head};
 use jr_places::{FileBytes, RowPlace, decode_rows, lines_before, skip_rows, stands_at};
 use jr_rows::shape_of;
@@ -13,7 +13,7 @@ use std::process::Abort;
 use std::test::Fail;
 use test_files::cases;
 use test_files::cases::Case;
-use test_files::files::{COLOURED, COLOURED_DAMAGED, MIXED, TEN, file, front};
+use test_files::files::{COLOURED, COLOURED_DAMAGED, MIXED, TEN, file, front, put_parts};
 use test_files::pictures::picture;
 
 /// The top of a picture.
@@ -190,32 +190,32 @@ fn given_of(alloc: Global, bytes: &[u8]) -> Result<Vec<u8>, Fail> {
 
 /// What is given of each front of a file is shown by each continuation.
 fn check_continuations<R: AllocGlobal + Abort>(rt: &R, words: &str) -> Result<(), Fail> {
-    let alloc = rt.alloc();
-    let whole = file(alloc, words)?;
+    let whole = file(rt.alloc(), words)?;
     for length in 0..whole.len() {
         let come = front(whole.as_slice(), length);
-        let lines = given_of(alloc, come)?;
-        for more in CONTINUATIONS {
-            let mut longer = come.to_vec(alloc)?;
-            longer.extend_from_slice(file(alloc, more)?.as_slice())?;
-            assert!(rt;
-                begins_with(alloc, longer.as_slice(), lines.as_slice())?,
-                "{words} at {length} and {more}"
-            );
-        }
+        let lines = given_of(rt.alloc(), come)?;
+        check_shown(rt, words, come, lines.as_slice())?;
     }
     Ok(())
 }
 
+/// Files whose fronts go on in each way.
+const GOING_ON: [&str; 7] = [
+    "S Q F:0018:0008 D A I C 63 FF D0 E0 FF D1 63 E",
+    "S Q F:0018:0010 D A I:0002 C 61 FF D0 E0 FF D1 63 E",
+    "S Q F:0010:0018 D A C 61 8F 63 1F FF 00 E",
+    COLOURED,
+    COLOURED_DAMAGED,
+    MIXED,
+    TEN,
+];
+
 #[test]
 fn each_continuation_shows_the_rows_that_were_given(rt: HostRuntime) -> Result<(), Fail> {
-    check_continuations(&rt, "S Q F:0018:0008 D A I C 63 FF D0 E0 FF D1 63 E")?;
-    check_continuations(&rt, "S Q F:0018:0010 D A I:0002 C 61 FF D0 E0 FF D1 63 E")?;
-    check_continuations(&rt, "S Q F:0010:0018 D A C 61 8F 63 1F FF 00 E")?;
-    check_continuations(&rt, COLOURED)?;
-    check_continuations(&rt, COLOURED_DAMAGED)?;
-    check_continuations(&rt, MIXED)?;
-    check_continuations(&rt, TEN)
+    for words in &GOING_ON {
+        check_continuations(&rt, words)?;
+    }
+    Ok(())
 }
 
 /// What has come of a file of 8 by 24 pixels, and how many lines are settled then: with one interval, where 011000 is a block and so
@@ -242,19 +242,22 @@ const GIVEN: [(&str, &str, usize); 16] = [
     ("I", "E0 FF D1", 24),
 ];
 
+/// How many bytes of lines are settled once these words have come.
+fn settled(alloc: Global, restart: &str, words: &str) -> Result<usize, Fail> {
+    let mut bytes = file(alloc, "S Q F:0018:0008 D:00:03:0B A")?;
+    put_parts(&mut bytes, restart)?;
+    put_parts(&mut bytes, "C")?;
+    put_parts(&mut bytes, words)?;
+    Ok(given_of(alloc, bytes.as_slice())?.len())
+}
+
 #[test]
 fn gives_rows_as_soon_as_they_are_settled(rt: HostRuntime) -> Result<(), Fail> {
-    let alloc = rt.alloc();
-    for (restart, words, count) in GIVEN {
-        let mut bytes = file(alloc, "S Q F:0018:0008 D:00:03:0B A")?;
-        bytes.extend_from_slice(file(alloc, restart)?.as_slice())?;
-        bytes.extend_from_slice(file(alloc, "C")?.as_slice())?;
-        bytes.extend_from_slice(file(alloc, words)?.as_slice())?;
-        let lines = given_of(alloc, bytes.as_slice())?;
+    for (restart, words, count) in &GIVEN {
+        let length = settled(rt.alloc(), restart, words)?;
         assert!(rt;
-            lines.len() == usize::saturating_mul(8, count),
-            "{restart} {words}: {}",
-            lines.len()
+            length == usize::saturating_mul(8, *count),
+            "{restart} {words}: {length}"
         );
     }
     Ok(())
@@ -315,30 +318,39 @@ fn gives_rows_of_many_bytes(rt: HostRuntime) -> Result<(), Fail> {
     Ok(())
 }
 
+/// The place behind ten intervals of one MCU, in one row.
+const END: RowPlace = RowPlace {
+    row: 1,
+    interval: 9,
+    mcu: 1,
+    ..TOP
+};
+
+/// Places that are none of such a picture.
+const OTHERS: [RowPlace; 6] = [
+    RowPlace { row: 1, ..TOP },
+    RowPlace { mcu: 1, ..TOP },
+    RowPlace { interval: 1, ..TOP },
+    RowPlace { row: 2, ..END },
+    RowPlace { mcu: 2, ..END },
+    RowPlace {
+        interval: 10,
+        mcu: 0,
+        ..END
+    },
+];
+
+fn check_places(rt: &impl Abort, head: &Head) {
+    assert!(rt; stands_at(head, &TOP) && stands_at(head, &END));
+    for place in &OTHERS {
+        assert!(rt; !stands_at(head, place), "{place:?}");
+    }
+}
+
 #[test]
 fn knows_no_place_of_another_picture(rt: HostRuntime) -> Result<(), Fail> {
-    let head = read_head(rt.alloc(), file(rt.alloc(), TEN)?.as_slice())?;
-    // Ten intervals of one MCU, in one row.
-    let end = RowPlace {
-        row: 1,
-        interval: 9,
-        mcu: 1,
-        ..TOP
-    };
-    assert!(rt; stands_at(&head, &TOP) && stands_at(&head, &end));
-    for place in [
-        RowPlace { row: 1, ..TOP },
-        RowPlace { mcu: 1, ..TOP },
-        RowPlace { interval: 1, ..TOP },
-        RowPlace { row: 2, ..end },
-        RowPlace { mcu: 2, ..end },
-        RowPlace {
-            interval: 10,
-            mcu: 0,
-            ..end
-        },
-    ] {
-        assert!(rt; !stands_at(&head, &place), "{place:?}");
-    }
+    let bytes = file(rt.alloc(), TEN)?;
+    let head = read_head(rt.alloc(), bytes.as_slice())?;
+    check_places(&rt, &head);
     Ok(())
 }

@@ -117,8 +117,51 @@ fn decode<R: Threads + Wait + Sync>(
     Ok(decoding)
 }
 
-/// Two workers decode the first intervals of a file, as many as there are letters: the board, the cells and the gate
+/// Whether the board of a decoding has these marks.
+fn is_marked<R: Wait>(
+    rt: &R,
+    alloc: Global,
+    scan: &Scan,
+    decoding: &Decoding,
+    letters: &str,
+) -> Result<bool, Fail> {
+    has_marks(alloc, scan, &decoding.board().lock(rt), letters)
+}
+
+/// The board, the cells and the gate of a decoding tell these letters, the cells but for those of blank intervals.
+fn check_decoding<R: Wait + Abort>(
+    rt: &R,
+    alloc: Global,
+    scan: &Scan,
+    decoding: &Decoding,
+    gate: &Notes,
+    letters: &str,
+) -> Result<(), Fail> {
+    let decoded = letters.trim_end_matches('-');
+    assert!(rt; gate.has_letters(alloc, letters)?, "the gate of {letters}");
+    assert!(rt;
+        has_in_cells(alloc, decoding, decoded)?,
+        "the cells of {letters}"
+    );
+    assert!(rt; is_marked(rt, alloc, scan, decoding, letters)?);
+    Ok(())
+}
+
+/// Two workers decode the first intervals of a scan, as many as there are letters: the board, the cells and the gate
 /// tell these.
+fn check_scan<R: Threads + Wait + Sync + Abort>(
+    rt: &R,
+    alloc: Global,
+    scan: &Arc<Scan>,
+    letters: &str,
+) -> Result<(), Fail> {
+    let first = letters.trim_end_matches('-').len();
+    let gate = Notes::new(alloc, scan.intervals())?;
+    let decoding = decode(rt, alloc, scan, first, &gate)?;
+    check_decoding(rt, alloc, scan, &decoding, &gate, letters)
+}
+
+/// The same of a file.
 fn check<R: Threads + Wait + Sync + Abort>(
     rt: &R,
     alloc: Global,
@@ -126,16 +169,7 @@ fn check<R: Threads + Wait + Sync + Abort>(
     letters: &str,
 ) -> Result<(), Fail> {
     let scan = scan(alloc, words)?;
-    let decoded = letters.trim_end_matches('-');
-    let gate = Notes::new(alloc, scan.intervals())?;
-    let decoding = decode(rt, alloc, &scan, decoded.len(), &gate)?;
-    assert!(rt; gate.has_letters(alloc, letters)?, "the gate of {words}");
-    assert!(rt;
-        has_in_cells(alloc, &decoding, decoded)?,
-        "the cells of {words}"
-    );
-    assert!(rt; has_marks(alloc, &scan, &decoding.board().lock(rt), letters)?);
-    Ok(())
+    check_scan(rt, alloc, &scan, letters)
 }
 
 #[test]

@@ -1,8 +1,6 @@
 //! Reading up to where the bytes end, behind none to seventeen of them: so a register is refilled by words and by the last bytes.
 
-use super::{
-    EACH_LENGTH, FULL, LUMINANCE_DC, bits_of, book_of, check_extended_words, check_words, take,
-};
+use super::{EACH_LENGTH, FULL, LUMINANCE_DC, bits_of, check_fronts_of, take};
 use crate::plain::number;
 use std::process::Abort;
 use std::test::Fail;
@@ -46,12 +44,7 @@ fn takes_each_count_of_bits_up_to_each_end(rt: HostRuntime) -> Result<(), Fail> 
 
 #[test]
 fn reads_words_up_to_each_end_of_seventeen_bytes(rt: HostRuntime) -> Result<(), Fail> {
-    for counts in [LUMINANCE_DC, EACH_LENGTH, FULL] {
-        let book = book_of(rt.alloc(), &counts)?;
-        for end in 0..=17usize {
-            check_words(&rt, &book, &counts, &BYTES[..end])?;
-            check_extended_words(&rt, &book, &counts, &BYTES[..end])?;
-        }
-    }
-    Ok(())
+    check_fronts_of(&rt, rt.alloc(), &LUMINANCE_DC, &BYTES)?;
+    check_fronts_of(&rt, rt.alloc(), &EACH_LENGTH, &BYTES)?;
+    check_fronts_of(&rt, rt.alloc(), &FULL, &BYTES)
 }

@@ -1,6 +1,6 @@
 //! Books of as many words as a table may have.
 
-use super::{bits_of, book_of, read};
+use super::{book_of, first_word};
 use jr_code::CodeBook;
 use std::alloc::Global;
 use std::process::Abort;
@@ -11,8 +11,8 @@ type Row<'a> = (&'a [u8], Option<u8>, u64);
 
 fn check_rows(rt: &impl Abort, book: &CodeBook, rows: &[Row<'_>]) -> Result<(), Fail> {
     for (bytes, symbol, left) in rows {
-        let mut bits = bits_of(bytes)?;
-        assert!(rt; read(book, &mut bits) == (*symbol, *left));
+        let found = first_word(book, bytes)?;
+        assert!(rt; found == (*symbol, *left));
     }
     Ok(())
 }
@@ -23,11 +23,16 @@ fn check_clone(rt: &impl Abort, book: &CodeBook, rows: &[Row<'_>]) -> Result<(),
     check_rows(rt, &clone, rows)
 }
 
-/// The book of these counts and its clone read these words.
+/// The book and its clone read these words.
+fn check_both(rt: &impl Abort, book: &CodeBook, rows: &[Row<'_>]) -> Result<(), Fail> {
+    check_rows(rt, book, rows)?;
+    check_clone(rt, book, rows)
+}
+
+/// The same of the book of these counts.
 fn check(rt: &impl Abort, alloc: Global, counts: &[u8; 16], rows: &[Row<'_>]) -> Result<(), Fail> {
     let book = book_of(alloc, counts)?;
-    check_rows(rt, &book, rows)?;
-    check_clone(rt, &book, rows)
+    check_both(rt, &book, rows)
 }
 
 const SHORT_ROWS: [Row<'static>; 4] = [

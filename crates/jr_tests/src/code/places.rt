@@ -2,6 +2,7 @@
 
 use super::{EACH_LENGTH, FULL, bits_of, book_with, plain_extended_word};
 use jr_code::{Bits, CodeBook};
+use std::alloc::Global;
 use std::process::Abort;
 use std::test::Fail;
 
@@ -79,15 +80,29 @@ fn check_codes(
     Ok(())
 }
 
-#[test]
-fn reads_codes_of_coefficients_up_to_each_end(rt: HostRuntime) -> Result<(), Fail> {
-    for (counts, words) in [(EACH_LENGTH, 16), (FULL, 17)] {
-        let book = book_with(rt.alloc(), &counts, &SYMBOLS[..words])?;
-        for end in 0..=17usize {
-            for start in 0..16u32 {
-                check_codes(&rt, &book, &counts, &BYTES[..end], start)?;
-            }
+/// The same from each of the first bits on, up to each end of the bytes.
+fn check_fronts(rt: &impl Abort, book: &CodeBook, counts: &[u8; 16]) -> Result<(), Fail> {
+    for end in 0..=17usize {
+        for start in 0..16u32 {
+            check_codes(rt, book, counts, &BYTES[..end], start)?;
         }
     }
     Ok(())
+}
+
+/// The same of the book of these counts and symbols.
+fn check_fronts_of(
+    rt: &impl Abort,
+    alloc: Global,
+    counts: &[u8; 16],
+    symbols: &[u8],
+) -> Result<(), Fail> {
+    let book = book_with(alloc, counts, symbols)?;
+    check_fronts(rt, &book, counts)
+}
+
+#[test]
+fn reads_codes_of_coefficients_up_to_each_end(rt: HostRuntime) -> Result<(), Fail> {
+    check_fronts_of(&rt, rt.alloc(), &EACH_LENGTH, &SYMBOLS[..16])?;
+    check_fronts_of(&rt, rt.alloc(), &FULL, &SYMBOLS)
 }

@@ -175,15 +175,20 @@ fn accepts_millions_of_code_tables(rt: HostRuntime) -> Result<(), Fail> {
     Ok(())
 }
 
-/// One segment of sixty-three tables of sixty-five bytes each, before the table in force.
-#[test]
-fn accepts_many_quantisers_in_a_segment(rt: HostRuntime) -> Result<(), Fail> {
-    let mut bytes = file(rt.alloc(), "S FF DB 10 01")?;
+/// A file with one segment of sixty-three tables of sixty-five bytes each, before the table in force.
+fn file_of_quantisers(alloc: Global) -> Result<Vec<u8>, Fail> {
+    let mut bytes = file(alloc, "S FF DB 10 01")?;
     for i in 0..63u8 {
         bytes.push(i % 4)?;
         bytes.extend_from_slice(&[0x11; 64])?;
     }
     put_parts(&mut bytes, "Q F D A C")?;
+    Ok(bytes)
+}
+
+#[test]
+fn accepts_many_quantisers_in_a_segment(rt: HostRuntime) -> Result<(), Fail> {
+    let bytes = file_of_quantisers(rt.alloc())?;
     let head = head_in(rt.alloc(), bytes.as_slice())?;
     assert!(rt; head.scan_at() == 4239);
     Ok(())

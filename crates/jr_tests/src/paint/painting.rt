@@ -344,14 +344,19 @@ fn large() -> [Shape; 8] {
     ]
 }
 
+/// How many calls write a picture, and how many may.
+fn calls_and_most(alloc: Global, shape: &Shape) -> Result<(usize, usize), Fail> {
+    let text = text_of(alloc, shape)?;
+    let calls = calls_for(alloc, shape, text.as_slice(), usize::MAX)?;
+    let most = (text.len() / 49_152).saturating_add(2);
+    Ok((calls.ok_or("another text")?, most))
+}
+
 /// A write takes 48 KB on the average, beside the first and the last.
 #[test]
 fn writes_much_at_once(rt: HostRuntime) -> Result<(), Fail> {
     for shape in &large() {
-        let text = text_of(rt.alloc(), shape)?;
-        let calls = calls_for(rt.alloc(), shape, text.as_slice(), usize::MAX)?;
-        let calls = calls.ok_or("another text")?;
-        let most = (text.len() / 49_152).saturating_add(2);
+        let (calls, most) = calls_and_most(rt.alloc(), shape)?;
         assert!(rt; calls > 1 && calls <= most, "{calls} of {most}");
     }
     Ok(())

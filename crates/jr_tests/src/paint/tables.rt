@@ -48,6 +48,27 @@ const PLACES: [([u32; 3], [u32; 4]); 4] = [
     ([1, 8, 4], [1, 4, 4, 0]),
 ];
 
+/// Samples that lie nowhere in the picture.
+const NO_PLACES: [[u32; 3]; 5] = [[0, 17, 0], [0, 0, 9], [1, 9, 0], [2, 0, 5], [3, 0, 0]];
+
+fn check_places(rt: &impl Abort, head: &Head) {
+    for ([c, x, y], [mcu, block, row, col]) in &PLACES {
+        let spot = Spot {
+            mcu: *mcu,
+            block: *block,
+            row: *row,
+            col: *col,
+        };
+        assert!(rt; place_of(head, *c, *x, *y) == Some(spot), "{c} {x} {y}");
+    }
+}
+
+fn check_no_places(rt: &impl Abort, head: &Head) {
+    for [c, x, y] in &NO_PLACES {
+        assert!(rt; place_of(head, *c, *x, *y).is_none(), "{c} {x} {y}");
+    }
+}
+
 /// Samples of a picture of 17 by 9 pixels, its first component with factors 2 and 2.
 #[test]
 fn places_of_samples(rt: HostRuntime) -> Result<(), Fail> {
@@ -59,17 +80,7 @@ fn places_of_samples(rt: HostRuntime) -> Result<(), Fail> {
         down: 2,
     };
     let head = head_of(rt.alloc(), &shape)?;
-    for ([c, x, y], [mcu, block, row, col]) in &PLACES {
-        let spot = Spot {
-            mcu: *mcu,
-            block: *block,
-            row: *row,
-            col: *col,
-        };
-        assert!(rt; place_of(&head, *c, *x, *y) == Some(spot), "{c} {x} {y}");
-    }
-    for [c, x, y] in [[0, 17, 0], [0, 0, 9], [1, 9, 0], [2, 0, 5], [3, 0, 0]] {
-        assert!(rt; place_of(&head, c, x, y).is_none(), "{c} {x} {y}");
-    }
+    check_places(&rt, &head);
+    check_no_places(&rt, &head);
     Ok(())
 }

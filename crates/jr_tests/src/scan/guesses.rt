@@ -1,6 +1,7 @@
 //! Intervals that are read by guesses.
 
 ghost use Rattle.std.specs.Prelude.{◌≡◌, IfOk};
+ghost use Rattle.jr_scan.specs.Guesses.{AreGuessesOf};
 
 use jr_block::Coefficients;
 use jr_scan::{Guess, Guesses, IntervalRef, McuReader, Place};
@@ -42,29 +43,83 @@ fn guess_of<'a>(alloc: Global, interval: IntervalRef<'a>, chunk: Chunk) -> Resul
     Ok(guess)
 }
 
-/// By a guess a reader reads what it reads without, and passes over as much.
+/// The guess that this chunk makes, which finds what it says.
+fn guesses_of<'a>(
+    rt: &impl Abort,
+    alloc: Global,
+    interval: IntervalRef<'a>,
+    chunk: Chunk,
+) -> Result<Guesses<'a>, Fail>
+    ensures { IfOk result (λ g. AreGuessesOf interval.entry g) }
+{
+    let guess = guess_of(alloc, interval, chunk)?;
+    assert!(rt; guess.find(chunk.bit) == chunk.found);
+    Ok(Guesses::none().with(Arc::new(alloc, guess)?))
+}
+
+/// How many MCUs a reader reads, the place behind them, and whether the interval is sound.
+fn read(interval: IntervalRef<'_>, blocks: &mut [Coefficients]) -> (u32, Place, bool) {
+    let mut reader = McuReader::over(interval);
+    let mcus = reader.read(blocks);
+    (mcus, reader.place(), reader.is_sound())
+}
+
+/// The same by guesses.
+fn read_by(
+    interval: IntervalRef<'_>,
+    guesses: &Guesses<'_>,
+    blocks: &mut [Coefficients],
+) -> (u32, Place, bool)
+    requires { AreGuessesOf interval guesses.now }
+{
+    let mut reader = McuReader::over(interval);
+    let mcus = reader.read_by(guesses, blocks);
+    (mcus, reader.place(), reader.is_sound())
+}
+
+/// How many MCUs a reader passes over by guesses, and the place behind them.
+fn skip_by(interval: IntervalRef<'_>, guesses: &Guesses<'_>) -> (u32, Place)
+    requires { AreGuessesOf interval guesses.now }
+{
+    let most = interval.mcus();
+    let mut reader = McuReader::over(interval);
+    let mcus = reader.skip_by(guesses, most);
+    (mcus, reader.place())
+}
+
+/// By guesses a reader reads what it reads without, and passes over as much.
+fn check_readers(
+    rt: &impl Abort,
+    interval: IntervalRef<'_>,
+    guesses: &Guesses<'_>,
+    plain: &mut [Coefficients],
+    guessed: &mut [Coefficients],
+)
+    requires { AreGuessesOf interval guesses.now }
+{
+    let found = read(interval.again(), plain);
+    assert!(rt; read_by(interval.again(), guesses, guessed) == found);
+    assert!(rt; skip_by(interval, guesses) == (found.0, found.1));
+    assert!(rt; are_same(plain, guessed));
+}
+
+/// How many data units an interval has.
+fn units_of(interval: &IntervalRef<'_>) -> usize {
+    interval.mcus() as usize * interval.head().order().len()
+}
+
+/// The same by the guess that this chunk makes.
 fn check_reader(
     rt: &impl Abort,
     alloc: Global,
     interval: IntervalRef<'_>,
     chunk: Chunk,
 ) -> Result<(), Fail> {
-    let units = interval.mcus() as usize * interval.head().order().len();
-    let mcus = interval.mcus();
+    let units = units_of(&interval);
     let mut plain = vec![in alloc; Coefficients::zeros(); units]?;
     let mut guessed = vec![in alloc; Coefficients::zeros(); units]?;
-    let mut reader = McuReader::over(interval.again());
-    let mut by_guess = reader.again();
-    let mut skipping = reader.again();
-    let guess = guess_of(alloc, interval, chunk)?;
-    assert!(rt; guess.find(chunk.bit) == chunk.found);
-    let guesses = Guesses::none().with(Arc::new(alloc, guess)?);
-    let read = reader.read(plain.as_mut_slice());
-    assert!(rt; by_guess.read_by(&guesses, guessed.as_mut_slice()) == read);
-    assert!(rt; skipping.skip_by(&guesses, mcus) == read);
-    assert!(rt; are_same(plain.as_slice(), guessed.as_slice()));
-    assert!(rt; by_guess.place() == reader.place() && skipping.place() == reader.place());
-    assert!(rt; by_guess.is_sound() == reader.is_sound());
+    let guesses = guesses_of(rt, alloc, interval.again(), chunk)?;
+    check_readers(rt, interval, &guesses, &mut plain, &mut guessed);
     Ok(())
 }
 
