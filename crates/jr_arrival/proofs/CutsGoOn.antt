@@ -5,9 +5,9 @@ use Rattle.jr_base.specs.declared.marker.TheConstants.{RST0}
 use Rattle.jr_cut.specs.declared.scan_end.ScanEnd.{ScanEnd}
 use Rattle.jr_cut.specs.declared.scan_end.ScanEnd.TheVariants.{EndOfFile}
 use Rattle.jr_cut.specs.Cut.{IsRaw, CodedSegment, with_markers, HasMarker, IsEnding, CutFrom, Cutting}
-use Rattle.jr_cut.proofs.CutLaw.{one_cut}
+use Rattle.jr_cut.proofs.CutLaw.{ending_not_next, ending_stop, markers_stop, one_cut}
 use Rattle.jr_cut.proofs.OpenSegments.{ending_more}
-use Rattle.jr_settled.proofs.Endings.{behind_marker, bytes_of, ending_not_next, ending_stop, markers_stop, next_marker, next_stop}
+use Rattle.jr_settled.proofs.Endings.{behind_marker, bytes_of, next_marker, next_stop}
 use Rattle.jr_settled.proofs.Spellings.{begins_stopped, one_stop}
 use Rattle.jr_arrival.specs.Growing.{GrowsTo}
 

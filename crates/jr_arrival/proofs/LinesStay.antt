@@ -4,7 +4,7 @@ use Rattle.std.specs.Prelude.{ℤ}
 use Rattle.std.proofs.lemmas.Bool.{cases_lt}
 use Rattle.std.proofs.lemmas.List.{get_or-take}
 use Rattle.std.proofs.lemmas.Nat.{div-add-mod', div-mul-add, mod_below}
-use Rattle.std.proofs.Math.Nat.{div-div-eq-div-mul, mul-div-mul_left, mul-le-mul_right}
+use Rattle.std.proofs.Math.Nat.{mul-le-mul_right}
 use Rattle.jr_head.specs.HeadValue.{HeadValue}
 use Rattle.jr_head.specs.Geometry.{order_of, blocks_of, components_of, horizontal_of, vertical_of, horizontal_max, vertical_max, mcus_across, quantiser_of}
 use Rattle.jr_head.proofs.SamplingLaws.{length-order}
@@ -23,8 +23,9 @@ use Rattle.jr_picture.specs.declared.mark.Mark.{Mark}
 use Rattle.jr_picture.specs.declared.mark.Mark.TheVariants.{Blank, Sound, Damaged}
 use Rattle.jr_picture.specs.Headline.{interval_number, within_interval, spot_of, place_in, unit_number, decoded_sample, Holds, Shows, mark_in, ShowsFirst}
 use Rattle.jr_picture.proofs.BoardPictures.{block_there}
-use Rattle.jr_picture.proofs.Pictures.{line_same}
+use Rattle.jr_picture.proofs.Pictures.{line_same, same_mark, same_shown}
 use Rattle.jr_rows.specs.Rows.{first_line, line_count}
+use Rattle.jr_rows.proofs.PictureLines.{row_of}
 use Rattle.jr_settled.specs.More.{with_more}
 use Rattle.jr_settled.proofs.MoreData.{front_is_final}
 use Rattle.jr_arrival.specs.Arrival.{CanBecome}
@@ -32,30 +33,6 @@ use Rattle.jr_arrival.specs.Growing.{HasScan, HasEndedAt, KeepsScan, IsSettled, 
 use Rattle.jr_arrival.proofs.ScansGoOn.{interval_is, scan_is_final}
 
 -- ---- one interval
-
-same_mark : (i : IntervalValue) (f g : ℕ → ℕ → ℕ → ℕ) (m n : Mark) → m ≢ Blank → n ≢ Blank → Shows m i f → Shows n i g → m ≡ n
-same_mark i f g Sound Sound a b p q = refl
-same_mark i f g Sound Damaged a b p q = absurd (q.undecodable p.blocks p.decodes)
-same_mark i f g Damaged Sound a b p q = absurd (p.undecodable q.blocks q.decodes)
-same_mark i f g Damaged Damaged a b p q = refl
-same_mark i f g Blank n a b p q = absurd (a refl)
-same_mark i f g Sound Blank a b p q = absurd (b refl)
-same_mark i f g Damaged Blank a b p q = absurd (b refl)
-
--- what an interval with one mark shows is one
-same_shown : (i : IntervalValue) (f g : ℕ → ℕ → ℕ → ℕ) (m : Mark) → Shows m i f → Shows m i g → (c x y : ℕ) → Holds i c x y → f c x y ≡ g c x y
-same_shown i f g Sound p q c x y held =
-    p.samples c x y held ∙ ap (λ (zs : List (List ℤ)). decoded_sample i zs c x y) (one_decoding i p.blocks q.blocks p.decodes q.decodes) ∙ sym (q.samples c x y held)
-same_shown i f g Damaged p q c x y held =
-    let count : p.front ≡ q.front = omega (arith, p.longest.longest q.front q.blocks q.longest.front, q.longest.longest p.front p.blocks p.longest.front) in
-    let there : Front i q.front p.blocks = subst (λ (n : ℕ). Front i n p.blocks) count p.longest.front in
-    let same : p.blocks ≡ q.blocks = one_front i q.front p.blocks q.blocks there q.longest.front in
-    let unit = unit_number i.head (spot_of i.head c x y) in
-    elim (cases_lt unit (length q.blocks)) [
-      | inl l ↦ p.within c x y held (subst (λ (zs : List (List ℤ)). unit < length zs) (sym same) l) ∙ ap (λ (zs : List (List ℤ)). decoded_sample i zs c x y) same ∙ sym (q.within c x y held l)
-      | inr r ↦ p.behind c x y held (subst (λ (zs : List (List ℤ)). length zs ≤ unit) (sym same) r) ∙ sym (q.behind c x y held r)
-    ]
-same_shown i f g Blank p q c x y held = p c x y held ∙ sym (q c x y held)
 
 -- a longer front begins with a shorter one
 front_begins : (i : IntervalValue) (j k : ℕ) (ys zs : List (List ℤ)) → k ≤ j → Front i j ys → Front i k zs → (n : ℕ) → n < length zs → (n < length ys) × (block_of ys n ≡ block_of zs n)
@@ -87,14 +64,6 @@ front_shown i f Damaged not_blank p k zs front c x y held lt =
 pub interval_more : (s t : ScanValue) (i : ℕ) (rest : List ℕ) → t.head ≡ s.head → get_or t.intervals i [] ≡ get_or s.intervals i [] ++ rest → interval_of t i ≡ with_more (interval_of s i) rest
 interval_more s t i rest h d = interval_is s t i (get_or s.intervals i [] ++ rest) h d
 
--- the line of samples that line k of a row of MCUs takes lies in that row
-row_of : (r k a m : ℕ) → 0 < a → k < 8 * m → (r * (8 * m) + k) * a / m / (8 * a) ≡ r
-row_of r k a m some lt =
-    let n = r * (8 * m) + k in
-    let turned : n * a ≡ a * n = grind arith in
-    let whole : m * (8 * a) ≡ a * (8 * m) = grind arith in
-    div-div-eq-div-mul (n * a) m (8 * a) ∙ ap (λ (d : ℕ). n * a / d) whole ∙ ap (λ (z : ℕ). z / (a * (8 * m))) turned ∙ mul-div-mul_left n (8 * m) some ∙ div-mul-add r (8 * m) k lt
-
 module _ (bytes : List ℕ) (s t : ScanValue) (n : ℕ) (k m : List Mark) (f g : ℕ → ℕ → ℕ → ℕ) (keeps : KeepsScan bytes s t) (a : ShowsFirst s n k f) (b : ShowsFirst t n m g) where
   abbrev h : HeadValue
   h = s.head
@@ -102,7 +71,7 @@ module _ (bytes : List ℕ) (s t : ScanValue) (n : ℕ) (k m : List Mark) (f g :
   -- an interval that has ended has its mark
   ended_mark : (i : ℕ) → HasEndedAt bytes s i → mark_in k i ≡ mark_in m i
   ended_mark i e = elim (cases_lt i n) [
-    | inl l ↦ same_mark (interval_of s i) f g (mark_in k i) (mark_in m i) (a.first.marked i l) (b.first.marked i l) (a.picture.each i) (subst (λ (v : IntervalValue). Shows (mark_in m i) v g) (keeps.whole i e) (b.picture.each i))
+    | inl l ↦ same_mark (interval_of s i) f g (mark_in k i) (mark_in m i) (λ e. absurd (a.first.marked i l e)) (λ e. absurd (b.first.marked i l e)) (a.picture.each i) (subst (λ (v : IntervalValue). Shows (mark_in m i) v g) (keeps.whole i e) (b.picture.each i))
     | inr r ↦ a.first.blank i r ∙ sym (b.first.blank i r)
   ]
 
@@ -110,7 +79,7 @@ module _ (bytes : List ℕ) (s t : ScanValue) (n : ℕ) (k m : List Mark) (f g :
   ended_sample c x y held e =
       let i = interval_number h (spot_of h c x y).mcu in
       let there = subst (λ (v : IntervalValue). Shows (mark_in m i) v g) (keeps.whole i e) (b.picture.each i) in
-      same_shown (interval_of s i) f g (mark_in k i) (a.picture.each i) (subst (λ (w : Mark). Shows w (interval_of s i) g) (sym (ended_mark i e)) there) c x y held
+      same_shown one_decoding one_front (interval_of s i) f g (mark_in k i) (a.picture.each i) (subst (λ (w : Mark). Shows w (interval_of s i) g) (sym (ended_mark i e)) there) c x y held
 
   front_sample : (c x y : ℕ) (zs : List (List ℤ)) → Holds (interval_of s (interval_number h (spot_of h c x y).mcu)) c x y
       → Front (interval_of s (interval_number h (spot_of h c x y).mcu)) (within_interval h (spot_of h c x y).mcu + 1) zs → f c x y ≡ g c x y

@@ -189,7 +189,6 @@ fn write_as<R: Threads + Wait + Sync, W: Write, G: Gate + Sync, S: OneFirstInter
 {
     each_interval_has_an_outcome();
     let (scan, limit) = (part.scan(), part.limit());
-    scan.head().be_lawful();
     let rows = scan.head().mcus_down();
     let workers = workers.min(rows);
     let benches = rows.min(BENCHES_OF_ONE * workers);

@@ -9,13 +9,13 @@ use Rattle.jr_cut.specs.Cut.{Spelling, IsSpelling, spelling, byte_spelled, IsRaw
 use Rattle.jr_cut.specs.Cut.Spelling.{Plain, Stuffed}
 use Rattle.jr_cut.proofs.Cuts.{run_same, run_end, stop_some}
 
-zero_not : ◌≢◌ {A = ℕ} 0 PREFIX
+pub zero_not : ◌≢◌ {A = ℕ} 0 PREFIX
 zero_not e = omega arith
 
-run_of : (more code : ℕ) (rest : List ℕ) → marker more code ++ rest ≡ replicate (suc more) PREFIX ++ (code ∷ rest)
+pub run_of : (more code : ℕ) (rest : List ℕ) → marker more code ++ rest ≡ replicate (suc more) PREFIX ++ (code ∷ rest)
 run_of more code rest = ap (λ (x : List ℕ). PREFIX ∷ x) (append_assoc (replicate more PREFIX) (code ∷ []) rest)
 
-same_spelling : (p q : Spelling) (x y : List ℕ) → IsSpelling p → IsSpelling q → spelling p ++ x ≡ spelling q ++ y → (p ≡ q) × (x ≡ y)
+pub same_spelling : (p q : Spelling) (x y : List ℕ) → IsSpelling p → IsSpelling q → spelling p ++ x ≡ spelling q ++ y → (p ≡ q) × (x ≡ y)
 same_spelling (Plain a) (Plain b) x y hp hq e = let h : a ≡ b = cc in (ap Plain h, cc)
 same_spelling (Plain a) (Stuffed n) x y hp hq e = let h : a ≡ PREFIX = cc in absurd (hp h)
 same_spelling (Stuffed m) (Plain b) x y hp hq e = let h : b ≡ PREFIX = cc in absurd (hq h)
@@ -24,7 +24,7 @@ same_spelling (Stuffed m) (Stuffed n) x y hp hq e =
     let h : m ≡ n = omega (arith, r.0) in
     (ap Stuffed h, r.2)
 
-not_stop : (tail y : List ℕ) (p : Spelling) → IsStop tail → IsSpelling p → tail ≡ spelling p ++ y → ⊥
+pub not_stop : (tail y : List ℕ) (p : Spelling) → IsStop tail → IsSpelling p → tail ≡ spelling p ++ y → ⊥
 not_stop tail y (Plain b) stop hp e = omega (arith, (stop_some tail 0 b y stop e hp).0)
 not_stop tail y (Stuffed m) stop hp e = (stop_some tail (suc m) 0 y stop (e ∙ run_of m 0 y) zero_not).1 refl
 
@@ -44,22 +44,22 @@ same_raw r q a b s t hr hq hs ht e =
     let p = same_parts hr.parts hq.parts s t hr.each hq.each hs ht (ap (λ (x : List ℕ). x ++ s) (sym hr.spelled) ∙ e ∙ ap (λ (x : List ℕ). x ++ t) hq.spelled) in
     (hr.means ∙ ap (map byte_spelled) p.0 ∙ sym hq.means, p.1)
 
-marker_stop : (tail : List ℕ) (code : ℕ) → HasMarker tail code → code ≢ 0 → code ≢ PREFIX → IsStop tail
+pub marker_stop : (tail : List ℕ) (code : ℕ) → HasMarker tail code → code ≢ 0 → code ≢ PREFIX → IsStop tail
 marker_stop tail code h not_0 not_prefix = record { more = suc h.0; rest = code ∷ h.1; spelled = h.2 ∙ run_of h.0 code h.1; stops = inr (omega arith, code, h.1, not_0, not_prefix, refl) }
 
-ending_stop : (n k at : ℕ) (tail : List ℕ) (end : ScanEnd) → IsEnding n k at tail end → IsStop tail
+pub ending_stop : (n k at : ℕ) (tail : List ℕ) (end : ScanEnd) → IsEnding n k at tail end → IsStop tail
 ending_stop n k at tail EndOfFile h = record { more = h.0; rest = []; spelled = h.1 ∙ sym (append-nil (replicate h.0 PREFIX)); stops = inl refl }
 ending_stop n k at tail EndOfImage h = marker_stop tail EOI h (λ e. omega arith) (λ e. omega arith)
 ending_stop n k at tail (ExtraRestart o) h = marker_stop tail (RST0 + h.0) h.2 (λ e. omega arith) (λ e. omega (arith, h.1))
 ending_stop n k at tail (OutOfStep f x o) h = marker_stop tail (RST0 + f) h.1 (λ e. omega arith) (λ e. omega (arith, h.0))
 ending_stop n k at tail (OtherMarker c o) h = marker_stop tail c h.2 (λ e. omega (arith, h.0)) (λ e. omega (arith, h.1))
 
-with_markers_stop : (n j k at : ℕ) (ps : List CodedSegment) (tail : List ℕ) (end : ScanEnd) → IsEnding n j at tail end → IsStop (with_markers k ps ++ tail)
-with_markers_stop n j k at [] tail end h = ending_stop n j at tail end h
-with_markers_stop n j k at (p ∷ ps) tail end h =
+pub markers_stop : (n j k at : ℕ) (ps : List CodedSegment) (tail : List ℕ) (end : ScanEnd) → IsEnding n j at tail end → IsStop (with_markers k ps ++ tail)
+markers_stop n j k at [] tail end h = ending_stop n j at tail end h
+markers_stop n j k at (p ∷ ps) tail end h =
     marker_stop _ (RST0 + k % 8) (p.more, (p.raw ++ with_markers (suc k) ps) ++ tail, append_assoc (marker p.more (RST0 + k % 8)) (p.raw ++ with_markers (suc k) ps) tail) (λ e. omega arith) (λ e. omega arith)
 
-same_marker : (tail : List ℕ) (a b : ℕ) → HasMarker tail a → HasMarker tail b → a ≢ PREFIX → b ≢ PREFIX → a ≡ b
+pub same_marker : (tail : List ℕ) (a b : ℕ) → HasMarker tail a → HasMarker tail b → a ≢ PREFIX → b ≢ PREFIX → a ≡ b
 same_marker tail a b f g ha hb = (run_same (suc f.0) (suc g.0) a b f.1 g.1 ha hb (sym (run_of f.0 a f.1) ∙ sym f.2 ∙ g.2 ∙ run_of g.0 b g.1)).1
 
 no_marker : (tail : List ℕ) (a more : ℕ) → HasMarker tail a → a ≢ PREFIX → tail ≡ replicate more PREFIX → ⊥
@@ -76,7 +76,7 @@ other_restart c j (inr (inl q)) h e = omega arith
 other_restart c j (inr (inr g)) h e = omega arith
 
 -- what a marker of the next number is not
-ending_not_next : (n k at : ℕ) (tail : List ℕ) (end : ScanEnd) → IsEnding n k at tail end → HasMarker tail (RST0 + k % 8) → k + 1 < n → ⊥
+pub ending_not_next : (n k at : ℕ) (tail : List ℕ) (end : ScanEnd) → IsEnding n k at tail end → HasMarker tail (RST0 + k % 8) → k + 1 < n → ⊥
 ending_not_next n k at tail EndOfFile h m room = no_marker tail (RST0 + k % 8) h.0 m (λ e. omega arith) h.1
 ending_not_next n k at tail EndOfImage h m room = let e = same_marker tail EOI (RST0 + k % 8) h m (λ e. omega arith) (λ e. omega arith) in omega (arith, e)
 ending_not_next n k at tail (ExtraRestart o) h m room = omega (arith, h.3)
@@ -126,17 +126,17 @@ same_segments n k j i o o' total raw raw' first first' tail tail' [] [] a b hr h
     let b3 = subst (λ (t : List ℕ). IsEnding n j o t b) (sym tails) b2 in
     (ap (λ (x : List ℕ). x ∷ []) r.0, same_ending n j o tail a b ha b3)
 same_segments n k j i o o' total raw raw' first first' tail tail' [] (q ∷ qs) a b hr hr' hp hq ej ei lj li ha hb lo lo' e =
-    let r = same_raw raw raw' first first' tail _ hr hr' (ending_stop n j o tail a ha) (with_markers_stop n i k o' (q ∷ qs) tail' b hb) e in
+    let r = same_raw raw raw' first first' tail _ hr hr' (ending_stop n j o tail a ha) (markers_stop n i k o' (q ∷ qs) tail' b hb) e in
     let jk : j ≡ k = omega arith in
     let h = subst (λ (x : ℕ). IsEnding n x o tail a) jk ha in
     absurd (ending_not_next n k o tail a h (q.more, (q.raw ++ with_markers (suc k) qs) ++ tail', r.1 ∙ append_assoc (marker q.more (RST0 + k % 8)) (q.raw ++ with_markers (suc k) qs) tail') (omega arith))
 same_segments n k j i o o' total raw raw' first first' tail tail' (p ∷ ps) [] a b hr hr' hp hq ej ei lj li ha hb lo lo' e =
-    let r = same_raw raw raw' first first' _ tail' hr hr' (with_markers_stop n j k o (p ∷ ps) tail a ha) (ending_stop n i o' tail' b hb) e in
+    let r = same_raw raw raw' first first' _ tail' hr hr' (markers_stop n j k o (p ∷ ps) tail a ha) (ending_stop n i o' tail' b hb) e in
     let ik : i ≡ k = omega arith in
     let h = subst (λ (x : ℕ). IsEnding n x o' tail' b) ik hb in
     absurd (ending_not_next n k o' tail' b h (p.more, (p.raw ++ with_markers (suc k) ps) ++ tail, sym r.1 ∙ append_assoc (marker p.more (RST0 + k % 8)) (p.raw ++ with_markers (suc k) ps) tail) (omega arith))
 same_segments n k j i o o' total raw raw' first first' tail tail' (p ∷ ps) (q ∷ qs) a b hr hr' hp hq ej ei lj li ha hb lo lo' e =
-    let r = same_raw raw raw' first first' _ _ hr hr' (with_markers_stop n j k o (p ∷ ps) tail a ha) (with_markers_stop n i k o' (q ∷ qs) tail' b hb) e in
+    let r = same_raw raw raw' first first' _ _ hr hr' (markers_stop n j k o (p ∷ ps) tail a ha) (markers_stop n i k o' (q ∷ qs) tail' b hb) e in
     let c = RST0 + k % 8 in
     let not_ff : c ≢ PREFIX = λ z. omega arith in
     let left : replicate (suc p.more) PREFIX ++ (c ∷ ((p.raw ++ with_markers (suc k) ps) ++ tail)) ≡ replicate (suc q.more) PREFIX ++ (c ∷ ((q.raw ++ with_markers (suc k) qs) ++ tail'))

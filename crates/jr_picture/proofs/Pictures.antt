@@ -23,7 +23,7 @@ use Rattle.jr_picture.specs.declared.mark.Mark.TheVariants.{Blank, Sound, Damage
 use Rattle.jr_picture.specs.Headline.{interval_number, spot_of, unit_number, decoded_sample, Holds, Shows, IsPicture, AreFirst, HasOnePicture, mark_in}
 
 -- the marks of an interval that is marked in both are one
-same_mark : (i : IntervalValue) (f g : ℕ → ℕ → ℕ → ℕ) (m n : Mark) → (m ≡ Blank → n ≡ Blank) → (n ≡ Blank → m ≡ Blank) → Shows m i f → Shows n i g → m ≡ n
+pub same_mark : (i : IntervalValue) (f g : ℕ → ℕ → ℕ → ℕ) (m n : Mark) → (m ≡ Blank → n ≡ Blank) → (n ≡ Blank → m ≡ Blank) → Shows m i f → Shows n i g → m ≡ n
 same_mark i f g Sound Sound a b p q = refl
 same_mark i f g Sound Damaged a b p q = absurd (q.undecodable p.blocks p.decodes)
 same_mark i f g Sound Blank a b p q = b refl
@@ -35,7 +35,7 @@ same_mark i f g Blank Damaged a b p q = sym (a refl)
 same_mark i f g Blank Blank a b p q = refl
 
 -- what an interval with one mark shows is one
-same_shown : OneDecoding → OneFront → (i : IntervalValue) (f g : ℕ → ℕ → ℕ → ℕ) (m : Mark) → Shows m i f → Shows m i g → (c x y : ℕ) → Holds i c x y → f c x y ≡ g c x y
+pub same_shown : OneDecoding → OneFront → (i : IntervalValue) (f g : ℕ → ℕ → ℕ → ℕ) (m : Mark) → Shows m i f → Shows m i g → (c x y : ℕ) → Holds i c x y → f c x y ≡ g c x y
 same_shown one front i f g Sound p q c x y held =
     p.samples c x y held ∙ ap (λ (zs : List (List ℤ)). decoded_sample i zs c x y) (one i p.blocks q.blocks p.decodes q.decodes) ∙ sym (q.samples c x y held)
 same_shown one front i f g Damaged p q c x y held =

@@ -9,7 +9,8 @@ use Rattle.jr_cut.specs.Cut.{IsRaw, marker, CodedSegment, with_markers, HasMarke
 use Rattle.jr_cut.proofs.OpenSegments.{ending_more as marked_more}
 use Rattle.jr_cut.proofs.Segments.{length_marker}
 use Rattle.jr_scan.specs.ScanValue.{ScanValue, intervals_of}
-use Rattle.jr_settled.proofs.Endings.{behind_marker, bytes_of, ending_not_next, next_marker}
+use Rattle.jr_cut.proofs.CutLaw.{ending_not_next}
+use Rattle.jr_settled.proofs.Endings.{behind_marker, bytes_of, next_marker}
 use Rattle.jr_settled.proofs.ScanIntervals.{none_in}
 use Rattle.jr_places.specs.Meaning.{GoesOnAt, HasNoData}
 use Rattle.jr_places.proofs.Splits.{split_cut}

@@ -2,7 +2,7 @@
 use Rattle.std.proofs.Common.{◌≡◌, ℕ, ◌+◌, List, [], ◌∷◌, ◌++◌, length, map, refl, ap, subst, ◌∙◌, length-append, arith}
 use Rattle.jr_cut.specs.declared.scan_end.ScanEnd.{ScanEnd}
 use Rattle.jr_cut.specs.Cut.{IsRaw, CodedSegment, with_markers, IsEnding, CutFrom, IsStop}
-use Rattle.jr_settled.proofs.Endings.{markers_stop}
+use Rattle.jr_cut.proofs.CutLaw.{markers_stop}
 use Rattle.jr_settled.proofs.Spellings.{begins_stopped}
 
 -- the rest of the first segment, and the others

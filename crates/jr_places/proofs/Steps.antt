@@ -23,7 +23,7 @@ use Rattle.jr_scan.specs.McuReader as readers
 use Rattle.jr_scan.specs.Run.{HasNoMcu, IsRun, RunOf, left_at, run_from, start_of_interval}
 use Rattle.jr_scan.specs.ScanValue.{ScanValue, interval_of}
 use Rattle.jr_piece.specs.Strips.{IsNext}
-use Rattle.jr_settled.proofs.Endings.{ending_stop, marker_stop}
+use Rattle.jr_cut.proofs.CutLaw.{ending_stop, marker_stop}
 use Rattle.jr_settled.proofs.Spellings.{one_stop}
 use Rattle.jr_places.specs.declared.cursor.Reading.{Reading}
 use Rattle.jr_places.specs.declared.cursor.Reading.TheVariants.{GoesOn, IsStuck, HasEnded}

@@ -70,7 +70,7 @@ in_band h l groups c x y p =
     ∙ ap (λ n. slice_index (slice_index_or groups (group_of h m s.block (y % 8)) []) n) place)
 
 -- the line of samples that line k of a row of MCUs takes lies in that row
-row_of : (r k a m : ℕ) → 0 < a → k < 8 * m → (r * (8 * m) + k) * a / m / (8 * a) ≡ r
+pub row_of : (r k a m : ℕ) → 0 < a → k < 8 * m → (r * (8 * m) + k) * a / m / (8 * a) ≡ r
 row_of r k a m some lt =
     let n = r * (8 * m) + k in
     let turned : n * a ≡ a * n = grind arith in

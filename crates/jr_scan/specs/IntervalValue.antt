@@ -1,5 +1,6 @@
 -- What an interval is: its number, how many MCUs it codes, its bytes without stuffing, and the head that it is read by.
-use Rattle.std.specs.Prelude.{ℕ, List}
+use Rattle.std.specs.Prelude.{ℕ, ◌<◌, ◌^◌, List, length}
+use Rattle.jr_head.specs.Geometry.{IsLawful}
 use Rattle.jr_head.specs.HeadValue.{HeadValue}
 
 pub record IntervalValue : Type 0 where
@@ -7,3 +8,8 @@ pub record IntervalValue : Type 0 where
   pub mcus : ℕ
   pub bytes : List ℕ
   pub head : HeadValue
+
+-- what each borrowed one keeps: its head is lawful, and the count of its bits has room
+pub record IsIntervalRef (i : IntervalValue) : Type 0 where
+  pub lawful : IsLawful i.head
+  pub few : length i.bytes < 2 ^ 61

@@ -76,7 +76,6 @@ impl<'a> Guess<'a> {
     pub fn read(&mut self, interval: IntervalRef<'a>, from: u64, to: u64)
         ensures { self.new.interval ≡ interval.entry }
     {
-        interval.head().be_lawful();
         self.interval = interval;
         self.mcus.clear();
         let mut start = from;
@@ -161,6 +160,7 @@ impl<'a> Guess<'a> {
     /// of the place's predictions.
     #[inline(always)]
     pub(crate) fn pass(&self, k: usize, place: &Place) -> Option<Place>
+        ensures lawful { OnSome result (IsLawful self.now.interval.head) }
         ensures some { IfSome result (λ to. (zs : List (List ℤ)) → AreShifted self.now.interval.head place.now.predictions (blocks_at self.now k) zs → IsRun (run_from self.now.interval place.now 1) zs to AllRead) }
         ensures shifted { OnSome result ((zs : List (List ℤ)) × AreShifted self.now.interval.head place.now.predictions (blocks_at self.now k) zs) }
         ensures kept { OnSome result (k < length self.now.mcus) }

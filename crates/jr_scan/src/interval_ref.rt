@@ -16,14 +16,13 @@ pub struct IntervalRef<'a> {
 }
 
 impl<'a> Model for IntervalRef<'a> {
-    ghost use Rattle.std.specs.Prelude.{◌<◌, ◌^◌, length};
-    ghost use Rattle.jr_scan.specs.IntervalValue.{IntervalValue};
+    ghost use Rattle.jr_scan.specs.IntervalValue.{IntervalValue, IsIntervalRef};
 
     ghost Value = { IntervalValue };
 
     ghost view = { λ i. record { number = i.number; mcus = i.mcus; bytes = i.bytes.now; head = i.head.now } };
 
-    ghost invariant = { λ i. length i.bytes.now < 2 ^ 61 };
+    ghost invariant = { λ i. IsIntervalRef (record { number = i.number; mcus = i.mcus; bytes = i.bytes.now; head = i.head.now }) };
 }
 
 impl<'a> IntervalRef<'a> {
@@ -32,6 +31,7 @@ impl<'a> IntervalRef<'a> {
         requires { length bytes.now < 2 ^ 61 }
         ensures { result ≡ record { number = number; mcus = mcus; bytes = bytes.now; head = head.now } }
     {
+        head.be_lawful();
         IntervalRef {
             head,
             bytes,
@@ -79,7 +79,6 @@ impl<'a> IntervalRef<'a> {
         ensures value { result.now ≡ self.now.head }
         ensures lawful { IsLawful result.now }
     {
-        self.head.be_lawful();
         self.head
     }
 }

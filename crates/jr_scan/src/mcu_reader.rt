@@ -3,6 +3,7 @@
 ghost use Rattle.std.specs.Prelude.{◌≡◌, ◌<◌, ◌≤◌, ◌+◌, ◌*◌, ◌++◌, ◌^◌, ℕ, ℤ, List, [], length, take, drop, false, IsTrue, IfNone, OnSome};
 ghost use Rattle.std.specs.List.{All};
 ghost use Rattle.jr_code.specs.Bits.{bits};
+ghost use Rattle.jr_head.specs.Geometry.{IsLawful};
 ghost use Rattle.jr_mcu.specs.Block.{IsInDcRange, IsInRange};
 
 use crate::interval_ref::IntervalRef;
@@ -77,7 +78,8 @@ impl<'a> McuReader<'a> {
         ensures mcu { result.mcu ≡ 0 }
         ensures read { HasRead result [] }
     {
-        interval.head().be_lawful();
+        // By its contract the head is lawful.
+        let _head = interval.head();
         let bits = bits_from(interval.bytes(), from.bit);
         let predictions = from.predictions;
         McuReader {
@@ -218,6 +220,7 @@ impl<'a> McuReader<'a> {
     /// Where the next MCU starts.
     pub fn place(&self) -> Place
         ensures value { result ≡ self.now.place }
+        ensures lawful { IsLawful self.now.run.interval.head }
         ensures within { result.bit ≤ 8 * length self.now.run.interval.bytes }
         ensures in_range { All IsInDcRange result.predictions }
     {

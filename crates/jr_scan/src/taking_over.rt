@@ -55,7 +55,6 @@ fn pass_mcus(guess: &Guess<'_>, at: usize, most: u32, place: &mut Place) -> u32
     ensures within { place.new.bit ≤ 8 * length guess.now.interval.bytes }
     ensures in_range { All IsInDcRange place.new.predictions }
 {
-    guess.interval().head().be_lawful();
     for k in 0..most {
         let Some(to) = guess.pass(at.saturating_add(k as usize), place) else {
             return k;
@@ -101,7 +100,6 @@ impl<'a> McuReader<'a> {
         ensures stays { HasEnded self.old → self.new ≡ self.old }
         ensures none { result ≡ 0 → self.new ≡ self.old }
     {
-        self.interval().head().be_lawful();
         let most = mcus.min(self.left());
         let mut place = self.place();
         let taken = pass_mcus(guess, at, most, &mut place);

@@ -3,29 +3,8 @@ use Rattle.std.proofs.Common.{◌≡◌, ◌≢◌, ℕ, suc, ◌≤◌, List, [
 use Rattle.std.specs.List.{flat_map, AllByRecursion}
 use Rattle.std.proofs.lemmas.Bool.{cases_lt}
 use Rattle.std.proofs.lemmas.List.{append-nil, map-append, length-map}
-use Rattle.jr_base.specs.declared.marker.TheConstants.{PREFIX}
 use Rattle.jr_cut.specs.Cut.{Spelling, IsSpelling, spelling, byte_spelled, IsRaw, marker, IsStop}
-use Rattle.jr_cut.specs.Cut.Spelling.{Plain, Stuffed}
-use Rattle.jr_cut.proofs.Cuts.{run_same, stop_some}
-
-zero_not : ◌≢◌ {A = ℕ} 0 PREFIX
-zero_not e = omega arith
-
-pub run_of : (more code : ℕ) (rest : List ℕ) → marker more code ++ rest ≡ replicate (suc more) PREFIX ++ (code ∷ rest)
-run_of more code rest = ap (λ (x : List ℕ). PREFIX ∷ x) (append_assoc (replicate more PREFIX) (code ∷ []) rest)
-
-same_spelling : (p q : Spelling) (x y : List ℕ) → IsSpelling p → IsSpelling q → spelling p ++ x ≡ spelling q ++ y → (p ≡ q) × (x ≡ y)
-same_spelling (Plain a) (Plain b) x y hp hq e = let h : a ≡ b = cc in (ap Plain h, cc)
-same_spelling (Plain a) (Stuffed n) x y hp hq e = let h : a ≡ PREFIX = cc in absurd (hp h)
-same_spelling (Stuffed m) (Plain b) x y hp hq e = let h : b ≡ PREFIX = cc in absurd (hq h)
-same_spelling (Stuffed m) (Stuffed n) x y hp hq e =
-    let r = run_same (suc m) (suc n) 0 0 x y zero_not zero_not (sym (run_of m 0 x) ∙ e ∙ run_of n 0 y) in
-    let h : m ≡ n = omega (arith, r.0) in
-    (ap Stuffed h, r.2)
-
-not_stop : (tail y : List ℕ) (p : Spelling) → IsStop tail → IsSpelling p → tail ≡ spelling p ++ y → ⊥
-not_stop tail y (Plain b) stop hp e = omega (arith, (stop_some tail 0 b y stop e hp).0)
-not_stop tail y (Stuffed m) stop hp e = (stop_some tail (suc m) 0 y stop (e ∙ run_of m 0 y) zero_not).1 refl
+use Rattle.jr_cut.proofs.CutLaw.{same_spelling, not_stop}
 
 -- the fewer spellings of the same bytes begin the others
 record Begins (ps qs : List Spelling) (s t : List ℕ) : Type 0 where

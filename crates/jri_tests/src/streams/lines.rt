@@ -18,7 +18,6 @@ fn painted(alloc: Global, scan: &Scan, first: u32, count: u32) -> Result<(Vec<u8
     requires some { 0 < count }
     requires inside { first + count ≤ scan.now.head.height }
 {
-    scan.head().be_lawful();
     let mut pixels = vec![in alloc; 0; count as usize * bytes_of_line(scan.head())]?;
     let marked = paint_scan_lines(alloc, scan, first, count, &mut pixels)?;
     Ok((pixels, marked))
@@ -31,7 +30,6 @@ pub(crate) fn check_lines<R: AllocGlobal + Abort>(
     one: &Written,
     name: &str,
 ) -> Result<(), Fail> {
-    scan.head().be_lawful();
     let height = scan.head().height();
     let (all, marked) = painted(rt.alloc(), scan, 0, height)?;
     let (sound, damaged, _blank) = one.counts;

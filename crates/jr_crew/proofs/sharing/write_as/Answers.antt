@@ -10,7 +10,7 @@ pub returns-in-Ok-write_by_crew-clause-painted : goal.returns-in-Ok-write_by_cre
 returns-in-Ok-write_by_crew-clause-painted g c =
     let t = c.args.part.scan in
     let n = c.args.part.limit in
-    let lawful : IsLawful t.head = search (rules, c.be_lawful.ensures) in
+    let lawful : IsLawful t.head = search (rules, c.head.ensures.lawful) in
     let crew : c.of-crew.result ≡ c.args.part = search rules in
     let sends : SendsPicture g.W.Write.contents c.args.out.now c.write_by_crew.new.out c.write_by_crew.result t n =
     subst (λ (p : FirstIntervalsValue). SendsPicture g.W.Write.contents c.args.out.now c.write_by_crew.new.out c.write_by_crew.result p.scan p.limit) crew c.write_by_crew.ensures.sent in
@@ -21,7 +21,7 @@ pub returns-clause-begun : goal.returns-clause-begun
 returns-clause-begun g c failed =
     let t = c.args.part.scan in
     let n = c.args.part.limit in
-    let lawful : IsLawful t.head = search (rules, c.be_lawful.ensures) in
+    let lawful : IsLawful t.head = search (rules, c.head.ensures.lawful) in
     let crew : c.of-crew.result ≡ c.args.part = search rules in
     let sends : SendsPicture g.W.Write.contents c.args.out.now c.write_by_crew.new.out c.write_by_crew.result t n =
     subst (λ (p : FirstIntervalsValue). SendsPicture g.W.Write.contents c.args.out.now c.write_by_crew.new.out c.write_by_crew.result p.scan p.limit) crew c.write_by_crew.ensures.sent in

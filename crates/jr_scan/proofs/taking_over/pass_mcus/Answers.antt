@@ -1,6 +1,4 @@
-use Rattle.std.proofs.Common.{rules, ◌≡◌, ◌++◌, [], length, ap, subst, ◌∙◌}
-use Rattle.jr_head.specs.Geometry.{IsLawful}
-use Rattle.jr_scan.specs.IntervalValue.{IntervalValue}
+use Rattle.std.proofs.Common.{rules, ◌≡◌, ◌++◌, [], length}
 use Rattle.jr_scan.specs.declared.place.RunEnd.TheVariants.{AllRead}
 use Rattle.jr_scan.proofs.McuReaders.{no_run}
 use Rattle.jr_scan.proofs.Runs.{component_low, runs_meet}
@@ -15,12 +13,11 @@ loop-k-init c =
 pub loop-k-preserved : goal.loop-k-preserved
 loop-k-preserved c =
     let i = c.args.guess.now.interval in
-    let lawful = subst IsLawful (c.head.ensures.value ∙ ap (λ (j : IntervalValue). j.head) c.interval.ensures) c.be_lawful.ensures in
     let before = c.loop-k.invariant.run in
     let ys = c.in-Some.ensures.shifted in
     let next = c.in-Some.ensures.some ys.0 ys.1 in
     record {
-      run = (before.0 ++ ys.0, runs_meet i c.args.place.now c.loop-k.place c.in-Some.to c.loop-k.k 1 before.0 ys.0 AllRead (component_low i.head lawful) before.1 next);
+      run = (before.0 ++ ys.0, runs_meet i c.args.place.now c.loop-k.place c.in-Some.to c.loop-k.k 1 before.0 ys.0 AllRead (component_low i.head c.in-Some.ensures.lawful) before.1 next);
       within = c.in-Some.ensures.within;
       in_range = c.in-Some.ensures.in_range;
     }

@@ -1,5 +1,6 @@
 use Rattle.std.proofs.Common.{rules, ◌≡◌, ◌<◌, ℤ, List, length, sym, subst, arith}
 use Rattle.std.specs.List.{All}
+use Rattle.jr_head.specs.Geometry.{IsLawful}
 use Rattle.jr_scan.specs.declared.guessed.Guessed.{Guessed}
 use Rattle.jr_scan.specs.declared.place.Place.{Place}
 use Rattle.jr_scan.specs.declared.place.RunEnd.TheVariants.{AllRead}
@@ -17,6 +18,9 @@ sums-requires-clause-a c =
     let is = subst (λ (m : Guessed). IsGuessed g.interval m (blocks_at g c.args.k)) (sym c.index-mcu.ensures) (c.self.invariant.each c.args.k mcu lt) in
     let small = behind_small g.interval mcu (blocks_at g c.args.k) is in
     search (rules, small)
+
+pub returns-clause-lawful : goal.returns-clause-lawful
+returns-clause-lawful c = subst (λ (v : GuessValue). IsLawful v.interval.head) c.self.view_is c.self.invariant.lawful
 
 pub returns-clause-some : goal.returns-clause-some
 returns-clause-some c =

@@ -13,7 +13,7 @@ invariant_of-result c =
     let is : c.bits_from-bits.result ≡ left_at i c.args.from = c.bits_from-bits.ensures ∙ ap (λ (b : List ℕ). drop c.args.from.bit (bits b)) c.bytes.ensures.bytes in
     let at : c.args.from.bit ≡ 8 * length i.bytes - length c.bits_from-bits.result = omega (arith, ap length is, left_is i c.args.from, c.requires.within) in
     record {
-      lawful = subst IsLawful c.head.ensures.value c.be_lawful.ensures;
+      lawful = subst IsLawful c.head-head.ensures.value c.head-head.ensures.lawful;
       few = omega arith;
       small = c.ranges.mcus.fits;
       bits = is ∙ ap (λ (k : ℕ). drop k (bits i.bytes)) at;

@@ -1,7 +1,5 @@
-use Rattle.std.proofs.Common.{rules, ◌≤◌, ◌+◌, [], ap, sym, subst, ◌∙◌, arith}
+use Rattle.std.proofs.Common.{rules, ◌≤◌, ◌+◌, [], sym, subst, arith}
 use Rattle.std.proofs.lemmas.List.{append-nil}
-use Rattle.jr_head.specs.Geometry.{IsLawful}
-use Rattle.jr_scan.specs.IntervalValue.{IntervalValue}
 use Rattle.jr_scan.specs.McuReader.{HasRead}
 use Rattle.jr_scan.proofs.TakingOver.{ended_stays, gone_passed, own_run}
 use Rattle.jr_scan.proofs.mcu_reader.McuReader.skip_guessed.Goals as goal
@@ -11,7 +9,7 @@ returns-then-taken-gt0-clause-passed c = λ zs s.
     let r = c.args.self.now in
     let k = c.pass_mcus-taken.result in
     let to = c.pass_mcus-taken.new.place in
-    let lawful = subst IsLawful (c.head.ensures.value ∙ ap (λ (j : IntervalValue). j.head) c.interval.ensures) c.be_lawful.ensures in
+    let lawful = c.place-place.ensures.lawful in
     let run = c.pass_mcus-taken.ensures.run in
     let mine = own_run r c.args.guess.now.interval c.place-place.result to k run.0 c.requires.same c.place-place.ensures.value run.1 in
     let few : r.mcu + k ≤ r.run.mcus = search (rules, arith, c.pass_mcus-taken.ensures.most) in
