@@ -1,10 +1,15 @@
 -- What contracts see of the memory for a row of MCUs: empty, read, and painted.
-use Rattle.std.specs.Prelude.{ℕ, List}
+use Rattle.std.specs.Prelude.{ℕ, List, Option}
 use Rattle.jr_rows.specs.RowsValue.{RowValue}
 use Rattle.jr_rows.specs.declared.marked.Marked.{Marked}
 
--- room for its blocks and samples, and for its lines
+-- room for its lines, and for its blocks and samples where there is some
 pub record BenchValue : Type 0 where
+  pub work : Option RowValue
+  pub pixels : List ℕ
+
+-- room for its blocks and samples, and for its lines
+pub record WorkBenchValue : Type 0 where
   pub work : RowValue
   pub pixels : List ℕ
 

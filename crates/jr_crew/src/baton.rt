@@ -4,7 +4,7 @@ ghost use Rattle.std.specs.Prelude.{◌≡◌, Some};
 ghost use Rattle.jr_scan.specs.Guesses.{AreGuessesOf};
 ghost use Rattle.jr_scan.specs.ScanValue.{interval_of};
 
-use crate::bench::{Bench, CodedRow, Painted};
+use crate::bench::{Bench, CodedRow, Painted, WorkBench};
 use crate::one_first_intervals::OneFirstIntervals;
 use crate::paint_room::PaintRoom;
 use jr_picture::Gate;
@@ -129,18 +129,30 @@ impl<'a, S: OneFirstIntervals> Baton<'a, S> {
         announce(part.scan(), part.limit(), self.rows.row(), gate);
     }
 
-    /// Tells the gate of the intervals that begin in the next row, and reads it: answers it with those behind it.
-    pub(crate) fn read<G: Gate>(
+    /// Reads the next row, of whose intervals the gate was told: answers it with those behind it.
+    pub(crate) fn read(
         self,
         part: &FirstIntervals<'_>,
-        gate: &G,
-        bench: Bench<S>,
+        bench: WorkBench<S>,
     ) -> (CodedRow<S>, Option<Baton<'a, S>>)
         requires { S.part ≡ Some part.now }
     {
         let mut rows = self.rows;
-        announce(part.scan(), part.limit(), rows.row(), gate);
         let coded = bench.read(part, &mut rows);
         (coded, baton_over(part, rows))
+    }
+
+    /// Decodes and paints the next row, of whose intervals the gate was told: answers it with those behind it.
+    pub(crate) fn decode(
+        self,
+        part: &FirstIntervals<'_>,
+        bench: Bench<S>,
+        room: &mut PaintRoom<S>,
+    ) -> (Painted<S>, Option<Baton<'a, S>>)
+        requires { S.part ≡ Some part.now }
+    {
+        let mut rows = self.rows;
+        let painted = bench.decode(part, &mut rows, room);
+        (painted, baton_over(part, rows))
     }
 }

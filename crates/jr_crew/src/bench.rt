@@ -47,6 +47,7 @@ fn decode_first(
     requires row { rows.old.row < mcus_down part.now.scan.head }
     requires room { HasSampleRoom part.now.scan.head work.old }
     requires pixels { 8 * vertical_max part.now.scan.head * line_size part.now.scan.head ≤ length pixels.old }
+    ensures moved { rows.new ≡ record rows.old { row = rows.old.row + 1 } }
     ensures room { HasSampleRoom part.now.scan.head work.new }
     ensures lines { ShowsLines part.now.scan part.now.limit rows.old.row (take (line_count part.now.scan.head rows.old.row * line_size part.now.scan.head) pixels.new) }
     ensures counts { CountsRow part.now.scan part.now.limit rows.old.row result }
@@ -57,15 +58,16 @@ fn decode_first(
     work.paint(rows, &mut pixels[..size])
 }
 
-/// Memory for the blocks, the samples and the lines of a row of MCUs of the scan.
+/// Memory for the lines of a row of MCUs of the scan, and for its blocks and samples, where a row has been read by it.
 #[derive(Drop)]
 pub(crate) struct Bench<S: OneFirstIntervals> {
-    work: Row,
+    work: Option<Row>,
     pixels: Vec<u8>,
     of: PhantomData<S>,
 }
 
 impl<S: OneFirstIntervals> Model for Bench<S> {
+    ghost use Rattle.std.specs.Prelude.{IfSome};
     ghost use Rattle.jr_crew.specs.CrewValue.{BenchValue};
     ghost use Rattle.jr_crew.specs.Crew.{HasRoom, HasWork};
 
@@ -73,7 +75,7 @@ impl<S: OneFirstIntervals> Model for Bench<S> {
 
     ghost view = { λ b. record { work = b.work; pixels = b.pixels.items } };
 
-    ghost invariant = { λ b. HasWork S.part b.work × HasRoom S.part b.pixels.items };
+    ghost invariant = { λ b. IfSome b.work (HasWork S.part) × HasRoom S.part b.pixels.items };
 }
 
 impl<S: OneFirstIntervals> Bench<S> {
@@ -81,11 +83,9 @@ impl<S: OneFirstIntervals> Bench<S> {
     pub(crate) fn open(alloc: Global, part: &FirstIntervals<'_>) -> Result<Bench<S>, Memory>
         requires { S.part ≡ Some part.now }
     {
-        let head = part.scan().head();
-        let work = Row::open(alloc, head)?;
-        let pixels = vec![in alloc; 0; bytes_of_row(head)]?;
+        let pixels = vec![in alloc; 0; bytes_of_row(part.scan().head())]?;
         Ok(Bench {
-            work,
+            work: None,
             pixels,
             of: PhantomData,
         })
@@ -102,6 +102,7 @@ impl<S: OneFirstIntervals> Bench<S> {
         requires of { rows.old.scan ≡ part.now.scan }
         requires limit { rows.old.limit ≡ part.now.limit }
         requires row { rows.old.row < mcus_down part.now.scan.head }
+        ensures moved { rows.new ≡ record rows.old { row = rows.old.row + 1 } }
     {
         let row = rows.row();
         let mut pixels = self.pixels;
@@ -115,6 +116,50 @@ impl<S: OneFirstIntervals> Bench<S> {
         }
     }
 
+    /// The same bench with memory for a row's blocks and samples, or as it is where that is refused.
+    pub(crate) fn with_work(
+        self,
+        alloc: Global,
+        part: &FirstIntervals<'_>,
+    ) -> Result<WorkBench<S>, Bench<S>>
+        requires { S.part ≡ Some part.now }
+    {
+        let pixels = self.pixels;
+        let of = PhantomData;
+        if let Some(work) = self.work {
+            return Ok(WorkBench { work, pixels, of });
+        }
+        match Row::open(alloc, part.scan().head()) {
+            Ok(work) => Ok(WorkBench { work, pixels, of }),
+            Err(_) => Err(Bench {
+                work: None,
+                pixels,
+                of,
+            }),
+        }
+    }
+}
+
+/// Memory for the blocks, the samples and the lines of a row of MCUs of the scan.
+#[derive(Drop)]
+pub(crate) struct WorkBench<S: OneFirstIntervals> {
+    work: Row,
+    pixels: Vec<u8>,
+    of: PhantomData<S>,
+}
+
+impl<S: OneFirstIntervals> Model for WorkBench<S> {
+    ghost use Rattle.jr_crew.specs.CrewValue.{WorkBenchValue};
+    ghost use Rattle.jr_crew.specs.Crew.{HasRoom, HasWork};
+
+    ghost Value = { WorkBenchValue };
+
+    ghost view = { λ b. record { work = b.work; pixels = b.pixels.items } };
+
+    ghost invariant = { λ b. HasWork S.part b.work × HasRoom S.part b.pixels.items };
+}
+
+impl<S: OneFirstIntervals> WorkBench<S> {
     /// Reads the next row of the scan.
     pub(crate) fn read(self, part: &FirstIntervals<'_>, rows: &mut Rows<'_>) -> CodedRow<S>
         requires part { S.part ≡ Some part.now }
@@ -168,7 +213,7 @@ impl<S: OneFirstIntervals> CodedRow<S> {
         Painted {
             row: self.row,
             marked: self.marked,
-            work,
+            work: Some(work),
             pixels,
             of: PhantomData,
         }
@@ -180,13 +225,14 @@ impl<S: OneFirstIntervals> CodedRow<S> {
 pub(crate) struct Painted<S: OneFirstIntervals> {
     row: u32,
     marked: Marked,
-    work: Row,
+    work: Option<Row>,
     /// The lines, and what of their room they leave.
     pixels: Vec<u8>,
     of: PhantomData<S>,
 }
 
 impl<S: OneFirstIntervals> Model for Painted<S> {
+    ghost use Rattle.std.specs.Prelude.{IfSome};
     ghost use Rattle.jr_crew.specs.CrewValue.{PaintedValue};
     ghost use Rattle.jr_crew.specs.Crew.{HasRoom, HasWork, IsPainted};
 
@@ -194,7 +240,7 @@ impl<S: OneFirstIntervals> Model for Painted<S> {
 
     ghost view = { λ p. record { row = p.row; marked = p.marked; pixels = p.pixels.items } };
 
-    ghost invariant = { λ p. HasWork S.part p.work × HasRoom S.part p.pixels.items × IsPainted S.part (record { row = p.row; marked = p.marked; pixels = p.pixels.items }) };
+    ghost invariant = { λ p. IfSome p.work (HasWork S.part) × HasRoom S.part p.pixels.items × IsPainted S.part (record { row = p.row; marked = p.marked; pixels = p.pixels.items }) };
 }
 
 impl<S: OneFirstIntervals> Painted<S> {

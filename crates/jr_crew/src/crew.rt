@@ -3,7 +3,7 @@
 ghost use Rattle.std.specs.Prelude.{◌≡◌, ◌≤◌, Some, length};
 
 use crate::baton::Baton;
-use crate::bench::{Bench, Painted};
+use crate::bench::{Bench, Painted, WorkBench};
 use crate::one_first_intervals::{OneFirstIntervals, ScanOf};
 use crate::paint_room::PaintRoom;
 use crate::row_queue::{PassedRow, RowQueue, RowTask, Waiter};
@@ -24,13 +24,15 @@ pub(crate) const BENCHES_OF_ONE: u32 = 2;
 /// What the threads share.
 ///
 /// A thread takes from the queue what is to be done next, and does it outside of the lock. A row is begun with a bench, so that
-/// no more rows are begun than there are benches, whose memory each thread takes as it starts. Where rows are whole intervals, each thread
+/// no more rows are begun than there are benches, whose memory each thread takes as it starts, but for that of blocks, which a bench
+/// has from the first row on that waits by it to be painted. Where rows are whole intervals, each thread
 /// decodes and paints rows by itself. Else one thread at a time has the reader. Where guesses that others have made ahead of it
 /// cover the next row it passes over it, and the row, a copy of the reader at its start and its bench wait for whoever is free,
 /// who decodes and paints it some MCUs at a time; where none do, it reads the row, whose blocks wait on the bench to be painted
 /// by whoever is free. What is painted waits for its turn to be written.
 #[derive(Drop)]
 pub(crate) struct Crew<'a, S: OneFirstIntervals> {
+    alloc: Global,
     part: FirstIntervals<'a>,
     queue: Mutex<RowQueue<'a, S>>,
     /// Somebody has read a row, or given back a bench, or all is over. It wakes nobody where nobody waits.
@@ -52,11 +54,12 @@ impl<'a, S: OneFirstIntervals> Model for Crew<'a, S> {
 
 impl<'a, S: OneFirstIntervals> Crew<'a, S> {
     /// Nothing is done yet.
-    pub(crate) fn of(part: FirstIntervals<'a>, queue: RowQueue<'a, S>) -> Crew<'a, S>
+    pub(crate) fn of(alloc: Global, part: FirstIntervals<'a>, queue: RowQueue<'a, S>) -> Crew<'a, S>
         requires { S.part ≡ Some part }
         ensures { result ≡ part.entry }
     {
         Crew {
+            alloc,
             part,
             queue: Mutex::new(queue),
             has_task: Condvar::new(),
@@ -114,13 +117,35 @@ impl<'a, S: OneFirstIntervals> Crew<'a, S> {
         bench: Bench<S>,
         room: &mut PaintRoom<S>,
     ) {
+        baton.announce(&self.part, gate);
         if intervals_of_row(self.part.scan().head()).is_some() {
-            baton.announce(&self.part, gate);
             return self.put_painted(rt, baton.finish(&self.part, bench, room));
         }
-        let (coded, behind) = baton.read(&self.part, gate, bench);
+        match bench.with_work(self.alloc, &self.part) {
+            Ok(bench) => self.read_on(rt, baton, bench),
+            Err(bench) => self.decode_on(rt, baton, bench, room),
+        }
+    }
+
+    /// Reads a row, which waits for whoever is free.
+    fn read_on<R: Wait>(&self, rt: &R, baton: Baton<'a, S>, bench: WorkBench<S>) {
+        let (coded, behind) = baton.read(&self.part, bench);
         let waiter = self.queue.lock(rt).put_coded(coded, behind);
         self.wake(waiter);
+    }
+
+    /// Decodes and paints a row, where there is no memory for its blocks, before the next one is read.
+    fn decode_on<R: Wait>(
+        &self,
+        rt: &R,
+        baton: Baton<'a, S>,
+        bench: Bench<S>,
+        room: &mut PaintRoom<S>,
+    ) {
+        let (painted, behind) = baton.decode(&self.part, bench, room);
+        let waiter = self.queue.lock(rt).put_behind(behind);
+        self.wake(waiter);
+        self.put_painted(rt, painted);
     }
 
     /// Wakes who waits for something to do.
@@ -167,33 +192,42 @@ impl<'a, S: OneFirstIntervals> Crew<'a, S> {
     }
 
     /// Brings a bench, where one is lacking.
-    fn bring_bench<R: Wait>(&self, rt: &R, alloc: Global) {
+    fn bring_bench<R: Wait>(&self, rt: &R) {
         let is_lacking = self.queue.lock(rt).lacks_bench();
-        if is_lacking && let Ok(bench) = Bench::open(alloc, &self.part) {
+        if is_lacking && let Ok(bench) = Bench::open(self.alloc, &self.part) {
             self.give_back(rt, bench);
         }
     }
 
     /// Brings room for a guess, where some is lacking.
-    fn bring_guess<R: Wait>(&self, rt: &R, alloc: Global) {
+    fn bring_guess<R: Wait>(&self, rt: &R) {
         let lacking = self.queue.lock(rt).lacks_guess();
         if let Some(most) = lacking
-            && let Ok(room) = ScanGuess::open(alloc, self.part.scan(), most)
+            && let Ok(room) = ScanGuess::open(self.alloc, self.part.scan(), most)
         {
             let waiter = self.queue.lock(rt).bring_guess(room);
             self.wake(waiter);
         }
     }
 
+    /// Does what can be done at once, where there is something.
+    fn do_ready<R: Wait, G: Gate>(&self, rt: &R, gate: &G, room: &mut PaintRoom<S>) {
+        let task = self.queue.lock(rt).task(&self.part);
+        if let Some(task) = task {
+            self.run(rt, gate, task, room);
+        }
+    }
+
     /// Takes memory of its own, then reads and paints rows until no one is left. Where memory is refused to it others work without
-    /// it.
-    pub(crate) fn work<R: Wait, G: Gate>(&self, rt: &R, gate: &G, alloc: Global) {
-        let Ok(mut room) = PaintRoom::open(alloc, &self.part) else {
+    /// it. It makes a guess before it takes memory for further ones, so that the reader has some early.
+    pub(crate) fn work<R: Wait, G: Gate>(&self, rt: &R, gate: &G) {
+        let Ok(mut room) = PaintRoom::open(self.alloc, &self.part) else {
             return;
         };
         for _ in 0..BENCHES_OF_ONE {
-            self.bring_bench(rt, alloc);
-            self.bring_guess(rt, alloc);
+            self.bring_guess(rt);
+            self.do_ready(rt, gate, &mut room);
+            self.bring_bench(rt);
         }
         self.do_tasks(rt, gate, &mut room);
     }

@@ -257,6 +257,14 @@ impl<'a, S: OneFirstIntervals> RowQueue<'a, S> {
         self.go_on(behind)
     }
 
+    /// Keeps the rows behind one that is read and painted. Answers who is to be woken.
+    pub(crate) fn put_behind(&mut self, behind: Option<Baton<'a, S>>) -> Option<Waiter> {
+        if self.is_over {
+            return None;
+        }
+        self.go_on(behind)
+    }
+
     /// Whether a row is painted.
     pub(crate) fn has(&self, row: u32) -> bool
         ensures { IsTrue result → HasRow self.now.painted.items row }

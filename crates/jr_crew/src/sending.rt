@@ -16,7 +16,6 @@ use jr_guesses::{Beside, Help};
 use jr_picture::Gate;
 use jr_rows::Marked;
 use jr_stream::write_rows;
-use std::alloc::Global;
 use std::io::Write;
 use std::sync::Wait;
 
@@ -26,12 +25,11 @@ pub(crate) struct Helping<'s, 'a, R: Wait, G: Gate, S: OneFirstIntervals> {
     pub(crate) crew: &'s Crew<'a, S>,
     pub(crate) rt: &'s R,
     pub(crate) gate: &'s G,
-    pub(crate) alloc: Global,
 }
 
 impl<'s, 'a, R: Wait, G: Gate, S: OneFirstIntervals> Help for Helping<'s, 'a, R, G, S> {
     fn help(&self) {
-        self.crew.work(self.rt, self.gate, self.alloc);
+        self.crew.work(self.rt, self.gate);
     }
 }
 

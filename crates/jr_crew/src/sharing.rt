@@ -20,7 +20,6 @@ use crate::sending::{Helping, Sending};
 use jr_base::{Memory, Tally, WriteFault};
 use jr_guesses::{GuessQueue, run_beside, windows_of};
 use jr_picture::{Counts, Gate};
-use jr_piece::each_interval_has_an_outcome;
 use jr_rows::{FirstIntervals, Marked, intervals_of_row, room_for, shape_of};
 use jr_scan::Scan;
 use jr_stream::{PictureError, counts_of};
@@ -136,7 +135,6 @@ fn write_by_crew<R: Threads + Wait + Sync, W: Write, G: Gate + Sync, S: OneFirst
     crew: &Crew<'_, S>,
     rt: &R,
     gate: &G,
-    alloc: Global,
     helpers: u32,
     caller: (PaintRoom<S>, Vec<u8>),
     out: &mut Tally<W>,
@@ -157,12 +155,7 @@ fn write_by_crew<R: Threads + Wait + Sync, W: Write, G: Gate + Sync, S: OneFirst
         pixels,
         out,
     };
-    let helping = Helping {
-        crew,
-        rt,
-        gate,
-        alloc,
-    };
+    let helping = Helping { crew, rt, gate };
     let (sent, _out) = run_beside(rt, helpers, &helping, sending);
     sent
 }
@@ -187,7 +180,6 @@ fn write_as<R: Threads + Wait + Sync, W: Write, G: Gate + Sync, S: OneFirstInter
     ensures written { OnOk result (has_failed out.new ≡ false) }
     ensures write { result ≡ Err PictureError.Write → has_failed out.new ≡ true }
 {
-    each_interval_has_an_outcome();
     let (scan, limit) = (part.scan(), part.limit());
     let rows = scan.head().mcus_down();
     let workers = workers.min(rows);
@@ -201,8 +193,8 @@ fn write_as<R: Threads + Wait + Sync, W: Write, G: Gate + Sync, S: OneFirstInter
     let Ok(pixels) = vec![in alloc; 0; room_for(scan.head())] else {
         return Err(PictureError::Memory);
     };
-    let crew = Crew::of(part, queue);
-    match write_by_crew(&crew, rt, gate, alloc, workers - 1, (room, pixels), out) {
+    let crew = Crew::of(alloc, part, queue);
+    match write_by_crew(&crew, rt, gate, workers - 1, (room, pixels), out) {
         Ok(marked) => Ok(counts_of(scan, limit, marked)),
         Err(_) => Err(PictureError::Write),
     }
@@ -212,10 +204,11 @@ fn write_as<R: Threads + Wait + Sync, W: Write, G: Gate + Sync, S: OneFirstInter
 /// the other. The calling thread is one of them, and writes. No more threads work than there are rows. The gate is told each
 /// interval that is decoded; no piece is made.
 ///
-/// The calling thread takes all memory that it needs before it writes the first byte, and none for the picture: for two rows of
-/// MCUs, and room to decode and paint by. Each other thread takes as much as it starts, and where guesses are made room for two of
-/// them, each the blocks of two rows of MCUs, or of 512 MCUs where that is more; where that is refused, it works with less or not
-/// at all.
+/// The calling thread takes all memory that it needs before it writes the first byte, and none for the picture: for the lines of
+/// two rows of MCUs, and room to decode and paint by. Each other thread takes as much as it starts, and where guesses are made room
+/// for two of them, each the blocks of two rows of MCUs, or of 512 MCUs where that is more; where that is refused, it works with less
+/// or not at all. A row that waits to be painted takes memory for its blocks and samples, which stays with its bench; where that is
+/// refused, the row is painted before the next one is read.
 ///
 /// Where a row has whole intervals, each worker decodes and paints its rows by itself. Else one at a time has the reader. From
 /// three workers on, where an interval has some 128 KB of data, the others make guesses ahead of it. A row that these cover it

@@ -31,7 +31,6 @@ fn decode_near(cursor: &mut ScanCursor<'_>, head: &Head, samples: &mut SampleRow
     ensures none { result ≡ 0 → cursor.new.mcu < mcus_in head.now cursor.new.interval → HasNoMcu (in_window head.now cursor.new) cursor.new.place }
     ensures few { done + result ≤ mcus_across head.now }
 {
-    head.be_lawful();
     // By their contracts there is room for the numbers of the interval's MCUs, and an MCU has a data unit.
     let _most = head.mcus_in(cursor.interval);
     let _some = head.order().len();

@@ -22,7 +22,6 @@ fn skip_near(cursor: &mut ScanCursor<'_>, head: &Head, mcus: u32) -> u32
     ensures none { result < mcus → cursor.new.mcu < mcus_in head.now cursor.new.interval → HasNoMcu (in_window head.now cursor.new) cursor.new.place }
     ensures few { result ≤ mcus }
 {
-    head.be_lawful();
     // By its contract there is room for the numbers of the interval's MCUs.
     let _most = head.mcus_in(cursor.interval);
     let mut reader = cursor.reader(head);

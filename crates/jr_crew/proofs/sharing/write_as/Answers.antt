@@ -1,6 +1,7 @@
 use Rattle.std.proofs.Common.{rules, subst, ◌≡◌, ℕ}
 use Rattle.jr_head.specs.Geometry.{IsLawful}
 use Rattle.jr_scan.specs.ScanValue.{ScanValue}
+use Rattle.jr_piece.proofs.ScanLaws.{outcome}
 use Rattle.jr_rows.specs.FirstIntervalsValue.{FirstIntervalsValue}
 use Rattle.jr_stream.specs.Stream.{SendsPicture, HasCounts}
 use Rattle.jr_stream.proofs.Sendings.{painted_picture, begun_picture}
@@ -15,7 +16,7 @@ returns-in-Ok-write_by_crew-clause-painted g c =
     let sends : SendsPicture g.W.Write.contents c.args.out.now c.write_by_crew.new.out c.write_by_crew.result t n =
     subst (λ (p : FirstIntervalsValue). SendsPicture g.W.Write.contents c.args.out.now c.write_by_crew.new.out c.write_by_crew.result p.scan p.limit) crew c.write_by_crew.ensures.sent in
     let counts : HasCounts t n c.counts_of.result = subst (λ (k : ℕ). HasCounts t k c.counts_of.result) c.limit-limit.ensures.value (subst (λ (s : ScanValue). HasCounts s c.limit-limit.result c.counts_of.result) c.scan-scan.ensures c.counts_of.ensures) in
-    painted_picture g.W.Write.contents _ _ c.write_by_crew.result c.each_interval_has_an_outcome.ensures t lawful n c.limit-limit.ensures.few sends _ c.in-Ok-write_by_crew.is c.counts_of.result counts
+    painted_picture g.W.Write.contents _ _ c.write_by_crew.result outcome t lawful n c.limit-limit.ensures.few sends _ c.in-Ok-write_by_crew.is c.counts_of.result counts
 
 pub returns-clause-begun : goal.returns-clause-begun
 returns-clause-begun g c failed =
@@ -25,4 +26,4 @@ returns-clause-begun g c failed =
     let crew : c.of-crew.result ≡ c.args.part = search rules in
     let sends : SendsPicture g.W.Write.contents c.args.out.now c.write_by_crew.new.out c.write_by_crew.result t n =
     subst (λ (p : FirstIntervalsValue). SendsPicture g.W.Write.contents c.args.out.now c.write_by_crew.new.out c.write_by_crew.result p.scan p.limit) crew c.write_by_crew.ensures.sent in
-    begun_picture g.W.Write.contents _ _ c.write_by_crew.result c.each_interval_has_an_outcome.ensures t lawful n c.limit-limit.ensures.few sends _ c.in-Err.is
+    begun_picture g.W.Write.contents _ _ c.write_by_crew.result outcome t lawful n c.limit-limit.ensures.few sends _ c.in-Err.is

@@ -1,6 +1,6 @@
 use Rattle.std.proofs.Common.{◌≡◌, ◌+◌, ◌-◌, ◌*◌, ◌<◌, [], ℕ, length, take, subst, sym, ap, refl, ◌∙◌, length-take-le, slice_index_or, arith, rules}
 use Rattle.jr_head.specs.HeadValue.{HeadValue}
-use Rattle.jr_head.specs.Geometry.{blocks_of}
+use Rattle.jr_head.specs.Geometry.{IsLawful, blocks_of}
 use Rattle.jr_head.specs.Intervals.{mcus_in}
 use Rattle.jr_piece.specs.Outcome.{unit_of}
 use Rattle.jr_rows.specs.Groups.{units_in}
@@ -45,7 +45,8 @@ returns-clause-stands c =
     let bytes : length r'.run.interval.bytes ≡ length (take i.found i.room.items) = ap (λ (o : RunOf). length o.interval.bytes) (e.run ∙ c.reader-reader.ensures.run) in
     let w = c.requires.cursor.window in
     let long : length (take i.found i.room.items) ≡ i.found = length-take-le i.found i.room.items (omega (arith, w.found, w.room)) in
-    let told = passes_true h i c.be_lawful.ensures c.requires.cursor n q few e.decoded.blocks there (omega (arith, c.place-place.ensures.within, bytes, long)) c.place-place.ensures.in_range in
+    let lawful = subst IsLawful (ap (λ (o : RunOf). o.interval.head) (e.run ∙ c.reader-reader.ensures.run)) c.place-place.ensures.lawful in
+    let told = passes_true h i lawful c.requires.cursor n q few e.decoded.blocks there (omega (arith, c.place-place.ensures.within, bytes, long)) c.place-place.ensures.in_range in
     subst (λ (d : ScanCursor). StaysTrue h i d) (sym c.pass.ensures) told
 
 pub returns-clause-near : goal.returns-clause-near
@@ -91,4 +92,5 @@ returns-clause-shows c =
     let some : 0 < blocks_of h = omega (arith, c.order-some.ensures.some, c.order-some.ensures.count) in
     let own : r.run.interval.head ≡ h = ap (λ (o : RunOf). o.interval.head) c.reader-reader.ensures.run in
     let units = subst (λ (g : HeadValue). (k : ℕ) → k < n * blocks_of g → slice_index_or (units_in h new) (c.args.done * blocks_of g + k) [] ≡ unit_of g e.decoded.blocks k) own e.decoded.each in
-    whole_shows h i c.be_lawful.ensures some c.requires.cursor n c.args.done few old new e.kept c.requires.going e.decoded.blocks q there (omega (arith, c.place-place.ensures.within, bytes, long)) units
+    let lawful = subst IsLawful (ap (λ (o : RunOf). o.interval.head) (e.run ∙ c.reader-reader.ensures.run)) c.place-place.ensures.lawful in
+    whole_shows h i lawful some c.requires.cursor n c.args.done few old new e.kept c.requires.going e.decoded.blocks q there (omega (arith, c.place-place.ensures.within, bytes, long)) units

@@ -1,4 +1,5 @@
 use Rattle.std.proofs.Common.{◌≡◌, ◌+◌, ◌-◌, [], ℕ, length, take, subst, sym, ap, refl, ◌∙◌, length-take-le, arith, rules}
+use Rattle.jr_head.specs.Geometry.{IsLawful}
 use Rattle.jr_head.specs.Intervals.{mcus_in}
 use Rattle.jr_scan.specs.declared.place.Place.{Place}
 use Rattle.jr_scan.specs.declared.place.RunEnd.TheVariants.{AllRead}
@@ -37,7 +38,8 @@ returns-clause-stands c =
     let bytes : length r'.run.interval.bytes ≡ length (take i.found i.room.items) = ap (λ (o : RunOf). length o.interval.bytes) (c.skip-whole.ensures.run ∙ c.reader-reader.ensures.run) in
     let w = c.requires.cursor.window in
     let long : length (take i.found i.room.items) ≡ i.found = length-take-le i.found i.room.items (omega (arith, w.found, w.room)) in
-    let told = passes_true h i c.be_lawful.ensures c.requires.cursor n q few passed.0 there (omega (arith, c.place-place.ensures.within, bytes, long)) c.place-place.ensures.in_range in
+    let lawful = subst IsLawful (ap (λ (o : RunOf). o.interval.head) (c.skip-whole.ensures.run ∙ c.reader-reader.ensures.run)) c.place-place.ensures.lawful in
+    let told = passes_true h i lawful c.requires.cursor n q few passed.0 there (omega (arith, c.place-place.ensures.within, bytes, long)) c.place-place.ensures.in_range in
     subst (λ (d : ScanCursor). StaysTrue h i d) (sym c.pass.ensures) told
 
 pub returns-clause-near : goal.returns-clause-near
