@@ -1,4 +1,4 @@
-use Rattle.std.proofs.Common.{rules, refl, subst}
+use Rattle.std.proofs.Common.{refl, subst}
 use Rattle.jr_rows.specs.RowsValue.{RowsValue}
 use Rattle.jr_rows.specs.Rows.{CountsRows}
 use Rattle.jr_stream.specs.Stream.{SendsPicture}
