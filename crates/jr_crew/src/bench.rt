@@ -91,6 +91,11 @@ impl<S: OneFirstIntervals> Bench<S> {
         })
     }
 
+    /// Whether it has memory for a row's blocks and samples.
+    pub(crate) fn has_work(&self) -> bool {
+        self.work.is_some()
+    }
+
     /// Decodes the next row of the scan, some MCUs at a time, and paints it.
     pub(crate) fn decode(
         self,

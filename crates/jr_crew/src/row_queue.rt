@@ -63,7 +63,8 @@ pub(crate) struct RowQueue<'a, S: OneFirstIntervals> {
     baton: Option<Baton<'a, S>>,
     /// Nothing is read or painted any more.
     is_over: bool,
-    free: Vec<Bench<S>>,
+    /// Those with room for a row's blocks behind the others.
+    free: VecDeque<Bench<S>>,
     /// So many benches nobody brings yet.
     lacking: u32,
     guesses: GuessQueue<'a, ScanOf<S>>,
@@ -85,7 +86,7 @@ impl<'a, S: OneFirstIntervals> RowQueue<'a, S> {
     /// be benches.
     pub(crate) fn of(
         baton: Option<Baton<'a, S>>,
-        free: Vec<Bench<S>>,
+        free: VecDeque<Bench<S>>,
         lacking: u32,
         guesses: GuessQueue<'a, ScanOf<S>>,
         passed: VecDeque<PassedRow<'a, S>>,
@@ -174,16 +175,15 @@ impl<'a, S: OneFirstIntervals> RowQueue<'a, S> {
         self.choice() == Choice::Wait
     }
 
-    /// The rows that come next, with the guesses for the first of them, and a bench for it.
-    fn begin(&mut self, part: &FirstIntervals<'a>) -> Option<(Baton<'a, S>, Bench<S>)>
+    /// The rows that come next, with the guesses for the first of them.
+    fn begin(&mut self, part: &FirstIntervals<'a>) -> Option<Baton<'a, S>>
         requires { S.part ≡ Some part.now }
     {
         let baton = self.baton.take()?;
-        let bench = self.free.pop()?;
         self.baton = baton.behind(part);
         let number = self.guesses.number();
         let guesses = self.guesses.for_next(part.scan());
-        Some((baton.with_guesses(part, number, guesses), bench))
+        Some(baton.with_guesses(part, number, guesses))
     }
 
     /// What a thread does next. None where it has to wait, or all is over.
@@ -191,14 +191,8 @@ impl<'a, S: OneFirstIntervals> RowQueue<'a, S> {
         requires { S.part ≡ Some part.now }
     {
         match self.choice() {
-            Choice::Read => {
-                let (baton, bench) = self.begin(part)?;
-                Some(RowTask::Read(baton, bench))
-            }
-            Choice::Pass => {
-                let (baton, bench) = self.begin(part)?;
-                Some(RowTask::Pass(baton, bench))
-            }
+            Choice::Read => Some(RowTask::Read(self.begin(part)?, self.free.pop_back()?)),
+            Choice::Pass => Some(RowTask::Pass(self.begin(part)?, self.free.pop_front()?)),
             Choice::Finish => Some(RowTask::Finish(self.passed.pop_front()?)),
             Choice::Paint => Some(RowTask::Paint(self.coded.pop_front()?)),
             Choice::Guess => Some(RowTask::Guess(self.guesses.take()?)),
@@ -295,7 +289,11 @@ impl<'a, S: OneFirstIntervals> RowQueue<'a, S> {
 
     /// Keeps a bench, to be used again. There is room for it, since it came from here. Answers whether a thread waits.
     pub(crate) fn give_back(&mut self, bench: Bench<S>) -> bool {
-        let _ = self.free.push(bench);
+        let _ = if bench.has_work() {
+            self.free.push_back(bench)
+        } else {
+            self.free.push_front(bench)
+        };
         self.is_waited_for()
     }
 

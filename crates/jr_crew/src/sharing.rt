@@ -51,12 +51,12 @@ fn open_benches<S: OneFirstIntervals>(
     part: &FirstIntervals<'_>,
     count: u32,
     all: u32,
-) -> Result<Vec<Bench<S>>, Memory>
+) -> Result<VecDeque<Bench<S>>, Memory>
     requires { S.part ≡ Some part.now }
 {
-    let mut benches = Vec::with_capacity(alloc, all as usize)?;
+    let mut benches = VecDeque::with_capacity(alloc, all as usize)?;
     for _ in 0..count {
-        benches.push(Bench::open(alloc, part)?)?;
+        benches.push_back(Bench::open(alloc, part)?)?;
     }
     Ok(benches)
 }

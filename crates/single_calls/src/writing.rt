@@ -90,7 +90,6 @@ impl<'a> Caller<'a> {
         let picture = self.picture()?;
         let scan = Arc::try_clone(&self.scan).ok()?;
         let head = scan.head();
-        head.be_lawful();
         let height = head.height();
         let mut pixels = vec![in self.alloc; 7; height as usize * bytes_of_line(head)].ok()?;
         self.begin();
