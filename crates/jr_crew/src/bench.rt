@@ -1,6 +1,6 @@
 //! Memory for a row of MCUs of a scan: empty, read, or painted.
 
-ghost use Rattle.std.specs.Prelude.{◌≡◌, ◌+◌, ◌*◌, ◌<◌, ◌≤◌, Some, length, take};
+ghost use Rattle.std.specs.Prelude.{◌≡◌, ◌+◌, ◌-◌, ◌*◌, ◌<◌, ◌≤◌, Some, length, take, drop};
 ghost use Rattle.jr_head.specs.Geometry.{mcus_down, vertical_max};
 ghost use Rattle.jr_paint.specs.Lines.{line_room, line_size};
 ghost use Rattle.jr_rows.specs.Rows.{AreRead, CountsRow, HasRowRoom, HasSampleRoom, ShowsLines, line_count};
@@ -12,6 +12,7 @@ use jr_base::Memory;
 use jr_rows::{FirstIntervals, Marked, Rows, SampleRow, bytes_of_row, lines_of, shape_of};
 use std::alloc::Global;
 use std::marker::{Model, PhantomData};
+use std::mem;
 
 /// Paints the row that is read at the beginning of `pixels`.
 fn paint_first(
@@ -256,23 +257,54 @@ impl<S: OneFirstIntervals> Painted<S> {
         self.row
     }
 
-    /// Copies the lines, for which the slice has room, and answers the marks of the intervals that end in the row.
-    pub(crate) fn copy_to(&self, part: &FirstIntervals<'_>, pixels: &mut [u8]) -> Marked
+    /// Copies the lines, for which the slice has room.
+    fn copy_to(&self, part: &FirstIntervals<'_>, pixels: &mut [u8])
         requires part { S.part ≡ Some part.now }
         requires room { length pixels.old ≡ line_count part.now.scan.head self.now.row * line_size part.now.scan.head }
         ensures lines { ShowsLines part.now.scan part.now.limit self.now.row pixels.new }
-        ensures counts { CountsRow part.now.scan part.now.limit self.now.row result }
     {
         pixels.copy_from_slice(&self.pixels[..pixels.len()]);
-        self.marked
     }
 
     /// The bench, to be used again.
-    pub(crate) fn into_bench(self) -> Bench<S> {
+    fn into_bench(self) -> Bench<S> {
         Bench {
             work: self.work,
             pixels: self.pixels,
             of: PhantomData,
         }
+    }
+
+    /// Puts the lines from one byte up to another, between which is just room for them: in the place of all bytes where they
+    /// begin with these and are as many, which takes no copy. Answers the marks of the intervals that end in the row, and the bench,
+    /// to be used again.
+    pub(crate) fn put_into(
+        self,
+        part: &FirstIntervals<'_>,
+        pixels: &mut Vec<u8>,
+        from: usize,
+        to: usize,
+    ) -> (Marked, Bench<S>)
+        requires part { S.part ≡ Some part.now }
+        requires room { to ≡ from + line_count part.now.scan.head self.row * line_size part.now.scan.head }
+        requires within { to ≤ length pixels.old.items }
+        ensures long { length pixels.new.items ≡ length pixels.old.items }
+        ensures kept { take from pixels.new.items ≡ take from pixels.old.items }
+        ensures lines { ShowsLines part.now.scan part.now.limit self.row (take (to - from) (drop from pixels.new.items)) }
+        ensures counts { CountsRow part.now.scan part.now.limit self.row result.0 }
+    {
+        let marked = self.marked;
+        if from > 0 || self.pixels.len() != pixels.len() {
+            self.copy_to(part, &mut pixels[from..to]);
+            return (marked, self.into_bench());
+        }
+        let mut lines = self.pixels;
+        mem::swap(&mut lines, pixels);
+        let bench = Bench {
+            work: self.work,
+            pixels: lines,
+            of: PhantomData,
+        };
+        (marked, bench)
     }
 }

@@ -72,14 +72,14 @@ impl<'a, 'b, R: Wait, G: Gate, S: OneFirstIntervals> Caller<'a, 'b, R, G, S> {
 impl<R: Wait, G: Gate, S: OneFirstIntervals> RowPainter for Caller<'_, '_, R, G, S> {
     ghost at = { λ c. c };
 
-    fn paint(&mut self, pixels: &mut [u8]) -> Marked {
+    fn paint(&mut self, pixels: &mut Vec<u8>, from: usize, to: usize) -> Marked {
         self.help();
         let (crew, rt) = (self.crew, self.rt);
         // By its contract a row's number has room.
         let _rows = shape_of(crew.part().scan().head()).down;
         let painted = crew.painted(rt, self.row);
-        let marked = painted.copy_to(crew.part(), pixels);
-        crew.give_back(rt, painted.into_bench());
+        let (marked, bench) = painted.put_into(crew.part(), pixels, from, to);
+        crew.give_back(rt, bench);
         self.row += 1;
         marked
     }

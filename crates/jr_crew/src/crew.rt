@@ -1,20 +1,26 @@
 //! Threads that decode and paint rows of MCUs of one scan, while one of them writes.
 
-ghost use Rattle.std.specs.Prelude.{◌≡◌, ◌≤◌, Some, length};
+ghost use Rattle.std.specs.Prelude.{◌≡◌, ◌*◌, ◌≤◌, Some, length, IfOk};
+ghost use Rattle.jr_head.specs.Geometry.{vertical_max};
+ghost use Rattle.jr_paint.specs.Lines.{line_size};
+ghost use Rattle.jr_paint.specs.declared.header.TheConstants.{HEADER_ROOM};
 
 use crate::baton::Baton;
 use crate::bench::{Bench, Painted, WorkBench};
+use crate::caller_room::CallerRoom;
 use crate::one_first_intervals::{OneFirstIntervals, ScanOf};
 use crate::paint_room::PaintRoom;
 use crate::row_queue::{PassedRow, RowQueue, RowTask, Waiter};
+use jr_base::Memory;
 use jr_guesses::{GuessTask, ScanGuess};
 use jr_picture::Gate;
-use jr_rows::{FirstIntervals, intervals_of_row};
+use jr_rows::{FirstIntervals, intervals_of_row, room_for};
 use std::alloc::Global;
 use std::marker::Model;
 use std::sync::{Condvar, Mutex, Wait};
 
-/// More tasks than there are: a row has three at most, and each guess covers bits that no other does.
+/// A bound of loops over tasks that no run reaches: a row has three at most, there is room for few guesses, and
+/// each covers bits that no other does.
 pub(crate) const MOST_TASKS: u64 = u64::MAX;
 
 /// So many benches for each thread, where there are as many rows: one that it works at, and one that waits to be painted or
@@ -23,13 +29,15 @@ pub(crate) const BENCHES_OF_ONE: u32 = 2;
 
 /// What the threads share.
 ///
-/// A thread takes from the queue what is to be done next, and does it outside of the lock. A row is begun with a bench, so that
-/// no more rows are begun than there are benches, whose memory each thread takes as it starts, but for that of blocks, which a bench
-/// has from the first row on that waits by it to be painted. Where rows are whole intervals, each thread
-/// decodes and paints rows by itself. Else one thread at a time has the reader. Where guesses that others have made ahead of it
-/// cover the next row it passes over it, and the row, a copy of the reader at its start and its bench wait for whoever is free,
-/// who decodes and paints it some MCUs at a time; where none do, it reads the row, whose blocks wait on the bench to be painted
-/// by whoever is free. What is painted waits for its turn to be written.
+/// A thread takes from the queue what is to be done next, and does it outside of the lock. No row begins before the calling
+/// thread has all memory that it needs. A row is begun with a bench, so there are no more rows in work than benches. Each thread
+/// takes the memory of its benches as it starts; a bench takes that of blocks when a row first waits by it to be painted.
+///
+/// Where rows are whole intervals, each thread decodes and paints rows by itself. Else one thread at a time has the reader. Where
+/// guesses that others have made ahead of it cover the next row, it passes over the row. The row then waits, with a copy of the
+/// reader at its start and its bench, for whoever is free, who decodes and paints it some MCUs at a time. Where no guess covers
+/// it, the thread reads the row, and its blocks wait on the bench to be painted by whoever is free. What is painted waits for
+/// its turn to be written.
 #[derive(Drop)]
 pub(crate) struct Crew<'a, S: OneFirstIntervals> {
     alloc: Global,
@@ -65,6 +73,22 @@ impl<'a, S: OneFirstIntervals> Crew<'a, S> {
             has_task: Condvar::new(),
             has_row: Condvar::new(),
         }
+    }
+
+    /// Takes what the calling thread works by, and so many benches; then the first row may begin.
+    pub(crate) fn begin<R: Wait>(&self, rt: &R, benches: u32) -> Result<CallerRoom<S>, Memory>
+        ensures lines { IfOk result (λ r. 8 * vertical_max self.now.scan.head * line_size self.now.scan.head ≤ length r.pixels.items) }
+        ensures header { IfOk result (λ r. HEADER_ROOM ≤ length r.pixels.items) }
+    {
+        let paint = PaintRoom::open(self.alloc, &self.part)?;
+        let pixels = vec![in self.alloc; 0; room_for(self.part.scan().head())]?;
+        for _ in 0..benches {
+            let bench = Bench::open(self.alloc, &self.part)?;
+            self.give_back(rt, bench);
+        }
+        self.queue.lock(rt).start(Baton::of(&self.part));
+        self.has_task.notify_all();
+        Ok(CallerRoom { paint, pixels })
     }
 
     /// What of the scan is decoded.
@@ -188,6 +212,7 @@ impl<'a, S: OneFirstIntervals> Crew<'a, S> {
             }
             RowTask::Paint(coded) => self.put_painted(rt, coded.paint(&self.part, room)),
             RowTask::Guess(task) => self.guess(rt, task),
+            RowTask::BringGuess(most) => self.bring_guess(rt, most),
         }
     }
 
@@ -199,14 +224,10 @@ impl<'a, S: OneFirstIntervals> Crew<'a, S> {
         }
     }
 
-    /// Brings room for a guess, where some is lacking.
-    fn bring_guess<R: Wait>(&self, rt: &R) {
-        let lacking = self.queue.lock(rt).lacks_guess();
-        if let Some(most) = lacking
-            && let Ok(room) = ScanGuess::open(self.alloc, self.part.scan(), most)
-        {
-            let waiter = self.queue.lock(rt).bring_guess(room);
-            self.wake(waiter);
+    /// Brings room for a guess of so many MCUs. Where memory is refused there are fewer guesses.
+    fn bring_guess<R: Wait>(&self, rt: &R, most: u32) {
+        if let Ok(room) = ScanGuess::open(self.alloc, self.part.scan(), most) {
+            self.queue.lock(rt).bring_guess(room);
         }
     }
 
@@ -219,13 +240,13 @@ impl<'a, S: OneFirstIntervals> Crew<'a, S> {
     }
 
     /// Takes memory of its own, then reads and paints rows until no one is left. Where memory is refused to it others work without
-    /// it. It makes a guess before it takes memory for further ones, so that the reader has some early.
+    /// it. Before it brings a bench it brings room for a guess and makes one, where some are made, so that the reader has them early.
     pub(crate) fn work<R: Wait, G: Gate>(&self, rt: &R, gate: &G) {
         let Ok(mut room) = PaintRoom::open(self.alloc, &self.part) else {
             return;
         };
         for _ in 0..BENCHES_OF_ONE {
-            self.bring_guess(rt);
+            self.do_ready(rt, gate, &mut room);
             self.do_ready(rt, gate, &mut room);
             self.bring_bench(rt);
         }

@@ -4,6 +4,7 @@
 mod baton;
 mod bench;
 mod caller;
+mod caller_room;
 mod crew;
 mod one_first_intervals;
 mod paint_room;

@@ -23,6 +23,8 @@ pub(crate) enum RowTask<'a, S: OneFirstIntervals> {
     Paint(CodedRow<S>),
     /// Makes a guess.
     Guess(GuessTask<'a, ScanOf<S>>),
+    /// Brings room for a guess of so many MCUs.
+    BringGuess(u32),
 }
 
 /// A row that was passed over, and what it will be read on: so it needs nothing that a later row could take.
@@ -40,6 +42,7 @@ enum Choice {
     Finish,
     Paint,
     Guess,
+    BringGuess,
     /// Others read, paint or write what comes before.
     Wait,
     /// All is over.
@@ -55,11 +58,11 @@ pub(crate) enum Waiter {
     Caller,
 }
 
-/// The rows that are read and not yet written, no more than there are benches, and who waits for them: to wake takes longer
-/// than to ask.
+/// The rows that are read and not yet written, no more than there are benches, and who waits for them, so that nobody is woken
+/// where nobody waits.
 #[derive(Drop)]
 pub(crate) struct RowQueue<'a, S: OneFirstIntervals> {
-    /// None while a thread reads by it, and where no row is left to read.
+    /// None before the first row may begin, while a thread reads by it, and where no row is left to read.
     baton: Option<Baton<'a, S>>,
     /// Nothing is read or painted any more.
     is_over: bool,
@@ -72,7 +75,7 @@ pub(crate) struct RowQueue<'a, S: OneFirstIntervals> {
     passed: VecDeque<PassedRow<'a, S>>,
     /// In their order.
     coded: VecDeque<CodedRow<S>>,
-    /// Each row's place is its number modulo how many there are: as many as benches.
+    /// The slot of a row is its number modulo how many slots there are: as many as benches.
     painted: Vec<Option<Painted<S>>>,
     /// How many threads wait for something to do.
     waiting: u32,
@@ -82,10 +85,9 @@ pub(crate) struct RowQueue<'a, S: OneFirstIntervals> {
 }
 
 impl<'a, S: OneFirstIntervals> RowQueue<'a, S> {
-    /// No row is read yet. Threads bring so many benches more. There is room for as many passed, coded and painted rows as there will
-    /// be benches.
+    /// No row may begin yet. Threads bring so many benches, beside those of the calling one. There is room for as many benches, and
+    /// passed, coded and painted rows, as there will be benches.
     pub(crate) fn of(
-        baton: Option<Baton<'a, S>>,
         free: VecDeque<Bench<S>>,
         lacking: u32,
         guesses: GuessQueue<'a, ScanOf<S>>,
@@ -96,7 +98,7 @@ impl<'a, S: OneFirstIntervals> RowQueue<'a, S> {
         requires { 0 < length painted.items }
     {
         RowQueue {
-            baton,
+            baton: None,
             is_over: false,
             free,
             lacking,
@@ -109,6 +111,11 @@ impl<'a, S: OneFirstIntervals> RowQueue<'a, S> {
         }
     }
 
+    /// The first of these rows may begin.
+    pub(crate) fn start(&mut self, baton: Option<Baton<'a, S>>) {
+        self.baton = baton;
+    }
+
     /// Whether a thread is to bring a bench.
     pub(crate) fn lacks_bench(&mut self) -> bool {
         let is_lacking = self.lacking > 0;
@@ -116,15 +123,9 @@ impl<'a, S: OneFirstIntervals> RowQueue<'a, S> {
         is_lacking
     }
 
-    /// For how many MCUs a thread is to bring room for a guess, where it is to bring some.
-    pub(crate) fn lacks_guess(&mut self) -> Option<u32> {
-        self.guesses.lacks_room()
-    }
-
-    /// Room for a guess, which a thread brings. Answers who is to be woken.
-    pub(crate) fn bring_guess(&mut self, room: ScanGuess<'a, ScanOf<S>>) -> Option<Waiter> {
+    /// Room for a guess, which a thread brings. It makes the guess itself, so nobody is woken.
+    pub(crate) fn bring_guess(&mut self, room: ScanGuess<'a, ScanOf<S>>) {
         self.guesses.bring(room);
-        self.waiter()
     }
 
     /// A thread begins to wait for something to do.
@@ -150,7 +151,8 @@ impl<'a, S: OneFirstIntervals> RowQueue<'a, S> {
     }
 
     /// What a thread does next: it passes over a row, or reads one, where it can, so that reading goes on, finishes one where it
-    /// can't, and makes a guess where nothing else is to be done. A row at whose start a guess is being made waits for it.
+    /// can't, and makes a guess where nothing else is to be done, or brings room for one. A row at whose start a guess is being
+    /// made waits for it.
     fn choice(&self) -> Choice {
         let can_begin = self.baton.is_some() && !self.free.is_empty() && !self.guesses.makes_next();
         if self.is_over {
@@ -165,6 +167,8 @@ impl<'a, S: OneFirstIntervals> RowQueue<'a, S> {
             Choice::Paint
         } else if self.guesses.can_guess() {
             Choice::Guess
+        } else if self.guesses.wants_room() {
+            Choice::BringGuess
         } else {
             Choice::Wait
         }
@@ -196,6 +200,7 @@ impl<'a, S: OneFirstIntervals> RowQueue<'a, S> {
             Choice::Finish => Some(RowTask::Finish(self.passed.pop_front()?)),
             Choice::Paint => Some(RowTask::Paint(self.coded.pop_front()?)),
             Choice::Guess => Some(RowTask::Guess(self.guesses.take()?)),
+            Choice::BringGuess => Some(RowTask::BringGuess(self.guesses.lacks_room()?)),
             Choice::Wait | Choice::End => None,
         }
     }

@@ -1,6 +1,6 @@
 //! What the threads of a crew do: the calling one writes, and the others decode.
 
-ghost use Rattle.std.specs.Prelude.{◌≡◌, ◌*◌, ◌≤◌, length, false};
+ghost use Rattle.std.specs.Prelude.{◌≡◌, ◌*◌, ◌≤◌, length, false, IfSome, IfNone};
 ghost use Rattle.jr_base.specs.Tally.{has_failed};
 ghost use Rattle.jr_head.specs.Geometry.{vertical_max};
 ghost use Rattle.jr_paint.specs.Lines.{line_size};
@@ -8,9 +8,9 @@ ghost use Rattle.jr_paint.specs.declared.header.TheConstants.{HEADER_ROOM};
 ghost use Rattle.jr_stream.specs.Stream.{IsSentBy};
 
 use crate::caller::Caller;
+use crate::caller_room::CallerRoom;
 use crate::crew::Crew;
 use crate::one_first_intervals::OneFirstIntervals;
-use crate::paint_room::PaintRoom;
 use jr_base::{Tally, WriteFault};
 use jr_guesses::{Beside, Help};
 use jr_picture::Gate;
@@ -18,6 +18,27 @@ use jr_rows::Marked;
 use jr_stream::write_rows;
 use std::io::Write;
 use std::sync::Wait;
+
+/// Writes what a crew paints, in the calling thread, which has this room.
+fn send<R: Wait, W: Write, G: Gate, S: OneFirstIntervals>(
+    crew: &Crew<'_, S>,
+    rt: &R,
+    gate: &G,
+    room: CallerRoom<S>,
+    out: &mut Tally<W>,
+) -> Result<Marked, WriteFault>
+    requires unfailed { has_failed out.old ≡ false }
+    requires pixels { 8 * vertical_max crew.now.scan.head * line_size crew.now.scan.head ≤ length room.pixels.items }
+    requires header { HEADER_ROOM ≤ length room.pixels.items }
+    ensures { IsSentBy W.contents crew.now out.old out.new result }
+{
+    let scan = crew.part().scan();
+    // By their contracts a scan has as many intervals as its head says, and no more are decoded.
+    let _counts = (scan.intervals(), crew.part().limit());
+    let CallerRoom { paint, mut pixels } = room;
+    let mut caller = Caller::of(crew, rt, gate, paint);
+    write_rows(scan.head(), &mut caller, &mut pixels, out)
+}
 
 /// What another thread decodes and paints rows by.
 #[derive(Drop)]
@@ -39,35 +60,32 @@ pub(crate) struct Sending<'s, 'w, 'a, R: Wait, W: Write, G: Gate, S: OneFirstInt
     pub(crate) crew: &'s Crew<'a, S>,
     pub(crate) rt: &'s R,
     pub(crate) gate: &'s G,
-    pub(crate) room: PaintRoom<S>,
-    /// Room for the lines of a row, and for the header.
-    pub(crate) pixels: Vec<u8>,
+    /// So many benches are the calling thread's own.
+    pub(crate) benches: u32,
     pub(crate) out: &'w mut Tally<W>,
 }
 
 impl<'s, 'w, 'a, R: Wait, W: Write, G: Gate, S: OneFirstIntervals> Beside
     for Sending<'s, 'w, 'a, R, W, G, S> {
-    /// What is answered, and the writer.
-    type Answer = (Result<Marked, WriteFault>, &'w mut Tally<W>);
+    /// What is answered, None where memory was refused, and the writer.
+    type Answer = (Option<Result<Marked, WriteFault>>, &'w mut Tally<W>);
 
-    ghost may = { λ s. (has_failed s.out.now ≡ false) × (8 * vertical_max s.crew.now.scan.head * line_size s.crew.now.scan.head ≤ length s.pixels.items) × (HEADER_ROOM ≤ length s.pixels.items) };
+    ghost may = { λ s. has_failed s.out.now ≡ false };
 
-    ghost gives = { λ s r. IsSentBy W.contents s.crew.now s.out.now r.1.now r.0 × (r.1.ghost_name ≡ s.out.ghost_name) };
+    ghost gives = { λ s r. IfSome r.0 (IsSentBy W.contents s.crew.now s.out.now r.1.now) × IfNone r.0 (r.1.now ≡ s.out.now) × (r.1.ghost_name ≡ s.out.ghost_name) };
 
-    fn run(self) -> (Result<Marked, WriteFault>, &'w mut Tally<W>) {
+    fn run(self) -> (Option<Result<Marked, WriteFault>>, &'w mut Tally<W>) {
         let Sending {
             crew,
             rt,
             gate,
-            room,
-            mut pixels,
+            benches,
             out,
         } = self;
-        let scan = crew.part().scan();
-        // By their contracts a scan has as many intervals as its head says, and no more are decoded.
-        let _counts = (scan.intervals(), crew.part().limit());
-        let mut caller = Caller::of(crew, rt, gate, room);
-        let sent = write_rows(scan.head(), &mut caller, &mut pixels, out);
+        let sent = match crew.begin(rt, benches) {
+            Ok(room) => Some(send(crew, rt, gate, room, out)),
+            Err(_) => None,
+        };
         crew.end(rt);
         (sent, out)
     }

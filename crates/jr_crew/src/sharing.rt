@@ -1,26 +1,21 @@
 //! A scan's picture, decoded and painted by several threads, and written in one pass.
 
-ghost use Rattle.std.specs.Prelude.{◌≡◌, ◌+◌, ◌*◌, ◌<◌, ◌≤◌, Some, IfOk, OnOk, length, is_err, true, false};
+ghost use Rattle.std.specs.Prelude.{◌≡◌, ◌<◌, ◌≤◌, Some, IfOk, IfSome, IfNone, OnOk, length, true, false};
 ghost use Rattle.jr_base.specs.Tally.{has_failed};
 ghost use Rattle.jr_base.specs.declared.limits.TheConstants.{MAX_WORKERS};
-ghost use Rattle.jr_head.specs.Geometry.{vertical_max};
-ghost use Rattle.jr_paint.specs.Lines.{line_size};
-ghost use Rattle.jr_paint.specs.declared.header.TheConstants.{HEADER_ROOM};
 ghost use Rattle.jr_picture.specs.Headline.{least};
-ghost use Rattle.jr_rows.specs.Rows.{CountsRows};
-ghost use Rattle.jr_stream.specs.Stream.{WritesPicture, BeginsPicture, SendsPicture};
+ghost use Rattle.jr_stream.specs.Stream.{WritesPicture, BeginsPicture, IsSentBy};
 
 use crate::baton::Baton;
-use crate::bench::{Bench, Painted};
+use crate::bench::Painted;
 use crate::crew::{BENCHES_OF_ONE, Crew};
 use crate::one_first_intervals::{OneFirstIntervals, ScanOf};
-use crate::paint_room::PaintRoom;
 use crate::row_queue::RowQueue;
 use crate::sending::{Helping, Sending};
 use jr_base::{Memory, Tally, WriteFault};
 use jr_guesses::{GuessQueue, run_beside, windows_of};
 use jr_picture::{Counts, Gate};
-use jr_rows::{FirstIntervals, Marked, intervals_of_row, room_for, shape_of};
+use jr_rows::{FirstIntervals, Marked, intervals_of_row, shape_of};
 use jr_scan::Scan;
 use jr_stream::{PictureError, counts_of};
 use std::alloc::Global;
@@ -36,47 +31,31 @@ const LEAST_BENCHES: u32 = 3 * BENCHES_OF_ONE;
 /// Guesses are worth their memory where the data of the longest interval have bits for so many: some 128 KB.
 const LEAST_WINDOWS: u64 = 32;
 
-/// A guess has room for the MCUs of so many rows, since its bits are about those of one.
-const ROWS_OF_GUESS: u32 = 2;
+/// So many guesses for each thread, where there are bits for as many: one that it makes, and two that a row is read by.
+const GUESSES_OF_ONE: u32 = 3;
 
-/// A guess has room for so many MCUs at least.
+/// A guess has room for so many MCUs at least where a row has fewer bits than it.
 const LEAST_MCUS: u32 = 512;
 
 /// So many intervals are looked at to find a long one: a head may claim millions.
 const MOST_LOOKED_AT: u32 = 1024;
 
-/// So many benches, of `all` that there will be.
-fn open_benches<S: OneFirstIntervals>(
-    alloc: Global,
-    part: &FirstIntervals<'_>,
-    count: u32,
-    all: u32,
-) -> Result<VecDeque<Bench<S>>, Memory>
-    requires { S.part ≡ Some part.now }
-{
-    let mut benches = VecDeque::with_capacity(alloc, all as usize)?;
-    for _ in 0..count {
-        benches.push_back(Bench::open(alloc, part)?)?;
-    }
-    Ok(benches)
-}
-
-/// Places for painted rows: so many, and one at least.
-fn open_places<S: OneFirstIntervals>(
+/// Slots for painted rows: so many, and one at least.
+fn open_slots<S: OneFirstIntervals>(
     alloc: Global,
     count: u32,
 ) -> Result<Vec<Option<Painted<S>>>, Memory>
     ensures { IfOk result (λ v. 0 < length v.items) }
 {
-    let mut places = Vec::with_capacity(alloc, count as usize)?;
-    places.push(None)?;
+    let mut slots = Vec::with_capacity(alloc, count as usize)?;
+    slots.push(None)?;
     for _ in 1..count {
-        places.push(None)?;
+        slots.push(None)?;
     }
-    Ok(places)
+    Ok(slots)
 }
 
-/// How many guesses are kept at most beside so many benches: none where rows are whole intervals, which are read apart, or where
+/// How many guesses are kept at most by the threads of so many benches: none where rows are whole intervals, which are read apart, or where
 /// there are few threads or few data, and no more than the data of the longest interval have bits for.
 fn guesses_of(part: &FirstIntervals<'_>, count: u32) -> u32 {
     let scan = part.scan();
@@ -90,7 +69,23 @@ fn guesses_of(part: &FirstIntervals<'_>, count: u32) -> u32 {
     if most < LEAST_WINDOWS {
         return 0;
     }
-    most.min(u64::from(count)) as u32
+    let all = (count / BENCHES_OF_ONE).saturating_mul(GUESSES_OF_ONE);
+    most.min(u64::from(all)) as u32
+}
+
+/// For how many MCUs a guess has room: for more than a row has, since it has about the bits of one, or some least ones where that
+/// is more.
+fn mcus_of_guess(scan: &Scan) -> u32 {
+    // By its contract a scan has an interval.
+    let _some = scan.intervals();
+    let across = shape_of(scan.head()).across;
+    let rows = scan.interval_ref(0).mcus() / across.max(1);
+    let most = across + across / 4;
+    if u64::from(rows) <= windows_of(scan, 0) {
+        most
+    } else {
+        most.max(LEAST_MCUS)
+    }
 }
 
 /// A queue of guesses beside so many benches. A step of the reader is a row of MCUs.
@@ -101,28 +96,25 @@ fn open_guesses<'a, S: OneFirstIntervals>(
 ) -> Result<GuessQueue<'a, ScanOf<S>>, Memory> {
     let guesses = guesses_of(part, count);
     let across = shape_of(part.scan().head()).across;
-    let most = across.saturating_mul(ROWS_OF_GUESS).max(LEAST_MCUS);
+    let most = mcus_of_guess(part.scan());
     GuessQueue::open(alloc, part.scan(), part.limit(), guesses, across, most)
 }
 
-/// A queue of so many benches, of which those of the calling thread are there.
+/// A queue of so many benches, of which the calling thread brings `own`.
 fn open_queue<'a, S: OneFirstIntervals>(
     alloc: Global,
     part: &FirstIntervals<'a>,
     count: u32,
-) -> Result<RowQueue<'a, S>, Memory>
-    requires { S.part ≡ Some part.now }
-{
-    let own = count.min(BENCHES_OF_ONE);
-    let free = open_benches(alloc, part, own, count)?;
+    own: u32,
+) -> Result<RowQueue<'a, S>, Memory> {
+    let free = VecDeque::with_capacity(alloc, count as usize)?;
     let guesses = open_guesses(alloc, part, count)?;
     let passed = VecDeque::with_capacity(alloc, count as usize)?;
     let coded = VecDeque::with_capacity(alloc, count as usize)?;
-    let painted = open_places(alloc, count)?;
+    let painted = open_slots(alloc, count)?;
     Ok(RowQueue::of(
-        Baton::of(part),
         free,
-        count - own,
+        count.saturating_sub(own),
         guesses,
         passed,
         coded,
@@ -130,29 +122,25 @@ fn open_queue<'a, S: OneFirstIntervals>(
     ))
 }
 
-/// Writes what a crew paints: the calling thread, which has `room`, and so many others.
+/// Writes what a crew paints: the calling thread, which brings so many benches, and so many others. None where memory was refused
+/// to the calling thread.
 fn write_by_crew<R: Threads + Wait + Sync, W: Write, G: Gate + Sync, S: OneFirstIntervals + Send>(
     crew: &Crew<'_, S>,
     rt: &R,
     gate: &G,
     helpers: u32,
-    caller: (PaintRoom<S>, Vec<u8>),
+    benches: u32,
     out: &mut Tally<W>,
-) -> Result<Marked, WriteFault>
+) -> Option<Result<Marked, WriteFault>>
     requires unfailed { has_failed out.old ≡ false }
-    requires pixels { 8 * vertical_max crew.now.scan.head * line_size crew.now.scan.head ≤ length caller.1.items }
-    requires header { HEADER_ROOM ≤ length caller.1.items }
-    ensures counts { IfOk result (CountsRows crew.now.scan crew.now.limit) }
-    ensures failed { has_failed out.new ≡ is_err result }
-    ensures sent { SendsPicture W.contents out.old out.new result crew.now.scan crew.now.limit }
+    ensures some { IfSome result (IsSentBy W.contents crew.now out.old out.new) }
+    ensures none { IfNone result (out.new ≡ out.old) }
 {
-    let (room, pixels) = caller;
     let sending = Sending {
         crew,
         rt,
         gate,
-        room,
-        pixels,
+        benches,
         out,
     };
     let helping = Helping { crew, rt, gate };
@@ -184,19 +172,15 @@ fn write_as<R: Threads + Wait + Sync, W: Write, G: Gate + Sync, S: OneFirstInter
     let rows = scan.head().mcus_down();
     let workers = workers.min(rows);
     let benches = rows.min(BENCHES_OF_ONE * workers);
-    let Ok(queue) = open_queue::<S>(alloc, &part, benches) else {
-        return Err(PictureError::Memory);
-    };
-    let Ok(room) = PaintRoom::open(alloc, &part) else {
-        return Err(PictureError::Memory);
-    };
-    let Ok(pixels) = vec![in alloc; 0; room_for(scan.head())] else {
+    let own = benches.min(BENCHES_OF_ONE);
+    let Ok(queue) = open_queue::<S>(alloc, &part, benches, own) else {
         return Err(PictureError::Memory);
     };
     let crew = Crew::of(alloc, part, queue);
-    match write_by_crew(&crew, rt, gate, workers - 1, (room, pixels), out) {
-        Ok(marked) => Ok(counts_of(scan, limit, marked)),
-        Err(_) => Err(PictureError::Write),
+    match write_by_crew(&crew, rt, gate, workers - 1, own, out) {
+        Some(Ok(marked)) => Ok(counts_of(scan, limit, marked)),
+        Some(Err(_)) => Err(PictureError::Write),
+        None => Err(PictureError::Memory),
     }
 }
 
@@ -204,8 +188,8 @@ fn write_as<R: Threads + Wait + Sync, W: Write, G: Gate + Sync, S: OneFirstInter
 /// the other. The calling thread is one of them, and writes. No more threads work than there are rows. The gate is told each
 /// interval that is decoded; no piece is made.
 ///
-/// The calling thread takes all memory that it needs before it writes the first byte, and none for the picture: for the lines of
-/// two rows of MCUs, and room to decode and paint by. Each other thread takes as much as it starts, and where guesses are made room
+/// The calling thread takes all memory that it needs before the first row is decoded, and none for the picture: for the lines of
+/// three rows of MCUs, and room to decode and paint by. Each other thread takes as much as it starts, and where guesses are made room
 /// for two of them, each the blocks of two rows of MCUs, or of 512 MCUs where that is more; where that is refused, it works with less
 /// or not at all. A row that waits to be painted takes memory for its blocks and samples, which stays with its bench; where that is
 /// refused, the row is painted before the next one is read.

@@ -82,6 +82,11 @@ impl<'a, S: OneScan> GuessQueue<'a, S> {
         })
     }
 
+    /// Whether room for a guess more is of use: nobody brings some yet, and there are bits to guess.
+    pub fn wants_room(&self) -> bool {
+        self.lacking > 0 && self.next_window().is_some()
+    }
+
     /// For how many MCUs a thread is to bring room for a guess; None where all have room, or others bring it.
     pub fn lacks_room(&mut self) -> Option<u32>
         ensures { self.new.at ≡ self.old.at }

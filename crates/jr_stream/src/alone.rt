@@ -51,9 +51,9 @@ impl<'a, G: Gate> Alone<'a, G> {
 impl<G: Gate> RowPainter for Alone<'_, G> {
     ghost at = { λ a. a };
 
-    fn paint(&mut self, pixels: &mut [u8]) -> Marked {
+    fn paint(&mut self, pixels: &mut Vec<u8>, from: usize, to: usize) -> Marked {
         let row = self.rows.row();
         announce(self.scan, self.limit, row, self.gate);
-        self.work.paint(&mut self.rows, pixels)
+        self.work.paint(&mut self.rows, &mut pixels[from..to])
     }
 }

@@ -35,7 +35,7 @@ pub enum PictureError {
 pub fn write_rows<W: Write, P: RowPainter>(
     head: &Head,
     painter: &mut P,
-    pixels: &mut [u8],
+    pixels: &mut Vec<u8>,
     out: &mut Tally<W>,
 ) -> Result<Marked, WriteFault>
     requires head { head.now ≡ (P.at painter.old).scan.head }
@@ -43,8 +43,8 @@ pub fn write_rows<W: Write, P: RowPainter>(
     requires few { (P.at painter.old).limit ≤ intervals_of (P.at painter.old).scan.head }
     requires intervals { intervals_of head.now < 2 ^ 32 }
     requires unfailed { has_failed out.old ≡ false }
-    requires pixels { 8 * vertical_max head.now * line_size head.now ≤ length pixels.old }
-    requires header { HEADER_ROOM ≤ length pixels.old }
+    requires pixels { 8 * vertical_max head.now * line_size head.now ≤ length pixels.old.items }
+    requires header { HEADER_ROOM ≤ length pixels.old.items }
     ensures counts { IfOk result (CountsRows (P.at painter.old).scan (P.at painter.old).limit) }
     ensures failed { has_failed out.new ≡ is_err result }
     ensures sent { SendsPicture W.contents out.old out.new result (P.at painter.old).scan (P.at painter.old).limit }
@@ -59,7 +59,7 @@ pub fn write_rows<W: Write, P: RowPainter>(
         let size = count as usize * shape.line;
         filled = make_room(pixels, filled, size, out)?;
         let end = filled + size;
-        let more = painter.paint(&mut pixels[filled..end]);
+        let more = painter.paint(pixels, filled, end);
         marked = marked.with(more);
         filled = end;
         row += 1;

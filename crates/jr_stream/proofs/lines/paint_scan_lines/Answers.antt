@@ -1,4 +1,4 @@
-use Rattle.std.proofs.Common.{subst, rules}
+use Rattle.std.proofs.Common.{subst}
 use Rattle.jr_head.specs.Geometry.{IsLawful}
 use Rattle.jr_piece.proofs.ScanLaws.{outcome}
 use Rattle.jr_stream.proofs.SomeLines.{painted_lines}

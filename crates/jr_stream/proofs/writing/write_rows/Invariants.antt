@@ -12,12 +12,12 @@ abbrev pub invariant-rows : goal.invariant-rows
 invariant-rows g l = let at = g.P.RowPainter.at l.initial.painter in record {
   within : l.row ≤ mcus_down at.scan.head;
   at_row : g.P.RowPainter.at l.painter ≡ record at { row = l.row };
-  pixels : length l.pixels ≡ length l.initial.pixels;
-  filled : l.filled ≤ length l.pixels;
+  pixels : length l.pixels.items ≡ length l.initial.pixels.items;
+  filled : l.filled ≤ length l.pixels.items;
   unfailed : has_failed l.out ≡ false;
   counts : CountsMcus at.scan at.limit (coded_before at.scan.head at.limit 0) (coded_before at.scan.head at.limit l.row) l.marked;
   sent : (b : BoardValue) → HasFirst at.scan at.limit b
-      → WritesUpTo g.W.Write.contents l.initial.out l.out (header_of at.scan.head ++ lines_of at.scan.head (samples_of b) (min (l.row * (8 * vertical_max at.scan.head)) at.scan.head.height)) (take l.filled l.pixels);
+      → WritesUpTo g.W.Write.contents l.initial.out l.out (header_of at.scan.head ++ lines_of at.scan.head (samples_of b) (min (l.row * (8 * vertical_max at.scan.head)) at.scan.head.height)) (take l.filled l.pixels.items);
 }
 
 abbrev pub decreases-rows : goal.decreases-rows
