@@ -189,10 +189,11 @@ fn write_as<R: Threads + Wait + Sync, W: Write, G: Gate + Sync, S: OneFirstInter
 /// interval that is decoded; no piece is made.
 ///
 /// The calling thread takes all memory that it needs before the first row is decoded, and none for the picture: for the lines of
-/// three rows of MCUs, and room to decode and paint by. Each other thread takes as much as it starts, and where guesses are made room
-/// for two of them, each the blocks of two rows of MCUs, or of 512 MCUs where that is more; where that is refused, it works with less
-/// or not at all. A row that waits to be painted takes memory for its blocks and samples, which stays with its bench; where that is
-/// refused, the row is painted before the next one is read.
+/// three rows of MCUs, and room to decode and paint by. Each other thread takes as much as it starts; where that is refused, it
+/// works with less or not at all. Where guesses are made, a thread that has nothing else to do brings room for one, three for each
+/// thread at most: the blocks of a row and a quarter of MCUs, or of 512 MCUs where a row may have fewer bits than a guess. A row
+/// that waits to be painted takes memory for its blocks and samples, which stays with its bench; where that is refused, the row is
+/// painted before the next one is read.
 ///
 /// Where a row has whole intervals, each worker decodes and paints its rows by itself. Else one at a time has the reader. From
 /// three workers on, where an interval has some 128 KB of data, the others make guesses ahead of it. A row that these cover it
