@@ -4,9 +4,7 @@ ghost use Rattle.std.specs.Prelude.{◌≡◌, Some};
 ghost use Rattle.jr_scan.specs.Guesses.{AreGuessesOf};
 ghost use Rattle.jr_scan.specs.ScanValue.{interval_of};
 
-use crate::bench::{Bench, CodedRow, Painted, WorkBench};
-use crate::one_first_intervals::OneFirstIntervals;
-use crate::paint_room::PaintRoom;
+use jr_bench::{Bench, CodedRow, OneFirstIntervals, PaintRoom, Painted, WorkBench};
 use jr_picture::Gate;
 use jr_rows::{FirstIntervals, Rows, intervals_of_row, shape_of};
 use jr_scan::Guesses;

@@ -3,8 +3,7 @@
 ghost use Rattle.std.specs.Prelude.{◌≡◌};
 
 use crate::crew::{Crew, MOST_TASKS};
-use crate::one_first_intervals::OneFirstIntervals;
-use crate::paint_room::PaintRoom;
+use jr_bench::{OneFirstIntervals, PaintRoom};
 use jr_picture::Gate;
 use jr_rows::{Marked, shape_of};
 use jr_stream::RowPainter;

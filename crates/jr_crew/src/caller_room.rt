@@ -1,7 +1,6 @@
 //! Memory that the calling thread works by.
 
-use crate::one_first_intervals::OneFirstIntervals;
-use crate::paint_room::PaintRoom;
+use jr_bench::{OneFirstIntervals, PaintRoom};
 
 /// Memory that the calling thread decodes, paints and writes rows by.
 #[derive(Drop)]

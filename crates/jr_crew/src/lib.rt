@@ -2,14 +2,11 @@
 #![tactic(auto)]
 
 mod baton;
-mod bench;
 mod caller;
 mod caller_room;
 mod crew;
-mod one_first_intervals;
-mod paint_room;
-mod row;
 mod row_queue;
+mod scan_of;
 mod sending;
 mod sharing;
 

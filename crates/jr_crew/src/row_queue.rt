@@ -4,8 +4,8 @@ ghost use Rattle.std.specs.Prelude.{◌≡◌, ◌<◌, Some, IsTrue, length};
 ghost use Rattle.jr_crew.specs.Crew.{HasRow};
 
 use crate::baton::Baton;
-use crate::bench::{Bench, CodedRow, Painted};
-use crate::one_first_intervals::{OneFirstIntervals, ScanOf};
+use crate::scan_of::ScanOf;
+use jr_bench::{Bench, CodedRow, OneFirstIntervals, Painted};
 use jr_guesses::{GuessQueue, GuessTask, ScanGuess};
 use jr_rows::FirstIntervals;
 use std::collections::VecDeque;

@@ -7,12 +7,12 @@ ghost use Rattle.jr_picture.specs.Headline.{least};
 ghost use Rattle.jr_stream.specs.Stream.{WritesPicture, BeginsPicture, IsSentBy};
 
 use crate::baton::Baton;
-use crate::bench::Painted;
 use crate::crew::{BENCHES_OF_ONE, Crew};
-use crate::one_first_intervals::{OneFirstIntervals, ScanOf};
 use crate::row_queue::RowQueue;
+use crate::scan_of::ScanOf;
 use crate::sending::{Helping, Sending};
 use jr_base::{Memory, Tally, WriteFault};
+use jr_bench::{OneFirstIntervals, Painted};
 use jr_guesses::{GuessQueue, run_beside, windows_of};
 use jr_picture::{Counts, Gate};
 use jr_rows::{FirstIntervals, Marked, intervals_of_row, shape_of};

@@ -3,8 +3,8 @@ use Rattle.std.proofs.Math.Seq.{take-append_seam}
 use Rattle.jr_head.specs.Geometry.{vertical_max}
 use Rattle.jr_paint.specs.Lines.{line_size}
 use Rattle.jr_rows.specs.FirstIntervalsValue.{FirstIntervalsValue}
-use Rattle.jr_crew.specs.Crew.{HasRoom, HasWork, IsPainted, IsRead}
-use Rattle.jr_crew.proofs.bench.CodedRow.paint.Goals as goal
+use Rattle.jr_bench.specs.Bench.{HasRoom, HasWork, IsPainted, IsRead}
+use Rattle.jr_bench.proofs.bench.CodedRow.paint.Goals as goal
 
 pub invariant_of-result : goal.invariant_of-result
 invariant_of-result g c =

@@ -61,7 +61,7 @@ fn decode_first(
 
 /// Memory for the lines of a row of MCUs of the scan, and for its blocks and samples, where a row has been read by it.
 #[derive(Drop)]
-pub(crate) struct Bench<S: OneFirstIntervals> {
+pub struct Bench<S: OneFirstIntervals> {
     work: Option<Row>,
     pixels: Vec<u8>,
     of: PhantomData<S>,
@@ -69,8 +69,8 @@ pub(crate) struct Bench<S: OneFirstIntervals> {
 
 impl<S: OneFirstIntervals> Model for Bench<S> {
     ghost use Rattle.std.specs.Prelude.{IfSome};
-    ghost use Rattle.jr_crew.specs.CrewValue.{BenchValue};
-    ghost use Rattle.jr_crew.specs.Crew.{HasRoom, HasWork};
+    ghost use Rattle.jr_bench.specs.BenchValue.{BenchValue};
+    ghost use Rattle.jr_bench.specs.Bench.{HasRoom, HasWork};
 
     ghost Value = { BenchValue };
 
@@ -81,7 +81,7 @@ impl<S: OneFirstIntervals> Model for Bench<S> {
 
 impl<S: OneFirstIntervals> Bench<S> {
     /// An empty bench.
-    pub(crate) fn open(alloc: Global, part: &FirstIntervals<'_>) -> Result<Bench<S>, Memory>
+    pub fn open(alloc: Global, part: &FirstIntervals<'_>) -> Result<Bench<S>, Memory>
         requires { S.part ≡ Some part.now }
     {
         let pixels = vec![in alloc; 0; bytes_of_row(part.scan().head())]?;
@@ -93,12 +93,12 @@ impl<S: OneFirstIntervals> Bench<S> {
     }
 
     /// Whether it has memory for a row's blocks and samples.
-    pub(crate) fn has_work(&self) -> bool {
+    pub fn has_work(&self) -> bool {
         self.work.is_some()
     }
 
     /// Decodes the next row of the scan, some MCUs at a time, and paints it.
-    pub(crate) fn decode(
+    pub fn decode(
         self,
         part: &FirstIntervals<'_>,
         rows: &mut Rows<'_>,
@@ -108,6 +108,7 @@ impl<S: OneFirstIntervals> Bench<S> {
         requires of { rows.old.scan ≡ part.now.scan }
         requires limit { rows.old.limit ≡ part.now.limit }
         requires row { rows.old.row < mcus_down part.now.scan.head }
+        ensures row { result.row ≡ rows.old.row }
         ensures moved { rows.new ≡ record rows.old { row = rows.old.row + 1 } }
     {
         let row = rows.row();
@@ -123,7 +124,7 @@ impl<S: OneFirstIntervals> Bench<S> {
     }
 
     /// The same bench with memory for a row's blocks and samples, or as it is where that is refused.
-    pub(crate) fn with_work(
+    pub fn with_work(
         self,
         alloc: Global,
         part: &FirstIntervals<'_>,
@@ -148,15 +149,15 @@ impl<S: OneFirstIntervals> Bench<S> {
 
 /// Memory for the blocks, the samples and the lines of a row of MCUs of the scan.
 #[derive(Drop)]
-pub(crate) struct WorkBench<S: OneFirstIntervals> {
+pub struct WorkBench<S: OneFirstIntervals> {
     work: Row,
     pixels: Vec<u8>,
     of: PhantomData<S>,
 }
 
 impl<S: OneFirstIntervals> Model for WorkBench<S> {
-    ghost use Rattle.jr_crew.specs.CrewValue.{WorkBenchValue};
-    ghost use Rattle.jr_crew.specs.Crew.{HasRoom, HasWork};
+    ghost use Rattle.jr_bench.specs.BenchValue.{WorkBenchValue};
+    ghost use Rattle.jr_bench.specs.Bench.{HasRoom, HasWork};
 
     ghost Value = { WorkBenchValue };
 
@@ -167,11 +168,12 @@ impl<S: OneFirstIntervals> Model for WorkBench<S> {
 
 impl<S: OneFirstIntervals> WorkBench<S> {
     /// Reads the next row of the scan.
-    pub(crate) fn read(self, part: &FirstIntervals<'_>, rows: &mut Rows<'_>) -> CodedRow<S>
+    pub fn read(self, part: &FirstIntervals<'_>, rows: &mut Rows<'_>) -> CodedRow<S>
         requires part { S.part ≡ Some part.now }
         requires of { rows.old.scan ≡ part.now.scan }
         requires limit { rows.old.limit ≡ part.now.limit }
         requires row { rows.old.row < mcus_down part.now.scan.head }
+        ensures row { result.row ≡ rows.old.row }
         ensures moved { rows.new ≡ record rows.old { row = rows.old.row + 1 } }
     {
         let row = rows.row();
@@ -189,7 +191,7 @@ impl<S: OneFirstIntervals> WorkBench<S> {
 
 /// A row of MCUs of the scan, read and not yet painted, and the marks of the intervals that end in it.
 #[derive(Drop)]
-pub(crate) struct CodedRow<S: OneFirstIntervals> {
+pub struct CodedRow<S: OneFirstIntervals> {
     row: u32,
     marked: Marked,
     work: Row,
@@ -199,8 +201,8 @@ pub(crate) struct CodedRow<S: OneFirstIntervals> {
 }
 
 impl<S: OneFirstIntervals> Model for CodedRow<S> {
-    ghost use Rattle.jr_crew.specs.CrewValue.{CodedRowValue};
-    ghost use Rattle.jr_crew.specs.Crew.{HasRoom, HasWork, IsRead};
+    ghost use Rattle.jr_bench.specs.BenchValue.{CodedRowValue};
+    ghost use Rattle.jr_bench.specs.Bench.{HasRoom, HasWork, IsRead};
 
     ghost Value = { CodedRowValue };
 
@@ -211,8 +213,9 @@ impl<S: OneFirstIntervals> Model for CodedRow<S> {
 
 impl<S: OneFirstIntervals> CodedRow<S> {
     /// Transforms and paints the row.
-    pub(crate) fn paint(self, part: &FirstIntervals<'_>, room: &mut PaintRoom<S>) -> Painted<S>
+    pub fn paint(self, part: &FirstIntervals<'_>, room: &mut PaintRoom<S>) -> Painted<S>
         requires { S.part ≡ Some part.now }
+        ensures { result.row ≡ self.row }
     {
         let (mut work, mut pixels) = (self.work, self.pixels);
         paint_first(&mut work, part, self.row, &mut room.bytes, &mut pixels);
@@ -228,7 +231,7 @@ impl<S: OneFirstIntervals> CodedRow<S> {
 
 /// The lines of a row of MCUs of the scan, and the marks of the intervals that end in it.
 #[derive(Drop)]
-pub(crate) struct Painted<S: OneFirstIntervals> {
+pub struct Painted<S: OneFirstIntervals> {
     row: u32,
     marked: Marked,
     work: Option<Row>,
@@ -239,8 +242,8 @@ pub(crate) struct Painted<S: OneFirstIntervals> {
 
 impl<S: OneFirstIntervals> Model for Painted<S> {
     ghost use Rattle.std.specs.Prelude.{IfSome};
-    ghost use Rattle.jr_crew.specs.CrewValue.{PaintedValue};
-    ghost use Rattle.jr_crew.specs.Crew.{HasRoom, HasWork, IsPainted};
+    ghost use Rattle.jr_bench.specs.BenchValue.{PaintedValue};
+    ghost use Rattle.jr_bench.specs.Bench.{HasRoom, HasWork, IsPainted};
 
     ghost Value = { PaintedValue };
 
@@ -251,7 +254,7 @@ impl<S: OneFirstIntervals> Model for Painted<S> {
 
 impl<S: OneFirstIntervals> Painted<S> {
     /// The row's number.
-    pub(crate) fn row(&self) -> u32
+    pub fn row(&self) -> u32
         ensures { result ≡ self.now.row }
     {
         self.row
@@ -278,7 +281,7 @@ impl<S: OneFirstIntervals> Painted<S> {
     /// Puts the lines from one byte up to another, between which is just room for them: in the place of all bytes where they
     /// begin with these and are as many, which takes no copy. Answers the marks of the intervals that end in the row, and the bench,
     /// to be used again.
-    pub(crate) fn put_into(
+    pub fn put_into(
         self,
         part: &FirstIntervals<'_>,
         pixels: &mut Vec<u8>,

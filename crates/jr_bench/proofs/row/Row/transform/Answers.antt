@@ -6,7 +6,7 @@ use Rattle.jr_rows.specs.Groups.{units_in}
 use Rattle.jr_rows.specs.Rows.{coded_in}
 use Rattle.jr_rows.proofs.GroupLists.{units_long}
 use Rattle.jr_rows.proofs.ShownUnits.{row_shown}
-use Rattle.jr_crew.proofs.row.Row.transform.Goals as goal
+use Rattle.jr_bench.proofs.row.Row.transform.Goals as goal
 
 pub returns-clause-units : goal.returns-clause-units
 returns-clause-units c =

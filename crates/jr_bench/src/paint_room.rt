@@ -11,7 +11,7 @@ use std::marker::{Model, PhantomData};
 
 /// Memory for the samples of a row of MCUs of the scan, and for painting its lines. Each thread has its own.
 #[derive(Drop)]
-pub(crate) struct PaintRoom<S: OneFirstIntervals> {
+pub struct PaintRoom<S: OneFirstIntervals> {
     /// For a row that is read before, and that has its samples on its bench.
     pub(crate) bytes: Vec<u8>,
     /// For a row that is read, transformed and painted at once.
@@ -21,7 +21,7 @@ pub(crate) struct PaintRoom<S: OneFirstIntervals> {
 
 impl<S: OneFirstIntervals> Model for PaintRoom<S> {
     ghost use Rattle.std.specs.Prelude.{ℕ, length};
-    ghost use Rattle.jr_crew.specs.Crew.{HasLineRoom, HasSamples};
+    ghost use Rattle.jr_bench.specs.Bench.{HasLineRoom, HasSamples};
 
     ghost Value = { ℕ };
 
@@ -32,7 +32,7 @@ impl<S: OneFirstIntervals> Model for PaintRoom<S> {
 
 impl<S: OneFirstIntervals> PaintRoom<S> {
     /// As much as painting takes.
-    pub(crate) fn open(alloc: Global, part: &FirstIntervals<'_>) -> Result<PaintRoom<S>, Memory>
+    pub fn open(alloc: Global, part: &FirstIntervals<'_>) -> Result<PaintRoom<S>, Memory>
         requires { S.part ≡ Some part.now }
     {
         let head = part.scan().head();

@@ -5,7 +5,7 @@ use Rattle.std.proofs.Math.Nat.{mul-le-mul_right}
 use Rattle.jr_head.specs.Geometry.{vertical_max}
 use Rattle.jr_paint.specs.Lines.{line_size}
 use Rattle.jr_scan.specs.ScanValue.{ScanValue}
-use Rattle.jr_crew.specs.Crew.{HasRoom}
+use Rattle.jr_bench.specs.Bench.{HasRoom}
 use Rattle.jr_rows.specs.FirstIntervalsValue.{FirstIntervalsValue}
 use Rattle.jr_rows.specs.Rows.{line_count}
 

@@ -4,8 +4,8 @@ use Rattle.std.proofs.Math.Seq.{take-append_seam}
 use Rattle.jr_paint.specs.Lines.{line_size}
 use Rattle.jr_scan.specs.ScanValue.{ScanValue}
 use Rattle.jr_rows.specs.Rows.{ShowsLines, line_count}
-use Rattle.jr_crew.proofs.Benches.{row_fits}
-use Rattle.jr_crew.proofs.bench.decode_first.Goals as goal
+use Rattle.jr_bench.proofs.Benches.{row_fits}
+use Rattle.jr_bench.proofs.bench.decode_first.Goals as goal
 
 pub returns-clause-lines : goal.returns-clause-lines
 returns-clause-lines c b first =

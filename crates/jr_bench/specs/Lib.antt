@@ -1,0 +1,2 @@
+pub mod BenchValue
+pub mod Bench
