@@ -21,12 +21,12 @@ pub record HasNextOf (part : FirstIntervalsValue) (r : RowsValue) : Type 0 where
 abbrev pub HaveNext : Option FirstIntervalsValue → RowsValue → Type 0
 HaveNext known r = OfPart known (λ part. HasNextOf part r)
 
--- a place holds this row
+-- a slot holds this row
 abbrev pub HoldsRow : Option (Option PaintedValue) → ℕ → Type 0
 HoldsRow None row = ⊥
 HoldsRow (Some None) row = ⊥
 HoldsRow (Some (Some p)) row = p.row ≡ row
 
--- the place of a row holds it: each row's place is its number modulo how many places there are
+-- the slot of a row holds it: each row's slot is its number modulo how many slots there are
 abbrev pub HasRow : List (Option PaintedValue) → ℕ → Type 0
-HasRow places row = HoldsRow (slice_get places (row % length places)) row
+HasRow slots row = HoldsRow (slice_get slots (row % length slots)) row

@@ -268,8 +268,8 @@ impl<'a, S: OneFirstIntervals> RowQueue<'a, S> {
     pub(crate) fn has(&self, row: u32) -> bool
         ensures { IsTrue result → HasRow self.now.painted.items row }
     {
-        let place = row as usize % self.painted.len();
-        match &self.painted[place] {
+        let slot = row as usize % self.painted.len();
+        match &self.painted[slot] {
             Some(painted) => painted.row() == row,
             None => false,
         }
@@ -278,8 +278,8 @@ impl<'a, S: OneFirstIntervals> RowQueue<'a, S> {
     /// Keeps a painted row. Answers whether the calling thread waits for it.
     pub(crate) fn put_painted(&mut self, painted: Painted<S>) -> bool {
         let row = painted.row();
-        let place = row as usize % self.painted.len();
-        self.painted[place] = Some(painted);
+        let slot = row as usize % self.painted.len();
+        self.painted[slot] = Some(painted);
         self.awaited == Some(row)
     }
 
@@ -288,8 +288,8 @@ impl<'a, S: OneFirstIntervals> RowQueue<'a, S> {
         requires { HasRow self.old.painted.items row }
         ensures { result.row ≡ row }
     {
-        let place = row as usize % self.painted.len();
-        self.painted[place].take().unwrap()
+        let slot = row as usize % self.painted.len();
+        self.painted[slot].take().unwrap()
     }
 
     /// Keeps a bench, to be used again. There is room for it, since it came from here. Answers whether a thread waits.

@@ -28,6 +28,7 @@ run_from i p k = record { interval = i; from = p; mcus = k }
 abbrev pub place_with : Place → List ℤ → Place
 place_with p predictions = record { bit = p.bit; predictions = predictions }
 
+-- the bits of the interval from the place on
 abbrev pub left_at : IntervalValue → Place → List Bool
 left_at i p = drop p.bit (bits i.bytes)
 
