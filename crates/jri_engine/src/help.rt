@@ -26,8 +26,9 @@ With --output the picture is written beside PICTURE, and takes its name where it
 is whole, with status 0 and 3. With any other PICTURE is as it was. A picture
 does not go onto a terminal unless --force or `--output -` says so.
 
-More workers help most where the file has restart markers. Where it has none one
-of them reads the data, and the others make pixels of what it has read.
+More workers help most where the file has restart markers. Where it has none
+three and more read its data together; of two one reads them, and the other
+makes pixels of what is read.
 
 A file of the name - is ./- here. One whose name is not UTF-8 is decoded by:
 jri < FILE";

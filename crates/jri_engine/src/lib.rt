@@ -7,6 +7,7 @@ mod devices;
 mod engine;
 mod finishing;
 mod help;
+mod incoming;
 mod laws;
 mod line;
 mod placing;

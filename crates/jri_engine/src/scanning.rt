@@ -12,7 +12,7 @@ use std::alloc::Global;
 use std::sync::Arc;
 
 /// A scan for several owners.
-fn share(alloc: Global, scan: Scan) -> Result<Arc<Scan>, Refusal>
+pub(crate) fn share(alloc: Global, scan: Scan) -> Result<Arc<Scan>, Refusal>
     ensures scan { IfOk result (λ shared. arc_value shared ≡ scan) }
     ensures memory { IfErr result (λ f. f ≡ refusal.Memory) }
 {

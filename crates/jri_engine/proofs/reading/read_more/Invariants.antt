@@ -1,13 +1,13 @@
 use Rattle.std.proofs.Common.{◌≡◌, ◌≤◌, ◌-◌, false, vec_len}
-use Rattle.std.specs.Io.KnownBytes.{Consumes}
+use Rattle.std.specs.Io.KnownBytes.{Consumes, prepend_known}
 use Rattle.jr_base.specs.Tally.{has_failed, known_in}
-use Rattle.jri_engine.proofs.reading.read_at_most.Given as goal
+use Rattle.jri_engine.proofs.reading.read_more.Given as goal
 
 abbrev pub invariant-parts : goal.invariant-parts
 invariant-parts g l = record {
   within : vec_len l.bytes ≤ l.limit;
   unfailed : has_failed l.input ≡ false;
-  taken : Consumes (known_in g.R.Read.remaining l.initial.input) (known_in g.R.Read.remaining l.input) l.bytes.items;
+  read : Consumes (prepend_known l.initial.bytes.items (known_in g.R.Read.remaining l.initial.input)) (known_in g.R.Read.remaining l.input) l.bytes.items;
 }
 
 abbrev pub decreases-parts : goal.decreases-parts

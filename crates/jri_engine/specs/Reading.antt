@@ -1,0 +1,14 @@
+-- What is read of an input, and cut meanwhile.
+use Rattle.std.specs.Prelude.{◌≡◌, ℕ, ◌+◌, ◌<◌, ◌≤◌, List, ◌++◌, length, Option}
+use Rattle.std.specs.Io.KnownBytes.{Consumes, IsAtEnd}
+use Rattle.jr_base.specs.declared.limits.TheConstants.{MAX_FILE_BYTES}
+use Rattle.jr_scan.specs.GrowingScan.{GrowingScanValue, HasCome}
+
+-- a scan of which so many bytes had come is cut on by those that a reader gave: all of a file have come, or one more than it may have
+pub record CutsOn (old new : GrowingScanValue) (left_before left_behind : Option (List ℕ)) (before all : ℕ) : Type 0 where
+  pub given : List ℕ
+  pub read : Consumes left_before left_behind given
+  pub count : all ≡ before + length given
+  pub few : all ≤ MAX_FILE_BYTES + 1
+  pub end : all < MAX_FILE_BYTES + 1 → IsAtEnd left_behind
+  pub come : (bytes : List ℕ) → HasCome old bytes → HasCome new (bytes ++ given)
