@@ -27,6 +27,8 @@ mod memory;
 #[cfg(test)]
 mod one_byte;
 #[cfg(test)]
+mod parts;
+#[cfg(test)]
 mod program;
 #[cfg(test)]
 mod refused;
