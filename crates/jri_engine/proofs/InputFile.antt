@@ -30,9 +30,9 @@ read_first (Some xs) (Some ys) first p = p
 -- the front of a list that is as long as is asked for, or all of it
 front_of : (n : ℕ) (file rest : List ℕ) → length file ≤ n → (length file < n → rest ≡ []) → take n (file ++ rest) ≡ file
 front_of n file rest few end = elim (cases_lt (length file) n) [
-    | inl less ↦ ap (λ (r : List ℕ). take n (file ++ r)) (end less) ∙ ap (take n) (append-nil file) ∙ take_all n file few
-    | inr more ↦ take-append-le n file rest more ∙ take_all n file few
-  ]
+  | inl less ↦ ap (λ (r : List ℕ). take n (file ++ r)) (end less) ∙ ap (take n) (append-nil file) ∙ take_all n file few
+  | inr more ↦ take-append-le n file rest more ∙ take_all n file few
+]
 
 -- the input's file
 pub of_file : (P : List ℕ → Type 0) (left behind : Option (List ℕ)) (file : List ℕ) → Consumes left behind file → length file ≤ MAX_FILE_BYTES + 1 → (length file < MAX_FILE_BYTES + 1 → IsAtEnd behind) → P file → OfFile left P

@@ -54,12 +54,7 @@ const FILES: [(&str, Option<&str>, &str, u8); 9] = [
         "intervals 1 sound 0 damaged 1 blank 0\nscan ended at EOI\n",
         3,
     ),
-    (
-        "S FF FE FF FF 65533*00 Q F D A C 63 E",
-        GREY,
-        SOUND,
-        0,
-    ),
+    ("S FF FE FF FF 65533*00 Q F D A C 63 E", GREY, SOUND, 0),
     (
         "S FF FE FF FF 65533*00 E",
         None,

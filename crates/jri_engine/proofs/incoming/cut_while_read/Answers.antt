@@ -21,7 +21,7 @@ returns-then-branch-gt-MAX_FILE_BYTES-clause-fault g c =
     let file = first ++ cut.given in
     let long : length file ≡ c.in_ok-cut_on.field-0 = omega (arith, length-append first cut.given, c.len-before.ensures, cut.count) in
     of_file (λ f. RefusalOf f TooLong) (prepend_known first (g.R.Read.remaining c.args.input.now.inner)) (g.R.Read.remaining c.cut_on.new.input.inner) file (first_and _ _ first cut.given cut.read)
-      (omega (arith, long, cut.few)) (λ less. cut.end (omega (arith, long, less))) (is_too_long file (omega (arith, long, c.if-branch-gt-MAX_FILE_BYTES.true)))
+    (omega (arith, long, cut.few)) (λ less. cut.end (omega (arith, long, less))) (is_too_long file (omega (arith, long, c.if-branch-gt-MAX_FILE_BYTES.true)))
 
 pub returns-in-Ok-share-clause-scan : goal.returns-in-Ok-share-clause-scan
 returns-in-Ok-share-clause-scan g c =
@@ -38,4 +38,4 @@ returns-in-Ok-share-clause-scan g c =
       cut = (cut.come first c.in-Ok.ensures.come).scan;
     } in
     of_file (λ f. IsScanOfFile f (arc_value c.in-Ok-share.scan)) (prepend_known first (g.R.Read.remaining c.args.input.now.inner)) (g.R.Read.remaining c.cut_on.new.input.inner) file (first_and _ _ first cut.given cut.read)
-      (omega (arith, small)) (λ less. cut.end (omega (arith, long, less))) (subst (IsScanOfFile file) (sym (c.in-Ok-share.ensures.scan ∙ c.in-Ok-into_scan.ensures)) is)
+    (omega (arith, small)) (λ less. cut.end (omega (arith, long, less))) (subst (IsScanOfFile file) (sym (c.in-Ok-share.ensures.scan ∙ c.in-Ok-into_scan.ensures)) is)

@@ -8,11 +8,11 @@ use Rattle.jri_engine.proofs.reading.cut_on.Goals as goal
 
 pub parts-init : goal.parts-init
 parts-init g c = record {
-    few = c.requires.few;
-    unfailed = c.requires.unfailed;
-    head = refl;
-    read = ([], Consumes-nil (g.R.Read.remaining c.args.input.now.inner), omega arith, λ bytes has. subst (HasCome c.args.scan.now) (sym (append-nil bytes)) has);
-  }
+  few = c.requires.few;
+  unfailed = c.requires.unfailed;
+  head = refl;
+  read = ([], Consumes-nil (g.R.Read.remaining c.args.input.now.inner), omega arith, λ bytes has. subst (HasCome c.args.scan.now) (sym (append-nil bytes)) has);
+}
 
 pub push-requires : goal.push-requires
 push-requires g c =
@@ -36,6 +36,10 @@ parts-preserved g c =
       few = few;
       unfailed = c.in_ok-count.ensures.unfailed;
       head = c.push.ensures.head ∙ c.parts.invariant.head;
-      read = (read.0 ++ more, Consumes-trans _ _ _ read.0 more read.1 taken, omega (arith, read.2, length-append read.0 more, long),
-          λ bytes has. subst (HasCome c.push.new.self) (append_assoc bytes read.0 more) (c.in-Ok.ensures.pushed (bytes ++ read.0) (read.3 bytes has)));
+      read = (
+        read.0 ++ more,
+        Consumes-trans _ _ _ read.0 more read.1 taken,
+        omega (arith, read.2, length-append read.0 more, long),
+        λ bytes has. subst (HasCome c.push.new.self) (append_assoc bytes read.0 more) (c.in-Ok.ensures.pushed (bytes ++ read.0) (read.3 bytes has)),
+      );
     }
