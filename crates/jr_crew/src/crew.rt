@@ -98,15 +98,19 @@ impl<'a, S: OneFirstIntervals> Crew<'a, S> {
         &self.part
     }
 
-    /// What a thread does next, once there is something. None where nothing is left.
+    /// What a thread does next, once there is something: it gives back memory where nothing else is to be done. None where nothing is
+    /// left.
     fn task<R: Wait>(&self, rt: &R) -> Option<RowTask<'a, S>> {
         let mut queue = self.queue.lock(rt);
         queue.begin_waiting();
-        let mut queue = self
-            .has_task
-            .wait_while(rt, queue, |queue| queue.has_no_task());
+        let mut queue = self.has_task.wait_while(rt, queue, |queue| {
+            queue.has_no_task() && !queue.has_spare()
+        });
         queue.end_waiting();
-        queue.task(&self.part)
+        match queue.task(&self.part) {
+            Some(task) => Some(task),
+            None => queue.spare(),
+        }
     }
 
     /// What the calling thread does next, once there is something or this row is painted. None where it is, or nothing is left.
@@ -212,6 +216,7 @@ impl<'a, S: OneFirstIntervals> Crew<'a, S> {
             RowTask::Paint(coded) => self.put_painted(rt, coded.paint(&self.part, room)),
             RowTask::Guess(task) => self.guess(rt, task),
             RowTask::BringGuess(most) => self.bring_guess(rt, most),
+            RowTask::GiveBack(spare) => drop(spare),
         }
     }
 

@@ -7,8 +7,9 @@ use crate::baton::Baton;
 use crate::scan_of::ScanOf;
 use jr_bench::{Bench, CodedRow, OneFirstIntervals, Painted};
 use jr_guesses::{GuessQueue, GuessTask, ScanGuess};
-use jr_rows::FirstIntervals;
+use jr_rows::{FirstIntervals, intervals_of_row};
 use std::collections::VecDeque;
+use std::mem::replace;
 
 /// What a thread does next.
 #[derive(Drop)]
@@ -25,6 +26,15 @@ pub(crate) enum RowTask<'a, S: OneFirstIntervals> {
     Guess(GuessTask<'a, ScanOf<S>>),
     /// Brings room for a guess of so many MCUs.
     BringGuess(u32),
+    /// Gives back memory that nobody needs any more.
+    GiveBack(Spare<'a, S>),
+}
+
+/// Memory that nobody needs any more.
+#[derive(Drop)]
+pub(crate) enum Spare<'a, S: OneFirstIntervals> {
+    Guesses(GuessQueue<'a, ScanOf<S>>),
+    Bench(Bench<S>),
 }
 
 /// A row that was passed over, and what it will be read on: so it needs nothing that a later row could take.
@@ -64,6 +74,8 @@ pub(crate) enum Waiter {
 pub(crate) struct RowQueue<'a, S: OneFirstIntervals> {
     /// None before the first row may begin, while a thread reads by it, and where no row is left to read.
     baton: Option<Baton<'a, S>>,
+    /// No row is left to begin.
+    is_begun: bool,
     /// Nothing is read or painted any more.
     is_over: bool,
     /// Those with room for a row's blocks behind the others.
@@ -71,6 +83,8 @@ pub(crate) struct RowQueue<'a, S: OneFirstIntervals> {
     /// So many benches nobody brings yet.
     lacking: u32,
     guesses: GuessQueue<'a, ScanOf<S>>,
+    /// A queue without room, which takes the place of the other when no row is left to begin.
+    no_guesses: Option<GuessQueue<'a, ScanOf<S>>>,
     /// In their order.
     passed: VecDeque<PassedRow<'a, S>>,
     /// In their order.
@@ -91,6 +105,7 @@ impl<'a, S: OneFirstIntervals> RowQueue<'a, S> {
         free: VecDeque<Bench<S>>,
         lacking: u32,
         guesses: GuessQueue<'a, ScanOf<S>>,
+        no_guesses: GuessQueue<'a, ScanOf<S>>,
         passed: VecDeque<PassedRow<'a, S>>,
         coded: VecDeque<CodedRow<S>>,
         painted: Vec<Option<Painted<S>>>,
@@ -99,10 +114,12 @@ impl<'a, S: OneFirstIntervals> RowQueue<'a, S> {
     {
         RowQueue {
             baton: None,
+            is_begun: false,
             is_over: false,
             free,
             lacking,
             guesses,
+            no_guesses: Some(no_guesses),
             passed,
             coded,
             painted,
@@ -185,6 +202,10 @@ impl<'a, S: OneFirstIntervals> RowQueue<'a, S> {
     {
         let baton = self.baton.take()?;
         self.baton = baton.behind(part);
+        // Where rows are whole intervals, this was the last one that could be begun.
+        if self.baton.is_none() && intervals_of_row(part.scan().head()).is_some() {
+            self.is_begun = true;
+        }
         let number = self.guesses.number();
         let guesses = self.guesses.for_next(part.scan());
         Some(baton.with_guesses(part, number, guesses))
@@ -205,6 +226,25 @@ impl<'a, S: OneFirstIntervals> RowQueue<'a, S> {
         }
     }
 
+    /// Whether there is memory that nobody needs any more.
+    pub(crate) fn has_spare(&self) -> bool {
+        self.is_begun && (self.no_guesses.is_some() || !self.free.is_empty())
+    }
+
+    /// Memory that nobody needs any more, where there is some, for a thread that has nothing else to do: room for guesses first, since
+    /// it is more than that of a bench.
+    pub(crate) fn spare(&mut self) -> Option<RowTask<'a, S>> {
+        if !self.is_begun {
+            return None;
+        }
+        if let Some(none) = self.no_guesses.take() {
+            let guesses = replace(&mut self.guesses, none);
+            return Some(RowTask::GiveBack(Spare::Guesses(guesses)));
+        }
+        let bench = self.free.pop_front()?;
+        Some(RowTask::GiveBack(Spare::Bench(bench)))
+    }
+
     /// The rows behind those that are begun. Answers who is to be woken, since something can be done now.
     fn go_on(&mut self, behind: Option<Baton<'a, S>>) -> Option<Waiter> {
         let (number, bit) = match &behind {
@@ -212,6 +252,7 @@ impl<'a, S: OneFirstIntervals> RowQueue<'a, S> {
             None => (u32::MAX, 0),
         };
         self.guesses.reach(number, bit);
+        self.is_begun = behind.is_none();
         self.baton = behind;
         self.waiter()
     }
@@ -302,9 +343,10 @@ impl<'a, S: OneFirstIntervals> RowQueue<'a, S> {
         self.is_waited_for()
     }
 
-    /// Ends the work.
+    /// Ends the work; what is left is to give back memory.
     pub(crate) fn end(&mut self) {
         self.is_over = true;
+        self.is_begun = true;
         self.baton = None;
         self.passed.clear();
         self.coded.clear();

@@ -88,13 +88,12 @@ fn mcus_of_guess(scan: &Scan) -> u32 {
     }
 }
 
-/// A queue of guesses beside so many benches. A step of the reader is a row of MCUs.
+/// A queue of so many guesses. A step of the reader is a row of MCUs.
 fn open_guesses<'a, S: OneFirstIntervals>(
     alloc: Global,
     part: &FirstIntervals<'a>,
-    count: u32,
+    guesses: u32,
 ) -> Result<GuessQueue<'a, ScanOf<S>>, Memory> {
-    let guesses = guesses_of(part, count);
     let across = shape_of(part.scan().head()).across;
     let most = mcus_of_guess(part.scan());
     GuessQueue::open(alloc, part.scan(), part.limit(), guesses, across, most)
@@ -108,7 +107,8 @@ fn open_queue<'a, S: OneFirstIntervals>(
     own: u32,
 ) -> Result<RowQueue<'a, S>, Memory> {
     let free = VecDeque::with_capacity(alloc, count as usize)?;
-    let guesses = open_guesses(alloc, part, count)?;
+    let guesses = open_guesses(alloc, part, guesses_of(part, count))?;
+    let no_guesses = open_guesses(alloc, part, 0)?;
     let passed = VecDeque::with_capacity(alloc, count as usize)?;
     let coded = VecDeque::with_capacity(alloc, count as usize)?;
     let painted = open_slots(alloc, count)?;
@@ -116,6 +116,7 @@ fn open_queue<'a, S: OneFirstIntervals>(
         free,
         count.saturating_sub(own),
         guesses,
+        no_guesses,
         passed,
         coded,
         painted,
@@ -193,7 +194,7 @@ fn write_as<R: Threads + Wait + Sync, W: Write, G: Gate + Sync, S: OneFirstInter
 /// works with less or not at all. Where guesses are made, a thread that has nothing else to do brings room for one, three for each
 /// thread at most: the blocks of a row and a quarter of MCUs, or of 512 MCUs where a row may have fewer bits than a guess. A row
 /// that waits to be painted takes memory for its blocks and samples, which stays with its bench; where that is refused, the row is
-/// painted before the next one is read.
+/// painted before the next one is read. Once the last row has begun, threads that would wait give back what nobody needs any more.
 ///
 /// Where a row has whole intervals, each worker decodes and paints its rows by itself. Else one at a time has the reader. From
 /// three workers on, where an interval has some 128 KB of data, the others make guesses ahead of it. A row that these cover it
