@@ -1,6 +1,5 @@
 -- What is read of an input is its file.
-use Rattle.std.proofs.Common.{◌≡◌, inl, inr, ℕ, ◌+◌, ◌<◌, ◌≤◌, List, [], ◌++◌, length, take, Option, Some, None, refl, sym, ap, Result, Ok, Err, IfErr, subst, ◌∙◌, append_assoc, append-nil, arith}
-use Rattle.std.specs.Option.{IfSome}
+use Rattle.std.proofs.Common.{◌≡◌, inl, inr, ℕ, ◌+◌, ◌<◌, ◌≤◌, List, [], ◌++◌, length, take, Option, Some, None, sym, ap, Result, Ok, Err, IfErr, subst, ◌∙◌, append_assoc, append-nil}
 use Rattle.std.specs.Io.KnownBytes.{Consumes, IsAtEnd, prepend_known}
 use Rattle.std.proofs.lemmas.Bool.{cases_lt}
 use Rattle.std.proofs.lemmas.List.{take-append-le, take_all}
@@ -8,12 +7,7 @@ use Rattle.jr_base.specs.declared.limits.TheConstants.{MAX_FILE_BYTES}
 use Rattle.jr_head.specs.Heads.{RefusalOf}
 use Rattle.jri_engine.specs.declared.report.Fault.{Fault}
 use Rattle.jri_engine.specs.declared.report.Fault.TheVariants as fault
-use Rattle.jri_engine.specs.Files.{IsFaultOf, IsFaultOfInput, IsUnread, OfFile}
-
--- nothing is read yet
-pub begun : (bytes : List ℕ) (left : Option (List ℕ)) → Consumes (prepend_known bytes left) left bytes
-begun bytes None = tt
-begun bytes (Some xs) = refl
+use Rattle.jri_engine.specs.Files.{IsFaultOf, IsFaultOfInput, OfFile}
 
 -- what was read, and then more
 pub read_on : (left then behind : Option (List ℕ)) (first file : List ℕ) → Consumes left then first → Consumes (prepend_known first then) behind file → Consumes left behind file
@@ -22,6 +16,7 @@ read_on (Some xs) None behind first file p q = absurd p
 read_on (Some xs) (Some ys) None first file p q = absurd q
 read_on (Some xs) (Some ys) (Some zs) first file p q = p ∙ q
 
+-- nothing was read before
 pub read_first : (left behind : Option (List ℕ)) (first : List ℕ) → Consumes (prepend_known [] left) behind first → Consumes left behind first
 read_first None behind first p = tt
 read_first (Some xs) None first p = absurd p
@@ -60,13 +55,6 @@ fault_of_file left behind file (fault.Refused r) p few end is = of_file (λ f. R
 fault_of_file left behind file fault.Memory p few end is = tt
 fault_of_file left behind file fault.Write p few end is = absurd is
 fault_of_file left behind file fault.NoFile p few end is = absurd is
-
-pub unread_fault : (left : Option (List ℕ)) (f : Fault) → IsUnread f → IsFaultOfInput left f
-unread_fault left fault.Read is = tt
-unread_fault left (fault.Refused r) is = absurd is
-unread_fault left fault.Memory is = tt
-unread_fault left fault.Write is = absurd is
-unread_fault left fault.NoFile is = absurd is
 
 -- the first bytes, and those that a reader gave
 pub first_and : (then behind : Option (List ℕ)) (first given : List ℕ) → Consumes then behind given → Consumes (prepend_known first then) behind (first ++ given)

@@ -1,11 +1,10 @@
 -- Steps one after another, and what a run leaves.
-use Rattle.std.proofs.Common.{◌≡◌, ℕ, Bool, true, false, ◌⊎◌, inl, inr, List, [], ◌∷◌, ◌++◌, Option, Some, None, Result, Ok, Err, IfOk, IfErr, is_ok, append_assoc, append-nil, ap, sym, refl, ◌∙◌, ◌==◌, if◌then◌else◌}
+use Rattle.std.proofs.Common.{◌≡◌, ℕ, Bool, true, false, inl, inr, List, [], ◌∷◌, ◌++◌, Option, Some, None, Result, Ok, Err, IfOk, IfErr, is_ok, append_assoc, append-nil, ap, sym, refl, ◌∙◌, ◌==◌, if◌then◌else◌}
 use Rattle.jri_engine.specs.declared.report.Report.{Report}
 use Rattle.jri_engine.specs.declared.report.Fault.{Fault}
 use Rattle.jri_engine.specs.declared.report.Fault.TheVariants as fault
-use Rattle.jri_engine.specs.declared.answers.Unasked.{Unasked}
 use Rattle.jri_engine.specs.Status.{report_status, fault_status}
-use Rattle.jri_engine.specs.Steps.{Step, Created, Renamed, Removed, Follow, LeavesFile, Leaves, is_picture_status}
+use Rattle.jri_engine.specs.Steps.{Step, Created, Renamed, Removed, Follow, LeavesFile, is_picture_status}
 
 pub follow : (a b c : Option (List Step)) (s t : List Step) → Follow a b s → Follow b c t → Follow a c (s ++ t)
 follow None b c s t p q = tt

@@ -1,4 +1,4 @@
-use Rattle.std.proofs.Common.{rules, Option, List, codes, option_map, map, ap, subst, sym, ◌∙◌}
+use Rattle.std.proofs.Common.{rules, Option, codes, map, ap, subst, ◌∙◌}
 use Rattle.std.specs.String.{string_bytes}
 use Rattle.clap.specs.Words.{Text, app_of, first_value, found_of}
 use Rattle.jri_engine.specs.CommandLine.{IsFlag, IsTarget, file_named, reading}

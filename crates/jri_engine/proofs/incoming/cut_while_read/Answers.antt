@@ -1,12 +1,10 @@
-use Rattle.std.proofs.Common.{◌≡◌, ◌+◌, ◌<◌, ◌≤◌, ◌++◌, length, length-append, sym, subst, ◌∙◌, arith}
-use Rattle.std.specs.Io.KnownBytes.{Consumes, IsAtEnd, prepend_known}
+use Rattle.std.proofs.Common.{◌≡◌, ◌≤◌, ◌++◌, length, length-append, sym, subst, ◌∙◌, arith}
+use Rattle.std.specs.Io.KnownBytes.{prepend_known}
 use Rattle.std.specs.Arc.{arc_value}
 use Rattle.jr_base.specs.declared.limits.TheConstants.{MAX_FILE_BYTES}
 use Rattle.jr_segments.specs.declared.refusal.Refusal.TheVariants.{TooLong}
-use Rattle.jr_head.specs.HeadValue.{HeadValue}
 use Rattle.jr_head.specs.Heads.{HeadOf, RefusalOf}
 use Rattle.jr_head.specs.Geometry.{IsLawful}
-use Rattle.jr_scan.specs.GrowingScan.{HasCome}
 use Rattle.jr_scan.specs.ScanValue.{ScanValue}
 use Rattle.jri_engine.specs.Files.{IsScanOfFile}
 use Rattle.jr_arrival.proofs.Arrivals.{is_too_long}

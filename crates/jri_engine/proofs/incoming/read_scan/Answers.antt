@@ -1,5 +1,5 @@
-use Rattle.std.proofs.Common.{◌≡◌, ◌+◌, ◌<◌, ◌≤◌, List, ℕ, length, subst, arith}
-use Rattle.std.specs.Io.KnownBytes.{Consumes, IsAtEnd, prepend_known}
+use Rattle.std.proofs.Common.{List, ℕ, subst, arith}
+use Rattle.std.specs.Io.KnownBytes.{Consumes, prepend_known}
 use Rattle.std.specs.Arc.{arc_value}
 use Rattle.jri_engine.specs.Files.{IsScanOfFile}
 use Rattle.jri_engine.proofs.InputFile.{fault_of_file, fault_of_input, if_err, of_file, of_input, read_first, read_on}

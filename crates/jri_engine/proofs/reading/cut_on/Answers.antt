@@ -1,7 +1,6 @@
-use Rattle.std.proofs.Common.{◌≡◌, ◌+◌, ◌<◌, ◌≤◌, ◌++◌, ℕ, List, [], length, length-append, length-take-le, append-nil, append_assoc, take, refl, sym, subst, ap, ◌∙◌, arith, rules}
+use Rattle.std.proofs.Common.{◌≡◌, ◌+◌, ◌≤◌, ◌++◌, [], length, length-append, append-nil, append_assoc, take, refl, sym, subst, ◌∙◌, arith, rules}
 use Rattle.std.proofs.KnownBytes.{Consumes-nil, Consumes-trans}
 use Rattle.std.specs.Io.KnownBytes.{Consumes}
-use Rattle.std.proofs.lemmas.Grind.{common_steps}
 use Rattle.jr_base.specs.declared.limits.TheConstants.{MAX_FILE_BYTES}
 use Rattle.jr_scan.specs.GrowingScan.{HasCome}
 use Rattle.jri_engine.proofs.reading.cut_on.Goals as goal

@@ -1,5 +1,4 @@
-use Rattle.std.proofs.Common.{ℕ, List, [], ◌∷◌, IfOk, IfErr, subst, sym}
-use Rattle.std.specs.String.{string_bytes}
+use Rattle.std.proofs.Common.{ℕ, List, [], ◌∷◌, subst, sym}
 use Rattle.jri_engine.specs.Steps.{Created, Follow}
 use Rattle.jri_engine.proofs.StepLemmas.{placed}
 use Rattle.jri_engine.proofs.running.decoded_to_file.Goals as goal
