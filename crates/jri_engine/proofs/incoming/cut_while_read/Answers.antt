@@ -7,8 +7,7 @@ use Rattle.jr_head.specs.Heads.{HeadOf, RefusalOf}
 use Rattle.jr_head.specs.Geometry.{IsLawful}
 use Rattle.jr_scan.specs.ScanValue.{ScanValue}
 use Rattle.jri_engine.specs.Files.{IsScanOfFile}
-use Rattle.jr_arrival.proofs.Arrivals.{is_too_long}
-use Rattle.jr_arrival.proofs.HeadsStay.{head_stays}
+use Rattle.jri_engine.proofs.Longer.{head_stays, is_too_long}
 use Rattle.jri_engine.proofs.InputFile.{first_and, of_file}
 use Rattle.jri_engine.proofs.incoming.cut_while_read.Goals as goal
 
