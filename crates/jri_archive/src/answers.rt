@@ -6,7 +6,7 @@ ghost use Rattle.jri_archive.specs.Status.{request_error_status};
 use std::alloc::AllocError;
 
 /// What is told of each file.
-#[derive(Clone, Copy, Debug, PartialEq, Eq)]
+#[derive(Clone, Copy, PartialEq, Eq)]
 pub struct LineForm {
     /// Whether there is a line for each damaged interval.
     pub has_map: bool,
@@ -17,7 +17,7 @@ pub struct LineForm {
 }
 
 /// What the words ask for.
-#[derive(Debug, Drop)]
+#[derive(Drop)]
 pub struct CheckRequest {
     /// How many files are checked at once: 1 to 64.
     pub workers: u32,
@@ -33,7 +33,7 @@ pub struct CheckRequest {
 }
 
 /// Why the words ask for no check.
-#[derive(Debug, Drop)]
+#[derive(Drop)]
 pub enum RequestError {
     /// They ask for help or for the version, which is this text.
     Help(String),

@@ -4,7 +4,7 @@ ghost use Rattle.std.specs.Prelude.{◌≡◌};
 ghost use Rattle.jri_archive.specs.Status.{counts_with, files_in, report_status};
 
 /// What became of a file.
-#[derive(Clone, Copy, Debug, PartialEq, Eq)]
+#[derive(Clone, Copy, PartialEq, Eq)]
 pub enum FileState {
     /// No interval of its scan is damaged.
     Sound,
@@ -19,7 +19,7 @@ pub enum FileState {
 }
 
 /// How many files are what.
-#[derive(Clone, Copy, Debug, PartialEq, Eq)]
+#[derive(Clone, Copy, PartialEq, Eq)]
 pub struct FileCounts {
     pub sound: u64,
     pub damaged: u64,
@@ -61,7 +61,7 @@ impl FileCounts {
 }
 
 /// Why no further file is told of.
-#[derive(Clone, Copy, Debug, PartialEq, Eq)]
+#[derive(Clone, Copy, PartialEq, Eq)]
 pub enum CheckEnd {
     /// Each file has its line.
     AllTold,
@@ -74,7 +74,7 @@ pub enum CheckEnd {
 }
 
 /// What became of all files.
-#[derive(Clone, Copy, Debug, PartialEq, Eq)]
+#[derive(Clone, Copy)]
 pub struct CheckReport {
     /// Of those whose lines are written.
     pub counts: FileCounts,

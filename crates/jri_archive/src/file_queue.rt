@@ -19,7 +19,7 @@ use std::io::{Error, Write};
 use std::marker::{Model, PhantomData};
 
 /// Why a line is not written.
-#[derive(Debug, Drop)]
+#[derive(Drop)]
 pub(crate) enum TellError {
     Write,
     Memory,

@@ -4,7 +4,7 @@ ghost use Rattle.std.specs.Prelude.{◌≡◌, ◌<◌, ◌≤◌, IfSome, None}
 ghost use Rattle.jri_canvas.specs.Layouts.{laid_size, layout_number, sample_count};
 
 /// What the pixels of a line are.
-#[derive(Clone, Copy, Debug, PartialEq, Eq)]
+#[derive(Clone, Copy)]
 pub enum Pixels {
     /// A byte of grey each.
     Grey,
@@ -13,7 +13,7 @@ pub enum Pixels {
 }
 
 /// In which order the bytes of a colour stand; a grey is its own red, green and blue.
-#[derive(Clone, Copy, Debug, PartialEq, Eq)]
+#[derive(Clone, Copy)]
 pub enum Order {
     /// Red, green, blue.
     Rgb,
@@ -26,7 +26,7 @@ pub enum Order {
 }
 
 /// How the pixels of a canvas are laid out.
-#[derive(Clone, Copy, Debug, PartialEq, Eq)]
+#[derive(Clone, Copy)]
 pub enum Layout {
     /// As they are: a byte of grey, or three of a colour.
     Plain,

@@ -7,7 +7,7 @@ use crate::layout::{Layout, Pixels};
 use crate::line::lay_line;
 
 /// What the lines of a canvas are.
-#[derive(Clone, Copy, Debug, PartialEq, Eq)]
+#[derive(Clone, Copy)]
 pub struct CanvasLines {
     /// How many pixels a line has.
     pub width: u32,

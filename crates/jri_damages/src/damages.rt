@@ -10,14 +10,14 @@ ghost use Rattle.jr_segments.specs.Refusal.{number_of};
 use jr_damage::{CodedSpan, DamagedInterval, coded_segments, damaged_interval};
 use jr_head::Refusal;
 use jr_scan::Scan;
-use jri_engine::scan_of_file;
+use jri_file::scan_of_file;
 use jri_memory::status::{DAMAGED, SOUND};
 use jri_memory::{detail, status_of};
 use std::alloc::Global;
 
 /// An interval that has no decoding, as numbers.
 #[repr(C)]
-#[derive(Clone, Copy, Debug, PartialEq, Eq)]
+#[derive(Clone, Copy, PartialEq, Eq)]
 pub struct Damage {
     /// Its number in the scan, from 0 on.
     pub interval: u32,
@@ -36,7 +36,7 @@ pub struct Damage {
 
 /// What a list of damaged intervals tells.
 #[repr(C)]
-#[derive(Clone, Copy, Debug, PartialEq, Eq)]
+#[derive(Clone, Copy, PartialEq, Eq)]
 pub struct DamageReport {
     /// How many are listed.
     pub count: u32,

@@ -1,7 +1,7 @@
 -- Buffers whose front is filled.
 use Rattle.std.proofs.Common.{◌≡◌, ℕ, List, ◌++◌, length, drop, None, sym, ap, ◌∙◌}
 use Rattle.jri_memory.specs.Calls.{over}
-use Rattle.jri_engine.specs.Files.{IsScanOfFile, IsPictureOf}
+use Rattle.jri_file.specs.Files.{IsScanOfFile, IsPictureOf}
 use Rattle.jr_scan.specs.ScanValue.{ScanValue}
 use Rattle.jr_picture.specs.declared.mark.Mark.{Mark}
 use Rattle.jr_picture.specs.Headline.{ShowsFirst}

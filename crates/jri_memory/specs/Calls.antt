@@ -13,7 +13,7 @@ use Rattle.jr_cut.specs.declared.scan_end.ScanEnd.{ScanEnd}
 use Rattle.jr_cut.specs.declared.scan_end.ScanEnd.TheVariants.{EndOfImage, OtherMarker, OutOfStep, ExtraRestart, EndOfFile}
 use Rattle.jr_picture.specs.declared.mark.Mark.{Mark}
 use Rattle.jr_picture.specs.Headline.{AreCounts}
-use Rattle.jri_engine.specs.Files.{IsPictureOf, IsScanOfFile}
+use Rattle.jri_file.specs.Files.{IsPictureOf, IsScanOfFile}
 use Rattle.jr_rows.specs.MarkBytes.{mark_byte}
 use Rattle.jr_stream.specs.SomeLines.{EndInLines}
 use Rattle.jri_memory.specs.declared.decode.DecodeError.{DecodeError}

@@ -9,7 +9,7 @@ use Rattle.jr_picture.specs.declared.mark.Mark.{Mark}
 use Rattle.jr_picture.specs.Headline.{AreCounts, ShowsFirst}
 use Rattle.jr_rows.specs.MarkBytes.{mark_byte}
 use Rattle.jr_scan.specs.ScanValue.{ScanValue}
-use Rattle.jri_engine.specs.Files.{IsPictureOf, IsScanOfFile}
+use Rattle.jri_file.specs.Files.{IsPictureOf, IsScanOfFile}
 use Rattle.jri_canvas.specs.Layouts.{HavePlaces, StandOn, laid_line, laid_line_size, layout_number, line_in, line_size, sample_count}
 use Rattle.jri_canvas.specs.declared.lines.CanvasLines.{CanvasLines}
 use Rattle.jri_memory.specs.Calls.{TellsReport, over}

@@ -8,7 +8,7 @@ use Rattle.jr_picture.specs.declared.mark.Mark.TheVariants.{Blank, Sound, Damage
 use Rattle.jr_picture.specs.Headline.{mark_in, is_sound, is_damaged}
 use Rattle.jr_rows.specs.MarkBytes.{mark_byte}
 use Rattle.jr_rows.specs.declared.marked.Marked.{Marked}
-use Rattle.jri_engine.specs.Files.{IsScanOfFile}
+use Rattle.jri_file.specs.Files.{IsScanOfFile}
 use Rattle.jri_memory.specs.Calls.{TellsReport, over}
 use Rattle.jri_memory.specs.declared.report.DecodeReport.{DecodeReport}
 

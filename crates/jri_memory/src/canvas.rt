@@ -25,7 +25,7 @@ use jr_rows::{Marked, Rows, SampleRow, bytes_of_row, lines_of, shape_of};
 use jr_scan::Scan;
 use jr_stream::counts_of;
 use jri_canvas::{CanvasLines, Pixels, have_places, lay_lines};
-use jri_engine::scan_of_file;
+use jri_file::scan_of_file;
 use std::alloc::Global;
 
 /// Paints `count` lines from line y on of the row of MCUs that is decoded into `lines`, and lays them out.

@@ -17,7 +17,7 @@ use jr_head::Refusal;
 use jr_picture::Counts;
 use jr_rows::{Marked, put_mark};
 use jr_scan::Scan;
-use jri_engine::scan_of_file;
+use jri_file::scan_of_file;
 use std::alloc::Global;
 
 /// Whether interval i has a decoding.

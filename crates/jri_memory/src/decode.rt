@@ -9,11 +9,11 @@ use crate::report::DecodeReport;
 use crate::room::{asked_for, bytes_of_picture, lacks_room};
 use jr_head::Refusal;
 use jr_stream::paint_scan;
-use jri_engine::scan_of_file;
+use jri_file::scan_of_file;
 use std::alloc::Global;
 
 /// Why nothing is decoded.
-#[derive(Clone, Copy, Debug, PartialEq, Eq)]
+#[derive(Clone, Copy)]
 pub(crate) enum DecodeError {
     /// The file is refused, or memory is.
     Refused(Refusal),

@@ -11,7 +11,7 @@ use jr_head::{Head, Refusal};
 use jr_paint::bytes_of_line;
 use jr_picture::Counts;
 use jr_stream::paint_scan_lines;
-use jri_engine::scan_of_file;
+use jri_file::scan_of_file;
 use std::alloc::Global;
 
 /// Whether a picture has these lines, and there is one.

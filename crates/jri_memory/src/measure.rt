@@ -13,7 +13,7 @@ use jr_head::{Head, Kind, Refusal};
 
 /// What a file's head says of its picture, or the refusal's numbers, and 0 for all else.
 #[repr(C)]
-#[derive(Clone, Copy, Debug, PartialEq, Eq)]
+#[derive(Clone, Copy, PartialEq, Eq)]
 pub struct Measure {
     /// The picture's width in pixels.
     pub width: u32,

@@ -13,7 +13,7 @@ use jr_places::{FileBytes, RowPlace, decode_rows, rows_with_room, skip_rows, sta
 use std::alloc::Global;
 
 /// Why a place is not moved.
-#[derive(Clone, Copy, Debug, PartialEq, Eq)]
+#[derive(Clone, Copy)]
 pub(crate) enum PlaceError {
     /// The file is refused, or memory is.
     Refused(Refusal),

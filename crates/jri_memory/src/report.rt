@@ -10,7 +10,7 @@ use jr_scan::{Scan, ScanEnd};
 
 /// What a decoding tells; all numbers are 0 that are not said otherwise.
 #[repr(C)]
-#[derive(Clone, Copy, Debug, PartialEq, Eq)]
+#[derive(Clone, Copy, PartialEq, Eq)]
 pub struct DecodeReport {
     /// How many restart intervals the scan has.
     pub intervals: u32,

@@ -12,7 +12,7 @@ use jr_places::{lines_before, lines_between};
 
 /// What a call tells that goes on from a place; all numbers are 0 that are not said otherwise.
 #[repr(C)]
-#[derive(Clone, Copy, Debug, PartialEq, Eq)]
+#[derive(Clone, Copy, PartialEq, Eq)]
 pub struct RowsReport {
     /// How many rows of MCUs are decoded, or passed over.
     pub rows: u32,

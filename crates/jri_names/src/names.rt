@@ -11,14 +11,14 @@ use std::io::{BufReader, Read};
 use std::marker::Model;
 
 /// A file that is to be checked, or why there is none.
-#[derive(Debug, Drop)]
+#[derive(Drop)]
 pub struct NamedFile {
     pub name: Vec<u8>,
     pub error: Option<ReadError>,
 }
 
 /// Why there is no further name.
-#[derive(Clone, Copy, Debug, PartialEq, Eq)]
+#[derive(Clone, Copy)]
 pub enum NamesError {
     Read,
     Memory,

@@ -5,7 +5,7 @@ ghost use Rattle.std.specs.Prelude.{ℕ, List, IfOk, IfErr};
 use std::alloc::Global;
 
 /// Why the bytes of a file are not there.
-#[derive(Clone, Copy, Debug, PartialEq, Eq)]
+#[derive(Clone, Copy, PartialEq, Eq)]
 pub enum ReadError {
     /// No file has that name.
     NotFound,
@@ -36,7 +36,7 @@ impl ReadError {
 }
 
 /// What kind an entry of a folder is of.
-#[derive(Clone, Copy, Debug, PartialEq, Eq)]
+#[derive(Clone, Copy)]
 pub enum EntryKind {
     File,
     Folder,
@@ -45,7 +45,7 @@ pub enum EntryKind {
 }
 
 /// What stands in a folder.
-#[derive(Debug, Drop)]
+#[derive(Drop)]
 pub struct Entry {
     /// Its name with that of the folder before it.
     pub name: String,

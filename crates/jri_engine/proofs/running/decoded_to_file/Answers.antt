@@ -1,6 +1,6 @@
 use Rattle.std.proofs.Common.{ℕ, List, [], ◌∷◌, subst, sym}
-use Rattle.jri_engine.specs.Steps.{Created, Follow}
-use Rattle.jri_engine.proofs.StepLemmas.{placed}
+use Rattle.jri_words.specs.Steps.{Created, Follow}
+use Rattle.jri_words.proofs.StepLemmas.{placed}
 use Rattle.jri_engine.proofs.running.decoded_to_file.Goals as goal
 
 pub returns : goal.returns

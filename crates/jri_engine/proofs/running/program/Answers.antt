@@ -1,6 +1,6 @@
 use Rattle.std.proofs.Common.{Bool, subst, sym}
-use Rattle.jri_engine.specs.Steps.{Leaves}
-use Rattle.jri_engine.proofs.StepLemmas.{status_tells}
+use Rattle.jri_words.specs.Steps.{Leaves}
+use Rattle.jri_words.proofs.StepLemmas.{status_tells}
 use Rattle.jri_engine.proofs.running.program.Goals as goal
 
 pub returns : goal.returns

@@ -1,0 +1,73 @@
+-- What is read of an input is its file.
+use Rattle.std.proofs.Common.{◌≡◌, inl, inr, ℕ, ◌+◌, ◌<◌, ◌≤◌, List, [], ◌++◌, length, take, Option, Some, None, sym, ap, Result, Ok, Err, IfOk, IfErr, subst, ◌∙◌, append_assoc, append-nil}
+use Rattle.std.specs.Io.KnownBytes.{Consumes, IsAtEnd, prepend_known}
+use Rattle.std.proofs.lemmas.Bool.{cases_lt}
+use Rattle.std.proofs.lemmas.List.{take-append-le, take_all}
+use Rattle.jr_base.specs.declared.limits.TheConstants.{MAX_FILE_BYTES}
+use Rattle.jr_head.specs.Heads.{RefusalOf}
+use Rattle.jri_file.specs.declared.report.Fault.{Fault}
+use Rattle.jri_file.specs.declared.report.Fault.TheVariants as fault
+use Rattle.jri_file.specs.Files.{IsFaultOf, IsFaultOfInput, OfFile}
+
+-- what was read, and then more
+pub read_on : (left then behind : Option (List ℕ)) (first file : List ℕ) → Consumes left then first → Consumes (prepend_known first then) behind file → Consumes left behind file
+read_on None then behind first file p q = tt
+read_on (Some xs) None behind first file p q = absurd p
+read_on (Some xs) (Some ys) None first file p q = absurd q
+read_on (Some xs) (Some ys) (Some zs) first file p q = p ∙ q
+
+-- nothing was read before
+pub read_first : (left behind : Option (List ℕ)) (first : List ℕ) → Consumes (prepend_known [] left) behind first → Consumes left behind first
+read_first None behind first p = tt
+read_first (Some xs) None first p = absurd p
+read_first (Some xs) (Some ys) first p = p
+
+-- the front of a list that is as long as is asked for, or all of it
+front_of : (n : ℕ) (file rest : List ℕ) → length file ≤ n → (length file < n → rest ≡ []) → take n (file ++ rest) ≡ file
+front_of n file rest few end = elim (cases_lt (length file) n) [
+  | inl less ↦ ap (λ (r : List ℕ). take n (file ++ r)) (end less) ∙ ap (take n) (append-nil file) ∙ take_all n file few
+  | inr more ↦ take-append-le n file rest more ∙ take_all n file few
+]
+
+-- the input's file
+pub of_file : (P : List ℕ → Type 0) (left behind : Option (List ℕ)) (file : List ℕ) → Consumes left behind file → length file ≤ MAX_FILE_BYTES + 1 → (length file < MAX_FILE_BYTES + 1 → IsAtEnd behind) → P file → OfFile left P
+of_file P None behind file p few end holds = tt
+of_file P (Some xs) None file p few end holds = absurd p
+of_file P (Some xs) (Some ys) file p few end holds =
+    subst P (sym (ap (take (MAX_FILE_BYTES + 1)) p ∙ front_of (MAX_FILE_BYTES + 1) file ys few end)) holds
+
+-- what holds of the input's file as its first bytes are read
+pub of_input : (P : List ℕ → Type 0) (left then : Option (List ℕ)) (first : List ℕ) → Consumes left then first → OfFile (prepend_known first then) P → OfFile left P
+of_input P None then first p holds = tt
+of_input P (Some xs) None first p holds = absurd p
+of_input P (Some xs) (Some ys) first p holds = subst (λ (l : List ℕ). P (take (MAX_FILE_BYTES + 1) l)) (sym p) holds
+
+pub fault_of_input : (left then : Option (List ℕ)) (first : List ℕ) (f : Fault) → Consumes left then first → IsFaultOfInput (prepend_known first then) f → IsFaultOfInput left f
+fault_of_input left then first fault.Read p is = tt
+fault_of_input left then first (fault.Refused r) p is = of_input (λ f. RefusalOf f r) left then first p is
+fault_of_input left then first fault.Memory p is = tt
+fault_of_input left then first fault.Write p is = absurd is
+fault_of_input left then first fault.NoFile p is = absurd is
+
+pub fault_of_file : (left behind : Option (List ℕ)) (file : List ℕ) (f : Fault) → Consumes left behind file → length file ≤ MAX_FILE_BYTES + 1 → (length file < MAX_FILE_BYTES + 1 → IsAtEnd behind) → IsFaultOf file f → IsFaultOfInput left f
+fault_of_file left behind file fault.Read p few end is = tt
+fault_of_file left behind file (fault.Refused r) p few end is = of_file (λ f. RefusalOf f r) left behind file p few end is
+fault_of_file left behind file fault.Memory p few end is = tt
+fault_of_file left behind file fault.Write p few end is = absurd is
+fault_of_file left behind file fault.NoFile p few end is = absurd is
+
+-- the first bytes, and those that a reader gave
+pub first_and : (then behind : Option (List ℕ)) (first given : List ℕ) → Consumes then behind given → Consumes (prepend_known first then) behind (first ++ given)
+first_and None behind first given p = tt
+first_and (Some ys) None first given p = absurd p
+first_and (Some ys) (Some zs) first given p = ap (λ (l : List ℕ). first ++ l) p ∙ sym (append_assoc first given zs)
+
+-- what holds of an error
+pub if_err : {T E : Type 0} {P Q : E → Type 0} → (r : Result T E) → ((e : E) → P e → Q e) → IfErr r P → IfErr r Q
+if_err (Ok x) f p = tt
+if_err (Err e) f p = f e p
+
+-- what holds of an answer that is there
+pub if_ok : {T E : Type 0} {P Q : T → Type 0} → (r : Result T E) → ((x : T) → P x → Q x) → IfOk r P → IfOk r Q
+if_ok (Ok x) f p = f x p
+if_ok (Err e) f p = tt

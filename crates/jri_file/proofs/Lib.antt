@@ -1,0 +1,3 @@
+pub mod InputFile
+pub mod Longer
+pub mod OneText

@@ -1,0 +1,14 @@
+use Rattle.std.proofs.Common.{◌≡◌, ◌≤◌, ◌-◌, false, vec_len}
+use Rattle.std.specs.Io.KnownBytes.{Consumes, prepend_known}
+use Rattle.jr_base.specs.Tally.{has_failed, known_in}
+use Rattle.jri_file.proofs.reading.read_more.Given as goal
+
+abbrev pub invariant-parts : goal.invariant-parts
+invariant-parts g l = record {
+  within : vec_len l.bytes ≤ l.limit;
+  unfailed : has_failed l.input ≡ false;
+  read : Consumes (prepend_known l.initial.bytes.items (known_in g.R.Read.remaining l.initial.input)) (known_in g.R.Read.remaining l.input) l.bytes.items;
+}
+
+abbrev pub decreases-parts : goal.decreases-parts
+decreases-parts g l = l.limit - vec_len l.bytes

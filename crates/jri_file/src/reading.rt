@@ -1,0 +1,100 @@
+//! The input, part by part: its bytes, and a scan that is cut while they come.
+
+ghost use Rattle.std.specs.Prelude.{◌≡◌, ◌≢◌, ◌≤◌, ◌<◌, ℕ, List, length, vec_len, IfOk, OnOk, OnErr, IfErr, true, false};
+ghost use Rattle.std.specs.Io.{ReadsAtMost};
+ghost use Rattle.std.specs.Io.KnownBytes.{Consumes, IsAtEnd, ReadConsumes, prepend_known};
+ghost use Rattle.jr_base.specs.Tally.{has_failed, known_in};
+ghost use Rattle.jr_scan.specs.GrowingScan.{HasCome};
+ghost use Rattle.jri_file.specs.Files.{IsUnread};
+ghost use Rattle.jri_file.specs.Reading.{CutsOn};
+
+use crate::report::Fault;
+use jr_base::Tally;
+use jr_base::limits::MAX_FILE_BYTES;
+use jr_scan::GrowingScan;
+use std::io::Read;
+
+/// One byte more than a file may have.
+pub(crate) const TOO_MANY: usize = MAX_FILE_BYTES + 1;
+
+/// How many bytes are asked of the input at once.
+pub(crate) const PART: usize = 65_536;
+
+/// Asks the input for some bytes: answers how many there are, none at its end.
+fn read_part<R: Read>(input: &mut Tally<R>, part: &mut [u8]) -> Result<usize, Fault>
+    requires { has_failed input.old ≡ false }
+    ensures within { ReadsAtMost result part.new }
+    ensures read { ReadConsumes (known_in R.remaining input.old) (known_in R.remaining input.new) result part.new }
+    ensures unfailed { OnOk result (has_failed input.new ≡ false) }
+    ensures failed { OnErr result (has_failed input.new ≡ true) }
+    ensures fault { IfErr result (λ fault. fault ≡ Fault.Read) }
+{
+    match input.read(part) {
+        Ok(count) => Ok(count),
+        Err(_) => Err(Fault::Read),
+    }
+}
+
+/// Reads more of the input behind the bytes that are there, to its end or until they are so many. Any error ends it, an
+/// interrupted call too.
+pub(crate) fn read_more<R: Read>(
+    input: &mut Tally<R>,
+    bytes: &mut Vec<u8>,
+    limit: usize,
+) -> Result<(), Fault>
+    requires unfailed { has_failed input.old ≡ false }
+    requires few { vec_len bytes.old ≤ limit }
+    ensures read { IfOk result (λ _. Consumes (prepend_known bytes.old.items (known_in R.remaining input.old)) (known_in R.remaining input.new) bytes.new.items) }
+    ensures few { IfOk result (λ _. vec_len bytes.new ≤ limit) }
+    ensures end { IfOk result (λ _. vec_len bytes.new < limit → IsAtEnd (known_in R.remaining input.new)) }
+    ensures failed { result ≡ Err Fault.Read → has_failed input.new ≡ true }
+    ensures unfailed { result ≢ Err Fault.Read → has_failed input.new ≡ false }
+    ensures fault { IfErr result IsUnread }
+{
+    let mut part = [0; PART];
+    'parts: while bytes.len() < limit {
+        let room = (limit - bytes.len()).min(PART);
+        let part = &mut part[..room];
+        let count = read_part(input, part)?;
+        if count == 0 {
+            return Ok(());
+        }
+        if bytes.extend_from_slice(&part[..count]).is_err() {
+            return Err(Fault::Memory);
+        }
+    }
+    Ok(())
+}
+
+/// Cuts on a scan of which so many bytes of the file have come, while the others are read: to the file's end, or until they are one
+/// more than a file may have. Answers how many have come.
+pub(crate) fn cut_on<R: Read>(
+    input: &mut Tally<R>,
+    scan: &mut GrowingScan,
+    before: usize,
+) -> Result<usize, Fault>
+    requires unfailed { has_failed input.old ≡ false }
+    requires few { before ≤ TOO_MANY }
+    requires come { (bytes : List ℕ) × HasCome scan.old bytes × (length bytes ≡ before) }
+    ensures cut { IfOk result (CutsOn scan.old scan.new (known_in R.remaining input.old) (known_in R.remaining input.new) before) }
+    ensures head { scan.new.scan.head ≡ scan.old.scan.head }
+    ensures failed { result ≡ Err Fault.Read → has_failed input.new ≡ true }
+    ensures unfailed { result ≢ Err Fault.Read → has_failed input.new ≡ false }
+    ensures fault { IfErr result IsUnread }
+{
+    let mut part = [0; PART];
+    let mut come = before;
+    'parts: while come < TOO_MANY {
+        let room = (TOO_MANY - come).min(PART);
+        let part = &mut part[..room];
+        let count = read_part(input, part)?;
+        if count == 0 {
+            return Ok(come);
+        }
+        let Ok(()) = scan.push(&part[..count]) else {
+            return Err(Fault::Memory);
+        };
+        come += count;
+    }
+    Ok(come)
+}

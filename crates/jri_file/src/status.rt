@@ -1,0 +1,27 @@
+//! Exit statuses.
+
+ghost use Rattle.std.specs.Prelude.{◌≡◌, false};
+ghost use Rattle.jri_file.specs.Status.{fault_status, report_status};
+
+use crate::report::{Fault, Report};
+
+impl Fault {
+    /// The exit status: 2 for a refused file, 1 for devices and memory.
+    pub fn status(self) -> u8
+        ensures { result ≡ fault_status self }
+    {
+        match self {
+            Fault::Refused(_) => 2,
+            Fault::Read | Fault::Memory | Fault::Write | Fault::NoFile => 1,
+        }
+    }
+}
+
+impl Report {
+    /// The exit status of a picture that was written: 3 where an interval is damaged, else 0.
+    pub fn status(&self) -> u8
+        ensures { result ≡ report_status self.now false }
+    {
+        if self.damaged == 0 { 0 } else { 3 }
+    }
+}

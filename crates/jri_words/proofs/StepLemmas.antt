@@ -1,0 +1,43 @@
+-- Steps one after another, and what a run leaves.
+use Rattle.std.proofs.Common.{◌≡◌, ℕ, Bool, true, false, inl, inr, List, [], ◌∷◌, ◌++◌, Option, Some, None, Result, Ok, Err, IfOk, IfErr, is_ok, append_assoc, append-nil, ap, sym, refl, ◌∙◌, ◌==◌, if◌then◌else◌}
+use Rattle.jri_file.specs.declared.report.Report.{Report}
+use Rattle.jri_file.specs.declared.report.Fault.{Fault}
+use Rattle.jri_file.specs.declared.report.Fault.TheVariants as fault
+use Rattle.jri_file.specs.Status.{report_status, fault_status}
+use Rattle.jri_words.specs.Steps.{Step, Created, Renamed, Removed, Follow, LeavesFile, is_picture_status}
+
+pub follow : (a b c : Option (List Step)) (s t : List Step) → Follow a b s → Follow b c t → Follow a c (s ++ t)
+follow None b c s t p q = tt
+follow (Some k) None c s t p q = absurd p
+follow (Some k) (Some m) None s t p q = absurd q
+follow (Some k) (Some m) (Some n) s t p q = q ∙ ap (λ z. z ++ t) p ∙ append_assoc k s t
+
+pub none_yet : (a : Option (List Step)) → Follow a a []
+none_yet None = tt
+none_yet (Some k) = sym (append-nil k)
+
+pub leaves_no_part : (name : List ℕ) (a b : Option (List Step)) (is_written : Bool) → Follow a b [] → LeavesFile name a b is_written
+leaves_no_part name a b true p = inl p
+leaves_no_part name a b false p = inl p
+
+pub leaves_nothing : (name : List ℕ) (a : Option (List Step)) (is_written : Bool) → LeavesFile name a a is_written
+leaves_nothing name a is_written = leaves_no_part name a a is_written (none_yet a)
+
+-- a part was made, and then placed or removed
+pub placed : (name part : List ℕ) (a b c : Option (List Step)) (r : Result Report Fault) → Follow a b (Created part ∷ [])
+    → IfOk r (λ _. Follow b c (Renamed part name ∷ [])) → IfErr r (λ _. Follow b c (Removed part ∷ [])) → LeavesFile name a c (is_ok r)
+placed name part a b c (Ok report) made p q = inr (part, follow a b c (Created part ∷ []) (Renamed part name ∷ []) made p)
+placed name part a b c (Err f) made p q = inr (part, follow a b c (Created part ∷ []) (Removed part ∷ []) made q)
+
+damage_tells : (b : Bool) → is_picture_status (if b then 0 else 3) ≡ true
+damage_tells true = refl
+damage_tells false = refl
+
+-- the exit status tells whether a picture was written
+pub status_tells : (r : Result Report Fault) (n : ℕ) → IfOk r (λ report. n ≡ report_status report false) → IfErr r (λ f. n ≡ fault_status f) → is_picture_status n ≡ is_ok r
+status_tells (Ok report) n p q = rw p (damage_tells (report.damaged == 0))
+status_tells (Err fault.Read) n p q = rw q refl
+status_tells (Err (fault.Refused f)) n p q = rw q refl
+status_tells (Err fault.Memory) n p q = rw q refl
+status_tells (Err fault.Write) n p q = rw q refl
+status_tells (Err fault.NoFile) n p q = rw q refl

@@ -1,0 +1,3 @@
+pub mod CommandLine
+pub mod Steps
+pub mod Status

@@ -1,0 +1,194 @@
+//! The words of a command line.
+
+ghost use Rattle.std.specs.Prelude.{◌≡◌, ◌≤◌, IfOk, false, codes, map, option_map};
+ghost use Rattle.std.specs.String.{string_bytes};
+ghost use Rattle.clap.specs.Words.{app_of, first_value, found_of, one_text, rule_of};
+ghost use Rattle.jr_base.specs.declared.limits.TheConstants.{MAX_WORKERS};
+ghost use Rattle.jri_words.specs.CommandLine.{IsFlag, IsTarget, decoding_app, file_named, file_rule, first_rule, flag_rule, jri, output_rule, reading, value, workers_rule, writing_app};
+
+use crate::answers::{Asked, Target, Telling, Unasked};
+use crate::help::{ABOUT, AFTER_HELP};
+use clap::error::ErrorKind;
+use clap::{Arg, ArgAction, ArgMatches, Command, Error, value_parser};
+use jr_base::limits::MAX_WORKERS;
+use jri_version::VERSION;
+use std::alloc::{AllocError, Global};
+
+/// `--workers N`.
+fn workers_word<'a>(alloc: Global) -> Arg<'a>
+    ensures rule { rule_of result ≡ workers_rule }
+    ensures local { result.global ≡ false }
+{
+    Arg::new(alloc, "workers")
+        .long("workers")
+        .action(ArgAction::Set)
+        .value_name("N")
+        .help("How many threads decode, 1 to 64")
+        .value_parser(value_parser!(u32).range(1..=i64::from(MAX_WORKERS)))
+        .default_value("4")
+}
+
+/// `--first K`.
+fn first_word<'a>(alloc: Global) -> Arg<'a>
+    ensures rule { rule_of result ≡ first_rule }
+    ensures local { result.global ≡ false }
+{
+    Arg::new(alloc, "first")
+        .long("first")
+        .action(ArgAction::Set)
+        .value_name("K")
+        .help("Decode only the first K restart intervals")
+        .value_parser(value_parser!(u32))
+}
+
+/// `FILE`.
+fn file_word<'a>(alloc: Global) -> Arg<'a>
+    ensures rule { rule_of result ≡ file_rule }
+    ensures local { result.global ≡ false }
+{
+    Arg::new(alloc, "file")
+        .action(ArgAction::Set)
+        .value_name("FILE")
+        .help("The JPEG file; standard input where there is none, or where it is -")
+}
+
+/// `-o PICTURE`.
+fn output_word<'a>(alloc: Global) -> Arg<'a>
+    ensures rule { rule_of result ≡ output_rule }
+    ensures local { result.global ≡ false }
+{
+    Arg::new(alloc, "output")
+        .short('o')
+        .long("output")
+        .action(ArgAction::Set)
+        .value_name("PICTURE")
+        .help("Write the picture to this file; standard output where it is -")
+}
+
+/// A word that stands alone.
+fn flag_word<'a>(alloc: Global, name: &'a str, help: &'a str) -> Arg<'a>
+    ensures rule { rule_of result ≡ flag_rule name.now }
+    ensures local { result.global ≡ false }
+{
+    Arg::new(alloc, name)
+        .long(name)
+        .action(ArgAction::SetTrue)
+        .help(help)
+}
+
+/// The words that tell what is decoded.
+fn with_decoding_words<'a>(alloc: Global, command: Command<'a>) -> Result<Command<'a>, AllocError>
+    ensures { IfOk result (λ c. app_of c ≡ decoding_app (app_of command.entry)) }
+{
+    command
+        .arg(workers_word(alloc))?
+        .arg(first_word(alloc))?
+        .arg(file_word(alloc))
+}
+
+/// The words that tell where the picture goes, and what is told on standard error.
+fn with_writing_words<'a>(alloc: Global, command: Command<'a>) -> Result<Command<'a>, AllocError>
+    ensures { IfOk result (λ c. app_of c ≡ writing_app (app_of command.entry)) }
+{
+    command
+        .arg(output_word(alloc))?
+        .arg(flag_word(alloc, "force", "Write the picture onto a terminal, too"))?
+        .arg(flag_word(alloc, "quiet", "Leave out the report; errors are told"))?
+        .arg(flag_word(
+            alloc,
+            "verbose",
+            "Tell the file's name and the system's reason, too",
+        ))
+}
+
+/// `jri [--workers N] [--first K] [-o PICTURE] [--force] [--quiet] [--verbose] [FILE]`.
+fn command<'a>(alloc: Global) -> Result<Command<'a>, AllocError>
+    ensures { IfOk result (λ c. app_of c ≡ jri) }
+{
+    let command = Command::new(alloc, "jri")
+        .about(ABOUT)
+        .version(VERSION)
+        .after_help(AFTER_HELP)
+        .no_binary_name(true);
+    with_writing_words(alloc, with_decoding_words(alloc, command)?)
+}
+
+fn refusal(alloc: Global, error: &Error) -> Unasked {
+    if error.kind() == ErrorKind::OutOfMemory {
+        return Unasked::Memory;
+    }
+    match error.to_string(alloc) {
+        Ok(text) => match error.kind() {
+            ErrorKind::DisplayHelp | ErrorKind::DisplayVersion => Unasked::Help(text),
+            _ => Unasked::Wrong(text),
+        },
+        Err(_) => Unasked::Memory,
+    }
+}
+
+/// The name of a stream in place of a file.
+const STREAM: &str = "-";
+
+/// The file that is decoded.
+fn file_of(alloc: Global, matches: &ArgMatches) -> Result<Option<String>, AllocError>
+    ensures { IfOk result (λ file. option_map string_bytes file ≡ file_named (first_value (found_of matches.now) (codes "file"))) }
+{
+    match matches.get_str("file") {
+        Some(name) if name != STREAM => Ok(Some(String::from_str(alloc, name)?)),
+        _ => Ok(None),
+    }
+}
+
+/// Where the picture goes.
+fn target_of(alloc: Global, matches: &ArgMatches) -> Result<Target, AllocError>
+    ensures { IfOk result (IsTarget (first_value (found_of matches.now) (codes "output")) (one_text (found_of matches.now) (codes "force"))) }
+{
+    match matches.get_str("output") {
+        Some(name) if name != STREAM => Ok(Target::File(String::from_str(alloc, name)?)),
+        Some(_) => Ok(Target::AnyOutput),
+        None if matches.get_flag("force") => Ok(Target::AnyOutput),
+        None => Ok(Target::Output),
+    }
+}
+
+/// How much is told.
+fn telling_of(matches: &ArgMatches) -> Telling
+    ensures quiet { IsFlag (one_text (found_of matches.now) (codes "quiet")) result.is_quiet }
+    ensures verbose { IsFlag (one_text (found_of matches.now) (codes "verbose")) result.is_verbose }
+{
+    Telling {
+        is_quiet: matches.get_flag("quiet"),
+        is_verbose: matches.get_flag("verbose"),
+    }
+}
+
+/// What the words after the program's name ask for: `--workers` from 1 to 64, 4 where it isn't there; `--first`; at most
+/// one file; and the words of the output and of what is told. `Unasked` has the text to print where they ask for help or
+/// the version or are wrong.
+pub fn asked<'a>(alloc: Global, words: &'a [String]) -> Result<Asked, Unasked>
+    ensures some { IfOk result (λ a. 1 ≤ a.workers) }
+    ensures few { IfOk result (λ a. a.workers ≤ MAX_WORKERS) }
+    ensures file { IfOk result (λ a. option_map string_bytes a.file ≡ file_named (value (codes "file") (map string_bytes words.now))) }
+    ensures target { IfOk result (λ a. IsTarget (value (codes "output") (map string_bytes words.now)) (reading (codes "force") (map string_bytes words.now)) a.target) }
+    ensures quiet { IfOk result (λ a. IsFlag (reading (codes "quiet") (map string_bytes words.now)) a.telling.is_quiet) }
+    ensures verbose { IfOk result (λ a. IsFlag (reading (codes "verbose") (map string_bytes words.now)) a.telling.is_verbose) }
+{
+    let matches = match command(alloc)?.try_get_matches_from(words) {
+        Ok(matches) => matches,
+        Err(error) => return Err(refusal(alloc, &error)),
+    };
+    let file = file_of(alloc, &matches)?;
+    let target = target_of(alloc, &matches)?;
+    let telling = telling_of(&matches);
+    match matches.get_one::<u32>("workers") {
+        // the range of the argument's values, which the parser's contract does not repeat
+        Some(workers) if (1..=MAX_WORKERS).contains(&workers) => Ok(Asked {
+            workers,
+            first: matches.get_one::<u32>("first"),
+            file,
+            target,
+            telling,
+        }),
+        _ => Err(Unasked::Wrong(String::new(alloc))),
+    }
+}

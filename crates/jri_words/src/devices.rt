@@ -1,0 +1,116 @@
+//! What the program asks of the machine that it runs on.
+
+ghost use Rattle.std.specs.Prelude.{Option, List, None, OnOk, OnErr, ◌∷◌, []};
+ghost use Rattle.jri_words.specs.Steps.{Step, Created, Renamed, Removed, Follow};
+
+use std::io::{Error, Read, Result as IoResult, Write};
+
+/// The standard streams and the files of a machine.
+pub trait Devices {
+    /// Standard input.
+    type Input: Read + Drop;
+    /// Standard output.
+    type Output: Write + Drop;
+    /// An open file.
+    type File: Read + Write + Drop;
+
+    // The steps so far, where they are known.
+    ghost steps: { Self → Option (List Step) } = { λ _. None };
+
+    /// Standard input.
+    fn input(&self) -> Self::Input;
+
+    /// Standard output.
+    fn output(&self) -> Self::Output;
+
+    /// Whether standard input is a terminal.
+    fn is_input_terminal(&self) -> bool;
+
+    /// Whether standard output is a terminal.
+    fn is_output_terminal(&self) -> bool;
+
+    /// Opens a file to be read.
+    fn open(&self, name: &str) -> IoResult<Self::File>;
+
+    /// Whether there is something of this name that is written into and not replaced: a device or a pipe.
+    fn is_device(&self, name: &str) -> bool;
+
+    /// Opens a device or a pipe to be written.
+    fn open_device(&self, name: &str) -> IoResult<Self::File>;
+
+    /// Makes a new file, where nothing has its name.
+    fn create(&mut self, name: &str) -> IoResult<Self::File>
+        ensures created { OnOk result (Follow (steps self.old) (steps self.new) (Created name.now ∷ [])) }
+        ensures failed { OnErr result (Follow (steps self.old) (steps self.new) []) };
+
+    /// Gives a file another name, in place of what has that name.
+    fn rename(&mut self, from: &str, to: &str) -> IoResult<()>
+        ensures renamed { OnOk result (Follow (steps self.old) (steps self.new) (Renamed from.now to.now ∷ [])) }
+        ensures failed { OnErr result (Follow (steps self.old) (steps self.new) []) };
+
+    /// Removes a file.
+    fn remove(&mut self, name: &str) -> IoResult<()>
+        ensures { Follow (steps self.old) (steps self.new) (Removed name.now ∷ []) };
+}
+
+/// Where the bytes of a file come from.
+#[derive(Drop)]
+pub enum Source<I, F> {
+    /// Standard input.
+    Input(I),
+    /// A file.
+    File(F),
+}
+
+impl<I: Read, F: Read> Read for Source<I, F> {
+    fn read(&mut self, buf: &mut [u8]) -> IoResult<usize> {
+        match self {
+            Source::Input(input) => input.read(buf),
+            Source::File(file) => file.read(buf),
+        }
+    }
+}
+
+/// A reader or a writer, and the system's reason for the last call that failed.
+#[derive(Drop)]
+pub struct Noted<T> {
+    inner: T,
+    reason: Option<Error>,
+}
+
+impl<T> Noted<T> {
+    /// Over this reader or writer, of which no call has failed yet.
+    pub fn of(inner: T) -> Self {
+        Noted {
+            inner,
+            reason: None,
+        }
+    }
+
+    /// Why the last call failed that did.
+    pub fn reason(&self) -> Option<Error> {
+        self.reason
+    }
+}
+
+impl<R: Read> Read for Noted<R> {
+    fn read(&mut self, buf: &mut [u8]) -> IoResult<usize> {
+        let result = self.inner.read(buf);
+        self.reason = result.err().or(self.reason);
+        result
+    }
+}
+
+impl<W: Write> Write for Noted<W> {
+    fn write(&mut self, buf: &[u8]) -> IoResult<usize> {
+        let result = self.inner.write(buf);
+        self.reason = result.err().or(self.reason);
+        result
+    }
+
+    fn flush(&mut self) -> IoResult<()> {
+        let result = self.inner.flush();
+        self.reason = result.err().or(self.reason);
+        result
+    }
+}

@@ -1,0 +1,51 @@
+//! The last lines on standard error, and the exit status.
+
+ghost use Rattle.std.specs.Prelude.{◌≡◌, IfOk, IfErr, OnOk, true, false};
+ghost use Rattle.std.specs.Io.KnownBytes.{Keeps};
+ghost use Rattle.jr_base.specs.Tally.{has_failed, known_in};
+ghost use Rattle.jri_file.specs.Status.{fault_status, report_status};
+
+use crate::answers::Telling;
+use crate::telling::{Ending, Names, tell};
+use jr_base::Tally;
+use jri_file::{Fault, Report};
+use std::io::Write;
+
+/// The outcome behind a flush of the picture that was written.
+pub fn flushed<W: Write>(
+    outcome: Result<Report, Fault>,
+    out: &mut Tally<W>,
+) -> Result<Report, Fault>
+    ensures same { IfOk result (λ report. outcome ≡ Ok report) }
+    ensures flushed { IfOk result (λ _. has_failed out.new ≡ has_failed out.old) }
+    ensures write { IfOk outcome (λ _. IfErr result (λ fault. (fault ≡ Fault.Write) × (has_failed out.new ≡ true))) }
+    ensures fault { IfErr outcome (λ fault. result ≡ Err fault) }
+    ensures kept { Keeps (known_in W.contents out.old) (known_in W.contents out.new) }
+    ensures untouched { IfErr outcome (λ _. out.new ≡ out.old) }
+{
+    match outcome {
+        Ok(report) if out.flush().is_ok() => Ok(report),
+        Ok(_) => Err(Fault::Write),
+        Err(fault) => Err(fault),
+    }
+}
+
+/// Flushes a picture that was written, writes the report's two lines, or the fault's one, and answers the exit status. A
+/// failed flush is a fault. Faults of standard error are passed over.
+pub fn finish<W: Write, E: Write>(
+    outcome: Result<Report, Fault>,
+    out: &mut Tally<W>,
+    errors: &mut E,
+) -> u8
+    ensures written { IfOk outcome (λ report. has_failed out.old ≡ false → result ≡ report_status report (has_failed out.new)) }
+    ensures fault { IfErr outcome (λ fault. result ≡ fault_status fault) }
+    ensures kept { Keeps (known_in W.contents out.old) (known_in W.contents out.new) }
+    ensures untouched { IfErr outcome (λ _. out.new ≡ out.old) }
+{
+    let outcome = flushed(outcome, out);
+    let ending = Ending {
+        outcome,
+        reason: None,
+    };
+    tell(&ending, &Names::NONE, Telling::PLAIN, errors)
+}

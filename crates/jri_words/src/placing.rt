@@ -1,0 +1,86 @@
+//! A picture that takes its file's name when it is whole.
+
+ghost use Rattle.std.specs.Prelude.{IfOk, IfErr, List, ◌∷◌, [], ◌≡◌};
+ghost use Rattle.std.specs.String.{string_bytes};
+ghost use Rattle.jri_words.specs.Steps.{Step, Created, Renamed, Removed, Follow};
+
+use crate::devices::Devices;
+use crate::telling::Ending;
+use jri_file::Fault;
+use std::alloc::{AllocError, Global};
+use std::io::{Error, ErrorKind};
+
+/// How many names for a part are tried.
+const PARTS: u32 = 1000;
+
+/// A new file in the folder of another.
+#[derive(Drop)]
+pub struct Part<F> {
+    /// The open file.
+    pub file: F,
+    /// Its name.
+    pub name: String,
+}
+
+/// The name of a part, in the folder of the file that it is to be.
+fn part_name(alloc: Global, name: &str, number: u32) -> Result<String, AllocError> {
+    match name.rsplit_once('/') {
+        Some((folder, _)) => format!(in alloc; "{folder}/.jri-{number}.part"),
+        None => format!(in alloc; ".jri-{number}.part"),
+    }
+}
+
+/// Of a picture that cannot be written, for this reason.
+pub fn unwritten(reason: Error) -> Ending
+    ensures { result.outcome ≡ Err Fault.Write }
+{
+    Ending {
+        outcome: Err(Fault::Write),
+        reason: Some(reason),
+    }
+}
+
+/// Makes a part of a file, under the first name that nothing has.
+pub fn make_part<D: Devices>(
+    alloc: Global,
+    devices: &mut D,
+    name: &str,
+) -> Result<Part<D::File>, Ending>
+    ensures made { IfOk result (λ part. Follow (D.steps devices.old) (D.steps devices.new) (Created (string_bytes part.name) ∷ [])) }
+    ensures none { IfErr result (λ ending. Follow (D.steps devices.old) (D.steps devices.new) []) }
+{
+    for number in 1..=PARTS {
+        let Ok(part) = part_name(alloc, name, number) else {
+            return Err(Ending {
+                outcome: Err(Fault::Memory),
+                reason: None,
+            });
+        };
+        match devices.create(part.as_str()) {
+            Ok(file) => return Ok(Part { file, name: part }),
+            Err(error) if error.kind() == ErrorKind::AlreadyExists => {}
+            Err(error) => return Err(unwritten(error)),
+        }
+    }
+    Err(unwritten(Error::from(ErrorKind::AlreadyExists)))
+}
+
+/// Gives a part the name of its file where it has a whole picture, else removes it.
+pub fn place<D: Devices>(devices: &mut D, ending: Ending, part: &str, name: &str) -> Ending
+    ensures placed { IfOk result.outcome (λ _. Follow (D.steps devices.old) (D.steps devices.new) (Renamed part.now name.now ∷ [])) }
+    ensures removed { IfErr result.outcome (λ _. Follow (D.steps devices.old) (D.steps devices.new) (Removed part.now ∷ [])) }
+    ensures picture { IfOk result.outcome (λ report. ending.outcome ≡ Ok report) }
+    ensures fault { IfErr ending.outcome (λ fault. result.outcome ≡ Err fault) }
+{
+    if ending.outcome.is_err() {
+        let _ = devices.remove(part);
+        return ending;
+    }
+    match devices.rename(part, name) {
+        Ok(()) => ending,
+        Err(error) => {
+            let _ = devices.remove(part);
+            unwritten(error)
+        }
+    }
+}

@@ -1,0 +1,160 @@
+//! How a run ended, told on standard error.
+
+ghost use Rattle.std.specs.Prelude.{◌≡◌, IfOk, IfErr, true, false};
+ghost use Rattle.jri_file.specs.Status.{fault_status, report_status};
+
+use crate::answers::{Asked, Target, Telling};
+use crate::line::{Behind, write_line};
+use jr_scan::ScanEnd;
+use jri_file::{Fault, Report};
+use std::fmt;
+use std::fmt::{Display, Formatter};
+use std::io::{Error, ErrorKind, Result as IoResult, Write};
+
+/// How a run ended, and the system's reason where a device failed.
+#[derive(Clone, Copy)]
+pub struct Ending {
+    /// The report of a picture that was written, or the fault.
+    pub outcome: Result<Report, Fault>,
+    /// The reason, where the system gave one.
+    pub reason: Option<Error>,
+}
+
+/// What was read and what was written, as lines name them.
+#[derive(Clone, Copy)]
+pub struct Names<'a> {
+    /// The name of the input.
+    pub source: &'a str,
+    /// The name of the output.
+    pub target: &'a str,
+}
+
+impl Names<'_> {
+    /// Of lines without names.
+    pub(crate) const NONE: Names<'static> = Names {
+        source: "",
+        target: "",
+    };
+}
+
+impl<'a> Names<'a> {
+    /// Returns the names of what words ask for.
+    pub fn of(asked: &'a Asked) -> Self {
+        Names {
+            source: match &asked.file {
+                Some(name) => name.as_str(),
+                None => "standard input",
+            },
+            target: match &asked.target {
+                Target::File(name) => name.as_str(),
+                Target::Output | Target::AnyOutput => "standard output",
+            },
+        }
+    }
+}
+
+impl Ending {
+    /// Whether the picture's reader has gone away.
+    fn is_left(&self) -> bool {
+        match (self.outcome, self.reason) {
+            (Err(Fault::Write), Some(reason)) => reason.kind() == ErrorKind::BrokenPipe,
+            _ => false,
+        }
+    }
+}
+
+/// What ended a scan, as the report names it.
+#[derive(Clone, Copy)]
+struct EndName(ScanEnd);
+
+impl Display for EndName {
+    fn fmt<W: fmt::Write>(&self, f: &mut Formatter<W>) -> fmt::Result {
+        match self.0 {
+            ScanEnd::EndOfImage => f.write_str("EOI"),
+            ScanEnd::OtherMarker(code, at) => write!(f, "marker {code:02X}, byte {at}"),
+            ScanEnd::OutOfStep {
+                found,
+                expected,
+                at,
+            } => write!(f, "RST{found} where RST{expected} was due, byte {at}"),
+            ScanEnd::ExtraRestart(at) => {
+                write!(f, "a restart marker past the last interval, byte {at}")
+            }
+            ScanEnd::EndOfFile => f.write_str("the end of the file"),
+        }
+    }
+}
+
+fn write_report<E: Write>(errors: &mut E, report: &Report, behind: Behind<'_>) -> IoResult<()> {
+    let Report {
+        intervals,
+        sound,
+        damaged,
+        blank,
+        ended,
+    } = *report;
+    write_line(
+        errors,
+        format_args!("intervals {intervals} sound {sound} damaged {damaged} blank {blank}"),
+        behind,
+    )?;
+    let end = EndName(ended);
+    write_line(errors, format_args!("scan ended at {end}"), behind)
+}
+
+fn write_fault<E: Write>(errors: &mut E, fault: Fault, behind: Behind<'_>) -> IoResult<()> {
+    let text = match fault {
+        Fault::NoFile => "cannot open the file",
+        Fault::Read => "cannot read the input",
+        Fault::Write => "cannot write the picture",
+        Fault::Memory => "out of memory",
+        Fault::Refused(refusal) => {
+            let number = refusal.number();
+            return write_line(errors, format_args!("refused {number}: {refusal}"), behind);
+        }
+    };
+    write_line(errors, text, behind)
+}
+
+/// What stands behind the lines of an ending.
+fn behind<'a>(ending: &Ending, names: &Names<'a>, telling: Telling) -> Behind<'a> {
+    let name = match ending.outcome {
+        Err(Fault::Write) => names.target,
+        _ => names.source,
+    };
+    if telling.is_verbose {
+        Behind {
+            name: Some(name),
+            reason: ending.reason,
+        }
+    } else {
+        Behind {
+            name: None,
+            reason: None,
+        }
+    }
+}
+
+/// Writes the report's two lines, or the fault's one, and answers the exit status. Where little is to be told neither the
+/// report nor that the picture's reader has gone away is. Faults of standard error are passed over.
+pub fn tell<E: Write>(ending: &Ending, names: &Names<'_>, telling: Telling, errors: &mut E) -> u8
+    ensures written { IfOk ending.now.outcome (λ report. result ≡ report_status report false) }
+    ensures fault { IfErr ending.now.outcome (λ fault. result ≡ fault_status fault) }
+    ensures quiet { IfOk ending.now.outcome (λ _. telling.is_quiet ≡ true → errors.new ≡ errors.old) }
+{
+    let behind = behind(ending, names, telling);
+    match ending.outcome {
+        Ok(report) => {
+            if !telling.is_quiet {
+                let _ = write_report(errors, &report, behind);
+            }
+            report.status()
+        }
+        Err(fault) => {
+            if !(telling.is_quiet && ending.is_left()) {
+                let _ = write_fault(errors, fault, behind);
+            }
+            fault.status()
+        }
+    }
+}
