@@ -6,5 +6,5 @@ mod running;
 
 pub use engine::run;
 pub use jri_file::{Fault, Report, one_text, scan_of_file};
-pub use jri_words::{Asked, Devices, Target, Telling, Unasked, asked, finish};
+pub use jri_words::{Asked, Destination, Devices, Target, Telling, Unasked, asked, finish};
 pub use running::program;

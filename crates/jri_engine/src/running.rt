@@ -9,8 +9,8 @@ use jr_base::Tally;
 use jr_wall::OpenGate;
 use jri_file::Fault;
 use jri_words::{
-    Asked, Devices, Ending, Names, Noted, Target, answer, flushed, make_part, opened, place, tell,
-    understood, unwritten,
+    Asked, Destination, Devices, Ending, Names, Noted, Target, answer, flushed, make_part, opened,
+    place, tell, understood, unwritten, warn_of_name,
 };
 use std::alloc::Global;
 use std::io::{Read, Result as IoResult, Write};
@@ -62,7 +62,8 @@ fn decoded_to_file<T: Threads + Wait + Sync, D: Devices, R: Read + Drop>(
     requires few { asked.now.workers ≤ MAX_WORKERS }
     ensures { LeavesFile name.now (D.steps devices.old) (D.steps devices.new) (is_ok result.outcome) }
 {
-    if devices.is_device(name) {
+    let file = asked.file.as_ref().map(|file| file.as_str());
+    if let Destination::WrittenInto = devices.destination(name, file) {
         return match devices.open_device(name) {
             Ok(device) => decoded(rt, alloc, asked, source, device),
             Err(error) => unwritten(error),
@@ -121,6 +122,7 @@ pub fn program<T: Threads + Wait + Sync, D: Devices, E: Write>(
         Ok(asked) => asked,
         Err(unasked) => return answer(&mut devices.output(), errors, &unasked),
     };
+    warn_of_name(&asked, errors);
     let ending = done(rt, alloc, devices, &asked, errors);
     tell(&ending, &Names::of(&asked), asked.telling, errors)
 }

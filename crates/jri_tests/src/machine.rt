@@ -1,6 +1,6 @@
 //! A machine of memory: its standard streams, and a folder of files.
 
-use jri_engine::Devices;
+use jri_engine::{Destination, Devices};
 use std::alloc::{AllocError, Global};
 use std::cell::RefCell;
 use std::io::{Error, ErrorKind, Read, Result as IoResult, Write};
@@ -190,15 +190,25 @@ impl Devices for Machine {
         }
     }
 
-    fn is_device(&self, name: &str) -> bool {
-        self.named(name).is_some_and(|file| file.is_device)
+    fn destination(&self, name: &str, source: Option<&str>) -> Destination {
+        if source.is_some_and(|source| source == name) {
+            Destination::Source
+        } else if self.named(name).is_some_and(|file| file.is_device) {
+            Destination::WrittenInto
+        } else {
+            Destination::Replaced
+        }
     }
 
     fn open_device(&self, name: &str) -> IoResult<Handle> {
         self.open(name)
     }
 
-    fn create(&mut self, name: &str) -> IoResult<Handle> {
+    fn run_number(&self) -> u64 {
+        0xAB
+    }
+
+    fn create(&mut self, name: &str, _like: &str) -> IoResult<Handle> {
         if self.named(name).is_some() {
             return Err(Error::from(ErrorKind::AlreadyExists));
         }

@@ -204,11 +204,11 @@ fn check_parts<R: Threads + Wait + Sync + AllocGlobal + Abort>(
     rt: &R,
     machine: &mut Machine,
 ) -> Result<(), Fail> {
-    machine.put("a/.jri-1.part", b"other", false)?;
+    machine.put("a/.jri-ab-1.part", b"other", false)?;
     check_run(rt, machine, "-o a/new.pgm", None, 0)?;
     let whole = picture(rt.alloc(), SOUND_PICTURE)?;
     has(rt, machine, "a/new.pgm", whole.as_slice(), FILES + 2)?;
-    has(rt, machine, "a/.jri-1.part", b"other", FILES + 2)
+    has(rt, machine, "a/.jri-ab-1.part", b"other", FILES + 2)
 }
 
 /// Parts that other runs have left are passed over, and stay.
@@ -219,10 +219,20 @@ fn passes_over_other_parts(rt: HostRuntime) -> Result<(), Fail> {
 }
 
 /// Words that give no picture, their lines where these are looked at, and the exit status.
-const KEEPING: [(&str, Option<&str>, u8); 3] = [
+const KEEPING: [(&str, Option<&str>, u8); 5] = [
     ("-o old.pgm refused.jpg", Some(REFUSED_LINE), 2),
     ("-o old.pgm none.jpg", Some("cannot open the file\n"), 1),
     ("-o old.pgm --workers 0 sound.jpg", None, 2),
+    (
+        "-o old.pgm old.pgm",
+        Some("the picture would replace the file that is read: name another file\n"),
+        2,
+    ),
+    (
+        "-outfile old.pgm",
+        Some("there is no -outfile: say -o PICTURE\n"),
+        2,
+    ),
 ];
 
 fn check_keeping<R: Threads + Wait + Sync + AllocGlobal + Abort>(

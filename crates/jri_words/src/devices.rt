@@ -5,6 +5,17 @@ ghost use Rattle.jri_words.specs.Steps.{Step, Created, Renamed, Removed, Follow}
 
 use std::io::{Error, Read, Result as IoResult, Write};
 
+/// What the name of a picture leads to.
+#[derive(Clone, Copy, Drop)]
+pub enum Destination {
+    /// No file, or one that a whole picture replaces.
+    Replaced,
+    /// A device, a pipe, or a stream that some program has open: it is written into.
+    WrittenInto,
+    /// The file that is read.
+    Source,
+}
+
 /// The standard streams and the files of a machine.
 pub trait Devices {
     /// Standard input.
@@ -32,14 +43,17 @@ pub trait Devices {
     /// Opens a file to be read.
     fn open(&self, name: &str) -> IoResult<Self::File>;
 
-    /// Whether there is something of this name that is written into and not replaced: a device or a pipe.
-    fn is_device(&self, name: &str) -> bool;
+    /// Returns what this name leads to if the file `source` is read, or standard input if it is `None`.
+    fn destination(&self, name: &str, source: Option<&str>) -> Destination;
 
-    /// Opens a device or a pipe to be written.
+    /// Opens what is written into and not replaced.
     fn open_device(&self, name: &str) -> IoResult<Self::File>;
 
-    /// Makes a new file, where nothing has its name.
-    fn create(&mut self, name: &str) -> IoResult<Self::File>
+    /// Returns a number that names this run of the program.
+    fn run_number(&self) -> u64;
+
+    /// Creates a file if nothing has its name, with the permissions of `like` if that is a file. Flushing it writes it to the disk.
+    fn create(&mut self, name: &str, like: &str) -> IoResult<Self::File>
         ensures created { OnOk result (Follow (steps self.old) (steps self.new) (Created name.now ∷ [])) }
         ensures failed { OnErr result (Follow (steps self.old) (steps self.new) []) };
 

@@ -13,8 +13,8 @@ mod telling;
 
 pub use answers::{Asked, Target, Telling, Unasked};
 pub use asking::asked;
-pub use devices::{Devices, Noted, Source};
+pub use devices::{Destination, Devices, Noted, Source};
 pub use finishing::{finish, flushed};
-pub use opening::{answer, opened, understood};
+pub use opening::{answer, opened, understood, warn_of_name};
 pub use placing::{Part, make_part, place, unwritten};
 pub use telling::{Ending, Names, tell};

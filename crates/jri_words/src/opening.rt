@@ -6,7 +6,7 @@ ghost use Rattle.jri_words.specs.Status.{unasked_status};
 
 use crate::answers::{Asked, Target, Unasked};
 use crate::asking::asked;
-use crate::devices::{Devices, Source};
+use crate::devices::{Destination, Devices, Source};
 use std::alloc::Global;
 use std::io::{Error, ErrorKind, Result as IoResult, Write};
 
@@ -20,6 +20,19 @@ const WAITING: &str = "waiting for a JPEG file on standard input\n";
 /// What is told where the picture would go onto a terminal.
 const ONTO_TERMINAL: &str =
     "the picture is not written onto a terminal: say -o PICTURE, or --force\n";
+
+/// The text for a picture that would replace the file that is read.
+const OWN_INPUT: &str = "the picture would replace the file that is read: name another file\n";
+
+/// The text for djpeg's option, which `-o` would take for a file named utfile.
+const NO_OUTFILE: &str = "there is no -outfile: say -o PICTURE\n";
+
+/// The text for a picture whose name ends as those of other formats do.
+const OTHER_ENDING: &str =
+    "warning: the picture is written as PGM or PPM, whatever its name ends in\n";
+
+/// The endings of other formats' names, in small letters.
+const OTHER_ENDINGS: [&str; 8] = ["png", "jpg", "jpeg", "gif", "webp", "tif", "tiff", "bmp"];
 
 /// A text as wrong words.
 fn wrong(alloc: Global, text: &str) -> Unasked {
@@ -37,7 +50,45 @@ fn unread(alloc: Global, error: &Error) -> Unasked {
     wrong(alloc, UNTOLD)
 }
 
-/// What words ask for that may be none, of a machine that may have a terminal for the picture.
+/// Returns whether djpeg's option is among the words, before `--`.
+fn has_outfile(words: &[String]) -> bool {
+    for word in words {
+        match word.as_str() {
+            "--" => return false,
+            "-outfile" => return true,
+            _ => {}
+        }
+    }
+    false
+}
+
+/// Returns whether a picture of this name would replace what is read.
+fn is_own_input<D: Devices>(devices: &D, asked: &Asked, name: &str) -> bool {
+    let source = asked.file.as_ref().map(|file| file.as_str());
+    matches!(devices.destination(name, source), Destination::Source)
+}
+
+/// Returns whether a name ends as those of other formats do.
+fn has_other_ending(name: &str) -> bool {
+    let Some((_, ending)) = name.rsplit_once('.') else {
+        return false;
+    };
+    OTHER_ENDINGS
+        .iter()
+        .any(|other| ending.eq_ignore_ascii_case(other))
+}
+
+/// Writes a warning if the picture's name ends as those of other formats do, unless little is to be told.
+pub fn warn_of_name<E: Write>(asked: &Asked, errors: &mut E) {
+    if let Target::File(name) = &asked.target {
+        if !asked.telling.is_quiet && has_other_ending(name.as_str()) {
+            let _ = errors.write_all(OTHER_ENDING.as_bytes());
+        }
+    }
+}
+
+/// What words ask for that may be none, of a machine that may have a terminal for the picture, or the file that is read under the
+/// picture's name.
 pub fn understood<D: Devices>(
     alloc: Global,
     devices: &D,
@@ -50,9 +101,15 @@ pub fn understood<D: Devices>(
         Ok(words) => words,
         Err(error) => return Err(unread(alloc, &error)),
     };
+    if has_outfile(&words) {
+        return Err(wrong(alloc, NO_OUTFILE));
+    }
     let asked = asked(alloc, &words)?;
-    match asked.target {
+    match &asked.target {
         Target::Output if devices.is_output_terminal() => Err(wrong(alloc, ONTO_TERMINAL)),
+        Target::File(name) if is_own_input(devices, &asked, name.as_str()) => {
+            Err(wrong(alloc, OWN_INPUT))
+        }
         _ => Ok(asked),
     }
 }

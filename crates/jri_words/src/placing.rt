@@ -10,8 +10,8 @@ use jri_file::Fault;
 use std::alloc::{AllocError, Global};
 use std::io::{Error, ErrorKind};
 
-/// How many names for a part are tried.
-const PARTS: u32 = 1000;
+/// Maximum number of names that are tried for a part.
+const MAX_PARTS: u32 = 1000;
 
 /// A new file in the folder of another.
 #[derive(Drop)]
@@ -22,11 +22,11 @@ pub struct Part<F> {
     pub name: String,
 }
 
-/// The name of a part, in the folder of the file that it is to be.
-fn part_name(alloc: Global, name: &str, number: u32) -> Result<String, AllocError> {
+/// Returns the name of a part of this run, in the directory of the file that it is to be.
+fn part_name(alloc: Global, name: &str, run: u64, number: u32) -> Result<String, AllocError> {
     match name.rsplit_once('/') {
-        Some((folder, _)) => format!(in alloc; "{folder}/.jri-{number}.part"),
-        None => format!(in alloc; ".jri-{number}.part"),
+        Some((directory, _)) => format!(in alloc; "{directory}/.jri-{run:x}-{number}.part"),
+        None => format!(in alloc; ".jri-{run:x}-{number}.part"),
     }
 }
 
@@ -40,7 +40,7 @@ pub fn unwritten(reason: Error) -> Ending
     }
 }
 
-/// Makes a part of a file, under the first name that nothing has.
+/// Creates a part of a file, under the first name that nothing has, with the permissions of the file that it is to replace.
 pub fn make_part<D: Devices>(
     alloc: Global,
     devices: &mut D,
@@ -49,14 +49,15 @@ pub fn make_part<D: Devices>(
     ensures made { IfOk result (λ part. Follow (D.steps devices.old) (D.steps devices.new) (Created (string_bytes part.name) ∷ [])) }
     ensures none { IfErr result (λ ending. Follow (D.steps devices.old) (D.steps devices.new) []) }
 {
-    for number in 1..=PARTS {
-        let Ok(part) = part_name(alloc, name, number) else {
+    let run = devices.run_number();
+    for number in 1..=MAX_PARTS {
+        let Ok(part) = part_name(alloc, name, run, number) else {
             return Err(Ending {
                 outcome: Err(Fault::Memory),
                 reason: None,
             });
         };
-        match devices.create(part.as_str()) {
+        match devices.create(part.as_str(), name) {
             Ok(file) => return Ok(Part { file, name: part }),
             Err(error) if error.kind() == ErrorKind::AlreadyExists => {}
             Err(error) => return Err(unwritten(error)),
