@@ -117,3 +117,17 @@ def test_checks_many_in_their_order(photo, tmp_path, workers):
 def test_refuses_no_workers():
     with pytest.raises(ValueError):
         list(jri.check_many([], workers=-1))
+
+
+@pytest.mark.parametrize("call", [jri.measure, jri.decode, jri.index, lambda source: jri.lines(source, 8), lambda source: list(jri.damages(source))])
+def test_errors_name_their_file(tmp_path, call):
+    path = tmp_path / "text.jpg"
+    path.write_bytes(b"text")
+    with pytest.raises(jri.Refused) as raised:
+        call(path)
+    assert raised.value.filename == str(path) and str(raised.value) == f"{path}: not a JPEG file"
+    with open(path, "rb") as file, pytest.raises(jri.Refused, match="text.jpg: "):
+        call(file)
+    with pytest.raises(jri.Refused) as raised:
+        call(b"text")
+    assert raised.value.filename is None and str(raised.value) == "not a JPEG file"

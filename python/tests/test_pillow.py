@@ -6,7 +6,7 @@ import subprocess
 import numpy
 import pytest
 from conftest import by_djpeg, made
-from PIL import Image
+from PIL import Image, ImageFile
 
 import jri.pillow
 
@@ -62,3 +62,13 @@ def test_opens_paths(tmp_path, photo):
 def test_by_itself_again(photo):
     jri.pillow.unregister()
     assert not isinstance(Image.open(io.BytesIO(made(8, 8, ["-grayscale"]))), jri.pillow.JriImageFile)
+
+
+@pytest.mark.parametrize("cut", [True, False])
+def test_damage_is_an_error_unless_allowed(photo, cut, monkeypatch):
+    start = photo.index(b"\xff\xd0") + 2
+    broken = photo[: len(photo) // 2] if cut else photo[:start] + bytes(len(photo) - start - 2) + photo[-2:]
+    with pytest.raises(OSError, match="truncated" if cut else "broken data stream"):
+        Image.open(io.BytesIO(broken)).load()
+    monkeypatch.setattr(ImageFile, "LOAD_TRUNCATED_IMAGES", True)
+    assert numpy.array_equal(numpy.asarray(Image.open(io.BytesIO(broken))), jri.decode(broken))

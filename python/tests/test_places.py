@@ -101,3 +101,26 @@ def test_damaged_intervals(photo):
     assert found[-1].bytes is None and found[0].first_line <= found[-1].last_line == 148
     with pytest.raises(jri.Refused):
         list(jri.damages(b"GIF89a"))
+
+
+@pytest.mark.parametrize("count", [1, 7, 16, 100, 149, 1000])
+@pytest.mark.parametrize("first", [0, 5, 148])
+def test_lines_in_parts(picture, count, first):
+    data, expected = picture
+    line = first
+    for at, pixels in jri.lines(data, count, first):
+        assert at == line and len(pixels) == min(count, 149 - at)
+        assert numpy.array_equal(pixels, expected[at : at + len(pixels)])
+        line += len(pixels)
+    assert line == 149
+
+
+def test_a_cut_upload_is_seen(picture):
+    data, _ = picture
+    for file, damaged in ((data, False), (data[: len(data) * 3 // 5], True)):
+        stream = jri.Stream()
+        lines = sum(len(pixels) for _, pixels in stream.feed(file))
+        assert stream.report is None and not stream.damaged
+        lines += sum(len(pixels) for _, pixels in stream.close())
+        assert lines == 149 and stream.damaged == damaged
+        assert stream.report is not None and stream.report.ended == ("end of file" if damaged else "EOI")

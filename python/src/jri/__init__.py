@@ -59,25 +59,30 @@ _ENDS: Dict[int, Ended] = {1: "EOI", 2: "marker", 3: "out of step", 4: "extra re
 
 
 class Refused(ValueError):
-    """The file is no baseline JPEG file that is decoded here: `number`, 1 to 18, and `detail` tell why, as in jri.h."""
+    """A file that jri does not decode: `number`, 1 to 18, and `detail` say why, as in jri.h; `filename` is its name or None."""
 
-    def __init__(self, number: int, detail: int) -> None:
-        super().__init__(refusal_text(number, detail))
-        self.number, self.detail = number, detail
+    def __init__(self, number: int, detail: int, filename: Optional[str] = None) -> None:
+        super().__init__(_with_name(filename, refusal_text(number, detail)))
+        self.number, self.detail, self.filename = number, detail, filename
 
     def __reduce__(self) -> Tuple[Any, ...]:
-        return Refused, (self.number, self.detail)
+        return Refused, (self.number, self.detail, self.filename)
 
 
 class Damaged(ValueError):
-    """Some restart interval has no decoding, and sound pictures alone were asked for: `picture` is what there is."""
+    """A file with a damaged interval, if only sound ones are wanted: `picture` is what there is, `filename` its name or None."""
 
-    def __init__(self, picture: "Picture") -> None:
-        super().__init__(f"{picture.report.damaged} of {picture.report.intervals} intervals are damaged")
-        self.picture = picture
+    def __init__(self, picture: "Picture", filename: Optional[str] = None) -> None:
+        told = f"{picture.report.damaged} of {picture.report.intervals} intervals are damaged"
+        super().__init__(_with_name(filename, told))
+        self.picture, self.filename = picture, filename
 
     def __reduce__(self) -> Tuple[Any, ...]:
-        return Damaged, (self.picture,)
+        return Damaged, (self.picture, self.filename)
+
+
+def _with_name(filename: Optional[str], text: str) -> str:
+    return text if filename is None else f"{filename}: {text}"
 
 
 @dataclass(frozen=True)
@@ -156,7 +161,7 @@ def _bytes(source: Source) -> Any:
     try:
         view = memoryview(held).cast("B")
     except (TypeError, ValueError, BufferError):
-        raise TypeError(f"a source is bytes, a path or an open file, and no {type(source).__name__}") from None
+        raise TypeError(f"expected bytes, a path or an open file, got {type(source).__name__}") from None
     return ffi.from_buffer("uint8_t[]", view)
 
 
@@ -165,21 +170,35 @@ def _room(array: Pixels) -> Any:
     return ffi.from_buffer("uint8_t[]", array.reshape(-1), require_writable=True)
 
 
-def _raise(status: int, number: int, detail: int) -> None:
-    """Raises what an answer without a picture stands for."""
+def _name_of(source: Source) -> Optional[str]:
+    """Returns the name of a source that is a path or an open file with a name, otherwise None."""
+    name = source if isinstance(source, (str, os.PathLike)) else getattr(source, "name", None)
+    return os.fsdecode(name) if isinstance(name, (str, bytes, os.PathLike)) else None
+
+
+def _raise(status: int, number: int, detail: int, name: Optional[str] = None) -> None:
+    """Raises the error for a status without an image, of a file of this name."""
     if status == NO_MEMORY:
-        raise MemoryError("libjri was refused memory")
+        raise MemoryError("out of memory")
     if status == REFUSED:
-        raise Refused(number, detail)
-    raise ValueError({NO_ROOM: "the buffer has too little room", NO_LINES: "the picture has no such lines"}[status])
+        raise Refused(number, detail, name)
+    text = {NO_ROOM: "the buffer is too small", NO_LINES: "the image has no such lines"}[status]
+    raise ValueError(_with_name(name, text))
 
 
-def _measured(file: Any) -> Measure:
+def _measured(file: Any, name: Optional[str] = None) -> Measure:
     told = ffi.new("struct jri_measure *")
     status = library.jri_measure(file, len(file), told)
     if status != SOUND:
-        _raise(status, told.refusal, told.detail)
+        _raise(status, told.refusal, told.detail, name)
     return Measure(told.width, told.height, told.components, told.intervals)
+
+
+def _within(head: Measure, max_pixels: int, name: Optional[str]) -> None:
+    """Raises ValueError if an image has more pixels than this."""
+    if head.width * head.height > max_pixels:
+        text = f"image of {head.width} x {head.height} pixels exceeds max_pixels={max_pixels}"
+        raise ValueError(_with_name(name, text))
 
 
 def _reported(told: Any) -> Report:
@@ -221,8 +240,8 @@ def _decode(file: Any, pixels: Pixels, marks: Pixels, layout: Optional[Layout], 
 
 
 def measure(source: Source) -> Measure:
-    """What the head says; nothing is decoded."""
-    return _measured(_bytes(source))
+    """Returns what the head says; decodes nothing."""
+    return _measured(_bytes(source), _name_of(source))
 
 
 def read(
@@ -233,16 +252,15 @@ def read(
     A layout, "rgb", "bgr", "rgbx" or "bgrx", gives each pixel three bytes, or four of which the last is 255, grey spread to
     three; then the lines of `out` may stand apart.
     """
-    file = _bytes(source)
-    head = _measured(file)
-    if head.width * head.height > max_pixels:
-        raise ValueError(f"{head.width} by {head.height} pixels are more than max_pixels")
+    file, name = _bytes(source), _name_of(source)
+    head = _measured(file, name)
+    _within(head, max_pixels, name)
     pixels = _array(head, out) if layout is None else _canvas(head, layout, out)
     marks = numpy.empty(head.intervals, numpy.uint8)
     told = ffi.new("struct jri_report *")
     status = _decode(file, pixels, marks, layout, told)
     if status not in (SOUND, DAMAGED):
-        _raise(status, told.refusal, told.detail)
+        _raise(status, told.refusal, told.detail, name)
     return Picture(pixels, marks, _reported(told))
 
 
@@ -257,35 +275,8 @@ def decode(
     """The picture's pixels, in a layout as `read` has them. With damaged=False a damaged file raises `Damaged`."""
     picture = read(source, out=out, layout=layout, max_pixels=max_pixels)
     if picture.report.damaged and not damaged:
-        raise Damaged(picture)
+        raise Damaged(picture, _name_of(source))
     return picture.pixels
-
-
-def lines(source: Source, count: int, first: int = 0) -> Iterator[Tuple[int, Pixels]]:
-    """The picture's lines from `first` on, `count` at a time, each part with the number of its first line.
-
-    Each part reads the restart interval before it from its start: a file without restart markers is best asked for in few
-    parts of many lines each.
-    """
-    if count < 1:
-        raise ValueError("count has to be at least 1")
-    file = _bytes(source)
-    head = _measured(file)
-    if not 0 <= first < head.height:
-        raise ValueError(f"the picture has no line {first}")
-    return _parts(file, head, count, first)
-
-
-def _parts(file: Any, head: Measure, count: int, first: int) -> Iterator[Tuple[int, Pixels]]:
-    told = ffi.new("struct jri_report *")
-    while first < head.height:
-        some = min(count, head.height - first)
-        part = numpy.empty((some,) + head.shape[1:], numpy.uint8)
-        status = library.jri_decode_lines(file, len(file), first, some, _room(part), part.nbytes, told)
-        if status not in (SOUND, DAMAGED):
-            _raise(status, told.refusal, told.detail)
-        yield first, part
-        first += some
 
 
 def check(source: Source) -> Health:
@@ -294,7 +285,7 @@ def check(source: Source) -> Health:
     told = ffi.new("struct jri_report *")
     status = library.jri_check(file, len(file), ffi.NULL, 0, told)
     if status == NO_MEMORY:
-        raise MemoryError("libjri was refused memory")
+        raise MemoryError("out of memory")
     if status == REFUSED:
         return Health("refused", None, told.refusal, told.detail)
     return Health("damaged" if status == DAMAGED else "sound", _reported(told), None, None)
@@ -330,4 +321,4 @@ def check_many(
             yield first, checked.result()
 
 
-from .places import Damage, Index, Stream, damages, index  # noqa: E402  (they stand on what is defined above)
+from .places import Damage, Index, Stream, damages, index, lines  # noqa: E402  (they use what is defined above)

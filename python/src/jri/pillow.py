@@ -4,7 +4,7 @@ from __future__ import annotations
 
 from typing import Any, Optional, Tuple
 
-from PIL import Image, JpegImagePlugin
+from PIL import Image, ImageFile, JpegImagePlugin
 
 import jri
 
@@ -38,16 +38,23 @@ class JriImageFile(_JpegImageFile):  # type: ignore[misc]
         return super().load()
 
     def _decoded(self) -> Optional[jri.Pixels]:
-        """The pixels by libjri; None where it does not decode the file as Pillow opened it."""
+        """Returns the pixels by libjri, or None if it does not decode the file as Pillow opened it.
+
+        Raises OSError for a damaged file, as Pillow does, unless ImageFile.LOAD_TRUNCATED_IMAGES is set.
+        """
         at = self.fp.tell()
         self.fp.seek(0)
         try:
-            pixels = jri.decode(self.fp, max_pixels=self.width * self.height)
+            picture = jri.read(self.fp, max_pixels=self.width * self.height)
         except ValueError:
-            pixels = None
-        if pixels is None or pixels.shape[:2] != (self.height, self.width):
+            picture = None
+        if picture is None or picture.pixels.shape[:2] != (self.height, self.width):
             self.fp.seek(at)
             return None
+        if picture.report.damaged and not ImageFile.LOAD_TRUNCATED_IMAGES:
+            is_cut = picture.report.ended == "end of file"
+            raise OSError("image file is truncated" if is_cut else "broken data stream when reading image file")
+        pixels = picture.pixels
         return pixels if (pixels.ndim == 2) == (self.mode == "L") else None
 
 

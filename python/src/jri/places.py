@@ -7,16 +7,19 @@ from typing import Any, Iterator, List, NamedTuple, Optional, Tuple
 
 import numpy
 
-from . import MAX_PIXELS, Measure, Pixels, Source, _bytes, _measured, _raise, _room
+from . import MAX_PIXELS, Health, Measure, Pixels, Report, Source, _bytes, _measured, _name_of, _raise, _room, _within, check
 from ._library import ALL, DAMAGED, MORE, NO_LINES, REFUSED, SOUND, ffi, library
 
-__all__ = ["Damage", "Index", "Stream", "damages", "index"]
+__all__ = ["Damage", "Index", "Stream", "damages", "index", "lines"]
 
 #: A row of MCUs has at most so many lines.
 _ROW_LINES = 32
 
 #: About so many bytes are decoded by one call.
 _PART_BYTES = 1 << 20
+
+#: A stream fed with small parts looks for new lines when the bytes of about this number of rows have come.
+_ROWS_AHEAD = 2
 
 #: The refusals of bytes that may still become a file: that it ends early, and that it does not begin with SOI.
 _ENDS_EARLY, _NOT_JPEG = 2, 1
@@ -45,15 +48,58 @@ def _decoded(file: Any, more: int, place: Any, rows: int, head: Measure, room: i
     return Part(told.first_line, pixels[: told.lines])
 
 
+def lines(source: Source, count: int, first: int = 0) -> Iterator[Part]:
+    """Yields the image's lines starting at `first`, `count` at a time, each part with the number of its first line.
+
+    Reads the file once, whatever `count` is.
+    """
+    if count < 1:
+        raise ValueError("count must be at least 1")
+    file, name = _bytes(source), _name_of(source)
+    head = _measured(file, name)
+    if not 0 <= first < head.height:
+        raise ValueError(f"the image has no line {first}")
+    return _parts_of(file, head, first, count)
+
+
+def _parts_of(file: Any, head: Measure, first: int, count: int) -> Iterator[Part]:
+    """Yields `count` lines at a time, starting at `first`, from blocks of whole rows of MCUs."""
+    row_lines = _lines_of_row(file, head)
+    place = _place_of_row(file, first // row_lines)
+    room = max(count, _PART_BYTES // (head.width * head.components)) + row_lines
+    rest = numpy.empty((0,) + head.shape[1:], numpy.uint8)
+    skip = first % row_lines
+    while first < head.height:
+        wanted = min(count, head.height - first)
+        if len(rest) < wanted:
+            block = _decoded(file, ALL, place, _ALL_ROWS, head, room)
+            assert block is not None
+            rest = numpy.concatenate([rest, block.pixels[skip:]]) if len(rest) else block.pixels[skip:]
+            skip = 0
+        yield Part(first, rest[:wanted])
+        rest, first = rest[wanted:], first + wanted
+
+
+def _place_of_row(file: Any, row: int) -> Any:
+    """Returns the position before a row of MCUs."""
+    place, told = ffi.new("struct jri_place *"), ffi.new("struct jri_rows *")
+    status = library.jri_skip_rows(file, len(file), ALL, place, row, told) if row else SOUND
+    if status != SOUND:
+        _raise(status, told.refusal, told.detail)
+    return place
+
+
 class Stream:
-    """A picture whose file arrives in parts.
+    """An image whose file arrives in parts.
 
         stream = jri.Stream()
         for data in connection:
             for first, pixels in stream.feed(data): ...
         for first, pixels in stream.close(): ...
+        if stream.damaged: ...
 
-    Each line is given once, in its order, as soon as the bytes settle it; no line is taken back. It holds the file's bytes.
+    Returns each line once, in order, when the bytes make it final: with small parts, within some rows of MCUs. No line is
+    taken back. Keeps the file's bytes.
     """
 
     def __init__(self, *, max_pixels: int = MAX_PIXELS) -> None:
@@ -61,26 +107,55 @@ class Stream:
         self._place = ffi.new("struct jri_place *")
         self._max_pixels = max_pixels
         self._closed = False
+        # how many bytes there have to be for the next look
+        self._wanted = 0
+        self._health: Optional[Health] = None
         #: what the head says, once it has come
         self.head: Optional[Measure] = None
 
     def feed(self, data: Any) -> List[Part]:
-        """More bytes have come: the lines that they settle. A fault that no further byte can mend raises `Refused`."""
+        """Takes more bytes and returns the lines that they make final. Raises `Refused` for a fault that no further byte can mend."""
         if self._closed:
             raise ValueError("the stream is closed")
         try:
             self._data += memoryview(data).cast("B")
         except TypeError:
-            raise TypeError(f"a part of a file is bytes, and no {type(data).__name__}") from None
-        return self._parts(MORE)
+            raise TypeError(f"expected bytes, got {type(data).__name__}") from None
+        if len(self._data) < self._wanted:
+            return []
+        parts = self._parts(MORE)
+        self._wanted = self._next_look()
+        return parts
 
     def close(self) -> List[Part]:
-        """Nothing more comes: all further lines, grey where the file has none."""
+        """Ends the file and returns all further lines, grey where the file has none."""
         if self._closed:
             return []
         parts = self._parts(ALL)
         self._closed = True
         return parts
+
+    @property
+    def report(self) -> Optional[Report]:
+        """The report of the closed file, by a check of its bits; None before the stream is closed."""
+        if self._closed and self._health is None:
+            self._health = check(self._data)
+        return self._health.report if self._health else None
+
+    @property
+    def damaged(self) -> bool:
+        """Whether an interval of the closed file is damaged, as if the file was cut off; False before the stream is closed."""
+        report = self.report
+        return report is not None and report.damaged > 0
+
+    def _next_look(self) -> int:
+        """Returns the number of bytes at which the next look is worth its time: each one reads the head and a begun row again."""
+        if self.head is None:
+            return len(self._data) + len(self._data) // 4
+        at, row = int(self._place.at), int(self._place.row)
+        if row == 0:
+            return len(self._data) + (len(self._data) - at) // 2
+        return len(self._data) + _ROWS_AHEAD * at // (row + 1)
 
     def _parts(self, more: int) -> List[Part]:
         with ffi.from_buffer("uint8_t[]", self._data) as file:
@@ -97,7 +172,7 @@ class Stream:
                 parts.append(part)
 
     def _begun(self, file: Any, more: int) -> Optional[Measure]:
-        """What the head says; None where more bytes are wanted for it."""
+        """Returns what the head says; None if more bytes are wanted for it."""
         told = ffi.new("struct jri_measure *")
         status = library.jri_measure(file, len(file), told)
         is_short = told.refusal == _ENDS_EARLY or (told.refusal == _NOT_JPEG and len(file) < 2)
@@ -106,8 +181,7 @@ class Stream:
         if status != SOUND:
             _raise(status, told.refusal, told.detail)
         head = Measure(told.width, told.height, told.components, told.intervals)
-        if head.width * head.height > self._max_pixels:
-            raise ValueError(f"{head.width} by {head.height} pixels are more than max_pixels")
+        _within(head, self._max_pixels, None)
         self.head = head
         return head
 
@@ -122,7 +196,7 @@ class Index:
     def lines(self, first: int, count: int) -> Pixels:
         """`count` lines of the picture from `first` on."""
         if first < 0 or count < 1 or first + count > self.head.height:
-            raise ValueError("the picture has no such lines")
+            raise ValueError("the image has no such lines")
         at = bisect.bisect_right(self._firsts, first) - 1
         above = first - self._firsts[at]
         rows = -(-(above + count) // self._row_lines)
@@ -135,9 +209,9 @@ class Index:
 def index(source: Source, rows: int = 8) -> Index:
     """An index of a file by one pass that decodes nothing: a place before each so many rows of MCUs."""
     if rows < 1:
-        raise ValueError("rows has to be at least 1")
-    file = _bytes(source)
-    head = _measured(file)
+        raise ValueError("rows must be at least 1")
+    file, name = _bytes(source), _name_of(source)
+    head = _measured(file, name)
     firsts, places = [], []
     place, told = ffi.new("struct jri_place *"), ffi.new("struct jri_rows *")
     line, row_lines = 0, 0
@@ -177,22 +251,23 @@ class Damage(NamedTuple):
 
 
 def damages(source: Source) -> Iterator[Damage]:
-    """The damaged intervals of a file, in their order. It makes no picture."""
-    return _damages(_bytes(source))
+    """Yields the damaged intervals of a file, in order. Makes no image."""
+    return _damages(_bytes(source), _name_of(source))
 
 
-def _damages(file: Any) -> Iterator[Damage]:
-    room, first = 64, 0
-    listed, told = ffi.new("struct jri_damage[]", room), ffi.new("struct jri_damage_list *")
+def _damages(file: Any, name: Optional[str]) -> Iterator[Damage]:
+    room, first, told = 64, 0, ffi.new("struct jri_damage_list *")
     while True:
+        listed = ffi.new("struct jri_damage[]", room)
         status = library.jri_damages(file, len(file), first, listed, room, told)
         if status == SOUND:
             return
         if status != DAMAGED:
-            _raise(status, told.refusal, told.detail)
+            _raise(status, told.refusal, told.detail, name)
         for one in listed[0 : told.count]:
             span = (one.start, one.end) if one.start < one.end else None
             yield Damage(
                 one.interval, one.first_mcu, one.mcus, one.decodable, one.first_line, one.last_line, span
             )
-        first = told.next
+        # each call reads the file again, so the space for the next one grows
+        first, room = told.next, min(16 * room, 1 << 20)
