@@ -28,5 +28,15 @@ sum_sources() {
     { rt version; find $(list_parts) -type f -print0 | LC_ALL=C sort -z | xargs -0 sha256sum; } | sha256sum
 }
 
+# Puts the name of the toolchain that built these files in the place that crates/jri_version has for it, which keeps its length.
+name_toolchain() {
+    local unnamed="an unnamed toolchain" built_by file
+    built_by=$(rt version | cut -d " " -f 1)
+    built_by=$(printf "%-${#unnamed}.${#unnamed}s" "$built_by")
+    for file; do
+        LC_ALL=C sed -i "s|$unnamed|$built_by|" "$file"
+    done
+}
+
 crates=""
 closure "$name"

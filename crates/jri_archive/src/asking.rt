@@ -95,7 +95,7 @@ fn with_file_words<'a>(alloc: Global, command: Command<'a>) -> Result<Command<'a
 fn wordless<'a>(alloc: Global) -> Command<'a> {
     Command::new(alloc, "jri_check")
         .about("Tells which baseline JPEG files are sound, and what is damaged of the others")
-        .version(VERSION)
+        .version(VERSION.trim_end())
         .no_binary_name(true)
 }
 

@@ -116,6 +116,7 @@ pub fn build_text(text: &mut [u8]) -> usize
     ensures kept { drop result text.new ≡ drop result text.old }
 {
     let mut line = Cursor::new([0; LONG_ROOM]);
-    let _ = write!(line, "jri {VERSION}");
+    let version = VERSION.trim_end();
+    let _ = write!(line, "jri {version}");
     put_line(&line, text)
 }

@@ -367,7 +367,8 @@ fn answers_words_that_ask_for_no_picture(rt: HostRuntime) -> Result<(), Fail> {
     let mut machine = machine(rt.alloc())?;
     let (lines, status) = run_on(&rt, &mut machine, "--version")?;
     assert!(rt; lines.is_empty() && status == 0);
-    let told = "jri 0.1.0 (built in a working tree, and of no named commit, rattle-kit-13f)\n";
+    let told =
+        "jri 0.1.0 (built in a working tree, and of no named commit) by an unnamed toolchain\n";
     assert!(rt; machine.written()?.as_slice() == told.as_bytes());
     let mut lines = Vec::new(rt.alloc());
     let unread = Err(Error::from(ErrorKind::InvalidData));

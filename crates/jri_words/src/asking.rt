@@ -107,7 +107,7 @@ fn command<'a>(alloc: Global) -> Result<Command<'a>, AllocError>
 {
     let command = Command::new(alloc, "jri")
         .about(ABOUT)
-        .version(VERSION)
+        .version(VERSION.trim_end())
         .after_help(AFTER_HELP)
         .no_binary_name(true);
     with_writing_words(alloc, with_decoding_words(alloc, command)?)
