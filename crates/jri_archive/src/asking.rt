@@ -25,7 +25,7 @@ fn workers_argument<'a>(alloc: Global) -> Arg<'a> {
         .long("workers")
         .action(ArgAction::Set)
         .value_name("N")
-        .help("How many files are checked at once, 1 to 64")
+        .help("Number of threads, 1 to 64")
         .value_parser(value_parser!(u32).range(1..=i64::from(MAX_WORKERS)))
         .default_value("4")
 }
@@ -35,7 +35,7 @@ fn recursive_argument<'a>(alloc: Global) -> Arg<'a> {
     flag(
         alloc,
         "recursive",
-        "Checks the JPEG files in folders, and in their folders",
+        "Check the JPEG files in directories, recursively",
     )
     .short('r')
 }
@@ -46,9 +46,7 @@ fn list_argument<'a>(alloc: Global) -> Arg<'a> {
         .long("files0-from")
         .action(ArgAction::Set)
         .value_name("LIST")
-        .help(
-            "Checks the files whose names LIST has, too, each ended by a NUL byte; - is standard input",
-        )
+        .help("Also check the NUL-terminated names in LIST; - is standard input")
 }
 
 /// The files.
@@ -57,25 +55,17 @@ fn files_argument<'a>(alloc: Global) -> Result<Arg<'a>, AllocError> {
         .action(ArgAction::Append)
         .num_args(1..)
         .value_name("FILE")
-        .help("The JPEG files")
+        .help("JPEG files to check")
         .required_unless_present("files0-from")
 }
 
 /// The words that tell what is told.
 fn with_telling_words<'a>(alloc: Global, command: Command<'a>) -> Result<Command<'a>, AllocError> {
     command
-        .arg(flag(
-            alloc,
-            "map",
-            "A line for each damaged restart interval, too",
-        ))?
-        .arg(flag(alloc, "json", "Each line is a JSON object"))?
-        .arg(flag(alloc, "quiet", "Tells nothing of sound files"))?
-        .arg(flag(
-            alloc,
-            "counts",
-            "The last line tells how many files are what",
-        ))
+        .arg(flag(alloc, "map", "Also list each damaged restart interval"))?
+        .arg(flag(alloc, "json", "Print each line as a JSON object"))?
+        .arg(flag(alloc, "quiet", "List no sound files and print no counts"))?
+        .arg(flag(alloc, "counts", "Also print the counts as the last line"))
 }
 
 /// The words that tell how many files are checked at once, and where further ones are found.
@@ -91,11 +81,22 @@ fn with_file_words<'a>(alloc: Global, command: Command<'a>) -> Result<Command<'a
     command.arg(files_argument(alloc)?)
 }
 
+/// The text of `--help` after the options.
+const AFTER_HELP: &str = "\
+Exit status, the highest that applies:
+  0  every file is sound
+  1  a file is damaged or refused
+  2  bad arguments
+  3  a file or the list cannot be read
+  4  out of memory, or the output cannot be written
+The statuses 1 and 3 of jri mean other things.";
+
 /// The program, without its words.
 fn wordless<'a>(alloc: Global) -> Command<'a> {
     Command::new(alloc, "jri_check")
-        .about("Tells which baseline JPEG files are sound, and what is damaged of the others")
+        .about("Check baseline JPEG files for damage")
         .version(VERSION.trim_end())
+        .after_help(AFTER_HELP)
         .no_binary_name(true)
 }
 

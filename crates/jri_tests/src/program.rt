@@ -27,7 +27,7 @@ const DAMAGED_LINES: &str = "intervals 2 sound 1 damaged 1 blank 0\nscan ended a
 const REFUSED_LINE: &str = "refused 1: not a JPEG file\n";
 
 const ONTO_TERMINAL: &str =
-    "the picture is not written onto a terminal: say -o PICTURE, or --force\n";
+    "refusing to write the image to a terminal; use -o PICTURE or --force\n";
 
 /// The lines and the exit status of a run on a machine.
 fn run_on<R: Threads + Wait + Sync + AllocGlobal>(
@@ -225,12 +225,12 @@ const KEEPING: [(&str, Option<&str>, u8); 5] = [
     ("-o old.pgm --workers 0 sound.jpg", None, 2),
     (
         "-o old.pgm old.pgm",
-        Some("the picture would replace the file that is read: name another file\n"),
+        Some("refusing to replace the file that is read; name another PICTURE\n"),
         2,
     ),
     (
         "-outfile old.pgm",
-        Some("there is no -outfile: say -o PICTURE\n"),
+        Some("there is no option -outfile; use -o PICTURE\n"),
         2,
     ),
 ];
@@ -373,7 +373,7 @@ fn answers_words_that_ask_for_no_picture(rt: HostRuntime) -> Result<(), Fail> {
     let mut lines = Vec::new(rt.alloc());
     let unread = Err(Error::from(ErrorKind::InvalidData));
     let status = program(&rt, rt.alloc(), &mut machine, unread, &mut lines);
-    let told = "the words are not text: a file whose name is not UTF-8 is decoded by jri < FILE\n";
+    let told = "an argument is not valid UTF-8; use: jri < FILE\n";
     assert!(rt; lines.as_slice() == told.as_bytes() && status == 2);
     let mut lines = Vec::new(rt.alloc());
     let unread = Err(Error::from(ErrorKind::OutOfMemory));

@@ -23,7 +23,7 @@ fn workers_word<'a>(alloc: Global) -> Arg<'a>
         .long("workers")
         .action(ArgAction::Set)
         .value_name("N")
-        .help("How many threads decode, 1 to 64")
+        .help("Number of decoding threads, 1 to 64")
         .value_parser(value_parser!(u32).range(1..=i64::from(MAX_WORKERS)))
         .default_value("4")
 }
@@ -49,7 +49,7 @@ fn file_word<'a>(alloc: Global) -> Arg<'a>
     Arg::new(alloc, "file")
         .action(ArgAction::Set)
         .value_name("FILE")
-        .help("The JPEG file; standard input where there is none, or where it is -")
+        .help("JPEG file to decode; standard input if absent or -")
 }
 
 /// `-o PICTURE`.
@@ -62,7 +62,7 @@ fn output_word<'a>(alloc: Global) -> Arg<'a>
         .long("output")
         .action(ArgAction::Set)
         .value_name("PICTURE")
-        .help("Write the picture to this file; standard output where it is -")
+        .help("Write the image to PICTURE; - is standard output")
 }
 
 /// A word that stands alone.
@@ -92,12 +92,12 @@ fn with_writing_words<'a>(alloc: Global, command: Command<'a>) -> Result<Command
 {
     command
         .arg(output_word(alloc))?
-        .arg(flag_word(alloc, "force", "Write the picture onto a terminal, too"))?
-        .arg(flag_word(alloc, "quiet", "Leave out the report; errors are told"))?
+        .arg(flag_word(alloc, "force", "Write the image even to a terminal"))?
+        .arg(flag_word(alloc, "quiet", "Do not print the report"))?
         .arg(flag_word(
             alloc,
             "verbose",
-            "Tell the file's name and the system's reason, too",
+            "Add the file name and the system error to each line",
         ))
 }
 

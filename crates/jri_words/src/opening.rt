@@ -10,26 +10,25 @@ use crate::devices::{Destination, Devices, Source};
 use std::alloc::Global;
 use std::io::{Error, ErrorKind, Result as IoResult, Write};
 
-/// What is told of words that are not text.
-const UNTOLD: &str =
-    "the words are not text: a file whose name is not UTF-8 is decoded by jri < FILE\n";
+/// The text for arguments that are not text.
+const UNTOLD: &str = "an argument is not valid UTF-8; use: jri < FILE\n";
 
-/// What is told where nobody has said from which file the bytes come.
+/// The text if standard input is a terminal.
 const WAITING: &str = "waiting for a JPEG file on standard input\n";
 
-/// What is told where the picture would go onto a terminal.
+/// The text for an image that would go to a terminal.
 const ONTO_TERMINAL: &str =
-    "the picture is not written onto a terminal: say -o PICTURE, or --force\n";
+    "refusing to write the image to a terminal; use -o PICTURE or --force\n";
 
 /// The text for a picture that would replace the file that is read.
-const OWN_INPUT: &str = "the picture would replace the file that is read: name another file\n";
+const OWN_INPUT: &str = "refusing to replace the file that is read; name another PICTURE\n";
 
 /// The text for djpeg's option, which `-o` would take for a file named utfile.
-const NO_OUTFILE: &str = "there is no -outfile: say -o PICTURE\n";
+const NO_OUTFILE: &str = "there is no option -outfile; use -o PICTURE\n";
 
 /// The text for a picture whose name ends as those of other formats do.
 const OTHER_ENDING: &str =
-    "warning: the picture is written as PGM or PPM, whatever its name ends in\n";
+    "warning: the image is written as PGM or PPM, whatever its name ends in\n";
 
 /// The endings of other formats' names, in small letters.
 const OTHER_ENDINGS: [&str; 8] = ["png", "jpg", "jpeg", "gif", "webp", "tif", "tiff", "bmp"];
