@@ -16,9 +16,12 @@
 //! | `C`, `C3` | the header of a scan of one component, or of three |
 //! | `J`, `T`, `T1` | a JFIF mark, and Adobe marks with transform 0 and 1 |
 //! | `64*10` | 64 times the byte 10 |
+//! | `M:0005:000C:0006` | the intervals of 12 MCUs of 6 data units, at most 5 MCUs each, with restart markers between them |
+//! | `cut:146` | of the bytes before it the first 146 |
+//! | `at:140:FF` | the byte 140 before it becomes FF |
 
+use crate::error::NotationError;
 use std::alloc::Global;
-use std::test::Fail;
 
 /// Files up to their scans' data.
 const GROUPS: [(&str, &str); 4] = [
@@ -91,6 +94,14 @@ const FORMS: [(&str, &str); 6] = [
     ("I", "FF DD 00 04 |"),
 ];
 
+/// Twenty-two data units of twelve bits, each lighter than the one before, or else darker, eleven times in turn. In none are
+/// all columns the same, or all lines. They take the tables `D` and `A2:00:01`.
+const UNITS: [u8; 33] = [
+    0x64, 0x87, 0x5A, 0x6D, 0xA7, 0xDA, 0x6C, 0xA6, 0xC8, 0x74, 0x87, 0x58, 0x65, 0x87, 0x5A, 0x74,
+    0xA5, 0xCA, 0x4C, 0xA5, 0x58, 0x45, 0x85, 0x58, 0x44, 0x84, 0xCA, 0x4C, 0xA5, 0xDA, 0x4D, 0xA4,
+    0xD8,
+];
+
 /// The text beside a name in a table.
 fn text_of<'a>(table: &[(&'a str, &'a str)], word: &str) -> Option<&'a str> {
     for (name, text) in table {
@@ -102,10 +113,10 @@ fn text_of<'a>(table: &[(&'a str, &'a str)], word: &str) -> Option<&'a str> {
 }
 
 /// Puts the bytes that pairs of hexadecimal digits write.
-fn put_hex(bytes: &mut Vec<u8>, digits: &str) -> Result<(), Fail> {
+fn put_hex(bytes: &mut Vec<u8>, digits: &str) -> Result<(), NotationError> {
     let mut high = None;
     for c in digits.chars() {
-        let digit = c.to_digit(16).ok_or("no hexadecimal digit")? as u8;
+        let digit = c.to_digit(16).ok_or(NotationError::Malformed)? as u8;
         high = match high {
             None => Some(digit),
             Some(before) => {
@@ -118,7 +129,7 @@ fn put_hex(bytes: &mut Vec<u8>, digits: &str) -> Result<(), Fail> {
 }
 
 /// Puts pairs of digits, or so many times a pair.
-fn put_digits(bytes: &mut Vec<u8>, word: &str) -> Result<(), Fail> {
+fn put_digits(bytes: &mut Vec<u8>, word: &str) -> Result<(), NotationError> {
     match word.split_once('*') {
         None => put_hex(bytes, word),
         Some((times, digits)) => {
@@ -130,7 +141,7 @@ fn put_digits(bytes: &mut Vec<u8>, word: &str) -> Result<(), Fail> {
     }
 }
 
-fn put_all_digits(bytes: &mut Vec<u8>, words: &str) -> Result<(), Fail> {
+fn put_all_digits(bytes: &mut Vec<u8>, words: &str) -> Result<(), NotationError> {
     for word in words.split_whitespace() {
         put_digits(bytes, word)?;
     }
@@ -138,7 +149,7 @@ fn put_all_digits(bytes: &mut Vec<u8>, words: &str) -> Result<(), Fail> {
 }
 
 /// Puts a part with arguments: each fragment, and the argument behind it.
-fn put_form(bytes: &mut Vec<u8>, fragments: &str, arguments: &str) -> Result<(), Fail> {
+fn put_form(bytes: &mut Vec<u8>, fragments: &str, arguments: &str) -> Result<(), NotationError> {
     let mut values = arguments.split(':');
     for fragment in fragments.split('|') {
         put_all_digits(bytes, fragment)?;
@@ -149,20 +160,78 @@ fn put_form(bytes: &mut Vec<u8>, fragments: &str, arguments: &str) -> Result<(),
     Ok(())
 }
 
-fn put_part(bytes: &mut Vec<u8>, word: &str) -> Result<(), Fail> {
+/// Puts so many data units; those of each interval begin with other ones.
+fn put_units(bytes: &mut Vec<u8>, number: u32, units: u32) -> Result<(), NotationError> {
+    let first = number.wrapping_mul(3);
+    for k in 0..units.wrapping_mul(3).div_ceil(2) {
+        let at = first.wrapping_add(k) as usize % UNITS.len();
+        bytes.push(UNITS[at])?;
+    }
+    Ok(())
+}
+
+/// The number that hexadecimal digits write.
+fn next_number(digits: Option<&str>) -> Result<u32, NotationError> {
+    Ok(u32::from_str_radix(digits.ok_or(NotationError::Malformed)?, 16)?)
+}
+
+/// Puts the intervals of a scan, as `0005:000C:0006`: the most MCUs of each, how many MCUs there are, and how many data units each
+/// has. Each interval takes whole bytes.
+fn put_scan(bytes: &mut Vec<u8>, arguments: &str) -> Result<(), NotationError> {
+    let mut numbers = arguments.split(':');
+    let each = next_number(numbers.next())?;
+    let mut left = next_number(numbers.next())?;
+    let units = next_number(numbers.next())?;
+    for number in 0..left.div_ceil(each.max(1)) {
+        if number > 0 {
+            let marker = (number.wrapping_sub(1) % 8) as u8;
+            bytes.extend_from_slice(&[0xFF, 0xD0 | marker])?;
+        }
+        put_units(bytes, number, each.min(left).wrapping_mul(units))?;
+        left = left.saturating_sub(each);
+    }
+    Ok(())
+}
+
+/// Changes the byte at an offset, as `140:FF`.
+fn change(bytes: &mut Vec<u8>, arguments: &str) -> Result<(), NotationError> {
+    let (at, digits) = arguments.split_once(':').ok_or(NotationError::Malformed)?;
+    let value = u8::from_str_radix(digits, 16)?;
+    let byte = bytes
+        .get_mut(at.parse::<usize>()?)
+        .ok_or(NotationError::Malformed)?;
+    *byte = value;
+    Ok(())
+}
+
+/// Puts a part with arguments, or changes the bytes before it.
+fn put_named(bytes: &mut Vec<u8>, name: &str, arguments: &str) -> Result<(), NotationError> {
+    match name {
+        "cut" => {
+            bytes.truncate(arguments.parse::<usize>()?);
+            Ok(())
+        }
+        "at" => change(bytes, arguments),
+        "M" => put_scan(bytes, arguments),
+        _ => match text_of(&FORMS, name) {
+            Some(fragments) => put_form(bytes, fragments, arguments),
+            None => Err(NotationError::Malformed),
+        },
+    }
+}
+
+fn put_part(bytes: &mut Vec<u8>, word: &str) -> Result<(), NotationError> {
     if let Some(words) = text_of(&PARTS, word) {
         return put_all_digits(bytes, words);
     }
-    if let Some((name, arguments)) = word.split_once(':') {
-        if let Some(fragments) = text_of(&FORMS, name) {
-            return put_form(bytes, fragments, arguments);
-        }
+    match word.split_once(':') {
+        Some((name, arguments)) => put_named(bytes, name, arguments),
+        None => put_digits(bytes, word),
     }
-    put_digits(bytes, word)
 }
 
 /// Puts the bytes of words; groups of parts are none of them.
-pub fn put_parts(bytes: &mut Vec<u8>, words: &str) -> Result<(), Fail> {
+pub fn put_parts(bytes: &mut Vec<u8>, words: &str) -> Result<(), NotationError> {
     for word in words.split_whitespace() {
         put_part(bytes, word)?;
     }
@@ -170,7 +239,7 @@ pub fn put_parts(bytes: &mut Vec<u8>, words: &str) -> Result<(), Fail> {
 }
 
 /// The bytes of a file in the notation above.
-pub fn file(alloc: Global, words: &str) -> Result<Vec<u8>, Fail> {
+pub fn file(alloc: Global, words: &str) -> Result<Vec<u8>, NotationError> {
     let mut bytes = Vec::new(alloc);
     for word in words.split_whitespace() {
         match text_of(&GROUPS, word) {
@@ -187,9 +256,14 @@ pub fn front(bytes: &[u8], length: usize) -> &[u8] {
 }
 
 /// The bytes of a file, one of them changed.
-pub fn with_byte(alloc: Global, bytes: &[u8], at: usize, value: u8) -> Result<Vec<u8>, Fail> {
+pub fn with_byte(
+    alloc: Global,
+    bytes: &[u8],
+    at: usize,
+    value: u8,
+) -> Result<Vec<u8>, NotationError> {
     let mut bytes = bytes.to_vec(alloc)?;
-    let byte = bytes.get_mut(at).ok_or("no byte there")?;
+    let byte = bytes.get_mut(at).ok_or(NotationError::Malformed)?;
     *byte = value;
     Ok(bytes)
 }

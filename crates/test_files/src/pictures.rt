@@ -1,14 +1,15 @@
 //! Pictures in a short notation.
 //!
 //! `P5 16 8 : 8*136 8*128` is the header of a PGM of 16 columns and 8 lines, each of them 8 times 136 and 8 times 128.
-//! Different lines are separated by `/`. The samples of a colour are joined by commas: `16*229,77,128`.
+//! Different lines are separated by `/`, and `8x` before one puts it eight times. The samples of a colour are joined by commas:
+//! `16*229,77,128`.
 
+use crate::error::NotationError;
 use std::alloc::{AllocError, Global};
-use std::test::Fail;
 
 /// Puts so many times the bytes of a pixel, as `16*229,77,128`.
-fn put_run(bytes: &mut Vec<u8>, word: &str) -> Result<(), Fail> {
-    let (times, pixel) = word.split_once('*').ok_or("no run")?;
+fn put_run(bytes: &mut Vec<u8>, word: &str) -> Result<(), NotationError> {
+    let (times, pixel) = word.split_once('*').ok_or(NotationError::Malformed)?;
     for _ in 0..times.parse::<u32>()? {
         for sample in pixel.split(',') {
             bytes.push(sample.parse::<u8>()?)?;
@@ -17,9 +18,21 @@ fn put_run(bytes: &mut Vec<u8>, word: &str) -> Result<(), Fail> {
     Ok(())
 }
 
-fn put_line(bytes: &mut Vec<u8>, line: &str) -> Result<(), Fail> {
+fn put_line(bytes: &mut Vec<u8>, line: &str) -> Result<(), NotationError> {
     for word in line.split_whitespace() {
         put_run(bytes, word)?;
+    }
+    Ok(())
+}
+
+/// Puts a line, as often as `8x` before it says, or else so many times.
+fn put_lines(bytes: &mut Vec<u8>, line: &str, times: u32) -> Result<(), NotationError> {
+    let (times, line) = match line.split_once('x') {
+        Some((digits, line)) => (digits.trim().parse::<u32>()?, line),
+        None => (times, line),
+    };
+    for _ in 0..times {
+        put_line(bytes, line)?;
     }
     Ok(())
 }
@@ -30,22 +43,26 @@ pub fn header(alloc: Global, magic: &str, width: u32, height: u32) -> Result<Str
 }
 
 /// The Netpbm text of a picture in the notation above.
-pub fn picture(alloc: Global, words: &str) -> Result<Vec<u8>, Fail> {
-    let (size, lines) = words.split_once(" : ").ok_or("no lines")?;
+pub fn picture(alloc: Global, words: &str) -> Result<Vec<u8>, NotationError> {
+    let (size, lines) = words.split_once(" : ").ok_or(NotationError::Malformed)?;
     let mut parts = size.split_whitespace();
-    let magic = parts.next().ok_or("no magic")?;
-    let width = parts.next().ok_or("no width")?.parse::<u32>()?;
-    let height = parts.next().ok_or("no height")?.parse::<u32>()?;
+    let magic = parts.next().ok_or(NotationError::Malformed)?;
+    let width = parts
+        .next()
+        .ok_or(NotationError::Malformed)?
+        .parse::<u32>()?;
+    let height = parts
+        .next()
+        .ok_or(NotationError::Malformed)?
+        .parse::<u32>()?;
     let text = header(alloc, magic, width, height)?;
     let mut bytes = text.as_bytes().to_vec(alloc)?;
     if lines.contains('/') {
         for line in lines.split('/') {
-            put_line(&mut bytes, line)?;
+            put_lines(&mut bytes, line, 1)?;
         }
     } else {
-        for _ in 0..height {
-            put_line(&mut bytes, lines)?;
-        }
+        put_lines(&mut bytes, lines, height)?;
     }
     Ok(bytes)
 }

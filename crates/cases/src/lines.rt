@@ -1,0 +1,145 @@
+//! The calls of the C library that decode some lines, decode onto a canvas, and list damage.
+
+use crate::buffers::{NONE, report_lines};
+use crate::case::Case;
+use crate::differences::{compare_bytes, compare_texts};
+use crate::failure::Failure;
+use crate::texts::map_lines;
+use jri_damages::{Damage, DamageReport, list_damages};
+use jri_memory::{decode_canvas, decode_lines};
+use std::alloc::{AllocError, Global};
+
+/// The number of lines that are decoded at once.
+const LINES: u32 = 3;
+
+/// The number of lines that are decoded alone is about so great.
+const CALLS: u32 = 16;
+
+/// A line of a canvas is so many bytes longer than one of the picture.
+const SPARE: usize = 5;
+
+/// Returns the bytes of so many lines starting at one.
+fn lines_at<'a>(samples: &'a [u8], line: usize, first: u32, count: u32) -> &'a [u8] {
+    let from = usize::saturating_mul(first as usize, line).min(samples.len());
+    let rest = &samples[from..];
+    let length = usize::saturating_mul(count as usize, line).min(rest.len());
+    &rest[..length]
+}
+
+/// Decodes lines that start at several lines of the picture.
+fn check_some_lines(case: &Case<'_>, out: &mut String) -> Result<(), Failure> {
+    let (alloc, line, height) = (case.alloc, case.line(), case.measure.height);
+    let step = height.div_ceil(CALLS).max(1);
+    for first in (0..height).step_by(step as usize) {
+        let count = LINES.min(height.saturating_sub(first));
+        let mut pixels = vec![in alloc; 0; usize::saturating_mul(count as usize, line)]?;
+        let mut report = NONE;
+        let _answer = decode_lines(alloc, case.bytes, first, count, &mut pixels, &mut report);
+        let wanted = lines_at(case.samples(), line, first, count);
+        compare_bytes(out, case.at("some lines"), wanted, pixels.as_slice())?;
+    }
+    Ok(())
+}
+
+/// Decodes all lines, which has the report of the whole picture.
+fn check_all_lines(case: &Case<'_>, out: &mut String) -> Result<(), Failure> {
+    let (alloc, height) = (case.alloc, case.measure.height);
+    let mut pixels = vec![in alloc; 0; case.samples().len()]?;
+    let mut report = NONE;
+    let answer = decode_lines(alloc, case.bytes, 0, height, &mut pixels, &mut report);
+    let lines = report_lines(alloc, &report)?;
+    case.compare("all lines", pixels.as_slice(), lines.as_str(), answer, out)
+}
+
+/// Returns the lines of a canvas, without what is between them.
+fn without_spare(alloc: Global, canvas: &[u8], line: usize) -> Result<Vec<u8>, AllocError> {
+    let mut lines = Vec::new(alloc);
+    for part in canvas.chunks(line.saturating_add(SPARE).max(1)) {
+        lines.extend_from_slice(&part[..line.min(part.len())])?;
+    }
+    Ok(lines)
+}
+
+/// Decodes onto a canvas in the picture's own layout.
+fn check_canvas(case: &Case<'_>, out: &mut String) -> Result<(), Failure> {
+    let (alloc, line, bytes) = (case.alloc, case.line(), case.bytes);
+    let stride = line.saturating_add(SPARE);
+    let mut canvas = vec![in alloc; 7; stride.saturating_mul(case.measure.height as usize)]?;
+    let mut report = NONE;
+    let answer = decode_canvas(alloc, bytes, &mut canvas, stride, 0, &mut [], &mut report);
+    let found = without_spare(alloc, canvas.as_slice(), line)?;
+    let lines = report_lines(alloc, &report)?;
+    case.compare("canvas", found.as_slice(), lines.as_str(), answer, out)
+}
+
+/// Puts the line of a damaged interval.
+fn put_damage(text: &mut String, damage: &Damage) -> Result<(), AllocError> {
+    let (interval, mcus, decodable) = (damage.interval, damage.mcus, damage.decodable);
+    let (first, top, bottom) = (damage.first_mcu, damage.first_line, damage.last_line);
+    let last = first.saturating_add(mcus.saturating_sub(1));
+    write!(
+        text,
+        "interval {interval}, MCUs {first} to {last}, lines {top} to {bottom}, "
+    )?;
+    if damage.start == damage.end {
+        text.push_str("no bytes")?;
+    } else {
+        let (start, last) = (damage.start, damage.end.saturating_sub(1));
+        write!(text, "bytes {start} to {last}")?;
+    }
+    writeln!(text, ", {decodable} of {mcus} MCUs decodable")
+}
+
+/// A damage of nothing.
+const UNDAMAGED: Damage = Damage {
+    interval: 0,
+    first_mcu: 0,
+    mcus: 0,
+    decodable: 0,
+    first_line: 0,
+    last_line: 0,
+    start: 0,
+    end: 0,
+};
+
+/// Returns the lines of the damaged intervals, listed two at a time.
+fn listed(alloc: Global, bytes: &[u8], intervals: u32) -> Result<String, AllocError> {
+    let mut text = String::new(alloc);
+    let mut next = 0;
+    for _ in 0..=intervals {
+        let mut damages = [UNDAMAGED; 2];
+        let mut report = DamageReport {
+            count: 0,
+            next: 0,
+            refusal: 0,
+            detail: 0,
+        };
+        let _answer = list_damages(alloc, bytes, next, &mut damages, &mut report);
+        for damage in damages.iter().take(report.count as usize) {
+            put_damage(&mut text, damage)?;
+        }
+        next = report.next;
+        if next >= intervals {
+            return Ok(text);
+        }
+    }
+    Ok(text)
+}
+
+/// Decodes lines of a case's file, decodes it onto a canvas, and lists its damage.
+pub(crate) fn check_lines_of(case: &Case<'_>, out: &mut String) -> Result<(), Failure> {
+    if case.is_refused() {
+        return Ok(());
+    }
+    check_some_lines(case, out)?;
+    check_all_lines(case, out)?;
+    check_canvas(case, out)?;
+    let wanted = map_lines(case.alloc, case.row.damaged)?;
+    let found = listed(case.alloc, case.bytes, case.measure.intervals)?;
+    compare_texts(
+        out,
+        case.at("list of damage"),
+        wanted.as_str(),
+        found.as_str(),
+    )
+}

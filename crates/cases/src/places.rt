@@ -1,0 +1,179 @@
+//! Rows of MCUs from positions: one after the other, all at once, while the file comes, and each from its own position.
+
+ghost use Rattle.std.specs.Prelude.{◌<◌};
+
+use crate::buffers::refusal_line;
+use crate::case::Case;
+use crate::differences::{compare_bytes, compare_texts};
+use crate::failure::Failure;
+use jri_memory::status::SOUND;
+use jri_memory::{RowPlace, RowsReport, decode_file_rows, skip_file_rows};
+use std::alloc::Global;
+
+/// A file of more bytes does not come in small parts.
+const LONG: usize = 1024;
+
+/// The top of a picture.
+const TOP: RowPlace = RowPlace {
+    at: 0,
+    bit: 0,
+    row: 0,
+    interval: 0,
+    mcu: 0,
+    predictions: [0; 3],
+    state: 0,
+};
+
+/// A report of nothing.
+const NONE: RowsReport = RowsReport {
+    rows: 0,
+    lines: 0,
+    first_line: 0,
+    refusal: 0,
+    detail: 0,
+};
+
+/// The position behind the rows that are decoded, and what the last call reported.
+#[derive(Clone, Copy)]
+struct Reading {
+    place: RowPlace,
+    report: RowsReport,
+    /// The size of a line in bytes.
+    line: usize,
+}
+
+impl Reading {
+    fn at_top(line: usize) -> Reading {
+        Reading {
+            place: TOP,
+            report: NONE,
+            line,
+        }
+    }
+
+    /// Decodes at most so many rows to their lines in `pixels`, which has the whole picture, and returns the call's answer.
+    fn decode(
+        &mut self,
+        alloc: Global,
+        bytes: &[u8],
+        more: u32,
+        rows: u32,
+        first_line: u32,
+        pixels: &mut [u8],
+    ) -> u32 {
+        let from = usize::saturating_mul(first_line as usize, self.line).min(pixels.len());
+        let pixels = &mut pixels[from..];
+        let (mut place, mut report) = (self.place, NONE);
+        let answer = decode_file_rows(alloc, bytes, more, &mut place, rows, pixels, &mut report);
+        self.place = place;
+        self.report = report;
+        answer
+    }
+
+    /// Returns the line behind those of the last call.
+    fn next_line(&self) -> u32 {
+        self.report.first_line.saturating_add(self.report.lines)
+    }
+}
+
+/// Decodes rows into `pixels`, at most so many a call, until no row is left.
+fn by_rows(case: &Case<'_>, rows: u32, pixels: &mut [u8]) -> Reading {
+    let mut reading = Reading::at_top(case.line());
+    let mut first_line = 0;
+    for _ in 0..=pixels.len() {
+        let answer = reading.decode(case.alloc, case.bytes, 0, rows, first_line, pixels);
+        if answer != SOUND {
+            return reading;
+        }
+        first_line = reading.next_line();
+    }
+    reading
+}
+
+/// Decodes the rows that are settled each time that so many bytes have come, and the others at the end.
+fn in_parts(case: &Case<'_>, part: usize, pixels: &mut [u8])
+    requires { 0 < part }
+{
+    let (alloc, bytes) = (case.alloc, case.bytes);
+    let mut reading = Reading::at_top(case.line());
+    let mut first_line = 0;
+    let mut length: usize = 0;
+    for more in bytes.chunks(part) {
+        length = length.saturating_add(more.len()).min(bytes.len());
+        let answer = reading.decode(alloc, &bytes[..length], 1, u32::MAX, first_line, pixels);
+        if answer == SOUND && reading.report.lines > 0 {
+            first_line = reading.next_line();
+        }
+    }
+    reading.decode(alloc, bytes, 0, u32::MAX, first_line, pixels);
+}
+
+/// A position, and the first line behind it.
+#[derive(Clone, Copy)]
+struct IndexEntry {
+    place: RowPlace,
+    first_line: u32,
+}
+
+/// Returns the positions before each row.
+fn index(alloc: Global, bytes: &[u8], height: u32) -> Result<Vec<IndexEntry>, Failure> {
+    let mut entries = Vec::new(alloc);
+    let mut next = TOP;
+    for _ in 0..height {
+        let place = next;
+        let mut report = NONE;
+        if skip_file_rows(alloc, bytes, 0, &mut next, 1, &mut report) != SOUND {
+            return Ok(entries);
+        }
+        let first_line = report.first_line;
+        entries.push(IndexEntry { place, first_line })?;
+    }
+    Ok(entries)
+}
+
+/// Decodes each row from its own position, the last row first.
+fn by_index(case: &Case<'_>, pixels: &mut [u8]) -> Result<(), Failure> {
+    let entries = index(case.alloc, case.bytes, case.measure.height)?;
+    for entry in entries.iter().rev() {
+        let mut reading = Reading::at_top(case.line());
+        reading.place = entry.place;
+        reading.decode(case.alloc, case.bytes, 0, 1, entry.first_line, pixels);
+    }
+    Ok(())
+}
+
+/// Compares a picture with a case's, and clears it.
+fn compare_pixels(
+    case: &Case<'_>,
+    path: &str,
+    pixels: &mut [u8],
+    out: &mut String,
+) -> Result<(), Failure> {
+    compare_bytes(out, case.at(path), case.samples(), pixels)?;
+    pixels.fill(7);
+    Ok(())
+}
+
+/// Compares the refusal that a call reports.
+fn compare_refusal(case: &Case<'_>, report: &RowsReport, out: &mut String) -> Result<(), Failure> {
+    let found = refusal_line(case.alloc, report.refusal, report.detail)?;
+    compare_texts(out, case.at("rows"), case.report, found.as_str())
+}
+
+/// Decodes the rows of a case's file from positions.
+pub(crate) fn check_places(case: &Case<'_>, out: &mut String) -> Result<(), Failure> {
+    let alloc = case.alloc;
+    let mut pixels = vec![in alloc; 7; case.samples().len()]?;
+    let reading = by_rows(case, 1, &mut pixels);
+    if case.is_refused() {
+        return compare_refusal(case, &reading.report, out);
+    }
+    compare_pixels(case, "row by row", &mut pixels, out)?;
+    let _all = by_rows(case, u32::MAX, &mut pixels);
+    compare_pixels(case, "all rows", &mut pixels, out)?;
+    let part = if case.bytes.len() <= LONG { 1 } else { 4099 };
+    in_parts(case, part, &mut pixels);
+    compare_pixels(case, "rows as they come", &mut pixels, out)?;
+    by_index(case, &mut pixels)?;
+    compare_pixels(case, "rows by index", &mut pixels, out)
+}

@@ -1,0 +1,107 @@
+//! Runs of the program's decoder, with one worker and with several.
+
+ghost use Rattle.std.specs.Prelude.{◌≤◌};
+ghost use Rattle.jr_base.specs.declared.limits.TheConstants.{MAX_WORKERS};
+
+use crate::case::Case;
+use crate::differences::compare_bytes;
+use crate::failure::Failure;
+use jr_paint::Tally;
+use jr_wall::OpenGate;
+use jri_engine::{Fault, Report, finish, run};
+use std::alloc::Global;
+use std::io::{Read, Result as IoResult};
+use std::sync::Wait;
+use std::thread::Threads;
+
+/// Compares the samples, the report and the exit status of an outcome.
+pub(crate) fn compare_outcome(
+    case: &Case<'_>,
+    path: &str,
+    samples: &[u8],
+    outcome: Result<Report, Fault>,
+    out: &mut String,
+) -> Result<(), Failure> {
+    let mut report = Vec::new(case.alloc);
+    let mut nothing = Tally::of(Vec::new(case.alloc));
+    let status = finish(outcome, &mut nothing, &mut report);
+    let found = str::from_utf8(report.as_slice()).unwrap_or("no text");
+    case.compare(path, samples, found, u32::from(status), out)
+}
+
+/// Compares the text of a picture, and its outcome.
+pub(crate) fn compare_written(
+    case: &Case<'_>,
+    path: &str,
+    text: &[u8],
+    outcome: Result<Report, Fault>,
+    out: &mut String,
+) -> Result<(), Failure> {
+    compare_bytes(out, case.at(path), case.picture, text)?;
+    compare_outcome(case, path, case.samples(), outcome, out)
+}
+
+/// Returns `count` bytes at most a call.
+#[derive(Drop)]
+struct SlowInput<'a> {
+    rest: &'a [u8],
+    count: usize,
+}
+
+impl Read for SlowInput<'_> {
+    fn read(&mut self, buffer: &mut [u8]) -> IoResult<usize> {
+        let count = buffer.len().min(self.count).min(self.rest.len());
+        let (part, rest) = self.rest.split_at(count);
+        buffer[..count].copy_from_slice(part);
+        self.rest = rest;
+        Ok(count)
+    }
+}
+
+/// Runs a case with this number of workers.
+fn check_run<R: Threads + Wait + Sync, I: Read + Drop>(
+    rt: &R,
+    case: &Case<'_>,
+    input: I,
+    workers: u32,
+    path: &str,
+    out: &mut String,
+) -> Result<(), Failure>
+    requires some { 1 ≤ workers }
+    requires few { workers ≤ MAX_WORKERS }
+{
+    let first = case.row.options.first;
+    let mut input = Tally::of(input);
+    let mut text = Tally::of(Vec::new(case.alloc));
+    let outcome = run(
+        rt, case.alloc, &mut input, &mut text, workers, first, &OpenGate,
+    );
+    compare_written(case, path, text.into_inner().as_slice(), outcome, out)
+}
+
+/// Runs a case with 1, 2, 4 and 64 workers, once with an input that returns some bytes a call.
+pub(crate) fn check_runs<R: Threads + Wait + Sync>(
+    rt: &R,
+    case: &Case<'_>,
+    out: &mut String,
+) -> Result<(), Failure> {
+    let rest = case.bytes;
+    let slow = SlowInput { rest, count: 4099 };
+    check_run(rt, case, rest, 1, "run with 1 worker", out)?;
+    check_run(rt, case, slow, 2, "run with 2 workers", out)?;
+    check_run(rt, case, rest, 4, "run with 4 workers", out)?;
+    check_run(rt, case, rest, 64, "run with 64 workers", out)
+}
+
+/// Returns the picture of a file that one worker writes, and what the run comes to.
+pub(crate) fn written<R: Threads + Wait + Sync>(
+    rt: &R,
+    alloc: Global,
+    bytes: &[u8],
+    first: Option<u32>,
+) -> (Vec<u8>, Result<Report, Fault>) {
+    let mut input = Tally::of(bytes);
+    let mut text = Tally::of(Vec::new(alloc));
+    let outcome = run(rt, alloc, &mut input, &mut text, 1, first, &OpenGate);
+    (text.into_inner(), outcome)
+}

@@ -1,0 +1,31 @@
+//! What is wrong with words of the notations.
+
+use std::alloc::{AllocError, AllocFailed};
+use std::num::ParseIntError;
+
+/// Why words are no file and no picture.
+#[derive(Clone, Copy, Debug, PartialEq, Eq)]
+pub enum NotationError {
+    /// They are not of the notation.
+    Malformed,
+    /// Memory was refused.
+    Memory,
+}
+
+impl From<AllocError> for NotationError {
+    fn from(_refused: AllocError) -> Self {
+        NotationError::Memory
+    }
+}
+
+impl From<ParseIntError> for NotationError {
+    fn from(_wrong: ParseIntError) -> Self {
+        NotationError::Malformed
+    }
+}
+
+impl<T: Drop> From<AllocFailed<T>> for NotationError {
+    fn from(_refused: AllocFailed<T>) -> Self {
+        NotationError::Memory
+    }
+}
