@@ -37,6 +37,8 @@ fn unread(error: &Error) -> ReadError {
         ErrorKind::NotFound => ReadError::NotFound,
         ErrorKind::PermissionDenied => ReadError::NotAllowed,
         ErrorKind::IsADirectory => ReadError::Folder,
+        // a name that is no text never reaches the system
+        ErrorKind::InvalidFilename if error.raw_os_error().is_some() => ReadError::NameTooLong,
         ErrorKind::InvalidFilename => ReadError::NameIsNoText,
         _ => ReadError::Failed,
     }
