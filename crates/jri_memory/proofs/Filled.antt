@@ -1,5 +1,7 @@
 -- Buffers whose front is filled.
-use Rattle.std.proofs.Common.{◌≡◌, ℕ, List, ◌++◌, length, drop, None, sym, ap, ◌∙◌}
+use Rattle.std.proofs.Common.{◌≡◌, ◌<◌, ◌≤◌, ℕ, List, ◌++◌, length, take, drop, None, inl, inr, sym, ap, ◌∙◌, arith}
+use Rattle.std.proofs.lemmas.Bool.{cases_lt}
+use Rattle.std.proofs.lemmas.List.{take-append-drop}
 use Rattle.jri_memory.specs.Calls.{over}
 use Rattle.jri_file.specs.Files.{IsScanOfFile, IsPictureOf}
 use Rattle.jr_scan.specs.ScanValue.{ScanValue}
@@ -13,3 +15,15 @@ filled bytes front old n is long = ap (λ (k : ℕ). bytes ++ drop k old) (sym l
 -- what a scan of the file shows, all of whose intervals are marked, is a picture of the file
 pub picture_shown : (file : List ℕ) (scan : ScanValue) (marks : List Mark) (f : ℕ → ℕ → ℕ → ℕ) → IsScanOfFile file scan → ShowsFirst scan (length scan.intervals) marks f → IsPictureOf file None scan marks f
 picture_shown file scan marks f is shows = record { is_scan = is; picture = shows.picture; decoded = shows.first }
+
+-- a buffer whose front is written back as it was
+pub unwritten : (front old : List ℕ) (n : ℕ) → front ≡ take n old → front ++ drop n old ≡ old
+unwritten front old n is = ap (λ (z : List ℕ). z ++ drop n old) is ∙ take-append-drop n old
+
+-- the marks that are asked for have room
+pub asked_few : (len count asked : ℕ) → (0 < len → asked ≡ count) → (len ≡ 0 → asked ≡ 0) → (0 < len → count ≤ len) → asked ≤ len
+asked_few len count asked all none few = elim (cases_lt 0 len) [ inl some ↦ omega (arith, all some, few some) | inr past ↦ omega (arith, none (omega (arith, past))) ]
+
+-- where some are asked for, all are
+pub asked_all : (len count asked : ℕ) → (0 < len → asked ≡ count) → (len ≡ 0 → asked ≡ 0) → 0 < asked → asked ≡ count
+asked_all len count asked all none some = elim (cases_lt 0 len) [ inl more ↦ all more | inr past ↦ omega (arith, none (omega (arith, past)), some) ]

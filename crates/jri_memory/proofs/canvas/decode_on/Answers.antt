@@ -1,19 +1,12 @@
-use Rattle.std.proofs.Common.{◌≡◌, ◌∙◌, ◌<◌, ◌≤◌, ◌*◌, ℕ, ap, subst, sym, length, take, rules, arith, inl, inr}
-use Rattle.std.proofs.lemmas.Bool.{cases_lt}
+use Rattle.std.proofs.Common.{◌≡◌, ◌∙◌, ◌<◌, ◌≤◌, ◌*◌, ℕ, ap, subst, sym, length, take, rules, arith}
 use Rattle.std.proofs.lemmas.List.{length-take-le}
 use Rattle.std.specs.Arc.{arc_value}
 use Rattle.jr_head.specs.Geometry.{components_of}
 use Rattle.jr_paint.specs.Lines as paint
 use Rattle.jri_canvas.specs.Layouts.{line_size, sample_count}
 use Rattle.jri_memory.specs.Canvases.{HasForm, LacksLayout, LaysScan}
-use Rattle.jri_memory.proofs.Filled.{filled, picture_shown}
+use Rattle.jri_memory.proofs.Filled.{asked_all, asked_few, filled, picture_shown, unwritten}
 use Rattle.jri_memory.proofs.canvas.decode_on.Goals as goal
-
-asked_few : (len count asked : ℕ) → (0 < len → asked ≡ count) → (len ≡ 0 → asked ≡ 0) → (0 < len → count ≤ len) → asked ≤ len
-asked_few len count asked all none few = elim (cases_lt 0 len) [ inl some ↦ omega (arith, all some, few some) | inr past ↦ omega (arith, none (omega (arith, past))) ]
-
-asked_all : (len count asked : ℕ) → (0 < len → asked ≡ count) → (len ≡ 0 → asked ≡ 0) → 0 < asked → asked ≡ count
-asked_all len count asked all none some = elim (cases_lt 0 len) [ inl more ↦ all more | inr past ↦ omega (arith, none (omega (arith, past)), some) ]
 
 pub slice_bounds-lay_scan-end-2 : goal.slice_bounds-lay_scan-end-2
 slice_bounds-lay_scan-end-2 c =
@@ -62,3 +55,8 @@ returns-clause-decoded c =
         no_fault = of.no_fault;
       };
     }
+
+pub returns-in_default-lay_scan-clause-marks : goal.returns-in_default-lay_scan-clause-marks
+returns-in_default-lay_scan-clause-marks c =
+    let same : c.lay_scan.new.marks ≡ take c.asked_for-asked.result c.args.marks.now = search rules in
+    unwritten c.lay_scan.new.marks c.args.marks.now c.asked_for-asked.result same

@@ -1,9 +1,11 @@
-use Rattle.std.proofs.Common.{◌≡◌, ◌∙◌, ◌<◌, ◌++◌, length, take, drop, rules, arith}
+use Rattle.std.proofs.Common.{◌≡◌, ◌∙◌, ◌<◌, ◌≤◌, ◌++◌, ap, length, sym, take, drop, rules, arith}
+use Rattle.std.proofs.lemmas.List.{length-take-le}
 use Rattle.std.specs.Arc.{arc_value}
 use Rattle.jr_paint.specs.Text.{lines_of}
+use Rattle.jr_scan.specs.ScanValue.{ScanValue}
 use Rattle.jr_stream.specs.Whole.{PaintsWhole}
 use Rattle.jri_memory.specs.Calls.{over}
-use Rattle.jri_memory.proofs.Filled.{filled, picture_shown}
+use Rattle.jri_memory.proofs.Filled.{asked_all, asked_few, filled, picture_shown, unwritten}
 use Rattle.jri_memory.proofs.decode.decode.Goals as goal
 
 pub returns-clause-decoded : goal.returns-clause-decoded
@@ -36,3 +38,28 @@ returns-clause-decoded c =
         no_fault = of.no_fault;
       };
     }
+
+pub slice_bounds-paint_scan-end-4 : goal.slice_bounds-paint_scan-end-4
+slice_bounds-paint_scan-end-4 c =
+    let few : 0 < length c.args.marks.now → c.intervals-count.result ≤ length c.args.marks.now = search (rules, c.lacks_room.ensures.room) in
+    let asked = c.asked_for-asked.ensures in
+    sym (length-take-le c.asked_for-asked.result c.args.marks.now (asked_few (length c.args.marks.now) c.intervals-count.result c.asked_for-asked.result asked.all asked.none few))
+
+pub paint_scan-requires-clause-places : goal.paint_scan-requires-clause-places
+paint_scan-requires-clause-places c there =
+    let few : 0 < length c.args.marks.now → c.intervals-count.result ≤ length c.args.marks.now = search (rules, c.lacks_room.ensures.room) in
+    let asked = c.asked_for-asked.ensures in
+    let fact = asked_few (length c.args.marks.now) c.intervals-count.result c.asked_for-asked.result asked.all asked.none few in
+    let long : length (take c.asked_for-asked.result c.args.marks.now) ≡ c.asked_for-asked.result = length-take-le c.asked_for-asked.result c.args.marks.now fact in
+    long ∙ asked_all (length c.args.marks.now) c.intervals-count.result c.asked_for-asked.result asked.all asked.none (omega (arith, there, long))
+    ∙ c.intervals-count.ensures.value ∙ ap (λ (s : ScanValue). length s.intervals) (c.deref-2.ensures ∙ sym c.deref-3.ensures)
+
+pub returns-in_default-clause-pixels : goal.returns-in_default-clause-pixels
+returns-in_default-clause-pixels c =
+    let same : c.paint_scan.new.pixels ≡ take c.bytes_of_picture-size.result c.args.pixels.now = search rules in
+    unwritten c.paint_scan.new.pixels c.args.pixels.now c.bytes_of_picture-size.result same
+
+pub returns-in_default-clause-marks : goal.returns-in_default-clause-marks
+returns-in_default-clause-marks c =
+    let same : c.paint_scan.new.marks ≡ take c.asked_for-asked.result c.args.marks.now = search rules in
+    unwritten c.paint_scan.new.marks c.args.marks.now c.asked_for-asked.result same

@@ -1,7 +1,7 @@
-use Rattle.std.proofs.Common.{◌≡◌, ◌*◌, length, rules, arith}
+use Rattle.std.proofs.Common.{◌≡◌, ◌*◌, length, take, rules, arith}
 use Rattle.std.specs.Arc.{arc_value}
 use Rattle.jr_stream.specs.SomeLines.{PaintsLines}
-use Rattle.jri_memory.proofs.Filled.{filled, picture_shown}
+use Rattle.jri_memory.proofs.Filled.{filled, picture_shown, unwritten}
 use Rattle.jri_memory.proofs.lines.decode_some.Goals as goal
 
 pub returns-clause-decoded : goal.returns-clause-decoded
@@ -22,3 +22,9 @@ returns-clause-decoded c =
       ended = search rules;
       no_fault = c.of.ensures.no_fault;
     }
+
+pub returns-in_default-clause-pixels : goal.returns-in_default-clause-pixels
+returns-in_default-clause-pixels c =
+    let size = c.args.count * c.bytes_of_line.result in
+    let same : c.paint_scan_lines.new.pixels ≡ take size c.args.pixels.now = search rules in
+    unwritten c.paint_scan_lines.new.pixels c.args.pixels.now size same
