@@ -1,4 +1,4 @@
-use Rattle.std.proofs.Common.{◌-◌, length, ap, sym, ◌∙◌, arith}
+use Rattle.std.proofs.Common.{rules, ◌≡◌, ◌-◌, [], get_or, length, ap, sym, ◌∙◌, arith}
 use Rattle.jr_scan.specs.GrowingScan.{GrowingScanValue}
 use Rattle.jr_scan.specs.IntervalValue.{IntervalValue}
 use Rattle.jr_scan.specs.ScanValue.{interval_of, intervals_of, mcus_in}
@@ -17,6 +17,7 @@ returns c =
     let segments = c.self.inside.cut.segments in
     let i = c.args.i in
     let made = c.of.ensures in
-    let kept = ap (λ (v : IntervalValue). v.bytes) made ∙ c.data.ensures.bytes ∙ sym (padded_at segments (intervals_of head - length segments) i) in
+    let come : c.data.result.now ≡ get_or segments i [] = search (rules, c.data.ensures.bytes) in
+    let kept = ap (λ (v : IntervalValue). v.bytes) made ∙ come ∙ sym (padded_at segments (intervals_of head - length segments) i) in
     interval_is c.of.result i (mcus_in head i) _ head (ap (λ (v : IntervalValue). v.number) made) (ap (λ (v : IntervalValue). v.mcus) made ∙ c.mcus_in.ensures.value) kept (ap (λ (v : IntervalValue). v.head) made)
     ∙ ap (λ (g : GrowingScanValue). interval_of g.scan i) c.self.view_is

@@ -47,6 +47,7 @@ returns c =
     let head = arc_value c.self.inside.head in
     let made = c.of.ensures in
     let kept = ap (λ (v : IntervalValue). v.bytes) made ∙ ap (λ (v : Vec ℕ). segment_data v.items c.if-i-len.span) c.in_ok-unstuffed.ensures ∙ span.bytes_are in
-    let mcus = ap (λ (v : IntervalValue). v.mcus) made ∙ c.mcus_in.ensures.value ∙ ap (λ (h : HeadValue). mcus_in h i) c.deref.ensures in
+    let own : c.mcus_in.result ≡ mcus_in c.deref.result.now i = search (rules, c.mcus_in.ensures.value) in
+    let mcus = ap (λ (v : IntervalValue). v.mcus) made ∙ own ∙ ap (λ (h : HeadValue). mcus_in h i) c.deref.ensures in
     interval_is c.of.result i (mcus_in head i) _ head (ap (λ (v : IntervalValue). v.number) made) mcus kept (ap (λ (v : IntervalValue). v.head) made ∙ c.in_ok-head.ensures)
     ∙ ap (λ (s : ScanValue). interval_of s i) c.self.view_is
