@@ -1,10 +1,10 @@
-use Rattle.std.proofs.Common.{rules, arith, sym, subst, ap, ◌∙◌, ◌≡◌, ℕ, ◌*◌, ◌≤◌, ◌++◌, Option, List, length, take, drop}
-use Rattle.std.proofs.Math.Seq.{take-append_seam}
+use Rattle.std.proofs.Common.{rules, arith, sym, subst, ◌≡◌, ℕ, ◌*◌, ◌≤◌, Option, List, length, take}
 use Rattle.std.specs.Option.{IfSome}
 use Rattle.jr_head.specs.Geometry.{vertical_max}
 use Rattle.jr_paint.specs.Lines.{line_size}
 use Rattle.jr_rows.specs.FirstIntervalsValue.{FirstIntervalsValue}
 use Rattle.jr_rows.specs.Rows.{CountsRow, ShowsLines, line_count}
+use Rattle.jr_rows.proofs.Lent.{all_back}
 use Rattle.jr_bench.specs.Bench.{HasRoom, HasSamples, HasWork, IsPainted}
 use Rattle.jr_bench.proofs.bench.Bench.decode.Goals as goal
 
@@ -37,7 +37,7 @@ invariant_of-result g c =
     let at = sym c.row-row.ensures in
     let same : length new ≡ length old.items = search (rules, c.decode_first-marked.auto.pixels) in
     let long : old.len ≡ length new = search (rules, c.decode_first-marked.auto.pixels) in
-    let is = ap (λ (n : ℕ). take n (new ++ drop (length new) old.items)) long ∙ take-append_seam new (drop (length new) old.items) in
+    let is = all_back old.len new old.items long in
     let room : 8 * vertical_max t.scan.head * line_size t.scan.head ≤ length old.items = subst (λ (k : Option FirstIntervalsValue). HasRoom k old.items) c.requires.part c.self.invariant.1 in
     let lines = subst (λ (r : ℕ). ShowsLines t.scan t.limit r (take (line_count t.scan.head r * line_size t.scan.head) new)) at e.lines in
     let counts = subst (λ (r : ℕ). CountsRow t.scan t.limit r marked) at e.counts in

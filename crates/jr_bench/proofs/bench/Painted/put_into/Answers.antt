@@ -1,5 +1,4 @@
 use Rattle.std.proofs.Common.{rules, arith, sym, subst, ap, ◌∙◌, ◌≡◌, ℕ, ◌-◌, ◌*◌, ◌≤◌, ◌++◌, Option, List, length, length-drop, take, drop}
-use Rattle.std.specs.Global.{Vec}
 use Rattle.std.proofs.lemmas.List.{length-take-le}
 use Rattle.std.proofs.lemmas.Slice.{take-put_mid_below}
 use borrow.Rule.Slice.PartMut.{put_mid}
@@ -9,7 +8,7 @@ use Rattle.jr_rows.specs.FirstIntervalsValue.{FirstIntervalsValue}
 use Rattle.jr_rows.specs.Rows.{line_count}
 use Rattle.jr_bench.specs.Bench.{HasRoom, IsPainted}
 use Rattle.jr_bench.specs.BenchValue.{PaintedValue}
-use Rattle.jr_bench.proofs.Lent.{all_back, part_back}
+use Rattle.jr_rows.proofs.Lent.{all_back, part_back}
 use Rattle.jr_bench.proofs.bench.Painted.put_into.Goals as goal
 
 pub copy_to-requires-clause-room : goal.copy_to-requires-clause-room
@@ -78,8 +77,9 @@ returns-clause-lines g c b first =
     let painted = subst (λ (k : Option FirstIntervalsValue). IsPainted k c.args.self) c.requires.part (subst (IsPainted g.S.OneFirstIntervals.part) c.self.view_is c.self.invariant.2) in
     let zero_from : from ≡ 0 = omega (arith, c.if-from-gt0.false) in
     let whole : size ≡ n = omega (arith, c.requires.room) in
-    ap (λ (v : Vec ℕ). take size (drop from v.items)) c.swap.ensures.y_after ∙ ap (λ (j : ℕ). take size (drop j ours)) zero_from ∙ ap (λ (j : ℕ). take j ours) whole
-    ∙ ap (λ (p : PaintedValue). take n p.pixels) c.self.view_is ∙ painted.lines b first
+    let all : take size (drop from ours) ≡ take n ours = ap (λ (j : ℕ). take size (drop j ours)) zero_from ∙ ap (λ (j : ℕ). take j ours) whole in
+    let shown = ap (λ (p : PaintedValue). take n p.pixels) c.self.view_is ∙ painted.lines b first in
+    search (rules, all ∙ shown)
 
 pub returns-clause-kept : goal.returns-clause-kept
 returns-clause-kept g c =
