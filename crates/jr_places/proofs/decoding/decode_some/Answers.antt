@@ -55,7 +55,7 @@ pub give_up-requires-clause-cursor : goal.give_up-requires-clause-cursor
 give_up-requires-clause-cursor c = c.decode_whole-whole.ensures.passes.is
 
 pub give_up-requires-clause-none : goal.give_up-requires-clause-none
-give_up-requires-clause-none c going = c.decode_whole-whole.ensures.none (omega (arith, c.if-whole-gt0.false)) (c.advance.ensures.some c.if-not-advance.false) going
+give_up-requires-clause-none c going = c.decode_whole-whole.ensures.none (omega arith) (c.advance.ensures.some c.if-not-advance.false) going
 
 pub returns-then-not-give_up-clause-passes : goal.returns-then-not-give_up-clause-passes
 returns-then-not-give_up-clause-passes c =
