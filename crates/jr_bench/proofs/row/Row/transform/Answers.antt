@@ -49,11 +49,3 @@ decode-requires-clause-blocks c =
     let few = mul-le-mul_right (blocks_of h) c.coded_of_row-coded.ensures.few in
     let fits : c.coded_of_row-coded.result * blocks_of h ≤ length c.deref.result.now = omega (arith, few, ap length blocks, c.requires.room.blocks) in
     subst (λ (g : HeadValue). c.coded_of_row-coded.result * blocks_of g ≤ length c.deref.result.now) (sym head) fits
-
-pub returns-clause-room : goal.returns-clause-room
-returns-clause-room c =
-    let head : c.head-head.result.now ≡ c.args.scan.now.head = search rules in
-    record {
-      blocks = ap (λ (r : RowValue). length r.blocks) c.self.view_is ∙ c.requires.room.blocks;
-      lines = subst (λ (g : HeadValue). HasLines g c.decode.new.self) head c.decode.ensures.room;
-    }
