@@ -283,3 +283,6 @@ cut_ended start bytes more c not_file h = record {
   few = omega (arith, h.few, length-append bytes more);
   unread = λ e. absurd (not_file e);
 }
+
+pub few_datas : (o : OpenSegments) → AreOpen o → length (datas_of o) ≤ o.intervals
+few_datas o is = omega (arith, is.few, count_of o)

@@ -14,7 +14,7 @@ use Rattle.jr_segments.specs.declared.kind.Kind.TheVariants.{Grey, Rgb, Ycc}
 use Rattle.jr_head.specs.Geometry.{component_count, order_of, dc_of, ac_of}
 use Rattle.jr_mcu.specs.Block.{IsInDcRange}
 use Rattle.jr_mcu.specs.Step.{TakesBlock, HasNoBlock}
-use Rattle.jr_mcu.specs.Mcus.{component, block_of, prediction, BeginsNoMcu}
+use Rattle.jr_mcu.specs.Mcus.{component, block_of, prediction, predicted, BeginsNoMcu, TakesMcu}
 use Rattle.jr_mcu.proofs.Words.{OneWord}
 use Rattle.jr_mcu.proofs.McuLaws.{Reads, prediction_same, reads_more, reads_stuck}
 use Rattle.jr_mcu.proofs.Ranges.{block_in_range}
@@ -89,3 +89,17 @@ missing one h start last all left zs c k is at three room none s = λ ys taken r
 
 pub last_in_range : (h : HeadValue) (start last : List ℤ) (all left : List Bool) (zs : List (List ℤ)) → InMcu h start all left last zs → All IsInDcRange last
 last_in_range h start last all left zs s = All-from_get_or IsInDcRange last (pos 0) (λ c lt. s.in_range c (omega (arith, lt, s.three)))
+
+three_are : (xs : List ℤ) (a b c : ℤ) → length xs ≡ 3 → get_or xs 0 (pos 0) ≡ a → get_or xs 1 (pos 0) ≡ b → get_or xs 2 (pos 0) ≡ c → xs ≡ a ∷ b ∷ c ∷ []
+three_are [] a b c three p q r = absurd (omega (arith, three))
+three_are (x ∷ []) a b c three p q r = absurd (omega (arith, three))
+three_are (x ∷ y ∷ []) a b c three p q r = absurd (omega (arith, three))
+three_are (x ∷ y ∷ z ∷ []) a b c three p q r = cc
+three_are (x ∷ y ∷ z ∷ u ∷ us) a b c three p q r = absurd (omega (arith, three))
+
+-- all of its blocks are taken
+pub predicted_behind : (h : HeadValue) (start last : List ℤ) (all left : List Bool) (zs : List (List ℤ)) → InMcu h start all left last zs → last ≡ predicted h start zs
+predicted_behind h start last all left zs s = three_are last _ _ _ s.three (s.each 0 (omega arith)) (s.each 1 (omega arith)) (s.each 2 (omega arith))
+
+pub mcu_taken : (h : HeadValue) (start last : List ℤ) (all left : List Bool) (zs : List (List ℤ)) → length zs ≡ length (order_of h) → InMcu h start all left last zs → TakesMcu h start zs all left
+mcu_taken h start last all left zs count s = record { taken = s.reads.taken; mcu = (omega (arith, count), s.reads.blocks); split = s.reads.split }

@@ -14,3 +14,4 @@ pub mod Standing
 pub mod GivenPlaces
 pub mod ShownSteps
 pub mod PaintedLines
+pub mod CursorSteps

@@ -13,3 +13,4 @@ pub mod ShownUnits
 pub mod PaintedRows
 pub mod WholeRows
 pub mod RowStarts
+pub mod Lent

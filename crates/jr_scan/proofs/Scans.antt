@@ -1,11 +1,12 @@
 -- A scan's intervals, their number and their MCUs.
-use Rattle.std.proofs.Common.{◌≡◌, ℕ, zero, suc, ◌+◌, ◌-◌, ◌≤◌, List, [], ◌∷◌, ◌++◌, get_or, length-append, length, map, drop, replicate, refl, sym, ap, subst, ◌∙◌, arith}
-use Rattle.std.proofs.lemmas.List.{length-map, drop-append-le}
+use Rattle.std.proofs.Common.{◌≡◌, ℕ, zero, suc, ◌+◌, ◌-◌, ◌<◌, ◌≤◌, List, [], ◌∷◌, ◌++◌, get_or, length-append, length, map, drop, replicate, refl, sym, ap, subst, ◌∙◌, arith}
+use Rattle.std.specs.List.{All}
+use Rattle.std.proofs.lemmas.List.{length-map, length-replicate, drop-append-le, get_or-map, get_or_past}
 use Rattle.jr_head.specs.HeadValue.{HeadValue}
 use Rattle.jr_cut.specs.declared.scan_end.ScanEnd.{ScanEnd}
 use Rattle.jr_cut.specs.Cut.{CodedSegment, IsCut}
 use Rattle.jr_cut.specs.declared.span.Span.{Span}
-use Rattle.jr_cut.specs.Spans.{segment_data}
+use Rattle.jr_cut.specs.Spans.{segment_data, IsSpanOf}
 use Rattle.jr_scan.specs.IntervalValue.{IntervalValue}
 use Rattle.jr_scan.specs.ScanValue.{ScanValue, intervals_of, scan_of_segments, IsScanOf}
 use Rattle.jr_scan.specs.GrowingScan.{HasCome, IsLatest, growing_scan}
@@ -69,3 +70,24 @@ come_more h old new bytes more en few on come =
 -- an interval is its four parts
 pub interval_is : (i : IntervalValue) (n m : ℕ) (b : List ℕ) (h : HeadValue) → i.number ≡ n → i.mcus ≡ m → i.bytes ≡ b → i.head ≡ h → i ≡ record { number = n; mcus = m; bytes = b; head = h }
 interval_is i n m b h p q r s = rw (← p, ← q, ← r, ← s) refl
+
+-- as many intervals as the head has
+pub padded_count : (segments : List (List ℕ)) (n : ℕ) → length segments ≤ n → length (segments ++ replicate {A = List ℕ} (n - length segments) []) ≡ n
+padded_count segments n few = omega (arith, few, length-append segments (replicate (n - length segments) []), length-replicate {A = List ℕ} (n - length segments) [])
+
+-- the span of an interval's data; those that have no segment have none
+pub record HasSpan (bytes : List ℕ) (spans : List Span) (n i : ℕ) (span : Span) : Type 0 where
+  pub within : IsSpanOf bytes span
+  pub bytes_are : segment_data bytes span ≡ get_or (map (segment_data bytes) spans ++ replicate n []) i []
+
+pub its_span : (bytes : List ℕ) (spans : List Span) (n i : ℕ) (span d : Span) → All (IsSpanOf bytes) spans → i < length spans → span ≡ get_or spans i d → HasSpan bytes spans n i span
+its_span bytes spans n i span d all few is = record {
+  within = subst (IsSpanOf bytes) (sym is) (all i d few);
+  bytes_are = ap (segment_data bytes) is ∙ sym (get_or-map (segment_data bytes) spans i d [] few) ∙ sym (padded_at (map (segment_data bytes) spans) n i);
+}
+
+pub no_span : (bytes : List ℕ) (spans : List Span) (n i : ℕ) (span : Span) → length spans ≤ i → span ≡ record { start = 0; end = 0 } → HasSpan bytes spans n i span
+no_span bytes spans n i span past is = record {
+  within = subst (IsSpanOf bytes) (sym is) (omega arith, omega arith);
+  bytes_are = ap (segment_data bytes) is ∙ sym (get_or_past (map (segment_data bytes) spans) i [] (omega (arith, past, length-map spans (segment_data bytes)))) ∙ sym (padded_at (map (segment_data bytes) spans) n i);
+}

@@ -42,3 +42,16 @@ returns-clause-lines c b first =
     let painted = subst (λ (s : ScanValue). ShowsLines s c.limit-limit.result row new) c.scan-scan.ensures c.paint.ensures.lines in
     let lines : ShowsLines t c.args.part.now.limit row new = subst (λ (n : ℕ). ShowsLines t n row new) c.limit-limit.ensures.value painted in
     ap (λ (n : ℕ). take n (new ++ drop size c.args.pixels.now)) (sym is ∙ sym long) ∙ take-append_seam new (drop size c.args.pixels.now) ∙ lines b first
+
+pub slice_bounds-paint-end : goal.slice_bounds-paint-end
+slice_bounds-paint-end c =
+    let t = c.args.part.now.scan in
+    let row = c.args.row in
+    let size = c.lines_of-y.result.1 * c.shape_of.result.line in
+    let count : c.lines_of-y.result.1 ≡ line_count t.head row = search rules in
+    let line : c.shape_of.result.line ≡ line_size t.head = search rules in
+    let is : size ≡ line_count t.head row * line_size t.head = ap (λ (n : ℕ). n * c.shape_of.result.line) count ∙ ap (λ (n : ℕ). line_count t.head row * n) line in
+    omega (arith, row_fits t row c.args.pixels.now c.requires.pixels, is)
+
+pub returns-clause-room : goal.returns-clause-room
+returns-clause-room c = subst (λ (s : ScanValue). HasRowRoom s.head c.paint.new.self) c.scan-scan.ensures c.paint.ensures.room

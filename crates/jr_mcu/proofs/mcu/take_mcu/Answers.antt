@@ -1,7 +1,7 @@
-use Rattle.std.proofs.Common.{rules, ◌≡◌, ◌+◌, ◌<◌, ◌∷◌, ◌++◌, [], refl, ℕ, ℤ, pos, List, length, get_or, take, set, sym, ap, subst, ◌∙◌, arith, w32, length-append}
+use Rattle.std.proofs.Common.{rules, ◌≡◌, ◌≤◌, ◌+◌, ◌<◌, ◌∷◌, ◌++◌, [], refl, ℕ, ℤ, pos, List, length, get_or, take, set, sym, ap, subst, ◌∙◌, arith, w32, length-append}
 use mir.Val.{SFits, to_z, of_z}
 use Rattle.std.proofs.lemmas.Int.{to_z-of_z}
-use Rattle.std.proofs.lemmas.List.{take_more_set}
+use Rattle.std.proofs.lemmas.List.{take_all, take_more_set}
 use Rattle.jr_code.specs.Code.{Table}
 use Rattle.jr_code.proofs.CodeLemmas.{one_word}
 use Rattle.jr_head.specs.HeadValue.{HeadValue}
@@ -10,7 +10,7 @@ use Rattle.jr_mcu.specs.Block.{IsInDcRange}
 use Rattle.jr_mcu.specs.Step.{TakesBlock, HasNoBlock}
 use Rattle.jr_mcu.specs.Mcus.{component}
 use Rattle.jr_mcu.proofs.Predicted.{kept_fits}
-use Rattle.jr_mcu.proofs.InMcu.{few_components, component_in, last_in_range, missing, one_more}
+use Rattle.jr_mcu.proofs.InMcu.{few_components, component_in, last_in_range, mcu_taken, missing, one_more, predicted_behind}
 use Rattle.jr_mcu.proofs.mcu.take_mcu.Goals as goal
 
 -- what is known of the next block, before it is read
@@ -91,3 +91,16 @@ loop-k-preserved g c =
 
 pub returns-clause-in_range : goal.returns-clause-in_range
 returns-clause-in_range g c = last_in_range c.args.head.now c.args.predictions.now c.loop-k.last c.args.bits.now c.loop-k.left _ c.loop-k.invariant.taken.2
+
+pub returns-clause-some : goal.returns-clause-some
+returns-clause-some g c =
+    let h = c.args.head.now in
+    let s = c.loop-k.invariant.taken in
+    let all : c.loop-k.k ≡ length (order_of h) = omega (arith, c.loop-k-test.false, c.loop-k.auto.k-end, ap (λ (o : List ℕ). length o) c.order-order.ensures.value) in (
+      s.0,
+      mcu_taken h c.args.predictions.now c.loop-k.last c.args.bits.now c.loop-k.left s.0 (omega (arith, all, s.1)) s.2,
+      predicted_behind h c.args.predictions.now c.loop-k.last c.args.bits.now c.loop-k.left s.0 s.2,
+      λ keeps.
+          let full : length c.loop-k.blocks ≤ c.loop-k.k = omega (arith, all, c.loop-k.invariant.room, c.requires.room keeps) in
+          sym (take_all c.loop-k.k c.loop-k.blocks full) ∙ s.3 keeps,
+    )

@@ -41,3 +41,12 @@ loop-k-preserved c =
             (subst (IsShifted (of_component by (component h k)) (block_of c.args.blocks.now k)) (sym (get_or-set_same c.loop-k.others k y [] long)) here)
       ];
     }
+
+pub shifted-requires-clause-some : goal.shifted-requires-clause-some
+shifted-requires-clause-some c =
+    let blocks = c.args.blocks.now in
+    let k = c.loop-k.k in
+    let z = c.index-blocks-k.result in
+    let lt : k < length blocks = omega (arith, c.loop-k-test.true, ap (λ (o : List ℕ). length o) c.order-order.ensures.value, c.requires.count) in
+    let is : z ≡ get_or blocks k [] = c.index-blocks-k.is ∙ get_or_default blocks k z [] lt in
+    subst (λ (x : List ℤ). 0 < length x) (sym is) (c.requires.some k lt)

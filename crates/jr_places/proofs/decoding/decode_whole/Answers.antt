@@ -1,8 +1,10 @@
 use Rattle.std.proofs.Common.{◌≡◌, ◌<◌, ◌*◌, ℕ, inr, sym, ap, subst, ◌∙◌, arith}
 use Rattle.jr_head.specs.Intervals.{mcus_in}
-use Rattle.jr_places.specs.Cursors.{NoneFollows}
+use Rattle.jr_places.specs.Cursors.{NoneFollows, PassesIn, StaysTrue}
 use Rattle.jr_places.specs.Places.{mcus_before}
 use Rattle.jr_places.proofs.ShownSteps.{shows_after}
+use Rattle.jr_places.specs.declared.cursor.ScanCursor.{ScanCursor}
+use Rattle.jr_places.proofs.CursorSteps.{cursor_stays, goes_after, goes_nowhere}
 use Rattle.jr_places.proofs.Steps.{none_follows, true_on}
 use Rattle.jr_places.proofs.decoding.decode_whole.Goals as goal
 use Rattle.jr_places.proofs.decoding.decode_whole.Goals.{then-some-gt0-via-then-some-gt0, then-some-gt0-via-else-some-gt0+then-not-slide}
@@ -46,3 +48,62 @@ returns-clause-shows c =
     let passed : mcus_before h d.interval d.mcu ≡ mcus_before h i.interval i.mcu = omega (arith, ap (λ (k : ℕ). k * h.restart) interval, s.stays.mcu, first.passes.mcu, none) in
     shows_after h i d c.args.done c.decode_near-some.result c.decode_near.result c.args.samples.now.lines.groups c.decode_near-some.new.samples.lines.groups c.decode_near.new.samples.lines.groups none file passed
     (true_on h i c.decode_near-some.new.cursor d first.passes.file first.stands (s.stands h)) first.shows c.decode_near.ensures.shows
+
+pub returns-then-ne-clause-passes : goal.returns-then-ne-clause-passes
+returns-then-ne-clause-passes c = goes_nowhere c.args.head.now c.args.cursor.now c.requires.cursor
+
+pub returns-then-ne-clause-stands : goal.returns-then-ne-clause-stands
+returns-then-ne-clause-stands c whole t may s = s
+
+pub decode_near-some-requires-clause-cursor : goal.decode_near-some-requires-clause-cursor
+decode_near-some-requires-clause-cursor c = c.requires.cursor
+
+pub slide-requires : goal.slide-requires
+slide-requires c = c.decode_near-some.ensures.passes.is.window
+
+pub returns-then-some-gt0-clause-passes : goal.returns-then-some-gt0-clause-passes
+returns-then-some-gt0-clause-passes c =
+    let h = c.args.head.now in
+    let i = c.args.cursor.now in
+    let passes = c.decode_near-some.ensures.passes in
+    elim c.then-some-gt0.branch [
+      | then-some-gt0-via-then-some-gt0 w ↦ subst (λ (d : ScanCursor). PassesIn h i d c.decode_near-some.result) (sym w.cursor-is) passes
+      | then-some-gt0-via-else-some-gt0+then-not-slide w ↦ subst (λ (d : ScanCursor). PassesIn h i d c.decode_near-some.result) (sym (w.cursor-is ∙ (w.slide.ensures.kept w.if-not-slide.true).0)) passes
+    ]
+
+pub returns-then-some-gt0-clause-stands : goal.returns-then-some-gt0-clause-stands
+returns-then-some-gt0-clause-stands c =
+    let h = c.args.head.now in
+    let i = c.args.cursor.now in
+    let stands = c.decode_near-some.ensures.stands in
+    elim c.then-some-gt0.branch [
+      | then-some-gt0-via-then-some-gt0 w ↦ subst (StaysTrue h i) (sym w.cursor-is) stands
+      | then-some-gt0-via-else-some-gt0+then-not-slide w ↦ subst (StaysTrue h i) (sym (w.cursor-is ∙ (w.slide.ensures.kept w.if-not-slide.true).0)) stands
+    ]
+
+pub returns-then-some-gt0-clause-few : goal.returns-then-some-gt0-clause-few
+returns-then-some-gt0-clause-few c = c.decode_near-some.ensures.few
+
+pub decode_near-requires-clause-cursor : goal.decode_near-requires-clause-cursor
+decode_near-requires-clause-cursor c = cursor_stays c.args.head.now c.decode_near-some.new.cursor c.slide.new.self c.decode_near-some.ensures.passes.is c.slide.ensures.stays
+
+pub returns-clause-passes : goal.returns-clause-passes
+returns-clause-passes c = goes_after c.args.head.now c.args.cursor.now c.decode_near-some.new.cursor c.slide.new.self c.decode_near.new.cursor c.decode_near-some.result c.decode_near.result (omega (arith, c.if-some-gt0.false)) c.decode_near-some.ensures.passes c.slide.ensures.stays c.decode_near.ensures.passes
+
+pub returns-clause-stands : goal.returns-clause-stands
+returns-clause-stands c =
+    let h = c.args.head.now in
+    true_on h c.args.cursor.now c.decode_near-some.new.cursor c.decode_near.new.cursor c.decode_near-some.ensures.passes.file c.decode_near-some.ensures.stands
+    (true_on h c.decode_near-some.new.cursor c.slide.new.self c.decode_near.new.cursor c.slide.ensures.stays.file (c.slide.ensures.stands h) c.decode_near.ensures.stands)
+
+pub returns-clause-few : goal.returns-clause-few
+returns-clause-few c = c.decode_near.ensures.few
+
+pub decode_near-requires-clause-room : goal.decode_near-requires-clause-room
+decode_near-requires-clause-room c = c.decode_near-some.ensures.room
+
+pub returns-then-some-gt0-clause-room : goal.returns-then-some-gt0-clause-room
+returns-then-some-gt0-clause-room c = c.decode_near-some.ensures.room
+
+pub returns-clause-room : goal.returns-clause-room
+returns-clause-room c = c.decode_near.ensures.room

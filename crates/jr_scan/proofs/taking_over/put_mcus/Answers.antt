@@ -1,5 +1,7 @@
-use Rattle.std.proofs.Common.{rules, ◌≡◌, ◌≤◌, ◌+◌, ◌*◌, ℕ, length, take, refl, ap, subst, ◌∙◌, arith}
-use Rattle.jr_head.specs.Geometry.{IsLawful}
+use Rattle.std.proofs.Common.{rules, ◌≡◌, ◌≤◌, ◌+◌, ◌*◌, ℕ, ◌-◌, List, length, take, refl, sym, ap, subst, ◌∙◌, arith}
+use Rattle.std.specs.Prelude.{ℤ}
+use Rattle.std.proofs.lemmas.Slice.{take-put_mid_below}
+use Rattle.jr_head.specs.Geometry.{IsLawful, order_of}
 use Rattle.jr_scan.specs.IntervalValue.{IntervalValue}
 use Rattle.jr_scan.specs.declared.place.RunEnd.TheVariants.{AllRead}
 use Rattle.jr_scan.specs.Run.{IsRun, run_from}
@@ -34,3 +36,15 @@ loop-k-preserved c =
       within = c.in-Some.ensures.within;
       in_range = c.in-Some.ensures.in_range;
     }
+
+pub returns-in_default-clause-run : goal.returns-in_default-clause-run
+returns-in_default-clause-run c =
+    let i = c.args.guess.now.interval in
+    let k = c.loop-k.k in
+    let per = length c.order-per_mcu.result.now in
+    let same : per ≡ length (order_of i.head) = ap (λ (o : List ℕ). length o) (c.order-per_mcu.ensures.value ∙ ap order_of (c.head.ensures.value ∙ ap (λ (j : IntervalValue). j.head) c.interval.ensures)) in
+    let first : k * length (order_of i.head) ≡ k * per = ap (λ (n : ℕ). k * n) (sym same) in
+    let room : k * per + per ≤ length c.loop-k.blocks = search rules in
+    let kept = take-put_mid_below (k * per) (k * per + per - k * per) c.loop-k.blocks c.put.new.blocks (k * length (order_of i.head)) (omega (arith, first)) (omega (arith, room)) in
+    let run = subst (λ (n : ℕ). IsRun (run_from i c.args.place.now k) (take n c.loop-k.blocks) c.loop-k.place AllRead) (sym first) c.loop-k.invariant.run in
+    subst (λ (bs : List (List ℤ)). IsRun (run_from i c.args.place.now k) bs c.loop-k.place AllRead) (sym kept) run

@@ -1,8 +1,8 @@
-use Rattle.std.proofs.Common.{rules, arith, sym, subst, ap, ◌∙◌, ◌≡◌, ℕ, ◌*◌, ◌≤◌, ◌++◌, Option, List, length, take, drop}
-use Rattle.std.proofs.Math.Seq.{take-append_seam}
+use Rattle.std.proofs.Common.{rules, arith, sym, subst, ◌≡◌, ℕ, ◌*◌, ◌≤◌, Option, List, length}
 use Rattle.jr_head.specs.Geometry.{vertical_max}
 use Rattle.jr_paint.specs.Lines.{line_size}
 use Rattle.jr_rows.specs.FirstIntervalsValue.{FirstIntervalsValue}
+use Rattle.jr_rows.proofs.Lent.{all_back}
 use Rattle.jr_bench.specs.Bench.{HasRoom, HasWork, IsPainted, IsRead}
 use Rattle.jr_bench.proofs.bench.CodedRow.paint.Goals as goal
 
@@ -16,7 +16,7 @@ invariant_of-result g c =
     let marked = c.self.inside.marked in
     let same : length new ≡ length old.items = search (rules, c.paint_first.auto.pixels) in
     let long : old.len ≡ length new = search (rules, c.paint_first.auto.pixels) in
-    let is = ap (λ (n : ℕ). take n (new ++ drop (length new) old.items)) long ∙ take-append_seam new (drop (length new) old.items) in
+    let is = all_back old.len new old.items long in
     let room : 8 * vertical_max t.head * line_size t.head ≤ length old.items = subst (λ (k : Option FirstIntervalsValue). HasRoom k old.items) c.requires c.self.invariant.1 in
     let read = subst (λ (k : Option FirstIntervalsValue). IsRead k (record { row = row; marked = marked; work = c.self.inside.work })) c.requires c.self.invariant.2 in
     subst (λ (ps : List ℕ). HasWork g.S.OneFirstIntervals.part work × HasRoom g.S.OneFirstIntervals.part ps × IsPainted g.S.OneFirstIntervals.part (record { row = row; marked = marked; pixels = ps })) (sym is)

@@ -1,6 +1,6 @@
-use Rattle.std.proofs.Common.{rules, arith, ◌≡◌, ℕ, ◌++◌, length, take, drop, ap, subst, sym, ◌∙◌}
-use Rattle.std.proofs.Math.Seq.{take-append_seam}
+use Rattle.std.proofs.Common.{rules, arith, ◌≡◌, length, ap, subst, sym, ◌∙◌}
 use Rattle.jr_rows.specs.Rows.{AreRead}
+use Rattle.jr_rows.proofs.Lent.{all_back}
 use Rattle.jr_bench.proofs.row.Row.read.Goals as goal
 
 pub read-requires-clause-row : goal.read-requires-clause-row
@@ -14,7 +14,7 @@ returns-clause-room c =
     let new = c.read.new.blocks in
     let items = c.self.inside.blocks.items in
     let long : c.self.inside.blocks.len ≡ length new = search (rules, arith, c.read.auto.blocks) in
-    let e = ap (λ (n : ℕ). take n (new ++ drop (length new) items)) long ∙ take-append_seam new (drop (length new) items) in
+    let e = all_back c.self.inside.blocks.len new items long in
     record { blocks = ap length e ∙ sym long ∙ search (rules, arith); lines = search rules }
 
 pub returns-clause-moved : goal.returns-clause-moved
@@ -25,7 +25,7 @@ returns-clause-read c =
     let new = c.read.new.blocks in
     let items = c.self.inside.blocks.items in
     let long : c.self.inside.blocks.len ≡ length new = search (rules, arith, c.read.auto.blocks) in
-    let e = ap (λ (n : ℕ). take n (new ++ drop (length new) items)) long ∙ take-append_seam new (drop (length new) items) in
+    let e = all_back c.self.inside.blocks.len new items long in
     subst (AreRead c.args.rows.now.scan c.args.rows.now.limit c.args.rows.now.row) (sym e) c.read.ensures.read
 
 pub returns-clause-counts : goal.returns-clause-counts

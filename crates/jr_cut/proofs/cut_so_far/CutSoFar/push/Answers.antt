@@ -1,7 +1,7 @@
-use Rattle.std.proofs.Common.{rules, ◌≢◌, ◌+◌, length, ap, arith}
+use Rattle.std.proofs.Common.{rules, ◌≢◌, ◌+◌, length, length-append, ap, arith}
 use Rattle.jr_cut.specs.declared.scan_end.ScanEnd.TheVariants.{EndOfFile}
 use Rattle.jr_cut.specs.CutSoFar.{CutSoFarValue}
-use Rattle.jr_cut.proofs.OpenSegments.{cut_ended}
+use Rattle.jr_cut.proofs.OpenSegments.{cut_ended, few_datas}
 use Rattle.jr_cut.proofs.cut_so_far.CutSoFar.push.Goals as goal
 
 pub returns-then-ne-clause-pushed : goal.returns-then-ne-clause-pushed
@@ -11,3 +11,17 @@ returns-then-ne-clause-pushed c =
 
 pub returns-in_err-take-clause-few : goal.returns-in_err-take-clause-few
 returns-in_err-take-clause-few c = omega (arith, ap (λ (v : CutSoFarValue). v.at + length v.rest) (c.in_err-take.ensures.memory c.self.inside.ended), ap (λ (v : CutSoFarValue). v.at + length v.rest) c.self.view_is)
+
+pub returns-then-ne-clause-count : goal.returns-then-ne-clause-count
+returns-then-ne-clause-count c = omega (arith, few_datas c.self.inside.segments c.self.invariant, ap (λ (v : CutSoFarValue). length v.segments) c.self.view_is, ap (λ (v : CutSoFarValue). v.intervals) c.self.view_is)
+
+pub returns-in_err-take-clause-count : goal.returns-in_err-take-clause-count
+returns-in_err-take-clause-count c = few_datas c.take.new.self c.take.ensures.is
+
+pub returns-clause-count : goal.returns-clause-count
+returns-clause-count c = few_datas c.read_on.new.self c.read_on.ensures.is
+
+pub returns-clause-few : goal.returns-clause-few
+returns-clause-few c =
+    let o = c.self.inside.segments in
+    omega (arith, c.in_ok-self-inside.ensures.all.bytes, ap length c.in_ok-take.ensures.all, length-append o.bytes.rest c.args.more.now, c.take.ensures.same.1, ap (λ (v : CutSoFarValue). v.at + length v.rest) c.self.view_is)

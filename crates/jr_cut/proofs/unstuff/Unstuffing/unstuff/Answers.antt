@@ -52,3 +52,9 @@ bytes-preserved c =
     let place : end + n + 1 ≡ end + (n + 1) = omega arith in
     let is = unstuffs_stuffed bytes _ _ _ end n lt f.full some zero_byte (c.put.ensures.data ∙ ap (λ (u : UnstuffingValue). u.unstuffed ++ PREFIX ∷ []) c.fill-next.ensures.same) r.is in
     (omega arith, c.put.ensures.rest ∙ ap (drop (n + 1)) left ∙ drop-drop (n + 1) end bytes, subst (λ (k : ℕ). Unstuffs (take k bytes) c.args.self.now.unstuffed c.put.new.self.unstuffed) place is)
+
+pub returns-then-next-rest-clause-within : goal.returns-then-next-rest-clause-within
+returns-then-next-rest-clause-within c = (run_made _ _ _ _ _ _ _ c.bytes.at c.plain_count-count.result c.bytes.invariant.0 c.bytes.invariant.1 c.bytes.invariant.2 c.rest.ensures c.plain_count-count.ensures.within c.plain_count-count.ensures.plain c.plain_count-count.ensures.next c.keep.ensures.data c.keep.ensures.rest).within
+
+pub returns-then-next-rest-clause-rest : goal.returns-then-next-rest-clause-rest
+returns-then-next-rest-clause-rest c = ap (λ (u : UnstuffingValue). u.rest) c.fill-next.ensures.same ∙ (run_made _ _ _ _ _ _ _ c.bytes.at c.plain_count-count.result c.bytes.invariant.0 c.bytes.invariant.1 c.bytes.invariant.2 c.rest.ensures c.plain_count-count.ensures.within c.plain_count-count.ensures.plain c.plain_count-count.ensures.next c.keep.ensures.data c.keep.ensures.rest).left

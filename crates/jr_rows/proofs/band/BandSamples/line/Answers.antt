@@ -1,4 +1,4 @@
-use Rattle.std.proofs.Common.{◌≡◌, ◌+◌, ◌*◌, ◌<◌, ◌≤◌, ◌∙◌, length, rules, arith, slice_index}
+use Rattle.std.proofs.Common.{◌+◌, ◌*◌, ◌<◌, ◌∙◌, length, rules, arith}
 use Rattle.std.proofs.lemmas.List.Edits.{get_or-between}
 use Rattle.jr_rows.proofs.BandLines.{shown, within}
 use Rattle.jr_rows.proofs.band.BandSamples.line.Goals as goal

@@ -1,5 +1,4 @@
 use Rattle.std.proofs.Common.{rules, arith, sym, subst, ap, ◌∙◌, ◌≡◌, ℕ, ◌*◌, ◌<◌, ◌^◌, [], slice_index_or}
-use Rattle.std.proofs.lemmas.Grind.{common_steps}
 use Rattle.jr_head.specs.Geometry.{blocks_of}
 use Rattle.jr_scan.specs.ScanValue.{ScanValue, intervals_of}
 use Rattle.jr_rows.specs.Bands.{unit_shown}

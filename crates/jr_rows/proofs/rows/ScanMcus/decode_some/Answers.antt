@@ -1,4 +1,4 @@
-use Rattle.std.proofs.Common.{◌≡◌, ◌+◌, ◌*◌, ◌≤◌, ◌∙◌, [], length, ap, sym, arith, rules, slice_index_or}
+use Rattle.std.proofs.Common.{◌≡◌, ◌+◌, ◌*◌, ◌<◌, ◌≤◌, ◌∙◌, [], length, ap, subst, sym, arith, rules, slice_index_or}
 use Rattle.std.proofs.Math.Nat.{add-mul, mul-le-mul_right}
 use Rattle.jr_head.specs.HeadValue.{HeadValue}
 use Rattle.jr_head.specs.Geometry.{blocks_of, mcus_across}
@@ -27,3 +27,12 @@ returns-clause-shows c b first k lt =
     let long : length c.read-marked.new.blocks ≡ c.args.some * blocks_of h = search (rules, arith) in
     let put = c.transform_blocks.ensures.here k (omega (arith, lt, long)) in
     ap (λ (x : HeadValue). slice_index_or (units_in x c.transform_blocks.new.units.groups) (c.args.done * blocks_of x + k) []) (sym here) ∙ put ∙ ap (λ (x : HeadValue). unit_of x c.read-marked.new.blocks k) here ∙ c.read-marked.ensures.gives b first k lt
+
+pub returns-clause-kept : goal.returns-clause-kept
+returns-clause-kept c k lt =
+    let h = c.args.self.now.scan.head in
+    let hd = c.head-head.result.now in
+    let here : hd ≡ h = search rules in
+    let below : k < c.args.done * blocks_of hd = subst (λ (x : HeadValue). k < c.args.done * blocks_of x) (sym here) lt in
+    let kept : slice_index_or (units_in hd c.transform_blocks.new.units.groups) k [] ≡ slice_index_or (units_in hd c.args.lines.now.groups) k [] = search (rules, below, c.transform_blocks.ensures.kept k) in
+    ap (λ (x : HeadValue). slice_index_or (units_in x c.transform_blocks.new.units.groups) k []) (sym here) ∙ kept ∙ ap (λ (x : HeadValue). slice_index_or (units_in x c.args.lines.now.groups) k []) here

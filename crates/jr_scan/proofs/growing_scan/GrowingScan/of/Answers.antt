@@ -16,3 +16,15 @@ returns-clause-come c =
       cut = has;
       scan = is_scan h c.args.bytes.items (drop h.scan_at c.args.bytes.items) cut.segments cut.intervals h.scan_at cut.ended (c.in_ok-cut.ensures.intervals ∙ c.intervals.ensures.value) refl refl (has_cut_is_cut _ _ _ has);
     }
+
+pub of-requires-clause-fits : goal.of-requires-clause-fits
+of-requires-clause-fits c = omega (arith, c.scan_at-start.ensures.few, ap length c.of-scan.ensures.rest, length-drop c.scan_at-start.result c.args.bytes.items, c.requires.few)
+
+pub invariant_of-result : goal.invariant_of-result
+invariant_of-result c =
+    let e = c.in_ok-cut.ensures in (
+      e.intervals ∙ c.intervals.ensures.value,
+      e.count,
+      omega (arith, e.data),
+      omega (arith, e.all, ap length c.of-scan.ensures.rest, length-drop c.scan_at-start.result c.args.bytes.items, c.requires.few, c.requires.starts, c.scan_at-start.ensures.value),
+    )

@@ -1,8 +1,13 @@
-use Rattle.std.proofs.Common.{rules, ◌≡◌, ◌+◌, ◌-◌, ◌*◌, ℕ, List, length, ap, subst, ◌∙◌, arith}
+use Rattle.std.proofs.Common.{rules, ◌≡◌, ◌≤◌, ◌+◌, ◌-◌, ◌*◌, ℕ, List, [], ◌++◌, length, take, inl, refl, sym, ap, subst, ◌∙◌, arith}
+use Rattle.std.proofs.lemmas.List.{append-nil}
+use Rattle.std.proofs.lemmas.Nat.{le-div}
 use borrow.Rule.Slice.PartMut.{put_mid}
+use Rattle.std.specs.Prelude.{ℤ}
+use Rattle.std.specs.List.{All}
 use Rattle.jr_head.specs.Geometry.{order_of}
+use Rattle.jr_mcu.specs.Block.{IsInRange}
 use Rattle.jr_scan.specs.IntervalValue.{IntervalValue}
-use Rattle.jr_scan.specs.McuReader.{per_mcu}
+use Rattle.jr_scan.specs.McuReader.{HasRead, per_mcu}
 use Rattle.jr_scan.specs.Run.{RunOf}
 use Rattle.jr_scan.proofs.TakingOver.{HaveRead, read_both, stays_both}
 use Rattle.jr_scan.proofs.mcu_reader.McuReader.read_by.Goals as goal
@@ -62,3 +67,30 @@ returns-then-some-eq0-clause-in_range c =
 
 pub returns-then-some-eq0-clause-stays : goal.returns-then-some-eq0-clause-stays
 returns-then-some-eq0-clause-stays c = stays_both c.args.self.now c.loop-done.self c.read_some-some.new.self c.loop-done.invariant.stays c.read_some-some.ensures.stays
+
+pub loop-done-init : goal.loop-done-init
+loop-done-init c =
+    let r = c.args.self.now in
+    let blocks = c.args.blocks.now in
+    let zero_blocks : 0 * per_mcu r ≡ 0 = omega arith in
+    let none : take (0 * per_mcu r) blocks ≡ [] = ap (λ (n : ℕ). take n blocks) zero_blocks in
+    record {
+      run = refl;
+      mcu = omega arith;
+      few = omega (arith, c.left.ensures);
+      room = refl;
+      fits = omega arith;
+      read = λ zs s. subst (HasRead r) (sym (ap (λ (l : List (List ℤ)). zs ++ l) none ∙ append-nil zs)) s;
+      in_range = subst (All IsInRange) (sym none) (λ k d lt. absurd (omega (arith, lt)));
+      stays = λ _. refl;
+    }
+
+pub returns-clause-ended : goal.returns-clause-ended
+returns-clause-ended c fits =
+    let r = c.args.self.now in
+    let i = c.loop-done.invariant in
+    let per = length c.order-per_mcu.result.now in
+    let size : per ≡ per_mcu r = ap (λ (o : List ℕ). length o) (c.order-per_mcu.ensures.value ∙ ap order_of (c.head.ensures.value ∙ ap (λ (j : IntervalValue). j.head) c.interval.ensures)) in
+    let next : (c.loop-done.done + 1) * per ≤ length c.args.blocks.now = subst (λ (n : ℕ). (c.loop-done.done + 1) * n ≤ length c.args.blocks.now) (sym size) (omega (arith, fits, i.room)) in
+    let more = le-div (c.loop-done.done + 1) (length c.args.blocks.now) per c.order-per_mcu.ensures.some next in
+    inl (omega (arith, more, c.loop-done-test.false, c.left.ensures, i.mcu, i.few, ap (λ (o : RunOf). o.mcus) i.run))

@@ -1,0 +1,56 @@
+-- Steps of a cursor, one behind the other.
+use Rattle.std.proofs.Common.{◌≡◌, ℕ, ◌+◌, ◌*◌, ◌<◌, refl, List, sym, ap, subst, ◌∙◌, arith}
+use Rattle.jr_head.specs.HeadValue.{HeadValue}
+use Rattle.jr_head.specs.Intervals.{mcus_in}
+use Rattle.jr_scan.specs.ScanValue.{ScanValue}
+use Rattle.jr_places.specs.declared.cursor.Reading.{Reading}
+use Rattle.jr_places.specs.declared.cursor.Reading.TheVariants.{HasEnded}
+use Rattle.jr_places.specs.declared.cursor.ScanCursor.{ScanCursor}
+use Rattle.jr_places.specs.Cursors.{IsCursor, Passes, PassesIn, StandsIn, StaysIn, begun, number_of}
+use Rattle.jr_places.specs.Meaning.{MeansAt}
+use Rattle.jr_places.proofs.Passing.{is_kept}
+
+module _ (h : HeadValue) where
+  pub cursor_stays : (d e : ScanCursor) → IsCursor h d → StaysIn d e → IsCursor h e
+  cursor_stays d e is s = is_kept h d.interval d.mcu e s.window s.interval s.mcu is.is_in
+
+  -- over no MCU of its interval
+  pub goes_nowhere : (c : ScanCursor) → IsCursor h c → PassesIn h c c 0
+  goes_nowhere c is = record { is = is; file = refl; interval = refl; mcu = omega arith }
+
+  -- over no MCU, then to another window, and then over some
+  pub goes_after : (c d s e : ScanCursor) (n m : ℕ) → n ≡ 0 → PassesIn h c d n → StaysIn d s → PassesIn h s e m → PassesIn h c e m
+  goes_after c d s e n m none first stays second = record {
+    is = second.is;
+    file = second.file ∙ stays.file ∙ first.file;
+    interval = second.interval ∙ stays.interval ∙ first.interval;
+    mcu = omega (arith, second.mcu, stays.mcu, first.mcu, none);
+  }
+
+  -- MCUs of its interval behind those before
+  pub passes_on : (c d e : ScanCursor) (n m k : ℕ) → k ≡ n + m → Passes h c d n → PassesIn h d e m → Passes h c e k
+  passes_on c d e n m k sum first second = record {
+    is = second.is;
+    file = second.file ∙ first.file;
+    passed = omega (arith, first.passed, ap (λ (i : ℕ). i * h.restart) second.interval, second.mcu, sum);
+  }
+
+  pub passes_stays : (c d e : ScanCursor) (n : ℕ) → Passes h c d n → StaysIn d e → Passes h c e n
+  passes_stays c d e n first s = record {
+    is = cursor_stays d e first.is s;
+    file = s.file ∙ first.file;
+    passed = omega (arith, first.passed, ap (λ (i : ℕ). i * h.restart) s.interval, s.mcu);
+  }
+
+  -- MCUs of the interval are left where there were some
+  pub left_in : (c d : ScanCursor) → d.interval ≡ c.interval → d.mcu ≡ c.mcu → c.mcu < mcus_in h c.interval → d.mcu < mcus_in h d.interval
+  left_in c d interval mcu left = subst (λ (i : ℕ). d.mcu < mcus_in h i) (sym interval) (omega (arith, mcu, left))
+
+-- at the scan's end the next interval has no data either
+pub ended_next : (whole : List ℕ) (t : ScanValue) (c : ScanCursor) → c.reading ≡ HasEnded → StandsIn whole t c → StandsIn whole t (begun c)
+ended_next whole t c ended s =
+    let none = subst (λ (r : Reading). MeansAt whole t (number_of r) c.interval c.mcu c.at c.place) ended s.means in
+    record {
+      from = s.from;
+      means = subst (λ (r : Reading). MeansAt whole t (number_of r) (c.interval + 1) 0 c.at (begun c).place) (sym ended) (λ j le. none j (omega (arith, le)));
+    }
