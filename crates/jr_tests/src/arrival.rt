@@ -1,21 +1,14 @@
-//! Files that arrive in parts: which lines are given when, that the splitting does not show, and that every continuation shows
-//! what was given.
+//! Files that arrive in parts: which lines are given when, and that every continuation shows what was given.
 
-ghost use Rattle.std.specs.Prelude.{◌<◌};
-
-use jr_arrival::{Arriving, Finished};
+use jr_arrival::Arriving;
 use jr_head::{Refusal, read_head};
-use jr_picture::Counts;
 use jr_rows::shape_of;
 use jr_scan::{Scan, ScanEnd};
 use jr_stream::paint_scan_lines;
 use std::alloc::Global;
 use std::process::Abort;
 use std::test::Fail;
-use test_files::cases;
-use test_files::cases::Case;
 use test_files::files::{COLOURED, COLOURED_DAMAGED, MIXED, TEN, file, front, put_parts};
-use test_files::pictures::picture;
 
 /// The lines of a scan's picture from one on.
 pub(crate) fn lines_from(alloc: Global, scan: &Scan, first: u32) -> Result<Vec<u8>, Fail> {
@@ -73,131 +66,6 @@ fn take_lines(
         put_lines(alloc, arriving, line, height, &mut room, shown)?;
     }
     Ok(Some(()))
-}
-
-/// Pushes a file in parts of so many bytes, and takes the lines, at most so many at a look. None where it is refused.
-fn push_parts(
-    alloc: Global,
-    arriving: &mut Arriving,
-    bytes: &[u8],
-    part: usize,
-    most: u32,
-) -> Result<Option<Vec<u8>>, Fail>
-    requires { 0 < part }
-{
-    let mut shown = Vec::new(alloc);
-    for more in bytes.chunks(part) {
-        arriving.push(more)?;
-        if take_lines(alloc, arriving, most, &mut shown)?.is_none() {
-            return Ok(None);
-        }
-    }
-    Ok(Some(shown))
-}
-
-/// What was given, the lines from one on behind it, and how many intervals are sound and damaged.
-fn with_missing(
-    alloc: Global,
-    mut shown: Vec<u8>,
-    finished: &Finished,
-    lines: u32,
-) -> Result<Option<(Vec<u8>, Counts)>, Fail> {
-    let missing = lines_from(alloc, &finished.scan, lines)?;
-    shown.extend_from_slice(missing.as_slice())?;
-    Ok(Some((shown, finished.counts)))
-}
-
-/// What is given while a file arrives in parts of so many bytes, at most so many lines at a look, and the lines that are missing
-/// then; and how many intervals are sound and damaged. None where it is refused.
-fn arrived(
-    alloc: Global,
-    bytes: &[u8],
-    part: usize,
-    most: u32,
-) -> Result<Option<(Vec<u8>, Counts)>, Fail>
-    requires { 0 < part }
-{
-    let mut arriving = Arriving::new(alloc);
-    let shown = push_parts(alloc, &mut arriving, bytes, part, most);
-    let lines = arriving.lines();
-    let finished = arriving.finish(alloc);
-    match (shown?, finished) {
-        (Some(shown), Ok(finished)) => with_missing(alloc, shown, &finished, lines),
-        _ => Ok(None),
-    }
-}
-
-/// Whether a picture's text ends with these lines, and has its header before them.
-fn is_text(text: &[u8], lines: &[u8]) -> bool {
-    text.ends_with(lines) && text.len() == lines.len().saturating_add(header_of(text))
-}
-
-/// How many bytes the header of a picture's text has: three lines.
-pub(crate) fn header_of(text: &[u8]) -> usize {
-    let mut ends = 0;
-    let mut length = 0;
-    for byte in text {
-        if ends == 3 {
-            return length;
-        }
-        length = usize::saturating_add(length, 1);
-        if *byte == b'\n' {
-            ends = i32::saturating_add(ends, 1);
-        }
-    }
-    length
-}
-
-/// Cases pushed in parts of 1, 2, 3 and 7 bytes and whole give their pictures, also a line or three at a look.
-fn check_parts<R: AllocGlobal + Abort>(rt: &R, cases: &[Case]) -> Result<(), Fail> {
-    for case in cases {
-        let bytes = file(rt.alloc(), case.file)?;
-        let expected = picture(rt.alloc(), case.picture)?;
-        for (part, most) in [
-            (1, u32::MAX),
-            (2, 1),
-            (3, u32::MAX),
-            (7, 3),
-            (1_000_000, u32::MAX),
-            (1_000_000, 1),
-        ] {
-            let is_right = match arrived(rt.alloc(), bytes.as_slice(), part, most)? {
-                Some((lines, counts)) => {
-                    is_text(expected.as_slice(), lines.as_slice())
-                        && (counts.damaged > 0) == (case.status == 3)
-                        && counts.blank == 0
-                }
-                None => false,
-            };
-            assert!(rt; is_right, "{} by {part} and {most}", case.file);
-        }
-    }
-    Ok(())
-}
-
-#[test]
-fn gives_grey_blocks_in_parts(rt: HostRuntime) -> Result<(), Fail> {
-    check_parts(&rt, &cases::grey_blocks())
-}
-
-#[test]
-fn gives_spellings_and_tables_in_parts(rt: HostRuntime) -> Result<(), Fail> {
-    check_parts(&rt, &cases::spellings_and_tables())
-}
-
-#[test]
-fn gives_restart_intervals_in_parts(rt: HostRuntime) -> Result<(), Fail> {
-    check_parts(&rt, &cases::restart_intervals())
-}
-
-#[test]
-fn gives_ends_of_scans_in_parts(rt: HostRuntime) -> Result<(), Fail> {
-    check_parts(&rt, &cases::ends_of_scans())
-}
-
-#[test]
-fn gives_three_components_in_parts(rt: HostRuntime) -> Result<(), Fail> {
-    check_parts(&rt, &cases::three_components())
 }
 
 /// Pushes bytes, and gives the lines that they settle; none where the file is refused.

@@ -2,10 +2,6 @@
 
 ghost use Rattle.std.specs.Prelude.{◌<◌};
 
-mod ends;
-mod limits;
-mod places;
-
 use crate::plain::{extended_word, word};
 use jr_code::{Bits, CodeBook, CodeFault};
 use std::alloc::Global;

@@ -14,8 +14,6 @@ mod code;
 #[cfg(test)]
 mod desk;
 #[cfg(test)]
-mod files;
-#[cfg(test)]
 mod head;
 #[cfg(test)]
 mod idct;
@@ -25,8 +23,6 @@ mod large_files;
 mod meeting_files;
 #[cfg(test)]
 mod paint;
-#[cfg(test)]
-mod pictures;
 #[cfg(test)]
 mod places;
 #[cfg(test)]

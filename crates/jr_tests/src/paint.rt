@@ -1,6 +1,5 @@
-//! Colours, places, and pictures of every small size, beside a slow painter.
+//! Colours, and the positions of samples.
 
-mod painting;
 mod tables;
 
 use crate::head::head_in;

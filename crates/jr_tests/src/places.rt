@@ -3,7 +3,7 @@
 
 ghost use Rattle.std.specs.Prelude.{◌<◌};
 
-use crate::arrival::{check_shown, header_of, lines_from};
+use crate::arrival::{check_shown, lines_from};
 use jr_head::{Head, read_head};
 use jr_places::{FileBytes, RowPlace, decode_rows, lines_before, skip_rows, stands_at};
 use jr_rows::shape_of;
@@ -11,10 +11,7 @@ use jr_scan::Scan;
 use std::alloc::Global;
 use std::process::Abort;
 use std::test::Fail;
-use test_files::cases;
-use test_files::cases::Case;
 use test_files::files::{COLOURED, COLOURED_DAMAGED, MIXED, TEN, file, front, put_parts};
-use test_files::pictures::picture;
 
 /// The top of a picture.
 const TOP: RowPlace = RowPlace {
@@ -63,11 +60,6 @@ fn give(
     let given = room.get(..usize::saturating_mul(lines as usize, shape.line));
     shown.extend_from_slice(given.ok_or("too many lines")?)?;
     Ok(next)
-}
-
-/// Whether a picture's text ends with these lines, and has its header before them.
-fn is_text(text: &[u8], lines: &[u8]) -> bool {
-    text.ends_with(lines) && text.len() == usize::saturating_add(lines.len(), header_of(text))
 }
 
 /// The lines of a file, so many rows at a time.
@@ -127,56 +119,6 @@ fn in_parts(alloc: Global, bytes: &[u8], part: usize) -> Result<Vec<u8>, Fail>
     let head = read_head(alloc, bytes)?;
     let _end = give(alloc, &head, all(bytes), &place, u32::MAX, &mut shown)?;
     Ok(shown)
-}
-
-/// Whether the lines of a file are its picture's, in each way in which they are asked for.
-fn is_shown(alloc: Global, bytes: &[u8], text: &[u8]) -> Result<bool, Fail> {
-    for rows in [1, 2, u32::MAX] {
-        if !is_text(text, by_rows(alloc, bytes, rows)?.as_slice()) {
-            return Ok(false);
-        }
-    }
-    for part in [1, 2, 7] {
-        if !is_text(text, in_parts(alloc, bytes, part)?.as_slice()) {
-            return Ok(false);
-        }
-    }
-    Ok(is_text(text, by_index(alloc, bytes)?.as_slice()))
-}
-
-fn check<R: AllocGlobal + Abort>(rt: &R, cases: &[Case]) -> Result<(), Fail> {
-    for case in cases {
-        let bytes = file(rt.alloc(), case.file)?;
-        let expected = picture(rt.alloc(), case.picture)?;
-        let is_right = is_shown(rt.alloc(), bytes.as_slice(), expected.as_slice())?;
-        assert!(rt; is_right, "{}", case.file);
-    }
-    Ok(())
-}
-
-#[test]
-fn gives_grey_blocks_by_rows(rt: HostRuntime) -> Result<(), Fail> {
-    check(&rt, &cases::grey_blocks())
-}
-
-#[test]
-fn gives_spellings_and_tables_by_rows(rt: HostRuntime) -> Result<(), Fail> {
-    check(&rt, &cases::spellings_and_tables())
-}
-
-#[test]
-fn gives_restart_intervals_by_rows(rt: HostRuntime) -> Result<(), Fail> {
-    check(&rt, &cases::restart_intervals())
-}
-
-#[test]
-fn gives_ends_of_scans_by_rows(rt: HostRuntime) -> Result<(), Fail> {
-    check(&rt, &cases::ends_of_scans())
-}
-
-#[test]
-fn gives_three_components_by_rows(rt: HostRuntime) -> Result<(), Fail> {
-    check(&rt, &cases::three_components())
 }
 
 /// The lines that a file's first bytes settle; none where its head has not come.

@@ -1,16 +1,11 @@
 //! What a view shows of a file that is still arriving.
 
-ghost use Rattle.std.specs.Prelude.{◌<◌};
-
 use jr_head::Refusal;
-use jr_view::{ArrivingView, FinishedView};
+use jr_view::ArrivingView;
 use std::alloc::Global;
 use std::process::Abort;
 use std::test::Fail;
-use test_files::cases;
-use test_files::cases::Case;
 use test_files::files::file;
-use test_files::pictures::picture;
 
 /// Takes more bytes, and shows what they settle: whether no fewer lines are shown than before.
 fn take(alloc: Global, view: &mut ArrivingView, more: &[u8]) -> Result<bool, Fail> {
@@ -18,61 +13,6 @@ fn take(alloc: Global, view: &mut ArrivingView, more: &[u8]) -> Result<bool, Fai
     view.push(more)?;
     view.show(alloc)?;
     Ok(view.lines() >= lines)
-}
-
-/// Takes bytes in parts of so many: whether the lines that are shown never become fewer.
-fn take_all(alloc: Global, view: &mut ArrivingView, bytes: &[u8], part: usize) -> Result<bool, Fail>
-    requires { 0 < part }
-{
-    for more in bytes.chunks(part) {
-        if !take(alloc, view, more)? {
-            return Ok(false);
-        }
-    }
-    Ok(true)
-}
-
-/// Whether what stands there at the end is the picture of a case, and damaged where that is.
-fn is_case(finished: &FinishedView, text: &[u8], case: &Case) -> bool {
-    let lines = finished.pixels.as_slice();
-    let is_picture = text.ends_with(lines) && text.len() < lines.len().saturating_add(32);
-    is_picture && (finished.counts.damaged > 0) == (case.status == 3)
-}
-
-/// Whether a case that comes in parts of so many bytes is shown at the end.
-fn shows_case(alloc: Global, case: &Case, part: usize) -> Result<bool, Fail>
-    requires { 0 < part }
-{
-    let bytes = file(alloc, case.file)?;
-    let text = picture(alloc, case.picture)?;
-    let mut view = ArrivingView::new(alloc);
-    let grows = take_all(alloc, &mut view, bytes.as_slice(), part)?;
-    let finished = view.finish(alloc)?;
-    Ok(grows && is_case(&finished, text.as_slice(), case))
-}
-
-/// Sees that cases are shown at the end, by bytes, in parts and whole.
-fn check_cases<R: AllocGlobal + Abort>(rt: &R, cases: &[Case]) -> Result<(), Fail> {
-    for case in cases {
-        for part in [1, 7, 1_000_000] {
-            assert!(rt;
-                shows_case(rt.alloc(), case, part)?,
-                "{} by {part}",
-                case.file
-            );
-        }
-    }
-    Ok(())
-}
-
-#[test]
-fn shows_restart_intervals_at_the_end(rt: HostRuntime) -> Result<(), Fail> {
-    check_cases(&rt, &cases::restart_intervals())
-}
-
-#[test]
-fn shows_three_components_at_the_end(rt: HostRuntime) -> Result<(), Fail> {
-    check_cases(&rt, &cases::three_components())
 }
 
 /// What has come, how many lines of 8 by 24 pixels are shown then, and how many bytes of them there are. The words 00, 01 and 10

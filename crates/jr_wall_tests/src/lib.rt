@@ -5,8 +5,6 @@
 #[cfg(test)]
 mod arriving_views;
 #[cfg(test)]
-mod boards;
-#[cfg(test)]
 mod cells;
 #[cfg(test)]
 mod damage;
@@ -24,8 +22,6 @@ mod pieces_of_strips;
 mod seen_views;
 #[cfg(test)]
 mod shown;
-#[cfg(test)]
-mod strip_cells;
 #[cfg(test)]
 mod strips;
 #[cfg(test)]

@@ -45,10 +45,10 @@ pub(crate) fn decoded(alloc: Global, coded: &CodedStrip) -> Result<Strip, Fail> 
 }
 
 /// A piece that a board does not take: its number, whether it is sound, and whether the board calls it foreign.
-pub(crate) type Refused = (u32, bool, bool);
+type Refused = (u32, bool, bool);
 
 /// Posts a piece. None where the board takes it.
-pub(crate) fn post(board: &mut Board, piece: Arc<Piece>) -> Option<Refused> {
+fn post(board: &mut Board, piece: Arc<Piece>) -> Option<Refused> {
     let (piece, is_foreign) = match board.post(piece) {
         Ok(()) => return None,
         Err(Unposted::Foreign(piece)) => (piece, true),
@@ -154,7 +154,7 @@ fn has_sample(head: &Head, c: u32, x: u32, y: u32) -> bool
 }
 
 /// The sample of the first component in column x and line y; none outside the picture.
-pub(crate) fn sample_at(board: &Board, x: u32, y: u32) -> Option<u8> {
+fn sample_at(board: &Board, x: u32, y: u32) -> Option<u8> {
     if has_sample(board.head(), 0, x, y) {
         Some(board.sample(0, x, y))
     } else {

@@ -1,8 +1,8 @@
-//! The damaged intervals of files in memory, listed into buffers of some sizes, and the words for a scan's end.
+//! The damaged intervals of files in memory, listed into buffers of some sizes.
 
 use jri_damages::{Damage, DamageReport, list_damages};
+use jri_memory::build_text;
 use jri_memory::status::{DAMAGED, REFUSED, SOUND};
-use jri_memory::{DecodeReport, build_text, end_text};
 use std::alloc::Global;
 use std::test::Fail;
 use test_files::files::{file, front};
@@ -116,15 +116,6 @@ fn lists_damaged_intervals(rt: HostRuntime) -> Result<(), Fail> {
     Ok(())
 }
 
-/// A block whose end is no word of its table, of the two bytes at 141.
-#[test]
-fn tells_where_bytes_are(rt: HostRuntime) -> Result<(), Fail> {
-    let bytes = file(rt.alloc(), "S Q F D A2:F0:00 C 60 7F E")?;
-    let found = told(rt.alloc(), bytes.as_slice(), 0, 2);
-    assert!(rt; found == (DAMAGED, listed(1, 1), [damage(0, 141, 143), UNWRITTEN]));
-    Ok(())
-}
-
 #[test]
 fn lists_nothing_of_a_refused_file(rt: HostRuntime) -> Result<(), Fail> {
     let whole = file(rt.alloc(), TWO)?;
@@ -134,57 +125,6 @@ fn lists_nothing_of_a_refused_file(rt: HostRuntime) -> Result<(), Fail> {
         ..listed(0, 0)
     };
     assert!(rt; (answer, report, damages) == (REFUSED, early, [UNWRITTEN, UNWRITTEN]));
-    Ok(())
-}
-
-/// A report of a scan that ended so.
-const fn ended(ended: u32, found: u32, due: u32, at: u64) -> DecodeReport {
-    DecodeReport {
-        intervals: 1,
-        sound: 1,
-        damaged: 0,
-        blank: 0,
-        ended,
-        found,
-        due,
-        refusal: 0,
-        at,
-        detail: 0,
-    }
-}
-
-/// The words are those that the program writes.
-fn ends() -> [(DecodeReport, &'static str); 7] {
-    [
-        (ended(0, 0, 0, 0), ""),
-        (ended(1, 0, 0, 0), "scan ended at EOI"),
-        (ended(2, 0xC4, 0, 300), "scan ended at marker C4, byte 300"),
-        (
-            ended(3, 2, 1, 147),
-            "scan ended at RST2 where RST1 was due, byte 147",
-        ),
-        (
-            ended(4, 0, 0, 9),
-            "scan ended at a restart marker past the last interval, byte 9",
-        ),
-        (ended(5, 0, 0, 0), "scan ended at the end of the file"),
-        (ended(6, 0, 0, 0), ""),
-    ]
-}
-
-#[test]
-fn tells_how_scans_end(rt: HostRuntime) -> Result<(), Fail> {
-    for (report, words) in &ends() {
-        let mut text = [7; 96];
-        let length = end_text(report, &mut text);
-        assert!(rt; &text[..length] == words.as_bytes(), "{words}");
-        let mut four = [7; 4];
-        let some = end_text(report, &mut four);
-        assert!(rt;
-            &four[..some] == &words.as_bytes()[..length.min(4)],
-            "{words}"
-        );
-    }
     Ok(())
 }
 

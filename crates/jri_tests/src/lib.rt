@@ -1,5 +1,5 @@
-//! Tests of whole files and runs through public calls: pictures, reports and refusals against answers worked out by hand
-//! from T.81, files cut and changed, several workers beside one, and devices that fail.
+//! Tests of runs through public calls, for what the program `cases` does not show of whole files: buffers without enough capacity,
+//! files cut and changed at many bytes, several workers at a gate, the program's arguments, and devices that fail.
 #![tactic(auto)]
 
 #[cfg(test)]
@@ -13,12 +13,6 @@ mod decoding;
 #[cfg(test)]
 mod devices;
 #[cfg(test)]
-mod every_byte;
-#[cfg(test)]
-mod in_memory;
-#[cfg(test)]
-mod limits;
-#[cfg(test)]
 mod long_intervals;
 #[cfg(test)]
 mod machine;
@@ -31,17 +25,9 @@ mod parts;
 #[cfg(test)]
 mod program;
 #[cfg(test)]
-mod refused;
-#[cfg(test)]
 mod rows;
 #[cfg(test)]
-mod shares;
-#[cfg(test)]
-mod short_files;
-#[cfg(test)]
 mod streams;
-#[cfg(test)]
-mod whole;
 #[cfg(test)]
 mod words;
 #[cfg(test)]

