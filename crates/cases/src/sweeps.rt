@@ -53,7 +53,7 @@ fn check_one<R: Threads + Wait + Sync>(
     }
     writeln!(
         out,
-        "{}: changed or cut at byte {at}: {outcome:?}",
+        "{}: changed or cut at byte {at}: its outcome is not that of its header",
         row.name
     )
 }

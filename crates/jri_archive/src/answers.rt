@@ -33,7 +33,7 @@ pub struct CheckRequest {
 }
 
 /// Why the words ask for no check.
-#[derive(Drop)]
+#[derive(Debug, Drop)]
 pub enum RequestError {
     /// They ask for help or for the version, which is this text.
     Help(String),
