@@ -28,7 +28,7 @@ fn size_of(arriving: &Arriving) -> Option<(usize, u32)> {
     Some((shape_of(head).line, head.height()))
 }
 
-/// Appends the lines that the bytes so far settle, at most so many at once.
+/// Appends the lines that the bytes so far make final, at most the given number at once.
 fn take_lines(
     alloc: Global,
     arriving: &mut Arriving,
@@ -68,7 +68,7 @@ fn push_parts(
     Ok(())
 }
 
-/// Appends the lines of a finished file from one on.
+/// Appends the lines of a finished file, starting at one.
 fn put_missing(
     alloc: Global,
     finished: &Finished,

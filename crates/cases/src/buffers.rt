@@ -76,7 +76,7 @@ fn interval_of(line: &str) -> Result<usize, Failure> {
     Ok(digits.parse::<usize>()?)
 }
 
-/// Returns the marks of so many intervals: 2 for each of the map, and 1 for all others.
+/// Returns the marks of the given number of intervals: 2 for each of the map, and 1 for all others.
 fn marks_of(alloc: Global, intervals: u32, map: &str) -> Result<Vec<u8>, Failure> {
     let mut marks = vec![in alloc; 1; intervals as usize]?;
     for line in map.lines() {

@@ -1,4 +1,4 @@
-//! Lines that tell what differs from a row, and on which path.
+//! Lines that say what differs from a row, and on which path.
 
 use crate::failure::Failure;
 

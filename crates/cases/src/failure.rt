@@ -18,7 +18,7 @@ pub(crate) enum Failure {
 }
 
 impl Failure {
-    /// Returns what is told of it.
+    /// Returns its text.
     pub(crate) fn text(self) -> &'static str {
         match self {
             Failure::Malformed => "not a row",

@@ -15,10 +15,10 @@ const LINES: u32 = 3;
 /// The number of lines that are decoded alone is about so great.
 const CALLS: u32 = 16;
 
-/// A line of a canvas is so many bytes longer than one of the picture.
+/// The number of bytes by which a line of a canvas is longer than one of the picture.
 const SPARE: usize = 5;
 
-/// Returns the bytes of so many lines starting at one.
+/// Returns the bytes of the given number of lines starting at one.
 fn lines_at<'a>(samples: &'a [u8], line: usize, first: u32, count: u32) -> &'a [u8] {
     let from = usize::saturating_mul(first as usize, line).min(samples.len());
     let rest = &samples[from..];

@@ -51,7 +51,7 @@ impl Reading {
         }
     }
 
-    /// Decodes at most so many rows to their lines in `pixels`, which has the whole picture, and returns the call's answer.
+    /// Decodes at most the given number of rows to their lines in `pixels`, which has the whole picture, and returns the call's answer.
     fn decode(
         &mut self,
         alloc: Global,
@@ -76,7 +76,7 @@ impl Reading {
     }
 }
 
-/// Decodes rows into `pixels`, at most so many a call, until no row is left.
+/// Decodes rows into `pixels`, at most the given number a call, until no row is left.
 fn by_rows(case: &Case<'_>, rows: u32, pixels: &mut [u8]) -> Reading {
     let mut reading = Reading::at_top(case.line());
     let mut first_line = 0;
@@ -90,7 +90,7 @@ fn by_rows(case: &Case<'_>, rows: u32, pixels: &mut [u8]) -> Reading {
     reading
 }
 
-/// Decodes the rows that are settled each time that so many bytes have come, and the others at the end.
+/// Decodes the rows that are final each time that the given number of bytes has come, and the others at the end.
 fn in_parts(case: &Case<'_>, part: usize, pixels: &mut [u8])
     requires { 0 < part }
 {

@@ -1,4 +1,4 @@
-//! Pictures of a scan: written row after row by several workers, also small ones, and kept on a board.
+//! Pictures of a scan: written row after row with several workers, also small ones, and kept on a board.
 
 ghost use Rattle.std.specs.Prelude.{◌≤◌};
 ghost use Rattle.jr_base.specs.declared.limits.TheConstants.{MAX_WORKERS};
