@@ -1,4 +1,4 @@
-//! Lines that say what differs from a row, and on which path.
+//! Lines for differences from a row, with the path that shows each.
 
 use crate::failure::Failure;
 

@@ -160,7 +160,7 @@ impl<'a> Devices for Machine<'a> {
     }
 
     fn open_device(&self, name: &str) -> IoResult<Opened> {
-        // a stream that is a file goes on at its end, where a shell's `>` has begun it and its `>>` has left it
+        // a stream that is a file continues at its end, where a shell's `>` or `>>` leaves it
         Ok(Opened {
             file: OpenOptions::new().append(true).open(self.rt, name)?,
             is_part: false,

@@ -160,7 +160,7 @@ fn put_form(bytes: &mut Vec<u8>, fragments: &str, arguments: &str) -> Result<(),
     Ok(())
 }
 
-/// Puts so many data units; those of each interval begin with other ones.
+/// Writes the given number of data units; those of each interval begin with other ones.
 fn put_units(bytes: &mut Vec<u8>, number: u32, units: u32) -> Result<(), NotationError> {
     let first = number.wrapping_mul(3);
     for k in 0..units.wrapping_mul(3).div_ceil(2) {

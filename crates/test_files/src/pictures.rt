@@ -25,7 +25,7 @@ fn put_line(bytes: &mut Vec<u8>, line: &str) -> Result<(), NotationError> {
     Ok(())
 }
 
-/// Puts a line, as often as `8x` before it says, or else so many times.
+/// Writes a line, as often as `8x` before it says, otherwise the given number of times.
 fn put_lines(bytes: &mut Vec<u8>, line: &str, times: u32) -> Result<(), NotationError> {
     let (times, line) = match line.split_once('x') {
         Some((digits, line)) => (digits.trim().parse::<u32>()?, line),
