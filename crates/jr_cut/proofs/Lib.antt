@@ -4,3 +4,4 @@ pub mod Unstuffed
 pub mod CutLaw
 pub mod Segments
 pub mod OpenSegments
+pub mod EachCut

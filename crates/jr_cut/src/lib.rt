@@ -14,7 +14,7 @@ mod unstuff;
 pub use coded_segments::{CodedSegments, cut};
 pub use cut_so_far::CutSoFar;
 pub use front::{fill_count, plain_count, segment_length};
-pub use laws::one_cut;
+pub use laws::{each_scan_has_a_cut, one_cut};
 pub use scan_end::ScanEnd;
 pub use span::Span;
 pub use stop::{Stop, stop_at};
