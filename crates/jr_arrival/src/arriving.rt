@@ -10,6 +10,7 @@ ghost use Rattle.jr_arrival.specs.Arriving.{GivesComing, HasBegun, Holds, IsArri
 ghost use Rattle.jr_arrival.specs.Growing.{HasScan};
 ghost use Rattle.jr_arrival.specs.Settled.{GivesNext, WantsMore};
 
+use crate::arriving_head::ArrivingHead;
 use crate::coming::Coming;
 use crate::finished::Finished;
 use jr_base::Memory;
@@ -22,12 +23,12 @@ use std::marker::Model;
 /// A file that is still arriving. Its bytes are pushed as they come, in any splitting, and the lines of its picture are given as
 /// soon as the bytes so far settle them, each once and in their order.
 ///
-/// Each byte is read once: its head is read at the first look that finds it whole, and from then on the scan is cut and decoded on
-/// from where it stands. It takes memory for the data of the scan and for a row of MCUs.
+/// Each byte is read once: each look reads on in the head from the first segment that was not whole, and then in the scan from where
+/// the last look ended. It uses memory for the data of the scan and for a row of MCUs.
 #[derive(Drop)]
 pub struct Arriving {
-    /// Of a file whose head is not there yet.
-    bytes: Vec<u8>,
+    /// Empty once the scan has begun.
+    head: ArrivingHead,
     coming: Option<Coming>,
     /// Of all bytes that have come, those among them that are too many and not kept.
     count: u64,
@@ -39,24 +40,24 @@ impl Model for Arriving {
 
     ghost Value = { ArrivingValue };
 
-    ghost view = { λ a. record { bytes = a.bytes.items; coming = a.coming; count = a.count } };
+    ghost view = { λ a. record { bytes = a.head; coming = a.coming; count = a.count } };
 
-    ghost invariant = { λ a. IfSome a.coming (λ c. c.bytes ≤ a.count) × (length a.bytes.items ≤ a.count) };
+    ghost invariant = { λ a. IfSome a.coming (λ c. c.bytes ≤ a.count) × (length a.head ≤ a.count) };
 }
 
 /// More bytes have come, and are put behind those that are kept or cut.
-fn hold(bytes: &mut Vec<u8>, coming: &mut Option<Coming>, more: &[u8]) -> Result<(), Memory>
+fn hold(head: &mut ArrivingHead, coming: &mut Option<Coming>, more: &[u8]) -> Result<(), Memory>
     requires few { IfSome coming.old (λ c. c.bytes + length more.now ≤ MAX_FILE_BYTES) }
-    ensures held { IfOk result (λ _. (so_far : List ℕ) → length (so_far ++ more.now) ≤ MAX_FILE_BYTES → Holds bytes.old.items coming.old so_far → Holds bytes.new.items coming.new (so_far ++ more.now)) }
+    ensures held { IfOk result (λ _. (so_far : List ℕ) → length (so_far ++ more.now) ≤ MAX_FILE_BYTES → Holds head.old coming.old so_far → Holds head.new coming.new (so_far ++ more.now)) }
     ensures lines { given_of coming.new ≡ given_of coming.old }
     ensures count { (n : ℕ) → IfSome coming.old (λ c. c.bytes ≤ n) → IfSome coming.new (λ c. c.bytes ≤ n + length more.now) }
-    ensures long { length bytes.new.items ≤ length bytes.old.items + length more.now }
-    ensures bytes { IfErr result (λ _. bytes.new.items ≡ bytes.old.items) }
+    ensures long { length head.new ≤ length head.old + length more.now }
+    ensures bytes { IfErr result (λ _. head.new ≡ head.old) }
     ensures memory { IfErr result (λ _. coming.new ≡ coming.old) }
 {
     match coming {
         Some(scan) => scan.push(more)?,
-        None => bytes.extend_from_slice(more)?,
+        None => head.push(more)?,
     }
     Ok(())
 }
@@ -101,7 +102,7 @@ impl Arriving {
         ensures lines { given_of result.coming ≡ 0 }
     {
         Arriving {
-            bytes: Vec::new(alloc),
+            head: ArrivingHead::new(alloc),
             coming: None,
             count: 0,
         }
@@ -115,7 +116,7 @@ impl Arriving {
     {
         let count = self.count.saturating_add(more.len() as u64);
         if count <= MAX_FILE_BYTES as u64 {
-            hold(&mut self.bytes, &mut self.coming, more)?;
+            hold(&mut self.head, &mut self.coming, more)?;
         }
         self.count = count;
         Ok(())
@@ -158,11 +159,11 @@ impl Arriving {
         if self.coming.is_some() {
             return Ok(());
         }
-        let Some(coming) = Coming::of(alloc, &self.bytes)? else {
+        let Some(coming) = Coming::of(alloc, &mut self.head)? else {
             return Ok(());
         };
         self.coming = Some(coming);
-        self.bytes = Vec::new(alloc);
+        self.head = ArrivingHead::new(alloc);
         Ok(())
     }
 
@@ -209,14 +210,14 @@ impl Arriving {
         ensures refusal { IfErr result (λ f. f ≢ refusal.Memory → (bytes : List ℕ) → IsArriving self bytes → RefusalOf bytes f) }
     {
         let Arriving {
-            bytes,
+            head,
             coming,
             count,
         } = self;
         if count > MAX_FILE_BYTES as u64 {
             return Err(Refusal::TooLong);
         }
-        let coming = match begun(alloc, &bytes, coming) {
+        let coming = match begun(alloc, head.bytes(), coming) {
             Ok(coming) => coming,
             Err(refusal) => return Err(refusal),
         };

@@ -13,9 +13,9 @@ ghost use Rattle.jr_arrival.specs.Arriving.{HasBegun};
 ghost use Rattle.jr_arrival.specs.Coming.{AreComing, HasNoMore};
 ghost use Rattle.jr_arrival.specs.Settled.{GivesSettled, WantsMore};
 
+use crate::arriving_head::ArrivingHead;
 use crate::coming_row::ComingRow;
 use crate::finished::Finished;
-use crate::head::head_so_far;
 use jr_base::Memory;
 use jr_head::Head;
 use jr_rows::shape_of;
@@ -68,21 +68,22 @@ impl Coming {
         })
     }
 
-    /// The scan of these bytes once they have its head. None where more are wanted. It copies them.
+    /// Returns the scan of the bytes so far once they have its head, or `None` if more are wanted. It copies them.
     ///
     /// # Errors
     ///
-    /// The refusal of every file that the bytes can become. `Memory` where memory was refused; it says nothing of the bytes.
-    pub(crate) fn of(alloc: Global, bytes: &[u8]) -> Result<Option<Coming>, Refusal>
-        ensures begun { IfOk result (λ o. IfSome o (λ c. HasBegun c bytes.now × (c.row.lines ≡ 0))) }
-        ensures wanted { IfOk result (λ o. IfNone o (WantsMore bytes.now)) }
-        ensures refusal { IfErr result (λ f. f ≢ refusal.Memory → RefusalOf bytes.now f) }
-        ensures stays { IfErr result (IsFinalFault bytes.now) }
+    /// The refusal of every file that the bytes can become. `Memory` if allocation fails; it says nothing of the bytes.
+    pub(crate) fn of(alloc: Global, so_far: &mut ArrivingHead) -> Result<Option<Coming>, Refusal>
+        ensures begun { IfOk result (λ o. IfSome o (λ c. HasBegun c so_far.old × (c.row.lines ≡ 0))) }
+        ensures wanted { IfOk result (λ o. IfNone o (WantsMore so_far.old)) }
+        ensures refusal { IfErr result (λ f. f ≢ refusal.Memory → RefusalOf so_far.old f) }
+        ensures stays { IfErr result (IsFinalFault so_far.old) }
+        ensures kept { so_far.new ≡ so_far.old }
     {
-        let Some(head) = head_so_far(alloc, bytes)? else {
+        let Some(head) = so_far.read(alloc)? else {
             return Ok(None);
         };
-        let Ok(coming) = Coming::open(alloc, head, bytes) else {
+        let Ok(coming) = Coming::open(alloc, head, so_far.bytes()) else {
             return Err(Refusal::Memory);
         };
         Ok(Some(coming))

@@ -10,6 +10,7 @@
 #![tactic(auto)]
 
 mod arriving;
+mod arriving_head;
 mod coming;
 mod coming_row;
 mod finished;

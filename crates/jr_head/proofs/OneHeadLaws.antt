@@ -358,14 +358,18 @@ by_walk file (Err f) starts small e w = inr record {
   no_head = λ h k. ok_err h f (one_walk (length file) [] (drop 2 file) (Ok h) (Err f) (head_walk file h k) w);
 }
 
+-- a file that passes the tests of its beginning
+pub begins : (file : List ℕ) → first_fault (start_tests file) ≡ None → (length file ≤ MAX_FILE_BYTES) × (file ≡ start_of_image ++ drop 2 file)
+begins file starts =
+    let t = two_tests (nat_lt MAX_FILE_BYTES (length file)) (byte 0 file == PREFIX && byte 1 file == SOI) starts in
+    (ltb-false MAX_FILE_BYTES (length file) t.0, begins_so file t.1)
+
 after_start : (file : List ℕ) → IsBytes file → first_fault (start_tests file) ≡ None → OneOf file
 after_start file fits starts =
-    let t = two_tests (nat_lt MAX_FILE_BYTES (length file)) (byte 0 file == PREFIX && byte 1 file == SOI) starts in
-    let small : length file ≤ MAX_FILE_BYTES = ltb-false MAX_FILE_BYTES (length file) t.0 in
-    let e : file ≡ start_of_image ++ drop 2 file = begins_so file t.1 in
+    let b = begins file starts in
     let short : length (drop 2 file) ≤ length file = omega (arith, length-drop 2 file) in
     let w = some_walk (suc (length (drop 2 file))) (length file) [] (drop 2 file) (omega arith) (IsBytes-drop 2 file fits) short in
-    by_walk file w.0 starts small e w.1
+    by_walk file w.0 starts b.0 b.1 w.1
 
 by_start : (file : List ℕ) (o : Option Refusal) → IsBytes file → first_fault (start_tests file) ≡ o → OneOf file
 by_start file (Some f) fits e = at_start file f e

@@ -5,5 +5,5 @@ use Rattle.jr_arrival.proofs.arriving.hold.Goals as goal
 
 pub returns-in_ok-push-in-Some-clause-held : goal.returns-in_ok-push-in-Some-clause-held
 returns-in_ok-push-in-Some-clause-held c so_far small held =
-    let before : HasBegun c.in-Some.scan so_far = subst (λ (o : Option ComingValue). Holds c.args.bytes.now.items o so_far) c.in-Some.is held in
+    let before : HasBegun c.in-Some.scan so_far = subst (λ (o : Option ComingValue). Holds c.args.head.now o so_far) c.in-Some.is held in
     begun_stays c.in-Some.scan c.push.new.self so_far c.args.more.now small c.in_ok-push-in-Some.ensures.head c.in_ok-push-in-Some.ensures.count (c.in_ok-push-in-Some.ensures.pushed so_far) before

@@ -9,23 +9,23 @@ use Rattle.jr_arrival.proofs.arriving.Arriving.finish.Goals as goal
 pub returns-then-count-clause-refusal : goal.returns-then-count-clause-refusal
 returns-then-count-clause-refusal c other bytes a =
     let i = c.self.inside in
-    let b : IsArriving (record { bytes = i.bytes.items; coming = i.coming; count = i.count }) bytes = subst (λ (v : ArrivingValue). IsArriving v bytes) (sym c.self.view_is) a in
+    let b : IsArriving (record { bytes = i.head; coming = i.coming; count = i.count }) bytes = subst (λ (v : ArrivingValue). IsArriving v bytes) (sym c.self.view_is) a in
     is_too_long bytes (omega (arith, b.count, c.if-count.true))
 
 pub returns-in-Err-clause-refusal : goal.returns-in-Err-clause-refusal
 returns-in-Err-clause-refusal c other bytes a =
     let i = c.self.inside in
-    let b : IsArriving (record { bytes = i.bytes.items; coming = i.coming; count = i.count }) bytes = subst (λ (v : ArrivingValue). IsArriving v bytes) (sym c.self.view_is) a in
-    let held : Holds i.bytes.items i.coming bytes = b.holds (omega (arith, b.count, c.if-count.false)) in
+    let b : IsArriving (record { bytes = i.head; coming = i.coming; count = i.count }) bytes = subst (λ (v : ArrivingValue). IsArriving v bytes) (sym c.self.view_is) a in
+    let held : Holds i.head i.coming bytes = b.holds (omega (arith, b.count, c.if-count.false)) in
     let told = c.in-Err.ensures.refusal other bytes in
     search (rules, told, held)
 
 pub returns-clause-scan : goal.returns-clause-scan
 returns-clause-scan c bytes a =
     let i = c.self.inside in
-    let b : IsArriving (record { bytes = i.bytes.items; coming = i.coming; count = i.count }) bytes = subst (λ (v : ArrivingValue). IsArriving v bytes) (sym c.self.view_is) a in
-    let held : Holds i.bytes.items i.coming bytes = b.holds (omega (arith, b.count, c.if-count.false)) in
-    let begun : HasBegun c.in-Ok.coming bytes = c.in-Ok.ensures.begun bytes (subst (λ (l : List ℕ). Holds l i.coming bytes) (sym c.deref.ensures.value) held) in
+    let b : IsArriving (record { bytes = i.head; coming = i.coming; count = i.count }) bytes = subst (λ (v : ArrivingValue). IsArriving v bytes) (sym c.self.view_is) a in
+    let held : Holds i.head i.coming bytes = b.holds (omega (arith, b.count, c.if-count.false)) in
+    let begun : HasBegun c.in-Ok.coming bytes = c.in-Ok.ensures.begun bytes (subst (λ (l : List ℕ). Holds l i.coming bytes) (sym c.bytes.ensures) held) in
     subst (HasScan bytes) (sym c.in-Ok-finish.ensures.scan) (begun_scan c.in-Ok.coming bytes begun)
 
 pub returns-clause-counts : goal.returns-clause-counts
