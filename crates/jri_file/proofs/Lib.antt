@@ -1,3 +1,4 @@
+pub mod EachPicture
 pub mod InputFile
 pub mod Longer
 pub mod OneText

@@ -8,8 +8,7 @@ use Rattle.jr_head.specs.Heads.{HeadOf, RefusalOf}
 use Rattle.jr_head.specs.Geometry.{IsLawful}
 use Rattle.jr_scan.specs.ScanValue.{ScanValue, IsScanOf}
 use Rattle.jr_picture.specs.declared.mark.Mark.{Mark}
-use Rattle.jr_picture.specs.Headline.{IsPicture, AreFirst}
-use Rattle.jr_picture.specs.Headline.{least}
+use Rattle.jr_picture.specs.Headline.{IsPicture, AreFirst, ShowsFirst, least}
 use Rattle.jri_file.specs.declared.report.Fault.{Fault}
 use Rattle.jri_file.specs.declared.report.Fault.TheVariants as fault
 
@@ -62,6 +61,19 @@ pub record IsPictureOf (file : List ℕ) (first : Option ℕ) (scan : ScanValue)
   pub is_scan : IsScanOfFile file scan
   pub picture : IsPicture scan marks f
   pub decoded : AreFirst (least first (length scan.intervals)) marks
+
+-- the file has such a picture
+pub record HasPictureOf (file : List ℕ) (first : Option ℕ) : Type 0 where
+  pub scan : ScanValue
+  pub marks : List Mark
+  pub samples : ℕ → ℕ → ℕ → ℕ
+  pub is : IsPictureOf file first scan marks samples
+
+-- the scan has a picture of which the first n intervals are marked, and no other
+pub record HasPicture (scan : ScanValue) (n : ℕ) : Type 0 where
+  pub marks : List Mark
+  pub samples : ℕ → ℕ → ℕ → ℕ
+  pub is : ShowsFirst scan n marks samples
 
 -- what holds of the file that a reader has left, where its bytes are known: all of them, or one more than a file may have
 abbrev pub OfFile : Option (List ℕ) → (List ℕ → Type 0) → Type 0

@@ -9,6 +9,6 @@ mod scanning;
 mod status;
 
 pub use incoming::read_scan;
-pub use laws::one_text;
+pub use laws::{each_accepted_file_has_a_picture, each_scan_has_a_picture, one_text};
 pub use report::{Fault, Report};
 pub use scanning::scan_of_file;
