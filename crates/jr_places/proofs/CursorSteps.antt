@@ -18,13 +18,22 @@ module _ (h : HeadValue) where
   pub goes_nowhere : (c : ScanCursor) → IsCursor h c → PassesIn h c c 0
   goes_nowhere c is = record { is = is; file = refl; interval = refl; mcu = omega arith }
 
-  -- over no MCU, then to another window, and then over some
-  pub goes_after : (c d s e : ScanCursor) (n m : ℕ) → n ≡ 0 → PassesIn h c d n → StaysIn d s → PassesIn h s e m → PassesIn h c e m
-  goes_after c d s e n m none first stays second = record {
+  -- over no MCU, and then over some
+  pub goes_after : (c d e : ScanCursor) (n : ℕ) → PassesIn h c d 0 → PassesIn h d e n → PassesIn h c e n
+  goes_after c d e n first second = record {
     is = second.is;
-    file = second.file ∙ stays.file ∙ first.file;
-    interval = second.interval ∙ stays.interval ∙ first.interval;
-    mcu = omega (arith, second.mcu, stays.mcu, first.mcu, none);
+    file = second.file ∙ first.file;
+    interval = second.interval ∙ first.interval;
+    mcu = omega (arith, second.mcu, first.mcu);
+  }
+
+  -- over no MCU, and then to another window
+  pub goes_to : (c d e : ScanCursor) (n : ℕ) → n ≡ 0 → PassesIn h c d n → StaysIn d e → PassesIn h c e 0
+  goes_to c d e n none first s = record {
+    is = cursor_stays d e first.is s;
+    file = s.file ∙ first.file;
+    interval = s.interval ∙ first.interval;
+    mcu = omega (arith, s.mcu, first.mcu, none);
   }
 
   -- MCUs of its interval behind those before

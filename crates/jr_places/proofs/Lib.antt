@@ -7,6 +7,7 @@ pub mod Splits
 pub mod Spelled
 pub mod Threes
 pub mod Windows
+pub mod Stops
 pub mod Going
 pub mod ReadOn
 pub mod Steps

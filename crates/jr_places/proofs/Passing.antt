@@ -1,5 +1,5 @@
 -- A cursor that a reader of its window has gone on.
-use Rattle.std.proofs.Common.{◌≡◌, ℕ, ◌+◌, ◌-◌, ◌*◌, ◌≤◌, List, length, drop, take, refl, sym, ap, subst, ◌∙◌, length-take-le, arith}
+use Rattle.std.proofs.Common.{◌≡◌, ℕ, ◌+◌, ◌-◌, ◌*◌, ◌≤◌, List, length, drop, refl, sym, ap, subst, ◌∙◌, arith}
 use Rattle.jr_head.specs.HeadValue.{HeadValue}
 use Rattle.jr_head.specs.Intervals.{mcus_in}
 use Rattle.jr_scan.specs.declared.place.Place.{Place}
@@ -9,8 +9,9 @@ use Rattle.std.specs.List.{All}
 use Rattle.std.proofs.lemmas.List.{drop-drop}
 use Rattle.jr_mcu.specs.Block.{IsInDcRange}
 use Rattle.jr_places.specs.declared.cursor.ScanCursor.{ScanCursor}
-use Rattle.jr_places.specs.Cursors.{HasWindow, IsCursor, PassesIn, in_window}
+use Rattle.jr_places.specs.Cursors.{HasWindow, IsCursor, PassesIn, in_window, window}
 use Rattle.jr_places.specs.Places.{IsIn}
+use Rattle.jr_places.proofs.Windows.{window_long}
 
 module _ (h : HeadValue) (c : ScanCursor) (r r' : McuReaderValue) (n : ℕ) (is : IsCursor h c)
     (run : r.run ≡ run_from (in_window h c) c.place (mcus_in h c.interval - c.mcu)) (zero : r.mcu ≡ 0)
@@ -21,11 +22,11 @@ module _ (h : HeadValue) (c : ScanCursor) (r r' : McuReaderValue) (n : ℕ) (is 
   -- it stands behind so many further MCUs of its interval
   pub passes_in : (p : Place) → p.bit ≤ 8 * length r'.run.interval.bytes → All IsInDcRange p.predictions → PassesIn h c (record c { mcu = c.mcu + n; place = p }) n
   passes_in p within in_range =
-      let long : length (take c.found c.room.items) ≡ c.found = length-take-le c.found c.room.items (omega (arith, is.window.found, is.window.room)) in
-      let bytes : length r'.run.interval.bytes ≡ length (take c.found c.room.items) = ap (λ (o : RunOf). length o.interval.bytes) (same ∙ run) in
+      let long = window_long c is.window in
+      let bytes : length r'.run.interval.bytes ≡ length (window c) = ap (λ (o : RunOf). length o.interval.bytes) (same ∙ run) in
       record {
         is = record {
-          window = record { room = is.window.room; found = is.window.found; at = is.window.at; bit = omega (arith, within, bytes, long); in_range = in_range; spells = is.window.spells };
+          window = record { room = is.window.room; from = is.window.from; found = is.window.found; at = is.window.at; bit = omega (arith, within, bytes, long); in_range = in_range; spells = is.window.spells; full = is.window.full };
           is_in = record { number = is.is_in.number; few = passed_few };
         };
         file = refl;

@@ -1,5 +1,5 @@
 -- What the steps of decoding a row show.
-use Rattle.std.proofs.Common.{◌≡◌, ◌≢◌, ℕ, ◌+◌, ◌-◌, ◌*◌, ◌<◌, ◌≤◌, List, [], length, get_or, take, refl, sym, ap, subst, ◌∙◌, length-take-le, arith}
+use Rattle.std.proofs.Common.{◌≡◌, ◌≢◌, ℕ, ◌+◌, ◌-◌, ◌*◌, ◌<◌, ◌≤◌, List, [], length, get_or, refl, sym, ap, subst, ◌∙◌, arith}
 use Rattle.std.specs.Prelude.{ℤ}
 use Rattle.jr_head.specs.HeadValue.{HeadValue}
 use Rattle.jr_head.specs.Geometry.{IsLawful, blocks_of, mcus_across, order_of}
@@ -22,10 +22,11 @@ use Rattle.jr_places.specs.declared.cursor.ScanCursor.{ScanCursor}
 use Rattle.jr_places.specs.declared.file_bytes.FileBytes.{FileBytes}
 use Rattle.jr_places.specs.Meaning.{HasNoMore, MayBe, MeansAt, ReadsAt, behind}
 use Rattle.jr_places.specs.Places.{mcus_before}
-use Rattle.jr_places.specs.Cursors.{IsCursor, StaysTrue, in_window, number_of}
+use Rattle.jr_places.specs.Cursors.{IsCursor, StaysTrue, in_window, number_of, window}
 use Rattle.jr_places.specs.Shown.{ShowsMore}
 use Rattle.jr_places.proofs.Going.{on_by}
 use Rattle.jr_places.proofs.ReadOn.{nothing_whole, run_on}
+use Rattle.jr_places.proofs.Windows.{window_long}
 
 abbrev Kept : HeadValue → ℕ → (old new : List (List ℕ)) → Type 0
 Kept h done old new = (k : ℕ) → k < done * blocks_of h → get_or (units_in h new) k [] ≡ get_or (units_in h old) k []
@@ -59,17 +60,17 @@ module _ (h : HeadValue) (c : ScanCursor) (lawful : IsLawful h) (some : 0 < bloc
   per_of t = length-order 0 t.head.components
 
   -- whole ones
-  pub whole_shows : c.reading ≡ GoesOn → (ys : List (List ℤ)) (q : Place) → IsRun (run_from (in_window h c) c.place n) ys q AllRead → q.bit ≤ 8 * c.found → Are h done n new (unit_of h ys) → ShowsMore h c done n old new
+  pub whole_shows : c.reading ≡ GoesOn → (ys : List (List ℤ)) (q : Place) → IsRun (run_from (in_window h c) c.place n) ys q AllRead → q.bit ≤ 8 * (c.found - c.from) → Are h done n new (unit_of h ys) → ShowsMore h c done n old new
   whole_shows going ys q run to units from at whole t may s before =
       let w = is.window.spells in
-      let window = take c.found c.room.items in
-      let long : length window ≡ c.found = length-take-le c.found c.room.items (omega (arith, is.window.found, is.window.room)) in
+      let found = window c in
+      let long : length found ≡ c.found - c.from = window_long c is.window in
       let means : ReadsAt whole t c.interval c.mcu c.at c.place = subst (λ (r : Reading). MeansAt whole t (number_of r) c.interval c.mcu c.at c.place) going s.means in
       let e = may.head in
-      let o = on_by c.file.bytes.now may.more whole t c.interval c.at w.read means.before window may.is means.on w.within w.spelled in
+      let o = on_by c.file.bytes.now may.more whole t c.interval c.at w.read means.before found may.is means.on w.within w.spelled in
       let lawful_t : IsLawful t.head = subst IsLawful (sym e) lawful in
-      let there = run_on whole t c.interval c.mcu c.at (mcus_in h c.interval - c.mcu) window o.on.rest c.place lawful_t means o.is n ys q (omega (arith, is.window.bit, long)) (omega (arith, to, long))
-      (subst (λ (g : HeadValue). IsRun (run_from (record { number = c.interval; mcus = mcus_in h c.interval - c.mcu; bytes = window; head = g }) c.place n) ys q AllRead) (sym e) run) in
+      let there = run_on whole t c.interval c.mcu c.at (mcus_in h c.interval - c.mcu) found o.on.rest c.place lawful_t means o.is n ys q (omega (arith, is.window.bit, long)) (omega (arith, to, long))
+      (subst (λ (g : HeadValue). IsRun (run_from (record { number = c.interval; mcus = mcus_in h c.interval - c.mcu; bytes = found; head = g }) c.place n) ys q AllRead) (sym e) run) in
       let units_t : Are t.head done n new (unit_of t.head ys) = subst (λ (g : HeadValue). Are g done n new (unit_of g ys)) (sym e) units in
       step from at whole t may before (λ p same out k lt.
       units_t k lt ∙ whole_codes (interval_of t c.interval) lawful_t c.mcu means.blocks (behind means.before c.place) means.next n ys (behind means.before q) there (few_t from at whole t may before) p same out k (omega (arith, lt, ap (λ (m : ℕ). n * m) (per_of t)))
@@ -95,6 +96,12 @@ module _ (h : HeadValue) (c : ScanCursor) (lawful : IsLawful h) (some : 0 < bloc
 pub shows_moved : (h : HeadValue) (a b : ScanCursor) (done n : ℕ) (old new : List (List ℕ)) → b.file ≡ a.file → mcus_before h b.interval b.mcu ≡ mcus_before h a.interval a.mcu → StaysTrue h a b → ShowsMore h b done n old new → ShowsMore h a done n old new
 shows_moved h a b done n old new same passed stays second from at whole t may s before =
     second from (passed ∙ at) whole t (subst (λ (f : FileBytes). MayBe f.bytes.now f.are_all h whole t) (sym same) may) (stays whole t may s) before
+
+-- over no step
+pub shows_none : (h : HeadValue) (c : ScanCursor) (done : ℕ) (groups : List (List ℕ)) → ShowsMore h c done 0 groups groups
+shows_none h c done groups from at whole t may s before =
+    let here : done ≡ done + 0 = omega arith in
+    subst (λ (k : ℕ). ShowsFirstUnits t (length t.intervals) from k (units_in t.head groups)) here before
 
 -- over a step that decodes nothing
 pub shows_after : (h : HeadValue) (a b : ScanCursor) (done n m : ℕ) (old mid new : List (List ℕ)) → n ≡ 0 → b.file ≡ a.file → mcus_before h b.interval b.mcu ≡ mcus_before h a.interval a.mcu → StaysTrue h a b → ShowsMore h a done n old mid → ShowsMore h b done m mid new → ShowsMore h a done m old new

@@ -1,21 +1,19 @@
 -- What a cursor's steps keep true in each file that its bytes may be.
-use Rattle.std.proofs.Common.{◌≡◌, ◌≢◌, ℕ, zero, suc, ◌+◌, ◌-◌, ◌*◌, ◌/◌, ◌%◌, ◌<◌, ◌≤◌, ◌⊎◌, inl, inr, List, [], ◌∷◌, ◌++◌, length, replicate, take, drop, get_or, refl, sym, ap, subst, ◌∙◌, append_assoc, length-append, length-drop, length-take-le, arith}
-use Rattle.std.specs.Prelude.{ℤ}
+use Rattle.std.proofs.Common.{◌≡◌, ◌≢◌, ℕ, ◌+◌, ◌-◌, ◌*◌, ◌/◌, ◌%◌, ◌<◌, ◌≤◌, ◌⊎◌, inl, inr, List, [], ◌∷◌, ◌++◌, length, replicate, take, drop, refl, sym, ap, subst, ◌∙◌, append_assoc, length-append, length-drop, length-take-le, arith}
+use Rattle.std.specs.Prelude.{ℤ, true}
 use Rattle.std.specs.List.{All}
-use Rattle.std.proofs.lemmas.List.{append-nil, drop-append-le, drop-drop}
+use Rattle.std.proofs.lemmas.List.{drop-append-le, drop-drop}
 use Rattle.jr_base.specs.declared.marker.TheConstants.{PREFIX, RST0}
 use Rattle.jr_cut.specs.Cut.{IsRaw, IsStop, IsEnding, marker}
 use Rattle.jr_cut.specs.OpenSegments.{BeginsWithRestart}
 use Rattle.jr_cut.specs.declared.scan_end.ScanEnd.{ScanEnd}
 use Rattle.jr_cut.specs.declared.scan_end.ScanEnd.TheVariants.{EndOfFile}
-use Rattle.jr_cut.proofs.Cuts.{rest_is}
 use Rattle.jr_head.specs.HeadValue.{HeadValue}
 use Rattle.jr_head.specs.Geometry.{IsLawful}
 use Rattle.jr_head.specs.Intervals.{intervals_of, mcus_in}
 use Rattle.jr_mcu.specs.Block.{IsInDcRange}
 use Rattle.jr_scan.specs.declared.place.Place.{Place}
 use Rattle.jr_scan.specs.declared.place.RunEnd.TheVariants.{AllRead}
-use Rattle.std.proofs.lemmas.Bool.{cases_lt}
 use Rattle.jr_code.specs.Bits.{bits}
 use Rattle.jr_code.proofs.BitLemmas.{length-bits}
 use Rattle.jr_scan.specs.McuReader.{McuReaderValue}
@@ -28,14 +26,15 @@ use Rattle.jr_settled.proofs.Spellings.{one_stop}
 use Rattle.jr_places.specs.declared.cursor.Reading.{Reading}
 use Rattle.jr_places.specs.declared.cursor.Reading.TheVariants.{GoesOn, IsStuck, HasEnded}
 use Rattle.jr_places.specs.declared.cursor.ScanCursor.{ScanCursor}
-use Rattle.jr_places.specs.declared.cursor.TheConstants.{WINDOW}
 use Rattle.jr_places.specs.declared.file_bytes.FileBytes.{FileBytes}
 use Rattle.jr_places.specs.Meaning.{GoesOnAt, HasNoData, HasNoMore, IsStuckAt, MayBe, MeansAt, ReadsAt, behind}
 use Rattle.jr_places.specs.Places.{IsIn}
-use Rattle.jr_places.specs.Cursors.{HasWindow, IsCursor, IsOffset, NoneFollows, StandsIn, StaysTrue, in_window, number_of}
+use Rattle.jr_places.specs.Cursors.{HasWindow, IsCursor, IsOffset, NoneFollows, StandsIn, StaysTrue, in_window, number_of, window}
 use Rattle.jr_places.proofs.Going.{ended_on, ending_more, next_on, on_by}
 use Rattle.jr_places.proofs.ReadOn.{none_on, reads_first, reads_on}
 use Rattle.jr_places.proofs.Spelled.{split_at}
+use Rattle.jr_places.proofs.Stops.{length-fill}
+use Rattle.jr_places.proofs.Windows.{window_long}
 
 -- ---- one step behind the other
 
@@ -48,17 +47,17 @@ module _ (h : HeadValue) (c : ScanCursor) (lawful : IsLawful h) (is : IsCursor h
   abbrev passed : ScanCursor
   passed = record c { mcu = c.mcu + n; place = q }
 
-  found_long : length (take c.found c.room.items) ≡ c.found
-  found_long = length-take-le c.found c.room.items (omega (arith, is.window.found, is.window.room))
+  found_long : length (window c) ≡ c.found - c.from
+  found_long = window_long c is.window
 
   -- over whole ones
-  pub passes_true : (ys : List (List ℤ)) → IsRun (run_from (in_window h c) c.place n) ys q AllRead → q.bit ≤ 8 * c.found → All IsInDcRange q.predictions → StaysTrue h c passed
+  pub passes_true : (ys : List (List ℤ)) → IsRun (run_from (in_window h c) c.place n) ys q AllRead → q.bit ≤ 8 * (c.found - c.from) → All IsInDcRange q.predictions → StaysTrue h c passed
   passes_true ys run to in_range whole t may s = record { from = s.from; means = go c.reading s.means }
     where
       go : (r : Reading) → MeansAt whole t (number_of r) c.interval c.mcu c.at c.place → MeansAt whole t (number_of r) c.interval (c.mcu + n) c.at q
       go GoesOn means =
           let w = is.window.spells in
-          let found = take c.found c.room.items in
+          let found = window c in
           let o = on_by c.file.bytes.now may.more whole t c.interval c.at w.read means.before found may.is means.on w.within w.spelled in
           let e = may.head in
           reads_on whole t c.interval c.mcu c.at (mcus_in h c.interval - c.mcu) found o.on.rest c.place (subst IsLawful (sym e) lawful) means o.is n ys q (omega (arith, is.window.bit, found_long)) (omega (arith, to, found_long)) in_range
@@ -77,12 +76,12 @@ moved h c at q off w bit predictions whole t may = go c.reading
     byte = c.place.bit / 8
 
     front : List ℕ
-    front = take byte (take c.found c.room.items)
+    front = take byte (window c)
 
     front_long : length front ≡ byte
     front_long =
-        let found_long = length-take-le c.found c.room.items (omega (arith, w.found, w.room)) in
-        length-take-le byte (take c.found c.room.items) (omega (arith, found_long, w.bit))
+        let found_long = window_long c w in
+        length-take-le byte (window c) (omega (arith, found_long, w.bit))
 
     on : (before : List ℕ) (g : GoesOnAt whole t c.interval c.at before) → GoesOnAt whole t c.interval at (before ++ front)
     on before g =
@@ -101,60 +100,30 @@ moved h c at q off w bit predictions whole t may = go c.reading
 
 -- ---- behind its data
 
-get-fill : (n k : ℕ) → k < n → get_or (replicate n PREFIX) k 0 ≡ PREFIX
-get-fill zero k lt = absurd (omega (arith, lt))
-get-fill (suc n) zero lt = refl
-get-fill (suc n) (suc k) lt = get-fill n k (omega (arith, lt))
-
-length-fill : (n : ℕ) → length (replicate n PREFIX) ≡ n
-length-fill zero = refl
-length-fill (suc n) = ap suc (length-fill n)
-
--- a marker that is there stays
-pub stop_stays : (tail more : List ℕ) (fill : ℕ) → IsStop tail → (fill < length tail → get_or tail fill 0 ≢ PREFIX) → (more ≡ []) ⊎ (fill < length tail) → IsStop (tail ++ more)
-stop_stays tail more fill s next (inl none) = subst IsStop (sym (ap (λ (x : List ℕ). tail ++ x) none ∙ append-nil tail)) s
-stop_stays tail more fill s next (inr lt) = elim s.stops [
-  | inl e ↦
-      let all : tail ≡ replicate s.more PREFIX = s.spelled ∙ ap (λ (x : List ℕ). replicate s.more PREFIX ++ x) e ∙ append-nil (replicate s.more PREFIX) in
-      absurd (next lt (ap (λ (x : List ℕ). get_or x fill 0) all ∙ get-fill s.more fill (omega (arith, lt, ap length all, length-fill s.more))))
-  | inr o ↦ record {
-    more = s.more;
-    rest = s.rest ++ more;
-    spelled = ap (λ (x : List ℕ). x ++ more) s.spelled ∙ append_assoc (replicate s.more PREFIX) s.rest more;
-    stops = inr (o.0, o.1, o.2 ++ more, o.3, o.4, ap (λ (x : List ℕ). x ++ more) o.5);
-  }
-]
-
-pub stop_whole : (bytes more : List ℕ) (end fill : ℕ) → end ≤ length bytes → IsStop (drop end bytes) → (fill < length (take (length bytes - end) (drop end bytes)) → get_or (take (length bytes - end) (drop end bytes)) fill 0 ≢ PREFIX)
-    → (more ≡ []) ⊎ (end + fill < length bytes) → IsStop (drop end (bytes ++ more))
-stop_whole bytes more end fill within s next final =
-    let there = subst (λ (x : List ℕ). fill < length x → get_or x fill 0 ≢ PREFIX) (rest_is bytes end) next in
-    subst IsStop (sym (drop-append-le end bytes more within)) (stop_stays (drop end bytes) more fill s there (elim final [ inl none ↦ inl none | inr lt ↦ inr (omega (arith, lt, length-drop end bytes)) ]))
-
 module _ (h : HeadValue) (c : ScanCursor) (w : HasWindow c) (end read : ℕ) (found : List ℕ) (there : end ≡ c.at + read) (within : end ≤ length c.file.bytes.now) (raw : IsRaw (take read (drop c.at c.file.bytes.now)) found) where
   -- where no further MCU is whole
   pub stuck_true : IsIn h c.interval c.mcu → IsLawful h → NoneFollows h c → c.reading ≡ GoesOn → IsStop (drop end c.file.bytes.now) → (whole : List ℕ) (t : ScanValue) (may : MayBe c.file.bytes.now c.file.are_all h whole t) → IsStop (drop end whole) → StandsIn whole t c → IsStuckAt whole t c.interval c.mcu end
   stuck_true is_in lawful none going here whole t may stop s =
       let bytes = c.file.bytes.now in
       let spells = w.spells in
-      let window = take c.found c.room.items in
+      let here_found = window c in
       let means : ReadsAt whole t c.interval c.mcu c.at c.place = subst (λ (r : Reading). MeansAt whole t (number_of r) c.interval c.mcu c.at c.place) going s.means in
       let e = may.head in
-      let found_long : length window ≡ c.found = length-take-le c.found c.room.items (omega (arith, w.found, w.room)) in
+      let found_long : length here_found ≡ c.found - c.from = window_long c w in
       let o = on_by bytes may.more whole t c.interval c.at read means.before found may.is means.on (omega (arith, there, within)) raw in
       let stopped : o.on.rest ≡ [] = o.none (subst (λ (k : ℕ). IsStop (drop k whole)) there stop) in
-      let by : (rest : List ℕ) → means.on.rest ≡ window ++ rest → (rest ≡ []) ⊎ (16650 ≤ length (left_at (record { number = c.interval; mcus = mcus_in h c.interval - c.mcu; bytes = window; head = t.head }) c.place)) → HasNoMore t c.interval c.mcu =
-      λ rest rest_is far. none_on whole t c.interval c.mcu c.at (mcus_in h c.interval - c.mcu) window rest c.place (subst IsLawful (sym e) lawful) means rest_is (omega (arith, w.bit, found_long)) (subst (λ (g : HeadValue). c.mcu ≤ mcus_in g c.interval) (sym e) is_in.few)
-      (subst (λ (g : HeadValue). HasNoMcu (record { number = c.interval; mcus = mcus_in h c.interval - c.mcu; bytes = window; head = g }) c.place) (sym e) none.none) far in
+      let by : (rest : List ℕ) → means.on.rest ≡ here_found ++ rest → (rest ≡ []) ⊎ (16650 ≤ length (left_at (record { number = c.interval; mcus = mcus_in h c.interval - c.mcu; bytes = here_found; head = t.head }) c.place)) → HasNoMore t c.interval c.mcu =
+      λ rest rest_is far. none_on whole t c.interval c.mcu c.at (mcus_in h c.interval - c.mcu) here_found rest c.place (subst IsLawful (sym e) lawful) means rest_is (omega (arith, w.bit, found_long)) (subst (λ (g : HeadValue). c.mcu ≤ mcus_in g c.interval) (sym e) is_in.few)
+      (subst (λ (g : HeadValue). HasNoMcu (record { number = c.interval; mcus = mcus_in h c.interval - c.mcu; bytes = here_found; head = g }) c.place) (sym e) none.none) far in
       record {
         before = means.before ++ found;
         on = subst (λ (k : ℕ). GoesOnAt whole t c.interval k (means.before ++ found)) (sym there) o.on;
         no_more = elim none.far [
-          | inl short ↦
-              let same = one_stop (take spells.read (drop c.at bytes)) window (take read (drop c.at bytes)) found (drop (c.at + spells.read) bytes) (drop (c.at + read) bytes) spells.spelled raw (sym (split_at bytes c.at spells.read) ∙ split_at bytes c.at read) (spells.stop (omega (arith, short, found_long))) (subst (λ (k : ℕ). IsStop (drop k bytes)) there here) in
+          | inl ends ↦
+              let same = one_stop (take spells.read (drop c.at bytes)) here_found (take read (drop c.at bytes)) found (drop (c.at + spells.read) bytes) (drop (c.at + read) bytes) spells.spelled raw (sym (split_at bytes c.at spells.read) ∙ split_at bytes c.at read) (spells.stop ends) (subst (λ (k : ℕ). IsStop (drop k bytes)) there here) in
               by o.on.rest (o.is ∙ ap (λ (x : List ℕ). x ++ o.on.rest) same.0) (inl stopped)
           | inr long ↦
-              let p = on_by bytes may.more whole t c.interval c.at spells.read means.before window may.is means.on spells.within spells.spelled in
+              let p = on_by bytes may.more whole t c.interval c.at spells.read means.before here_found may.is means.on spells.within spells.spelled in
               by p.on.rest p.is (inr long)
         ];
       }
@@ -216,16 +185,11 @@ none_left h c r r' n q run zero_is same mcu place ended d is more =
     ]) more
 
 -- and to the end of the data, or by more bits than an MCU has
-pub none_follows : (h : HeadValue) (c : ScanCursor) → HasWindow c → HasNoMcu (in_window h c) c.place → (c.found < WINDOW) ⊎ (c.place.bit < 8) → NoneFollows h c
-none_follows h c w none near = record {
+pub none_follows : (h : HeadValue) (c : ScanCursor) → HasWindow c → HasNoMcu (in_window h c) c.place → (c.ends ≡ true) ⊎ (16650 + c.place.bit ≤ 8 * (c.found - c.from)) → NoneFollows h c
+none_follows h c w none far = record {
   none = none;
-  far = elim (cases_lt c.found WINDOW) [
-    | inl lt ↦ inl lt
-    | inr full ↦ elim near [
-      | inl lt ↦ inl lt
-      | inr low ↦
-          let long : length (take c.found c.room.items) ≡ c.found = length-take-le c.found c.room.items (omega (arith, w.found, w.room)) in
-          inr (omega (arith, full, low, long, length-drop c.place.bit (bits (take c.found c.room.items)), length-bits (take c.found c.room.items)))
-    ]
+  far = elim far [
+    | inl ends ↦ inl ends
+    | inr long ↦ inr (omega (arith, long, window_long c w, length-drop c.place.bit (bits (window c)), length-bits (window c)))
   ];
 }

@@ -1,5 +1,5 @@
 -- A cursor over the MCUs of a scan.
-use Rattle.std.specs.Prelude.{◌≡◌, ℕ, ◌+◌, ◌-◌, ◌*◌, ◌<◌, ◌≤◌, ◌⊎◌, List, length, take, drop}
+use Rattle.std.specs.Prelude.{◌≡◌, ℕ, ◌+◌, ◌-◌, ◌*◌, ◌/◌, ◌%◌, ◌≤◌, ◌⊎◌, Bool, true, false, List, length, take, drop}
 use Rattle.std.specs.List.{All}
 use Rattle.jr_head.specs.HeadValue.{HeadValue}
 use Rattle.jr_head.specs.Intervals.{mcus_in}
@@ -16,21 +16,28 @@ use Rattle.jr_places.specs.declared.cursor.TheConstants.{WINDOW}
 use Rattle.jr_places.specs.Meaning.{MayBe, MeansAt}
 use Rattle.jr_places.specs.Places.{IsIn, mcus_before}
 
--- the bytes from that offset on spell this data: all of it up to a marker or the end, or as much as a window has
-pub record Spells (bytes : List ℕ) (at : ℕ) (found : List ℕ) : Type 0 where
+-- the bytes from that offset on spell this data, and all of it up to a marker or the end if it ends there
+pub record Spells (bytes : List ℕ) (at : ℕ) (found : List ℕ) (ends : Bool) : Type 0 where
   pub read : ℕ
   pub within : at + read ≤ length bytes
   pub spelled : IsRaw (take read (drop at bytes)) found
-  pub stop : length found < WINDOW → IsStop (drop (at + read) bytes)
+  pub stop : ends ≡ true → IsStop (drop (at + read) bytes)
+
+-- the data in the window
+abbrev pub window : ScanCursor → List ℕ
+window c = take (c.found - c.from) (drop c.from c.room.items)
 
 -- its window is one of the file, and it stands in the window
 pub record HasWindow (c : ScanCursor) : Type 0 where
   pub room : length c.room.items ≡ WINDOW
+  pub from : c.from ≤ c.found
   pub found : c.found ≤ WINDOW
   pub at : c.at ≤ length c.file.bytes.now
-  pub bit : c.place.bit ≤ 8 * c.found
+  pub bit : c.place.bit ≤ 8 * (c.found - c.from)
   pub in_range : All IsInDcRange c.place.predictions
-  pub spells : Spells c.file.bytes.now c.at (take c.found c.room.items)
+  pub spells : Spells c.file.bytes.now c.at (window c) c.ends
+  -- only the data's end or a full window ends it where it may reach the end of the file
+  pub full : length c.file.bytes.now ≤ c.reach → c.ends ≡ false → c.found ≡ WINDOW
 
 -- and so do the numbers of its interval and MCU
 pub record IsCursor (h : HeadValue) (c : ScanCursor) : Type 0 where
@@ -59,12 +66,12 @@ pub record Passes (h : HeadValue) (old new : ScanCursor) (mcus : ℕ) : Type 0 w
 
 -- the rest of the interval, as far as its data stand in the window
 abbrev pub in_window : HeadValue → ScanCursor → IntervalValue
-in_window h c = record { number = c.interval; mcus = mcus_in h c.interval - c.mcu; bytes = take c.found c.room.items; head = h }
+in_window h c = record { number = c.interval; mcus = mcus_in h c.interval - c.mcu; bytes = window c; head = h }
 
 -- no MCU follows in the window, to the end of the interval's data or by more bits than an MCU has
 pub record NoneFollows (h : HeadValue) (c : ScanCursor) : Type 0 where
   pub none : HasNoMcu (in_window h c) c.place
-  pub far : (c.found < WINDOW) ⊎ (16650 ≤ length (left_at (in_window h c) c.place))
+  pub far : (c.ends ≡ true) ⊎ (16650 ≤ length (left_at (in_window h c) c.place))
 
 -- the number of a reading
 abbrev pub number_of : Reading → ℕ
@@ -86,7 +93,15 @@ pub record IsOffset (c : ScanCursor) (byte at : ℕ) : Type 0 where
   pub read : ℕ
   pub is : at ≡ c.at + read
   pub within : at ≤ length c.file.bytes.now
-  pub spelled : IsRaw (take read (drop c.at c.file.bytes.now)) (take byte (take c.found c.room.items))
+  pub spelled : IsRaw (take read (drop c.at c.file.bytes.now)) (take byte (window c))
+
+-- its window begins at the byte of the next MCU, which is at that offset in the file
+abbrev pub trimmed : ScanCursor → ℕ → ScanCursor
+trimmed c at = record c { at = at; from = c.from + c.place.bit / 8; place = record { bit = c.place.bit % 8; predictions = c.place.predictions } }
+
+-- a number that each step to another window makes smaller
+abbrev pub to_read : ScanCursor → ℕ
+to_read c = (length c.file.bytes.now - c.at) + (length c.file.bytes.now - c.reach) + c.from
 
 -- before the first MCU of the next interval, to whose data it has gone
 abbrev pub begun : ScanCursor → ScanCursor

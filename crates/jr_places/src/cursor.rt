@@ -1,7 +1,7 @@
 //! A cursor that goes over the MCUs of a scan, a window of the file's bytes at a time.
 
 ghost use Rattle.std.specs.List.{All};
-ghost use Rattle.std.specs.Prelude.{◌≡◌, ◌≢◌, ◌⊎◌, ◌≤◌, ◌<◌, ◌+◌, ◌-◌, ◌*◌, ◌^◌, ℕ, List, [], ◌++◌, length, take, drop, min, max, true, false, IfOk};
+ghost use Rattle.std.specs.Prelude.{◌≡◌, ◌≢◌, ◌⊎◌, ◌≤◌, ◌<◌, ◌+◌, ◌-◌, ◌*◌, ◌/◌, ◌%◌, ◌^◌, ℕ, List, [], ◌++◌, length, take, drop, min, max, true, false, IfOk};
 ghost use Rattle.jr_cut.specs.Cut.{IsRaw, IsStop};
 ghost use Rattle.jr_cut.specs.OpenSegments.{IsStopOf};
 ghost use Rattle.jr_head.specs.Geometry.{mcus_across, mcus_down, mcus_of};
@@ -10,25 +10,32 @@ ghost use Rattle.jr_mcu.specs.Block.{IsInDcRange};
 ghost use Rattle.jr_scan.specs.McuReader.{HasRead};
 ghost use Rattle.jr_scan.specs.Run.{run_from};
 ghost use Rattle.jr_places.specs.Places.{IsIn, StandsAt, mcus_before};
-ghost use Rattle.jr_places.specs.Cursors.{HasWindow, IsCursor, IsOffset, Follows, NoneFollows, Passes, StandsIn, StaysIn, StaysTrue, begun, in_window, number_of};
-ghost use Rattle.jr_places.specs.Meaning.{IsPlaceIn, MayBe};
+ghost use Rattle.jr_places.specs.Cursors.{HasWindow, IsCursor, IsOffset, Follows, NoneFollows, Passes, StandsIn, StaysIn, StaysTrue, begun, in_window, number_of, to_read, trimmed};
+ghost use Rattle.jr_places.specs.Meaning.{HasBits, IsPlaceIn, MayBe};
 ghost use Rattle.jr_places.specs.declared.cursor.Reading.TheVariants.{GoesOn, HasEnded};
 ghost use Rattle.jr_cut.specs.declared.scan_end.ScanEnd.TheVariants.{EndOfFile};
 ghost use Rattle.jr_head.specs.HeadValue.{HeadValue};
 ghost use Rattle.jr_scan.specs.ScanValue.{ScanValue};
-ghost use Rattle.jr_places.specs.declared.cursor.TheConstants.{WINDOW};
+ghost use Rattle.jr_places.specs.declared.cursor.TheConstants.{MCU_BITS, WINDOW};
 
 use crate::file_bytes::FileBytes;
 use crate::place::RowPlace;
-use crate::unstuffing::{spelled_length, unstuff};
+use crate::unstuffing::{spelled_length, unstuff_some};
 use jr_base::Memory;
 use jr_cut::{ScanEnd, Stop, fill_count, segment_length, stop_at};
 use jr_head::Head;
 use jr_scan::{IntervalRef, McuReader, Place};
 use std::alloc::Global;
 
-/// How many bytes of data a window has: some rows of a small picture, and many times the longest MCU, which has 2082.
+/// Maximum number of data bytes in a window: some rows of a small picture, and many times the longest MCU, which has 2082.
 pub(crate) const WINDOW: usize = 16384;
+
+/// Number of file bytes that a window reads at first. A byte of data takes at most two without fill bytes, so only fill bytes
+/// end a window here, and a caller that asks for one row at a time reads no more of them.
+const REACH: usize = 2 * WINDOW;
+
+/// Number of bits in which a whole MCU begins and ends if any does.
+const MCU_BITS: u64 = 16650;
 
 /// How the interval goes on in which a cursor stands.
 #[derive(Clone, Copy, Debug, PartialEq, Eq)]
@@ -41,15 +48,20 @@ pub(crate) enum Reading {
     HasEnded,
 }
 
-/// Stands between two MCUs of a scan.
+/// A position between two MCUs of a scan.
 #[derive(Drop)]
 pub(crate) struct ScanCursor<'a> {
     pub file: FileBytes<'a>,
-    /// The window, and how many bytes of data it has.
+    /// The window: its bytes of data are `room[from..found]`.
     pub room: Vec<u8>,
+    pub from: usize,
     pub found: usize,
-    /// Where in the file the window's data begin; behind the interval's where none follow.
+    /// Offset in the file of the window's first byte of data; after the interval's data where none follow.
     pub at: usize,
+    /// Offset in the file before which the window's bytes were read.
+    pub reach: usize,
+    /// Whether the interval's data end with the window's.
+    pub ends: bool,
     /// Where in the window the next MCU begins.
     pub place: Place,
     pub interval: u32,
@@ -110,6 +122,17 @@ fn offset_of(place: &RowPlace, scan_at: u64, length: usize) -> usize
     }
 }
 
+/// Returns how far a window that begins at an offset may reach: twice as far where it began there before.
+fn next_reach(at: usize, reach: usize, passed: usize) -> usize
+    ensures on { reach ≤ result }
+    ensures further { passed ≡ 0 → reach + 1 < 2 ^ 64 → reach < result }
+{
+    if passed > 0 {
+        return reach;
+    }
+    reach.saturating_add(reach.saturating_sub(at).max(1))
+}
+
 impl<'a> ScanCursor<'a> {
     /// At a place of a file with this head. It takes memory for a window.
     pub(crate) fn open(
@@ -127,8 +150,11 @@ impl<'a> ScanCursor<'a> {
         let mut cursor = ScanCursor {
             file,
             room: vec![in alloc; 0; WINDOW]?,
+            from: 0,
             found: 0,
             at: 0,
+            reach: 0,
+            ends: false,
             place: Place {
                 bit: 0,
                 predictions: in_range(place.predictions),
@@ -142,43 +168,66 @@ impl<'a> ScanCursor<'a> {
         Ok(cursor)
     }
 
-    /// Puts the window where data begin at an offset of the file, of which so many bits are taken.
+    /// Fills the window from an offset of the file on, where `bit` bits of the first byte of data are taken.
     fn go_to(&mut self, at: usize, bit: u64)
         requires room { length self.old.room.items ≡ WINDOW }
         requires in_range { All IsInDcRange self.old.place.predictions }
         requires at { at ≤ length self.old.file.bytes.now }
         ensures stays { StaysIn self.old self.new }
         ensures at { self.new.at ≡ at }
-        ensures bit { self.new.place.bit ≡ min bit (8 * self.new.found) }
+        ensures from { self.new.from ≡ 0 }
+        ensures reach { self.old.reach ≤ self.new.reach }
+        ensures bit { HasBits self.old.file.bytes.now at bit → bit < 8 → self.new.place.bit ≡ bit }
         ensures reading { self.new.reading ≡ self.old.reading }
         ensures predictions { self.new.place.predictions ≡ self.old.place.predictions }
     {
-        let spelled = unstuff(&self.file.bytes[at..], &mut self.room);
+        let raw = &self.file.bytes[at..];
+        let least = spelled_length(raw, bit.min(1) as usize);
+        let most = self.reach.saturating_sub(at).max(REACH).max(least);
+        let part = unstuff_some(raw, most, &mut self.room);
         self.at = at;
-        self.found = spelled.found;
-        self.place.bit = bit.min(8 * spelled.found as u64);
+        self.reach = at.saturating_add(most);
+        self.from = 0;
+        self.found = part.found;
+        self.ends = part.ends;
+        self.place.bit = bit.min(8 * part.found as u64);
     }
 
-    /// The offset in the file of a byte of the window's data.
+    /// Returns the offset in the file of a byte of the window's data.
     fn offset(&self, byte: usize) -> usize
         requires window { HasWindow self.now }
-        requires byte { byte ≤ self.now.found }
+        requires byte { byte ≤ self.now.found - self.now.from }
         ensures { IsOffset self.now byte result }
     {
         self.at + spelled_length(&self.file.bytes[self.at..], byte)
     }
 
-    /// The place before a row of MCUs, where it stands.
-    pub(crate) fn row_place(&self, row: u32) -> RowPlace
-        requires { HasWindow self.now }
-        ensures row { result.row ≡ row }
-        ensures interval { result.interval ≡ self.now.interval }
-        ensures mcu { result.mcu ≡ self.now.mcu }
-        ensures place { (h : HeadValue) (whole : List ℕ) (t : ScanValue) → MayBe self.now.file.bytes.now self.now.file.are_all h whole t → StandsIn whole t self.now → IsPlaceIn self.now.file.bytes.now whole t result }
+    /// Drops the window's bytes before the next MCU, so that no later step reads them again.
+    fn trim(&mut self)
+        requires { HasWindow self.old }
+        ensures at { IsOffset self.old (self.old.place.bit / 8) self.new.at }
+        ensures is { self.new ≡ trimmed self.old self.new.at }
     {
+        let byte = (self.place.bit / 8) as usize;
+        self.at = self.offset(byte);
+        self.from += byte;
+        self.place.bit %= 8;
+    }
+
+    /// Returns the position before a row of MCUs, where the cursor is.
+    pub(crate) fn row_place(&mut self, row: u32) -> RowPlace
+        requires { HasWindow self.old }
+        ensures stays { StaysIn self.old self.new }
+        ensures stands { (h : HeadValue) → StaysTrue h self.old self.new }
+        ensures row { result.row ≡ row }
+        ensures interval { result.interval ≡ self.old.interval }
+        ensures mcu { result.mcu ≡ self.old.mcu }
+        ensures place { (h : HeadValue) (whole : List ℕ) (t : ScanValue) → MayBe self.old.file.bytes.now self.old.file.are_all h whole t → StandsIn whole t self.old → IsPlaceIn self.old.file.bytes.now whole t result }
+    {
+        self.trim();
         RowPlace {
-            at: self.offset((self.place.bit / 8) as usize) as u64,
-            bit: (self.place.bit % 8) as u32,
+            at: self.at as u64,
+            bit: self.place.bit as u32,
             row,
             interval: self.interval,
             mcu: self.mcu,
@@ -187,20 +236,23 @@ impl<'a> ScanCursor<'a> {
         }
     }
 
-    /// Moves the window to the next MCU where the interval's data may go on behind it. False where it does not move.
+    /// Moves the window to the next MCU, or makes it reach further where it is there. Returns false, and does nothing, where
+    /// no whole MCU can follow if the window has none.
     pub(crate) fn slide(&mut self) -> bool
         requires { HasWindow self.old }
         ensures stays { StaysIn self.old self.new }
         ensures reading { self.new.reading ≡ self.old.reading }
-        ensures moved { result ≡ true → self.new.place.bit < 8 }
-        ensures kept { result ≡ false → (self.new ≡ self.old) × ((self.old.found < WINDOW) ⊎ (self.old.place.bit < 8)) }
+        ensures nearer { result ≡ true → to_read self.new < to_read self.old }
+        ensures kept { result ≡ false → (self.new ≡ self.old) × ((self.old.ends ≡ true) ⊎ (MCU_BITS + self.old.place.bit ≤ 8 * (self.old.found - self.old.from))) }
         ensures stands { (h : HeadValue) → StaysTrue h self.old self.new }
     {
-        if self.found < self.room.len() || self.place.bit < 8 {
+        let bits = 8 * (self.found - self.from) as u64 - self.place.bit;
+        if self.ends || bits >= MCU_BITS {
             return false;
         }
-        let at = self.offset((self.place.bit / 8) as usize);
-        self.go_to(at, self.place.bit % 8);
+        self.trim();
+        self.reach = next_reach(self.at, self.reach, self.from);
+        self.go_to(self.at, self.place.bit);
         true
     }
 
@@ -212,7 +264,8 @@ impl<'a> ScanCursor<'a> {
         ensures read { HasRead result [] }
     {
         let left = head.mcus_in(self.interval) - self.mcu;
-        let interval = IntervalRef::of(head, &self.room[..self.found], self.interval, left);
+        let window = &self.room[self.from..self.found];
+        let interval = IntervalRef::of(head, window, self.interval, left);
         McuReader::at(interval, self.place, left)
     }
 
@@ -246,7 +299,9 @@ impl<'a> ScanCursor<'a> {
         ensures reading { self.new.reading ≡ reading }
     {
         self.at = at;
+        self.from = 0;
         self.found = 0;
+        self.ends = true;
         self.place.bit = 0;
         self.reading = reading;
     }

@@ -56,11 +56,12 @@ fn decode_whole(cursor: &mut ScanCursor<'_>, head: &Head, samples: &mut SampleRo
     if cursor.reading != Reading::GoesOn {
         return 0;
     }
-    let some = decode_near(cursor, head, samples, done);
-    if some > 0 || !cursor.slide() {
-        return some;
+    'windows: loop {
+        let some = decode_near(cursor, head, samples, done);
+        if some > 0 || !cursor.slide() {
+            return some;
+        }
     }
-    decode_near(cursor, head, samples, done)
 }
 
 /// Makes MCUs of the row grey, of an interval of which no further one is whole: answers how many.

@@ -42,11 +42,12 @@ fn skip_whole(cursor: &mut ScanCursor<'_>, head: &Head, mcus: u32) -> u32
     if cursor.reading != Reading::GoesOn {
         return 0;
     }
-    let some = skip_near(cursor, head, mcus);
-    if some > 0 || !cursor.slide() {
-        return some;
+    'windows: loop {
+        let some = skip_near(cursor, head, mcus);
+        if some > 0 || !cursor.slide() {
+            return some;
+        }
     }
-    skip_near(cursor, head, mcus)
 }
 
 /// Passes over MCUs of an interval of which no further one is whole: answers how many.

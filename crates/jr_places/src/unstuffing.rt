@@ -1,6 +1,6 @@
 //! Bytes of a scan, and the data that they spell (T.81, B.1.1.5 and F.1.2.3).
 
-ghost use Rattle.std.specs.Prelude.{◌≡◌, ◌≢◌, ◌<◌, ◌≤◌, ◌+◌, ◌++◌, ℕ, List, length, take, drop, replicate, slice_index, min};
+ghost use Rattle.std.specs.Prelude.{◌≡◌, ◌≢◌, ◌<◌, ◌≤◌, ◌+◌, ◌++◌, ℕ, List, length, take, drop, replicate, slice_index, min, true, false};
 ghost use Rattle.jr_base.specs.declared.marker.TheConstants.{PREFIX};
 ghost use Rattle.jr_cut.specs.Cut.{IsRaw, IsStop};
 
@@ -9,7 +9,7 @@ use jr_cut::{fill_count, plain_count};
 
 /// Bytes that are read, and the bytes of data that they spell.
 #[derive(Clone, Copy)]
-pub(crate) struct Spelled {
+struct Spelled {
     pub read: usize,
     pub found: usize,
 }
@@ -31,7 +31,7 @@ fn copy_plain(raw: &[u8], room: &mut [u8]) -> usize
 
 /// Puts the data that the bytes at the front of `raw` spell into the front of `room`, up to a marker or the end, or until the room is
 /// full.
-pub(crate) fn unstuff(raw: &[u8], room: &mut [u8]) -> Spelled
+fn unstuff(raw: &[u8], room: &mut [u8]) -> Spelled
     ensures within { result.read ≤ length raw.now }
     ensures fits { result.found ≤ length room.old }
     ensures long { length room.new ≡ length room.old }
@@ -51,6 +51,45 @@ pub(crate) fn unstuff(raw: &[u8], room: &mut [u8]) -> Spelled
         room[found] = PREFIX;
         found += 1;
         read = next + 1;
+    }
+}
+
+/// The bytes of data in a part of a file, and whether they end there.
+#[derive(Clone, Copy)]
+pub(crate) struct Part {
+    pub found: usize,
+    pub ends: bool,
+}
+
+/// Returns whether data that end within the first `most` bytes of `raw` end there in all of it. If these bytes end by fill
+/// bytes, they do not say it.
+fn ends_within(raw: &[u8], read: usize, most: usize) -> bool
+    requires read { read ≤ most }
+    requires most { most ≤ length raw.now }
+    requires stop { IsStop (drop read (take most raw.now)) }
+    ensures ends { result ≡ true → IsStop (drop read raw.now) }
+    ensures all { most ≡ length raw.now → result ≡ true }
+{
+    let fill = fill_count(&raw[read..most]);
+    most == raw.len() || read + fill < most
+}
+
+/// Unstuffs the first `most` bytes of `raw` alone.
+pub(crate) fn unstuff_some(raw: &[u8], most: usize, room: &mut [u8]) -> Part
+    ensures fits { result.found ≤ length room.old }
+    ensures long { length room.new ≡ length room.old }
+    ensures spells { (read : ℕ) × (read ≤ length raw.now) × IsRaw (take read raw.now) (take result.found room.new) × (result.ends ≡ true → IsStop (drop read raw.now)) }
+    ensures whole { length raw.now ≤ most → result.ends ≡ false → result.found ≡ length room.old }
+    ensures some { (n : ℕ) (front : List ℕ) → n ≤ most → n ≤ length raw.now → IsRaw (take n raw.now) front → length front ≤ length room.old → length front ≤ result.found }
+{
+    let end = most.min(raw.len());
+    let Spelled { read, found } = unstuff(&raw[..end], room);
+    if found == room.len() {
+        return Part { found, ends: false };
+    }
+    Part {
+        found,
+        ends: ends_within(raw, read, end),
     }
 }
 
@@ -76,8 +115,11 @@ pub(crate) fn spelled_length(raw: &[u8], count: usize) -> usize
         let plain = plain_within(&raw[at..], count - found);
         let end = at + plain;
         found += plain;
+        if found == count {
+            return end;
+        }
         let next = end + fill_count(&raw[end..]);
-        if found == count || next >= raw.len() || raw[next] != 0 {
+        if next >= raw.len() || raw[next] != 0 {
             return end;
         }
         found += 1;

@@ -1,4 +1,4 @@
-use Rattle.std.proofs.Common.{◌≡◌, ◌+◌, ◌-◌, ◌*◌, ◌<◌, [], ℕ, length, take, subst, sym, ap, refl, ◌∙◌, length-take-le, slice_index_or, arith, rules}
+use Rattle.std.proofs.Common.{◌≡◌, ◌+◌, ◌-◌, ◌*◌, ◌<◌, [], ℕ, length, subst, sym, ap, refl, ◌∙◌, slice_index_or, arith, rules}
 use Rattle.jr_head.specs.HeadValue.{HeadValue}
 use Rattle.jr_head.specs.Geometry.{IsLawful, blocks_of}
 use Rattle.jr_head.specs.Intervals.{mcus_in}
@@ -10,10 +10,11 @@ use Rattle.jr_scan.specs.declared.place.RunEnd.TheVariants.{AllRead}
 use Rattle.jr_scan.specs.Run.{IsRun, RunOf, run_from}
 use Rattle.jr_piece.proofs.StripRuns.{passed_place}
 use Rattle.jr_places.specs.declared.cursor.ScanCursor.{ScanCursor}
-use Rattle.jr_places.specs.Cursors.{PassesIn, StaysTrue, in_window}
+use Rattle.jr_places.specs.Cursors.{PassesIn, StaysTrue, in_window, window}
 use Rattle.jr_places.proofs.Passing.{passed_few, passes_in}
 use Rattle.jr_places.proofs.ReadOn.{nothing_taken}
 use Rattle.jr_places.proofs.Steps.{none_left, passes_true}
+use Rattle.jr_places.proofs.Windows.{window_long}
 use Rattle.jr_places.proofs.decoding.decode_near.Goals as goal
 
 pub pass-requires : goal.pass-requires
@@ -42,9 +43,8 @@ returns-clause-stands c =
     let few = passed_few h i r r' n c.requires.cursor c.reader-reader.ensures.run c.reader-reader.ensures.mcu e.run e.mcu read.few in
     let run : IsRun (run_from (in_window h i) i.place n) e.decoded.blocks r'.place AllRead = passed_place r r' (in_window h i) (in_window h i) i.place left n e.decoded.blocks refl c.reader-reader.ensures.run c.reader-reader.ensures.mcu e.run e.mcu read in
     let there = subst (λ (p : Place). IsRun (run_from (in_window h i) i.place n) e.decoded.blocks p AllRead) (sym c.place-place.ensures.value) run in
-    let bytes : length r'.run.interval.bytes ≡ length (take i.found i.room.items) = ap (λ (o : RunOf). length o.interval.bytes) (e.run ∙ c.reader-reader.ensures.run) in
-    let w = c.requires.cursor.window in
-    let long : length (take i.found i.room.items) ≡ i.found = length-take-le i.found i.room.items (omega (arith, w.found, w.room)) in
+    let bytes : length r'.run.interval.bytes ≡ length (window i) = ap (λ (o : RunOf). length o.interval.bytes) (e.run ∙ c.reader-reader.ensures.run) in
+    let long = window_long i c.requires.cursor.window in
     let lawful = subst IsLawful (ap (λ (o : RunOf). o.interval.head) (e.run ∙ c.reader-reader.ensures.run)) c.place-place.ensures.lawful in
     let told = passes_true h i lawful c.requires.cursor n q few e.decoded.blocks there (omega (arith, c.place-place.ensures.within, bytes, long)) c.place-place.ensures.in_range in
     subst (λ (d : ScanCursor). StaysTrue h i d) (sym c.pass.ensures) told
@@ -86,9 +86,8 @@ returns-clause-shows c =
     let few = passed_few h i r r' n c.requires.cursor c.reader-reader.ensures.run c.reader-reader.ensures.mcu e.run e.mcu read.few in
     let run : IsRun (run_from (in_window h i) i.place n) e.decoded.blocks r'.place AllRead = passed_place r r' (in_window h i) (in_window h i) i.place left n e.decoded.blocks refl c.reader-reader.ensures.run c.reader-reader.ensures.mcu e.run e.mcu read in
     let there = subst (λ (p : Place). IsRun (run_from (in_window h i) i.place n) e.decoded.blocks p AllRead) (sym c.place-place.ensures.value) run in
-    let bytes : length r'.run.interval.bytes ≡ length (take i.found i.room.items) = ap (λ (o : RunOf). length o.interval.bytes) (e.run ∙ c.reader-reader.ensures.run) in
-    let w = c.requires.cursor.window in
-    let long : length (take i.found i.room.items) ≡ i.found = length-take-le i.found i.room.items (omega (arith, w.found, w.room)) in
+    let bytes : length r'.run.interval.bytes ≡ length (window i) = ap (λ (o : RunOf). length o.interval.bytes) (e.run ∙ c.reader-reader.ensures.run) in
+    let long = window_long i c.requires.cursor.window in
     let some : 0 < blocks_of h = omega (arith, c.order-some.ensures.some, c.order-some.ensures.count) in
     let own : r.run.interval.head ≡ h = ap (λ (o : RunOf). o.interval.head) c.reader-reader.ensures.run in
     let units = subst (λ (g : HeadValue). (k : ℕ) → k < n * blocks_of g → slice_index_or (units_in h new) (c.args.done * blocks_of g + k) [] ≡ unit_of g e.decoded.blocks k) own e.decoded.each in

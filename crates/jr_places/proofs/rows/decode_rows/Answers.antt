@@ -12,6 +12,7 @@ use Rattle.jr_places.specs.declared.file_bytes.FileBytes.{FileBytes}
 use Rattle.jr_places.specs.Meaning.{IsPlaceIn, MayBe}
 use Rattle.jr_places.specs.Places.{IsIn, lines_before, lines_between, mcus_before}
 use Rattle.jr_places.proofs.Passing.{kept_more}
+use Rattle.jr_places.proofs.CursorSteps.{cursor_stays}
 use Rattle.jr_places.proofs.rows.decode_rows.Goals as goal
 
 pub rows-preserved : goal.rows-preserved
@@ -22,6 +23,8 @@ rows-preserved c =
     let row = c.rows.next.row in
     let new = c.row_place-next.result in
     let d = c.decode_row.new.cursor in
+    let n = c.row_place-next.new.self in
+    let stays = c.row_place-next.ensures.stays in
     let next : new.row ≡ row + 1 = c.row_place-next.ensures.row in
     let is_in : IsIn h d.interval d.mcu = c.decode_row.ensures.cursor.is_in in
     let interval : new.interval ≡ d.interval = c.row_place-next.ensures.interval in
@@ -40,10 +43,10 @@ rows-preserved c =
     let behind : drop to (put_mid from (to - from) old pix) ≡ drop to c.args.pixels.now =
     drop-put_mid from (to - from) old pix to (omega (arith, order)) (omega (arith, order, within)) long ∙ kept_more old c.args.pixels.now from to order before in
     record {
-      cursor = c.decode_row.ensures.cursor;
-      file = c.decode_row.ensures.file ∙ keep.file;
+      cursor = cursor_stays h d n c.decode_row.ensures.cursor stays;
+      file = stays.file ∙ c.decode_row.ensures.file ∙ keep.file;
       room = c.paint_row.ensures.samples;
-      at = whole;
+      at = ap (λ (k : ℕ). mcus_before h k n.mcu) stays.interval ∙ ap (mcus_before h d.interval) stays.mcu ∙ whole;
       stands = record {
         row = omega (arith, next, c.rows-test.true, c.end_of_rows-end.ensures.few);
         is_in = subst (λ (k : ℕ). IsIn h k new.mcu) (sym interval) (subst (IsIn h d.interval) (sym mcu) is_in);
@@ -58,7 +61,7 @@ rows-preserved c =
           let stands = c.decode_row.ensures.stands whole t here before.0 in
           let file : d.file ≡ c.args.file = c.decode_row.ensures.file ∙ keep.file in
           let there : MayBe d.file.bytes.now d.file.are_all h whole t = subst (λ (f : FileBytes). MayBe f.bytes.now f.are_all h whole t) (sym file) may in
-          (stands, subst (λ (f : FileBytes). IsPlaceIn f.bytes.now whole t new) file (c.row_place-next.ensures.place h whole t there stands));
+          (c.row_place-next.ensures.stands h whole t there stands, subst (λ (f : FileBytes). IsPlaceIn f.bytes.now whole t new) file (c.row_place-next.ensures.place h whole t there stands));
       long = search (rules, arith, keep.long, long, order, within);
       lines = λ whole t marks f may is shows.
           let y = lines_before h p.row in

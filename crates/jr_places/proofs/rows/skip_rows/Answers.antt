@@ -3,6 +3,7 @@ use Rattle.jr_head.specs.Geometry.{mcus_across}
 use Rattle.jr_places.specs.declared.file_bytes.FileBytes.{FileBytes}
 use Rattle.jr_places.specs.Meaning.{IsPlaceIn, MayBe}
 use Rattle.jr_places.specs.Places.{IsIn, mcus_before}
+use Rattle.jr_places.proofs.CursorSteps.{cursor_stays}
 use Rattle.jr_places.proofs.rows.skip_rows.Goals as goal
 
 pub rows-preserved : goal.rows-preserved
@@ -12,6 +13,8 @@ rows-preserved c =
     let row = c.rows.next.row in
     let new = c.row_place-next.result in
     let d = c.skip_row.new.cursor in
+    let n = c.row_place-next.new.self in
+    let stays = c.row_place-next.ensures.stays in
     let next : new.row ≡ row + 1 = c.row_place-next.ensures.row in
     let is_in : IsIn h d.interval d.mcu = c.skip_row.ensures.cursor.is_in in
     let interval : new.interval ≡ d.interval = c.row_place-next.ensures.interval in
@@ -19,9 +22,9 @@ rows-preserved c =
     let whole : mcus_before h d.interval d.mcu ≡ new.row * mcus_across h = c.skip_row.ensures.whole c.if-not-skip_row.false ∙ ap (λ (k : ℕ). k * mcus_across h) (sym next) in
     let most : c.min-most.result ≤ c.shape_of.result.down - c.args.place.now.row = search (rules, arith) in
     record {
-      cursor = c.skip_row.ensures.cursor;
-      file = c.skip_row.ensures.file ∙ keep.file;
-      at = whole;
+      cursor = cursor_stays h d n c.skip_row.ensures.cursor stays;
+      file = stays.file ∙ c.skip_row.ensures.file ∙ keep.file;
+      at = ap (λ (k : ℕ). mcus_before h k n.mcu) stays.interval ∙ ap (mcus_before h d.interval) stays.mcu ∙ whole;
       stands = record {
         row = omega (arith, next, c.rows-test.true, most, c.shape_of.ensures.down, c.requires.stands.row);
         is_in = subst (λ (k : ℕ). IsIn h k new.mcu) (sym interval) (subst (IsIn h d.interval) (sym mcu) is_in);
@@ -36,7 +39,7 @@ rows-preserved c =
           let stands = c.skip_row.ensures.stands whole t here before.0 in
           let file : d.file ≡ c.args.file = c.skip_row.ensures.file ∙ keep.file in
           let there : MayBe d.file.bytes.now d.file.are_all h whole t = subst (λ (f : FileBytes). MayBe f.bytes.now f.are_all h whole t) (sym file) may in
-          (stands, subst (λ (f : FileBytes). IsPlaceIn f.bytes.now whole t new) file (c.row_place-next.ensures.place h whole t there stands));
+          (c.row_place-next.ensures.stands h whole t there stands, subst (λ (f : FileBytes). IsPlaceIn f.bytes.now whole t new) file (c.row_place-next.ensures.place h whole t there stands));
     }
 
 pub returns-then-not-skip_row-clause-place : goal.returns-then-not-skip_row-clause-place

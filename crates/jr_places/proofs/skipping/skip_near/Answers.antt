@@ -1,4 +1,4 @@
-use Rattle.std.proofs.Common.{◌≡◌, ◌+◌, ◌-◌, [], ℕ, length, take, subst, sym, ap, refl, ◌∙◌, length-take-le, arith, rules}
+use Rattle.std.proofs.Common.{◌≡◌, ◌+◌, ◌-◌, [], ℕ, length, subst, sym, ap, refl, ◌∙◌, arith, rules}
 use Rattle.jr_head.specs.Geometry.{IsLawful}
 use Rattle.jr_head.specs.Intervals.{mcus_in}
 use Rattle.jr_scan.specs.declared.place.Place.{Place}
@@ -6,10 +6,11 @@ use Rattle.jr_scan.specs.declared.place.RunEnd.TheVariants.{AllRead}
 use Rattle.jr_scan.specs.Run.{IsRun, RunOf, run_from}
 use Rattle.jr_piece.proofs.StripRuns.{passed_place}
 use Rattle.jr_places.specs.declared.cursor.ScanCursor.{ScanCursor}
-use Rattle.jr_places.specs.Cursors.{PassesIn, StaysTrue, in_window}
+use Rattle.jr_places.specs.Cursors.{PassesIn, StaysTrue, in_window, window}
 use Rattle.jr_places.proofs.Passing.{passed_few, passes_in}
 use Rattle.jr_places.proofs.ReadOn.{nothing_taken}
 use Rattle.jr_places.proofs.Steps.{none_left, passes_true}
+use Rattle.jr_places.proofs.Windows.{window_long}
 use Rattle.jr_places.proofs.skipping.skip_near.Goals as goal
 
 pub pass-requires : goal.pass-requires
@@ -35,9 +36,8 @@ returns-clause-stands c =
     let passed = c.skip-whole.ensures.passed [] c.reader-reader.ensures.read in
     let run : IsRun (run_from (in_window h i) i.place n) passed.0 r'.place AllRead = passed_place r r' (in_window h i) (in_window h i) i.place left n passed.0 refl c.reader-reader.ensures.run c.reader-reader.ensures.mcu c.skip-whole.ensures.run c.skip-whole.ensures.mcus passed.3 in
     let there = subst (λ (p : Place). IsRun (run_from (in_window h i) i.place n) passed.0 p AllRead) (sym c.place-place.ensures.value) run in
-    let bytes : length r'.run.interval.bytes ≡ length (take i.found i.room.items) = ap (λ (o : RunOf). length o.interval.bytes) (c.skip-whole.ensures.run ∙ c.reader-reader.ensures.run) in
-    let w = c.requires.cursor.window in
-    let long : length (take i.found i.room.items) ≡ i.found = length-take-le i.found i.room.items (omega (arith, w.found, w.room)) in
+    let bytes : length r'.run.interval.bytes ≡ length (window i) = ap (λ (o : RunOf). length o.interval.bytes) (c.skip-whole.ensures.run ∙ c.reader-reader.ensures.run) in
+    let long = window_long i c.requires.cursor.window in
     let lawful = subst IsLawful (ap (λ (o : RunOf). o.interval.head) (c.skip-whole.ensures.run ∙ c.reader-reader.ensures.run)) c.place-place.ensures.lawful in
     let told = passes_true h i lawful c.requires.cursor n q few passed.0 there (omega (arith, c.place-place.ensures.within, bytes, long)) c.place-place.ensures.in_range in
     subst (λ (d : ScanCursor). StaysTrue h i d) (sym c.pass.ensures) told

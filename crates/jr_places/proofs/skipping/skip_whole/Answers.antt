@@ -1,34 +1,11 @@
-use Rattle.std.proofs.Common.{◌≡◌, ◌<◌, ℕ, inr, sym, subst, ◌∙◌, arith}
+use Rattle.std.proofs.Common.{◌≡◌, ◌<◌, ℕ, sym, ap, subst, ◌∙◌, arith, rules}
 use Rattle.jr_head.specs.Intervals.{mcus_in}
-use Rattle.jr_places.specs.Cursors.{NoneFollows, PassesIn, StaysTrue}
+use Rattle.jr_places.specs.Cursors.{NoneFollows, PassesIn, StaysTrue, to_read}
 use Rattle.jr_places.specs.declared.cursor.ScanCursor.{ScanCursor}
-use Rattle.jr_places.proofs.CursorSteps.{cursor_stays, goes_after, goes_nowhere}
+use Rattle.jr_places.proofs.CursorSteps.{goes_after, goes_nowhere, goes_to}
 use Rattle.jr_places.proofs.Steps.{none_follows, true_on}
 use Rattle.jr_places.proofs.skipping.skip_whole.Goals as goal
 use Rattle.jr_places.proofs.skipping.skip_whole.Goals.{then-some-gt0-via-then-some-gt0, then-some-gt0-via-else-some-gt0+then-not-slide}
-
-pub returns-then-some-gt0-clause-none : goal.returns-then-some-gt0-clause-none
-returns-then-some-gt0-clause-none c none some more going =
-    let h = c.args.head.now in
-    let d = c.skip_near-some.new.cursor in
-    let e = c.skip_near-some.ensures in
-    elim c.then-some-gt0.branch [
-      | then-some-gt0-via-then-some-gt0 w ↦ absurd (omega (arith, w.if-some-gt0.true, none))
-      | then-some-gt0-via-else-some-gt0+then-not-slide w ↦
-          let kept = w.slide.ensures.kept w.if-not-slide.true in
-          let left : d.mcu < mcus_in h d.interval = subst (λ (k : ℕ). d.mcu < mcus_in h k) (sym e.passes.interval) (omega (arith, e.passes.mcu, none, more)) in
-          subst (NoneFollows h) (sym (w.cursor-is ∙ kept.0)) (none_follows h d e.passes.is.window (e.none (omega (arith, none, some)) left) kept.1)
-    ]
-
-pub returns-clause-none : goal.returns-clause-none
-returns-clause-none c none some more going =
-    let h = c.args.head.now in
-    let d = c.skip_near.new.cursor in
-    let e = c.skip_near.ensures in
-    let s = c.slide.ensures in
-    let interval : d.interval ≡ c.args.cursor.now.interval = e.passes.interval ∙ s.stays.interval ∙ c.skip_near-some.ensures.passes.interval in
-    let left : d.mcu < mcus_in h d.interval = subst (λ (k : ℕ). d.mcu < mcus_in h k) (sym interval) (omega (arith, e.passes.mcu, none, more, s.stays.mcu, c.skip_near-some.ensures.passes.mcu, c.if-some-gt0.false)) in
-    none_follows h d e.passes.is.window (e.none (omega (arith, none, some)) left) (inr (omega (arith, e.bit none, s.moved c.if-not-slide.false)))
 
 pub returns-then-ne-clause-passes : goal.returns-then-ne-clause-passes
 returns-then-ne-clause-passes c = goes_nowhere c.args.head.now c.args.cursor.now c.requires.cursor
@@ -36,17 +13,56 @@ returns-then-ne-clause-passes c = goes_nowhere c.args.head.now c.args.cursor.now
 pub returns-then-ne-clause-stands : goal.returns-then-ne-clause-stands
 returns-then-ne-clause-stands c whole t may s = s
 
+pub windows-init : goal.windows-init
+windows-init c = record { passes = goes_nowhere c.args.head.now c.args.cursor.now c.requires.cursor; stands = λ whole t may s. s; going = search rules }
+
+pub windows-preserved : goal.windows-preserved
+windows-preserved c =
+    let h = c.args.head.now in
+    let i = c.args.cursor.now in
+    let k = c.windows.invariant in
+    let b = c.windows.cursor in
+    let e = c.skip_near-some.ensures in
+    let d = c.skip_near-some.new.cursor in
+    let s = c.slide.ensures in
+    let none : c.skip_near-some.result ≡ 0 = omega (arith, c.if-some-gt0.false) in
+    let first = goes_after h i b d c.skip_near-some.result k.passes e.passes in
+    record {
+      passes = goes_to h i d c.slide.new.self c.skip_near-some.result none first s.stays;
+      stands = true_on h i d c.slide.new.self first.file (true_on h i b d k.passes.file k.stands e.stands) (s.stands h);
+      going = s.reading ∙ ap (λ (x : ScanCursor). x.reading) e.near ∙ k.going;
+    }
+
+pub windows-smaller : goal.windows-smaller
+windows-smaller c =
+    let near : to_read c.skip_near-some.new.cursor ≡ to_read c.windows.cursor = ap to_read c.skip_near-some.ensures.near in
+    omega (arith, near, c.slide.ensures.nearer c.if-not-slide.false)
+
 pub skip_near-some-requires : goal.skip_near-some-requires
-skip_near-some-requires c = record { cursor = c.requires.cursor }
+skip_near-some-requires c = record { cursor = c.windows.invariant.passes.is }
 
 pub slide-requires : goal.slide-requires
 slide-requires c = c.skip_near-some.ensures.passes.is.window
+
+pub returns-then-some-gt0-clause-none : goal.returns-then-some-gt0-clause-none
+returns-then-some-gt0-clause-none c none some more going =
+    let h = c.args.head.now in
+    let d = c.skip_near-some.new.cursor in
+    let e = c.skip_near-some.ensures in
+    let k = c.windows.invariant.passes in
+    elim c.then-some-gt0.branch [
+      | then-some-gt0-via-then-some-gt0 w ↦ absurd (omega (arith, w.if-some-gt0.true, none))
+      | then-some-gt0-via-else-some-gt0+then-not-slide w ↦
+          let kept = w.slide.ensures.kept w.if-not-slide.true in
+          let left : d.mcu < mcus_in h d.interval = subst (λ (n : ℕ). d.mcu < mcus_in h n) (sym (e.passes.interval ∙ k.interval)) (omega (arith, e.passes.mcu, k.mcu, none, more)) in
+          subst (NoneFollows h) (sym (w.cursor-is ∙ kept.0)) (none_follows h d e.passes.is.window (e.none (omega (arith, none, some)) left) kept.1)
+    ]
 
 pub returns-then-some-gt0-clause-passes : goal.returns-then-some-gt0-clause-passes
 returns-then-some-gt0-clause-passes c =
     let h = c.args.head.now in
     let i = c.args.cursor.now in
-    let passes = c.skip_near-some.ensures.passes in
+    let passes = goes_after h i c.windows.cursor c.skip_near-some.new.cursor c.skip_near-some.result c.windows.invariant.passes c.skip_near-some.ensures.passes in
     elim c.then-some-gt0.branch [
       | then-some-gt0-via-then-some-gt0 w ↦ subst (λ (d : ScanCursor). PassesIn h i d c.skip_near-some.result) (sym w.cursor-is) passes
       | then-some-gt0-via-else-some-gt0+then-not-slide w ↦ subst (λ (d : ScanCursor). PassesIn h i d c.skip_near-some.result) (sym (w.cursor-is ∙ (w.slide.ensures.kept w.if-not-slide.true).0)) passes
@@ -56,7 +72,7 @@ pub returns-then-some-gt0-clause-stands : goal.returns-then-some-gt0-clause-stan
 returns-then-some-gt0-clause-stands c =
     let h = c.args.head.now in
     let i = c.args.cursor.now in
-    let stands = c.skip_near-some.ensures.stands in
+    let stands = true_on h i c.windows.cursor c.skip_near-some.new.cursor c.windows.invariant.passes.file c.windows.invariant.stands c.skip_near-some.ensures.stands in
     elim c.then-some-gt0.branch [
       | then-some-gt0-via-then-some-gt0 w ↦ subst (StaysTrue h i) (sym w.cursor-is) stands
       | then-some-gt0-via-else-some-gt0+then-not-slide w ↦ subst (StaysTrue h i) (sym (w.cursor-is ∙ (w.slide.ensures.kept w.if-not-slide.true).0)) stands
@@ -64,18 +80,3 @@ returns-then-some-gt0-clause-stands c =
 
 pub returns-then-some-gt0-clause-few : goal.returns-then-some-gt0-clause-few
 returns-then-some-gt0-clause-few c = c.skip_near-some.ensures.few
-
-pub skip_near-requires : goal.skip_near-requires
-skip_near-requires c = record { cursor = cursor_stays c.args.head.now c.skip_near-some.new.cursor c.slide.new.self c.skip_near-some.ensures.passes.is c.slide.ensures.stays }
-
-pub returns-clause-passes : goal.returns-clause-passes
-returns-clause-passes c = goes_after c.args.head.now c.args.cursor.now c.skip_near-some.new.cursor c.slide.new.self c.skip_near.new.cursor c.skip_near-some.result c.skip_near.result (omega (arith, c.if-some-gt0.false)) c.skip_near-some.ensures.passes c.slide.ensures.stays c.skip_near.ensures.passes
-
-pub returns-clause-stands : goal.returns-clause-stands
-returns-clause-stands c =
-    let h = c.args.head.now in
-    true_on h c.args.cursor.now c.skip_near-some.new.cursor c.skip_near.new.cursor c.skip_near-some.ensures.passes.file c.skip_near-some.ensures.stands
-    (true_on h c.skip_near-some.new.cursor c.slide.new.self c.skip_near.new.cursor c.slide.ensures.stays.file (c.slide.ensures.stands h) c.skip_near.ensures.stands)
-
-pub returns-clause-few : goal.returns-clause-few
-returns-clause-few c = c.skip_near.ensures.few

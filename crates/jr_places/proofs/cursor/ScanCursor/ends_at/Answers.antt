@@ -1,5 +1,5 @@
 use Rattle.std.proofs.Common.{inl, inr, arith, rules}
-use Rattle.jr_places.proofs.Steps.{stop_whole}
+use Rattle.jr_places.proofs.Stops.{stop_whole}
 use Rattle.jr_places.proofs.cursor.ScanCursor.ends_at.Goals as goal
 
 pub returns-then-end-fill-clause-ends : goal.returns-then-end-fill-clause-ends

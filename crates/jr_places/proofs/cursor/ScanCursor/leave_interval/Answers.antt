@@ -1,4 +1,4 @@
-use Rattle.std.proofs.Common.{◌≡◌, ◌+◌, ◌%◌, ◌++◌, ◌∙◌, ℕ, drop, refl, ap, subst, arith, rules}
+use Rattle.std.proofs.Common.{◌≡◌, ◌≤◌, ◌+◌, ◌%◌, ◌++◌, ◌∙◌, ℕ, length, drop, refl, sym, ap, subst, arith, rules}
 use Rattle.jr_cut.specs.declared.stop.Stop.TheVariants.{End, Restart}
 use Rattle.jr_cut.specs.OpenSegments.{IsStopOf}
 use Rattle.jr_base.specs.declared.marker.TheConstants.{RST0}
@@ -7,9 +7,11 @@ use Rattle.jr_mcu.specs.Mcus.{no_predictions}
 use Rattle.jr_scan.specs.Run.{start_of_interval}
 use Rattle.jr_head.specs.Intervals.{intervals_of}
 use Rattle.jr_places.specs.declared.cursor.Reading.TheVariants.{GoesOn, HasEnded}
+use Rattle.jr_places.specs.declared.file_bytes.FileBytes.{FileBytes}
 use Rattle.jr_places.specs.Cursors.{begun}
 use Rattle.jr_places.proofs.Standing.{place_by, stands_by}
 use Rattle.jr_places.proofs.Steps.{ended_true, next_true, restart_within}
+use Rattle.jr_places.proofs.Windows.{no_bits}
 use Rattle.jr_places.proofs.cursor.ScanCursor.leave_interval.Goals as goal
 
 pub overflow_add-end : goal.overflow_add-end
@@ -47,7 +49,8 @@ returns-in-Restart-clause-follows c told over whole t may s =
     let b = restart.1 in
     let few = restart_within i.file.bytes.now end i.interval c.in-Restart.marker o.within b in
     let at : d.at ≡ end + (b.more + 2) = e.at ∙ ap (λ (k : ℕ). end + k) b.long in
-    let bit : d.place.bit ≡ 0 = omega (arith, e.bit) in
+    let within : end + c.in-Restart.marker ≤ length c.leave.new.self.file.bytes.now = subst (λ (f : FileBytes). end + c.in-Restart.marker ≤ length f.bytes.now) (sym l.stays.file) few in
+    let bit : d.place.bit ≡ 0 = e.bit (no_bits c.leave.new.self.file.bytes.now (end + c.in-Restart.marker) within) (omega arith) in
     let starts = b.spelled ∙ ap (λ (k : ℕ). marker b.more (RST0 + i.interval % 8) ++ drop k tail) b.long in
     let next = next_true h i c.requires.window end o.spells.0 o.spells.1 o.spells.2 o.within o.spells.3 whole t may over s b.more restart.0 starts (omega (arith, few, b.long)) start_of_interval refl in
     stands_by whole t (begun d) (i.interval + 1) 0 (end + (b.more + 2)) GoesOn start_of_interval (ap (λ (k : ℕ). k + 1) (e.stays.interval ∙ l.stays.interval)) refl at (e.reading ∙ l.reading) (place_by (begun d).place 0 no_predictions bit refl) (omega (arith, s.from, o.spells.2)) next

@@ -1,8 +1,8 @@
-use Rattle.std.proofs.Common.{◌≡◌, ℕ, ◌∙◌, ◌*◌, max, min, refl, sym, ap, arith, rules}
+use Rattle.std.proofs.Common.{◌≡◌, ℕ, ◌∙◌, max, refl, sym, ap, subst, arith, rules}
 use Rattle.jr_head.specs.HeadValue.{HeadValue}
-use Rattle.jr_places.specs.Meaning.{offset_in}
+use Rattle.jr_places.specs.Meaning.{HasBits, offset_in}
 use Rattle.jr_places.proofs.Passing.{is_kept}
-use Rattle.jr_places.proofs.Standing.{gone, opened, stands_by}
+use Rattle.jr_places.proofs.Standing.{opened, stands_by}
 use Rattle.jr_places.proofs.cursor.ScanCursor.open.Goals as goal
 
 pub returns-clause-cursor : goal.returns-clause-cursor
@@ -21,6 +21,7 @@ returns-clause-stands c whole t may is =
     let there : offset_in t.head p ≡ max p.at c.scan_at.result = ap (max p.at) (sym scan_at) in
     let at_is : at ≡ offset_in t.head p = c.offset_of-at.ensures.there (omega (arith, is.come.within, there)) ∙ sym there in
     let taken : c.from.result ≡ p.bit = search rules in
-    let bit : d.place.bit ≡ p.bit = gone c.args.file d (offset_in t.head p) p.bit e.stays.window e.stays.file (e.at ∙ at_is) (e.bit ∙ ap (λ (k : ℕ). min k (8 * d.found)) taken) is.come is.bit in
+    let come = subst (λ (k : ℕ). HasBits c.args.file.bytes.now k c.from.result) (sym at_is) (subst (HasBits c.args.file.bytes.now (offset_in t.head p)) (sym taken) is.come) in
+    let bit : d.place.bit ≡ p.bit = e.bit come (omega (arith, taken, is.bit)) ∙ taken in
     let means = opened whole t p.state p.interval p.mcu (offset_in t.head p) c.reading_of.result (record { bit = p.bit; predictions = p.predictions }) d.place c.reading_of.ensures bit (λ all. e.predictions ∙ c.in_range.ensures.kept all) is.means in
     stands_by whole t d p.interval p.mcu (offset_in t.head p) c.reading_of.result d.place e.stays.interval e.stays.mcu (e.at ∙ at_is) e.reading refl (omega arith) means
