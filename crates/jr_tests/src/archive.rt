@@ -1,12 +1,13 @@
 //! Files that are checked by several workers, lists of names and folders, lines that can't be written, and words. What lines a
 //! file gets is seen in the stored run of jri_check.
 
+use jr_base::Tally;
 use jri_archive::{
-    CheckEnd, CheckReport, Entry, EntryKind, FileCounts, Folder, LineForm, ReadError, asked,
-    check_all,
+    CheckEnd, CheckReport, Entry, EntryKind, FileCounts, Folder, LineForm, ReadError,
+    answer as answer_by, asked, check_all,
 };
 use std::alloc::{AllocError, Global};
-use std::io::{BufReader, Cursor, Read, Result as IoResult, Write};
+use std::io::{BufReader, Cursor, Error, ErrorKind, Read, Result as IoResult, Write};
 use std::process::Abort;
 use std::sync::Wait;
 use std::test::Fail;
@@ -329,6 +330,50 @@ const WORDS: [(&[&[u8]], Answer); 10] = [
     (&[b"--workers", b"65", b"a"], Err(2)),
     (&[b"--first", b"1", b"a"], Err(2)),
 ];
+
+/// A writer whose reader has gone away.
+#[derive(Drop)]
+struct Gone;
+
+impl Write for Gone {
+    fn write(&mut self, _buf: &[u8]) -> IoResult<usize> {
+        Err(Error::from(ErrorKind::BrokenPipe))
+    }
+
+    fn flush(&mut self) -> IoResult<()> {
+        Ok(())
+    }
+}
+
+/// Returns the status of words that ask for no check, and what is written to standard error.
+fn answered<W: Write + Drop>(alloc: Global, word: &[u8], out: W) -> Result<(u8, Vec<u8>), Fail> {
+    let words = owned(alloc, &[word])?;
+    let mut errors = Vec::new(alloc);
+    let status = match asked(alloc, words.as_slice()) {
+        Ok(_) => 255,
+        Err(unasked) => answer_by(&mut Tally::of(out), &mut errors, &unasked),
+    };
+    Ok((status, errors))
+}
+
+/// Help and the version that cannot be written are no success.
+#[test]
+fn help_is_written(rt: HostRuntime) -> Result<(), Fail> {
+    let alloc = rt.alloc();
+    for word in [b"--help".as_slice(), b"--version"] {
+        let (status, errors) = answered(alloc, word, Vec::new(alloc))?;
+        assert!(rt; status == 0 && errors.is_empty());
+        let (status, errors) = answered(alloc, word, Cursor::new([0; 10]))?;
+        assert!(rt;
+            status == 4 && errors.as_slice() == b"cannot write to standard output\n".as_slice()
+        );
+        let (status, errors) = answered(alloc, word, Gone)?;
+        assert!(rt; status == 4 && errors.is_empty());
+    }
+    let (status, _) = answered(alloc, b"--workers", Gone)?;
+    assert!(rt; status == 2);
+    Ok(())
+}
 
 #[test]
 fn asks_for_checks(rt: HostRuntime) -> Result<(), Fail> {

@@ -1,6 +1,7 @@
 //! What is damaged of JPEG files: a line for each, and an exit status. No picture is made.
 #![tactic(auto)]
 
+mod answering;
 mod answers;
 mod asking;
 mod checking;
@@ -12,6 +13,7 @@ mod outcome;
 mod sharing;
 mod telling;
 
+pub use answering::answer;
 pub use answers::{CheckRequest, LineForm, RequestError};
 pub use asking::asked;
 pub use checking::{Checked, check_file, check_file_in_place};

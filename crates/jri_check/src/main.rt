@@ -2,10 +2,11 @@
 //! sound, and what is damaged of the others.
 #![tactic(auto)]
 
+use jr_base::Tally;
 use jr_base::limits::MAX_FILE_BYTES;
 use jri_archive::{
-    CheckEnd, CheckReport, CheckRequest, Entry, EntryKind, Folder, ReadError, RequestError, asked,
-    check_all, tell_counts, words_of,
+    CheckEnd, CheckReport, CheckRequest, Entry, EntryKind, Folder, ReadError, RequestError, answer,
+    asked, check_all, tell_counts, words_of,
 };
 use std::alloc::{AllocError, Global};
 use std::fs;
@@ -122,16 +123,6 @@ impl<'a> Folder for Disk<'a> {
     }
 }
 
-/// Writes what the words get in place of a check, and answers the exit status.
-fn tell<W: Write, E: Write>(out: &mut W, errors: &mut E, unasked: &RequestError) -> u8 {
-    let _ = match unasked {
-        RequestError::Help(text) => write!(out, "{text}"),
-        RequestError::Wrong(text) => write!(errors, "{text}"),
-        RequestError::Memory => writeln!(errors, "out of memory"),
-    };
-    unasked.status()
-}
-
 /// Tells how many files are what, and why not every one has its line, and answers the exit status.
 fn finish<E: Write>(alloc: Global, errors: &mut E, report: CheckReport, is_quiet: bool) -> u8 {
     let mut counts = String::new(alloc);
@@ -191,14 +182,16 @@ fn check<
 
 fn main(rt: HostRuntime) -> ExitCode {
     let alloc: Global = rt.alloc();
-    let (mut out, mut errors) = (rt.stdout(), rt.stderr());
+    let (out, mut errors) = (rt.stdout(), rt.stderr());
     let asked = match words_of(&rt, alloc) {
         Ok(words) => asked(alloc, words.as_slice()),
         Err(_) => Err(RequestError::Memory),
     };
     let mut asked = match asked {
         Ok(asked) => asked,
-        Err(unasked) => return ExitCode::from(tell(&mut out, &mut errors, &unasked)),
+        Err(unasked) => {
+            return ExitCode::from(answer(&mut Tally::of(out), &mut errors, &unasked));
+        }
     };
     let progress = if errors.is_terminal() {
         Some(rt.stderr())
