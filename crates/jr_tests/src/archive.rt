@@ -4,7 +4,7 @@
 use jr_base::Tally;
 use jri_archive::{
     CheckEnd, CheckReport, Entry, EntryKind, FileCounts, Folder, LineForm, ReadError,
-    answer as answer_by, asked, check_all,
+    answer as answer_by, asked, check_all, tell_counts, write_counts_line,
 };
 use std::alloc::{AllocError, Global};
 use std::io::{BufReader, Cursor, Error, ErrorKind, Read, Result as IoResult, Write};
@@ -372,6 +372,23 @@ fn help_is_written(rt: HostRuntime) -> Result<(), Fail> {
     }
     let (status, _) = answered(alloc, b"--workers", Gone)?;
     assert!(rt; status == 2);
+    Ok(())
+}
+
+/// The longest line of counts is written whole.
+#[test]
+fn counts_are_written_whole(rt: HostRuntime) -> Result<(), Fail> {
+    let counts = FileCounts {
+        sound: u64::MAX,
+        damaged: u64::MAX,
+        refused: u64::MAX,
+        unread: u64::MAX,
+        out_of_memory: u64::MAX,
+    };
+    let (mut line, mut wanted) = (Vec::new(rt.alloc()), String::new(rt.alloc()));
+    write_counts_line(&mut line, counts)?;
+    tell_counts(&mut wanted, counts)?;
+    assert!(rt; line.as_slice() == wanted.as_bytes());
     Ok(())
 }
 

@@ -22,4 +22,4 @@ pub use jri_names::{Entry, EntryKind, Folder, ReadError, names_come_back, words_
 pub use json::{tell_counts_object, tell_interval_object, tell_object};
 pub use outcome::{Outcome, outcome_in_place, outcome_of};
 pub use sharing::check_all;
-pub use telling::{tell, tell_counts, tell_map};
+pub use telling::{tell, tell_counts, tell_map, write_counts_line};

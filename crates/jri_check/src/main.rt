@@ -6,7 +6,7 @@ use jr_base::Tally;
 use jr_base::limits::MAX_FILE_BYTES;
 use jri_archive::{
     CheckEnd, CheckReport, CheckRequest, Entry, EntryKind, Folder, ReadError, RequestError, answer,
-    asked, check_all, tell_counts, words_of,
+    asked, check_all, words_of, write_counts_line,
 };
 use std::alloc::{AllocError, Global};
 use std::fs;
@@ -123,11 +123,10 @@ impl<'a> Folder for Disk<'a> {
     }
 }
 
-/// Tells how many files are what, and why not every one has its line, and answers the exit status.
-fn finish<E: Write>(alloc: Global, errors: &mut E, report: CheckReport, is_quiet: bool) -> u8 {
-    let mut counts = String::new(alloc);
-    if !is_quiet && tell_counts(&mut counts, report.counts).is_ok() {
-        let _ = errors.write_all(counts.as_bytes());
+/// Writes the counts, and why not every file has its line, and returns the exit status. It allocates nothing.
+fn finish<E: Write>(errors: &mut E, report: CheckReport, is_quiet: bool) -> u8 {
+    if !is_quiet {
+        let _ = write_counts_line(errors, report.counts);
     }
     let _ = match report.end {
         CheckEnd::AllTold => Ok(()),
@@ -177,7 +176,7 @@ fn check<
     };
     let is_quiet = asked.form.is_quiet;
     let (report, _) = check_all(rt, alloc, disk, asked, list, out, progress);
-    finish(alloc, &mut errors, report, is_quiet)
+    finish(&mut errors, report, is_quiet)
 }
 
 fn main(rt: HostRuntime) -> ExitCode {
