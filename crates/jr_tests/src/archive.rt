@@ -60,6 +60,7 @@ impl<'a> Folder for Shelf<'a> {
             "progressive" => 2,
             "coloured" | "in/d/e.jfif" => 3,
             "shut" => return Err(ReadError::NotAllowed),
+            "fifo" => return Err(ReadError::NotRegular),
             _ => return Err(ReadError::NotFound),
         };
         match self.files.get(place) {
@@ -219,6 +220,23 @@ fn goes_through_folders(rt: HostRuntime) -> Result<(), Fail> {
          in/d/?: cannot be read: its name is not UTF-8\n\
          in/d/e.jfif: sound, 2 intervals\n\
          ten: sound, 10 intervals\n",
+        3,
+    )
+}
+
+/// A FIFO is not waited for.
+#[test]
+fn reads_no_fifo(rt: HostRuntime) -> Result<(), Fail> {
+    check(
+        &rt,
+        &[b"fifo", b"two"],
+        "fifo: cannot be read: not a regular file\ntwo: sound, 2 intervals\n",
+        3,
+    )?;
+    check(
+        &rt,
+        &[b"--json", b"fifo"],
+        "{\"file\":\"fifo\",\"is\":\"unread\",\"why\":\"not a regular file\"}\n",
         3,
     )
 }

@@ -97,8 +97,27 @@ fn entries_of(
     Ok(entries)
 }
 
+/// Beginnings of the names of open streams, which are read whatever they are: naming one asks for it.
+const STREAMS: [&str; 3] = ["/dev/stdin", "/dev/fd/", "/proc/"];
+
+/// Returns whether a name is that of a FIFO, a socket or a device, which may never end, or never begin.
+fn is_special(rt: &HostRuntime, name: &str) -> bool {
+    for stream in STREAMS {
+        if name.starts_with(stream) {
+            return false;
+        }
+    }
+    match fs::metadata(rt, name) {
+        Ok(found) => !found.is_file() && !found.is_dir(),
+        Err(_) => false,
+    }
+}
+
 impl<'a> Folder for Disk<'a> {
     fn read(&self, alloc: Global, name: &str) -> Result<Vec<u8>, ReadError> {
+        if is_special(self.rt, name) {
+            return Err(ReadError::NotRegular);
+        }
         let file = match fs::open(self.rt, name) {
             Ok(file) => file,
             Err(error) => return Err(unread(&error)),

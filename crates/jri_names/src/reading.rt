@@ -15,6 +15,8 @@ pub enum ReadError {
     Folder,
     /// Its name is no text: the kit opens files by text alone.
     NameIsNoText,
+    /// It is a FIFO, a socket or a device.
+    NotRegular,
     /// The system takes no name of this length.
     NameTooLong,
     /// Anything else.
@@ -31,6 +33,7 @@ impl ReadError {
             ReadError::NotAllowed => "permission denied",
             ReadError::Folder => "a folder",
             ReadError::NameIsNoText => "its name is not UTF-8",
+            ReadError::NotRegular => "not a regular file",
             ReadError::NameTooLong => "its name is too long",
             ReadError::Failed => "reading failed",
             ReadError::Memory => "out of memory",
