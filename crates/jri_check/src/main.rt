@@ -97,6 +97,46 @@ fn entries_of(
     Ok(entries)
 }
 
+/// The size of one read of a stream, in bytes.
+const PART: usize = 65_536;
+
+/// Reads a stream to its end, or until a file would be too long. Each read has the whole part: a pipe of packets drops what has no
+/// space.
+fn read_parts<R: Read>(alloc: Global, input: &mut R, part: &mut [u8]) -> IoResult<Vec<u8>> {
+    let mut bytes = Vec::new(alloc);
+    for _ in 0..u64::MAX {
+        match input.read(part) {
+            Ok(0) => break,
+            Ok(count) => bytes.extend_from_slice(&part[..count])?,
+            Err(error) if error.kind() == ErrorKind::Interrupted => {}
+            Err(error) => return Err(error),
+        }
+        if bytes.len() as u64 >= TOO_MANY {
+            break;
+        }
+    }
+    Ok(bytes)
+}
+
+/// Reads a stream, part by part.
+fn read_stream<R: Read>(alloc: Global, input: &mut R) -> IoResult<Vec<u8>> {
+    let mut part = vec![in alloc; 0; PART]?;
+    read_parts(alloc, input, part.as_mut_slice())
+}
+
+/// Reads a file, or a stream that has a name.
+fn read_file(alloc: Global, file: File) -> IoResult<Vec<u8>> {
+    let mut file = file;
+    match file.metadata() {
+        Ok(found) if !found.is_file() => return read_stream(alloc, &mut file),
+        _ => {}
+    }
+    let mut bytes = Vec::new(alloc);
+    make_room(&mut bytes, &file);
+    file.take(TOO_MANY).read_to_end(&mut bytes)?;
+    Ok(bytes)
+}
+
 /// Beginnings of the names of open streams, which are read whatever they are: naming one asks for it.
 const STREAMS: [&str; 3] = ["/dev/stdin", "/dev/fd/", "/proc/"];
 
@@ -118,14 +158,12 @@ impl<'a> Folder for Disk<'a> {
         if is_special(self.rt, name) {
             return Err(ReadError::NotRegular);
         }
-        let file = match fs::open(self.rt, name) {
-            Ok(file) => file,
-            Err(error) => return Err(unread(&error)),
+        let read = match fs::open(self.rt, name) {
+            Ok(file) => read_file(alloc, file),
+            Err(error) => Err(error),
         };
-        let mut bytes = Vec::new(alloc);
-        make_room(&mut bytes, &file);
-        match file.take(TOO_MANY).read_to_end(&mut bytes) {
-            Ok(_) => Ok(bytes),
+        match read {
+            Ok(bytes) => Ok(bytes),
             Err(error) => Err(unread(&error)),
         }
     }
