@@ -14,8 +14,8 @@ use std::test::Fail;
 use std::thread::Threads;
 use test_files::files::{COLOURED, TEN, file};
 
-/// Files in memory, by their places, and two folders: `in` has `in/b.jpg`, `in/a.JPEG`, `in/c.txt` and the folder `in/d`, which has
-/// `in/d/e.jfif` and what can't be read.
+/// Files in memory, by their places, and directories. `in` has `in/b.jpg`, `in/a.JPEG`, `in/c.txt` and `in/d`, which has
+/// `in/d/e.jfif` and names that are not UTF-8. `odd` has only such names, none of which ends as that of a JPEG file.
 #[derive(Drop)]
 struct Shelf<'a> {
     files: &'a [Vec<u8>],
@@ -28,28 +28,35 @@ fn copy(alloc: Global, bytes: &[u8]) -> Result<Vec<u8>, ReadError> {
     }
 }
 
-/// What stands in a folder, by names and kinds.
-fn entries_of(alloc: Global, all: &[(&str, EntryKind)]) -> Result<Vec<Entry>, AllocError> {
+/// Returns the entries of a directory from their names and kinds.
+fn entries_of(alloc: Global, all: &[(&[u8], EntryKind)]) -> Result<Vec<Entry>, AllocError> {
     let mut entries = Vec::new(alloc);
     for (name, kind) in all {
         entries.push(Entry {
-            name: String::from_str(alloc, name)?,
+            name: name.to_vec(alloc)?,
             kind: *kind,
         })?;
     }
     Ok(entries)
 }
 
-const IN: [(&str, EntryKind); 4] = [
-    ("in/b.jpg", EntryKind::File),
-    ("in/d", EntryKind::Folder),
-    ("in/c.txt", EntryKind::File),
-    ("in/a.JPEG", EntryKind::File),
+const IN: [(&[u8], EntryKind); 4] = [
+    (b"in/b.jpg", EntryKind::File),
+    (b"in/d", EntryKind::Folder),
+    (b"in/c.txt", EntryKind::File),
+    (b"in/a.JPEG", EntryKind::File),
 ];
 
-const IN_D: [(&str, EntryKind); 2] = [
-    ("in/d/?", EntryKind::Unread(ReadError::NameIsNoText)),
-    ("in/d/e.jfif", EntryKind::File),
+const IN_D: [(&[u8], EntryKind); 4] = [
+    (b"in/d/\xE9.jpg", EntryKind::Unread(ReadError::NameIsNoText)),
+    (b"in/d/\xE9", EntryKind::Unread(ReadError::NameIsNoText)),
+    (b"in/d/e.jfif", EntryKind::File),
+    (b"in/d/\xE8", EntryKind::Unread(ReadError::NameIsNoText)),
+];
+
+const ODD: [(&[u8], EntryKind); 2] = [
+    (b"odd/\xE9.txt", EntryKind::Unread(ReadError::NameIsNoText)),
+    (b"odd/\xE8", EntryKind::Unread(ReadError::NameIsNoText)),
 ];
 
 impl<'a> Folder for Shelf<'a> {
@@ -73,6 +80,7 @@ impl<'a> Folder for Shelf<'a> {
         let entries = match name {
             "in" => entries_of(alloc, &IN),
             "in/d" => entries_of(alloc, &IN_D),
+            "odd" => entries_of(alloc, &ODD),
             _ => return Ok(None),
         };
         match entries {
@@ -217,10 +225,35 @@ fn goes_through_folders(rt: HostRuntime) -> Result<(), Fail> {
         "two: sound, 2 intervals\n\
          in/a.JPEG: sound, 2 intervals\n\
          in/b.jpg: sound, 10 intervals\n\
-         in/d/?: cannot be read: its name is not UTF-8\n\
          in/d/e.jfif: sound, 2 intervals\n\
+         in/d/?: skipped: its name is not UTF-8\n\
+         in/d/?: skipped: its name is not UTF-8\n\
+         in/d/?.jpg: cannot be read: its name is not UTF-8\n\
          ten: sound, 10 intervals\n",
         3,
+    )?;
+    check(
+        &rt,
+        &[b"-r", b"--json", b"in/d"],
+        "{\"file\":\"in/d/e.jfif\",\"is\":\"sound\",\"intervals\":2}\n\
+         {\"file\":\"in/d/\\udce8\",\"is\":\"skipped\",\"why\":\"its name is not UTF-8\"}\n\
+         {\"file\":\"in/d/\\udce9\",\"is\":\"skipped\",\"why\":\"its name is not UTF-8\"}\n\
+         {\"file\":\"in/d/\\udce9.jpg\",\"is\":\"unread\",\"why\":\"its name is not UTF-8\"}\n",
+        3,
+    )
+}
+
+/// Names that are not UTF-8, and do not end as those of JPEG files, do not change the status.
+#[test]
+fn skips_other_names(rt: HostRuntime) -> Result<(), Fail> {
+    check(
+        &rt,
+        &[b"-r", b"--counts", b"two", b"odd"],
+        "two: sound, 2 intervals\n\
+         odd/?: skipped: its name is not UTF-8\n\
+         odd/?.txt: skipped: its name is not UTF-8\n\
+         1 sound\n",
+        0,
     )
 }
 

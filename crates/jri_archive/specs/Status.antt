@@ -3,7 +3,7 @@ use Rattle.std.specs.Prelude.{ℕ, Bool, ◌+◌, ◌-◌, ◌^◌, min, max, na
 use Rattle.jri_archive.specs.declared.answers.RequestError.{RequestError}
 use Rattle.jri_archive.specs.declared.answers.RequestError.TheVariants.{Help, Wrong, Memory}
 use Rattle.jri_archive.specs.declared.counts.FileState.{FileState}
-use Rattle.jri_archive.specs.declared.counts.FileState.TheVariants.{Sound, Damaged, Refused, Unread, OutOfMemory}
+use Rattle.jri_archive.specs.declared.counts.FileState.TheVariants.{Sound, Damaged, Refused, Unread, OutOfMemory, Skipped}
 use Rattle.jri_archive.specs.declared.counts.FileCounts.{FileCounts}
 use Rattle.jri_archive.specs.declared.counts.CheckEnd.{CheckEnd}
 use Rattle.jri_archive.specs.declared.counts.CheckEnd.TheVariants.{AllTold, NamesUnread, Unwritten, Memory as NoMemory}
@@ -30,6 +30,7 @@ counts_with c Damaged = record c { damaged = one_more c.damaged }
 counts_with c Refused = record c { refused = one_more c.refused }
 counts_with c Unread = record c { unread = one_more c.unread }
 counts_with c OutOfMemory = record c { out_of_memory = one_more c.out_of_memory }
+counts_with c Skipped = c
 
 abbrev pub files_in : FileCounts → ℕ
 files_in c = c.sound + (c.damaged + (c.refused + (c.unread + c.out_of_memory)))

@@ -100,6 +100,7 @@ fn put_outcome(line: &mut String, outcome: &Outcome) -> Result<(), AllocError> {
             line.push_str("out of memory")
         }
         Outcome::Refused(refusal) => write!(line, "refused {}: {refusal}", refusal.number()),
+        Outcome::Skipped => write!(line, "skipped: {}", ReadError::NameIsNoText.text()),
         Outcome::Unread(error) => write!(line, "cannot be read: {}", error.text()),
     }
 }

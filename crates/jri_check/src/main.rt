@@ -10,9 +10,10 @@ use jri_archive::{
 };
 use std::alloc::{AllocError, Global};
 use std::fs;
-use std::fs::{DirEntry, File, ReadDir};
-use std::io::{BufReader, Error, ErrorKind, IsTerminal, Read, Result as IoResult, Write};
+use std::fs::File;
+use std::io::{BufRead, BufReader, Error, ErrorKind, IsTerminal, Read, Result as IoResult, Write};
 use std::process::ExitCode;
+use std::rt::Files;
 use std::sync::Wait;
 use std::thread::Threads;
 
@@ -38,9 +39,7 @@ fn unread(error: &Error) -> ReadError {
         ErrorKind::NotFound => ReadError::NotFound,
         ErrorKind::PermissionDenied => ReadError::NotAllowed,
         ErrorKind::IsADirectory => ReadError::Folder,
-        // a name that is no text never reaches the system
-        ErrorKind::InvalidFilename if error.raw_os_error().is_some() => ReadError::NameTooLong,
-        ErrorKind::InvalidFilename => ReadError::NameIsNoText,
+        ErrorKind::InvalidFilename => ReadError::NameTooLong,
         _ => ReadError::Failed,
     }
 }
@@ -53,45 +52,74 @@ fn make_room(bytes: &mut Vec<u8>, file: &File) {
     }
 }
 
-/// What a name that is no text is told as.
-const UNTOLD: &str = "/?";
-
-/// An entry of a folder, or none where it is a link or a device.
-fn entry_of(
-    alloc: Global,
-    folder: &str,
-    found: IoResult<DirEntry<HostRuntime>>,
-) -> Result<Option<Entry>, AllocError> {
-    let mut name = String::new(alloc);
-    let kind = match found {
-        Ok(entry) => {
-            name.push_str(entry.path().as_str())?;
-            match entry.file_type() {
-                Ok(kind) if kind.is_dir() => EntryKind::Folder,
-                Ok(kind) if kind.is_file() => EntryKind::File,
-                Ok(_) => return Ok(None),
-                Err(error) => EntryKind::Unread(unread(&error)),
-            }
-        }
-        Err(error) => {
-            name.push_str(folder)?;
-            name.push_str(UNTOLD)?;
-            EntryKind::Unread(unread(&error))
-        }
+/// Returns what an entry of a directory is; `None` if it is a link or a device.
+fn kind_of(rt: &HostRuntime, name: &[u8]) -> Option<EntryKind> {
+    let Ok(name) = str::from_utf8(name) else {
+        return Some(EntryKind::Unread(ReadError::NameIsNoText));
     };
-    Ok(Some(Entry { name, kind }))
+    match fs::symlink_metadata(rt, name) {
+        Ok(found) if found.is_dir() => Some(EntryKind::Folder),
+        Ok(found) if found.is_file() => Some(EntryKind::File),
+        Ok(_) => None,
+        Err(error) => Some(EntryKind::Unread(unread(&error))),
+    }
 }
 
-/// What stands in a folder.
-fn entries_of(
-    alloc: Global,
+/// Returns the name of a directory with a slash at its end, by which the system follows a link to one.
+fn with_slash(alloc: Global, folder: &str) -> Result<String, AllocError> {
+    let mut name = String::from_str(alloc, folder)?;
+    if !folder.is_empty() && !folder.ends_with('/') {
+        name.push('/')?;
+    }
+    Ok(name)
+}
+
+/// Reads the next name of a directory, of any bytes; `None` after the last.
+fn next_name<R: Read>(alloc: Global, names: &mut BufReader<R>) -> IoResult<Option<Vec<u8>>> {
+    let mut name = Vec::new(alloc);
+    if names.read_until(0, &mut name)? == 0 {
+        return Ok(None);
+    }
+    if name.last() == Some(&0) {
+        name.pop();
+    }
+    Ok(Some(name))
+}
+
+/// Adds an entry of a directory, unless it is a link, a device, the directory itself or its parent.
+fn add_entry(
+    rt: &HostRuntime,
+    entries: &mut Vec<Entry>,
     folder: &str,
-    found: ReadDir<HostRuntime>,
-) -> Result<Vec<Entry>, AllocError> {
+    name: &[u8],
+) -> Result<(), AllocError> {
+    if name == b".".as_slice() || name == b"..".as_slice() {
+        return Ok(());
+    }
+    let mut whole = folder.as_bytes().to_vec(rt.alloc())?;
+    whole.extend_from_slice(name)?;
+    if let Some(kind) = kind_of(rt, whole.as_slice()) {
+        entries.push(Entry { name: whole, kind })?;
+    }
+    Ok(())
+}
+
+/// Reads the entries of a directory. If reading fails halfway the directory itself is an entry that is not read.
+fn entries_of(rt: &HostRuntime, folder: &str) -> IoResult<Vec<Entry>> {
+    let alloc: Global = rt.alloc();
+    let folder = with_slash(alloc, folder)?;
+    let mut names = BufReader::new(alloc, rt.open_dir(folder.as_str())?)?;
     let mut entries = Vec::new(alloc);
-    for entry in found {
-        if let Some(entry) = entry_of(alloc, folder, entry)? {
-            entries.push(entry)?;
+    for _ in 0..u64::MAX {
+        match next_name(alloc, &mut names) {
+            Ok(Some(name)) => add_entry(rt, &mut entries, folder.as_str(), name.as_slice())?,
+            Ok(None) => break,
+            Err(error) => {
+                let kind = EntryKind::Unread(unread(&error));
+                let name = folder.into_bytes();
+                entries.push(Entry { name, kind })?;
+                break;
+            }
         }
     }
     Ok(entries)
@@ -168,12 +196,9 @@ impl<'a> Folder for Disk<'a> {
         }
     }
 
-    fn entries(&self, alloc: Global, name: &str) -> Result<Option<Vec<Entry>>, ReadError> {
-        match fs::read_dir(self.rt, name) {
-            Ok(found) => match entries_of(alloc, name, found) {
-                Ok(entries) => Ok(Some(entries)),
-                Err(_) => Err(ReadError::Memory),
-            },
+    fn entries(&self, _alloc: Global, name: &str) -> Result<Option<Vec<Entry>>, ReadError> {
+        match entries_of(self.rt, name) {
+            Ok(entries) => Ok(Some(entries)),
             Err(error) if error.kind() == ErrorKind::NotADirectory => Ok(None),
             Err(error) => Err(unread(&error)),
         }
