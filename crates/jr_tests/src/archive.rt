@@ -1,20 +1,21 @@
 //! Files that are checked by several workers, lists of names and folders, lines that can't be written, and words. What lines a
 //! file gets is seen in the stored run of jri_check.
 
+use jr_base::Tally;
 use jri_archive::{
-    CheckEnd, CheckReport, Entry, EntryKind, FileCounts, Folder, LineForm, ReadError, asked,
-    check_all,
+    CheckEnd, CheckReport, Entry, EntryKind, FileCounts, Folder, LineForm, ReadError,
+    answer as answer_by, asked, check_all, tell_counts, write_counts_line,
 };
 use std::alloc::{AllocError, Global};
-use std::io::{BufReader, Cursor, Read, Result as IoResult, Write};
+use std::io::{BufReader, Cursor, Error, ErrorKind, Read, Result as IoResult, Write};
 use std::process::Abort;
 use std::sync::Wait;
 use std::test::Fail;
 use std::thread::Threads;
 use test_files::files::{COLOURED, TEN, file};
 
-/// Files in memory, by their places, and two folders: `in` has `in/b.jpg`, `in/a.JPEG`, `in/c.txt` and the folder `in/d`, which has
-/// `in/d/e.jfif` and what can't be read.
+/// Files in memory, by their places, and directories. `in` has `in/b.jpg`, `in/a.JPEG`, `in/c.txt` and `in/d`, which has
+/// `in/d/e.jfif` and names that are not UTF-8. `odd` has only such names, none of which ends as that of a JPEG file.
 #[derive(Drop)]
 struct Shelf<'a> {
     files: &'a [Vec<u8>],
@@ -27,28 +28,35 @@ fn copy(alloc: Global, bytes: &[u8]) -> Result<Vec<u8>, ReadError> {
     }
 }
 
-/// What stands in a folder, by names and kinds.
-fn entries_of(alloc: Global, all: &[(&str, EntryKind)]) -> Result<Vec<Entry>, AllocError> {
+/// Returns the entries of a directory from their names and kinds.
+fn entries_of(alloc: Global, all: &[(&[u8], EntryKind)]) -> Result<Vec<Entry>, AllocError> {
     let mut entries = Vec::new(alloc);
     for (name, kind) in all {
         entries.push(Entry {
-            name: String::from_str(alloc, name)?,
+            name: name.to_vec(alloc)?,
             kind: *kind,
         })?;
     }
     Ok(entries)
 }
 
-const IN: [(&str, EntryKind); 4] = [
-    ("in/b.jpg", EntryKind::File),
-    ("in/d", EntryKind::Folder),
-    ("in/c.txt", EntryKind::File),
-    ("in/a.JPEG", EntryKind::File),
+const IN: [(&[u8], EntryKind); 4] = [
+    (b"in/b.jpg", EntryKind::File),
+    (b"in/d", EntryKind::Folder),
+    (b"in/c.txt", EntryKind::File),
+    (b"in/a.JPEG", EntryKind::File),
 ];
 
-const IN_D: [(&str, EntryKind); 2] = [
-    ("in/d/?", EntryKind::Unread(ReadError::NameIsNoText)),
-    ("in/d/e.jfif", EntryKind::File),
+const IN_D: [(&[u8], EntryKind); 4] = [
+    (b"in/d/\xE9.jpg", EntryKind::Unread(ReadError::NameIsNoText)),
+    (b"in/d/\xE9", EntryKind::Unread(ReadError::NameIsNoText)),
+    (b"in/d/e.jfif", EntryKind::File),
+    (b"in/d/\xE8", EntryKind::Unread(ReadError::NameIsNoText)),
+];
+
+const ODD: [(&[u8], EntryKind); 2] = [
+    (b"odd/\xE9.txt", EntryKind::Unread(ReadError::NameIsNoText)),
+    (b"odd/\xE8", EntryKind::Unread(ReadError::NameIsNoText)),
 ];
 
 impl<'a> Folder for Shelf<'a> {
@@ -59,6 +67,7 @@ impl<'a> Folder for Shelf<'a> {
             "progressive" => 2,
             "coloured" | "in/d/e.jfif" => 3,
             "shut" => return Err(ReadError::NotAllowed),
+            "fifo" => return Err(ReadError::NotRegular),
             _ => return Err(ReadError::NotFound),
         };
         match self.files.get(place) {
@@ -71,6 +80,7 @@ impl<'a> Folder for Shelf<'a> {
         let entries = match name {
             "in" => entries_of(alloc, &IN),
             "in/d" => entries_of(alloc, &IN_D),
+            "odd" => entries_of(alloc, &ODD),
             _ => return Ok(None),
         };
         match entries {
@@ -215,9 +225,51 @@ fn goes_through_folders(rt: HostRuntime) -> Result<(), Fail> {
         "two: sound, 2 intervals\n\
          in/a.JPEG: sound, 2 intervals\n\
          in/b.jpg: sound, 10 intervals\n\
-         in/d/?: cannot be read: its name is not UTF-8\n\
          in/d/e.jfif: sound, 2 intervals\n\
+         in/d/?: skipped: its name is not UTF-8\n\
+         in/d/?: skipped: its name is not UTF-8\n\
+         in/d/?.jpg: cannot be read: its name is not UTF-8\n\
          ten: sound, 10 intervals\n",
+        3,
+    )?;
+    check(
+        &rt,
+        &[b"-r", b"--json", b"in/d"],
+        "{\"file\":\"in/d/e.jfif\",\"is\":\"sound\",\"intervals\":2}\n\
+         {\"file\":\"in/d/\\udce8\",\"is\":\"skipped\",\"why\":\"its name is not UTF-8\"}\n\
+         {\"file\":\"in/d/\\udce9\",\"is\":\"skipped\",\"why\":\"its name is not UTF-8\"}\n\
+         {\"file\":\"in/d/\\udce9.jpg\",\"is\":\"unread\",\"why\":\"its name is not UTF-8\"}\n",
+        3,
+    )
+}
+
+/// Names that are not UTF-8, and do not end as those of JPEG files, do not change the status.
+#[test]
+fn skips_other_names(rt: HostRuntime) -> Result<(), Fail> {
+    check(
+        &rt,
+        &[b"-r", b"--counts", b"two", b"odd"],
+        "two: sound, 2 intervals\n\
+         odd/?: skipped: its name is not UTF-8\n\
+         odd/?.txt: skipped: its name is not UTF-8\n\
+         1 sound\n",
+        0,
+    )
+}
+
+/// A FIFO is not waited for.
+#[test]
+fn reads_no_fifo(rt: HostRuntime) -> Result<(), Fail> {
+    check(
+        &rt,
+        &[b"fifo", b"two"],
+        "fifo: cannot be read: not a regular file\ntwo: sound, 2 intervals\n",
+        3,
+    )?;
+    check(
+        &rt,
+        &[b"--json", b"fifo"],
+        "{\"file\":\"fifo\",\"is\":\"unread\",\"why\":\"not a regular file\"}\n",
         3,
     )
 }
@@ -329,6 +381,67 @@ const WORDS: [(&[&[u8]], Answer); 10] = [
     (&[b"--workers", b"65", b"a"], Err(2)),
     (&[b"--first", b"1", b"a"], Err(2)),
 ];
+
+/// A writer whose reader has gone away.
+#[derive(Drop)]
+struct Gone;
+
+impl Write for Gone {
+    fn write(&mut self, _buf: &[u8]) -> IoResult<usize> {
+        Err(Error::from(ErrorKind::BrokenPipe))
+    }
+
+    fn flush(&mut self) -> IoResult<()> {
+        Ok(())
+    }
+}
+
+/// Returns the status of words that ask for no check, and what is written to standard error.
+fn answered<W: Write + Drop>(alloc: Global, word: &[u8], out: W) -> Result<(u8, Vec<u8>), Fail> {
+    let words = owned(alloc, &[word])?;
+    let mut errors = Vec::new(alloc);
+    let status = match asked(alloc, words.as_slice()) {
+        Ok(_) => 255,
+        Err(unasked) => answer_by(&mut Tally::of(out), &mut errors, &unasked),
+    };
+    Ok((status, errors))
+}
+
+/// Help and the version that cannot be written are no success.
+#[test]
+fn help_is_written(rt: HostRuntime) -> Result<(), Fail> {
+    let alloc = rt.alloc();
+    for word in [b"--help".as_slice(), b"--version"] {
+        let (status, errors) = answered(alloc, word, Vec::new(alloc))?;
+        assert!(rt; status == 0 && errors.is_empty());
+        let (status, errors) = answered(alloc, word, Cursor::new([0; 10]))?;
+        assert!(rt;
+            status == 4 && errors.as_slice() == b"cannot write to standard output\n".as_slice()
+        );
+        let (status, errors) = answered(alloc, word, Gone)?;
+        assert!(rt; status == 4 && errors.is_empty());
+    }
+    let (status, _) = answered(alloc, b"--workers", Gone)?;
+    assert!(rt; status == 2);
+    Ok(())
+}
+
+/// The longest line of counts is written whole.
+#[test]
+fn counts_are_written_whole(rt: HostRuntime) -> Result<(), Fail> {
+    let counts = FileCounts {
+        sound: u64::MAX,
+        damaged: u64::MAX,
+        refused: u64::MAX,
+        unread: u64::MAX,
+        out_of_memory: u64::MAX,
+    };
+    let (mut line, mut wanted) = (Vec::new(rt.alloc()), String::new(rt.alloc()));
+    write_counts_line(&mut line, counts)?;
+    tell_counts(&mut wanted, counts)?;
+    assert!(rt; line.as_slice() == wanted.as_bytes());
+    Ok(())
+}
 
 #[test]
 fn asks_for_checks(rt: HostRuntime) -> Result<(), Fail> {

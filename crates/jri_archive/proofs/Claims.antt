@@ -47,4 +47,5 @@ pub check_of : (opened : Type 0) (holds : List ℕ → List ℕ → Type 0) (fai
 check_of opened holds fails name (Ok b) (outcome.Checked c) held failed o is unread = (b.items, held, is)
 check_of opened holds fails name (Ok b) (outcome.Refused f) held failed o is unread = (b.items, held, is)
 check_of opened holds fails name (Ok b) (outcome.Unread e) held failed o is unread = absurd is
+check_of opened holds fails name (Ok b) outcome.Skipped held failed o is unread = absurd is
 check_of opened holds fails name (Err e) o held failed so is unread = subst (λ (x : Outcome). IsCheckOf holds fails name x) (sym unread) (failed so)

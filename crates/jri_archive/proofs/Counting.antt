@@ -8,7 +8,7 @@ use Rattle.std.proofs.lemmas.List.{get_or_append_left, length-append}
 use Rattle.std.proofs.Math.Seq.{get_or-append_seam}
 use Rattle.jri_archive.specs.declared.counts.FileCounts.{FileCounts}
 use Rattle.jri_archive.specs.declared.counts.FileState.{FileState}
-use Rattle.jri_archive.specs.declared.counts.FileState.TheVariants.{Sound, Damaged, Refused, Unread, OutOfMemory}
+use Rattle.jri_archive.specs.declared.counts.FileState.TheVariants.{Sound, Damaged, Refused, Unread, OutOfMemory, Skipped}
 use Rattle.jri_archive.specs.declared.outcome.Outcome.{Outcome}
 use Rattle.jri_archive.specs.Outcomes.{state_of}
 use Rattle.jri_archive.specs.Status.{counts_with}
@@ -68,6 +68,13 @@ counted_more c xs OutOfMemory a = record {
   refused = none_of Refused OutOfMemory xs c.refused refl a.refused;
   unread = none_of Unread OutOfMemory xs c.unread refl a.unread;
   out_of_memory = one_of OutOfMemory OutOfMemory xs c.out_of_memory refl a.out_of_memory;
+}
+counted_more c xs Skipped a = record {
+  sound = none_of Sound Skipped xs c.sound refl a.sound;
+  damaged = none_of Damaged Skipped xs c.damaged refl a.damaged;
+  refused = none_of Refused Skipped xs c.refused refl a.refused;
+  unread = none_of Unread Skipped xs c.unread refl a.unread;
+  out_of_memory = none_of OutOfMemory Skipped xs c.out_of_memory refl a.out_of_memory;
 }
 
 told_of : (may_be : List ℕ → Outcome → Type 0) (names : List (List ℕ)) (xs : List FileState) (state : FileState) (o : Outcome)

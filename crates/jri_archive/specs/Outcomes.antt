@@ -3,7 +3,7 @@ use Rattle.std.specs.Prelude.{◌≢◌, ℕ, ◌==◌, List, length, if◌then�
 use Rattle.jr_segments.specs.declared.refusal.Refusal.TheVariants as refusal
 use Rattle.jr_head.specs.Heads.{RefusalOf}
 use Rattle.jri_archive.specs.declared.counts.FileState.{FileState}
-use Rattle.jri_archive.specs.declared.counts.FileState.TheVariants.{Sound, Damaged, Refused, Unread, OutOfMemory}
+use Rattle.jri_archive.specs.declared.counts.FileState.TheVariants.{Sound, Damaged, Refused, Unread, OutOfMemory, Skipped}
 use Rattle.jri_names.specs.declared.reading.ReadError.TheVariants as read
 use Rattle.jri_archive.specs.declared.outcome.Outcome.{Outcome}
 use Rattle.jri_archive.specs.declared.outcome.Outcome.TheVariants as outcome
@@ -14,6 +14,7 @@ abbrev pub IsOutcomeOf : List ℕ → Outcome → Type 0
 IsOutcomeOf file (outcome.Checked c) = IsFileScan file c.scan × IsVerdictOf c.scan (length c.scan.intervals) c.verdict
 IsOutcomeOf file (outcome.Refused fault) = fault ≢ refusal.Memory → RefusalOf file fault
 IsOutcomeOf file (outcome.Unread error) = ⊥
+IsOutcomeOf file outcome.Skipped = ⊥
 
 -- what became of the file
 abbrev pub state_of : Outcome → FileState
@@ -22,3 +23,4 @@ state_of (outcome.Refused refusal.Memory) = OutOfMemory
 state_of (outcome.Refused fault) = Refused
 state_of (outcome.Unread read.Memory) = OutOfMemory
 state_of (outcome.Unread error) = Unread
+state_of outcome.Skipped = Skipped

@@ -1,9 +1,9 @@
 -- What becomes of files, how many are what, and exit statuses.
-use Rattle.std.specs.Prelude.{ℕ, ◌+◌, ◌-◌, ◌^◌, min, max, nat_lt, if◌then◌else◌}
+use Rattle.std.specs.Prelude.{ℕ, Bool, ◌+◌, ◌-◌, ◌^◌, min, max, nat_lt, if◌then◌else◌}
 use Rattle.jri_archive.specs.declared.answers.RequestError.{RequestError}
 use Rattle.jri_archive.specs.declared.answers.RequestError.TheVariants.{Help, Wrong, Memory}
 use Rattle.jri_archive.specs.declared.counts.FileState.{FileState}
-use Rattle.jri_archive.specs.declared.counts.FileState.TheVariants.{Sound, Damaged, Refused, Unread, OutOfMemory}
+use Rattle.jri_archive.specs.declared.counts.FileState.TheVariants.{Sound, Damaged, Refused, Unread, OutOfMemory, Skipped}
 use Rattle.jri_archive.specs.declared.counts.FileCounts.{FileCounts}
 use Rattle.jri_archive.specs.declared.counts.CheckEnd.{CheckEnd}
 use Rattle.jri_archive.specs.declared.counts.CheckEnd.TheVariants.{AllTold, NamesUnread, Unwritten, Memory as NoMemory}
@@ -13,6 +13,12 @@ abbrev pub request_error_status : RequestError → ℕ
 request_error_status (Help text) = 0
 request_error_status (Wrong text) = 2
 request_error_status Memory = 4
+
+-- the same, where writing the help or the version may have failed
+abbrev pub answer_status : RequestError → Bool → ℕ
+answer_status (Help text) has_failed = if has_failed then 4 else 0
+answer_status (Wrong text) has_failed = 2
+answer_status Memory has_failed = 4
 
 -- one more, of a count of 64 bits
 abbrev pub one_more : ℕ → ℕ
@@ -24,6 +30,7 @@ counts_with c Damaged = record c { damaged = one_more c.damaged }
 counts_with c Refused = record c { refused = one_more c.refused }
 counts_with c Unread = record c { unread = one_more c.unread }
 counts_with c OutOfMemory = record c { out_of_memory = one_more c.out_of_memory }
+counts_with c Skipped = c
 
 abbrev pub files_in : FileCounts → ℕ
 files_in c = c.sound + (c.damaged + (c.refused + (c.unread + c.out_of_memory)))

@@ -10,7 +10,7 @@ use Rattle.jri_archive.specs.declared.counts.CheckEnd.TheVariants.{AllTold, Name
 use Rattle.jri_archive.specs.declared.counts.CheckReport.{CheckReport}
 use Rattle.jri_archive.specs.declared.counts.FileCounts.{FileCounts}
 use Rattle.jri_archive.specs.declared.counts.FileState.{FileState}
-use Rattle.jri_archive.specs.declared.counts.FileState.TheVariants.{Sound, Damaged, Refused, Unread, OutOfMemory}
+use Rattle.jri_archive.specs.declared.counts.FileState.TheVariants.{Sound, Damaged, Refused, Unread, OutOfMemory, Skipped}
 use Rattle.jri_archive.specs.declared.outcome.Outcome.{Outcome}
 use Rattle.jri_archive.specs.declared.outcome.Outcome.TheVariants as outcome
 use Rattle.jri_archive.specs.Outcomes.{IsOutcomeOf, state_of}
@@ -20,6 +20,7 @@ abbrev pub IsCheckOf : (holds : List ℕ → List ℕ → Type 0) → (fails : L
 IsCheckOf holds fails name (outcome.Checked c) = (bytes : List ℕ) × holds name bytes × IsOutcomeOf bytes (outcome.Checked c)
 IsCheckOf holds fails name (outcome.Refused f) = (bytes : List ℕ) × holds name bytes × IsOutcomeOf bytes (outcome.Refused f)
 IsCheckOf holds fails name (outcome.Unread e) = fails name e ⊎ (e ≡ NameIsNoText)
+IsCheckOf holds fails name outcome.Skipped = ⊥
 
 -- further files can be told of
 abbrev pub is_open : CheckEnd → Bool
@@ -35,6 +36,7 @@ same_state Damaged Damaged = 1
 same_state Refused Refused = 1
 same_state Unread Unread = 1
 same_state OutOfMemory OutOfMemory = 1
+same_state Skipped Skipped = 1
 same_state a b = 0
 
 -- how many files have that state, in 64 bits

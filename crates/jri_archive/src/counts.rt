@@ -16,6 +16,8 @@ pub enum FileState {
     Unread,
     /// Memory ran out; nothing is known of it.
     OutOfMemory,
+    /// An entry of a directory that may be a file of any kind. No count has it.
+    Skipped,
 }
 
 /// How many files are what.
@@ -55,6 +57,7 @@ impl FileCounts {
             FileState::OutOfMemory => {
                 counts.out_of_memory = counts.out_of_memory.saturating_add(1);
             }
+            FileState::Skipped => {}
         }
         counts
     }

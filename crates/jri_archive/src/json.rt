@@ -76,11 +76,17 @@ fn put_outcome(line: &mut String, outcome: &Outcome) -> Result<(), AllocError> {
             ",\"is\":\"refused\",\"refusal\":{},\"why\":\"{refusal}\"",
             refusal.number()
         ),
+        Outcome::Skipped => write!(
+            line,
+            ",\"is\":\"skipped\",\"why\":\"{}\"",
+            ReadError::NameIsNoText.text()
+        ),
         Outcome::Unread(error) => write!(line, ",\"is\":\"unread\",\"why\":\"{}\"", error.text()),
     }
 }
 
-/// Puts the object of a file, with the line's end: `is` is `sound`, `damaged`, `refused`, `unread` or `out of memory`.
+/// Appends the object of a file, with the line's end: `is` is `sound`, `damaged`, `refused`, `unread`, `skipped` or
+/// `out of memory`.
 pub fn tell_object(line: &mut String, name: &[u8], outcome: &Outcome) -> Result<(), AllocError> {
     put_file(line, name)?;
     put_outcome(line, outcome)?;

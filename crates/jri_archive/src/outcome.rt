@@ -21,6 +21,8 @@ pub enum Outcome {
     Refused(Refusal),
     /// It cannot be opened or read.
     Unread(ReadError),
+    /// It was found in a directory and may be a file of any kind, since its name is neither UTF-8 nor that of a JPEG file.
+    Skipped,
 }
 
 /// Checks a file whose bytes are there, or are not, by so many threads where it is large.
@@ -72,6 +74,7 @@ impl Outcome {
             Outcome::Refused(Refusal::Memory) | Outcome::Unread(ReadError::Memory) =>
                 FileState::OutOfMemory,
             Outcome::Refused(_) => FileState::Refused,
+            Outcome::Skipped => FileState::Skipped,
             Outcome::Unread(_) => FileState::Unread,
         }
     }

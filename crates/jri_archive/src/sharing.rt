@@ -188,8 +188,15 @@ impl<
     /// Checks a file, by several workers where others have none.
     fn check<R: Threads + Wait + Sync>(&self, rt: &R, file: &NamedFile) -> CheckedFile
         ensures map { IfSome result.bytes (λ b. IsOutcomeOf b.items result.outcome) }
-        ensures outcome { ((x : ReadError) → file.now.error ≡ Some x → x ≡ ReadError.NameIsNoText) → S.may_be file.now.name.items result.outcome }
+        ensures outcome { ((x : ReadError) → file.now.error ≡ Some x → x ≡ ReadError.NameIsNoText) → file.now.is_skipped ≡ false → S.may_be file.now.name.items result.outcome }
     {
+        if file.is_skipped {
+            self.desk.lock(rt).give_back(1);
+            return CheckedFile {
+                outcome: Outcome::Skipped,
+                bytes: None,
+            };
+        }
         let bytes = self.read(file);
         let workers = self.desk.lock(rt).share(self.workers);
         let checked = checked_file(rt, self.alloc, bytes, self.has_map, workers);

@@ -8,6 +8,9 @@ use jr_head::Refusal;
 use jr_scan::ScanEnd;
 use jri_names::ReadError;
 use std::alloc::AllocError;
+use std::fmt;
+use std::fmt::{Display, Formatter};
+use std::io::{Cursor, Result as IoResult, Write};
 
 /// Puts text in which characters that would end the line, or move on a terminal, are told as `?`.
 fn put_plain(line: &mut String, text: &str) -> Result<(), AllocError> {
@@ -97,6 +100,7 @@ fn put_outcome(line: &mut String, outcome: &Outcome) -> Result<(), AllocError> {
             line.push_str("out of memory")
         }
         Outcome::Refused(refusal) => write!(line, "refused {}: {refusal}", refusal.number()),
+        Outcome::Skipped => write!(line, "skipped: {}", ReadError::NameIsNoText.text()),
         Outcome::Unread(error) => write!(line, "cannot be read: {}", error.text()),
     }
 }
@@ -140,19 +144,38 @@ pub fn tell_map(
     writeln!(line, ", {decodable} of {count} MCUs decodable")
 }
 
-/// Puts the line of the counts, with its end. Those that are 0 are left out but for the sound ones.
-pub fn tell_counts(line: &mut String, counts: FileCounts) -> Result<(), AllocError> {
-    write!(line, "{} sound", counts.sound)?;
-    let others = [
-        (counts.damaged, "damaged"),
-        (counts.refused, "refused"),
-        (counts.unread, "cannot be read"),
-        (counts.out_of_memory, "out of memory"),
-    ];
-    for (count, text) in others {
-        if count > 0 {
-            write!(line, ", {count} {text}")?;
+impl Display for FileCounts {
+    /// Omits the counts that are 0, except that of the sound files.
+    fn fmt<W: fmt::Write>(&self, f: &mut Formatter<W>) -> fmt::Result {
+        write!(f, "{} sound", self.sound)?;
+        let others = [
+            (self.damaged, "damaged"),
+            (self.refused, "refused"),
+            (self.unread, "cannot be read"),
+            (self.out_of_memory, "out of memory"),
+        ];
+        for (count, text) in others {
+            if count > 0 {
+                write!(f, ", {count} {text}")?;
+            }
         }
+        Ok(())
     }
-    line.push_str("\n")
+}
+
+/// Appends the line of the counts, with its end.
+pub fn tell_counts(line: &mut String, counts: FileCounts) -> Result<(), AllocError> {
+    writeln!(line, "{counts}")
+}
+
+/// The size of the longest line of counts, rounded up: five numbers of 20 digits and 50 letters.
+const COUNTS_SIZE: usize = 256;
+
+/// Writes the line of the counts by one write. It allocates nothing, since memory may have run out.
+pub fn write_counts_line<W: Write>(out: &mut W, counts: FileCounts) -> IoResult<()> {
+    let mut line = Cursor::new([0; COUNTS_SIZE]);
+    writeln!(line, "{counts}")?;
+    let length = (line.position() as usize).min(COUNTS_SIZE);
+    let bytes = line.into_inner();
+    out.write_all(&bytes[..length])
 }

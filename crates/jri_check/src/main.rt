@@ -2,16 +2,18 @@
 //! sound, and what is damaged of the others.
 #![tactic(auto)]
 
+use jr_base::Tally;
 use jr_base::limits::MAX_FILE_BYTES;
 use jri_archive::{
-    CheckEnd, CheckReport, CheckRequest, Entry, EntryKind, Folder, ReadError, RequestError, asked,
-    check_all, tell_counts, words_of,
+    CheckEnd, CheckReport, CheckRequest, Entry, EntryKind, Folder, ReadError, RequestError, answer,
+    asked, check_all, words_of, write_counts_line,
 };
 use std::alloc::{AllocError, Global};
 use std::fs;
-use std::fs::{DirEntry, File, ReadDir};
-use std::io::{BufReader, Error, ErrorKind, IsTerminal, Read, Result as IoResult, Write};
+use std::fs::File;
+use std::io::{BufRead, BufReader, Error, ErrorKind, IsTerminal, Read, Result as IoResult, Write};
 use std::process::ExitCode;
+use std::rt::Files;
 use std::sync::Wait;
 use std::thread::Threads;
 
@@ -37,9 +39,7 @@ fn unread(error: &Error) -> ReadError {
         ErrorKind::NotFound => ReadError::NotFound,
         ErrorKind::PermissionDenied => ReadError::NotAllowed,
         ErrorKind::IsADirectory => ReadError::Folder,
-        // a name that is no text never reaches the system
-        ErrorKind::InvalidFilename if error.raw_os_error().is_some() => ReadError::NameTooLong,
-        ErrorKind::InvalidFilename => ReadError::NameIsNoText,
+        ErrorKind::InvalidFilename => ReadError::NameTooLong,
         _ => ReadError::Failed,
     }
 }
@@ -52,91 +52,163 @@ fn make_room(bytes: &mut Vec<u8>, file: &File) {
     }
 }
 
-/// What a name that is no text is told as.
-const UNTOLD: &str = "/?";
-
-/// An entry of a folder, or none where it is a link or a device.
-fn entry_of(
-    alloc: Global,
-    folder: &str,
-    found: IoResult<DirEntry<HostRuntime>>,
-) -> Result<Option<Entry>, AllocError> {
-    let mut name = String::new(alloc);
-    let kind = match found {
-        Ok(entry) => {
-            name.push_str(entry.path().as_str())?;
-            match entry.file_type() {
-                Ok(kind) if kind.is_dir() => EntryKind::Folder,
-                Ok(kind) if kind.is_file() => EntryKind::File,
-                Ok(_) => return Ok(None),
-                Err(error) => EntryKind::Unread(unread(&error)),
-            }
-        }
-        Err(error) => {
-            name.push_str(folder)?;
-            name.push_str(UNTOLD)?;
-            EntryKind::Unread(unread(&error))
-        }
+/// Returns what an entry of a directory is; `None` if it is a link or a device.
+fn kind_of(rt: &HostRuntime, name: &[u8]) -> Option<EntryKind> {
+    let Ok(name) = str::from_utf8(name) else {
+        return Some(EntryKind::Unread(ReadError::NameIsNoText));
     };
-    Ok(Some(Entry { name, kind }))
+    match fs::symlink_metadata(rt, name) {
+        Ok(found) if found.is_dir() => Some(EntryKind::Folder),
+        Ok(found) if found.is_file() => Some(EntryKind::File),
+        Ok(_) => None,
+        Err(error) => Some(EntryKind::Unread(unread(&error))),
+    }
 }
 
-/// What stands in a folder.
-fn entries_of(
-    alloc: Global,
+/// Returns the name of a directory with a slash at its end, by which the system follows a link to one.
+fn with_slash(alloc: Global, folder: &str) -> Result<String, AllocError> {
+    let mut name = String::from_str(alloc, folder)?;
+    if !folder.is_empty() && !folder.ends_with('/') {
+        name.push('/')?;
+    }
+    Ok(name)
+}
+
+/// Reads the next name of a directory, of any bytes; `None` after the last.
+fn next_name<R: Read>(alloc: Global, names: &mut BufReader<R>) -> IoResult<Option<Vec<u8>>> {
+    let mut name = Vec::new(alloc);
+    if names.read_until(0, &mut name)? == 0 {
+        return Ok(None);
+    }
+    if name.last() == Some(&0) {
+        name.pop();
+    }
+    Ok(Some(name))
+}
+
+/// Adds an entry of a directory, unless it is a link, a device, the directory itself or its parent.
+fn add_entry(
+    rt: &HostRuntime,
+    entries: &mut Vec<Entry>,
     folder: &str,
-    found: ReadDir<HostRuntime>,
-) -> Result<Vec<Entry>, AllocError> {
+    name: &[u8],
+) -> Result<(), AllocError> {
+    if name == b".".as_slice() || name == b"..".as_slice() {
+        return Ok(());
+    }
+    let mut whole = folder.as_bytes().to_vec(rt.alloc())?;
+    whole.extend_from_slice(name)?;
+    if let Some(kind) = kind_of(rt, whole.as_slice()) {
+        entries.push(Entry { name: whole, kind })?;
+    }
+    Ok(())
+}
+
+/// Reads the entries of a directory. If reading fails halfway the directory itself is an entry that is not read.
+fn entries_of(rt: &HostRuntime, folder: &str) -> IoResult<Vec<Entry>> {
+    let alloc: Global = rt.alloc();
+    let folder = with_slash(alloc, folder)?;
+    let mut names = BufReader::new(alloc, rt.open_dir(folder.as_str())?)?;
     let mut entries = Vec::new(alloc);
-    for entry in found {
-        if let Some(entry) = entry_of(alloc, folder, entry)? {
-            entries.push(entry)?;
+    for _ in 0..u64::MAX {
+        match next_name(alloc, &mut names) {
+            Ok(Some(name)) => add_entry(rt, &mut entries, folder.as_str(), name.as_slice())?,
+            Ok(None) => break,
+            Err(error) => {
+                let kind = EntryKind::Unread(unread(&error));
+                let name = folder.into_bytes();
+                entries.push(Entry { name, kind })?;
+                break;
+            }
         }
     }
     Ok(entries)
 }
 
+/// The size of one read of a stream, in bytes.
+const PART: usize = 65_536;
+
+/// Reads a stream to its end, or until a file would be too long. Each read has the whole part: a pipe of packets drops what has no
+/// space.
+fn read_parts<R: Read>(alloc: Global, input: &mut R, part: &mut [u8]) -> IoResult<Vec<u8>> {
+    let mut bytes = Vec::new(alloc);
+    for _ in 0..u64::MAX {
+        match input.read(part) {
+            Ok(0) => break,
+            Ok(count) => bytes.extend_from_slice(&part[..count])?,
+            Err(error) if error.kind() == ErrorKind::Interrupted => {}
+            Err(error) => return Err(error),
+        }
+        if bytes.len() as u64 >= TOO_MANY {
+            break;
+        }
+    }
+    Ok(bytes)
+}
+
+/// Reads a stream, part by part.
+fn read_stream<R: Read>(alloc: Global, input: &mut R) -> IoResult<Vec<u8>> {
+    let mut part = vec![in alloc; 0; PART]?;
+    read_parts(alloc, input, part.as_mut_slice())
+}
+
+/// Reads a file, or a stream that has a name.
+fn read_file(alloc: Global, file: File) -> IoResult<Vec<u8>> {
+    let mut file = file;
+    match file.metadata() {
+        Ok(found) if !found.is_file() => return read_stream(alloc, &mut file),
+        _ => {}
+    }
+    let mut bytes = Vec::new(alloc);
+    make_room(&mut bytes, &file);
+    file.take(TOO_MANY).read_to_end(&mut bytes)?;
+    Ok(bytes)
+}
+
+/// Beginnings of the names of open streams, which are read whatever they are: naming one asks for it.
+const STREAMS: [&str; 3] = ["/dev/stdin", "/dev/fd/", "/proc/"];
+
+/// Returns whether a name is that of a FIFO, a socket or a device, which may never end, or never begin.
+fn is_special(rt: &HostRuntime, name: &str) -> bool {
+    for stream in STREAMS {
+        if name.starts_with(stream) {
+            return false;
+        }
+    }
+    match fs::metadata(rt, name) {
+        Ok(found) => !found.is_file() && !found.is_dir(),
+        Err(_) => false,
+    }
+}
+
 impl<'a> Folder for Disk<'a> {
     fn read(&self, alloc: Global, name: &str) -> Result<Vec<u8>, ReadError> {
-        let file = match fs::open(self.rt, name) {
-            Ok(file) => file,
-            Err(error) => return Err(unread(&error)),
+        if is_special(self.rt, name) {
+            return Err(ReadError::NotRegular);
+        }
+        let read = match fs::open(self.rt, name) {
+            Ok(file) => read_file(alloc, file),
+            Err(error) => Err(error),
         };
-        let mut bytes = Vec::new(alloc);
-        make_room(&mut bytes, &file);
-        match file.take(TOO_MANY).read_to_end(&mut bytes) {
-            Ok(_) => Ok(bytes),
+        match read {
+            Ok(bytes) => Ok(bytes),
             Err(error) => Err(unread(&error)),
         }
     }
 
-    fn entries(&self, alloc: Global, name: &str) -> Result<Option<Vec<Entry>>, ReadError> {
-        match fs::read_dir(self.rt, name) {
-            Ok(found) => match entries_of(alloc, name, found) {
-                Ok(entries) => Ok(Some(entries)),
-                Err(_) => Err(ReadError::Memory),
-            },
+    fn entries(&self, _alloc: Global, name: &str) -> Result<Option<Vec<Entry>>, ReadError> {
+        match entries_of(self.rt, name) {
+            Ok(entries) => Ok(Some(entries)),
             Err(error) if error.kind() == ErrorKind::NotADirectory => Ok(None),
             Err(error) => Err(unread(&error)),
         }
     }
 }
 
-/// Writes what the words get in place of a check, and answers the exit status.
-fn tell<W: Write, E: Write>(out: &mut W, errors: &mut E, unasked: &RequestError) -> u8 {
-    let _ = match unasked {
-        RequestError::Help(text) => write!(out, "{text}"),
-        RequestError::Wrong(text) => write!(errors, "{text}"),
-        RequestError::Memory => writeln!(errors, "out of memory"),
-    };
-    unasked.status()
-}
-
-/// Tells how many files are what, and why not every one has its line, and answers the exit status.
-fn finish<E: Write>(alloc: Global, errors: &mut E, report: CheckReport, is_quiet: bool) -> u8 {
-    let mut counts = String::new(alloc);
-    if !is_quiet && tell_counts(&mut counts, report.counts).is_ok() {
-        let _ = errors.write_all(counts.as_bytes());
+/// Writes the counts, and why not every file has its line, and returns the exit status. It allocates nothing.
+fn finish<E: Write>(errors: &mut E, report: CheckReport, is_quiet: bool) -> u8 {
+    if !is_quiet {
+        let _ = write_counts_line(errors, report.counts);
     }
     let _ = match report.end {
         CheckEnd::AllTold => Ok(()),
@@ -186,19 +258,21 @@ fn check<
     };
     let is_quiet = asked.form.is_quiet;
     let (report, _) = check_all(rt, alloc, disk, asked, list, out, progress);
-    finish(alloc, &mut errors, report, is_quiet)
+    finish(&mut errors, report, is_quiet)
 }
 
 fn main(rt: HostRuntime) -> ExitCode {
     let alloc: Global = rt.alloc();
-    let (mut out, mut errors) = (rt.stdout(), rt.stderr());
+    let (out, mut errors) = (rt.stdout(), rt.stderr());
     let asked = match words_of(&rt, alloc) {
         Ok(words) => asked(alloc, words.as_slice()),
         Err(_) => Err(RequestError::Memory),
     };
     let mut asked = match asked {
         Ok(asked) => asked,
-        Err(unasked) => return ExitCode::from(tell(&mut out, &mut errors, &unasked)),
+        Err(unasked) => {
+            return ExitCode::from(answer(&mut Tally::of(out), &mut errors, &unasked));
+        }
     };
     let progress = if errors.is_terminal() {
         Some(rt.stderr())

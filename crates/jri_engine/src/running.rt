@@ -120,7 +120,7 @@ pub fn program<T: Threads + Wait + Sync, D: Devices, E: Write>(
 {
     let asked = match understood(alloc, devices, words) {
         Ok(asked) => asked,
-        Err(unasked) => return answer(&mut devices.output(), errors, &unasked),
+        Err(unasked) => return answer(&mut Tally::of(devices.output()), errors, &unasked),
     };
     warn_of_name(&asked, errors);
     let ending = done(rt, alloc, devices, &asked, errors);

@@ -8,7 +8,7 @@ ghost use Rattle.jr_base.specs.Tally.{has_failed, known_in};
 ghost use Rattle.jr_head.specs.Heads.{HeadOf};
 ghost use Rattle.jri_file.specs.Files.{IsFaultOf, IsFaultOfInput, IsScanOfFile, OfFile, fault_by};
 
-use crate::reading::{PART, TOO_MANY, cut_on, read_more};
+use crate::reading::{MAX_FIRST, PART, TOO_MANY, cut_on, read_more};
 use crate::report::Fault;
 use crate::scanning::{scan_in_place, share};
 use jr_base::Tally;
@@ -81,13 +81,13 @@ pub fn read_scan<R: Read>(alloc: Global, input: &mut Tally<R>) -> Result<Arc<Sca
     ensures unfailed { result ≢ Err Fault.Read → has_failed input.new ≡ false }
 {
     let mut bytes = Vec::new(alloc);
-    read_more(input, &mut bytes, PART)?;
+    read_more(input, &mut bytes, PART, MAX_FIRST)?;
     if bytes.len() < PART {
         return scan_of_bytes(alloc, bytes);
     }
     if let Ok(head) = read_head(alloc, &bytes) {
         return cut_while_read(alloc, input, head, bytes);
     }
-    read_more(input, &mut bytes, TOO_MANY)?;
+    read_more(input, &mut bytes, TOO_MANY, TOO_MANY)?;
     scan_of_bytes(alloc, bytes)
 }

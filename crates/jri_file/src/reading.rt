@@ -20,6 +20,9 @@ pub(crate) const TOO_MANY: usize = MAX_FILE_BYTES + 1;
 /// How many bytes are asked of the input at once.
 pub(crate) const PART: usize = 65_536;
 
+/// The most bytes that the first reads take: `PART` of them are enough.
+pub(crate) const MAX_FIRST: usize = 2 * PART;
+
 /// Asks the input for some bytes: answers how many there are, none at its end.
 fn read_part<R: Read>(input: &mut Tally<R>, part: &mut [u8]) -> Result<usize, Fault>
     requires { has_failed input.old ≡ false }
@@ -35,24 +38,28 @@ fn read_part<R: Read>(input: &mut Tally<R>, part: &mut [u8]) -> Result<usize, Fa
     }
 }
 
-/// Reads more of the input behind the bytes that are there, to its end or until they are so many. Any error ends it, an
-/// interrupted call too.
+/// Appends more of the input to the bytes, to its end or until there are `enough`, and never more than `limit`. Any error ends it,
+/// an interrupted call too.
+///
+/// A read has space for `PART` bytes while the bytes are as far from `limit`: a pipe of packets drops what has no space.
 pub(crate) fn read_more<R: Read>(
     input: &mut Tally<R>,
     bytes: &mut Vec<u8>,
+    enough: usize,
     limit: usize,
 ) -> Result<(), Fault>
     requires unfailed { has_failed input.old ≡ false }
     requires few { vec_len bytes.old ≤ limit }
+    requires within { enough ≤ limit }
     ensures read { IfOk result (λ _. Consumes (prepend_known bytes.old.items (known_in R.remaining input.old)) (known_in R.remaining input.new) bytes.new.items) }
     ensures few { IfOk result (λ _. vec_len bytes.new ≤ limit) }
-    ensures end { IfOk result (λ _. vec_len bytes.new < limit → IsAtEnd (known_in R.remaining input.new)) }
+    ensures end { IfOk result (λ _. vec_len bytes.new < enough → IsAtEnd (known_in R.remaining input.new)) }
     ensures failed { result ≡ Err Fault.Read → has_failed input.new ≡ true }
     ensures unfailed { result ≢ Err Fault.Read → has_failed input.new ≡ false }
     ensures fault { IfErr result IsUnread }
 {
     let mut part = [0; PART];
-    'parts: while bytes.len() < limit {
+    'parts: while bytes.len() < enough {
         let room = (limit - bytes.len()).min(PART);
         let part = &mut part[..room];
         let count = read_part(input, part)?;

@@ -1,5 +1,5 @@
 -- Names that are taken one after the other.
-use Rattle.std.proofs.Common.{arith, get_or, subst, sym, ap, refl, ◌∙◌, ◌≡◌, ℕ, suc, List, [], ◌∷◌, Option, Some, None, length, map, drop, ◌+◌, ◌<◌, unwrap_or}
+use Rattle.std.proofs.Common.{arith, false, get_or, subst, sym, ap, refl, ◌∙◌, ◌≡◌, ℕ, suc, List, [], ◌∷◌, Option, Some, None, length, map, drop, ◌+◌, ◌<◌, unwrap_or}
 use Rattle.std.specs.Global.{Vec}
 use Rattle.std.proofs.lemmas.List.{get_or-map, length-map}
 use Rattle.std.proofs.lemmas.Option.{none-some}
@@ -38,5 +38,5 @@ next_file (n ∷ ns) name file left next none some =
     (next.0, (f.0, f.1, subst (λ (bytes : List ℕ). IsNamed f.0 bytes) next.1.2 f.2))
 
 pub file_named : (name : Vec ℕ) (error : Option ReadError) → ((e : ReadError) → error ≡ Some e → e ≡ NameIsNoText)
-    → (f : NamedFile) × (Some (record { name = name; error = error }) ≡ Some f) × IsNamed f name.items
-file_named name error is = (record { name = name; error = error }, refl, record { name_is = refl; error = is })
+    → (f : NamedFile) × (Some (record { name = name; error = error; is_skipped = false }) ≡ Some f) × IsNamed f name.items
+file_named name error is = (record { name = name; error = error; is_skipped = false }, refl, record { name_is = refl; error = is; kept = refl })

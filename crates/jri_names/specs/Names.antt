@@ -1,5 +1,5 @@
 -- The names of the files that are to be checked.
-use Rattle.std.specs.Prelude.{◌≡◌, ℕ, List, [], ◌∷◌, drop, map, Option, Some, None}
+use Rattle.std.specs.Prelude.{◌≡◌, ℕ, false, List, [], ◌∷◌, drop, map, Option, Some, None}
 use Rattle.std.specs.Global.{Vec}
 use Rattle.jri_names.specs.declared.names.NamedFile.{NamedFile}
 use Rattle.jri_names.specs.declared.reading.ReadError.{ReadError}
@@ -20,10 +20,11 @@ abbrev pub IsNextGiven : List (List ℕ) → Option (Vec ℕ) → Option (List (
 IsNextGiven [] name left = (name ≡ None) × (left ≡ Some [])
 IsNextGiven (n ∷ ns) name left = (left ≡ Some ns) × ((taken : Vec ℕ) × (name ≡ Some taken) × (taken.items ≡ n))
 
--- a file has that name, and is not opened only where the name is no text
+-- a file has that name, is not opened only where the name is no text, and is not skipped
 pub record IsNamed (file : NamedFile) (name : List ℕ) : Type 0 where
   pub name_is : file.name.items ≡ name
   pub error : (e : ReadError) → file.error ≡ Some e → e ≡ NameIsNoText
+  pub kept : file.is_skipped ≡ false
 
 -- the file of the next of these names, and those that are left
 abbrev pub IsNextFile : List (List ℕ) → Option NamedFile → Option (List (List ℕ)) → Type 0

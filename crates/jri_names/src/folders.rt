@@ -9,17 +9,21 @@ use std::io::Read;
 /// What ends the names of JPEG files in folders.
 const ENDINGS: [&str; 4] = [".jpg", ".jpeg", ".jpe", ".jfif"];
 
-/// Whether the name is that of a JPEG file.
-fn is_jpeg(name: &str) -> bool {
+/// Returns whether the name is that of a JPEG file.
+fn is_jpeg(name: &[u8]) -> bool {
     for ending in ENDINGS {
         let start = name.len().saturating_sub(ending.len());
-        if let Some(end) = name.get(start..)
-            && end.eq_ignore_ascii_case(ending)
-        {
+        if name[start..].eq_ignore_ascii_case(ending.as_bytes()) {
             return true;
         }
     }
     false
+}
+
+/// Returns whether an entry of a directory may be a file of any kind: its name is neither UTF-8 nor that of a JPEG file.
+fn is_unknown(entry: &Entry) -> bool {
+    matches!(entry.kind, EntryKind::Unread(ReadError::NameIsNoText))
+        && !is_jpeg(entry.name.as_slice())
 }
 
 /// Folders that are being gone through.
@@ -37,16 +41,19 @@ impl FolderWalk {
         }
     }
 
-    /// Goes through what stands in a folder next, in the order of names: answers whether it is one.
+    /// Continues with the entries of a directory, in the order of their names. Returns whether it is a directory.
     fn enter<F: Folder>(
         &mut self,
         alloc: Global,
         folder: &F,
-        name: &str,
+        name: &[u8],
     ) -> Result<Result<bool, ReadError>, AllocError> {
-        match folder.entries(alloc, name) {
+        let Ok(text) = str::from_utf8(name) else {
+            return Ok(Err(ReadError::NameIsNoText));
+        };
+        match folder.entries(alloc, text) {
             Ok(Some(mut entries)) => {
-                entries.sort_unstable_by(|a, b| b.name.as_str().cmp(a.name.as_str()));
+                entries.sort_unstable_by(|a, b| b.name.as_slice().cmp(a.name.as_slice()));
                 self.waiting.append(&mut entries)?;
                 Ok(Ok(true))
             }
@@ -65,15 +72,17 @@ impl FolderWalk {
             let Some(entry) = self.waiting.pop() else {
                 return Ok(None);
             };
+            let is_skipped = is_unknown(&entry);
             let entered = match entry.kind {
-                EntryKind::Folder => self.enter(alloc, folder, entry.name.as_str())?,
-                EntryKind::File => Ok(!is_jpeg(entry.name.as_str())),
+                EntryKind::Folder => self.enter(alloc, folder, entry.name.as_slice())?,
+                EntryKind::File => Ok(!is_jpeg(entry.name.as_slice())),
                 EntryKind::Unread(error) => Err(error),
             };
             if entered != Ok(true) {
                 return Ok(Some(NamedFile {
-                    name: entry.name.into_bytes(),
+                    name: entry.name,
                     error: entered.err(),
+                    is_skipped,
                 }));
             }
         }
@@ -94,14 +103,12 @@ impl FolderWalk {
             let Some(name) = given.next(alloc)? else {
                 return Ok(None);
             };
-            let entered = match str::from_utf8(name.as_slice()) {
-                Ok(text) => self.enter(alloc, folder, text)?,
-                Err(_) => Err(ReadError::NameIsNoText),
-            };
+            let entered = self.enter(alloc, folder, name.as_slice())?;
             if entered != Ok(true) {
                 return Ok(Some(NamedFile {
                     name,
                     error: entered.err(),
+                    is_skipped: false,
                 }));
             }
         }

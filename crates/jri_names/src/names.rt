@@ -15,6 +15,8 @@ use std::marker::Model;
 pub struct NamedFile {
     pub name: Vec<u8>,
     pub error: Option<ReadError>,
+    /// It was found in a directory, and its name is neither UTF-8 nor that of a JPEG file: it may be a file of any kind.
+    pub is_skipped: bool,
 }
 
 /// Why there is no further name.
@@ -65,7 +67,11 @@ fn file_of(name: Option<Vec<u8>>) -> Option<NamedFile>
     match name {
         Some(name) => {
             let error = refused_name(name.as_slice());
-            Some(NamedFile { name, error })
+            Some(NamedFile {
+                name,
+                error,
+                is_skipped: false,
+            })
         }
         None => None,
     }

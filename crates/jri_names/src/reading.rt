@@ -13,8 +13,10 @@ pub enum ReadError {
     NotAllowed,
     /// It is a folder.
     Folder,
-    /// Its name is no text: the kit opens files by text alone.
+    /// Its name is not UTF-8: the toolchain opens files by text alone.
     NameIsNoText,
+    /// It is a FIFO, a socket or a device.
+    NotRegular,
     /// The system takes no name of this length.
     NameTooLong,
     /// Anything else.
@@ -31,6 +33,7 @@ impl ReadError {
             ReadError::NotAllowed => "permission denied",
             ReadError::Folder => "a folder",
             ReadError::NameIsNoText => "its name is not UTF-8",
+            ReadError::NotRegular => "not a regular file",
             ReadError::NameTooLong => "its name is too long",
             ReadError::Failed => "reading failed",
             ReadError::Memory => "out of memory",
@@ -50,8 +53,8 @@ pub enum EntryKind {
 /// What stands in a folder.
 #[derive(Drop)]
 pub struct Entry {
-    /// Its name with that of the folder before it.
-    pub name: String,
+    /// Its name after that of its directory, of any bytes.
+    pub name: Vec<u8>,
     pub kind: EntryKind,
 }
 
@@ -70,6 +73,7 @@ pub trait Folder {
         ensures bytes { IfOk result (λ bytes. holds self.now name.now bytes.items) }
         ensures error { IfErr result (fails self.now name.now) };
 
-    /// The files and folders that stand in the folder of that name, in any order, and no links; none where it is no folder.
+    /// Returns the files and directories in the directory of that name, in any order, and no links; `None` if it is not a
+    /// directory. An entry whose name is not UTF-8 is `Unread` for that reason.
     fn entries(&self, alloc: Global, name: &str) -> Result<Option<Vec<Entry>>, ReadError>;
 }

@@ -1,6 +1,7 @@
-//! An input that fails after more bytes than are read at once, 65,536.
+//! Inputs of more bytes than are read at once, 65,536: one that fails, and one of packets.
 
 use crate::decoding::outcome_of;
+use jr_scan::ScanEnd;
 use jr_wall::OpenGate;
 use jri_engine::Fault;
 use std::io::{Error, ErrorKind, Read, Result as IoResult};
@@ -37,6 +38,39 @@ fn tells_an_input_that_fails_behind_its_first_part(rt: HostRuntime) -> Result<()
         let (outcome, output) = outcome_of(&rt, input, output, 1, None, &OpenGate);
         assert!(rt; outcome.err() == Some(Fault::Read), "behind {count} bytes");
         assert!(rt; output.into_inner().is_empty(), "behind {count} bytes");
+    }
+    Ok(())
+}
+
+/// A pipe of packets: a call returns one packet, and drops what of it has no space.
+#[derive(Drop)]
+struct Packets<'a> {
+    rest: &'a [u8],
+    size: usize,
+}
+
+impl Read for Packets<'_> {
+    fn read(&mut self, buf: &mut [u8]) -> IoResult<usize> {
+        let (packet, rest) = self.rest.split_at(self.size.min(self.rest.len()));
+        let count = packet.len().min(buf.len());
+        buf[..count].copy_from_slice(&packet[..count]);
+        self.rest = rest;
+        Ok(count)
+    }
+}
+
+#[test]
+fn loses_nothing_of_packets(rt: HostRuntime) -> Result<(), Fail> {
+    let bytes = file(rt.alloc(), "G 63 70000*FF E")?;
+    for size in [3000, 4096, 65_530, 65_536] {
+        let input = Packets {
+            rest: bytes.as_slice(),
+            size,
+        };
+        let output = Vec::new(rt.alloc());
+        let (outcome, _) = outcome_of(&rt, input, output, 1, None, &OpenGate);
+        let is_whole = outcome.is_ok_and(|report| report.ended == ScanEnd::EndOfImage);
+        assert!(rt; is_whole, "packets of {size} bytes");
     }
     Ok(())
 }

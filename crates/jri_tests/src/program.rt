@@ -320,6 +320,38 @@ fn ends_without_a_line_where_the_reader_has_gone(rt: HostRuntime) -> Result<(), 
     Ok(())
 }
 
+/// Words that ask for a text, why standard output does not take it, the lines and the exit status.
+const TEXTS: [(&str, usize, ErrorKind, &str, u8); 4] = [
+    ("--help", usize::MAX, ErrorKind::StorageFull, "", 0),
+    (
+        "--help",
+        5,
+        ErrorKind::StorageFull,
+        "cannot write to standard output\n",
+        1,
+    ),
+    (
+        "--version",
+        5,
+        ErrorKind::StorageFull,
+        "cannot write to standard output\n",
+        1,
+    ),
+    ("--help", 5, ErrorKind::BrokenPipe, "", 1),
+];
+
+/// Help and the version that cannot be written are no success.
+#[test]
+fn writes_help(rt: HostRuntime) -> Result<(), Fail> {
+    for (line, room, refusal, lines, status) in &TEXTS {
+        let mut machine = machine(rt.alloc())?;
+        machine.room = *room;
+        machine.refusal = *refusal;
+        check_run(&rt, &mut machine, line, Some(lines), *status)?;
+    }
+    Ok(())
+}
+
 /// Words of runs whose standard output is a terminal, their lines and the exit status.
 const ON_TERMINALS: [(&str, &str, u8); 6] = [
     ("sound.jpg", ONTO_TERMINAL, 2),

@@ -1,5 +1,5 @@
 -- Exit statuses of words that ask for no decoding.
-use Rattle.std.specs.Prelude.{ℕ}
+use Rattle.std.specs.Prelude.{ℕ, Bool, if◌then◌else◌}
 use Rattle.jri_words.specs.declared.answers.Unasked.{Unasked}
 use Rattle.jri_words.specs.declared.answers.Unasked.TheVariants.{Help, Wrong, Memory}
 
@@ -7,3 +7,9 @@ abbrev pub unasked_status : Unasked → ℕ
 unasked_status (Help text) = 0
 unasked_status (Wrong text) = 2
 unasked_status Memory = 1
+
+-- the same, where writing the help or the version may have failed
+abbrev pub answer_status : Unasked → Bool → ℕ
+answer_status (Help text) has_failed = if has_failed then 1 else 0
+answer_status (Wrong text) has_failed = 2
+answer_status Memory has_failed = 1

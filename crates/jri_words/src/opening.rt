@@ -2,11 +2,13 @@
 
 ghost use Rattle.std.specs.Prelude.{◌≡◌, ◌≤◌, IfOk};
 ghost use Rattle.jr_base.specs.declared.limits.TheConstants.{MAX_WORKERS};
-ghost use Rattle.jri_words.specs.Status.{unasked_status};
+ghost use Rattle.jr_base.specs.Tally.{has_failed};
+ghost use Rattle.jri_words.specs.Status.{answer_status};
 
 use crate::answers::{Asked, Target, Unasked};
 use crate::asking::asked;
 use crate::devices::{Destination, Devices, Source};
+use jr_base::Tally;
 use std::alloc::Global;
 use std::io::{Error, ErrorKind, Result as IoResult, Write};
 
@@ -113,12 +115,34 @@ pub fn understood<D: Devices>(
     }
 }
 
-/// Writes what the words get in place of a picture, and answers the exit status.
-pub fn answer<W: Write, E: Write>(out: &mut W, errors: &mut E, unasked: &Unasked) -> u8
-    ensures { result ≡ unasked_status unasked.now }
+/// The exit status if the help or the version cannot be written.
+const UNWRITTEN: u8 = 1;
+
+/// Writes the help or the version, and reports that it cannot be written, unless its reader has gone away.
+fn write_text<W: Write, E: Write>(out: &mut Tally<W>, errors: &mut E, text: &str) {
+    let written = match out.write_all(text.as_bytes()) {
+        Ok(()) => out.flush(),
+        Err(error) => Err(error),
+    };
+    if let Err(error) = written
+        && error.kind() != ErrorKind::BrokenPipe
+    {
+        let _ = writeln!(errors, "cannot write to standard output");
+    }
+}
+
+/// Writes what the words get instead of a picture, and returns the exit status. Faults of standard error are ignored.
+pub fn answer<W: Write, E: Write>(out: &mut Tally<W>, errors: &mut E, unasked: &Unasked) -> u8
+    ensures { result ≡ answer_status unasked.now (has_failed out.new) }
 {
     let _ = match unasked {
-        Unasked::Help(text) => write!(out, "{text}"),
+        Unasked::Help(text) => {
+            write_text(out, errors, text.as_str());
+            if out.failed() {
+                return UNWRITTEN;
+            }
+            Ok(())
+        }
         Unasked::Wrong(text) => write!(errors, "{text}"),
         Unasked::Memory => writeln!(errors, "out of memory"),
     };

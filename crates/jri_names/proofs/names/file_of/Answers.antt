@@ -1,4 +1,4 @@
-use Rattle.std.proofs.Common.{subst, ℕ, sym, Option, Some, ◌≡◌}
+use Rattle.std.proofs.Common.{subst, ℕ, false, sym, Option, Some, ◌≡◌}
 use Rattle.std.specs.Global.{Vec}
 use Rattle.std.specs.Prelude.{IfSome}
 use Rattle.jri_names.specs.declared.names.NamedFile.{NamedFile}
@@ -9,4 +9,4 @@ use Rattle.jri_names.proofs.names.file_of.Goals as goal
 pub returns-in-Some-clause-some : goal.returns-in-Some-clause-some
 returns-in-Some-clause-some c =
     let named = file_named c.in-Some.name c.refused_name-error.result c.refused_name-error.ensures in
-    subst (λ (o : Option (Vec ℕ)). IfSome o (λ n. (f : NamedFile) × (Some (record { name = c.in-Some.name; error = c.refused_name-error.result }) ≡ Some f) × IsNamed f n.items)) (sym c.in-Some.is) named
+    subst (λ (o : Option (Vec ℕ)). IfSome o (λ n. (f : NamedFile) × (Some (record { name = c.in-Some.name; error = c.refused_name-error.result; is_skipped = false }) ≡ Some f) × IsNamed f n.items)) (sym c.in-Some.is) named

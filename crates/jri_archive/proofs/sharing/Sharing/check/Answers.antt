@@ -4,7 +4,7 @@ use Rattle.jri_archive.proofs.Claims.{check_of}
 use Rattle.jri_archive.proofs.sharing.Sharing.check.Goals as goal
 
 pub returns-clause-outcome : goal.returns-clause-outcome
-returns-clause-outcome g c opened =
+returns-clause-outcome g c opened kept =
     let name = c.args.file.now.name.items in
     let o = c.checked_file-checked.result.outcome in
     let is = check_of _ (g.F.Folder.holds c.args.self.now) (g.F.Folder.fails c.args.self.now) name c.read-bytes.result o

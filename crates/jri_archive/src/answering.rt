@@ -1,0 +1,43 @@
+//! What the words get instead of a check.
+
+ghost use Rattle.std.specs.Prelude.{◌≡◌};
+ghost use Rattle.jr_base.specs.Tally.{has_failed};
+ghost use Rattle.jri_archive.specs.Status.{answer_status};
+
+use crate::answers::RequestError;
+use jr_base::Tally;
+use std::io::{ErrorKind, Write};
+
+/// The exit status if the help or the version cannot be written.
+const UNWRITTEN: u8 = 4;
+
+/// Writes the help or the version, and reports that it cannot be written, unless its reader has gone away.
+fn write_text<W: Write, E: Write>(out: &mut Tally<W>, errors: &mut E, text: &str) {
+    let written = match out.write_all(text.as_bytes()) {
+        Ok(()) => out.flush(),
+        Err(error) => Err(error),
+    };
+    if let Err(error) = written
+        && error.kind() != ErrorKind::BrokenPipe
+    {
+        let _ = writeln!(errors, "cannot write to standard output");
+    }
+}
+
+/// Writes what the words get instead of a check, and returns the exit status. Faults of standard error are ignored.
+pub fn answer<W: Write, E: Write>(out: &mut Tally<W>, errors: &mut E, unasked: &RequestError) -> u8
+    ensures { result ≡ answer_status unasked.now (has_failed out.new) }
+{
+    let _ = match unasked {
+        RequestError::Help(text) => {
+            write_text(out, errors, text.as_str());
+            if out.failed() {
+                return UNWRITTEN;
+            }
+            Ok(())
+        }
+        RequestError::Wrong(text) => write!(errors, "{text}"),
+        RequestError::Memory => writeln!(errors, "out of memory"),
+    };
+    unasked.status()
+}
