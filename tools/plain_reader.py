@@ -121,7 +121,7 @@ class Head:
         return mcus, len(bits.text) - bits.at < 8
 
 
-MARKER = re.compile(rb"\xff+[^\x00\xff]", re.DOTALL)
+MARKER = re.compile(rb"(?<!\xff)\xff+[^\x00\xff]", re.DOTALL)
 
 
 def segments(data, start, intervals):

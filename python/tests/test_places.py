@@ -103,6 +103,28 @@ def test_damaged_intervals(photo):
         list(jri.damages(b"GIF89a"))
 
 
+class Counted:
+    """A library that counts the calls of jri_damages."""
+
+    def __init__(self, library):
+        self.library, self.calls = library, 0
+
+    def __getattr__(self, name):
+        self.calls += name == "jri_damages"
+        return getattr(self.library, name)
+
+
+def test_many_damaged_intervals_by_few_calls(monkeypatch):
+    data = made(227, 149, ["-grayscale", "-restart", "1B"])
+    cut = data[: len(data) // 3]
+    picture, counted = jri.read(cut), Counted(jri.places.library)
+    monkeypatch.setattr(jri.places, "library", counted)
+    found = list(jri.damages(cut))
+    assert [one.interval for one in found] == [int(k) for k in numpy.flatnonzero(picture.marks == 2)]
+    assert len(found) > 300
+    assert counted.calls <= 3
+
+
 @pytest.mark.parametrize("count", [1, 7, 16, 100, 149, 1000])
 @pytest.mark.parametrize("first", [0, 5, 148])
 def test_lines_in_parts(picture, count, first):
