@@ -45,3 +45,6 @@ returns-clause-picture c =
     (subst (λ (k : ℕ). (marks : List Mark) (f : ℕ → ℕ → ℕ → ℕ) → ShowsFirst s (length s.intervals) marks f → drop (k * line_size h) painted ≡ next_lines_of h f k (h.height - k)) first rest) in
     let long : length painted ≡ length whole.items = c.paint_rest.auto.pixels ∙ ap (λ (l : List ℕ). length l) c.as_mut_slice.ensures.value in
     subst (IsPictureOf s) (sym (with_items_is whole.len whole.items painted whole.ok.0 long)) picture
+
+pub returns-in-Err-clause-refusal : goal.returns-in-Err-clause-refusal
+returns-in-Err-clause-refusal c other bytes seen = c.in-Err.ensures.refusal other bytes (subst (λ (v : ArrivingViewValue). IsSeen v bytes) (sym c.self.view_is) seen).arriving
