@@ -3,9 +3,9 @@
 
     python/make_wheel.py LIBRARY OUT
 
-LIBRARY is a libjri.so.1 for x86-64, OUT a directory. The wheel is for Linux with the C library that LIBRARY needs, and for any
-Python that pyproject.toml allows. Takes pip, setuptools and wheel, and no network. With SOURCE_DATE_EPOCH the same sources give
-the same bytes.
+LIBRARY is a libjri.so.1 for x86-64, OUT a directory. The wheel is for Linux with the C library that LIBRARY needs, and
+for any Python that pyproject.toml allows. Takes pip, setuptools and wheel, and no network. With SOURCE_DATE_EPOCH the
+same sources give the same bytes.
 """
 
 import os

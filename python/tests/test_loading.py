@@ -24,7 +24,8 @@ def read(*names):
 def imported(library, code="import jri"):
     """Runs code in a Python of its own with this JRI_LIBRARY, and returns what it writes to both streams."""
     environment = {**os.environ, "JRI_LIBRARY": str(library)}
-    return subprocess.run([sys.executable, "-c", code], env=environment, stdout=subprocess.PIPE, stderr=subprocess.STDOUT, check=False).stdout.decode()
+    streams = {"stdout": subprocess.PIPE, "stderr": subprocess.STDOUT}
+    return subprocess.run([sys.executable, "-c", code], env=environment, check=False, **streams).stdout.decode()
 
 
 def test_one_version():

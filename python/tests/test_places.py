@@ -98,7 +98,10 @@ def test_streams_have_layouts_and_fill_out(picture, layout, size):
     assert (held == 7).all()
 
 
-@pytest.mark.parametrize("layout, shape", [(None, (149, 227)), (None, (149, 227, 4)), ("bgr", (149, 227, 4)), ("rgbx", (148, 227, 4))])
+@pytest.mark.parametrize(
+    "layout, shape",
+    [(None, (149, 227)), (None, (149, 227, 4)), ("bgr", (149, 227, 4)), ("rgbx", (148, 227, 4))],
+)
 def test_streams_refuse_a_wrong_out(photo, layout, shape):
     stream = jri.Stream(layout=layout, out=numpy.zeros(shape, numpy.uint8))
     assert stream.feed(photo[:100]) == []
@@ -146,7 +149,9 @@ def test_a_stream_refuses_what_no_byte_can_mend(photo):
     start = photo.index(b"\xff\xdb")
     for length in range(photo.index(b"\xff\xda")):
         assert jri.Stream().feed(photo[:length]) == []
-    for data, length in ((b"GIF", 2), (b"\xff\xd8\xff\xc2", 4), (photo[:start] + b"\xff\xc9", start + 2), (photo[:start] + b"\0", start + 1)):
+    files = [(b"GIF", 2), (b"\xff\xd8\xff\xc2", 4)]
+    files += [(photo[:start] + b"\xff\xc9", start + 2), (photo[:start] + b"\0", start + 1)]
+    for data, length in files:
         assert jri.Stream().feed(data[: length - 1]) == []
         with pytest.raises(jri.RefusedError):
             jri.Stream().feed(data[:length])
@@ -203,7 +208,8 @@ def test_a_damaged_index_is_refused(photo):
     saved = saved_index(photo)
     for at in range(len(saved)):
         wrong = saved[:at] + bytes([saved[at] ^ 1]) + saved[at + 1 :]
-        with pytest.raises(ValueError, match="not an index" if at < 8 else "of version" if at < 12 else "the index is damaged"):
+        text = "not an index" if at < 8 else "of version" if at < 12 else "the index is damaged"
+        with pytest.raises(ValueError, match=text):
             jri.load_index(wrong, photo)
     for length in range(len(saved)):
         with pytest.raises(ValueError, match="not an index" if length < 76 else "the index is damaged"):
@@ -215,12 +221,16 @@ def test_a_damaged_index_is_refused(photo):
 def test_an_index_of_another_file_is_refused(photo, tmp_path):
     path = tmp_path / "places"
     path.write_bytes(saved_index(photo))
-    for other in (photo[:-1], photo + b"\0", photo[:-3] + b"\1" + photo[-2:], made(227, 149, ["-sample", "2x2", "-restart", "8B"], 2)):
+    same_shape = made(227, 149, ["-sample", "2x2", "-restart", "8B"], 2)
+    for other in (photo[:-1], photo + b"\0", photo[:-3] + b"\1" + photo[-2:], same_shape):
         with pytest.raises(ValueError, match="places: the index is of another file"):
             jri.load_index(path, other)
 
 
-@pytest.mark.parametrize("at, value", [(12, 228), (16, 150), (20, 1), (24, 1), (28, 8), (76 + 12, 1), (76 + 40 + 12, 0), (76 + 40 + 12, 10)])
+@pytest.mark.parametrize(
+    "at, value",
+    [(12, 228), (16, 150), (20, 1), (24, 1), (28, 8), (76 + 12, 1), (76 + 40 + 12, 0), (76 + 40 + 12, 10)],
+)
 def test_an_index_that_does_not_fit_its_file_is_refused(photo, at, value):
     saved = saved_index(photo)
     forged = saved[:at] + struct.pack("<I", value) + saved[at + 4 : -32]

@@ -7,8 +7,8 @@
 
 Each call releases the interpreter's lock while libjri works, so threads use all processors.
 
-A source that can be written (a bytearray, a numpy array, a writable memoryview or mmap) is copied before libjri reads it.
-What a read-only memoryview or mmap leads to must not change while a call, an iterator or an index uses it.
+A source that can be written (a bytearray, a numpy array, a writable memoryview or mmap) is copied before libjri reads
+it. What a read-only memoryview or mmap leads to must not change while a call, an iterator or an index uses it.
 """
 
 from __future__ import annotations
@@ -17,7 +17,21 @@ import collections
 import mmap
 import os
 from dataclasses import dataclass
-from typing import TYPE_CHECKING, Any, BinaryIO, Deque, Dict, Iterable, Iterator, Literal, NamedTuple, NoReturn, Optional, Tuple, Union
+from typing import (
+    TYPE_CHECKING,
+    Any,
+    BinaryIO,
+    Deque,
+    Dict,
+    Iterable,
+    Iterator,
+    Literal,
+    NamedTuple,
+    NoReturn,
+    Optional,
+    Tuple,
+    Union,
+)
 
 import numpy
 
@@ -69,7 +83,10 @@ _ENDS: Dict[int, Ended] = {1: "EOI", 2: "marker", 3: "out of step", 4: "extra re
 
 
 class RefusedError(ValueError):
-    """A file that jri does not decode: `number`, 1 to 18, and `detail` say why, as in jri.h; `filename` is its name or None."""
+    """A file that jri does not decode: `number`, 1 to 18, and `detail` say why, as in jri.h.
+
+    `filename` is its name or None.
+    """
 
     def __init__(self, number: int, detail: int, filename: Optional[str] = None) -> None:
         super().__init__(_with_name(filename, refusal_text(number, detail)))
@@ -80,14 +97,17 @@ class RefusedError(ValueError):
 
 
 class UnsupportedError(RefusedError):
-    """A file that is refused for what valid JPEG files may have, such as a progressive frame, 12-bit samples or four components.
+    """A file that is refused for what valid JPEG files may have, such as a progressive frame or four components.
 
     Another decoder may read it. Damage to a frame or scan header can have the same refusal.
     """
 
 
 class DamagedError(ValueError):
-    """A file with a damaged interval, if only sound ones are allowed: `picture` is what there is, `filename` its name or None."""
+    """A file with a damaged interval, if only sound ones are allowed.
+
+    `picture` is what there is, `filename` its name or None.
+    """
 
     def __init__(self, picture: "Picture", filename: Optional[str] = None) -> None:
         text = f"{picture.report.damaged} of {picture.report.intervals} intervals are damaged"
@@ -193,11 +213,13 @@ def _view(source: Source) -> memoryview:
 
 def _overlap(view: memoryview, out: Optional[Pixels]) -> bool:
     """Returns whether bytes may share memory with the array that is to be filled, gaps between its lines included."""
-    return isinstance(out, numpy.ndarray) and len(view) > 0 and numpy.may_share_memory(out, numpy.frombuffer(view, numpy.uint8))
+    if not isinstance(out, numpy.ndarray) or len(view) == 0:
+        return False
+    return numpy.may_share_memory(out, numpy.frombuffer(view, numpy.uint8))
 
 
 def _file(source: Source, out: Optional[Pixels] = None) -> _File:
-    """Returns the bytes of a source: a copy if they can be written. Raises ValueError if `out` may share memory with them."""
+    """Returns the bytes of a source, a copy if they can be written. Raises ValueError if `out` may share their memory."""
     view, name = _view(source), _name_of(source)
     if _overlap(view, out):
         raise ValueError(_with_name(name, "out shares memory with the source"))
@@ -212,7 +234,10 @@ def _buffer(array: Pixels) -> Any:
 
 
 def _new(shape: Tuple[int, ...], file: _File) -> Pixels:
-    """Returns an array to decode into: zeros if the file may have changed since its head was read, so that all bytes are set."""
+    """Returns an array to decode into: zeros if the file may have changed since its head was read.
+
+    A changed file may have a smaller image, which does not fill the array.
+    """
     return numpy.empty(shape, numpy.uint8) if file.is_fixed else numpy.zeros(shape, numpy.uint8)
 
 
@@ -225,8 +250,8 @@ def _name_of(source: Source) -> Optional[str]:
 def _is_unsupported(number: int, detail: int) -> bool:
     """Returns whether a valid file may have this refusal (docs/FORMAT.md).
 
-    These are other frames, samples, sizes, components, samplings and scans, tables that are not in the file, and the markers
-    DAC and DHP of arithmetic-coded and hierarchical files.
+    These are other frames, samples, sizes, components, samplings and scans, tables that are not in the file, and the
+    markers DAC and DHP of arithmetic-coded and hierarchical files.
     """
     return number in (5, 10, 11, 12, 13, 14, 15, 17, 18) or (number == 4 and detail in (0xCC, 0xDE))
 
@@ -283,7 +308,7 @@ def _accept(out: Pixels, head: Measure, layout: Optional[Layout]) -> Pixels:
 
 
 def _canvas(pixels: Pixels) -> Tuple[Any, int, int]:
-    """Returns the start of an array whose lines may have gaps between them, its size up to the last line's end, and its stride."""
+    """Returns the start of an array whose lines may have gaps, its size up to the last line's end, and its stride."""
     stride, line = pixels.strides[0], pixels.shape[1] * pixels.shape[2]
     return ffi.cast("uint8_t *", pixels.ctypes.data), (pixels.shape[0] - 1) * stride + line, stride
 
@@ -307,9 +332,9 @@ def read(
 ) -> Picture:
     """Returns the picture, sound or damaged, the marks of its intervals and the report.
 
-    A layout, "rgb", "bgr", "rgbx" or "bgrx", has three bytes a pixel, or four of which the last is 255; grey is spread to
-    three. `out`, if given, is filled. With a layout its lines may have gaps between them. It must not share memory with the
-    source (ValueError).
+    A layout, "rgb", "bgr", "rgbx" or "bgrx", has three bytes a pixel, or four of which the last is 255; grey is spread
+    to three. `out`, if given, is filled. With a layout its lines may have gaps between them. It must not share memory
+    with the source (ValueError).
 
     A source that can be written is copied first. A read-only one must not change during the call.
     """
@@ -333,7 +358,10 @@ def decode(
     allow_damaged: bool = True,
     max_pixels: int = MAX_PIXELS,
 ) -> Pixels:
-    """Returns the picture's pixels; arguments as for `read`. With allow_damaged=False a damaged file raises `DamagedError`."""
+    """Returns the picture's pixels; arguments as for `read`.
+
+    With allow_damaged=False a damaged file raises `DamagedError`.
+    """
     picture = read(source, out=out, layout=layout, max_pixels=max_pixels)
     if picture.report.damaged and not allow_damaged:
         raise DamagedError(picture, _name_of(source))
@@ -341,7 +369,7 @@ def decode(
 
 
 def check(source: Source) -> Health:
-    """Returns whether a file is sound, damaged or refused. Makes no picture. A refusal is a result: `RefusedError` is not raised."""
+    """Returns whether a file is sound, damaged or refused; raises no `RefusedError`. Makes no picture."""
     return _check(_file(source))
 
 
@@ -367,8 +395,8 @@ def check_many(
 ) -> Iterator[Tuple[Path, Union[Health, OSError]]]:
     """Yields each path with the result of its check, or with the error that reading it raised, in their order.
 
-    Checks with `workers` threads, by default one for each processor. Takes paths as they are needed, some ahead for each
-    thread, so millions need no list.
+    Checks with `workers` threads, by default one for each processor. Takes paths as they are needed, some ahead for
+    each thread, so millions need no list.
     """
     import concurrent.futures
 
@@ -387,4 +415,5 @@ def check_many(
             yield first, checked.result()
 
 
-from .places import Damage, Index, Stream, damages, index, lines, load_index  # noqa: E402  (they use what is defined above)
+# These use what is defined above.
+from .places import Damage, Index, Stream, damages, index, lines, load_index  # noqa: E402

@@ -22,7 +22,10 @@ def _path() -> str:
 
 
 def _load(path: str) -> Any:
-    """Loads the library. Its calls release the interpreter's lock. Raises ImportError if it is not libjri of this version."""
+    """Loads the library. Raises ImportError if it is not libjri of this version.
+
+    Its calls release the interpreter's lock.
+    """
     try:
         library = ffi.dlopen(path)
     except OSError as error:

@@ -1,7 +1,7 @@
-"""Pillow's JPEG pictures by libjri: EXIF data, profiles and sizes by Pillow, and the pixels by libjri if it decodes the file.
+"""Pillow's JPEG pictures by libjri: EXIF data, profiles and sizes by Pillow, and the pixels by libjri if it can.
 
-Files whose component identifiers are R, G and B, without a JFIF or Adobe segment, are left to Pillow: libjpeg reads them as RGB,
-and jri as YCbCr (docs/FORMAT.md).
+Files whose component identifiers are R, G and B, without a JFIF or Adobe segment, are left to Pillow: libjpeg reads
+them as RGB, and jri as YCbCr (docs/FORMAT.md).
 """
 
 from __future__ import annotations
@@ -23,7 +23,10 @@ _FRAMES = frozenset(range(0xC0, 0xD0)) - {0xC4, 0xC8, 0xCC}
 
 
 def _segments(data: bytes) -> Iterator[Tuple[int, bytes]]:
-    """Yields the code and the payload of each marker segment before the scan, up to the first bytes that are not a marker."""
+    """Yields the code and the payload of each marker segment before the scan.
+
+    Stops at the first bytes that are not a marker or not a whole segment.
+    """
     at = 2
     while data[at : at + 1] == b"\xff":
         while data[at : at + 1] == b"\xff":
@@ -40,7 +43,10 @@ def _segments(data: bytes) -> Iterator[Tuple[int, bytes]]:
 
 
 def is_rgb_by_identifiers(data: bytes) -> bool:
-    """Returns whether libjpeg reads a file as RGB for its component identifiers alone: R, G and B, and no JFIF or Adobe segment."""
+    """Returns whether libjpeg reads a file as RGB for its component identifiers alone.
+
+    They are R, G and B, and the file has no JFIF or Adobe segment as libjpeg knows them.
+    """
     identifiers = b""
     for code, payload in _segments(data):
         if code == _APP0 and len(payload) >= 14 and payload.startswith(b"JFIF\0"):

@@ -67,7 +67,7 @@ class Part(NamedTuple):
 
 
 def _decoded(file: _File, more: int, place: Any, rows: int, head: Measure, pixels: Pixels) -> Optional[Part]:
-    """Decodes the next rows of MCUs at a position, which moves, into as much of an array as they fill; None if there are none."""
+    """Decodes the next rows of MCUs at a position, which moves, into the first lines of an array; None if there are none."""
     told = ffi.new("struct jri_rows *")
     data = file.data
     status = library.jri_decode_rows(data, len(data), more, place, rows, _buffer(pixels), pixels.nbytes, told)
@@ -90,8 +90,8 @@ def _changed(file: _File) -> ValueError:
 def lines(source: Source, count: int, first: int = 0) -> Iterator[Part]:
     """Yields the image's lines starting at `first`, `count` at a time, each part with the number of its first line.
 
-    Reads the file once, whatever `count` is. A source that can be written is copied first. A read-only one must not change
-    before the last line.
+    Reads the file once, whatever `count` is. A source that can be written is copied first. A read-only one must not
+    change before the last line.
     """
     if count < 1:
         raise ValueError("count must be at least 1")
@@ -142,9 +142,11 @@ class Stream:
     Returns each line once, in order, when the bytes make it final: with small parts, within some rows of MCUs. No line is
     taken back. Copies and keeps the file's bytes.
 
-    `layout` and `out` are as for `jri.read`. `out`, an array of the image's shape, is filled and the parts are views of it; it
-    is refused with ValueError by the call that reads the head. A block of `with` closes the stream at its end, after which
-    `out` is complete; without `out` call `close` in the block for the last lines. If the block raises, the rest is not decoded.
+    `layout` and `out` are as for `jri.read`. `out`, an array of the image's shape, is filled, and the parts are views of
+    it. The call that reads the head raises ValueError for a wrong one.
+
+    A block of `with` closes the stream at its end, after which `out` is complete. Without `out` call `close` in the
+    block for the last lines. If the block raises, the rest is not decoded.
     """
 
     def __init__(
@@ -178,7 +180,10 @@ class Stream:
             self._data = bytearray()
 
     def feed(self, data: Any) -> List[Part]:
-        """Takes more bytes and returns the lines that they make final. Raises `RefusedError` for a fault that no further byte can mend."""
+        """Takes more bytes and returns the lines that they make final.
+
+        Raises `RefusedError` for a fault that no further byte can mend.
+        """
         if self._closed:
             raise ValueError("the stream is closed")
         try:
@@ -204,7 +209,10 @@ class Stream:
 
     @property
     def report(self) -> Optional[Report]:
-        """The report of the closed file, by a check of its bits; None before the stream is closed, or if its block raised."""
+        """The report of the closed file, by a check of its bits.
+
+        None before the stream is closed, or if its block raised.
+        """
         if self._closed and not self._abandoned and self._health is None:
             with ffi.from_buffer("uint8_t[]", self._data) as data:
                 self._health = _check(_File(data, None, True))
@@ -356,26 +364,26 @@ def index(source: Source, rows: int = 8) -> Index:
 def load_index(saved: Source, source: Source) -> Index:
     """Returns the index of a source that `Index.save` wrote; `saved` is a path, an open file or bytes.
 
-    Reads the source once for its SHA-256, and none of its bits. Raises ValueError if the index is damaged, of another version,
-    or of another file.
+    Reads the source once for its SHA-256, and none of its bits. Raises ValueError if the index is damaged, of another
+    version, or of another file.
     """
     written, name, file = bytes(_view(saved)), _name_of(saved), _file(source)
     if len(written) < _INDEX_HEAD.size or not written.startswith(_INDEX_MAGIC):
         _refuse_index(name, "not an index of jri")
-    _, version, width, height, components, intervals, row_lines, count, length, digest = _INDEX_HEAD.unpack_from(written)
+    _, version, *numbers, row_lines, count, length, digest = _INDEX_HEAD.unpack_from(written)
     if version != _INDEX_VERSION:
         _refuse_index(name, f"an index of version {version}, not {_INDEX_VERSION}")
-    numbers, end = written[:-_INDEX_SUM], _INDEX_HEAD.size + count * _INDEX_PLACE.size
-    if hashlib.sha256(numbers).digest() != written[-_INDEX_SUM:] or len(numbers) != end:
+    summed, end = written[:-_INDEX_SUM], _INDEX_HEAD.size + count * _INDEX_PLACE.size
+    if hashlib.sha256(summed).digest() != written[-_INDEX_SUM:] or len(summed) != end:
         _refuse_index(name, "the index is damaged")
     if length != len(file.data) or digest != _sum(file.data):
         _refuse_index(name, "the index is of another file")
     head, places = _measured(file), []
-    for at, bit, row, interval, mcu, p, q, r, state in _INDEX_PLACE.iter_unpack(numbers[_INDEX_HEAD.size :]):
+    for at, bit, row, interval, mcu, p, q, r, state in _INDEX_PLACE.iter_unpack(summed[_INDEX_HEAD.size :]):
         places.append(ffi.new("struct jri_place *", [at, bit, row, interval, mcu, [p, q, r], state]))
     rows = [place.row for place in places]
-    is_whole = head == Measure(width, height, components, intervals) and row_lines == _lines_of_row(file)
-    if not is_whole or rows[:1] != [0] or rows != sorted(set(rows)) or rows[-1] * row_lines >= height:
+    is_whole = head == Measure(*numbers) and row_lines == _lines_of_row(file)
+    if not is_whole or rows[:1] != [0] or rows != sorted(set(rows)) or rows[-1] * row_lines >= head.height:
         _refuse_index(name, "the index is damaged")
     return Index(file, head, row_lines, places)
 
