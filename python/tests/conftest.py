@@ -30,6 +30,15 @@ def by_djpeg(data):
     return numpy.frombuffer(samples, numpy.uint8).reshape(shape)
 
 
+def laid(pixels, layout):
+    """Returns djpeg's pixels in a layout, by numpy."""
+    colours = pixels if pixels.ndim == 3 else numpy.repeat(pixels[:, :, None], 3, axis=2)
+    turned = colours[:, :, ::-1] if layout.startswith("bgr") else colours
+    if len(layout) == 3:
+        return turned
+    return numpy.concatenate([turned, numpy.full(turned.shape[:2] + (1,), 255, numpy.uint8)], axis=2)
+
+
 @pytest.fixture(params=[(size, kind) for size in SIZES for kind in KINDS], ids=lambda it: f"{it[0][0]}x{it[0][1]}{''.join(it[1])}")
 def file(request):
     (width, height), kind = request.param

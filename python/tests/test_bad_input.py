@@ -1,10 +1,12 @@
 """What comes of files that are refused or damaged, and of wrong arguments."""
 
+import mmap
 import pickle
+import subprocess
 
 import numpy
 import pytest
-from conftest import by_djpeg
+from conftest import by_djpeg, made
 
 import jri
 
@@ -25,8 +27,8 @@ def test_shows_a_damaged_file(photo):
 
 
 def test_raises_damaged_where_that_is_asked_for(photo):
-    with pytest.raises(jri.Damaged) as raised:
-        jri.decode(damaged(photo), damaged=False)
+    with pytest.raises(jri.DamagedError) as raised:
+        jri.decode(damaged(photo), allow_damaged=False)
     assert raised.value.picture.report.damaged == 1
     sent = pickle.loads(pickle.dumps(raised.value))
     assert numpy.array_equal(sent.picture.pixels, raised.value.picture.pixels)
@@ -38,10 +40,157 @@ def test_raises_damaged_where_that_is_asked_for(photo):
 )
 def test_refuses_by_number(data, number, detail):
     for call in (jri.measure, jri.decode, lambda source: jri.lines(source, 8)):
-        with pytest.raises(jri.Refused) as raised:
+        with pytest.raises(jri.RefusedError) as raised:
             call(data)
         assert (raised.value.number, raised.value.detail) == (number, detail) and str(raised.value)
         assert str(pickle.loads(pickle.dumps(raised.value))) == str(raised.value)
+
+
+def with_frame(photo, at, value):
+    """The photo with a byte of its frame header changed: 2 is P, 3 and 5 Y and X, 7 Nf, 8 to 10 the first component."""
+    frame = photo.index(b"\xff\xc0") + 2 + at
+    return photo[:frame] + bytes([value]) + photo[frame + 1 :]
+
+
+def by_jpegtran(photo, *words):
+    return subprocess.run(["jpegtran", *words], input=photo, stdout=subprocess.PIPE, check=True).stdout
+
+
+def test_unsupported_files_have_an_error_of_their_own(photo):
+    start = photo.index(b"\xff\xdb")
+    files = {
+        (4, 0xCC): photo[:start] + b"\xff\xcc\x00\x04\x00\x10" + photo[start:],
+        (4, 0xDE): photo[:start] + b"\xff\xde\x00\x0b\x08" + photo[start:],
+        (5, 0xC2): by_jpegtran(photo, "-progressive"),
+        (5, 0xC9): by_jpegtran(photo, "-arithmetic"),
+        (10, 0): with_frame(photo, 2, 12),
+        (11, 0): with_frame(with_frame(photo, 3, 0), 4, 0),
+        (13, 0): with_frame(photo, 7, 4)[:start] + cmyk_frame() + photo[start:],
+        (14, 0): with_frame(photo, 9, 0x33),
+        (17, 0): photo[: photo.index(b"\xff\xc4")] + photo[photo.index(b"\xff\xda") :],
+    }
+    for (number, detail), data in files.items():
+        with pytest.raises(jri.UnsupportedError) as raised:
+            jri.decode(data)
+        assert raised.value.number == number and (detail == 0 or raised.value.detail == detail)
+        sent = pickle.loads(pickle.dumps(raised.value))
+        assert type(sent) is jri.UnsupportedError and (sent.number, str(sent)) == (number, str(raised.value))
+
+
+def cmyk_frame():
+    """A frame header of four components."""
+    return bytes.fromhex("FFC0 0014 08 0008 0008 04" + "011100 021100 031100 041100")
+
+
+@pytest.mark.parametrize("words", [("-progressive",), ()])
+def test_several_scans_are_unsupported(photo, tmp_path, words):
+    script = tmp_path / "scans"
+    script.write_text("0;\n1;\n2;\n")
+    with pytest.raises(jri.UnsupportedError) as raised:
+        jri.decode(by_jpegtran(photo, *words, *([] if words else ["-scans", str(script)])))
+    assert raised.value.number == (5 if words else 15)
+
+
+@pytest.mark.parametrize("data", [b"", b"GIF89a", b"\xff\xd8", b"\xff\xd8\x00\x00", b"\xff\xd8\xff\xc8\x00\x02"])
+def test_broken_files_are_not_unsupported(data):
+    with pytest.raises(jri.RefusedError) as raised:
+        jri.decode(data)
+    assert type(raised.value) is jri.RefusedError
+    assert type(pickle.loads(pickle.dumps(raised.value))) is jri.RefusedError
+
+
+def test_refuses_an_out_that_shares_memory_with_the_source(photo):
+    size = 149 * 227 * 3
+    held = numpy.zeros(size + len(photo), numpy.uint8)
+    held[size:] = numpy.frombuffer(photo, numpy.uint8)
+    apart, over = held[:size].reshape(149, 227, 3), held[1 : size + 1].reshape(149, 227, 3)
+    source, last = held[size:], held[-size:].reshape(149, 227, 3)
+    before = held.copy()
+    for out in (over, last):
+        for of in (source, memoryview(source), memoryview(source).toreadonly()):
+            for call in (jri.read, jri.decode):
+                with pytest.raises(ValueError, match="shares memory"):
+                    call(of, out=out)
+            with pytest.raises(ValueError, match="shares memory"):
+                jri.decode(of, out=out, layout="rgb")
+    assert numpy.array_equal(held, before)
+    assert jri.decode(source, out=apart) is apart and numpy.array_equal(apart, by_djpeg(photo))
+
+
+def test_refuses_a_source_in_the_gaps_of_out(photo):
+    held = numpy.zeros((149, 300, 3), numpy.uint8)
+    gap = held[0, 227:].reshape(-1)
+    with pytest.raises(ValueError, match="shares memory"):
+        jri.decode(memoryview(gap), out=held[:, :227], layout="rgb")
+
+
+class Swapping:
+    """A library whose file becomes another one before a call decodes it."""
+
+    def __init__(self, library, held, other):
+        self.library, self.held, self.other = library, held, other
+
+    def __getattr__(self, name):
+        if name in ("jri_decode", "jri_decode_canvas", "jri_decode_rows"):
+            self.held[:] = self.other + bytes(len(self.held) - len(self.other))
+        return getattr(self.library, name)
+
+
+def sevens(shape, dtype):
+    return numpy.full(shape, 7, dtype)
+
+
+@pytest.fixture
+def swapped(photo, monkeypatch):
+    """A file that becomes a smaller one after its head was read; new arrays have 7 in each byte."""
+    held = bytearray(photo)
+    swapping = Swapping(jri.library, held, made(17, 9, ["-sample", "2x2"]))
+    monkeypatch.setattr(jri, "library", swapping)
+    monkeypatch.setattr(jri.places, "library", swapping)
+    monkeypatch.setattr(numpy, "empty", sevens)
+    return held
+
+
+@pytest.mark.parametrize("layout", [None, "bgrx"])
+def test_a_source_that_can_be_written_is_copied(swapped, photo, layout):
+    expected = jri.decode(bytes(photo), layout=layout)
+    assert swapped != photo
+    swapped[:] = photo
+    assert numpy.array_equal(jri.decode(swapped, layout=layout), expected)
+    swapped[:] = photo
+    places = jri.index(swapped, 1)
+    swapped[:] = photo
+    lines = jri.lines(memoryview(swapped), 149)
+    assert numpy.array_equal(places.lines(20, 100), jri.decode(bytes(photo))[20:120])
+    assert numpy.array_equal(next(lines).pixels, jri.decode(bytes(photo)))
+
+
+@pytest.mark.parametrize("layout", [None, "bgrx"])
+def test_no_byte_of_a_changed_source_is_left_as_memory_was(swapped, photo, layout):
+    pixels = jri.decode(memoryview(swapped).toreadonly(), layout=layout)
+    small = jri.decode(bytes(swapped), layout=layout)
+    if layout is None:
+        pixels, small = pixels.reshape(-1), small.reshape(-1)
+    shown = tuple(slice(size) for size in small.shape)
+    assert numpy.array_equal(pixels[shown], small)
+    pixels[shown] = 0
+    assert not pixels.any()
+    swapped[:] = photo
+    with pytest.raises(ValueError, match="the source has changed"):
+        list(jri.lines(memoryview(swapped).toreadonly(), 8))
+    swapped[:] = photo
+    places = jri.index(memoryview(swapped).toreadonly(), 1)
+    with pytest.raises(ValueError, match="the source has changed"):
+        places.lines(0, 149)
+
+
+def test_takes_a_mapped_file_that_can_be_written(photo, tmp_path):
+    path = tmp_path / "photo.jpg"
+    path.write_bytes(photo)
+    with open(path, "r+b") as file, mmap.mmap(file.fileno(), 0) as mapped:
+        places = jri.index(mapped)
+        mapped[:] = bytes(len(photo))
+        assert numpy.array_equal(places.lines(0, 149), by_djpeg(photo))
 
 
 def test_refuses_more_than_max_pixels(photo):
@@ -123,11 +272,11 @@ def test_refuses_no_workers():
 def test_errors_name_their_file(tmp_path, call):
     path = tmp_path / "text.jpg"
     path.write_bytes(b"text")
-    with pytest.raises(jri.Refused) as raised:
+    with pytest.raises(jri.RefusedError) as raised:
         call(path)
     assert raised.value.filename == str(path) and str(raised.value) == f"{path}: not a JPEG file"
-    with open(path, "rb") as file, pytest.raises(jri.Refused, match="text.jpg: "):
+    with open(path, "rb") as file, pytest.raises(jri.RefusedError, match="text.jpg: "):
         call(file)
-    with pytest.raises(jri.Refused) as raised:
+    with pytest.raises(jri.RefusedError) as raised:
         call(b"text")
     assert raised.value.filename is None and str(raised.value) == "not a JPEG file"

@@ -1,16 +1,7 @@
 import jri
 import numpy
 import pytest
-from conftest import by_djpeg, made
-
-
-def laid(pixels, layout):
-    """The pixels of djpeg in a layout, by numpy."""
-    colours = pixels if pixels.ndim == 3 else numpy.repeat(pixels[:, :, None], 3, axis=2)
-    turned = colours[:, :, ::-1] if layout.startswith("bgr") else colours
-    if len(layout) == 3:
-        return turned
-    return numpy.concatenate([turned, numpy.full(turned.shape[:2] + (1,), 255, numpy.uint8)], axis=2)
+from conftest import by_djpeg, laid
 
 
 @pytest.mark.parametrize("layout", ["rgb", "bgr", "rgbx", "bgrx"])

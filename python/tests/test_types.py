@@ -16,6 +16,13 @@ for first, part in jri.lines(b"", 8):
     reveal_type(first)
 for path, health in jri.check_many(["photo.jpg"]):
     reveal_type(health)
+with jri.Stream(layout="bgr", out=jri.decode("photo.jpg", layout="bgr", allow_damaged=False)) as stream:
+    reveal_type(stream.feed(b"")[0].pixels)
+reveal_type(jri.load_index("photo.places", b"").lines(0, 8))
+try:
+    reveal_type(jri.__version__)
+except jri.UnsupportedError as error:
+    reveal_type(error.number)
 jri.decode(7)
 """
 
@@ -27,7 +34,7 @@ def checked(tmp_path, *words):
 
 
 def test_the_module_has_types_throughout(tmp_path):
-    assert "no issues found in 4 source files" in checked(tmp_path, "jri")
+    assert "no issues found in 6 source files" in checked(tmp_path, "jri")
 
 
 def test_a_caller_sees_them(tmp_path):
@@ -38,4 +45,6 @@ def test_a_caller_sees_them(tmp_path):
     assert "Union[Literal['sound'], Literal['damaged'], Literal['refused']]" in told[1]
     assert '"builtins.int"' in told[2]
     assert "Union[jri.Health, builtins.OSError]" in told[3]
-    assert told[4].startswith('error: Argument 1 to "decode" has incompatible type "int"') and len(told) == 5
+    assert all("numpy.ndarray[Any, numpy.dtype[" in line for line in told[4:6])
+    assert '"builtins.str"' in told[6] and '"builtins.int"' in told[7]
+    assert told[8].startswith('error: Argument 1 to "decode" has incompatible type "int"') and len(told) == 9

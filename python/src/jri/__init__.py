@@ -5,48 +5,72 @@
     stream = jri.Stream()                    # for first, pixels in stream.feed(data): ...
     tile = jri.index(data).lines(4096, 256)
 
-Each call lets go of the interpreter's lock while libjri works, so that threads use all processors.
+Each call releases the interpreter's lock while libjri works, so threads use all processors.
+
+A source that can be written (a bytearray, a numpy array, a writable memoryview or mmap) is copied before libjri reads
+it. What a read-only memoryview or mmap leads to must not change while a call, an iterator or an index uses it.
 """
 
 from __future__ import annotations
 
 import collections
-import concurrent.futures
 import mmap
 import os
 from dataclasses import dataclass
-from typing import Any, BinaryIO, Deque, Dict, Iterable, Iterator, Literal, Optional, Tuple, Union
+from typing import (
+    TYPE_CHECKING,
+    Any,
+    BinaryIO,
+    Deque,
+    Dict,
+    Iterable,
+    Iterator,
+    Literal,
+    NamedTuple,
+    NoReturn,
+    Optional,
+    Tuple,
+    Union,
+)
 
 import numpy
-import numpy.typing
 
-from ._library import CALLS, DAMAGED, LAYOUTS, NO_LINES, NO_MEMORY, NO_ROOM, REFUSED, SOUND, ffi, library, refusal_text
+from ._library import CALLS, DAMAGED, LAYOUTS, NO_LINES, NO_MEMORY, NO_ROOM, REFUSED, SOUND
+from ._loaded import ffi, library, refusal_text
+
+if TYPE_CHECKING:
+    import concurrent.futures
+
+__version__ = "0.1.0"
 
 __all__ = [
     "MAX_PIXELS",
     "Damage",
-    "Damaged",
+    "DamagedError",
     "Health",
     "Index",
     "Measure",
     "Picture",
-    "Refused",
+    "RefusedError",
     "Report",
     "Stream",
+    "UnsupportedError",
     "check",
     "check_many",
     "damages",
     "decode",
     "index",
     "lines",
+    "load_index",
     "measure",
     "read",
     "version",
 ]
 
-Pixels = numpy.typing.NDArray[numpy.uint8]
+# As numpy.typing.NDArray, whose import takes 20 ms.
+Pixels = numpy.ndarray[Any, numpy.dtype[numpy.uint8]]
 Path = Union[str, "os.PathLike[str]"]
-Source = Union[bytes, bytearray, memoryview, mmap.mmap, numpy.typing.NDArray[Any], Path, BinaryIO]
+Source = Union[bytes, bytearray, memoryview, mmap.mmap, numpy.ndarray[Any, numpy.dtype[Any]], Path, BinaryIO]
 Verdict = Literal["sound", "damaged", "refused"]
 Layout = Literal["rgb", "bgr", "rgbx", "bgrx"]
 Ended = Literal["EOI", "marker", "out of step", "extra restart", "end of file"]
@@ -58,27 +82,40 @@ MAX_PIXELS = 1 << 27
 _ENDS: Dict[int, Ended] = {1: "EOI", 2: "marker", 3: "out of step", 4: "extra restart", 5: "end of file"}
 
 
-class Refused(ValueError):
-    """A file that jri does not decode: `number`, 1 to 18, and `detail` say why, as in jri.h; `filename` is its name or None."""
+class RefusedError(ValueError):
+    """A file that jri does not decode: `number`, 1 to 18, and `detail` say why, as in jri.h.
+
+    `filename` is its name or None.
+    """
 
     def __init__(self, number: int, detail: int, filename: Optional[str] = None) -> None:
         super().__init__(_with_name(filename, refusal_text(number, detail)))
         self.number, self.detail, self.filename = number, detail, filename
 
     def __reduce__(self) -> Tuple[Any, ...]:
-        return Refused, (self.number, self.detail, self.filename)
+        return type(self), (self.number, self.detail, self.filename)
 
 
-class Damaged(ValueError):
-    """A file with a damaged interval, if only sound ones are wanted: `picture` is what there is, `filename` its name or None."""
+class UnsupportedError(RefusedError):
+    """A file that is refused for what valid JPEG files may have, such as a progressive frame or four components.
+
+    Another decoder may read it. Damage to a frame or scan header can have the same refusal.
+    """
+
+
+class DamagedError(ValueError):
+    """A file with a damaged interval, if only sound ones are allowed.
+
+    `picture` is what there is, `filename` its name or None.
+    """
 
     def __init__(self, picture: "Picture", filename: Optional[str] = None) -> None:
-        told = f"{picture.report.damaged} of {picture.report.intervals} intervals are damaged"
-        super().__init__(_with_name(filename, told))
+        text = f"{picture.report.damaged} of {picture.report.intervals} intervals are damaged"
+        super().__init__(_with_name(filename, text))
         self.picture, self.filename = picture, filename
 
     def __reduce__(self) -> Tuple[Any, ...]:
-        return Damaged, (self.picture, self.filename)
+        return DamagedError, (self.picture, self.filename)
 
 
 def _with_name(filename: Optional[str], text: str) -> str:
@@ -150,8 +187,18 @@ def version() -> int:
     return CALLS
 
 
-def _bytes(source: Source) -> Any:
-    """A buffer of cffi's over a source's bytes, without a copy where it has some."""
+class _File(NamedTuple):
+    """The bytes of a source, for cffi."""
+
+    data: Any
+    #: the name of a source that is a path or an open file with a name
+    name: Optional[str]
+    #: whether the bytes cannot change between two calls
+    is_fixed: bool
+
+
+def _view(source: Source) -> memoryview:
+    """Returns the bytes of a source, without a copy if it has them in memory."""
     held: Any = source
     if isinstance(source, (str, os.PathLike)):
         with open(source, "rb") as file:
@@ -159,15 +206,39 @@ def _bytes(source: Source) -> Any:
     elif hasattr(source, "read"):
         held = source.read()
     try:
-        view = memoryview(held).cast("B")
+        return memoryview(held).cast("B")
     except (TypeError, ValueError, BufferError):
         raise TypeError(f"expected bytes, a path or an open file, got {type(source).__name__}") from None
-    return ffi.from_buffer("uint8_t[]", view)
 
 
-def _room(array: Pixels) -> Any:
-    """A buffer of cffi's over an array that is written."""
+def _overlap(view: memoryview, out: Optional[Pixels]) -> bool:
+    """Returns whether bytes may share memory with the array that is to be filled, gaps between its lines included."""
+    if not isinstance(out, numpy.ndarray) or len(view) == 0:
+        return False
+    return numpy.may_share_memory(out, numpy.frombuffer(view, numpy.uint8))
+
+
+def _file(source: Source, out: Optional[Pixels] = None) -> _File:
+    """Returns the bytes of a source, a copy if they can be written. Raises ValueError if `out` may share their memory."""
+    view, name = _view(source), _name_of(source)
+    if _overlap(view, out):
+        raise ValueError(_with_name(name, "out shares memory with the source"))
+    if not view.readonly:
+        view = memoryview(bytes(view))
+    return _File(ffi.from_buffer("uint8_t[]", view), name, isinstance(view.obj, bytes))
+
+
+def _buffer(array: Pixels) -> Any:
+    """Returns a buffer of cffi over an array that is written."""
     return ffi.from_buffer("uint8_t[]", array.reshape(-1), require_writable=True)
+
+
+def _new(shape: Tuple[int, ...], file: _File) -> Pixels:
+    """Returns an array to decode into: zeros if the file may have changed since its head was read.
+
+    A changed file may have a smaller image, which does not fill the array.
+    """
+    return numpy.empty(shape, numpy.uint8) if file.is_fixed else numpy.zeros(shape, numpy.uint8)
 
 
 def _name_of(source: Source) -> Optional[str]:
@@ -176,21 +247,30 @@ def _name_of(source: Source) -> Optional[str]:
     return os.fsdecode(name) if isinstance(name, (str, bytes, os.PathLike)) else None
 
 
-def _raise(status: int, number: int, detail: int, name: Optional[str] = None) -> None:
+def _is_unsupported(number: int, detail: int) -> bool:
+    """Returns whether a valid file may have this refusal (docs/FORMAT.md).
+
+    These are other frames, samples, sizes, components, samplings and scans, tables that are not in the file, and the
+    markers DAC and DHP of arithmetic-coded and hierarchical files.
+    """
+    return number in (5, 10, 11, 12, 13, 14, 15, 17, 18) or (number == 4 and detail in (0xCC, 0xDE))
+
+
+def _raise(status: int, number: int, detail: int, name: Optional[str] = None) -> NoReturn:
     """Raises the error for a status without an image, of a file of this name."""
     if status == NO_MEMORY:
         raise MemoryError("out of memory")
     if status == REFUSED:
-        raise Refused(number, detail, name)
+        raise (UnsupportedError if _is_unsupported(number, detail) else RefusedError)(number, detail, name)
     text = {NO_ROOM: "the buffer is too small", NO_LINES: "the image has no such lines"}[status]
     raise ValueError(_with_name(name, text))
 
 
-def _measured(file: Any, name: Optional[str] = None) -> Measure:
+def _measured(file: _File) -> Measure:
     told = ffi.new("struct jri_measure *")
-    status = library.jri_measure(file, len(file), told)
+    status = library.jri_measure(file.data, len(file.data), told)
     if status != SOUND:
-        _raise(status, told.refusal, told.detail, name)
+        _raise(status, told.refusal, told.detail, file.name)
     return Measure(told.width, told.height, told.components, told.intervals)
 
 
@@ -206,61 +286,67 @@ def _reported(told: Any) -> Report:
     return Report(told.intervals, told.sound, told.damaged, _ENDS[told.ended], at)
 
 
-def _array(head: Measure, out: Optional[Pixels]) -> Pixels:
-    """The array that is filled: the caller's, where it is of the picture's shape."""
-    if out is None:
-        return numpy.empty(head.shape, numpy.uint8)
-    if out.shape != head.shape or out.dtype != numpy.uint8 or not (out.flags.c_contiguous and out.flags.writeable):
-        raise ValueError(f"out has to be a contiguous array of uint8 of shape {head.shape} that can be written")
-    return out
-
-
-def _canvas(head: Measure, layout: Layout, out: Optional[Pixels]) -> Pixels:
-    """The array that is filled in a layout: the caller's may have lines that stand apart."""
+def _shape(head: Measure, layout: Optional[Layout]) -> Tuple[int, ...]:
+    """Returns the shape of an image's array in a layout."""
+    if layout is None:
+        return head.shape
     if layout not in LAYOUTS:
         raise ValueError(f"a layout is one of {', '.join(LAYOUTS)}")
-    shape = (head.height, head.width, LAYOUTS[layout][1])
-    if out is None:
-        return numpy.empty(shape, numpy.uint8)
-    is_lines = out.ndim == 3 and out.strides[1:] == (shape[2], 1) and out.strides[0] >= shape[1] * shape[2]
-    if out.shape != shape or out.dtype != numpy.uint8 or not (is_lines and out.flags.writeable):
-        raise ValueError(f"out has to be an array of uint8 of shape {shape}, of lines one behind the other, that can be written")
+    return (head.height, head.width, LAYOUTS[layout][1])
+
+
+def _accept(out: Pixels, head: Measure, layout: Optional[Layout]) -> Pixels:
+    """Returns the caller's array if the image fits it, with gaps between the lines if there is a layout."""
+    shape = _shape(head, layout)
+    if not isinstance(out, numpy.ndarray) or out.shape != shape or out.dtype != numpy.uint8 or not out.flags.writeable:
+        raise ValueError(f"out has to be a writable array of uint8 of shape {shape}")
+    if layout is None and not out.flags.c_contiguous:
+        raise ValueError("out has to be contiguous if there is no layout")
+    if layout is not None and (out.strides[1:] != (shape[2], 1) or out.strides[0] < shape[1] * shape[2]):
+        raise ValueError("out has to be an array whose lines follow one another, each without gaps")
     return out
 
 
-def _decode(file: Any, pixels: Pixels, marks: Pixels, layout: Optional[Layout], told: Any) -> int:
-    """Decodes a file into an array that has its shape."""
-    if layout is None:
-        return int(library.jri_decode(file, len(file), _room(pixels), pixels.nbytes, _room(marks), marks.nbytes, told))
+def _canvas(pixels: Pixels) -> Tuple[Any, int, int]:
+    """Returns the start of an array whose lines may have gaps, its size up to the last line's end, and its stride."""
     stride, line = pixels.strides[0], pixels.shape[1] * pixels.shape[2]
-    room = (pixels.shape[0] - 1) * stride + line
-    canvas = ffi.cast("uint8_t *", pixels.ctypes.data)
+    return ffi.cast("uint8_t *", pixels.ctypes.data), (pixels.shape[0] - 1) * stride + line, stride
+
+
+def _decode(file: _File, pixels: Pixels, marks: Pixels, layout: Optional[Layout], told: Any) -> int:
+    """Decodes a file into an array that has its shape."""
+    data, size = file.data, len(file.data)
+    if layout is None:
+        return int(library.jri_decode(data, size, _buffer(pixels), pixels.nbytes, _buffer(marks), marks.nbytes, told))
     number = LAYOUTS[layout][0]
-    return int(library.jri_decode_canvas(file, len(file), canvas, room, stride, number, _room(marks), marks.nbytes, told))
+    return int(library.jri_decode_canvas(data, size, *_canvas(pixels), number, _buffer(marks), marks.nbytes, told))
 
 
 def measure(source: Source) -> Measure:
     """Returns what the head says; decodes nothing."""
-    return _measured(_bytes(source), _name_of(source))
+    return _measured(_file(source))
 
 
 def read(
     source: Source, *, out: Optional[Pixels] = None, layout: Optional[Layout] = None, max_pixels: int = MAX_PIXELS
 ) -> Picture:
-    """The picture, sound or damaged, the marks of its intervals and the report. `out` is filled where it is given.
+    """Returns the picture, sound or damaged, the marks of its intervals and the report.
 
-    A layout, "rgb", "bgr", "rgbx" or "bgrx", gives each pixel three bytes, or four of which the last is 255, grey spread to
-    three; then the lines of `out` may stand apart.
+    A layout, "rgb", "bgr", "rgbx" or "bgrx", has three bytes a pixel, or four of which the last is 255; grey is spread
+    to three. `out`, if given, is filled. With a layout its lines may have gaps between them. It must not share memory
+    with the source (ValueError).
+
+    A source that can be written is copied first. A read-only one must not change during the call.
     """
-    file, name = _bytes(source), _name_of(source)
-    head = _measured(file, name)
-    _within(head, max_pixels, name)
-    pixels = _array(head, out) if layout is None else _canvas(head, layout, out)
-    marks = numpy.empty(head.intervals, numpy.uint8)
+    file = _file(source, out)
+    head = _measured(file)
+    _within(head, max_pixels, file.name)
+    pixels = _new(_shape(head, layout), file) if out is None else _accept(out, head, layout)
+    marks = numpy.zeros(head.intervals, numpy.uint8)
     told = ffi.new("struct jri_report *")
     status = _decode(file, pixels, marks, layout, told)
     if status not in (SOUND, DAMAGED):
-        _raise(status, told.refusal, told.detail, name)
+        _raise(status, told.refusal, told.detail, file.name)
     return Picture(pixels, marks, _reported(told))
 
 
@@ -269,21 +355,27 @@ def decode(
     *,
     out: Optional[Pixels] = None,
     layout: Optional[Layout] = None,
-    damaged: bool = True,
+    allow_damaged: bool = True,
     max_pixels: int = MAX_PIXELS,
 ) -> Pixels:
-    """The picture's pixels, in a layout as `read` has them. With damaged=False a damaged file raises `Damaged`."""
+    """Returns the picture's pixels; arguments as for `read`.
+
+    With allow_damaged=False a damaged file raises `DamagedError`.
+    """
     picture = read(source, out=out, layout=layout, max_pixels=max_pixels)
-    if picture.report.damaged and not damaged:
-        raise Damaged(picture, _name_of(source))
+    if picture.report.damaged and not allow_damaged:
+        raise DamagedError(picture, _name_of(source))
     return picture.pixels
 
 
 def check(source: Source) -> Health:
-    """Whether a file is sound, damaged or refused. It makes no picture, and a refusal is an answer: it raises no `Refused`."""
-    file = _bytes(source)
+    """Returns whether a file is sound, damaged or refused; raises no `RefusedError`. Makes no picture."""
+    return _check(_file(source))
+
+
+def _check(file: _File) -> Health:
     told = ffi.new("struct jri_report *")
-    status = library.jri_check(file, len(file), ffi.NULL, 0, told)
+    status = library.jri_check(file.data, len(file.data), ffi.NULL, 0, told)
     if status == NO_MEMORY:
         raise MemoryError("out of memory")
     if status == REFUSED:
@@ -301,11 +393,13 @@ def _checked(path: Path) -> Union[Health, OSError]:
 def check_many(
     paths: Iterable[Path], *, workers: Optional[int] = None
 ) -> Iterator[Tuple[Path, Union[Health, OSError]]]:
-    """Each path with what its check comes to, or with the error that reading it raised, in their order.
+    """Yields each path with the result of its check, or with the error that reading it raised, in their order.
 
-    So many threads check at once, one for each processor where nothing is said. Paths are taken as they are needed, some for
-    each thread ahead, so that millions need no list.
+    Checks with `workers` threads, by default one for each processor. Takes paths as they are needed, some ahead for
+    each thread, so millions need no list.
     """
+    import concurrent.futures
+
     threads = workers or os.cpu_count() or 1
     if threads < 1:
         raise ValueError("workers has to be at least 1")
@@ -321,4 +415,5 @@ def check_many(
             yield first, checked.result()
 
 
-from .places import Damage, Index, Stream, damages, index, lines  # noqa: E402  (they use what is defined above)
+# These use what is defined above.
+from .places import Damage, Index, Stream, damages, index, lines, load_index  # noqa: E402

@@ -3,29 +3,59 @@
 from __future__ import annotations
 
 import bisect
-from typing import Any, Iterator, List, NamedTuple, Optional, Tuple
+import hashlib
+import os
+import struct
+from typing import Any, BinaryIO, Iterator, List, NamedTuple, NoReturn, Optional, Tuple, Union
 
 import numpy
 
-from . import MAX_PIXELS, Health, Measure, Pixels, Report, Source, _bytes, _measured, _name_of, _raise, _room, _within, check
-from ._library import ALL, DAMAGED, MORE, NO_LINES, REFUSED, SOUND, ffi, library
+from . import (
+    MAX_PIXELS,
+    Health,
+    Layout,
+    Measure,
+    Path,
+    Pixels,
+    Report,
+    Source,
+    _accept,
+    _buffer,
+    _canvas,
+    _check,
+    _File,
+    _file,
+    _measured,
+    _name_of,
+    _new,
+    _overlap,
+    _raise,
+    _shape,
+    _view,
+    _with_name,
+    _within,
+)
+from ._library import ALL, DAMAGED, LAYOUTS, MORE, NO_LINES, REFUSED, SOUND
+from ._loaded import ffi, library
 
-__all__ = ["Damage", "Index", "Stream", "damages", "index", "lines"]
+__all__ = ["Damage", "Index", "Stream", "damages", "index", "lines", "load_index"]
 
-#: A row of MCUs has at most so many lines.
+#: The maximum number of lines of a row of MCUs.
 _ROW_LINES = 32
 
-#: About so many bytes are decoded by one call.
+#: About the number of bytes that one call decodes.
 _PART_BYTES = 1 << 20
 
 #: A stream fed with small parts looks for new lines when the bytes of about this number of rows have come.
 _ROWS_AHEAD = 2
 
-#: The refusals of bytes that may still become a file: that it ends early, and that it does not begin with SOI.
-_ENDS_EARLY, _NOT_JPEG = 2, 1
-
 #: More rows of MCUs than a picture has.
 _ALL_ROWS = 0xFFFFFFFF
+
+#: A saved index, little-endian: magic, version, width, height, components, intervals, lines of a row of MCUs, number of
+#: positions, the file's length and its SHA-256; then the positions, each as in jri_place; then the SHA-256 of all this.
+_INDEX_HEAD, _INDEX_PLACE = struct.Struct("<8s7IQ32s"), struct.Struct("<Q4I3iI")
+_INDEX_MAGIC, _INDEX_VERSION, _INDEX_SUM = b"\x8bjri-idx", 1, 32
 
 
 class Part(NamedTuple):
@@ -36,56 +66,67 @@ class Part(NamedTuple):
     pixels: Pixels
 
 
-def _decoded(file: Any, more: int, place: Any, rows: int, head: Measure, room: int) -> Optional[Part]:
-    """The next rows of MCUs from a place on, which moves, in an array with room for so many lines; None where there are none."""
-    pixels = numpy.empty((room,) + head.shape[1:], numpy.uint8)
+def _decoded(file: _File, more: int, place: Any, rows: int, head: Measure, pixels: Pixels) -> Optional[Part]:
+    """Decodes the next rows of MCUs at a position, which moves, into the first lines of an array; None if there are none."""
     told = ffi.new("struct jri_rows *")
-    status = library.jri_decode_rows(file, len(file), more, place, rows, _room(pixels), pixels.nbytes, told)
+    data = file.data
+    status = library.jri_decode_rows(data, len(data), more, place, rows, _buffer(pixels), pixels.nbytes, told)
     if status == NO_LINES or (status == SOUND and told.rows == 0):
         return None
     if status != SOUND:
-        _raise(status, told.refusal, told.detail)
+        _raise(status, told.refusal, told.detail, file.name)
     return Part(told.first_line, pixels[: told.lines])
+
+
+def _lines_for(count: int, head: Measure, file: _File) -> Pixels:
+    """Returns an array for `count` lines."""
+    return _new((count,) + head.shape[1:], file)
+
+
+def _changed(file: _File) -> ValueError:
+    return ValueError(_with_name(file.name, "the source has changed"))
 
 
 def lines(source: Source, count: int, first: int = 0) -> Iterator[Part]:
     """Yields the image's lines starting at `first`, `count` at a time, each part with the number of its first line.
 
-    Reads the file once, whatever `count` is.
+    Reads the file once, whatever `count` is. A source that can be written is copied first. A read-only one must not
+    change before the last line.
     """
     if count < 1:
         raise ValueError("count must be at least 1")
-    file, name = _bytes(source), _name_of(source)
-    head = _measured(file, name)
+    file = _file(source)
+    head = _measured(file)
     if not 0 <= first < head.height:
         raise ValueError(f"the image has no line {first}")
     return _parts_of(file, head, first, count)
 
 
-def _parts_of(file: Any, head: Measure, first: int, count: int) -> Iterator[Part]:
+def _parts_of(file: _File, head: Measure, first: int, count: int) -> Iterator[Part]:
     """Yields `count` lines at a time, starting at `first`, from blocks of whole rows of MCUs."""
-    row_lines = _lines_of_row(file, head)
+    row_lines = _lines_of_row(file)
     place = _place_of_row(file, first // row_lines)
-    room = max(count, _PART_BYTES // (head.width * head.components)) + row_lines
-    rest = numpy.empty((0,) + head.shape[1:], numpy.uint8)
+    space = max(count, _PART_BYTES // (head.width * head.components)) + row_lines
+    rest = _lines_for(0, head, file)
     skip = first % row_lines
     while first < head.height:
         wanted = min(count, head.height - first)
         if len(rest) < wanted:
-            block = _decoded(file, ALL, place, _ALL_ROWS, head, room)
-            assert block is not None
+            block = _decoded(file, ALL, place, _ALL_ROWS, head, _lines_for(space, head, file))
+            if block is None or len(rest) + len(block.pixels) - skip < wanted:
+                raise _changed(file)
             rest = numpy.concatenate([rest, block.pixels[skip:]]) if len(rest) else block.pixels[skip:]
             skip = 0
         yield Part(first, rest[:wanted])
         rest, first = rest[wanted:], first + wanted
 
 
-def _place_of_row(file: Any, row: int) -> Any:
+def _place_of_row(file: _File, row: int) -> Any:
     """Returns the position before a row of MCUs."""
     place, told = ffi.new("struct jri_place *"), ffi.new("struct jri_rows *")
-    status = library.jri_skip_rows(file, len(file), ALL, place, row, told) if row else SOUND
+    status = library.jri_skip_rows(file.data, len(file.data), ALL, place, row, told) if row else SOUND
     if status != SOUND:
-        _raise(status, told.refusal, told.detail)
+        _raise(status, told.refusal, told.detail, file.name)
     return place
 
 
@@ -99,28 +140,59 @@ class Stream:
         if stream.damaged: ...
 
     Returns each line once, in order, when the bytes make it final: with small parts, within some rows of MCUs. No line is
-    taken back. Keeps the file's bytes.
+    taken back. Copies and keeps the file's bytes.
+
+    `layout` and `out` are as for `jri.read`. `out`, an array of the image's shape, is filled, and the parts are views of
+    it. The call that reads the head raises ValueError for a wrong one.
+
+    A block of `with` closes the stream at its end, after which `out` is complete. Without `out` call `close` in the
+    block for the last lines. If the block raises, the rest is not decoded.
     """
 
-    def __init__(self, *, max_pixels: int = MAX_PIXELS) -> None:
+    def __init__(
+        self, *, layout: Optional[Layout] = None, out: Optional[Pixels] = None, max_pixels: int = MAX_PIXELS
+    ) -> None:
+        if layout is not None and layout not in LAYOUTS:
+            raise ValueError(f"a layout is one of {', '.join(LAYOUTS)}")
         self._data = bytearray()
+        self._layout, self._out = layout, out
+        # the number of lines that were returned
+        self._lines = 0
         self._place = ffi.new("struct jri_place *")
         self._max_pixels = max_pixels
         self._closed = False
-        # how many bytes there have to be for the next look
+        # whether a block of `with` raised
+        self._abandoned = False
+        # the number of bytes at which the next look is taken
         self._wanted = 0
         self._health: Optional[Health] = None
         #: what the head says, once it has come
         self.head: Optional[Measure] = None
 
+    def __enter__(self) -> "Stream":
+        return self
+
+    def __exit__(self, kind: Any, *_: object) -> None:
+        if kind is None:
+            self.close()
+        elif not self._closed:
+            self._closed = self._abandoned = True
+            self._data = bytearray()
+
     def feed(self, data: Any) -> List[Part]:
-        """Takes more bytes and returns the lines that they make final. Raises `Refused` for a fault that no further byte can mend."""
+        """Takes more bytes and returns the lines that they make final.
+
+        Raises `RefusedError` for a fault that no further byte can mend.
+        """
         if self._closed:
             raise ValueError("the stream is closed")
         try:
-            self._data += memoryview(data).cast("B")
+            view = memoryview(data).cast("B")
         except TypeError:
             raise TypeError(f"expected bytes, got {type(data).__name__}") from None
+        if _overlap(view, self._out):
+            raise ValueError("out shares memory with the source")
+        self._data += view
         if len(self._data) < self._wanted:
             return []
         parts = self._parts(MORE)
@@ -137,9 +209,13 @@ class Stream:
 
     @property
     def report(self) -> Optional[Report]:
-        """The report of the closed file, by a check of its bits; None before the stream is closed."""
-        if self._closed and self._health is None:
-            self._health = check(self._data)
+        """The report of the closed file, by a check of its bits.
+
+        None before the stream is closed, or if its block raised.
+        """
+        if self._closed and not self._abandoned and self._health is None:
+            with ffi.from_buffer("uint8_t[]", self._data) as data:
+                self._health = _check(_File(data, None, True))
         return self._health.report if self._health else None
 
     @property
@@ -158,80 +234,170 @@ class Stream:
         return len(self._data) + _ROWS_AHEAD * at // (row + 1)
 
     def _parts(self, more: int) -> List[Part]:
-        with ffi.from_buffer("uint8_t[]", self._data) as file:
-            head = self.head or self._begun(file, more)
-            if head is None:
-                return []
-            line = head.width * head.components
-            room = max(_ROW_LINES, _PART_BYTES // line)
+        with ffi.from_buffer("uint8_t[]", self._data) as data:
+            file = _File(data, None, True)
+            if self.head is None:
+                self.head = self._begun(file, more)
             parts: List[Part] = []
-            while True:
-                part = _decoded(file, more, self._place, _ALL_ROWS, head, room)
+            while self.head is not None:
+                part = self._next(file, more, self.head)
                 if part is None:
-                    return parts
+                    break
                 parts.append(part)
+                self._lines += len(part.pixels)
+            return parts
 
-    def _begun(self, file: Any, more: int) -> Optional[Measure]:
+    def _begun(self, file: _File, more: int) -> Optional[Measure]:
         """Returns what the head says; None if more bytes are wanted for it."""
+        told = ffi.new("struct jri_rows *")
+        if more == MORE:
+            # With JRI_MORE a refusal is final. One of jri_measure alone then means that more bytes are wanted.
+            status = library.jri_skip_rows(file.data, len(file.data), more, ffi.new("struct jri_place *"), 0, told)
+            if status == REFUSED:
+                _raise(status, told.refusal, told.detail)
         told = ffi.new("struct jri_measure *")
-        status = library.jri_measure(file, len(file), told)
-        is_short = told.refusal == _ENDS_EARLY or (told.refusal == _NOT_JPEG and len(file) < 2)
-        if more == MORE and status == REFUSED and is_short:
+        status = library.jri_measure(file.data, len(file.data), told)
+        if more == MORE and status == REFUSED:
             return None
         if status != SOUND:
             _raise(status, told.refusal, told.detail)
         head = Measure(told.width, told.height, told.components, told.intervals)
         _within(head, self._max_pixels, None)
-        self.head = head
+        if self._out is not None:
+            _accept(self._out, head, self._layout)
         return head
+
+    def _next(self, file: _File, more: int, head: Measure) -> Optional[Part]:
+        """Returns the next lines that are final, in the layout; None if there are none."""
+        if self._out is not None and self._layout is None:
+            pixels = self._out[self._lines :]
+        else:
+            pixels = _lines_for(max(_ROW_LINES, _PART_BYTES // (head.width * head.components)), head, file)
+        part = _decoded(file, more, self._place, _ALL_ROWS, head, pixels)
+        if part is None or self._layout is None:
+            return part
+        first, count = part.first, len(part.pixels)
+        if self._out is not None:
+            laid = self._out[first : first + count]
+        else:
+            laid = _new((count,) + _shape(head, self._layout)[1:], file)
+        _lay_out(part.pixels, head, self._layout, laid)
+        return Part(first, laid)
+
+
+def _lay_out(pixels: Pixels, head: Measure, layout: Layout, laid: Pixels) -> None:
+    """Writes lines in a layout into an array of their own."""
+    status = library.jri_lay_out(
+        _buffer(pixels), pixels.nbytes, head.width, head.components, *_canvas(laid), LAYOUTS[layout][0]
+    )
+    if status != SOUND:
+        _raise(status, 0, 0)
 
 
 class Index:
-    """Places of a file, from which any lines are decoded at their own price; threads may share it."""
+    """Positions of a file, from which any lines are decoded at their own cost; threads may share it."""
 
-    def __init__(self, file: Any, head: Measure, row_lines: int, firsts: List[int], places: List[Any]) -> None:
+    def __init__(self, file: _File, head: Measure, row_lines: int, places: List[Any]) -> None:
         self.head = head
-        self._file, self._row_lines, self._firsts, self._places = file, row_lines, firsts, places
+        self._file, self._row_lines, self._places = file, row_lines, places
+        self._firsts = [place.row * row_lines for place in places]
 
     def lines(self, first: int, count: int) -> Pixels:
-        """`count` lines of the picture from `first` on."""
+        """Returns `count` lines of the picture starting at `first`."""
         if first < 0 or count < 1 or first + count > self.head.height:
             raise ValueError("the image has no such lines")
         at = bisect.bisect_right(self._firsts, first) - 1
         above = first - self._firsts[at]
         rows = -(-(above + count) // self._row_lines)
         place = ffi.new("struct jri_place *", self._places[at][0])
-        part = _decoded(self._file, ALL, place, rows, self.head, rows * self._row_lines)
-        assert part is not None and len(part.pixels) >= above + count
+        pixels = _lines_for(rows * self._row_lines, self.head, self._file)
+        part = _decoded(self._file, ALL, place, rows, self.head, pixels)
+        if part is None or len(part.pixels) < above + count:
+            raise _changed(self._file)
         return part.pixels[above : above + count]
+
+    def save(self, target: Union[Path, BinaryIO]) -> None:
+        """Writes the positions to a path or an open file, for `jri.load_index`: 108 bytes, and 40 for each position.
+
+        They belong to this file alone, and its SHA-256 is written with them.
+        """
+        data = self._to_bytes()
+        if isinstance(target, (str, os.PathLike)):
+            with open(target, "wb") as file:
+                file.write(data)
+        else:
+            target.write(data)
+
+    def _to_bytes(self) -> bytes:
+        head, data = self.head, self._file.data
+        numbers = head.width, head.height, head.components, head.intervals, self._row_lines, len(self._places)
+        parts = [_INDEX_HEAD.pack(_INDEX_MAGIC, _INDEX_VERSION, *numbers, len(data), _sum(data))]
+        for it in self._places:
+            parts.append(_INDEX_PLACE.pack(it.at, it.bit, it.row, it.interval, it.mcu, *it.predictions, it.state))
+        written = b"".join(parts)
+        return written + hashlib.sha256(written).digest()
+
+
+def _sum(data: Any) -> bytes:
+    return hashlib.sha256(ffi.buffer(data)).digest()
 
 
 def index(source: Source, rows: int = 8) -> Index:
-    """An index of a file by one pass that decodes nothing: a place before each so many rows of MCUs."""
+    """Returns an index of a file, a position before every `rows` rows of MCUs, by one pass that decodes nothing.
+
+    A source that can be written is copied first. A read-only one must not change while the index is used.
+    """
     if rows < 1:
         raise ValueError("rows must be at least 1")
-    file, name = _bytes(source), _name_of(source)
-    head = _measured(file, name)
-    firsts, places = [], []
+    file = _file(source)
+    head, row_lines = _measured(file), _lines_of_row(file)
+    places = []
     place, told = ffi.new("struct jri_place *"), ffi.new("struct jri_rows *")
-    line, row_lines = 0, 0
-    while line < head.height:
-        firsts.append(line)
-        places.append(ffi.new("struct jri_place[1]", [place[0]]))
-        status = library.jri_skip_rows(file, len(file), ALL, place, rows, told)
+    while place.row * row_lines < head.height:
+        places.append(ffi.new("struct jri_place *", place[0]))
+        status = library.jri_skip_rows(file.data, len(file.data), ALL, place, rows, told)
         if status != SOUND:
-            _raise(status, told.refusal, told.detail)
-        row_lines = row_lines or _lines_of_row(file, head)
-        line += told.lines
-    return Index(file, head, row_lines, firsts, places)
+            _raise(status, told.refusal, told.detail, file.name)
+    return Index(file, head, row_lines, places)
 
 
-def _lines_of_row(file: Any, head: Measure) -> int:
-    """How many lines the first row of MCUs has."""
+def load_index(saved: Source, source: Source) -> Index:
+    """Returns the index of a source that `Index.save` wrote; `saved` is a path, an open file or bytes.
+
+    Reads the source once for its SHA-256, and none of its bits. Raises ValueError if the index is damaged, of another
+    version, or of another file.
+    """
+    written, name, file = bytes(_view(saved)), _name_of(saved), _file(source)
+    if len(written) < _INDEX_HEAD.size or not written.startswith(_INDEX_MAGIC):
+        _refuse_index(name, "not an index of jri")
+    _, version, *numbers, row_lines, count, length, digest = _INDEX_HEAD.unpack_from(written)
+    if version != _INDEX_VERSION:
+        _refuse_index(name, f"an index of version {version}, not {_INDEX_VERSION}")
+    summed, end = written[:-_INDEX_SUM], _INDEX_HEAD.size + count * _INDEX_PLACE.size
+    if hashlib.sha256(summed).digest() != written[-_INDEX_SUM:] or len(summed) != end:
+        _refuse_index(name, "the index is damaged")
+    if length != len(file.data) or digest != _sum(file.data):
+        _refuse_index(name, "the index is of another file")
+    head, places = _measured(file), []
+    for at, bit, row, interval, mcu, p, q, r, state in _INDEX_PLACE.iter_unpack(summed[_INDEX_HEAD.size :]):
+        places.append(ffi.new("struct jri_place *", [at, bit, row, interval, mcu, [p, q, r], state]))
+    rows = [place.row for place in places]
+    is_whole = head == Measure(*numbers) and row_lines == _lines_of_row(file)
+    if not is_whole or rows[:1] != [0] or rows != sorted(set(rows)) or rows[-1] * row_lines >= head.height:
+        _refuse_index(name, "the index is damaged")
+    return Index(file, head, row_lines, places)
+
+
+def _refuse_index(name: Optional[str], text: str) -> NoReturn:
+    raise ValueError(_with_name(name, text))
+
+
+def _lines_of_row(file: _File) -> int:
+    """Returns the number of lines of the first row of MCUs."""
     told = ffi.new("struct jri_rows *")
-    status = library.jri_skip_rows(file, len(file), ALL, ffi.new("struct jri_place *"), 1, told)
+    status = library.jri_skip_rows(file.data, len(file.data), ALL, ffi.new("struct jri_place *"), 1, told)
     if status != SOUND:
-        _raise(status, told.refusal, told.detail)
+        _raise(status, told.refusal, told.detail, file.name)
     return int(told.lines)
 
 
@@ -241,29 +407,32 @@ class Damage(NamedTuple):
     interval: int
     first_mcu: int
     mcus: int
-    #: how many of its MCUs, from the first on, can be decoded
+    #: the number of its first MCUs that can be decoded
     decodable: int
     #: the first and the last line of the picture that its MCUs cover
     first_line: int
     last_line: int
-    #: its bytes in the file, from the first offset on and before the second; None where it has none
+    #: the offsets of its first byte and after its last byte in the file; None if it has none
     bytes: Optional[Tuple[int, int]]
 
 
 def damages(source: Source) -> Iterator[Damage]:
-    """Yields the damaged intervals of a file, in order. Makes no image."""
-    return _damages(_bytes(source), _name_of(source))
+    """Yields the damaged intervals of a file, in order. Makes no image.
+
+    A source that can be written is copied first. A read-only one must not change before the last interval.
+    """
+    return _damages(_file(source))
 
 
-def _damages(file: Any, name: Optional[str]) -> Iterator[Damage]:
+def _damages(file: _File) -> Iterator[Damage]:
     room, first, told = 64, 0, ffi.new("struct jri_damage_list *")
     while True:
         listed = ffi.new("struct jri_damage[]", room)
-        status = library.jri_damages(file, len(file), first, listed, room, told)
+        status = library.jri_damages(file.data, len(file.data), first, listed, room, told)
         if status == SOUND:
             return
         if status != DAMAGED:
-            _raise(status, told.refusal, told.detail, name)
+            _raise(status, told.refusal, told.detail, file.name)
         for one in listed[0 : told.count]:
             span = (one.start, one.end) if one.start < one.end else None
             yield Damage(

@@ -1,0 +1,85 @@
+"""The library that the module loads, its declarations, and its version."""
+
+import importlib.util
+import os
+import re
+import shutil
+import subprocess
+import sys
+
+import _cffi_backend
+import pytest
+
+import jri
+import jri._loaded
+
+PYTHON = os.path.join(os.path.dirname(os.path.abspath(__file__)), "..")
+
+
+def read(*names):
+    with open(os.path.join(PYTHON, *names), encoding="utf-8") as file:
+        return file.read()
+
+
+def imported(library, code="import jri"):
+    """Runs code in a Python of its own with this JRI_LIBRARY, and returns what it writes to both streams."""
+    environment = {**os.environ, "JRI_LIBRARY": str(library)}
+    streams = {"stdout": subprocess.PIPE, "stderr": subprocess.STDOUT}
+    return subprocess.run([sys.executable, "-c", code], env=environment, check=False, **streams).stdout.decode()
+
+
+def test_one_version():
+    (stated,) = re.findall(r'^version = "(.*)"$', read("pyproject.toml"), re.M)
+    (programs,) = re.findall(r'^ +"(\S+) \(built in', read("..", "crates", "jri_version", "src", "lib.rt"), re.M)
+    assert jri.__version__ == stated == programs == jri._loaded.build_text().split(" ")[1]
+
+
+def test_the_declarations_are_compiled(tmp_path):
+    spec = importlib.util.spec_from_file_location("make_ffi", os.path.join(PYTHON, "make_ffi.py"))
+    maker = importlib.util.module_from_spec(spec)
+    spec.loader.exec_module(maker)
+    maker.make(str(tmp_path / "made"))
+    assert (tmp_path / "made").read_text() == read("src", "jri", "_ffi.py")
+
+
+def test_an_import_parses_nothing():
+    code = "import sys, numpy; before = set(sys.modules); import jri; print(*sorted(set(sys.modules) - before))"
+    loaded = imported(jri._loaded._path(), code).split()
+    assert "jri" in loaded and "_cffi_backend" in loaded
+    assert not {"cffi", "pycparser", "concurrent.futures", "numpy.typing"} & set(loaded)
+
+
+def compiled(tmp_path, code):
+    if shutil.which("cc") is None:
+        pytest.skip("no C compiler")
+    path = tmp_path / "libjri.so.1"
+    subprocess.run(["cc", "-shared", "-fPIC", "-x", "c", "-o", str(path), "-"], input=code.encode(), check=True)
+    return path
+
+
+def test_a_library_that_is_not_there():
+    told = imported("/nowhere/libjri.so.1")
+    assert "ImportError: cannot load /nowhere/libjri.so.1: install the package libjri1" in told
+    assert "tools/install" in told and "JRI_LIBRARY" in told
+
+
+def test_a_library_that_is_another_one():
+    assert "is not libjri: install the package libjri1" in imported(_cffi_backend.__file__)
+
+
+def test_a_library_of_another_version(tmp_path):
+    path = compiled(tmp_path, "unsigned jri_version(void) { return 2; }")
+    assert f"ImportError: {path} has version 2 of the interface, not 3: install" in imported(path)
+
+
+def test_a_library_without_a_call(tmp_path):
+    path = compiled(tmp_path, "unsigned jri_version(void) { return 3; }")
+    told = imported(path)
+    assert f"ImportError: {path} lacks a call: install" in told and "jri_" in told
+
+
+def test_a_library_in_the_modules_directory(tmp_path):
+    shutil.copytree(os.path.join(PYTHON, "src", "jri"), tmp_path / "jri")
+    shutil.copy(jri._loaded._path(), tmp_path / "jri" / "libjri.so.1")
+    code = f"import sys; sys.path.insert(0, {str(tmp_path)!r}); import jri._loaded; print(jri._loaded._path())"
+    assert imported("", code).strip() == str(tmp_path / "jri" / "libjri.so.1")
