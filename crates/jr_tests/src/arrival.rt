@@ -1,27 +1,11 @@
-//! Files that arrive in parts: which lines are given when, and that every continuation shows what was given.
+//! Files that arrive in parts: which lines are returned when, and which refusals.
 
 use jr_arrival::Arriving;
-use jr_head::{Refusal, read_head};
+use jr_head::Refusal;
 use jr_rows::shape_of;
-use jr_scan::{Scan, ScanEnd};
-use jr_stream::paint_scan_lines;
 use std::alloc::Global;
-use std::process::Abort;
 use std::test::Fail;
-use test_files::files::{COLOURED, COLOURED_DAMAGED, MIXED, TEN, file, front, put_parts};
-
-/// The lines of a scan's picture from one on.
-pub(crate) fn lines_from(alloc: Global, scan: &Scan, first: u32) -> Result<Vec<u8>, Fail> {
-    let head = scan.head();
-    let line = shape_of(head).line;
-    let mut pixels = Vec::new(alloc);
-    if first < head.height() {
-        let count = head.height() - first;
-        pixels = vec![in alloc; 0; count as usize * line]?;
-        let _marked = paint_scan_lines(alloc, scan, first, count, pixels.as_mut_slice())?;
-    }
-    Ok(pixels)
-}
+use test_files::files::{file, put_parts};
 
 /// How many bytes a line of the picture has, and how many lines: none where the head has not come.
 fn size_of(arriving: &Arriving) -> Option<(usize, u32)> {
@@ -86,96 +70,6 @@ fn push_and_take(
 fn given_of(alloc: Global, bytes: &[u8]) -> Result<Option<Vec<u8>>, Fail> {
     let mut arriving = Arriving::new(alloc);
     push_and_take(alloc, &mut arriving, bytes)
-}
-
-/// Whether a whole file's picture begins with these lines; where it is refused there are none.
-fn begins_with(alloc: Global, bytes: &[u8], lines: &[u8]) -> Result<bool, Fail> {
-    let Ok(head) = read_head(alloc, bytes) else {
-        return Ok(lines.is_empty());
-    };
-    let scan = Scan::cut(alloc, head, bytes)?;
-    let pixels = lines_from(alloc, &scan, 0)?;
-    Ok(pixels.as_slice().starts_with(lines))
-}
-
-/// What stands behind the bytes so far in some files that they can become.
-const CONTINUATIONS: [&str; 9] = [
-    "",
-    "E",
-    "FF",
-    "00 E",
-    "FF 00 63 E",
-    "FF FF FF D0 63 63",
-    "FF D1 E0 E",
-    "63 63 63 63 63 E",
-    "E0 E0 E0 FF D0 E0",
-];
-
-/// Whether a picture begins with these lines, of a file that goes on so.
-fn goes_on_with(alloc: Global, so_far: &[u8], more: &str, lines: &[u8]) -> Result<bool, Fail> {
-    let mut longer = so_far.to_vec(alloc)?;
-    put_parts(&mut longer, more)?;
-    begins_with(alloc, longer.as_slice(), lines)
-}
-
-/// What is given of a front of a file is shown by each continuation.
-pub(crate) fn check_shown<R: AllocGlobal + Abort>(
-    rt: &R,
-    words: &str,
-    so_far: &[u8],
-    lines: &[u8],
-) -> Result<(), Fail> {
-    let length = so_far.len();
-    for more in &CONTINUATIONS {
-        let is_shown = goes_on_with(rt.alloc(), so_far, more, lines)?;
-        assert!(rt; is_shown, "{words} at {length} and {more}");
-    }
-    Ok(())
-}
-
-/// It is shown by the file too.
-fn check_front<R: AllocGlobal + Abort>(
-    rt: &R,
-    words: &str,
-    whole: &[u8],
-    so_far: &[u8],
-) -> Result<(), Fail> {
-    if let Some(lines) = given_of(rt.alloc(), so_far)? {
-        let is_shown = begins_with(rt.alloc(), whole, lines.as_slice())?;
-        assert!(rt; is_shown, "{words} at {}", so_far.len());
-        check_shown(rt, words, so_far, lines.as_slice())?;
-    }
-    Ok(())
-}
-
-/// What is given of each front of a file is shown by the file, and by each continuation.
-fn check_continuations<R: AllocGlobal + Abort>(rt: &R, words: &str) -> Result<(), Fail> {
-    let whole = file(rt.alloc(), words)?;
-    for length in 0..whole.len() {
-        check_front(rt, words, whole.as_slice(), front(whole.as_slice(), length))?;
-    }
-    Ok(())
-}
-
-/// Files whose fronts go on in each way.
-const GOING_ON: [&str; 8] = [
-    "S Q F:0018:0008 D A I C 63 FF D0 E0 FF D1 63 E",
-    // Of the first interval the second MCU is lost, and so is the one of the interval behind it.
-    "S Q F:0018:0010 D A I:0002 C 61 FF D0 E0 FF D1 63 E",
-    "S Q F:0018:0008 D A C 61 8F 63 E",
-    "S Q F:0010:0018 D A C 61 8F 63 1F FF 00 E",
-    COLOURED,
-    COLOURED_DAMAGED,
-    MIXED,
-    TEN,
-];
-
-#[test]
-fn each_continuation_shows_what_was_given(rt: HostRuntime) -> Result<(), Fail> {
-    for words in &GOING_ON {
-        check_continuations(&rt, words)?;
-    }
-    Ok(())
 }
 
 /// What has come, and how many lines of 8 by 24 pixels are given then. The words 00, 01 and 10 code no, three and eleven extra
@@ -268,36 +162,5 @@ fn refuses_once_no_byte_can_mend_it(rt: HostRuntime) -> Result<(), Fail> {
         let found = refusals_in(rt.alloc(), words)?;
         assert!(rt; found == [*refusal; 2], "{words}");
     }
-    Ok(())
-}
-
-/// How many bytes have come once both are pushed; none for want of memory.
-fn push_both(arriving: &mut Arriving, first: &[u8], second: &[u8]) -> Option<u64> {
-    arriving.push(first).ok()?;
-    arriving.push(second).ok()?;
-    Some(arriving.bytes())
-}
-
-/// How the scan ended of a file that has come; none where it is refused.
-fn end_of(alloc: Global, arriving: Arriving) -> Option<ScanEnd> {
-    match arriving.finish(alloc) {
-        Ok(finished) => Some(finished.scan.ended()),
-        Err(_) => None,
-    }
-}
-
-/// How many bytes have come of a file in two parts, and how its scan ended.
-fn count_and_end(alloc: Global, first: &[u8], second: &[u8]) -> (Option<u64>, Option<ScanEnd>) {
-    let mut arriving = Arriving::new(alloc);
-    let count = push_both(&mut arriving, first, second);
-    (count, end_of(alloc, arriving))
-}
-
-#[test]
-fn tells_how_the_scan_ended(rt: HostRuntime) -> Result<(), Fail> {
-    let first = file(rt.alloc(), "G 63 FF")?;
-    let length = file(rt.alloc(), "G 63 E")?.len() as u64;
-    let found = count_and_end(rt.alloc(), first.as_slice(), &[0xD9]);
-    assert!(rt; found == (Some(length), Some(ScanEnd::EndOfImage)));
     Ok(())
 }

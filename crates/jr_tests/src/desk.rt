@@ -49,24 +49,6 @@ fn hands_out_to_two_seats_in_turn(rt: HostRuntime) -> Result<(), Fail> {
     Ok(())
 }
 
-#[test]
-fn hands_out_nothing_below_0(rt: HostRuntime) -> Result<(), Fail> {
-    let (desk, mut seats) = Desk::open(rt.alloc(), 0, 1)?;
-    let mut seat = seats.remove(0);
-    assert!(rt; claim(&desk, &mut seat) == None);
-    assert!(rt; seat.drawn() == 0);
-    seats.push(seat)?;
-    assert!(rt; desk.gather(seats).total() == 0);
-    Ok(())
-}
-
-#[test]
-fn gathers_seats_that_drew_nothing(rt: HostRuntime) -> Result<(), Fail> {
-    let (desk, seats) = Desk::open(rt.alloc(), 3, 2)?;
-    assert!(rt; desk.gather(seats).total() == 0);
-    Ok(())
-}
-
 /// A seat that has ended, and the list that its thread kept of what it drew; none for want of memory.
 #[derive(Drop)]
 struct Turn {

@@ -13,11 +13,6 @@ pub(crate) fn head_in(alloc: Global, bytes: &[u8]) -> Result<Head, Fail> {
     Ok(read_head(alloc, bytes)?)
 }
 
-/// Why a file is refused.
-fn refusal_of(alloc: Global, bytes: &[u8]) -> Option<Refusal> {
-    read_head(alloc, bytes).err()
-}
-
 /// The texts of the two refusals that no small file has.
 #[test]
 fn refusals_have_numbers_and_texts(rt: HostRuntime) -> Result<(), Fail> {

@@ -1,17 +1,15 @@
-//! Rows of MCUs from places of a file on: one after the other, from an index, of a file that is cut at any byte and goes on, and from
-//! places that no call has given.
+//! Rows of MCUs from positions of a file: one after the other, from an index, and of a file that arrives in parts.
 
 ghost use Rattle.std.specs.Prelude.{◌<◌};
 
-use crate::arrival::{check_shown, lines_from};
 use jr_head::{Head, read_head};
 use jr_places::{FileBytes, RowPlace, decode_rows, lines_before, skip_rows, stands_at};
 use jr_rows::shape_of;
 use jr_scan::Scan;
+use jr_stream::paint_scan_lines;
 use std::alloc::Global;
-use std::process::Abort;
 use std::test::Fail;
-use test_files::files::{COLOURED, COLOURED_DAMAGED, MIXED, TEN, file, front, put_parts};
+use test_files::files::{file, front, put_parts};
 
 /// The top of a picture.
 const TOP: RowPlace = RowPlace {
@@ -121,43 +119,13 @@ fn in_parts(alloc: Global, bytes: &[u8], part: usize) -> Result<Vec<u8>, Fail>
     Ok(shown)
 }
 
-/// The lines that a file's first bytes settle; none where its head has not come.
+/// Returns the lines that a file's first bytes determine; none before its head has arrived.
 fn given_of(alloc: Global, bytes: &[u8]) -> Result<Vec<u8>, Fail> {
     let mut shown = Vec::new(alloc);
     if let Some(head) = head_so_far(alloc, bytes) {
         let _next = give(alloc, &head, so_far(bytes), &TOP, u32::MAX, &mut shown)?;
     }
     Ok(shown)
-}
-
-/// What is given of each front of a file is shown by each continuation.
-fn check_continuations<R: AllocGlobal + Abort>(rt: &R, words: &str) -> Result<(), Fail> {
-    let whole = file(rt.alloc(), words)?;
-    for length in 0..whole.len() {
-        let come = front(whole.as_slice(), length);
-        let lines = given_of(rt.alloc(), come)?;
-        check_shown(rt, words, come, lines.as_slice())?;
-    }
-    Ok(())
-}
-
-/// Files whose fronts go on in each way.
-const GOING_ON: [&str; 7] = [
-    "S Q F:0018:0008 D A I C 63 FF D0 E0 FF D1 63 E",
-    "S Q F:0018:0010 D A I:0002 C 61 FF D0 E0 FF D1 63 E",
-    "S Q F:0010:0018 D A C 61 8F 63 1F FF 00 E",
-    COLOURED,
-    COLOURED_DAMAGED,
-    MIXED,
-    TEN,
-];
-
-#[test]
-fn each_continuation_shows_the_rows_that_were_given(rt: HostRuntime) -> Result<(), Fail> {
-    for words in &GOING_ON {
-        check_continuations(&rt, words)?;
-    }
-    Ok(())
 }
 
 /// What has come of a file of 8 by 24 pixels, and how many lines are settled then: with one interval, where 011000 is a block and so
@@ -247,52 +215,24 @@ fn dense(alloc: Global) -> Result<Vec<u8>, Fail> {
     Ok(bytes)
 }
 
+/// Returns the lines of a scan's image.
+fn lines_of(alloc: Global, scan: &Scan) -> Result<Vec<u8>, Fail> {
+    let shape = shape_of(scan.head());
+    let count = scan.head().height();
+    let mut pixels = vec![in alloc; 0; count as usize * shape.line]?;
+    let _marked = paint_scan_lines(alloc, scan, 0, count, pixels.as_mut_slice())?;
+    Ok(pixels)
+}
+
 /// The data have a window's length twice over, and so the rows are read from several.
 #[test]
 fn gives_rows_of_many_bytes(rt: HostRuntime) -> Result<(), Fail> {
     let alloc = rt.alloc();
     let bytes = dense(alloc)?;
     let scan = Scan::cut(alloc, read_head(alloc, &bytes)?, &bytes)?;
-    let lines = lines_from(alloc, &scan, 0)?;
+    let lines = lines_of(alloc, &scan)?;
     assert!(rt; by_rows(alloc, &bytes, u32::MAX)?.as_slice() == lines.as_slice());
     assert!(rt; by_index(alloc, &bytes)?.as_slice() == lines.as_slice());
     assert!(rt; in_parts(alloc, &bytes, 5000)?.as_slice() == lines.as_slice());
-    Ok(())
-}
-
-/// The place behind ten intervals of one MCU, in one row.
-const END: RowPlace = RowPlace {
-    row: 1,
-    interval: 9,
-    mcu: 1,
-    ..TOP
-};
-
-/// Places that are none of such a picture.
-const OTHERS: [RowPlace; 6] = [
-    RowPlace { row: 1, ..TOP },
-    RowPlace { mcu: 1, ..TOP },
-    RowPlace { interval: 1, ..TOP },
-    RowPlace { row: 2, ..END },
-    RowPlace { mcu: 2, ..END },
-    RowPlace {
-        interval: 10,
-        mcu: 0,
-        ..END
-    },
-];
-
-fn check_places(rt: &impl Abort, head: &Head) {
-    assert!(rt; stands_at(head, &TOP) && stands_at(head, &END));
-    for place in &OTHERS {
-        assert!(rt; !stands_at(head, place), "{place:?}");
-    }
-}
-
-#[test]
-fn knows_no_place_of_another_picture(rt: HostRuntime) -> Result<(), Fail> {
-    let bytes = file(rt.alloc(), TEN)?;
-    let head = read_head(rt.alloc(), bytes.as_slice())?;
-    check_places(&rt, &head);
     Ok(())
 }

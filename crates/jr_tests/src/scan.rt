@@ -2,7 +2,6 @@
 
 mod by_definition;
 mod guesses;
-mod rows;
 
 use jr_scan::{Block, FrontBlocks, Interval};
 use std::alloc::Global;

@@ -1,9 +1,7 @@
 //! What a view shows of a file that is still arriving.
 
-use jr_head::Refusal;
 use jr_view::ArrivingView;
 use std::alloc::Global;
-use std::process::Abort;
 use std::test::Fail;
 use test_files::files::file;
 
@@ -51,40 +49,6 @@ fn shows(alloc: Global, words: &str, lines: u32, size: usize) -> Result<bool, Fa
 fn shows_settled_lines_and_grey_behind(rt: HostRuntime) -> Result<(), Fail> {
     for (words, lines, size) in SHOWN {
         assert!(rt; shows(rt.alloc(), words, lines, size)?, "{words}");
-    }
-    Ok(())
-}
-
-/// Why a new view refuses bytes, and whether it shows nothing of them.
-fn refusal_of(
-    alloc: Global,
-    view: &mut ArrivingView,
-    bytes: &[u8],
-) -> Result<(Option<Refusal>, bool), Fail> {
-    view.push(bytes)?;
-    let refusal = view.show(alloc).err();
-    Ok((refusal, view.lines() == 0 && view.pixels().is_empty()))
-}
-
-/// The same of words.
-fn refusal_in(alloc: Global, words: &str) -> Result<(Option<Refusal>, bool), Fail> {
-    let bytes = file(alloc, words)?;
-    let mut view = ArrivingView::new(alloc);
-    refusal_of(alloc, &mut view, bytes.as_slice())
-}
-
-/// Words that no byte can mend, and why they are refused.
-const REFUSALS: [(&str, Refusal); 3] = [
-    ("FF D9", Refusal::NotJpeg),
-    ("FF D8 FF C2", Refusal::NotBaseline(0xC2)),
-    ("FF D8 FF DB 00 01", Refusal::BadLength(0xDB)),
-];
-
-#[test]
-fn refuses_what_no_byte_can_mend(rt: HostRuntime) -> Result<(), Fail> {
-    for (words, refusal) in &REFUSALS {
-        let found = refusal_in(rt.alloc(), words)?;
-        assert!(rt; found == (Some(*refusal), true), "{words}");
     }
     Ok(())
 }

@@ -18,8 +18,6 @@ mod seen_views;
 #[cfg(test)]
 mod shown;
 #[cfg(test)]
-mod viewers;
-#[cfg(test)]
 mod views;
 #[cfg(test)]
 mod watched;

@@ -9,7 +9,7 @@ use jr_paint::Samples;
 use jr_scan::Scan;
 use jr_wall::{
     Board, Cells, CodedStrip, Decoding, Glimpse, Mark, OpenGate, Piece, Seat, Strip, StripReader,
-    Unposted, decode_all, glance,
+    decode_all, glance,
 };
 use std::alloc::Global;
 use std::sync::{Arc, Mutex, Wait};
@@ -42,19 +42,6 @@ pub(crate) fn next_strip(
 
 pub(crate) fn decoded(alloc: Global, coded: &CodedStrip) -> Result<Strip, Fail> {
     Ok(coded.decode(alloc)?)
-}
-
-/// A piece that a board does not take: its number, whether it is sound, and whether the board calls it foreign.
-type Refused = (u32, bool, bool);
-
-/// Posts a piece. None where the board takes it.
-fn post(board: &mut Board, piece: Arc<Piece>) -> Option<Refused> {
-    let (piece, is_foreign) = match board.post(piece) {
-        Ok(()) => return None,
-        Err(Unposted::Foreign(piece)) => (piece, true),
-        Err(Unposted::AlreadyMarked(piece)) => (piece, false),
-    };
-    Some((piece.number(), piece.is_sound(), is_foreign))
 }
 
 /// The board of a scan's first intervals, or of all, by so many workers.
@@ -111,17 +98,6 @@ pub(crate) fn has_marks(
 ) -> Result<bool, Fail> {
     let marks = marks_of(alloc, scan, board)?;
     Ok(marks.as_str() == letters)
-}
-
-/// Whether a board takes the piece of this number of a scan.
-pub(crate) fn takes(
-    alloc: Global,
-    scan: &Scan,
-    board: &mut Board,
-    number: u32,
-) -> Result<bool, Fail> {
-    let piece = piece(alloc, scan, number)?;
-    Ok(post(board, piece).is_none())
 }
 
 /// What a fresh sight finds in cells: a letter for each, as those of marks, and `?` for a piece of another number.

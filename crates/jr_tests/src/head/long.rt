@@ -1,10 +1,9 @@
-//! Files of thousands of bytes, and of as many segments: each is accepted, or refused for what is wrong with it.
+//! Heads of thousands of bytes, and of as many segments.
 
-use super::{head_in, refusal_of};
+use super::head_in;
 use crate::head::accepted::have_same_books;
-use jr_head::{Head, Refusal};
+use jr_head::Head;
 use std::alloc::Global;
-use std::process::Abort;
 use std::test::Fail;
 use test_files::files::{file, put_parts};
 
@@ -56,55 +55,6 @@ fn accepts_heads_of_many_bytes(rt: HostRuntime) -> Result<(), Fail> {
         let head = head_in(rt.alloc(), bytes.as_slice())?;
         assert!(rt; head.scan_at() == length as u64);
         assert!(rt; (head.width(), head.height()) == (8, 8));
-    }
-    Ok(())
-}
-
-#[test]
-fn accepts_scans_of_many_bytes(rt: HostRuntime) -> Result<(), Fail> {
-    for length in &LENGTHS {
-        let length = *length;
-        let mut bytes = file(rt.alloc(), "S Q F D A C")?;
-        for _ in bytes.len()..length {
-            bytes.push(0)?;
-        }
-        assert!(rt; bytes.len() == length);
-        let head = head_in(rt.alloc(), bytes.as_slice())?;
-        assert!(rt; head.scan_at() == 140);
-    }
-    Ok(())
-}
-
-/// Files of each length are refused so.
-fn check_refused(
-    rt: &impl Abort,
-    alloc: Global,
-    words: &str,
-    last: &str,
-    refusal: Refusal,
-) -> Result<(), Fail> {
-    for length in &LENGTHS {
-        let length = *length;
-        let bytes = file_of_length(alloc, words, last, length)?;
-        assert!(rt; bytes.len() == length);
-        let found = refusal_of(alloc, bytes.as_slice());
-        assert!(rt; found == Some(refusal), "{length} bytes: {found:?}");
-    }
-    Ok(())
-}
-
-/// The first parts of files, their last ones, and why they are refused.
-const BEHIND: [(&str, &str, Refusal); 4] = [
-    ("S Q F D", "C", Refusal::MissingTable),
-    ("S Q D A", "C", Refusal::NoFrame),
-    ("S Q F D A", "", Refusal::EndsEarly),
-    ("S Q F D A", "E", Refusal::UnexpectedMarker(0xD9)),
-];
-
-#[test]
-fn refuses_what_stands_behind_many_bytes(rt: HostRuntime) -> Result<(), Fail> {
-    for (words, last, refusal) in &BEHIND {
-        check_refused(&rt, rt.alloc(), words, last, *refusal)?;
     }
     Ok(())
 }
