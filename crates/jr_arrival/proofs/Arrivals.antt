@@ -11,7 +11,7 @@ use Rattle.jr_scan.specs.GrowingScan.{HasCome}
 use Rattle.jr_scan.specs.ScanValue.{ScanValue}
 use Rattle.jr_settled.proofs.LinesOfPictures.{of_picture}
 use Rattle.jr_arrival.specs.Growing.{HasScan}
-use Rattle.jr_arrival.specs.Arriving.{ComingValue, GivesComing, HasBegun, Holds, given_of}
+use Rattle.jr_arrival.specs.Arriving.{ComingValue, GivesComing, HasBegun, HoldsBytes, given_of}
 use Rattle.jr_arrival.specs.Coming.{AreComing}
 use Rattle.jr_arrival.specs.Settled.{AreFinal, GivesNext, WantsMore}
 use Rattle.jr_arrival.proofs.HeadsStay.{head_stays}
@@ -47,7 +47,7 @@ given_next c bytes first n pixels begun given =
     })
 
 -- what holds where the scan has not begun
-pub none_kept : (kept : List ℕ) (o : Option ComingValue) (bytes : List ℕ) → is_some o ≡ false → Holds kept o bytes → kept ≡ bytes
+pub none_kept : (kept : List ℕ) (o : Option ComingValue) (bytes : List ℕ) → is_some o ≡ false → HoldsBytes kept o bytes → kept ≡ bytes
 none_kept kept None bytes e h = h
 none_kept kept (Some c) bytes e h = absurd (let z : true ≡ false = e in cc)
 
@@ -56,7 +56,7 @@ none_given None e = refl
 none_given (Some c) e = absurd (let z : true ≡ false = e in cc)
 
 -- a look at a file, by whether its scan has begun
-pub look_given : (kept bytes : List ℕ) (o : Option ComingValue) (n : ℕ) (pixels : List ℕ) → Holds kept o bytes → (o ≡ None → n ≡ 0) → (o ≡ None → WantsMore bytes) → IfSome o (λ c. GivesComing c (given_of o) n pixels) → GivesNext bytes (given_of o) n pixels
+pub look_given : (kept bytes : List ℕ) (o : Option ComingValue) (n : ℕ) (pixels : List ℕ) → HoldsBytes kept o bytes → (o ≡ None → n ≡ 0) → (o ≡ None → WantsMore bytes) → IfSome o (λ c. GivesComing c (given_of o) n pixels) → GivesNext bytes (given_of o) n pixels
 look_given kept bytes None n pixels holds none wants given = inl (none refl, wants refl)
 look_given kept bytes (Some c) n pixels holds none wants given = given_next c bytes c.row.lines n pixels holds given
 

@@ -24,14 +24,14 @@ pub record ArrivingValue : Type 0 where
   pub coming : Option ComingValue
   pub count : ℕ
 
-abbrev pub Holds : List ℕ → Option ComingValue → List ℕ → Type 0
-Holds kept None bytes = kept ≡ bytes
-Holds kept (Some c) bytes = HasBegun c bytes
+abbrev pub HoldsBytes : List ℕ → Option ComingValue → List ℕ → Type 0
+HoldsBytes kept None bytes = kept ≡ bytes
+HoldsBytes kept (Some c) bytes = HasBegun c bytes
 
 -- these bytes of the file have come
 pub record IsArriving (v : ArrivingValue) (bytes : List ℕ) : Type 0 where
   pub count : v.count ≡ min (length bytes) (2 ^ 64 - 1)
-  pub holds : length bytes ≤ MAX_FILE_BYTES → Holds v.bytes v.coming bytes
+  pub holds : length bytes ≤ MAX_FILE_BYTES → HoldsBytes v.bytes v.coming bytes
 
 -- how many lines are given
 abbrev pub given_of : Option ComingValue → ℕ

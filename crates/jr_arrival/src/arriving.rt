@@ -6,7 +6,7 @@ ghost use Rattle.jr_head.specs.Heads.{HeadOf, RefusalOf};
 ghost use Rattle.jr_segments.specs.declared.refusal.Refusal.TheVariants as refusal;
 ghost use Rattle.jr_stream.specs.Stream.{HasCounts};
 ghost use Rattle.jr_arrival.specs.Arrival.{IsFinalFault};
-ghost use Rattle.jr_arrival.specs.Arriving.{GivesComing, HasBegun, Holds, IsArriving, given_of};
+ghost use Rattle.jr_arrival.specs.Arriving.{GivesComing, HasBegun, HoldsBytes, IsArriving, given_of};
 ghost use Rattle.jr_arrival.specs.Growing.{HasScan};
 ghost use Rattle.jr_arrival.specs.Settled.{GivesNext, WantsMore};
 
@@ -48,7 +48,7 @@ impl Model for Arriving {
 /// More bytes have come, and are put behind those that are kept or cut.
 fn hold(head: &mut ArrivingHead, coming: &mut Option<Coming>, more: &[u8]) -> Result<(), Memory>
     requires few { IfSome coming.old (λ c. c.bytes + length more.now ≤ MAX_FILE_BYTES) }
-    ensures held { IfOk result (λ _. (so_far : List ℕ) → length (so_far ++ more.now) ≤ MAX_FILE_BYTES → Holds head.old coming.old so_far → Holds head.new coming.new (so_far ++ more.now)) }
+    ensures held { IfOk result (λ _. (so_far : List ℕ) → length (so_far ++ more.now) ≤ MAX_FILE_BYTES → HoldsBytes head.old coming.old so_far → HoldsBytes head.new coming.new (so_far ++ more.now)) }
     ensures lines { given_of coming.new ≡ given_of coming.old }
     ensures count { (n : ℕ) → IfSome coming.old (λ c. c.bytes ≤ n) → IfSome coming.new (λ c. c.bytes ≤ n + length more.now) }
     ensures long { length head.new ≤ length head.old + length more.now }
@@ -66,7 +66,7 @@ fn hold(head: &mut ArrivingHead, coming: &mut Option<Coming>, more: &[u8]) -> Re
 fn give(coming: &mut Option<Coming>, pixels: &mut [u8]) -> u32
     ensures lines { given_of coming.new ≡ given_of coming.old + result }
     ensures bytes { (n : ℕ) → IfSome coming.old (λ c. c.bytes ≤ n) → IfSome coming.new (λ c. c.bytes ≤ n) }
-    ensures holds { (kept so_far : List ℕ) → Holds kept coming.old so_far → Holds kept coming.new so_far }
+    ensures holds { (kept so_far : List ℕ) → HoldsBytes kept coming.old so_far → HoldsBytes kept coming.new so_far }
     ensures none { coming.old ≡ None → result ≡ 0 }
     ensures given { IfSome coming.old (λ c. GivesComing c (given_of coming.old) result pixels.new) }
 {
@@ -79,8 +79,8 @@ fn give(coming: &mut Option<Coming>, pixels: &mut [u8]) -> u32
 /// The scan of a file of which all bytes have come: the one that has begun, or else that of the bytes that are kept, which it copies.
 fn begun(alloc: Global, kept: &[u8], coming: Option<Coming>) -> Result<Coming, Refusal>
     requires { length kept.now ≤ MAX_FILE_BYTES }
-    ensures begun { IfOk result (λ c. (bytes : List ℕ) → Holds kept.now coming bytes → HasBegun c bytes) }
-    ensures refusal { IfErr result (λ f. f ≢ refusal.Memory → (bytes : List ℕ) → Holds kept.now coming bytes → RefusalOf bytes f) }
+    ensures begun { IfOk result (λ c. (bytes : List ℕ) → HoldsBytes kept.now coming bytes → HasBegun c bytes) }
+    ensures refusal { IfErr result (λ f. f ≢ refusal.Memory → (bytes : List ℕ) → HoldsBytes kept.now coming bytes → RefusalOf bytes f) }
 {
     if let Some(coming) = coming {
         return Ok(coming);

@@ -7,7 +7,7 @@ use denote.Signed.{SInt}
 use Rattle.std.proofs.Math.IntN.{◌*ℤ◌}
 use Rattle.std.proofs.lemmas.Int.{ints}
 use Rattle.std.specs.Simd.Lanes.{zip2, pick_l}
-use Rattle.jr_idct.specs.Lanes.{half_lane, words}
+use Rattle.jr_idct.specs.Lanes.{half_lane, word_lanes}
 use Rattle.jr_idct.specs.Matrix.{at, IsWithin}
 use Rattle.jr_idct.proofs.Holds.{Holds, holds_given, holds_wide, holds_add, holds_mul}
 use Rattle.jr_idct.proofs.Passes.{below_eight}
@@ -29,13 +29,13 @@ module _ (a b : List ℤ) (vs us : List Val) (g : shadow (in_array ℤ (SInt w16
   lane_of : (k : ℕ) → at (a ++ b) k ≡ joined 16 (at a) (at b) k
   lane_of = at_joined w16 16 16 a b vs us g h
 
-  pub words_first : (u : Bool) (j : ℕ) → j < 8 → at (pick_l (pos 0) (a ++ b) (words u)) (2 * j) ≡ at a (half_lane u j)
-  words_first true = below_eight (λ j. at (pick_l (pos 0) (a ++ b) (words true)) (2 * j) ≡ at a (half_lane true j)) (lane_of 4) (lane_of 5) (lane_of 6) (lane_of 7) (lane_of 12) (lane_of 13) (lane_of 14) (lane_of 15)
-  words_first false = below_eight (λ j. at (pick_l (pos 0) (a ++ b) (words false)) (2 * j) ≡ at a (half_lane false j)) (lane_of 0) (lane_of 1) (lane_of 2) (lane_of 3) (lane_of 8) (lane_of 9) (lane_of 10) (lane_of 11)
+  pub words_first : (u : Bool) (j : ℕ) → j < 8 → at (pick_l (pos 0) (a ++ b) (word_lanes u)) (2 * j) ≡ at a (half_lane u j)
+  words_first true = below_eight (λ j. at (pick_l (pos 0) (a ++ b) (word_lanes true)) (2 * j) ≡ at a (half_lane true j)) (lane_of 4) (lane_of 5) (lane_of 6) (lane_of 7) (lane_of 12) (lane_of 13) (lane_of 14) (lane_of 15)
+  words_first false = below_eight (λ j. at (pick_l (pos 0) (a ++ b) (word_lanes false)) (2 * j) ≡ at a (half_lane false j)) (lane_of 0) (lane_of 1) (lane_of 2) (lane_of 3) (lane_of 8) (lane_of 9) (lane_of 10) (lane_of 11)
 
-  pub words_second : (u : Bool) (j : ℕ) → j < 8 → at (pick_l (pos 0) (a ++ b) (words u)) (2 * j + 1) ≡ at b (half_lane u j)
-  words_second true = below_eight (λ j. at (pick_l (pos 0) (a ++ b) (words true)) (2 * j + 1) ≡ at b (half_lane true j)) (lane_of 20) (lane_of 21) (lane_of 22) (lane_of 23) (lane_of 28) (lane_of 29) (lane_of 30) (lane_of 31)
-  words_second false = below_eight (λ j. at (pick_l (pos 0) (a ++ b) (words false)) (2 * j + 1) ≡ at b (half_lane false j)) (lane_of 16) (lane_of 17) (lane_of 18) (lane_of 19) (lane_of 24) (lane_of 25) (lane_of 26) (lane_of 27)
+  pub words_second : (u : Bool) (j : ℕ) → j < 8 → at (pick_l (pos 0) (a ++ b) (word_lanes u)) (2 * j + 1) ≡ at b (half_lane u j)
+  words_second true = below_eight (λ j. at (pick_l (pos 0) (a ++ b) (word_lanes true)) (2 * j + 1) ≡ at b (half_lane true j)) (lane_of 20) (lane_of 21) (lane_of 22) (lane_of 23) (lane_of 28) (lane_of 29) (lane_of 30) (lane_of 31)
+  words_second false = below_eight (λ j. at (pick_l (pos 0) (a ++ b) (word_lanes false)) (2 * j + 1) ≡ at b (half_lane false j)) (lane_of 16) (lane_of 17) (lane_of 18) (lane_of 19) (lane_of 24) (lane_of 25) (lane_of 26) (lane_of 27)
 
 -- the constants by turns
 abbrev turns : ℤ → ℤ → ℕ → ℤ

@@ -3,7 +3,7 @@ use Rattle.std.proofs.Common.{◌≡◌, ℕ, ◌+◌, ◌*◌, ◌/◌, ◌%◌
 use Rattle.std.specs.List.{range_with_len}
 use Rattle.std.specs.Simd.Lanes.{pick_l}
 use Rattle.std.proofs.lemmas.Simd.{pick_l_whole}
-use Rattle.jr_idct.specs.Lanes.{doubles, lane, quads, words}
+use Rattle.jr_idct.specs.Lanes.{doubles, lane, quads, word_lanes}
 use Rattle.jr_idct.proofs.PairSums.{below_sixteen}
 use Rattle.jr_idct.proofs.Passes.{below_eight}
 
@@ -12,14 +12,14 @@ by f u a b = pick_l (pos 0) (a ++ b) (f u)
 
 abbrev pub turned_rows : (y0 y1 y2 y3 y4 y5 y6 y7 : List ℤ) → List (List ℤ)
 turned_rows y0 y1 y2 y3 y4 y5 y6 y7 =
-    (by quads false (by doubles false (by words false y0 y1) (by words false y2 y3)) (by doubles false (by words false y4 y5) (by words false y6 y7)))
-    ∷ (by quads true (by doubles false (by words false y0 y1) (by words false y2 y3)) (by doubles false (by words false y4 y5) (by words false y6 y7)))
-    ∷ (by quads false (by doubles true (by words false y0 y1) (by words false y2 y3)) (by doubles true (by words false y4 y5) (by words false y6 y7)))
-    ∷ (by quads true (by doubles true (by words false y0 y1) (by words false y2 y3)) (by doubles true (by words false y4 y5) (by words false y6 y7)))
-    ∷ (by quads false (by doubles false (by words true y0 y1) (by words true y2 y3)) (by doubles false (by words true y4 y5) (by words true y6 y7)))
-    ∷ (by quads true (by doubles false (by words true y0 y1) (by words true y2 y3)) (by doubles false (by words true y4 y5) (by words true y6 y7)))
-    ∷ (by quads false (by doubles true (by words true y0 y1) (by words true y2 y3)) (by doubles true (by words true y4 y5) (by words true y6 y7)))
-    ∷ (by quads true (by doubles true (by words true y0 y1) (by words true y2 y3)) (by doubles true (by words true y4 y5) (by words true y6 y7)))
+    (by quads false (by doubles false (by word_lanes false y0 y1) (by word_lanes false y2 y3)) (by doubles false (by word_lanes false y4 y5) (by word_lanes false y6 y7)))
+    ∷ (by quads true (by doubles false (by word_lanes false y0 y1) (by word_lanes false y2 y3)) (by doubles false (by word_lanes false y4 y5) (by word_lanes false y6 y7)))
+    ∷ (by quads false (by doubles true (by word_lanes false y0 y1) (by word_lanes false y2 y3)) (by doubles true (by word_lanes false y4 y5) (by word_lanes false y6 y7)))
+    ∷ (by quads true (by doubles true (by word_lanes false y0 y1) (by word_lanes false y2 y3)) (by doubles true (by word_lanes false y4 y5) (by word_lanes false y6 y7)))
+    ∷ (by quads false (by doubles false (by word_lanes true y0 y1) (by word_lanes true y2 y3)) (by doubles false (by word_lanes true y4 y5) (by word_lanes true y6 y7)))
+    ∷ (by quads true (by doubles false (by word_lanes true y0 y1) (by word_lanes true y2 y3)) (by doubles false (by word_lanes true y4 y5) (by word_lanes true y6 y7)))
+    ∷ (by quads false (by doubles true (by word_lanes true y0 y1) (by word_lanes true y2 y3)) (by doubles true (by word_lanes true y4 y5) (by word_lanes true y6 y7)))
+    ∷ (by quads true (by doubles true (by word_lanes true y0 y1) (by word_lanes true y2 y3)) (by doubles true (by word_lanes true y4 y5) (by word_lanes true y6 y7)))
     ∷ []
 
 abbrev whole : List ℤ → List ℤ

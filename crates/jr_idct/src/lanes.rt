@@ -4,7 +4,7 @@
 ghost use Rattle.std.specs.Prelude.{◌≡◌, ℕ, ◌^◌, ◌<◌, ◌++◌, pos, ◌+ℤ◌, true, false};
 ghost use Rattle.std.specs.Simd.Lanes.{pick_l};
 ghost use Rattle.std.proofs.Math.IntN.{◌*ℤ◌};
-ghost use Rattle.jr_idct.specs.Lanes.{half_lane, words};
+ghost use Rattle.jr_idct.specs.Lanes.{half_lane, word_lanes};
 ghost use Rattle.jr_idct.specs.Matrix.{at, IsWithin};
 
 use std::simd::prelude::*;
@@ -12,7 +12,7 @@ use std::simd::prelude::*;
 /// Lanes of both halves of two rows, one of each by turns.
 #[inline(always)]
 pub(crate) fn by_words(a: i16x16, b: i16x16, upper: bool) -> i16x16
-    ensures { result ≡ pick_l (pos 0) (a ++ b) (words upper) }
+    ensures { result ≡ pick_l (pos 0) (a ++ b) (word_lanes upper) }
 {
     if upper {
         return a.shuffle(

@@ -6,7 +6,7 @@ use Rattle.jr_scan.specs.ScanValue.{ScanValue}
 use Rattle.jr_places.specs.declared.cursor.Reading.{Reading}
 use Rattle.jr_places.specs.declared.cursor.Reading.TheVariants.{HasEnded}
 use Rattle.jr_places.specs.declared.cursor.ScanCursor.{ScanCursor}
-use Rattle.jr_places.specs.Cursors.{IsCursor, Passes, PassesIn, StandsIn, StaysIn, begun, number_of}
+use Rattle.jr_places.specs.Cursors.{IsCursor, PassesOver, PassesIn, IsCursorIn, StaysIn, begun, reading_number}
 use Rattle.jr_places.specs.Meaning.{MeansAt}
 use Rattle.jr_places.proofs.Passing.{is_kept}
 
@@ -37,14 +37,14 @@ module _ (h : HeadValue) where
   }
 
   -- MCUs of its interval behind those before
-  pub passes_on : (c d e : ScanCursor) (n m k : ℕ) → k ≡ n + m → Passes h c d n → PassesIn h d e m → Passes h c e k
+  pub passes_on : (c d e : ScanCursor) (n m k : ℕ) → k ≡ n + m → PassesOver h c d n → PassesIn h d e m → PassesOver h c e k
   passes_on c d e n m k sum first second = record {
     is = second.is;
     file = second.file ∙ first.file;
     passed = omega (arith, first.passed, ap (λ (i : ℕ). i * h.restart) second.interval, second.mcu, sum);
   }
 
-  pub passes_stays : (c d e : ScanCursor) (n : ℕ) → Passes h c d n → StaysIn d e → Passes h c e n
+  pub passes_stays : (c d e : ScanCursor) (n : ℕ) → PassesOver h c d n → StaysIn d e → PassesOver h c e n
   passes_stays c d e n first s = record {
     is = cursor_stays d e first.is s;
     file = s.file ∙ first.file;
@@ -56,10 +56,10 @@ module _ (h : HeadValue) where
   left_in c d interval mcu left = subst (λ (i : ℕ). d.mcu < mcus_in h i) (sym interval) (omega (arith, mcu, left))
 
 -- at the scan's end the next interval has no data either
-pub ended_next : (whole : List ℕ) (t : ScanValue) (c : ScanCursor) → c.reading ≡ HasEnded → StandsIn whole t c → StandsIn whole t (begun c)
+pub ended_next : (whole : List ℕ) (t : ScanValue) (c : ScanCursor) → c.reading ≡ HasEnded → IsCursorIn whole t c → IsCursorIn whole t (begun c)
 ended_next whole t c ended s =
-    let none = subst (λ (r : Reading). MeansAt whole t (number_of r) c.interval c.mcu c.at c.place) ended s.means in
+    let none = subst (λ (r : Reading). MeansAt whole t (reading_number r) c.interval c.mcu c.at c.place) ended s.means in
     record {
       from = s.from;
-      means = subst (λ (r : Reading). MeansAt whole t (number_of r) (c.interval + 1) 0 c.at (begun c).place) (sym ended) (λ j le. none j (omega (arith, le)));
+      means = subst (λ (r : Reading). MeansAt whole t (reading_number r) (c.interval + 1) 0 c.at (begun c).place) (sym ended) (λ j le. none j (omega (arith, le)));
     }

@@ -23,7 +23,7 @@ use Rattle.jr_piece.proofs.ScanLaws.{one_run, runs_meet, shorter_front}
 use Rattle.jr_piece.proofs.StripRuns as runs
 use Rattle.jr_settled.specs.More.{with_more}
 use Rattle.jr_settled.proofs.MoreData.{run_is_final}
-use Rattle.jr_places.specs.Meaning.{GoesOnAt, HasNoMore, ReadsAt, behind}
+use Rattle.jr_places.specs.Meaning.{GoesOnAt, HasNoFurtherMcu, ReadsAt, behind}
 use Rattle.jr_places.proofs.Behind.{none_behind, run_behind}
 use Rattle.jr_places.proofs.Going.{its_data}
 use Rattle.jr_places.proofs.Longest.{none_in_long}
@@ -63,7 +63,7 @@ module _ (whole : List ℕ) (t : ScanValue) (i mcu at left : ℕ) (found rest : 
       record { before = before; on = r.on; blocks = r.blocks ++ ys; next = runs.going one_run runs_meet shorter_front all lawful mcu r.blocks (behind before p) r.next n n ys here few (behind before q) there can }
 
   -- or none
-  pub none_on : p.bit ≤ 8 * length found → mcu ≤ mcus_in h i → HasNoMcu near p → (rest ≡ []) ⊎ (16650 ≤ length (left_at near p)) → HasNoMore t i mcu
+  pub none_on : p.bit ≤ 8 * length found → mcu ≤ mcus_in h i → HasNoMcu near p → (rest ≡ []) ⊎ (16650 ≤ length (left_at near p)) → HasNoFurtherMcu t i mcu
   none_on from few none far =
       let all = interval_of t i in
       let before = r.before in
@@ -100,7 +100,7 @@ nothing_taken i p q ys a =
     go (b ∷ bs) n e = absurd (omega (arith, n))
 
 -- no data is of no MCU
-pub nothing_whole : (t : ScanValue) (i mcu : ℕ) → 0 < blocks_of t.head → get_or t.intervals i [] ≡ [] → HasNoMore t i mcu
+pub nothing_whole : (t : ScanValue) (i mcu : ℕ) → 0 < blocks_of t.head → get_or t.intervals i [] ≡ [] → HasNoFurtherMcu t i mcu
 nothing_whole t i mcu some none = record {
   front = 0;
   blocks = [];

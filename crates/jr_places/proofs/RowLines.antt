@@ -9,7 +9,7 @@ use Rattle.jr_head.specs.Geometry.{mcus_down, vertical_max}
 use Rattle.jr_paint.specs.Lines.{line_size}
 use Rattle.jr_paint.proofs.Places.{below_div_ceil, in_div_ceil}
 use Rattle.jr_rows.specs.Rows.{line_count}
-use Rattle.jr_places.specs.Places.{lines_before, lines_between, rows_with_room}
+use Rattle.jr_places.specs.Places.{lines_above, lines_between, rows_with_room}
 
 module _ (h : HeadValue) (some : 0 < vertical_max h) where
   abbrev deep : ℕ
@@ -25,7 +25,7 @@ module _ (h : HeadValue) (some : 0 < vertical_max h) where
       let more : mcus_down h * deep ≤ row * deep = mul-le-mul_right {m = mcus_down h} {n = row} deep le in
       omega (arith, bound.0, more)
 
-  pub lines_before_is : (row : ℕ) → min (min row (mcus_down h) * deep) h.height ≡ lines_before h row
+  pub lines_before_is : (row : ℕ) → min (min row (mcus_down h) * deep) h.height ≡ lines_above h row
   lines_before_is row = elim (cases_lt row (mcus_down h)) [
     | inl l ↦ let m : min row (mcus_down h) ≡ row = omega (arith, l) in ap (λ (k : ℕ). min (k * deep) h.height) m
     | inr g ↦
@@ -35,10 +35,10 @@ module _ (h : HeadValue) (some : 0 < vertical_max h) where
         ap (λ (k : ℕ). min (k * deep) h.height) m ∙ omega (arith, a, b)
   ]
 
-  pub before_more : (from to : ℕ) → from ≤ to → lines_before h from ≤ lines_before h to
+  pub before_more : (from to : ℕ) → from ≤ to → lines_above h from ≤ lines_above h to
   before_more from to le = let m = mul-le-mul_right {m = from} {n = to} deep le in omega (arith, m)
 
-  pub row_more : (row : ℕ) → row < mcus_down h → lines_before h row ≡ row * deep
+  pub row_more : (row : ℕ) → row < mcus_down h → lines_above h row ≡ row * deep
   row_more row lt = let b = below_div_ceil row h.height deep positive lt in omega (arith, b)
 
   -- the lines up to a row, and those of it
@@ -56,7 +56,7 @@ module _ (h : HeadValue) (some : 0 < vertical_max h) where
     count = rows_with_room h row bytes
 
     pub room_few : row + count ≤ mcus_down h
-    room_few = elim (leb_tells (h.height - lines_before h row) lines) [
+    room_few = elim (leb_tells (h.height - lines_above h row) lines) [
       | inl t ↦ subst (λ (b : Bool). row + cond b (mcus_down h - row) (lines / deep) ≤ mcus_down h) (sym t.0) (omega (arith, le))
       | inr f ↦
           let low = div-mul-le_self lines deep in
@@ -66,7 +66,7 @@ module _ (h : HeadValue) (some : 0 < vertical_max h) where
     ]
 
     pub room_fits : lines_between h row (row + count) ≤ lines
-    room_fits = elim (leb_tells (h.height - lines_before h row) lines) [
+    room_fits = elim (leb_tells (h.height - lines_above h row) lines) [
       | inl t ↦ omega (arith, t.1)
       | inr f ↦
           let low = div-mul-le_self lines deep in

@@ -20,9 +20,9 @@ use Rattle.jr_places.specs.declared.cursor.Reading.{Reading}
 use Rattle.jr_places.specs.declared.cursor.Reading.TheVariants.{GoesOn, IsStuck, HasEnded}
 use Rattle.jr_places.specs.declared.cursor.ScanCursor.{ScanCursor}
 use Rattle.jr_places.specs.declared.file_bytes.FileBytes.{FileBytes}
-use Rattle.jr_places.specs.Meaning.{HasNoMore, MayBe, MeansAt, ReadsAt, behind}
-use Rattle.jr_places.specs.Places.{mcus_before}
-use Rattle.jr_places.specs.Cursors.{IsCursor, StaysTrue, in_window, number_of, window}
+use Rattle.jr_places.specs.Meaning.{HasNoFurtherMcu, MayBe, MeansAt, ReadsAt, behind}
+use Rattle.jr_places.specs.Places.{mcus_before_place}
+use Rattle.jr_places.specs.Cursors.{IsCursor, StaysTrue, in_window, reading_number, window}
 use Rattle.jr_places.specs.Shown.{ShowsMore}
 use Rattle.jr_places.proofs.Going.{on_by}
 use Rattle.jr_places.proofs.ReadOn.{nothing_whole, run_on}
@@ -37,7 +37,7 @@ Are h done n new unit = (k : ℕ) → k < n * blocks_of h → get_or (units_in h
 -- ---- MCUs of the interval
 
 module _ (h : HeadValue) (c : ScanCursor) (lawful : IsLawful h) (some : 0 < blocks_of h) (is : IsCursor h c) (n done : ℕ) (few : c.mcu + n ≤ mcus_in h c.interval) (old new : List (List ℕ)) (kept : Kept h done old new) where
-  module _ (from : ℕ) (at : mcus_before h c.interval c.mcu ≡ from + done) (whole : List ℕ) (t : ScanValue) (may : MayBe c.file.bytes.now c.file.are_all h whole t) (before : ShowsFirstUnits t (length t.intervals) from done (units_in t.head old)) where
+  module _ (from : ℕ) (at : mcus_before_place h c.interval c.mcu ≡ from + done) (whole : List ℕ) (t : ScanValue) (may : MayBe c.file.bytes.now c.file.are_all h whole t) (before : ShowsFirstUnits t (length t.intervals) from done (units_in t.head old)) where
     some_t : 0 < blocks_of t.head
     some_t = subst (λ (g : HeadValue). 0 < blocks_of g) (sym may.head) some
 
@@ -47,13 +47,13 @@ module _ (h : HeadValue) (c : ScanCursor) (lawful : IsLawful h) (some : 0 < bloc
     number_t : c.interval < intervals_of t.head
     number_t = subst (λ (g : HeadValue). c.interval < intervals_of g) (sym may.head) is.is_in.number
 
-    at_t : mcus_before t.head c.interval c.mcu ≡ from + done
-    at_t = subst (λ (g : HeadValue). mcus_before g c.interval c.mcu ≡ from + done) (sym may.head) at
+    at_t : mcus_before_place t.head c.interval c.mcu ≡ from + done
+    at_t = subst (λ (g : HeadValue). mcus_before_place g c.interval c.mcu ≡ from + done) (sym may.head) at
 
     step : ((o : PieceValue) → o.interval ≡ interval_of t c.interval → IsOutcome o → (k : ℕ) → k < n * blocks_of t.head → get_or (units_in t.head new) (done * blocks_of t.head + k) [] ≡ unit_in_piece o (c.mcu * blocks_of t.head + k))
         → ShowsFirstUnits t (length t.intervals) from (done + n) (units_in t.head new)
     step codes =
-        shown_on t (length t.intervals) from done n (mcus_before t.head c.interval c.mcu) (units_in t.head old) (units_in t.head new) some_t at_t before (subst (λ (g : HeadValue). Kept g done old new) (sym may.head) kept)
+        shown_on t (length t.intervals) from done n (mcus_before_place t.head c.interval c.mcu) (units_in t.head old) (units_in t.head new) some_t at_t before (subst (λ (g : HeadValue). Kept g done old new) (sym may.head) kept)
         (shown_there t (length t.intervals) c.interval c.mcu n (done * blocks_of t.head) (units_in t.head new) some_t number_t (omega (arith, number_t, count_is whole t may.scan)) few_t codes)
 
   per_of : (t : ScanValue) → length (order_of t.head) ≡ blocks_of t.head
@@ -65,7 +65,7 @@ module _ (h : HeadValue) (c : ScanCursor) (lawful : IsLawful h) (some : 0 < bloc
       let w = is.window.spells in
       let found = window c in
       let long : length found ≡ c.found - c.from = window_long c is.window in
-      let means : ReadsAt whole t c.interval c.mcu c.at c.place = subst (λ (r : Reading). MeansAt whole t (number_of r) c.interval c.mcu c.at c.place) going s.means in
+      let means : ReadsAt whole t c.interval c.mcu c.at c.place = subst (λ (r : Reading). MeansAt whole t (reading_number r) c.interval c.mcu c.at c.place) going s.means in
       let e = may.head in
       let o = on_by c.file.bytes.now may.more whole t c.interval c.at w.read means.before found may.is means.on w.within w.spelled in
       let lawful_t : IsLawful t.head = subst IsLawful (sym e) lawful in
@@ -80,12 +80,12 @@ module _ (h : HeadValue) (c : ScanCursor) (lawful : IsLawful h) (some : 0 < bloc
   pub grey_shows : c.reading ≢ GoesOn → Are h done n new (λ k. grey_unit) → ShowsMore h c done n old new
   grey_shows over units from at whole t may s before =
       let units_t : Are t.head done n new (λ k. grey_unit) = subst (λ (g : HeadValue). Are g done n new (λ k. grey_unit)) (sym may.head) units in
-      let none : HasNoMore t c.interval c.mcu = go c.reading over s.means in
+      let none : HasNoFurtherMcu t c.interval c.mcu = go c.reading over s.means in
       step from at whole t may before (λ p same out k lt.
       units_t k lt ∙ grey_codes (interval_of t c.interval) none.front c.mcu none.blocks none.few none.longest p same out k
       ∙ ap (λ (m : ℕ). unit_in_piece p (c.mcu * m + k)) (per_of t))
     where
-      go : (r : Reading) → r ≢ GoesOn → MeansAt whole t (number_of r) c.interval c.mcu c.at c.place → HasNoMore t c.interval c.mcu
+      go : (r : Reading) → r ≢ GoesOn → MeansAt whole t (reading_number r) c.interval c.mcu c.at c.place → HasNoFurtherMcu t c.interval c.mcu
       go GoesOn out means = absurd (out refl)
       go IsStuck out means = means.no_more
       go HasEnded out means = nothing_whole t c.interval c.mcu (some_t from at whole t may before) (means c.interval (omega arith))
@@ -93,7 +93,7 @@ module _ (h : HeadValue) (c : ScanCursor) (lawful : IsLawful h) (some : 0 < bloc
 -- ---- steps one behind the other
 
 -- over a step of the cursor alone
-pub shows_moved : (h : HeadValue) (a b : ScanCursor) (done n : ℕ) (old new : List (List ℕ)) → b.file ≡ a.file → mcus_before h b.interval b.mcu ≡ mcus_before h a.interval a.mcu → StaysTrue h a b → ShowsMore h b done n old new → ShowsMore h a done n old new
+pub shows_moved : (h : HeadValue) (a b : ScanCursor) (done n : ℕ) (old new : List (List ℕ)) → b.file ≡ a.file → mcus_before_place h b.interval b.mcu ≡ mcus_before_place h a.interval a.mcu → StaysTrue h a b → ShowsMore h b done n old new → ShowsMore h a done n old new
 shows_moved h a b done n old new same passed stays second from at whole t may s before =
     second from (passed ∙ at) whole t (subst (λ (f : FileBytes). MayBe f.bytes.now f.are_all h whole t) (sym same) may) (stays whole t may s) before
 
@@ -104,7 +104,7 @@ shows_none h c done groups from at whole t may s before =
     subst (λ (k : ℕ). ShowsFirstUnits t (length t.intervals) from k (units_in t.head groups)) here before
 
 -- over a step that decodes nothing
-pub shows_after : (h : HeadValue) (a b : ScanCursor) (done n m : ℕ) (old mid new : List (List ℕ)) → n ≡ 0 → b.file ≡ a.file → mcus_before h b.interval b.mcu ≡ mcus_before h a.interval a.mcu → StaysTrue h a b → ShowsMore h a done n old mid → ShowsMore h b done m mid new → ShowsMore h a done m old new
+pub shows_after : (h : HeadValue) (a b : ScanCursor) (done n m : ℕ) (old mid new : List (List ℕ)) → n ≡ 0 → b.file ≡ a.file → mcus_before_place h b.interval b.mcu ≡ mcus_before_place h a.interval a.mcu → StaysTrue h a b → ShowsMore h a done n old mid → ShowsMore h b done m mid new → ShowsMore h a done m old new
 shows_after h a b done n m old mid new none same passed stays first second from at whole t may s before =
     let here : done + n ≡ done = omega (arith, none) in
     second from (passed ∙ at) whole t (subst (λ (f : FileBytes). MayBe f.bytes.now f.are_all h whole t) (sym same) may) (stays whole t may s)

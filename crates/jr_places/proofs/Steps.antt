@@ -27,9 +27,9 @@ use Rattle.jr_places.specs.declared.cursor.Reading.{Reading}
 use Rattle.jr_places.specs.declared.cursor.Reading.TheVariants.{GoesOn, IsStuck, HasEnded}
 use Rattle.jr_places.specs.declared.cursor.ScanCursor.{ScanCursor}
 use Rattle.jr_places.specs.declared.file_bytes.FileBytes.{FileBytes}
-use Rattle.jr_places.specs.Meaning.{GoesOnAt, HasNoData, HasNoMore, IsStuckAt, MayBe, MeansAt, ReadsAt, behind}
+use Rattle.jr_places.specs.Meaning.{GoesOnAt, HasNoData, HasNoFurtherMcu, IsStuckAt, MayBe, MeansAt, ReadsAt, behind}
 use Rattle.jr_places.specs.Places.{IsIn}
-use Rattle.jr_places.specs.Cursors.{HasWindow, IsCursor, IsOffset, NoneFollows, StandsIn, StaysTrue, in_window, number_of, window}
+use Rattle.jr_places.specs.Cursors.{HasWindow, IsCursor, IsOffset, NoneFollows, IsCursorIn, StaysTrue, in_window, reading_number, window}
 use Rattle.jr_places.proofs.Going.{ended_on, ending_more, next_on, on_by}
 use Rattle.jr_places.proofs.ReadOn.{none_on, reads_first, reads_on}
 use Rattle.jr_places.proofs.Spelled.{split_at}
@@ -54,7 +54,7 @@ module _ (h : HeadValue) (c : ScanCursor) (lawful : IsLawful h) (is : IsCursor h
   pub passes_true : (ys : List (List ℤ)) → IsRun (run_from (in_window h c) c.place n) ys q AllRead → q.bit ≤ 8 * (c.found - c.from) → All IsInDcRange q.predictions → StaysTrue h c passed
   passes_true ys run to in_range whole t may s = record { from = s.from; means = go c.reading s.means }
     where
-      go : (r : Reading) → MeansAt whole t (number_of r) c.interval c.mcu c.at c.place → MeansAt whole t (number_of r) c.interval (c.mcu + n) c.at q
+      go : (r : Reading) → MeansAt whole t (reading_number r) c.interval c.mcu c.at c.place → MeansAt whole t (reading_number r) c.interval (c.mcu + n) c.at q
       go GoesOn means =
           let w = is.window.spells in
           let found = window c in
@@ -69,7 +69,7 @@ module _ (h : HeadValue) (c : ScanCursor) (lawful : IsLawful h) (is : IsCursor h
 -- ---- to a later byte of its data
 
 pub moved : (h : HeadValue) (c : ScanCursor) (at : ℕ) (q : Place) → IsOffset c (c.place.bit / 8) at → HasWindow c → q.bit ≡ c.place.bit % 8 → q.predictions ≡ c.place.predictions → (whole : List ℕ) (t : ScanValue) → MayBe c.file.bytes.now c.file.are_all h whole t
-    → MeansAt whole t (number_of c.reading) c.interval c.mcu c.at c.place → MeansAt whole t (number_of c.reading) c.interval c.mcu at q
+    → MeansAt whole t (reading_number c.reading) c.interval c.mcu c.at c.place → MeansAt whole t (reading_number c.reading) c.interval c.mcu at q
 moved h c at q off w bit predictions whole t may = go c.reading
   where
     byte : ℕ
@@ -93,7 +93,7 @@ moved h c at q off w bit predictions whole t may = go c.reading
         let b : 8 * length before + c.place.bit ≡ 8 * length (before ++ front) + q.bit = omega (arith, length-append before front, front_long, bit) in
         ap (λ (k : ℕ). (let p : Place = record { bit = k; predictions = c.place.predictions } in p)) b ∙ ap (λ (l : List ℤ). (let p : Place = record { bit = 8 * length (before ++ front) + q.bit; predictions = l } in p)) (sym predictions)
 
-    go : (r : Reading) → MeansAt whole t (number_of r) c.interval c.mcu c.at c.place → MeansAt whole t (number_of r) c.interval c.mcu at q
+    go : (r : Reading) → MeansAt whole t (reading_number r) c.interval c.mcu c.at c.place → MeansAt whole t (reading_number r) c.interval c.mcu at q
     go GoesOn means = record { before = means.before ++ front; on = on means.before means.on; blocks = means.blocks; next = subst (IsNext (interval_of t c.interval) c.mcu means.blocks) (same means.before) means.next }
     go IsStuck means = record { before = means.before ++ front; on = on means.before means.on; no_more = means.no_more }
     go HasEnded means = means
@@ -102,17 +102,17 @@ moved h c at q off w bit predictions whole t may = go c.reading
 
 module _ (h : HeadValue) (c : ScanCursor) (w : HasWindow c) (end read : ℕ) (found : List ℕ) (there : end ≡ c.at + read) (within : end ≤ length c.file.bytes.now) (raw : IsRaw (take read (drop c.at c.file.bytes.now)) found) where
   -- where no further MCU is whole
-  pub stuck_true : IsIn h c.interval c.mcu → IsLawful h → NoneFollows h c → c.reading ≡ GoesOn → IsStop (drop end c.file.bytes.now) → (whole : List ℕ) (t : ScanValue) (may : MayBe c.file.bytes.now c.file.are_all h whole t) → IsStop (drop end whole) → StandsIn whole t c → IsStuckAt whole t c.interval c.mcu end
+  pub stuck_true : IsIn h c.interval c.mcu → IsLawful h → NoneFollows h c → c.reading ≡ GoesOn → IsStop (drop end c.file.bytes.now) → (whole : List ℕ) (t : ScanValue) (may : MayBe c.file.bytes.now c.file.are_all h whole t) → IsStop (drop end whole) → IsCursorIn whole t c → IsStuckAt whole t c.interval c.mcu end
   stuck_true is_in lawful none going here whole t may stop s =
       let bytes = c.file.bytes.now in
       let spells = w.spells in
       let here_found = window c in
-      let means : ReadsAt whole t c.interval c.mcu c.at c.place = subst (λ (r : Reading). MeansAt whole t (number_of r) c.interval c.mcu c.at c.place) going s.means in
+      let means : ReadsAt whole t c.interval c.mcu c.at c.place = subst (λ (r : Reading). MeansAt whole t (reading_number r) c.interval c.mcu c.at c.place) going s.means in
       let e = may.head in
       let found_long : length here_found ≡ c.found - c.from = window_long c w in
       let o = on_by bytes may.more whole t c.interval c.at read means.before found may.is means.on (omega (arith, there, within)) raw in
       let stopped : o.on.rest ≡ [] = o.none (subst (λ (k : ℕ). IsStop (drop k whole)) there stop) in
-      let by : (rest : List ℕ) → means.on.rest ≡ here_found ++ rest → (rest ≡ []) ⊎ (16650 ≤ length (left_at (record { number = c.interval; mcus = mcus_in h c.interval - c.mcu; bytes = here_found; head = t.head }) c.place)) → HasNoMore t c.interval c.mcu =
+      let by : (rest : List ℕ) → means.on.rest ≡ here_found ++ rest → (rest ≡ []) ⊎ (16650 ≤ length (left_at (record { number = c.interval; mcus = mcus_in h c.interval - c.mcu; bytes = here_found; head = t.head }) c.place)) → HasNoFurtherMcu t c.interval c.mcu =
       λ rest rest_is far. none_on whole t c.interval c.mcu c.at (mcus_in h c.interval - c.mcu) here_found rest c.place (subst IsLawful (sym e) lawful) means rest_is (omega (arith, w.bit, found_long)) (subst (λ (g : HeadValue). c.mcu ≤ mcus_in g c.interval) (sym e) is_in.few)
       (subst (λ (g : HeadValue). HasNoMcu (record { number = c.interval; mcus = mcus_in h c.interval - c.mcu; bytes = here_found; head = g }) c.place) (sym e) none.none) far in
       record {
@@ -129,7 +129,7 @@ module _ (h : HeadValue) (c : ScanCursor) (w : HasWindow c) (end read : ℕ) (fo
       }
 
   -- the interval has ended there
-  its_end : (whole : List ℕ) (t : ScanValue) (may : MayBe c.file.bytes.now c.file.are_all h whole t) → IsStop (drop end whole) → c.reading ≢ HasEnded → StandsIn whole t c → (before : List ℕ) × (g : GoesOnAt whole t c.interval end before) × (g.rest ≡ [])
+  its_end : (whole : List ℕ) (t : ScanValue) (may : MayBe c.file.bytes.now c.file.are_all h whole t) → IsStop (drop end whole) → c.reading ≢ HasEnded → IsCursorIn whole t c → (before : List ℕ) × (g : GoesOnAt whole t c.interval end before) × (g.rest ≡ [])
   its_end whole t may stop over s = go c.reading over s.means
     where
       on : (before : List ℕ) (g : GoesOnAt whole t c.interval c.at before) → (b : List ℕ) × (g : GoesOnAt whole t c.interval end b) × (g.rest ≡ [])
@@ -138,7 +138,7 @@ module _ (h : HeadValue) (c : ScanCursor) (w : HasWindow c) (end read : ℕ) (fo
           let n = o.none (subst (λ (k : ℕ). IsStop (drop k whole)) there stop) in
           subst (λ (k : ℕ). (b : List ℕ) × (g : GoesOnAt whole t c.interval k b) × (g.rest ≡ [])) (sym there) (before ++ found, o.on, n)
 
-      go : (r : Reading) → r ≢ HasEnded → MeansAt whole t (number_of r) c.interval c.mcu c.at c.place → (b : List ℕ) × (g : GoesOnAt whole t c.interval end b) × (g.rest ≡ [])
+      go : (r : Reading) → r ≢ HasEnded → MeansAt whole t (reading_number r) c.interval c.mcu c.at c.place → (b : List ℕ) × (g : GoesOnAt whole t c.interval end b) × (g.rest ≡ [])
       go GoesOn some means = on means.before means.on
       go IsStuck some means = on means.before means.on
       go HasEnded some means = absurd (some refl)
@@ -147,7 +147,7 @@ module _ (h : HeadValue) (c : ScanCursor) (w : HasWindow c) (end read : ℕ) (fo
   tail_whole whole more e = ap (drop end) e ∙ drop-append-le end c.file.bytes.now more within
 
   -- the next one begins behind its marker
-  pub next_true : (whole : List ℕ) (t : ScanValue) (may : MayBe c.file.bytes.now c.file.are_all h whole t) → c.reading ≢ HasEnded → StandsIn whole t c → (more : ℕ) → c.interval + 1 < intervals_of h → drop end c.file.bytes.now ≡ marker more (RST0 + c.interval % 8) ++ drop (more + 2) (drop end c.file.bytes.now)
+  pub next_true : (whole : List ℕ) (t : ScanValue) (may : MayBe c.file.bytes.now c.file.are_all h whole t) → c.reading ≢ HasEnded → IsCursorIn whole t c → (more : ℕ) → c.interval + 1 < intervals_of h → drop end c.file.bytes.now ≡ marker more (RST0 + c.interval % 8) ++ drop (more + 2) (drop end c.file.bytes.now)
       → end + (more + 2) ≤ length c.file.bytes.now → (p : Place) → p ≡ start_of_interval → ReadsAt whole t (c.interval + 1) 0 (end + (more + 2)) p
   next_true whole t may over s more room starts inside p first =
       let bytes = c.file.bytes.now in
@@ -162,7 +162,7 @@ module _ (h : HeadValue) (c : ScanCursor) (w : HasWindow c) (end read : ℕ) (fo
       (next_on whole t c.interval end there.0 there.1 there.2 more rest (subst (λ (g : HeadValue). c.interval + 1 < intervals_of g) (sym may.head) room) begins behind_it)
 
   -- or the scan has ended
-  pub ended_true : (whole : List ℕ) (t : ScanValue) (may : MayBe c.file.bytes.now c.file.are_all h whole t) → c.reading ≢ HasEnded → StandsIn whole t c → (e : ScanEnd) → IsEnding (intervals_of h) c.interval end (drop end c.file.bytes.now) e → (e ≢ EndOfFile) ⊎ (may.more ≡ []) → HasNoData t (c.interval + 1)
+  pub ended_true : (whole : List ℕ) (t : ScanValue) (may : MayBe c.file.bytes.now c.file.are_all h whole t) → c.reading ≢ HasEnded → IsCursorIn whole t c → (e : ScanEnd) → IsEnding (intervals_of h) c.interval end (drop end c.file.bytes.now) e → (e ≢ EndOfFile) ⊎ (may.more ≡ []) → HasNoData t (c.interval + 1)
   ended_true whole t may over s e ending final =
       let there_too : IsEnding (intervals_of h) c.interval end (drop end whole) e =
       subst (λ (x : List ℕ). IsEnding (intervals_of h) c.interval end x e) (sym (tail_whole whole may.more may.is)) (ending_more (intervals_of h) c.interval end (drop end c.file.bytes.now) may.more e final ending) in

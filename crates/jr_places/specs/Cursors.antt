@@ -14,7 +14,7 @@ use Rattle.jr_places.specs.declared.cursor.Reading.TheVariants.{GoesOn, IsStuck,
 use Rattle.jr_places.specs.declared.cursor.ScanCursor.{ScanCursor}
 use Rattle.jr_places.specs.declared.cursor.TheConstants.{WINDOW}
 use Rattle.jr_places.specs.Meaning.{MayBe, MeansAt}
-use Rattle.jr_places.specs.Places.{IsIn, mcus_before}
+use Rattle.jr_places.specs.Places.{IsIn, mcus_before_place}
 
 -- the bytes from that offset on spell this data, and all of it up to a marker or the end if it ends there
 pub record Spells (bytes : List ℕ) (at : ℕ) (found : List ℕ) (ends : Bool) : Type 0 where
@@ -59,10 +59,10 @@ pub record PassesIn (h : HeadValue) (old new : ScanCursor) (mcus : ℕ) : Type 0
   pub mcu : new.mcu ≡ old.mcu + mcus
 
 -- or also into the next one
-pub record Passes (h : HeadValue) (old new : ScanCursor) (mcus : ℕ) : Type 0 where
+pub record PassesOver (h : HeadValue) (old new : ScanCursor) (mcus : ℕ) : Type 0 where
   pub is : IsCursor h new
   pub file : new.file ≡ old.file
-  pub passed : mcus_before h new.interval new.mcu ≡ mcus_before h old.interval old.mcu + mcus
+  pub passed : mcus_before_place h new.interval new.mcu ≡ mcus_before_place h old.interval old.mcu + mcus
 
 -- the rest of the interval, as far as its data stand in the window
 abbrev pub in_window : HeadValue → ScanCursor → IntervalValue
@@ -74,19 +74,19 @@ pub record NoneFollows (h : HeadValue) (c : ScanCursor) : Type 0 where
   pub far : (c.ends ≡ true) ⊎ (16650 ≤ length (left_at (in_window h c) c.place))
 
 -- the number of a reading
-abbrev pub number_of : Reading → ℕ
-number_of GoesOn = 0
-number_of IsStuck = 1
-number_of HasEnded = 2
+abbrev pub reading_number : Reading → ℕ
+reading_number GoesOn = 0
+reading_number IsStuck = 1
+reading_number HasEnded = 2
 
 -- it stands where it says in that file, of that scan
-pub record StandsIn (whole : List ℕ) (t : ScanValue) (c : ScanCursor) : Type 0 where
+pub record IsCursorIn (whole : List ℕ) (t : ScanValue) (c : ScanCursor) : Type 0 where
   pub from : t.head.scan_at ≤ c.at
-  pub means : MeansAt whole t (number_of c.reading) c.interval c.mcu c.at c.place
+  pub means : MeansAt whole t (reading_number c.reading) c.interval c.mcu c.at c.place
 
 -- a step that leaves it there, in each file that its bytes may be
 abbrev pub StaysTrue : HeadValue → (old new : ScanCursor) → Type 0
-StaysTrue h old new = (whole : List ℕ) (t : ScanValue) → MayBe old.file.bytes.now old.file.are_all h whole t → StandsIn whole t old → StandsIn whole t new
+StaysTrue h old new = (whole : List ℕ) (t : ScanValue) → MayBe old.file.bytes.now old.file.are_all h whole t → IsCursorIn whole t old → IsCursorIn whole t new
 
 -- that offset in the file stands behind so many bytes of the window's data
 pub record IsOffset (c : ScanCursor) (byte at : ℕ) : Type 0 where
@@ -108,5 +108,5 @@ abbrev pub begun : ScanCursor → ScanCursor
 begun c = record c { interval = c.interval + 1; mcu = 0; place = record { bit = c.place.bit; predictions = no_predictions } }
 
 -- a step to where the next interval begins, or to the scan's end
-abbrev pub Follows : HeadValue → (old new : ScanCursor) → Type 0
-Follows h old new = (whole : List ℕ) (t : ScanValue) → MayBe old.file.bytes.now old.file.are_all h whole t → StandsIn whole t old → StandsIn whole t (begun new)
+abbrev pub BeginsNext : HeadValue → (old new : ScanCursor) → Type 0
+BeginsNext h old new = (whole : List ℕ) (t : ScanValue) → MayBe old.file.bytes.now old.file.are_all h whole t → IsCursorIn whole t old → IsCursorIn whole t (begun new)

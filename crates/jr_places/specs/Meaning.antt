@@ -43,7 +43,7 @@ pub record ReadsAt (whole : List ℕ) (t : ScanValue) (i mcu at : ℕ) (p : Plac
   pub next : IsNext (interval_of t i) mcu blocks (behind before p)
 
 -- behind so many MCUs of interval i none is whole
-pub record HasNoMore (t : ScanValue) (i mcu : ℕ) : Type 0 where
+pub record HasNoFurtherMcu (t : ScanValue) (i mcu : ℕ) : Type 0 where
   pub front : ℕ
   pub blocks : List (List ℤ)
   pub few : front ≤ mcu
@@ -53,7 +53,7 @@ pub record HasNoMore (t : ScanValue) (i mcu : ℕ) : Type 0 where
 pub record IsStuckAt (whole : List ℕ) (t : ScanValue) (i mcu at : ℕ) : Type 0 where
   pub before : List ℕ
   pub on : GoesOnAt whole t i at before
-  pub no_more : HasNoMore t i mcu
+  pub no_more : HasNoFurtherMcu t i mcu
 
 -- interval i and those behind it have no data
 abbrev pub HasNoData : ScanValue → ℕ → Type 0

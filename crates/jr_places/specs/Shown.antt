@@ -10,13 +10,13 @@ use Rattle.jr_rows.specs.Groups.{units_in}
 use Rattle.jr_rows.specs.Rows.{ShowsFirstUnits}
 use Rattle.jr_places.specs.declared.cursor.ScanCursor.{ScanCursor}
 use Rattle.jr_places.specs.declared.place.RowPlace.{RowPlace}
-use Rattle.jr_places.specs.Cursors.{StandsIn}
+use Rattle.jr_places.specs.Cursors.{IsCursorIn}
 use Rattle.jr_places.specs.Meaning.{IsPlaceIn, MayBe}
-use Rattle.jr_places.specs.Places.{mcus_before}
+use Rattle.jr_places.specs.Places.{mcus_before_place}
 
 -- a step from where the cursor stands: where the first `done` MCUs of a row are those of the picture, so many more are
 abbrev pub ShowsMore : HeadValue → ScanCursor → (done more : ℕ) → (old new : List (List ℕ)) → Type 0
-ShowsMore h c done more old new = (from : ℕ) → mcus_before h c.interval c.mcu ≡ from + done → (whole : List ℕ) (t : ScanValue) → MayBe c.file.bytes.now c.file.are_all h whole t → StandsIn whole t c
+ShowsMore h c done more old new = (from : ℕ) → mcus_before_place h c.interval c.mcu ≡ from + done → (whole : List ℕ) (t : ScanValue) → MayBe c.file.bytes.now c.file.are_all h whole t → IsCursorIn whole t c
     → ShowsFirstUnits t (length t.intervals) from done (units_in t.head old) → ShowsFirstUnits t (length t.intervals) from (done + more) (units_in t.head new)
 
 -- all MCUs of the row are

@@ -9,8 +9,8 @@ ghost use Rattle.jr_head.specs.Intervals.{intervals_of, mcus_in};
 ghost use Rattle.jr_mcu.specs.Block.{IsInDcRange};
 ghost use Rattle.jr_scan.specs.McuReader.{HasRead};
 ghost use Rattle.jr_scan.specs.Run.{run_from};
-ghost use Rattle.jr_places.specs.Places.{IsIn, StandsAt, mcus_before};
-ghost use Rattle.jr_places.specs.Cursors.{HasWindow, IsCursor, IsOffset, Follows, NoneFollows, Passes, StandsIn, StaysIn, StaysTrue, begun, in_window, number_of, to_read, trimmed};
+ghost use Rattle.jr_places.specs.Places.{IsIn, IsPlaceOf, mcus_before_place};
+ghost use Rattle.jr_places.specs.Cursors.{HasWindow, IsCursor, IsOffset, BeginsNext, NoneFollows, PassesOver, IsCursorIn, StaysIn, StaysTrue, begun, in_window, reading_number, to_read, trimmed};
 ghost use Rattle.jr_places.specs.Meaning.{HasBits, IsPlaceIn, MayBe};
 ghost use Rattle.jr_places.specs.declared.cursor.Reading.TheVariants.{GoesOn, HasEnded};
 ghost use Rattle.jr_cut.specs.declared.scan_end.ScanEnd.TheVariants.{EndOfFile};
@@ -89,7 +89,7 @@ fn in_range(predictions: [i32; 3]) -> [i32; 3]
 
 /// The number of a reading.
 fn number_of(reading: Reading) -> u32
-    ensures { result ≡ number_of reading }
+    ensures { result ≡ reading_number reading }
 {
     match reading {
         Reading::GoesOn => 0,
@@ -100,7 +100,7 @@ fn number_of(reading: Reading) -> u32
 
 /// The reading of a number.
 fn reading_of(number: u32) -> Reading
-    ensures { number_of result ≡ min number 2 }
+    ensures { reading_number result ≡ min number 2 }
 {
     match number {
         0 => Reading::GoesOn,
@@ -141,11 +141,11 @@ impl<'a> ScanCursor<'a> {
         file: FileBytes<'a>,
         place: &RowPlace,
     ) -> Result<ScanCursor<'a>, Memory>
-        requires stands { StandsAt head.now place.now }
+        requires stands { IsPlaceOf head.now place.now }
         ensures cursor { IfOk result (IsCursor head.now) }
         ensures file { IfOk result (λ c. c.file ≡ file.entry) }
-        ensures at { IfOk result (λ c. mcus_before head.now c.interval c.mcu ≡ place.now.row * mcus_across head.now) }
-        ensures stands { (whole : List ℕ) (t : ScanValue) → MayBe file.entry.bytes.now file.entry.are_all head.now whole t → IsPlaceIn file.entry.bytes.now whole t place.now → IfOk result (StandsIn whole t) }
+        ensures at { IfOk result (λ c. mcus_before_place head.now c.interval c.mcu ≡ place.now.row * mcus_across head.now) }
+        ensures stands { (whole : List ℕ) (t : ScanValue) → MayBe file.entry.bytes.now file.entry.are_all head.now whole t → IsPlaceIn file.entry.bytes.now whole t place.now → IfOk result (IsCursorIn whole t) }
     {
         let mut cursor = ScanCursor {
             file,
@@ -222,7 +222,7 @@ impl<'a> ScanCursor<'a> {
         ensures row { result.row ≡ row }
         ensures interval { result.interval ≡ self.old.interval }
         ensures mcu { result.mcu ≡ self.old.mcu }
-        ensures place { (h : HeadValue) (whole : List ℕ) (t : ScanValue) → MayBe self.old.file.bytes.now self.old.file.are_all h whole t → StandsIn whole t self.old → IsPlaceIn self.old.file.bytes.now whole t result }
+        ensures place { (h : HeadValue) (whole : List ℕ) (t : ScanValue) → MayBe self.old.file.bytes.now self.old.file.are_all h whole t → IsCursorIn whole t self.old → IsPlaceIn self.old.file.bytes.now whole t result }
     {
         self.trim();
         RowPlace {
@@ -373,7 +373,7 @@ impl<'a> ScanCursor<'a> {
         requires window { HasWindow self.old }
         requires number { self.old.interval < intervals_of head.now }
         ensures stays { StaysIn self.old self.new }
-        ensures follows { result ≡ true → self.old.reading ≢ HasEnded → Follows head.now self.old self.new }
+        ensures follows { result ≡ true → self.old.reading ≢ HasEnded → BeginsNext head.now self.old self.new }
         ensures kept { result ≡ false → self.new ≡ self.old }
         ensures all { self.old.file.are_all ≡ true → result ≡ true }
     {
@@ -398,7 +398,7 @@ impl<'a> ScanCursor<'a> {
         requires window { HasWindow self.old }
         requires number { self.old.interval < intervals_of head.now }
         ensures stays { StaysIn self.old self.new }
-        ensures follows { result ≡ true → Follows head.now self.old self.new }
+        ensures follows { result ≡ true → BeginsNext head.now self.old self.new }
         ensures kept { result ≡ false → self.new ≡ self.old }
         ensures all { self.old.file.are_all ≡ true → result ≡ true }
     {
@@ -420,8 +420,8 @@ impl<'a> ScanCursor<'a> {
     /// Goes on to the next interval where the MCUs of this one are all passed. False where its end has not come.
     pub(crate) fn advance(&mut self, head: &Head) -> bool
         requires cursor { IsCursor head.now self.old }
-        requires more { mcus_before head.now self.old.interval self.old.mcu < mcus_of head.now }
-        ensures passes { Passes head.now self.old self.new 0 }
+        requires more { mcus_before_place head.now self.old.interval self.old.mcu < mcus_of head.now }
+        ensures passes { PassesOver head.now self.old self.new 0 }
         ensures stands { StaysTrue head.now self.old self.new }
         ensures some { result ≡ true → self.new.mcu < mcus_in head.now self.new.interval }
         ensures all { self.old.file.are_all ≡ true → result ≡ true }

@@ -4,9 +4,9 @@ ghost use Rattle.std.specs.Prelude.{◌≡◌, ◌≢◌, ◌+◌, ◌*◌, ◌<
 ghost use Rattle.jr_head.specs.Geometry.{mcus_across, mcus_down, mcus_of};
 ghost use Rattle.jr_head.specs.Intervals.{mcus_in};
 ghost use Rattle.jr_rows.specs.Rows.{HasSampleRoom};
-ghost use Rattle.jr_places.specs.Places.{mcus_before};
+ghost use Rattle.jr_places.specs.Places.{mcus_before_place};
 ghost use Rattle.jr_places.specs.declared.cursor.Reading.TheVariants.{GoesOn};
-ghost use Rattle.jr_places.specs.Cursors.{IsCursor, NoneFollows, Passes, PassesIn, StandsIn, StaysTrue, in_window};
+ghost use Rattle.jr_places.specs.Cursors.{IsCursor, NoneFollows, PassesOver, PassesIn, IsCursorIn, StaysTrue, in_window};
 ghost use Rattle.jr_scan.specs.ScanValue.{ScanValue};
 ghost use Rattle.jr_places.specs.Meaning.{MayBe};
 ghost use Rattle.jr_places.specs.Shown.{ShowsMore, ShowsRow};
@@ -93,9 +93,9 @@ fn decode_some(cursor: &mut ScanCursor<'_>, head: &Head, samples: &mut SampleRow
     requires cursor { IsCursor head.now cursor.old }
     requires within { done < mcus_across head.now }
     requires room { HasSampleRoom head.now samples.old }
-    requires more { mcus_before head.now cursor.old.interval cursor.old.mcu < mcus_of head.now }
+    requires more { mcus_before_place head.now cursor.old.interval cursor.old.mcu < mcus_of head.now }
     ensures room { HasSampleRoom head.now samples.new }
-    ensures passes { Passes head.now cursor.old cursor.new result }
+    ensures passes { PassesOver head.now cursor.old cursor.new result }
     ensures stands { StaysTrue head.now cursor.old cursor.new }
     ensures shows { 0 < result → ShowsMore head.now cursor.old done result samples.old.lines.groups samples.new.lines.groups }
     ensures few { done + result ≤ mcus_across head.now }
@@ -123,14 +123,14 @@ pub(crate) fn decode_row(
 ) -> bool
     requires cursor { IsCursor head.now cursor.old }
     requires row { row < mcus_down head.now }
-    requires at { mcus_before head.now cursor.old.interval cursor.old.mcu ≡ row * mcus_across head.now }
+    requires at { mcus_before_place head.now cursor.old.interval cursor.old.mcu ≡ row * mcus_across head.now }
     requires room { HasSampleRoom head.now samples.old }
     ensures room { HasSampleRoom head.now samples.new }
     ensures cursor { IsCursor head.now cursor.new }
     ensures file { cursor.new.file ≡ cursor.old.file }
     ensures stands { StaysTrue head.now cursor.old cursor.new }
-    ensures shows { result ≡ true → (whole : List ℕ) (t : ScanValue) → MayBe cursor.old.file.bytes.now cursor.old.file.are_all head.now whole t → StandsIn whole t cursor.old → ShowsRow t row samples.new.lines.groups }
-    ensures whole { result ≡ true → mcus_before head.now cursor.new.interval cursor.new.mcu ≡ (row + 1) * mcus_across head.now }
+    ensures shows { result ≡ true → (whole : List ℕ) (t : ScanValue) → MayBe cursor.old.file.bytes.now cursor.old.file.are_all head.now whole t → IsCursorIn whole t cursor.old → ShowsRow t row samples.new.lines.groups }
+    ensures whole { result ≡ true → mcus_before_place head.now cursor.new.interval cursor.new.mcu ≡ (row + 1) * mcus_across head.now }
     ensures all { cursor.old.file.are_all ≡ true → result ≡ true }
 {
     let across = shape_of(head).across;

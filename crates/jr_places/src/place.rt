@@ -1,7 +1,7 @@
 //! A place between two rows of MCUs.
 
 ghost use Rattle.std.specs.Prelude.{◌≡◌, true, false};
-ghost use Rattle.jr_places.specs.Places.{StandsAt};
+ghost use Rattle.jr_places.specs.Places.{IsPlaceOf};
 
 use jr_head::Head;
 
@@ -27,8 +27,8 @@ pub struct RowPlace {
 
 /// Whether a place has numbers of this head's picture: a row, and the interval and MCU that begin it.
 pub fn stands_at(head: &Head, place: &RowPlace) -> bool
-    ensures there { result ≡ true → StandsAt head.now place.now }
-    ensures not_there { result ≡ false → StandsAt head.now place.now → ⊥ }
+    ensures there { result ≡ true → IsPlaceOf head.now place.now }
+    ensures not_there { result ≡ false → IsPlaceOf head.now place.now → ⊥ }
 {
     if place.interval >= head.intervals() || place.row > head.mcus_down() {
         return false;

@@ -9,7 +9,7 @@ ghost use Rattle.jr_places.specs.Shown.{AreLines, ShowsRow};
 ghost use Rattle.jr_rows.specs.Rows.{HasSampleRoom, line_count};
 ghost use Rattle.jr_scan.specs.ScanValue.{ScanValue};
 ghost use Rattle.jr_places.specs.Meaning.{IsPlaceIn, MayBe};
-ghost use Rattle.jr_places.specs.Places.{StandsAt, lines_before, lines_between, rows_to_give, rows_with_room};
+ghost use Rattle.jr_places.specs.Places.{IsPlaceOf, lines_above, lines_between, rows_to_give, rows_with_room};
 
 use crate::cursor::ScanCursor;
 use crate::decoding::decode_row;
@@ -23,7 +23,7 @@ use std::alloc::Global;
 
 /// How many lines of the picture stand before a row of MCUs.
 pub fn lines_before(head: &Head, row: u32) -> u32
-    ensures value { result ≡ lines_before head.now row }
+    ensures value { result ≡ lines_above head.now row }
     ensures few { result ≤ head.now.height }
 {
     head.be_lawful();
@@ -95,7 +95,7 @@ fn paint_row(head: &Head, samples: &mut SampleRow, row: u32, pixels: &mut [u8])
     ensures samples { HasSampleRoom head.now samples.new }
     ensures long { length pixels.new ≡ length pixels.old }
     ensures painted { (t : ScanValue) (marks : List Mark) (f : ℕ → ℕ → ℕ → ℕ) → t.head ≡ head.now → ShowsRow t row samples.old.lines.groups → ShowsFirst t (length t.intervals) marks f
-        → pixels.new ≡ next_lines_of head.now f (lines_before head.now row) (line_count head.now row) }
+        → pixels.new ≡ next_lines_of head.now f (lines_above head.now row) (line_count head.now row) }
 {
     head.be_lawful();
     let (y, count) = lines_of(head, row);
@@ -114,14 +114,14 @@ pub fn decode_rows(
     rows: u32,
     pixels: &mut [u8],
 ) -> Result<RowPlace, Memory>
-    requires stands { StandsAt head.now place.now }
-    ensures stands { IfOk result (StandsAt head.now) }
+    requires stands { IsPlaceOf head.now place.now }
+    ensures stands { IfOk result (IsPlaceOf head.now) }
     ensures on { IfOk result (λ p. place.now.row ≤ p.row) }
     ensures few { IfOk result (λ p. p.row ≤ place.now.row + rows_to_give head.now place.now.row rows (length pixels.old)) }
     ensures all { file.entry.are_all ≡ true → IfOk result (λ p. p.row ≡ place.now.row + rows_to_give head.now place.now.row rows (length pixels.old)) }
     ensures none { IfOk result (λ p. p.row ≡ place.now.row → p ≡ place.now) }
     ensures place { (whole : List ℕ) (t : ScanValue) → MayBe file.entry.bytes.now file.entry.are_all head.now whole t → IsPlaceIn file.entry.bytes.now whole t place.now → IfOk result (IsPlaceIn file.entry.bytes.now whole t) }
-    ensures lines { IfOk result (λ p. AreLines file.entry.bytes.now file.entry.are_all head.now place.now (lines_before head.now place.now.row) (lines_between head.now place.now.row p.row)
+    ensures lines { IfOk result (λ p. AreLines file.entry.bytes.now file.entry.are_all head.now place.now (lines_above head.now place.now.row) (lines_between head.now place.now.row p.row)
         (take (lines_between head.now place.now.row p.row * line_size head.now) pixels.new)) }
     ensures kept { IfOk result (λ p. drop (lines_between head.now place.now.row p.row * line_size head.now) pixels.new ≡ drop (lines_between head.now place.now.row p.row * line_size head.now) pixels.old) }
     ensures long { length pixels.new ≡ length pixels.old }
@@ -152,8 +152,8 @@ pub fn skip_rows(
     place: &RowPlace,
     rows: u32,
 ) -> Result<RowPlace, Memory>
-    requires stands { StandsAt head.now place.now }
-    ensures stands { IfOk result (StandsAt head.now) }
+    requires stands { IsPlaceOf head.now place.now }
+    ensures stands { IfOk result (IsPlaceOf head.now) }
     ensures on { IfOk result (λ p. place.now.row ≤ p.row) }
     ensures few { IfOk result (λ p. p.row ≤ place.now.row + min rows (mcus_down head.now - place.now.row)) }
     ensures all { file.entry.are_all ≡ true → IfOk result (λ p. p.row ≡ place.now.row + min rows (mcus_down head.now - place.now.row)) }

@@ -3,9 +3,9 @@
 ghost use Rattle.std.specs.Prelude.{◌≡◌, ◌≢◌, ◌+◌, ◌*◌, ◌<◌, ◌≤◌, true};
 ghost use Rattle.jr_head.specs.Geometry.{mcus_across, mcus_down, mcus_of};
 ghost use Rattle.jr_head.specs.Intervals.{mcus_in};
-ghost use Rattle.jr_places.specs.Places.{mcus_before};
+ghost use Rattle.jr_places.specs.Places.{mcus_before_place};
 ghost use Rattle.jr_places.specs.declared.cursor.Reading.TheVariants.{GoesOn};
-ghost use Rattle.jr_places.specs.Cursors.{IsCursor, NoneFollows, Passes, PassesIn, StaysTrue, in_window};
+ghost use Rattle.jr_places.specs.Cursors.{IsCursor, NoneFollows, PassesOver, PassesIn, StaysTrue, in_window};
 ghost use Rattle.jr_scan.specs.Run.{HasNoMcu};
 
 use crate::cursor::{Reading, ScanCursor};
@@ -70,9 +70,9 @@ fn skip_grey(cursor: &mut ScanCursor<'_>, head: &Head, mcus: u32) -> u32
 /// Passes over some further MCUs of the row: answers how many; none where the next one is not settled.
 fn skip_some(cursor: &mut ScanCursor<'_>, head: &Head, mcus: u32) -> u32
     requires cursor { IsCursor head.now cursor.old }
-    requires more { mcus_before head.now cursor.old.interval cursor.old.mcu < mcus_of head.now }
+    requires more { mcus_before_place head.now cursor.old.interval cursor.old.mcu < mcus_of head.now }
     requires some { 0 < mcus }
-    ensures passes { Passes head.now cursor.old cursor.new result }
+    ensures passes { PassesOver head.now cursor.old cursor.new result }
     ensures stands { StaysTrue head.now cursor.old cursor.new }
     ensures few { result ≤ mcus }
     ensures all { cursor.old.file.are_all ≡ true → 0 < result }
@@ -94,11 +94,11 @@ fn skip_some(cursor: &mut ScanCursor<'_>, head: &Head, mcus: u32) -> u32
 pub(crate) fn skip_row(cursor: &mut ScanCursor<'_>, head: &Head, row: u32) -> bool
     requires cursor { IsCursor head.now cursor.old }
     requires row { row < mcus_down head.now }
-    requires at { mcus_before head.now cursor.old.interval cursor.old.mcu ≡ row * mcus_across head.now }
+    requires at { mcus_before_place head.now cursor.old.interval cursor.old.mcu ≡ row * mcus_across head.now }
     ensures cursor { IsCursor head.now cursor.new }
     ensures file { cursor.new.file ≡ cursor.old.file }
     ensures stands { StaysTrue head.now cursor.old cursor.new }
-    ensures whole { result ≡ true → mcus_before head.now cursor.new.interval cursor.new.mcu ≡ (row + 1) * mcus_across head.now }
+    ensures whole { result ≡ true → mcus_before_place head.now cursor.new.interval cursor.new.mcu ≡ (row + 1) * mcus_across head.now }
     ensures all { cursor.old.file.are_all ≡ true → result ≡ true }
 {
     let across = shape_of(head).across;

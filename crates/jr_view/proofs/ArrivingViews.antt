@@ -24,7 +24,7 @@ use Rattle.jr_arrival.specs.Growing.{HasScan}
 use Rattle.jr_arrival.specs.Settled.{AreFinal, GivesNext, NextLines}
 use Rattle.jr_arrival.proofs.HeadsStay.{head_stays}
 use Rattle.jr_settled.proofs.LinesOfPictures.{one_lines}
-use Rattle.jr_view.specs.ArrivingViews.{ArrivingViewValue, AreSettled, HasLines, IsPictureOf, IsSeen, KeepsLines, ShowsLines, lines_shown, view_of}
+use Rattle.jr_view.specs.ArrivingViews.{ArrivingViewValue, AreSettled, ViewHasLines, AreScanLines, IsSeen, KeepsLines, ViewShowsLines, lines_shown, view_of}
 
 -- what more bytes can become, those before can
 pub final_stays : (bytes more : List ℕ) (first count : ℕ) (pixels : List ℕ) → AreFinal bytes first count pixels → AreFinal (bytes ++ more) first count pixels
@@ -41,7 +41,7 @@ no_lines bytes pixels line file t marks f can has shows = let zero : 0 * line �
 
 -- ---- more bytes
 
-lines_stay : (bytes more : List ℕ) (h : HeadValue) (lines : ℕ) (pixels : List ℕ) → ShowsLines bytes h lines pixels → ShowsLines (bytes ++ more) h lines pixels
+lines_stay : (bytes more : List ℕ) (h : HeadValue) (lines : ℕ) (pixels : List ℕ) → ViewShowsLines bytes h lines pixels → ViewShowsLines (bytes ++ more) h lines pixels
 lines_stay bytes more h lines pixels s = record { size = s.size; few = s.few; shown = final_stays bytes more 0 lines (take (lines * line_size h) pixels) s.shown; grey = s.grey }
 
 pub seen_more : (a b : ArrivingValue) (pixels : List ℕ) (room : ℕ) (bytes more : List ℕ) → All (λ b. b < 256) more → given_of b.coming ≡ given_of a.coming → IsArriving b (bytes ++ more)
@@ -56,7 +56,7 @@ seen_more a b pixels room bytes more each lines come seen = record {
       record {
         head = has.head;
         is_head = head_stays bytes more small has.head has.is_head;
-        lines = subst (λ (n : ℕ). ShowsLines (bytes ++ more) has.head n pixels) (sym lines) (lines_stay bytes more has.head (given_of a.coming) pixels has.lines);
+        lines = subst (λ (n : ℕ). ViewShowsLines (bytes ++ more) has.head n pixels) (sym lines) (lines_stay bytes more has.head (given_of a.coming) pixels has.lines);
         room = has.room;
       };
 }
@@ -74,7 +74,7 @@ not_empty old new long some e = some (nil_from_length old (sym long ∙ ap (λ (
 
 -- ---- the head is there
 
-grey_shown : (bytes : List ℕ) (h : HeadValue) (pixels : List ℕ) → pixels ≡ replicate (h.height * line_size h) 128 → ShowsLines bytes h 0 pixels
+grey_shown : (bytes : List ℕ) (h : HeadValue) (pixels : List ℕ) → pixels ≡ replicate (h.height * line_size h) 128 → ViewShowsLines bytes h 0 pixels
 grey_shown bytes h pixels grey =
     let zero : 0 * line_size h ≡ 0 = omega arith in
     let all : h.height - 0 ≡ h.height = omega arith in
@@ -96,7 +96,7 @@ seen_grey a b h old pixels room next bytes empty lines come head grey wide seen 
       some = λ some small. record {
         head = h;
         is_head = head small;
-        lines = subst (λ (n : ℕ). ShowsLines bytes h n pixels) (sym zero) (grey_shown bytes h pixels grey);
+        lines = subst (λ (n : ℕ). ViewShowsLines bytes h n pixels) (sym zero) (grey_shown bytes h pixels grey);
         room = wide;
       };
     }
@@ -113,7 +113,7 @@ seen_same a b pixels room next bytes lines come same seen = record {
       record {
         head = has.head;
         is_head = has.is_head;
-        lines = subst (λ (n : ℕ). ShowsLines bytes has.head n pixels) (sym lines) has.lines;
+        lines = subst (λ (n : ℕ). ViewShowsLines bytes has.head n pixels) (sym lines) has.lines;
         room = omega (arith, has.room, same);
       };
 }
@@ -128,7 +128,7 @@ pub record Puts (old new row : List ℕ) (first n line : ℕ) : Type 0 where
   pub behind : drop ((first + n) * line) new ≡ drop ((first + n) * line) old
 
 more_lines : (bytes : List ℕ) (h : HeadValue) (first n : ℕ) (old new row : List ℕ) → first + n ≤ h.height → Puts old new row first n (line_size h) → AreFinal bytes first n (take (n * line_size h) row)
-    → ShowsLines bytes h first old → ShowsLines bytes h (first + n) new
+    → ViewShowsLines bytes h first old → ViewShowsLines bytes h (first + n) new
 more_lines bytes h first n old new row high puts are s =
     let line = line_size h in
     let rest = h.height - (first + n) in
@@ -149,7 +149,7 @@ more_lines bytes h first n old new row high puts are s =
 module _ (a b : ArrivingValue) (old row : List ℕ) (room n : ℕ) (bytes : List ℕ) (some : old ≢ []) (wide : length row ≡ room) (lines : given_of b.coming ≡ given_of a.coming + n) (come : IsArriving b bytes)
     (next : GivesNext bytes (given_of a.coming) n row) (seen : IsSeen (record { arriving = a; pixels = old; room = room }) bytes) where
   -- the head that the view has is the bytes'
-  there : (x : NextLines bytes (given_of a.coming) n row) → HasLines (record { arriving = a; pixels = old; room = room }) bytes
+  there : (x : NextLines bytes (given_of a.coming) n row) → ViewHasLines (record { arriving = a; pixels = old; room = room }) bytes
   there x = seen.some some x.scan.head.small
 
   is_theirs : (x : NextLines bytes (given_of a.coming) n row) → x.settled.scan.head ≡ (there x).head
@@ -175,7 +175,7 @@ module _ (a b : ArrivingValue) (old row : List ℕ) (room n : ℕ) (bytes : List
           some = λ is small. record {
             head = h;
             is_head = has.is_head;
-            lines = subst (λ (k : ℕ). ShowsLines bytes h k new) (sym lines) (more_lines bytes h first n old new row high puts' are has.lines);
+            lines = subst (λ (k : ℕ). ViewShowsLines bytes h k new) (sym lines) (more_lines bytes h first n old new row high puts' are has.lines);
             room = omega (arith, has.room, wide);
           };
         }
@@ -272,10 +272,10 @@ rest_same scan first count tail m high p marks f shows = p.lines ∙ one_lines s
 
 module _ (a : ArrivingValue) (old : List ℕ) (room : ℕ) (bytes : List ℕ) (scan : ScanValue) (has : HasScan bytes scan) (seen : IsSeen (record { arriving = a; pixels = old; room = room }) bytes) where
   -- the lines that are shown are lines of the scan's picture
-  shown_there : old ≢ [] → ShowsLines bytes scan.head (given_of a.coming) old
+  shown_there : old ≢ [] → ViewShowsLines bytes scan.head (given_of a.coming) old
   shown_there some =
       let there = seen.some some has.head.small in
-      subst (λ (h : HeadValue). ShowsLines bytes h (given_of a.coming) old) (one_head bytes there.head scan.head seen.are_bytes there.is_head has.head) there.lines
+      subst (λ (h : HeadValue). ViewShowsLines bytes h (given_of a.coming) old) (one_head bytes there.head scan.head seen.are_bytes there.is_head has.head) there.lines
 
   pub few_shown : given_of a.coming ≤ scan.head.height
   few_shown = elim (none_or_some old) [ inl e ↦ omega (arith, seen.none e) | inr some ↦ (shown_there some).few ]
@@ -292,7 +292,7 @@ module _ (a : ArrivingValue) (old : List ℕ) (room : ℕ) (bytes : List ℕ) (s
   -- with the others they are the picture
   pub whole_picture : (whole painted : List ℕ) → (old ≢ [] → whole ≡ old) → take (given_of a.coming * line_size scan.head) painted ≡ take (given_of a.coming * line_size scan.head) whole
       → ((marks : List Mark) (f : ℕ → ℕ → ℕ → ℕ) → ShowsFirst scan (length scan.intervals) marks f → drop (given_of a.coming * line_size scan.head) painted ≡ next_lines_of scan.head f (given_of a.coming) (scan.head.height - given_of a.coming))
-      → IsPictureOf scan painted
+      → AreScanLines scan painted
   whole_picture whole painted there before rest marks f shows =
       let h = scan.head in
       let first = given_of a.coming in

@@ -21,7 +21,7 @@ use Rattle.jr_piece.proofs.ScanLaws.{one_decoding, one_front, shorter_front}
 use Rattle.jr_piece.proofs.Strips.{final}
 use Rattle.jr_picture.specs.Boards.{IsPieceOf}
 use Rattle.jr_view.specs.ViewValue.{ViewValue}
-use Rattle.jr_view.specs.Views.{AddsMcus, IsAmong, IsSameAt, first_of, first_of_strip, has_seen, size_of, unit_at}
+use Rattle.jr_view.specs.Views.{AddsMcus, IsAmong, IsSameAt, first_mcu_of, first_of_strip, has_seen, size_of, unit_at}
 use Rattle.jr_view.specs.Parts.{IsPartOfPicture, ShowsOwn}
 use Rattle.jr_view.proofs.Showing.{tells}
 
@@ -32,7 +32,7 @@ view_of scan units seen = record { scan = scan; units = units; seen = seen }
 abbrev pub AreOwn : ScanValue → (first count : ℕ) → List (List ℕ) → Type 0
 AreOwn scan first count units =
     (mcu : ℕ) → IsAmong scan.head first count mcu → (p : PieceValue) → IsPieceOf scan (interval_number scan.head mcu) p → (k : ℕ) → k < blocks_of scan.head
-    → slice_index_or units ((mcu - first) * blocks_of scan.head + k) grey_unit ≡ slice_index_or p.samples ((mcu - first_of scan.head p.interval.number) * blocks_of scan.head + k) grey_unit
+    → slice_index_or units ((mcu - first) * blocks_of scan.head + k) grey_unit ≡ slice_index_or p.samples ((mcu - first_mcu_of scan.head p.interval.number) * blocks_of scan.head + k) grey_unit
 
 module _ (scan : ScanValue) (us vs : List (List ℕ)) (bs cs : List Bool) (first count : ℕ) (units : List (List ℕ)) (a : AddsMcus (view_of scan us bs) first count units (view_of scan vs cs)) where
   -- what is as it was shows its own
@@ -117,20 +117,20 @@ module _ (scan : ScanValue) (s : StripValue) (counts : length scan.intervals ≡
       let split : (s.first + d) * n ≡ s.first * n + d * n = add-mul s.first d n in
       let one : (s.first + d + 1) * n ≡ (s.first + d) * n + 1 * n = add-mul (s.first + d) 1 n in
       let most : (s.first + d + 1) * n ≤ (s.first + s.mcus) * n = mul-le-mul_right n (omega (arith, before)) in
-      let place : mcu - first_of h p.interval.number ≡ s.first + d = omega (arith, ap (λ j. j * h.restart) number, among.from) in
-      let at : s.first * length (order_of s.interval.head) + (d * n + k) ≡ (mcu - first_of h p.interval.number) * n + k = omega (arith, start, split, ap (λ j. j * n) place) in
+      let place : mcu - first_mcu_of h p.interval.number ≡ s.first + d = omega (arith, ap (λ j. j * h.restart) number, among.from) in
+      let at : s.first * length (order_of s.interval.head) + (d * n + k) ≡ (mcu - first_mcu_of h p.interval.number) * n + k = omega (arith, start, split, ap (λ j. j * n) place) in
       ap (λ (us : List (List ℕ)). get_or us (d * n + k) grey_unit) shows.samples
       ∙ get_or-drop (s.first * length (order_of s.interval.head)) (take ((s.first + s.mcus) * length (order_of s.interval.head)) p.samples) (d * n + k) grey_unit
       ∙ get_or-take ((s.first + s.mcus) * length (order_of s.interval.head)) p.samples (s.first * length (order_of s.interval.head) + (d * n + k)) grey_unit (omega (arith, start, end, split, one, most, lt))
       ∙ ap (λ j. get_or p.samples j grey_unit) at
 
 -- so are those of a piece of it
-pub piece_own : (scan : ScanValue) (p : PieceValue) → length scan.intervals ≡ intervals_of scan.head → IsPieceOf scan p.interval.number p → AreOwn scan (first_of scan.head p.interval.number) (size_of scan.head) p.samples
+pub piece_own : (scan : ScanValue) (p : PieceValue) → length scan.intervals ≡ intervals_of scan.head → IsPieceOf scan p.interval.number p → AreOwn scan (first_mcu_of scan.head p.interval.number) (size_of scan.head) p.samples
 piece_own scan p counts is mcu among q of k lt =
     let h = scan.head in
     let here : interval_number h mcu ≡ p.interval.number = number_is h p.interval.number mcu (omega (arith, is.interval.0, counts)) among.from among.before in
     let same : p ≡ q = one_outcome one_decoding one_front p q (same_interval scan p.interval q.interval is.interval of.interval (sym (of.number ∙ here))) is.outcome of.outcome in
-    ap (λ (r : PieceValue). slice_index_or r.samples ((mcu - first_of h r.interval.number) * blocks_of h + k) grey_unit) same
+    ap (λ (r : PieceValue). slice_index_or r.samples ((mcu - first_mcu_of h r.interval.number) * blocks_of h + k) grey_unit) same
 
 -- what is shown of a view's own scan leaves it a part of its picture
 adds_own : (old new : ViewValue) (first count : ℕ) (units : List (List ℕ)) → AddsMcus old first count units new → AreOwn old.scan first count units → IsPartOfPicture old → IsPartOfPicture new
@@ -141,8 +141,8 @@ adds_own old new first count units a are p =
 pub strip_part : (old new : ViewValue) (s : StripValue) → AddsMcus old (first_of_strip old.scan.head s) s.mcus s.samples new → IsStrip s → IsPartOfPicture old → HasInterval old.scan s.interval → IsPartOfPicture new
 strip_part old new s a is p has = adds_own old new (first_of_strip old.scan.head s) s.mcus s.samples a (strip_own old.scan s p.intervals is has) p
 
-pub piece_part : (old new : ViewValue) (p : PieceValue) → AddsMcus old (first_of old.scan.head p.interval.number) (size_of old.scan.head) p.samples new → IsPieceOf old.scan p.interval.number p → IsPartOfPicture old → IsPartOfPicture new
-piece_part old new p a is part = adds_own old new (first_of old.scan.head p.interval.number) (size_of old.scan.head) p.samples a (piece_own old.scan p part.intervals is) part
+pub piece_part : (old new : ViewValue) (p : PieceValue) → AddsMcus old (first_mcu_of old.scan.head p.interval.number) (size_of old.scan.head) p.samples new → IsPieceOf old.scan p.interval.number p → IsPartOfPicture old → IsPartOfPicture new
+piece_part old new p a is part = adds_own old new (first_mcu_of old.scan.head p.interval.number) (size_of old.scan.head) p.samples a (piece_own old.scan p part.intervals is) part
 
 -- a view of which nothing was seen is a part of each picture
 pub new_part : (v : ViewValue) → length v.scan.intervals ≡ intervals_of v.scan.head → ((mcu : ℕ) → has_seen v mcu ≡ false) → ((mcu k : ℕ) → unit_at v mcu k ≡ grey_unit) → IsPartOfPicture v

@@ -11,26 +11,26 @@ use Rattle.jr_scan.specs.ScanValue.{ScanValue}
 use Rattle.jr_piece.specs.PieceValue.{PieceValue}
 use Rattle.jr_piece.specs.StripValue.{StripValue}
 use Rattle.jr_view.specs.declared.looker.Looker.{Looker}
-use Rattle.jr_view.specs.Told.{Told, StripOf, PieceOf, Asked, AreInOrder, Becomes, IsOfScan, IsTold, is_late, is_piece, is_strip}
+use Rattle.jr_view.specs.Told.{Notice, StripOf, PieceOf, Asked, AreToldInOrder, ScreenBecomes, IsOfScan, IsTold, is_late, is_piece, is_strip}
 use Rattle.jr_view.specs.Lookers.{Keeps, Tells, has_told}
 use Rattle.jr_view.proofs.Showing.{tells}
 
 -- one more is counted or not
-count_more : (p : Told → Bool) (ts : List Told) (t : Told) → count_by p (ts ++ t ∷ []) ≡ count_by p ts + cond (p t) 1 0
+count_more : (p : Notice → Bool) (ts : List Notice) (t : Notice) → count_by p (ts ++ t ∷ []) ≡ count_by p ts + cond (p t) 1 0
 count_more p ts t = omega (arith, sum_by-append (λ u. cond {A = ℕ} (p u) 1 0) ts (t ∷ []), sum_by-cons (λ u. cond {A = ℕ} (p u) 1 0) t [])
 
-no_more : (p : Told → Bool) (ts : List Told) (t : Told) → p t ≡ false → count_by p (ts ++ t ∷ []) ≡ count_by p ts
+no_more : (p : Notice → Bool) (ts : List Notice) (t : Notice) → p t ≡ false → count_by p (ts ++ t ∷ []) ≡ count_by p ts
 no_more p ts t miss =
     let none : cond {A = ℕ} (p t) 1 0 ≡ 0 = ap (λ (b : Bool). cond {A = ℕ} b 1 0) miss in
     omega (arith, count_more p ts t, none)
 
-one_more : (p : Told → Bool) (ts : List Told) (t : Told) → p t ≡ true → count_by p (ts ++ t ∷ []) ≡ count_by p ts + 1
+one_more : (p : Notice → Bool) (ts : List Notice) (t : Notice) → p t ≡ true → count_by p (ts ++ t ∷ []) ≡ count_by p ts + 1
 one_more p ts t hit =
     let one : cond {A = ℕ} (p t) 1 0 ≡ 1 = ap (λ (b : Bool). cond {A = ℕ} b 1 0) hit in
     omega (arith, count_more p ts t, one)
 
 -- all are of the scan, where one more is
-all_more : (scan : ScanValue) (ts : List Told) (t : Told) → AllByRecursion (IsOfScan scan) ts → IsOfScan scan t → AllByRecursion (IsOfScan scan) (ts ++ t ∷ [])
+all_more : (scan : ScanValue) (ts : List Notice) (t : Notice) → AllByRecursion (IsOfScan scan) ts → IsOfScan scan t → AllByRecursion (IsOfScan scan) (ts ++ t ∷ [])
 all_more scan [] t all is = (is, tt)
 all_more scan (u ∷ ts) t all is = (all.0, all_more scan ts t all.1 is)
 
@@ -42,18 +42,18 @@ same_number n = elim (eqb_tells n n) [
 ]
 
 -- what is told as this is
-abbrev same_as : Told → Told → Bool
+abbrev same_as : Notice → Notice → Bool
 same_as (StripOf s) t = is_strip s.interval.number s.first t
 same_as (PieceOf p) t = is_piece p.interval.number t
 same_as Asked t = false
 
-same_itself : (u t : Told) → is_late u t ≡ true → same_as u u ≡ true
+same_itself : (u t : Notice) → is_late u t ≡ true → same_as u u ≡ true
 same_itself (StripOf s) t hit = ap (λ (b : Bool). b && (s.first == s.first)) (same_number s.interval.number) ∙ same_number s.first
 same_itself (PieceOf p) t hit = same_number p.interval.number
 same_itself Asked t hit = absurd (cc hit)
 
 -- they stay in order by what does not come too late behind any of them
-order_more : (ts : List Told) (t : Told) → AreInOrder ts → ((u : Told) → is_late u t ≡ true → count_by (same_as u) ts ≡ 0) → AreInOrder (ts ++ t ∷ [])
+order_more : (ts : List Notice) (t : Notice) → AreToldInOrder ts → ((u : Notice) → is_late u t ≡ true → count_by (same_as u) ts ≡ 0) → AreToldInOrder (ts ++ t ∷ [])
 order_more [] t o new = (refl, tt)
 order_more (u ∷ ts) t o new =
     let here : count_by (is_late u) (ts ++ t ∷ []) ≡ 0 = elim (tells (is_late u t)) [
@@ -72,8 +72,8 @@ err_not_ok (Ok x) err ok = absurd (cc err)
 err_not_ok (Err e) err ok = absurd (cc ok)
 
 -- what is told in two parts
-pub told_then : {S : Type 0} (becomes : S → Told → S → Type 0) (a b c : S) (ts us : List Told) → Becomes becomes a ts b → Becomes becomes b us c → Becomes becomes a (ts ++ us) c
-told_then becomes a b c [] us p q = subst (λ s. Becomes becomes s us c) p q
+pub told_then : {S : Type 0} (becomes : S → Notice → S → Type 0) (a b c : S) (ts us : List Notice) → ScreenBecomes becomes a ts b → ScreenBecomes becomes b us c → ScreenBecomes becomes a (ts ++ us) c
+told_then becomes a b c [] us p q = subst (λ s. ScreenBecomes becomes s us c) p q
 told_then becomes a b c (t ∷ ts) us p q = (p.0, p.1, told_then becomes p.0 b c ts us p.2 q)
 
 -- whether a strip is that of this interval and this first MCU
@@ -87,11 +87,11 @@ strip_tells i first s = elim (eqb_tells s.interval.number i) [
 ]
 
 -- no piece of an interval was told that is not marked
-no_piece : (scan : ScanValue) (l : Looker) (ts : List Told) (i : ℕ) → has_told l i ≡ false → Keeps scan l ts → count_by (is_piece i) ts ≡ 0
+no_piece : (scan : ScanValue) (l : Looker) (ts : List Notice) (i : ℕ) → has_told l i ≡ false → Keeps scan l ts → count_by (is_piece i) ts ≡ 0
 no_piece scan l ts i untold k = k.pieces i ∙ ap (λ (b : Bool). cond {A = ℕ} b 1 0) untold
 
-strip_is_new : (scan : ScanValue) (l : Looker) (s : StripValue) (ts : List Told) → has_told l s.interval.number ≡ false → get_or l.strips.items s.interval.number 0 ≤ s.first → Keeps scan l ts
-    → (u : Told) → is_late u (StripOf s) ≡ true → count_by (same_as u) ts ≡ 0
+strip_is_new : (scan : ScanValue) (l : Looker) (s : StripValue) (ts : List Notice) → has_told l s.interval.number ≡ false → get_or l.strips.items s.interval.number 0 ≤ s.first → Keeps scan l ts
+    → (u : Notice) → is_late u (StripOf s) ≡ true → count_by (same_as u) ts ≡ 0
 strip_is_new scan l s ts untold next k (StripOf t) hit = elim (eqb_tells s.interval.number t.interval.number) [
   | inl y ↦ elim (leb_tells s.first t.first) [
     | inl le ↦ k.next t.interval.number t.first (omega (arith, next, le.1, ap (λ n. get_or l.strips.items n 0) y.1))
@@ -106,18 +106,18 @@ strip_is_new scan l s ts untold next k (StripOf t) hit = elim (eqb_tells s.inter
 strip_is_new scan l s ts untold next k (PieceOf p) hit = no_piece scan l ts p.interval.number (ap (has_told l) (sym (eqb-true s.interval.number p.interval.number hit)) ∙ untold) k
 strip_is_new scan l s ts untold next k Asked hit = absurd (cc hit)
 
-piece_is_new : (scan : ScanValue) (l : Looker) (p : PieceValue) (ts : List Told) → has_told l p.interval.number ≡ false → Keeps scan l ts → (u : Told) → is_late u (PieceOf p) ≡ true → count_by (same_as u) ts ≡ 0
+piece_is_new : (scan : ScanValue) (l : Looker) (p : PieceValue) (ts : List Notice) → has_told l p.interval.number ≡ false → Keeps scan l ts → (u : Notice) → is_late u (PieceOf p) ≡ true → count_by (same_as u) ts ≡ 0
 piece_is_new scan l p ts untold k (StripOf t) hit = absurd (cc hit)
 piece_is_new scan l p ts untold k (PieceOf q) hit = no_piece scan l ts q.interval.number (ap (has_told l) (sym (eqb-true p.interval.number q.interval.number hit)) ∙ untold) k
 piece_is_new scan l p ts untold k Asked hit = absurd (cc hit)
 
-asked_is_new : (ts : List Told) (u : Told) → is_late u Asked ≡ true → count_by (same_as u) ts ≡ 0
+asked_is_new : (ts : List Notice) (u : Notice) → is_late u Asked ≡ true → count_by (same_as u) ts ≡ 0
 asked_is_new ts (StripOf t) hit = absurd (cc hit)
 asked_is_new ts (PieceOf q) hit = absurd (cc hit)
 asked_is_new ts Asked hit = absurd (cc hit)
 
 -- a strip behind those that were told, of an interval whose piece was not
-pub keeps_strip : (scan : ScanValue) (l m : Looker) (s : StripValue) (ts : List Told) → s.interval.number < length l.strips.items → has_told l s.interval.number ≡ false → get_or l.strips.items s.interval.number 0 ≤ s.first
+pub keeps_strip : (scan : ScanValue) (l m : Looker) (s : StripValue) (ts : List Notice) → s.interval.number < length l.strips.items → has_told l s.interval.number ≡ false → get_or l.strips.items s.interval.number 0 ≤ s.first
     → m.pieces.items ≡ l.pieces.items → m.strips.items ≡ set l.strips.items s.interval.number (s.first + 1) → IsOfScan scan (StripOf s) → Keeps scan l ts → Keeps scan m (ts ++ StripOf s ∷ [])
 keeps_strip scan l m s ts lt untold next same now is k =
     let i = s.interval.number in
@@ -149,7 +149,7 @@ keeps_strip scan l m s ts lt untold next same now is k =
     }
 
 -- a piece that was not told
-pub keeps_piece : (scan : ScanValue) (l m : Looker) (p : PieceValue) (ts : List Told) → p.interval.number < length l.pieces.items → has_told l p.interval.number ≡ false
+pub keeps_piece : (scan : ScanValue) (l m : Looker) (p : PieceValue) (ts : List Notice) → p.interval.number < length l.pieces.items → has_told l p.interval.number ≡ false
     → m.strips.items ≡ l.strips.items → m.pieces.items ≡ set l.pieces.items p.interval.number true → IsOfScan scan (PieceOf p) → Keeps scan l ts → Keeps scan m (ts ++ PieceOf p ∷ [])
 keeps_piece scan l m p ts lt untold same now is k =
     let i = p.interval.number in
@@ -171,7 +171,7 @@ keeps_piece scan l m p ts lt untold same now is k =
       order = order_more ts t k.order (piece_is_new scan l p ts untold k);
     }
 
-keeps_asked : (scan : ScanValue) (l : Looker) (ts : List Told) → Keeps scan l ts → Keeps scan l (ts ++ Asked ∷ [])
+keeps_asked : (scan : ScanValue) (l : Looker) (ts : List Notice) → Keeps scan l ts → Keeps scan l (ts ++ Asked ∷ [])
 keeps_asked scan l ts k = record {
   own = all_more scan ts Asked k.own tt;
   pieces = λ j. no_more (is_piece j) ts Asked refl ∙ k.pieces j;
@@ -190,7 +190,7 @@ keeps_nothing l none scan = record {
   order = tt;
 }
 
-module _ {S : Type 0} (becomes : S → Told → S → Type 0) (scan : ScanValue) where
+module _ {S : Type 0} (becomes : S → Notice → S → Type 0) (scan : ScanValue) where
   pub tells_nothing : (l : Looker) (a : S) → Tells becomes scan l a l a
   tells_nothing l a = record {
     told = [];
@@ -200,7 +200,7 @@ module _ {S : Type 0} (becomes : S → Told → S → Type 0) (scan : ScanValue)
     remembers = λ i t. t;
   }
 
-  pub tells_one : (l m : Looker) (a b : S) (t : Told) → becomes a t b → ((before : List Told) → Keeps scan l before → Keeps scan m (before ++ t ∷ [])) → length m.pieces.items ≡ length l.pieces.items → ((i : ℕ) → has_told l i ≡ true → has_told m i ≡ true)
+  pub tells_one : (l m : Looker) (a b : S) (t : Notice) → becomes a t b → ((before : List Notice) → Keeps scan l before → Keeps scan m (before ++ t ∷ [])) → length m.pieces.items ≡ length l.pieces.items → ((i : ℕ) → has_told l i ≡ true → has_told m i ≡ true)
       → Tells becomes scan l a m b
   tells_one l m a b t step keeps count remembers = record { told = t ∷ []; screen = (b, step, refl); keeps = keeps; count = count; remembers = remembers }
 

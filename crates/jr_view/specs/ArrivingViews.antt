@@ -27,17 +27,17 @@ abbrev pub lines_shown : ArrivingViewValue → ℕ
 lines_shown v = given_of v.arriving.coming
 
 -- of a picture with this head so many lines are shown, which every file shows that the bytes can become; all behind them is mid-grey
-pub record ShowsLines (bytes : List ℕ) (h : HeadValue) (lines : ℕ) (pixels : List ℕ) : Type 0 where
+pub record ViewShowsLines (bytes : List ℕ) (h : HeadValue) (lines : ℕ) (pixels : List ℕ) : Type 0 where
   pub size : length pixels ≡ h.height * line_size h
   pub few : lines ≤ h.height
   pub shown : AreFinal bytes 0 lines (take (lines * line_size h) pixels)
   pub grey : drop (lines * line_size h) pixels ≡ replicate ((h.height - lines) * line_size h) 128
 
 -- it has the lines of the picture with the head of these bytes
-pub record HasLines (v : ArrivingViewValue) (bytes : List ℕ) : Type 0 where
+pub record ViewHasLines (v : ArrivingViewValue) (bytes : List ℕ) : Type 0 where
   pub head : HeadValue
   pub is_head : HeadOf bytes head
-  pub lines : ShowsLines bytes head (lines_shown v) v.pixels
+  pub lines : ViewShowsLines bytes head (lines_shown v) v.pixels
   pub room : line_size head ≤ v.room
 
 -- these bytes of the file have come, and what is shown is theirs; before there is room for lines none is shown
@@ -45,7 +45,7 @@ pub record IsSeen (v : ArrivingViewValue) (bytes : List ℕ) : Type 0 where
   pub are_bytes : All (λ b. b < 256) bytes
   pub arriving : IsArriving v.arriving bytes
   pub none : v.pixels ≡ [] → lines_shown v ≡ 0
-  pub some : v.pixels ≢ [] → length bytes ≤ MAX_FILE_BYTES → HasLines v bytes
+  pub some : v.pixels ≢ [] → length bytes ≤ MAX_FILE_BYTES → ViewHasLines v bytes
 
 -- these are all lines that the bytes settle, or they have no head yet
 abbrev pub AreSettled : (bytes : List ℕ) → (lines : ℕ) → Type 0
@@ -56,5 +56,5 @@ abbrev pub KeepsLines : (old new : ArrivingViewValue) → Type 0
 KeepsLines old new = (bytes : List ℕ) (h : HeadValue) → IsSeen old bytes → HeadOf bytes h → take (lines_shown old * line_size h) new.pixels ≡ take (lines_shown old * line_size h) old.pixels
 
 -- the lines of the scan's picture, of which all intervals are marked
-abbrev pub IsPictureOf : ScanValue → List ℕ → Type 0
-IsPictureOf s pixels = (marks : List Mark) (f : ℕ → ℕ → ℕ → ℕ) → ShowsFirst s (length s.intervals) marks f → pixels ≡ next_lines_of s.head f 0 s.head.height
+abbrev pub AreScanLines : ScanValue → List ℕ → Type 0
+AreScanLines s pixels = (marks : List Mark) (f : ℕ → ℕ → ℕ → ℕ) → ShowsFirst s (length s.intervals) marks f → pixels ≡ next_lines_of s.head f 0 s.head.height

@@ -3,24 +3,24 @@ use Rattle.std.specs.Prelude.{◌≡◌, ℕ, ◌≤◌, Bool, true, false, List
 use Rattle.std.specs.List.{AllByRecursion}
 use Rattle.jr_scan.specs.ScanValue.{ScanValue}
 use Rattle.jr_view.specs.declared.looker.Looker.{Looker}
-use Rattle.jr_view.specs.Told.{Told, AreInOrder, Becomes, IsOfScan, is_piece, is_strip}
+use Rattle.jr_view.specs.Told.{Notice, AreToldInOrder, ScreenBecomes, IsOfScan, is_piece, is_strip}
 
 -- whether it was told of the piece of interval i
 abbrev pub has_told : Looker → ℕ → Bool
 has_told l i = slice_index_or l.pieces.items i false
 
 -- it was told of just the pieces that are marked, and of no strip of an interval from this MCU on
-pub record Keeps (scan : ScanValue) (l : Looker) (told : List Told) : Type 0 where
+pub record Keeps (scan : ScanValue) (l : Looker) (told : List Notice) : Type 0 where
   pub own : AllByRecursion (IsOfScan scan) told
   pub pieces : (i : ℕ) → count_by (is_piece i) told ≡ (if has_told l i then 1 else 0)
   pub strips : (i first : ℕ) → count_by (is_strip i first) told ≤ 1
   pub next : (i first : ℕ) → slice_index_or l.strips.items i 0 ≤ first → count_by (is_strip i first) told ≡ 0
-  pub order : AreInOrder told
+  pub order : AreToldInOrder told
 
 -- a looker tells a screen of something, and both become others; no piece that was told is forgotten
-pub record Tells {S : Type 0} (becomes : S → Told → S → Type 0) (scan : ScanValue) (l : Looker) (a : S) (m : Looker) (b : S) : Type 0 where
-  pub told : List Told
-  pub screen : Becomes becomes a told b
-  pub keeps : (before : List Told) → Keeps scan l before → Keeps scan m (before ++ told)
+pub record Tells {S : Type 0} (becomes : S → Notice → S → Type 0) (scan : ScanValue) (l : Looker) (a : S) (m : Looker) (b : S) : Type 0 where
+  pub told : List Notice
+  pub screen : ScreenBecomes becomes a told b
+  pub keeps : (before : List Notice) → Keeps scan l before → Keeps scan m (before ++ told)
   pub count : length m.pieces.items ≡ length l.pieces.items
   pub remembers : (i : ℕ) → has_told l i ≡ true → has_told m i ≡ true

@@ -8,30 +8,30 @@ use Rattle.jr_piece.specs.Strips.{IsStrip}
 use Rattle.jr_picture.specs.Boards.{IsPieceOf}
 
 -- it is shown a strip or a piece, or is asked whether it is done
-pub data Told : Type 0 where
-  StripOf : StripValue → Told
-  PieceOf : PieceValue → Told
-  Asked : Told
+pub data Notice : Type 0 where
+  StripOf : StripValue → Notice
+  PieceOf : PieceValue → Notice
+  Asked : Notice
 
 -- whether that is the piece of this interval
-abbrev pub is_piece : ℕ → Told → Bool
+abbrev pub is_piece : ℕ → Notice → Bool
 is_piece i (StripOf s) = false
 is_piece i (PieceOf p) = p.interval.number == i
 is_piece i Asked = false
 
 -- the strip of this interval that begins with this MCU
-abbrev pub is_strip : ℕ → ℕ → Told → Bool
+abbrev pub is_strip : ℕ → ℕ → Notice → Bool
 is_strip i first (StripOf s) = (s.interval.number == i) && (s.first == first)
 is_strip i first (PieceOf p) = false
 is_strip i first Asked = false
 
 -- a screen becomes another by what it is told, one after the other
-abbrev pub Becomes : {S : Type 0} → (S → Told → S → Type 0) → S → List Told → S → Type 0
-Becomes becomes a [] b = b ≡ a
-Becomes {S} becomes a (t ∷ more) b = (c : S) × becomes a t c × Becomes becomes c more b
+abbrev pub ScreenBecomes : {S : Type 0} → (S → Notice → S → Type 0) → S → List Notice → S → Type 0
+ScreenBecomes becomes a [] b = b ≡ a
+ScreenBecomes {S} becomes a (t ∷ more) b = (c : S) × becomes a t c × ScreenBecomes becomes c more b
 
 -- whether that comes too late behind this: the strips of an interval come in their order, then its piece, and each once
-abbrev pub is_late : Told → Told → Bool
+abbrev pub is_late : Notice → Notice → Bool
 is_late (StripOf s) (StripOf t) = (t.interval.number == s.interval.number) && leb t.first s.first
 is_late (StripOf s) (PieceOf q) = false
 is_late (StripOf s) Asked = false
@@ -41,23 +41,23 @@ is_late (PieceOf p) Asked = false
 is_late Asked t = false
 
 -- nothing comes too late
-abbrev pub AreInOrder : List Told → Type 0
-AreInOrder [] = ⊤
-AreInOrder (t ∷ later) = (count_by (is_late t) later ≡ 0) × AreInOrder later
+abbrev pub AreToldInOrder : List Notice → Type 0
+AreToldInOrder [] = ⊤
+AreToldInOrder (t ∷ later) = (count_by (is_late t) later ≡ 0) × AreToldInOrder later
 
 -- a piece is the scan's own, and a strip one of an interval that has a number of the scan's
-abbrev pub IsOfScan : ScanValue → Told → Type 0
+abbrev pub IsOfScan : ScanValue → Notice → Type 0
 IsOfScan scan (StripOf s) = IsStrip s × (s.interval.number < length scan.intervals)
 IsOfScan scan (PieceOf p) = IsPieceOf scan p.interval.number p
 IsOfScan scan Asked = ⊤
 
 -- A screen was told of no strip and no piece twice, and of an interval's strips in their order and before its piece; where the
 -- watch has ended well, of the piece of each interval.
-pub record IsTold {S : Type 0} (becomes : S → Told → S → Type 0) (scan : ScanValue) (ended : Type 0) (before after : S) : Type 0 where
-  pub told : List Told
-  pub screen : Becomes becomes before told after
+pub record IsTold {S : Type 0} (becomes : S → Notice → S → Type 0) (scan : ScanValue) (ended : Type 0) (before after : S) : Type 0 where
+  pub told : List Notice
+  pub screen : ScreenBecomes becomes before told after
   pub own : AllByRecursion (IsOfScan scan) told
   pub strips : (i first : ℕ) → count_by (is_strip i first) told ≤ 1
   pub pieces : (i : ℕ) → count_by (is_piece i) told ≤ 1
-  pub order : AreInOrder told
+  pub order : AreToldInOrder told
   pub all : ended → (i : ℕ) → i < length scan.intervals → count_by (is_piece i) told ≡ 1

@@ -3,6 +3,7 @@ use Rattle.std.specs.Prelude.{◌≡◌, ℕ, ◌+◌, ◌-◌, ◌*◌, ◌==�
 use Rattle.std.specs.List.{list_all, range_with_len}
 use Rattle.jr_head.specs.HeadValue.{HeadValue}
 use Rattle.jr_head.specs.Geometry.{blocks_of, mcus_across, mcus_down, mcus_of}
+pub use Rattle.jr_head.specs.Intervals.{first_mcu_of}
 use Rattle.jr_piece.specs.PieceValue.{PieceValue}
 use Rattle.jr_piece.specs.StripValue.{StripValue}
 use Rattle.jr_piece.specs.Units.{grey_unit}
@@ -54,16 +55,13 @@ pub record IsAmong (h : HeadValue) (first count mcu : ℕ) : Type 0 where
 abbrev pub IsOutside : (first count mcu : ℕ) → Type 0
 IsOutside first count mcu = (mcu < first) ⊎ (first + count ≤ mcu)
 
--- the first MCU of interval i, and how many it has, but for the last one, which ends with the picture (E.1.4)
-abbrev pub first_of : HeadValue → ℕ → ℕ
-first_of h i = i * h.restart
-
+-- the number of MCUs of an interval, except of the last one, which ends with the picture (E.1.4)
 abbrev pub size_of : HeadValue → ℕ
 size_of h = if h.restart == 0 then mcus_of h else h.restart
 
 -- the MCU is one of a strip, or none of them
 abbrev pub first_of_strip : HeadValue → StripValue → ℕ
-first_of_strip h s = first_of h s.interval.number + s.first
+first_of_strip h s = first_mcu_of h s.interval.number + s.first
 
 abbrev pub IsOfStrip : ViewValue → StripValue → ℕ → Type 0
 IsOfStrip v s mcu = IsAmong v.scan.head (first_of_strip v.scan.head s) s.mcus mcu
@@ -77,14 +75,14 @@ ShowsStripUnits v s mcu = ShowsUnits v mcu s.samples ((mcu - first_of_strip v.sc
 
 -- the MCU is one of a piece's interval, or none of them
 abbrev pub IsOfPiece : ViewValue → PieceValue → ℕ → Type 0
-IsOfPiece v p mcu = IsAmong v.scan.head (first_of v.scan.head p.interval.number) (size_of v.scan.head) mcu
+IsOfPiece v p mcu = IsAmong v.scan.head (first_mcu_of v.scan.head p.interval.number) (size_of v.scan.head) mcu
 
 abbrev pub IsNotOfPiece : ViewValue → PieceValue → ℕ → Type 0
-IsNotOfPiece v p mcu = IsOutside (first_of v.scan.head p.interval.number) (size_of v.scan.head) mcu
+IsNotOfPiece v p mcu = IsOutside (first_mcu_of v.scan.head p.interval.number) (size_of v.scan.head) mcu
 
 -- it shows the piece's data units, grey ones behind its front
 abbrev pub ShowsPiece : ViewValue → PieceValue → ℕ → Type 0
-ShowsPiece v p mcu = ShowsUnits v mcu p.samples ((mcu - first_of v.scan.head p.interval.number) * blocks_of v.scan.head)
+ShowsPiece v p mcu = ShowsUnits v mcu p.samples ((mcu - first_mcu_of v.scan.head p.interval.number) * blocks_of v.scan.head)
 
 -- what the fields of a view keep
 pub record IsView (v : ViewValue) (count : ℕ) : Type 0 where

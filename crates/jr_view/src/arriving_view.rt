@@ -10,7 +10,7 @@ ghost use Rattle.jr_arrival.specs.Arrival.{IsFinalFault};
 ghost use Rattle.jr_arrival.specs.Arriving.{IsArriving, given_of};
 ghost use Rattle.jr_arrival.specs.Growing.{HasScan};
 ghost use Rattle.jr_arrival.specs.Settled.{WantsMore};
-ghost use Rattle.jr_view.specs.ArrivingViews.{AreSettled, IsPictureOf, IsSeen, KeepsLines, lines_shown, view_of};
+ghost use Rattle.jr_view.specs.ArrivingViews.{AreSettled, AreScanLines, IsSeen, KeepsLines, lines_shown, view_of};
 
 use crate::finished_view::{FinishedView, paint_rest};
 use crate::shown::GREY;
@@ -286,7 +286,7 @@ impl ArrivingView {
     pub fn finish(self, alloc: Global) -> Result<FinishedView, Refusal>
         ensures scan { IfOk result (λ r. (bytes : List ℕ) → IsSeen self bytes → HasScan bytes r.scan) }
         ensures counts { IfOk result (λ r. HasCounts r.scan (length r.scan.intervals) r.counts) }
-        ensures picture { IfOk result (λ r. IsPictureOf r.scan r.pixels.items) }
+        ensures picture { IfOk result (λ r. AreScanLines r.scan r.pixels.items) }
         ensures refusal { IfErr result (λ f. f ≢ refusal.Memory → (bytes : List ℕ) → IsSeen self bytes → RefusalOf bytes f) }
     {
         let ArrivingView {

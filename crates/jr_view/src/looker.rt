@@ -3,7 +3,7 @@
 ghost use Rattle.std.specs.Prelude.{◌≡◌, ◌<◌, ◌++◌, ◌∷◌, [], ℕ, List, length, true, false, IfOk, OnOk};
 ghost use Rattle.jr_scan.specs.ScanValue.{HasInterval, ScanValue};
 ghost use Rattle.jr_view.specs.Lookers.{Keeps, Tells, has_told};
-ghost use Rattle.jr_view.specs.Told.{Told, PieceOf, StripOf};
+ghost use Rattle.jr_view.specs.Told.{Notice, PieceOf, StripOf};
 
 use crate::screen::Screen;
 use jr_cells::{Sight, StripCells};
@@ -59,7 +59,7 @@ impl Looker {
     /// Notes a strip, unless its interval's piece was told, or a strip that begins with its first MCU or a later one. Whether it
     /// was noted.
     fn note_strip(&mut self, strip: &Strip) -> bool
-        ensures new { result ≡ true → (scan : ScanValue) (told : List Told) → strip.now.interval.number < length scan.intervals → Keeps scan self.old told → Keeps scan self.new (told ++ StripOf strip.now ∷ []) }
+        ensures new { result ≡ true → (scan : ScanValue) (told : List Notice) → strip.now.interval.number < length scan.intervals → Keeps scan self.old told → Keeps scan self.new (told ++ StripOf strip.now ∷ []) }
         ensures old { result ≡ false → self.new ≡ self.old }
         ensures pieces { self.new.pieces ≡ self.old.pieces }
     {
@@ -82,7 +82,7 @@ impl Looker {
 
     /// Notes a piece, unless it was told. Whether it was noted.
     fn note_piece(&mut self, piece: &Piece) -> bool
-        ensures new { result ≡ true → (scan : ScanValue) (told : List Told) → HasInterval scan piece.now.interval → Keeps scan self.old told → Keeps scan self.new (told ++ PieceOf piece.now ∷ []) }
+        ensures new { result ≡ true → (scan : ScanValue) (told : List Notice) → HasInterval scan piece.now.interval → Keeps scan self.old told → Keeps scan self.new (told ++ PieceOf piece.now ∷ []) }
         ensures old { result ≡ false → self.new ≡ self.old }
         ensures count { length self.new.pieces.items ≡ length self.old.pieces.items }
         ensures told { piece.now.interval.number < length self.old.pieces.items → has_told self.new piece.now.interval.number ≡ true }

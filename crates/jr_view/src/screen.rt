@@ -1,15 +1,15 @@
 //! What shows a decoding.
 
-ghost use Rattle.jr_view.specs.Told.{Told, Asked, PieceOf, StripOf};
+ghost use Rattle.jr_view.specs.Told.{Notice, Asked, PieceOf, StripOf};
 
 use jr_piece::{Piece, Strip};
 
 /// What shows a decoding.
 pub trait Screen {
-    ghost use Rattle.jr_view.specs.Told.{Told};
+    ghost use Rattle.jr_view.specs.Told.{Notice};
 
     // What becomes of it by what it is told.
-    ghost becomes: { Self → Told → Self → Type 0 } = { λ _ _ _. Unit {0} };
+    ghost becomes: { Self → Notice → Self → Type 0 } = { λ _ _ _. Unit {0} };
 
     /// Shows a strip of a long interval, which can be seen from now on.
     fn show_strip(&mut self, strip: &Strip)

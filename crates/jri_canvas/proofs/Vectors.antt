@@ -4,7 +4,7 @@ use Rattle.std.specs.List.{flat_map, range_with_len}
 use Rattle.std.specs.Simd.Lanes.{chunk, put_chunk}
 use Rattle.std.proofs.lemmas.List.Concat.{flat_map-append}
 use Rattle.std.proofs.lemmas.Simd.{get_or-chunk, take_more_put_chunk}
-use Rattle.jri_canvas.specs.Layouts.{coloured, laid, pixel_of}
+use Rattle.jri_canvas.specs.Layouts.{coloured, laid, laid_pixel}
 use Rattle.jri_canvas.specs.declared.layout.Order.{Order}
 use Rattle.jri_canvas.specs.declared.layout.Order.TheVariants.{Rgb}
 use Rattle.jri_canvas.specs.declared.layout.Pixels.TheVariants.{Grey, Colour}
@@ -21,10 +21,10 @@ flat_map-moved f g a b (suc n) h =
     ap₂ (λ x y. x ++ y) first others
 
 -- the first n pixels of a line from its pixel m on
-colours_in : (o : Order) (line : List ℕ) (m size n : ℕ) → 3 * n ≤ size → coloured o Colour (chunk (3 * m) size line) n ≡ flat_map (pixel_of o Colour line) (range_with_len m n)
+colours_in : (o : Order) (line : List ℕ) (m size n : ℕ) → 3 * n ≤ size → coloured o Colour (chunk (3 * m) size line) n ≡ flat_map (laid_pixel o Colour line) (range_with_len m n)
 colours_in o line m size n le =
     let part = chunk (3 * m) size line in
-    flat_map-moved (pixel_of o Colour part) (pixel_of o Colour line) 0 m n (λ k lt.
+    flat_map-moved (laid_pixel o Colour part) (laid_pixel o Colour line) 0 m n (λ k lt.
     let none : 0 + k ≡ k = omega arith in
     let e : 3 * m + 3 * k ≡ 3 * (m + k) = omega arith in
     let f : 3 * m + (3 * k + 1) ≡ 3 * (m + k) + 1 = omega arith in
@@ -33,15 +33,15 @@ colours_in o line m size n le =
     let red : get_or part (3 * k) 0 ≡ at (3 * (m + k)) = get_or-chunk (3 * m) size line (3 * k) 0 (omega (arith, lt, le)) ∙ ap at e in
     let green : get_or part (3 * k + 1) 0 ≡ at (3 * (m + k) + 1) = get_or-chunk (3 * m) size line (3 * k + 1) 0 (omega (arith, lt, le)) ∙ ap at f in
     let blue : get_or part (3 * k + 2) 0 ≡ at (3 * (m + k) + 2) = get_or-chunk (3 * m) size line (3 * k + 2) 0 (omega (arith, lt, le)) ∙ ap at g in
-    ap (pixel_of o Colour part) none ∙ (λ t. laid o (red t) (green t) (blue t)))
+    ap (laid_pixel o Colour part) none ∙ (λ t. laid o (red t) (green t) (blue t)))
 
-greys_in : (o : Order) (line : List ℕ) (m size n : ℕ) → n ≤ size → coloured o Grey (chunk m size line) n ≡ flat_map (pixel_of o Grey line) (range_with_len m n)
+greys_in : (o : Order) (line : List ℕ) (m size n : ℕ) → n ≤ size → coloured o Grey (chunk m size line) n ≡ flat_map (laid_pixel o Grey line) (range_with_len m n)
 greys_in o line m size n le =
     let part = chunk m size line in
-    flat_map-moved (pixel_of o Grey part) (pixel_of o Grey line) 0 m n (λ k lt.
+    flat_map-moved (laid_pixel o Grey part) (laid_pixel o Grey line) 0 m n (λ k lt.
     let none : 0 + k ≡ k = omega arith in
     let grey : get_or part k 0 ≡ get_or line (m + k) 0 = get_or-chunk m size line k 0 (omega (arith, lt, le)) in
-    ap (pixel_of o Grey part) none ∙ (λ t. laid o (grey t) (grey t) (grey t)))
+    ap (laid_pixel o Grey part) none ∙ (λ t. laid o (grey t) (grey t) (grey t)))
 
 -- more than the first of two lists
 take_past : (xs ys : List ℕ) (n l : ℕ) → n ≡ length xs + l → take n (xs ++ ys) ≡ xs ++ take l ys
@@ -72,8 +72,8 @@ pub fives_more : (o : Order) (line out v : List ℕ) (n : ℕ) → length v ≡ 
 fives_more o line out v n long room is before =
     let from : 15 * n ≡ 3 * (5 * n) = omega arith in
     let next : 5 * n + 5 ≡ 5 * (n + 1) = omega arith in
-    let new : take 15 v ≡ flat_map (pixel_of o Colour line) (range_with_len (5 * n) 5) = is ∙ ap (λ (i : ℕ). coloured o Colour (chunk i 16 line) 5) from ∙ colours_in o line (5 * n) 16 5 (omega arith) in
-    pixels_more (pixel_of o Colour line) (5 * n) 5 (15 * n) 15 (3 * (5 * (n + 1))) out v (omega arith) (omega (arith, long)) (omega (arith, long, room)) (ap (λ (i : ℕ). take i out) from ∙ before) new
+    let new : take 15 v ≡ flat_map (laid_pixel o Colour line) (range_with_len (5 * n) 5) = is ∙ ap (λ (i : ℕ). coloured o Colour (chunk i 16 line) 5) from ∙ colours_in o line (5 * n) 16 5 (omega arith) in
+    pixels_more (laid_pixel o Colour line) (5 * n) 5 (15 * n) 15 (3 * (5 * (n + 1))) out v (omega arith) (omega (arith, long)) (omega (arith, long, room)) (ap (λ (i : ℕ). take i out) from ∙ before) new
     ∙ ap (coloured o Colour line) next
 
 -- four pixels of four bytes
@@ -83,8 +83,8 @@ fours_more o line out v n long room is before =
     let from : 12 * n ≡ 3 * (4 * n) = omega arith in
     let to : 16 * n ≡ 4 * (4 * n) = omega arith in
     let next : 4 * n + 4 ≡ 4 * (n + 1) = omega arith in
-    let new : take 16 v ≡ flat_map (pixel_of o Colour line) (range_with_len (4 * n) 4) = take_all 16 v (omega (arith, long)) ∙ is ∙ ap (λ (i : ℕ). coloured o Colour (chunk i 16 line) 4) from ∙ colours_in o line (4 * n) 16 4 (omega arith) in
-    pixels_more (pixel_of o Colour line) (4 * n) 4 (16 * n) 16 (4 * (4 * (n + 1))) out v (omega arith) (omega (arith, long)) (omega (arith, long, room)) (ap (λ (i : ℕ). take i out) to ∙ before) new
+    let new : take 16 v ≡ flat_map (laid_pixel o Colour line) (range_with_len (4 * n) 4) = take_all 16 v (omega (arith, long)) ∙ is ∙ ap (λ (i : ℕ). coloured o Colour (chunk i 16 line) 4) from ∙ colours_in o line (4 * n) 16 4 (omega arith) in
+    pixels_more (laid_pixel o Colour line) (4 * n) 4 (16 * n) 16 (4 * (4 * (n + 1))) out v (omega arith) (omega (arith, long)) (omega (arith, long, room)) (ap (λ (i : ℕ). take i out) to ∙ before) new
     ∙ ap (coloured o Colour line) next
 
 -- sixteen grey pixels of four bytes
@@ -93,8 +93,8 @@ pub sixteens_more : (o : Order) (line out v : List ℕ) (n : ℕ) → length v �
 sixteens_more o line out v n long room is before =
     let to : 64 * n ≡ 4 * (16 * n) = omega arith in
     let next : 16 * n + 16 ≡ 16 * (n + 1) = omega arith in
-    let new : take 64 v ≡ flat_map (pixel_of o Grey line) (range_with_len (16 * n) 16) = take_all 64 v (omega (arith, long)) ∙ is ∙ greys_in o line (16 * n) 16 16 (omega arith) in
-    pixels_more (pixel_of o Grey line) (16 * n) 16 (64 * n) 64 (4 * (16 * (n + 1))) out v (omega arith) (omega (arith, long)) (omega (arith, long, room)) (ap (λ (i : ℕ). take i out) to ∙ before) new
+    let new : take 64 v ≡ flat_map (laid_pixel o Grey line) (range_with_len (16 * n) 16) = take_all 64 v (omega (arith, long)) ∙ is ∙ greys_in o line (16 * n) 16 16 (omega arith) in
+    pixels_more (laid_pixel o Grey line) (16 * n) 16 (64 * n) 64 (4 * (16 * (n + 1))) out v (omega arith) (omega (arith, long)) (omega (arith, long, room)) (ap (λ (i : ℕ). take i out) to ∙ before) new
     ∙ ap (coloured o Grey line) next
 
 -- red, green and blue stand as they are
@@ -106,7 +106,7 @@ in_order (r ∷ []) (suc n) e = absurd (omega (arith, e))
 in_order (r ∷ g ∷ []) (suc n) e = absurd (omega (arith, e))
 in_order (r ∷ g ∷ b ∷ line) (suc n) e =
     let all = r ∷ g ∷ b ∷ line in
-    let others = flat_map-moved (pixel_of Rgb Colour all) (pixel_of Rgb Colour line) 1 0 n (λ k lt.
+    let others = flat_map-moved (laid_pixel Rgb Colour all) (laid_pixel Rgb Colour line) 1 0 n (λ k lt.
     let red : 3 * (1 + k) ≡ suc (suc (suc (3 * (0 + k)))) = omega arith in
     let green : 3 * (1 + k) + 1 ≡ suc (suc (suc (3 * (0 + k) + 1))) = omega arith in
     let blue : 3 * (1 + k) + 2 ≡ suc (suc (suc (3 * (0 + k) + 2))) = omega arith in

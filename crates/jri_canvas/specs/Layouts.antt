@@ -38,13 +38,13 @@ laid Rgbx r g b = r ∷ g ∷ b ∷ 255 ∷ []
 laid Bgrx r g b = b ∷ g ∷ r ∷ 255 ∷ []
 
 -- pixel x of a line: a grey is its own red, green and blue
-abbrev pub pixel_of : Order → Pixels → List ℕ → ℕ → List ℕ
-pixel_of o Grey line x = laid o (slice_index line x) (slice_index line x) (slice_index line x)
-pixel_of o Colour line x = laid o (slice_index line (3 * x)) (slice_index line (3 * x + 1)) (slice_index line (3 * x + 2))
+abbrev pub laid_pixel : Order → Pixels → List ℕ → ℕ → List ℕ
+laid_pixel o Grey line x = laid o (slice_index line x) (slice_index line x) (slice_index line x)
+laid_pixel o Colour line x = laid o (slice_index line (3 * x)) (slice_index line (3 * x + 1)) (slice_index line (3 * x + 2))
 
 -- the first n pixels of a line as colours
 abbrev pub coloured : Order → Pixels → List ℕ → ℕ → List ℕ
-coloured o p line n = flat_map (pixel_of o p line) (range_with_len 0 n)
+coloured o p line n = flat_map (laid_pixel o p line) (range_with_len 0 n)
 
 -- a line of n pixels in a layout
 abbrev pub laid_pixels : Layout → Pixels → List ℕ → ℕ → List ℕ
@@ -52,8 +52,8 @@ laid_pixels Plain p line n = line
 laid_pixels (Coloured o) p line n = coloured o p line n
 
 -- how many bytes a line has, and how many it takes on a canvas
-abbrev pub line_size : CanvasLines → ℕ
-line_size c = sample_count c.pixels * c.width
+abbrev pub plain_line_size : CanvasLines → ℕ
+plain_line_size c = sample_count c.pixels * c.width
 
 abbrev pub laid_line_size : CanvasLines → ℕ
 laid_line_size c = laid_size c.layout c.pixels * c.width

@@ -1,7 +1,7 @@
 //! Lines laid out, each at its stride.
 
 ghost use Rattle.std.specs.Prelude.{◌≡◌, ◌+◌, ◌-◌, ◌*◌, ◌^◌, ◌<◌, ◌≤◌, length, take, drop, true, false};
-ghost use Rattle.jri_canvas.specs.Layouts.{HavePlaces, StandOn, laid_line, laid_line_size, laid_size, line_in, line_size, sample_count};
+ghost use Rattle.jri_canvas.specs.Layouts.{HavePlaces, StandOn, laid_line, laid_line_size, laid_size, line_in, plain_line_size, sample_count};
 
 use crate::layout::{Layout, Pixels};
 use crate::line::lay_line;
@@ -50,7 +50,7 @@ pub fn have_places(form: &CanvasLines, count: usize, room: usize) -> bool
 
 /// Lays out a line as the one of this number.
 fn lay_at(line: &[u8], form: &CanvasLines, number: usize, canvas: &mut [u8])
-    requires line { length line.now ≡ line_size form.now }
+    requires line { length line.now ≡ plain_line_size form.now }
     requires place { number * form.now.stride + laid_line_size form.now ≤ length canvas.old }
     ensures { StandOn form.now number (number + 1) (λ _. laid_line form.now line.now) canvas.old canvas.new }
 {
@@ -69,10 +69,10 @@ fn lay_at(line: &[u8], form: &CanvasLines, number: usize, canvas: &mut [u8])
 /// the stride.
 pub fn lay_lines(lines: &[u8], form: &CanvasLines, first: u32, count: usize, canvas: &mut [u8])
     requires few { count ≤ length lines.now }
-    requires lines { length lines.now ≡ count * line_size form.now }
+    requires lines { length lines.now ≡ count * plain_line_size form.now }
     requires stride { laid_line_size form.now ≤ form.now.stride }
     requires places { HavePlaces form.now first (first + count) (length canvas.old) }
-    ensures { StandOn form.now first (first + count) (λ k. laid_line form.now (line_in (line_size form.now) lines.now (k - first))) canvas.old canvas.new }
+    ensures { StandOn form.now first (first + count) (λ k. laid_line form.now (line_in (plain_line_size form.now) lines.now (k - first))) canvas.old canvas.new }
 {
     let line = form.bytes_before();
     for k in 0..count {

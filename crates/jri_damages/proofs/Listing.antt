@@ -8,7 +8,7 @@ use Rattle.jr_damage.specs.declared.map.DamagedInterval.{DamagedInterval}
 use Rattle.jr_damage.specs.declared.segments.CodedSpan.{CodedSpan}
 use Rattle.jr_damage.specs.Map.{IsDamageOf}
 use Rattle.jri_damages.specs.declared.damages.Damage.{Damage}
-use Rattle.jri_damages.specs.Damages.{AreDamages, IsAt, IsListedAt, TellsDamage, damage_at, no_damage}
+use Rattle.jri_damages.specs.Damages.{AreDamages, IsAt, IsListedAt, IsDamageEntry, damage_at, no_damage}
 
 -- nothing is listed yet
 pub damages_begin : (s : ScanValue) (spans : List CodedSpan) (first : ℕ) (list : List Damage) → AreDamages s spans first first 0 list
@@ -33,7 +33,7 @@ damages_none s spans first i count list sound a = record {
 }
 
 module _ (s : ScanValue) (spans : List CodedSpan) (first i count : ℕ) (list : List Damage) (damaged : DamagedInterval) (d : Damage) (room : count < length list)
-    (is : IsDamageOf s spans i damaged) (tells : TellsDamage damaged d) (a : AreDamages s spans first i count list) where
+    (is : IsDamageOf s spans i damaged) (tells : IsDamageEntry damaged d) (a : AreDamages s spans first i count list) where
   at : d.interval ≡ i
   at = tells.interval ∙ is.number
 

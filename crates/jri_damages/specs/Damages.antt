@@ -16,7 +16,7 @@ TellsBytes None d = (d.start ≡ 0) × (d.end ≡ 0)
 TellsBytes (Some span) d = (d.start ≡ span.start) × (d.end ≡ span.end)
 
 -- a damaged interval as numbers
-pub record TellsDamage (i : DamagedInterval) (d : Damage) : Type 0 where
+pub record IsDamageEntry (i : DamagedInterval) (d : Damage) : Type 0 where
   pub interval : d.interval ≡ i.number
   pub first_mcu : d.first_mcu ≡ i.mcus.first
   pub mcus : d.mcus ≡ i.mcus.count
@@ -35,7 +35,7 @@ damage_at damages k = slice_index_or damages k no_damage
 -- number k of the list tells of a damaged interval from `first` on and before `next`
 pub record IsListedAt (s : ScanValue) (spans : List CodedSpan) (first next : ℕ) (d : Damage) : Type 0 where
   pub interval : DamagedInterval
-  pub tells : TellsDamage interval d
+  pub tells : IsDamageEntry interval d
   pub is : IsDamageOf s spans d.interval interval
   pub from : first ≤ d.interval
   pub before : d.interval < next

@@ -4,7 +4,7 @@ ghost use Rattle.std.specs.Prelude.{◌≡◌, ◌≢◌, ℕ, ◌+◌, ◌<◌,
 ghost use Rattle.jr_segments.specs.declared.refusal.Refusal.TheVariants as refusal;
 ghost use Rattle.jr_head.specs.Heads.{RefusalOf};
 ghost use Rattle.jri_memory.specs.Calls.{TellsFault, detail_of};
-ghost use Rattle.jri_damages.specs.Damages.{AreDamages, ListsDamages, TellsDamage, TellsNoDamage};
+ghost use Rattle.jri_damages.specs.Damages.{AreDamages, ListsDamages, IsDamageEntry, TellsNoDamage};
 ghost use Rattle.jr_segments.specs.Refusal.{number_of};
 
 use jr_damage::{CodedSpan, DamagedInterval, coded_segments, damaged_interval};
@@ -66,7 +66,7 @@ impl DamageReport {
 impl Damage {
     /// A damaged interval as numbers.
     fn of(damaged: &DamagedInterval) -> Damage
-        ensures { TellsDamage damaged.now result }
+        ensures { IsDamageEntry damaged.now result }
     {
         let (start, end) = match damaged.bytes {
             Some(span) => (span.start as u64, span.end as u64),

@@ -10,7 +10,7 @@ use Rattle.jr_picture.specs.Headline.{AreCounts, ShowsFirst}
 use Rattle.jr_rows.specs.MarkBytes.{mark_byte}
 use Rattle.jr_scan.specs.ScanValue.{ScanValue}
 use Rattle.jri_file.specs.Files.{IsPictureOf, IsScanOfFile}
-use Rattle.jri_canvas.specs.Layouts.{HavePlaces, StandOn, laid_line, laid_line_size, layout_number, line_in, line_size, sample_count}
+use Rattle.jri_canvas.specs.Layouts.{HavePlaces, StandOn, laid_line, laid_line_size, layout_number, line_in, plain_line_size, sample_count}
 use Rattle.jri_canvas.specs.declared.lines.CanvasLines.{CanvasLines}
 use Rattle.jri_memory.specs.Calls.{TellsReport, over}
 use Rattle.jri_memory.specs.declared.report.DecodeReport.{DecodeReport}
@@ -42,8 +42,8 @@ pub record LaysOut (lines : List ℕ) (width components stride layout : ℕ) (ol
   pub form : CanvasLines
   pub is : HasForm width components stride layout form
   pub count : ℕ
-  pub all : length lines ≡ count * line_size form
-  pub stand : StandOn form 0 count (λ k. laid_line form (line_in (line_size form) lines k)) old new
+  pub all : length lines ≡ count * plain_line_size form
+  pub stand : StandOn form 0 count (λ k. laid_line form (line_in (plain_line_size form) lines k)) old new
 
 -- so many lines have no room
 pub record LacksPlaces (width components stride layout count room : ℕ) : Type 0 where

@@ -13,7 +13,7 @@ use Rattle.jr_scan.specs.ScanValue.{ScanValue}
 use Rattle.jr_places.specs.Meaning.{IsPlaceIn, MayBe}
 use Rattle.jr_places.specs.Shown.{AreLines}
 use Rattle.jr_places.specs.declared.place.RowPlace.{RowPlace}
-use Rattle.jr_places.specs.Places.{StandsAt, lines_before, lines_between, rows_to_give, rows_with_room}
+use Rattle.jr_places.specs.Places.{IsPlaceOf, lines_above, lines_between, rows_to_give, rows_with_room}
 use Rattle.jri_memory.specs.Calls.{detail_of}
 use Rattle.jri_memory.specs.declared.places.PlaceError.{PlaceError}
 use Rattle.jri_memory.specs.declared.places.PlaceError.TheVariants.{Refused, NoRows, NoRoom}
@@ -45,7 +45,7 @@ pub record TellsFaultSoFar (bytes : List ℕ) (all : Bool) (r : RowsReport) : Ty
 
 -- the picture of this head has a row of MCUs at the place, and some are asked for
 pub record HasRowAt (h : HeadValue) (p : RowPlace) (rows : ℕ) : Type 0 where
-  pub stands : StandsAt h p
+  pub stands : IsPlaceOf h p
   pub row : p.row < mcus_down h
   pub some : 0 < rows
 
@@ -53,15 +53,15 @@ pub record HasRowAt (h : HeadValue) (p : RowPlace) (rows : ℕ) : Type 0 where
 -- that are settled. Where it was one of a file that the bytes may be, it still is. The report tells how many they are, and their lines
 pub record MovesOn (bytes : List ℕ) (all : Bool) (most : ℕ) (old new : RowPlace) (h : HeadValue) (r : RowsReport) : Type 0 where
   pub head : HeadOf bytes h
-  pub from : StandsAt h old
-  pub to : StandsAt h new
+  pub from : IsPlaceOf h old
+  pub to : IsPlaceOf h new
   pub row : new.row ≡ old.row + r.rows
   pub few : r.rows ≤ most
   pub whole : all ≡ true → r.rows ≡ most
   pub none : r.rows ≡ 0 → new ≡ old
   pub place : (whole : List ℕ) (t : ScanValue) → MayBe bytes all h whole t → IsPlaceIn bytes whole t old → IsPlaceIn bytes whole t new
   pub lines : r.lines ≡ lines_between h old.row new.row
-  pub first : r.first_line ≡ lines_before h old.row
+  pub first : r.first_line ≡ lines_above h old.row
   pub refusal : r.refusal ≡ 0
   pub detail : r.detail ≡ 0
 
@@ -78,7 +78,7 @@ pub record DecodesRows (bytes : List ℕ) (all : Bool) (rows : ℕ) (old new : R
   pub h : HeadValue
   pub there : HasRowAt h old rows
   pub moves : MovesOn bytes all (rows_to_give h old.row rows (length old_pixels)) old new h r
-  pub are : AreLines bytes all h old (lines_before h old.row) r.lines (take (r.lines * line_size h) pixels)
+  pub are : AreLines bytes all h old (lines_above h old.row) r.lines (take (r.lines * line_size h) pixels)
   pub long : length pixels ≡ length old_pixels
   pub behind : drop (r.lines * line_size h) pixels ≡ drop (r.lines * line_size h) old_pixels
 

@@ -11,7 +11,7 @@ ghost use Rattle.jr_rows.specs.Bands.{ShowsMcus, samples_in};
 ghost use Rattle.jr_rows.specs.Groups.{units_in};
 ghost use Rattle.jr_rows.specs.MarkBytes.{HasMarkRoom, PutsBetween};
 ghost use Rattle.jr_rows.specs.Rows.{CountsRows, HasFirst, HasSampleRoom, first_line, line_count};
-ghost use Rattle.jri_canvas.specs.Layouts.{HavePlaces, StandOn, laid_line, laid_line_size, line_size, sample_count};
+ghost use Rattle.jri_canvas.specs.Layouts.{HavePlaces, StandOn, laid_line, laid_line_size, plain_line_size, sample_count};
 ghost use Rattle.jri_memory.specs.Canvases.{DecodesCanvas, LacksCanvas, LacksLayoutOf, LaysScan};
 
 use crate::decode::DecodeError;
@@ -41,8 +41,8 @@ fn lay_some(
     requires room { HasSampleRoom head.now work.old }
     requires inside { y + count ≤ head.now.height }
     requires lines { length lines.old ≡ count * paint.line_size head.now }
-    requires line { line_size form.now ≡ paint.line_size head.now }
-    requires some { 0 < line_size form.now }
+    requires line { plain_line_size form.now ≡ paint.line_size head.now }
+    requires some { 0 < plain_line_size form.now }
     requires stride { laid_line_size form.now ≤ form.now.stride }
     requires places { HavePlaces form.now 0 head.now.height (length canvas.old) }
     ensures room { HasSampleRoom head.now work.new }
@@ -64,8 +64,8 @@ fn lay_row(
     requires row { row < mcus_down head.now }
     requires room { HasSampleRoom head.now work.old }
     requires lines { 8 * vertical_max head.now * paint.line_size head.now ≤ length lines.old }
-    requires line { line_size form.now ≡ paint.line_size head.now }
-    requires some { 0 < line_size form.now }
+    requires line { plain_line_size form.now ≡ paint.line_size head.now }
+    requires some { 0 < plain_line_size form.now }
     requires stride { laid_line_size form.now ≤ form.now.stride }
     requires places { HavePlaces form.now 0 head.now.height (length canvas.old) }
     ensures long { length lines.new ≡ length lines.old }
@@ -90,8 +90,8 @@ fn lay_rows(
 ) -> Marked
     requires room { HasSampleRoom scan.now.head work.old }
     requires lines { 8 * vertical_max scan.now.head * paint.line_size scan.now.head ≤ length lines.old }
-    requires line { line_size form.now ≡ paint.line_size scan.now.head }
-    requires some { 0 < line_size form.now }
+    requires line { plain_line_size form.now ≡ paint.line_size scan.now.head }
+    requires some { 0 < plain_line_size form.now }
     requires stride { laid_line_size form.now ≤ form.now.stride }
     requires places { HavePlaces form.now 0 scan.now.head.height (length canvas.old) }
     requires marks { HasMarkRoom scan.now marks.old }
@@ -123,8 +123,8 @@ fn lay_scan(
     canvas: &mut [u8],
     marks: &mut [u8],
 ) -> Result<Counts, Memory>
-    requires line { line_size form.now ≡ paint.line_size scan.now.head }
-    requires some { 0 < line_size form.now }
+    requires line { plain_line_size form.now ≡ paint.line_size scan.now.head }
+    requires some { 0 < plain_line_size form.now }
     requires stride { laid_line_size form.now ≤ form.now.stride }
     requires places { HavePlaces form.now 0 scan.now.head.height (length canvas.old) }
     requires marks { HasMarkRoom scan.now marks.old }

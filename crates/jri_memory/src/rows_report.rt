@@ -2,7 +2,7 @@
 
 ghost use Rattle.std.specs.Prelude.{◌≡◌, ◌+◌, ◌≤◌};
 ghost use Rattle.jr_segments.specs.Refusal.{number_of};
-ghost use Rattle.jr_places.specs.Places.{lines_before, lines_between};
+ghost use Rattle.jr_places.specs.Places.{lines_above, lines_between};
 ghost use Rattle.jri_memory.specs.Calls.{detail_of};
 ghost use Rattle.jri_memory.specs.Rows.{TellsNothing};
 
@@ -60,7 +60,7 @@ impl RowsReport {
         requires { from ≤ to }
         ensures rows { from + result.rows ≡ to }
         ensures lines { result.lines ≡ lines_between head.now from to }
-        ensures first { result.first_line ≡ lines_before head.now from }
+        ensures first { result.first_line ≡ lines_above head.now from }
         ensures refusal { result.refusal ≡ 0 }
         ensures detail { result.detail ≡ 0 }
     {

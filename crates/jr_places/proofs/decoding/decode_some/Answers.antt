@@ -1,6 +1,6 @@
 use Rattle.std.proofs.Common.{◌≡◌, ◌*◌, ◌+◌, ℕ, ap, ◌∙◌, arith}
 use Rattle.jr_places.specs.declared.file_bytes.FileBytes.{FileBytes}
-use Rattle.jr_places.specs.Places.{mcus_before}
+use Rattle.jr_places.specs.Places.{mcus_before_place}
 use Rattle.jr_places.proofs.CursorSteps.{cursor_stays, left_in, passes_on, passes_stays}
 use Rattle.jr_places.proofs.ShownSteps.{shows_after, shows_moved}
 use Rattle.jr_places.proofs.Steps.{true_on}
@@ -22,7 +22,7 @@ returns-clause-shows c some =
     let g = c.give_up.new.self in
     let s = c.give_up.ensures in
     let none : c.decode_whole-whole.result ≡ 0 = omega (arith, c.if-whole-gt0.false) in
-    let passed : mcus_before h g.interval g.mcu ≡ mcus_before h i.interval i.mcu = omega (arith, ap (λ (k : ℕ). k * h.restart) (s.stays.interval ∙ w.passes.interval), s.stays.mcu, w.passes.mcu, none) in
+    let passed : mcus_before_place h g.interval g.mcu ≡ mcus_before_place h i.interval i.mcu = omega (arith, ap (λ (k : ℕ). k * h.restart) (s.stays.interval ∙ w.passes.interval), s.stays.mcu, w.passes.mcu, none) in
     shows_moved h c.args.cursor.now i c.args.done c.decode_grey.result c.args.samples.now.lines.groups c.decode_grey.new.samples.lines.groups a.passes.file (omega (arith, a.passes.passed)) a.stands
     (shows_after h i g c.args.done c.decode_whole-whole.result c.decode_grey.result c.args.samples.now.lines.groups c.decode_whole-whole.new.samples.lines.groups c.decode_grey.new.samples.lines.groups none (s.stays.file ∙ w.passes.file) passed
     (true_on h i d g w.passes.file w.stands s.stands) w.shows c.decode_grey.ensures.shows)

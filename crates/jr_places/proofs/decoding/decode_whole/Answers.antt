@@ -1,7 +1,7 @@
 use Rattle.std.proofs.Common.{◌≡◌, ◌<◌, ◌*◌, ℕ, sym, ap, subst, ◌∙◌, arith, rules}
 use Rattle.jr_head.specs.Intervals.{mcus_in}
 use Rattle.jr_places.specs.Cursors.{NoneFollows, PassesIn, StaysTrue, to_read}
-use Rattle.jr_places.specs.Places.{mcus_before}
+use Rattle.jr_places.specs.Places.{mcus_before_place}
 use Rattle.jr_places.specs.Shown.{ShowsMore}
 use Rattle.jr_places.proofs.ShownSteps.{shows_after, shows_none}
 use Rattle.jr_places.specs.declared.cursor.ScanCursor.{ScanCursor}
@@ -39,7 +39,7 @@ windows-preserved c =
     let s = c.slide.ensures in
     let none : c.decode_near-some.result ≡ 0 = omega (arith, c.if-some-gt0.false) in
     let first = goes_after h i b d c.decode_near-some.result k.passes e.passes in
-    let passed : mcus_before h b.interval b.mcu ≡ mcus_before h i.interval i.mcu = omega (arith, ap (λ (n : ℕ). n * h.restart) k.passes.interval, k.passes.mcu) in
+    let passed : mcus_before_place h b.interval b.mcu ≡ mcus_before_place h i.interval i.mcu = omega (arith, ap (λ (n : ℕ). n * h.restart) k.passes.interval, k.passes.mcu) in
     let old = c.args.samples.now.lines.groups in
     let new = c.decode_near-some.new.samples.lines.groups in
     let shows = shows_after h i b c.args.done 0 c.decode_near-some.result old c.windows.samples.lines.groups new (omega arith) k.passes.file passed k.stands k.shows e.shows in
@@ -85,7 +85,7 @@ returns-then-some-gt0-clause-shows c =
     let i = c.args.cursor.now in
     let k = c.windows.invariant in
     let b = c.windows.cursor in
-    let passed : mcus_before h b.interval b.mcu ≡ mcus_before h i.interval i.mcu = omega (arith, ap (λ (n : ℕ). n * h.restart) k.passes.interval, k.passes.mcu) in
+    let passed : mcus_before_place h b.interval b.mcu ≡ mcus_before_place h i.interval i.mcu = omega (arith, ap (λ (n : ℕ). n * h.restart) k.passes.interval, k.passes.mcu) in
     shows_after h i b c.args.done 0 c.decode_near-some.result c.args.samples.now.lines.groups c.windows.samples.lines.groups c.decode_near-some.new.samples.lines.groups (omega arith) k.passes.file passed k.stands k.shows c.decode_near-some.ensures.shows
 
 pub returns-then-some-gt0-clause-passes : goal.returns-then-some-gt0-clause-passes

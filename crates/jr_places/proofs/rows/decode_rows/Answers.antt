@@ -10,7 +10,7 @@ use Rattle.jr_places.proofs.PaintedLines.{no_lines}
 use Rattle.jr_places.proofs.RowLines.{before_more, next_row}
 use Rattle.jr_places.specs.declared.file_bytes.FileBytes.{FileBytes}
 use Rattle.jr_places.specs.Meaning.{IsPlaceIn, MayBe}
-use Rattle.jr_places.specs.Places.{IsIn, lines_before, lines_between, mcus_before}
+use Rattle.jr_places.specs.Places.{IsIn, lines_above, lines_between, mcus_before_place}
 use Rattle.jr_places.proofs.Passing.{kept_more}
 use Rattle.jr_places.proofs.CursorSteps.{cursor_stays}
 use Rattle.jr_places.proofs.rows.decode_rows.Goals as goal
@@ -29,7 +29,7 @@ rows-preserved c =
     let is_in : IsIn h d.interval d.mcu = c.decode_row.ensures.cursor.is_in in
     let interval : new.interval ≡ d.interval = c.row_place-next.ensures.interval in
     let mcu : new.mcu ≡ d.mcu = c.row_place-next.ensures.mcu in
-    let whole : mcus_before h d.interval d.mcu ≡ new.row * mcus_across h = c.decode_row.ensures.whole c.if-not-decode_row.false ∙ ap (λ (k : ℕ). k * mcus_across h) (sym next) in
+    let whole : mcus_before_place h d.interval d.mcu ≡ new.row * mcus_across h = c.decode_row.ensures.whole c.if-not-decode_row.false ∙ ap (λ (k : ℕ). k * mcus_across h) (sym next) in
     let from = c.bytes_of_row-from.result.0 in
     let to = c.bytes_of_row-from.result.1 in
     let pix = c.paint_row.new.pixels in
@@ -46,11 +46,11 @@ rows-preserved c =
       cursor = cursor_stays h d n c.decode_row.ensures.cursor stays;
       file = stays.file ∙ c.decode_row.ensures.file ∙ keep.file;
       room = c.paint_row.ensures.samples;
-      at = ap (λ (k : ℕ). mcus_before h k n.mcu) stays.interval ∙ ap (mcus_before h d.interval) stays.mcu ∙ whole;
+      at = ap (λ (k : ℕ). mcus_before_place h k n.mcu) stays.interval ∙ ap (mcus_before_place h d.interval) stays.mcu ∙ whole;
       stands = record {
         row = omega (arith, next, c.rows-test.true, c.end_of_rows-end.ensures.few);
         is_in = subst (λ (k : ℕ). IsIn h k new.mcu) (sym interval) (subst (IsIn h d.interval) (sym mcu) is_in);
-        at = ap (λ (k : ℕ). mcus_before h k new.mcu) interval ∙ ap (mcus_before h d.interval) mcu ∙ whole;
+        at = ap (λ (k : ℕ). mcus_before_place h k new.mcu) interval ∙ ap (mcus_before_place h d.interval) mcu ∙ whole;
       };
       on = omega (arith, next, keep.on);
       few = omega (arith, next, c.rows-test.true);
@@ -64,14 +64,14 @@ rows-preserved c =
           (c.row_place-next.ensures.stands h whole t there stands, subst (λ (f : FileBytes). IsPlaceIn f.bytes.now whole t new) file (c.row_place-next.ensures.place h whole t there stands));
       long = search (rules, arith, keep.long, long, order, within);
       lines = λ whole t marks f may is shows.
-          let y = lines_before h p.row in
+          let y = lines_above h p.row in
           let n = lines_between h p.row row in
           let m = line_count h row in
           let before = keep.lines whole t marks f may is shows in
           let here : MayBe c.rows.cursor.file.bytes.now c.rows.cursor.file.are_all h whole t = subst (λ (f : FileBytes). MayBe f.bytes.now f.are_all h whole t) (sym keep.file) may in
           let shown = c.decode_row.ensures.shows c.if-not-decode_row.false whole t here (keep.place whole t may is).0 in
           let some = c.be_lawful.ensures.components.down in
-          let there : y + n ≡ lines_before h row = omega (arith, before_more h some p.row row keep.on) in
+          let there : y + n ≡ lines_above h row = omega (arith, before_more h some p.row row keep.on) in
           let sum : n + m ≡ lines_between h p.row new.row = sym (next_row h some p.row row keep.on (omega (arith, c.rows-test.true, c.end_of_rows-end.ensures.few))) ∙ ap (lines_between h p.row) (sym next) in
           let painted : pix ≡ next_lines_of h f (y + n) m = c.paint_row.ensures.painted t marks f may.head shown shows ∙ ap (λ (k : ℕ). next_lines_of h f k m) (sym there) in
           ap (λ (k : ℕ). take k (put_mid from (to - from) old pix)) (sym to_is)
@@ -116,6 +116,6 @@ rows-init c =
       none = λ same. refl;
       place = λ whole t may is. (e.stands whole t may is, is);
       long = refl;
-      lines = λ whole t marks f may is shows. no_lines h f (lines_before h c.args.place.now.row) (lines_between h c.args.place.now.row c.args.place.now.row) c.args.pixels.now (omega arith);
+      lines = λ whole t marks f may is shows. no_lines h f (lines_above h c.args.place.now.row) (lines_between h c.args.place.now.row c.args.place.now.row) c.args.pixels.now (omega arith);
       kept = refl;
     }

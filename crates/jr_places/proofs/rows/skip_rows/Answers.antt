@@ -2,7 +2,7 @@ use Rattle.std.proofs.Common.{◌≡◌, ℕ, ◌+◌, ◌-◌, ◌*◌, ◌≤�
 use Rattle.jr_head.specs.Geometry.{mcus_across}
 use Rattle.jr_places.specs.declared.file_bytes.FileBytes.{FileBytes}
 use Rattle.jr_places.specs.Meaning.{IsPlaceIn, MayBe}
-use Rattle.jr_places.specs.Places.{IsIn, mcus_before}
+use Rattle.jr_places.specs.Places.{IsIn, mcus_before_place}
 use Rattle.jr_places.proofs.CursorSteps.{cursor_stays}
 use Rattle.jr_places.proofs.rows.skip_rows.Goals as goal
 
@@ -19,16 +19,16 @@ rows-preserved c =
     let is_in : IsIn h d.interval d.mcu = c.skip_row.ensures.cursor.is_in in
     let interval : new.interval ≡ d.interval = c.row_place-next.ensures.interval in
     let mcu : new.mcu ≡ d.mcu = c.row_place-next.ensures.mcu in
-    let whole : mcus_before h d.interval d.mcu ≡ new.row * mcus_across h = c.skip_row.ensures.whole c.if-not-skip_row.false ∙ ap (λ (k : ℕ). k * mcus_across h) (sym next) in
+    let whole : mcus_before_place h d.interval d.mcu ≡ new.row * mcus_across h = c.skip_row.ensures.whole c.if-not-skip_row.false ∙ ap (λ (k : ℕ). k * mcus_across h) (sym next) in
     let most : c.min-most.result ≤ c.shape_of.result.down - c.args.place.now.row = search (rules, arith) in
     record {
       cursor = cursor_stays h d n c.skip_row.ensures.cursor stays;
       file = stays.file ∙ c.skip_row.ensures.file ∙ keep.file;
-      at = ap (λ (k : ℕ). mcus_before h k n.mcu) stays.interval ∙ ap (mcus_before h d.interval) stays.mcu ∙ whole;
+      at = ap (λ (k : ℕ). mcus_before_place h k n.mcu) stays.interval ∙ ap (mcus_before_place h d.interval) stays.mcu ∙ whole;
       stands = record {
         row = omega (arith, next, c.rows-test.true, most, c.shape_of.ensures.down, c.requires.stands.row);
         is_in = subst (λ (k : ℕ). IsIn h k new.mcu) (sym interval) (subst (IsIn h d.interval) (sym mcu) is_in);
-        at = ap (λ (k : ℕ). mcus_before h k new.mcu) interval ∙ ap (mcus_before h d.interval) mcu ∙ whole;
+        at = ap (λ (k : ℕ). mcus_before_place h k new.mcu) interval ∙ ap (mcus_before_place h d.interval) mcu ∙ whole;
       };
       on = omega (arith, next, keep.on);
       few = omega (arith, next, c.rows-test.true);

@@ -1,6 +1,6 @@
 use Rattle.std.proofs.Common.{◌≡◌, ◌+◌, ◌-◌, ◌*◌, ◌≤◌}
 use Rattle.jr_head.specs.Geometry.{mcus_across}
-use Rattle.jr_places.specs.Places.{mcus_before}
+use Rattle.jr_places.specs.Places.{mcus_before_place}
 use Rattle.jr_places.specs.Cursors.{IsCursor, StaysTrue}
 use Rattle.jr_places.proofs.skipping.skip_row.Given as goal
 
@@ -11,7 +11,7 @@ invariant-mcus l =
       file : l.cursor.file ≡ l.initial.cursor.file;
       stands : StaysTrue h l.initial.cursor l.cursor;
       few : l.done ≤ mcus_across h;
-      at : mcus_before h l.cursor.interval l.cursor.mcu ≡ l.row * mcus_across h + l.done;
+      at : mcus_before_place h l.cursor.interval l.cursor.mcu ≡ l.row * mcus_across h + l.done;
     }
 
 abbrev pub decreases-mcus : goal.decreases-mcus

@@ -1,5 +1,5 @@
 use Rattle.std.proofs.Common.{◌+◌, ◌*◌, arith, refl, rules, slice_index}
-use Rattle.jri_canvas.specs.Layouts.{pixel_of}
+use Rattle.jri_canvas.specs.Layouts.{laid_pixel}
 use Rattle.jri_canvas.specs.declared.layout.Order.TheVariants as order
 use Rattle.jri_canvas.specs.declared.layout.Pixels.TheVariants as pixels
 use Rattle.jri_canvas.proofs.MorePixels.{four_more}
@@ -9,4 +9,4 @@ pub loop-x-preserved : goal.loop-x-preserved
 loop-x-preserved c =
     let line = slice_index c.args.line.now in
     let i = c.loop-x.x in
-    search (rules, four_more (pixel_of order.Bgrx pixels.Colour c.args.line.now) i c.loop-x.out (line (3 * i + 2)) (line (3 * i + 1)) (line (3 * i)) 255 (omega arith) refl c.loop-x.invariant)
+    search (rules, four_more (laid_pixel order.Bgrx pixels.Colour c.args.line.now) i c.loop-x.out (line (3 * i + 2)) (line (3 * i + 1)) (line (3 * i)) 255 (omega arith) refl c.loop-x.invariant)

@@ -3,7 +3,7 @@ use Rattle.std.proofs.lemmas.List.{length-take-le}
 use Rattle.std.specs.Arc.{arc_value}
 use Rattle.jr_head.specs.Geometry.{components_of}
 use Rattle.jr_paint.specs.Lines as paint
-use Rattle.jri_canvas.specs.Layouts.{line_size, sample_count}
+use Rattle.jri_canvas.specs.Layouts.{plain_line_size, sample_count}
 use Rattle.jri_memory.specs.Canvases.{HasForm, LacksLayout, LaysScan}
 use Rattle.jri_memory.proofs.Filled.{asked_all, asked_few, filled, picture_shown, unwritten}
 use Rattle.jri_memory.proofs.canvas.decode_on.Goals as goal

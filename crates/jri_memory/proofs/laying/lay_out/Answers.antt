@@ -1,5 +1,5 @@
 use Rattle.std.proofs.Common.{rules, arith, refl, sym, subst, ap, ◌∙◌, ◌≡◌, ◌+◌, ◌*◌, ◌-◌, ◌<◌, ◌≤◌, ℕ, inl, inr}
-use Rattle.jri_canvas.specs.Layouts.{StandOn, laid_line, line_in, line_size, sample_count}
+use Rattle.jri_canvas.specs.Layouts.{StandOn, laid_line, line_in, plain_line_size, sample_count}
 use Rattle.jri_canvas.proofs.Canvases.{stand_as}
 use Rattle.jri_memory.specs.Canvases.{HasForm}
 use Rattle.jri_memory.proofs.laying.lay_out.Goals as goal
@@ -22,12 +22,12 @@ returns-clause-done c _ =
     let xs = c.args.lines.now in
     let components : sample_count c.in-Some.pixels ≡ c.args.components = search (rules, c.in-Some.ensures.some) in
     let is : HasForm c.args.width (sample_count c.in-Some.pixels) c.args.stride c.args.layout form = search (rules, c.in-Some-form_of.ensures.form) in
-    let same = λ (k : ℕ) (from : 0 ≤ k) (to : k < 0 + count). let none : k - 0 ≡ k = omega arith in ap (λ (n : ℕ). laid_line form (line_in (line_size form) xs n)) none in
+    let same = λ (k : ℕ) (from : 0 ≤ k) (to : k < 0 + count). let none : k - 0 ≡ k = omega arith in ap (λ (n : ℕ). laid_line form (line_in (plain_line_size form) xs n)) none in
     let end : 0 + count ≡ count = omega arith in record {
       form = form;
       is = subst (λ (n : ℕ). HasForm c.args.width n c.args.stride c.args.layout form) components is;
       count = count;
       all = search (rules, c.bytes_before.ensures.value);
-      stand = subst (λ (n : ℕ). StandOn form 0 n (λ k. laid_line form (line_in (line_size form) xs k)) c.args.canvas.now c.lay_lines.new.canvas) end
-          (stand_as form _ (λ k. laid_line form (line_in (line_size form) xs k)) 0 (0 + count) c.args.canvas.now c.lay_lines.new.canvas same c.lay_lines.ensures);
+      stand = subst (λ (n : ℕ). StandOn form 0 n (λ k. laid_line form (line_in (plain_line_size form) xs k)) c.args.canvas.now c.lay_lines.new.canvas) end
+          (stand_as form _ (λ k. laid_line form (line_in (plain_line_size form) xs k)) 0 (0 + count) c.args.canvas.now c.lay_lines.new.canvas same c.lay_lines.ensures);
     }

@@ -1,6 +1,6 @@
 use Rattle.std.proofs.Common.{◌≡◌, ℕ, ◌+◌, ◌*◌, take, drop, inr, sym, ap, ◌∙◌, arith}
 use Rattle.jr_paint.specs.Lines.{line_size, next_lines_of}
-use Rattle.jr_places.specs.Places.{lines_before}
+use Rattle.jr_places.specs.Places.{lines_above}
 use Rattle.jri_memory.proofs.places.decode_there.Goals as goal
 
 pub returns-clause-given : goal.returns-clause-given
@@ -26,7 +26,7 @@ returns-clause-given c =
         refusal = report.refusal;
         detail = report.detail;
       };
-      are = λ whole t marks f may is shows. ap (λ (k : ℕ). take (k * line_size h) c.decode_rows.new.pixels) report.lines ∙ told.lines whole t marks f may is shows ∙ ap (next_lines_of h f (lines_before h c.args.place.now.row)) (sym report.lines);
+      are = λ whole t marks f may is shows. ap (λ (k : ℕ). take (k * line_size h) c.decode_rows.new.pixels) report.lines ∙ told.lines whole t marks f may is shows ∙ ap (next_lines_of h f (lines_above h c.args.place.now.row)) (sym report.lines);
       long = told.long;
       behind = ap (λ (k : ℕ). drop (k * line_size h) c.decode_rows.new.pixels) report.lines ∙ told.kept ∙ ap (λ (k : ℕ). drop (k * line_size h) c.args.pixels.now) (sym report.lines);
     })

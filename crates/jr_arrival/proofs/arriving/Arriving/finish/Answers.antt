@@ -1,7 +1,7 @@
 use Rattle.std.proofs.Common.{ℕ, List, length, sym, subst, arith, rules}
 use Rattle.jr_scan.specs.ScanValue.{ScanValue}
 use Rattle.jr_stream.specs.Stream.{HasCounts}
-use Rattle.jr_arrival.specs.Arriving.{ArrivingValue, HasBegun, Holds, IsArriving}
+use Rattle.jr_arrival.specs.Arriving.{ArrivingValue, HasBegun, HoldsBytes, IsArriving}
 use Rattle.jr_arrival.specs.Growing.{HasScan}
 use Rattle.jr_arrival.proofs.Arrivals.{begun_scan, is_too_long}
 use Rattle.jr_arrival.proofs.arriving.Arriving.finish.Goals as goal
@@ -16,7 +16,7 @@ pub returns-in-Err-clause-refusal : goal.returns-in-Err-clause-refusal
 returns-in-Err-clause-refusal c other bytes a =
     let i = c.self.inside in
     let b : IsArriving (record { bytes = i.head; coming = i.coming; count = i.count }) bytes = subst (λ (v : ArrivingValue). IsArriving v bytes) (sym c.self.view_is) a in
-    let held : Holds i.head i.coming bytes = b.holds (omega (arith, b.count, c.if-count.false)) in
+    let held : HoldsBytes i.head i.coming bytes = b.holds (omega (arith, b.count, c.if-count.false)) in
     let told = c.in-Err.ensures.refusal other bytes in
     search (rules, told, held)
 
@@ -24,8 +24,8 @@ pub returns-clause-scan : goal.returns-clause-scan
 returns-clause-scan c bytes a =
     let i = c.self.inside in
     let b : IsArriving (record { bytes = i.head; coming = i.coming; count = i.count }) bytes = subst (λ (v : ArrivingValue). IsArriving v bytes) (sym c.self.view_is) a in
-    let held : Holds i.head i.coming bytes = b.holds (omega (arith, b.count, c.if-count.false)) in
-    let begun : HasBegun c.in-Ok.coming bytes = c.in-Ok.ensures.begun bytes (subst (λ (l : List ℕ). Holds l i.coming bytes) (sym c.bytes.ensures) held) in
+    let held : HoldsBytes i.head i.coming bytes = b.holds (omega (arith, b.count, c.if-count.false)) in
+    let begun : HasBegun c.in-Ok.coming bytes = c.in-Ok.ensures.begun bytes (subst (λ (l : List ℕ). HoldsBytes l i.coming bytes) (sym c.bytes.ensures) held) in
     subst (HasScan bytes) (sym c.in-Ok-finish.ensures.scan) (begun_scan c.in-Ok.coming bytes begun)
 
 pub returns-clause-counts : goal.returns-clause-counts

@@ -1,7 +1,7 @@
 use Rattle.std.proofs.Common.{◌≡◌, ℕ, ◌+◌, ◌*◌, ◌<◌, ap, sym, subst, ◌∙◌, arith, rules}
 use Rattle.jr_head.specs.Intervals.{intervals_of, mcus_in}
 use Rattle.jr_places.specs.declared.cursor.ScanCursor.{ScanCursor}
-use Rattle.jr_places.specs.Cursors.{StandsIn}
+use Rattle.jr_places.specs.Cursors.{IsCursorIn}
 use Rattle.jr_rows.proofs.IntervalPlaces.{mcus_in_some, next_there}
 use Rattle.jr_places.proofs.cursor.ScanCursor.advance.Goals as goal
 
@@ -46,4 +46,4 @@ returns-clause-some c told =
     subst (λ (k : ℕ). n.mcu < mcus_in h k) (sym number) here
 
 pub returns-clause-stands : goal.returns-clause-stands
-returns-clause-stands c whole t may s = subst (StandsIn whole t) (sym c.begin_next.ensures.is) (c.find_end.ensures.follows (search rules) whole t may s)
+returns-clause-stands c whole t may s = subst (IsCursorIn whole t) (sym c.begin_next.ensures.is) (c.find_end.ensures.follows (search rules) whole t may s)

@@ -1,6 +1,6 @@
 use Rattle.std.proofs.Common.{◌<◌, sym, ap, subst, arith, rules}
 use Rattle.jr_places.specs.declared.cursor.ScanCursor.{ScanCursor}
-use Rattle.jr_places.specs.Cursors.{HasWindow, StandsIn}
+use Rattle.jr_places.specs.Cursors.{HasWindow, IsCursorIn}
 use Rattle.jr_places.proofs.Standing.{place_true, trimmed_true}
 use Rattle.jr_places.proofs.Windows.{trimmed_window}
 use Rattle.jr_places.proofs.cursor.ScanCursor.row_place.Goals as goal
@@ -16,14 +16,14 @@ returns-clause-stays c =
     }
 
 pub returns-clause-stands : goal.returns-clause-stands
-returns-clause-stands c h whole t may s = subst (StandsIn whole t) (sym c.trim.ensures.is) (trimmed_true h c.args.self.now c.trim.new.self.at c.requires c.trim.ensures.at whole t may s)
+returns-clause-stands c h whole t may s = subst (IsCursorIn whole t) (sym c.trim.ensures.is) (trimmed_true h c.args.self.now c.trim.new.self.at c.requires c.trim.ensures.at whole t may s)
 
 pub returns-clause-place : goal.returns-clause-place
 returns-clause-place c h whole t may s =
     let i = c.args.self.now in
     let d = c.trim.new.self in
     let is = c.trim.ensures.is in
-    let stands = subst (StandsIn whole t) (sym is) (trimmed_true h i d.at c.requires c.trim.ensures.at whole t may s) in
+    let stands = subst (IsCursorIn whole t) (sym is) (trimmed_true h i d.at c.requires c.trim.ensures.at whole t may s) in
     let window = subst HasWindow (sym is) (trimmed_window i c.requires d.at c.trim.ensures.at) in
     let low : d.place.bit < 8 = omega (arith, ap (λ (e : ScanCursor). e.place.bit) is) in
     place_true whole t d _ i.file (ap (λ (e : ScanCursor). e.file) is) window low stands (search rules) (search rules) (search rules) (search rules) (search rules) (search rules)

@@ -2,7 +2,7 @@ use Rattle.std.proofs.Common.{◌≡◌, ◌<◌, ◌+◌, ◌-◌, ◌*◌, ◌
 use Rattle.std.specs.Prelude.{false}
 use Rattle.jr_places.specs.declared.cursor.ScanCursor.{ScanCursor}
 use Rattle.jr_places.specs.declared.file_bytes.FileBytes.{FileBytes}
-use Rattle.jr_places.specs.Cursors.{HasWindow, StandsIn}
+use Rattle.jr_places.specs.Cursors.{HasWindow, IsCursorIn}
 use Rattle.jr_places.proofs.Standing.{place_by, stands_by, trimmed_true}
 use Rattle.jr_places.proofs.Windows.{left_less, trimmed_later, trimmed_window, window_bits}
 use Rattle.jr_places.proofs.cursor.ScanCursor.slide.Goals as goal
@@ -25,7 +25,7 @@ returns-clause-stands c h whole t may s =
     let is = c.trim.ensures.is in
     let d = c.go_to.new.self in
     let e = c.go_to.ensures in
-    let there = subst (StandsIn whole t) (sym is) (trimmed_true h i m.at c.requires c.trim.ensures.at whole t may s) in
+    let there = subst (IsCursorIn whole t) (sym is) (trimmed_true h i m.at c.requires c.trim.ensures.at whole t may s) in
     let window = subst HasWindow (sym is) (trimmed_window i c.requires m.at c.trim.ensures.at) in
     let low : m.place.bit < 8 = omega (arith, ap (λ (x : ScanCursor). x.place.bit) is) in
     let bit = e.bit (window_bits m window) low in

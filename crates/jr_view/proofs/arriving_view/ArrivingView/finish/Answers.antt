@@ -4,7 +4,7 @@ use Rattle.jr_paint.specs.Lines.{line_size, next_lines_of}
 use Rattle.jr_picture.specs.declared.mark.Mark.{Mark}
 use Rattle.jr_picture.specs.Headline.{ShowsFirst}
 use Rattle.jr_arrival.specs.Arriving.{given_of}
-use Rattle.jr_view.specs.ArrivingViews.{ArrivingViewValue, IsPictureOf, IsSeen}
+use Rattle.jr_view.specs.ArrivingViews.{ArrivingViewValue, AreScanLines, IsSeen}
 use Rattle.jr_view.proofs.ArrivingViews.{few_shown, size_whole, whole_picture, with_items_is}
 use Rattle.jr_view.proofs.arriving_view.ArrivingView.finish.Goals as goal
 
@@ -44,7 +44,7 @@ returns-clause-picture c =
     (subst (λ (k : ℕ). take (k * line_size h) painted ≡ take (k * line_size h) whole.items) first before)
     (subst (λ (k : ℕ). (marks : List Mark) (f : ℕ → ℕ → ℕ → ℕ) → ShowsFirst s (length s.intervals) marks f → drop (k * line_size h) painted ≡ next_lines_of h f k (h.height - k)) first rest) in
     let long : length painted ≡ length whole.items = c.paint_rest.auto.pixels ∙ ap (λ (l : List ℕ). length l) c.as_mut_slice.ensures.value in
-    subst (IsPictureOf s) (sym (with_items_is whole.len whole.items painted whole.ok.0 long)) picture
+    subst (AreScanLines s) (sym (with_items_is whole.len whole.items painted whole.ok.0 long)) picture
 
 pub returns-in-Err-clause-refusal : goal.returns-in-Err-clause-refusal
 returns-in-Err-clause-refusal c other bytes seen = c.in-Err.ensures.refusal other bytes (subst (λ (v : ArrivingViewValue). IsSeen v bytes) (sym c.self.view_is) seen).arriving
