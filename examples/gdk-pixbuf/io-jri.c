@@ -38,8 +38,8 @@ struct loading {
     struct bytes file;
     gsize row_bytes; /* how many bytes each of the last rows took; 0 as long as nobody knows */
     gsize awaited;   /* how many bytes there are to be before rows are asked for again */
-    jri_head head;
-    struct jri_place place;
+    struct jri_header head;
+    struct jri_position place;
     guint lines; /* how many lines are decoded */
     GdkPixbuf *pixbuf;
     GdkPixbufLoader *other;
@@ -110,7 +110,7 @@ static gboolean is_of_another_kind(guint32 refusal) {
 
 /* Whether the other loader gets a file of another kind at its end alone. It can't wait for bytes of arithmetic data: by parts it
  * fails, or doesn't return. A progressive file's frame is told by detail C2, and all but these may be arithmetic. */
-static gboolean is_handed_over_whole(const jri_head *head) {
+static gboolean is_handed_over_whole(const struct jri_header *head) {
     return head->refusal == 4 || (head->refusal == 5 && head->detail != 0xC2);
 }
 
@@ -140,7 +140,7 @@ static void update_other(GdkPixbufLoader *other, gint x, gint y, gint width, gin
 /* Gives all bytes that came to the other loader; where there is none the file is refused. A whole file gets an EOI behind its end:
  * else the other loader fails on some that were cut off. */
 static gboolean hand_over(struct loading *l, guint32 more, GError **error) {
-    if (more == JRI_ALL && !append(&l->file, END_OF_IMAGE, sizeof END_OF_IMAGE, error))
+    if (more == JRI_COMPLETE && !append(&l->file, END_OF_IMAGE, sizeof END_OF_IMAGE, error))
         return FALSE;
     l->other = gdk_pixbuf_loader_new_with_type("jpeg", NULL);
     if (!l->other)
@@ -176,7 +176,7 @@ static gboolean begin_picture(struct loading *l, guint32 more, GError **error) {
     guint8 *pixels = g_try_malloc(room);
     if (!pixels)
         return fail_for_memory(error);
-    if (more == JRI_MORE)
+    if (more == JRI_PARTIAL)
         memset(pixels, GREY, room);
     l->pixbuf = gdk_pixbuf_new_from_data(pixels, GDK_COLORSPACE_RGB, FALSE, 8, width, height, CHANNELS * width, free_pixels, NULL);
     guint orientation = orientation_of(l->file.data, l->file.length);
@@ -193,18 +193,18 @@ static gboolean begin_picture(struct loading *l, guint32 more, GError **error) {
 /* Reads the head; where it has not come as a whole, more bytes are awaited. */
 static gboolean read_head(struct loading *l, guint32 more, GError **error) {
     struct jri_rows rows;
-    guint32 status = jri_measure(l->file.data, l->file.length, &l->head);
-    if (status == JRI_SOUND)
+    guint32 status = jri_read_header(l->file.data, l->file.length, &l->head);
+    if (status == JRI_OK)
         return begin_picture(l, more, error);
-    if (status == JRI_REFUSED && more == JRI_MORE) /* further bytes may mend the fault */
-        status = jri_decode_rows(l->file.data, l->file.length, JRI_MORE, &l->place, 1, NULL, 0, &rows);
-    if (status == JRI_SOUND)
+    if (status == JRI_REFUSED && more == JRI_PARTIAL) /* further bytes may mend the fault */
+        status = jri_decode_rows(l->file.data, l->file.length, JRI_PARTIAL, &l->place, 1, NULL, 0, &rows);
+    if (status == JRI_OK)
         return TRUE;
     if (status == JRI_NO_MEMORY)
         return fail_for_memory(error);
     if (!is_of_another_kind(l->head.refusal))
         return refuse(l->head.refusal, l->head.detail, error);
-    if (more == JRI_ALL || !is_handed_over_whole(&l->head))
+    if (more == JRI_COMPLETE || !is_handed_over_whole(&l->head))
         return hand_over(l, more, error);
     l->awaited = G_MAXSIZE;
     return TRUE;
@@ -239,7 +239,7 @@ static gboolean decode_rows(struct loading *l, guint32 more, GError **error) {
                                      width * left * l->head.components, &rows);
     if (status == JRI_NO_MEMORY)
         return fail_for_memory(error);
-    if (status != JRI_SOUND)
+    if (status != JRI_OK)
         return refuse(rows.refusal, rows.detail, error);
     if (rows.rows && from) /* the first row's bytes have the head before them */
         l->row_bytes = (l->place.at - from) / rows.rows;
@@ -262,7 +262,7 @@ static gboolean advance(struct loading *l, guint32 more, GError **error) {
 /* Goes on to the end of the file: of one that was cut off, what is missing stays grey. */
 static gboolean finish(struct loading *l, GError **error) {
     gboolean is_good = l->stage == HANDED_OVER ? gdk_pixbuf_loader_write(l->other, END_OF_IMAGE, sizeof END_OF_IMAGE, error)
-                                               : advance(l, JRI_ALL, error);
+                                               : advance(l, JRI_COMPLETE, error);
     return is_good && l->stage == HANDED_OVER ? gdk_pixbuf_loader_close(l->other, error) : is_good;
 }
 
@@ -298,7 +298,7 @@ static gboolean load_increment(gpointer context, const guchar *data, guint lengt
                                                 : append(&l->file, data, length, error);
     if (!is_taken)
         l->stage = HAS_FAILED;
-    return is_taken && (l->file.length < l->awaited || advance(l, JRI_MORE, error));
+    return is_taken && (l->file.length < l->awaited || advance(l, JRI_PARTIAL, error));
 }
 
 static gboolean stop_load(gpointer context, GError **error) {

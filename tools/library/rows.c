@@ -19,7 +19,7 @@
 
 /* Where a part begins: its place, and the line of the picture there. */
 struct start {
-    struct jri_place place;
+    struct jri_position place;
     uint32_t line;
 };
 
@@ -35,7 +35,7 @@ struct picture {
     struct start *starts;
     uint32_t known, next; /* how many starts are known, and the next part that nobody has taken */
     int is_all_known;
-    uint32_t status; /* the first answer that is not JRI_SOUND */
+    uint32_t status; /* the first answer that is not JRI_OK */
 };
 
 static void fail(struct picture *p, uint32_t status) {
@@ -64,8 +64,8 @@ static void *decode_parts(void *argument) {
     while (take(p, &start)) {
         struct jri_rows report;
         size_t at = start.line * p->line_size;
-        uint32_t status = jri_decode_rows(p->file, p->length, JRI_ALL, &start.place, p->rows, p->pixels + at, p->size - at, &report);
-        if (status != JRI_SOUND)
+        uint32_t status = jri_decode_rows(p->file, p->length, JRI_COMPLETE, &start.place, p->rows, p->pixels + at, p->size - at, &report);
+        if (status != JRI_OK)
             fail(p, status);
     }
     return NULL;
@@ -88,8 +88,8 @@ static void make_index(struct picture *p, uint32_t height) {
     struct jri_rows report;
     tell(p, &start);
     for (;;) {
-        uint32_t status = jri_skip_rows(p->file, p->length, JRI_ALL, &start.place, p->rows, &report);
-        if (status != JRI_SOUND) {
+        uint32_t status = jri_skip_rows(p->file, p->length, JRI_COMPLETE, &start.place, p->rows, &report);
+        if (status != JRI_OK) {
             fail(p, status);
             return;
         }
@@ -124,7 +124,7 @@ static double milliseconds(void) {
     return now.tv_sec * 1e3 + now.tv_nsec / 1e6;
 }
 
-static void time_both(struct picture *p, const struct jri_measure *measure, int threads, int runs) {
+static void time_both(struct picture *p, const struct jri_header *header, int threads, int runs) {
     double least[2] = {1e9, 1e9};
     for (int run = 0; run < 2 * runs; run++) {
         struct jri_report report;
@@ -132,7 +132,7 @@ static void time_both(struct picture *p, const struct jri_measure *measure, int 
         if (run % 2 == 0)
             jri_decode(p->file, p->length, p->pixels, p->size, NULL, 0, &report);
         else
-            decode(p, measure->height, threads);
+            decode(p, header->height, threads);
         double taken = milliseconds() - from;
         least[run % 2] = taken < least[run % 2] ? taken : least[run % 2];
     }
@@ -140,26 +140,26 @@ static void time_both(struct picture *p, const struct jri_measure *measure, int 
 }
 
 static int run(const uint8_t *file, size_t length, char **words, int runs) {
-    struct jri_measure measure;
+    struct jri_header header;
     int threads = atoi(words[0]);
     struct picture p = {.file = file, .length = length, .rows = (uint32_t)atoi(words[1])};
-    uint32_t status = jri_measure(file, length, &measure);
-    if (status != JRI_SOUND)
+    uint32_t status = jri_read_header(file, length, &header);
+    if (status != JRI_OK)
         return (int)status;
     if (threads < 1 || threads > 65 || p.rows < 1)
         return 2;
-    p.size = measure.pixels;
-    p.line_size = p.size / measure.height;
+    p.size = header.pixels;
+    p.line_size = p.size / header.height;
     p.pixels = malloc(p.size);
-    p.starts = malloc(measure.height * sizeof *p.starts);
+    p.starts = malloc(header.height * sizeof *p.starts);
     pthread_mutex_init(&p.lock, NULL);
     pthread_cond_init(&p.told, NULL);
     if (!p.pixels || !p.starts)
         status = JRI_NO_MEMORY;
     else if (runs)
-        time_both(&p, &measure, threads, runs);
-    else if ((status = decode(&p, measure.height, threads)) == JRI_SOUND) {
-        printf("P%c\n%" PRIu32 " %" PRIu32 "\n255\n", measure.components == 1 ? '5' : '6', measure.width, measure.height);
+        time_both(&p, &header, threads, runs);
+    else if ((status = decode(&p, header.height, threads)) == JRI_OK) {
+        printf("P%c\n%" PRIu32 " %" PRIu32 "\n255\n", header.components == 1 ? '5' : '6', header.width, header.height);
         fwrite(p.pixels, 1, p.size, stdout);
     }
     free(p.starts);

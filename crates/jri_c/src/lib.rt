@@ -19,12 +19,12 @@ use jri_memory::{
 use std::alloc::Global;
 
 /// The number of these calls: it is changed where one of them is.
-const VERSION: u32 = 3;
+const VERSION: u32 = 4;
 
 /// The number of these calls.
 #[unsafe(no_mangle)]
 pub extern "C" fn jri_version() -> u32
-    ensures { result ≡ 3 }
+    ensures { result ≡ 4 }
 {
     VERSION
 }
@@ -32,7 +32,7 @@ pub extern "C" fn jri_version() -> u32
 /// What the file's head says of its picture, for which nothing is decoded: 0, 1 for want of memory, or 2 where the file
 /// is refused.
 #[unsafe(no_mangle)]
-pub extern "C" fn jri_measure(alloc: Global, file: &[u8], measure: &mut Measure) -> u32
+pub extern "C" fn jri_read_header(alloc: Global, file: &[u8], measure: &mut Measure) -> u32
     ensures measured { result ≡ 0 → IsMeasureOf file.now measure.new }
     ensures refused { result ≡ 2 → TellsFault file.now measure.new.refusal measure.new.detail }
     ensures memory { result ≡ 1 → measure.new.refusal ≡ 19 }
@@ -197,7 +197,7 @@ pub extern "C" fn jri_skip_rows(
 /// the report says where to go on; or 0 where none is left from there on. With 1 for want of memory and 2 where the file is refused
 /// `damages` is as it was.
 #[unsafe(no_mangle)]
-pub extern "C" fn jri_damages(
+pub extern "C" fn jri_list_damage(
     alloc: Global,
     file: &[u8],
     first: u32,
