@@ -39,7 +39,8 @@ enum {
     JRI_DAMAGED = 3,          /* done, and an interval is damaged */
     JRI_BUFFER_TOO_SMALL = 4, /* a buffer is too small */
     JRI_NO_LINES = 5,         /* the image has no such lines or rows, or none were asked for */
-    JRI_NO_LAYOUT = 6         /* there is no such layout, or a line is longer than the stride */
+    JRI_NO_LAYOUT = 6,        /* there is no such layout, or a line is longer than the stride */
+    JRI_NEED_MORE = 7         /* the bytes so far end before the header does */
 };
 
 /* Whether the bytes are all of the file, or more may follow. */
@@ -61,8 +62,8 @@ enum {
 };
 
 /*
- * What a file's header says. Proved: unless the status is JRI_OK everything but the refusal's two numbers is 0; if it
- * is, these two are.
+ * What a file's header says. Proved: unless the status is JRI_OK everything but the refusal's two numbers is 0; with
+ * JRI_OK and JRI_NEED_MORE these two are 0.
  */
 struct jri_header {
     uint32_t width;      /* in pixels, 1 to 65535 */
@@ -143,11 +144,14 @@ struct jri_damage_list {
 uint32_t jri_version(void);
 
 /*
- * Reads a file's header and decodes nothing.
+ * Reads a file's header and decodes nothing. With JRI_PARTIAL more bytes of the file may follow.
  *
- * Proved: with JRI_OK `header` has what the header says. The only other statuses are JRI_REFUSED and JRI_NO_MEMORY.
+ * Proved: with JRI_OK `header` has what the header says, of these bytes and of every file that begins with them. With
+ * JRI_PARTIAL a refusal is that of every file that begins with these bytes. JRI_NEED_MORE is returned only with
+ * JRI_PARTIAL, and only if these bytes alone are too short: their refusal is 2, or 1 and they are fewer than two. The
+ * only other statuses are JRI_REFUSED and JRI_NO_MEMORY.
  */
-uint32_t jri_read_header(const uint8_t *file, size_t file_length, struct jri_header *header);
+uint32_t jri_read_header(const uint8_t *file, size_t file_length, uint32_t more, struct jri_header *header);
 
 /*
  * Decodes a file. Allocates for the scan and for one row of MCUs (8, 16, 24 or 32 lines), and nothing for the image.

@@ -35,7 +35,7 @@ static void tell(const struct jri_report *r) {
 static int decode(const uint8_t *file, size_t length) {
     struct jri_header header;
     struct jri_report report;
-    uint32_t status = jri_read_header(file, length, &header);
+    uint32_t status = jri_read_header(file, length, JRI_COMPLETE, &header);
     if (status == JRI_REFUSED)
         return refused(header.refusal, header.detail);
     uint8_t *pixels = status == JRI_OK ? malloc(header.pixels) : NULL;

@@ -143,7 +143,7 @@ static int run(const uint8_t *file, size_t length, char **words, int runs) {
     struct jri_header header;
     int threads = atoi(words[0]);
     struct picture p = {.file = file, .length = length, .rows = (uint32_t)atoi(words[1])};
-    uint32_t status = jri_read_header(file, length, &header);
+    uint32_t status = jri_read_header(file, length, JRI_COMPLETE, &header);
     if (status != JRI_OK)
         return (int)status;
     if (threads < 1 || threads > 65 || p.rows < 1)

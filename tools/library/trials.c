@@ -108,12 +108,29 @@ static void refuse(const struct trial *t) {
         struct jri_header header;
         requests = 0;
         refused = k;
-        uint32_t status = jri_read_header(t->file, t->length, &header);
+        uint32_t status = jri_read_header(t->file, t->length, JRI_COMPLETE, &header);
         refused = -1;
         int is_same = status == JRI_OK && !memcmp(&header, &t->header, sizeof header);
         see(is_same || (requests > k && status == JRI_NO_MEMORY), t, "a request of a header refused");
         refusals += 1;
     }
+}
+
+/* Reads the header of a file that arrives byte by byte: more are wanted, then it is that of the file. */
+static void try_header(const struct trial *t) {
+    static const struct jri_header NONE;
+    struct jri_header header;
+    uint32_t status = JRI_NEED_MORE;
+    for (size_t length = 0; length <= t->length; length++) {
+        uint32_t before = status;
+        status = jri_read_header(t->file, length, JRI_PARTIAL, &header);
+        const struct jri_header *expected = status == JRI_OK ? &t->header : &NONE;
+        see(status == JRI_OK || (status == JRI_NEED_MORE && before == status), t, "a status of a header so far");
+        see(!memcmp(&header, expected, sizeof header), t, "a header so far");
+        if (status == JRI_OK && before == JRI_OK)
+            length += t->length / 8;
+    }
+    see(status == JRI_OK, t, "a header that has not come");
 }
 
 static size_t line_of(const struct trial *t) { return t->header.pixels / t->header.height; }
@@ -459,7 +476,8 @@ static void try_null(void) {
     struct trial none = {.name = "null pointers"};
     uint8_t text[OF_TEXT];
     see(jri_version() == JRI_VERSION, &none, "the version");
-    see(jri_read_header(NULL, 0, &none.header) == JRI_REFUSED && none.header.refusal == 1, &none, "a header");
+    see(jri_read_header(NULL, 0, JRI_COMPLETE, &none.header) == JRI_REFUSED && none.header.refusal == 1, &none, "a header");
+    see(jri_read_header(NULL, 0, JRI_PARTIAL, &none.header) == JRI_NEED_MORE && !none.header.refusal, &none, "a header of nothing yet");
     see(jri_decode(NULL, 0, NULL, 0, NULL, 0, &none.report) == JRI_REFUSED && none.report.refusal == 1, &none, "a decoding");
     see(jri_decode_lines(NULL, 0, 0, 1, NULL, 0, &none.report) == JRI_REFUSED && none.report.refusal == 1, &none, "lines");
     see(jri_check(NULL, 0, NULL, 0, &none.report) == JRI_REFUSED && none.report.refusal == 1, &none, "a check");
@@ -500,7 +518,7 @@ static void read_file(struct trial *t) {
 static void try_file(const char *name) {
     struct trial t = {.name = name};
     read_file(&t);
-    see(jri_read_header(t.file, t.length, &t.header) == JRI_OK, &t, "is not accepted");
+    see(jri_read_header(t.file, t.length, JRI_COMPLETE, &t.header) == JRI_OK, &t, "is not accepted");
     size_t size = t.header.pixels, count = t.header.intervals;
     t.pixels = buffer(size);
     t.marks = buffer(count);
@@ -514,6 +532,7 @@ static void try_file(const char *name) {
     if (count > 1)
         decode(&t, size, count - 1, JRI_BUFFER_TOO_SMALL, -1, "a mark too few");
     refuse(&t);
+    try_header(&t);
     try_lines(&t);
     try_check(&t);
     try_damages(&t);

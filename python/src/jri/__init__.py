@@ -35,7 +35,7 @@ from typing import (
 
 import numpy
 
-from ._library import BUFFER_TOO_SMALL, CALLS, DAMAGED, LAYOUTS, NO_LINES, NO_MEMORY, OK, REFUSED, SOUND
+from ._library import BUFFER_TOO_SMALL, CALLS, COMPLETE, DAMAGED, LAYOUTS, NO_LINES, NO_MEMORY, OK, REFUSED, SOUND
 from ._loaded import ffi, library, refusal_text
 
 if TYPE_CHECKING:
@@ -268,9 +268,14 @@ def _raise(status: int, number: int, detail: int, name: Optional[str] = None) ->
 
 def _measured(file: _File) -> Measure:
     told = ffi.new("struct jri_header *")
-    status = library.jri_read_header(file.data, len(file.data), told)
+    status = library.jri_read_header(file.data, len(file.data), COMPLETE, told)
+    return _measure(status, told, file.name)
+
+
+def _measure(status: int, told: Any, name: Optional[str]) -> Measure:
+    """Returns what a header says. Raises the error for a status without one, of a file of this name."""
     if status != OK:
-        _raise(status, told.refusal, told.detail, file.name)
+        _raise(status, told.refusal, told.detail, name)
     return Measure(told.width, told.height, told.components, told.intervals)
 
 

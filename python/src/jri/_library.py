@@ -6,7 +6,7 @@ from typing import Any
 
 CALLS = 4
 
-SOUND, NO_MEMORY, REFUSED, DAMAGED, BUFFER_TOO_SMALL, NO_LINES, NO_LAYOUT = range(7)
+SOUND, NO_MEMORY, REFUSED, DAMAGED, BUFFER_TOO_SMALL, NO_LINES, NO_LAYOUT, NEED_MORE = range(8)
 
 #: The status of calls that do not judge the restart intervals.
 OK = SOUND
@@ -28,7 +28,7 @@ def declare(builder: Any) -> None:
         struct jri_damage { uint32_t interval, first_mcu, mcus, decodable, first_line, last_line; uint64_t start, end; };
         struct jri_damage_list { uint32_t count, next, refusal; uint64_t detail; };
         uint32_t jri_version(void);
-        uint32_t jri_read_header(const uint8_t *, size_t, struct jri_header *);
+        uint32_t jri_read_header(const uint8_t *, size_t, uint32_t, struct jri_header *);
         uint32_t jri_decode(const uint8_t *, size_t, uint8_t *, size_t, uint8_t *, size_t, struct jri_report *);
         uint32_t jri_decode_lines(const uint8_t *, size_t, uint32_t, uint32_t, uint8_t *, size_t, struct jri_report *);
         uint32_t jri_check(const uint8_t *, size_t, uint8_t *, size_t, struct jri_report *);

@@ -25,6 +25,7 @@ from . import (
     _check,
     _File,
     _file,
+    _measure,
     _measured,
     _name_of,
     _new,
@@ -35,7 +36,7 @@ from . import (
     _with_name,
     _within,
 )
-from ._library import COMPLETE, DAMAGED, LAYOUTS, NO_LINES, OK, PARTIAL, REFUSED, SOUND
+from ._library import COMPLETE, DAMAGED, LAYOUTS, NEED_MORE, NO_LINES, OK, PARTIAL, SOUND
 from ._loaded import ffi, library
 
 __all__ = ["Damage", "Index", "Stream", "damages", "index", "lines", "load_index"]
@@ -248,20 +249,12 @@ class Stream:
             return parts
 
     def _begun(self, file: _File, more: int) -> Optional[Measure]:
-        """Returns what the head says; None if more bytes are wanted for it."""
-        told = ffi.new("struct jri_rows *")
-        if more == PARTIAL:
-            # With JRI_PARTIAL a refusal is final. One of jri_read_header alone then means that more bytes are wanted.
-            status = library.jri_skip_rows(file.data, len(file.data), more, ffi.new("struct jri_position *"), 0, told)
-            if status == REFUSED:
-                _raise(status, told.refusal, told.detail)
+        """Returns what the header says; None if more bytes are wanted for it."""
         told = ffi.new("struct jri_header *")
-        status = library.jri_read_header(file.data, len(file.data), told)
-        if more == PARTIAL and status == REFUSED:
+        status = library.jri_read_header(file.data, len(file.data), more, told)
+        if status == NEED_MORE:
             return None
-        if status != OK:
-            _raise(status, told.refusal, told.detail)
-        head = Measure(told.width, told.height, told.components, told.intervals)
+        head = _measure(status, told, None)
         _within(head, self._max_pixels, None)
         if self._out is not None:
             _accept(self._out, head, self._layout)
