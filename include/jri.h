@@ -27,6 +27,9 @@
 extern "C" {
 #endif
 
+/* The version of jri: of the header, library, programs, packages and Python module. */
+#define JRI_RELEASE "0.1.0"
+
 /* The number of this interface; jri_version() returns that of the library. */
 #define JRI_VERSION 4
 

@@ -473,6 +473,7 @@ static void try_canvas(const struct trial *t) {
 }
 
 static void try_null(void) {
+    static const char BUILD[] = "jri " JRI_RELEASE " ";
     struct trial none = {.name = "null pointers"};
     uint8_t text[OF_TEXT];
     see(jri_version() == JRI_VERSION, &none, "the version");
@@ -496,7 +497,7 @@ static void try_null(void) {
     see(jri_end_text(&none.report, text, OF_TEXT) == 0, &none, "a text of no end");
     none.report.ended = JRI_END_OF_IMAGE;
     see(jri_end_text(&none.report, text, OF_TEXT) == 17 && !memcmp(text, "scan ended at EOI", 17), &none, "a text of an end");
-    see(jri_build_text(text, OF_TEXT) > 4 && !memcmp(text, "jri ", 4), &none, "a text of the build");
+    see(jri_build_text(text, OF_TEXT) > sizeof BUILD && !memcmp(text, BUILD, sizeof BUILD - 1), &none, "a text of the build");
     uint8_t long_text[OF_TEXT + MORE];
     for (uint32_t refusal = 1; refusal <= REFUSALS; refusal++)
         see(jri_refusal_text(refusal, UINT64_MAX, long_text, sizeof long_text) <= OF_TEXT, &none, "a text of more than 64 bytes");
