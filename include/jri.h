@@ -14,7 +14,8 @@
  * buffer of length 0 may be NULL, a struct may not.
  *
  * In what follows: JRI_REFUSED comes with the file's first fault in the refusal's two numbers, JRI_NO_MEMORY with
- * refusal 19 (tested: only if memory ran out). With these, JRI_NO_ROOM and JRI_NO_LINES all buffers are unchanged.
+ * refusal 19 (tested: only if memory ran out). With these, JRI_BUFFER_TOO_SMALL and JRI_NO_LINES all buffers are
+ * unchanged. "Every file that begins with these bytes" means every one that is not too long (refusal 18).
  */
 #ifndef JRI_H
 #define JRI_H
@@ -26,21 +27,27 @@
 extern "C" {
 #endif
 
-/* The version of this interface; jri_version() returns that of the library. */
-#define JRI_VERSION 3
+/* The version of jri: of the header, library, programs, packages and Python module. */
+#define JRI_RELEASE "0.1.0"
 
-/* The status of calls that read a file. */
+/* The number of this interface; jri_version() returns that of the library. */
+#define JRI_VERSION 4
+
+/* The status of a call. */
 enum {
-    JRI_SOUND = 0,     /* done; if the call decodes or checks: no interval is damaged */
-    JRI_NO_MEMORY = 1, /* out of memory */
-    JRI_REFUSED = 2,   /* the file is refused: jri does not decode it */
-    JRI_DAMAGED = 3,   /* done, and an interval is damaged */
-    JRI_NO_ROOM = 4,   /* a buffer is too small */
-    JRI_NO_LINES = 5   /* the image has no such lines or rows, or none were asked for */
+    JRI_OK = 0,               /* done, by a call that does not judge the restart intervals */
+    JRI_SOUND = 0,            /* done, and no interval is damaged */
+    JRI_NO_MEMORY = 1,        /* out of memory */
+    JRI_REFUSED = 2,          /* the file is refused: jri does not decode it */
+    JRI_DAMAGED = 3,          /* done, and an interval is damaged */
+    JRI_BUFFER_TOO_SMALL = 4, /* a buffer is too small */
+    JRI_NO_LINES = 5,         /* the image has no such lines or rows, or none were asked for */
+    JRI_NO_LAYOUT = 6,        /* there is no such layout, or a line is longer than the stride */
+    JRI_NEED_MORE = 7         /* the bytes so far end before the header does */
 };
 
 /* Whether the bytes are all of the file, or more may follow. */
-enum { JRI_ALL = 0, JRI_MORE = 1 };
+enum { JRI_COMPLETE = 0, JRI_PARTIAL = 1 };
 
 /* The meaning of the components. */
 enum { JRI_GREY = 0, JRI_RGB = 1, JRI_YCBCR = 2 };
@@ -58,15 +65,10 @@ enum {
 };
 
 /*
- * What a file's head says; `jri_head` in C and in C++. Proved: unless the status is JRI_SOUND everything but the
- * refusal's two numbers is 0; if it is, these two are.
+ * What a file's header says. Proved: unless the status is JRI_OK everything but the refusal's two numbers is 0; with
+ * JRI_OK and JRI_NEED_MORE these two are 0.
  */
-#ifdef __cplusplus
-struct jri_head { /* in C++ a call and a struct of one name shadow each other */
-#else
-typedef struct jri_measure jri_head;
-struct jri_measure {
-#endif
+struct jri_header {
     uint32_t width;      /* in pixels, 1 to 65535 */
     uint32_t height;     /* in lines, 1 to 65535 */
     uint32_t kind;       /* JRI_GREY, JRI_RGB or JRI_YCBCR */
@@ -79,8 +81,8 @@ struct jri_measure {
 
 /*
  * The report of a decoding or a check. Proved: without an image everything but the refusal's two numbers is 0; with
- * one these two are 0, and so are the fields that the end of the scan does not use. With JRI_NO_ROOM and JRI_NO_LINES
- * everything is 0.
+ * one these two are 0, and so are the fields that the end of the scan does not use. With JRI_BUFFER_TOO_SMALL,
+ * JRI_NO_LINES and JRI_NO_LAYOUT everything is 0.
  */
 struct jri_report {
     uint32_t intervals; /* number of restart intervals */
@@ -99,7 +101,7 @@ struct jri_report {
  * A position between two rows of MCUs of a file. All 0 is the top. It is plain data that holds no memory: copy, keep,
  * store or forget it.
  */
-struct jri_place {
+struct jri_position {
     uint64_t at;            /* offset in the file of the byte that has the next bit */
     uint32_t bit;           /* number of bits of that byte that are taken, 0 to 7 */
     uint32_t row;           /* number of rows of MCUs before it */
@@ -110,8 +112,8 @@ struct jri_place {
 };
 
 /*
- * The report of a call that continues from a position. Proved: unless the status is JRI_SOUND rows, lines and
- * first_line are 0; with JRI_SOUND, JRI_NO_ROOM and JRI_NO_LINES the refusal's two numbers are.
+ * The report of a call that continues from a position. Proved: unless the status is JRI_OK rows, lines and first_line
+ * are 0; with JRI_OK, JRI_BUFFER_TOO_SMALL and JRI_NO_LINES the refusal's two numbers are.
  */
 struct jri_rows {
     uint32_t rows;       /* number of rows of MCUs decoded or skipped */
@@ -133,7 +135,7 @@ struct jri_damage {
     uint64_t end;        /* offset after its last byte; both are 0 if it has none */
 };
 
-/* The report of jri_damages; 0 if nothing is listed. */
+/* The report of jri_list_damage; 0 if nothing is listed. */
 struct jri_damage_list {
     uint32_t count;   /* number of entries */
     uint32_t next;    /* the interval after those that were examined; the number of intervals if none is left */
@@ -141,27 +143,30 @@ struct jri_damage_list {
     uint64_t detail;  /* the refusal's offset or marker code */
 };
 
-/* Returns the version of the library's interface (proved): JRI_VERSION if this header is its own. */
+/* Returns the number of the library's interface (proved): JRI_VERSION if this header is its own. */
 uint32_t jri_version(void);
 
 /*
- * Reads a file's head and decodes nothing.
+ * Reads a file's header and decodes nothing. With JRI_PARTIAL more bytes of the file may follow.
  *
- * Proved: with JRI_SOUND `measure` has what the head says. The only other statuses are JRI_REFUSED and JRI_NO_MEMORY.
+ * Proved: with JRI_OK `header` has what the header says, of these bytes and of every file that begins with them. With
+ * JRI_PARTIAL a refusal is that of every file that begins with these bytes. JRI_NEED_MORE is returned only with
+ * JRI_PARTIAL, and only if these bytes alone are too short: their refusal is 2, or 1 and they are fewer than two. The
+ * only other statuses are JRI_REFUSED and JRI_NO_MEMORY.
  */
-uint32_t jri_measure(const uint8_t *file, size_t file_length, jri_head *measure);
+uint32_t jri_read_header(const uint8_t *file, size_t file_length, uint32_t more, struct jri_header *header);
 
 /*
  * Decodes a file. Allocates for the scan and for one row of MCUs (8, 16, 24 or 32 lines), and nothing for the image.
  *
  * Proved: with JRI_SOUND and JRI_DAMAGED the first bytes of `pixels` are the lines of the image from the top, each
  * pixel one byte of grey or one each of red, green and blue; those of `marks` are the marks of its intervals unless
- * marks_room is 0; bytes after them are unchanged; `report` has the counts. A damaged interval shows its longest
- * decodable prefix of whole MCUs, then mid-grey: 128 in all components. JRI_NO_ROOM is returned only if the pixels
- * are smaller than jri_measure says, or marks that were asked for are.
+ * marks_size is 0; bytes after them are unchanged; `report` has the counts. A damaged interval shows its longest
+ * decodable prefix of whole MCUs, then mid-grey: 128 in all components. JRI_BUFFER_TOO_SMALL is returned only if the
+ * pixels are smaller than jri_read_header says, or marks that were asked for are.
  */
-uint32_t jri_decode(const uint8_t *file, size_t file_length, uint8_t *pixels, size_t pixels_room, uint8_t *marks,
-                    size_t marks_room, struct jri_report *report);
+uint32_t jri_decode(const uint8_t *file, size_t file_length, uint8_t *pixels, size_t pixels_size, uint8_t *marks,
+                    size_t marks_size, struct jri_report *report);
 
 /*
  * Decodes `count` lines of the image starting at line `first`, from 0 at the top. Allocates as much as jri_decode.
@@ -170,59 +175,61 @@ uint32_t jri_decode(const uint8_t *file, size_t file_length, uint8_t *pixels, si
  * bytes after them are unchanged. The report's sound and damaged count the intervals that end in these lines' rows of
  * MCUs, and JRI_DAMAGED means that one of those is damaged; over calls that share no row of MCUs and omit none they
  * add up to those of jri_decode. JRI_NO_LINES is returned only if the image lacks one of these lines or none were
- * asked for, and then no lines are returned; JRI_NO_ROOM only if the lines do not fit.
+ * asked for, and then no lines are returned; JRI_BUFFER_TOO_SMALL only if the lines do not fit.
  *
  * Each call reads the file anew, and the interval before the lines from its start: without restart markers that is
  * everything before the lines. jri_decode_rows continues from a position instead.
  */
 uint32_t jri_decode_lines(const uint8_t *file, size_t file_length, uint32_t first, uint32_t count, uint8_t *pixels,
-                          size_t pixels_room, struct jri_report *report);
+                          size_t pixels_size, struct jri_report *report);
 
 /*
  * Checks a file: reads each restart interval as jri_decode does, and makes no image. Allocates for the scan alone,
  * and takes a third to a half of the time.
  *
- * Proved: with JRI_SOUND and JRI_DAMAGED the first bytes of `marks` are the marks of its intervals unless marks_room
+ * Proved: with JRI_SOUND and JRI_DAMAGED the first bytes of `marks` are the marks of its intervals unless marks_size
  * is 0: JRI_MARK_SOUND if the interval has a decoding, otherwise JRI_MARK_DAMAGED; bytes after them are unchanged;
- * `report` counts them. JRI_NO_ROOM is returned only if marks that were asked for are smaller than jri_measure says.
+ * `report` counts them. JRI_BUFFER_TOO_SMALL is returned only if marks that were asked for are smaller than
+ * jri_read_header says.
  *
  * Tested: status, marks and report are those of jri_decode.
  */
-uint32_t jri_check(const uint8_t *file, size_t file_length, uint8_t *marks, size_t marks_room, struct jri_report *report);
+uint32_t jri_check(const uint8_t *file, size_t file_length, uint8_t *marks, size_t marks_size,
+                   struct jri_report *report);
 
 /*
- * Decodes the next rows of MCUs starting at `place`, at most `rows`, and moves the position past them. A row has 8,
- * 16, 24 or 32 lines, the last one fewer: 32 lines hold a row of any file. With JRI_MORE more bytes of the file may
- * follow, and rows that they could change are not returned. Allocates for one row of MCUs. Reads the head, and of the
- * scan what follows the position.
+ * Decodes the next rows of MCUs starting at `position`, at most `rows`, and moves the position past them. A row has 8,
+ * 16, 24 or 32 lines, the last one fewer: 32 lines hold a row of any file. With JRI_PARTIAL more bytes of the file may
+ * follow, and rows that they could change are not returned. Allocates for one row of MCUs. Reads the header, and of
+ * the scan what follows the position.
  *
- * Proved, for any position: with JRI_SOUND the first bytes of `pixels` are rows->lines lines, bytes after them are
- * unchanged, the position has moved by rows->rows rows, and the numbers fit the image. With JRI_ALL these are all
- * rows that were asked for, are left and fit; with JRI_MORE at most that number, and none before the head is
+ * Proved, for any position: with JRI_OK the first bytes of `pixels` are rows->lines lines, bytes after them are
+ * unchanged, the position has moved by rows->rows rows, and the numbers fit the image. With JRI_COMPLETE these are all
+ * rows that were asked for, are left and fit; with JRI_PARTIAL at most that number, and none before the header is
  * complete; without rows the position is unchanged. With any other status pixels and position are unchanged. With
- * JRI_MORE a refusal is that of every file that begins with these bytes. JRI_NO_LINES is returned only if the image
- * has no row at the position or none was asked for, JRI_NO_ROOM only if the next row does not fit.
+ * JRI_PARTIAL a refusal is that of every file that begins with these bytes. JRI_NO_LINES is returned only if the image
+ * has no row at the position or none was asked for, JRI_BUFFER_TOO_SMALL only if the next row does not fit.
  *
- * Proved: if the position is the top, or was returned by a call with JRI_MORE on bytes with which these begin, or
- * with JRI_ALL by a call on these very bytes, the lines are those that jri_decode returns for these bytes or, with
- * JRI_MORE, for every file that begins with them: no line is ever taken back. From any other position the lines mean
- * nothing.
+ * Proved: if the position is the top, or was returned by a call with JRI_PARTIAL on bytes with which these begin, or
+ * with JRI_COMPLETE by a call on these very bytes, the lines are those that jri_decode returns for these bytes or,
+ * with JRI_PARTIAL, for every file that begins with them: no line is ever taken back. From any other position the
+ * lines mean nothing.
  *
- * Tested: with JRI_MORE each row is returned whose MCUs are there or whose intervals have ended. JRI_DAMAGED is never
- * returned: jri_check reports soundness.
+ * Tested: with JRI_PARTIAL each row is returned whose MCUs are there or whose intervals have ended. JRI_DAMAGED is
+ * never returned: jri_check reports soundness.
  */
-uint32_t jri_decode_rows(const uint8_t *file, size_t file_length, uint32_t more, struct jri_place *place, uint32_t rows,
-                         uint8_t *pixels, size_t pixels_room, struct jri_rows *report);
+uint32_t jri_decode_rows(const uint8_t *file, size_t file_length, uint32_t more, struct jri_position *position,
+                         uint32_t rows, uint8_t *pixels, size_t pixels_size, struct jri_rows *report);
 
 /*
- * Skips the next rows of MCUs starting at `place`, at most `rows`, by reading their bits alone, and moves the
+ * Skips the next rows of MCUs starting at `position`, at most `rows`, by reading their bits alone, and moves the
  * position past them. One pass makes an index: a copy of the position every few rows, from which threads and tiles
  * decode their own rows.
  *
  * Proved: as for jri_decode_rows, without pixels. Tested: the position has the numbers that jri_decode_rows gives it.
  */
-uint32_t jri_skip_rows(const uint8_t *file, size_t file_length, uint32_t more, struct jri_place *place, uint32_t rows,
-                       struct jri_rows *report);
+uint32_t jri_skip_rows(const uint8_t *file, size_t file_length, uint32_t more, struct jri_position *position,
+                       uint32_t rows, struct jri_rows *report);
 
 /*
  * Writes the text of a refusal, by its number and detail, into the first bytes of `text`, as many as fit, without a 0
@@ -231,19 +238,19 @@ uint32_t jri_skip_rows(const uint8_t *file, size_t file_length, uint32_t more, s
  * Proved: the number is not 0 if there is such a refusal and `text` is not empty, 0 if there is none, and at most 64;
  * bytes after the text are unchanged. Tested: the texts.
  */
-uint64_t jri_refusal_text(uint32_t refusal, uint64_t detail, uint8_t *text, size_t text_room);
+uint64_t jri_refusal_text(uint32_t refusal, uint64_t detail, uint8_t *text, size_t text_size);
 
 /*
- * Lists the damaged intervals of a file starting at interval `first`, in order, as many as `damages` has entries
- * (`damages_room` counts structs). Reads the file as jri_check does, and allocates 16 bytes more for each interval.
+ * Lists the damaged intervals of a file starting at interval `first`, in order, as many as `damages` has entries:
+ * `damages_count`. Reads the file as jri_check does, and allocates 16 bytes more for each interval.
  *
  * Proved: with JRI_DAMAGED and JRI_SOUND the first list->count entries are exactly the damaged intervals from `first`
  * on and before list->next, each with its MCUs, lines and bytes; entries after them are unchanged; if list->next is
  * less than the number of intervals, all entries are used. JRI_DAMAGED means that some are listed, JRI_SOUND that
- * none is: with damages_room above 0, that none is left.
+ * none is: with damages_count above 0, that none is left.
  */
-uint32_t jri_damages(const uint8_t *file, size_t file_length, uint32_t first, struct jri_damage *damages, size_t damages_room,
-                     struct jri_damage_list *list);
+uint32_t jri_list_damage(const uint8_t *file, size_t file_length, uint32_t first, struct jri_damage *damages,
+                         size_t damages_count, struct jri_damage_list *list);
 
 /*
  * Writes what ended the scan of a report into the first bytes of `text`, as jri prints it and as jri_refusal_text
@@ -252,10 +259,10 @@ uint32_t jri_damages(const uint8_t *file, size_t file_length, uint32_t first, st
  * Proved: the number is not 0 if the report has an end and `text` is not empty, 0 if it has none, and at most 96.
  * Tested: the texts.
  */
-uint64_t jri_end_text(const struct jri_report *report, uint8_t *text, size_t text_room);
+uint64_t jri_end_text(const struct jri_report *report, uint8_t *text, size_t text_size);
 
 /* Writes the name and version of the build into the first bytes of `text`, at most 96, and returns their number. */
-uint64_t jri_build_text(uint8_t *text, size_t text_room);
+uint64_t jri_build_text(uint8_t *text, size_t text_size);
 
 /* The layouts of a canvas: the bytes of a pixel. All but JRI_PLAIN spread grey to three. */
 enum {
@@ -266,31 +273,29 @@ enum {
     JRI_BGRX32 = 4  /* blue, green, red, 255 */
 };
 
-/* A further status of jri_decode_canvas and jri_lay_out: no such layout, or a line is longer than the stride. */
-enum { JRI_NO_LAYOUT = 6 };
-
 /*
  * Decodes a file onto a canvas: line k begins at canvas + k * stride, in a layout. Allocates for the scan, one row of
  * MCUs and its lines, and nothing for the image. The canvas must reach to the end of the last line, no further.
  *
  * Proved: with JRI_SOUND and JRI_DAMAGED the lines of the image are on the canvas in this layout, every other byte of
- * the canvas is unchanged, and `marks` and `report` are those of jri_decode. JRI_NO_ROOM is returned only if a line
- * does not fit on the canvas or marks that were asked for are too small; JRI_NO_LAYOUT only if there is no such
+ * the canvas is unchanged, and `marks` and `report` are those of jri_decode. JRI_BUFFER_TOO_SMALL is returned only if
+ * a line does not fit on the canvas or marks that were asked for are too small; JRI_NO_LAYOUT only if there is no such
  * layout or a line is longer than the stride; then both buffers are unchanged.
  */
-uint32_t jri_decode_canvas(const uint8_t *file, size_t file_length, uint8_t *canvas, size_t canvas_room, size_t stride,
-                           uint32_t layout, uint8_t *marks, size_t marks_room, struct jri_report *report);
+uint32_t jri_decode_canvas(const uint8_t *file, size_t file_length, uint8_t *canvas, size_t canvas_size, size_t stride,
+                           uint32_t layout, uint8_t *marks, size_t marks_size, struct jri_report *report);
 
 /*
  * Lays out lines that another call returned: consecutive lines of `width` pixels of one or three components, onto a
  * canvas as for jri_decode_canvas.
  *
- * Proved: with JRI_SOUND the lines are on the canvas and every other byte is unchanged; with any other status all of
- * it is. JRI_NO_ROOM is returned only if a line does not fit; JRI_NO_LAYOUT only if there is no such layout, a line
- * is longer than the stride, components is neither 1 nor 3, or the bytes are not whole lines of at least one pixel.
+ * Proved: with JRI_OK the lines are on the canvas and every other byte is unchanged; with any other status all of it
+ * is. JRI_BUFFER_TOO_SMALL is returned only if a line does not fit; JRI_NO_LAYOUT only if there is no such layout, a
+ * line is longer than the stride, components is neither 1 nor 3, or the bytes are not whole lines of at least one
+ * pixel.
  */
 uint32_t jri_lay_out(const uint8_t *lines, size_t lines_length, uint32_t width, uint32_t components, uint8_t *canvas,
-                     size_t canvas_room, size_t stride, uint32_t layout);
+                     size_t canvas_size, size_t stride, uint32_t layout);
 
 #ifdef __cplusplus
 }

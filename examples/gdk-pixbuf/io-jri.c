@@ -22,7 +22,7 @@ enum { CHANNELS = 3, GREY = 128 };
 
 static const guint8 END_OF_IMAGE[] = {0xFF, 0xD9};
 
-enum stage { READS_HEAD, DECODES, IS_DONE, HANDED_OVER, HAS_FAILED };
+enum stage { READS_HEADER, DECODES, IS_DONE, HANDED_OVER, HAS_FAILED };
 
 struct bytes {
     guint8 *data;
@@ -38,8 +38,8 @@ struct loading {
     struct bytes file;
     gsize row_bytes; /* how many bytes each of the last rows took; 0 as long as nobody knows */
     gsize awaited;   /* how many bytes there are to be before rows are asked for again */
-    jri_head head;
-    struct jri_place place;
+    struct jri_header header;
+    struct jri_position place;
     guint lines; /* how many lines are decoded */
     GdkPixbuf *pixbuf;
     GdkPixbufLoader *other;
@@ -110,8 +110,8 @@ static gboolean is_of_another_kind(guint32 refusal) {
 
 /* Whether the other loader gets a file of another kind at its end alone. It can't wait for bytes of arithmetic data: by parts it
  * fails, or doesn't return. A progressive file's frame is told by detail C2, and all but these may be arithmetic. */
-static gboolean is_handed_over_whole(const jri_head *head) {
-    return head->refusal == 4 || (head->refusal == 5 && head->detail != 0xC2);
+static gboolean is_handed_over_whole(const struct jri_header *header) {
+    return header->refusal == 4 || (header->refusal == 5 && header->detail != 0xC2);
 }
 
 static void size_other(GdkPixbufLoader *other, gint width, gint height, gpointer data) {
@@ -140,11 +140,11 @@ static void update_other(GdkPixbufLoader *other, gint x, gint y, gint width, gin
 /* Gives all bytes that came to the other loader; where there is none the file is refused. A whole file gets an EOI behind its end:
  * else the other loader fails on some that were cut off. */
 static gboolean hand_over(struct loading *l, guint32 more, GError **error) {
-    if (more == JRI_ALL && !append(&l->file, END_OF_IMAGE, sizeof END_OF_IMAGE, error))
+    if (more == JRI_COMPLETE && !append(&l->file, END_OF_IMAGE, sizeof END_OF_IMAGE, error))
         return FALSE;
     l->other = gdk_pixbuf_loader_new_with_type("jpeg", NULL);
     if (!l->other)
-        return refuse(l->head.refusal, l->head.detail, error);
+        return refuse(l->header.refusal, l->header.detail, error);
     g_signal_connect(l->other, "size-prepared", G_CALLBACK(size_other), l);
     g_signal_connect(l->other, "area-prepared", G_CALLBACK(prepare_other), l);
     g_signal_connect(l->other, "area-updated", G_CALLBACK(update_other), l);
@@ -165,7 +165,7 @@ static void free_pixels(guchar *pixels, gpointer data) {
 
 /* Makes the pixbuf, whose lines have no bytes between them, so that libjri decodes into it. */
 static gboolean begin_picture(struct loading *l, guint32 more, GError **error) {
-    gint width = (gint)l->head.width, height = (gint)l->head.height, wanted_width = width, wanted_height = height;
+    gint width = (gint)l->header.width, height = (gint)l->header.height, wanted_width = width, wanted_height = height;
     if (l->size)
         l->size(&wanted_width, &wanted_height, l->user);
     if (wanted_width == 0 || wanted_height == 0) {
@@ -176,7 +176,7 @@ static gboolean begin_picture(struct loading *l, guint32 more, GError **error) {
     guint8 *pixels = g_try_malloc(room);
     if (!pixels)
         return fail_for_memory(error);
-    if (more == JRI_MORE)
+    if (more == JRI_PARTIAL)
         memset(pixels, GREY, room);
     l->pixbuf = gdk_pixbuf_new_from_data(pixels, GDK_COLORSPACE_RGB, FALSE, 8, width, height, CHANNELS * width, free_pixels, NULL);
     guint orientation = orientation_of(l->file.data, l->file.length);
@@ -190,21 +190,18 @@ static gboolean begin_picture(struct loading *l, guint32 more, GError **error) {
     return TRUE;
 }
 
-/* Reads the head; where it has not come as a whole, more bytes are awaited. */
-static gboolean read_head(struct loading *l, guint32 more, GError **error) {
-    struct jri_rows rows;
-    guint32 status = jri_measure(l->file.data, l->file.length, &l->head);
-    if (status == JRI_SOUND)
+/* Reads the header; until it has come as a whole, more bytes are awaited. */
+static gboolean read_header(struct loading *l, guint32 more, GError **error) {
+    guint32 status = jri_read_header(l->file.data, l->file.length, more, &l->header);
+    if (status == JRI_OK)
         return begin_picture(l, more, error);
-    if (status == JRI_REFUSED && more == JRI_MORE) /* further bytes may mend the fault */
-        status = jri_decode_rows(l->file.data, l->file.length, JRI_MORE, &l->place, 1, NULL, 0, &rows);
-    if (status == JRI_SOUND)
+    if (status == JRI_NEED_MORE)
         return TRUE;
     if (status == JRI_NO_MEMORY)
         return fail_for_memory(error);
-    if (!is_of_another_kind(l->head.refusal))
-        return refuse(l->head.refusal, l->head.detail, error);
-    if (more == JRI_ALL || !is_handed_over_whole(&l->head))
+    if (!is_of_another_kind(l->header.refusal))
+        return refuse(l->header.refusal, l->header.detail, error);
+    if (more == JRI_COMPLETE || !is_handed_over_whole(&l->header))
         return hand_over(l, more, error);
     l->awaited = G_MAXSIZE;
     return TRUE;
@@ -218,13 +215,13 @@ static void spread_grey(guint8 *pixels, gsize count) {
 
 /* Takes in the rows that were decoded: they are told, and the next one awaited. */
 static void take_rows(struct loading *l, guint8 *pixels, const struct jri_rows *rows) {
-    if (l->head.components == 1)
-        spread_grey(pixels, (gsize)l->head.width * rows->lines);
+    if (l->header.components == 1)
+        spread_grey(pixels, (gsize)l->header.width * rows->lines);
     l->lines += rows->lines;
     await(l, l->row_bytes);
     if (l->updated)
-        l->updated(l->pixbuf, 0, (gint)rows->first_line, (gint)l->head.width, (gint)rows->lines, l->user);
-    if (l->lines == l->head.height) {
+        l->updated(l->pixbuf, 0, (gint)rows->first_line, (gint)l->header.width, (gint)rows->lines, l->user);
+    if (l->lines == l->header.height) {
         l->stage = IS_DONE;
         give_back(&l->file);
     }
@@ -232,14 +229,14 @@ static void take_rows(struct loading *l, guint8 *pixels, const struct jri_rows *
 
 /* Decodes the rows of MCUs that are settled by the bytes that came. */
 static gboolean decode_rows(struct loading *l, guint32 more, GError **error) {
-    gsize width = l->head.width, left = l->head.height - l->lines, from = l->place.at;
+    gsize width = l->header.width, left = l->header.height - l->lines, from = l->place.at;
     guint8 *pixels = gdk_pixbuf_get_pixels(l->pixbuf) + CHANNELS * width * l->lines;
     struct jri_rows rows;
     guint32 status = jri_decode_rows(l->file.data, l->file.length, more, &l->place, G_MAXUINT32, pixels,
-                                     width * left * l->head.components, &rows);
+                                     width * left * l->header.components, &rows);
     if (status == JRI_NO_MEMORY)
         return fail_for_memory(error);
-    if (status != JRI_SOUND)
+    if (status != JRI_OK)
         return refuse(rows.refusal, rows.detail, error);
     if (rows.rows && from) /* the first row's bytes have the head before them */
         l->row_bytes = (l->place.at - from) / rows.rows;
@@ -251,7 +248,7 @@ static gboolean decode_rows(struct loading *l, guint32 more, GError **error) {
 /* Goes on as far as the bytes reach that came. */
 static gboolean advance(struct loading *l, guint32 more, GError **error) {
     await(l, l->row_bytes / PART_OF_ROW);
-    gboolean is_good = l->stage != READS_HEAD || read_head(l, more, error);
+    gboolean is_good = l->stage != READS_HEADER || read_header(l, more, error);
     if (is_good && l->stage == DECODES)
         is_good = decode_rows(l, more, error);
     if (!is_good)
@@ -262,7 +259,7 @@ static gboolean advance(struct loading *l, guint32 more, GError **error) {
 /* Goes on to the end of the file: of one that was cut off, what is missing stays grey. */
 static gboolean finish(struct loading *l, GError **error) {
     gboolean is_good = l->stage == HANDED_OVER ? gdk_pixbuf_loader_write(l->other, END_OF_IMAGE, sizeof END_OF_IMAGE, error)
-                                               : advance(l, JRI_ALL, error);
+                                               : advance(l, JRI_COMPLETE, error);
     return is_good && l->stage == HANDED_OVER ? gdk_pixbuf_loader_close(l->other, error) : is_good;
 }
 
@@ -298,7 +295,7 @@ static gboolean load_increment(gpointer context, const guchar *data, guint lengt
                                                 : append(&l->file, data, length, error);
     if (!is_taken)
         l->stage = HAS_FAILED;
-    return is_taken && (l->file.length < l->awaited || advance(l, JRI_MORE, error));
+    return is_taken && (l->file.length < l->awaited || advance(l, JRI_PARTIAL, error));
 }
 
 static gboolean stop_load(gpointer context, GError **error) {

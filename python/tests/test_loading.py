@@ -69,11 +69,11 @@ def test_a_library_that_is_another_one():
 
 def test_a_library_of_another_version(tmp_path):
     path = compiled(tmp_path, "unsigned jri_version(void) { return 2; }")
-    assert f"ImportError: {path} has version 2 of the interface, not 3: install" in imported(path)
+    assert f"ImportError: {path} has version 2 of the interface, not 4: install" in imported(path)
 
 
 def test_a_library_without_a_call(tmp_path):
-    path = compiled(tmp_path, "unsigned jri_version(void) { return 3; }")
+    path = compiled(tmp_path, "unsigned jri_version(void) { return 4; }")
     told = imported(path)
     assert f"ImportError: {path} lacks a call: install" in told and "jri_" in told
 

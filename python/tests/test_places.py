@@ -250,13 +250,13 @@ def test_damaged_intervals(photo):
 
 
 class Counted:
-    """A library that counts the calls of jri_damages."""
+    """A library that counts the calls of jri_list_damage."""
 
     def __init__(self, library):
         self.library, self.calls = library, 0
 
     def __getattr__(self, name):
-        self.calls += name == "jri_damages"
+        self.calls += name == "jri_list_damage"
         return getattr(self.library, name)
 
 

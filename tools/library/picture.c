@@ -33,21 +33,21 @@ static void tell(const struct jri_report *r) {
 
 /* Decodes a file, and writes its picture; the exit status. */
 static int decode(const uint8_t *file, size_t length) {
-    struct jri_measure measure;
+    struct jri_header header;
     struct jri_report report;
-    uint32_t status = jri_measure(file, length, &measure);
+    uint32_t status = jri_read_header(file, length, JRI_COMPLETE, &header);
     if (status == JRI_REFUSED)
-        return refused(measure.refusal, measure.detail);
-    uint8_t *pixels = status == JRI_SOUND ? malloc(measure.pixels) : NULL;
+        return refused(header.refusal, header.detail);
+    uint8_t *pixels = status == JRI_OK ? malloc(header.pixels) : NULL;
     if (pixels)
-        status = jri_decode(file, length, pixels, measure.pixels, NULL, 0, &report);
+        status = jri_decode(file, length, pixels, header.pixels, NULL, 0, &report);
     if (!pixels || status == JRI_NO_MEMORY) {
         fprintf(stderr, "out of memory\n");
         free(pixels);
         return JRI_NO_MEMORY;
     }
-    printf("P%c\n%" PRIu32 " %" PRIu32 "\n255\n", measure.components == 1 ? '5' : '6', measure.width, measure.height);
-    fwrite(pixels, 1, measure.pixels, stdout);
+    printf("P%c\n%" PRIu32 " %" PRIu32 "\n255\n", header.components == 1 ? '5' : '6', header.width, header.height);
+    fwrite(pixels, 1, header.pixels, stdout);
     free(pixels);
     tell(&report);
     return (int)status;

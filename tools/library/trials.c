@@ -42,7 +42,7 @@ struct trial {
     const char *name;
     uint8_t *file;
     size_t length;
-    struct jri_measure measure;
+    struct jri_header header;
     struct jri_report report;
     uint32_t status;
     uint8_t *pixels, *marks;
@@ -81,42 +81,59 @@ static int is_filled(const uint8_t *bytes, size_t size) {
 }
 
 /* Decodes into buffers of so much room, while one request for memory is refused; it gives what it gave before, or answers this and touches neither. How many requests there were. */
-static long decode(const struct trial *t, size_t pixels_room, size_t marks_room, uint32_t otherwise, long k, const char *what) {
-    uint8_t *pixels = buffer(pixels_room), *marks = buffer(marks_room);
+static long decode(const struct trial *t, size_t pixels_size, size_t marks_size, uint32_t otherwise, long k, const char *what) {
+    uint8_t *pixels = buffer(pixels_size), *marks = buffer(marks_size);
     struct jri_report report;
-    size_t size = t->measure.pixels, count = marks_room ? t->measure.intervals : 0;
+    size_t size = t->header.pixels, count = marks_size ? t->header.intervals : 0;
     requests = 0;
     refused = k;
-    uint32_t status = jri_decode(t->file, t->length, pixels, pixels_room, marks, marks_room, &report);
+    uint32_t status = jri_decode(t->file, t->length, pixels, pixels_size, marks, marks_size, &report);
     long made = requests;
     refused = -1;
-    if (status == t->status && otherwise != JRI_NO_ROOM) {
-        see(!memcmp(pixels, t->pixels, size) && is_filled(pixels + size, pixels_room - size), t, what);
-        see(!memcmp(marks, t->marks, count) && is_filled(marks + count, marks_room - count), t, what);
+    if (status == t->status && otherwise != JRI_BUFFER_TOO_SMALL) {
+        see(!memcmp(pixels, t->pixels, size) && is_filled(pixels + size, pixels_size - size), t, what);
+        see(!memcmp(marks, t->marks, count) && is_filled(marks + count, marks_size - count), t, what);
         see(!memcmp(&report, &t->report, sizeof report), t, what);
     } else {
-        see(status == otherwise && is_filled(pixels, pixels_room) && is_filled(marks, marks_room), t, what);
+        see(status == otherwise && is_filled(pixels, pixels_size) && is_filled(marks, marks_size), t, what);
     }
-    release(pixels, pixels_room);
-    release(marks, marks_room);
+    release(pixels, pixels_size);
+    release(marks, marks_size);
     return made;
 }
 
 /* Refuses each request of a decoding in turn, and of a look at its head, until there are fewer. */
 static void refuse(const struct trial *t) {
-    for (long k = 0; decode(t, t->measure.pixels, t->measure.intervals, JRI_NO_MEMORY, k, "a request refused") > k; k++) {
-        struct jri_measure measure;
+    for (long k = 0; decode(t, t->header.pixels, t->header.intervals, JRI_NO_MEMORY, k, "a request refused") > k; k++) {
+        struct jri_header header;
         requests = 0;
         refused = k;
-        uint32_t status = jri_measure(t->file, t->length, &measure);
+        uint32_t status = jri_read_header(t->file, t->length, JRI_COMPLETE, &header);
         refused = -1;
-        int is_same = status == JRI_SOUND && !memcmp(&measure, &t->measure, sizeof measure);
-        see(is_same || (requests > k && status == JRI_NO_MEMORY), t, "a request of a measure refused");
+        int is_same = status == JRI_OK && !memcmp(&header, &t->header, sizeof header);
+        see(is_same || (requests > k && status == JRI_NO_MEMORY), t, "a request of a header refused");
         refusals += 1;
     }
 }
 
-static size_t line_of(const struct trial *t) { return t->measure.pixels / t->measure.height; }
+/* Reads the header of a file that arrives byte by byte: more are wanted, then it is that of the file. */
+static void try_header(const struct trial *t) {
+    static const struct jri_header NONE;
+    struct jri_header header;
+    uint32_t status = JRI_NEED_MORE;
+    for (size_t length = 0; length <= t->length; length++) {
+        uint32_t before = status;
+        status = jri_read_header(t->file, length, JRI_PARTIAL, &header);
+        const struct jri_header *expected = status == JRI_OK ? &t->header : &NONE;
+        see(status == JRI_OK || (status == JRI_NEED_MORE && before == status), t, "a status of a header so far");
+        see(!memcmp(&header, expected, sizeof header), t, "a header so far");
+        if (status == JRI_OK && before == JRI_OK)
+            length += t->length / 8;
+    }
+    see(status == JRI_OK, t, "a header that has not come");
+}
+
+static size_t line_of(const struct trial *t) { return t->header.pixels / t->header.height; }
 
 /* Decodes lines into a buffer with more room than they take, while one request for memory is refused. How many requests there were. */
 static long decode_lines(const struct trial *t, uint32_t first, uint32_t count, long k, struct jri_report *report) {
@@ -140,7 +157,7 @@ static long decode_lines(const struct trial *t, uint32_t first, uint32_t count, 
 
 /* Decodes all lines, so many by a call: whole rows of MCUs have the counts of the whole picture. */
 static void decode_by(const struct trial *t, uint32_t step) {
-    uint32_t sound = 0, damaged = 0, height = t->measure.height;
+    uint32_t sound = 0, damaged = 0, height = t->header.height;
     for (uint32_t first = 0; first < height; first += step) {
         struct jri_report report;
         decode_lines(t, first, height - first < step ? height - first : step, -1, &report);
@@ -152,15 +169,15 @@ static void decode_by(const struct trial *t, uint32_t step) {
 
 /* Asks for lines that the picture has not. */
 static void no_lines(const struct trial *t, uint32_t first, uint32_t count) {
-    uint8_t *pixels = buffer(t->measure.pixels);
+    uint8_t *pixels = buffer(t->header.pixels);
     struct jri_report report;
-    see(jri_decode_lines(t->file, t->length, first, count, pixels, t->measure.pixels, &report) == JRI_NO_LINES, t, "no such lines");
-    see(is_filled(pixels, t->measure.pixels), t, "no such lines, a buffer touched");
-    release(pixels, t->measure.pixels);
+    see(jri_decode_lines(t->file, t->length, first, count, pixels, t->header.pixels, &report) == JRI_NO_LINES, t, "no such lines");
+    see(is_filled(pixels, t->header.pixels), t, "no such lines, a buffer touched");
+    release(pixels, t->header.pixels);
 }
 
 static void try_lines(const struct trial *t) {
-    uint32_t height = t->measure.height;
+    uint32_t height = t->header.height;
     struct jri_report report;
     decode_by(t, 1);
     decode_by(t, 5);
@@ -173,7 +190,7 @@ static void try_lines(const struct trial *t) {
     no_lines(t, height - 1, 2);
     no_lines(t, UINT32_MAX, UINT32_MAX);
     uint8_t *pixels = buffer(line_of(t) - 1);
-    see(jri_decode_lines(t->file, t->length, 0, 1, pixels, line_of(t) - 1, &report) == JRI_NO_ROOM, t, "a byte of a line too few");
+    see(jri_decode_lines(t->file, t->length, 0, 1, pixels, line_of(t) - 1, &report) == JRI_BUFFER_TOO_SMALL, t, "a byte of a line too few");
     see(is_filled(pixels, line_of(t) - 1), t, "a byte of a line too few, a buffer touched");
     release(pixels, line_of(t) - 1);
 }
@@ -182,13 +199,13 @@ static void try_lines(const struct trial *t) {
 static long check(const struct trial *t, size_t room, uint32_t otherwise, long k, const char *what) {
     uint8_t *marks = buffer(room);
     struct jri_report report;
-    size_t count = room ? t->measure.intervals : 0;
+    size_t count = room ? t->header.intervals : 0;
     requests = 0;
     refused = k;
     uint32_t status = jri_check(t->file, t->length, marks, room, &report);
     long made = requests;
     refused = -1;
-    if (status == t->status && otherwise != JRI_NO_ROOM) {
+    if (status == t->status && otherwise != JRI_BUFFER_TOO_SMALL) {
         see(!memcmp(marks, t->marks, count) && is_filled(marks + count, room - count), t, what);
         see(!memcmp(&report, &t->report, sizeof report), t, what);
     } else {
@@ -199,11 +216,11 @@ static long check(const struct trial *t, size_t room, uint32_t otherwise, long k
 }
 
 static void try_check(const struct trial *t) {
-    size_t count = t->measure.intervals;
+    size_t count = t->header.intervals;
     check(t, count + MORE, t->status, -1, "a check with more room");
     check(t, 0, t->status, -1, "a check without marks");
     if (count > 1)
-        check(t, count - 1, JRI_NO_ROOM, -1, "a check with a mark too few");
+        check(t, count - 1, JRI_BUFFER_TOO_SMALL, -1, "a check with a mark too few");
     for (long k = 0; check(t, count, JRI_NO_MEMORY, k, "a request of a check refused") > k; k++)
         refusals += 1;
 }
@@ -215,7 +232,7 @@ static long list_damages(const struct trial *t, uint32_t first, size_t room, lon
     struct jri_damage *damages = (struct jri_damage *)bytes;
     requests = 0;
     refused = k;
-    uint32_t status = jri_damages(t->file, t->length, first, damages, room, list);
+    uint32_t status = jri_list_damage(t->file, t->length, first, damages, room, list);
     long made = requests;
     refused = -1;
     if (status == JRI_NO_MEMORY && made > k && k >= 0) {
@@ -224,7 +241,7 @@ static long list_damages(const struct trial *t, uint32_t first, size_t room, lon
         see(status == (list->count ? JRI_DAMAGED : JRI_SOUND) && list->count <= room, t, "an answer to damage");
         for (uint32_t i = 0; i < list->count; i++) {
             see(t->marks[damages[i].interval] == JRI_MARK_DAMAGED && first <= damages[i].interval, t, "damage that is none");
-            see(damages[i].interval < list->next && damages[i].last_line < t->measure.height && damages[i].end <= t->length, t, "numbers of damage");
+            see(damages[i].interval < list->next && damages[i].last_line < t->header.height && damages[i].end <= t->length, t, "numbers of damage");
         }
         see(is_filled(bytes + list->count * sizeof *damages, size - list->count * sizeof *damages), t, "behind the damage");
     }
@@ -239,7 +256,7 @@ static void try_damages(const struct trial *t) {
         list_damages(t, list.next, 3, -1, &list);
         all += list.count;
     } while (list.count);
-    see(all == t->report.damaged && list.next == t->measure.intervals, t, "all damage");
+    see(all == t->report.damaged && list.next == t->header.intervals, t, "all damage");
     list_damages(t, UINT32_MAX, 1, -1, &list);
     list_damages(t, 0, 0, -1, &list);
     for (long k = 0; list_damages(t, 0, 2, k, &list) > k; k++)
@@ -247,18 +264,18 @@ static void try_damages(const struct trial *t) {
 }
 
 /* Decodes rows from a place on, into a buffer for so many lines whose other bytes stay, while one request for memory is refused. How many requests there were. */
-static long decode_rows(const struct trial *t, size_t length, uint32_t more, struct jri_place *place, uint32_t rows, size_t lines, long k, struct jri_rows *report) {
+static long decode_rows(const struct trial *t, size_t length, uint32_t more, struct jri_position *place, uint32_t rows, size_t lines, long k, struct jri_rows *report) {
     size_t room = lines * line_of(t);
     uint8_t *pixels = buffer(room);
-    struct jri_place before = *place;
+    struct jri_position before = *place;
     requests = 0;
     refused = k;
     uint32_t status = jri_decode_rows(t->file, length, more, place, rows, pixels, room, report);
     long made = requests;
     refused = -1;
-    if (status == JRI_SOUND) {
+    if (status == JRI_OK) {
         size_t size = report->lines * line_of(t);
-        see(size <= room && report->first_line + report->lines <= t->measure.height, t, "rows, too many lines");
+        see(size <= room && report->first_line + report->lines <= t->header.height, t, "rows, too many lines");
         see(!memcmp(pixels, t->pixels + report->first_line * line_of(t), size), t, "rows, other lines");
         see(is_filled(pixels + size, room - size), t, "rows, bytes behind them");
         see(place->row == before.row + report->rows && report->rows <= rows, t, "rows, another place");
@@ -272,61 +289,61 @@ static long decode_rows(const struct trial *t, size_t length, uint32_t more, str
 
 /* Decodes all rows of a file that is there, so many at a time. */
 static void rows_by(const struct trial *t, uint32_t rows) {
-    struct jri_place place = {0};
+    struct jri_position place = {0};
     struct jri_rows report;
     uint32_t lines = 0;
     do {
-        decode_rows(t, t->length, JRI_ALL, &place, rows, WHOLE_ROWS, -1, &report);
+        decode_rows(t, t->length, JRI_COMPLETE, &place, rows, WHOLE_ROWS, -1, &report);
         see(!report.rows || report.first_line == lines, t, "rows, lines left out");
         lines += report.lines;
     } while (report.rows);
-    see(lines == t->measure.height, t, "rows, not all lines");
+    see(lines == t->header.height, t, "rows, not all lines");
 }
 
 /* Decodes a file that arrives by so many bytes, and its last rows once it is there. */
 static void rows_arriving(const struct trial *t, size_t part) {
-    struct jri_place place = {0};
+    struct jri_position place = {0};
     struct jri_rows report;
     uint32_t lines = 0;
     for (size_t length = 0; length < t->length + part; length += part) {
         size_t there = length < t->length ? length : t->length;
-        uint8_t *pixels = buffer(t->measure.pixels);
-        uint32_t status = jri_decode_rows(t->file, there, JRI_MORE, &place, UINT32_MAX, pixels, t->measure.pixels, &report);
-        see(status == JRI_SOUND || status == JRI_NO_LINES, t, "rows so far");
+        uint8_t *pixels = buffer(t->header.pixels);
+        uint32_t status = jri_decode_rows(t->file, there, JRI_PARTIAL, &place, UINT32_MAX, pixels, t->header.pixels, &report);
+        see(status == JRI_OK || status == JRI_NO_LINES, t, "rows so far");
         see(!memcmp(pixels, t->pixels + report.first_line * line_of(t), report.lines * line_of(t)), t, "rows so far, other lines");
         see(!report.rows || report.first_line == lines, t, "rows so far, lines left out");
         lines += report.lines;
-        release(pixels, t->measure.pixels);
+        release(pixels, t->header.pixels);
     }
-    if (lines < t->measure.height) {
-        decode_rows(t, t->length, JRI_ALL, &place, UINT32_MAX, t->measure.height, -1, &report);
+    if (lines < t->header.height) {
+        decode_rows(t, t->length, JRI_COMPLETE, &place, UINT32_MAX, t->header.height, -1, &report);
         lines += report.lines;
     }
-    see(lines == t->measure.height, t, "rows so far, not all lines");
+    see(lines == t->header.height, t, "rows so far, not all lines");
 }
 
 /* Makes an index, and decodes each row from its place; where a request is refused, nothing is moved. */
 static void rows_by_index(const struct trial *t) {
-    struct jri_place place = {0}, decoded = {0}, next;
+    struct jri_position place = {0}, decoded = {0}, next;
     struct jri_rows report, passed;
-    while (jri_skip_rows(t->file, t->length, JRI_ALL, (next = place, &next), 1, &passed) == JRI_SOUND) {
+    while (jri_skip_rows(t->file, t->length, JRI_COMPLETE, (next = place, &next), 1, &passed) == JRI_OK) {
         see(passed.rows == 1, t, "rows passed over");
         decoded = place;
-        decode_rows(t, t->length, JRI_ALL, &decoded, 1, WHOLE_ROWS, -1, &report);
+        decode_rows(t, t->length, JRI_COMPLETE, &decoded, 1, WHOLE_ROWS, -1, &report);
         see(!memcmp(&decoded, &next, sizeof next), t, "a place by passing over rows");
         see(report.lines == passed.lines && report.first_line == passed.first_line, t, "lines passed over");
         place = next;
     }
     see(passed.refusal == 0 && !passed.rows && place.row, t, "rows behind the last");
     for (long k = 0, made = 1; made > k; k++, refusals++) {
-        struct jri_place from = {0};
-        made = decode_rows(t, t->length, JRI_ALL, &from, 1, WHOLE_ROWS, k, &report);
-        from = (struct jri_place){0};
+        struct jri_position from = {0};
+        made = decode_rows(t, t->length, JRI_COMPLETE, &from, 1, WHOLE_ROWS, k, &report);
+        from = (struct jri_position){0};
         requests = 0;
         refused = k;
-        uint32_t status = jri_skip_rows(t->file, t->length, JRI_ALL, &from, 1, &passed);
+        uint32_t status = jri_skip_rows(t->file, t->length, JRI_COMPLETE, &from, 1, &passed);
         refused = -1;
-        see(status == JRI_SOUND || (status == JRI_NO_MEMORY && requests > k && !from.row), t, "a request of rows passed over refused");
+        see(status == JRI_OK || (status == JRI_NO_MEMORY && requests > k && !from.row), t, "a request of rows passed over refused");
     }
 }
 
@@ -338,8 +355,8 @@ static uint32_t forged(uint32_t *seed) {
 }
 
 /* Gives places that no call gave, of which some numbers are a true one's: no byte outside of the buffers is read or written. */
-static void forge(const struct trial *t, const struct jri_place *like, uint32_t seed) {
-    struct jri_place place = *like;
+static void forge(const struct trial *t, const struct jri_position *like, uint32_t seed) {
+    struct jri_position place = *like;
     struct jri_rows report;
     place.at = forged(&seed) & 1 ? (uint64_t)forged(&seed) << (forged(&seed) & 31) : like->at + forged(&seed);
     place.bit = forged(&seed);
@@ -350,17 +367,17 @@ static void forge(const struct trial *t, const struct jri_place *like, uint32_t 
         place.row = forged(&seed), place.interval = forged(&seed), place.mcu = forged(&seed);
     size_t room = WHOLE_ROWS * line_of(t);
     uint8_t *pixels = buffer(room);
-    struct jri_place passed = place;
+    struct jri_position passed = place;
     uint32_t more = forged(&seed) & 1;
     uint32_t status = jri_decode_rows(t->file, t->length, more, &place, 2, pixels, room, &report);
-    see(status == JRI_SOUND || status == JRI_NO_LINES, t, "a forged place");
+    see(status == JRI_OK || status == JRI_NO_LINES, t, "a forged place");
     see(is_filled(pixels + report.lines * line_of(t), room - report.lines * line_of(t)), t, "a forged place, bytes behind the lines");
     see(jri_skip_rows(t->file, t->length, more, &passed, 2, &report) == status && !memcmp(&passed, &place, sizeof place), t, "a forged place passed over");
     release(pixels, room);
 }
 
 static void try_rows(const struct trial *t) {
-    struct jri_place place = {0};
+    struct jri_position place = {0};
     struct jri_rows report;
     rows_by(t, 1);
     rows_by(t, 2);
@@ -369,13 +386,13 @@ static void try_rows(const struct trial *t) {
     rows_by_index(t);
     for (uint32_t seed = 0; seed < FORGED; seed++) {
         forge(t, &place, seed + (uint32_t)t->length * FORGED);
-        if (!(seed % 16) && jri_skip_rows(t->file, t->length, JRI_ALL, &place, 1, &report) != JRI_SOUND)
-            place = (struct jri_place){0};
+        if (!(seed % 16) && jri_skip_rows(t->file, t->length, JRI_COMPLETE, &place, 1, &report) != JRI_OK)
+            place = (struct jri_position){0};
     }
-    place = (struct jri_place){0};
+    place = (struct jri_position){0};
     uint8_t *pixels = buffer(line_of(t));
-    see(jri_decode_rows(t->file, t->length, JRI_ALL, &place, 0, pixels, line_of(t), &report) == JRI_NO_LINES, t, "no row asked for");
-    see(jri_decode_rows(t->file, t->length, JRI_ALL, &place, 1, pixels, line_of(t) - 1, &report) == JRI_NO_ROOM, t, "no room for a row");
+    see(jri_decode_rows(t->file, t->length, JRI_COMPLETE, &place, 0, pixels, line_of(t), &report) == JRI_NO_LINES, t, "no row asked for");
+    see(jri_decode_rows(t->file, t->length, JRI_COMPLETE, &place, 1, pixels, line_of(t) - 1, &report) == JRI_BUFFER_TOO_SMALL, t, "no room for a row");
     see(is_filled(pixels, line_of(t)) && !place.row, t, "no room for a row, a buffer touched");
     release(pixels, line_of(t));
 }
@@ -383,8 +400,8 @@ static void try_rows(const struct trial *t) {
 static void *work(void *argument) {
     const struct trial *t = argument;
     for (int i = 0; i < TIMES; i++) {
-        check(t, t->measure.intervals, t->status, -1, "a check beside other threads");
-        decode(t, t->measure.pixels, t->measure.intervals, t->status, -1, "beside other threads");
+        check(t, t->header.intervals, t->status, -1, "a check beside other threads");
+        decode(t, t->header.pixels, t->header.intervals, t->status, -1, "beside other threads");
         rows_by(t, 3);
     }
     return NULL;
@@ -416,15 +433,15 @@ static size_t lay(uint32_t layout, const uint8_t *from, uint32_t components, uin
 
 /* Whether a canvas has the picture in a layout, and behind each line but the last what it had before. */
 static int has_picture(const struct trial *t, const uint8_t *canvas, size_t stride, size_t size, uint32_t layout) {
-    for (uint32_t y = 0; y < t->measure.height; y++) {
+    for (uint32_t y = 0; y < t->header.height; y++) {
         const uint8_t *line = canvas + y * stride, *from = t->pixels + y * line_of(t);
         uint8_t pixel[4];
-        for (uint32_t x = 0; x < t->measure.width; x++) {
-            size_t bytes = lay(layout, from + x * t->measure.components, t->measure.components, pixel);
+        for (uint32_t x = 0; x < t->header.width; x++) {
+            size_t bytes = lay(layout, from + x * t->header.components, t->header.components, pixel);
             if (memcmp(line + x * bytes, pixel, bytes))
                 return 0;
         }
-        if (y + 1 < t->measure.height && !is_filled(line + size, stride - size))
+        if (y + 1 < t->header.height && !is_filled(line + size, stride - size))
             return 0;
     }
     return 1;
@@ -434,20 +451,20 @@ static int has_picture(const struct trial *t, const uint8_t *canvas, size_t stri
 static void try_canvas(const struct trial *t) {
     for (uint32_t layout = JRI_PLAIN; layout <= JRI_BGRX32; layout++) {
         uint8_t pixel[4];
-        size_t size = t->measure.width * lay(layout, t->pixels, t->measure.components, pixel), stride = size + 5;
-        size_t room = (t->measure.height - 1) * stride + size;
+        size_t size = t->header.width * lay(layout, t->pixels, t->header.components, pixel), stride = size + 5;
+        size_t room = (t->header.height - 1) * stride + size;
         uint8_t *canvas = buffer(room), *other = buffer(room);
         struct jri_report report;
-        see(jri_decode_canvas(t->file, t->length, canvas, room - 1, stride, layout, NULL, 0, &report) == JRI_NO_ROOM &&
+        see(jri_decode_canvas(t->file, t->length, canvas, room - 1, stride, layout, NULL, 0, &report) == JRI_BUFFER_TOO_SMALL &&
             is_filled(canvas, room), t, "a canvas without room");
         see(jri_decode_canvas(t->file, t->length, canvas, room, size - 1, layout, NULL, 0, &report) == JRI_NO_LAYOUT &&
             is_filled(canvas, room), t, "a stride that is too short");
         see(jri_decode_canvas(t->file, t->length, canvas, room, stride, layout, NULL, 0, &report) == t->status &&
             !memcmp(&report, &t->report, sizeof report) && has_picture(t, canvas, stride, size, layout), t, "a canvas");
-        see(jri_lay_out(t->pixels, t->measure.pixels, t->measure.width, t->measure.components, other, room - 1, stride, layout) ==
-            JRI_NO_ROOM && is_filled(other, room), t, "no room for lines");
-        see(jri_lay_out(t->pixels, t->measure.pixels, t->measure.width, t->measure.components, other, room, stride, layout) ==
-            JRI_SOUND && !memcmp(canvas, other, room), t, "lines laid out");
+        see(jri_lay_out(t->pixels, t->header.pixels, t->header.width, t->header.components, other, room - 1, stride, layout) ==
+            JRI_BUFFER_TOO_SMALL && is_filled(other, room), t, "no room for lines");
+        see(jri_lay_out(t->pixels, t->header.pixels, t->header.width, t->header.components, other, room, stride, layout) ==
+            JRI_OK && !memcmp(canvas, other, room), t, "lines laid out");
         release(canvas, room);
         release(other, room);
     }
@@ -456,29 +473,31 @@ static void try_canvas(const struct trial *t) {
 }
 
 static void try_null(void) {
+    static const char BUILD[] = "jri " JRI_RELEASE " ";
     struct trial none = {.name = "null pointers"};
     uint8_t text[OF_TEXT];
     see(jri_version() == JRI_VERSION, &none, "the version");
-    see(jri_measure(NULL, 0, &none.measure) == JRI_REFUSED && none.measure.refusal == 1, &none, "a measure");
+    see(jri_read_header(NULL, 0, JRI_COMPLETE, &none.header) == JRI_REFUSED && none.header.refusal == 1, &none, "a header");
+    see(jri_read_header(NULL, 0, JRI_PARTIAL, &none.header) == JRI_NEED_MORE && !none.header.refusal, &none, "a header of nothing yet");
     see(jri_decode(NULL, 0, NULL, 0, NULL, 0, &none.report) == JRI_REFUSED && none.report.refusal == 1, &none, "a decoding");
     see(jri_decode_lines(NULL, 0, 0, 1, NULL, 0, &none.report) == JRI_REFUSED && none.report.refusal == 1, &none, "lines");
     see(jri_check(NULL, 0, NULL, 0, &none.report) == JRI_REFUSED && none.report.refusal == 1, &none, "a check");
-    struct jri_place place = {0};
+    struct jri_position place = {0};
     struct jri_rows rows;
-    see(jri_decode_rows(NULL, 0, JRI_ALL, &place, 1, NULL, 0, &rows) == JRI_REFUSED && rows.refusal == 1, &none, "rows");
-    see(jri_decode_rows(NULL, 0, JRI_MORE, &place, 1, NULL, 0, &rows) == JRI_SOUND && !rows.rows, &none, "rows of nothing yet");
-    see(jri_skip_rows(NULL, 0, JRI_ALL, &place, 1, &rows) == JRI_REFUSED && rows.refusal == 1, &none, "rows passed over");
+    see(jri_decode_rows(NULL, 0, JRI_COMPLETE, &place, 1, NULL, 0, &rows) == JRI_REFUSED && rows.refusal == 1, &none, "rows");
+    see(jri_decode_rows(NULL, 0, JRI_PARTIAL, &place, 1, NULL, 0, &rows) == JRI_OK && !rows.rows, &none, "rows of nothing yet");
+    see(jri_skip_rows(NULL, 0, JRI_COMPLETE, &place, 1, &rows) == JRI_REFUSED && rows.refusal == 1, &none, "rows passed over");
     see(jri_refusal_text(1, 0, NULL, 0) == 0 && jri_refusal_text(0, 0, text, OF_TEXT) == 0, &none, "a text");
     see(jri_refusal_text(20, 0, text, OF_TEXT) == 0, &none, "a number past the last");
     see(jri_refusal_text(3, 18446744073709551615u, text, OF_TEXT) == 46, &none, "a long text");
     see(!memcmp(text, "expected a marker at byte 18446744073709551615", 46), &none, "a long text's words");
     see(jri_refusal_text(1, 0, text, 5) == 5 && !memcmp(text, "not ated a marker", 17), &none, "a text without room");
     struct jri_damage_list list;
-    see(jri_damages(NULL, 0, 0, NULL, 0, &list) == JRI_REFUSED && list.refusal == 1, &none, "damage");
+    see(jri_list_damage(NULL, 0, 0, NULL, 0, &list) == JRI_REFUSED && list.refusal == 1, &none, "damage");
     see(jri_end_text(&none.report, text, OF_TEXT) == 0, &none, "a text of no end");
     none.report.ended = JRI_END_OF_IMAGE;
     see(jri_end_text(&none.report, text, OF_TEXT) == 17 && !memcmp(text, "scan ended at EOI", 17), &none, "a text of an end");
-    see(jri_build_text(text, OF_TEXT) > 4 && !memcmp(text, "jri ", 4), &none, "a text of the build");
+    see(jri_build_text(text, OF_TEXT) > sizeof BUILD && !memcmp(text, BUILD, sizeof BUILD - 1), &none, "a text of the build");
     uint8_t long_text[OF_TEXT + MORE];
     for (uint32_t refusal = 1; refusal <= REFUSALS; refusal++)
         see(jri_refusal_text(refusal, UINT64_MAX, long_text, sizeof long_text) <= OF_TEXT, &none, "a text of more than 64 bytes");
@@ -500,20 +519,21 @@ static void read_file(struct trial *t) {
 static void try_file(const char *name) {
     struct trial t = {.name = name};
     read_file(&t);
-    see(jri_measure(t.file, t.length, &t.measure) == JRI_SOUND, &t, "is not accepted");
-    size_t size = t.measure.pixels, count = t.measure.intervals;
+    see(jri_read_header(t.file, t.length, JRI_COMPLETE, &t.header) == JRI_OK, &t, "is not accepted");
+    size_t size = t.header.pixels, count = t.header.intervals;
     t.pixels = buffer(size);
     t.marks = buffer(count);
     t.status = jri_decode(t.file, t.length, t.pixels, size, t.marks, count, &t.report);
     see(t.status == JRI_SOUND || t.status == JRI_DAMAGED, &t, "is not decoded");
-    see(jri_decode(t.file, t.length, NULL, 0, NULL, 0, &t.report) == JRI_NO_ROOM, &t, "no room at all");
+    see(jri_decode(t.file, t.length, NULL, 0, NULL, 0, &t.report) == JRI_BUFFER_TOO_SMALL, &t, "no room at all");
     jri_decode(t.file, t.length, t.pixels, size, t.marks, count, &t.report);
     decode(&t, size + MORE, count + MORE, t.status, -1, "more room");
     decode(&t, size, 0, t.status, -1, "no marks asked for");
-    decode(&t, size - 1, count, JRI_NO_ROOM, -1, "a pixel's byte too few");
+    decode(&t, size - 1, count, JRI_BUFFER_TOO_SMALL, -1, "a pixel's byte too few");
     if (count > 1)
-        decode(&t, size, count - 1, JRI_NO_ROOM, -1, "a mark too few");
+        decode(&t, size, count - 1, JRI_BUFFER_TOO_SMALL, -1, "a mark too few");
     refuse(&t);
+    try_header(&t);
     try_lines(&t);
     try_check(&t);
     try_damages(&t);

@@ -4,9 +4,9 @@ use crate::case::Case;
 use crate::differences::{compare_bytes, compare_numbers};
 use crate::failure::Failure;
 use crate::texts::map_lines;
-use jri_memory::status::NO_ROOM;
+use jri_memory::status::BUFFER_TOO_SMALL;
 use jri_memory::{
-    DecodeReport, Measure, check_marks, decode_file, end_text, measure_file, refusal_text,
+    DecodeReport, Header, check_marks, decode_file, end_text, read_header, refusal_text,
 };
 use std::alloc::{AllocError, Global};
 
@@ -27,8 +27,8 @@ pub(crate) const NONE: DecodeReport = DecodeReport {
     detail: 0,
 };
 
-/// A measure of nothing.
-const NO_MEASURE: Measure = Measure {
+/// A header of nothing.
+const NO_HEADER: Header = Header {
     width: 0,
     height: 0,
     kind: 0,
@@ -40,10 +40,10 @@ const NO_MEASURE: Measure = Measure {
 };
 
 /// Returns what a file's header says.
-pub(crate) fn measured(alloc: Global, bytes: &[u8]) -> Measure {
-    let mut measure = NO_MEASURE;
-    let _answer = measure_file(alloc, bytes, &mut measure);
-    measure
+pub(crate) fn header_of(alloc: Global, bytes: &[u8]) -> Header {
+    let mut header = NO_HEADER;
+    let _answer = read_header(alloc, bytes, 0, &mut header);
+    header
 }
 
 /// Returns the line of a refusal.
@@ -127,20 +127,20 @@ fn check_small_buffer(case: &Case<'_>, out: &mut String) -> Result<(), Failure> 
     compare_numbers(
         out,
         case.at("no room"),
-        u64::from(NO_ROOM),
+        u64::from(BUFFER_TOO_SMALL),
         u64::from(answer),
     )
 }
 
 /// Compares the size of the picture with what the header says.
-fn check_measure(case: &Case<'_>, out: &mut String) -> Result<(), Failure> {
-    let Measure {
+fn check_header(case: &Case<'_>, out: &mut String) -> Result<(), Failure> {
+    let Header {
         width,
         height,
         components,
         pixels,
         ..
-    } = case.measure;
+    } = case.header;
     let header = format!(in case.alloc; "P{}\n{width} {height}\n255\n", components / 2 + 5)?;
     let front = &case.picture[..header.len().min(case.picture.len())];
     compare_bytes(out, case.at("header"), header.as_bytes(), front)?;
@@ -151,12 +151,12 @@ fn check_measure(case: &Case<'_>, out: &mut String) -> Result<(), Failure> {
 /// Decodes a case's file, checks it, and reads its header.
 pub(crate) fn check_buffers(case: &Case<'_>, out: &mut String) -> Result<(), Failure> {
     let map = map_lines(case.alloc, case.row.damaged)?;
-    let marks = marks_of(case.alloc, case.measure.intervals, map.as_str())?;
+    let marks = marks_of(case.alloc, case.header.intervals, map.as_str())?;
     check_decoding(case, marks.as_slice(), out)?;
     check_marks_of(case, marks.as_slice(), out)?;
     if case.is_refused() {
         return Ok(());
     }
-    check_measure(case, out)?;
+    check_header(case, out)?;
     check_small_buffer(case, out)
 }

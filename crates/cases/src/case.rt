@@ -1,7 +1,7 @@
 //! A row with what follows from it, and the paths that decode its file.
 
 use crate::arrival::check_arrivals;
-use crate::buffers::{check_buffers, measured};
+use crate::buffers::{check_buffers, header_of};
 use crate::checks::check_as_archive;
 use crate::differences::{Subject, compare_bytes, compare_numbers, compare_texts};
 use crate::failure::Failure;
@@ -13,7 +13,7 @@ use crate::scans::check_scans;
 use crate::sums::crc_32;
 use crate::sweeps::check_sweep;
 use crate::texts::lines_of;
-use jri_memory::Measure;
+use jri_memory::Header;
 use std::alloc::Global;
 use std::sync::Wait;
 use std::thread::Threads;
@@ -31,7 +31,7 @@ pub(crate) struct Case<'a> {
     /// The report's lines, each with its end.
     pub report: &'a str,
     /// What the header says.
-    pub measure: Measure,
+    pub header: Header,
 }
 
 impl<'a> Case<'a> {
@@ -42,14 +42,14 @@ impl<'a> Case<'a> {
 
     /// Returns the samples of the picture: what is behind its header.
     pub(crate) fn samples(&self) -> &'a [u8] {
-        let size = (self.measure.pixels as usize).min(self.picture.len());
+        let size = (self.header.pixels as usize).min(self.picture.len());
         let (_header, samples) = self.picture.split_at(self.picture.len() - size);
         samples
     }
 
     /// Returns the size of a line in bytes.
     pub(crate) fn line(&self) -> usize {
-        u32::saturating_mul(self.measure.width, self.measure.components) as usize
+        u32::saturating_mul(self.header.width, self.header.components) as usize
     }
 
     /// Returns the case's name with that of a path.
@@ -133,7 +133,7 @@ fn check_file<R: Threads + Wait + Sync>(
         bytes,
         picture: picture.as_slice(),
         report: report.as_str(),
-        measure: measured(alloc, bytes),
+        header: header_of(alloc, bytes),
     };
     check_runs(rt, &case, out)?;
     check_scans(rt, &case, out)?;

@@ -28,7 +28,7 @@ fn lines_at<'a>(samples: &'a [u8], line: usize, first: u32, count: u32) -> &'a [
 
 /// Decodes lines that start at several lines of the picture.
 fn check_some_lines(case: &Case<'_>, out: &mut String) -> Result<(), Failure> {
-    let (alloc, line, height) = (case.alloc, case.line(), case.measure.height);
+    let (alloc, line, height) = (case.alloc, case.line(), case.header.height);
     let step = height.div_ceil(CALLS).max(1);
     for first in (0..height).step_by(step as usize) {
         let count = LINES.min(height.saturating_sub(first));
@@ -43,7 +43,7 @@ fn check_some_lines(case: &Case<'_>, out: &mut String) -> Result<(), Failure> {
 
 /// Decodes all lines, which has the report of the whole picture.
 fn check_all_lines(case: &Case<'_>, out: &mut String) -> Result<(), Failure> {
-    let (alloc, height) = (case.alloc, case.measure.height);
+    let (alloc, height) = (case.alloc, case.header.height);
     let mut pixels = vec![in alloc; 0; case.samples().len()]?;
     let mut report = NONE;
     let answer = decode_lines(alloc, case.bytes, 0, height, &mut pixels, &mut report);
@@ -64,7 +64,7 @@ fn without_spare(alloc: Global, canvas: &[u8], line: usize) -> Result<Vec<u8>, A
 fn check_canvas(case: &Case<'_>, out: &mut String) -> Result<(), Failure> {
     let (alloc, line, bytes) = (case.alloc, case.line(), case.bytes);
     let stride = line.saturating_add(SPARE);
-    let mut canvas = vec![in alloc; 7; stride.saturating_mul(case.measure.height as usize)]?;
+    let mut canvas = vec![in alloc; 7; stride.saturating_mul(case.header.height as usize)]?;
     let mut report = NONE;
     let answer = decode_canvas(alloc, bytes, &mut canvas, stride, 0, &mut [], &mut report);
     let found = without_spare(alloc, canvas.as_slice(), line)?;
@@ -135,7 +135,7 @@ pub(crate) fn check_lines_of(case: &Case<'_>, out: &mut String) -> Result<(), Fa
     check_all_lines(case, out)?;
     check_canvas(case, out)?;
     let wanted = map_lines(case.alloc, case.row.damaged)?;
-    let found = listed(case.alloc, case.bytes, case.measure.intervals)?;
+    let found = listed(case.alloc, case.bytes, case.header.intervals)?;
     compare_texts(
         out,
         case.at("list of damage"),

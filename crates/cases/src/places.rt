@@ -6,7 +6,7 @@ use crate::buffers::refusal_line;
 use crate::case::Case;
 use crate::differences::{compare_bytes, compare_texts};
 use crate::failure::Failure;
-use jri_memory::status::SOUND;
+use jri_memory::status::OK;
 use jri_memory::{RowPlace, RowsReport, decode_file_rows, skip_file_rows};
 use std::alloc::Global;
 
@@ -82,7 +82,7 @@ fn by_rows(case: &Case<'_>, rows: u32, pixels: &mut [u8]) -> Reading {
     let mut first_line = 0;
     for _ in 0..=pixels.len() {
         let answer = reading.decode(case.alloc, case.bytes, 0, rows, first_line, pixels);
-        if answer != SOUND {
+        if answer != OK {
             return reading;
         }
         first_line = reading.next_line();
@@ -101,7 +101,7 @@ fn in_parts(case: &Case<'_>, part: usize, pixels: &mut [u8])
     for more in bytes.chunks(part) {
         length = length.saturating_add(more.len()).min(bytes.len());
         let answer = reading.decode(alloc, &bytes[..length], 1, u32::MAX, first_line, pixels);
-        if answer == SOUND && reading.report.lines > 0 {
+        if answer == OK && reading.report.lines > 0 {
             first_line = reading.next_line();
         }
     }
@@ -122,7 +122,7 @@ fn index(alloc: Global, bytes: &[u8], height: u32) -> Result<Vec<IndexEntry>, Fa
     for _ in 0..height {
         let place = next;
         let mut report = NONE;
-        if skip_file_rows(alloc, bytes, 0, &mut next, 1, &mut report) != SOUND {
+        if skip_file_rows(alloc, bytes, 0, &mut next, 1, &mut report) != OK {
             return Ok(entries);
         }
         let first_line = report.first_line;
@@ -133,7 +133,7 @@ fn index(alloc: Global, bytes: &[u8], height: u32) -> Result<Vec<IndexEntry>, Fa
 
 /// Decodes each row from its own position, the last row first.
 fn by_index(case: &Case<'_>, pixels: &mut [u8]) -> Result<(), Failure> {
-    let entries = index(case.alloc, case.bytes, case.measure.height)?;
+    let entries = index(case.alloc, case.bytes, case.header.height)?;
     for entry in entries.iter().rev() {
         let mut reading = Reading::at_top(case.line());
         reading.place = entry.place;

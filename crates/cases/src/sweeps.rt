@@ -1,12 +1,12 @@
 //! Files cut at each length and changed at each byte: each is refused and nothing is written, or its picture has the size that its
 //! header says.
 
-use crate::buffers::measured;
+use crate::buffers::header_of;
 use crate::failure::Failure;
 use crate::row::Row;
 use crate::runs::written;
 use jri_engine::{Fault, Report};
-use jri_memory::Measure;
+use jri_memory::Header;
 use std::alloc::{AllocError, Global};
 use std::sync::Wait;
 use std::thread::Threads;
@@ -14,10 +14,10 @@ use test_files::files::{front, with_byte};
 use test_files::pictures::header;
 
 /// Returns whether a picture has the first lines and the size that a header says.
-fn is_of_header(alloc: Global, text: &[u8], measure: &Measure) -> Result<bool, AllocError> {
-    let magic = if measure.components == 1 { "P5" } else { "P6" };
-    let first_lines = header(alloc, magic, measure.width, measure.height)?;
-    let size = first_lines.len().saturating_add(measure.pixels as usize);
+fn is_of_header(alloc: Global, text: &[u8], read: &Header) -> Result<bool, AllocError> {
+    let magic = if read.components == 1 { "P5" } else { "P6" };
+    let first_lines = header(alloc, magic, read.width, read.height)?;
+    let size = first_lines.len().saturating_add(read.pixels as usize);
     Ok(text.starts_with(first_lines.as_bytes()) && text.len() == size)
 }
 
@@ -28,11 +28,11 @@ fn is_right(
     text: &[u8],
     outcome: &Result<Report, Fault>,
 ) -> Result<bool, AllocError> {
-    let measure = measured(alloc, bytes);
+    let read = header_of(alloc, bytes);
     match outcome {
-        Ok(_) => Ok(measure.refusal == 0 && is_of_header(alloc, text, &measure)?),
+        Ok(_) => Ok(read.refusal == 0 && is_of_header(alloc, text, &read)?),
         Err(Fault::Refused(refusal)) => {
-            Ok(u32::from(refusal.number()) == measure.refusal && text.is_empty())
+            Ok(u32::from(refusal.number()) == read.refusal && text.is_empty())
         }
         Err(_) => Ok(false),
     }

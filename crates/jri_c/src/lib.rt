@@ -3,43 +3,56 @@
 //! No call starts a thread, waits, or keeps anything: calls on different buffers may run at once.
 #![tactic(auto)]
 
-ghost use Rattle.std.specs.Prelude.{◌≡◌, ◌≢◌, ◌<◌, ◌≤◌, length, drop};
+ghost use Rattle.std.specs.Prelude.{◌≡◌, ◌≢◌, ◌<◌, ◌≤◌, ℕ, List, length, drop, false};
+ghost use Rattle.jr_arrival.specs.Arrival.{CanBecome};
+ghost use Rattle.jr_arrival.specs.Settled.{WantsMore};
 ghost use Rattle.jri_memory.specs.Canvases.{DecodesCanvas, LacksCanvas, LacksLayoutOf, LacksLinesToLay, LacksRoomToLay, LaysOut};
 ghost use Rattle.jri_damages.specs.Damages.{ListsDamages, TellsNoDamage};
 ghost use Rattle.jri_memory.specs.Checks.{ChecksFile, LacksMarkRoom};
-ghost use Rattle.jri_memory.specs.Calls.{DecodesFile, DecodesLines, TellsFault, IsMeasureOf, IsNumberOfSome, LacksLines, LacksRoom, LacksRoomForLines, TellsNoHead, TellsNoPicture, TellsNoRefusal};
+ghost use Rattle.jri_memory.specs.Calls.{DecodesFile, DecodesLines, TellsFault, IsHeaderOf, IsNumberOfSome, LacksLines, LacksRoom, LacksRoomForLines, TellsNoHeader, TellsNoPicture, TellsNoRefusal};
 ghost use Rattle.jri_memory.specs.Rows.{GivesRows, LacksRoomForRow, LacksRows, SkipsRows, TellsFaultSoFar, TellsNothing, are_all};
 
 use jri_damages::{Damage, DamageReport, list_damages};
 use jri_memory::{
-    DecodeReport, Measure, RowPlace, RowsReport, build_text, check_marks, decode_canvas,
-    decode_file, decode_file_rows, decode_lines, end_text, lay_out, measure_file, refusal_text,
+    DecodeReport, Header, RowPlace, RowsReport, build_text, check_marks, decode_canvas,
+    decode_file, decode_file_rows, decode_lines, end_text, lay_out, read_header, refusal_text,
     skip_file_rows,
 };
 use std::alloc::Global;
 
 /// The number of these calls: it is changed where one of them is.
-const VERSION: u32 = 3;
+const VERSION: u32 = 4;
 
 /// The number of these calls.
 #[unsafe(no_mangle)]
 pub extern "C" fn jri_version() -> u32
-    ensures { result ≡ 3 }
+    ensures { result ≡ 4 }
 {
     VERSION
 }
 
-/// What the file's head says of its picture, for which nothing is decoded: 0, 1 for want of memory, or 2 where the file
-/// is refused.
+/// Reads a file's header, and decodes nothing; more of the file may come if `more` is not 0. Returns 0 with what the header says, 1 if
+/// memory ran out, 2 if the file is refused, and 7 if more bytes are wanted. With 0 the header, and with more to come a refusal, is
+/// that of every file that begins with these bytes.
 #[unsafe(no_mangle)]
-pub extern "C" fn jri_measure(alloc: Global, file: &[u8], measure: &mut Measure) -> u32
-    ensures measured { result ≡ 0 → IsMeasureOf file.now measure.new }
-    ensures refused { result ≡ 2 → TellsFault file.now measure.new.refusal measure.new.detail }
-    ensures memory { result ≡ 1 → measure.new.refusal ≡ 19 }
-    ensures no_head { result ≢ 0 → TellsNoHead measure.new }
-    ensures few { result ≤ 2 }
+pub extern "C" fn jri_read_header(
+    alloc: Global,
+    file: &[u8],
+    more: u32,
+    header: &mut Header,
+) -> u32
+    ensures read { result ≡ 0 → IsHeaderOf file.now header.new }
+    ensures stays { result ≡ 0 → (whole : List ℕ) → CanBecome file.now whole → IsHeaderOf whole header.new }
+    ensures refused { result ≡ 2 → TellsFault file.now header.new.refusal header.new.detail }
+    ensures refused_for_good { result ≡ 2 → are_all more ≡ false → (whole : List ℕ) → CanBecome file.now whole → TellsFault whole header.new.refusal header.new.detail }
+    ensures memory { result ≡ 1 → header.new.refusal ≡ 19 }
+    ensures wanted { result ≡ 7 → WantsMore file.now }
+    ensures partial { result ≡ 7 → are_all more ≡ false }
+    ensures no_refusal { result ≡ 7 → (header.new.refusal ≡ 0) × (header.new.detail ≡ 0) }
+    ensures no_header { result ≢ 0 → TellsNoHeader header.new }
+    ensures few { result ≢ 7 → result ≤ 2 }
 {
-    measure_file(alloc, file, measure)
+    read_header(alloc, file, more, header)
 }
 
 /// Decodes a file into the front of `pixels`, and its marks into that of `marks`, unless that has no room at all: 0, or 3
@@ -197,7 +210,7 @@ pub extern "C" fn jri_skip_rows(
 /// the report says where to go on; or 0 where none is left from there on. With 1 for want of memory and 2 where the file is refused
 /// `damages` is as it was.
 #[unsafe(no_mangle)]
-pub extern "C" fn jri_damages(
+pub extern "C" fn jri_list_damage(
     alloc: Global,
     file: &[u8],
     first: u32,

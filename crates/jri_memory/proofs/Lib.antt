@@ -1,3 +1,4 @@
 pub mod Filled
+pub mod Headers
 pub mod Marks
 pub mod CanvasRows

@@ -18,7 +18,7 @@ use Rattle.jr_rows.specs.MarkBytes.{mark_byte}
 use Rattle.jr_stream.specs.SomeLines.{EndInLines}
 use Rattle.jri_memory.specs.declared.decode.DecodeError.{DecodeError}
 use Rattle.jri_memory.specs.declared.decode.DecodeError.TheVariants.{Refused}
-use Rattle.jri_memory.specs.declared.measure.Measure.{Measure}
+use Rattle.jri_memory.specs.declared.header.Header.{Header}
 use Rattle.jri_memory.specs.declared.report.DecodeReport.{DecodeReport}
 
 -- what a refusal tells beside its number: an offset, or a marker's code
@@ -58,8 +58,8 @@ pub record TellsFault (file : List ℕ) (number detail : ℕ) : Type 0 where
 abbrev pub picture_size : HeadValue → ℕ
 picture_size h = h.height * line_size h
 
--- what the file's head says of its picture
-pub record IsMeasureOf (file : List ℕ) (m : Measure) : Type 0 where
+-- what the file's header says of its picture
+pub record IsHeaderOf (file : List ℕ) (m : Header) : Type 0 where
   pub head : HeadValue
   pub is : HeadOf file head
   pub width : m.width ≡ head.width
@@ -71,8 +71,8 @@ pub record IsMeasureOf (file : List ℕ) (m : Measure) : Type 0 where
   pub no_fault : m.refusal ≡ 0
   pub no_detail : m.detail ≡ 0
 
--- a measure of no head: 0 for all but the refusal's two numbers
-pub record TellsNoHead (m : Measure) : Type 0 where
+-- of no header: 0 for all but the refusal's two numbers
+pub record TellsNoHeader (m : Header) : Type 0 where
   pub width : m.width ≡ 0
   pub height : m.height ≡ 0
   pub kind : m.kind ≡ 0

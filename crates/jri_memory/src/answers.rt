@@ -6,7 +6,7 @@ ghost use Rattle.jri_memory.specs.Calls.{IsRefusal, TellsNoPicture, TellsNoRefus
 
 use crate::decode::DecodeError;
 use crate::report::DecodeReport;
-use crate::status::{DAMAGED, NO_MEMORY, NO_ROOM, REFUSED, SOUND};
+use crate::status::{BUFFER_TOO_SMALL, DAMAGED, NO_MEMORY, REFUSED, SOUND};
 use jr_head::Refusal;
 
 /// The answer to a refusal.
@@ -53,7 +53,7 @@ pub(crate) fn tell_why(undecoded: DecodeError, report: &mut DecodeReport) -> u32
         }
         DecodeError::NoRoom => {
             *report = DecodeReport::empty();
-            NO_ROOM
+            BUFFER_TOO_SMALL
         }
     }
 }

@@ -1,35 +1,53 @@
-//! The calls: a file's head, its picture, some lines of it, and the marks of its intervals alone.
+//! The calls: a file's header, its picture, some lines of it, and the marks of its intervals alone.
 
-ghost use Rattle.std.specs.Prelude.{◌≡◌, ◌≢◌, ◌<◌, ◌≤◌, length};
+ghost use Rattle.std.specs.Prelude.{◌≡◌, ◌≢◌, ◌<◌, ◌≤◌, ℕ, List, length, false};
+ghost use Rattle.jr_arrival.specs.Arrival.{CanBecome};
+ghost use Rattle.jr_arrival.specs.Settled.{WantsMore};
 ghost use Rattle.jri_memory.specs.Checks.{ChecksFile, LacksMarkRoom};
-ghost use Rattle.jri_memory.specs.Calls.{DecodesFile, DecodesLines, TellsFault, IsMeasureOf, LacksLines, LacksRoom, LacksRoomForLines, TellsNoHead, TellsNoPicture, TellsNoRefusal};
+ghost use Rattle.jri_memory.specs.Calls.{DecodesFile, DecodesLines, TellsFault, IsHeaderOf, LacksLines, LacksRoom, LacksRoomForLines, TellsNoHeader, TellsNoPicture, TellsNoRefusal};
+ghost use Rattle.jri_memory.specs.Rows.{are_all};
 
 use crate::answers::{status_of, tell, tell_why};
 use crate::check::check;
 use crate::decode::decode;
+use crate::file_head::head_of;
+use crate::header::Header;
 use crate::lines::decode_some;
-use crate::measure::Measure;
 use crate::report::DecodeReport;
-use crate::status::{NO_LINES, SOUND};
-use jr_head::read_head;
+use crate::status::{NEED_MORE, NO_LINES, OK};
+use jr_places::FileBytes;
 use std::alloc::Global;
 
-/// What the file's head says of its picture, for which nothing is decoded: 0, 1 for want of memory, or 2 where the file
-/// is refused.
-pub fn measure_file(alloc: Global, file: &[u8], measure: &mut Measure) -> u32
-    ensures measured { result ≡ 0 → IsMeasureOf file.now measure.new }
-    ensures refused { result ≡ 2 → TellsFault file.now measure.new.refusal measure.new.detail }
-    ensures memory { result ≡ 1 → measure.new.refusal ≡ 19 }
-    ensures no_head { result ≢ 0 → TellsNoHead measure.new }
-    ensures few { result ≤ 2 }
+/// Reads a file's header, and decodes nothing; more of the file may come if `more` is not 0. Returns 0 with what the header says, 1 if
+/// memory ran out, 2 if the file is refused, and 7 if more bytes are wanted. With 0 the header, and with more to come a refusal, is
+/// that of every file that begins with these bytes.
+pub fn read_header(alloc: Global, file: &[u8], more: u32, header: &mut Header) -> u32
+    ensures read { result ≡ 0 → IsHeaderOf file.now header.new }
+    ensures stays { result ≡ 0 → (whole : List ℕ) → CanBecome file.now whole → IsHeaderOf whole header.new }
+    ensures refused { result ≡ 2 → TellsFault file.now header.new.refusal header.new.detail }
+    ensures refused_for_good { result ≡ 2 → are_all more ≡ false → (whole : List ℕ) → CanBecome file.now whole → TellsFault whole header.new.refusal header.new.detail }
+    ensures memory { result ≡ 1 → header.new.refusal ≡ 19 }
+    ensures wanted { result ≡ 7 → WantsMore file.now }
+    ensures partial { result ≡ 7 → are_all more ≡ false }
+    ensures no_refusal { result ≡ 7 → (header.new.refusal ≡ 0) × (header.new.detail ≡ 0) }
+    ensures no_header { result ≢ 0 → TellsNoHeader header.new }
+    ensures few { result ≢ 7 → result ≤ 2 }
 {
-    match read_head(alloc, file) {
-        Ok(head) => {
-            *measure = Measure::of(&head);
-            SOUND
+    let bytes = FileBytes {
+        bytes: file,
+        are_all: more == 0,
+    };
+    match head_of(alloc, bytes) {
+        Ok(Some(head)) => {
+            *header = Header::of(&head);
+            OK
+        }
+        Ok(None) => {
+            *header = Header::empty();
+            NEED_MORE
         }
         Err(refusal) => {
-            *measure = Measure::refused(refusal);
+            *header = Header::refused(refusal);
             status_of(refusal)
         }
     }

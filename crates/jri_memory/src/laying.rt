@@ -4,7 +4,7 @@ ghost use Rattle.std.specs.Prelude.{◌≡◌, ◌≢◌, ℕ, ◌*◌, ◌<◌,
 ghost use Rattle.jri_canvas.specs.Layouts.{sample_count};
 ghost use Rattle.jri_memory.specs.Canvases.{HasForm, LacksLayout, LacksLinesToLay, LacksRoomToLay, LaysOut};
 
-use crate::status::{NO_LAYOUT, NO_ROOM, SOUND};
+use crate::status::{BUFFER_TOO_SMALL, NO_LAYOUT, OK};
 use jri_canvas::{CanvasLines, Layout, Pixels, have_places, lay_lines};
 
 /// What pixels of so many components are.
@@ -78,8 +78,8 @@ pub fn lay_out(
         return NO_LAYOUT;
     };
     if !have_places(&form, count, canvas.len()) {
-        return NO_ROOM;
+        return BUFFER_TOO_SMALL;
     }
     lay_lines(lines, &form, 0, count, canvas);
-    SOUND
+    OK
 }

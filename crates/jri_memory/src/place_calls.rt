@@ -6,7 +6,7 @@ ghost use Rattle.jri_memory.specs.Rows.{GivesRows, IsRefusedPlace, LacksRoomForR
 use crate::answers::status_of;
 use crate::places::{PlaceError, decode_from, skip_from};
 use crate::rows_report::RowsReport;
-use crate::status::{NO_LINES, NO_ROOM, SOUND};
+use crate::status::{BUFFER_TOO_SMALL, NO_LINES, OK};
 use jr_places::{FileBytes, RowPlace};
 use std::alloc::Global;
 
@@ -34,7 +34,7 @@ fn tell_why(unmoved: PlaceError, report: &mut RowsReport) -> u32
         }
         PlaceError::NoRoom => {
             *report = RowsReport::empty();
-            NO_ROOM
+            BUFFER_TOO_SMALL
         }
     }
 }
@@ -72,7 +72,7 @@ pub fn decode_file_rows(
     match decode_from(alloc, bytes, place, rows, pixels) {
         Ok(decoded) => {
             *report = decoded;
-            SOUND
+            OK
         }
         Err(unmoved) => tell_why(unmoved, report),
     }
@@ -108,7 +108,7 @@ pub fn skip_file_rows(
     match skip_from(alloc, bytes, place, rows) {
         Ok(skipped) => {
             *report = skipped;
-            SOUND
+            OK
         }
         Err(unmoved) => tell_why(unmoved, report),
     }

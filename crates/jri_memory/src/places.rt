@@ -1,14 +1,12 @@
 //! From the bytes of a file, or those of it that are there, to rows of MCUs of its picture from a place on.
 
-ghost use Rattle.std.specs.Prelude.{◌≡◌, ◌≢◌, ℕ, Err, length, true, false, IfOk, IfErr, IfSome, IfNone};
-ghost use Rattle.jr_segments.specs.declared.refusal.Refusal.TheVariants.{Memory};
+ghost use Rattle.std.specs.Prelude.{◌≡◌, ◌≢◌, ℕ, Err, length, true, false, IfOk, IfErr};
 ghost use Rattle.jr_head.specs.Heads.{HeadOf};
-ghost use Rattle.jr_arrival.specs.Settled.{WantsMore};
-ghost use Rattle.jri_memory.specs.Rows.{GivesRows, HasRowAt, IsFaultSoFar, IsWhy, SkipsRows};
+ghost use Rattle.jri_memory.specs.Rows.{GivesRows, HasRowAt, IsWhy, SkipsRows};
 
+use crate::file_head::head_of;
 use crate::rows_report::RowsReport;
-use jr_arrival::head_so_far;
-use jr_head::{Head, Refusal, read_head};
+use jr_head::{Head, Refusal};
 use jr_places::{FileBytes, RowPlace, decode_rows, rows_with_room, skip_rows, stands_at};
 use std::alloc::Global;
 
@@ -21,22 +19,6 @@ pub(crate) enum PlaceError {
     NoRows,
     /// The pixels have no room for the next row's lines.
     NoRoom,
-}
-
-/// The head of a file. None where more bytes may come and are wanted for it.
-fn head_of(alloc: Global, file: FileBytes<'_>) -> Result<Option<Head>, Refusal>
-    ensures head { IfOk result (λ o. IfSome o (HeadOf file.entry.bytes.now)) }
-    ensures wanted { IfOk result (λ o. IfNone o (WantsMore file.entry.bytes.now)) }
-    ensures more { IfOk result (λ o. IfNone o (file.entry.are_all ≡ false)) }
-    ensures refusal { IfErr result (λ f. f ≢ Memory → IsFaultSoFar file.entry.bytes.now file.entry.are_all f) }
-{
-    if !file.are_all {
-        return head_so_far(alloc, file.bytes);
-    }
-    match read_head(alloc, file.bytes) {
-        Ok(head) => Ok(Some(head)),
-        Err(refusal) => Err(refusal),
-    }
 }
 
 /// Whether a picture has a row of MCUs at a place, and some are asked for.

@@ -1,7 +1,7 @@
 //! Lines laid out on a canvas, and a file decoded onto one, in each layout; what stands behind lines stays.
 
 use crate::memory::NONE;
-use jri_memory::status::{NO_LAYOUT, NO_ROOM, SOUND};
+use jri_memory::status::{BUFFER_TOO_SMALL, NO_LAYOUT, OK, SOUND};
 use jri_memory::{decode_canvas, lay_out};
 use std::test::Fail;
 use test_files::files::file;
@@ -11,11 +11,11 @@ const BEFORE: u8 = 7;
 
 /// A line of two pixels, red, green and blue, a byte of a stride behind it, and the answer by layout; canvases have nine bytes.
 const COLOURS: [(u32, usize, u32, [u8; 9]); 7] = [
-    (0, 9, SOUND, [1, 2, 3, 4, 5, 6, 7, 7, 7]),
-    (1, 9, SOUND, [1, 2, 3, 4, 5, 6, 7, 7, 7]),
-    (2, 9, SOUND, [3, 2, 1, 6, 5, 4, 7, 7, 7]),
-    (3, 9, SOUND, [1, 2, 3, 255, 4, 5, 6, 255, 7]),
-    (4, 9, SOUND, [3, 2, 1, 255, 6, 5, 4, 255, 7]),
+    (0, 9, OK, [1, 2, 3, 4, 5, 6, 7, 7, 7]),
+    (1, 9, OK, [1, 2, 3, 4, 5, 6, 7, 7, 7]),
+    (2, 9, OK, [3, 2, 1, 6, 5, 4, 7, 7, 7]),
+    (3, 9, OK, [1, 2, 3, 255, 4, 5, 6, 255, 7]),
+    (4, 9, OK, [3, 2, 1, 255, 6, 5, 4, 255, 7]),
     (5, 9, NO_LAYOUT, [7; 9]),
     (3, 7, NO_LAYOUT, [7; 9]),
 ];
@@ -68,18 +68,18 @@ fn lays_out_a_longer_line(rt: HostRuntime) -> Result<(), Fail> {
     for (layout, expected) in &LONGER {
         let mut canvas = [BEFORE; 29];
         let found = lay_out(&SEVEN, 7, 3, &mut canvas, 29, *layout);
-        assert!(rt; found == SOUND && canvas == *expected, "{layout}");
+        assert!(rt; found == OK && canvas == *expected, "{layout}");
     }
     Ok(())
 }
 
 /// Two lines of one grey pixel, four bytes apart.
 const GREYS: [(u32, usize, u32, [u8; 8]); 5] = [
-    (0, 4, SOUND, [1, 7, 7, 7, 2, 7, 7, 7]),
-    (1, 4, SOUND, [1, 1, 1, 7, 2, 2, 2, 7]),
-    (2, 4, SOUND, [1, 1, 1, 7, 2, 2, 2, 7]),
-    (3, 4, SOUND, [1, 1, 1, 255, 2, 2, 2, 255]),
-    (3, 5, NO_ROOM, [7; 8]),
+    (0, 4, OK, [1, 7, 7, 7, 2, 7, 7, 7]),
+    (1, 4, OK, [1, 1, 1, 7, 2, 2, 2, 7]),
+    (2, 4, OK, [1, 1, 1, 7, 2, 2, 2, 7]),
+    (3, 4, OK, [1, 1, 1, 255, 2, 2, 2, 255]),
+    (3, 5, BUFFER_TOO_SMALL, [7; 8]),
 ];
 
 #[test]

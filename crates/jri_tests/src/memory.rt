@@ -1,8 +1,8 @@
 //! Files in memory, decoded into buffers that just fit and into smaller ones: what is answered and told, and what the buffers
 //! have then.
 
-use jri_memory::status::{DAMAGED, NO_LINES, NO_ROOM, REFUSED, SOUND};
-use jri_memory::{DecodeReport, Measure, check_marks, decode_file, decode_lines, measure_file};
+use jri_memory::status::{BUFFER_TOO_SMALL, DAMAGED, NEED_MORE, NO_LINES, OK, REFUSED, SOUND};
+use jri_memory::{DecodeReport, Header, check_marks, decode_file, decode_lines, read_header};
 use std::alloc::Global;
 use std::process::Abort;
 use std::test::Fail;
@@ -67,10 +67,10 @@ fn decodings() -> [(&'static str, usize, usize, u32, DecodeReport); 8] {
     [
         ("G 63 E", 65, 2, SOUND, counted(1, 1, 0)),
         ("G 63 E", 64, 0, SOUND, counted(1, 1, 0)),
-        ("G 63 E", 63, 1, NO_ROOM, NONE),
-        (TWO, 128, 1, NO_ROOM, NONE),
-        (TWO, 127, 2, NO_ROOM, NONE),
-        (TWO, 127, 0, NO_ROOM, NONE),
+        ("G 63 E", 63, 1, BUFFER_TOO_SMALL, NONE),
+        (TWO, 128, 1, BUFFER_TOO_SMALL, NONE),
+        (TWO, 127, 2, BUFFER_TOO_SMALL, NONE),
+        (TWO, 127, 0, BUFFER_TOO_SMALL, NONE),
         ("", 64, 1, REFUSED, refused(1, 0)),
         ("S FF D9", 0, 0, REFUSED, refused(4, 0xD9)),
     ]
@@ -83,12 +83,12 @@ const THREE_ROWS: &str = "S Q F:0018:0008 D A I C 63 FF D0 E0 FF D1 63 E";
 fn lines() -> [(u32, u32, usize, u32, DecodeReport); 13] {
     [
         (0, 24, 192, DAMAGED, counted(3, 2, 1)),
-        (0, 24, 191, NO_ROOM, NONE),
+        (0, 24, 191, BUFFER_TOO_SMALL, NONE),
         (0, 8, 64, SOUND, counted(3, 1, 0)),
         (8, 8, 65, DAMAGED, counted(3, 0, 1)),
         (7, 2, 16, DAMAGED, counted(3, 1, 1)),
         (23, 1, 8, SOUND, counted(3, 1, 0)),
-        (23, 1, 7, NO_ROOM, NONE),
+        (23, 1, 7, BUFFER_TOO_SMALL, NONE),
         (23, 2, 16, NO_LINES, NONE),
         (24, 1, 8, NO_LINES, NONE),
         (0, 25, 200, NO_LINES, NONE),
@@ -158,7 +158,7 @@ fn checked_with_room(
 #[test]
 fn checks_with_too_little_room(rt: HostRuntime) -> Result<(), Fail> {
     let found = checked_with_room(rt.alloc(), TWO, 1)?;
-    assert!(rt; found == (NO_ROOM, NONE, true));
+    assert!(rt; found == (BUFFER_TOO_SMALL, NONE, true));
     Ok(())
 }
 
@@ -204,8 +204,8 @@ fn answers_lines(rt: HostRuntime) -> Result<(), Fail> {
     Ok(())
 }
 
-/// A measure of nothing.
-const NO_MEASURE: Measure = Measure {
+/// A header of nothing.
+const NO_HEADER: Header = Header {
     width: 0,
     height: 0,
     kind: 0,
@@ -216,68 +216,106 @@ const NO_MEASURE: Measure = Measure {
     detail: 0,
 };
 
-/// What a file's head says.
-fn measured(alloc: Global, bytes: &[u8]) -> Measure {
-    let mut measure = NO_MEASURE;
-    let _answer = measure_file(alloc, bytes, &mut measure);
-    measure
+/// A header that no call has written into.
+const UNREAD: Header = Header {
+    width: 7,
+    height: 7,
+    kind: 7,
+    components: 7,
+    intervals: 7,
+    refusal: 7,
+    pixels: 7,
+    detail: 7,
+};
+
+/// The header of a grey file of one data unit.
+const GREY: Header = Header {
+    width: 8,
+    height: 8,
+    components: 1,
+    intervals: 1,
+    pixels: 64,
+    ..NO_HEADER
+};
+
+/// The header of a red, green and blue file of one data unit each.
+const RGB: Header = Header {
+    kind: 1,
+    components: 3,
+    pixels: 192,
+    ..GREY
+};
+
+/// The header of `COLOURED`.
+const LARGER: Header = Header {
+    width: 17,
+    height: 9,
+    kind: 2,
+    components: 3,
+    intervals: 2,
+    pixels: 459,
+    ..NO_HEADER
+};
+
+/// Of a file that is refused.
+fn unread(refusal: u32, detail: u64) -> Header {
+    Header {
+        refusal,
+        detail,
+        ..NO_HEADER
+    }
 }
 
-/// Files, and what their heads say.
-fn measures() -> [(&'static str, Measure); 4] {
+/// Files, whether more of them may come, the answer, and what their headers say.
+fn headers() -> [(&'static str, u32, u32, Header); 15] {
     [
-        (
-            "G 63 E",
-            Measure {
-                width: 8,
-                height: 8,
-                components: 1,
-                intervals: 1,
-                pixels: 64,
-                ..NO_MEASURE
-            },
-        ),
-        (
-            "S T Q F3:0008:0008:11 D A C3 60 0F E",
-            Measure {
-                width: 8,
-                height: 8,
-                kind: 1,
-                components: 3,
-                intervals: 1,
-                pixels: 192,
-                ..NO_MEASURE
-            },
-        ),
-        (
-            COLOURED,
-            Measure {
-                width: 17,
-                height: 9,
-                kind: 2,
-                components: 3,
-                intervals: 2,
-                pixels: 459,
-                ..NO_MEASURE
-            },
-        ),
-        (
-            "S 00",
-            Measure {
-                refusal: 3,
-                detail: 2,
-                ..NO_MEASURE
-            },
-        ),
+        ("G 63 E", 0, OK, GREY),
+        ("G 63 E", 1, OK, GREY),
+        ("G", 0, OK, GREY),
+        ("G", 1, OK, GREY),
+        ("S T Q F3:0008:0008:11 D A C3 60 0F E", 0, OK, RGB),
+        (COLOURED, 0, OK, LARGER),
+        ("S 00", 0, REFUSED, unread(3, 2)),
+        ("S 00", 1, REFUSED, unread(3, 2)),
+        ("", 0, REFUSED, unread(1, 0)),
+        ("", 1, NEED_MORE, NO_HEADER),
+        ("00", 1, NEED_MORE, NO_HEADER),
+        ("00 00", 1, REFUSED, unread(1, 0)),
+        ("S Q", 0, REFUSED, unread(2, 0)),
+        ("S Q", 1, NEED_MORE, NO_HEADER),
+        ("S Q FF D9", 1, REFUSED, unread(4, 0xD9)),
     ]
 }
 
+/// What is answered and told of a file's header.
+fn told_of_header(alloc: Global, bytes: &[u8], more: u32) -> (u32, Header) {
+    let mut header = UNREAD;
+    let answer = read_header(alloc, bytes, more, &mut header);
+    (answer, header)
+}
+
 #[test]
-fn measures_heads(rt: HostRuntime) -> Result<(), Fail> {
-    for (words, measure) in &measures() {
+fn reads_headers(rt: HostRuntime) -> Result<(), Fail> {
+    for (words, more, answer, header) in &headers() {
         let bytes = file(rt.alloc(), words)?;
-        let found = measured(rt.alloc(), &bytes);
-        assert!(rt; found == *measure, "{words}");
+        let found = told_of_header(rt.alloc(), &bytes, *more);
+        assert!(rt; found == (*answer, *header), "{words}: {more}");
+    }
+    Ok(())
+}
+
+#[test]
+fn wants_more_until_a_header_is_whole(rt: HostRuntime) -> Result<(), Fail> {
+    let bytes = file(rt.alloc(), "G 63 E")?;
+    let whole = file(rt.alloc(), "G")?.len();
+    for length in 0..=bytes.len() {
+        let found = told_of_header(rt.alloc(), &bytes[..length.min(bytes.len())], 1);
+        let expected = if length < whole {
+            (NEED_MORE, NO_HEADER)
+        } else {
+            (OK, GREY)
+        };
+        assert!(rt; found == expected, "{length}");
     }
     Ok(())
 }

@@ -1,6 +1,6 @@
 //! Rows of MCUs of files in memory, from a place on: what is answered and told, where the place stands then, and what the buffer has.
 
-use jri_memory::status::{NO_LINES, NO_ROOM, REFUSED, SOUND};
+use jri_memory::status::{BUFFER_TOO_SMALL, NO_LINES, OK, REFUSED};
 use jri_memory::{RowPlace, RowsReport, decode_file_rows, skip_file_rows};
 use std::alloc::Global;
 use std::test::Fail;
@@ -73,12 +73,12 @@ const SECOND: RowPlace = RowPlace {
 /// A file, whether more of it comes, the place, how many rows are asked for, the room, the answer and the report.
 fn calls() -> [(&'static str, u32, RowPlace, u32, usize, u32, RowsReport); 16] {
     [
-        (THREE, 0, TOP, 1, 64, SOUND, rows_of(1, 0)),
-        (THREE, 0, TOP, 3, 192, SOUND, rows_of(3, 0)),
-        (THREE, 1, TOP, u32::MAX, 200, SOUND, rows_of(3, 0)),
-        (THREE, 0, TOP, 3, 191, SOUND, rows_of(2, 0)),
-        (THREE, 0, SECOND, 3, 128, SOUND, rows_of(2, 8)),
-        (THREE, 0, TOP, 3, 63, NO_ROOM, NONE),
+        (THREE, 0, TOP, 1, 64, OK, rows_of(1, 0)),
+        (THREE, 0, TOP, 3, 192, OK, rows_of(3, 0)),
+        (THREE, 1, TOP, u32::MAX, 200, OK, rows_of(3, 0)),
+        (THREE, 0, TOP, 3, 191, OK, rows_of(2, 0)),
+        (THREE, 0, SECOND, 3, 128, OK, rows_of(2, 8)),
+        (THREE, 0, TOP, 3, 63, BUFFER_TOO_SMALL, NONE),
         (THREE, 0, TOP, 0, 64, NO_LINES, NONE),
         (THREE, 0, RowPlace { row: 1, ..TOP }, 1, 64, NO_LINES, NONE),
         (
@@ -95,8 +95,8 @@ fn calls() -> [(&'static str, u32, RowPlace, u32, usize, u32, RowsReport); 16] {
             NO_LINES,
             NONE,
         ),
-        ("S Q", 1, TOP, 1, 64, SOUND, NONE),
-        ("", 1, TOP, 1, 64, SOUND, NONE),
+        ("S Q", 1, TOP, 1, 64, OK, NONE),
+        ("", 1, TOP, 1, 64, OK, NONE),
         ("", 0, TOP, 1, 64, REFUSED, refused(1, 0)),
         ("S Q", 0, TOP, 1, 64, REFUSED, refused(2, 0)),
         ("S 00", 1, TOP, 1, 64, REFUSED, refused(3, 2)),
@@ -106,7 +106,7 @@ fn calls() -> [(&'static str, u32, RowPlace, u32, usize, u32, RowsReport); 16] {
             TOP,
             3,
             192,
-            SOUND,
+            OK,
             rows_of(1, 0),
         ),
         (
@@ -115,7 +115,7 @@ fn calls() -> [(&'static str, u32, RowPlace, u32, usize, u32, RowsReport); 16] {
             TOP,
             3,
             192,
-            SOUND,
+            OK,
             rows_of(3, 0),
         ),
     ]
@@ -186,9 +186,9 @@ fn passes_over_rows(rt: HostRuntime) -> Result<(), Fail> {
     let mut place = TOP;
     let mut report = UNWRITTEN;
     let answer = skip_file_rows(rt.alloc(), &bytes, 0, &mut place, 1, &mut report);
-    assert!(rt; (answer, report, place) == (SOUND, rows_of(1, 0), SECOND));
+    assert!(rt; (answer, report, place) == (OK, rows_of(1, 0), SECOND));
     let answer = skip_file_rows(rt.alloc(), &bytes, 1, &mut place, 9, &mut report);
-    assert!(rt; (answer, report, place.row) == (SOUND, rows_of(2, 8), 3));
+    assert!(rt; (answer, report, place.row) == (OK, rows_of(2, 8), 3));
     let answer = skip_file_rows(rt.alloc(), &bytes, 0, &mut place, 1, &mut report);
     assert!(rt; (answer, report, place.row) == (NO_LINES, NONE, 3));
     Ok(())

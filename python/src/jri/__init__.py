@@ -35,7 +35,7 @@ from typing import (
 
 import numpy
 
-from ._library import CALLS, DAMAGED, LAYOUTS, NO_LINES, NO_MEMORY, NO_ROOM, REFUSED, SOUND
+from ._library import BUFFER_TOO_SMALL, CALLS, COMPLETE, DAMAGED, LAYOUTS, NO_LINES, NO_MEMORY, OK, REFUSED, SOUND
 from ._loaded import ffi, library, refusal_text
 
 if TYPE_CHECKING:
@@ -262,15 +262,20 @@ def _raise(status: int, number: int, detail: int, name: Optional[str] = None) ->
         raise MemoryError("out of memory")
     if status == REFUSED:
         raise (UnsupportedError if _is_unsupported(number, detail) else RefusedError)(number, detail, name)
-    text = {NO_ROOM: "the buffer is too small", NO_LINES: "the image has no such lines"}[status]
+    text = {BUFFER_TOO_SMALL: "the buffer is too small", NO_LINES: "the image has no such lines"}[status]
     raise ValueError(_with_name(name, text))
 
 
 def _measured(file: _File) -> Measure:
-    told = ffi.new("struct jri_measure *")
-    status = library.jri_measure(file.data, len(file.data), told)
-    if status != SOUND:
-        _raise(status, told.refusal, told.detail, file.name)
+    told = ffi.new("struct jri_header *")
+    status = library.jri_read_header(file.data, len(file.data), COMPLETE, told)
+    return _measure(status, told, file.name)
+
+
+def _measure(status: int, told: Any, name: Optional[str]) -> Measure:
+    """Returns what a header says. Raises the error for a status without one, of a file of this name."""
+    if status != OK:
+        _raise(status, told.refusal, told.detail, name)
     return Measure(told.width, told.height, told.components, told.intervals)
 
 

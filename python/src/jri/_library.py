@@ -1,14 +1,17 @@
-"""The structs, calls and numbers of jri.h, version 3."""
+"""The structs, calls and numbers of jri.h, version 4."""
 
 from __future__ import annotations
 
 from typing import Any
 
-CALLS = 3
+CALLS = 4
 
-SOUND, NO_MEMORY, REFUSED, DAMAGED, NO_ROOM, NO_LINES, NO_LAYOUT = range(7)
+SOUND, NO_MEMORY, REFUSED, DAMAGED, BUFFER_TOO_SMALL, NO_LINES, NO_LAYOUT, NEED_MORE = range(8)
 
-ALL, MORE = range(2)
+#: The status of calls that do not judge the restart intervals.
+OK = SOUND
+
+COMPLETE, PARTIAL = range(2)
 
 #: The layouts of a canvas, and the size of a pixel in bytes in each.
 LAYOUTS = {"rgb": (1, 3), "bgr": (2, 3), "rgbx": (3, 4), "bgrx": (4, 4)}
@@ -18,22 +21,22 @@ def declare(builder: Any) -> None:
     """Declares libjri to a builder of cffi. python/make_ffi.py writes _ffi.py from these declarations."""
     builder.cdef(
         """
-        struct jri_measure { uint32_t width, height, kind, components, intervals, refusal; uint64_t pixels, detail; };
+        struct jri_header { uint32_t width, height, kind, components, intervals, refusal; uint64_t pixels, detail; };
         struct jri_report { uint32_t intervals, sound, damaged, blank, ended, found, due, refusal; uint64_t at, detail; };
-        struct jri_place { uint64_t at; uint32_t bit, row, interval, mcu; int32_t predictions[3]; uint32_t state; };
+        struct jri_position { uint64_t at; uint32_t bit, row, interval, mcu; int32_t predictions[3]; uint32_t state; };
         struct jri_rows { uint32_t rows, lines, first_line, refusal; uint64_t detail; };
         struct jri_damage { uint32_t interval, first_mcu, mcus, decodable, first_line, last_line; uint64_t start, end; };
         struct jri_damage_list { uint32_t count, next, refusal; uint64_t detail; };
         uint32_t jri_version(void);
-        uint32_t jri_measure(const uint8_t *, size_t, struct jri_measure *);
+        uint32_t jri_read_header(const uint8_t *, size_t, uint32_t, struct jri_header *);
         uint32_t jri_decode(const uint8_t *, size_t, uint8_t *, size_t, uint8_t *, size_t, struct jri_report *);
         uint32_t jri_decode_lines(const uint8_t *, size_t, uint32_t, uint32_t, uint8_t *, size_t, struct jri_report *);
         uint32_t jri_check(const uint8_t *, size_t, uint8_t *, size_t, struct jri_report *);
-        uint32_t jri_decode_rows(const uint8_t *, size_t, uint32_t, struct jri_place *, uint32_t, uint8_t *, size_t,
+        uint32_t jri_decode_rows(const uint8_t *, size_t, uint32_t, struct jri_position *, uint32_t, uint8_t *, size_t,
                                  struct jri_rows *);
-        uint32_t jri_skip_rows(const uint8_t *, size_t, uint32_t, struct jri_place *, uint32_t, struct jri_rows *);
+        uint32_t jri_skip_rows(const uint8_t *, size_t, uint32_t, struct jri_position *, uint32_t, struct jri_rows *);
         uint32_t jri_decode_canvas(const uint8_t *, size_t, uint8_t *, size_t, size_t, uint32_t, uint8_t *, size_t, struct jri_report *);
-        uint32_t jri_damages(const uint8_t *, size_t, uint32_t, struct jri_damage *, size_t, struct jri_damage_list *);
+        uint32_t jri_list_damage(const uint8_t *, size_t, uint32_t, struct jri_damage *, size_t, struct jri_damage_list *);
         uint64_t jri_refusal_text(uint32_t, uint64_t, uint8_t *, size_t);
         uint64_t jri_end_text(const struct jri_report *, uint8_t *, size_t);
         uint64_t jri_build_text(uint8_t *, size_t);

@@ -25,6 +25,7 @@ from . import (
     _check,
     _File,
     _file,
+    _measure,
     _measured,
     _name_of,
     _new,
@@ -35,7 +36,7 @@ from . import (
     _with_name,
     _within,
 )
-from ._library import ALL, DAMAGED, LAYOUTS, MORE, NO_LINES, REFUSED, SOUND
+from ._library import COMPLETE, DAMAGED, LAYOUTS, NEED_MORE, NO_LINES, OK, PARTIAL, SOUND
 from ._loaded import ffi, library
 
 __all__ = ["Damage", "Index", "Stream", "damages", "index", "lines", "load_index"]
@@ -53,7 +54,7 @@ _ROWS_AHEAD = 2
 _ALL_ROWS = 0xFFFFFFFF
 
 #: A saved index, little-endian: magic, version, width, height, components, intervals, lines of a row of MCUs, number of
-#: positions, the file's length and its SHA-256; then the positions, each as in jri_place; then the SHA-256 of all this.
+#: positions, the file's length and its SHA-256; then the positions, each as in jri_position; then the SHA-256 of all this.
 _INDEX_HEAD, _INDEX_PLACE = struct.Struct("<8s7IQ32s"), struct.Struct("<Q4I3iI")
 _INDEX_MAGIC, _INDEX_VERSION, _INDEX_SUM = b"\x8bjri-idx", 1, 32
 
@@ -71,9 +72,9 @@ def _decoded(file: _File, more: int, place: Any, rows: int, head: Measure, pixel
     told = ffi.new("struct jri_rows *")
     data = file.data
     status = library.jri_decode_rows(data, len(data), more, place, rows, _buffer(pixels), pixels.nbytes, told)
-    if status == NO_LINES or (status == SOUND and told.rows == 0):
+    if status == NO_LINES or (status == OK and told.rows == 0):
         return None
-    if status != SOUND:
+    if status != OK:
         _raise(status, told.refusal, told.detail, file.name)
     return Part(told.first_line, pixels[: told.lines])
 
@@ -112,7 +113,7 @@ def _parts_of(file: _File, head: Measure, first: int, count: int) -> Iterator[Pa
     while first < head.height:
         wanted = min(count, head.height - first)
         if len(rest) < wanted:
-            block = _decoded(file, ALL, place, _ALL_ROWS, head, _lines_for(space, head, file))
+            block = _decoded(file, COMPLETE, place, _ALL_ROWS, head, _lines_for(space, head, file))
             if block is None or len(rest) + len(block.pixels) - skip < wanted:
                 raise _changed(file)
             rest = numpy.concatenate([rest, block.pixels[skip:]]) if len(rest) else block.pixels[skip:]
@@ -123,9 +124,9 @@ def _parts_of(file: _File, head: Measure, first: int, count: int) -> Iterator[Pa
 
 def _place_of_row(file: _File, row: int) -> Any:
     """Returns the position before a row of MCUs."""
-    place, told = ffi.new("struct jri_place *"), ffi.new("struct jri_rows *")
-    status = library.jri_skip_rows(file.data, len(file.data), ALL, place, row, told) if row else SOUND
-    if status != SOUND:
+    place, told = ffi.new("struct jri_position *"), ffi.new("struct jri_rows *")
+    status = library.jri_skip_rows(file.data, len(file.data), COMPLETE, place, row, told) if row else OK
+    if status != OK:
         _raise(status, told.refusal, told.detail, file.name)
     return place
 
@@ -158,7 +159,7 @@ class Stream:
         self._layout, self._out = layout, out
         # the number of lines that were returned
         self._lines = 0
-        self._place = ffi.new("struct jri_place *")
+        self._place = ffi.new("struct jri_position *")
         self._max_pixels = max_pixels
         self._closed = False
         # whether a block of `with` raised
@@ -195,7 +196,7 @@ class Stream:
         self._data += view
         if len(self._data) < self._wanted:
             return []
-        parts = self._parts(MORE)
+        parts = self._parts(PARTIAL)
         self._wanted = self._next_look()
         return parts
 
@@ -203,7 +204,7 @@ class Stream:
         """Ends the file and returns all further lines, grey where the file has none."""
         if self._closed:
             return []
-        parts = self._parts(ALL)
+        parts = self._parts(COMPLETE)
         self._closed = True
         return parts
 
@@ -248,20 +249,12 @@ class Stream:
             return parts
 
     def _begun(self, file: _File, more: int) -> Optional[Measure]:
-        """Returns what the head says; None if more bytes are wanted for it."""
-        told = ffi.new("struct jri_rows *")
-        if more == MORE:
-            # With JRI_MORE a refusal is final. One of jri_measure alone then means that more bytes are wanted.
-            status = library.jri_skip_rows(file.data, len(file.data), more, ffi.new("struct jri_place *"), 0, told)
-            if status == REFUSED:
-                _raise(status, told.refusal, told.detail)
-        told = ffi.new("struct jri_measure *")
-        status = library.jri_measure(file.data, len(file.data), told)
-        if more == MORE and status == REFUSED:
+        """Returns what the header says; None if more bytes are wanted for it."""
+        told = ffi.new("struct jri_header *")
+        status = library.jri_read_header(file.data, len(file.data), more, told)
+        if status == NEED_MORE:
             return None
-        if status != SOUND:
-            _raise(status, told.refusal, told.detail)
-        head = Measure(told.width, told.height, told.components, told.intervals)
+        head = _measure(status, told, None)
         _within(head, self._max_pixels, None)
         if self._out is not None:
             _accept(self._out, head, self._layout)
@@ -290,7 +283,7 @@ def _lay_out(pixels: Pixels, head: Measure, layout: Layout, laid: Pixels) -> Non
     status = library.jri_lay_out(
         _buffer(pixels), pixels.nbytes, head.width, head.components, *_canvas(laid), LAYOUTS[layout][0]
     )
-    if status != SOUND:
+    if status != OK:
         _raise(status, 0, 0)
 
 
@@ -309,9 +302,9 @@ class Index:
         at = bisect.bisect_right(self._firsts, first) - 1
         above = first - self._firsts[at]
         rows = -(-(above + count) // self._row_lines)
-        place = ffi.new("struct jri_place *", self._places[at][0])
+        place = ffi.new("struct jri_position *", self._places[at][0])
         pixels = _lines_for(rows * self._row_lines, self.head, self._file)
-        part = _decoded(self._file, ALL, place, rows, self.head, pixels)
+        part = _decoded(self._file, COMPLETE, place, rows, self.head, pixels)
         if part is None or len(part.pixels) < above + count:
             raise _changed(self._file)
         return part.pixels[above : above + count]
@@ -352,11 +345,11 @@ def index(source: Source, rows: int = 8) -> Index:
     file = _file(source)
     head, row_lines = _measured(file), _lines_of_row(file)
     places = []
-    place, told = ffi.new("struct jri_place *"), ffi.new("struct jri_rows *")
+    place, told = ffi.new("struct jri_position *"), ffi.new("struct jri_rows *")
     while place.row * row_lines < head.height:
-        places.append(ffi.new("struct jri_place *", place[0]))
-        status = library.jri_skip_rows(file.data, len(file.data), ALL, place, rows, told)
-        if status != SOUND:
+        places.append(ffi.new("struct jri_position *", place[0]))
+        status = library.jri_skip_rows(file.data, len(file.data), COMPLETE, place, rows, told)
+        if status != OK:
             _raise(status, told.refusal, told.detail, file.name)
     return Index(file, head, row_lines, places)
 
@@ -380,7 +373,7 @@ def load_index(saved: Source, source: Source) -> Index:
         _refuse_index(name, "the index is of another file")
     head, places = _measured(file), []
     for at, bit, row, interval, mcu, p, q, r, state in _INDEX_PLACE.iter_unpack(summed[_INDEX_HEAD.size :]):
-        places.append(ffi.new("struct jri_place *", [at, bit, row, interval, mcu, [p, q, r], state]))
+        places.append(ffi.new("struct jri_position *", [at, bit, row, interval, mcu, [p, q, r], state]))
     rows = [place.row for place in places]
     is_whole = head == Measure(*numbers) and row_lines == _lines_of_row(file)
     if not is_whole or rows[:1] != [0] or rows != sorted(set(rows)) or rows[-1] * row_lines >= head.height:
@@ -395,8 +388,8 @@ def _refuse_index(name: Optional[str], text: str) -> NoReturn:
 def _lines_of_row(file: _File) -> int:
     """Returns the number of lines of the first row of MCUs."""
     told = ffi.new("struct jri_rows *")
-    status = library.jri_skip_rows(file.data, len(file.data), ALL, ffi.new("struct jri_place *"), 1, told)
-    if status != SOUND:
+    status = library.jri_skip_rows(file.data, len(file.data), COMPLETE, ffi.new("struct jri_position *"), 1, told)
+    if status != OK:
         _raise(status, told.refusal, told.detail, file.name)
     return int(told.lines)
 
@@ -428,7 +421,7 @@ def _damages(file: _File) -> Iterator[Damage]:
     room, first, told = 64, 0, ffi.new("struct jri_damage_list *")
     while True:
         listed = ffi.new("struct jri_damage[]", room)
-        status = library.jri_damages(file.data, len(file.data), first, listed, room, told)
+        status = library.jri_list_damage(file.data, len(file.data), first, listed, room, told)
         if status == SOUND:
             return
         if status != DAMAGED:

@@ -1,20 +1,20 @@
-//! What a file's head says of its picture.
+//! What a file's header says of its image.
 
 ghost use Rattle.std.specs.Prelude.{◌≡◌};
 ghost use Rattle.jr_head.specs.HeadValue.{kind_number};
 ghost use Rattle.jr_head.specs.Geometry.{components_of};
 ghost use Rattle.jr_segments.specs.Refusal.{number_of};
 ghost use Rattle.jr_scan.specs.ScanValue.{intervals_of};
-ghost use Rattle.jri_memory.specs.Calls.{TellsNoHead, detail_of, picture_size};
+ghost use Rattle.jri_memory.specs.Calls.{TellsNoHeader, detail_of, picture_size};
 
 use crate::report::detail;
 use crate::room::bytes_of_picture;
 use jr_head::{Head, Kind, Refusal};
 
-/// What a file's head says of its picture, or the refusal's numbers, and 0 for all else.
+/// A file's header in numbers, or a refusal's two numbers; all else is 0.
 #[repr(C)]
 #[derive(Clone, Copy, PartialEq, Eq)]
-pub struct Measure {
+pub struct Header {
     /// The picture's width in pixels.
     pub width: u32,
     /// The picture's height in lines.
@@ -44,14 +44,14 @@ fn number_of_kind(kind: Kind) -> u32
     }
 }
 
-impl Measure {
+impl Header {
     /// Nothing is told.
-    pub(crate) const fn empty() -> Measure
-        ensures no_head { TellsNoHead result }
+    pub(crate) const fn empty() -> Header
+        ensures no_header { TellsNoHeader result }
         ensures no_fault { result.refusal ≡ 0 }
         ensures no_detail { result.detail ≡ 0 }
     {
-        Measure {
+        Header {
             width: 0,
             height: 0,
             kind: 0,
@@ -64,20 +64,20 @@ impl Measure {
     }
 
     /// A refusal.
-    pub(crate) fn refused(refusal: Refusal) -> Measure
-        ensures no_head { TellsNoHead result }
+    pub(crate) fn refused(refusal: Refusal) -> Header
+        ensures no_header { TellsNoHeader result }
         ensures number { result.refusal ≡ number_of refusal }
         ensures detail { result.detail ≡ detail_of refusal }
     {
-        Measure {
+        Header {
             refusal: u32::from(refusal.number()),
             detail: detail(refusal),
-            ..Measure::empty()
+            ..Header::empty()
         }
     }
 
     /// What a head says.
-    pub(crate) fn of(head: &Head) -> Measure
+    pub(crate) fn of(head: &Head) -> Header
         ensures width { result.width ≡ head.now.width }
         ensures height { result.height ≡ head.now.height }
         ensures kind { result.kind ≡ kind_number head.now.kind }
@@ -87,14 +87,14 @@ impl Measure {
         ensures no_fault { result.refusal ≡ 0 }
         ensures no_detail { result.detail ≡ 0 }
     {
-        Measure {
+        Header {
             width: head.width(),
             height: head.height(),
             kind: number_of_kind(head.kind()),
             components: head.components(),
             intervals: head.intervals(),
             pixels: bytes_of_picture(head) as u64,
-            ..Measure::empty()
+            ..Header::empty()
         }
     }
 }
