@@ -242,7 +242,8 @@ uint64_t jri_refusal_text(uint32_t refusal, uint64_t detail, uint8_t *text, size
 
 /*
  * Lists the damaged intervals of a file starting at interval `first`, in order, as many as `damages` has entries:
- * `damages_count`. Reads the file as jri_check does, and allocates 16 bytes more for each interval.
+ * `damages_count`; jri_check's report->damaged is the number of all. Finds the markers of the whole scan, reads the
+ * intervals starting at `first`, and allocates for the scan and 16 bytes for each interval.
  *
  * Proved: with JRI_DAMAGED and JRI_SOUND the first list->count entries are exactly the damaged intervals from `first`
  * on and before list->next, each with its MCUs, lines and bytes; entries after them are unchanged; if list->next is
