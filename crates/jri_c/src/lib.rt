@@ -35,12 +35,7 @@ pub extern "C" fn jri_version() -> u32
 /// memory ran out, 2 if the file is refused, and 7 if more bytes are wanted. With 0 the header, and with more to come a refusal, is
 /// that of every file that begins with these bytes.
 #[unsafe(no_mangle)]
-pub extern "C" fn jri_read_header(
-    alloc: Global,
-    file: &[u8],
-    more: u32,
-    header: &mut Header,
-) -> u32
+pub extern "C" fn jri_read_header(alloc: Global, file: &[u8], more: u32, header: &mut Header) -> u32
     ensures read { result ≡ 0 → IsHeaderOf file.now header.new }
     ensures stays { result ≡ 0 → (whole : List ℕ) → CanBecome file.now whole → IsHeaderOf whole header.new }
     ensures refused { result ≡ 2 → TellsFault file.now header.new.refusal header.new.detail }
