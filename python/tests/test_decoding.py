@@ -70,5 +70,5 @@ def test_pictures_and_reports_can_be_sent(photo):
 
 
 def test_tells_the_version():
-    assert jri.version() == 3
+    assert jri.version() == 4
     assert made(1, 1, ["-grayscale"])[:2] == b"\xff\xd8"
