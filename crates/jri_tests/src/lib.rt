@@ -27,6 +27,8 @@ mod program;
 #[cfg(test)]
 mod rows;
 #[cfg(test)]
+mod speculation;
+#[cfg(test)]
 mod streams;
 #[cfg(test)]
 mod words;
