@@ -6,7 +6,7 @@ use Rattle.clap.specs.declared.builder.command.Command.{Command}
 use Rattle.clap.specs.declared.parser.matches.ArgMatches.{ArgMatches}
 use Rattle.clap.proofs.OnLiterals.{clap_on_literals}
 use Rattle.clap.proofs.WalkLemmas.{first_value-rows, one_text-rows}
-use Rattle.jri_words.specs.CommandLine.{jri, reading, value}
+use Rattle.jri_words.specs.CommandLine.{jri, reading, option_value}
 
 pub adds : (old : Command) (a : Arg) (new : Command) (app : App) (rule : Rule) → AddsArg old a new → a.global ≡ false → app_of old ≡ app → rule_of a ≡ rule → app_of new ≡ with_rule app rule
 adds old a new app rule h local is_app is_rule = h.shape local ∙ ap₂ with_rule is_app is_rule
@@ -19,8 +19,8 @@ module _ (m : ArgMatches) (app : App) (words : List Text) (is_jri : app ≡ jri)
   rows : rows_of (found_of m) ≡ matches_of jri words
   rows = (subst (λ (a : App). HasMatchesOf a words m) is_jri h is_simple_jri).0
 
-  pub found_value : (name : Text) → first_value (found_of m) name ≡ value name words
-  unfolding value
+  pub found_value : (name : Text) → first_value (found_of m) name ≡ option_value name words
+  unfolding option_value
   found_value name = first_value-rows (found_of m) name ∙ ap (first_of name) rows
 
   pub found_reading : (name : Text) → one_text (found_of m) name ≡ reading name words

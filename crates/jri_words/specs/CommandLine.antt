@@ -45,8 +45,8 @@ abbrev pub jri : App
 jri = writing_app (decoding_app empty_app)
 
 -- the value of an option or of FILE in these words, by the rules of command lines
-unfoldable pub value : Text → List Text → Option Text
-value name words = first_of name (matches_of jri words)
+unfoldable pub option_value : Text → List Text → Option Text
+option_value name words = first_of name (matches_of jri words)
 
 -- the value of a flag, `true` or `false`, or of an option of numbers
 unfoldable pub reading : Text → List Text → Option Text

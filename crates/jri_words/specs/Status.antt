@@ -9,7 +9,7 @@ unasked_status (Wrong text) = 2
 unasked_status Memory = 1
 
 -- the same, where writing the help or the version may have failed
-abbrev pub answer_status : Unasked → Bool → ℕ
-answer_status (Help text) has_failed = if has_failed then 1 else 0
-answer_status (Wrong text) has_failed = 2
-answer_status Memory has_failed = 1
+abbrev pub unasked_status : Unasked → Bool → ℕ
+unasked_status (Help text) has_failed = if has_failed then 1 else 0
+unasked_status (Wrong text) has_failed = 2
+unasked_status Memory has_failed = 1
