@@ -1,13 +1,13 @@
 //! `jri [--workers N] [--first K] [-o PICTURE] [FILE]`: decodes a JPEG file to a Netpbm picture.
 #![tactic(auto)]
 
+mod ended;
 mod machine;
 
+use crate::ended::{Ended, run};
 use crate::machine::{Machine, hold_streams};
-use jri_engine::program;
 use std::env;
 use std::io::Result as IoResult;
-use std::process::ExitCode;
 use std::rt::Env;
 
 /// The words after the program's name.
@@ -19,10 +19,9 @@ fn words<R: Env + AllocGlobal>(rt: &R) -> IoResult<Vec<String>> {
     Ok(words)
 }
 
-fn main(rt: HostRuntime) -> ExitCode {
+fn main(rt: HostRuntime) -> Ended {
     let _held = hold_streams(&rt);
     let mut machine = Machine { rt: &rt };
     let words = words(&rt);
-    let status = program(&rt, rt.alloc(), &mut machine, words, &mut rt.stderr());
-    ExitCode::from(status)
+    run(&rt, rt.alloc(), &mut machine, words, &mut rt.stderr())
 }
