@@ -19,7 +19,7 @@ from distributed import Client
 # How many names a chunk has, and how many chunks are handed out for each thread of a worker.
 CHUNK, AHEAD = 250, 3
 COMMAND = ["jri_check", "--workers", "1", "--counts", "--files0-from", "-"]
-ANSWERS = (0, 1, 3)
+ANSWERS = (0, 1, 3, 5)
 
 
 def check(names):

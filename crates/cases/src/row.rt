@@ -25,7 +25,7 @@ pub(crate) struct Row<'a> {
     pub status: u8,
     /// The picture, in the notation of pictures; nothing where the file is refused.
     pub picture: &'a str,
-    /// The lines of a check with a map, separated by `/`; nothing where no interval is damaged.
+    /// The lines of a check with a map, separated by `/`; nothing if its one line follows from the report.
     pub damaged: &'a str,
 }
 

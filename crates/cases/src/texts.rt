@@ -50,7 +50,7 @@ pub(crate) fn check_lines(alloc: Global, row: &Row<'_>) -> Result<String, Failur
         text.push_str(before.as_str())?;
         put_sound(&mut text, row.report)?;
     } else {
-        let lines = if row.status == 2 {
+        let lines = if row.damaged.is_empty() {
             row.report
         } else {
             row.damaged

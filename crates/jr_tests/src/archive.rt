@@ -161,7 +161,7 @@ const NAMES: [&[u8]; 6] = [
 
 const LINES: &str = "ten: sound, 10 intervals\n\
                      two: sound, 2 intervals\n\
-                     progressive: refused 5: frame C2 is not baseline\n\
+                     progressive: unsupported 5: progressive JPEG (SOF2) is not supported\n\
                      coloured: sound, 2 intervals\n\
                      missing: cannot be read: no such file\n";
 
@@ -177,8 +177,8 @@ fn tells_files_in_their_order(rt: HostRuntime) -> Result<(), Fail> {
     check(
         &rt,
         &[b"--quiet", b"--counts", b"ten", b"progressive", b"two"],
-        "progressive: refused 5: frame C2 is not baseline\n2 sound, 1 refused\n",
-        1,
+        "progressive: unsupported 5: progressive JPEG (SOF2) is not supported\n2 sound, 1 unsupported\n",
+        5,
     )
 }
 
@@ -210,8 +210,8 @@ fn tells_objects(rt: HostRuntime) -> Result<(), Fail> {
         ],
         "{\"file\":\"ten\",\"is\":\"sound\",\"intervals\":10}\n\
          {\"file\":\"\\u0022\\u005c\\u000a\\udcff\u{E4}\",\"is\":\"unread\",\"why\":\"its name is not UTF-8\"}\n\
-         {\"file\":\"progressive\",\"is\":\"refused\",\"refusal\":5,\"why\":\"frame C2 is not baseline\"}\n\
-         {\"sound\":1,\"damaged\":0,\"refused\":1,\"unread\":1,\"out_of_memory\":0}\n",
+         {\"file\":\"progressive\",\"is\":\"unsupported\",\"refusal\":5,\"detail\":194,\"why\":\"progressive JPEG (SOF2) is not supported\"}\n\
+         {\"sound\":1,\"damaged\":0,\"refused\":0,\"unsupported\":1,\"unread\":1,\"out_of_memory\":0}\n",
         3,
     )
 }
@@ -433,6 +433,7 @@ fn counts_are_written_whole(rt: HostRuntime) -> Result<(), Fail> {
         sound: u64::MAX,
         damaged: u64::MAX,
         refused: u64::MAX,
+        unsupported: u64::MAX,
         unread: u64::MAX,
         out_of_memory: u64::MAX,
     };

@@ -8,7 +8,7 @@ use Rattle.std.proofs.lemmas.List.{get_or_append_left, length-append}
 use Rattle.std.proofs.Math.Seq.{get_or-append_seam}
 use Rattle.jri_archive.specs.declared.counts.FileCounts.{FileCounts}
 use Rattle.jri_archive.specs.declared.counts.FileState.{FileState}
-use Rattle.jri_archive.specs.declared.counts.FileState.TheVariants.{Sound, Damaged, Refused, Unread, OutOfMemory, Skipped}
+use Rattle.jri_archive.specs.declared.counts.FileState.TheVariants.{Sound, Damaged, Refused, Unsupported, Unread, OutOfMemory, Skipped}
 use Rattle.jri_archive.specs.declared.outcome.Outcome.{Outcome}
 use Rattle.jri_archive.specs.Outcomes.{state_of}
 use Rattle.jri_archive.specs.Status.{counts_with}
@@ -38,6 +38,7 @@ counted_more c xs Sound a = record {
   sound = one_of Sound Sound xs c.sound refl a.sound;
   damaged = none_of Damaged Sound xs c.damaged refl a.damaged;
   refused = none_of Refused Sound xs c.refused refl a.refused;
+  unsupported = none_of Unsupported Sound xs c.unsupported refl a.unsupported;
   unread = none_of Unread Sound xs c.unread refl a.unread;
   out_of_memory = none_of OutOfMemory Sound xs c.out_of_memory refl a.out_of_memory;
 }
@@ -45,6 +46,7 @@ counted_more c xs Damaged a = record {
   sound = none_of Sound Damaged xs c.sound refl a.sound;
   damaged = one_of Damaged Damaged xs c.damaged refl a.damaged;
   refused = none_of Refused Damaged xs c.refused refl a.refused;
+  unsupported = none_of Unsupported Damaged xs c.unsupported refl a.unsupported;
   unread = none_of Unread Damaged xs c.unread refl a.unread;
   out_of_memory = none_of OutOfMemory Damaged xs c.out_of_memory refl a.out_of_memory;
 }
@@ -52,13 +54,23 @@ counted_more c xs Refused a = record {
   sound = none_of Sound Refused xs c.sound refl a.sound;
   damaged = none_of Damaged Refused xs c.damaged refl a.damaged;
   refused = one_of Refused Refused xs c.refused refl a.refused;
+  unsupported = none_of Unsupported Refused xs c.unsupported refl a.unsupported;
   unread = none_of Unread Refused xs c.unread refl a.unread;
   out_of_memory = none_of OutOfMemory Refused xs c.out_of_memory refl a.out_of_memory;
+}
+counted_more c xs Unsupported a = record {
+  sound = none_of Sound Unsupported xs c.sound refl a.sound;
+  damaged = none_of Damaged Unsupported xs c.damaged refl a.damaged;
+  refused = none_of Refused Unsupported xs c.refused refl a.refused;
+  unsupported = one_of Unsupported Unsupported xs c.unsupported refl a.unsupported;
+  unread = none_of Unread Unsupported xs c.unread refl a.unread;
+  out_of_memory = none_of OutOfMemory Unsupported xs c.out_of_memory refl a.out_of_memory;
 }
 counted_more c xs Unread a = record {
   sound = none_of Sound Unread xs c.sound refl a.sound;
   damaged = none_of Damaged Unread xs c.damaged refl a.damaged;
   refused = none_of Refused Unread xs c.refused refl a.refused;
+  unsupported = none_of Unsupported Unread xs c.unsupported refl a.unsupported;
   unread = one_of Unread Unread xs c.unread refl a.unread;
   out_of_memory = none_of OutOfMemory Unread xs c.out_of_memory refl a.out_of_memory;
 }
@@ -66,6 +78,7 @@ counted_more c xs OutOfMemory a = record {
   sound = none_of Sound OutOfMemory xs c.sound refl a.sound;
   damaged = none_of Damaged OutOfMemory xs c.damaged refl a.damaged;
   refused = none_of Refused OutOfMemory xs c.refused refl a.refused;
+  unsupported = none_of Unsupported OutOfMemory xs c.unsupported refl a.unsupported;
   unread = none_of Unread OutOfMemory xs c.unread refl a.unread;
   out_of_memory = one_of OutOfMemory OutOfMemory xs c.out_of_memory refl a.out_of_memory;
 }
@@ -73,6 +86,7 @@ counted_more c xs Skipped a = record {
   sound = none_of Sound Skipped xs c.sound refl a.sound;
   damaged = none_of Damaged Skipped xs c.damaged refl a.damaged;
   refused = none_of Refused Skipped xs c.refused refl a.refused;
+  unsupported = none_of Unsupported Skipped xs c.unsupported refl a.unsupported;
   unread = none_of Unread Skipped xs c.unread refl a.unread;
   out_of_memory = none_of OutOfMemory Skipped xs c.out_of_memory refl a.out_of_memory;
 }

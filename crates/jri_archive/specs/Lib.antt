@@ -1,3 +1,4 @@
 pub mod Status
+pub mod Unsupported
 pub mod Outcomes
 pub mod Told

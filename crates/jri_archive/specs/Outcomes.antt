@@ -3,10 +3,11 @@ use Rattle.std.specs.Prelude.{◌≢◌, ℕ, ◌==◌, List, length, if◌then�
 use Rattle.jr_segments.specs.declared.refusal.Refusal.TheVariants as refusal
 use Rattle.jr_head.specs.Heads.{RefusalOf}
 use Rattle.jri_archive.specs.declared.counts.FileState.{FileState}
-use Rattle.jri_archive.specs.declared.counts.FileState.TheVariants.{Sound, Damaged, Refused, Unread, OutOfMemory, Skipped}
+use Rattle.jri_archive.specs.declared.counts.FileState.TheVariants.{Sound, Damaged, Refused, Unsupported, Unread, OutOfMemory, Skipped}
 use Rattle.jri_names.specs.declared.reading.ReadError.TheVariants as read
 use Rattle.jri_archive.specs.declared.outcome.Outcome.{Outcome}
 use Rattle.jri_archive.specs.declared.outcome.Outcome.TheVariants as outcome
+use Rattle.jri_archive.specs.Unsupported.{may_be_valid}
 use Rattle.jr_damage.specs.Verdicts.{IsFileScan, IsVerdictOf}
 
 -- the file's scan and what is damaged of it, or its first fault; for want of memory nothing is said of it
@@ -20,7 +21,7 @@ IsOutcomeOf file outcome.Skipped = ⊥
 abbrev pub state_of : Outcome → FileState
 state_of (outcome.Checked c) = if c.verdict.damaged == 0 then Sound else Damaged
 state_of (outcome.Refused refusal.Memory) = OutOfMemory
-state_of (outcome.Refused fault) = Refused
+state_of (outcome.Refused fault) = if may_be_valid fault then Unsupported else Refused
 state_of (outcome.Unread read.Memory) = OutOfMemory
 state_of (outcome.Unread error) = Unread
 state_of outcome.Skipped = Skipped

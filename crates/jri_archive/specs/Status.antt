@@ -1,9 +1,9 @@
 -- What becomes of files, how many are what, and exit statuses.
-use Rattle.std.specs.Prelude.{ℕ, Bool, ◌+◌, ◌-◌, ◌^◌, min, max, nat_lt, if◌then◌else◌}
+use Rattle.std.specs.Prelude.{ℕ, Bool, ◌+◌, ◌-◌, ◌^◌, min, nat_lt, if◌then◌else◌}
 use Rattle.jri_archive.specs.declared.answers.RequestError.{RequestError}
 use Rattle.jri_archive.specs.declared.answers.RequestError.TheVariants.{Help, Wrong, Memory}
 use Rattle.jri_archive.specs.declared.counts.FileState.{FileState}
-use Rattle.jri_archive.specs.declared.counts.FileState.TheVariants.{Sound, Damaged, Refused, Unread, OutOfMemory, Skipped}
+use Rattle.jri_archive.specs.declared.counts.FileState.TheVariants.{Sound, Damaged, Refused, Unsupported, Unread, OutOfMemory, Skipped}
 use Rattle.jri_archive.specs.declared.counts.FileCounts.{FileCounts}
 use Rattle.jri_archive.specs.declared.counts.CheckEnd.{CheckEnd}
 use Rattle.jri_archive.specs.declared.counts.CheckEnd.TheVariants.{AllTold, NamesUnread, Unwritten, Memory as NoMemory}
@@ -15,10 +15,10 @@ request_error_status (Wrong text) = 2
 request_error_status Memory = 4
 
 -- the same, where writing the help or the version may have failed
-abbrev pub answer_status : RequestError → Bool → ℕ
-answer_status (Help text) has_failed = if has_failed then 4 else 0
-answer_status (Wrong text) has_failed = 2
-answer_status Memory has_failed = 4
+abbrev pub request_status : RequestError → Bool → ℕ
+request_status (Help text) has_failed = if has_failed then 4 else 0
+request_status (Wrong text) has_failed = 2
+request_status Memory has_failed = 4
 
 -- one more, of a count of 64 bits
 abbrev pub one_more : ℕ → ℕ
@@ -28,27 +28,28 @@ abbrev pub counts_with : FileCounts → FileState → FileCounts
 counts_with c Sound = record c { sound = one_more c.sound }
 counts_with c Damaged = record c { damaged = one_more c.damaged }
 counts_with c Refused = record c { refused = one_more c.refused }
+counts_with c Unsupported = record c { unsupported = one_more c.unsupported }
 counts_with c Unread = record c { unread = one_more c.unread }
 counts_with c OutOfMemory = record c { out_of_memory = one_more c.out_of_memory }
 counts_with c Skipped = c
 
 abbrev pub files_in : FileCounts → ℕ
-files_in c = c.sound + (c.damaged + (c.refused + (c.unread + c.out_of_memory)))
+files_in c = c.sound + (c.damaged + (c.refused + (c.unsupported + (c.unread + c.out_of_memory))))
 
--- the status of an end by itself
-abbrev pub end_status : CheckEnd → ℕ
-end_status AllTold = 0
-end_status NamesUnread = 3
-end_status Unwritten = 4
-end_status NoMemory = 4
-
--- the status of files by themselves
+-- the status of files whose names and lines had no failure: the first that applies of 4, 3, 1, 5 and 0
 abbrev pub counts_status : FileCounts → ℕ
 counts_status c =
     if nat_lt 0 c.out_of_memory then 4 else
     if nat_lt 0 c.unread then 3 else
-    if nat_lt 0 (c.damaged + c.refused) then 1 else 0
+    if nat_lt 0 (c.damaged + c.refused) then 1 else
+    if nat_lt 0 c.unsupported then 5 else 0
 
--- the greater of both
-abbrev pub report_status : CheckReport → ℕ
-report_status r = max (end_status r.end) (counts_status r.counts)
+-- the same of an end and of files
+abbrev pub status_of : CheckEnd → FileCounts → ℕ
+status_of AllTold c = counts_status c
+status_of NamesUnread c = if nat_lt 0 c.out_of_memory then 4 else 3
+status_of Unwritten c = 4
+status_of NoMemory c = 4
+
+abbrev pub check_status : CheckReport → ℕ
+check_status r = status_of r.end r.counts

@@ -10,7 +10,7 @@ use Rattle.jri_archive.specs.declared.counts.CheckEnd.TheVariants.{AllTold, Name
 use Rattle.jri_archive.specs.declared.counts.CheckReport.{CheckReport}
 use Rattle.jri_archive.specs.declared.counts.FileCounts.{FileCounts}
 use Rattle.jri_archive.specs.declared.counts.FileState.{FileState}
-use Rattle.jri_archive.specs.declared.counts.FileState.TheVariants.{Sound, Damaged, Refused, Unread, OutOfMemory, Skipped}
+use Rattle.jri_archive.specs.declared.counts.FileState.TheVariants.{Sound, Damaged, Refused, Unsupported, Unread, OutOfMemory, Skipped}
 use Rattle.jri_archive.specs.declared.outcome.Outcome.{Outcome}
 use Rattle.jri_archive.specs.declared.outcome.Outcome.TheVariants as outcome
 use Rattle.jri_archive.specs.Outcomes.{IsOutcomeOf, state_of}
@@ -34,6 +34,7 @@ abbrev pub same_state : FileState → FileState → ℕ
 same_state Sound Sound = 1
 same_state Damaged Damaged = 1
 same_state Refused Refused = 1
+same_state Unsupported Unsupported = 1
 same_state Unread Unread = 1
 same_state OutOfMemory OutOfMemory = 1
 same_state Skipped Skipped = 1
@@ -48,6 +49,7 @@ pub record AreCounted (c : FileCounts) (states : List FileState) : Type 0 where
   pub sound : c.sound ≡ count_of Sound states
   pub damaged : c.damaged ≡ count_of Damaged states
   pub refused : c.refused ≡ count_of Refused states
+  pub unsupported : c.unsupported ≡ count_of Unsupported states
   pub unread : c.unread ≡ count_of Unread states
   pub out_of_memory : c.out_of_memory ≡ count_of OutOfMemory states
 

@@ -2,7 +2,7 @@
 
 ghost use Rattle.std.specs.Prelude.{◌≡◌};
 ghost use Rattle.jr_base.specs.Tally.{has_failed};
-ghost use Rattle.jri_archive.specs.Status.{answer_status};
+ghost use Rattle.jri_archive.specs.Status.{request_status};
 
 use crate::answers::RequestError;
 use jr_base::Tally;
@@ -26,7 +26,7 @@ fn write_text<W: Write, E: Write>(out: &mut Tally<W>, errors: &mut E, text: &str
 
 /// Writes what the words get instead of a check, and returns the exit status. Faults of standard error are ignored.
 pub fn answer<W: Write, E: Write>(out: &mut Tally<W>, errors: &mut E, unasked: &RequestError) -> u8
-    ensures { result ≡ answer_status unasked.now (has_failed out.new) }
+    ensures { result ≡ request_status unasked.now (has_failed out.new) }
 {
     let _ = match unasked {
         RequestError::Help(text) => {

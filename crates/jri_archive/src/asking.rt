@@ -83,12 +83,13 @@ fn with_file_words<'a>(alloc: Global, command: Command<'a>) -> Result<Command<'a
 
 /// The text of `--help` after the options.
 const AFTER_HELP: &str = "\
-Exit status, the highest that applies:
-  0  every file is sound
-  1  a file is damaged or refused
+Exit status, the first that applies:
   2  bad arguments
-  3  a file or the list cannot be read
   4  out of memory, or the output cannot be written
+  3  a file or the list cannot be read
+  1  a file is damaged or refused
+  5  a file is of a kind that is not supported
+  0  every file is sound
 The statuses 1 and 3 of jri mean other things.";
 
 /// The program, without its words.

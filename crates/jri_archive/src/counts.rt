@@ -1,7 +1,7 @@
 //! How many files are what, and the exit status.
 
 ghost use Rattle.std.specs.Prelude.{◌≡◌};
-ghost use Rattle.jri_archive.specs.Status.{counts_with, files_in, report_status};
+ghost use Rattle.jri_archive.specs.Status.{counts_with, files_in, check_status};
 
 /// What became of a file.
 #[derive(Clone, Copy, PartialEq, Eq)]
@@ -10,8 +10,10 @@ pub enum FileState {
     Sound,
     /// Some are.
     Damaged,
-    /// It has no head that is decoded.
+    /// It has no head that is decoded, and is damaged or no JPEG file.
     Refused,
+    /// It has no head that is decoded, and may be a valid JPEG file.
+    Unsupported,
     /// It cannot be read.
     Unread,
     /// Memory ran out; nothing is known of it.
@@ -26,6 +28,7 @@ pub struct FileCounts {
     pub sound: u64,
     pub damaged: u64,
     pub refused: u64,
+    pub unsupported: u64,
     pub unread: u64,
     pub out_of_memory: u64,
 }
@@ -39,6 +42,7 @@ impl FileCounts {
             sound: 0,
             damaged: 0,
             refused: 0,
+            unsupported: 0,
             unread: 0,
             out_of_memory: 0,
         }
@@ -53,6 +57,7 @@ impl FileCounts {
             FileState::Sound => counts.sound = counts.sound.saturating_add(1),
             FileState::Damaged => counts.damaged = counts.damaged.saturating_add(1),
             FileState::Refused => counts.refused = counts.refused.saturating_add(1),
+            FileState::Unsupported => counts.unsupported = counts.unsupported.saturating_add(1),
             FileState::Unread => counts.unread = counts.unread.saturating_add(1),
             FileState::OutOfMemory => {
                 counts.out_of_memory = counts.out_of_memory.saturating_add(1);
@@ -85,10 +90,10 @@ pub struct CheckReport {
 }
 
 impl CheckReport {
-    /// The exit status, the greatest that fits: 0 where each file is sound, 1 where some are damaged or refused, 3 where some, or
-    /// some names, could not be read, 4 where memory or the output failed.
+    /// Returns the exit status, the first that applies: 4 if memory or the output failed, 3 if a file, or a name, could not be read,
+    /// 1 if a file is damaged or refused, 5 if one is unsupported, 0 if each file is sound.
     pub fn status(&self) -> u8
-        ensures { result ≡ report_status self.now }
+        ensures { result ≡ check_status self.now }
     {
         let counts = &self.counts;
         if matches!(self.end, CheckEnd::Unwritten | CheckEnd::Memory) || counts.out_of_memory > 0 {
@@ -99,6 +104,9 @@ impl CheckReport {
         }
         if counts.damaged > 0 || counts.refused > 0 {
             return 1;
+        }
+        if counts.unsupported > 0 {
+            return 5;
         }
         0
     }

@@ -4,6 +4,7 @@ use crate::checking::Checked;
 use crate::counts::FileCounts;
 use crate::outcome::Outcome;
 use crate::telling::put_end;
+use crate::unsupported::{refused_word, write_reason};
 use jr_damage::{CodedSpan, DamagedInterval, Lines, McuRange};
 use jr_head::Refusal;
 use jr_scan::ScanEnd;
@@ -64,6 +65,29 @@ fn put_checked(line: &mut String, checked: &Checked) -> Result<(), AllocError> {
     put_scan_end(line, checked.scan.ended())
 }
 
+/// Returns the offset or the marker's code that a refusal names.
+fn detail_of(refusal: &Refusal) -> Option<u64> {
+    match refusal {
+        Refusal::ExpectedMarker(at) => Some(*at),
+        Refusal::UnexpectedMarker(code) | Refusal::NotBaseline(code) | Refusal::BadLength(code) => {
+            Some(u64::from(*code))
+        }
+        _ => None,
+    }
+}
+
+/// Writes why a file is refused.
+fn write_refusal(line: &mut String, refusal: &Refusal) -> Result<(), AllocError> {
+    let (word, number) = (refused_word(refusal), refusal.number());
+    write!(line, ",\"is\":\"{word}\",\"refusal\":{number}")?;
+    if let Some(detail) = detail_of(refusal) {
+        write!(line, ",\"detail\":{detail}")?;
+    }
+    line.push_str(",\"why\":\"")?;
+    write_reason(line, refusal)?;
+    line.push_str("\"")
+}
+
 /// Puts what became of a file.
 fn put_outcome(line: &mut String, outcome: &Outcome) -> Result<(), AllocError> {
     match outcome {
@@ -71,11 +95,7 @@ fn put_outcome(line: &mut String, outcome: &Outcome) -> Result<(), AllocError> {
         Outcome::Refused(Refusal::Memory) | Outcome::Unread(ReadError::Memory) => {
             line.push_str(",\"is\":\"out of memory\"")
         }
-        Outcome::Refused(refusal) => write!(
-            line,
-            ",\"is\":\"refused\",\"refusal\":{},\"why\":\"{refusal}\"",
-            refusal.number()
-        ),
+        Outcome::Refused(refusal) => write_refusal(line, refusal),
         Outcome::Skipped => write!(
             line,
             ",\"is\":\"skipped\",\"why\":\"{}\"",
@@ -85,7 +105,7 @@ fn put_outcome(line: &mut String, outcome: &Outcome) -> Result<(), AllocError> {
     }
 }
 
-/// Appends the object of a file, with the line's end: `is` is `sound`, `damaged`, `refused`, `unread`, `skipped` or
+/// Appends the object of a file, with the line's end: `is` is `sound`, `damaged`, `refused`, `unsupported`, `unread`, `skipped` or
 /// `out of memory`.
 pub fn tell_object(line: &mut String, name: &[u8], outcome: &Outcome) -> Result<(), AllocError> {
     put_file(line, name)?;
@@ -114,11 +134,12 @@ pub fn tell_counts_object(line: &mut String, counts: FileCounts) -> Result<(), A
         sound,
         damaged,
         refused,
+        unsupported,
         unread,
         out_of_memory,
     } = counts;
     writeln!(
         line,
-        "{{\"sound\":{sound},\"damaged\":{damaged},\"refused\":{refused},\"unread\":{unread},\"out_of_memory\":{out_of_memory}}}"
+        "{{\"sound\":{sound},\"damaged\":{damaged},\"refused\":{refused},\"unsupported\":{unsupported},\"unread\":{unread},\"out_of_memory\":{out_of_memory}}}"
     )
 }

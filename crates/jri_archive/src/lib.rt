@@ -12,6 +12,7 @@ mod one_check;
 mod outcome;
 mod sharing;
 mod telling;
+mod unsupported;
 
 pub use answering::answer;
 pub use answers::{CheckRequest, LineForm, RequestError};
@@ -23,3 +24,4 @@ pub use json::{tell_counts_object, tell_interval_object, tell_object};
 pub use outcome::{Outcome, outcome_in_place, outcome_of};
 pub use sharing::check_all;
 pub use telling::{tell, tell_counts, tell_map, write_counts_line};
+pub use unsupported::is_unsupported;

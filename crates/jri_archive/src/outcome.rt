@@ -6,6 +6,7 @@ ghost use Rattle.jri_archive.specs.Outcomes.{IsOutcomeOf, state_of};
 
 use crate::checking::{Checked, check_file, check_file_in_place};
 use crate::counts::FileState;
+use crate::unsupported::is_unsupported;
 use jr_head::Refusal;
 use jri_names::ReadError;
 use std::alloc::Global;
@@ -73,6 +74,7 @@ impl Outcome {
             Outcome::Checked(_) => FileState::Damaged,
             Outcome::Refused(Refusal::Memory) | Outcome::Unread(ReadError::Memory) =>
                 FileState::OutOfMemory,
+            Outcome::Refused(refusal) if is_unsupported(refusal) => FileState::Unsupported,
             Outcome::Refused(_) => FileState::Refused,
             Outcome::Skipped => FileState::Skipped,
             Outcome::Unread(_) => FileState::Unread,

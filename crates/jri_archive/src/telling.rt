@@ -3,6 +3,7 @@
 use crate::checking::Checked;
 use crate::counts::FileCounts;
 use crate::outcome::Outcome;
+use crate::unsupported::{refused_word, write_reason};
 use jr_damage::{CodedSpan, DamagedInterval, Lines, McuRange};
 use jr_head::Refusal;
 use jr_scan::ScanEnd;
@@ -99,7 +100,10 @@ fn put_outcome(line: &mut String, outcome: &Outcome) -> Result<(), AllocError> {
         Outcome::Refused(Refusal::Memory) | Outcome::Unread(ReadError::Memory) => {
             line.push_str("out of memory")
         }
-        Outcome::Refused(refusal) => write!(line, "refused {}: {refusal}", refusal.number()),
+        Outcome::Refused(refusal) => {
+            write!(line, "{} {}: ", refused_word(refusal), refusal.number())?;
+            write_reason(line, refusal)
+        }
         Outcome::Skipped => write!(line, "skipped: {}", ReadError::NameIsNoText.text()),
         Outcome::Unread(error) => write!(line, "cannot be read: {}", error.text()),
     }
@@ -151,6 +155,7 @@ impl Display for FileCounts {
         let others = [
             (self.damaged, "damaged"),
             (self.refused, "refused"),
+            (self.unsupported, "unsupported"),
             (self.unread, "cannot be read"),
             (self.out_of_memory, "out of memory"),
         ];
@@ -168,7 +173,7 @@ pub fn tell_counts(line: &mut String, counts: FileCounts) -> Result<(), AllocErr
     writeln!(line, "{counts}")
 }
 
-/// The size of the longest line of counts, rounded up: five numbers of 20 digits and 50 letters.
+/// The size of the longest line of counts, rounded up: six numbers of 20 digits and 80 letters.
 const COUNTS_SIZE: usize = 256;
 
 /// Writes the line of the counts by one write. It allocates nothing, since memory may have run out.

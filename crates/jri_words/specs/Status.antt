@@ -9,7 +9,7 @@ unasked_status (Wrong text) = 2
 unasked_status Memory = 1
 
 -- the same, where writing the help or the version may have failed
-abbrev pub unasked_status : Unasked → Bool → ℕ
-unasked_status (Help text) has_failed = if has_failed then 1 else 0
-unasked_status (Wrong text) has_failed = 2
-unasked_status Memory has_failed = 1
+abbrev pub answered_status : Unasked → Bool → ℕ
+answered_status (Help text) has_failed = if has_failed then 1 else 0
+answered_status (Wrong text) has_failed = 2
+answered_status Memory has_failed = 1

@@ -3,7 +3,7 @@
 ghost use Rattle.std.specs.Prelude.{◌≡◌, ◌≤◌, IfOk};
 ghost use Rattle.jr_base.specs.declared.limits.TheConstants.{MAX_WORKERS};
 ghost use Rattle.jr_base.specs.Tally.{has_failed};
-ghost use Rattle.jri_words.specs.Status.{unasked_status};
+ghost use Rattle.jri_words.specs.Status.{answered_status};
 
 use crate::answers::{Asked, Target, Unasked};
 use crate::asking::asked;
@@ -133,7 +133,7 @@ fn write_text<W: Write, E: Write>(out: &mut Tally<W>, errors: &mut E, text: &str
 
 /// Writes what the words get instead of a picture, and returns the exit status. Faults of standard error are ignored.
 pub fn answer<W: Write, E: Write>(out: &mut Tally<W>, errors: &mut E, unasked: &Unasked) -> u8
-    ensures { result ≡ unasked_status unasked.now (has_failed out.new) }
+    ensures { result ≡ answered_status unasked.now (has_failed out.new) }
 {
     let _ = match unasked {
         Unasked::Help(text) => {
