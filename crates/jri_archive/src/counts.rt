@@ -90,8 +90,9 @@ pub struct CheckReport {
 }
 
 impl CheckReport {
-    /// Returns the exit status, the first that applies: 4 if memory or the output failed, 3 if a file, or a name, could not be read,
-    /// 1 if a file is damaged or refused, 5 if one is unsupported, 0 if each file is sound.
+    /// Returns the exit status, the first that applies: 4 if memory or the output failed, 3 if a
+    /// file, or a name, could not be read, 1 if a file is damaged or refused, 5 if one is
+    /// unsupported, 0 if each file is sound.
     pub fn status(&self) -> u8
         ensures { result ≡ check_status self.now }
     {

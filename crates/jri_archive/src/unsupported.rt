@@ -13,8 +13,8 @@ const DAC: u8 = 0xCC;
 /// Define hierarchical progression (T.81, B.3.2).
 const DHP: u8 = 0xDE;
 
-/// Returns whether a valid file may have this refusal, since it is of a kind that is not decoded. Damage to a frame or scan header can
-/// have the same refusal.
+/// Returns whether a valid file may have this refusal, since it is of a kind that is not decoded.
+/// Damage to a frame or scan header can have the same refusal.
 pub fn is_unsupported(refusal: &Refusal) -> bool
     ensures { result ≡ may_be_valid refusal.now }
 {
