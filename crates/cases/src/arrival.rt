@@ -7,8 +7,7 @@ use crate::failure::Failure;
 use crate::runs::compare_outcome;
 use crate::scans::report_of;
 use jr_arrival::{Arriving, Finished};
-use jr_rows::shape_of;
-use jr_stream::paint_scan_lines;
+use jr_rows::{paint_scan_lines, shape_of};
 use jri_engine::{Fault, Report};
 use std::alloc::Global;
 

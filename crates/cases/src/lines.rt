@@ -5,8 +5,7 @@ use crate::case::Case;
 use crate::differences::{compare_bytes, compare_texts};
 use crate::failure::Failure;
 use crate::texts::map_lines;
-use jri_damages::{Damage, DamageReport, list_damages};
-use jri_memory::{decode_canvas, decode_lines};
+use jri_memory::{Damage, DamageReport, decode_canvas, decode_lines, list_damages};
 use std::alloc::{AllocError, Global};
 
 /// The number of lines that are decoded at once.

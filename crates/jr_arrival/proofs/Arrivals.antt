@@ -9,7 +9,7 @@ use Rattle.jr_head.specs.Heads.{HeadOf, RefusalOf}
 use Rattle.jr_paint.specs.Lines.{line_size}
 use Rattle.jr_scan.specs.GrowingScan.{HasCome}
 use Rattle.jr_scan.specs.ScanValue.{ScanValue}
-use Rattle.jr_settled.proofs.LinesOfPictures.{of_picture}
+use Rattle.jr_arrival.proofs.LinesOfPictures.{of_picture}
 use Rattle.jr_arrival.specs.Growing.{HasScan}
 use Rattle.jr_arrival.specs.Arriving.{ComingValue, GivesComing, HasBegun, HoldsBytes, given_of}
 use Rattle.jr_arrival.specs.Coming.{AreComing}

@@ -26,8 +26,8 @@ use Rattle.jr_picture.proofs.BoardPictures.{block_there}
 use Rattle.jr_picture.proofs.Pictures.{line_same, same_mark, same_shown}
 use Rattle.jr_rows.specs.Rows.{first_line, line_count}
 use Rattle.jr_rows.proofs.PictureLines.{row_of}
-use Rattle.jr_settled.specs.More.{with_more}
-use Rattle.jr_settled.proofs.MoreData.{front_is_final}
+use Rattle.jr_arrival.specs.More.{with_more}
+use Rattle.jr_arrival.proofs.MoreData.{front_is_final}
 use Rattle.jr_arrival.specs.Arrival.{CanBecome}
 use Rattle.jr_arrival.specs.Growing.{HasScan, HasEndedAt, KeepsScan, IsSettled, RowIsSettled, lines_of_row}
 use Rattle.jr_arrival.proofs.ScansGoOn.{interval_is, scan_is_final}

@@ -22,7 +22,7 @@ use Rattle.jr_piece.proofs.StripRuns as runs
 use Rattle.jr_rows.specs.Rows.{CountsMarks, CountsRows, coded_before, intervals_before}
 use Rattle.jr_rows.specs.declared.marked.Marked.{Marked}
 use Rattle.jr_rows.proofs.ReadRows.{counts_both, counts_one}
-use Rattle.jr_stream.proofs.Countings.{all_last, none_first}
+use Rattle.jr_rows.proofs.Countings.{all_last, none_first}
 
 pub tells : (i : IntervalValue) (t : Bool) → (t ≡ true → HasDecoding i) → (t ≡ false → HasNoDecoding i) → TellsSound t i
 tells i true sound damaged = sound refl

@@ -4,8 +4,8 @@ use Rattle.std.specs.Prelude.{ℤ}
 use Rattle.jr_scan.specs.declared.place.Place.{Place}
 use Rattle.jr_scan.specs.declared.place.RunEnd.TheVariants.{NoMcu}
 use Rattle.jr_scan.specs.Run.{RunOf, IsRun}
-use Rattle.jr_settled.specs.More.{run_with_more}
-use Rattle.jr_settled.proofs.MoreData.{run_more}
+use Rattle.jr_arrival.specs.More.{run_with_more}
+use Rattle.jr_arrival.proofs.MoreData.{run_more}
 use Rattle.jr_arrival.specs.Growing.{IsStuck}
 
 pub stuck_is_final : (r : RunOf) (more : List ℕ) (zs : List (List ℤ)) (to : Place) → r.from.bit ≤ 8 * length r.interval.bytes → IsRun r zs to NoMcu → IsStuck r.interval to → IsRun (run_with_more r more) zs to NoMcu

@@ -10,7 +10,7 @@ use Rattle.jr_cut.specs.declared.scan_end.ScanEnd.TheVariants.{EndOfFile}
 use Rattle.jr_cut.specs.Cut.{IsCut, Cutting}
 use Rattle.jr_scan.specs.IntervalValue.{IntervalValue}
 use Rattle.jr_scan.specs.ScanValue.{ScanValue, IsScanOf, interval_of, intervals_of, mcus_in}
-use Rattle.jr_settled.proofs.ScanIntervals.{count_is, none_in}
+use Rattle.jr_arrival.proofs.ScanIntervals.{count_is, none_in}
 use Rattle.jr_arrival.specs.Arrival.{CanBecome}
 use Rattle.jr_arrival.specs.Growing.{GrowsTo, HasEndedAt, HasScan, KeepsScan}
 use Rattle.jr_arrival.proofs.HeadsStay.{head_is_final}

@@ -12,7 +12,7 @@ use Rattle.jr_scan.specs.Run.{HasNoMcu}
 use Rattle.jr_scan.specs.Mcus.{Front}
 use Rattle.jr_paint.specs.Lines.{next_lines_of}
 use Rattle.jr_rows.specs.Rows.{first_line, line_count}
-use Rattle.jr_settled.specs.More.{with_more}
+use Rattle.jr_arrival.specs.More.{with_more}
 
 -- of the segments that bytes are cut into, all but the last are kept by more bytes; the last one's data may go on, and others follow
 pub record GrowsTo (datas longer : List (List ℕ)) : Type 0 where

@@ -1,5 +1,10 @@
 pub mod Arrival
-pub mod Growing
-pub mod Settled
-pub mod Coming
 pub mod Arriving
+pub mod Coming
+pub mod Cursors
+pub mod Growing
+pub mod Meaning
+pub mod More
+pub mod Places
+pub mod Settled
+pub mod Shown

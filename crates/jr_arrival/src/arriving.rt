@@ -4,7 +4,7 @@ ghost use Rattle.std.specs.Prelude.{◌≡◌, ◌≢◌, ◌+◌, ◌-◌, ◌*
 ghost use Rattle.jr_base.specs.declared.limits.TheConstants.{MAX_FILE_BYTES};
 ghost use Rattle.jr_head.specs.Heads.{HeadOf, RefusalOf};
 ghost use Rattle.jr_segments.specs.declared.refusal.Refusal.TheVariants as refusal;
-ghost use Rattle.jr_stream.specs.Stream.{HasCounts};
+ghost use Rattle.jr_rows.specs.Stream.{HasCounts};
 ghost use Rattle.jr_arrival.specs.Arrival.{IsFinalFault};
 ghost use Rattle.jr_arrival.specs.Arriving.{GivesComing, HasBegun, HoldsBytes, IsArriving, given_of};
 ghost use Rattle.jr_arrival.specs.Growing.{HasScan};

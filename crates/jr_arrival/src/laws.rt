@@ -15,7 +15,7 @@ ghost use Rattle.jr_scan.specs.Mcus.{Front};
 ghost use Rattle.jr_scan.specs.Run.{RunOf, IsRun};
 ghost use Rattle.jr_picture.specs.declared.mark.Mark.{Mark};
 ghost use Rattle.jr_picture.specs.Headline.{ShowsFirst, mark_in};
-ghost use Rattle.jr_settled.specs.More.{run_with_more, with_more};
+ghost use Rattle.jr_arrival.specs.More.{run_with_more, with_more};
 ghost use Rattle.jr_arrival.specs.Arrival.{CanBecome, IsFinalFault};
 ghost use Rattle.jr_arrival.specs.Growing.{GrowsTo, HasScan, HasEndedAt, KeepsScan, IsStuck, RowIsSettled, lines_of_row};
 

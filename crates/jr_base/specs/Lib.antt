@@ -1,2 +1,4 @@
+pub mod Blocks
 pub mod Numbers
 pub mod Tally
+pub mod Zigzag

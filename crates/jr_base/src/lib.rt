@@ -1,13 +1,20 @@
-//! What the crates of jri share: want of memory, limits, the codes of markers, and readers and writers that note whether
-//! they failed.
+//! What the crates of jri share: out of memory, limits, the codes of markers, readers and writers that note whether they
+//! failed, and the coefficients and quantisers of data units (T.81, A.3.3, A.3.4).
 #![tactic(auto)]
 
+mod coefficients;
 pub mod limits;
 pub mod marker;
 mod memory;
+mod quantisers;
 mod tally;
+mod version;
 mod writing;
+mod zigzag;
 
+pub use coefficients::Coefficients;
 pub use memory::Memory;
+pub use quantisers::{MOST_PRODUCT, Quantisers};
 pub use tally::Tally;
+pub use version::VERSION;
 pub use writing::{WriteFault, write_all};

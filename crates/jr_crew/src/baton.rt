@@ -4,11 +4,10 @@ ghost use Rattle.std.specs.Prelude.{◌≡◌, Some};
 ghost use Rattle.jr_scan.specs.Guesses.{AreGuessesOf};
 ghost use Rattle.jr_scan.specs.ScanValue.{interval_of};
 
-use jr_bench::{Bench, CodedRow, OneFirstIntervals, PaintRoom, Painted, WorkBench};
+use crate::{Bench, CodedRow, OneFirstIntervals, PaintRoom, Painted, WorkBench};
 use jr_picture::Gate;
-use jr_rows::{FirstIntervals, Rows, intervals_of_row, shape_of};
+use jr_rows::{FirstIntervals, Rows, announce, intervals_of_row, shape_of};
 use jr_scan::Guesses;
-use jr_stream::announce;
 use std::marker::{Model, PhantomData};
 
 /// The reader of a scan's rows from one of them on, that one thread holds at a time.

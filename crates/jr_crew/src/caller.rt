@@ -3,10 +3,9 @@
 ghost use Rattle.std.specs.Prelude.{◌≡◌};
 
 use crate::crew::{Crew, MOST_TASKS};
-use jr_bench::{OneFirstIntervals, PaintRoom};
+use crate::{OneFirstIntervals, PaintRoom};
 use jr_picture::Gate;
-use jr_rows::{Marked, shape_of};
-use jr_stream::RowPainter;
+use jr_rows::{Marked, RowPainter, shape_of};
 use std::marker::Model;
 use std::sync::Wait;
 

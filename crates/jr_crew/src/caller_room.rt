@@ -1,6 +1,6 @@
 //! Memory that the calling thread works by.
 
-use jr_bench::{OneFirstIntervals, PaintRoom};
+use crate::{OneFirstIntervals, PaintRoom};
 
 /// Memory that the calling thread decodes, paints and writes rows by.
 #[derive(Drop)]

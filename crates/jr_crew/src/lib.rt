@@ -1,10 +1,15 @@
-//! A scan's picture, decoded and painted by several threads, and written in one pass.
+//! A scan's picture, decoded and painted by several threads, and written in one pass; and the memory for a row of MCUs that threads
+//! hand on: empty, read, or painted.
 #![tactic(auto)]
 
 mod baton;
+mod bench;
 mod caller;
 mod caller_room;
 mod crew;
+mod one_first_intervals;
+mod paint_room;
+mod row;
 mod row_queue;
 mod scan_of;
 mod sending;

@@ -5,7 +5,7 @@ ghost use Rattle.jr_crew.specs.Crew.{HasRow};
 
 use crate::baton::Baton;
 use crate::scan_of::ScanOf;
-use jr_bench::{Bench, CodedRow, OneFirstIntervals, Painted};
+use crate::{Bench, CodedRow, OneFirstIntervals, Painted};
 use jr_guesses::{GuessQueue, GuessTask, ScanGuess};
 use jr_rows::{FirstIntervals, intervals_of_row};
 use std::collections::VecDeque;

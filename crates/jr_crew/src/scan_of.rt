@@ -2,7 +2,7 @@
 
 ghost use Rattle.jr_crew.specs.Crew.{scan_of};
 
-use jr_bench::OneFirstIntervals;
+use crate::OneFirstIntervals;
 use jr_guesses::OneScan;
 use std::marker::PhantomData;
 

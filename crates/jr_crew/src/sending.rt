@@ -5,17 +5,16 @@ ghost use Rattle.jr_base.specs.Tally.{has_failed};
 ghost use Rattle.jr_head.specs.Geometry.{vertical_max};
 ghost use Rattle.jr_paint.specs.Lines.{line_size};
 ghost use Rattle.jr_paint.specs.declared.header.TheConstants.{HEADER_ROOM};
-ghost use Rattle.jr_stream.specs.Stream.{IsSentBy};
+ghost use Rattle.jr_rows.specs.Stream.{IsSentBy};
 
+use crate::OneFirstIntervals;
 use crate::caller::Caller;
 use crate::caller_room::CallerRoom;
 use crate::crew::Crew;
 use jr_base::{Tally, WriteFault};
-use jr_bench::OneFirstIntervals;
 use jr_guesses::{Beside, Help};
 use jr_picture::Gate;
-use jr_rows::Marked;
-use jr_stream::write_rows;
+use jr_rows::{Marked, write_rows};
 use std::io::Write;
 use std::sync::Wait;
 

@@ -4,20 +4,19 @@ ghost use Rattle.std.specs.Prelude.{◌≡◌, ◌<◌, ◌≤◌, Some, IfOk, I
 ghost use Rattle.jr_base.specs.Tally.{has_failed};
 ghost use Rattle.jr_base.specs.declared.limits.TheConstants.{MAX_WORKERS};
 ghost use Rattle.jr_picture.specs.Headline.{least};
-ghost use Rattle.jr_stream.specs.Stream.{WritesPicture, BeginsPicture, IsSentBy};
+ghost use Rattle.jr_rows.specs.Stream.{WritesPicture, BeginsPicture, IsSentBy};
 
 use crate::baton::Baton;
 use crate::crew::{BENCHES_OF_ONE, Crew};
 use crate::row_queue::RowQueue;
 use crate::scan_of::ScanOf;
 use crate::sending::{Helping, Sending};
+use crate::{OneFirstIntervals, Painted};
 use jr_base::{Memory, Tally, WriteFault};
-use jr_bench::{OneFirstIntervals, Painted};
 use jr_guesses::{GuessQueue, run_beside, windows_of};
 use jr_picture::{Counts, Gate};
-use jr_rows::{FirstIntervals, Marked, intervals_of_row, shape_of};
+use jr_rows::{FirstIntervals, Marked, PictureError, counts_of, intervals_of_row, shape_of};
 use jr_scan::Scan;
-use jr_stream::{PictureError, counts_of};
 use std::alloc::Global;
 use std::collections::VecDeque;
 use std::io::Write;

@@ -1,7 +1,7 @@
 -- Two passes in lanes, with rows and columns exchanged between them.
 use Rattle.std.proofs.Common.{◌≡◌, ℕ, ◌+◌, ◌*◌, ◌/◌, ◌%◌, ◌^◌, ◌<◌, pos, ◌+ℤ◌, ℤ, List, arith, ap, sym, ◌∙◌}
 use Rattle.std.proofs.lemmas.Int.{ints}
-use Rattle.jr_block.specs.declared.quantisers.TheConstants.{MOST_PRODUCT}
+use Rattle.jr_base.specs.declared.quantisers.TheConstants.{MOST_PRODUCT}
 use Rattle.jr_idct.specs.Lanes.{lane, IsShort}
 use Rattle.jr_idct.specs.Matrix.{floor_div, pass, row_sum, IsWithin}
 use Rattle.jr_idct.specs.Transform.{column_pass}

@@ -5,10 +5,10 @@ use Rattle.std.proofs.lemmas.Int.{ints, unsigned_abs-mul}
 use Rattle.std.proofs.lemmas.List.{get_or-map, get_or-replicate}
 use Rattle.std.proofs.lemmas.Nat.{mul-le}
 use Rattle.std.specs.Prelude.{slice_index, unsigned_abs}
-use Rattle.jr_block.specs.Blocks.{AreFactors, AreLimits}
-use Rattle.jr_block.specs.declared.quantisers.TheConstants.{MOST_PRODUCT}
-use Rattle.jr_block.specs.Zigzag.{natural_index, places, zigzag_place}
-use Rattle.jr_block.proofs.Orders.{place_of_natural, natural_below}
+use Rattle.jr_base.specs.Blocks.{AreFactors, AreLimits}
+use Rattle.jr_base.specs.declared.quantisers.TheConstants.{MOST_PRODUCT}
+use Rattle.jr_base.specs.Zigzag.{natural_index, places, zigzag_place}
+use Rattle.jr_base.proofs.Orders.{place_of_natural, natural_below}
 use Rattle.jr_idct.specs.Matrix.{at, IsWithin}
 use Rattle.jr_idct.proofs.Tables.{zigzag_place_0}
 

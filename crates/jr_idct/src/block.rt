@@ -2,7 +2,7 @@
 
 ghost use Rattle.std.specs.Prelude.{◌≡◌, ℕ, ◌+◌, ◌*◌, ◌<◌, pos, slice_index};
 ghost use Rattle.std.proofs.Math.IntN.{◌*ℤ◌};
-ghost use Rattle.jr_block.specs.declared.quantisers.TheConstants.{MOST_PRODUCT};
+ghost use Rattle.jr_base.specs.declared.quantisers.TheConstants.{MOST_PRODUCT};
 ghost use Rattle.jr_idct.specs.Matrix.{at, IsWithin};
 ghost use Rattle.jr_idct.specs.Transform.{product_at, sample, samples};
 
@@ -11,7 +11,7 @@ use crate::matrix::dequantised;
 use crate::pair::pair_samples;
 use crate::small::{is_flat, is_small};
 use crate::wide::wide_samples;
-use jr_block::{Coefficients, Quantisers};
+use jr_base::{Coefficients, Quantisers};
 
 /// The 64 samples of a block: dequantised, put in natural order, transformed and shifted (T.81, A.3.1,
 /// A.3.3, A.3.4 and A.3.6).

@@ -5,7 +5,7 @@ ghost use Rattle.jr_idct.specs.Matrix.{at, floor_div, IsWithin};
 ghost use Rattle.jr_idct.specs.Transform.{byte_of, samples};
 
 use crate::number::clamped;
-use jr_block::{Coefficients, Quantisers};
+use jr_base::{Coefficients, Quantisers};
 
 /// The samples of a block that is only its first coefficient, given its product: all are equal.
 #[inline(always)]

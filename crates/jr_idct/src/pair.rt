@@ -2,7 +2,7 @@
 
 ghost use Rattle.std.specs.Prelude.{◌≡◌, ℕ, ℤ, ◌+◌, ◌*◌, ◌/◌, ◌%◌, ◌<◌, pos, ◌+ℤ◌, slice_index, slice_index_or, cond, [], ◌∷◌};
 ghost use Rattle.std.proofs.Math.IntN.{◌*ℤ◌};
-ghost use Rattle.jr_block.specs.declared.quantisers.TheConstants.{MOST_PRODUCT};
+ghost use Rattle.jr_base.specs.declared.quantisers.TheConstants.{MOST_PRODUCT};
 ghost use Rattle.jr_idct.specs.Lanes.{lane};
 ghost use Rattle.jr_idct.specs.Matrix.{at, pass, IsWithin};
 ghost use Rattle.jr_idct.specs.Transform.{byte_of, column_pass, sample_of};

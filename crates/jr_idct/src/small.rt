@@ -1,11 +1,11 @@
 //! Which blocks have small coefficients.
 
 ghost use Rattle.std.specs.Prelude.{◌≡◌, ◌<◌, ◌≤◌, ℕ, pos, slice_index, unsigned_abs, IsTrue, ◌↔◌};
-ghost use Rattle.jr_block.specs.declared.quantisers.TheConstants.{MOST_PRODUCT};
+ghost use Rattle.jr_base.specs.declared.quantisers.TheConstants.{MOST_PRODUCT};
 ghost use Rattle.jr_idct.specs.Matrix.{at, IsWithin};
 ghost use Rattle.jr_idct.specs.Transform.{product_at};
 
-use jr_block::{Coefficients, Quantisers};
+use jr_base::{Coefficients, Quantisers};
 
 /// Whether a coefficient is at most as large as a limit.
 #[inline(always)]

@@ -10,7 +10,7 @@ ghost use Rattle.jr_piece.specs.Strips.{AreOf, TellsEnd, shared_strips};
 use crate::gathered::Gathered;
 use crate::reading::{End, Next, Reading};
 use crate::waiting_strip::WaitingStrip;
-use jr_block::Coefficients;
+use jr_base::Coefficients;
 use jr_code::Memory;
 use jr_guesses::{GuessQueue, GuessTask, OneScan, ScanGuess};
 use jr_piece::Strip;

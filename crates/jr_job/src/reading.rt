@@ -7,7 +7,7 @@ ghost use Rattle.jr_scan.specs.Guesses.{AreGuessesOf};
 ghost use Rattle.jr_job.specs.Sharing.{IsOneOf, IsNextOf, interval_of_strip, HasItsGuesses};
 
 use crate::waiting_strip::WaitingStrip;
-use jr_block::Coefficients;
+use jr_base::Coefficients;
 use jr_code::Memory;
 use jr_guesses::OneScan;
 use jr_piece::StripReader;

@@ -3,7 +3,7 @@
 ghost use Rattle.std.specs.Prelude.{◌≡◌, IfOk};
 ghost use Rattle.jr_job.specs.Sharing.{interval_of_strip, HasItsGuesses};
 
-use jr_block::Coefficients;
+use jr_base::Coefficients;
 use jr_code::Memory;
 use jr_piece::{CodedStrip, PlacedStrip, Strip};
 use jr_scan::Guesses;

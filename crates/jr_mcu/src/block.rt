@@ -3,7 +3,7 @@
 ghost use Rattle.std.specs.Prelude.{◌≡◌, ℕ, ◌<◌, ◌≤◌, ◌^◌, ℤ, pos, negsuc, ◌≤ℤ◌, ◌∷◌, ◌↔◌, ◌⊎◌, List, length, slice_set, IsSome, IfSome, IfNone};
 ghost use Rattle.jr_mcu.specs.Step.{TakesDifference, HasNoDifference, TakesOthers, HasNoOthers, TakesCoded, HasNoCoded};
 
-use jr_block::Coefficients;
+use jr_base::Coefficients;
 use jr_code::{Bits, CodeBook, WordBook};
 
 /// Takes the first coefficient's difference to its prediction (T.81, F.1.2.1).

@@ -5,7 +5,7 @@ ghost use Rattle.jr_mcu.specs.Block.{IsInDcRange};
 ghost use Rattle.jr_mcu.specs.Step.{TakesBlock, HasNoBlock};
 
 use crate::predicting::{read_predicted, skip_predicted};
-use jr_block::Coefficients;
+use jr_base::Coefficients;
 use jr_code::{Bits, CodeBook, WordBook};
 
 /// What becomes of the blocks of an MCU, one after the other.

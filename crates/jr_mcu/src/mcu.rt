@@ -7,7 +7,7 @@ ghost use Rattle.jr_mcu.specs.Block.{IsInDcRange};
 ghost use Rattle.jr_mcu.specs.Mcus.{predicted, TakesMcu, BeginsNoMcu};
 
 use crate::block_sink::{BlockSink, Kept, PassedOver};
-use jr_block::Coefficients;
+use jr_base::Coefficients;
 use jr_code::Bits;
 use jr_head::Head;
 

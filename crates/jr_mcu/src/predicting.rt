@@ -5,7 +5,7 @@ ghost use Rattle.jr_mcu.specs.Block.{IsInDcRange};
 ghost use Rattle.jr_mcu.specs.Step.{TakesBlock, HasNoBlock};
 
 use crate::block::{read_block, skip_block};
-use jr_block::Coefficients;
+use jr_base::Coefficients;
 use jr_code::{Bits, CodeBook, WordBook};
 
 /// What a prediction and a difference make a first coefficient, where sixteen bits hold it.

@@ -8,7 +8,7 @@ ghost use Rattle.jr_mcu.specs.Mcus.{no_predictions, predicted, TakesMcu};
 ghost use Rattle.jr_mcu.specs.Shift.{AreGreater, IsShifted, AreShifted, IsSmall, HaveSmallFirst};
 
 use crate::mcu::read_mcu;
-use jr_block::Coefficients;
+use jr_base::Coefficients;
 use jr_code::Bits;
 use jr_head::Head;
 

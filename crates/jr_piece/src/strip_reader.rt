@@ -11,7 +11,7 @@ ghost use Rattle.jr_piece.specs.Strips.{CanReadFrom, FirstMcus};
 
 use crate::placed_strip::PlacedStrip;
 use crate::strip::CodedStrip;
-use jr_block::Coefficients;
+use jr_base::Coefficients;
 use jr_code::Memory;
 use jr_scan::{Guesses, Interval, McuReader, Place};
 use std::alloc::Global;

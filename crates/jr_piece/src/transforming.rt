@@ -5,7 +5,7 @@ ghost use Rattle.jr_head.specs.Geometry.{blocks_of};
 ghost use Rattle.jr_piece.specs.Outcome.{unit_of};
 
 use crate::unit_sink::UnitSink;
-use jr_block::Coefficients;
+use jr_base::Coefficients;
 use jr_head::Head;
 use jr_idct::{transform_one, transform_two};
 

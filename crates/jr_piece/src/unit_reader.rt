@@ -4,7 +4,7 @@ ghost use Rattle.std.specs.Prelude.{◌≡◌, ◌+◌, ◌*◌, ◌<◌, ◌≤
 ghost use Rattle.jr_scan.specs.Guesses.{AreGuessesOf};
 ghost use Rattle.jr_piece.specs.Units.{zero_block};
 
-use jr_block::Coefficients;
+use jr_base::Coefficients;
 use jr_idct::zeros_are_grey;
 use jr_scan::{Guesses, IntervalRef, McuReader};
 use std::marker::Model;

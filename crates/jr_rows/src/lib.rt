@@ -1,21 +1,31 @@
-//! The rows of MCUs of a scan in their order: read, decoded and painted one after the other.
+//! The rows of MCUs of a scan in their order: read, decoded and painted one after the other, and the picture or some of its lines
+//! written in one pass.
 #![tactic(auto)]
 
+mod alone;
+mod announcing;
 mod band;
 mod blank;
 mod first_intervals;
+mod lines;
 mod mark_bytes;
 mod marked;
+mod painter;
 mod painting;
 mod row_lines;
 mod rows;
 mod sample_row;
 mod shape;
+mod whole;
 mod whole_mcus;
+mod writing;
 
+pub use announcing::announce;
 pub use first_intervals::FirstIntervals;
+pub use lines::paint_scan_lines;
 pub use mark_bytes::put_mark;
 pub use marked::Marked;
+pub use painter::RowPainter;
 pub use painting::paint_row;
 pub use row_lines::RowLines;
 pub use rows::Rows;
@@ -23,3 +33,5 @@ pub use sample_row::SampleRow;
 pub use shape::{
     Shape, bytes_of_row, coded_of_row, intervals_of_row, lines_of, room_for, shape_of,
 };
+pub use whole::paint_scan;
+pub use writing::{PictureError, counts_of, write_rows, write_scan};

@@ -9,8 +9,7 @@ ghost use Rattle.jr_rows.specs.RowLines.{AreStarts, HasGroups, HasLines, IsStart
 
 use crate::blank::blank_unit;
 use crate::shape::shape_of;
-use jr_base::Memory;
-use jr_block::Coefficients;
+use jr_base::{Coefficients, Memory};
 use jr_head::Head;
 use jr_paint::place;
 use jr_piece::{UnitSink, transform_blocks};

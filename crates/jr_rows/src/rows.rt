@@ -17,7 +17,7 @@ use crate::mark_bytes::put_mark;
 use crate::marked::Marked;
 use crate::row_lines::RowLines;
 use crate::shape::{coded_of_row, mcus_at_once, shape_of, units_to};
-use jr_block::Coefficients;
+use jr_base::Coefficients;
 use jr_head::Head;
 use jr_piece::{UnitReader, transform_blocks};
 use jr_scan::{Guesses, Scan};

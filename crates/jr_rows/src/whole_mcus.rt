@@ -10,7 +10,7 @@ ghost use Rattle.jr_rows.specs.WholeMcus.{DecodesMcus};
 
 use crate::row_lines::RowLines;
 use crate::shape::{mcus_at_once, shape_of, units_to};
-use jr_block::Coefficients;
+use jr_base::Coefficients;
 use jr_head::Head;
 use jr_idct::zeros_are_grey;
 use jr_piece::transform_blocks;

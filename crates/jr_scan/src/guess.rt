@@ -15,7 +15,7 @@ use crate::guessed::Guessed;
 use crate::interval_ref::IntervalRef;
 use crate::mcu_reader::bits_from;
 use crate::place::Place;
-use jr_block::Coefficients;
+use jr_base::Coefficients;
 use jr_code::{Bits, Memory};
 use jr_mcu::{all_small, put_shifted, read_unpredicted, sums};
 use std::alloc::Global;

@@ -6,7 +6,7 @@ ghost use Rattle.jr_head.specs.Geometry.{IsLawful};
 use crate::front::FrontBlocks;
 use crate::interval_ref::IntervalRef;
 use crate::mcu_reader::{MOST_UNITS, McuReader};
-use jr_block::Coefficients;
+use jr_base::Coefficients;
 use jr_code::Memory;
 use jr_cut::Span;
 use jr_head::Head;

@@ -8,7 +8,7 @@ ghost use Rattle.jr_mcu.specs.Block.{IsInDcRange, IsInRange};
 
 use crate::interval_ref::IntervalRef;
 use crate::place::Place;
-use jr_block::Coefficients;
+use jr_base::Coefficients;
 use jr_code::Bits;
 use jr_mcu::{read_mcu, skip_mcu};
 use std::marker::Model;

@@ -14,7 +14,7 @@ use crate::guess::Guess;
 use crate::guesses::Guesses;
 use crate::mcu_reader::McuReader;
 use crate::place::Place;
-use jr_block::Coefficients;
+use jr_base::Coefficients;
 
 /// Takes over from a guess the MCUs that go on from a place, at most so many, from its MCU `at` on; goes on to the place
 /// behind them, and tells how many they are.

@@ -1,7 +1,7 @@
 -- Worked examples of the definitions that the headline cites: figures and tables of T.81 and JFIF, computed by the definitions.
 use Rattle.std.proofs.Common.{◌≡◌, ◌≢◌, ℕ, ◌+◌, ◌*◌, ◌<◌, ◌≤◌, Bool, true, false, List, [], ◌∷◌, ◌++◌, length, replicate, ℤ, pos, neg_ℤ, refl, arith, get_or, zero, suc, ap, inr, sym}
 use Rattle.jr_segments.specs.declared.kind.Kind.TheVariants.{Grey, Rgb, Ycc}
-use Rattle.jr_block.specs.Zigzag.{natural_indexes, zigzag_place}
+use Rattle.jr_base.specs.Zigzag.{natural_indexes, zigzag_place}
 use Rattle.jr_code.specs.Bits.{bits, bits_of, number, value}
 use Rattle.jr_code.specs.Code.{Table, IsWord, IsLawfulTable, lengths, space}
 use Rattle.jr_code.proofs.CodeLemmas.{one_word}

@@ -2,7 +2,7 @@
 
 ghost use Rattle.std.specs.Prelude.{◌≡◌, length, All, IfOk};
 
-use jr_desk::{Desk, Seat};
+use jr_cells::{Desk, Seat};
 use std::alloc::{AllocError, Global};
 use std::process::Abort;
 use std::test::Fail;

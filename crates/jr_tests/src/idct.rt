@@ -3,7 +3,7 @@
 ghost use Rattle.std.specs.Prelude.{ℕ, ◌<◌};
 ghost use Rattle.jr_idct.specs.Matrix.{at, IsWithin};
 
-use jr_block::{Coefficients, Quantisers};
+use jr_base::{Coefficients, Quantisers};
 use jr_idct::{
     even, floors, matrix_transform, odd, tables_agree, transform, transform_one, transform_two,
 };

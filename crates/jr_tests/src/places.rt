@@ -2,11 +2,10 @@
 
 ghost use Rattle.std.specs.Prelude.{◌<◌};
 
+use jr_arrival::{FileBytes, RowPlace, decode_rows, lines_before, skip_rows, stands_at};
 use jr_head::{Head, read_head};
-use jr_places::{FileBytes, RowPlace, decode_rows, lines_before, skip_rows, stands_at};
-use jr_rows::shape_of;
+use jr_rows::{paint_scan_lines, shape_of};
 use jr_scan::Scan;
-use jr_stream::paint_scan_lines;
 use std::alloc::Global;
 use std::test::Fail;
 use test_files::files::{file, front, put_parts};

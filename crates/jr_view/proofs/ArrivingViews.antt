@@ -17,13 +17,13 @@ use Rattle.jr_scan.specs.ScanValue.{ScanValue}
 use Rattle.jr_picture.specs.declared.mark.Mark.{Mark}
 use Rattle.jr_picture.specs.Headline.{ShowsFirst}
 use Rattle.jr_rows.specs.declared.marked.Marked.{Marked}
-use Rattle.jr_stream.specs.SomeLines.{PaintsLines}
+use Rattle.jr_rows.specs.SomeLines.{PaintsLines}
 use Rattle.jr_arrival.specs.Arrival.{CanBecome}
 use Rattle.jr_arrival.specs.Arriving.{ArrivingValue, IsArriving, given_of}
 use Rattle.jr_arrival.specs.Growing.{HasScan}
 use Rattle.jr_arrival.specs.Settled.{AreFinal, GivesNext, NextLines}
 use Rattle.jr_arrival.proofs.HeadsStay.{head_stays}
-use Rattle.jr_settled.proofs.LinesOfPictures.{one_lines}
+use Rattle.jr_arrival.proofs.LinesOfPictures.{one_lines}
 use Rattle.jr_view.specs.ArrivingViews.{ArrivingViewValue, AreSettled, ViewHasLines, AreScanLines, IsSeen, KeepsLines, ViewShowsLines, lines_shown, view_of}
 
 -- what more bytes can become, those before can

@@ -7,9 +7,8 @@ ghost use Rattle.jr_picture.specs.Headline.{ShowsFirst};
 
 use jr_base::Memory;
 use jr_picture::Counts;
-use jr_rows::shape_of;
+use jr_rows::{paint_scan_lines, shape_of};
 use jr_scan::Scan;
-use jr_stream::paint_scan_lines;
 use std::alloc::Global;
 
 /// A file that has come: its scan, how many of its restart intervals are sound and damaged, and the lines of its picture, one behind

@@ -2,7 +2,7 @@
 use Rattle.std.specs.Prelude.{◌≡◌, ℕ, List, Option, None, slice_index_or}
 use Rattle.std.specs.Option.{IfSome}
 use Rattle.jr_scan.specs.ScanValue.{ScanValue}
-use Rattle.jr_desk.specs.Values.{DeskValue}
+use Rattle.jr_cells.specs.Values.{DeskValue}
 use Rattle.jr_cells.specs.StripCellsValue.{StripCellsValue}
 
 -- the cells of pieces, and by interval the cells of strips, where it has such

@@ -1,7 +1,7 @@
 //! One decoding by several workers: what they share, and what is left to do when they have ended.
 
 ghost use Rattle.std.specs.Prelude.{◌≡◌, ◌<◌, ◌≤◌, ◌++◌, ℕ, List, length, map, true, All, Some, IfOk, IfSome};
-ghost use Rattle.jr_desk.specs.Values.{fresh};
+ghost use Rattle.jr_cells.specs.Values.{fresh};
 ghost use Rattle.std.specs.List.{range_with_len};
 ghost use Rattle.std.specs.Option.{option_copied};
 ghost use Rattle.std.specs.Arc.{arc_value};
@@ -16,9 +16,8 @@ use crate::jobs::Jobs;
 use crate::strips::{hang_strip, open_strips};
 use crate::sweeping::{sweep, usable};
 use crate::workers::{hang, make_piece};
-use jr_cells::{Cells, Sight, StripCells};
+use jr_cells::{Cells, Desk, Seat, Sight, StripCells};
 use jr_code::Memory;
-use jr_desk::{Desk, Seat};
 use jr_job::{Job, OneScan};
 use jr_picture::Gate;
 use jr_piece::Piece;

@@ -19,8 +19,7 @@ pub use board::{Board, Unposted};
 pub use decoding::Decoding;
 pub use glimpse::{Glimpse, glance};
 pub use headline::same_scan_has_the_picture;
-pub use jr_cells::{Cells, Sight, StripCells, StripSight};
-pub use jr_desk::{Desk, Drawn, Seat};
+pub use jr_cells::{Cells, Desk, Drawn, Seat, Sight, StripCells, StripSight};
 pub use jr_picture::{Counts, Gate, Mark, OpenGate, blank_sample, one_picture};
 pub use jr_piece::{
     CodedStrip, OrderError, Piece, PlacedStrip, Strip, StripReader, one_outcome, one_strip,

@@ -6,10 +6,10 @@ use Rattle.std.proofs.Math.ListN.{drop_of_length-le}
 use Rattle.std.proofs.Math.Seq.{drop-cons}
 use Rattle.std.proofs.lemmas.Bool.{cases_lt}
 use Rattle.std.proofs.lemmas.Option.{none-some, slice_get-get_or}
-use Rattle.jri_names.specs.declared.names.NamedFile.{NamedFile}
-use Rattle.jri_names.specs.declared.reading.ReadError.{ReadError}
-use Rattle.jri_names.specs.declared.reading.ReadError.TheVariants.{NameIsNoText}
-use Rattle.jri_names.specs.Names.{IsNamed, IsNextFile}
+use Rattle.jri_archive.specs.declared.names.NamedFile.{NamedFile}
+use Rattle.jri_archive.specs.declared.reading.ReadError.{ReadError}
+use Rattle.jri_archive.specs.declared.reading.ReadError.TheVariants.{NameIsNoText}
+use Rattle.jri_archive.specs.Names.{IsNamed, IsNextFile}
 use Rattle.jri_archive.specs.declared.outcome.Outcome.{Outcome}
 use Rattle.jri_archive.specs.declared.outcome.Outcome.TheVariants as outcome
 use Rattle.jri_archive.specs.Outcomes.{IsOutcomeOf}

@@ -1,2 +1,4 @@
 pub mod Claims
 pub mod Counting
+mod Escapes
+pub mod NextNames

@@ -1,4 +1,6 @@
-pub mod Status
-pub mod Unsupported
+pub mod Escapes
+pub mod Names
 pub mod Outcomes
+pub mod Status
 pub mod Told
+pub mod Unsupported

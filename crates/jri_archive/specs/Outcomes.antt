@@ -4,7 +4,7 @@ use Rattle.jr_segments.specs.declared.refusal.Refusal.TheVariants as refusal
 use Rattle.jr_head.specs.Heads.{RefusalOf}
 use Rattle.jri_archive.specs.declared.counts.FileState.{FileState}
 use Rattle.jri_archive.specs.declared.counts.FileState.TheVariants.{Sound, Damaged, Refused, Unsupported, Unread, OutOfMemory, Skipped}
-use Rattle.jri_names.specs.declared.reading.ReadError.TheVariants as read
+use Rattle.jri_archive.specs.declared.reading.ReadError.TheVariants as read
 use Rattle.jri_archive.specs.declared.outcome.Outcome.{Outcome}
 use Rattle.jri_archive.specs.declared.outcome.Outcome.TheVariants as outcome
 use Rattle.jri_archive.specs.Unsupported.{may_be_valid}

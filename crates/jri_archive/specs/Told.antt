@@ -1,10 +1,10 @@
 -- What is told of files that have names.
 use Rattle.std.specs.Prelude.{◌≡◌, ℕ, ◌-◌, ◌^◌, ◌<◌, ◌≤◌, ◌⊎◌, Bool, true, false, List, [], Option, Some, None, drop, length, map, min, sum_by, slice_get, slice_index_or}
 use Rattle.std.specs.Global.{Vec}
-use Rattle.jri_names.specs.declared.reading.ReadError.{ReadError}
-use Rattle.jri_names.specs.declared.reading.ReadError.TheVariants.{NameIsNoText}
-use Rattle.jri_names.specs.declared.names.NamedFile.{NamedFile}
-use Rattle.jri_names.specs.Names.{IsNamed}
+use Rattle.jri_archive.specs.declared.reading.ReadError.{ReadError}
+use Rattle.jri_archive.specs.declared.reading.ReadError.TheVariants.{NameIsNoText}
+use Rattle.jri_archive.specs.declared.names.NamedFile.{NamedFile}
+use Rattle.jri_archive.specs.Names.{IsNamed}
 use Rattle.jri_archive.specs.declared.counts.CheckEnd.{CheckEnd}
 use Rattle.jri_archive.specs.declared.counts.CheckEnd.TheVariants.{AllTold, NamesUnread, Unwritten, Memory as NoMemory}
 use Rattle.jri_archive.specs.declared.counts.CheckReport.{CheckReport}

@@ -4,11 +4,11 @@ ghost use Rattle.std.specs.Prelude.{◌≤◌, IfOk};
 ghost use Rattle.jr_base.specs.declared.limits.TheConstants.{MAX_WORKERS};
 
 use crate::answers::{CheckRequest, LineForm, RequestError};
+use crate::{bytes_of, texts};
 use clap::error::ErrorKind;
 use clap::{Arg, ArgAction, ArgMatches, Command, Error, value_parser};
+use jr_base::VERSION;
 use jr_base::limits::MAX_WORKERS;
-use jri_names::{bytes_of, texts};
-use jri_version::VERSION;
 use std::alloc::{AllocError, Global};
 
 /// A word that is there or not.

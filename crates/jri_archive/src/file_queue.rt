@@ -5,6 +5,7 @@ ghost use Rattle.jr_damage.specs.Verdicts.{IsFileScan};
 ghost use Rattle.jri_archive.specs.Outcomes.{IsOutcomeOf, state_of};
 ghost use Rattle.jri_archive.specs.Told.{AreTold, is_open};
 
+use crate::NamesError;
 use crate::answers::LineForm;
 use crate::checking::Checked;
 use crate::counts::{CheckEnd, CheckReport, FileCounts, FileState};
@@ -13,7 +14,6 @@ use crate::one_check::OneCheck;
 use crate::outcome::Outcome;
 use crate::telling::{tell, tell_counts, tell_map};
 use jr_damage::{coded_segments, damaged_interval};
-use jri_names::NamesError;
 use std::alloc::{AllocError, Global};
 use std::io::{Error, Write};
 use std::marker::{Model, PhantomData};

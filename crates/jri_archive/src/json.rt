@@ -5,10 +5,10 @@ use crate::counts::FileCounts;
 use crate::outcome::Outcome;
 use crate::telling::put_end;
 use crate::unsupported::{refused_word, write_reason};
+use crate::{ReadError, put_string};
 use jr_damage::{CodedSpan, DamagedInterval, Lines, McuRange};
 use jr_head::Refusal;
 use jr_scan::ScanEnd;
-use jri_names::{ReadError, put_string};
 use std::alloc::AllocError;
 
 /// Puts the lines of the picture that are not as they were.

@@ -1,4 +1,5 @@
-//! What is damaged of JPEG files: a line for each, and an exit status. No picture is made.
+//! What is damaged of JPEG files: a line for each, and an exit status. No picture is made. The names of files: among the words of
+//! a command line, in lists, in folders, and as JSON strings from which they come back.
 #![tactic(auto)]
 
 mod answering;
@@ -6,22 +7,31 @@ mod answers;
 mod asking;
 mod checking;
 mod counts;
+mod escaping;
 mod file_queue;
+mod folders;
+mod given;
 mod json;
+mod laws;
+mod names;
 mod one_check;
 mod outcome;
+mod reading;
 mod sharing;
 mod telling;
 mod unsupported;
+mod words;
 
 pub use answering::answer;
 pub use answers::{CheckRequest, LineForm, RequestError};
 pub use asking::asked;
 pub use checking::{Checked, check_file, check_file_in_place};
 pub use counts::{CheckEnd, CheckReport, FileCounts, FileState};
-pub use jri_names::{Entry, EntryKind, Folder, ReadError, names_come_back, words_of};
 pub use json::{tell_counts_object, tell_interval_object, tell_object};
+pub use laws::names_come_back;
 pub use outcome::{Outcome, outcome_in_place, outcome_of};
+pub use reading::{Entry, EntryKind, Folder, ReadError};
 pub use sharing::check_all;
 pub use telling::{tell, tell_counts, tell_map, write_counts_line};
 pub use unsupported::is_unsupported;
+pub use words::words_of;

@@ -4,11 +4,11 @@ ghost use Rattle.std.specs.Prelude.{◌≡◌, ◌≢◌, length, IfOk, IfErr};
 ghost use Rattle.jr_head.specs.Heads.{RefusalOf};
 ghost use Rattle.jri_archive.specs.Outcomes.{IsOutcomeOf, state_of};
 
+use crate::ReadError;
 use crate::checking::{Checked, check_file, check_file_in_place};
 use crate::counts::FileState;
 use crate::unsupported::is_unsupported;
 use jr_head::Refusal;
-use jri_names::ReadError;
 use std::alloc::Global;
 use std::sync::Wait;
 use std::thread::Threads;

@@ -1,7 +1,7 @@
 //! Many files, checked by several workers and told in their order.
 
 ghost use Rattle.std.specs.Prelude.{◌≡◌, ◌≤◌, ◌<◌, ◌^◌, ◌⊎◌, ℕ, List, Some, None, false, length, map, drop, slice_get, IfOk, IfErr, IfSome, IfNone};
-ghost use Rattle.jri_names.specs.Names.{IsNamed};
+ghost use Rattle.jri_archive.specs.Names.{IsNamed};
 ghost use Rattle.jri_archive.specs.Outcomes.{IsOutcomeOf};
 ghost use Rattle.jri_archive.specs.Told.{AreChecksOf, AreTold, IsCheckOf, IsClaimOf, given_names};
 
@@ -10,7 +10,7 @@ use crate::counts::{CheckEnd, CheckReport};
 use crate::file_queue::{CheckedFile, FileQueue, TellError, write_counts};
 use crate::one_check::OneCheck;
 use crate::outcome::{Outcome, outcome_in_place, outcome_of};
-use jri_names::{FileNames, Folder, NamedFile, NamesError, ReadError};
+use crate::{FileNames, Folder, NamedFile, NamesError, ReadError};
 use std::alloc::Global;
 use std::io::{BufReader, Read, Write};
 use std::marker::{Brand, Model, PhantomData};

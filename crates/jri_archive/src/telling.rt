@@ -1,5 +1,6 @@
 //! The lines that are told of a file, in words.
 
+use crate::ReadError;
 use crate::checking::Checked;
 use crate::counts::FileCounts;
 use crate::outcome::Outcome;
@@ -7,7 +8,6 @@ use crate::unsupported::{refused_word, write_reason};
 use jr_damage::{CodedSpan, DamagedInterval, Lines, McuRange};
 use jr_head::Refusal;
 use jr_scan::ScanEnd;
-use jri_names::ReadError;
 use std::alloc::AllocError;
 use std::fmt;
 use std::fmt::{Display, Formatter};

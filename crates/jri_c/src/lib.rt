@@ -7,16 +7,15 @@ ghost use Rattle.std.specs.Prelude.{◌≡◌, ◌≢◌, ◌<◌, ◌≤◌, �
 ghost use Rattle.jr_arrival.specs.Arrival.{CanBecome};
 ghost use Rattle.jr_arrival.specs.Settled.{WantsMore};
 ghost use Rattle.jri_memory.specs.Canvases.{DecodesCanvas, LacksCanvas, LacksLayoutOf, LacksLinesToLay, LacksRoomToLay, LaysOut};
-ghost use Rattle.jri_damages.specs.Damages.{ListsDamages, TellsNoDamage};
+ghost use Rattle.jri_memory.specs.Damages.{ListsDamages, TellsNoDamage};
 ghost use Rattle.jri_memory.specs.Checks.{ChecksFile, LacksMarkRoom};
 ghost use Rattle.jri_memory.specs.Calls.{DecodesFile, DecodesLines, TellsFault, IsHeaderOf, IsNumberOfSome, LacksLines, LacksRoom, LacksRoomForLines, TellsNoHeader, TellsNoPicture, TellsNoRefusal};
 ghost use Rattle.jri_memory.specs.Rows.{GivesRows, LacksRoomForRow, LacksRows, SkipsRows, TellsFaultSoFar, TellsNothing, are_all};
 
-use jri_damages::{Damage, DamageReport, list_damages};
 use jri_memory::{
-    DecodeReport, Header, RowPlace, RowsReport, build_text, check_marks, decode_canvas,
-    decode_file, decode_file_rows, decode_lines, end_text, lay_out, read_header, refusal_text,
-    skip_file_rows,
+    Damage, DamageReport, DecodeReport, Header, RowPlace, RowsReport, build_text, check_marks,
+    decode_canvas, decode_file, decode_file_rows, decode_lines, end_text, lay_out, list_damages,
+    read_header, refusal_text, skip_file_rows,
 };
 use std::alloc::Global;
 

@@ -1,4 +1,5 @@
+pub mod CanvasRows
 pub mod Filled
 pub mod Headers
+pub mod Listing
 pub mod Marks
-pub mod CanvasRows

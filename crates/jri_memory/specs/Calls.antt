@@ -15,7 +15,7 @@ use Rattle.jr_picture.specs.declared.mark.Mark.{Mark}
 use Rattle.jr_picture.specs.Headline.{AreCounts}
 use Rattle.jri_file.specs.Files.{IsPictureOf, IsScanOfFile}
 use Rattle.jr_rows.specs.MarkBytes.{mark_byte}
-use Rattle.jr_stream.specs.SomeLines.{EndInLines}
+use Rattle.jr_rows.specs.SomeLines.{EndInLines}
 use Rattle.jri_memory.specs.declared.decode.DecodeError.{DecodeError}
 use Rattle.jri_memory.specs.declared.decode.DecodeError.TheVariants.{Refused}
 use Rattle.jri_memory.specs.declared.header.Header.{Header}

@@ -1,5 +1,6 @@
-pub mod Calls
-pub mod Checks
-pub mod Rows
-pub mod Canvases
 pub use Rattle.jri_file.specs.Files
+pub mod Calls
+pub mod Canvases
+pub mod Checks
+pub mod Damages
+pub mod Rows

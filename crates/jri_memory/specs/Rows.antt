@@ -10,10 +10,10 @@ use Rattle.jr_paint.specs.Lines.{line_size}
 use Rattle.jr_arrival.specs.Arrival.{IsFinalFault}
 use Rattle.jr_arrival.specs.Settled.{WantsMore}
 use Rattle.jr_scan.specs.ScanValue.{ScanValue}
-use Rattle.jr_places.specs.Meaning.{IsPlaceIn, MayBe}
-use Rattle.jr_places.specs.Shown.{AreLines}
-use Rattle.jr_places.specs.declared.place.RowPlace.{RowPlace}
-use Rattle.jr_places.specs.Places.{IsPlaceOf, lines_above, lines_between, rows_to_give, rows_with_room}
+use Rattle.jr_arrival.specs.Meaning.{IsPlaceIn, MayBe}
+use Rattle.jr_arrival.specs.Shown.{AreLines}
+use Rattle.jr_arrival.specs.declared.place.RowPlace.{RowPlace}
+use Rattle.jr_arrival.specs.Places.{IsPlaceOf, lines_above, lines_between, rows_to_give, rows_with_room}
 use Rattle.jri_memory.specs.Calls.{detail_of}
 use Rattle.jri_memory.specs.declared.places.PlaceError.{PlaceError}
 use Rattle.jri_memory.specs.declared.places.PlaceError.TheVariants.{Refused, NoRows, NoRoom}

@@ -15,7 +15,7 @@ use crate::header::Header;
 use crate::lines::decode_some;
 use crate::report::DecodeReport;
 use crate::status::{NEED_MORE, NO_LINES, OK};
-use jr_places::FileBytes;
+use jr_arrival::FileBytes;
 use std::alloc::Global;
 
 /// Reads a file's header, and decodes nothing; more of the file may come if `more` is not 0. Returns 0 with what the header says, 1 if

@@ -8,7 +8,7 @@ ghost use Rattle.jri_memory.specs.Calls.{DecodesFile, LacksRoom};
 use crate::report::DecodeReport;
 use crate::room::{asked_for, bytes_of_picture, lacks_room};
 use jr_head::Refusal;
-use jr_stream::paint_scan;
+use jr_rows::paint_scan;
 use jri_file::scan_of_file;
 use std::alloc::Global;
 

@@ -6,9 +6,8 @@ ghost use Rattle.jr_head.specs.Heads.{HeadOf};
 ghost use Rattle.jr_arrival.specs.Settled.{WantsMore};
 ghost use Rattle.jri_memory.specs.Rows.{IsFaultSoFar};
 
-use jr_arrival::head_so_far;
+use jr_arrival::{FileBytes, head_so_far};
 use jr_head::{Head, Refusal, read_head};
-use jr_places::FileBytes;
 use std::alloc::Global;
 
 /// Returns the head of a file, or `None` if more bytes may come and are wanted for it.

@@ -1,4 +1,4 @@
-//! A file in memory decoded into buffers of the caller's: the calls of libjri as a library.
+//! A file in memory decoded into buffers of the caller's, and a list of its damaged intervals: the calls of libjri as a library.
 //!
 //! No call starts a thread, waits, or keeps anything: calls on different buffers may run at once.
 #![tactic(auto)]
@@ -8,6 +8,7 @@ mod calls;
 mod canvas;
 mod canvas_calls;
 mod check;
+mod damages;
 mod decode;
 mod file_head;
 mod header;
@@ -24,8 +25,9 @@ mod text;
 pub use answers::status_of;
 pub use calls::{check_marks, decode_file, decode_lines, read_header};
 pub use canvas_calls::decode_canvas;
+pub use damages::{Damage, DamageReport, list_damages};
 pub use header::Header;
-pub use jr_places::RowPlace;
+pub use jr_arrival::RowPlace;
 pub use laying::lay_out;
 pub use place_calls::{decode_file_rows, skip_file_rows};
 pub use report::{DecodeReport, detail};

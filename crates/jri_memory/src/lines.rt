@@ -10,7 +10,7 @@ use crate::report::DecodeReport;
 use jr_head::{Head, Refusal};
 use jr_paint::bytes_of_line;
 use jr_picture::Counts;
-use jr_stream::paint_scan_lines;
+use jr_rows::paint_scan_lines;
 use jri_file::scan_of_file;
 use std::alloc::Global;
 

@@ -7,7 +7,7 @@ use crate::answers::status_of;
 use crate::places::{PlaceError, decode_from, skip_from};
 use crate::rows_report::RowsReport;
 use crate::status::{BUFFER_TOO_SMALL, NO_LINES, OK};
-use jr_places::{FileBytes, RowPlace};
+use jr_arrival::{FileBytes, RowPlace};
 use std::alloc::Global;
 
 /// Tells why a place is not moved, and gives the answer.

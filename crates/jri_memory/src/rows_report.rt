@@ -2,13 +2,13 @@
 
 ghost use Rattle.std.specs.Prelude.{◌≡◌, ◌+◌, ◌≤◌};
 ghost use Rattle.jr_segments.specs.Refusal.{number_of};
-ghost use Rattle.jr_places.specs.Places.{lines_above, lines_between};
+ghost use Rattle.jr_arrival.specs.Places.{lines_above, lines_between};
 ghost use Rattle.jri_memory.specs.Calls.{detail_of};
 ghost use Rattle.jri_memory.specs.Rows.{TellsNothing};
 
 use crate::report::detail;
+use jr_arrival::{lines_before, lines_between};
 use jr_head::{Head, Refusal};
-use jr_places::{lines_before, lines_between};
 
 /// What a call tells that goes on from a place; all numbers are 0 that are not said otherwise.
 #[repr(C)]

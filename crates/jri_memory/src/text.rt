@@ -5,8 +5,8 @@ ghost use Rattle.jr_segments.specs.Refusal.{number_of};
 ghost use Rattle.jri_memory.specs.Calls.{IsNumberOfSome};
 
 use crate::report::DecodeReport;
+use jr_base::VERSION;
 use jr_head::Refusal;
-use jri_version::VERSION;
 use std::io::{Cursor, Write};
 
 /// As many bytes as the longest text of a refusal may have.

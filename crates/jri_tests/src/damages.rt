@@ -1,8 +1,7 @@
 //! The damaged intervals of files in memory, listed into buffers of some sizes.
 
-use jri_damages::{Damage, DamageReport, list_damages};
-use jri_memory::build_text;
 use jri_memory::status::{DAMAGED, REFUSED, SOUND};
+use jri_memory::{Damage, DamageReport, build_text, list_damages};
 use std::alloc::Global;
 use std::test::Fail;
 use test_files::files::{file, front};

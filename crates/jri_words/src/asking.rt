@@ -10,8 +10,8 @@ use crate::answers::{Asked, Target, Telling, Unasked};
 use crate::help::{ABOUT, AFTER_HELP};
 use clap::error::ErrorKind;
 use clap::{Arg, ArgAction, ArgMatches, Command, Error, value_parser};
+use jr_base::VERSION;
 use jr_base::limits::MAX_WORKERS;
-use jri_version::VERSION;
 use std::alloc::{AllocError, Global};
 
 /// `--workers N`.

@@ -3,7 +3,7 @@
 ghost use Rattle.std.specs.Prelude.{◌≡◌, IfOk};
 ghost use Rattle.jr_scan.specs.Guesses.{AreGuessesOf};
 
-use jr_block::Coefficients;
+use jr_base::Coefficients;
 use jr_scan::{Guess, Guesses, IntervalRef, McuReader, Place};
 use std::alloc::Global;
 use std::process::Abort;

@@ -6,7 +6,7 @@ ghost use Rattle.jr_base.specs.declared.limits.TheConstants.{MAX_WORKERS};
 use crate::decoding::outcome_of;
 use jr_crew::write_scan_by;
 use jr_paint::Tally;
-use jr_stream::write_scan;
+use jr_rows::write_scan;
 use jr_wall::{Gate, Piece};
 use std::alloc::Global;
 use std::process::Abort;

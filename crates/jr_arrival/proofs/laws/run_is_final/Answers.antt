@@ -1,5 +1,5 @@
 use Rattle.std.proofs.Common.{rules}
-use Rattle.jr_settled.proofs.MoreData as laws
+use Rattle.jr_arrival.proofs.MoreData as laws
 use Rattle.jr_arrival.proofs.laws.run_is_final.Goals as goal
 
 pub returns : goal.returns

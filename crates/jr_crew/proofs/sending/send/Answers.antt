@@ -1,7 +1,7 @@
 use Rattle.std.proofs.Common.{subst}
 use Rattle.jr_rows.specs.RowsValue.{RowsValue}
 use Rattle.jr_rows.specs.Rows.{CountsRows}
-use Rattle.jr_stream.specs.Stream.{SendsPicture}
+use Rattle.jr_rows.specs.Stream.{SendsPicture}
 use Rattle.std.specs.Result.{IfOk}
 use Rattle.jr_crew.proofs.sending.send.Goals as goal
 

@@ -5,8 +5,8 @@ use Rattle.jr_scan.specs.ScanValue.{ScanValue}
 use Rattle.jr_piece.proofs.ScanLaws.{outcome}
 use Rattle.jr_rows.specs.FirstIntervalsValue.{FirstIntervalsValue}
 use Rattle.jr_rows.specs.declared.marked.Marked.{Marked}
-use Rattle.jr_stream.specs.Stream.{SendsPicture, HasCounts}
-use Rattle.jr_stream.proofs.Sendings.{painted_picture, begun_picture}
+use Rattle.jr_rows.specs.Stream.{SendsPicture, HasCounts}
+use Rattle.jr_rows.proofs.Sendings.{painted_picture, begun_picture}
 use Rattle.jr_crew.proofs.sharing.write_as.Goals as goal
 
 pub returns-in-Some-Ok-clause-painted : goal.returns-in-Some-Ok-clause-painted

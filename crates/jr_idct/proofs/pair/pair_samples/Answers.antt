@@ -1,7 +1,7 @@
 use Rattle.std.proofs.Common.{rules, ◌≡◌, ◌+◌, ◌-◌, ◌*◌, pos, inl, inr, [], ◌∷◌, slice_index, arith, subst, ◌∙◌}
 use Rattle.std.proofs.Math.IntN.{◌*ℤ◌}
 use Rattle.std.proofs.lemmas.Bool.{cases_lt}
-use Rattle.jr_block.specs.declared.quantisers.TheConstants.{MOST_PRODUCT}
+use Rattle.jr_base.specs.declared.quantisers.TheConstants.{MOST_PRODUCT}
 use Rattle.jr_idct.specs.Lanes.{lane}
 use Rattle.jr_idct.specs.Matrix.{at, IsWithin}
 use Rattle.jr_idct.proofs.pair.pair_samples.Goals as goal

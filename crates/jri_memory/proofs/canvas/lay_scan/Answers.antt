@@ -6,8 +6,8 @@ use Rattle.jr_picture.specs.Boards.{marks_of}
 use Rattle.jr_picture.specs.Samples.{samples_of}
 use Rattle.jr_rows.specs.Rows.{CountsRows}
 use Rattle.jr_rows.proofs.FirstBoards.{first_board, shows_first}
-use Rattle.jr_stream.specs.Stream.{HasCounts}
-use Rattle.jr_stream.proofs.WholePictures.{all_put}
+use Rattle.jr_rows.specs.Stream.{HasCounts}
+use Rattle.jr_rows.proofs.WholePictures.{all_put}
 use Rattle.jri_memory.proofs.canvas.lay_scan.Goals as goal
 
 pub counts_of-requires-clause-counts : goal.counts_of-requires-clause-counts

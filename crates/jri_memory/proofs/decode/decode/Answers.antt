@@ -3,7 +3,7 @@ use Rattle.std.proofs.lemmas.List.{length-take-le}
 use Rattle.std.specs.Arc.{arc_value}
 use Rattle.jr_paint.specs.Text.{lines_of}
 use Rattle.jr_scan.specs.ScanValue.{ScanValue}
-use Rattle.jr_stream.specs.Whole.{PaintsWhole}
+use Rattle.jr_rows.specs.Whole.{PaintsWhole}
 use Rattle.jri_memory.specs.Calls.{over}
 use Rattle.jri_memory.proofs.Filled.{asked_all, asked_few, filled, picture_shown, unwritten}
 use Rattle.jri_memory.proofs.decode.decode.Goals as goal

@@ -1,6 +1,6 @@
 use Rattle.std.proofs.Common.{◌≡◌, ◌*◌, length, take, rules, arith}
 use Rattle.std.specs.Arc.{arc_value}
-use Rattle.jr_stream.specs.SomeLines.{PaintsLines}
+use Rattle.jr_rows.specs.SomeLines.{PaintsLines}
 use Rattle.jri_memory.proofs.Filled.{filled, picture_shown, unwritten}
 use Rattle.jri_memory.proofs.lines.decode_some.Goals as goal
 

@@ -1,6 +1,6 @@
 use Rattle.std.proofs.Common.{ℕ, List, length, sym, subst, arith, rules}
 use Rattle.jr_scan.specs.ScanValue.{ScanValue}
-use Rattle.jr_stream.specs.Stream.{HasCounts}
+use Rattle.jr_rows.specs.Stream.{HasCounts}
 use Rattle.jr_arrival.specs.Arriving.{ArrivingValue, HasBegun, HoldsBytes, IsArriving}
 use Rattle.jr_arrival.specs.Growing.{HasScan}
 use Rattle.jr_arrival.proofs.Arrivals.{begun_scan, is_too_long}

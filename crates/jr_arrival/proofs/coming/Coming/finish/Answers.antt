@@ -3,7 +3,7 @@ use Rattle.jr_head.specs.HeadValue.{HeadValue}
 use Rattle.jr_head.specs.Geometry.{mcus_of}
 use Rattle.jr_scan.specs.ScanValue.{ScanValue, intervals_of}
 use Rattle.jr_rows.specs.Rows.{CountsMarks, CountsRows}
-use Rattle.jr_stream.specs.Stream.{HasCounts}
+use Rattle.jr_rows.specs.Stream.{HasCounts}
 use Rattle.jr_arrival.specs.Arriving.{ComingValue}
 use Rattle.jr_arrival.proofs.Marks.{of_all_rows}
 use Rattle.jr_arrival.proofs.coming.Coming.finish.Goals as goal

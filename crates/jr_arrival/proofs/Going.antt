@@ -1,0 +1,141 @@
+-- Where a scan goes on: from an offset of the file to a later one.
+use Rattle.std.proofs.Common.{◌≡◌, ◌≢◌, ℕ, suc, ◌+◌, ◌-◌, ◌%◌, ◌<◌, ◌≤◌, ◌⊎◌, inl, inr, List, [], ◌∷◌, ◌++◌, length, replicate, take, drop, get_or, refl, sym, ap, subst, ◌∙◌, append_assoc, length-append, add-one, arith}
+use Rattle.std.specs.List.{AllByRecursion}
+use Rattle.std.proofs.lemmas.List.{append-nil, drop-drop, get_or-drop}
+use Rattle.jr_base.specs.declared.marker.TheConstants.{RST0}
+use Rattle.jr_cut.specs.declared.scan_end.ScanEnd.{ScanEnd}
+use Rattle.jr_cut.specs.declared.scan_end.ScanEnd.TheVariants.{EndOfFile}
+use Rattle.jr_cut.specs.Cut.{IsRaw, marker, CodedSegment, with_markers, HasMarker, IsEnding, CutFrom, IsStop}
+use Rattle.jr_cut.proofs.OpenSegments.{ending_more as marked_more}
+use Rattle.jr_cut.proofs.Segments.{length_marker}
+use Rattle.jr_scan.specs.ScanValue.{ScanValue, intervals_of}
+use Rattle.jr_cut.proofs.CutLaw.{ending_not_next}
+use Rattle.jr_arrival.proofs.Endings.{behind_marker, bytes_of, next_marker}
+use Rattle.jr_arrival.proofs.ScanIntervals.{none_in}
+use Rattle.jr_arrival.specs.Meaning.{GoesOnAt, HasNoData}
+use Rattle.jr_arrival.proofs.Splits.{split_cut}
+use Rattle.jr_arrival.proofs.Spelled.{front_whole, length_front, nothing_spelled, split_at}
+
+-- ---- what follows a segment
+
+pub ending_more : (n k at : ℕ) (tail more : List ℕ) (end : ScanEnd) → (end ≢ EndOfFile) ⊎ (more ≡ []) → IsEnding n k at tail end → IsEnding n k at (tail ++ more) end
+ending_more n k at tail more end (inl not_file) h = marked_more n k at tail more end not_file h
+ending_more n k at tail more end (inr none) h = subst (λ (t : List ℕ). IsEnding n k at t end) (sym (ap (λ (x : List ℕ). tail ++ x) none ∙ append-nil tail)) h
+
+-- the segment behind one without data, and those that follow it
+pub record NextCut (n i at : ℕ) (bytes : List ℕ) (others : List (List ℕ)) (end : ScanEnd) : Type 0 where
+  pub first : List ℕ
+  pub behind : List (List ℕ)
+  pub are : others ≡ first ∷ behind
+  pub cut : CutFrom n (i + 1) at bytes (first ∷ behind) end
+
+module _ (n i at : ℕ) (tail : List ℕ) (others : List (List ℕ)) (end : ScanEnd) (c : CutFrom n i at tail ([] ∷ others) end) where
+  no_raw : c.raw ≡ []
+  no_raw = let first : c.first ≡ [] = cc in nothing_spelled c.raw c.first c.is_raw (ap length first)
+    where
+      means : [] ∷ others ≡ c.first ∷ bytes_of c.segments
+      means = c.means
+
+  are : others ≡ bytes_of c.segments
+  are = let means : [] ∷ others ≡ c.first ∷ bytes_of c.segments = c.means in cc
+
+  spelled : tail ≡ with_markers i c.segments ++ c.tail
+  spelled = c.spelled ∙ ap (λ (x : List ℕ). x ++ (with_markers i c.segments ++ c.tail)) no_raw
+
+  pub next_cut : (more : ℕ) (rest : List ℕ) → i + 1 < n → tail ≡ marker more (RST0 + i % 8) ++ rest → NextCut n i (at + (more + 2)) rest others end
+  next_cut more rest room starts = go c.segments are spelled c.each c.few c.ends
+    where
+      go : (ps : List CodedSegment) → others ≡ bytes_of ps → tail ≡ with_markers i ps ++ c.tail → AllByRecursion (λ p. IsRaw p.raw p.bytes) ps → i + length ps < n → IsEnding n (i + length ps) (at + length (c.raw ++ with_markers i ps)) c.tail end → NextCut n i (at + (more + 2)) rest others end
+      go [] are spelled each few ends =
+          let here : i + 0 ≡ i = omega arith in
+          absurd (ending_not_next n i (at + length (c.raw ++ [])) c.tail end (subst (λ (k : ℕ). IsEnding n k (at + length (c.raw ++ [])) c.tail end) here ends) (subst (λ (x : List ℕ). HasMarker x (RST0 + i % 8)) spelled (more, rest, starts)) room)
+      go (p ∷ ps) are spelled each few ends =
+          let m = behind_marker i more rest p ps c.tail (sym starts ∙ spelled) in
+          let long : at + length (c.raw ++ with_markers i (p ∷ ps)) ≡ at + (more + 2) + length (p.raw ++ with_markers (suc i) ps) =
+          omega (arith, m.0, ap length no_raw, length-append c.raw (with_markers i (p ∷ ps)), length-append (marker p.more (RST0 + i % 8)) (p.raw ++ with_markers (suc i) ps), length_marker p.more (RST0 + i % 8)) in
+          let number : i + length (p ∷ ps) ≡ suc i + length ps = omega arith in
+          let cut : CutFrom n (suc i) (at + (more + 2)) rest (p.bytes ∷ bytes_of ps) end = record {
+            raw = p.raw;
+            first = p.bytes;
+            segments = ps;
+            tail = c.tail;
+            is_raw = each.0;
+            each = each.1;
+            few = omega (arith, few);
+            spelled = m.1;
+            means = refl;
+            ends = subst (λ (o : ℕ). IsEnding n (suc i + length ps) o c.tail end) long (subst (λ (k : ℕ). IsEnding n k (at + length (c.raw ++ with_markers i (p ∷ ps))) c.tail end) number ends);
+          } in
+          record { first = p.bytes; behind = bytes_of ps; are = are; cut = subst (λ (k : ℕ). CutFrom n k (at + (more + 2)) rest (p.bytes ∷ bytes_of ps) end) (sym (add-one i)) cut }
+
+  pub last_cut : (o : ℕ) (e : ScanEnd) → IsEnding n i o tail e → others ≡ []
+  last_cut o e ending = go c.segments are spelled c.few
+    where
+      go : (ps : List CodedSegment) → others ≡ bytes_of ps → tail ≡ with_markers i ps ++ c.tail → i + length ps < n → others ≡ []
+      go [] are spelled few = are
+      go (p ∷ ps) are spelled few = absurd (ending_not_next n i o tail e ending (subst (λ (x : List ℕ). HasMarker x (RST0 + i % 8)) (sym spelled) (next_marker i p ps c.tail)) (omega (arith, few)))
+
+-- ---- where a scan goes on
+
+-- what is left behind data that is spelled
+pub record OnBy (whole : List ℕ) (t : ScanValue) (i at : ℕ) (before found rest : List ℕ) : Type 0 where
+  pub on : GoesOnAt whole t i at (before ++ found)
+  pub is : rest ≡ found ++ on.rest
+  pub none : IsStop (drop at whole) → on.rest ≡ []
+
+pub on_by : (bytes more whole : List ℕ) (t : ScanValue) (i at read : ℕ) (before found : List ℕ) → whole ≡ bytes ++ more → (g : GoesOnAt whole t i at before) → at + read ≤ length bytes → IsRaw (take read (drop at bytes)) found → OnBy whole t i (at + read) before found g.rest
+on_by bytes more whole t i at read before found is g within raw =
+    let n = intervals_of t.head in
+    let first = take read (drop at bytes) in
+    let front : take read (drop at whole) ≡ first = ap (λ (w : List ℕ). take read (drop at w)) is ∙ front_whole bytes more at read within in
+    let e : drop at whole ≡ first ++ drop (at + read) whole = split_at whole at read ∙ ap (λ (x : List ℕ). x ++ drop (at + read) whole) front in
+    let s = split_cut n i at first found (drop (at + read) whole) (g.rest ∷ g.others) t.ended raw (subst (λ (b : List ℕ). CutFrom n i at b (g.rest ∷ g.others) t.ended) e g.cut) in
+    let both : g.rest ∷ g.others ≡ (found ++ s.rest) ∷ s.others = s.is in
+    let rest : g.rest ≡ found ++ s.rest = cc in
+    let others : g.others ≡ s.others = cc in
+    let long : at + length first ≡ at + read = ap (λ (k : ℕ). at + k) (length_front bytes at read within) in
+    record {
+      on = record {
+        rest = s.rest;
+        others = s.others;
+        empty = g.empty;
+        cut = subst (λ (o : ℕ). CutFrom n i o (drop (at + read) whole) (s.rest ∷ s.others) t.ended) long s.cut;
+        datas = g.datas ∙ ap (λ (x : List ℕ). (before ++ x) ∷ (g.others ++ replicate g.empty [])) rest ∙ ap (λ (x : List ℕ). x ∷ (g.others ++ replicate g.empty [])) (sym (append_assoc before found s.rest))
+            ∙ ap (λ (x : List (List ℕ)). ((before ++ found) ++ s.rest) ∷ (x ++ replicate g.empty [])) others;
+      };
+      is = rest;
+      none = s.none;
+    }
+
+-- the data of the interval
+pub its_data : (whole : List ℕ) (t : ScanValue) (i at : ℕ) (before : List ℕ) (g : GoesOnAt whole t i at before) → get_or t.intervals i [] ≡ before ++ g.rest
+its_data whole t i at before g =
+    let here : i + 0 ≡ i = omega arith in
+    ap (λ (k : ℕ). get_or t.intervals k []) (sym here) ∙ sym (get_or-drop i t.intervals 0 []) ∙ ap (λ (l : List (List ℕ)). get_or l 0 []) g.datas
+
+module _ (whole : List ℕ) (t : ScanValue) (i at : ℕ) (before : List ℕ) (g : GoesOnAt whole t i at before) (none : g.rest ≡ []) where
+  cut_there : CutFrom (intervals_of t.head) i at (drop at whole) ([] ∷ g.others) t.ended
+  cut_there = subst (λ (x : List ℕ). CutFrom (intervals_of t.head) i at (drop at whole) (x ∷ g.others) t.ended) none g.cut
+
+  behind_it : drop (i + 1) t.intervals ≡ g.others ++ replicate g.empty []
+  behind_it = sym (drop-drop 1 i t.intervals) ∙ ap (drop 1) g.datas
+
+  -- to the next segment
+  pub next_on : (more : ℕ) (rest : List ℕ) → i + 1 < intervals_of t.head → drop at whole ≡ marker more (RST0 + i % 8) ++ rest → drop (at + (more + 2)) whole ≡ rest → GoesOnAt whole t (i + 1) (at + (more + 2)) []
+  next_on more rest room starts there =
+      let c = next_cut (intervals_of t.head) i at (drop at whole) g.others t.ended cut_there more rest room starts in
+      record {
+        rest = c.first;
+        others = c.behind;
+        empty = g.empty;
+        cut = subst (λ (b : List ℕ). CutFrom (intervals_of t.head) (i + 1) (at + (more + 2)) b (c.first ∷ c.behind) t.ended) (sym there) c.cut;
+        datas = behind_it ∙ ap (λ (x : List (List ℕ)). x ++ replicate g.empty []) c.are;
+      }
+
+  -- or to the scan's end
+  pub ended_on : (o : ℕ) (e : ScanEnd) → IsEnding (intervals_of t.head) i o (drop at whole) e → HasNoData t (i + 1)
+  ended_on o e ending j le =
+      let others = last_cut (intervals_of t.head) i at (drop at whole) g.others t.ended cut_there o e ending in
+      let there : i + 1 + (j - (i + 1)) ≡ j = omega (arith, le) in
+      ap (λ (k : ℕ). get_or t.intervals k []) (sym there) ∙ sym (get_or-drop (i + 1) t.intervals (j - (i + 1)) []) ∙ ap (λ (l : List (List ℕ)). get_or l (j - (i + 1)) []) (behind_it ∙ ap (λ (x : List (List ℕ)). x ++ replicate g.empty []) others)
+      ∙ none_in g.empty (j - (i + 1))

@@ -1,0 +1,115 @@
+-- What the steps of decoding a row show.
+use Rattle.std.proofs.Common.{◌≡◌, ◌≢◌, ℕ, ◌+◌, ◌-◌, ◌*◌, ◌<◌, ◌≤◌, List, [], length, get_or, refl, sym, ap, subst, ◌∙◌, arith}
+use Rattle.std.specs.Prelude.{ℤ}
+use Rattle.jr_head.specs.HeadValue.{HeadValue}
+use Rattle.jr_head.specs.Geometry.{IsLawful, blocks_of, mcus_across, order_of}
+use Rattle.jr_head.specs.Intervals.{intervals_of, mcus_in}
+use Rattle.jr_head.proofs.SamplingLaws.{length-order}
+use Rattle.jr_scan.specs.declared.place.Place.{Place}
+use Rattle.jr_scan.specs.declared.place.RunEnd.TheVariants.{AllRead}
+use Rattle.jr_scan.specs.Run.{IsRun, run_from}
+use Rattle.jr_scan.specs.ScanValue.{ScanValue, interval_of}
+use Rattle.jr_piece.specs.PieceValue.{PieceValue}
+use Rattle.jr_piece.specs.Outcome.{IsOutcome, unit_of}
+use Rattle.jr_piece.specs.Units.{grey_unit, unit_in_piece}
+use Rattle.jr_rows.specs.Groups.{units_in}
+use Rattle.jr_rows.specs.Rows.{ShowsFirstUnits}
+use Rattle.jr_arrival.proofs.ScanIntervals.{count_is}
+use Rattle.jr_arrival.proofs.ShownMcus.{grey_codes, shown_on, shown_there, whole_codes}
+use Rattle.jr_arrival.specs.declared.cursor.Reading.{Reading}
+use Rattle.jr_arrival.specs.declared.cursor.Reading.TheVariants.{GoesOn, IsStuck, HasEnded}
+use Rattle.jr_arrival.specs.declared.cursor.ScanCursor.{ScanCursor}
+use Rattle.jr_arrival.specs.declared.file_bytes.FileBytes.{FileBytes}
+use Rattle.jr_arrival.specs.Meaning.{HasNoFurtherMcu, MayBe, MeansAt, ReadsAt, behind}
+use Rattle.jr_arrival.specs.Places.{mcus_before_place}
+use Rattle.jr_arrival.specs.Cursors.{IsCursor, StaysTrue, in_window, reading_number, window}
+use Rattle.jr_arrival.specs.Shown.{ShowsMore}
+use Rattle.jr_arrival.proofs.Going.{on_by}
+use Rattle.jr_arrival.proofs.ReadOn.{nothing_whole, run_on}
+use Rattle.jr_arrival.proofs.Windows.{window_long}
+
+abbrev Kept : HeadValue → ℕ → (old new : List (List ℕ)) → Type 0
+Kept h done old new = (k : ℕ) → k < done * blocks_of h → get_or (units_in h new) k [] ≡ get_or (units_in h old) k []
+
+abbrev Are : HeadValue → (done n : ℕ) → List (List ℕ) → (ℕ → List ℕ) → Type 0
+Are h done n new unit = (k : ℕ) → k < n * blocks_of h → get_or (units_in h new) (done * blocks_of h + k) [] ≡ unit k
+
+-- ---- MCUs of the interval
+
+module _ (h : HeadValue) (c : ScanCursor) (lawful : IsLawful h) (some : 0 < blocks_of h) (is : IsCursor h c) (n done : ℕ) (few : c.mcu + n ≤ mcus_in h c.interval) (old new : List (List ℕ)) (kept : Kept h done old new) where
+  module _ (from : ℕ) (at : mcus_before_place h c.interval c.mcu ≡ from + done) (whole : List ℕ) (t : ScanValue) (may : MayBe c.file.bytes.now c.file.are_all h whole t) (before : ShowsFirstUnits t (length t.intervals) from done (units_in t.head old)) where
+    some_t : 0 < blocks_of t.head
+    some_t = subst (λ (g : HeadValue). 0 < blocks_of g) (sym may.head) some
+
+    few_t : c.mcu + n ≤ mcus_in t.head c.interval
+    few_t = subst (λ (g : HeadValue). c.mcu + n ≤ mcus_in g c.interval) (sym may.head) few
+
+    number_t : c.interval < intervals_of t.head
+    number_t = subst (λ (g : HeadValue). c.interval < intervals_of g) (sym may.head) is.is_in.number
+
+    at_t : mcus_before_place t.head c.interval c.mcu ≡ from + done
+    at_t = subst (λ (g : HeadValue). mcus_before_place g c.interval c.mcu ≡ from + done) (sym may.head) at
+
+    step : ((o : PieceValue) → o.interval ≡ interval_of t c.interval → IsOutcome o → (k : ℕ) → k < n * blocks_of t.head → get_or (units_in t.head new) (done * blocks_of t.head + k) [] ≡ unit_in_piece o (c.mcu * blocks_of t.head + k))
+        → ShowsFirstUnits t (length t.intervals) from (done + n) (units_in t.head new)
+    step codes =
+        shown_on t (length t.intervals) from done n (mcus_before_place t.head c.interval c.mcu) (units_in t.head old) (units_in t.head new) some_t at_t before (subst (λ (g : HeadValue). Kept g done old new) (sym may.head) kept)
+        (shown_there t (length t.intervals) c.interval c.mcu n (done * blocks_of t.head) (units_in t.head new) some_t number_t (omega (arith, number_t, count_is whole t may.scan)) few_t codes)
+
+  per_of : (t : ScanValue) → length (order_of t.head) ≡ blocks_of t.head
+  per_of t = length-order 0 t.head.components
+
+  -- whole ones
+  pub whole_shows : c.reading ≡ GoesOn → (ys : List (List ℤ)) (q : Place) → IsRun (run_from (in_window h c) c.place n) ys q AllRead → q.bit ≤ 8 * (c.found - c.from) → Are h done n new (unit_of h ys) → ShowsMore h c done n old new
+  whole_shows going ys q run to units from at whole t may s before =
+      let w = is.window.spells in
+      let found = window c in
+      let long : length found ≡ c.found - c.from = window_long c is.window in
+      let means : ReadsAt whole t c.interval c.mcu c.at c.place = subst (λ (r : Reading). MeansAt whole t (reading_number r) c.interval c.mcu c.at c.place) going s.means in
+      let e = may.head in
+      let o = on_by c.file.bytes.now may.more whole t c.interval c.at w.read means.before found may.is means.on w.within w.spelled in
+      let lawful_t : IsLawful t.head = subst IsLawful (sym e) lawful in
+      let there = run_on whole t c.interval c.mcu c.at (mcus_in h c.interval - c.mcu) found o.on.rest c.place lawful_t means o.is n ys q (omega (arith, is.window.bit, long)) (omega (arith, to, long))
+      (subst (λ (g : HeadValue). IsRun (run_from (record { number = c.interval; mcus = mcus_in h c.interval - c.mcu; bytes = found; head = g }) c.place n) ys q AllRead) (sym e) run) in
+      let units_t : Are t.head done n new (unit_of t.head ys) = subst (λ (g : HeadValue). Are g done n new (unit_of g ys)) (sym e) units in
+      step from at whole t may before (λ p same out k lt.
+      units_t k lt ∙ whole_codes (interval_of t c.interval) lawful_t c.mcu means.blocks (behind means.before c.place) means.next n ys (behind means.before q) there (few_t from at whole t may before) p same out k (omega (arith, lt, ap (λ (m : ℕ). n * m) (per_of t)))
+      ∙ ap (λ (m : ℕ). unit_in_piece p (c.mcu * m + k)) (per_of t))
+
+  -- grey ones
+  pub grey_shows : c.reading ≢ GoesOn → Are h done n new (λ k. grey_unit) → ShowsMore h c done n old new
+  grey_shows over units from at whole t may s before =
+      let units_t : Are t.head done n new (λ k. grey_unit) = subst (λ (g : HeadValue). Are g done n new (λ k. grey_unit)) (sym may.head) units in
+      let none : HasNoFurtherMcu t c.interval c.mcu = go c.reading over s.means in
+      step from at whole t may before (λ p same out k lt.
+      units_t k lt ∙ grey_codes (interval_of t c.interval) none.front c.mcu none.blocks none.few none.longest p same out k
+      ∙ ap (λ (m : ℕ). unit_in_piece p (c.mcu * m + k)) (per_of t))
+    where
+      go : (r : Reading) → r ≢ GoesOn → MeansAt whole t (reading_number r) c.interval c.mcu c.at c.place → HasNoFurtherMcu t c.interval c.mcu
+      go GoesOn out means = absurd (out refl)
+      go IsStuck out means = means.no_more
+      go HasEnded out means = nothing_whole t c.interval c.mcu (some_t from at whole t may before) (means c.interval (omega arith))
+
+-- ---- steps one behind the other
+
+-- over a step of the cursor alone
+pub shows_moved : (h : HeadValue) (a b : ScanCursor) (done n : ℕ) (old new : List (List ℕ)) → b.file ≡ a.file → mcus_before_place h b.interval b.mcu ≡ mcus_before_place h a.interval a.mcu → StaysTrue h a b → ShowsMore h b done n old new → ShowsMore h a done n old new
+shows_moved h a b done n old new same passed stays second from at whole t may s before =
+    second from (passed ∙ at) whole t (subst (λ (f : FileBytes). MayBe f.bytes.now f.are_all h whole t) (sym same) may) (stays whole t may s) before
+
+-- over no step
+pub shows_none : (h : HeadValue) (c : ScanCursor) (done : ℕ) (groups : List (List ℕ)) → ShowsMore h c done 0 groups groups
+shows_none h c done groups from at whole t may s before =
+    let here : done ≡ done + 0 = omega arith in
+    subst (λ (k : ℕ). ShowsFirstUnits t (length t.intervals) from k (units_in t.head groups)) here before
+
+-- over a step that decodes nothing
+pub shows_after : (h : HeadValue) (a b : ScanCursor) (done n m : ℕ) (old mid new : List (List ℕ)) → n ≡ 0 → b.file ≡ a.file → mcus_before_place h b.interval b.mcu ≡ mcus_before_place h a.interval a.mcu → StaysTrue h a b → ShowsMore h a done n old mid → ShowsMore h b done m mid new → ShowsMore h a done m old new
+shows_after h a b done n m old mid new none same passed stays first second from at whole t may s before =
+    let here : done + n ≡ done = omega (arith, none) in
+    second from (passed ∙ at) whole t (subst (λ (f : FileBytes). MayBe f.bytes.now f.are_all h whole t) (sym same) may) (stays whole t may s)
+    (subst (λ (k : ℕ). ShowsFirstUnits t (length t.intervals) from k (units_in t.head mid)) here (first from at whole t may s before))
+
+pub row_shown : (t : ScanValue) (h : HeadValue) (n row done : ℕ) (units : List (List ℕ)) → t.head ≡ h → done ≡ mcus_across h → ShowsFirstUnits t n (row * mcus_across h) done units → ShowsFirstUnits t n (row * mcus_across t.head) (mcus_across t.head) units
+row_shown t h n row done units e all shown =
+    subst (λ (g : HeadValue). ShowsFirstUnits t n (row * mcus_across g) (mcus_across g) units) (sym e) (subst (λ (k : ℕ). ShowsFirstUnits t n (row * mcus_across h) k units) all shown)

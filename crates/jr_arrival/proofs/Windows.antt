@@ -1,0 +1,138 @@
+-- The window of a cursor, and what its data spell.
+use Rattle.std.proofs.Common.{◌≡◌, ℕ, ◌+◌, ◌-◌, ◌*◌, ◌/◌, ◌^◌, ◌<◌, ◌≤◌, inl, inr, List, [], ◌∷◌, ◌++◌, length, take, drop, sym, ap, subst, ◌∙◌, length-append, length-drop, length-take-le, arith}
+use Rattle.std.specs.Prelude.{Bool, true, min}
+use Rattle.std.specs.List.{flat_map}
+use Rattle.std.proofs.lemmas.Bool.{cases_lt}
+use Rattle.std.proofs.lemmas.List.{append_cancel_left, drop-drop, drop-take, length-map, take-append-drop}
+use Rattle.std.proofs.Math.Seq.{take-append_seam}
+use Rattle.jr_cut.specs.Cut.{Spelling, spelling, byte_spelled, IsRaw, IsStop}
+use Rattle.jr_cut.proofs.Cuts.{raw_none, rest_is}
+use Rattle.jr_arrival.proofs.Spellings.{further, up_to_stop}
+use Rattle.jr_arrival.specs.declared.cursor.ScanCursor.{ScanCursor}
+use Rattle.jr_arrival.specs.Cursors.{HasWindow, IsOffset, Spells, trimmed, window}
+use Rattle.jr_arrival.specs.Meaning.{HasBits}
+use Rattle.jr_arrival.proofs.Spelled.{length_front, same_spelled, split_at}
+
+pub window_long : (c : ScanCursor) → HasWindow c → length (window c) ≡ c.found - c.from
+window_long c w = length-take-le (c.found - c.from) (drop c.from c.room.items) (omega (arith, w.from, w.found, w.room, length-drop c.from c.room.items))
+
+-- at a stop there is no data
+pub stopped : (bytes found : List ℕ) (at : ℕ) → found ≡ [] → at ≤ length bytes → IsStop (drop at bytes) → Spells bytes at found true
+stopped bytes found at none within stop =
+    let here : at + 0 ≡ at = omega arith in
+    record { read = 0; within = omega (arith, within); spelled = subst (IsRaw []) (sym none) raw_none; stop = λ ends. subst (λ (k : ℕ). IsStop (drop k bytes)) (sym here) stop }
+
+-- no bits have come anywhere
+pub no_bits : (bytes : List ℕ) (at : ℕ) → at ≤ length bytes → HasBits bytes at 0
+no_bits bytes at within = record { read = 0; found = []; within = omega (arith, within); spelled = raw_none; few = omega arith }
+
+-- what a window is filled with
+pub filled : (bytes room : List ℕ) (at found : ℕ) (ends : Bool) → at ≤ length bytes
+    → (read : ℕ) × (read ≤ length (take (length bytes - at) (drop at bytes))) × IsRaw (take read (take (length bytes - at) (drop at bytes))) (take found room) × (ends ≡ true → IsStop (drop read (take (length bytes - at) (drop at bytes))))
+    → Spells bytes at (take (found - 0) (drop 0 room)) ends
+filled bytes room at found ends within told =
+    let rest = rest_is bytes at in
+    let read = told.0 in
+    let all : found - 0 ≡ found = omega arith in
+    record {
+      read = read;
+      within = omega (arith, within, told.1, ap length rest, length-drop at bytes);
+      spelled = subst (λ (k : ℕ). IsRaw (take read (drop at bytes)) (take k room)) (sym all) (subst (λ (xs : List ℕ). IsRaw (take read xs) (take found room)) rest told.2);
+      stop = λ e. subst IsStop (drop-drop read at bytes) (subst (λ (xs : List ℕ). IsStop (drop read xs)) rest (told.3 e));
+    }
+
+-- a bit that has come is in a window that reaches over the first byte
+pub bit_there : (bytes : List ℕ) (at bit n found : ℕ) (front : List ℕ) → HasBits bytes at bit → bit < 8 → IsRaw (take n (drop at bytes)) front → (length front < min bit 1 → IsStop (drop n (drop at bytes))) → length front ≤ found → bit ≤ 8 * found
+bit_there bytes at bit n found front b low is stop le = elim (cases_lt (length front) (min bit 1)) [
+  | inr enough ↦ omega (arith, low, enough, le)
+  | inl less ↦
+      let raw = drop at bytes in
+      let most = up_to_stop (take n raw) front (take b.read raw) b.found (drop n raw) (drop b.read raw) is b.spelled (take-append-drop n raw ∙ sym (take-append-drop b.read raw)) (stop less) in
+      omega (arith, most, b.few, le)
+]
+
+-- the bits of a window have come
+pub window_bits : (c : ScanCursor) → HasWindow c → HasBits c.file.bytes.now c.at c.place.bit
+window_bits c w = record { read = w.spells.read; found = window c; within = w.spells.within; spelled = w.spells.spelled; few = omega (arith, window_long c w, w.bit) }
+
+-- as many bytes of the file as spell so many of the window's
+pub offset_spelled : (bytes found : List ℕ) (ends : Bool) (at byte n : ℕ) (s : Spells bytes at found ends) → byte ≤ length found → (front : List ℕ) → IsRaw (take n (drop at bytes)) front → length front ≤ byte → (length front < byte → IsStop (drop n (drop at bytes)))
+    → IsRaw (take n (drop at bytes)) (take byte found)
+offset_spelled bytes found ends at byte n s few front is short stop =
+    let long : length (take byte found) ≡ byte = length-take-le byte found few in
+    let begin : IsRaw (take s.read (drop at bytes)) (take byte found ++ drop byte found) = subst (λ (xs : List ℕ). IsRaw (take s.read (drop at bytes)) xs) (sym (take-append-drop byte found)) s.spelled in
+    let same = same_spelled (drop at bytes) (take byte found) (drop byte found) front n s.read is (omega (arith, short, long)) (λ lt. stop (omega (arith, lt, long))) begin in
+    subst (λ (xs : List ℕ). IsRaw (take n (drop at bytes)) xs) same is
+
+-- a byte of data takes a byte of the file
+spelled_few : (raw found : List ℕ) → IsRaw raw found → length found ≤ length raw
+spelled_few raw found is = omega (arith, ap length is.means, length-map is.parts byte_spelled, ap length is.spelled, go is.parts)
+  where
+    go : (parts : List Spelling) → length parts ≤ length (flat_map spelling parts)
+    go [] = omega arith
+    go (p ∷ ps) = omega (arith, go ps, length-append (spelling p) (flat_map spelling ps), some p)
+      where
+        some : (p : Spelling) → 0 < length (spelling p)
+        some (Spelling.Plain byte) = omega arith
+        some (Spelling.Stuffed more) = omega arith
+
+-- ---- a window that begins at the byte of the next MCU
+
+module _ (c : ScanCursor) (w : HasWindow c) (at : ℕ) (off : IsOffset c (c.place.bit / 8) at) where
+  abbrev byte : ℕ
+  byte = c.place.bit / 8
+
+  abbrev bytes : List ℕ
+  bytes = c.file.bytes.now
+
+  front_long : length (take byte (window c)) ≡ byte
+  front_long = length-take-le byte (window c) (omega (arith, window_long c w, w.bit))
+
+  pub trimmed_later : c.at + c.place.bit / 8 ≤ at
+  trimmed_later = omega (arith, off.is, spelled_few (take off.read (drop c.at bytes)) (take byte (window c)) off.spelled, front_long, length_front bytes c.at off.read (omega (arith, off.is, off.within)))
+
+  rest : drop byte (window c) ≡ window (trimmed c at)
+  rest =
+      let k = c.found - (c.from + byte) in
+      let sum : c.found - c.from ≡ byte + k = omega (arith, w.from, w.bit) in
+      ap (λ (n : ℕ). drop byte (take n (drop c.from c.room.items))) sum ∙ drop-take byte k (drop c.from c.room.items) ∙ ap (take k) (drop-drop byte c.from c.room.items)
+
+  spells_on : Spells bytes at (window (trimmed c at)) c.ends
+  spells_on =
+      let s = w.spells in
+      let front = take byte (window c) in
+      let tail = drop (c.at + s.read) bytes in
+      let f = further (take off.read (drop c.at bytes)) front (take s.read (drop c.at bytes)) (window c) (drop (c.at + off.read) bytes) tail off.spelled s.spelled (sym (split_at bytes c.at off.read) ∙ split_at bytes c.at s.read) (omega (arith, window_long c w, front_long, w.bit)) in
+      let there : drop at bytes ≡ f.raw ++ tail = ap (λ (k : ℕ). drop k bytes) off.is ∙ f.spelled in
+      let sum : at + length f.raw ≡ c.at + s.read = omega (arith, ap length there, length-append f.raw tail, length-drop at bytes, length-drop (c.at + s.read) bytes, off.within, s.within) in
+      let raw : take (length f.raw) (drop at bytes) ≡ f.raw = ap (take (length f.raw)) there ∙ take-append_seam f.raw tail in
+      let added : f.added ≡ drop byte (window c) = append_cancel_left front f.added (drop byte (window c)) (sym f.is ∙ sym (take-append-drop byte (window c))) in
+      record {
+        read = length f.raw;
+        within = omega (arith, sum, s.within);
+        spelled = subst (λ (x : List ℕ). IsRaw x (window (trimmed c at))) (sym raw) (subst (IsRaw f.raw) (added ∙ rest) f.raw_is);
+        stop = λ e. subst (λ (k : ℕ). IsStop (drop k bytes)) (sym sum) (s.stop e);
+      }
+
+  pub trimmed_window : HasWindow (trimmed c at)
+  trimmed_window = record {
+    room = w.room;
+    from = omega (arith, w.from, w.bit);
+    found = w.found;
+    at = off.within;
+    bit = omega (arith, w.from, w.bit);
+    in_range = w.in_range;
+    spells = spells_on;
+    full = w.full;
+  }
+
+-- where an MCU is not whole, a window at a later byte of the file leaves less of it, and so does one that reaches further
+pub left_less : (long at at' reach next reach' from byte found bit : ℕ) → at + byte ≤ at' → at' ≤ long → 8 * byte ≤ bit → bit < 8 * byte + 8 → 8 * (found - from) < 16650 + bit → (long ≤ reach → found ≡ 16384) → (from + byte ≡ 0 → reach + 1 < 2 ^ 64 → reach < next) → reach ≤ next → next ≤ reach' → long < 2 ^ 64
+    → (long - at') + (long - reach') + 0 < (long - at) + (long - reach) + from
+left_less long at at' reach next reach' from byte found bit later within low high few full further on more small = elim (cases_lt 0 (from + byte)) [
+  | inl some ↦ omega (arith, later, within, on, more, some)
+  | inr none ↦ elim (cases_lt reach long) [
+    | inl lt ↦ omega (arith, later, within, lt, more, further (omega (arith, none)) (omega (arith, lt, small)))
+    | inr past ↦ absurd (omega (arith, full past, few, high, none))
+  ]
+]

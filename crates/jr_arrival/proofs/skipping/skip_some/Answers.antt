@@ -1,0 +1,88 @@
+use Rattle.std.proofs.Common.{◌≡◌, ◌+◌, ap, ◌∙◌, arith}
+use Rattle.jr_arrival.specs.declared.file_bytes.FileBytes.{FileBytes}
+use Rattle.jr_arrival.proofs.CursorSteps.{cursor_stays, left_in, passes_on, passes_stays}
+use Rattle.jr_arrival.proofs.Steps.{true_on}
+use Rattle.jr_arrival.proofs.skipping.skip_some.Goals as goal
+
+pub returns-then-not-advance-clause-passes : goal.returns-then-not-advance-clause-passes
+returns-then-not-advance-clause-passes c = c.advance.ensures.passes
+
+pub returns-then-not-advance-clause-stands : goal.returns-then-not-advance-clause-stands
+returns-then-not-advance-clause-stands c = c.advance.ensures.stands
+
+pub returns-then-not-advance-clause-all : goal.returns-then-not-advance-clause-all
+returns-then-not-advance-clause-all c all = let e = c.advance.ensures.all all in let f = c.if-not-advance.true in cc
+
+pub skip_whole-whole-requires : goal.skip_whole-whole-requires
+skip_whole-whole-requires c = record { cursor = c.advance.ensures.passes.is }
+
+pub returns-then-whole-gt0-clause-passes : goal.returns-then-whole-gt0-clause-passes
+returns-then-whole-gt0-clause-passes c = passes_on c.args.head.now c.args.cursor.now c.advance.new.self c.skip_whole-whole.new.cursor 0 c.skip_whole-whole.result c.skip_whole-whole.result (omega arith) c.advance.ensures.passes c.skip_whole-whole.ensures.passes
+
+pub returns-then-whole-gt0-clause-stands : goal.returns-then-whole-gt0-clause-stands
+returns-then-whole-gt0-clause-stands c = true_on c.args.head.now c.args.cursor.now c.advance.new.self c.skip_whole-whole.new.cursor c.advance.ensures.passes.file c.advance.ensures.stands c.skip_whole-whole.ensures.stands
+
+pub returns-then-whole-gt0-clause-few : goal.returns-then-whole-gt0-clause-few
+returns-then-whole-gt0-clause-few c = c.skip_whole-whole.ensures.few
+
+pub returns-then-whole-gt0-clause-all : goal.returns-then-whole-gt0-clause-all
+returns-then-whole-gt0-clause-all c all = c.if-whole-gt0.true
+
+pub give_up-requires-clause-cursor : goal.give_up-requires-clause-cursor
+give_up-requires-clause-cursor c = c.skip_whole-whole.ensures.passes.is
+
+pub give_up-requires-clause-none : goal.give_up-requires-clause-none
+give_up-requires-clause-none c going = c.skip_whole-whole.ensures.none (omega arith) c.requires.some (c.advance.ensures.some c.if-not-advance.false) going
+
+pub returns-then-not-give_up-clause-passes : goal.returns-then-not-give_up-clause-passes
+returns-then-not-give_up-clause-passes c =
+    let h = c.args.head.now in
+    let sum : 0 ≡ 0 + c.skip_whole-whole.result = omega (arith, c.if-whole-gt0.false) in
+    let first = passes_on h c.args.cursor.now c.advance.new.self c.skip_whole-whole.new.cursor 0 c.skip_whole-whole.result 0 sum c.advance.ensures.passes c.skip_whole-whole.ensures.passes in
+    passes_stays h c.args.cursor.now c.skip_whole-whole.new.cursor c.give_up.new.self 0 first c.give_up.ensures.stays
+
+pub returns-then-not-give_up-clause-stands : goal.returns-then-not-give_up-clause-stands
+returns-then-not-give_up-clause-stands c =
+    let h = c.args.head.now in
+    true_on h c.args.cursor.now c.advance.new.self c.give_up.new.self c.advance.ensures.passes.file c.advance.ensures.stands
+    (true_on h c.advance.new.self c.skip_whole-whole.new.cursor c.give_up.new.self c.skip_whole-whole.ensures.passes.file c.skip_whole-whole.ensures.stands c.give_up.ensures.stands)
+
+pub returns-then-not-give_up-clause-all : goal.returns-then-not-give_up-clause-all
+returns-then-not-give_up-clause-all c all =
+    let file = c.skip_whole-whole.ensures.passes.file ∙ c.advance.ensures.passes.file in
+    let e = c.give_up.ensures.all (ap (λ (f : FileBytes). f.are_all) file ∙ all) in
+    let f = c.if-not-give_up.true in
+    cc
+
+pub skip_grey-requires-clause-cursor : goal.skip_grey-requires-clause-cursor
+skip_grey-requires-clause-cursor c = cursor_stays c.args.head.now c.skip_whole-whole.new.cursor c.give_up.new.self c.skip_whole-whole.ensures.passes.is c.give_up.ensures.stays
+
+pub skip_grey-requires-clause-some : goal.skip_grey-requires-clause-some
+skip_grey-requires-clause-some c =
+    let w = c.skip_whole-whole.ensures.passes in
+    let s = c.give_up.ensures.stays in
+    left_in c.args.head.now c.advance.new.self c.give_up.new.self (s.interval ∙ w.interval) (omega (arith, s.mcu, w.mcu, c.if-whole-gt0.false)) (c.advance.ensures.some c.if-not-advance.false)
+
+pub skip_grey-requires-clause-over : goal.skip_grey-requires-clause-over
+skip_grey-requires-clause-over c = c.give_up.ensures.over c.if-not-give_up.false
+
+pub returns-clause-passes : goal.returns-clause-passes
+returns-clause-passes c =
+    let h = c.args.head.now in
+    let sum : 0 ≡ 0 + c.skip_whole-whole.result = omega (arith, c.if-whole-gt0.false) in
+    let first = passes_on h c.args.cursor.now c.advance.new.self c.skip_whole-whole.new.cursor 0 c.skip_whole-whole.result 0 sum c.advance.ensures.passes c.skip_whole-whole.ensures.passes in
+    let second = passes_stays h c.args.cursor.now c.skip_whole-whole.new.cursor c.give_up.new.self 0 first c.give_up.ensures.stays in
+    passes_on h c.args.cursor.now c.give_up.new.self c.skip_grey.new.cursor 0 c.skip_grey.result c.skip_grey.result (omega arith) second c.skip_grey.ensures.passes
+
+pub returns-clause-stands : goal.returns-clause-stands
+returns-clause-stands c =
+    let h = c.args.head.now in
+    true_on h c.args.cursor.now c.advance.new.self c.skip_grey.new.cursor c.advance.ensures.passes.file c.advance.ensures.stands
+    (true_on h c.advance.new.self c.skip_whole-whole.new.cursor c.skip_grey.new.cursor c.skip_whole-whole.ensures.passes.file c.skip_whole-whole.ensures.stands
+    (true_on h c.skip_whole-whole.new.cursor c.give_up.new.self c.skip_grey.new.cursor c.give_up.ensures.stays.file c.give_up.ensures.stands c.skip_grey.ensures.stands))
+
+pub returns-clause-few : goal.returns-clause-few
+returns-clause-few c = c.skip_grey.ensures.few
+
+pub returns-clause-all : goal.returns-clause-all
+returns-clause-all c all = c.skip_grey.ensures.some c.requires.some

@@ -1,0 +1,112 @@
+-- A cursor over the MCUs of a scan.
+use Rattle.std.specs.Prelude.{◌≡◌, ℕ, ◌+◌, ◌-◌, ◌*◌, ◌/◌, ◌%◌, ◌≤◌, ◌⊎◌, Bool, true, false, List, length, take, drop}
+use Rattle.std.specs.List.{All}
+use Rattle.jr_head.specs.HeadValue.{HeadValue}
+use Rattle.jr_head.specs.Intervals.{mcus_in}
+use Rattle.jr_mcu.specs.Block.{IsInDcRange}
+use Rattle.jr_mcu.specs.Mcus.{no_predictions}
+use Rattle.jr_cut.specs.Cut.{IsRaw, IsStop}
+use Rattle.jr_scan.specs.IntervalValue.{IntervalValue}
+use Rattle.jr_scan.specs.Run.{HasNoMcu, left_at}
+use Rattle.jr_scan.specs.ScanValue.{ScanValue}
+use Rattle.jr_arrival.specs.declared.cursor.Reading.{Reading}
+use Rattle.jr_arrival.specs.declared.cursor.Reading.TheVariants.{GoesOn, IsStuck, HasEnded}
+use Rattle.jr_arrival.specs.declared.cursor.ScanCursor.{ScanCursor}
+use Rattle.jr_arrival.specs.declared.cursor.TheConstants.{WINDOW}
+use Rattle.jr_arrival.specs.Meaning.{MayBe, MeansAt}
+use Rattle.jr_arrival.specs.Places.{IsIn, mcus_before_place}
+
+-- the bytes from that offset on spell this data, and all of it up to a marker or the end if it ends there
+pub record Spells (bytes : List ℕ) (at : ℕ) (found : List ℕ) (ends : Bool) : Type 0 where
+  pub read : ℕ
+  pub within : at + read ≤ length bytes
+  pub spelled : IsRaw (take read (drop at bytes)) found
+  pub stop : ends ≡ true → IsStop (drop (at + read) bytes)
+
+-- the data in the window
+abbrev pub window : ScanCursor → List ℕ
+window c = take (c.found - c.from) (drop c.from c.room.items)
+
+-- its window is one of the file, and it stands in the window
+pub record HasWindow (c : ScanCursor) : Type 0 where
+  pub room : length c.room.items ≡ WINDOW
+  pub from : c.from ≤ c.found
+  pub found : c.found ≤ WINDOW
+  pub at : c.at ≤ length c.file.bytes.now
+  pub bit : c.place.bit ≤ 8 * (c.found - c.from)
+  pub in_range : All IsInDcRange c.place.predictions
+  pub spells : Spells c.file.bytes.now c.at (window c) c.ends
+  -- only the data's end or a full window ends it where it may reach the end of the file
+  pub full : length c.file.bytes.now ≤ c.reach → c.ends ≡ false → c.found ≡ WINDOW
+
+-- and so do the numbers of its interval and MCU
+pub record IsCursor (h : HeadValue) (c : ScanCursor) : Type 0 where
+  pub window : HasWindow c
+  pub is_in : IsIn h c.interval c.mcu
+
+-- it has gone on in the same interval, or nowhere
+pub record StaysIn (old new : ScanCursor) : Type 0 where
+  pub window : HasWindow new
+  pub file : new.file ≡ old.file
+  pub interval : new.interval ≡ old.interval
+  pub mcu : new.mcu ≡ old.mcu
+
+-- it has gone on over so many MCUs of its interval
+pub record PassesIn (h : HeadValue) (old new : ScanCursor) (mcus : ℕ) : Type 0 where
+  pub is : IsCursor h new
+  pub file : new.file ≡ old.file
+  pub interval : new.interval ≡ old.interval
+  pub mcu : new.mcu ≡ old.mcu + mcus
+
+-- or also into the next one
+pub record PassesOver (h : HeadValue) (old new : ScanCursor) (mcus : ℕ) : Type 0 where
+  pub is : IsCursor h new
+  pub file : new.file ≡ old.file
+  pub passed : mcus_before_place h new.interval new.mcu ≡ mcus_before_place h old.interval old.mcu + mcus
+
+-- the rest of the interval, as far as its data stand in the window
+abbrev pub in_window : HeadValue → ScanCursor → IntervalValue
+in_window h c = record { number = c.interval; mcus = mcus_in h c.interval - c.mcu; bytes = window c; head = h }
+
+-- no MCU follows in the window, to the end of the interval's data or by more bits than an MCU has
+pub record NoneFollows (h : HeadValue) (c : ScanCursor) : Type 0 where
+  pub none : HasNoMcu (in_window h c) c.place
+  pub far : (c.ends ≡ true) ⊎ (16650 ≤ length (left_at (in_window h c) c.place))
+
+-- the number of a reading
+abbrev pub reading_number : Reading → ℕ
+reading_number GoesOn = 0
+reading_number IsStuck = 1
+reading_number HasEnded = 2
+
+-- it stands where it says in that file, of that scan
+pub record IsCursorIn (whole : List ℕ) (t : ScanValue) (c : ScanCursor) : Type 0 where
+  pub from : t.head.scan_at ≤ c.at
+  pub means : MeansAt whole t (reading_number c.reading) c.interval c.mcu c.at c.place
+
+-- a step that leaves it there, in each file that its bytes may be
+abbrev pub StaysTrue : HeadValue → (old new : ScanCursor) → Type 0
+StaysTrue h old new = (whole : List ℕ) (t : ScanValue) → MayBe old.file.bytes.now old.file.are_all h whole t → IsCursorIn whole t old → IsCursorIn whole t new
+
+-- that offset in the file stands behind so many bytes of the window's data
+pub record IsOffset (c : ScanCursor) (byte at : ℕ) : Type 0 where
+  pub read : ℕ
+  pub is : at ≡ c.at + read
+  pub within : at ≤ length c.file.bytes.now
+  pub spelled : IsRaw (take read (drop c.at c.file.bytes.now)) (take byte (window c))
+
+-- its window begins at the byte of the next MCU, which is at that offset in the file
+abbrev pub trimmed : ScanCursor → ℕ → ScanCursor
+trimmed c at = record c { at = at; from = c.from + c.place.bit / 8; place = record { bit = c.place.bit % 8; predictions = c.place.predictions } }
+
+-- a number that each step to another window makes smaller
+abbrev pub to_read : ScanCursor → ℕ
+to_read c = (length c.file.bytes.now - c.at) + (length c.file.bytes.now - c.reach) + c.from
+
+-- before the first MCU of the next interval, to whose data it has gone
+abbrev pub begun : ScanCursor → ScanCursor
+begun c = record c { interval = c.interval + 1; mcu = 0; place = record { bit = c.place.bit; predictions = no_predictions } }
+
+-- a step to where the next interval begins, or to the scan's end
+abbrev pub BeginsNext : HeadValue → (old new : ScanCursor) → Type 0
+BeginsNext h old new = (whole : List ℕ) (t : ScanValue) → MayBe old.file.bytes.now old.file.are_all h whole t → IsCursorIn whole t old → IsCursorIn whole t (begun new)

@@ -1,0 +1,29 @@
+-- What a row of MCUs shows as it is decoded, in each file that the bytes may be.
+use Rattle.std.specs.Prelude.{◌≡◌, ℕ, ◌+◌, ◌*◌, Bool, List, length}
+use Rattle.jr_head.specs.HeadValue.{HeadValue}
+use Rattle.jr_head.specs.Geometry.{mcus_across}
+use Rattle.jr_paint.specs.Lines.{next_lines_of}
+use Rattle.jr_scan.specs.ScanValue.{ScanValue}
+use Rattle.jr_picture.specs.declared.mark.Mark.{Mark}
+use Rattle.jr_picture.specs.Headline.{ShowsFirst}
+use Rattle.jr_rows.specs.Groups.{units_in}
+use Rattle.jr_rows.specs.Rows.{ShowsFirstUnits}
+use Rattle.jr_arrival.specs.declared.cursor.ScanCursor.{ScanCursor}
+use Rattle.jr_arrival.specs.declared.place.RowPlace.{RowPlace}
+use Rattle.jr_arrival.specs.Cursors.{IsCursorIn}
+use Rattle.jr_arrival.specs.Meaning.{IsPlaceIn, MayBe}
+use Rattle.jr_arrival.specs.Places.{mcus_before_place}
+
+-- a step from where the cursor stands: where the first `done` MCUs of a row are those of the picture, so many more are
+abbrev pub ShowsMore : HeadValue → ScanCursor → (done more : ℕ) → (old new : List (List ℕ)) → Type 0
+ShowsMore h c done more old new = (from : ℕ) → mcus_before_place h c.interval c.mcu ≡ from + done → (whole : List ℕ) (t : ScanValue) → MayBe c.file.bytes.now c.file.are_all h whole t → IsCursorIn whole t c
+    → ShowsFirstUnits t (length t.intervals) from done (units_in t.head old) → ShowsFirstUnits t (length t.intervals) from (done + more) (units_in t.head new)
+
+-- all MCUs of the row are
+abbrev pub ShowsRow : ScanValue → (row : ℕ) → List (List ℕ) → Type 0
+ShowsRow t row groups = ShowsFirstUnits t (length t.intervals) (row * mcus_across t.head) (mcus_across t.head) (units_in t.head groups)
+
+-- these are lines of the picture of each file that the bytes may be, of which this is a place: so many from this one on
+abbrev pub AreLines : (bytes : List ℕ) (all : Bool) → HeadValue → RowPlace → (first count : ℕ) → List ℕ → Type 0
+AreLines bytes all h p first count pixels = (whole : List ℕ) (t : ScanValue) (marks : List Mark) (f : ℕ → ℕ → ℕ → ℕ) → MayBe bytes all h whole t → IsPlaceIn bytes whole t p
+    → ShowsFirst t (length t.intervals) marks f → pixels ≡ next_lines_of h f first count

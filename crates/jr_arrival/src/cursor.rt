@@ -1,0 +1,440 @@
+//! A cursor that goes over the MCUs of a scan, a window of the file's bytes at a time.
+
+ghost use Rattle.std.specs.List.{All};
+ghost use Rattle.std.specs.Prelude.{◌≡◌, ◌≢◌, ◌⊎◌, ◌≤◌, ◌<◌, ◌+◌, ◌-◌, ◌*◌, ◌/◌, ◌%◌, ◌^◌, ℕ, List, [], ◌++◌, length, take, drop, min, max, true, false, IfOk};
+ghost use Rattle.jr_cut.specs.Cut.{IsRaw, IsStop};
+ghost use Rattle.jr_cut.specs.OpenSegments.{IsStopOf};
+ghost use Rattle.jr_head.specs.Geometry.{mcus_across, mcus_down, mcus_of};
+ghost use Rattle.jr_head.specs.Intervals.{intervals_of, mcus_in};
+ghost use Rattle.jr_mcu.specs.Block.{IsInDcRange};
+ghost use Rattle.jr_scan.specs.McuReader.{HasRead};
+ghost use Rattle.jr_scan.specs.Run.{run_from};
+ghost use Rattle.jr_arrival.specs.Places.{IsIn, IsPlaceOf, mcus_before_place};
+ghost use Rattle.jr_arrival.specs.Cursors.{HasWindow, IsCursor, IsOffset, BeginsNext, NoneFollows, PassesOver, IsCursorIn, StaysIn, StaysTrue, begun, in_window, reading_number, to_read, trimmed};
+ghost use Rattle.jr_arrival.specs.Meaning.{HasBits, IsPlaceIn, MayBe};
+ghost use Rattle.jr_arrival.specs.declared.cursor.Reading.TheVariants.{GoesOn, HasEnded};
+ghost use Rattle.jr_cut.specs.declared.scan_end.ScanEnd.TheVariants.{EndOfFile};
+ghost use Rattle.jr_head.specs.HeadValue.{HeadValue};
+ghost use Rattle.jr_scan.specs.ScanValue.{ScanValue};
+ghost use Rattle.jr_arrival.specs.declared.cursor.TheConstants.{MCU_BITS, WINDOW};
+
+use crate::file_bytes::FileBytes;
+use crate::place::RowPlace;
+use crate::unstuffing::{spelled_length, unstuff_some};
+use jr_base::Memory;
+use jr_cut::{ScanEnd, Stop, fill_count, segment_length, stop_at};
+use jr_head::Head;
+use jr_scan::{IntervalRef, McuReader, Place};
+use std::alloc::Global;
+
+/// Maximum number of data bytes in a window: some rows of a small picture, and many times the longest MCU, which has 2082.
+pub(crate) const WINDOW: usize = 16384;
+
+/// Number of file bytes that a window reads at first. A byte of data takes at most two without fill bytes, so only fill bytes
+/// end a window here, and a caller that asks for one row at a time reads no more of them.
+const REACH: usize = 2 * WINDOW;
+
+/// Number of bits in which a whole MCU begins and ends if any does.
+const MCU_BITS: u64 = 16650;
+
+/// How the interval goes on in which a cursor stands.
+#[derive(Clone, Copy, Debug, PartialEq, Eq)]
+pub(crate) enum Reading {
+    /// MCUs may follow.
+    GoesOn,
+    /// No further one is whole.
+    IsStuck,
+    /// The scan has ended before its end, and no further interval has data.
+    HasEnded,
+}
+
+/// A position between two MCUs of a scan.
+#[derive(Drop)]
+pub(crate) struct ScanCursor<'a> {
+    pub file: FileBytes<'a>,
+    /// The window: its bytes of data are `room[from..found]`.
+    pub room: Vec<u8>,
+    pub from: usize,
+    pub found: usize,
+    /// Offset in the file of the window's first byte of data; after the interval's data where none follow.
+    pub at: usize,
+    /// Offset in the file before which the window's bytes were read.
+    pub reach: usize,
+    /// Whether the interval's data end with the window's.
+    pub ends: bool,
+    /// Where in the window the next MCU begins.
+    pub place: Place,
+    pub interval: u32,
+    /// How many MCUs of the interval stand before it.
+    pub mcu: u32,
+    pub reading: Reading,
+}
+
+/// What sixteen bits hold of a number.
+fn in_sixteen_bits(prediction: i32) -> i32
+    ensures in_range { IsInDcRange result }
+    ensures kept { IsInDcRange prediction → result ≡ prediction }
+{
+    prediction.clamp(-32768, 32767)
+}
+
+/// What they hold of each of these.
+fn in_range(predictions: [i32; 3]) -> [i32; 3]
+    ensures in_range { All IsInDcRange result }
+    ensures kept { All IsInDcRange predictions → result ≡ predictions }
+{
+    let [a, b, c] = predictions;
+    [in_sixteen_bits(a), in_sixteen_bits(b), in_sixteen_bits(c)]
+}
+
+/// The number of a reading.
+fn number_of(reading: Reading) -> u32
+    ensures { result ≡ reading_number reading }
+{
+    match reading {
+        Reading::GoesOn => 0,
+        Reading::IsStuck => 1,
+        Reading::HasEnded => 2,
+    }
+}
+
+/// The reading of a number.
+fn reading_of(number: u32) -> Reading
+    ensures { reading_number result ≡ min number 2 }
+{
+    match number {
+        0 => Reading::GoesOn,
+        1 => Reading::IsStuck,
+        _ => Reading::HasEnded,
+    }
+}
+
+/// The offset of a place in a file whose scan begins at another: no byte before the scan's, and none past the end.
+fn offset_of(place: &RowPlace, scan_at: u64, length: usize) -> usize
+    ensures within { result ≤ length }
+    ensures there { max place.now.at scan_at ≤ length → result ≡ max place.now.at scan_at }
+{
+    let at = place.at.max(scan_at);
+    if at < length as u64 {
+        at as usize
+    } else {
+        length
+    }
+}
+
+/// Returns how far a window that begins at an offset may reach: twice as far where it began there before.
+fn next_reach(at: usize, reach: usize, passed: usize) -> usize
+    ensures on { reach ≤ result }
+    ensures further { passed ≡ 0 → reach + 1 < 2 ^ 64 → reach < result }
+{
+    if passed > 0 {
+        return reach;
+    }
+    reach.saturating_add(reach.saturating_sub(at).max(1))
+}
+
+impl<'a> ScanCursor<'a> {
+    /// At a place of a file with this head. It takes memory for a window.
+    pub(crate) fn open(
+        alloc: Global,
+        head: &Head,
+        file: FileBytes<'a>,
+        place: &RowPlace,
+    ) -> Result<ScanCursor<'a>, Memory>
+        requires stands { IsPlaceOf head.now place.now }
+        ensures cursor { IfOk result (IsCursor head.now) }
+        ensures file { IfOk result (λ c. c.file ≡ file.entry) }
+        ensures at { IfOk result (λ c. mcus_before_place head.now c.interval c.mcu ≡ place.now.row * mcus_across head.now) }
+        ensures stands { (whole : List ℕ) (t : ScanValue) → MayBe file.entry.bytes.now file.entry.are_all head.now whole t → IsPlaceIn file.entry.bytes.now whole t place.now → IfOk result (IsCursorIn whole t) }
+    {
+        let mut cursor = ScanCursor {
+            file,
+            room: vec![in alloc; 0; WINDOW]?,
+            from: 0,
+            found: 0,
+            at: 0,
+            reach: 0,
+            ends: false,
+            place: Place {
+                bit: 0,
+                predictions: in_range(place.predictions),
+            },
+            interval: place.interval,
+            mcu: place.mcu,
+            reading: reading_of(place.state),
+        };
+        let at = offset_of(place, head.scan_at(), file.bytes.len());
+        cursor.go_to(at, u64::from(place.bit));
+        Ok(cursor)
+    }
+
+    /// Fills the window from an offset of the file on, where `bit` bits of the first byte of data are taken.
+    fn go_to(&mut self, at: usize, bit: u64)
+        requires room { length self.old.room.items ≡ WINDOW }
+        requires in_range { All IsInDcRange self.old.place.predictions }
+        requires at { at ≤ length self.old.file.bytes.now }
+        ensures stays { StaysIn self.old self.new }
+        ensures at { self.new.at ≡ at }
+        ensures from { self.new.from ≡ 0 }
+        ensures reach { self.old.reach ≤ self.new.reach }
+        ensures bit { HasBits self.old.file.bytes.now at bit → bit < 8 → self.new.place.bit ≡ bit }
+        ensures reading { self.new.reading ≡ self.old.reading }
+        ensures predictions { self.new.place.predictions ≡ self.old.place.predictions }
+    {
+        let raw = &self.file.bytes[at..];
+        let least = spelled_length(raw, bit.min(1) as usize);
+        let most = self.reach.saturating_sub(at).max(REACH).max(least);
+        let part = unstuff_some(raw, most, &mut self.room);
+        self.at = at;
+        self.reach = at.saturating_add(most);
+        self.from = 0;
+        self.found = part.found;
+        self.ends = part.ends;
+        self.place.bit = bit.min(8 * part.found as u64);
+    }
+
+    /// Returns the offset in the file of a byte of the window's data.
+    fn offset(&self, byte: usize) -> usize
+        requires window { HasWindow self.now }
+        requires byte { byte ≤ self.now.found - self.now.from }
+        ensures { IsOffset self.now byte result }
+    {
+        self.at + spelled_length(&self.file.bytes[self.at..], byte)
+    }
+
+    /// Drops the window's bytes before the next MCU, so that no later step reads them again.
+    fn trim(&mut self)
+        requires { HasWindow self.old }
+        ensures at { IsOffset self.old (self.old.place.bit / 8) self.new.at }
+        ensures is { self.new ≡ trimmed self.old self.new.at }
+    {
+        let byte = (self.place.bit / 8) as usize;
+        self.at = self.offset(byte);
+        self.from += byte;
+        self.place.bit %= 8;
+    }
+
+    /// Returns the position before a row of MCUs, where the cursor is.
+    pub(crate) fn row_place(&mut self, row: u32) -> RowPlace
+        requires { HasWindow self.old }
+        ensures stays { StaysIn self.old self.new }
+        ensures stands { (h : HeadValue) → StaysTrue h self.old self.new }
+        ensures row { result.row ≡ row }
+        ensures interval { result.interval ≡ self.old.interval }
+        ensures mcu { result.mcu ≡ self.old.mcu }
+        ensures place { (h : HeadValue) (whole : List ℕ) (t : ScanValue) → MayBe self.old.file.bytes.now self.old.file.are_all h whole t → IsCursorIn whole t self.old → IsPlaceIn self.old.file.bytes.now whole t result }
+    {
+        self.trim();
+        RowPlace {
+            at: self.at as u64,
+            bit: self.place.bit as u32,
+            row,
+            interval: self.interval,
+            mcu: self.mcu,
+            predictions: self.place.predictions,
+            state: number_of(self.reading),
+        }
+    }
+
+    /// Moves the window to the next MCU, or makes it reach further where it is there. Returns false, and does nothing, where
+    /// no whole MCU can follow if the window has none.
+    pub(crate) fn slide(&mut self) -> bool
+        requires { HasWindow self.old }
+        ensures stays { StaysIn self.old self.new }
+        ensures reading { self.new.reading ≡ self.old.reading }
+        ensures nearer { result ≡ true → to_read self.new < to_read self.old }
+        ensures kept { result ≡ false → (self.new ≡ self.old) × ((self.old.ends ≡ true) ⊎ (MCU_BITS + self.old.place.bit ≤ 8 * (self.old.found - self.old.from))) }
+        ensures stands { (h : HeadValue) → StaysTrue h self.old self.new }
+    {
+        let bits = 8 * (self.found - self.from) as u64 - self.place.bit;
+        if self.ends || bits >= MCU_BITS {
+            return false;
+        }
+        self.trim();
+        self.reach = next_reach(self.at, self.reach, self.from);
+        self.go_to(self.at, self.place.bit);
+        true
+    }
+
+    /// A reader of the interval's further MCUs in the window.
+    pub(crate) fn reader<'s>(&'s self, head: &'s Head) -> McuReader<'s>
+        requires { IsCursor head.now self.now }
+        ensures run { result.run ≡ run_from (in_window head.now self.now) self.now.place (mcus_in head.now self.now.interval - self.now.mcu) }
+        ensures mcu { result.mcu ≡ 0 }
+        ensures read { HasRead result [] }
+    {
+        let left = head.mcus_in(self.interval) - self.mcu;
+        let window = &self.room[self.from..self.found];
+        let interval = IntervalRef::of(head, window, self.interval, left);
+        McuReader::at(interval, self.place, left)
+    }
+
+    /// So many further MCUs are read, up to that place of the window.
+    pub(crate) fn pass(&mut self, mcus: u32, place: Place)
+        requires { self.old.mcu + mcus < 2 ^ 32 }
+        ensures { self.new ≡ record self.old { mcu = self.old.mcu + mcus; place = place } }
+    {
+        self.mcu += mcus;
+        self.place = place;
+    }
+
+    /// The offset in the file behind the interval's data.
+    fn end_of_data(&self) -> usize
+        requires { HasWindow self.now }
+        ensures within { result ≤ length self.now.file.bytes.now }
+        ensures spells { (read : ℕ) × (found : List ℕ) × (result ≡ self.now.at + read) × IsRaw (take read (drop self.now.at self.now.file.bytes.now)) found }
+        ensures stop { IsStop (drop result self.now.file.bytes.now) }
+    {
+        self.at + segment_length(&self.file.bytes[self.at..])
+    }
+
+    /// Goes to an offset of the file behind the interval's data.
+    fn leave(&mut self, at: usize, reading: Reading)
+        requires window { HasWindow self.old }
+        requires at { at ≤ length self.old.file.bytes.now }
+        requires stop { IsStop (drop at self.old.file.bytes.now) }
+        ensures stays { StaysIn self.old self.new }
+        ensures at { self.new.at ≡ at }
+        ensures bit { self.new.place.bit ≡ 0 }
+        ensures reading { self.new.reading ≡ reading }
+    {
+        self.at = at;
+        self.from = 0;
+        self.found = 0;
+        self.ends = true;
+        self.place.bit = 0;
+        self.reading = reading;
+    }
+
+    /// Whether the data end there whatever comes behind the bytes: whether the marker is there, or none comes.
+    fn ends_at(&self, end: usize) -> bool
+        requires within { end ≤ length self.now.file.bytes.now }
+        requires stop { IsStop (drop end self.now.file.bytes.now) }
+        ensures ends { result ≡ true → (more : List ℕ) → (self.now.file.are_all ≡ true → more ≡ []) → IsStop (drop end (self.now.file.bytes.now ++ more)) }
+        ensures all { self.now.file.are_all ≡ true → result ≡ true }
+    {
+        let fill = fill_count(&self.file.bytes[end..]);
+        if end + fill < self.file.bytes.len() {
+            return true;
+        }
+        self.file.are_all
+    }
+
+    /// No further MCU of the interval is whole. False where its end has not come: its last MCUs are settled once it has.
+    pub(crate) fn give_up(&mut self, head: &Head) -> bool
+        requires cursor { IsCursor head.now self.old }
+        requires none { self.old.reading ≡ GoesOn → NoneFollows head.now self.old }
+        ensures stays { StaysIn self.old self.new }
+        ensures over { result ≡ true → self.new.reading ≢ GoesOn }
+        ensures stands { StaysTrue head.now self.old self.new }
+        ensures all { self.old.file.are_all ≡ true → result ≡ true }
+    {
+        head.be_lawful();
+        if self.reading != Reading::GoesOn {
+            return true;
+        }
+        let end = self.end_of_data();
+        if !self.ends_at(end) {
+            return false;
+        }
+        self.leave(end, Reading::IsStuck);
+        true
+    }
+
+    /// What stands behind the interval's data, which end there.
+    fn stop_behind(&self, head: &Head, end: usize) -> Stop
+        requires number { self.now.interval < intervals_of head.now }
+        requires within { end ≤ length self.now.file.bytes.now }
+        requires stop { IsStop (drop end self.now.file.bytes.now) }
+        ensures is { IsStopOf (intervals_of head.now) self.now.interval end (drop end self.now.file.bytes.now) result }
+        ensures long { length self.now.file.bytes.now < 2 ^ 64 }
+    {
+        let tail = &self.file.bytes[end..];
+        let fill = fill_count(tail);
+        stop_at(tail, fill, end as u64, self.interval, head.intervals())
+    }
+
+    /// Whether what ends the scan ends it whatever comes behind the bytes.
+    fn is_final(&self, ended: ScanEnd) -> bool
+        ensures ends { result ≡ true → (more : List ℕ) → (self.now.file.are_all ≡ true → more ≡ []) → (ended ≢ EndOfFile) ⊎ (more ≡ []) }
+        ensures all { self.now.file.are_all ≡ true → result ≡ true }
+    {
+        match ended {
+            ScanEnd::EndOfFile => self.file.are_all,
+            ScanEnd::EndOfImage
+            | ScanEnd::OtherMarker(..)
+            | ScanEnd::OutOfStep { .. }
+            | ScanEnd::ExtraRestart(..) => true,
+        }
+    }
+
+    /// Goes to what follows the interval: the next one's data, or the scan's end. False where neither has come.
+    fn leave_interval(&mut self, head: &Head) -> bool
+        requires window { HasWindow self.old }
+        requires number { self.old.interval < intervals_of head.now }
+        ensures stays { StaysIn self.old self.new }
+        ensures follows { result ≡ true → self.old.reading ≢ HasEnded → BeginsNext head.now self.old self.new }
+        ensures kept { result ≡ false → self.new ≡ self.old }
+        ensures all { self.old.file.are_all ≡ true → result ≡ true }
+    {
+        let end = self.end_of_data();
+        match self.stop_behind(head, end) {
+            Stop::Restart(marker) => {
+                self.leave(end, Reading::GoesOn);
+                self.go_to(end + marker, 0);
+            }
+            Stop::End(ended) => {
+                if !self.is_final(ended) {
+                    return false;
+                }
+                self.leave(end, Reading::HasEnded);
+            }
+        }
+        true
+    }
+
+    /// The same, where it has not gone to the scan's end before.
+    fn find_end(&mut self, head: &Head) -> bool
+        requires window { HasWindow self.old }
+        requires number { self.old.interval < intervals_of head.now }
+        ensures stays { StaysIn self.old self.new }
+        ensures follows { result ≡ true → BeginsNext head.now self.old self.new }
+        ensures kept { result ≡ false → self.new ≡ self.old }
+        ensures all { self.old.file.are_all ≡ true → result ≡ true }
+    {
+        self.reading == Reading::HasEnded || self.leave_interval(head)
+    }
+
+    /// Stands before the first MCU of the next interval, to whose data it has gone.
+    fn begin_next(&mut self)
+        requires window { HasWindow self.old }
+        requires number { self.old.interval + 1 < 2 ^ 32 }
+        ensures window { HasWindow self.new }
+        ensures is { self.new ≡ begun self.old }
+    {
+        self.interval += 1;
+        self.mcu = 0;
+        self.place.predictions = [0; 3];
+    }
+
+    /// Goes on to the next interval where the MCUs of this one are all passed. False where its end has not come.
+    pub(crate) fn advance(&mut self, head: &Head) -> bool
+        requires cursor { IsCursor head.now self.old }
+        requires more { mcus_before_place head.now self.old.interval self.old.mcu < mcus_of head.now }
+        ensures passes { PassesOver head.now self.old self.new 0 }
+        ensures stands { StaysTrue head.now self.old self.new }
+        ensures some { result ≡ true → self.new.mcu < mcus_in head.now self.new.interval }
+        ensures all { self.old.file.are_all ≡ true → result ≡ true }
+    {
+        // By its contract there is room for the numbers of all intervals.
+        let _most = head.intervals();
+        if self.mcu < head.mcus_in(self.interval) {
+            return true;
+        }
+        if !self.find_end(head) {
+            return false;
+        }
+        self.begin_next();
+        true
+    }
+}

@@ -1,0 +1,146 @@
+//! A row of MCUs, decoded.
+
+ghost use Rattle.std.specs.Prelude.{◌≡◌, ◌≢◌, ◌+◌, ◌*◌, ◌<◌, ◌≤◌, ℕ, List, true};
+ghost use Rattle.jr_head.specs.Geometry.{mcus_across, mcus_down, mcus_of};
+ghost use Rattle.jr_head.specs.Intervals.{mcus_in};
+ghost use Rattle.jr_rows.specs.Rows.{HasSampleRoom};
+ghost use Rattle.jr_arrival.specs.Places.{mcus_before_place};
+ghost use Rattle.jr_arrival.specs.declared.cursor.Reading.TheVariants.{GoesOn};
+ghost use Rattle.jr_arrival.specs.Cursors.{IsCursor, NoneFollows, PassesOver, PassesIn, IsCursorIn, StaysTrue, in_window};
+ghost use Rattle.jr_scan.specs.ScanValue.{ScanValue};
+ghost use Rattle.jr_arrival.specs.Meaning.{MayBe};
+ghost use Rattle.jr_arrival.specs.Shown.{ShowsMore, ShowsRow};
+ghost use Rattle.jr_scan.specs.Run.{HasNoMcu};
+
+use crate::cursor::{Reading, ScanCursor};
+use jr_head::Head;
+use jr_rows::{SampleRow, shape_of};
+
+/// Decodes whole MCUs of the window behind the first `done` of a row: answers how many.
+fn decode_near(cursor: &mut ScanCursor<'_>, head: &Head, samples: &mut SampleRow, done: u32) -> u32
+    requires cursor { IsCursor head.now cursor.old }
+    requires within { done < mcus_across head.now }
+    requires room { HasSampleRoom head.now samples.old }
+    requires going { cursor.old.reading ≡ GoesOn }
+    ensures room { HasSampleRoom head.now samples.new }
+    ensures passes { PassesIn head.now cursor.old cursor.new result }
+    ensures stands { StaysTrue head.now cursor.old cursor.new }
+    ensures shows { ShowsMore head.now cursor.old done result samples.old.lines.groups samples.new.lines.groups }
+    ensures near { cursor.new ≡ record cursor.old { mcu = cursor.old.mcu + result; place = cursor.new.place } }
+    ensures bit { result ≡ 0 → cursor.new.place.bit ≡ cursor.old.place.bit }
+    ensures none { result ≡ 0 → cursor.new.mcu < mcus_in head.now cursor.new.interval → HasNoMcu (in_window head.now cursor.new) cursor.new.place }
+    ensures few { done + result ≤ mcus_across head.now }
+{
+    // By their contracts there is room for the numbers of the interval's MCUs, and an MCU has a data unit.
+    let _most = head.mcus_in(cursor.interval);
+    let _some = head.order().len();
+    let mut reader = cursor.reader(head);
+    let whole = samples.decode_whole(head, &mut reader, done);
+    let place = reader.place();
+    cursor.pass(whole, place);
+    whole
+}
+
+/// Decodes the next whole MCUs of the interval: answers how many; none where no further one is whole.
+fn decode_whole(cursor: &mut ScanCursor<'_>, head: &Head, samples: &mut SampleRow, done: u32) -> u32
+    requires cursor { IsCursor head.now cursor.old }
+    requires within { done < mcus_across head.now }
+    requires room { HasSampleRoom head.now samples.old }
+    ensures room { HasSampleRoom head.now samples.new }
+    ensures passes { PassesIn head.now cursor.old cursor.new result }
+    ensures stands { StaysTrue head.now cursor.old cursor.new }
+    ensures shows { ShowsMore head.now cursor.old done result samples.old.lines.groups samples.new.lines.groups }
+    ensures none { result ≡ 0 → cursor.old.mcu < mcus_in head.now cursor.old.interval → cursor.new.reading ≡ GoesOn → NoneFollows head.now cursor.new }
+    ensures few { done + result ≤ mcus_across head.now }
+{
+    if cursor.reading != Reading::GoesOn {
+        return 0;
+    }
+    'windows: loop {
+        let some = decode_near(cursor, head, samples, done);
+        if some > 0 || !cursor.slide() {
+            return some;
+        }
+    }
+}
+
+/// Makes MCUs of the row grey, of an interval of which no further one is whole: answers how many.
+fn decode_grey(cursor: &mut ScanCursor<'_>, head: &Head, samples: &mut SampleRow, done: u32) -> u32
+    requires cursor { IsCursor head.now cursor.old }
+    requires within { done < mcus_across head.now }
+    requires room { HasSampleRoom head.now samples.old }
+    requires some { cursor.old.mcu < mcus_in head.now cursor.old.interval }
+    requires over { cursor.old.reading ≢ GoesOn }
+    ensures room { HasSampleRoom head.now samples.new }
+    ensures passes { PassesIn head.now cursor.old cursor.new result }
+    ensures stands { StaysTrue head.now cursor.old cursor.new }
+    ensures shows { ShowsMore head.now cursor.old done result samples.old.lines.groups samples.new.lines.groups }
+    ensures few { done + result ≤ mcus_across head.now }
+    ensures some { 0 < result }
+{
+    head.be_lawful();
+    // By its contract an MCU has a data unit.
+    let _some = head.order().len();
+    let left = head.mcus_in(cursor.interval) - cursor.mcu;
+    let some = left.min(shape_of(head).across - done);
+    let grey = samples.put_grey(head, done, some);
+    cursor.pass(grey, cursor.place);
+    grey
+}
+
+/// Decodes some further MCUs of the row: answers how many; none where the next one is not settled.
+fn decode_some(cursor: &mut ScanCursor<'_>, head: &Head, samples: &mut SampleRow, done: u32) -> u32
+    requires cursor { IsCursor head.now cursor.old }
+    requires within { done < mcus_across head.now }
+    requires room { HasSampleRoom head.now samples.old }
+    requires more { mcus_before_place head.now cursor.old.interval cursor.old.mcu < mcus_of head.now }
+    ensures room { HasSampleRoom head.now samples.new }
+    ensures passes { PassesOver head.now cursor.old cursor.new result }
+    ensures stands { StaysTrue head.now cursor.old cursor.new }
+    ensures shows { 0 < result → ShowsMore head.now cursor.old done result samples.old.lines.groups samples.new.lines.groups }
+    ensures few { done + result ≤ mcus_across head.now }
+    ensures all { cursor.old.file.are_all ≡ true → 0 < result }
+{
+    if !cursor.advance(head) {
+        return 0;
+    }
+    let whole = decode_whole(cursor, head, samples, done);
+    if whole > 0 {
+        return whole;
+    }
+    if !cursor.give_up(head) {
+        return 0;
+    }
+    decode_grey(cursor, head, samples, done)
+}
+
+/// Decodes a row of MCUs: whether it is settled.
+pub(crate) fn decode_row(
+    cursor: &mut ScanCursor<'_>,
+    head: &Head,
+    samples: &mut SampleRow,
+    row: u32,
+) -> bool
+    requires cursor { IsCursor head.now cursor.old }
+    requires row { row < mcus_down head.now }
+    requires at { mcus_before_place head.now cursor.old.interval cursor.old.mcu ≡ row * mcus_across head.now }
+    requires room { HasSampleRoom head.now samples.old }
+    ensures room { HasSampleRoom head.now samples.new }
+    ensures cursor { IsCursor head.now cursor.new }
+    ensures file { cursor.new.file ≡ cursor.old.file }
+    ensures stands { StaysTrue head.now cursor.old cursor.new }
+    ensures shows { result ≡ true → (whole : List ℕ) (t : ScanValue) → MayBe cursor.old.file.bytes.now cursor.old.file.are_all head.now whole t → IsCursorIn whole t cursor.old → ShowsRow t row samples.new.lines.groups }
+    ensures whole { result ≡ true → mcus_before_place head.now cursor.new.interval cursor.new.mcu ≡ (row + 1) * mcus_across head.now }
+    ensures all { cursor.old.file.are_all ≡ true → result ≡ true }
+{
+    let across = shape_of(head).across;
+    let mut done = 0;
+    'mcus: while done < across {
+        let some = decode_some(cursor, head, samples, done);
+        if some == 0 {
+            return false;
+        }
+        done += some;
+    }
+    true
+}

@@ -1,0 +1,39 @@
+//! A place between two rows of MCUs.
+
+ghost use Rattle.std.specs.Prelude.{◌≡◌, true, false};
+ghost use Rattle.jr_arrival.specs.Places.{IsPlaceOf};
+
+use jr_head::Head;
+
+/// Between two rows of MCUs of a file's picture, and where in the file the next one's bits begin. All 0 is the top.
+#[repr(C)]
+#[derive(Clone, Copy, Debug, PartialEq, Eq)]
+pub struct RowPlace {
+    /// The offset in the file of the byte that has the next bit; before the scan's first byte, that one is meant.
+    pub at: u64,
+    /// How many bits of that byte are taken, 0 to 7.
+    pub bit: u32,
+    /// How many rows of MCUs stand before it.
+    pub row: u32,
+    /// The restart interval that it is in.
+    pub interval: u32,
+    /// How many MCUs of that interval stand before it.
+    pub mcu: u32,
+    /// What the first coefficient of each component is predicted to be.
+    pub predictions: [i32; 3],
+    /// 0: the interval goes on; 1: no further MCU of it is whole; 2: the scan has ended, and no further interval has data.
+    pub state: u32,
+}
+
+/// Whether a place has numbers of this head's picture: a row, and the interval and MCU that begin it.
+pub fn stands_at(head: &Head, place: &RowPlace) -> bool
+    ensures there { result ≡ true → IsPlaceOf head.now place.now }
+    ensures not_there { result ≡ false → IsPlaceOf head.now place.now → ⊥ }
+{
+    if place.interval >= head.intervals() || place.row > head.mcus_down() {
+        return false;
+    }
+    let mcu = u64::from(place.interval) * u64::from(head.restart()) + u64::from(place.mcu);
+    place.mcu <= head.mcus_in(place.interval)
+        && mcu == u64::from(place.row) * u64::from(head.mcus_across())
+}

@@ -1,0 +1,173 @@
+//! Rows of MCUs from a place on, decoded and painted, or passed over.
+
+ghost use Rattle.std.specs.Prelude.{ℕ, List, ◌≡◌, ◌+◌, ◌-◌, ◌*◌, ◌/◌, ◌<◌, ◌≤◌, min, length, take, drop, true, IfOk, IfErr};
+ghost use Rattle.jr_head.specs.Geometry.{mcus_across, mcus_down};
+ghost use Rattle.jr_paint.specs.Lines.{line_size, next_lines_of};
+ghost use Rattle.jr_picture.specs.declared.mark.Mark.{Mark};
+ghost use Rattle.jr_picture.specs.Headline.{ShowsFirst};
+ghost use Rattle.jr_arrival.specs.Shown.{AreLines, ShowsRow};
+ghost use Rattle.jr_rows.specs.Rows.{HasSampleRoom, line_count};
+ghost use Rattle.jr_scan.specs.ScanValue.{ScanValue};
+ghost use Rattle.jr_arrival.specs.Meaning.{IsPlaceIn, MayBe};
+ghost use Rattle.jr_arrival.specs.Places.{IsPlaceOf, lines_above, lines_between, rows_to_give, rows_with_room};
+
+use crate::cursor::ScanCursor;
+use crate::decoding::decode_row;
+use crate::file_bytes::FileBytes;
+use crate::place::RowPlace;
+use crate::skipping::skip_row;
+use jr_base::Memory;
+use jr_head::Head;
+use jr_rows::{SampleRow, lines_of, shape_of};
+use std::alloc::Global;
+
+/// How many lines of the picture stand before a row of MCUs.
+pub fn lines_before(head: &Head, row: u32) -> u32
+    ensures value { result ≡ lines_above head.now row }
+    ensures few { result ≤ head.now.height }
+{
+    head.be_lawful();
+    let shape = shape_of(head);
+    (row.min(shape.down) * shape.deep).min(head.height())
+}
+
+/// How many lines of the picture the rows of MCUs from one on and before another have.
+pub fn lines_between(head: &Head, from: u32, to: u32) -> u32
+    requires { from ≤ to }
+    ensures value { result ≡ lines_between head.now from to }
+    ensures few { result ≤ head.now.height }
+{
+    lines_before(head, to) - lines_before(head, from)
+}
+
+/// How many rows of MCUs from one on have room for their lines in so many bytes.
+pub fn rows_with_room(head: &Head, row: u32, bytes: usize) -> u32
+    requires { row ≤ mcus_down head.now }
+    ensures value { result ≡ rows_with_room head.now row bytes }
+    ensures few { row + result ≤ mcus_down head.now }
+    ensures fits { lines_between head.now row (row + result) * line_size head.now ≤ bytes }
+{
+    head.be_lawful();
+    let shape = shape_of(head);
+    let lines = bytes / shape.line;
+    let left = head.height() - lines_before(head, row);
+    if lines >= left as usize {
+        return shape.down - row;
+    }
+    lines as u32 / shape.deep
+}
+
+/// The row of MCUs behind so many further ones from one on, as many as are left and as have room for their lines in so many bytes.
+fn end_of_rows(head: &Head, row: u32, rows: u32, bytes: usize) -> u32
+    requires { row ≤ mcus_down head.now }
+    ensures value { result ≡ row + rows_to_give head.now row rows bytes }
+    ensures few { result ≤ mcus_down head.now }
+    ensures small { result < 65536 }
+    ensures fits { (to : ℕ) → to ≤ result → lines_between head.now row to * line_size head.now ≤ bytes }
+{
+    head.be_lawful();
+    let _few = shape_of(head);
+    row + rows.min(rows_with_room(head, row, bytes))
+}
+
+/// Where the lines of a row of MCUs stand in so many bytes that have room for them, where those of another row are the first.
+fn bytes_of_row(head: &Head, first: u32, row: u32, room: usize) -> (usize, usize)
+    requires order { first ≤ row }
+    requires row { row < mcus_down head.now }
+    requires room { lines_between head.now first (row + 1) * line_size head.now ≤ room }
+    ensures from { result.0 ≡ lines_between head.now first row * line_size head.now }
+    ensures to { result.1 ≡ lines_between head.now first (row + 1) * line_size head.now }
+    ensures count { result.1 ≡ result.0 + line_count head.now row * line_size head.now }
+    ensures within { result.1 ≤ room }
+{
+    head.be_lawful();
+    let line = shape_of(head).line;
+    let from = lines_between(head, first, row) as usize * line;
+    let to = lines_between(head, first, row + 1) as usize * line;
+    (from, to)
+}
+
+/// Paints the lines of a row of MCUs that is decoded.
+fn paint_row(head: &Head, samples: &mut SampleRow, row: u32, pixels: &mut [u8])
+    requires row { row < mcus_down head.now }
+    requires samples { HasSampleRoom head.now samples.old }
+    requires pixels { length pixels.old ≡ line_count head.now row * line_size head.now }
+    ensures samples { HasSampleRoom head.now samples.new }
+    ensures long { length pixels.new ≡ length pixels.old }
+    ensures painted { (t : ScanValue) (marks : List Mark) (f : ℕ → ℕ → ℕ → ℕ) → t.head ≡ head.now → ShowsRow t row samples.old.lines.groups → ShowsFirst t (length t.intervals) marks f
+        → pixels.new ≡ next_lines_of head.now f (lines_above head.now row) (line_count head.now row) }
+{
+    head.be_lawful();
+    let (y, count) = lines_of(head, row);
+    samples.paint_some(head, y, count, pixels);
+}
+
+/// Decodes the next rows of MCUs from a place on, at most so many, as many as have room for their lines and as are settled, into the
+/// front of `pixels`, and answers the place behind them. Where the place is one of a file that the bytes may be (all of them, or the
+/// first ones), the lines are those of its picture, and so is the place behind. It takes memory for a window and for one row of MCUs,
+/// before it writes the first pixel.
+pub fn decode_rows(
+    alloc: Global,
+    head: &Head,
+    file: FileBytes<'_>,
+    place: &RowPlace,
+    rows: u32,
+    pixels: &mut [u8],
+) -> Result<RowPlace, Memory>
+    requires stands { IsPlaceOf head.now place.now }
+    ensures stands { IfOk result (IsPlaceOf head.now) }
+    ensures on { IfOk result (λ p. place.now.row ≤ p.row) }
+    ensures few { IfOk result (λ p. p.row ≤ place.now.row + rows_to_give head.now place.now.row rows (length pixels.old)) }
+    ensures all { file.entry.are_all ≡ true → IfOk result (λ p. p.row ≡ place.now.row + rows_to_give head.now place.now.row rows (length pixels.old)) }
+    ensures none { IfOk result (λ p. p.row ≡ place.now.row → p ≡ place.now) }
+    ensures place { (whole : List ℕ) (t : ScanValue) → MayBe file.entry.bytes.now file.entry.are_all head.now whole t → IsPlaceIn file.entry.bytes.now whole t place.now → IfOk result (IsPlaceIn file.entry.bytes.now whole t) }
+    ensures lines { IfOk result (λ p. AreLines file.entry.bytes.now file.entry.are_all head.now place.now (lines_above head.now place.now.row) (lines_between head.now place.now.row p.row)
+        (take (lines_between head.now place.now.row p.row * line_size head.now) pixels.new)) }
+    ensures kept { IfOk result (λ p. drop (lines_between head.now place.now.row p.row * line_size head.now) pixels.new ≡ drop (lines_between head.now place.now.row p.row * line_size head.now) pixels.old) }
+    ensures long { length pixels.new ≡ length pixels.old }
+    ensures memory { IfErr result (λ _. pixels.new ≡ pixels.old) }
+{
+    head.be_lawful();
+    let mut samples = SampleRow::open(alloc, head)?;
+    let mut cursor = ScanCursor::open(alloc, head, file, place)?;
+    let end = end_of_rows(head, place.row, rows, pixels.len());
+    let mut next = *place;
+    'rows: while next.row < end {
+        if !decode_row(&mut cursor, head, &mut samples, next.row) {
+            return Ok(next);
+        }
+        let (from, to) = bytes_of_row(head, place.row, next.row, pixels.len());
+        paint_row(head, &mut samples, next.row, &mut pixels[from..to]);
+        next = cursor.row_place(next.row + 1);
+    }
+    Ok(next)
+}
+
+/// Passes over the next rows of MCUs from a place on, at most so many and as many as are settled, by reading their bits alone, and
+/// answers the place behind them: one of each file that the bytes may be of which the given place is one. It takes memory for a window.
+pub fn skip_rows(
+    alloc: Global,
+    head: &Head,
+    file: FileBytes<'_>,
+    place: &RowPlace,
+    rows: u32,
+) -> Result<RowPlace, Memory>
+    requires stands { IsPlaceOf head.now place.now }
+    ensures stands { IfOk result (IsPlaceOf head.now) }
+    ensures on { IfOk result (λ p. place.now.row ≤ p.row) }
+    ensures few { IfOk result (λ p. p.row ≤ place.now.row + min rows (mcus_down head.now - place.now.row)) }
+    ensures all { file.entry.are_all ≡ true → IfOk result (λ p. p.row ≡ place.now.row + min rows (mcus_down head.now - place.now.row)) }
+    ensures none { IfOk result (λ p. p.row ≡ place.now.row → p ≡ place.now) }
+    ensures place { (whole : List ℕ) (t : ScanValue) → MayBe file.entry.bytes.now file.entry.are_all head.now whole t → IsPlaceIn file.entry.bytes.now whole t place.now → IfOk result (IsPlaceIn file.entry.bytes.now whole t) }
+{
+    let mut cursor = ScanCursor::open(alloc, head, file, place)?;
+    let most = rows.min(shape_of(head).down - place.row);
+    let mut next = *place;
+    'rows: while next.row < place.row + most {
+        if !skip_row(&mut cursor, head, next.row) {
+            return Ok(next);
+        }
+        next = cursor.row_place(next.row + 1);
+    }
+    Ok(next)
+}

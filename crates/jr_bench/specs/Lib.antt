@@ -1,2 +1,0 @@
-pub mod BenchValue
-pub mod Bench

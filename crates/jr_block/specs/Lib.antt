@@ -1,2 +1,0 @@
-pub mod Blocks
-pub mod Zigzag

@@ -1,0 +1,46 @@
+use Rattle.std.proofs.Common.{rules, arith, sym, subst, ◌≡◌, ℕ, ◌*◌, ◌≤◌, Option, List, length, take}
+use Rattle.std.specs.Option.{IfSome}
+use Rattle.jr_head.specs.Geometry.{vertical_max}
+use Rattle.jr_paint.specs.Lines.{line_size}
+use Rattle.jr_rows.specs.FirstIntervalsValue.{FirstIntervalsValue}
+use Rattle.jr_rows.specs.Rows.{CountsRow, ShowsLines, line_count}
+use Rattle.jr_rows.proofs.Lent.{all_back}
+use Rattle.jr_crew.specs.Bench.{HasRoom, HasSamples, HasWork, IsPainted}
+use Rattle.jr_crew.proofs.bench.Bench.decode.Goals as goal
+
+pub decode_first-marked-requires-clause-of : goal.decode_first-marked-requires-clause-of
+decode_first-marked-requires-clause-of g c = c.requires.of
+
+pub decode_first-marked-requires-clause-limit : goal.decode_first-marked-requires-clause-limit
+decode_first-marked-requires-clause-limit g c = c.requires.limit
+
+pub decode_first-marked-requires-clause-row : goal.decode_first-marked-requires-clause-row
+decode_first-marked-requires-clause-row g c = c.requires.row
+
+pub decode_first-marked-requires-clause-room : goal.decode_first-marked-requires-clause-room
+decode_first-marked-requires-clause-room g c = subst (λ (k : Option FirstIntervalsValue). HasSamples k c.room.inside.work) c.requires.part c.room.invariant.1
+
+pub invariant_of-room : goal.invariant_of-room
+invariant_of-room g c =
+    let work = c.decode_first-marked.new.work in
+    (c.room.invariant.0, subst (λ (k : Option FirstIntervalsValue). HasSamples k work) (sym c.requires.part) c.decode_first-marked.ensures.room)
+
+pub invariant_of-result : goal.invariant_of-result
+invariant_of-result g c =
+    let t = c.args.part.now in
+    let rows = c.args.rows.now in
+    let row = c.row-row.result in
+    let marked = c.decode_first-marked.result in
+    let old = c.self.inside.pixels in
+    let new = c.decode_first-marked.new.pixels in
+    let e = c.decode_first-marked.ensures in
+    let at = sym c.row-row.ensures in
+    let same : length new ≡ length old.items = search (rules, c.decode_first-marked.auto.pixels) in
+    let long : old.len ≡ length new = search (rules, c.decode_first-marked.auto.pixels) in
+    let is = all_back old.len new old.items long in
+    let room : 8 * vertical_max t.scan.head * line_size t.scan.head ≤ length old.items = subst (λ (k : Option FirstIntervalsValue). HasRoom k old.items) c.requires.part c.self.invariant.1 in
+    let lines = subst (λ (r : ℕ). ShowsLines t.scan t.limit r (take (line_count t.scan.head r * line_size t.scan.head) new)) at e.lines in
+    let counts = subst (λ (r : ℕ). CountsRow t.scan t.limit r marked) at e.counts in
+    subst (λ (ps : List ℕ). IfSome c.self.inside.work (HasWork g.S.OneFirstIntervals.part) × HasRoom g.S.OneFirstIntervals.part ps × IsPainted g.S.OneFirstIntervals.part (record { row = row; marked = marked; pixels = ps })) (sym is)
+    (subst (λ (k : Option FirstIntervalsValue). IfSome c.self.inside.work (HasWork g.S.OneFirstIntervals.part) × HasRoom k new × IsPainted k (record { row = row; marked = marked; pixels = new })) (sym c.requires.part)
+    (c.self.invariant.0, omega (arith, room, same), record { row = omega (arith, c.requires.row, c.row-row.ensures); lines = lines; counts = counts }))

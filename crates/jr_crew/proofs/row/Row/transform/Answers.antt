@@ -1,0 +1,51 @@
+use Rattle.std.proofs.Common.{rules, arith, sym, subst, ap, ◌∙◌, length, ◌≡◌, ℕ, ◌*◌, ◌%◌, ◌<◌, ◌≤◌, [], None, slice_index_or}
+use Rattle.std.proofs.Math.Nat.{mul-le-mul_right}
+use Rattle.jr_head.specs.HeadValue.{HeadValue}
+use Rattle.jr_head.specs.Geometry.{blocks_of, mcus_across}
+use Rattle.jr_piece.specs.Outcome.{unit_of}
+use Rattle.jr_rows.specs.Bands.{unit_shown_of}
+use Rattle.jr_rows.specs.Groups.{units_in}
+use Rattle.jr_rows.specs.RowLines.{HasLines}
+use Rattle.jr_rows.specs.RowsValue.{RowValue}
+use Rattle.jr_rows.specs.Rows.{coded_in}
+use Rattle.jr_rows.proofs.GroupLists.{units_long}
+use Rattle.jr_rows.proofs.ShownUnits.{row_shown}
+use Rattle.jr_crew.proofs.row.Row.transform.Goals as goal
+
+pub returns-clause-units : goal.returns-clause-units
+returns-clause-units c =
+    let t = c.args.scan.now in
+    let h = t.head in
+    let n = c.args.limit in
+    let row = c.args.row in
+    let per = blocks_of h in
+    let us = units_in h c.decode.new.self.groups in
+    let long = units_long h c.decode.new.self.groups in
+    let some : 0 < per = search (rules, arith) in
+    let head : c.head-head.result.now ≡ h = search rules in
+    let blocks : c.deref.result.now ≡ c.args.self.now.blocks = search rules in
+    let coded : c.coded_of_row-coded.result * per ≡ coded_in h n row * per = ap (λ (k : ℕ). k * per) c.coded_of_row-coded.ensures.value in
+    let decoded : (k : ℕ) → k < c.coded_of_row-coded.result * per → slice_index_or us k [] ≡ unit_of h c.args.self.now.blocks k = rw (head, blocks) at c.decode.ensures.decoded in
+    let blank : (k : ℕ) → c.coded_of_row-coded.result * per ≤ k → k < mcus_across h * per → slice_index_or us k [] ≡ unit_shown_of h (k % per) None 0 = rw head at c.decode.ensures.blank in
+    row_shown t n row c.requires.row some us long (λ b first k lt. decoded k (omega (arith, lt, coded)) ∙ c.requires.read b first k lt) (λ k le lt. blank k (omega (arith, le, coded)) (omega (arith, lt, long)))
+
+pub decode-requires-clause-room : goal.decode-requires-clause-room
+decode-requires-clause-room c =
+    let h = c.args.scan.now.head in
+    let head : c.head-head.result.now ≡ h = search rules in
+    let lines = subst (λ (r : RowValue). HasLines h r.lines) (sym c.self.view_is) c.requires.room.lines in
+    subst (λ (g : HeadValue). HasLines g c.self.inside.lines) (sym head) lines
+
+pub decode-requires-clause-few : goal.decode-requires-clause-few
+decode-requires-clause-few c =
+    let head : c.head-head.result.now ≡ c.args.scan.now.head = search rules in
+    subst (λ (g : HeadValue). c.coded_of_row-coded.result ≤ mcus_across g) (sym head) c.coded_of_row-coded.ensures.few
+
+pub decode-requires-clause-blocks : goal.decode-requires-clause-blocks
+decode-requires-clause-blocks c =
+    let h = c.args.scan.now.head in
+    let head : c.head-head.result.now ≡ h = search rules in
+    let blocks : c.deref.result.now ≡ c.args.self.now.blocks = search rules in
+    let few = mul-le-mul_right (blocks_of h) c.coded_of_row-coded.ensures.few in
+    let fits : c.coded_of_row-coded.result * blocks_of h ≤ length c.deref.result.now = omega (arith, few, ap length blocks, c.requires.room.blocks) in
+    subst (λ (g : HeadValue). c.coded_of_row-coded.result * blocks_of g ≤ length c.deref.result.now) (sym head) fits

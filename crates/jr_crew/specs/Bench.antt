@@ -1,0 +1,47 @@
+-- What is known of memory for a row of MCUs: by the part of a scan that is decoded.
+use Rattle.std.specs.Prelude.{ℕ, ◌*◌, ◌<◌, ◌≤◌, List, length, take, Option, Some, None}
+use Rattle.jr_head.specs.Geometry.{mcus_down, vertical_max}
+use Rattle.jr_paint.specs.Lines.{line_room, line_size}
+use Rattle.jr_rows.specs.FirstIntervalsValue.{FirstIntervalsValue}
+use Rattle.jr_crew.specs.BenchValue.{CodedRowValue, PaintedValue}
+use Rattle.jr_rows.specs.Rows.{AreRead, CountsRow, HasRowRoom, HasSampleRoom, ShowsLines, line_count}
+use Rattle.jr_rows.specs.RowsValue.{RowValue, SampleRowValue}
+
+-- of the part that a proof knows of this holds
+abbrev pub OfPart : Option FirstIntervalsValue → (FirstIntervalsValue → Type 0) → Type 0
+OfPart None P = ⊥
+OfPart (Some part) P = P part
+
+-- there is room for the lines of a row of MCUs
+abbrev pub HasRoom : Option FirstIntervalsValue → List ℕ → Type 0
+HasRoom known pixels = OfPart known (λ part. 8 * vertical_max part.scan.head * line_size part.scan.head ≤ length pixels)
+
+-- there is room for painting its lines
+abbrev pub HasLineRoom : Option FirstIntervalsValue → ℕ → Type 0
+HasLineRoom known n = OfPart known (λ part. line_room part.scan.head ≤ n)
+
+-- there is room for its samples, for some of its blocks, and for painting its lines
+abbrev pub HasSamples : Option FirstIntervalsValue → SampleRowValue → Type 0
+HasSamples known work = OfPart known (λ part. HasSampleRoom part.scan.head work)
+
+-- there is room for its blocks and samples
+abbrev pub HasWork : Option FirstIntervalsValue → RowValue → Type 0
+HasWork known work = OfPart known (λ part. HasRowRoom part.scan.head work)
+
+-- the blocks of a row of MCUs of the scan, and the marks of the intervals that end in it
+pub record ReadsRow (part : FirstIntervalsValue) (c : CodedRowValue) : Type 0 where
+  pub row : c.row < mcus_down part.scan.head
+  pub blocks : AreRead part.scan part.limit c.row c.work.blocks
+  pub counts : CountsRow part.scan part.limit c.row c.marked
+
+abbrev pub IsRead : Option FirstIntervalsValue → CodedRowValue → Type 0
+IsRead known c = OfPart known (λ part. ReadsRow part c)
+
+-- the lines of a row of MCUs of the scan, and the marks of the intervals that end in it
+pub record PaintsRow (part : FirstIntervalsValue) (p : PaintedValue) : Type 0 where
+  pub row : p.row < mcus_down part.scan.head
+  pub lines : ShowsLines part.scan part.limit p.row (take (line_count part.scan.head p.row * line_size part.scan.head) p.pixels)
+  pub counts : CountsRow part.scan part.limit p.row p.marked
+
+abbrev pub IsPainted : Option FirstIntervalsValue → PaintedValue → Type 0
+IsPainted known p = OfPart known (λ part. PaintsRow part p)

@@ -1,0 +1,313 @@
+//! Memory for a row of MCUs of a scan: empty, read, or painted.
+
+ghost use Rattle.std.specs.Prelude.{◌≡◌, ◌+◌, ◌-◌, ◌*◌, ◌<◌, ◌≤◌, Some, length, take, drop};
+ghost use Rattle.jr_head.specs.Geometry.{mcus_down, vertical_max};
+ghost use Rattle.jr_paint.specs.Lines.{line_room, line_size};
+ghost use Rattle.jr_rows.specs.Rows.{AreRead, CountsRow, HasRowRoom, HasSampleRoom, ShowsLines, line_count};
+
+use crate::one_first_intervals::OneFirstIntervals;
+use crate::paint_room::PaintRoom;
+use crate::row::Row;
+use jr_base::Memory;
+use jr_rows::{FirstIntervals, Marked, Rows, SampleRow, bytes_of_row, lines_of, shape_of};
+use std::alloc::Global;
+use std::marker::{Model, PhantomData};
+use std::mem;
+
+/// Paints the row that is read at the beginning of `pixels`.
+fn paint_first(
+    work: &mut Row,
+    part: &FirstIntervals<'_>,
+    row: u32,
+    room: &mut [u8],
+    pixels: &mut [u8],
+)
+    requires lines { line_room part.now.scan.head ≤ length room.old }
+    requires row { row < mcus_down part.now.scan.head }
+    requires room { HasRowRoom part.now.scan.head work.old }
+    requires read { AreRead part.now.scan part.now.limit row work.old.blocks }
+    requires pixels { 8 * vertical_max part.now.scan.head * line_size part.now.scan.head ≤ length pixels.old }
+    ensures room { HasRowRoom part.now.scan.head work.new }
+    ensures lines { ShowsLines part.now.scan part.now.limit row (take (line_count part.now.scan.head row * line_size part.now.scan.head) pixels.new) }
+{
+    let (scan, limit) = (part.scan(), part.limit());
+    let (_y, count) = lines_of(scan.head(), row);
+    let size = count as usize * shape_of(scan.head()).line;
+    work.paint(scan, limit, row, room, &mut pixels[..size]);
+}
+
+/// Decodes the next row and paints it at the beginning of `pixels`: answers the marks of the intervals that end in it.
+fn decode_first(
+    work: &mut SampleRow,
+    part: &FirstIntervals<'_>,
+    rows: &mut Rows<'_>,
+    pixels: &mut [u8],
+) -> Marked
+    requires of { rows.old.scan ≡ part.now.scan }
+    requires limit { rows.old.limit ≡ part.now.limit }
+    requires row { rows.old.row < mcus_down part.now.scan.head }
+    requires room { HasSampleRoom part.now.scan.head work.old }
+    requires pixels { 8 * vertical_max part.now.scan.head * line_size part.now.scan.head ≤ length pixels.old }
+    ensures moved { rows.new ≡ record rows.old { row = rows.old.row + 1 } }
+    ensures room { HasSampleRoom part.now.scan.head work.new }
+    ensures lines { ShowsLines part.now.scan part.now.limit rows.old.row (take (line_count part.now.scan.head rows.old.row * line_size part.now.scan.head) pixels.new) }
+    ensures counts { CountsRow part.now.scan part.now.limit rows.old.row result }
+{
+    let head = part.scan().head();
+    let (_y, count) = lines_of(head, rows.row());
+    let size = count as usize * shape_of(head).line;
+    work.paint(rows, &mut pixels[..size])
+}
+
+/// Memory for the lines of a row of MCUs of the scan, and for its blocks and samples, where a row has been read by it.
+#[derive(Drop)]
+pub struct Bench<S: OneFirstIntervals> {
+    work: Option<Row>,
+    pixels: Vec<u8>,
+    of: PhantomData<S>,
+}
+
+impl<S: OneFirstIntervals> Model for Bench<S> {
+    ghost use Rattle.std.specs.Prelude.{IfSome};
+    ghost use Rattle.jr_crew.specs.BenchValue.{BenchValue};
+    ghost use Rattle.jr_crew.specs.Bench.{HasRoom, HasWork};
+
+    ghost Value = { BenchValue };
+
+    ghost view = { λ b. record { work = b.work; pixels = b.pixels.items } };
+
+    ghost invariant = { λ b. IfSome b.work (HasWork S.part) × HasRoom S.part b.pixels.items };
+}
+
+impl<S: OneFirstIntervals> Bench<S> {
+    /// An empty bench.
+    pub fn open(alloc: Global, part: &FirstIntervals<'_>) -> Result<Bench<S>, Memory>
+        requires { S.part ≡ Some part.now }
+    {
+        let pixels = vec![in alloc; 0; bytes_of_row(part.scan().head())]?;
+        Ok(Bench {
+            work: None,
+            pixels,
+            of: PhantomData,
+        })
+    }
+
+    /// Whether it has memory for a row's blocks and samples.
+    pub fn has_work(&self) -> bool {
+        self.work.is_some()
+    }
+
+    /// Decodes the next row of the scan, some MCUs at a time, and paints it.
+    pub fn decode(
+        self,
+        part: &FirstIntervals<'_>,
+        rows: &mut Rows<'_>,
+        room: &mut PaintRoom<S>,
+    ) -> Painted<S>
+        requires part { S.part ≡ Some part.now }
+        requires of { rows.old.scan ≡ part.now.scan }
+        requires limit { rows.old.limit ≡ part.now.limit }
+        requires row { rows.old.row < mcus_down part.now.scan.head }
+        ensures row { result.row ≡ rows.old.row }
+        ensures moved { rows.new ≡ record rows.old { row = rows.old.row + 1 } }
+    {
+        let row = rows.row();
+        let mut pixels = self.pixels;
+        let marked = decode_first(&mut room.work, part, rows, &mut pixels);
+        Painted {
+            row,
+            marked,
+            work: self.work,
+            pixels,
+            of: PhantomData,
+        }
+    }
+
+    /// The same bench with memory for a row's blocks and samples, or as it is where that is refused.
+    pub fn with_work(
+        self,
+        alloc: Global,
+        part: &FirstIntervals<'_>,
+    ) -> Result<WorkBench<S>, Bench<S>>
+        requires { S.part ≡ Some part.now }
+    {
+        let pixels = self.pixels;
+        let of = PhantomData;
+        if let Some(work) = self.work {
+            return Ok(WorkBench { work, pixels, of });
+        }
+        match Row::open(alloc, part.scan().head()) {
+            Ok(work) => Ok(WorkBench { work, pixels, of }),
+            Err(_) => Err(Bench {
+                work: None,
+                pixels,
+                of,
+            }),
+        }
+    }
+}
+
+/// Memory for the blocks, the samples and the lines of a row of MCUs of the scan.
+#[derive(Drop)]
+pub struct WorkBench<S: OneFirstIntervals> {
+    work: Row,
+    pixels: Vec<u8>,
+    of: PhantomData<S>,
+}
+
+impl<S: OneFirstIntervals> Model for WorkBench<S> {
+    ghost use Rattle.jr_crew.specs.BenchValue.{WorkBenchValue};
+    ghost use Rattle.jr_crew.specs.Bench.{HasRoom, HasWork};
+
+    ghost Value = { WorkBenchValue };
+
+    ghost view = { λ b. record { work = b.work; pixels = b.pixels.items } };
+
+    ghost invariant = { λ b. HasWork S.part b.work × HasRoom S.part b.pixels.items };
+}
+
+impl<S: OneFirstIntervals> WorkBench<S> {
+    /// Reads the next row of the scan.
+    pub fn read(self, part: &FirstIntervals<'_>, rows: &mut Rows<'_>) -> CodedRow<S>
+        requires part { S.part ≡ Some part.now }
+        requires of { rows.old.scan ≡ part.now.scan }
+        requires limit { rows.old.limit ≡ part.now.limit }
+        requires row { rows.old.row < mcus_down part.now.scan.head }
+        ensures row { result.row ≡ rows.old.row }
+        ensures moved { rows.new ≡ record rows.old { row = rows.old.row + 1 } }
+    {
+        let row = rows.row();
+        let mut work = self.work;
+        let marked = work.read(rows);
+        CodedRow {
+            row,
+            marked,
+            work,
+            pixels: self.pixels,
+            of: PhantomData,
+        }
+    }
+}
+
+/// A row of MCUs of the scan, read and not yet painted, and the marks of the intervals that end in it.
+#[derive(Drop)]
+pub struct CodedRow<S: OneFirstIntervals> {
+    row: u32,
+    marked: Marked,
+    work: Row,
+    /// Room for its lines.
+    pixels: Vec<u8>,
+    of: PhantomData<S>,
+}
+
+impl<S: OneFirstIntervals> Model for CodedRow<S> {
+    ghost use Rattle.jr_crew.specs.BenchValue.{CodedRowValue};
+    ghost use Rattle.jr_crew.specs.Bench.{HasRoom, HasWork, IsRead};
+
+    ghost Value = { CodedRowValue };
+
+    ghost view = { λ c. record { row = c.row; marked = c.marked; work = c.work } };
+
+    ghost invariant = { λ c. HasWork S.part c.work × HasRoom S.part c.pixels.items × IsRead S.part (record { row = c.row; marked = c.marked; work = c.work }) };
+}
+
+impl<S: OneFirstIntervals> CodedRow<S> {
+    /// Transforms and paints the row.
+    pub fn paint(self, part: &FirstIntervals<'_>, room: &mut PaintRoom<S>) -> Painted<S>
+        requires { S.part ≡ Some part.now }
+        ensures { result.row ≡ self.row }
+    {
+        let (mut work, mut pixels) = (self.work, self.pixels);
+        paint_first(&mut work, part, self.row, &mut room.bytes, &mut pixels);
+        Painted {
+            row: self.row,
+            marked: self.marked,
+            work: Some(work),
+            pixels,
+            of: PhantomData,
+        }
+    }
+}
+
+/// The lines of a row of MCUs of the scan, and the marks of the intervals that end in it.
+#[derive(Drop)]
+pub struct Painted<S: OneFirstIntervals> {
+    row: u32,
+    marked: Marked,
+    work: Option<Row>,
+    /// The lines, and what of their room they leave.
+    pixels: Vec<u8>,
+    of: PhantomData<S>,
+}
+
+impl<S: OneFirstIntervals> Model for Painted<S> {
+    ghost use Rattle.std.specs.Prelude.{IfSome};
+    ghost use Rattle.jr_crew.specs.BenchValue.{PaintedValue};
+    ghost use Rattle.jr_crew.specs.Bench.{HasRoom, HasWork, IsPainted};
+
+    ghost Value = { PaintedValue };
+
+    ghost view = { λ p. record { row = p.row; marked = p.marked; pixels = p.pixels.items } };
+
+    ghost invariant = { λ p. IfSome p.work (HasWork S.part) × HasRoom S.part p.pixels.items × IsPainted S.part (record { row = p.row; marked = p.marked; pixels = p.pixels.items }) };
+}
+
+impl<S: OneFirstIntervals> Painted<S> {
+    /// The row's number.
+    pub fn row(&self) -> u32
+        ensures { result ≡ self.now.row }
+    {
+        self.row
+    }
+
+    /// Copies the lines, for which the slice has room.
+    fn copy_to(&self, part: &FirstIntervals<'_>, pixels: &mut [u8])
+        requires part { S.part ≡ Some part.now }
+        requires room { length pixels.old ≡ line_count part.now.scan.head self.now.row * line_size part.now.scan.head }
+        ensures lines { ShowsLines part.now.scan part.now.limit self.now.row pixels.new }
+    {
+        pixels.copy_from_slice(&self.pixels[..pixels.len()]);
+    }
+
+    /// The bench, to be used again.
+    fn into_bench(self) -> Bench<S> {
+        Bench {
+            work: self.work,
+            pixels: self.pixels,
+            of: PhantomData,
+        }
+    }
+
+    /// Puts the lines from one byte up to another, between which is just room for them: in the place of all bytes where they
+    /// begin with these and are as many, which takes no copy. Answers the marks of the intervals that end in the row, and the bench,
+    /// to be used again.
+    pub fn put_into(
+        self,
+        part: &FirstIntervals<'_>,
+        pixels: &mut Vec<u8>,
+        from: usize,
+        to: usize,
+    ) -> (Marked, Bench<S>)
+        requires part { S.part ≡ Some part.now }
+        requires room { to ≡ from + line_count part.now.scan.head self.row * line_size part.now.scan.head }
+        requires within { to ≤ length pixels.old.items }
+        ensures long { length pixels.new.items ≡ length pixels.old.items }
+        ensures kept { take from pixels.new.items ≡ take from pixels.old.items }
+        ensures lines { ShowsLines part.now.scan part.now.limit self.row (take (to - from) (drop from pixels.new.items)) }
+        ensures counts { CountsRow part.now.scan part.now.limit self.row result.0 }
+    {
+        let marked = self.marked;
+        if from > 0 || self.pixels.len() != pixels.len() {
+            self.copy_to(part, &mut pixels[from..to]);
+            return (marked, self.into_bench());
+        }
+        let mut lines = self.pixels;
+        mem::swap(&mut lines, pixels);
+        let bench = Bench {
+            work: self.work,
+            pixels: lines,
+            of: PhantomData,
+        };
+        (marked, bench)
+    }
+}

@@ -1,0 +1,47 @@
+//! Memory that a thread decodes and paints rows by.
+
+ghost use Rattle.std.specs.Prelude.{◌≡◌, Some};
+
+use crate::one_first_intervals::OneFirstIntervals;
+use jr_base::Memory;
+use jr_paint::line_room;
+use jr_rows::{FirstIntervals, SampleRow};
+use std::alloc::Global;
+use std::marker::{Model, PhantomData};
+
+/// Memory for the samples of a row of MCUs of the scan, and for painting its lines. Each thread has its own.
+#[derive(Drop)]
+pub struct PaintRoom<S: OneFirstIntervals> {
+    /// For a row that is read before, and that has its samples on its bench.
+    pub(crate) bytes: Vec<u8>,
+    /// For a row that is read, transformed and painted at once.
+    pub(crate) work: SampleRow,
+    of: PhantomData<S>,
+}
+
+impl<S: OneFirstIntervals> Model for PaintRoom<S> {
+    ghost use Rattle.std.specs.Prelude.{ℕ, length};
+    ghost use Rattle.jr_crew.specs.Bench.{HasLineRoom, HasSamples};
+
+    ghost Value = { ℕ };
+
+    ghost view = { λ r. length r.bytes.items };
+
+    ghost invariant = { λ r. HasLineRoom S.part (length r.bytes.items) × HasSamples S.part r.work };
+}
+
+impl<S: OneFirstIntervals> PaintRoom<S> {
+    /// As much as painting takes.
+    pub fn open(alloc: Global, part: &FirstIntervals<'_>) -> Result<PaintRoom<S>, Memory>
+        requires { S.part ≡ Some part.now }
+    {
+        let head = part.scan().head();
+        let bytes = vec![in alloc; 0; line_room(head)]?;
+        let work = SampleRow::open(alloc, head)?;
+        Ok(PaintRoom {
+            bytes,
+            work,
+            of: PhantomData,
+        })
+    }
+}

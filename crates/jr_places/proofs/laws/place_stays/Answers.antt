@@ -1,5 +1,0 @@
-use Rattle.jr_places.proofs.GivenPlaces as given
-use Rattle.jr_places.proofs.laws.place_stays.Goals as goal
-
-pub returns : goal.returns
-returns c = λ bytes more whole t p is. given.place_stays bytes more whole t p is

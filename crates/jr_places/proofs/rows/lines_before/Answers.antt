@@ -1,8 +1,0 @@
-use Rattle.std.proofs.Common.{rules}
-use Rattle.jr_places.proofs.RowLines.{lines_before_is}
-use Rattle.jr_places.proofs.rows.lines_before.Goals as goal
-
-pub returns-clause-value : goal.returns-clause-value
-returns-clause-value c =
-    let h = c.args.head.now in
-    search (rules, lines_before_is h c.be_lawful.ensures.components.down c.args.row)

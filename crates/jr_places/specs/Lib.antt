@@ -1,4 +1,0 @@
-pub mod Places
-pub mod Cursors
-pub mod Meaning
-pub mod Shown

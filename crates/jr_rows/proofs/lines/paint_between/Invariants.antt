@@ -1,0 +1,31 @@
+use Rattle.std.proofs.Common.{◌≡◌, ◌+◌, ◌-◌, ◌*◌, ◌<◌, ◌≤◌, length, take}
+use Rattle.jr_head.specs.Geometry.{vertical_max}
+use Rattle.jr_paint.specs.Lines.{line_size, next_lines_of}
+use Rattle.jr_picture.specs.BoardValue.{BoardValue}
+use Rattle.jr_picture.specs.Samples.{samples_of}
+use Rattle.jr_rows.specs.MarkBytes.{HasMarkRoom, PutsBetween}
+use Rattle.jr_rows.specs.Rows.{HasFirst, HasSampleRoom}
+use Rattle.jr_rows.specs.SomeLines.{CountsBetween, row_with}
+use Rattle.jr_rows.proofs.SomeLines.{done_lines}
+use Rattle.jr_rows.proofs.lines.paint_between.Given as goal
+
+abbrev pub invariant-rows : goal.invariant-rows
+invariant-rows l =
+    let t = l.fn.scan in
+    let h = t.head in
+    let n = length t.intervals in
+    let done = done_lines h l.fn.first l.fn.end l.rows.row in record {
+      scan : l.rows.scan ≡ t;
+      limit : l.rows.limit ≡ n;
+      within : l.rows.row ≤ l.behind;
+      reaches : l.fn.first < (l.rows.row + 1) * (8 * vertical_max h);
+      room : HasSampleRoom h l.work;
+      long : length l.pixels ≡ length l.initial.pixels;
+      front : (b : BoardValue) → HasFirst t n b → take (done * line_size h) l.pixels ≡ next_lines_of h (samples_of b) l.fn.first done;
+      counts : CountsBetween t (row_with h l.fn.first) l.rows.row l.marked;
+      places : HasMarkRoom t l.marks;
+      puts : PutsBetween t (row_with h l.fn.first) l.rows.row l.initial.marks l.marks;
+    }
+
+abbrev pub decreases-rows : goal.decreases-rows
+decreases-rows l = l.behind - l.rows.row

@@ -1,0 +1,120 @@
+//! Some lines of a scan's picture, decoded and painted without the others.
+
+ghost use Rattle.std.specs.Prelude.{◌≡◌, ℕ, ◌+◌, ◌-◌, ◌*◌, ◌<◌, ◌≤◌, max, min, IfOk, IfErr, length};
+ghost use Rattle.jr_head.specs.Geometry.{mcus_down, vertical_max};
+ghost use Rattle.jr_paint.specs.Lines.{line_size, next_lines_of};
+ghost use Rattle.jr_picture.specs.BoardValue.{BoardValue};
+ghost use Rattle.jr_picture.specs.Samples.{samples_of};
+ghost use Rattle.jr_rows.specs.MarkBytes.{HasMarkRoom, PutsBetween};
+ghost use Rattle.jr_rows.specs.Rows.{HasFirst, HasSampleRoom};
+ghost use Rattle.jr_rows.specs.SomeLines.{CountsBetween, PaintsLines, row_behind, row_with};
+
+use crate::{Marked, Rows, SampleRow, shape_of};
+use jr_base::Memory;
+use jr_head::Head;
+use jr_scan::Scan;
+use std::alloc::Global;
+
+/// The row of MCUs that has line `first`, and the one behind that of the last line before `end`.
+fn rows_of(head: &Head, first: u32, end: u32) -> (u32, u32)
+    requires some { first < end }
+    requires inside { end ≤ head.now.height }
+    ensures first { result.0 ≡ row_with head.now first }
+    ensures behind { result.1 ≡ row_behind head.now end }
+    ensures some { result.0 < result.1 }
+    ensures few { result.1 ≤ mcus_down head.now }
+    ensures starts { result.0 * (8 * vertical_max head.now) ≤ first }
+    ensures reaches { first < (result.0 + 1) * (8 * vertical_max head.now) }
+    ensures ends { end ≤ result.1 * (8 * vertical_max head.now) }
+    ensures last { (row : ℕ) → row < result.1 → row * (8 * vertical_max head.now) < end }
+{
+    let deep = shape_of(head).deep;
+    (first / deep, end.div_ceil(deep))
+}
+
+/// Which of lines `first` to `end` a row of MCUs has: the first one, and how many.
+fn lines_in(head: &Head, row: u32, first: u32, end: u32) -> (u32, u32)
+    requires row { row < mcus_down head.now }
+    requires starts { row * (8 * vertical_max head.now) < end }
+    requires reaches { first < (row + 1) * (8 * vertical_max head.now) }
+    requires some { first < end }
+    requires inside { end ≤ head.now.height }
+    ensures first { result.0 ≡ max first (row * (8 * vertical_max head.now)) }
+    ensures end { result.0 + result.1 ≡ min end ((row + 1) * (8 * vertical_max head.now)) }
+{
+    let deep = shape_of(head).deep;
+    let y = first.max(row * deep);
+    (y, end.min(row * deep + deep) - y)
+}
+
+/// How many bytes so many lines have, of `all`.
+fn bytes_to(lines: u32, all: u32, line: usize) -> usize
+    requires within { lines ≤ all }
+    requires few { all < 65536 }
+    requires short { line ≤ 196605 }
+    ensures value { result ≡ lines * line }
+    ensures within { result ≤ all * line }
+{
+    lines as usize * line
+}
+
+/// Paints lines `first` to `end` of a scan's picture, and puts the marks of the intervals that end in their rows of MCUs, where
+/// these are asked for.
+pub(crate) fn paint_between(
+    scan: &Scan,
+    work: &mut SampleRow,
+    first: u32,
+    end: u32,
+    pixels: &mut [u8],
+    marks: &mut [u8],
+) -> Marked
+    requires some { first < end }
+    requires inside { end ≤ scan.now.head.height }
+    requires room { HasSampleRoom scan.now.head work.old }
+    requires pixels { length pixels.old ≡ (end - first) * line_size scan.now.head }
+    requires places { HasMarkRoom scan.now marks.old }
+    ensures lines { (b : BoardValue) → HasFirst scan.now (length scan.now.intervals) b → pixels.new ≡ next_lines_of scan.now.head (samples_of b) first (end - first) }
+    ensures counts { CountsBetween scan.now (row_with scan.now.head first) (row_behind scan.now.head end) result }
+    ensures puts { PutsBetween scan.now (row_with scan.now.head first) (row_behind scan.now.head end) marks.old marks.new }
+{
+    let head = scan.head();
+    // By its contract a scan has as many intervals as its head says.
+    let _intervals = scan.intervals();
+    let line = shape_of(head).line;
+    let (row, behind) = rows_of(head, first, end);
+    let mut rows = Rows::at(scan, row);
+    let mut marked = Marked::none();
+    'rows: while rows.row() < behind {
+        let row = rows.row();
+        let (y, count) = lines_in(head, row, first, end);
+        let more = work.decode(&mut rows, marks);
+        marked = marked.with(more);
+        let from = bytes_to(y - first, end - first, line);
+        let to = bytes_to(y - first + count, end - first, line);
+        work.paint_some(head, y, count, &mut pixels[from..to]);
+    }
+    marked
+}
+
+/// Decodes as much of a scan as `count` lines of its picture from line `first` on take, and paints them, a line behind the
+/// other, of one byte or three a pixel. Answers the marks of the intervals that end in the rows of MCUs of these lines.
+///
+/// It takes memory for a row of MCUs, and none for the picture. Of what stands before these rows only the interval that
+/// reaches into them is read.
+pub fn paint_scan_lines(
+    alloc: Global,
+    scan: &Scan,
+    first: u32,
+    count: u32,
+    pixels: &mut [u8],
+) -> Result<Marked, Memory>
+    requires some { 0 < count }
+    requires inside { first + count ≤ scan.now.head.height }
+    requires room { length pixels.old ≡ count * line_size scan.now.head }
+    ensures painted { IfOk result (PaintsLines scan.now first count pixels.new) }
+    ensures memory { IfErr result (λ _. pixels.new ≡ pixels.old) }
+{
+    let mut work = SampleRow::open(alloc, scan.head())?;
+    let marked = paint_between(scan, &mut work, first, first + count, pixels, &mut []);
+    Ok(marked)
+}

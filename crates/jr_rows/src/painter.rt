@@ -1,0 +1,26 @@
+//! Who paints the rows of MCUs of a picture, one after the other.
+
+ghost use Rattle.std.specs.Prelude.{◌≡◌, ◌+◌, ◌-◌, ◌*◌, ◌<◌, ◌≤◌, length, take, drop};
+ghost use Rattle.jr_head.specs.Geometry.{mcus_down};
+ghost use Rattle.jr_paint.specs.Lines.{line_size};
+ghost use Rattle.jr_rows.specs.RowsValue.{RowsValue};
+ghost use Rattle.jr_rows.specs.Rows.{CountsRow, ShowsLines, line_count};
+
+use crate::Marked;
+
+/// Gives the lines of a picture's rows of MCUs in their order.
+pub trait RowPainter {
+    ghost at: { Self → RowsValue };
+
+    /// Paints the next row, from one byte of `pixels` up to another, between which is room for just its lines. What stands before
+    /// them stays; bytes as many as there are may take the place of all. Answers the marks of the intervals that end in the row.
+    fn paint(&mut self, pixels: &mut Vec<u8>, from: usize, to: usize) -> Marked
+        requires row { (at self.old).row < mcus_down (at self.old).scan.head }
+        requires room { to ≡ from + line_count (at self.old).scan.head (at self.old).row * line_size (at self.old).scan.head }
+        requires within { to ≤ length pixels.old.items }
+        ensures moved { at self.new ≡ record (at self.old) { row = (at self.old).row + 1 } }
+        ensures long { length pixels.new.items ≡ length pixels.old.items }
+        ensures kept { take from pixels.new.items ≡ take from pixels.old.items }
+        ensures lines { ShowsLines (at self.old).scan (at self.old).limit (at self.old).row (take (to - from) (drop from pixels.new.items)) }
+        ensures counts { CountsRow (at self.old).scan (at self.old).limit (at self.old).row result };
+}

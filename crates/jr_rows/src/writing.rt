@@ -1,0 +1,118 @@
+//! A scan's picture, decoded, painted and written in one pass, a row of MCUs after the other.
+
+ghost use Rattle.std.specs.Prelude.{◌≡◌, ◌≢◌, ℕ, ◌+◌, ◌*◌, ◌<◌, ◌≤◌, ◌^◌, min, length, take, is_err, true, false, IfOk, OnOk};
+ghost use Rattle.jr_base.specs.Tally.{has_failed};
+ghost use Rattle.jr_head.specs.Geometry.{vertical_max};
+ghost use Rattle.jr_paint.specs.Lines.{line_size};
+ghost use Rattle.jr_paint.specs.declared.header.TheConstants.{HEADER_ROOM};
+ghost use Rattle.jr_scan.specs.ScanValue.{intervals_of};
+ghost use Rattle.jr_picture.specs.Headline.{least};
+ghost use Rattle.jr_rows.specs.Rows.{CountsRows};
+ghost use Rattle.jr_rows.specs.Stream.{WritesPicture, BeginsPicture, SendsPicture, HasCounts};
+
+use crate::alone::Alone;
+use crate::painter::RowPainter;
+use crate::{FirstIntervals, Marked, SampleRow, lines_of, room_for, shape_of};
+use jr_base::{Tally, WriteFault, write_all};
+use jr_head::Head;
+use jr_paint::{make_room, put_header};
+use jr_picture::{Counts, Gate};
+use jr_scan::Scan;
+use std::alloc::Global;
+use std::io::Write;
+
+/// Why a picture is not written whole.
+#[derive(Clone, Copy, Debug, PartialEq, Eq)]
+pub enum PictureError {
+    /// Memory was refused; nothing is written.
+    Memory,
+    /// The writer failed behind a beginning of the picture.
+    Write,
+}
+
+/// Writes a picture, of which the painter gives row after row; `pixels` has room for the lines of a row. Answers the marks
+/// of its intervals.
+pub fn write_rows<W: Write, P: RowPainter>(
+    head: &Head,
+    painter: &mut P,
+    pixels: &mut Vec<u8>,
+    out: &mut Tally<W>,
+) -> Result<Marked, WriteFault>
+    requires head { head.now ≡ (P.at painter.old).scan.head }
+    requires start { (P.at painter.old).row ≡ 0 }
+    requires few { (P.at painter.old).limit ≤ intervals_of (P.at painter.old).scan.head }
+    requires intervals { intervals_of head.now < 2 ^ 32 }
+    requires unfailed { has_failed out.old ≡ false }
+    requires pixels { 8 * vertical_max head.now * line_size head.now ≤ length pixels.old.items }
+    requires header { HEADER_ROOM ≤ length pixels.old.items }
+    ensures counts { IfOk result (CountsRows (P.at painter.old).scan (P.at painter.old).limit) }
+    ensures failed { has_failed out.new ≡ is_err result }
+    ensures sent { SendsPicture W.contents out.old out.new result (P.at painter.old).scan (P.at painter.old).limit }
+{
+    head.be_lawful();
+    let shape = shape_of(head);
+    let mut filled = put_header(head, pixels);
+    let mut marked = Marked::none();
+    let mut row = 0;
+    'rows: while row < shape.down {
+        let (_y, count) = lines_of(head, row);
+        let size = count as usize * shape.line;
+        filled = make_room(pixels, filled, size, out)?;
+        let end = filled + size;
+        let more = painter.paint(pixels, filled, end);
+        marked = marked.with(more);
+        filled = end;
+        row += 1;
+    }
+    write_all(out, &pixels[..filled])?;
+    Ok(marked)
+}
+
+/// How many intervals are sound, damaged and blank.
+pub fn counts_of(scan: &Scan, limit: u32, marked: Marked) -> Counts
+    requires few { limit ≤ length scan.now.intervals }
+    requires counts { CountsRows scan.now limit marked }
+    ensures { HasCounts scan.now limit result }
+{
+    // By its contract a picture has an MCU.
+    let _some = scan.head().mcus();
+    let Marked { sound, damaged } = marked;
+    Counts {
+        sound,
+        damaged,
+        blank: scan.intervals() - sound - damaged,
+    }
+}
+
+/// Decodes the first intervals of a scan, or all, and writes its picture, a row of MCUs after the other, in the calling
+/// thread. It takes all memory that it needs before it writes the first byte: for two rows of MCUs, and none for the
+/// picture. The gate is told each interval that is decoded; no piece is made.
+pub fn write_scan<W: Write, G: Gate>(
+    alloc: Global,
+    scan: &Scan,
+    first: Option<u32>,
+    gate: &G,
+    out: &mut Tally<W>,
+) -> Result<Counts, PictureError>
+    requires { has_failed out.old ≡ false }
+    ensures painted { IfOk result (λ c. WritesPicture W.contents out.old out.new scan.now (least first (length scan.now.intervals)) c) }
+    ensures begun { result ≡ Err PictureError.Write → BeginsPicture W.contents out.old out.new scan.now (least first (length scan.now.intervals)) }
+    ensures memory { result ≡ Err PictureError.Memory → out.new ≡ out.old }
+    ensures written { OnOk result (has_failed out.new ≡ false) }
+    ensures write { result ≡ Err PictureError.Write → has_failed out.new ≡ true }
+{
+    let Ok(work) = SampleRow::open(alloc, scan.head()) else {
+        return Err(PictureError::Memory);
+    };
+    let Ok(mut pixels) = vec![in alloc; 0; room_for(scan.head())] else {
+        return Err(PictureError::Memory);
+    };
+    let limit = FirstIntervals::of(scan, first).limit();
+    // By its contract a scan has as many intervals as its head says.
+    let _all = scan.intervals();
+    let mut painter = Alone::of(scan, limit, work, gate);
+    match write_rows(scan.head(), &mut painter, &mut pixels, out) {
+        Ok(marked) => Ok(counts_of(scan, limit, marked)),
+        Err(_) => Err(PictureError::Write),
+    }
+}

@@ -1,4 +1,0 @@
-pub mod Countings
-pub mod Sendings
-pub mod SomeLines
-pub mod WholePictures

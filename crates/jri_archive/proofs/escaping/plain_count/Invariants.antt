@@ -1,0 +1,5 @@
+use Rattle.std.proofs.Common.{◌≡◌, ◌≢◌, ℕ, ◌<◌, get_or}
+use Rattle.jri_archive.proofs.escaping.plain_count.Given as goal
+
+abbrev pub invariant-loop-byte : goal.invariant-loop-byte
+invariant-loop-byte l = (l.count ≡ l.byte-index) × ((k : ℕ) → k < l.count → get_or l.bytes k 0 ≢ 92)

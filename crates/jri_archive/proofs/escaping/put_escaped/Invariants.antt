@@ -1,0 +1,10 @@
+use Rattle.std.proofs.Common.{◌-◌, length}
+use Rattle.std.specs.String.{string_bytes}
+use Rattle.jri_archive.proofs.Escapes.{Puts}
+use Rattle.jri_archive.proofs.escaping.put_escaped.Given as goal
+
+abbrev pub invariant-bytes : goal.invariant-bytes
+invariant-bytes l = Puts (string_bytes l.fn.line) (string_bytes l.line) l.fn.name l.at
+
+abbrev pub decreases-bytes : goal.decreases-bytes
+decreases-bytes l = length l.fn.name - l.at

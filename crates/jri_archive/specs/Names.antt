@@ -1,0 +1,32 @@
+-- The names of the files that are to be checked.
+use Rattle.std.specs.Prelude.{◌≡◌, ℕ, false, List, [], ◌∷◌, drop, map, Option, Some, None}
+use Rattle.std.specs.Global.{Vec}
+use Rattle.jri_archive.specs.declared.names.NamedFile.{NamedFile}
+use Rattle.jri_archive.specs.declared.reading.ReadError.{ReadError}
+use Rattle.jri_archive.specs.declared.reading.ReadError.TheVariants.{NameIsNoText}
+
+-- the names that words give behind the first ones; where a list follows it is not known how many there are
+abbrev pub names_left : {L : Type 0} → List (Vec ℕ) → ℕ → Option L → Option (List (List ℕ))
+names_left words taken None = Some (drop taken (map (λ w. w.items) words))
+names_left words taken (Some list) = None
+
+-- the same where folders are gone through
+abbrev pub known_names : {W : Type 0} → Option (List (List ℕ)) → Option W → Option (List (List ℕ))
+known_names given None = given
+known_names given (Some walk) = None
+
+-- the next of these names, and those that are left
+abbrev pub IsNextGiven : List (List ℕ) → Option (Vec ℕ) → Option (List (List ℕ)) → Type 0
+IsNextGiven [] name left = (name ≡ None) × (left ≡ Some [])
+IsNextGiven (n ∷ ns) name left = (left ≡ Some ns) × ((taken : Vec ℕ) × (name ≡ Some taken) × (taken.items ≡ n))
+
+-- a file has that name, is not opened only where the name is no text, and is not skipped
+pub record IsNamed (file : NamedFile) (name : List ℕ) : Type 0 where
+  pub name_is : file.name.items ≡ name
+  pub error : (e : ReadError) → file.error ≡ Some e → e ≡ NameIsNoText
+  pub kept : file.is_skipped ≡ false
+
+-- the file of the next of these names, and those that are left
+abbrev pub IsNextFile : List (List ℕ) → Option NamedFile → Option (List (List ℕ)) → Type 0
+IsNextFile [] file left = (file ≡ None) × (left ≡ Some [])
+IsNextFile (n ∷ ns) file left = (left ≡ Some ns) × ((f : NamedFile) × (file ≡ Some f) × IsNamed f n)

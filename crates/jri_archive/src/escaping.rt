@@ -1,0 +1,108 @@
+//! Names as JSON strings.
+
+ghost use Rattle.std.specs.Prelude.{◌≡◌, ◌≢◌, ℕ, ◌<◌, ◌≤◌, ◌++◌, ◌∷◌, List, [], length, take, slice_index, IfOk, false};
+ghost use Rattle.std.specs.String.{string_bytes};
+ghost use Rattle.jri_archive.specs.Escapes.{IsEscaped, digit_of, spelt};
+ghost use Rattle.jri_archive.specs.Escapes.NamePart.{Number};
+
+use std::alloc::AllocError;
+
+/// What escapes a character of a JSON string.
+const BACKSLASH: u8 = b'\\';
+
+/// Whether a byte of text can't stand in a JSON string as it is, or may move on a terminal.
+fn is_special(byte: u8) -> bool
+    ensures { result ≡ false → byte ≢ 92 }
+{
+    byte < b' ' || byte == b'"' || byte == BACKSLASH || byte == 0x7F
+}
+
+/// How many bytes at the front are not special.
+fn plain_count(bytes: &[u8]) -> usize
+    ensures within { result ≤ length bytes.now }
+    ensures plain { (k : ℕ) → k < result → slice_index bytes.now k ≢ 92 }
+{
+    let mut count = 0;
+    for byte in bytes {
+        if is_special(*byte) {
+            return count;
+        }
+        count += 1;
+    }
+    count
+}
+
+/// The text that bytes begin with.
+fn text_of(bytes: &[u8]) -> &str
+    ensures within { length result.now ≤ length bytes.now }
+    ensures text { result.now ≡ take (length result.now) bytes.now }
+{
+    let end = match str::from_utf8(bytes) {
+        Ok(text) => return text,
+        Err(error) => error.valid_up_to(),
+    };
+    match str::from_utf8(&bytes[..end]) {
+        Ok(text) => text,
+        Err(_) => "",
+    }
+}
+
+/// A digit to base 16.
+fn digit(number: u8) -> u8
+    requires { number < 16 }
+    ensures { result ≡ digit_of number }
+{
+    if number < 10 {
+        b'0' + number
+    } else {
+        b'a' - 10 + number
+    }
+}
+
+/// Puts a byte by its number: `\u00` and two digits, and `\udc` and two digits where it is none of ASCII, as Python has bytes
+/// that are no text.
+fn put_number(line: &mut String, byte: u8) -> Result<(), AllocError>
+    ensures { IfOk result (λ _. string_bytes line.new ≡ string_bytes line.old ++ spelt (Number byte)) }
+{
+    let bytes = [
+        BACKSLASH,
+        b'u',
+        if byte < 0x80 { b'0' } else { b'd' },
+        if byte < 0x80 { b'0' } else { b'c' },
+        digit(byte / 16),
+        digit(byte % 16),
+    ];
+    // They are ASCII.
+    match str::from_utf8(&bytes) {
+        Ok(text) => line.push_str(text),
+        Err(_) => Err(AllocError),
+    }
+}
+
+/// Puts the text of a JSON string from which a name comes back: its text as it stands, and by their numbers controls, quotation
+/// marks, backslashes, and bytes that are no text.
+fn put_escaped(line: &mut String, name: &[u8]) -> Result<(), AllocError>
+    ensures { IfOk result (λ _. (text : List ℕ) × (string_bytes line.new ≡ string_bytes line.old ++ text) × IsEscaped text name.now) }
+{
+    let mut at: usize = 0;
+    'bytes: while at < name.len() {
+        let rest = &name[at..];
+        let text = text_of(&rest[..plain_count(rest)]);
+        line.push_str(text)?;
+        at += text.len();
+        if at < name.len() {
+            put_number(line, name[at])?;
+            at += 1;
+        }
+    }
+    Ok(())
+}
+
+/// Puts a name as a JSON string.
+pub fn put_string(line: &mut String, name: &[u8]) -> Result<(), AllocError>
+    ensures { IfOk result (λ _. (text : List ℕ) × (string_bytes line.new ≡ string_bytes line.old ++ (34 ∷ (text ++ 34 ∷ []))) × IsEscaped text name.now) }
+{
+    line.push_str("\"")?;
+    put_escaped(line, name)?;
+    line.push_str("\"")
+}

@@ -1,0 +1,123 @@
+//! The names of the files that are to be checked, one after the other.
+
+ghost use Rattle.std.specs.Prelude.{◌≡◌, ℕ, List, Some, None, false, length, map, IfOk, IfSome, IfNone};
+ghost use Rattle.jri_archive.specs.Names.{IsNamed, IsNextFile};
+
+use crate::folders::FolderWalk;
+use crate::given::GivenNames;
+use crate::reading::{Folder, ReadError};
+use std::alloc::{AllocError, Global};
+use std::io::{BufReader, Read};
+use std::marker::Model;
+
+/// A file that is to be checked, or why there is none.
+#[derive(Drop)]
+pub struct NamedFile {
+    pub name: Vec<u8>,
+    pub error: Option<ReadError>,
+    /// It was found in a directory, and its name is neither UTF-8 nor that of a JPEG file: it may be a file of any kind.
+    pub is_skipped: bool,
+}
+
+/// Why there is no further name.
+#[derive(Clone, Copy)]
+pub enum NamesError {
+    Read,
+    Memory,
+}
+
+impl From<AllocError> for NamesError {
+    fn from(_refused: AllocError) -> Self {
+        NamesError::Memory
+    }
+}
+
+/// The names that words give, those of a list, and those of what stands in folders.
+#[derive(Drop)]
+pub struct FileNames<I: Read + Drop> {
+    given: GivenNames<I>,
+    /// Where folders are gone through.
+    walk: Option<FolderWalk>,
+}
+
+impl<I: Read + Drop> Model for FileNames<I> {
+    ghost use Rattle.std.specs.Prelude.{ℕ, List, Option};
+    ghost use Rattle.jri_archive.specs.Names.{known_names};
+
+    ghost Value = { Option (List (List ℕ)) };
+
+    ghost view = { λ n. known_names n.given n.walk };
+}
+
+/// Why a file is not opened by this name: that it is no text.
+fn refused_name(name: &[u8]) -> Option<ReadError>
+    ensures { (e : ReadError) → result ≡ Some e → e ≡ ReadError.NameIsNoText }
+{
+    match str::from_utf8(name) {
+        Ok(_) => None,
+        Err(_) => Some(ReadError::NameIsNoText),
+    }
+}
+
+/// The file of a name, if there is one.
+fn file_of(name: Option<Vec<u8>>) -> Option<NamedFile>
+    ensures none { IfNone name (result ≡ None) }
+    ensures some { IfSome name (λ n. (file : NamedFile) × (result ≡ Some file) × IsNamed file n.items) }
+{
+    match name {
+        Some(name) => {
+            let error = refused_name(name.as_slice());
+            Some(NamedFile {
+                name,
+                error,
+                is_skipped: false,
+            })
+        }
+        None => None,
+    }
+}
+
+impl<I: Read + Drop> FileNames<I> {
+    /// None is taken yet.
+    pub fn of(
+        alloc: Global,
+        given: Vec<Vec<u8>>,
+        list: Option<BufReader<I>>,
+        is_recursive: bool,
+    ) -> FileNames<I>
+        ensures { IfNone list (is_recursive ≡ false → result ≡ Some (map (λ w. w.items) given.items)) }
+    {
+        let mut walk = None;
+        if is_recursive {
+            walk = Some(FolderWalk::of(alloc));
+        }
+        FileNames {
+            given: GivenNames::of(given, list),
+            walk,
+        }
+    }
+
+    /// How many there are behind those that are taken, where that is known.
+    pub fn left(&self) -> Option<u64>
+        ensures { (names : List (List ℕ)) → self.now ≡ Some names → result ≡ Some (length names) }
+    {
+        match self.walk {
+            Some(_) => None,
+            None => self.given.left(),
+        }
+    }
+
+    /// The next file, none behind the last.
+    pub fn next<F: Folder>(
+        &mut self,
+        alloc: Global,
+        folder: &F,
+    ) -> Result<Option<NamedFile>, NamesError>
+        ensures { (names : List (List ℕ)) → self.old ≡ Some names → IfOk result (λ file. IsNextFile names file self.new) }
+    {
+        if let Some(walk) = &mut self.walk {
+            return walk.next(alloc, folder, &mut self.given);
+        }
+        Ok(file_of(self.given.next(alloc)?))
+    }
+}

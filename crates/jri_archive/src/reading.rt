@@ -1,0 +1,79 @@
+//! Where the bytes of files come from, and why they may not.
+
+ghost use Rattle.std.specs.Prelude.{ℕ, List, IfOk, IfErr};
+
+use std::alloc::Global;
+
+/// Why the bytes of a file are not there.
+#[derive(Clone, Copy, PartialEq, Eq)]
+pub enum ReadError {
+    /// No file has that name.
+    NotFound,
+    /// It may not be read.
+    NotAllowed,
+    /// It is a folder.
+    Folder,
+    /// Its name is not UTF-8: the toolchain opens files by text alone.
+    NameIsNoText,
+    /// It is a FIFO, a socket or a device.
+    NotRegular,
+    /// The system takes no name of this length.
+    NameTooLong,
+    /// Anything else.
+    Failed,
+    /// Memory ran out.
+    Memory,
+}
+
+impl ReadError {
+    /// The reason in words.
+    pub fn text(&self) -> &'static str {
+        match self {
+            ReadError::NotFound => "no such file",
+            ReadError::NotAllowed => "permission denied",
+            ReadError::Folder => "a folder",
+            ReadError::NameIsNoText => "its name is not UTF-8",
+            ReadError::NotRegular => "not a regular file",
+            ReadError::NameTooLong => "its name is too long",
+            ReadError::Failed => "reading failed",
+            ReadError::Memory => "out of memory",
+        }
+    }
+}
+
+/// What kind an entry of a folder is of.
+#[derive(Clone, Copy)]
+pub enum EntryKind {
+    File,
+    Folder,
+    /// That can't be said.
+    Unread(ReadError),
+}
+
+/// What stands in a folder.
+#[derive(Drop)]
+pub struct Entry {
+    /// Its name after that of its directory, of any bytes.
+    pub name: Vec<u8>,
+    pub kind: EntryKind,
+}
+
+/// Where files come from.
+pub trait Folder {
+    ghost use Rattle.jri_archive.specs.declared.reading.ReadError.{ReadError};
+
+    // The bytes that a file of that name may have.
+    ghost holds: { Self → List ℕ → List ℕ → Type 0 } = { λ _ _ _. Unit {0} };
+
+    // Why a file of that name may not be read.
+    ghost fails: { Self → List ℕ → ReadError → Type 0 } = { λ _ _ _. Unit {0} };
+
+    /// The bytes of the file of that name, or one more than a file may have.
+    fn read(&self, alloc: Global, name: &str) -> Result<Vec<u8>, ReadError>
+        ensures bytes { IfOk result (λ bytes. holds self.now name.now bytes.items) }
+        ensures error { IfErr result (fails self.now name.now) };
+
+    /// Returns the files and directories in the directory of that name, in any order, and no links; `None` if it is not a
+    /// directory. An entry whose name is not UTF-8 is `Unread` for that reason.
+    fn entries(&self, alloc: Global, name: &str) -> Result<Option<Vec<Entry>>, ReadError>;
+}

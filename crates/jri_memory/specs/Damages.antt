@@ -1,0 +1,69 @@
+-- What the call gives that lists the damaged intervals of a file in memory.
+use Rattle.std.specs.Prelude.{◌≡◌, ℕ, ◌+◌, ◌<◌, ◌≤◌, List, length, drop, min, Option, Some, None, slice_index_or}
+use Rattle.jr_scan.specs.Mcus.{HasNoDecoding}
+use Rattle.jr_scan.specs.ScanValue.{ScanValue, interval_of}
+use Rattle.jr_damage.specs.declared.map.DamagedInterval.{DamagedInterval}
+use Rattle.jr_damage.specs.declared.segments.CodedSpan.{CodedSpan}
+use Rattle.jr_damage.specs.Coded.{AreSegmentsOf}
+use Rattle.jr_damage.specs.Map.{IsDamageOf}
+use Rattle.jr_damage.specs.Verdicts.{IsFileScan}
+use Rattle.jri_memory.specs.declared.damages.Damage.{Damage}
+use Rattle.jri_memory.specs.declared.damages.DamageReport.{DamageReport}
+
+-- the bytes of an interval as numbers, 0 where it has none
+abbrev pub TellsBytes : Option CodedSpan → Damage → Type 0
+TellsBytes None d = (d.start ≡ 0) × (d.end ≡ 0)
+TellsBytes (Some span) d = (d.start ≡ span.start) × (d.end ≡ span.end)
+
+-- a damaged interval as numbers
+pub record IsDamageEntry (i : DamagedInterval) (d : Damage) : Type 0 where
+  pub interval : d.interval ≡ i.number
+  pub first_mcu : d.first_mcu ≡ i.mcus.first
+  pub mcus : d.mcus ≡ i.mcus.count
+  pub decodable : d.decodable ≡ i.decodable
+  pub first_line : d.first_line ≡ i.lines.first
+  pub last_line : d.last_line ≡ i.lines.last
+  pub bytes : TellsBytes i.bytes d
+
+-- stands for one past the last
+abbrev pub no_damage : Damage
+no_damage = record { interval = 0; first_mcu = 0; mcus = 0; decodable = 0; first_line = 0; last_line = 0; start = 0; end = 0 }
+
+abbrev pub damage_at : List Damage → ℕ → Damage
+damage_at damages k = slice_index_or damages k no_damage
+
+-- number k of the list tells of a damaged interval from `first` on and before `next`
+pub record IsListedAt (s : ScanValue) (spans : List CodedSpan) (first next : ℕ) (d : Damage) : Type 0 where
+  pub interval : DamagedInterval
+  pub tells : IsDamageEntry interval d
+  pub is : IsDamageOf s spans d.interval interval
+  pub from : first ≤ d.interval
+  pub before : d.interval < next
+
+-- number k of the list is of this interval
+abbrev pub IsAt : List Damage → (count i : ℕ) → Type 0
+IsAt damages count i = (k : ℕ) × (k < count) × ((damage_at damages k).interval ≡ i)
+
+-- the first of a list are the damaged intervals from `first` on and before `next`, in their order
+pub record AreDamages (s : ScanValue) (spans : List CodedSpan) (first next count : ℕ) (damages : List Damage) : Type 0 where
+  pub start : first ≤ next
+  pub each : (k : ℕ) → k < count → IsListedAt s spans first next (damage_at damages k)
+  pub order : (k : ℕ) → k + 1 < count → (damage_at damages k).interval < (damage_at damages (k + 1)).interval
+  pub all : (i : ℕ) → first ≤ i → i < next → HasNoDecoding (interval_of s i) → IsAt damages count i
+
+-- the damaged intervals of the file from this one on are listed, as many as have room; behind them the list is as it was
+pub record ListsDamages (file : List ℕ) (first : ℕ) (old new : List Damage) (r : DamageReport) : Type 0 where
+  pub scan : ScanValue
+  pub is : IsFileScan file scan
+  pub spans : List CodedSpan
+  pub segments : AreSegmentsOf file scan spans
+  pub are : AreDamages scan spans (min first (length scan.intervals)) r.next r.count new
+  pub room : r.next < length scan.intervals → r.count ≡ length old
+  pub long : length new ≡ length old
+  pub behind : drop r.count new ≡ drop r.count old
+  pub no_fault : (r.refusal ≡ 0) × (r.detail ≡ 0)
+
+-- a report of no list: 0 for all but the refusal's two numbers
+pub record TellsNoDamage (r : DamageReport) : Type 0 where
+  pub count : r.count ≡ 0
+  pub next : r.next ≡ 0

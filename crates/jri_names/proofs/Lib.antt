@@ -1,2 +1,0 @@
-mod Escapes
-pub mod NextNames

@@ -1,5 +1,0 @@
-use Rattle.std.proofs.Common.{◌≡◌, ◌≢◌, ℕ, ◌<◌, get_or}
-use Rattle.jri_names.proofs.escaping.plain_count.Given as goal
-
-abbrev pub invariant-loop-byte : goal.invariant-loop-byte
-invariant-loop-byte l = (l.count ≡ l.byte-index) × ((k : ℕ) → k < l.count → get_or l.bytes k 0 ≢ 92)

@@ -1,5 +1,0 @@
-use Rattle.jri_names.proofs.Escapes.{names_come_back}
-use Rattle.jri_names.proofs.laws.names_come_back.Goals as goal
-
-pub returns : goal.returns
-returns c = names_come_back

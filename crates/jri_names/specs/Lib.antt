@@ -1,2 +1,0 @@
-pub mod Escapes
-pub mod Names

@@ -1,9 +1,0 @@
-//! What holds of every line.
-
-ghost use Rattle.std.specs.Prelude.{◌≡◌, ℕ, List};
-ghost use Rattle.jri_names.specs.Escapes.{IsEscaped};
-
-/// A name comes back from its text: no other name has that text.
-pub fn names_come_back()
-    ensures { (text a b : List ℕ) → IsEscaped text a → IsEscaped text b → a ≡ b }
-{}

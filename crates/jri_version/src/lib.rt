@@ -1,8 +1,0 @@
-//! The version of the programs and of libjri.
-#![tactic(auto)]
-
-/// The version of `jri`, `jri_check` and libjri, what they are built of, and the toolchain that has proved and compiled them. The
-/// tools that build put the toolchain's name in the place of `an unnamed toolchain`, filled up with spaces at its end, and
-/// `tools/install` puts `commit` and the commit's name, which are as long, in the place of the words on the working tree.
-pub const VERSION: &str =
-    "0.1.0 (built in a working tree, and of no named commit) by an unnamed toolchain";
