@@ -4,7 +4,9 @@ ghost use Rattle.std.specs.Prelude.{◌≡◌, Some};
 ghost use Rattle.jr_scan.specs.Guesses.{AreGuessesOf};
 ghost use Rattle.jr_scan.specs.ScanValue.{interval_of};
 
-use crate::{Bench, CodedRow, OneFirstIntervals, PaintRoom, Painted, WorkBench};
+use crate::bench::{Bench, CodedRow, Painted, WorkBench};
+use crate::one_first_intervals::OneFirstIntervals;
+use crate::paint_room::PaintRoom;
 use jr_picture::Gate;
 use jr_rows::{FirstIntervals, Rows, announce, intervals_of_row, shape_of};
 use jr_scan::Guesses;

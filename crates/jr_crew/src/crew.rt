@@ -6,10 +6,12 @@ ghost use Rattle.jr_paint.specs.Lines.{line_size};
 ghost use Rattle.jr_paint.specs.declared.header.TheConstants.{HEADER_ROOM};
 
 use crate::baton::Baton;
+use crate::bench::{Bench, Painted, WorkBench};
 use crate::caller_room::CallerRoom;
+use crate::one_first_intervals::OneFirstIntervals;
+use crate::paint_room::PaintRoom;
 use crate::row_queue::{PassedRow, RowQueue, RowTask, Waiter};
 use crate::scan_of::ScanOf;
-use crate::{Bench, OneFirstIntervals, PaintRoom, Painted, WorkBench};
 use jr_base::Memory;
 use jr_guesses::{GuessTask, ScanGuess};
 use jr_picture::Gate;

@@ -4,8 +4,9 @@ ghost use Rattle.std.specs.Prelude.{◌≡◌, ◌<◌, Some, IsTrue, length};
 ghost use Rattle.jr_crew.specs.Crew.{HasRow};
 
 use crate::baton::Baton;
+use crate::bench::{Bench, CodedRow, Painted};
+use crate::one_first_intervals::OneFirstIntervals;
 use crate::scan_of::ScanOf;
-use crate::{Bench, CodedRow, OneFirstIntervals, Painted};
 use jr_guesses::{GuessQueue, GuessTask, ScanGuess};
 use jr_rows::{FirstIntervals, intervals_of_row};
 use std::collections::VecDeque;

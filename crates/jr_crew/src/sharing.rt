@@ -7,11 +7,12 @@ ghost use Rattle.jr_picture.specs.Headline.{least};
 ghost use Rattle.jr_rows.specs.Stream.{WritesPicture, BeginsPicture, IsSentBy};
 
 use crate::baton::Baton;
+use crate::bench::Painted;
 use crate::crew::{BENCHES_OF_ONE, Crew};
+use crate::one_first_intervals::OneFirstIntervals;
 use crate::row_queue::RowQueue;
 use crate::scan_of::ScanOf;
 use crate::sending::{Helping, Sending};
-use crate::{OneFirstIntervals, Painted};
 use jr_base::{Memory, Tally, WriteFault};
 use jr_guesses::{GuessQueue, run_beside, windows_of};
 use jr_picture::{Counts, Gate};

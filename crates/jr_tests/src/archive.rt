@@ -66,6 +66,7 @@ impl<'a> Folder for Shelf<'a> {
             "two" | "in/a.JPEG" => 1,
             "progressive" => 2,
             "coloured" | "in/d/e.jfif" => 3,
+            "cut" => 4,
             "shut" => return Err(ReadError::NotAllowed),
             "fifo" => return Err(ReadError::NotRegular),
             _ => return Err(ReadError::NotFound),
@@ -90,10 +91,13 @@ impl<'a> Folder for Shelf<'a> {
     }
 }
 
+/// Ten intervals, of which two have come.
+const CUT: &str = "GW 63 FF D0 63";
+
 /// The files in their places.
 fn files(alloc: Global) -> Result<Vec<Vec<u8>>, Fail> {
     let mut files = Vec::new(alloc);
-    for words in [TEN, "GI 63 FF D0 63 E", "S FF C2", COLOURED] {
+    for words in [TEN, "GI 63 FF D0 63 E", "S FF C2", COLOURED, CUT] {
         files.push(file(alloc, words)?)?;
     }
     Ok(files)
@@ -176,9 +180,28 @@ fn tells_files_in_their_order(rt: HostRuntime) -> Result<(), Fail> {
     )?;
     check(
         &rt,
-        &[b"--quiet", b"--counts", b"ten", b"progressive", b"two"],
+        &[b"-q", b"--counts", b"ten", b"progressive", b"two"],
         "progressive: unsupported 5: progressive JPEG (SOF2) is not supported\n2 sound, 1 unsupported\n",
         5,
+    )
+}
+
+/// Consecutive intervals without bytes share a line of a map.
+#[test]
+fn tells_empty_intervals_at_once(rt: HostRuntime) -> Result<(), Fail> {
+    check(
+        &rt,
+        &[b"--map", b"cut"],
+        "cut: damaged, 8 of 10 intervals, lines 0 to 7, scan ended at the end of the file\n\
+         cut: intervals 2 to 9, MCUs 2 to 9, lines 0 to 7, no bytes\n",
+        1,
+    )?;
+    check(
+        &rt,
+        &[b"--map", b"--json", b"cut"],
+        "{\"file\":\"cut\",\"is\":\"damaged\",\"damaged\":8,\"first_line\":0,\"last_line\":7,\"intervals\":10,\"width\":80,\"height\":8,\"bytes\":150,\"end\":\"the end of the file\"}\n\
+         {\"file\":\"cut\",\"interval\":2,\"last_interval\":9,\"first_mcu\":2,\"last_mcu\":9,\"first_line\":0,\"last_line\":7,\"decodable\":0}\n",
+        1,
     )
 }
 
@@ -208,7 +231,7 @@ fn tells_objects(rt: HostRuntime) -> Result<(), Fail> {
             b"\"\\\n\xFF\xC3\xA4",
             b"progressive",
         ],
-        "{\"file\":\"ten\",\"is\":\"sound\",\"intervals\":10}\n\
+        "{\"file\":\"ten\",\"is\":\"sound\",\"intervals\":10,\"width\":80,\"height\":8,\"bytes\":176}\n\
          {\"file\":\"\\u0022\\u005c\\u000a\\udcff\u{E4}\",\"is\":\"unread\",\"why\":\"its name is not UTF-8\"}\n\
          {\"file\":\"progressive\",\"is\":\"unsupported\",\"refusal\":5,\"detail\":194,\"why\":\"progressive JPEG (SOF2) is not supported\"}\n\
          {\"sound\":1,\"damaged\":0,\"refused\":0,\"unsupported\":1,\"unread\":1,\"out_of_memory\":0}\n",
@@ -235,7 +258,7 @@ fn goes_through_folders(rt: HostRuntime) -> Result<(), Fail> {
     check(
         &rt,
         &[b"-r", b"--json", b"in/d"],
-        "{\"file\":\"in/d/e.jfif\",\"is\":\"sound\",\"intervals\":2}\n\
+        "{\"file\":\"in/d/e.jfif\",\"is\":\"sound\",\"intervals\":2,\"width\":17,\"height\":9,\"bytes\":166}\n\
          {\"file\":\"in/d/\\udce8\",\"is\":\"skipped\",\"why\":\"its name is not UTF-8\"}\n\
          {\"file\":\"in/d/\\udce9\",\"is\":\"skipped\",\"why\":\"its name is not UTF-8\"}\n\
          {\"file\":\"in/d/\\udce9.jpg\",\"is\":\"unread\",\"why\":\"its name is not UTF-8\"}\n",
@@ -359,7 +382,7 @@ const PLAIN: LineForm = LineForm {
 };
 
 /// Words, and what they ask for.
-const WORDS: [(&[&[u8]], Answer); 10] = [
+const WORDS: [(&[&[u8]], Answer); 12] = [
     (&[b"a"], Ok((4, PLAIN, 1))),
     (
         &[b"--map", b"a", b"b"],
@@ -372,7 +395,9 @@ const WORDS: [(&[&[u8]], Answer); 10] = [
             2,
         )),
     ),
-    (&[b"a", b"--workers", b"64", b"b", b"c"], Ok((64, PLAIN, 3))),
+    (&[b"a", b"-j", b"64", b"b", b"c"], Ok((64, PLAIN, 3))),
+    (&[b"-", b"--files0-from", b"list"], Ok((4, PLAIN, 1))),
+    (&[b"-", b"--files0-from", b"-"], Err(2)),
     (&[b"--files0-from", b"list"], Ok((4, PLAIN, 0))),
     (&[b"\xFF"], Ok((4, PLAIN, 1))),
     (&[], Err(2)),

@@ -7,10 +7,12 @@ ghost use Rattle.jri_archive.specs.Told.{AreChecksOf, AreTold, IsCheckOf, IsClai
 
 use crate::answers::CheckRequest;
 use crate::counts::{CheckEnd, CheckReport};
-use crate::file_queue::{CheckedFile, FileQueue, TellError, write_counts};
+use crate::file_queue::{CheckedFile, FileQueue, write_counts};
+use crate::map::TellError;
+use crate::names::{FileNames, NamedFile, NamesError};
 use crate::one_check::OneCheck;
 use crate::outcome::{Outcome, outcome_in_place, outcome_of};
-use crate::{FileNames, Folder, NamedFile, NamesError, ReadError};
+use crate::reading::{Folder, ReadError};
 use std::alloc::Global;
 use std::io::{BufReader, Read, Write};
 use std::marker::{Brand, Model, PhantomData};
