@@ -1,9 +1,10 @@
 //! What the program does with its words.
 
-ghost use Rattle.std.specs.Prelude.{◌≡◌, ◌≤◌, is_ok};
+ghost use Rattle.std.specs.Prelude.{◌≡◌, ◌≤◌, IfOk, is_ok, map};
+ghost use Rattle.std.specs.String.{string_bytes};
 ghost use Rattle.jr_base.specs.declared.limits.TheConstants.{MAX_WORKERS};
-ghost use Rattle.jri_words.specs.declared.answers.Target.{Target};
-ghost use Rattle.jri_words.specs.Steps.{Leaves, LeavesFile, is_picture_status};
+ghost use Rattle.jri_words.specs.CommandLine.{IsTargetOf};
+ghost use Rattle.jri_words.specs.Steps.{Leaves, LeavesFile, LeavesNamed, is_picture_status};
 
 use crate::engine::run;
 use jr_base::Tally;
@@ -117,7 +118,7 @@ pub fn program<T: Threads + Wait + Sync, D: Devices, E: Write>(
     words: IoResult<Vec<String>>,
     errors: &mut E,
 ) -> u8
-    ensures { (target : Target) × Leaves (D.are_devices devices.old) target (D.steps devices.old) (D.steps devices.new) (is_picture_status result) }
+    ensures { LeavesNamed (D.are_devices devices.old) (λ target. IfOk words (λ given. IsTargetOf (map string_bytes given.items) target)) (D.steps devices.old) (D.steps devices.new) (is_picture_status result) }
 {
     let asked = match understood(alloc, devices, words) {
         Ok(asked) => asked,

@@ -34,6 +34,10 @@ Leaves are_devices target.Output old new is_written = Follow old new []
 Leaves are_devices target.AnyOutput old new is_written = Follow old new []
 Leaves are_devices (target.File name) old new is_written = LeavesFile are_devices (string_bytes name) old new is_written
 
+-- what a run by such words does with files: nothing, or what belongs to the place that they name
+abbrev pub LeavesNamed : (are_devices : List ℕ → Type 0) → (is_named : Target → Type 0) → Option (List Step) → Option (List Step) → Bool → Type 0
+LeavesNamed are_devices is_named old new is_written = Follow old new [] ⊎ ((t : Target) × is_named t × Leaves are_devices t old new is_written)
+
 -- the exit statuses of pictures that are written
 abbrev pub is_picture_status : ℕ → Bool
 is_picture_status status = (status == 0) || (status == 3)
