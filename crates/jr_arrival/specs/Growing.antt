@@ -5,7 +5,6 @@ use Rattle.jr_head.specs.Geometry.{mcus_across}
 use Rattle.jr_head.specs.Heads.{HeadOf}
 use Rattle.jr_head.specs.Intervals.{interval_number, within_interval}
 use Rattle.jr_cut.specs.declared.scan_end.ScanEnd.TheVariants.{EndOfFile}
-use Rattle.jr_scan.specs.IntervalValue.{IntervalValue}
 use Rattle.jr_scan.specs.ScanValue.{ScanValue, IsScanOf, interval_of}
 use Rattle.jr_scan.specs.Mcus.{Front}
 use Rattle.jr_paint.specs.Lines.{next_lines_of}
