@@ -88,7 +88,7 @@ fn check<R: Threads + Wait + Sync + AllocGlobal + Abort>(
     requires few { workers ≤ MAX_WORKERS }
 {
     let bytes = file(rt.alloc(), words)?;
-    let (_, Sink { bytes: whole, .. }) = written(rt, bytes.as_slice(), 2, 100_000, 0);
+    let whole = written(rt, bytes.as_slice(), 2, 100_000, 0).1.bytes;
     let (fault, all) = written(rt, bytes.as_slice(), workers, most, 0);
     assert!(rt;
         fault.is_none() && all.bytes == whole,
