@@ -153,6 +153,18 @@ impl<'a, S: OneScan> Job<'a, S> {
         self.has_read.notify_one();
     }
 
+    /// The samples of a strip.
+    fn transform(&self, alloc: Global, waiting: &ScanStrip<S>) -> Result<Arc<Strip>, Memory>
+        ensures interval { IfOk result (λ s. (arc_value s).interval ≡ self.now) }
+        ensures own { IfOk result (λ s. IsOneOf S.scan (arc_value s).interval) }
+    {
+        let strip = waiting.decode(alloc)?;
+        if strip.number() != self.interval.number() {
+            return Err(Memory);
+        }
+        Ok(Arc::new(alloc, strip)?)
+    }
+
     /// Decodes a strip and keeps it.
     fn decode<R: Wait>(
         &self,
@@ -162,16 +174,11 @@ impl<'a, S: OneScan> Job<'a, S> {
     ) -> Result<Arc<Strip>, Memory>
         ensures { IfOk result (λ s. (arc_value s).interval ≡ self.now) }
     {
-        let strip = Arc::new(alloc, waiting.decode(alloc)?)?;
-        if strip.number() != self.interval.number() {
-            return Err(Memory);
-        }
+        let transformed = self.transform(alloc, &waiting);
+        let blocks = waiting.into_blocks();
+        let strip = transformed?;
         let same = Arc::try_clone(&strip)?;
-        let mut progress = self.progress.lock(rt);
-        progress.keep(same)?;
-        if let Some(blocks) = waiting.into_blocks() {
-            progress.reuse(blocks);
-        }
+        self.progress.lock(rt).keep(same, blocks)?;
         Ok(strip)
     }
 

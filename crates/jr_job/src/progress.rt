@@ -254,17 +254,25 @@ impl<S: OneScan> Progress<S> {
     }
 
     /// Takes the memory of a strip that is transformed, as long as strips are read.
-    pub(crate) fn reuse(&mut self, blocks: Vec<Coefficients>) {
+    fn reuse(&mut self, blocks: Vec<Coefficients>) {
         if !self.is_over {
             let _ = self.spare.push(blocks);
         }
     }
 
-    /// Keeps a strip of the interval.
-    pub(crate) fn keep(&mut self, strip: Arc<Strip>) -> Result<(), Memory>
+    /// Keeps a strip of the interval, and the memory of its blocks where it has some.
+    pub(crate) fn keep(
+        &mut self,
+        strip: Arc<Strip>,
+        blocks: Option<Vec<Coefficients>>,
+    ) -> Result<(), Memory>
         requires { IsOneOf S.scan (arc_value strip).interval }
     {
-        self.gathered.keep(strip)
+        let kept = self.gathered.keep(strip);
+        if let Some(blocks) = blocks {
+            self.reuse(blocks);
+        }
+        kept
     }
 
     /// Ends the work, since memory is refused.
