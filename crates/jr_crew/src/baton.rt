@@ -80,7 +80,7 @@ impl<'a, S: OneFirstIntervals> Baton<'a, S> {
         self,
         part: &FirstIntervals<'a>,
         number: u32,
-        guesses: Guesses<'a>,
+        guesses: Guesses,
     ) -> Baton<'a, S>
         requires part { S.part ≡ Some part.now }
         requires guesses { AreGuessesOf (interval_of part.now.scan number) guesses }

@@ -89,11 +89,11 @@ fn mcus_of_guess(scan: &Scan) -> u32 {
 }
 
 /// A queue of so many guesses. A step of the reader is a row of MCUs.
-fn open_guesses<'a, S: OneFirstIntervals>(
+fn open_guesses<S: OneFirstIntervals>(
     alloc: Global,
-    part: &FirstIntervals<'a>,
+    part: &FirstIntervals<'_>,
     guesses: u32,
-) -> Result<GuessQueue<'a, ScanOf<S>>, Memory> {
+) -> Result<GuessQueue<ScanOf<S>>, Memory> {
     let across = shape_of(part.scan().head()).across;
     let most = mcus_of_guess(part.scan());
     GuessQueue::open(alloc, part.scan(), part.limit(), guesses, across, most)

@@ -17,7 +17,7 @@ pub struct UnitReader<'a> {
     reader: McuReader<'a>,
     left: u32,
     /// Of the same interval. They change nothing of what is read.
-    guesses: Guesses<'a>,
+    guesses: Guesses,
 }
 
 impl<'a> Model for UnitReader<'a> {
@@ -103,7 +103,7 @@ impl<'a> UnitReader<'a> {
     }
 
     /// Goes over these guesses from now on, in place of those before.
-    pub fn set_guesses(&mut self, guesses: Guesses<'a>)
+    pub fn set_guesses(&mut self, guesses: Guesses)
         requires { AreGuessesOf self.old.interval guesses }
         ensures { self.new ≡ self.old }
     {

@@ -269,7 +269,7 @@ impl<'a> ScanMcus<'a> {
     }
 
     /// Goes over these guesses of an interval, where it is the one that is read.
-    fn set_guesses(&mut self, number: u32, guesses: Guesses<'a>)
+    fn set_guesses(&mut self, number: u32, guesses: Guesses)
         requires { AreGuessesOf (interval_of self.old.scan number) guesses }
         ensures { self.new ≡ self.old }
     {
@@ -370,7 +370,7 @@ impl<'a> Rows<'a> {
 
     /// Goes over these guesses of an interval of the scan, where it is the one that is read. They change nothing of what is
     /// read.
-    pub fn set_guesses(&mut self, number: u32, guesses: Guesses<'a>)
+    pub fn set_guesses(&mut self, number: u32, guesses: Guesses)
         requires { AreGuessesOf (interval_of self.old.scan number) guesses }
         ensures { self.new ≡ self.old }
     {
