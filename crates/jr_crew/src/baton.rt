@@ -40,6 +40,7 @@ fn baton_over<'a, S: OneFirstIntervals>(
     requires limit { rows.limit ≡ part.now.limit }
 {
     if rows.row() >= shape_of(part.scan().head()).down {
+        drop(rows);
         return None;
     }
     Some(Baton {
@@ -118,7 +119,9 @@ impl<'a, S: OneFirstIntervals> Baton<'a, S> {
         requires { S.part ≡ Some part.now }
     {
         let mut rows = self.rows;
-        bench.decode(part, &mut rows, room)
+        let painted = bench.decode(part, &mut rows, room);
+        drop(rows);
+        painted
     }
 
     /// Tells the gate of the intervals that begin in the next row.

@@ -132,7 +132,7 @@ impl<'a, S: OneFirstIntervals> RowQueue<'a, S> {
 
     /// The first of these rows may begin.
     pub(crate) fn start(&mut self, baton: Option<Baton<'a, S>>) {
-        self.baton = baton;
+        drop(replace(&mut self.baton, baton));
     }
 
     /// Whether a thread is to bring a bench.
@@ -204,7 +204,7 @@ impl<'a, S: OneFirstIntervals> RowQueue<'a, S> {
         requires { S.part ≡ Some part.now }
     {
         let baton = self.baton.take()?;
-        self.baton = baton.behind(part);
+        self.start(baton.behind(part));
         // Where rows are whole intervals, this was the last one that could be begun.
         if self.baton.is_none() && intervals_of_row(part.scan().head()).is_some() {
             self.is_begun = true;
@@ -219,8 +219,14 @@ impl<'a, S: OneFirstIntervals> RowQueue<'a, S> {
         requires { S.part ≡ Some part.now }
     {
         match self.choice(part.scan()) {
-            Choice::Read => Some(RowTask::Read(self.begin(part)?, self.free.pop_back()?)),
-            Choice::Pass => Some(RowTask::Pass(self.begin(part)?, self.free.pop_front()?)),
+            Choice::Read => {
+                let bench = self.free.pop_back()?;
+                Some(RowTask::Read(self.begin(part)?, bench))
+            }
+            Choice::Pass => {
+                let bench = self.free.pop_front()?;
+                Some(RowTask::Pass(self.begin(part)?, bench))
+            }
             Choice::Finish => Some(RowTask::Finish(self.passed.pop_front()?)),
             Choice::Paint => Some(RowTask::Paint(self.coded.pop_front()?)),
             Choice::Guess => Some(RowTask::Guess(self.guesses.take(part.scan())?)),
@@ -256,7 +262,7 @@ impl<'a, S: OneFirstIntervals> RowQueue<'a, S> {
         };
         self.guesses.reach(scan, number, bit);
         self.is_begun = behind.is_none();
-        self.baton = behind;
+        self.start(behind);
         self.waiter()
     }
 
@@ -276,9 +282,10 @@ impl<'a, S: OneFirstIntervals> RowQueue<'a, S> {
         behind: Option<Baton<'a, S>>,
     ) -> Option<Waiter> {
         if self.is_over {
+            drop((passed, behind));
             return None;
         }
-        let _ = self.passed.push_back(passed);
+        drop(self.passed.push_back(passed));
         self.go_on(scan, behind)
     }
 
@@ -296,9 +303,10 @@ impl<'a, S: OneFirstIntervals> RowQueue<'a, S> {
         behind: Option<Baton<'a, S>>,
     ) -> Option<Waiter> {
         if self.is_over {
+            drop((coded, behind));
             return None;
         }
-        let _ = self.coded.push_back(coded);
+        drop(self.coded.push_back(coded));
         self.go_on(scan, behind)
     }
 
@@ -309,6 +317,7 @@ impl<'a, S: OneFirstIntervals> RowQueue<'a, S> {
         behind: Option<Baton<'a, S>>,
     ) -> Option<Waiter> {
         if self.is_over {
+            drop(behind);
             return None;
         }
         self.go_on(scan, behind)
@@ -329,7 +338,7 @@ impl<'a, S: OneFirstIntervals> RowQueue<'a, S> {
     pub(crate) fn put_painted(&mut self, painted: Painted<S>) -> bool {
         let row = painted.row();
         let slot = row as usize % self.painted.len();
-        self.painted[slot] = Some(painted);
+        drop(replace(&mut self.painted[slot], Some(painted)));
         self.awaited == Some(row)
     }
 
@@ -344,11 +353,12 @@ impl<'a, S: OneFirstIntervals> RowQueue<'a, S> {
 
     /// Keeps a bench, to be used again. There is room for it, since it came from here. Answers whether a thread waits.
     pub(crate) fn give_back(&mut self, bench: Bench<S>) -> bool {
-        let _ = if bench.has_work() {
+        let kept = if bench.has_work() {
             self.free.push_back(bench)
         } else {
             self.free.push_front(bench)
         };
+        drop(kept);
         self.is_waited_for()
     }
 
@@ -356,7 +366,7 @@ impl<'a, S: OneFirstIntervals> RowQueue<'a, S> {
     pub(crate) fn end(&mut self) {
         self.is_over = true;
         self.is_begun = true;
-        self.baton = None;
+        self.start(None);
         self.passed.clear();
         self.coded.clear();
     }
