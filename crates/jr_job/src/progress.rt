@@ -143,13 +143,23 @@ impl<S: OneScan> Progress<S> {
             .guesses
             .as_ref()
             .is_some_and(|queue| queue.makes_next(scan));
-        if can_read && self.guesses.as_ref().is_some_and(|queue| queue.has_next(scan)) && !makes_next {
+        if can_read
+            && self
+                .guesses
+                .as_ref()
+                .is_some_and(|queue| queue.has_next(scan))
+            && !makes_next
+        {
             Choice::Pass
         } else if can_read && !makes_next {
             Choice::Read
         } else if !self.waiting.is_empty() {
             Choice::Decode
-        } else if self.guesses.as_ref().is_some_and(|queue| queue.can_guess(scan)) {
+        } else if self
+            .guesses
+            .as_ref()
+            .is_some_and(|queue| queue.can_guess(scan))
+        {
             Choice::Guess
         } else {
             Choice::Wait
