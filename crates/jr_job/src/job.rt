@@ -76,9 +76,16 @@ fn open_guesses<S: OneScan>(
     }
     let most = workers.min(MOST_WORKERS) as u32 * GUESSES_OF_ONE;
     let count = windows.min(u64::from(most)) as u32;
-    let step = strip_mcus(&scan.interval(i).ok()?);
+    let Ok(interval) = scan.interval(i) else {
+        return None;
+    };
+    let step = strip_mcus(&interval);
+    drop(interval);
     let most = step.saturating_mul(STEPS_OF_GUESS);
-    let mut queue = GuessQueue::open(alloc, scan, i.saturating_add(1), count, step, most).ok()?;
+    let limit = i.saturating_add(1);
+    let Ok(mut queue) = GuessQueue::open(alloc, scan, limit, count, step, most) else {
+        return None;
+    };
     if i > 0 {
         queue.reach(scan, i, 0);
     }
@@ -158,8 +165,11 @@ impl<'a, S: OneScan> Job<'a, S> {
         ensures interval { IfOk result (λ s. (arc_value s).interval ≡ self.now) }
         ensures own { IfOk result (λ s. IsOneOf S.scan (arc_value s).interval) }
     {
-        let strip = waiting.decode(alloc)?;
+        let Ok(strip) = waiting.decode(alloc) else {
+            return Err(Memory);
+        };
         if strip.number() != self.interval.number() {
+            drop(strip);
             return Err(Memory);
         }
         Ok(Arc::new(alloc, strip)?)

@@ -143,13 +143,23 @@ impl<S: OneScan> Progress<S> {
             .guesses
             .as_ref()
             .is_some_and(|queue| queue.makes_next(scan));
-        if can_read && self.guesses.as_ref().is_some_and(|queue| queue.has_next(scan)) && !makes_next {
+        if can_read
+            && self
+                .guesses
+                .as_ref()
+                .is_some_and(|queue| queue.has_next(scan))
+            && !makes_next
+        {
             Choice::Pass
         } else if can_read && !makes_next {
             Choice::Read
         } else if !self.waiting.is_empty() {
             Choice::Decode
-        } else if self.guesses.as_ref().is_some_and(|queue| queue.can_guess(scan)) {
+        } else if self
+            .guesses
+            .as_ref()
+            .is_some_and(|queue| queue.can_guess(scan))
+        {
             Choice::Guess
         } else {
             Choice::Wait
@@ -176,7 +186,9 @@ impl<S: OneScan> Progress<S> {
     fn begin(&mut self, scan: &Scan, passes: bool) -> Option<Reading<S>>
         requires { S.scan ≡ Some scan.now }
     {
-        let mut reading = self.reading.take()?;
+        let Some(mut reading) = self.reading.take() else {
+            return None;
+        };
         if passes {
             let guesses = self.guesses_for(scan, reading.number());
             reading.guide(guesses);
@@ -193,14 +205,29 @@ impl<S: OneScan> Progress<S> {
     pub(crate) fn task(&mut self, scan: &Scan) -> Option<StripTask<S>>
         requires { S.scan ≡ Some scan.now }
     {
-        match self.choice(scan) {
-            Choice::Read => Some(StripTask::Read(self.begin(scan, false)?)),
-            Choice::Pass => Some(StripTask::Read(self.begin(scan, true)?)),
-            Choice::Decode => Some(StripTask::Decode(self.waiting.pop_front()?)),
-            Choice::Guess => Some(StripTask::Guess(self.guesses.as_mut()?.take(scan)?)),
-            Choice::Wait => None,
-            Choice::Leave => Some(StripTask::Leave),
+        let choice = self.choice(scan);
+        match choice {
+            Choice::Read | Choice::Pass => {
+                if let Some(reading) = self.begin(scan, choice == Choice::Pass) {
+                    return Some(StripTask::Read(reading));
+                }
+            }
+            Choice::Decode => {
+                if let Some(strip) = self.waiting.pop_front() {
+                    return Some(StripTask::Decode(strip));
+                }
+            }
+            Choice::Guess => {
+                if let Some(queue) = &mut self.guesses
+                    && let Some(guess) = queue.take(scan)
+                {
+                    return Some(StripTask::Guess(guess));
+                }
+            }
+            Choice::Wait => (),
+            Choice::Leave => return Some(StripTask::Leave),
         }
+        None
     }
 
     /// For how many MCUs a worker is to bring room for a guess, where it is to bring some.
