@@ -99,10 +99,16 @@ impl<'a, S: OneScan> Job<'a, S> {
         requires i { i < length scan.now.intervals }
         ensures { IfOk result (λ j. j ≡ interval_of scan.now i) }
     {
-        let interval = Arc::new(alloc, scan.interval(i)?)?;
-        let reading = Reading::of(Arc::try_clone(&interval)?);
+        let Ok(interval) = scan.interval(i) else {
+            return Err(Memory);
+        };
+        let interval = Arc::new(alloc, interval)?;
+        let (Ok(read), Ok(kept)) = (Arc::try_clone(&interval), Arc::try_clone(&interval)) else {
+            return Err(Memory);
+        };
+        let reading = Reading::of(read);
         let guesses = open_guesses(alloc, scan, i, workers);
-        let gathered = Gathered::of(alloc, Arc::try_clone(&interval)?);
+        let gathered = Gathered::of(alloc, kept);
         let most_waiting = workers.saturating_sub(1).max(1);
         let progress = Progress::of(alloc, reading, guesses, gathered, most_waiting);
         Ok(Job {
@@ -186,8 +192,12 @@ impl<'a, S: OneScan> Job<'a, S> {
     {
         let transformed = self.transform(alloc, &waiting);
         let blocks = waiting.into_blocks();
-        let strip = transformed?;
-        let same = Arc::try_clone(&strip)?;
+        let Ok(strip) = transformed else {
+            return Err(Memory);
+        };
+        let Ok(same) = Arc::try_clone(&strip) else {
+            return Err(Memory);
+        };
         self.progress.lock(rt).keep(same, blocks)?;
         Ok(strip)
     }
@@ -205,7 +215,10 @@ impl<'a, S: OneScan> Job<'a, S> {
     {
         self.bring(rt, alloc);
         for _ in 0..MOST_TASKS {
-            match self.task(rt)? {
+            let Some(task) = self.task(rt) else {
+                return None;
+            };
+            match task {
                 StripTask::Read(reading) => self.read(rt, alloc, reading),
                 StripTask::Guess(task) => self.guess(rt, task),
                 StripTask::Decode(waiting) => {

@@ -18,6 +18,7 @@ use jr_scan::{Guesses, Scan};
 use std::alloc::Global;
 use std::collections::VecDeque;
 use std::marker::{Model, PhantomData};
+use std::mem::replace;
 use std::sync::Arc;
 
 /// A strip of an interval of the scan that waits.
@@ -260,7 +261,9 @@ impl<S: OneScan> Progress<S> {
     {
         match next {
             Ok(Next::Strip(strip)) => {
-                self.is_over |= self.waiting.push_back(ScanStrip::of(strip)).is_err();
+                let kept = self.waiting.push_back(ScanStrip::of(strip));
+                self.is_over |= kept.is_err();
+                drop(kept);
             }
             Ok(Next::End(end)) => {
                 self.gathered.close(end);
@@ -269,13 +272,14 @@ impl<S: OneScan> Progress<S> {
             Err(Memory) => self.is_over = true,
         }
         if self.is_over {
+            drop(reading);
             self.spare.clear();
-            self.guesses = None;
+            drop(self.guesses.take());
         } else {
             if let Some(queue) = &mut self.guesses {
                 queue.reach(scan, reading.number(), reading.bit());
             }
-            self.reading = Some(reading);
+            drop(replace(&mut self.reading, Some(reading)));
         }
         self.is_over
     }
@@ -283,7 +287,7 @@ impl<S: OneScan> Progress<S> {
     /// Takes the memory of a strip that is transformed, as long as strips are read.
     fn reuse(&mut self, blocks: Vec<Coefficients>) {
         if !self.is_over {
-            let _ = self.spare.push(blocks);
+            drop(self.spare.push(blocks));
         }
     }
 
@@ -305,8 +309,8 @@ impl<S: OneScan> Progress<S> {
     /// Ends the work, since memory is refused.
     pub(crate) fn give_up(&mut self) {
         self.is_over = true;
-        self.reading = None;
-        self.guesses = None;
+        drop(self.reading.take());
+        drop(self.guesses.take());
         self.waiting.clear();
         self.spare.clear();
     }
