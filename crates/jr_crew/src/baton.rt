@@ -62,7 +62,9 @@ impl<'a, S: OneFirstIntervals> Baton<'a, S> {
         requires { S.part ≡ Some part.now }
     {
         let head = part.scan().head();
-        let intervals = intervals_of_row(head)?;
+        let Some(intervals) = intervals_of_row(head) else {
+            return None;
+        };
         let down = shape_of(head).down;
         let row = self.rows.row() + 1;
         if row >= down {

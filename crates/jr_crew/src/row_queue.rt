@@ -7,9 +7,11 @@ use crate::baton::Baton;
 use crate::bench::{Bench, CodedRow, Painted};
 use crate::one_first_intervals::OneFirstIntervals;
 use crate::scan_of::ScanOf;
+use jr_base::Memory;
 use jr_guesses::{GuessQueue, GuessTask, ScanGuess};
 use jr_rows::{FirstIntervals, intervals_of_row};
 use jr_scan::Scan;
+use std::alloc::Global;
 use std::collections::VecDeque;
 use std::mem::replace;
 
@@ -17,11 +19,11 @@ use std::mem::replace;
 #[derive(Drop)]
 pub(crate) enum RowTask<'a, S: OneFirstIntervals> {
     /// Reads the next row.
-    Read(Baton<'a, S>, Bench<S>),
+    Read(BegunRow<'a, S>),
     /// Passes over the next row, so that another thread can read it while the rows behind it are passed over.
-    Pass(Baton<'a, S>, Bench<S>),
+    Pass(BegunRow<'a, S>),
     /// Reads and paints a row that was passed over.
-    Finish(PassedRow<'a, S>),
+    Finish(BegunRow<'a, S>),
     /// Paints a row that is read.
     Paint(CodedRow<S>),
     /// Makes a guess.
@@ -39,9 +41,9 @@ pub(crate) enum Spare<S: OneFirstIntervals> {
     Bench(Bench<S>),
 }
 
-/// A row that was passed over, and what it will be read on: so it needs nothing that a later row could take.
+/// A row that is begun, and what it is read on: so it needs nothing that a later row could take.
 #[derive(Drop)]
-pub(crate) struct PassedRow<'a, S: OneFirstIntervals> {
+pub(crate) struct BegunRow<'a, S: OneFirstIntervals> {
     pub(crate) baton: Baton<'a, S>,
     pub(crate) bench: Bench<S>,
 }
@@ -85,10 +87,10 @@ pub(crate) struct RowQueue<'a, S: OneFirstIntervals> {
     /// So many benches nobody brings yet.
     lacking: u32,
     guesses: GuessQueue<ScanOf<S>>,
-    /// A queue without room, which takes the place of the other when no row is left to begin.
-    no_guesses: Option<GuessQueue<ScanOf<S>>>,
+    /// Whether their memory is given back.
+    has_given_back: bool,
     /// In their order.
-    passed: VecDeque<PassedRow<'a, S>>,
+    passed: VecDeque<BegunRow<'a, S>>,
     /// In their order.
     coded: VecDeque<CodedRow<S>>,
     /// The slot of a row is its number modulo how many slots there are: as many as benches.
@@ -101,15 +103,11 @@ pub(crate) struct RowQueue<'a, S: OneFirstIntervals> {
 }
 
 impl<'a, S: OneFirstIntervals> RowQueue<'a, S> {
-    /// No row may begin yet. Threads bring so many benches, beside those of the calling one. There is room for as many benches, and
-    /// passed, coded and painted rows, as there will be benches.
+    /// No row may begin yet. Threads bring so many benches, beside those of the calling one.
     pub(crate) fn of(
-        free: VecDeque<Bench<S>>,
+        alloc: Global,
         lacking: u32,
         guesses: GuessQueue<ScanOf<S>>,
-        no_guesses: GuessQueue<ScanOf<S>>,
-        passed: VecDeque<PassedRow<'a, S>>,
-        coded: VecDeque<CodedRow<S>>,
         painted: Vec<Option<Painted<S>>>,
     ) -> RowQueue<'a, S>
         requires { 0 < length painted.items }
@@ -118,16 +116,28 @@ impl<'a, S: OneFirstIntervals> RowQueue<'a, S> {
             baton: None,
             is_begun: false,
             is_over: false,
-            free,
+            free: VecDeque::new(alloc),
             lacking,
             guesses,
-            no_guesses: Some(no_guesses),
-            passed,
-            coded,
+            has_given_back: false,
+            passed: VecDeque::new(alloc),
+            coded: VecDeque::new(alloc),
             painted,
             waiting: 0,
             awaited: None,
         }
+    }
+
+    /// Takes memory for so many benches, and passed and coded rows: as many as there will be benches.
+    pub(crate) fn reserve(&mut self, count: u32) -> Result<(), Memory> {
+        let count = count as usize;
+        if self.free.reserve_exact(count).is_err()
+            || self.passed.reserve_exact(count).is_err()
+            || self.coded.reserve_exact(count).is_err()
+        {
+            return Err(Memory);
+        }
+        Ok(())
     }
 
     /// The first of these rows may begin.
@@ -173,8 +183,9 @@ impl<'a, S: OneFirstIntervals> RowQueue<'a, S> {
     /// can't, and makes a guess where nothing else is to be done, or brings room for one. A row at whose start a guess is being
     /// made waits for it.
     fn choice(&self, scan: &Scan) -> Choice {
-        let can_begin =
-            self.baton.is_some() && !self.free.is_empty() && !self.guesses.makes_next(scan);
+        let can_begin = self.baton.is_some()
+            && !self.free.is_empty()
+            && !self.guesses.makes_next(scan);
         if self.is_over {
             Choice::End
         } else if can_begin && self.guesses.has_next(scan) {
@@ -199,11 +210,21 @@ impl<'a, S: OneFirstIntervals> RowQueue<'a, S> {
         self.choice(scan) == Choice::Wait
     }
 
-    /// The rows that come next, with the guesses for the first of them.
-    fn begin(&mut self, part: &FirstIntervals<'a>) -> Option<Baton<'a, S>>
+    /// The rows that come next, with the guesses for the first of them, and the bench that it is read on.
+    fn begin(
+        &mut self,
+        part: &FirstIntervals<'a>,
+        bench: Option<Bench<S>>,
+    ) -> Option<BegunRow<'a, S>>
         requires { S.part ≡ Some part.now }
     {
-        let baton = self.baton.take()?;
+        let Some(bench) = bench else {
+            return None;
+        };
+        let Some(baton) = self.baton.take() else {
+            drop(bench);
+            return None;
+        };
         self.start(baton.behind(part));
         // Where rows are whole intervals, this was the last one that could be begun.
         if self.baton.is_none() && intervals_of_row(part.scan().head()).is_some() {
@@ -211,7 +232,8 @@ impl<'a, S: OneFirstIntervals> RowQueue<'a, S> {
         }
         let number = self.guesses.number();
         let guesses = self.guesses.for_next(part.scan());
-        Some(baton.with_guesses(part, number, guesses))
+        let baton = baton.with_guesses(part, number, guesses);
+        Some(BegunRow { baton, bench })
     }
 
     /// What a thread does next. None where it has to wait, or all is over.
@@ -220,38 +242,62 @@ impl<'a, S: OneFirstIntervals> RowQueue<'a, S> {
     {
         match self.choice(part.scan()) {
             Choice::Read => {
-                let bench = self.free.pop_back()?;
-                Some(RowTask::Read(self.begin(part)?, bench))
+                let bench = self.free.pop_back();
+                if let Some(row) = self.begin(part, bench) {
+                    return Some(RowTask::Read(row));
+                }
             }
             Choice::Pass => {
-                let bench = self.free.pop_front()?;
-                Some(RowTask::Pass(self.begin(part)?, bench))
+                let bench = self.free.pop_front();
+                if let Some(row) = self.begin(part, bench) {
+                    return Some(RowTask::Pass(row));
+                }
             }
-            Choice::Finish => Some(RowTask::Finish(self.passed.pop_front()?)),
-            Choice::Paint => Some(RowTask::Paint(self.coded.pop_front()?)),
-            Choice::Guess => Some(RowTask::Guess(self.guesses.take(part.scan())?)),
-            Choice::BringGuess => Some(RowTask::BringGuess(self.guesses.lacks_room()?)),
-            Choice::Wait | Choice::End => None,
+            Choice::Finish => {
+                if let Some(row) = self.passed.pop_front() {
+                    return Some(RowTask::Finish(row));
+                }
+            }
+            Choice::Paint => {
+                if let Some(row) = self.coded.pop_front() {
+                    return Some(RowTask::Paint(row));
+                }
+            }
+            Choice::Guess => {
+                if let Some(guess) = self.guesses.take(part.scan()) {
+                    return Some(RowTask::Guess(guess));
+                }
+            }
+            Choice::BringGuess => {
+                if let Some(most) = self.guesses.lacks_room() {
+                    return Some(RowTask::BringGuess(most));
+                }
+            }
+            Choice::Wait | Choice::End => (),
         }
+        None
     }
 
     /// Whether there is memory that nobody needs any more.
     pub(crate) fn has_spare(&self) -> bool {
-        self.is_begun && (self.no_guesses.is_some() || !self.free.is_empty())
+        self.is_begun && (!self.has_given_back || !self.free.is_empty())
     }
 
     /// Memory that nobody needs any more, where there is some, for a thread that has nothing else to do: room for guesses first, since
     /// it is more than that of a bench.
-    pub(crate) fn spare(&mut self) -> Option<RowTask<'a, S>> {
+    pub(crate) fn spare(&mut self, alloc: Global) -> Option<Spare<S>> {
         if !self.is_begun {
             return None;
         }
-        if let Some(none) = self.no_guesses.take() {
-            let guesses = replace(&mut self.guesses, none);
-            return Some(RowTask::GiveBack(Spare::Guesses(guesses)));
+        if !self.has_given_back {
+            self.has_given_back = true;
+            let guesses = replace(&mut self.guesses, GuessQueue::none(alloc));
+            return Some(Spare::Guesses(guesses));
         }
-        let bench = self.free.pop_front()?;
-        Some(RowTask::GiveBack(Spare::Bench(bench)))
+        if let Some(bench) = self.free.pop_front() {
+            return Some(Spare::Bench(bench));
+        }
+        None
     }
 
     /// The rows behind those that are begun. Answers who is to be woken, since something can be done now.
@@ -278,7 +324,7 @@ impl<'a, S: OneFirstIntervals> RowQueue<'a, S> {
     pub(crate) fn put_passed(
         &mut self,
         scan: &Scan,
-        passed: PassedRow<'a, S>,
+        passed: BegunRow<'a, S>,
         behind: Option<Baton<'a, S>>,
     ) -> Option<Waiter> {
         if self.is_over {

@@ -74,9 +74,16 @@ fn open_guesses<S: OneScan>(
     }
     let most = workers.min(MOST_WORKERS) as u32 * GUESSES_OF_ONE;
     let count = windows.min(u64::from(most)) as u32;
-    let step = strip_mcus(&scan.interval(i).ok()?);
+    let Ok(interval) = scan.interval(i) else {
+        return None;
+    };
+    let step = strip_mcus(&interval);
+    drop(interval);
     let most = step.saturating_mul(STEPS_OF_GUESS);
-    let mut queue = GuessQueue::open(alloc, scan, i.saturating_add(1), count, step, most).ok()?;
+    let limit = i.saturating_add(1);
+    let Ok(mut queue) = GuessQueue::open(alloc, scan, limit, count, step, most) else {
+        return None;
+    };
     if i > 0 {
         queue.reach(scan, i, 0);
     }
@@ -90,10 +97,16 @@ impl<S: OneScan> Job<S> {
         requires i { i < length scan.now.intervals }
         ensures { IfOk result (λ j. j ≡ interval_of scan.now i) }
     {
-        let interval = Arc::new(alloc, scan.interval(i)?)?;
-        let reading = Reading::of(Arc::try_clone(&interval)?);
+        let Ok(interval) = scan.interval(i) else {
+            return Err(Memory);
+        };
+        let interval = Arc::new(alloc, interval)?;
+        let (Ok(read), Ok(kept)) = (Arc::try_clone(&interval), Arc::try_clone(&interval)) else {
+            return Err(Memory);
+        };
+        let reading = Reading::of(read);
         let guesses = open_guesses(alloc, scan, i, workers);
-        let gathered = Gathered::of(alloc, Arc::try_clone(&interval)?);
+        let gathered = Gathered::of(alloc, kept);
         let most_waiting = workers.saturating_sub(1).max(1);
         let progress = Progress::of(alloc, reading, guesses, gathered, most_waiting);
         Ok(Job {
@@ -162,8 +175,11 @@ impl<S: OneScan> Job<S> {
         ensures interval { IfOk result (λ s. (arc_value s).interval ≡ self.now) }
         ensures own { IfOk result (λ s. IsOneOf S.scan (arc_value s).interval) }
     {
-        let strip = waiting.decode(alloc)?;
+        let Ok(strip) = waiting.decode(alloc) else {
+            return Err(Memory);
+        };
         if strip.number() != self.interval.number() {
+            drop(strip);
             return Err(Memory);
         }
         Ok(Arc::new(alloc, strip)?)
@@ -180,8 +196,12 @@ impl<S: OneScan> Job<S> {
     {
         let transformed = self.transform(alloc, &waiting);
         let blocks = waiting.into_blocks();
-        let strip = transformed?;
-        let same = Arc::try_clone(&strip)?;
+        let Ok(strip) = transformed else {
+            return Err(Memory);
+        };
+        let Ok(same) = Arc::try_clone(&strip) else {
+            return Err(Memory);
+        };
         self.progress.lock(rt).keep(same, blocks)?;
         Ok(strip)
     }
