@@ -172,11 +172,28 @@ def lines(data):
     if not damaged:
         return [f"sound, {many}{end}"]
     top, bottom = min(d[2][0] for d in damaged), max(d[2][1] for d in damaged)
-    told = [f"damaged, {len(damaged)} of {many}, lines {top} to {bottom}{end}"]
-    for number, mcus, touched, span, done, count in damaged:
-        place = "no bytes" if span is None else f"bytes {span[0]} to {span[1]}"
-        told.append(
-            f"interval {number}, MCUs {mcus[0]} to {mcus[1]}, lines {touched[0]} to {touched[1]}, {place}, "
-            f"{done} of {count} MCUs decodable"
-        )
-    return told
+    return [f"damaged, {len(damaged)} of {many}, lines {top} to {bottom}{end}", *map(interval_line, runs(damaged))]
+
+
+def runs(damaged):
+    """Damaged intervals, consecutive ones without bytes together."""
+    together = []
+    for it in damaged:
+        if together and not it[3] and not together[-1][-1][3] and together[-1][-1][0] + 1 == it[0]:
+            together[-1].append(it)
+        else:
+            together.append([it])
+    return together
+
+
+def interval_line(run):
+    """The line of a damaged interval, or of consecutive ones without bytes."""
+    number, mcus, touched, span, done, count = run[0]
+    if len(run) > 1:
+        last, last_mcus, last_touched = run[-1][:3]
+        return f"intervals {number} to {last}, MCUs {mcus[0]} to {last_mcus[1]}, lines {touched[0]} to {last_touched[1]}, no bytes"
+    place = "no bytes" if span is None else f"bytes {span[0]} to {span[1]}"
+    return (
+        f"interval {number}, MCUs {mcus[0]} to {mcus[1]}, lines {touched[0]} to {touched[1]}, {place}, "
+        f"{done} of {count} MCUs decodable"
+    )

@@ -28,7 +28,7 @@ sum_sources() {
     { rt version; find $(list_parts) -type f -print0 | LC_ALL=C sort -z | xargs -0 sha256sum; } | sha256sum
 }
 
-# Puts the name of the toolchain that built these files in the place that crates/jri_version has for it, which keeps its length.
+# Puts the name of the toolchain that built these files in the place that crates/jr_base has for it, which keeps its length.
 name_toolchain() {
     local unnamed="an unnamed toolchain" built_by file
     built_by=$(rt version | cut -d " " -f 1)

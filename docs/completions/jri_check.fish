@@ -1,10 +1,10 @@
 # Completes the words of jri_check in fish: its options; fish itself completes the files.
 complete -c jri_check -l map -d 'Also list each damaged restart interval'
 complete -c jri_check -l json -d 'Print each line as a JSON object'
-complete -c jri_check -l quiet -d 'List no sound files and print no counts'
+complete -c jri_check -s q -l quiet -d 'List no sound files and print no counts'
 complete -c jri_check -l counts -d 'Also print the counts as the last line'
 complete -c jri_check -s r -l recursive -d 'Check the JPEG files in directories, recursively'
 complete -c jri_check -l files0-from -r -d 'Also check the NUL-terminated names in a list'
-complete -c jri_check -l workers -x -a '1 2 4 8 16 32 64' -d 'Number of threads, 1 to 64'
+complete -c jri_check -s j -l workers -x -a '1 2 4 8 16 32 64' -d 'Number of threads, 1 to 64'
 complete -c jri_check -s h -l help -d 'Print help'
 complete -c jri_check -s V -l version -d 'Print version'

@@ -5,9 +5,9 @@ _arguments -S \
     '(- *)'{-V,--version}'[print version]' \
     '--map[also list each damaged restart interval]' \
     '--json[print each line as a JSON object]' \
-    '--quiet[list no sound files and print no counts]' \
+    '(-q --quiet)'{-q,--quiet}'[list no sound files and print no counts]' \
     '--counts[also print the counts as the last line]' \
     '(-r --recursive)'{-r,--recursive}'[check the JPEG files in directories, recursively]' \
     '--files0-from=[also check the NUL-terminated names in a list]:list:_files' \
-    '--workers=[number of threads, 1 to 64]:files at once:(1 2 4 8 16 32 64)' \
+    '(-j --workers)'{-j+,--workers=}'[number of threads, 1 to 64]:files at once:(1 2 4 8 16 32 64)' \
     '*:JPEG file:_files -g "*.(#i)(jpg|jpeg|jpe|jfif)(-.)"'

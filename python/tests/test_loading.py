@@ -30,7 +30,7 @@ def imported(library, code="import jri"):
 
 def test_one_version():
     (stated,) = re.findall(r'^version = "(.*)"$', read("pyproject.toml"), re.M)
-    (programs,) = re.findall(r'^ +"(\S+) \(built in', read("..", "crates", "jri_version", "src", "lib.rt"), re.M)
+    (programs,) = re.findall(r'^ +"(\S+) \(built in', read("..", "crates", "jr_base", "src", "version.rt"), re.M)
     assert jri.__version__ == stated == programs == jri._loaded.build_text().split(" ")[1]
 
 

@@ -14,30 +14,10 @@ use std::alloc::{AllocError, Global};
 const BEFORE: u8 = 7;
 
 /// A report of nothing.
-pub(crate) const NONE: DecodeReport = DecodeReport {
-    intervals: 0,
-    sound: 0,
-    damaged: 0,
-    blank: 0,
-    ended: 0,
-    found: 0,
-    due: 0,
-    refusal: 0,
-    at: 0,
-    detail: 0,
-};
+pub(crate) const NONE: DecodeReport = DecodeReport::empty();
 
 /// A header of nothing.
-const NO_HEADER: Header = Header {
-    width: 0,
-    height: 0,
-    kind: 0,
-    components: 0,
-    intervals: 0,
-    refusal: 0,
-    pixels: 0,
-    detail: 0,
-};
+const NO_HEADER: Header = Header::empty();
 
 /// Returns what a file's header says.
 pub(crate) fn header_of(alloc: Global, bytes: &[u8]) -> Header {

@@ -6,23 +6,19 @@ use crate::case::Case;
 use crate::differences::compare_texts;
 use crate::failure::Failure;
 use crate::texts::check_lines;
-use jr_damage::{coded_segments, damaged_interval};
-use jri_archive::{Checked, Outcome, check_file, tell, tell_map};
+use jri_archive::{Checked, Outcome, check_file, tell, write_map};
 use std::sync::Wait;
 use std::thread::Threads;
 
-/// Puts a line for each damaged interval.
-fn put_map(case: &Case<'_>, checked: &Checked, lines: &mut String) -> Result<(), Failure>
+/// Appends the lines of the damaged intervals.
+fn put_map(case: &Case<'_>, checked: &Checked, lines: &mut Vec<u8>) -> Result<(), Failure>
     requires { IsFileScan case.now.bytes.now checked.now.scan }
 {
-    let scan = &checked.scan;
-    let spans = coded_segments(case.alloc, case.bytes, scan)?;
-    for i in 0..scan.intervals() {
-        if let Some(damaged) = damaged_interval(scan, spans.as_slice(), i) {
-            tell_map(lines, case.row.name.as_bytes(), &damaged)?;
-        }
+    let name = case.row.name.as_bytes();
+    match write_map(case.alloc, lines, name, case.bytes, checked, false) {
+        Ok(()) => Ok(()),
+        Err(_) => Err(Failure::Memory),
     }
-    Ok(())
 }
 
 /// Checks a case's file with this number of workers.
@@ -32,7 +28,7 @@ fn check_by<R: Threads + Wait + Sync>(
     workers: u32,
     out: &mut String,
 ) -> Result<(), Failure> {
-    let mut map = String::new(case.alloc);
+    let mut map = Vec::new(case.alloc);
     let outcome = match check_file(rt, case.alloc, case.bytes, workers) {
         Ok(checked) => {
             put_map(case, &checked, &mut map)?;
@@ -42,7 +38,9 @@ fn check_by<R: Threads + Wait + Sync>(
     };
     let mut found = String::new(case.alloc);
     tell(&mut found, case.row.name.as_bytes(), &outcome)?;
-    found.push_str(map.as_str())?;
+    if let Ok(map) = str::from_utf8(map.as_slice()) {
+        found.push_str(map)?;
+    }
     let wanted = check_lines(case.alloc, case.row)?;
     compare_texts(out, case.at("check"), wanted.as_str(), found.as_str())
 }

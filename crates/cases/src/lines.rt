@@ -89,6 +89,65 @@ fn put_damage(text: &mut String, damage: &Damage) -> Result<(), AllocError> {
     writeln!(text, ", {decodable} of {mcus} MCUs decodable")
 }
 
+/// A damaged interval, or consecutive ones without bytes, which share a line.
+#[derive(Clone, Copy)]
+struct Run {
+    first: Damage,
+    last: Damage,
+}
+
+impl Run {
+    /// Returns the run with this interval, if that follows it and neither has bytes.
+    fn with(self, next: Damage) -> Option<Run> {
+        let is_next = self.last.interval.checked_add(1) == Some(next.interval);
+        let are_empty = self.last.start == self.last.end && next.start == next.end;
+        if !is_next || !are_empty {
+            return None;
+        }
+        Some(Run {
+            first: self.first,
+            last: next,
+        })
+    }
+}
+
+/// Appends the line of a run, if there is one.
+fn put_run(text: &mut String, run: Option<Run>) -> Result<(), AllocError> {
+    let Some(Run { first, last }) = run else {
+        return Ok(());
+    };
+    if first.interval == last.interval {
+        return put_damage(text, &first);
+    }
+    let (from, to) = (first.interval, last.interval);
+    let (mcu, top, bottom) = (first.first_mcu, first.first_line, last.last_line);
+    let end = last.first_mcu.saturating_add(last.mcus.saturating_sub(1));
+    writeln!(
+        text,
+        "intervals {from} to {to}, MCUs {mcu} to {end}, lines {top} to {bottom}, no bytes"
+    )
+}
+
+/// Appends the lines of the runs that these intervals end, and returns the run that may continue.
+fn put_damages(
+    text: &mut String,
+    run: Option<Run>,
+    damages: &[Damage],
+) -> Result<Option<Run>, AllocError> {
+    let mut run = run;
+    for damage in damages {
+        let longer = run.and_then(|run| run.with(*damage));
+        if longer.is_none() {
+            put_run(text, run)?;
+        }
+        run = Some(longer.unwrap_or(Run {
+            first: *damage,
+            last: *damage,
+        }));
+    }
+    Ok(run)
+}
+
 /// A damage of nothing.
 const UNDAMAGED: Damage = Damage {
     interval: 0,
@@ -105,6 +164,7 @@ const UNDAMAGED: Damage = Damage {
 fn listed(alloc: Global, bytes: &[u8], intervals: u32) -> Result<String, AllocError> {
     let mut text = String::new(alloc);
     let mut next = 0;
+    let mut run: Option<Run> = None;
     for _ in 0..=intervals {
         let mut damages = [UNDAMAGED; 2];
         let mut report = DamageReport {
@@ -114,14 +174,14 @@ fn listed(alloc: Global, bytes: &[u8], intervals: u32) -> Result<String, AllocEr
             detail: 0,
         };
         let _answer = list_damages(alloc, bytes, next, &mut damages, &mut report);
-        for damage in damages.iter().take(report.count as usize) {
-            put_damage(&mut text, damage)?;
-        }
+        let count = (report.count as usize).min(damages.len());
+        run = put_damages(&mut text, run, &damages[..count])?;
         next = report.next;
         if next >= intervals {
-            return Ok(text);
+            break;
         }
     }
+    put_run(&mut text, run)?;
     Ok(text)
 }
 

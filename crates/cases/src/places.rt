@@ -25,13 +25,7 @@ const TOP: RowPlace = RowPlace {
 };
 
 /// A report of nothing.
-const NONE: RowsReport = RowsReport {
-    rows: 0,
-    lines: 0,
-    first_line: 0,
-    refusal: 0,
-    detail: 0,
-};
+const NONE: RowsReport = RowsReport::empty();
 
 /// The position behind the rows that are decoded, and what the last call reported.
 #[derive(Clone, Copy)]

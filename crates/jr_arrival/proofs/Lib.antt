@@ -17,7 +17,6 @@ pub mod Reaching
 pub mod ReadOn
 pub mod Readings
 pub mod RowLines
-pub mod RunsGoOn
 pub mod ScanIntervals
 pub mod ScansGoOn
 pub mod SettledRows

@@ -4,15 +4,11 @@ use Rattle.jr_head.specs.HeadValue.{HeadValue}
 use Rattle.jr_head.specs.Geometry.{mcus_across}
 use Rattle.jr_head.specs.Heads.{HeadOf}
 use Rattle.jr_head.specs.Intervals.{interval_number, within_interval}
-use Rattle.jr_scan.specs.declared.place.Place.{Place}
 use Rattle.jr_cut.specs.declared.scan_end.ScanEnd.TheVariants.{EndOfFile}
-use Rattle.jr_scan.specs.IntervalValue.{IntervalValue}
 use Rattle.jr_scan.specs.ScanValue.{ScanValue, IsScanOf, interval_of}
-use Rattle.jr_scan.specs.Run.{HasNoMcu}
 use Rattle.jr_scan.specs.Mcus.{Front}
 use Rattle.jr_paint.specs.Lines.{next_lines_of}
 use Rattle.jr_rows.specs.Rows.{first_line, line_count}
-use Rattle.jr_arrival.specs.More.{with_more}
 
 -- of the segments that bytes are cut into, all but the last are kept by more bytes; the last one's data may go on, and others follow
 pub record GrowsTo (datas longer : List (List ℕ)) : Type 0 where
@@ -39,10 +35,6 @@ pub record KeepsScan (bytes : List ℕ) (s t : ScanValue) : Type 0 where
   pub so_far : (i : ℕ) → (more : List ℕ) × (slice_index_or t.intervals i [] ≡ slice_index_or s.intervals i [] ++ more)
   pub whole : (i : ℕ) → HasEndedAt bytes s i → interval_of t i ≡ interval_of s i
   pub end : s.ended ≢ EndOfFile → t.ended ≡ s.ended
-
--- whatever data comes, no whole MCU follows that place: its bits are of no code
-abbrev pub IsStuck : IntervalValue → Place → Type 0
-IsStuck i p = (more : List ℕ) → HasNoMcu (with_more i more) p
 
 -- MCU m of the picture is settled by the bytes so far: its interval has ended, or whole MCUs of its data reach behind it
 abbrev pub IsSettled : List ℕ → ScanValue → ℕ → Type 0

@@ -6,7 +6,7 @@ ghost use Rattle.jr_segments.specs.declared.refusal.Refusal.TheVariants.{TooLong
 ghost use Rattle.jr_head.specs.HeadValue.{HeadValue};
 ghost use Rattle.jr_head.specs.Heads.{HeadOf, RefusalOf};
 ghost use Rattle.jr_scan.specs.declared.place.Place.{Place};
-ghost use Rattle.jr_scan.specs.declared.place.RunEnd.TheVariants.{AllRead, NoMcu};
+ghost use Rattle.jr_scan.specs.declared.place.RunEnd.TheVariants.{AllRead};
 ghost use Rattle.jr_cut.specs.declared.scan_end.ScanEnd.TheVariants.{EndOfFile};
 ghost use Rattle.jr_cut.specs.Cut.{Cutting};
 ghost use Rattle.jr_scan.specs.IntervalValue.{IntervalValue};
@@ -17,7 +17,7 @@ ghost use Rattle.jr_picture.specs.declared.mark.Mark.{Mark};
 ghost use Rattle.jr_picture.specs.Headline.{ShowsFirst, mark_in};
 ghost use Rattle.jr_arrival.specs.More.{run_with_more, with_more};
 ghost use Rattle.jr_arrival.specs.Arrival.{CanBecome, IsFinalFault};
-ghost use Rattle.jr_arrival.specs.Growing.{GrowsTo, HasScan, HasEndedAt, KeepsScan, IsStuck, RowIsSettled, lines_of_row};
+ghost use Rattle.jr_arrival.specs.Growing.{GrowsTo, HasScan, HasEndedAt, KeepsScan, RowIsSettled, lines_of_row};
 
 /// A head that is accepted of the bytes so far is the head of every file that they can become (T.81, B.2).
 pub fn head_is_final()
@@ -55,12 +55,6 @@ pub fn front_is_final()
 pub fn run_is_final()
     ensures { (r : RunOf) (more : List ℕ) (blocks : List (List ℤ)) (to : Place) → r.from.bit ≤ 8 * length r.interval.bytes
         → IsRun r blocks to AllRead → IsRun (run_with_more r more) blocks to AllRead }
-{}
-
-/// A run that ends at bits of no code ends there whatever data comes.
-pub fn stuck_is_final()
-    ensures { (r : RunOf) (more : List ℕ) (blocks : List (List ℤ)) (to : Place) → r.from.bit ≤ 8 * length r.interval.bytes
-        → IsRun r blocks to NoMcu → IsStuck r.interval to → IsRun (run_with_more r more) blocks to NoMcu }
 {}
 
 /// The lines of a row of MCUs that the bytes so far settle are those of the picture of every file that they can become.

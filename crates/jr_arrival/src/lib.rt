@@ -36,7 +36,7 @@ pub use finished::Finished;
 pub use head::head_so_far;
 pub use laws::{
     cut_is_final, fault_is_final, front_is_final, head_is_final, lines_are_final, mark_is_final,
-    run_is_final, scan_is_final, stuck_is_final, too_long_is_final,
+    run_is_final, scan_is_final, too_long_is_final,
 };
 pub use place::{RowPlace, stands_at};
 pub use place_laws::{no_mcu_in_long_data, place_stays, run_behind, split_segment, top_is_place};

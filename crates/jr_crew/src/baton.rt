@@ -4,7 +4,9 @@ ghost use Rattle.std.specs.Prelude.{◌≡◌, Some};
 ghost use Rattle.jr_scan.specs.Guesses.{AreGuessesOf};
 ghost use Rattle.jr_scan.specs.ScanValue.{interval_of};
 
-use crate::{Bench, CodedRow, OneFirstIntervals, PaintRoom, Painted, WorkBench};
+use crate::bench::{Bench, CodedRow, Painted, WorkBench};
+use crate::one_first_intervals::OneFirstIntervals;
+use crate::paint_room::PaintRoom;
 use jr_picture::Gate;
 use jr_rows::{FirstIntervals, Rows, announce, intervals_of_row, shape_of};
 use jr_scan::Guesses;
@@ -78,7 +80,7 @@ impl<'a, S: OneFirstIntervals> Baton<'a, S> {
         self,
         part: &FirstIntervals<'a>,
         number: u32,
-        guesses: Guesses<'a>,
+        guesses: Guesses,
     ) -> Baton<'a, S>
         requires part { S.part ≡ Some part.now }
         requires guesses { AreGuessesOf (interval_of part.now.scan number) guesses }

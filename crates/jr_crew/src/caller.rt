@@ -3,7 +3,8 @@
 ghost use Rattle.std.specs.Prelude.{◌≡◌};
 
 use crate::crew::{Crew, MOST_TASKS};
-use crate::{OneFirstIntervals, PaintRoom};
+use crate::one_first_intervals::OneFirstIntervals;
+use crate::paint_room::PaintRoom;
 use jr_picture::Gate;
 use jr_rows::{Marked, RowPainter, shape_of};
 use std::marker::Model;

@@ -1,6 +1,7 @@
 //! Memory that the calling thread works by.
 
-use crate::{OneFirstIntervals, PaintRoom};
+use crate::one_first_intervals::OneFirstIntervals;
+use crate::paint_room::PaintRoom;
 
 /// Memory that the calling thread decodes, paints and writes rows by.
 #[derive(Drop)]

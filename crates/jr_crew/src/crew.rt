@@ -6,10 +6,12 @@ ghost use Rattle.jr_paint.specs.Lines.{line_size};
 ghost use Rattle.jr_paint.specs.declared.header.TheConstants.{HEADER_ROOM};
 
 use crate::baton::Baton;
+use crate::bench::{Bench, Painted, WorkBench};
 use crate::caller_room::CallerRoom;
+use crate::one_first_intervals::OneFirstIntervals;
+use crate::paint_room::PaintRoom;
 use crate::row_queue::{PassedRow, RowQueue, RowTask, Waiter};
 use crate::scan_of::ScanOf;
-use crate::{Bench, OneFirstIntervals, PaintRoom, Painted, WorkBench};
 use jr_base::Memory;
 use jr_guesses::{GuessTask, ScanGuess};
 use jr_picture::Gate;
@@ -101,10 +103,11 @@ impl<'a, S: OneFirstIntervals> Crew<'a, S> {
     /// What a thread does next, once there is something: it gives back memory where nothing else is to be done. None where nothing is
     /// left.
     fn task<R: Wait>(&self, rt: &R) -> Option<RowTask<'a, S>> {
+        let scan = self.part.scan();
         let mut queue = self.queue.lock(rt);
         queue.begin_waiting();
         let mut queue = self.has_task.wait_while(rt, queue, |queue| {
-            queue.has_no_task() && !queue.has_spare()
+            queue.has_no_task(scan) && !queue.has_spare()
         });
         queue.end_waiting();
         match queue.task(&self.part) {
@@ -115,11 +118,12 @@ impl<'a, S: OneFirstIntervals> Crew<'a, S> {
 
     /// What the calling thread does next, once there is something or this row is painted. None where it is, or nothing is left.
     pub(crate) fn task_before<R: Wait>(&self, rt: &R, row: u32) -> Option<RowTask<'a, S>> {
+        let scan = self.part.scan();
         let mut queue = self.queue.lock(rt);
         queue.set_awaited(Some(row));
         let mut queue = self
             .has_row
-            .wait_while(rt, queue, |queue| !queue.has(row) && queue.has_no_task());
+            .wait_while(rt, queue, |queue| !queue.has(row) && queue.has_no_task(scan));
         queue.set_awaited(None);
         if queue.has(row) {
             return None;
@@ -157,7 +161,7 @@ impl<'a, S: OneFirstIntervals> Crew<'a, S> {
     /// Reads a row, which waits for whoever is free.
     fn read_on<R: Wait>(&self, rt: &R, baton: Baton<'a, S>, bench: WorkBench<S>) {
         let (coded, behind) = baton.read(&self.part, bench);
-        let waiter = self.queue.lock(rt).put_coded(coded, behind);
+        let waiter = self.queue.lock(rt).put_coded(self.part.scan(), coded, behind);
         self.wake(waiter);
     }
 
@@ -170,7 +174,7 @@ impl<'a, S: OneFirstIntervals> Crew<'a, S> {
         room: &mut PaintRoom<S>,
     ) {
         let (painted, behind) = baton.decode(&self.part, bench, room);
-        let waiter = self.queue.lock(rt).put_behind(behind);
+        let waiter = self.queue.lock(rt).put_behind(self.part.scan(), behind);
         self.wake(waiter);
         self.put_painted(rt, painted);
     }
@@ -188,12 +192,12 @@ impl<'a, S: OneFirstIntervals> Crew<'a, S> {
     fn pass<R: Wait, G: Gate>(&self, rt: &R, gate: &G, baton: Baton<'a, S>, bench: Bench<S>) {
         let (baton, behind) = baton.pass(&self.part, gate);
         let passed = PassedRow { baton, bench };
-        let waiter = self.queue.lock(rt).put_passed(passed, behind);
+        let waiter = self.queue.lock(rt).put_passed(self.part.scan(), passed, behind);
         self.wake(waiter);
     }
 
     /// Makes a guess.
-    fn guess<R: Wait>(&self, rt: &R, task: GuessTask<'a, ScanOf<S>>) {
+    fn guess<R: Wait>(&self, rt: &R, task: GuessTask<ScanOf<S>>) {
         let made = task.make(self.part.scan());
         let waiter = self.queue.lock(rt).put_guess(made);
         self.wake(waiter);

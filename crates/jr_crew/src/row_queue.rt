@@ -4,10 +4,12 @@ ghost use Rattle.std.specs.Prelude.{◌≡◌, ◌<◌, Some, IsTrue, length};
 ghost use Rattle.jr_crew.specs.Crew.{HasRow};
 
 use crate::baton::Baton;
+use crate::bench::{Bench, CodedRow, Painted};
+use crate::one_first_intervals::OneFirstIntervals;
 use crate::scan_of::ScanOf;
-use crate::{Bench, CodedRow, OneFirstIntervals, Painted};
 use jr_guesses::{GuessQueue, GuessTask, ScanGuess};
 use jr_rows::{FirstIntervals, intervals_of_row};
+use jr_scan::Scan;
 use std::collections::VecDeque;
 use std::mem::replace;
 
@@ -23,17 +25,17 @@ pub(crate) enum RowTask<'a, S: OneFirstIntervals> {
     /// Paints a row that is read.
     Paint(CodedRow<S>),
     /// Makes a guess.
-    Guess(GuessTask<'a, ScanOf<S>>),
+    Guess(GuessTask<ScanOf<S>>),
     /// Brings room for a guess of so many MCUs.
     BringGuess(u32),
     /// Gives back memory that nobody needs any more.
-    GiveBack(Spare<'a, S>),
+    GiveBack(Spare<S>),
 }
 
 /// Memory that nobody needs any more.
 #[derive(Drop)]
-pub(crate) enum Spare<'a, S: OneFirstIntervals> {
-    Guesses(GuessQueue<'a, ScanOf<S>>),
+pub(crate) enum Spare<S: OneFirstIntervals> {
+    Guesses(GuessQueue<ScanOf<S>>),
     Bench(Bench<S>),
 }
 
@@ -82,9 +84,9 @@ pub(crate) struct RowQueue<'a, S: OneFirstIntervals> {
     free: VecDeque<Bench<S>>,
     /// So many benches nobody brings yet.
     lacking: u32,
-    guesses: GuessQueue<'a, ScanOf<S>>,
+    guesses: GuessQueue<ScanOf<S>>,
     /// A queue without room, which takes the place of the other when no row is left to begin.
-    no_guesses: Option<GuessQueue<'a, ScanOf<S>>>,
+    no_guesses: Option<GuessQueue<ScanOf<S>>>,
     /// In their order.
     passed: VecDeque<PassedRow<'a, S>>,
     /// In their order.
@@ -104,8 +106,8 @@ impl<'a, S: OneFirstIntervals> RowQueue<'a, S> {
     pub(crate) fn of(
         free: VecDeque<Bench<S>>,
         lacking: u32,
-        guesses: GuessQueue<'a, ScanOf<S>>,
-        no_guesses: GuessQueue<'a, ScanOf<S>>,
+        guesses: GuessQueue<ScanOf<S>>,
+        no_guesses: GuessQueue<ScanOf<S>>,
         passed: VecDeque<PassedRow<'a, S>>,
         coded: VecDeque<CodedRow<S>>,
         painted: Vec<Option<Painted<S>>>,
@@ -141,7 +143,7 @@ impl<'a, S: OneFirstIntervals> RowQueue<'a, S> {
     }
 
     /// Room for a guess, which a thread brings. It makes the guess itself, so nobody is woken.
-    pub(crate) fn bring_guess(&mut self, room: ScanGuess<'a, ScanOf<S>>) {
+    pub(crate) fn bring_guess(&mut self, room: ScanGuess<ScanOf<S>>) {
         self.guesses.bring(room);
     }
 
@@ -170,11 +172,12 @@ impl<'a, S: OneFirstIntervals> RowQueue<'a, S> {
     /// What a thread does next: it passes over a row, or reads one, where it can, so that reading goes on, finishes one where it
     /// can't, and makes a guess where nothing else is to be done, or brings room for one. A row at whose start a guess is being
     /// made waits for it.
-    fn choice(&self) -> Choice {
-        let can_begin = self.baton.is_some() && !self.free.is_empty() && !self.guesses.makes_next();
+    fn choice(&self, scan: &Scan) -> Choice {
+        let can_begin =
+            self.baton.is_some() && !self.free.is_empty() && !self.guesses.makes_next(scan);
         if self.is_over {
             Choice::End
-        } else if can_begin && self.guesses.has_next() {
+        } else if can_begin && self.guesses.has_next(scan) {
             Choice::Pass
         } else if can_begin {
             Choice::Read
@@ -182,9 +185,9 @@ impl<'a, S: OneFirstIntervals> RowQueue<'a, S> {
             Choice::Finish
         } else if !self.coded.is_empty() {
             Choice::Paint
-        } else if self.guesses.can_guess() {
+        } else if self.guesses.can_guess(scan) {
             Choice::Guess
-        } else if self.guesses.wants_room() {
+        } else if self.guesses.wants_room(scan) {
             Choice::BringGuess
         } else {
             Choice::Wait
@@ -192,8 +195,8 @@ impl<'a, S: OneFirstIntervals> RowQueue<'a, S> {
     }
 
     /// Whether a thread has to wait for what others read, paint or write.
-    pub(crate) fn has_no_task(&self) -> bool {
-        self.choice() == Choice::Wait
+    pub(crate) fn has_no_task(&self, scan: &Scan) -> bool {
+        self.choice(scan) == Choice::Wait
     }
 
     /// The rows that come next, with the guesses for the first of them.
@@ -215,12 +218,12 @@ impl<'a, S: OneFirstIntervals> RowQueue<'a, S> {
     pub(crate) fn task(&mut self, part: &FirstIntervals<'a>) -> Option<RowTask<'a, S>>
         requires { S.part ≡ Some part.now }
     {
-        match self.choice() {
+        match self.choice(part.scan()) {
             Choice::Read => Some(RowTask::Read(self.begin(part)?, self.free.pop_back()?)),
             Choice::Pass => Some(RowTask::Pass(self.begin(part)?, self.free.pop_front()?)),
             Choice::Finish => Some(RowTask::Finish(self.passed.pop_front()?)),
             Choice::Paint => Some(RowTask::Paint(self.coded.pop_front()?)),
-            Choice::Guess => Some(RowTask::Guess(self.guesses.take()?)),
+            Choice::Guess => Some(RowTask::Guess(self.guesses.take(part.scan())?)),
             Choice::BringGuess => Some(RowTask::BringGuess(self.guesses.lacks_room()?)),
             Choice::Wait | Choice::End => None,
         }
@@ -246,12 +249,12 @@ impl<'a, S: OneFirstIntervals> RowQueue<'a, S> {
     }
 
     /// The rows behind those that are begun. Answers who is to be woken, since something can be done now.
-    fn go_on(&mut self, behind: Option<Baton<'a, S>>) -> Option<Waiter> {
+    fn go_on(&mut self, scan: &Scan, behind: Option<Baton<'a, S>>) -> Option<Waiter> {
         let (number, bit) = match &behind {
             Some(baton) => baton.next_start(),
             None => (u32::MAX, 0),
         };
-        self.guesses.reach(number, bit);
+        self.guesses.reach(scan, number, bit);
         self.is_begun = behind.is_none();
         self.baton = behind;
         self.waiter()
@@ -268,6 +271,7 @@ impl<'a, S: OneFirstIntervals> RowQueue<'a, S> {
     /// Keeps a row that was passed over, and the rows behind it. Answers who is to be woken.
     pub(crate) fn put_passed(
         &mut self,
+        scan: &Scan,
         passed: PassedRow<'a, S>,
         behind: Option<Baton<'a, S>>,
     ) -> Option<Waiter> {
@@ -275,11 +279,11 @@ impl<'a, S: OneFirstIntervals> RowQueue<'a, S> {
             return None;
         }
         let _ = self.passed.push_back(passed);
-        self.go_on(behind)
+        self.go_on(scan, behind)
     }
 
     /// Keeps a guess in its place. Answers who is to be woken, since a row may have waited for it.
-    pub(crate) fn put_guess(&mut self, made: GuessTask<'a, ScanOf<S>>) -> Option<Waiter> {
+    pub(crate) fn put_guess(&mut self, made: GuessTask<ScanOf<S>>) -> Option<Waiter> {
         self.guesses.put(made);
         self.waiter()
     }
@@ -287,6 +291,7 @@ impl<'a, S: OneFirstIntervals> RowQueue<'a, S> {
     /// Keeps a row that is read, and the rows behind it. Answers who is to be woken, so that somebody paints it.
     pub(crate) fn put_coded(
         &mut self,
+        scan: &Scan,
         coded: CodedRow<S>,
         behind: Option<Baton<'a, S>>,
     ) -> Option<Waiter> {
@@ -294,15 +299,19 @@ impl<'a, S: OneFirstIntervals> RowQueue<'a, S> {
             return None;
         }
         let _ = self.coded.push_back(coded);
-        self.go_on(behind)
+        self.go_on(scan, behind)
     }
 
     /// Keeps the rows behind one that is read and painted. Answers who is to be woken.
-    pub(crate) fn put_behind(&mut self, behind: Option<Baton<'a, S>>) -> Option<Waiter> {
+    pub(crate) fn put_behind(
+        &mut self,
+        scan: &Scan,
+        behind: Option<Baton<'a, S>>,
+    ) -> Option<Waiter> {
         if self.is_over {
             return None;
         }
-        self.go_on(behind)
+        self.go_on(scan, behind)
     }
 
     /// Whether a row is painted.

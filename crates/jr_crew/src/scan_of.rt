@@ -2,7 +2,7 @@
 
 ghost use Rattle.jr_crew.specs.Crew.{scan_of};
 
-use crate::OneFirstIntervals;
+use crate::one_first_intervals::OneFirstIntervals;
 use jr_guesses::OneScan;
 use std::marker::PhantomData;
 

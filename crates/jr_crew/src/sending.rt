@@ -7,10 +7,10 @@ ghost use Rattle.jr_paint.specs.Lines.{line_size};
 ghost use Rattle.jr_paint.specs.declared.header.TheConstants.{HEADER_ROOM};
 ghost use Rattle.jr_rows.specs.Stream.{IsSentBy};
 
-use crate::OneFirstIntervals;
 use crate::caller::Caller;
 use crate::caller_room::CallerRoom;
 use crate::crew::Crew;
+use crate::one_first_intervals::OneFirstIntervals;
 use jr_base::{Tally, WriteFault};
 use jr_guesses::{Beside, Help};
 use jr_picture::Gate;

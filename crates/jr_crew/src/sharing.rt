@@ -7,11 +7,12 @@ ghost use Rattle.jr_picture.specs.Headline.{least};
 ghost use Rattle.jr_rows.specs.Stream.{WritesPicture, BeginsPicture, IsSentBy};
 
 use crate::baton::Baton;
+use crate::bench::Painted;
 use crate::crew::{BENCHES_OF_ONE, Crew};
+use crate::one_first_intervals::OneFirstIntervals;
 use crate::row_queue::RowQueue;
 use crate::scan_of::ScanOf;
 use crate::sending::{Helping, Sending};
-use crate::{OneFirstIntervals, Painted};
 use jr_base::{Memory, Tally, WriteFault};
 use jr_guesses::{GuessQueue, run_beside, windows_of};
 use jr_picture::{Counts, Gate};
@@ -88,11 +89,11 @@ fn mcus_of_guess(scan: &Scan) -> u32 {
 }
 
 /// A queue of so many guesses. A step of the reader is a row of MCUs.
-fn open_guesses<'a, S: OneFirstIntervals>(
+fn open_guesses<S: OneFirstIntervals>(
     alloc: Global,
-    part: &FirstIntervals<'a>,
+    part: &FirstIntervals<'_>,
     guesses: u32,
-) -> Result<GuessQueue<'a, ScanOf<S>>, Memory> {
+) -> Result<GuessQueue<ScanOf<S>>, Memory> {
     let across = shape_of(part.scan().head()).across;
     let most = mcus_of_guess(part.scan());
     GuessQueue::open(alloc, part.scan(), part.limit(), guesses, across, most)

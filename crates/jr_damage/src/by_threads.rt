@@ -86,7 +86,7 @@ fn check_as<R: Threads + Wait + Sync, S: OneScan + Send>(
     let room = helpers.saturating_add(WAITING_GUESSES);
     let step = step_of(scan.head());
     let most = step.saturating_mul(STEPS_OF_GUESS);
-    let guesses: Result<GuessQueue<'_, S>, _> = GuessQueue::open(
+    let guesses: Result<GuessQueue<S>, _> = GuessQueue::open(
         alloc,
         scan,
         scan.intervals(),

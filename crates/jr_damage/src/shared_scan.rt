@@ -15,8 +15,8 @@ const MOST_GUESSES: u64 = u64::MAX;
 
 /// Guesses, and who waits for them: to wake takes longer than to ask.
 #[derive(Drop)]
-struct Guessing<'a, S: OneScan> {
-    guesses: GuessQueue<'a, S>,
+struct Guessing<S: OneScan> {
+    guesses: GuessQueue<S>,
     /// All is read.
     is_over: bool,
     /// How many threads wait until another guess can be made.
@@ -25,15 +25,15 @@ struct Guessing<'a, S: OneScan> {
     is_awaited: bool,
 }
 
-impl<'a, S: OneScan> Guessing<'a, S> {
+impl<S: OneScan> Guessing<S> {
     /// Whether a thread has to wait until another guess can be made.
-    fn has_no_task(&self) -> bool {
-        !self.is_over && !self.guesses.can_guess()
+    fn has_no_task(&self, scan: &Scan) -> bool {
+        !self.is_over && !self.guesses.can_guess(scan)
     }
 
     /// Whether a thread waits for a guess to make, and one can be made.
-    fn is_waited_for(&self) -> bool {
-        self.waiting > 0 && self.guesses.can_guess()
+    fn is_waited_for(&self, scan: &Scan) -> bool {
+        self.waiting > 0 && self.guesses.can_guess(scan)
     }
 }
 
@@ -42,7 +42,7 @@ impl<'a, S: OneScan> Guessing<'a, S> {
 #[derive(Drop)]
 pub(crate) struct SharedScan<'a, S: OneScan> {
     scan: &'a Scan,
-    guessing: Mutex<Guessing<'a, S>>,
+    guessing: Mutex<Guessing<S>>,
     /// Another guess can be made, or all is read.
     has_room: Condvar,
     /// A guess is made.
@@ -62,7 +62,7 @@ impl<'a, S: OneScan> Model for SharedScan<'a, S> {
 
 impl<'a, S: OneScan> SharedScan<'a, S> {
     /// Nothing is read yet.
-    pub(crate) fn of(scan: &'a Scan, guesses: GuessQueue<'a, S>) -> SharedScan<'a, S>
+    pub(crate) fn of(scan: &'a Scan, guesses: GuessQueue<S>) -> SharedScan<'a, S>
         requires { S.scan ≡ Some scan.now }
         ensures { result ≡ scan.now }
     {
@@ -87,25 +87,26 @@ impl<'a, S: OneScan> SharedScan<'a, S> {
     }
 
     /// The next guess, once another can be made. None where all is read.
-    fn task<R: Wait>(&self, rt: &R) -> Option<GuessTask<'a, S>> {
+    fn task<R: Wait>(&self, rt: &R) -> Option<GuessTask<S>> {
+        let scan = self.scan;
         let mut guessing = self.guessing.lock(rt);
         guessing.waiting = guessing.waiting.saturating_add(1);
         let mut guessing = self
             .has_room
-            .wait_while(rt, guessing, |guessing| guessing.has_no_task());
+            .wait_while(rt, guessing, |guessing| guessing.has_no_task(scan));
         guessing.waiting = guessing.waiting.saturating_sub(1);
         if guessing.is_over {
             return None;
         }
-        let task = guessing.guesses.take();
-        if guessing.is_waited_for() {
+        let task = guessing.guesses.take(self.scan);
+        if guessing.is_waited_for(self.scan) {
             self.has_room.notify_one();
         }
         task
     }
 
     /// Makes a guess, and keeps it.
-    fn make<R: Wait>(&self, rt: &R, task: GuessTask<'a, S>) {
+    fn make<R: Wait>(&self, rt: &R, task: GuessTask<S>) {
         let made = task.make(self.scan);
         let mut guessing = self.guessing.lock(rt);
         guessing.guesses.put(made);
@@ -126,7 +127,7 @@ impl<'a, S: OneScan> SharedScan<'a, S> {
             };
             let mut guessing = self.guessing.lock(rt);
             guessing.guesses.bring(room);
-            if guessing.is_waited_for() {
+            if guessing.is_waited_for(self.scan) {
                 self.has_room.notify_one();
             }
         }
@@ -146,30 +147,31 @@ impl<'a, S: OneScan> SharedScan<'a, S> {
     /// The reader stands at this bit of an interval.
     fn reach<R: Wait>(&self, rt: &R, number: u32, bit: u64) {
         let mut guessing = self.guessing.lock(rt);
-        guessing.guesses.reach(number, bit);
-        if guessing.is_waited_for() {
+        guessing.guesses.reach(self.scan, number, bit);
+        if guessing.is_waited_for(self.scan) {
             self.has_room.notify_one();
         }
     }
 
     /// Another guess for the reader to make while it would wait for one that a thread is making. None once it need not wait.
-    fn task_meanwhile<R: Wait>(&self, rt: &R) -> Option<GuessTask<'a, S>> {
+    fn task_meanwhile<R: Wait>(&self, rt: &R) -> Option<GuessTask<S>> {
+        let scan = self.scan;
         let mut guessing = self.guessing.lock(rt);
-        if guessing.guesses.makes_next()
-            && let Some(task) = guessing.guesses.take()
+        if guessing.guesses.makes_next(scan)
+            && let Some(task) = guessing.guesses.take(scan)
         {
             return Some(task);
         }
         guessing.is_awaited = true;
         let mut guessing = self
             .has_guess
-            .wait_while(rt, guessing, |guessing| guessing.guesses.makes_next());
+            .wait_while(rt, guessing, |guessing| guessing.guesses.makes_next(scan));
         guessing.is_awaited = false;
         None
     }
 
     /// The guesses for a reader at this bit of an interval, once nobody makes one that it may go on by.
-    pub(crate) fn guesses<R: Wait>(&self, rt: &R, number: u32, bit: u64) -> Guesses<'a>
+    pub(crate) fn guesses<R: Wait>(&self, rt: &R, number: u32, bit: u64) -> Guesses
         ensures { AreGuessesOf (interval_of self.now number) result }
     {
         self.reach(rt, number, bit);

@@ -1,8 +1,8 @@
 -- What several threads know of guesses that they share: by the scan that they are of.
 use Rattle.std.specs.Prelude.{ℕ, Option, Some, None}
-use Rattle.jr_scan.specs.Guess.{GuessValue}
+use Rattle.jr_scan.specs.Guess.{GuessValue, IsGuessOf}
 use Rattle.jr_scan.specs.Guesses.{AreGuessesOf}
-use Rattle.jr_scan.specs.ScanValue.{ScanValue, HasInterval, interval_of}
+use Rattle.jr_scan.specs.ScanValue.{ScanValue, interval_of}
 use Rattle.jr_scan.specs.declared.guesses.Guesses.{Guesses}
 
 -- of the scan that a proof knows of this holds
@@ -12,7 +12,7 @@ OfScan (Some scan) P = P scan
 
 -- a guess of an interval of the scan
 abbrev pub HasGuessOf : Option ScanValue → GuessValue → Type 0
-HasGuessOf known g = OfScan known (λ scan. HasInterval scan g.interval)
+HasGuessOf known g = OfScan known (λ scan. IsGuessOf (interval_of scan g.number) g)
 
 -- guesses of the scan's interval of that number
 abbrev pub AreGuesses : Option ScanValue → ℕ → Guesses → Type 0

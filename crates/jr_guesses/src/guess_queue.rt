@@ -36,11 +36,10 @@ fn bits_of_step(scan: &Scan, mcus: u32) -> u64 {
 /// Guesses ahead of a reader that goes over the scan's intervals one after the other, some MCUs at a step. Threads make them
 /// outside of the lock under which it stands.
 #[derive(Drop)]
-pub struct GuessQueue<'a, S: OneScan> {
-    scan: &'a Scan,
+pub struct GuessQueue<S: OneScan> {
     /// How many intervals are read.
     limit: u32,
-    slots: Vec<GuessSlot<'a, S>>,
+    slots: Vec<GuessSlot<S>>,
     /// For so many guesses nobody brings room yet.
     lacking: u32,
     /// For so many MCUs a guess has room.
@@ -53,7 +52,7 @@ pub struct GuessQueue<'a, S: OneScan> {
     step_bits: u64,
 }
 
-impl<'a, S: OneScan> GuessQueue<'a, S> {
+impl<S: OneScan> GuessQueue<S> {
     /// A queue of at most so many guesses of the first `limit` intervals, for which threads bring room: `most` MCUs each. The reader
     /// stands at the start, and its steps are of `step` MCUs. A guess has about the bits of one step, so its room is for more.
     ///
@@ -62,16 +61,15 @@ impl<'a, S: OneScan> GuessQueue<'a, S> {
     /// `Memory` where memory was refused.
     pub fn open(
         alloc: Global,
-        scan: &'a Scan,
+        scan: &Scan,
         limit: u32,
         guesses: u32,
         step: u32,
         most: u32,
-    ) -> Result<GuessQueue<'a, S>, Memory>
+    ) -> Result<GuessQueue<S>, Memory>
         ensures { IfOk result (λ q. q.at ≡ (0, 0)) }
     {
         Ok(GuessQueue {
-            scan,
             limit,
             slots: Vec::with_capacity(alloc, guesses as usize)?,
             lacking: guesses,
@@ -83,8 +81,8 @@ impl<'a, S: OneScan> GuessQueue<'a, S> {
     }
 
     /// Whether room for a guess more is of use: nobody brings some yet, and there are bits to guess.
-    pub fn wants_room(&self) -> bool {
-        self.lacking > 0 && self.next_window().is_some()
+    pub fn wants_room(&self, scan: &Scan) -> bool {
+        self.lacking > 0 && self.next_window(scan).is_some()
     }
 
     /// For how many MCUs a thread is to bring room for a guess; None where all have room, or others bring it.
@@ -99,20 +97,20 @@ impl<'a, S: OneScan> GuessQueue<'a, S> {
     }
 
     /// Room for a guess more, which a thread brings.
-    pub fn bring(&mut self, room: ScanGuess<'a, S>)
+    pub fn bring(&mut self, room: ScanGuess<S>)
         ensures { self.new.at ≡ self.old.at }
     {
         let _ = self.slots.push(GuessSlot::of(room));
     }
 
     /// The reader stands at this bit of an interval.
-    pub fn reach(&mut self, number: u32, bit: u64)
+    pub fn reach(&mut self, scan: &Scan, number: u32, bit: u64)
         ensures { self.new.at ≡ (number, bit) }
     {
         let bits = if number == self.at.0 {
             bit.saturating_sub(self.at.1)
         } else if self.at.1 == 0 {
-            bits_of(self.scan, self.at.0)
+            bits_of(scan, self.at.0)
         } else {
             0
         };
@@ -130,9 +128,9 @@ impl<'a, S: OneScan> GuessQueue<'a, S> {
     }
 
     /// A bit near the end of the next step, if it is as long as the last one; none where the data end before.
-    fn next_end(&self) -> Option<u64> {
+    fn next_end(&self, scan: &Scan) -> Option<u64> {
         let end = self.at.1.saturating_add(self.step_bits);
-        if end < bits_of(self.scan, self.at.0) {
+        if end < bits_of(scan, self.at.0) {
             Some(end)
         } else {
             None
@@ -141,9 +139,9 @@ impl<'a, S: OneScan> GuessQueue<'a, S> {
 
     /// Whether a guess has an MCU that starts where the reader stands, and one covers the end of its next step: then the step
     /// takes no reading.
-    pub fn has_next(&self) -> bool {
+    pub fn has_next(&self, scan: &Scan) -> bool {
         let (number, bit) = self.at;
-        let has_end = match self.next_end() {
+        let has_end = match self.next_end(scan) {
             Some(end) => self.slots.iter().any(|slot| slot.is_ready(number, end)),
             None => true,
         };
@@ -151,9 +149,9 @@ impl<'a, S: OneScan> GuessQueue<'a, S> {
     }
 
     /// Whether a thread makes a guess that the reader's next step may be taken by.
-    pub fn makes_next(&self) -> bool {
+    pub fn makes_next(&self, scan: &Scan) -> bool {
         let (number, bit) = self.at;
-        let end = self.next_end().unwrap_or(bit);
+        let end = self.next_end(scan).unwrap_or(bit);
         self.slots.iter().any(|slot| slot.is_made(number, bit) || slot.is_made(number, end))
     }
 
@@ -165,11 +163,11 @@ impl<'a, S: OneScan> GuessQueue<'a, S> {
 
     /// The bits of the next guess: behind those of the others, and behind the reader's next step, which it takes meanwhile; as
     /// many as the last step had, and up to half as many more where the interval ends there.
-    fn next_window(&self) -> Option<Window> {
+    fn next_window(&self, scan: &Scan) -> Option<Window> {
         let (number, bit) = self
             .next
             .max((self.at.0, self.at.1.saturating_add(self.step_bits)));
-        let (number, from) = if bit < bits_of(self.scan, number) {
+        let (number, from) = if bit < bits_of(scan, number) {
             (number, bit)
         } else {
             (number.saturating_add(1), 0)
@@ -177,7 +175,7 @@ impl<'a, S: OneScan> GuessQueue<'a, S> {
         if number >= self.limit {
             return None;
         }
-        let all = bits_of(self.scan, number);
+        let all = bits_of(scan, number);
         let to = from.saturating_add(self.step_bits);
         let is_last = to.saturating_add(self.step_bits / 2) >= all;
         Some(Window {
@@ -188,16 +186,16 @@ impl<'a, S: OneScan> GuessQueue<'a, S> {
     }
 
     /// Whether another guess can be made.
-    pub fn can_guess(&self) -> bool {
-        self.free_slot().is_some() && self.next_window().is_some()
+    pub fn can_guess(&self, scan: &Scan) -> bool {
+        self.free_slot().is_some() && self.next_window(scan).is_some()
     }
 
     /// The next guess, for a thread to make.
-    pub fn take(&mut self) -> Option<GuessTask<'a, S>>
+    pub fn take(&mut self, scan: &Scan) -> Option<GuessTask<S>>
         ensures { self.new.at ≡ self.old.at }
     {
         let place = self.free_slot()?;
-        let window = self.next_window()?;
+        let window = self.next_window(scan)?;
         self.next = (window.number, window.to);
         let guess = self.slots.get_mut(place)?.take(window)?;
         Some(GuessTask {
@@ -208,7 +206,7 @@ impl<'a, S: OneScan> GuessQueue<'a, S> {
     }
 
     /// Keeps a guess that is made.
-    pub fn put(&mut self, made: GuessTask<'a, S>)
+    pub fn put(&mut self, made: GuessTask<S>)
         ensures { self.new.at ≡ self.old.at }
     {
         let GuessTask { place, guess, .. } = made;
@@ -218,7 +216,7 @@ impl<'a, S: OneScan> GuessQueue<'a, S> {
     }
 
     /// The guesses for the reader's next step, where it is not much longer than the last one.
-    pub fn for_next(&self, scan: &Scan) -> Guesses<'a>
+    pub fn for_next(&self, scan: &Scan) -> Guesses
         requires { S.scan ≡ Some scan.now }
         ensures { AreGuessesOf (interval_of scan.now self.now.at.0) result }
     {

@@ -10,15 +10,15 @@ use jr_scan::Guesses;
 
 /// Room for a guess, and the bits that it covers.
 #[derive(Drop)]
-pub(crate) struct GuessSlot<'a, S: OneScan> {
+pub(crate) struct GuessSlot<S: OneScan> {
     window: Window,
     /// None while a thread makes it.
-    guess: Option<ScanGuess<'a, S>>,
+    guess: Option<ScanGuess<S>>,
 }
 
-impl<'a, S: OneScan> GuessSlot<'a, S> {
+impl<S: OneScan> GuessSlot<S> {
     /// Room for a guess.
-    pub(crate) fn of(guess: ScanGuess<'a, S>) -> GuessSlot<'a, S> {
+    pub(crate) fn of(guess: ScanGuess<S>) -> GuessSlot<S> {
         GuessSlot {
             window: Window::none(),
             guess: Some(guess),
@@ -58,18 +58,18 @@ impl<'a, S: OneScan> GuessSlot<'a, S> {
     }
 
     /// Takes the room for a guess of these bits.
-    pub(crate) fn take(&mut self, window: Window) -> Option<ScanGuess<'a, S>> {
+    pub(crate) fn take(&mut self, window: Window) -> Option<ScanGuess<S>> {
         self.window = window;
         self.guess.take()
     }
 
     /// Keeps a guess that is made.
-    pub(crate) fn put(&mut self, guess: ScanGuess<'a, S>) {
+    pub(crate) fn put(&mut self, guess: ScanGuess<S>) {
         self.guess = Some(guess);
     }
 
     /// These guesses of an interval, and the one that is here, where it is of the interval, too.
-    pub(crate) fn put_into(&self, number: u32, guesses: Guesses<'a>) -> Guesses<'a>
+    pub(crate) fn put_into(&self, number: u32, guesses: Guesses) -> Guesses
         requires { AreGuesses S.scan number guesses }
         ensures { AreGuesses S.scan number result }
     {

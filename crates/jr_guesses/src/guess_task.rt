@@ -9,15 +9,15 @@ use jr_scan::Scan;
 
 /// Room for a guess that a thread makes outside of the lock, its bits, and its place in the queue.
 #[derive(Drop)]
-pub struct GuessTask<'a, S: OneScan> {
+pub struct GuessTask<S: OneScan> {
     pub(crate) place: usize,
     pub(crate) window: Window,
-    pub(crate) guess: ScanGuess<'a, S>,
+    pub(crate) guess: ScanGuess<S>,
 }
 
-impl<'a, S: OneScan> GuessTask<'a, S> {
+impl<S: OneScan> GuessTask<S> {
     /// Reads MCUs from the first of its bits on, as if one started there and each prediction were 0.
-    pub fn make(self, scan: &'a Scan) -> GuessTask<'a, S>
+    pub fn make(self, scan: &Scan) -> GuessTask<S>
         requires { S.scan ≡ Some scan.now }
     {
         let guess = self.guess.read(scan, self.window);

@@ -13,12 +13,12 @@ use std::sync::Arc;
 
 /// A guess of an interval of the scan, or room for one. Several threads may read it.
 #[derive(Drop)]
-pub struct ScanGuess<'a, S: OneScan> {
-    guess: Arc<Guess<'a>>,
+pub struct ScanGuess<S: OneScan> {
+    guess: Arc<Guess>,
     of: PhantomData<S>,
 }
 
-impl<'a, S: OneScan> Model for ScanGuess<'a, S> {
+impl<S: OneScan> Model for ScanGuess<S> {
     ghost use Rattle.std.specs.Arc.{arc_value};
     ghost use Rattle.jr_guesses.specs.Guessing.{HasGuessOf};
     ghost use Rattle.jr_scan.specs.Guess.{GuessValue};
@@ -30,14 +30,14 @@ impl<'a, S: OneScan> Model for ScanGuess<'a, S> {
     ghost invariant = { λ g. HasGuessOf S.scan (arc_value g.guess) };
 }
 
-impl<'a, S: OneScan> ScanGuess<'a, S> {
+impl<S: OneScan> ScanGuess<S> {
     /// Room for a guess of so many MCUs.
-    pub fn open(alloc: Global, scan: &'a Scan, most: u32) -> Result<ScanGuess<'a, S>, Memory>
+    pub fn open(alloc: Global, scan: &Scan, most: u32) -> Result<ScanGuess<S>, Memory>
         requires { S.scan ≡ Some scan.now }
     {
         // By its contract a scan has an interval.
         let _some = scan.intervals();
-        let guess = Guess::open(alloc, scan.interval_ref(0), most)?;
+        let guess = Guess::open(alloc, &scan.interval_ref(0), most)?;
         let Ok(guess) = Arc::new(alloc, guess) else {
             return Err(Memory);
         };
@@ -54,18 +54,18 @@ impl<'a, S: OneScan> ScanGuess<'a, S> {
 
     /// Whether one of its MCUs starts at this bit of an interval.
     pub(crate) fn has(&self, number: u32, bit: u64) -> bool {
-        self.guess.interval().number() == number && self.guess.find(bit).is_some()
+        self.guess.number() == number && self.guess.find(bit).is_some()
     }
 
     /// Makes the guess of these bits.
-    pub(crate) fn read(self, scan: &'a Scan, window: Window) -> ScanGuess<'a, S>
+    pub(crate) fn read(self, scan: &Scan, window: Window) -> ScanGuess<S>
         requires { S.scan ≡ Some scan.now }
     {
         let mut guess = self.guess;
         if window.number < scan.intervals()
             && let Some(room) = Arc::get_mut(&mut guess)
         {
-            room.read(scan.interval_ref(window.number), window.from, window.to);
+            room.read(&scan.interval_ref(window.number), window.from, window.to);
         }
         ScanGuess {
             guess,
@@ -74,11 +74,11 @@ impl<'a, S: OneScan> ScanGuess<'a, S> {
     }
 
     /// These guesses of an interval, and this one where it is of the interval, too.
-    pub(crate) fn put_into(&self, number: u32, guesses: Guesses<'a>) -> Guesses<'a>
+    pub(crate) fn put_into(&self, number: u32, guesses: Guesses) -> Guesses
         requires { AreGuesses S.scan number guesses }
         ensures { AreGuesses S.scan number result }
     {
-        if self.guess.interval().number() != number {
+        if self.guess.number() != number {
             return guesses;
         }
         match Arc::try_clone(&self.guess) {

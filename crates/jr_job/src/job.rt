@@ -41,7 +41,7 @@ const MOST_TASKS: u64 = u64::MAX;
 pub struct Job<'a, S: OneScan> {
     scan: &'a Scan,
     interval: Arc<Interval>,
-    progress: Mutex<Progress<'a, S>>,
+    progress: Mutex<Progress<S>>,
     /// Somebody has read a strip, or all, or made a guess.
     has_read: Condvar,
 }
@@ -61,12 +61,12 @@ impl<'a, S: OneScan> Model for Job<'a, S> {
 
 /// A queue of guesses of interval i of a scan by so many workers, for which these bring room. None where they are not worth their
 /// work, or where memory is refused.
-fn open_guesses<'a, S: OneScan>(
+fn open_guesses<S: OneScan>(
     alloc: Global,
-    scan: &'a Scan,
+    scan: &Scan,
     i: u32,
     workers: usize,
-) -> Option<GuessQueue<'a, S>>
+) -> Option<GuessQueue<S>>
     requires scan { S.scan ≡ Some scan.now }
     requires i { i < length scan.now.intervals }
 {
@@ -80,7 +80,7 @@ fn open_guesses<'a, S: OneScan>(
     let most = step.saturating_mul(STEPS_OF_GUESS);
     let mut queue = GuessQueue::open(alloc, scan, i.saturating_add(1), count, step, most).ok()?;
     if i > 0 {
-        queue.reach(i, 0);
+        queue.reach(scan, i, 0);
     }
     Some(queue)
 }
@@ -114,18 +114,19 @@ impl<'a, S: OneScan> Job<'a, S> {
     }
 
     /// What to do next, once there is something.
-    fn task<R: Wait>(&self, rt: &R) -> Option<StripTask<'a, S>> {
+    fn task<R: Wait>(&self, rt: &R) -> Option<StripTask<S>> {
+        let scan = self.scan;
         let progress = self.progress.lock(rt);
         let mut progress = self
             .has_read
-            .wait_while(rt, progress, |progress| progress.has_no_task());
-        progress.task(self.scan)
+            .wait_while(rt, progress, |progress| progress.has_no_task(scan));
+        progress.task(scan)
     }
 
     /// Reads a strip or passes over it, and wakes whoever waits for one.
-    fn read<R: Wait>(&self, rt: &R, alloc: Global, mut reading: Reading<'a, S>) {
+    fn read<R: Wait>(&self, rt: &R, alloc: Global, mut reading: Reading<S>) {
         let next = reading.next(alloc);
-        let is_over = self.progress.lock(rt).put(reading, next);
+        let is_over = self.progress.lock(rt).put(self.scan, reading, next);
         if is_over {
             self.has_read.notify_all();
         } else {
@@ -146,10 +147,22 @@ impl<'a, S: OneScan> Job<'a, S> {
     }
 
     /// Makes a guess, and wakes whoever waits for it.
-    fn guess<R: Wait>(&self, rt: &R, task: GuessTask<'a, S>) {
+    fn guess<R: Wait>(&self, rt: &R, task: GuessTask<S>) {
         let made = task.make(self.scan);
         self.progress.lock(rt).put_guess(made);
         self.has_read.notify_one();
+    }
+
+    /// The samples of a strip.
+    fn transform(&self, alloc: Global, waiting: &ScanStrip<S>) -> Result<Arc<Strip>, Memory>
+        ensures interval { IfOk result (λ s. (arc_value s).interval ≡ self.now) }
+        ensures own { IfOk result (λ s. IsOneOf S.scan (arc_value s).interval) }
+    {
+        let strip = waiting.decode(alloc)?;
+        if strip.number() != self.interval.number() {
+            return Err(Memory);
+        }
+        Ok(Arc::new(alloc, strip)?)
     }
 
     /// Decodes a strip and keeps it.
@@ -157,20 +170,15 @@ impl<'a, S: OneScan> Job<'a, S> {
         &self,
         rt: &R,
         alloc: Global,
-        waiting: ScanStrip<'a, S>,
+        waiting: ScanStrip<S>,
     ) -> Result<Arc<Strip>, Memory>
         ensures { IfOk result (λ s. (arc_value s).interval ≡ self.now) }
     {
-        let strip = Arc::new(alloc, waiting.decode(alloc)?)?;
-        if strip.number() != self.interval.number() {
-            return Err(Memory);
-        }
+        let transformed = self.transform(alloc, &waiting);
+        let blocks = waiting.into_blocks();
+        let strip = transformed?;
         let same = Arc::try_clone(&strip)?;
-        let mut progress = self.progress.lock(rt);
-        progress.keep(same)?;
-        if let Some(blocks) = waiting.into_blocks() {
-            progress.reuse(blocks);
-        }
+        self.progress.lock(rt).keep(same, blocks)?;
         Ok(strip)
     }
 

@@ -22,12 +22,12 @@ use std::sync::Arc;
 
 /// A strip of an interval of the scan that waits.
 #[derive(Drop)]
-pub(crate) struct ScanStrip<'a, S: OneScan> {
-    strip: WaitingStrip<'a>,
+pub(crate) struct ScanStrip<S: OneScan> {
+    strip: WaitingStrip,
     of: PhantomData<S>,
 }
 
-impl<'a, S: OneScan> Model for ScanStrip<'a, S> {
+impl<S: OneScan> Model for ScanStrip<S> {
     ghost use Rattle.jr_scan.specs.IntervalValue.{IntervalValue};
     ghost use Rattle.jr_job.specs.Sharing.{IsOneOf, interval_of_strip, HasItsGuesses};
 
@@ -38,11 +38,11 @@ impl<'a, S: OneScan> Model for ScanStrip<'a, S> {
     ghost invariant = { λ c. IsOneOf S.scan (interval_of_strip c.strip) × HasItsGuesses c.strip };
 }
 
-impl<'a, S: OneScan> ScanStrip<'a, S> {
-    fn of(strip: WaitingStrip<'a>) -> ScanStrip<'a, S>
+impl<S: OneScan> ScanStrip<S> {
+    fn of(strip: WaitingStrip) -> ScanStrip<S>
         requires own { IsOneOf S.scan (interval_of_strip strip) }
         requires guesses { HasItsGuesses strip }
-        ensures { result ≡ interval_of_strip strip.entry }
+        ensures { result ≡ interval_of_strip strip }
     {
         ScanStrip {
             strip,
@@ -66,13 +66,13 @@ impl<'a, S: OneScan> ScanStrip<'a, S> {
 
 /// What a worker does next.
 #[derive(Drop)]
-pub(crate) enum StripTask<'a, S: OneScan> {
+pub(crate) enum StripTask<S: OneScan> {
     /// Read the next strip, or pass over it.
-    Read(Reading<'a, S>),
+    Read(Reading<S>),
     /// Decode a strip that waits.
-    Decode(ScanStrip<'a, S>),
+    Decode(ScanStrip<S>),
     /// Make a guess of what comes behind the next strip.
-    Guess(GuessTask<'a, S>),
+    Guess(GuessTask<S>),
     /// Nothing: all is read, and others decode what is left.
     Leave,
 }
@@ -91,15 +91,15 @@ enum Choice {
 
 /// How far an interval is: one worker reads or passes over strips, and these wait for whoever is free.
 #[derive(Drop)]
-pub(crate) struct Progress<'a, S: OneScan> {
+pub(crate) struct Progress<S: OneScan> {
     /// None while a worker reads, and where nothing is left to read.
-    reading: Option<Reading<'a, S>>,
+    reading: Option<Reading<S>>,
     /// None where strips are read and none is passed over, and where nothing is left to read: then their memory is given back.
-    guesses: Option<GuessQueue<'a, S>>,
+    guesses: Option<GuessQueue<S>>,
     /// Nothing will be read any more.
     is_over: bool,
     /// In their order.
-    waiting: VecDeque<ScanStrip<'a, S>>,
+    waiting: VecDeque<ScanStrip<S>>,
     /// As many of them may wait before the worker that reads decodes one.
     most_waiting: usize,
     /// Memory of strips that are transformed, for those to be read.
@@ -107,15 +107,15 @@ pub(crate) struct Progress<'a, S: OneScan> {
     gathered: Gathered<S>,
 }
 
-impl<'a, S: OneScan> Progress<'a, S> {
+impl<S: OneScan> Progress<S> {
     /// Nothing is done yet.
     pub(crate) fn of(
         alloc: Global,
-        reading: Reading<'a, S>,
-        guesses: Option<GuessQueue<'a, S>>,
+        reading: Reading<S>,
+        guesses: Option<GuessQueue<S>>,
         gathered: Gathered<S>,
         most_waiting: usize,
-    ) -> Progress<'a, S> {
+    ) -> Progress<S> {
         Progress {
             reading: Some(reading),
             guesses,
@@ -130,7 +130,7 @@ impl<'a, S: OneScan> Progress<'a, S> {
     /// What a worker does next: it passes over a strip, or reads one, where it can, so that reading goes on, decodes one that
     /// waits where it can't, and makes a guess where nothing else is to be done. A strip for which a guess is being made waits
     /// for it, and for nothing else.
-    fn choice(&self) -> Choice {
+    fn choice(&self, scan: &Scan) -> Choice {
         if self.is_over {
             return if self.waiting.is_empty() {
                 Choice::Leave
@@ -142,14 +142,14 @@ impl<'a, S: OneScan> Progress<'a, S> {
         let makes_next = self
             .guesses
             .as_ref()
-            .is_some_and(|queue| queue.makes_next());
-        if can_read && self.guesses.as_ref().is_some_and(|queue| queue.has_next()) && !makes_next {
+            .is_some_and(|queue| queue.makes_next(scan));
+        if can_read && self.guesses.as_ref().is_some_and(|queue| queue.has_next(scan)) && !makes_next {
             Choice::Pass
         } else if can_read && !makes_next {
             Choice::Read
         } else if !self.waiting.is_empty() {
             Choice::Decode
-        } else if self.guesses.as_ref().is_some_and(|queue| queue.can_guess()) {
+        } else if self.guesses.as_ref().is_some_and(|queue| queue.can_guess(scan)) {
             Choice::Guess
         } else {
             Choice::Wait
@@ -157,12 +157,12 @@ impl<'a, S: OneScan> Progress<'a, S> {
     }
 
     /// Whether a worker has to wait for what others read or guess.
-    pub(crate) fn has_no_task(&self) -> bool {
-        self.choice() == Choice::Wait
+    pub(crate) fn has_no_task(&self, scan: &Scan) -> bool {
+        self.choice(scan) == Choice::Wait
     }
 
     /// The guesses by which the next strip is passed over.
-    fn guesses_for(&self, scan: &Scan, number: u32) -> Guesses<'a>
+    fn guesses_for(&self, scan: &Scan, number: u32) -> Guesses
         requires { S.scan ≡ Some scan.now }
         ensures { AreGuessesOf (interval_of scan.now number) result }
     {
@@ -173,7 +173,7 @@ impl<'a, S: OneScan> Progress<'a, S> {
     }
 
     /// The reading, with the guesses by which the next strip is passed over, or with none.
-    fn begin(&mut self, scan: &Scan, passes: bool) -> Option<Reading<'a, S>>
+    fn begin(&mut self, scan: &Scan, passes: bool) -> Option<Reading<S>>
         requires { S.scan ≡ Some scan.now }
     {
         let mut reading = self.reading.take()?;
@@ -190,14 +190,14 @@ impl<'a, S: OneScan> Progress<'a, S> {
     }
 
     /// What a worker does next. None where it has to wait.
-    pub(crate) fn task(&mut self, scan: &Scan) -> Option<StripTask<'a, S>>
+    pub(crate) fn task(&mut self, scan: &Scan) -> Option<StripTask<S>>
         requires { S.scan ≡ Some scan.now }
     {
-        match self.choice() {
+        match self.choice(scan) {
             Choice::Read => Some(StripTask::Read(self.begin(scan, false)?)),
             Choice::Pass => Some(StripTask::Read(self.begin(scan, true)?)),
             Choice::Decode => Some(StripTask::Decode(self.waiting.pop_front()?)),
-            Choice::Guess => Some(StripTask::Guess(self.guesses.as_mut()?.take()?)),
+            Choice::Guess => Some(StripTask::Guess(self.guesses.as_mut()?.take(scan)?)),
             Choice::Wait => None,
             Choice::Leave => Some(StripTask::Leave),
         }
@@ -209,21 +209,26 @@ impl<'a, S: OneScan> Progress<'a, S> {
     }
 
     /// Room for a guess, which a worker brings.
-    pub(crate) fn bring_guess(&mut self, room: ScanGuess<'a, S>) {
+    pub(crate) fn bring_guess(&mut self, room: ScanGuess<S>) {
         if let Some(queue) = &mut self.guesses {
             queue.bring(room);
         }
     }
 
     /// Keeps a guess that is made.
-    pub(crate) fn put_guess(&mut self, made: GuessTask<'a, S>) {
+    pub(crate) fn put_guess(&mut self, made: GuessTask<S>) {
         if let Some(queue) = &mut self.guesses {
             queue.put(made);
         }
     }
 
     /// Takes the reading back, with what was read. True where nothing will be read any more.
-    pub(crate) fn put(&mut self, reading: Reading<'a, S>, next: Result<Next<'a>, Memory>) -> bool
+    pub(crate) fn put(
+        &mut self,
+        scan: &Scan,
+        reading: Reading<S>,
+        next: Result<Next, Memory>,
+    ) -> bool
         requires { IfOk next (IsNextOf S.scan) }
     {
         match next {
@@ -241,7 +246,7 @@ impl<'a, S: OneScan> Progress<'a, S> {
             self.guesses = None;
         } else {
             if let Some(queue) = &mut self.guesses {
-                queue.reach(reading.number(), reading.bit());
+                queue.reach(scan, reading.number(), reading.bit());
             }
             self.reading = Some(reading);
         }
@@ -249,17 +254,25 @@ impl<'a, S: OneScan> Progress<'a, S> {
     }
 
     /// Takes the memory of a strip that is transformed, as long as strips are read.
-    pub(crate) fn reuse(&mut self, blocks: Vec<Coefficients>) {
+    fn reuse(&mut self, blocks: Vec<Coefficients>) {
         if !self.is_over {
             let _ = self.spare.push(blocks);
         }
     }
 
-    /// Keeps a strip of the interval.
-    pub(crate) fn keep(&mut self, strip: Arc<Strip>) -> Result<(), Memory>
+    /// Keeps a strip of the interval, and the memory of its blocks where it has some.
+    pub(crate) fn keep(
+        &mut self,
+        strip: Arc<Strip>,
+        blocks: Option<Vec<Coefficients>>,
+    ) -> Result<(), Memory>
         requires { IsOneOf S.scan (arc_value strip).interval }
     {
-        self.gathered.keep(strip)
+        let kept = self.gathered.keep(strip);
+        if let Some(blocks) = blocks {
+            self.reuse(blocks);
+        }
+        kept
     }
 
     /// Ends the work, since memory is refused.

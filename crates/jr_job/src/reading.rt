@@ -45,20 +45,20 @@ pub(crate) struct End {
 
 /// What follows what is read.
 #[derive(Drop)]
-pub(crate) enum Next<'a> {
+pub(crate) enum Next {
     /// The next strip.
-    Strip(WaitingStrip<'a>),
+    Strip(WaitingStrip),
     /// Nothing: so the interval ends.
     End(End),
 }
 
 /// Reads the next strip of so many MCUs; where there are guesses it passes over it by them. None where no whole MCU follows.
-fn next_strip<'a>(
+fn next_strip(
     alloc: Global,
     reader: &mut StripReader,
-    guesses: &Guesses<'a>,
+    guesses: &Guesses,
     each: u32,
-) -> Result<Option<WaitingStrip<'a>>, Memory>
+) -> Result<Option<WaitingStrip>, Memory>
     requires { AreGuessesOf reader.old.interval guesses.now }
     ensures interval { reader.new.interval ≡ reader.old.interval }
     ensures guesses { IfOk result (λ o. IfSome o HasItsGuesses) }
@@ -80,15 +80,15 @@ fn next_strip<'a>(
 
 /// The reader of an interval of the scan.
 #[derive(Drop)]
-pub(crate) struct Reading<'a, S: OneScan> {
+pub(crate) struct Reading<S: OneScan> {
     reader: StripReader,
     each: u32,
     /// By which the next strip is passed over; where there are none it is read.
-    guesses: Guesses<'a>,
+    guesses: Guesses,
     of: PhantomData<S>,
 }
 
-impl<'a, S: OneScan> Model for Reading<'a, S> {
+impl<S: OneScan> Model for Reading<S> {
     ghost use Rattle.std.specs.Prelude.{◌<◌};
     ghost use Rattle.jr_scan.specs.Guesses.{AreGuessesOf};
     ghost use Rattle.jr_scan.specs.IntervalValue.{IntervalValue};
@@ -101,9 +101,9 @@ impl<'a, S: OneScan> Model for Reading<'a, S> {
     ghost invariant = { λ r. IsOneOf S.scan r.reader.interval × (0 < r.each) × AreGuessesOf r.reader.interval r.guesses };
 }
 
-impl<'a, S: OneScan> Reading<'a, S> {
+impl<S: OneScan> Reading<S> {
     /// Nothing is read of an interval yet.
-    pub(crate) fn of(interval: Arc<Interval>) -> Reading<'a, S>
+    pub(crate) fn of(interval: Arc<Interval>) -> Reading<S>
         requires { IsOneOf S.scan (arc_value interval) }
         ensures { result ≡ arc_value interval }
     {
@@ -136,7 +136,7 @@ impl<'a, S: OneScan> Reading<'a, S> {
     }
 
     /// Gives it the guesses by which the next strip is passed over, or none.
-    pub(crate) fn guide(&mut self, guesses: Guesses<'a>)
+    pub(crate) fn guide(&mut self, guesses: Guesses)
         requires { AreGuessesOf self.old guesses }
         ensures { self.new ≡ self.old }
     {
@@ -144,7 +144,7 @@ impl<'a, S: OneScan> Reading<'a, S> {
     }
 
     /// Reads the next strip, or passes over it.
-    pub(crate) fn next(&mut self, alloc: Global) -> Result<Next<'a>, Memory>
+    pub(crate) fn next(&mut self, alloc: Global) -> Result<Next, Memory>
         ensures { IfOk result (IsNextOf S.scan) }
     {
         let reader = &mut self.reader;

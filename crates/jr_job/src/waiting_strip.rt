@@ -11,12 +11,12 @@ use std::alloc::Global;
 
 /// A strip that waits: its blocks are read, or it is passed over, and then its place is known and guesses have its MCUs.
 #[derive(Drop)]
-pub(crate) enum WaitingStrip<'a> {
+pub(crate) enum WaitingStrip {
     Coded(CodedStrip),
-    Placed(PlacedStrip, Guesses<'a>),
+    Placed(PlacedStrip, Guesses),
 }
 
-impl<'a> WaitingStrip<'a> {
+impl WaitingStrip {
     /// The strip's samples.
     pub(crate) fn decode(&self, alloc: Global) -> Result<Strip, Memory>
         requires { HasItsGuesses self.now }

@@ -29,7 +29,7 @@ pub(crate) struct Decoded {
 pub(crate) fn read_samples(
     alloc: Global,
     reader: &mut McuReader<'_>,
-    guesses: &Guesses<'_>,
+    guesses: &Guesses,
     mcus: usize,
 ) -> Result<Vec<[u8; 64]>, Memory>
     requires none { HasRead reader.old [] }

@@ -60,7 +60,7 @@ impl PlacedStrip {
     }
 
     /// The same, and takes over what the guesses have of its MCUs.
-    pub fn decode_by(&self, alloc: Global, guesses: &Guesses<'_>) -> Result<Strip, Memory>
+    pub fn decode_by(&self, alloc: Global, guesses: &Guesses) -> Result<Strip, Memory>
         requires { AreGuessesOf self.now.interval guesses.now }
         ensures interval { IfOk result (λ s. s.interval ≡ self.now.interval) }
         ensures first { IfOk result (λ s. s.first ≡ self.now.first) }

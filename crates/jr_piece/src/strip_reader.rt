@@ -78,7 +78,7 @@ struct Passed {
 
 /// Passes over the whole MCUs of a run of at most so many, and over those that the guesses have without reading them; keeps
 /// none of their blocks.
-fn pass_run(interval: &Interval, from: Place, guesses: &Guesses<'_>, mcus: u32) -> Passed
+fn pass_run(interval: &Interval, from: Place, guesses: &Guesses, mcus: u32) -> Passed
     requires can { CanReadFrom interval.now from }
     requires same { AreGuessesOf interval.now guesses.now }
     ensures lawful { IsLawful interval.now.head }
@@ -218,7 +218,7 @@ impl StripReader {
     /// The same, and passes over what the guesses have without reading it.
     pub fn pass_by(
         &mut self,
-        guesses: &Guesses<'_>,
+        guesses: &Guesses,
         most: u32,
     ) -> Result<Option<PlacedStrip>, Memory>
         requires { AreGuessesOf self.old.interval guesses.now }

@@ -55,7 +55,7 @@ fn place_after(reader: &McuReader<'_>, whole: u32, mcus: u32) -> Option<Place>
 /// Reads the blocks of the next whole MCUs, over the guesses where there are some. Returns the number of these MCUs.
 fn read_by(
     reader: &mut McuReader<'_>,
-    guesses: Option<&Guesses<'_>>,
+    guesses: Option<&Guesses>,
     blocks: &mut [Coefficients],
 ) -> u32
     requires same { IfSome guesses (λ g. AreGuessesOf reader.old.run.interval g.now) }
@@ -72,7 +72,7 @@ fn read_by(
 }
 
 /// Skips the next whole MCUs, at most so many. Returns the number of them.
-fn skip_by(reader: &mut McuReader<'_>, guesses: Option<&Guesses<'_>>, mcus: u32) -> u32
+fn skip_by(reader: &mut McuReader<'_>, guesses: Option<&Guesses>, mcus: u32) -> u32
     requires same { IfSome guesses (λ g. AreGuessesOf reader.old.run.interval g.now) }
     ensures run { reader.new.run ≡ reader.old.run }
     ensures mcus { reader.new.mcu ≡ reader.old.mcu + result }
@@ -105,7 +105,7 @@ impl Cursor {
     pub(crate) fn read(
         &mut self,
         interval: IntervalRef<'_>,
-        guesses: Option<&Guesses<'_>>,
+        guesses: Option<&Guesses>,
         mcus: u32,
         blocks: &mut [Coefficients],
     )
@@ -136,7 +136,7 @@ impl Cursor {
     pub(crate) fn skip(
         &mut self,
         interval: IntervalRef<'_>,
-        guesses: Option<&Guesses<'_>>,
+        guesses: Option<&Guesses>,
         mcus: u32,
     )
         requires at { IsAt interval self.old.mcu self.old.place }

@@ -9,21 +9,21 @@ use jr_scan::Guesses;
 
 /// Guesses of one interval of a scan. They change nothing of what is read.
 #[derive(Drop)]
-pub struct IntervalGuesses<'a> {
+pub struct IntervalGuesses {
     number: u32,
-    guesses: Guesses<'a>,
+    guesses: Guesses,
 }
 
-impl<'a> IntervalGuesses<'a> {
+impl IntervalGuesses {
     /// Returns these guesses of interval `number`.
-    pub fn of(number: u32, guesses: Guesses<'a>) -> IntervalGuesses<'a>
+    pub fn of(number: u32, guesses: Guesses) -> IntervalGuesses
         ensures { (s : ScanValue) → AreGuessesOf (interval_of s number) guesses.entry → AreGuessesIn s result }
     {
         IntervalGuesses { number, guesses }
     }
 
     /// Returns no guess.
-    pub fn none() -> IntervalGuesses<'a>
+    pub fn none() -> IntervalGuesses
         ensures { (s : ScanValue) → AreGuessesIn s result }
     {
         IntervalGuesses::of(0, Guesses::none())
@@ -31,10 +31,7 @@ impl<'a> IntervalGuesses<'a> {
 }
 
 /// Returns those of an interval.
-pub(crate) fn of_interval<'g, 'a>(
-    guesses: Option<&'g IntervalGuesses<'a>>,
-    number: u32,
-) -> Option<&'g Guesses<'a>>
+pub(crate) fn of_interval(guesses: Option<&IntervalGuesses>, number: u32) -> Option<&Guesses>
     ensures { (s : ScanValue) → IfSome guesses.entry (λ g. AreGuessesIn s g.now) → IfSome result (λ g. AreGuessesOf (interval_of s number) g.now) }
 {
     let own = guesses?;

@@ -62,7 +62,7 @@ impl Cursor {
     fn read_some(
         &mut self,
         part: &FirstIntervals<'_>,
-        guesses: Option<&IntervalGuesses<'_>>,
+        guesses: Option<&IntervalGuesses>,
         done: u32,
         mcus: u32,
         blocks: &mut [Coefficients],
@@ -98,7 +98,7 @@ impl Cursor {
     pub(crate) fn read_mcus(
         &mut self,
         part: &FirstIntervals<'_>,
-        guesses: Option<&IntervalGuesses<'_>>,
+        guesses: Option<&IntervalGuesses>,
         mcus: u32,
         blocks: &mut [Coefficients],
         marks: &mut [u8],
@@ -127,7 +127,7 @@ impl Cursor {
     }
 
     /// Skips the next MCUs, of one interval. Returns the number of them.
-    fn skip_some(&mut self, scan: &Scan, guesses: Option<&IntervalGuesses<'_>>, most: u32) -> u32
+    fn skip_some(&mut self, scan: &Scan, guesses: Option<&IntervalGuesses>, most: u32) -> u32
         requires stands { StandsIn scan.now self.old }
         requires same { IfSome guesses (λ g. AreGuessesIn scan.now g.now) }
         requires some { 0 < most }
@@ -148,7 +148,7 @@ impl Cursor {
     pub(crate) fn skip_mcus(
         &mut self,
         scan: &Scan,
-        guesses: Option<&IntervalGuesses<'_>>,
+        guesses: Option<&IntervalGuesses>,
         mcus: u32,
     )
         requires stands { StandsIn scan.now self.old }

@@ -94,7 +94,7 @@ impl Rows {
     }
 
     /// Skips the next row.
-    pub fn skip(&mut self, part: &FirstIntervals<'_>, guesses: Option<&IntervalGuesses<'_>>)
+    pub fn skip(&mut self, part: &FirstIntervals<'_>, guesses: Option<&IntervalGuesses>)
         requires rows { AreRows part.now self.old }
         requires same { IfSome guesses (λ g. AreGuessesIn part.now.scan g.now) }
         requires row { self.old.row < mcus_down part.now.scan.head }
@@ -114,7 +114,7 @@ impl Rows {
     pub fn read(
         &mut self,
         part: &FirstIntervals<'_>,
-        guesses: Option<&IntervalGuesses<'_>>,
+        guesses: Option<&IntervalGuesses>,
         blocks: &mut [Coefficients],
     ) -> Marked
         requires rows { AreRows part.now self.old }
@@ -141,7 +141,7 @@ impl Rows {
     pub(crate) fn decode(
         &mut self,
         part: &FirstIntervals<'_>,
-        guesses: Option<&IntervalGuesses<'_>>,
+        guesses: Option<&IntervalGuesses>,
         blocks: &mut [Coefficients],
         lines: &mut RowLines,
         marks: &mut [u8],

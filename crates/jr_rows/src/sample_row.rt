@@ -129,7 +129,7 @@ impl SampleRow {
         &mut self,
         part: &FirstIntervals<'_>,
         rows: &mut Rows,
-        guesses: Option<&IntervalGuesses<'_>>,
+        guesses: Option<&IntervalGuesses>,
         pixels: &mut [u8],
     ) -> Marked
         requires rows { AreRows part.now rows.old }

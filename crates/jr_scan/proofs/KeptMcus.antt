@@ -21,17 +21,21 @@ use Rattle.jr_mcu.specs.Mcus.{component, block_of, prediction, no_predictions, p
 use Rattle.jr_scan.specs.Run.{left_at, run_from, IsRun, place_with}
 use Rattle.jr_mcu.proofs.Greater.{three_all}
 use Rattle.jr_mcu.specs.Shift.{of_component, AreGreater, IsShifted, AreShifted, HaveFirstInRange, IsSmall, HaveSmallFirst}
-use Rattle.jr_scan.specs.Guess.{unpredicted, IsGuessed, GuessValue, blocks_at, IsGuess, AreLastBits}
+use Rattle.jr_scan.specs.Guess.{unpredicted, IsGuessed, GuessValue, blocks_at, IsGuessOf, AreLastBits}
 use Rattle.jr_scan.proofs.InRange.{run_in_range}
 use Rattle.jr_scan.proofs.Runs.{component_low, three_places}
 use Rattle.jr_scan.proofs.Shifts.{predicted_shifted, run_shifted}
 use Rattle.jr_scan.proofs.McuReaders.{left_behind, left_is, one_mcu}
 
-abbrev pub guess_of : IntervalValue → List Guessed → List (List ℤ) → GuessValue
-guess_of i mcus blocks = record { interval = i; mcus = mcus; blocks = blocks }
+abbrev pub guess_of : ℕ → List Guessed → List (List ℤ) → GuessValue
+guess_of n mcus blocks = record { number = n; mcus = mcus; blocks = blocks }
 
 abbrev pub with_blocks : GuessValue → List (List ℤ) → GuessValue
-with_blocks g blocks = record { interval = g.interval; mcus = g.mcus; blocks = blocks }
+with_blocks g blocks = record { number = g.number; mcus = g.mcus; blocks = blocks }
+
+-- without an MCU it is a guess of any interval of its number
+pub none_yet : (i : IntervalValue) (n : ℕ) (blocks : List (List ℤ)) → n ≡ i.number → IsGuessOf i (guess_of n [] blocks)
+none_yet i n blocks is = record { number = is; room = omega arith; each = λ k d lt. absurd (omega (arith, lt)) }
 
 -- blocks behind those of the MCUs mean nothing
 at_below : (m per k : ℕ) (xs ys : List (List ℤ)) → k < m → m * per + per ≤ length xs → take per (drop (k * per) (put_mid (m * per) (m * per + per - m * per) xs ys)) ≡ take per (drop (k * per) xs)
@@ -53,38 +57,37 @@ put_long m per xs ys room long =
     omega (arith, length-append (take a xs) (ys ++ post_of a k xs), length-append ys (post_of a k xs), length-take-le a xs (omega (arith, room)), length-drop (a + k) xs, length-drop k (drop a xs), length-drop a xs, long, room)
 
 -- blocks that are written behind the MCUs change none of these
-pub kept_before : (g : GuessValue) (xs ys : List (List ℤ)) (m per : ℕ) → IsGuess g → xs ≡ g.blocks → m ≡ length g.mcus → per ≡ length (order_of g.interval.head) → m * per + per ≤ length xs → length ys ≡ per
-    → IsGuess (with_blocks g (put_mid (m * per) (m * per + per - m * per) xs ys))
-kept_before g xs ys m per is same count size room long =
+pub kept_before : (i : IntervalValue) (g : GuessValue) (xs ys : List (List ℤ)) (m per : ℕ) → IsGuessOf i g → xs ≡ g.blocks → m ≡ length g.mcus → per ≡ length (order_of i.head) → m * per + per ≤ length xs → length ys ≡ per
+    → IsGuessOf i (with_blocks g (put_mid (m * per) (m * per + per - m * per) xs ys))
+kept_before i g xs ys m per is same count size room long =
     let new = put_mid (m * per) (m * per + per - m * per) xs ys in
-    let here : m * per ≡ length g.mcus * length (order_of g.interval.head) = ap (λ (n : ℕ). n * per) count ∙ ap (λ (n : ℕ). length g.mcus * n) size in
+    let here : m * per ≡ length g.mcus * length (order_of i.head) = ap (λ (n : ℕ). n * per) count ∙ ap (λ (n : ℕ). length g.mcus * n) size in
     record {
-      lawful = is.lawful;
+      number = is.number;
       room = omega (arith, put_long m per xs ys room long, room, here);
       each = λ k d lt.
           let e0 : take per (drop (k * per) new) ≡ take per (drop (k * per) xs) = at_below m per k xs ys (omega (arith, lt, count)) room in
           let e1 = subst (λ (n : ℕ). take n (drop (k * n) new) ≡ take n (drop (k * n) xs)) size e0 in
-          let e2 : blocks_at (with_blocks g new) k ≡ blocks_at g k = e1 ∙ ap (λ (bs : List (List ℤ)). take (length (order_of g.interval.head)) (drop (k * length (order_of g.interval.head)) bs)) same in
-          subst (IsGuessed g.interval (get_or g.mcus k d)) (sym e2) (is.each k d lt);
+          let e2 : blocks_at i (with_blocks g new) k ≡ blocks_at i g k = e1 ∙ ap (λ (bs : List (List ℤ)). take (length (order_of i.head)) (drop (k * length (order_of i.head)) bs)) same in
+          subst (IsGuessed i (get_or g.mcus k d)) (sym e2) (is.each k d lt);
     }
 
 -- one more MCU
-pub kept_more : (g : GuessValue) (xs ys : List (List ℤ)) (m per : ℕ) (mcu : Guessed) → IsGuess g → xs ≡ g.blocks → m ≡ length g.mcus → per ≡ length (order_of g.interval.head) → m * per + per ≤ length xs → length ys ≡ per
-    → IsGuessed g.interval mcu ys → IsGuess (guess_of g.interval (g.mcus ++ mcu ∷ []) (put_mid (m * per) (m * per + per - m * per) xs ys))
-kept_more g xs ys m per mcu is same count size room long next =
+pub kept_more : (i : IntervalValue) (g : GuessValue) (xs ys : List (List ℤ)) (m per : ℕ) (mcu : Guessed) → IsGuessOf i g → xs ≡ g.blocks → m ≡ length g.mcus → per ≡ length (order_of i.head) → m * per + per ≤ length xs → length ys ≡ per
+    → IsGuessed i mcu ys → IsGuessOf i (guess_of g.number (g.mcus ++ mcu ∷ []) (put_mid (m * per) (m * per + per - m * per) xs ys))
+kept_more i g xs ys m per mcu is same count size room long next =
     let new = put_mid (m * per) (m * per + per - m * per) xs ys in
-    let before = kept_before g xs ys m per is same count size room long in
-    let i = g.interval in
+    let before = kept_before i g xs ys m per is same count size room long in
     let units = length (order_of i.head) in
     let more : length (g.mcus ++ mcu ∷ []) ≡ m + 1 = omega (arith, length-append g.mcus (mcu ∷ []), count) in
     let all : length (g.mcus ++ mcu ∷ []) * units ≡ m * per + per = ap (λ (n : ℕ). n * units) more ∙ ap (λ (n : ℕ). (m + 1) * n) (sym size) ∙ omega arith in
     record {
-      lawful = is.lawful;
+      number = is.number;
       room = omega (arith, put_long m per xs ys room long, room, all);
       each = λ k d lt. elim (cases_lt k m) [
         | inl l ↦
             let e : get_or g.mcus k d ≡ get_or (g.mcus ++ mcu ∷ []) k d = sym (get_or_append_left g.mcus (mcu ∷ []) d k (omega (arith, l, count))) in
-            subst (λ (x : Guessed). IsGuessed i x (blocks_at (with_blocks g new) k)) e (before.each k d (omega (arith, l, count)))
+            subst (λ (x : Guessed). IsGuessed i x (blocks_at i (with_blocks g new) k)) e (before.each k d (omega (arith, l, count)))
         | inr g' ↦
             let at : m ≡ k = omega (arith, lt, more, g') in
             let e : mcu ≡ get_or (g.mcus ++ mcu ∷ []) m d = sym (ap (λ (n : ℕ). get_or (g.mcus ++ mcu ∷ []) n d) count ∙ get_or-append_seam g.mcus mcu [] d) in
@@ -188,17 +191,25 @@ taken_over i mcu p to zs ys lawful is from three small bit three' sums s =
     let run2 = subst (λ (n : ℕ). IsRun (run_from i p 1) ys (record { bit = n; predictions = predicted i.head q ys }) AllRead) (sym bit) run1 in
     subst (λ (ps : List ℤ). IsRun (run_from i p 1) ys (record { bit = to.bit; predictions = ps }) AllRead) last run2
 
+-- there are as many blocks as MCU k ends at
+pub mcu_within : (i : IntervalValue) (g : GuessValue) (k per : ℕ) → IsGuessOf i g → k < length g.mcus → per ≡ length (order_of i.head) → k * per + per ≤ length g.blocks
+mcu_within i g k per is lt size =
+    let le : suc k * per ≤ length g.mcus * per = mul-le-mul_right {m = suc k} {n = length g.mcus} per (omega (arith, lt)) in
+    let next : suc k * per ≡ k * per + per = omega arith in
+    let all : length g.mcus * per ≡ length g.mcus * length (order_of i.head) = ap (λ (n : ℕ). length g.mcus * n) size in
+    omega (arith, le, next, all, is.room)
+
 -- the blocks of MCU k, as they are lent
-pub lent : (g : GuessValue) (xs : List (List ℤ)) (k per : ℕ) → per ≡ length (order_of g.interval.head) → xs ≡ g.blocks → take (k * per + per - k * per) (drop (k * per) xs) ≡ blocks_at g k
-lent g xs k per size same =
+pub lent : (i : IntervalValue) (g : GuessValue) (xs : List (List ℤ)) (k per : ℕ) → per ≡ length (order_of i.head) → xs ≡ g.blocks → take (k * per + per - k * per) (drop (k * per) xs) ≡ blocks_at i g k
+lent i g xs k per size same =
     let n : k * per + per - k * per ≡ per = omega arith in
-    ap (λ (j : ℕ). take j (drop (k * per) xs)) n ∙ ap (λ (j : ℕ). take j (drop (k * j) xs)) size ∙ ap (λ (bs : List (List ℤ)). take (length (order_of g.interval.head)) (drop (k * length (order_of g.interval.head)) bs)) same
+    ap (λ (j : ℕ). take j (drop (k * per) xs)) n ∙ ap (λ (j : ℕ). take j (drop (k * j) xs)) size ∙ ap (λ (bs : List (List ℤ)). take (length (order_of i.head)) (drop (k * length (order_of i.head)) bs)) same
 
 any_mcu : Guessed
 any_mcu = record { from = 0; to = record { bit = 0; predictions = [] } }
 
-pub some_guessed : (g : GuessValue) (k : ℕ) → IsGuess g → k < length g.mcus → (mcu : Guessed) × IsGuessed g.interval mcu (blocks_at g k)
-some_guessed g k is lt = (get_or g.mcus k any_mcu, is.each k any_mcu lt)
+pub some_guessed : (i : IntervalValue) (g : GuessValue) (k : ℕ) → IsGuessOf i g → k < length g.mcus → (mcu : Guessed) × IsGuessed i mcu (blocks_at i g k)
+some_guessed i g k is lt = (get_or g.mcus k any_mcu, is.each k any_mcu lt)
 
 -- a block has a first coefficient
 pub some_first : (i : IntervalValue) (mcu : Guessed) (zs : List (List ℤ)) → IsGuessed i mcu zs → (n : ℕ) → n < length zs → 0 < length (get_or zs n [])

@@ -1,7 +1,7 @@
 -- MCUs of an interval that are read before it is known that one starts where they start.
 use Rattle.std.specs.Prelude.{◌≡◌, ℕ, ◌-◌, ◌*◌, ◌<◌, ◌≤◌, Bool, List, length, take, drop, ℤ, slice_index_or}
 use Rattle.jr_code.specs.Bits.{bits}
-use Rattle.jr_head.specs.Geometry.{order_of, IsLawful}
+use Rattle.jr_head.specs.Geometry.{order_of}
 use Rattle.jr_scan.specs.declared.guessed.Guessed.{Guessed}
 use Rattle.jr_scan.specs.declared.place.Place.{Place}
 use Rattle.jr_scan.specs.declared.place.RunEnd.TheVariants.{AllRead}
@@ -20,21 +20,21 @@ pub record IsGuessed (i : IntervalValue) (mcu : Guessed) (zs : List (List ℤ)) 
   pub run : IsRun (run_from i (unpredicted mcu.from) 1) zs mcu.to AllRead
   pub small : HaveSmallFirst zs
 
--- MCUs of an interval, and the blocks of each, behind which others may stand that mean nothing
+-- the number of an interval, MCUs of it, and the blocks of each, behind which others may stand that mean nothing
 pub record GuessValue : Type 0 where
-  pub interval : IntervalValue
+  pub number : ℕ
   pub mcus : List Guessed
   pub blocks : List (List ℤ)
 
 -- the blocks of MCU k
-abbrev pub blocks_at : GuessValue → ℕ → List (List ℤ)
-blocks_at g k = let per = length (order_of g.interval.head) in take per (drop (k * per) g.blocks)
+abbrev pub blocks_at : IntervalValue → GuessValue → ℕ → List (List ℤ)
+blocks_at i g k = let per = length (order_of i.head) in take per (drop (k * per) g.blocks)
 
--- what a guess keeps: that each of its MCUs is one, whatever bit it starts at
-pub record IsGuess (g : GuessValue) : Type 0 where
-  pub lawful : IsLawful g.interval.head
-  pub room : length g.mcus * length (order_of g.interval.head) ≤ length g.blocks
-  pub each : (k : ℕ) (d : Guessed) → k < length g.mcus → IsGuessed g.interval (slice_index_or g.mcus k d) (blocks_at g k)
+-- a guess of this interval: each of its MCUs is one of the interval, whatever bit it starts at
+pub record IsGuessOf (i : IntervalValue) (g : GuessValue) : Type 0 where
+  pub number : g.number ≡ i.number
+  pub room : length g.mcus * length (order_of i.head) ≤ length g.blocks
+  pub each : (k : ℕ) (d : Guessed) → k < length g.mcus → IsGuessed i (slice_index_or g.mcus k d) (blocks_at i g k)
 
 -- bits that stand at the end of an interval's
 abbrev pub AreLastBits : IntervalValue → List Bool → Type 0

@@ -8,7 +8,8 @@ ghost use Rattle.jr_mcu.specs.Block.{IsInDcRange};
 ghost use Rattle.jr_mcu.specs.Mcus.{no_predictions, predicted, TakesMcu};
 ghost use Rattle.jr_scan.specs.Run.{run_from, IsRun};
 ghost use Rattle.jr_mcu.specs.Shift.{AreGreater, IsShifted, AreShifted, IsSmall, HaveSmallFirst};
-ghost use Rattle.jr_scan.specs.Guess.{AreLastBits, blocks_at};
+ghost use Rattle.jr_scan.specs.Guess.{AreLastBits, IsGuessOf, blocks_at};
+ghost use Rattle.jr_scan.specs.IntervalValue.{IntervalValue};
 ghost use Rattle.jr_scan.specs.declared.place.RunEnd.TheVariants.{AllRead};
 
 use crate::guessed::Guessed;
@@ -31,56 +32,53 @@ fn most_starts(from: u64, to: u64) -> u64 {
 /// were predicted to be 0. What it keeps is true whatever the bit: a reader that comes to the bit at which one of its MCUs
 /// starts takes it over, its own predictions added.
 #[derive(Drop)]
-pub struct Guess<'a> {
-    interval: IntervalRef<'a>,
+pub struct Guess {
+    /// The number of its interval.
+    number: u32,
     mcus: Vec<Guessed>,
     /// Those of its MCUs, and room for further ones.
     blocks: Vec<Coefficients>,
 }
 
-impl<'a> Model for Guess<'a> {
-    ghost use Rattle.jr_scan.specs.Guess.{GuessValue, IsGuess};
+impl Model for Guess {
+    ghost use Rattle.jr_scan.specs.Guess.{GuessValue};
 
     ghost Value = { GuessValue };
 
-    ghost view = { λ g. record { interval = g.interval; mcus = g.mcus.items; blocks = g.blocks.items } };
-
-    ghost invariant = { λ g. IsGuess (record { interval = g.interval; mcus = g.mcus.items; blocks = g.blocks.items }) };
+    ghost view = { λ g. record { number = g.number; mcus = g.mcus.items; blocks = g.blocks.items } };
 }
 
-impl<'a> Guess<'a> {
+impl Guess {
     /// Room for so many MCUs of an interval, of which none is read.
-    pub fn open(alloc: Global, interval: IntervalRef<'a>, most: u32) -> Result<Guess<'a>, Memory>
-        ensures { IfOk result (λ g. g.interval ≡ interval.entry) }
+    pub fn open(alloc: Global, interval: &IntervalRef<'_>, most: u32) -> Result<Guess, Memory>
+        ensures { IfOk result (IsGuessOf interval.now) }
     {
-        let head = interval.head();
-        let units = most as usize * head.order().len();
+        let units = most as usize * interval.head().order().len();
         let mcus = Vec::with_capacity(alloc, most as usize)?;
         let blocks = vec![in alloc; Coefficients::zeros(); units]?;
         Ok(Guess {
-            interval,
+            number: interval.number(),
             mcus,
             blocks,
         })
     }
 
-    /// The interval that it is of.
-    pub fn interval(&self) -> &IntervalRef<'a>
-        ensures { result.now ≡ self.now.interval }
+    /// The number of the interval that it is of.
+    pub fn number(&self) -> u32
+        ensures { result ≡ self.now.number }
     {
-        &self.interval
+        self.number
     }
 
-    /// Reads MCUs from a bit on, over those that were read before, until one starts at another bit or behind it, or the room
-    /// is full. Where no MCU follows it goes on at the next byte, but not for ever.
-    pub fn read(&mut self, interval: IntervalRef<'a>, from: u64, to: u64)
-        ensures { self.new.interval ≡ interval.entry }
+    /// Reads MCUs from a bit of an interval on, over those that were read before, until one starts at another bit or behind it, or
+    /// the room is full. Where no MCU follows it goes on at the next byte, but not for ever.
+    pub fn read(&mut self, interval: &IntervalRef<'_>, from: u64, to: u64)
+        ensures { IsGuessOf interval.now self.new }
     {
-        self.interval = interval;
-        self.mcus.clear();
+        self.clear(interval.number());
         let mut start = from;
         for _ in 0..most_starts(from, to) {
-            let next = self.read_from(start, to);
+            let next = self.read_from(interval, start, to);
             if next >= to {
                 return;
             }
@@ -88,24 +86,33 @@ impl<'a> Guess<'a> {
         }
     }
 
+    /// Forgets its MCUs: it is one of the interval of another number.
+    fn clear(&mut self, number: u32)
+        ensures { (i : IntervalValue) → i.number ≡ number → IsGuessOf i self.new }
+    {
+        self.number = number;
+        self.mcus.clear();
+    }
+
     /// Reads the MCUs that follow one another from a bit on, and gives the bit at which none follows; the other bit where one
     /// starts there or behind it, or where there is no room.
-    fn read_from(&mut self, from: u64, to: u64) -> u64
-        ensures { self.new.interval ≡ self.old.interval }
+    fn read_from(&mut self, interval: &IntervalRef<'_>, from: u64, to: u64) -> u64
+        requires { IsGuessOf interval.now self.old }
+        ensures { IsGuessOf interval.now self.new }
     {
-        let bytes = self.interval.bytes();
+        let bytes = interval.bytes();
         let all = 8 * bytes.len() as u64;
         if from > all {
             return to;
         }
-        let room = self.blocks.len() / self.interval.head().order().len();
+        let room = self.blocks.len() / interval.head().order().len();
         let mut left = bits_from(bytes, from);
         for _ in self.mcus.len()..room {
             let next = all - left.left();
             if next >= to {
                 return to;
             }
-            let Some(()) = self.keep(&mut left) else {
+            let Some(()) = self.keep(interval, &mut left) else {
                 return next;
             };
         }
@@ -113,14 +120,15 @@ impl<'a> Guess<'a> {
     }
 
     /// Reads the next MCU behind the others, where there is room for it. Where it is none, the bits stay.
-    fn keep(&mut self, bits: &mut Bits<'_>) -> Option<()>
-        requires bits { AreLastBits self.old.interval bits.old }
-        ensures interval { self.new.interval ≡ self.old.interval }
-        ensures bits { AreLastBits self.new.interval bits.new }
+    fn keep(&mut self, interval: &IntervalRef<'_>, bits: &mut Bits<'_>) -> Option<()>
+        requires of { IsGuessOf interval.now self.old }
+        requires bits { AreLastBits interval.now bits.old }
+        ensures of { IsGuessOf interval.now self.new }
+        ensures bits { AreLastBits interval.now bits.new }
     {
-        let head = self.interval.head();
+        let head = interval.head();
         let per_mcu = head.order().len();
-        let all = 8 * self.interval.bytes().len() as u64;
+        let all = 8 * interval.bytes().len() as u64;
         let from = all - bits.left();
         let start = self.mcus.len() * per_mcu;
         let end = start + per_mcu;
@@ -159,15 +167,18 @@ impl<'a> Guess<'a> {
     /// Where MCU k leads from a place. None where it starts at another bit, or where sixteen bits may not hold what it makes
     /// of the place's predictions.
     #[inline(always)]
-    pub(crate) fn pass(&self, k: usize, place: &Place) -> Option<Place>
-        ensures lawful { OnSome result (IsLawful self.now.interval.head) }
-        ensures some { IfSome result (λ to. (zs : List (List ℤ)) → AreShifted self.now.interval.head place.now.predictions (blocks_at self.now k) zs → IsRun (run_from self.now.interval place.now 1) zs to AllRead) }
-        ensures shifted { OnSome result ((zs : List (List ℤ)) × AreShifted self.now.interval.head place.now.predictions (blocks_at self.now k) zs) }
+    pub(crate) fn pass(&self, interval: &IntervalRef<'_>, k: usize, place: &Place) -> Option<Place>
+        requires of { IsGuessOf interval.now self.now }
+        ensures lawful { IsLawful interval.now.head }
+        ensures some { IfSome result (λ to. (zs : List (List ℤ)) → AreShifted interval.now.head place.now.predictions (blocks_at interval.now self.now k) zs → IsRun (run_from interval.now place.now 1) zs to AllRead) }
+        ensures shifted { OnSome result ((zs : List (List ℤ)) × AreShifted interval.now.head place.now.predictions (blocks_at interval.now self.now k) zs) }
         ensures kept { OnSome result (k < length self.now.mcus) }
         ensures small { OnSome result (All IsSmall place.now.predictions) }
-        ensures within { IfSome result (λ to. to.bit ≤ 8 * length self.now.interval.bytes) }
+        ensures within { IfSome result (λ to. to.bit ≤ 8 * length interval.now.bytes) }
         ensures in_range { IfSome result (λ to. All IsInDcRange to.predictions) }
     {
+        // By its contract the head is lawful.
+        let _head = interval.head();
         if k >= self.mcus.len() {
             return None;
         }
@@ -183,18 +194,26 @@ impl<'a> Guess<'a> {
 
     /// The same, and puts the MCU's blocks.
     #[inline(always)]
-    pub(crate) fn put(&self, k: usize, place: &Place, blocks: &mut [Coefficients]) -> Option<Place>
-        requires room { length blocks.old ≡ length (order_of self.now.interval.head) }
-        ensures some { IfSome result (λ to. IsRun (run_from self.now.interval place.now 1) blocks.new to AllRead) }
-        ensures within { IfSome result (λ to. to.bit ≤ 8 * length self.now.interval.bytes) }
+    pub(crate) fn put(
+        &self,
+        interval: &IntervalRef<'_>,
+        k: usize,
+        place: &Place,
+        blocks: &mut [Coefficients],
+    ) -> Option<Place>
+        requires of { IsGuessOf interval.now self.now }
+        requires room { length blocks.old ≡ length (order_of interval.now.head) }
+        ensures some { IfSome result (λ to. IsRun (run_from interval.now place.now 1) blocks.new to AllRead) }
+        ensures within { IfSome result (λ to. to.bit ≤ 8 * length interval.now.bytes) }
         ensures in_range { IfSome result (λ to. All IsInDcRange to.predictions) }
     {
-        let to = self.pass(k, place)?;
-        let head = self.interval.head();
+        let to = self.pass(interval, k, place)?;
+        let head = interval.head();
         let per_mcu = head.order().len();
+        let own = self.blocks.as_slice();
         let start = k * per_mcu;
         let end = start + per_mcu;
-        put_shifted(head, &place.predictions, &self.blocks[start..end], blocks)?;
+        put_shifted(head, &place.predictions, &own[start..end], blocks)?;
         Some(to)
     }
 }

@@ -1,7 +1,8 @@
 //! The guesses that a reader goes over.
 
-ghost use Rattle.std.specs.Prelude.{◌≡◌, IfSome};
+ghost use Rattle.std.specs.Prelude.{IfSome};
 ghost use Rattle.std.specs.Arc.{arc_value};
+ghost use Rattle.jr_scan.specs.Guess.{IsGuessOf};
 ghost use Rattle.jr_scan.specs.Guesses.{AreGuessesOf, IsGuessOrNone};
 ghost use Rattle.jr_scan.specs.IntervalValue.{IntervalValue};
 
@@ -10,30 +11,30 @@ use std::sync::Arc;
 
 /// The guesses that a reader goes over, of one interval: at most three.
 #[derive(Drop)]
-pub struct Guesses<'a> {
-    first: Option<Arc<Guess<'a>>>,
-    second: Option<Arc<Guess<'a>>>,
-    third: Option<Arc<Guess<'a>>>,
+pub struct Guesses {
+    first: Option<Arc<Guess>>,
+    second: Option<Arc<Guess>>,
+    third: Option<Arc<Guess>>,
 }
 
 /// The same guess once more, or none.
-fn guess_again<'a>(guess: &Option<Arc<Guess<'a>>>) -> Option<Arc<Guess<'a>>>
+fn guess_again(guess: &Option<Arc<Guess>>) -> Option<Arc<Guess>>
     ensures { (i : IntervalValue) → IsGuessOrNone i guess.now → IsGuessOrNone i result }
 {
     Arc::try_clone(guess.as_ref()?).ok()
 }
 
 /// The guess, and which of its MCUs starts at a bit.
-fn found<'g, 'a>(guess: &'g Option<Arc<Guess<'a>>>, bit: u64) -> Option<(&'g Guess<'a>, usize)>
-    ensures { IfSome result (λ found. (i : IntervalValue) → IsGuessOrNone i guess.now → found.0.now.interval ≡ i) }
+fn found<'g>(guess: &'g Option<Arc<Guess>>, bit: u64) -> Option<(&'g Guess, usize)>
+    ensures { IfSome result (λ found. (i : IntervalValue) → IsGuessOrNone i guess.now → IsGuessOf i found.0.now) }
 {
-    let guess: &Guess<'a> = guess.as_ref()?;
+    let guess: &Guess = guess.as_ref()?;
     Some((guess, guess.find(bit)?))
 }
 
-impl<'a> Guesses<'a> {
+impl Guesses {
     /// No guess.
-    pub fn none() -> Guesses<'a>
+    pub fn none() -> Guesses
         ensures { (i : IntervalValue) → AreGuessesOf i result }
     {
         Guesses {
@@ -44,7 +45,7 @@ impl<'a> Guesses<'a> {
     }
 
     /// The same guesses once more; where one has too many owners it is left out.
-    pub fn again(&self) -> Guesses<'a>
+    pub fn again(&self) -> Guesses
         ensures { (i : IntervalValue) → AreGuessesOf i self.now → AreGuessesOf i result }
     {
         Guesses {
@@ -55,8 +56,8 @@ impl<'a> Guesses<'a> {
     }
 
     /// These, and another in the place of the oldest.
-    pub fn with(self, guess: Arc<Guess<'a>>) -> Guesses<'a>
-        ensures { (i : IntervalValue) → AreGuessesOf i self.entry → (arc_value guess.entry).interval ≡ i → AreGuessesOf i result }
+    pub fn with(self, guess: Arc<Guess>) -> Guesses
+        ensures { (i : IntervalValue) → AreGuessesOf i self → IsGuessOf i (arc_value guess) → AreGuessesOf i result }
     {
         Guesses {
             first: self.second,
@@ -71,8 +72,8 @@ impl<'a> Guesses<'a> {
     }
 
     /// A guess that has an MCU that starts at a bit, and which MCU it is.
-    pub(crate) fn find(&self, bit: u64) -> Option<(&Guess<'a>, usize)>
-        ensures { IfSome result (λ found. (i : IntervalValue) → AreGuessesOf i self.now → found.0.now.interval ≡ i) }
+    pub(crate) fn find(&self, bit: u64) -> Option<(&Guess, usize)>
+        ensures { IfSome result (λ found. (i : IntervalValue) → AreGuessesOf i self.now → IsGuessOf i found.0.now) }
     {
         if let Some(found) = found(&self.first, bit) {
             return Some(found);

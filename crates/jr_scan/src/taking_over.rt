@@ -4,6 +4,7 @@ ghost use Rattle.std.specs.Prelude.{◌≡◌, ◌<◌, ◌≤◌, ◌+◌, ◌*
 ghost use Rattle.std.specs.List.{All};
 ghost use Rattle.jr_head.specs.Geometry.{order_of};
 ghost use Rattle.jr_mcu.specs.Block.{IsInDcRange, IsInRange};
+ghost use Rattle.jr_scan.specs.Guess.{IsGuessOf};
 ghost use Rattle.jr_scan.specs.Guesses.{AreGuessesOf};
 ghost use Rattle.jr_scan.specs.Run.{IsRun, run_from};
 ghost use Rattle.jr_scan.specs.McuReader.{HasRead, HasEnded, per_mcu};
@@ -12,6 +13,7 @@ ghost use Rattle.jr_scan.specs.declared.mcu_reader.TheConstants.{MOST_UNITS};
 
 use crate::guess::Guess;
 use crate::guesses::Guesses;
+use crate::interval_ref::IntervalRef;
 use crate::mcu_reader::McuReader;
 use crate::place::Place;
 use jr_base::Coefficients;
@@ -19,26 +21,28 @@ use jr_base::Coefficients;
 /// Takes over from a guess the MCUs that go on from a place, at most so many, from its MCU `at` on; goes on to the place
 /// behind them, and tells how many they are.
 fn put_mcus(
-    guess: &Guess<'_>,
+    guess: &Guess,
+    interval: &IntervalRef<'_>,
     at: usize,
     most: u32,
     place: &mut Place,
     blocks: &mut [Coefficients],
 ) -> u32
-    requires room { most * length (order_of guess.now.interval.head) ≤ length blocks.old }
-    requires within { place.old.bit ≤ 8 * length guess.now.interval.bytes }
+    requires of { IsGuessOf interval.now guess.now }
+    requires room { most * length (order_of interval.now.head) ≤ length blocks.old }
+    requires within { place.old.bit ≤ 8 * length interval.now.bytes }
     requires in_range { All IsInDcRange place.old.predictions }
     ensures most { result ≤ most }
-    ensures run { IsRun (run_from guess.now.interval place.old result) (take (result * length (order_of guess.now.interval.head)) blocks.new) place.new AllRead }
-    ensures within { place.new.bit ≤ 8 * length guess.now.interval.bytes }
+    ensures run { IsRun (run_from interval.now place.old result) (take (result * length (order_of interval.now.head)) blocks.new) place.new AllRead }
+    ensures within { place.new.bit ≤ 8 * length interval.now.bytes }
     ensures in_range { All IsInDcRange place.new.predictions }
 {
-    let per_mcu = guess.interval().head().order().len();
+    let per_mcu = interval.head().order().len();
     for k in 0..most {
         let start = k as usize * per_mcu;
         let end = start + per_mcu;
         let mcu = at.saturating_add(k as usize);
-        let Some(to) = guess.put(mcu, place, &mut blocks[start..end]) else {
+        let Some(to) = guess.put(interval, mcu, place, &mut blocks[start..end]) else {
             return k;
         };
         *place = to;
@@ -47,16 +51,23 @@ fn put_mcus(
 }
 
 /// The same, but for the blocks.
-fn pass_mcus(guess: &Guess<'_>, at: usize, most: u32, place: &mut Place) -> u32
-    requires within { place.old.bit ≤ 8 * length guess.now.interval.bytes }
+fn pass_mcus(
+    guess: &Guess,
+    interval: &IntervalRef<'_>,
+    at: usize,
+    most: u32,
+    place: &mut Place,
+) -> u32
+    requires of { IsGuessOf interval.now guess.now }
+    requires within { place.old.bit ≤ 8 * length interval.now.bytes }
     requires in_range { All IsInDcRange place.old.predictions }
     ensures most { result ≤ most }
-    ensures run { (ys : List (List ℤ)) × IsRun (run_from guess.now.interval place.old result) ys place.new AllRead }
-    ensures within { place.new.bit ≤ 8 * length guess.now.interval.bytes }
+    ensures run { (ys : List (List ℤ)) × IsRun (run_from interval.now place.old result) ys place.new AllRead }
+    ensures within { place.new.bit ≤ 8 * length interval.now.bytes }
     ensures in_range { All IsInDcRange place.new.predictions }
 {
     for k in 0..most {
-        let Some(to) = guess.pass(at.saturating_add(k as usize), place) else {
+        let Some(to) = guess.pass(interval, at.saturating_add(k as usize), place) else {
             return k;
         };
         *place = to;
@@ -67,8 +78,8 @@ fn pass_mcus(guess: &Guess<'_>, at: usize, most: u32, place: &mut Place) -> u32
 impl<'a> McuReader<'a> {
     /// Takes over the MCUs that a guess has from its MCU `at` on, as `read` reads them; none where that one starts at another
     /// bit. How many they are says nothing of what follows.
-    pub fn read_guessed(&mut self, guess: &Guess<'_>, at: usize, blocks: &mut [Coefficients]) -> u32
-        requires same { guess.now.interval ≡ self.old.run.interval }
+    pub fn read_guessed(&mut self, guess: &Guess, at: usize, blocks: &mut [Coefficients]) -> u32
+        requires same { IsGuessOf self.old.run.interval guess.now }
         ensures run { self.new.run ≡ self.old.run }
         ensures mcus { self.new.mcu ≡ self.old.mcu + result }
         ensures few { self.new.mcu ≤ self.new.run.mcus }
@@ -78,10 +89,11 @@ impl<'a> McuReader<'a> {
         ensures stays { HasEnded self.old → self.new ≡ self.old }
         ensures none { result ≡ 0 → self.new ≡ self.old }
     {
-        let room = blocks.len() / self.interval().head().order().len();
+        let interval = self.interval();
+        let room = blocks.len() / interval.head().order().len();
         let most = room.min(self.left() as usize) as u32;
         let mut place = self.place();
-        let taken = put_mcus(guess, at, most, &mut place, blocks);
+        let taken = put_mcus(guess, interval, at, most, &mut place, blocks);
         if taken > 0 {
             self.go_on(taken, &place);
         }
@@ -90,8 +102,8 @@ impl<'a> McuReader<'a> {
 
     /// Passes over the MCUs that a guess has from its MCU `at` on, at most so many, as `skip` does; none where that one starts
     /// at another bit. How many they are says nothing of what follows.
-    pub fn skip_guessed(&mut self, guess: &Guess<'_>, at: usize, mcus: u32) -> u32
-        requires same { guess.now.interval ≡ self.old.run.interval }
+    pub fn skip_guessed(&mut self, guess: &Guess, at: usize, mcus: u32) -> u32
+        requires same { IsGuessOf self.old.run.interval guess.now }
         ensures run { self.new.run ≡ self.old.run }
         ensures mcus { self.new.mcu ≡ self.old.mcu + result }
         ensures few { self.new.mcu ≤ self.new.run.mcus }
@@ -102,7 +114,7 @@ impl<'a> McuReader<'a> {
     {
         let most = mcus.min(self.left());
         let mut place = self.place();
-        let taken = pass_mcus(guess, at, most, &mut place);
+        let taken = pass_mcus(guess, self.interval(), at, most, &mut place);
         if taken > 0 {
             self.go_on(taken, &place);
         }
@@ -110,7 +122,7 @@ impl<'a> McuReader<'a> {
     }
 
     /// Reads as `read` does, and takes over what the guesses have of it.
-    pub fn read_by(&mut self, guesses: &Guesses<'_>, blocks: &mut [Coefficients]) -> u32
+    pub fn read_by(&mut self, guesses: &Guesses, blocks: &mut [Coefficients]) -> u32
         requires same { AreGuessesOf self.old.run.interval guesses.now }
         ensures run { self.new.run ≡ self.old.run }
         ensures mcus { self.new.mcu ≡ self.old.mcu + result }
@@ -141,7 +153,7 @@ impl<'a> McuReader<'a> {
     }
 
     /// Takes over what one of the guesses has from here on, or else reads the next MCU.
-    fn read_some(&mut self, guesses: &Guesses<'_>, blocks: &mut [Coefficients]) -> u32
+    fn read_some(&mut self, guesses: &Guesses, blocks: &mut [Coefficients]) -> u32
         requires same { AreGuessesOf self.old.run.interval guesses.now }
         requires room { per_mcu self.old ≤ length blocks.old }
         ensures run { self.new.run ≡ self.old.run }
@@ -164,7 +176,7 @@ impl<'a> McuReader<'a> {
     }
 
     /// Passes over MCUs as `skip` does, and over those that the guesses have without reading them.
-    pub fn skip_by(&mut self, guesses: &Guesses<'_>, mcus: u32) -> u32
+    pub fn skip_by(&mut self, guesses: &Guesses, mcus: u32) -> u32
         requires same { AreGuessesOf self.old.run.interval guesses.now }
         ensures run { self.new.run ≡ self.old.run }
         ensures mcus { self.new.mcu ≡ self.old.mcu + result }
@@ -190,7 +202,7 @@ impl<'a> McuReader<'a> {
     }
 
     /// Passes over what one of the guesses has from here on, or else over the next MCU.
-    fn skip_some(&mut self, guesses: &Guesses<'_>, mcus: u32) -> u32
+    fn skip_some(&mut self, guesses: &Guesses, mcus: u32) -> u32
         requires same { AreGuessesOf self.old.run.interval guesses.now }
         requires some { 0 < mcus }
         ensures run { self.new.run ≡ self.old.run }

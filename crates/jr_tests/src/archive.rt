@@ -3,7 +3,7 @@
 
 use jr_base::Tally;
 use jri_archive::{
-    CheckEnd, CheckReport, Entry, EntryKind, FileCounts, Folder, LineForm, ReadError,
+    CheckEnd, CheckReport, CheckRequest, Entry, EntryKind, FileCounts, Folder, LineForm, ReadError,
     answer as answer_by, asked, check_all, tell_counts, write_counts_line,
 };
 use std::alloc::{AllocError, Global};
@@ -14,19 +14,10 @@ use std::test::Fail;
 use std::thread::Threads;
 use test_files::files::{COLOURED, TEN, file};
 
-/// Files in memory, by their places, and directories. `in` has `in/b.jpg`, `in/a.JPEG`, `in/c.txt` and `in/d`, which has
+/// Files in memory, by their names, and directories. `in` has `in/b.jpg`, `in/a.JPEG`, `in/c.txt` and `in/d`, which has
 /// `in/d/e.jfif` and names that are not UTF-8. `odd` has only such names, none of which ends as that of a JPEG file.
 #[derive(Drop)]
-struct Shelf<'a> {
-    files: &'a [Vec<u8>],
-}
-
-fn copy(alloc: Global, bytes: &[u8]) -> Result<Vec<u8>, ReadError> {
-    match bytes.to_vec(alloc) {
-        Ok(bytes) => Ok(bytes),
-        Err(_) => Err(ReadError::Memory),
-    }
-}
+struct Shelf;
 
 /// Returns the entries of a directory from their names and kinds.
 fn entries_of(alloc: Global, all: &[(&[u8], EntryKind)]) -> Result<Vec<Entry>, AllocError> {
@@ -59,20 +50,24 @@ const ODD: [(&[u8], EntryKind); 2] = [
     (b"odd/\xE8", EntryKind::Unread(ReadError::NameIsNoText)),
 ];
 
-impl<'a> Folder for Shelf<'a> {
+/// Ten intervals, of which two have come.
+const CUT: &str = "GW 63 FF D0 63";
+
+impl Folder for Shelf {
     fn read(&self, alloc: Global, name: &str) -> Result<Vec<u8>, ReadError> {
-        let place = match name {
-            "ten" | "in/b.jpg" => 0,
-            "two" | "in/a.JPEG" => 1,
-            "progressive" => 2,
-            "coloured" | "in/d/e.jfif" => 3,
+        let words = match name {
+            "ten" | "in/b.jpg" => TEN,
+            "two" | "in/a.JPEG" => "GI 63 FF D0 63 E",
+            "progressive" => "S FF C2",
+            "coloured" | "in/d/e.jfif" => COLOURED,
+            "cut" => CUT,
             "shut" => return Err(ReadError::NotAllowed),
             "fifo" => return Err(ReadError::NotRegular),
             _ => return Err(ReadError::NotFound),
         };
-        match self.files.get(place) {
-            Some(bytes) => copy(alloc, bytes.as_slice()),
-            None => Err(ReadError::Failed),
+        match file(alloc, words) {
+            Ok(bytes) => Ok(bytes),
+            Err(_) => Err(ReadError::Memory),
         }
     }
 
@@ -90,15 +85,6 @@ impl<'a> Folder for Shelf<'a> {
     }
 }
 
-/// The files in their places.
-fn files(alloc: Global) -> Result<Vec<Vec<u8>>, Fail> {
-    let mut files = Vec::new(alloc);
-    for words in [TEN, "GI 63 FF D0 63 E", "S FF C2", COLOURED] {
-        files.push(file(alloc, words)?)?;
-    }
-    Ok(files)
-}
-
 /// Words as the system has them.
 fn owned(alloc: Global, words: &[&[u8]]) -> Result<Vec<Vec<u8>>, Fail> {
     let mut all = Vec::new(alloc);
@@ -111,21 +97,25 @@ fn owned(alloc: Global, words: &[&[u8]]) -> Result<Vec<Vec<u8>>, Fail> {
 /// There is no list of names.
 const NO_LIST: Option<BufReader<Cursor<[u8; 1]>>> = None;
 
-/// Checks what words ask for, and gives what is written.
+/// Returns what words ask for, by the given number of workers.
+fn request_of(alloc: Global, words: &[&[u8]], workers: u32) -> Result<CheckRequest, Fail> {
+    let words = owned(alloc, words)?;
+    let mut asked = asked(alloc, words.as_slice())?;
+    asked.workers = workers;
+    Ok(asked)
+}
+
+/// Checks what words ask for, and returns what is written.
 fn told_by<R: Threads + Wait + Sync + AllocGlobal, I: Read + Send + Drop, O: Write + Send + Drop>(
     rt: &R,
     words: &[&[u8]],
+    workers: u32,
     list: Option<BufReader<I>>,
     out: O,
 ) -> Result<(CheckReport, O), Fail> {
-    let words = owned(rt.alloc(), words)?;
-    let asked = asked(rt.alloc(), words.as_slice())?;
-    let files = files(rt.alloc())?;
-    let shelf = Shelf {
-        files: files.as_slice(),
-    };
+    let asked = request_of(rt.alloc(), words, workers)?;
     let nowhere: Option<Vec<u8>> = None;
-    Ok(check_all(rt, rt.alloc(), shelf, asked, list, out, nowhere))
+    Ok(check_all(rt, rt.alloc(), Shelf, asked, list, out, nowhere))
 }
 
 /// Whether words give these lines, and this status, whatever the number of workers.
@@ -135,15 +125,9 @@ fn check<R: Threads + Wait + Sync + AllocGlobal + Abort>(
     lines: &str,
     status: u8,
 ) -> Result<(), Fail> {
-    for workers in [b"1".as_slice(), b"3", b"8"] {
-        let mut all = Vec::new(rt.alloc());
-        all.push(b"--workers".as_slice())?;
-        all.push(workers)?;
-        for word in words {
-            all.push(*word)?;
-        }
+    for workers in [1, 3, 8] {
         let out = Vec::new(rt.alloc());
-        let (report, found) = told_by(rt, all.as_slice(), NO_LIST, out)?;
+        let (report, found) = told_by(rt, words, workers, NO_LIST, out)?;
         assert!(rt; report.status() == status);
         assert!(rt; found.as_slice() == lines.as_bytes(), "{lines}");
     }
@@ -176,9 +160,28 @@ fn tells_files_in_their_order(rt: HostRuntime) -> Result<(), Fail> {
     )?;
     check(
         &rt,
-        &[b"--quiet", b"--counts", b"ten", b"progressive", b"two"],
+        &[b"-q", b"--counts", b"ten", b"progressive", b"two"],
         "progressive: unsupported 5: progressive JPEG (SOF2) is not supported\n2 sound, 1 unsupported\n",
         5,
+    )
+}
+
+/// Consecutive intervals without bytes share a line of a map.
+#[test]
+fn tells_empty_intervals_at_once(rt: HostRuntime) -> Result<(), Fail> {
+    check(
+        &rt,
+        &[b"--map", b"cut"],
+        "cut: damaged, 8 of 10 intervals, lines 0 to 7, scan ended at the end of the file\n\
+         cut: intervals 2 to 9, MCUs 2 to 9, lines 0 to 7, no bytes\n",
+        1,
+    )?;
+    check(
+        &rt,
+        &[b"--map", b"--json", b"cut"],
+        "{\"file\":\"cut\",\"is\":\"damaged\",\"damaged\":8,\"first_line\":0,\"last_line\":7,\"intervals\":10,\"width\":80,\"height\":8,\"bytes\":150,\"end\":\"the end of the file\"}\n\
+         {\"file\":\"cut\",\"interval\":2,\"last_interval\":9,\"first_mcu\":2,\"last_mcu\":9,\"first_line\":0,\"last_line\":7,\"decodable\":0}\n",
+        1,
     )
 }
 
@@ -208,7 +211,7 @@ fn tells_objects(rt: HostRuntime) -> Result<(), Fail> {
             b"\"\\\n\xFF\xC3\xA4",
             b"progressive",
         ],
-        "{\"file\":\"ten\",\"is\":\"sound\",\"intervals\":10}\n\
+        "{\"file\":\"ten\",\"is\":\"sound\",\"intervals\":10,\"width\":80,\"height\":8,\"bytes\":176}\n\
          {\"file\":\"\\u0022\\u005c\\u000a\\udcff\u{E4}\",\"is\":\"unread\",\"why\":\"its name is not UTF-8\"}\n\
          {\"file\":\"progressive\",\"is\":\"unsupported\",\"refusal\":5,\"detail\":194,\"why\":\"progressive JPEG (SOF2) is not supported\"}\n\
          {\"sound\":1,\"damaged\":0,\"refused\":0,\"unsupported\":1,\"unread\":1,\"out_of_memory\":0}\n",
@@ -235,7 +238,7 @@ fn goes_through_folders(rt: HostRuntime) -> Result<(), Fail> {
     check(
         &rt,
         &[b"-r", b"--json", b"in/d"],
-        "{\"file\":\"in/d/e.jfif\",\"is\":\"sound\",\"intervals\":2}\n\
+        "{\"file\":\"in/d/e.jfif\",\"is\":\"sound\",\"intervals\":2,\"width\":17,\"height\":9,\"bytes\":166}\n\
          {\"file\":\"in/d/\\udce8\",\"is\":\"skipped\",\"why\":\"its name is not UTF-8\"}\n\
          {\"file\":\"in/d/\\udce9\",\"is\":\"skipped\",\"why\":\"its name is not UTF-8\"}\n\
          {\"file\":\"in/d/\\udce9.jpg\",\"is\":\"unread\",\"why\":\"its name is not UTF-8\"}\n",
@@ -288,10 +291,10 @@ fn takes_names_from_a_list(rt: HostRuntime) -> Result<(), Fail> {
         ),
         (b"", "ten: sound, 10 intervals\n"),
     ] {
-        for workers in [b"1".as_slice(), b"4"] {
+        for workers in [1, 4] {
             let list = BufReader::new(rt.alloc(), list)?;
-            let words: [&[u8]; 5] = [b"--workers", workers, b"--files0-from", b"-", b"ten"];
-            let (_report, found) = told_by(&rt, &words, Some(list), Vec::new(rt.alloc()))?;
+            let words: [&[u8]; 3] = [b"--files0-from", b"-", b"ten"];
+            let (_report, found) = told_by(&rt, &words, workers, Some(list), Vec::new(rt.alloc()))?;
             assert!(rt; found.as_slice() == lines.as_bytes(), "{lines}");
         }
     }
@@ -301,7 +304,7 @@ fn takes_names_from_a_list(rt: HostRuntime) -> Result<(), Fail> {
 #[test]
 fn tells_that_lines_cannot_be_written(rt: HostRuntime) -> Result<(), Fail> {
     let words: [&[u8]; 2] = [b"two", b"two"];
-    let (report, _) = told_by(&rt, &words, NO_LIST, Cursor::new([0; 10]))?;
+    let (report, _) = told_by(&rt, &words, 4, NO_LIST, Cursor::new([0; 10]))?;
     assert!(rt; report.end == CheckEnd::Unwritten);
     assert!(rt; report.counts == FileCounts::none());
     assert!(rt; report.status() == 4);
@@ -333,7 +336,7 @@ fn each_line_is_one_write(rt: HostRuntime) -> Result<(), Fail> {
         lines: 0,
         is_whole: true,
     };
-    let (_report, out) = told_by(&rt, &NAMES, NO_LIST, out)?;
+    let (_report, out) = told_by(&rt, &NAMES, 4, NO_LIST, out)?;
     assert!(rt; out.lines == 5);
     assert!(rt; out.is_whole);
     Ok(())
@@ -359,7 +362,7 @@ const PLAIN: LineForm = LineForm {
 };
 
 /// Words, and what they ask for.
-const WORDS: [(&[&[u8]], Answer); 10] = [
+const WORDS: [(&[&[u8]], Answer); 12] = [
     (&[b"a"], Ok((4, PLAIN, 1))),
     (
         &[b"--map", b"a", b"b"],
@@ -372,7 +375,9 @@ const WORDS: [(&[&[u8]], Answer); 10] = [
             2,
         )),
     ),
-    (&[b"a", b"--workers", b"64", b"b", b"c"], Ok((64, PLAIN, 3))),
+    (&[b"a", b"-j", b"64", b"b", b"c"], Ok((64, PLAIN, 3))),
+    (&[b"-", b"--files0-from", b"list"], Ok((4, PLAIN, 1))),
+    (&[b"-", b"--files0-from", b"-"], Err(2)),
     (&[b"--files0-from", b"list"], Ok((4, PLAIN, 0))),
     (&[b"\xFF"], Ok((4, PLAIN, 1))),
     (&[], Err(2)),

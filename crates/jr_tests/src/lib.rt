@@ -18,8 +18,6 @@ mod head;
 #[cfg(test)]
 mod idct;
 #[cfg(test)]
-mod large_files;
-#[cfg(test)]
 mod meeting_files;
 #[cfg(test)]
 mod paint;

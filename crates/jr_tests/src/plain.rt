@@ -44,16 +44,3 @@ pub(crate) fn value(size: usize, v: u32) -> i32 {
         v - full + 1
     }
 }
-
-/// The word in front and its extra bits: its symbol, what they stand for, and how many bits both have.
-pub(crate) fn extended_word(
-    counts: &[u8],
-    symbols: &[u8],
-    bytes: &[u8],
-    at: usize,
-) -> Option<(u8, i32, usize)> {
-    let (symbol, long) = word(counts, symbols, bytes, at)?;
-    let size = usize::from(symbol % 16);
-    let extra = number(bytes, at.checked_add(long)?, size)?;
-    Some((symbol, value(size, extra), long.checked_add(size)?))
-}

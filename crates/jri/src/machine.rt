@@ -159,7 +159,7 @@ impl<'a> Devices for Machine<'a> {
         }
     }
 
-    fn open_device(&self, name: &str) -> IoResult<Opened> {
+    fn open_device(&mut self, name: &str) -> IoResult<Opened> {
         // a stream that is a file continues at its end, where a shell's `>` or `>>` leaves it
         Ok(Opened {
             file: OpenOptions::new().append(true).open(self.rt, name)?,

@@ -1,5 +1,5 @@
 -- What a check of a file comes to.
-use Rattle.std.specs.Prelude.{◌≢◌, ℕ, ◌==◌, List, length, if◌then◌else◌}
+use Rattle.std.specs.Prelude.{◌≡◌, ◌≢◌, ℕ, ◌==◌, List, length, if◌then◌else◌}
 use Rattle.jr_segments.specs.declared.refusal.Refusal.TheVariants as refusal
 use Rattle.jr_head.specs.Heads.{RefusalOf}
 use Rattle.jri_archive.specs.declared.counts.FileState.{FileState}
@@ -10,9 +10,9 @@ use Rattle.jri_archive.specs.declared.outcome.Outcome.TheVariants as outcome
 use Rattle.jri_archive.specs.Unsupported.{may_be_valid}
 use Rattle.jr_damage.specs.Verdicts.{IsFileScan, IsVerdictOf}
 
--- the file's scan and what is damaged of it, or its first fault; for want of memory nothing is said of it
+-- the file's size and scan and what is damaged of it, or its first fault; if memory ran out nothing is said of it
 abbrev pub IsOutcomeOf : List ℕ → Outcome → Type 0
-IsOutcomeOf file (outcome.Checked c) = IsFileScan file c.scan × IsVerdictOf c.scan (length c.scan.intervals) c.verdict
+IsOutcomeOf file (outcome.Checked c) = (c.size ≡ length file) × IsFileScan file c.scan × IsVerdictOf c.scan (length c.scan.intervals) c.verdict
 IsOutcomeOf file (outcome.Refused fault) = fault ≢ refusal.Memory → RefusalOf file fault
 IsOutcomeOf file (outcome.Unread error) = ⊥
 IsOutcomeOf file outcome.Skipped = ⊥

@@ -4,7 +4,7 @@ ghost use Rattle.std.specs.Prelude.{◌≤◌, IfOk};
 ghost use Rattle.jr_base.specs.declared.limits.TheConstants.{MAX_WORKERS};
 
 use crate::answers::{CheckRequest, LineForm, RequestError};
-use crate::{bytes_of, texts};
+use crate::words::{bytes_of, texts};
 use clap::error::ErrorKind;
 use clap::{Arg, ArgAction, ArgMatches, Command, Error, value_parser};
 use jr_base::VERSION;
@@ -23,6 +23,7 @@ fn flag<'a>(alloc: Global, name: &'a str, help: &'a str) -> Arg<'a> {
 fn workers_argument<'a>(alloc: Global) -> Arg<'a> {
     Arg::new(alloc, "workers")
         .long("workers")
+        .short('j')
         .action(ArgAction::Set)
         .value_name("N")
         .help("Number of threads, 1 to 64")
@@ -55,7 +56,7 @@ fn files_argument<'a>(alloc: Global) -> Result<Arg<'a>, AllocError> {
         .action(ArgAction::Append)
         .num_args(1..)
         .value_name("FILE")
-        .help("JPEG files to check")
+        .help("JPEG files to check; - is standard input")
         .required_unless_present("files0-from")
 }
 
@@ -64,7 +65,7 @@ fn with_telling_words<'a>(alloc: Global, command: Command<'a>) -> Result<Command
     command
         .arg(flag(alloc, "map", "Also list each damaged restart interval"))?
         .arg(flag(alloc, "json", "Print each line as a JSON object"))?
-        .arg(flag(alloc, "quiet", "List no sound files and print no counts"))?
+        .arg(flag(alloc, "quiet", "List no sound files and print no counts").short('q'))?
         .arg(flag(alloc, "counts", "Also print the counts as the last line"))
 }
 
@@ -101,7 +102,7 @@ fn wordless<'a>(alloc: Global) -> Command<'a> {
         .no_binary_name(true)
 }
 
-/// `jri_check [--map] [--json] [--quiet] [--counts] [--workers N] [-r] [--files0-from LIST] FILE..`.
+/// `jri_check [--map] [--json] [-q] [--counts] [-j N] [-r] [--files0-from LIST] FILE..`.
 fn command<'a>(alloc: Global) -> Result<Command<'a>, AllocError> {
     let command = with_telling_words(alloc, wordless(alloc))?;
     with_file_words(alloc, with_finding_words(alloc, command)?)
@@ -143,6 +144,19 @@ fn list_in(alloc: Global, matches: &ArgMatches<'_>) -> Result<Option<String>, Al
     }
 }
 
+/// Returns whether standard input is to be both a file and the list of names.
+fn is_read_twice(names: &[Vec<u8>], names_from: &Option<String>) -> bool {
+    let from_input = match names_from {
+        Some(list) => list.as_str() == "-",
+        None => false,
+    };
+    from_input && names.iter().any(|name| name.as_slice() == b"-".as_slice())
+}
+
+/// The error of words by which standard input is to be both a file and the list of names.
+const READ_TWICE: &str =
+    "error: standard input cannot be both a FILE and the LIST of --files0-from\n";
+
 /// What a line tells.
 fn form_in(matches: &ArgMatches<'_>) -> LineForm {
     LineForm {
@@ -163,6 +177,9 @@ fn request_in(
 {
     let names = names_in(alloc, words, matches)?;
     let names_from = list_in(alloc, matches)?;
+    if is_read_twice(names.as_slice(), &names_from) {
+        return Err(RequestError::Wrong(String::from_str(alloc, READ_TWICE)?));
+    }
     match matches.get_one::<u32>("workers") {
         // the range of the argument's values, which the parser's contract does not repeat
         Some(workers) if (1..=MAX_WORKERS).contains(&workers) => Ok(CheckRequest {

@@ -1,6 +1,6 @@
 //! What is damaged of a file.
 
-ghost use Rattle.std.specs.Prelude.{◌≢◌, length, IfOk, IfErr};
+ghost use Rattle.std.specs.Prelude.{◌≡◌, ◌≢◌, length, IfOk, IfErr};
 ghost use Rattle.jr_segments.specs.declared.refusal.Refusal.TheVariants as refusal;
 ghost use Rattle.jr_head.specs.Heads.{RefusalOf};
 ghost use Rattle.jr_damage.specs.Verdicts.{IsFileScan, IsVerdictOf};
@@ -12,9 +12,11 @@ use std::alloc::Global;
 use std::sync::Wait;
 use std::thread::Threads;
 
-/// The scan of a file, and what is damaged of it.
+/// A file's size and scan, and what is damaged of it.
 #[derive(Drop)]
 pub struct Checked {
+    /// The size of the file in bytes.
+    pub size: u64,
     pub scan: Scan,
     pub verdict: Verdict,
 }
@@ -31,6 +33,7 @@ pub fn check_file<R: Threads + Wait + Sync>(
     file: &[u8],
     workers: u32,
 ) -> Result<Checked, Refusal>
+    ensures size { IfOk result (λ c. c.size ≡ length file.now) }
     ensures scan { IfOk result (λ c. IsFileScan file.now c.scan) }
     ensures verdict { IfOk result (λ c. IsVerdictOf c.scan (length c.scan.intervals) c.verdict) }
     ensures refused { IfErr result (λ fault. fault ≢ refusal.Memory → RefusalOf file.now fault) }
@@ -40,7 +43,11 @@ pub fn check_file<R: Threads + Wait + Sync>(
         return Err(Refusal::Memory);
     };
     let verdict = check_scan_by(rt, alloc, &scan, workers);
-    Ok(Checked { scan, verdict })
+    Ok(Checked {
+        size: file.len() as u64,
+        scan,
+        verdict,
+    })
 }
 
 /// `check_file` in the memory of the file's bytes, which are gone then.
@@ -54,15 +61,21 @@ pub fn check_file_in_place<R: Threads + Wait + Sync>(
     file: Vec<u8>,
     workers: u32,
 ) -> Result<Checked, Refusal>
+    ensures size { IfOk result (λ c. c.size ≡ length file.items) }
     ensures scan { IfOk result (λ c. IsFileScan file.items c.scan) }
     ensures verdict { IfOk result (λ c. IsVerdictOf c.scan (length c.scan.intervals) c.verdict) }
     ensures refused { IfErr result (λ fault. fault ≢ refusal.Memory → RefusalOf file.items fault) }
 {
+    let size = file.len() as u64;
     let head = read_head(alloc, &file)?;
     match Scan::cut_in_place(alloc, head, file) {
         Ok(scan) => {
             let verdict = check_scan_by(rt, alloc, &scan, workers);
-            Ok(Checked { scan, verdict })
+            Ok(Checked {
+                size,
+                scan,
+                verdict,
+            })
         }
         Err(_) => Err(Refusal::Memory),
     }

@@ -1,41 +1,20 @@
 //! Whose file is checked next, whose line is due, and where lines go.
 
 ghost use Rattle.std.specs.Prelude.{◌≡◌, ℕ, ◌<◌, ◌^◌, not, List, [], Some, None, true, false, length, slice_get, slice_index_or, IfSome};
-ghost use Rattle.jr_damage.specs.Verdicts.{IsFileScan};
 ghost use Rattle.jri_archive.specs.Outcomes.{IsOutcomeOf, state_of};
 ghost use Rattle.jri_archive.specs.Told.{AreTold, is_open};
 
-use crate::NamesError;
 use crate::answers::LineForm;
-use crate::checking::Checked;
 use crate::counts::{CheckEnd, CheckReport, FileCounts, FileState};
-use crate::json::{tell_counts_object, tell_interval_object, tell_object};
+use crate::json::{tell_counts_object, tell_object};
+use crate::map::{TellError, write_map};
+use crate::names::NamesError;
 use crate::one_check::OneCheck;
 use crate::outcome::Outcome;
-use crate::telling::{tell, tell_counts, tell_map};
-use jr_damage::{coded_segments, damaged_interval};
-use std::alloc::{AllocError, Global};
+use crate::telling::{tell, tell_counts};
+use std::alloc::Global;
 use std::io::{Error, Write};
 use std::marker::{Model, PhantomData};
-
-/// Why a line is not written.
-#[derive(Drop)]
-pub(crate) enum TellError {
-    Write,
-    Memory,
-}
-
-impl From<AllocError> for TellError {
-    fn from(_refused: AllocError) -> Self {
-        TellError::Memory
-    }
-}
-
-impl From<Error> for TellError {
-    fn from(_failed: Error) -> Self {
-        TellError::Write
-    }
-}
 
 /// What a check of a file came to, and its bytes where a map of the damage needs them.
 #[derive(Drop)]
@@ -70,35 +49,6 @@ impl<S: OneCheck, O, E> Model for FileQueue<S, O, E> {
     ghost view = { λ q. record { told = q.told; files = q.files; report = q.report } };
 
     ghost invariant = { λ q. IsQueueOf S.names S.may_be (record { told = q.told; files = q.files; report = q.report }) };
-}
-
-/// Writes a line for each damaged interval, each by one write.
-fn write_map<O: Write>(
-    alloc: Global,
-    out: &mut O,
-    name: &[u8],
-    file: &[u8],
-    checked: &Checked,
-    is_json: bool,
-) -> Result<(), TellError>
-    requires { IsFileScan file.now checked.now.scan }
-{
-    let Ok(spans) = coded_segments(alloc, file, &checked.scan) else {
-        return Err(TellError::Memory);
-    };
-    let mut line = String::new(alloc);
-    for i in 0..checked.scan.intervals() {
-        if let Some(damaged) = damaged_interval(&checked.scan, spans.as_slice(), i) {
-            line.clear();
-            if is_json {
-                tell_interval_object(&mut line, name, &damaged)?;
-            } else {
-                tell_map(&mut line, name, &damaged)?;
-            }
-            out.write_all(line.as_bytes())?;
-        }
-    }
-    Ok(())
 }
 
 /// Writes the line of a file by one write and, where they are asked for, those of its damaged intervals.

@@ -2,10 +2,12 @@
 
 use crate::checking::Checked;
 use crate::counts::FileCounts;
+use crate::damaged_run::DamagedRun;
+use crate::escaping::put_string;
 use crate::outcome::Outcome;
+use crate::reading::ReadError;
 use crate::telling::put_end;
 use crate::unsupported::{refused_word, write_reason};
-use crate::{ReadError, put_string};
 use jr_damage::{CodedSpan, DamagedInterval, Lines, McuRange};
 use jr_head::Refusal;
 use jr_scan::ScanEnd;
@@ -62,6 +64,12 @@ fn put_damage(line: &mut String, damaged: u32, lines: Option<Lines>) -> Result<(
 fn put_checked(line: &mut String, checked: &Checked) -> Result<(), AllocError> {
     put_damage(line, checked.verdict.damaged, checked.verdict.lines)?;
     write!(line, ",\"intervals\":{}", checked.scan.intervals())?;
+    let head = checked.scan.head();
+    let (width, height, size) = (head.width(), head.height(), checked.size);
+    write!(
+        line,
+        ",\"width\":{width},\"height\":{height},\"bytes\":{size}"
+    )?;
     put_scan_end(line, checked.scan.ended())
 }
 
@@ -107,7 +115,11 @@ fn put_outcome(line: &mut String, outcome: &Outcome) -> Result<(), AllocError> {
 
 /// Appends the object of a file, with the line's end: `is` is `sound`, `damaged`, `refused`, `unsupported`, `unread`, `skipped` or
 /// `out of memory`.
-pub fn tell_object(line: &mut String, name: &[u8], outcome: &Outcome) -> Result<(), AllocError> {
+pub(crate) fn tell_object(
+    line: &mut String,
+    name: &[u8],
+    outcome: &Outcome,
+) -> Result<(), AllocError> {
     put_file(line, name)?;
     put_outcome(line, outcome)?;
     line.push_str("}\n")
@@ -115,7 +127,7 @@ pub fn tell_object(line: &mut String, name: &[u8], outcome: &Outcome) -> Result<
 
 /// Puts the object of a damaged interval, with the line's end. All is counted from 0, and ranges are told with their last one; an
 /// interval without bytes has none.
-pub fn tell_interval_object(
+pub(crate) fn tell_interval_object(
     line: &mut String,
     name: &[u8],
     damaged: &DamagedInterval,
@@ -128,8 +140,22 @@ pub fn tell_interval_object(
     writeln!(line, ",\"decodable\":{}}}", damaged.decodable)
 }
 
+/// Appends the object of consecutive damaged intervals without bytes, with the line's end.
+pub(crate) fn tell_empty_object(
+    line: &mut String,
+    name: &[u8],
+    run: &DamagedRun,
+) -> Result<(), AllocError> {
+    put_file(line, name)?;
+    let (first, last) = (run.first.number, run.last.number);
+    write!(line, ",\"interval\":{first},\"last_interval\":{last}")?;
+    put_mcus(line, run.mcus())?;
+    put_lines(line, run.lines())?;
+    line.push_str(",\"decodable\":0}\n")
+}
+
 /// Puts the object of the counts, with the line's end.
-pub fn tell_counts_object(line: &mut String, counts: FileCounts) -> Result<(), AllocError> {
+pub(crate) fn tell_counts_object(line: &mut String, counts: FileCounts) -> Result<(), AllocError> {
     let FileCounts {
         sound,
         damaged,

@@ -4,9 +4,9 @@ ghost use Rattle.std.specs.Prelude.{◌≡◌, ◌≢◌, length, IfOk, IfErr};
 ghost use Rattle.jr_head.specs.Heads.{RefusalOf};
 ghost use Rattle.jri_archive.specs.Outcomes.{IsOutcomeOf, state_of};
 
-use crate::ReadError;
 use crate::checking::{Checked, check_file, check_file_in_place};
 use crate::counts::FileState;
+use crate::reading::ReadError;
 use crate::unsupported::is_unsupported;
 use jr_head::Refusal;
 use std::alloc::Global;

@@ -1,9 +1,10 @@
 //! The lines that are told of a file, in words.
 
-use crate::ReadError;
 use crate::checking::Checked;
 use crate::counts::FileCounts;
+use crate::damaged_run::DamagedRun;
 use crate::outcome::Outcome;
+use crate::reading::ReadError;
 use crate::unsupported::{refused_word, write_reason};
 use jr_damage::{CodedSpan, DamagedInterval, Lines, McuRange};
 use jr_head::Refusal;
@@ -134,7 +135,7 @@ fn put_bytes(line: &mut String, bytes: Option<CodedSpan>) -> Result<(), AllocErr
 }
 
 /// Puts the line of a damaged interval, with its end. All is counted from 0, and ranges are told with their last one.
-pub fn tell_map(
+pub(crate) fn tell_map(
     line: &mut String,
     name: &[u8],
     damaged: &DamagedInterval,
@@ -146,6 +147,20 @@ pub fn tell_map(
     put_bytes(line, damaged.bytes)?;
     let (decodable, count) = (damaged.decodable, damaged.mcus.count);
     writeln!(line, ", {decodable} of {count} MCUs decodable")
+}
+
+/// Appends the line of consecutive damaged intervals without bytes, with its end.
+pub(crate) fn tell_empty(
+    line: &mut String,
+    name: &[u8],
+    run: &DamagedRun,
+) -> Result<(), AllocError> {
+    put_name(line, name)?;
+    let (first, last) = (run.first.number, run.last.number);
+    write!(line, ": intervals {first} to {last}")?;
+    put_mcus(line, run.mcus())?;
+    put_lines(line, run.lines())?;
+    line.push_str(", no bytes\n")
 }
 
 impl Display for FileCounts {

@@ -10,7 +10,7 @@ ghost use Rattle.jri_memory.specs.Canvases.{DecodesCanvas, LacksCanvas, LacksLay
 ghost use Rattle.jri_memory.specs.Damages.{ListsDamages, TellsNoDamage};
 ghost use Rattle.jri_memory.specs.Checks.{ChecksFile, LacksMarkRoom};
 ghost use Rattle.jri_memory.specs.Calls.{DecodesFile, DecodesLines, TellsFault, IsHeaderOf, IsNumberOfSome, LacksLines, LacksRoom, LacksRoomForLines, TellsNoHeader, TellsNoPicture, TellsNoRefusal};
-ghost use Rattle.jri_memory.specs.Rows.{GivesRows, LacksRoomForRow, LacksRows, SkipsRows, TellsFaultSoFar, TellsNothing, are_all};
+ghost use Rattle.jri_memory.specs.Rows.{GivesRows, LacksRoomForRow, LacksRows, SkipsRows, TellsFaultSoFar, TellsNoRows, TellsNothing, are_all};
 
 use jri_memory::{
     Damage, DamageReport, DecodeReport, Header, RowPlace, RowsReport, build_text, check_marks,
@@ -164,7 +164,7 @@ pub extern "C" fn jri_decode_rows(
     ensures room_alone { result ≡ 4 → TellsNothing report.new }
     ensures rows { result ≡ 5 → LacksRows file.now place.old rows }
     ensures rows_alone { result ≡ 5 → TellsNothing report.new }
-    ensures no_rows { result ≢ 0 → report.new.rows ≡ 0 }
+    ensures no_rows { result ≢ 0 → TellsNoRows report.new }
     ensures pixels { result ≢ 0 → pixels.new ≡ pixels.old }
     ensures place { result ≢ 0 → place.new ≡ place.old }
     ensures undamaged { result ≢ 3 }
@@ -192,7 +192,7 @@ pub extern "C" fn jri_skip_rows(
     ensures rows { result ≡ 5 → LacksRows file.now place.old rows }
     ensures rows_alone { result ≡ 5 → TellsNothing report.new }
     ensures no_room { result ≢ 4 }
-    ensures no_rows { result ≢ 0 → report.new.rows ≡ 0 }
+    ensures no_rows { result ≢ 0 → TellsNoRows report.new }
     ensures place { result ≢ 0 → place.new ≡ place.old }
     ensures undamaged { result ≢ 3 }
     ensures few { result ≤ 5 }

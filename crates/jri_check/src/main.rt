@@ -1,5 +1,5 @@
-//! `jri_check [--map] [--json] [--quiet] [--counts] [--workers N] [-r] [--files0-from LIST] FILE..`: tells which JPEG files are
-//! sound, and what is damaged of the others.
+//! `jri_check [--map] [--json] [-q] [--counts] [-j N] [-r] [--files0-from LIST] FILE..`: reports which JPEG files are sound, and
+//! what is damaged of the others.
 #![tactic(auto)]
 
 use jr_base::Tally;
@@ -22,6 +22,9 @@ const TOO_MANY: u64 = MAX_FILE_BYTES as u64 + 1;
 
 /// The exit status where the list of names can't be read.
 const LIST_UNREAD: u8 = 3;
+
+/// The name of standard input.
+const STANDARD_INPUT: &str = "-";
 
 /// There is no list of names.
 const NO_LIST: Option<IoResult<File>> = None;
@@ -183,6 +186,12 @@ fn is_special(rt: &HostRuntime, name: &str) -> bool {
 
 impl<'a> Folder for Disk<'a> {
     fn read(&self, alloc: Global, name: &str) -> Result<Vec<u8>, ReadError> {
+        if name == STANDARD_INPUT {
+            return match read_stream(alloc, &mut self.rt.stdin()) {
+                Ok(bytes) => Ok(bytes),
+                Err(error) => Err(unread(&error)),
+            };
+        }
         if is_special(self.rt, name) {
             return Err(ReadError::NotRegular);
         }
@@ -197,6 +206,9 @@ impl<'a> Folder for Disk<'a> {
     }
 
     fn entries(&self, _alloc: Global, name: &str) -> Result<Option<Vec<Entry>>, ReadError> {
+        if name == STANDARD_INPUT {
+            return Ok(None);
+        }
         match entries_of(self.rt, name) {
             Ok(entries) => Ok(Some(entries)),
             Err(error) if error.kind() == ErrorKind::NotADirectory => Ok(None),
@@ -287,7 +299,7 @@ fn main(rt: HostRuntime) -> ExitCode {
     let disk = Disk { rt: &rt };
     ExitCode::from(match asked.names_from.take() {
         None => check(&rt, disk, asked, NO_LIST, streams),
-        Some(name) if name.as_str() == "-" => {
+        Some(name) if name.as_str() == STANDARD_INPUT => {
             check(&rt, disk, asked, Some(Ok(rt.stdin())), streams)
         }
         Some(name) => check(

@@ -1,8 +1,10 @@
 //! What the program does with its words.
 
-ghost use Rattle.std.specs.Prelude.{◌≡◌, ◌≤◌, is_ok};
+ghost use Rattle.std.specs.Prelude.{◌≡◌, ◌≤◌, IfOk, is_ok, map};
+ghost use Rattle.std.specs.String.{string_bytes};
 ghost use Rattle.jr_base.specs.declared.limits.TheConstants.{MAX_WORKERS};
-ghost use Rattle.jri_words.specs.Steps.{Leaves, LeavesFile, is_picture_status};
+ghost use Rattle.jri_words.specs.CommandLine.{IsTargetOf};
+ghost use Rattle.jri_words.specs.Steps.{Leaves, LeavesFile, LeavesNamed, is_picture_status};
 
 use crate::engine::run;
 use jr_base::Tally;
@@ -60,7 +62,7 @@ fn decoded_to_file<T: Threads + Wait + Sync, D: Devices, R: Read + Drop>(
 ) -> Ending
     requires some { 1 ≤ asked.now.workers }
     requires few { asked.now.workers ≤ MAX_WORKERS }
-    ensures { LeavesFile name.now (D.steps devices.old) (D.steps devices.new) (is_ok result.outcome) }
+    ensures { LeavesFile (D.are_devices devices.old) name.now (D.steps devices.old) (D.steps devices.new) (is_ok result.outcome) }
 {
     let file = asked.file.as_ref().map(|file| file.as_str());
     if let Destination::WrittenInto = devices.destination(name, file) {
@@ -87,7 +89,7 @@ fn done<T: Threads + Wait + Sync, D: Devices, E: Write>(
 ) -> Ending
     requires some { 1 ≤ asked.now.workers }
     requires few { asked.now.workers ≤ MAX_WORKERS }
-    ensures { Leaves (D.steps devices.old) (D.steps devices.new) (is_ok result.outcome) }
+    ensures { Leaves (D.are_devices devices.old) asked.now.target (D.steps devices.old) (D.steps devices.new) (is_ok result.outcome) }
 {
     let source = match opened(devices, asked, errors) {
         Ok(source) => source,
@@ -116,7 +118,7 @@ pub fn program<T: Threads + Wait + Sync, D: Devices, E: Write>(
     words: IoResult<Vec<String>>,
     errors: &mut E,
 ) -> u8
-    ensures { Leaves (D.steps devices.old) (D.steps devices.new) (is_picture_status result) }
+    ensures { LeavesNamed (D.are_devices devices.old) (λ target. IfOk words (λ given. IsTargetOf (map string_bytes given.items) target)) (D.steps devices.old) (D.steps devices.new) (is_picture_status result) }
 {
     let asked = match understood(alloc, devices, words) {
         Ok(asked) => asked,

@@ -158,6 +158,7 @@ pub record DecodesLines (file : List ℕ) (first count : ℕ) (old_pixels pixels
   pub there : HasTheseLines scan.head first count
   pub painted : pixels ≡ over (next_lines_of scan.head f first count) old_pixels
   pub counted : EndInLines scan first count each r.sound r.damaged
+  pub blank : r.blank ≡ 0
   pub intervals : r.intervals ≡ length scan.intervals
   pub ended : TellsScanEnd scan.ended r
   pub no_fault : TellsNoRefusal r

@@ -58,6 +58,7 @@ pub record ListsDamages (file : List ℕ) (first : ℕ) (old new : List Damage) 
   pub spans : List CodedSpan
   pub segments : AreSegmentsOf file scan spans
   pub are : AreDamages scan spans (min first (length scan.intervals)) r.next r.count new
+  pub within : r.next ≤ length scan.intervals
   pub room : r.next < length scan.intervals → r.count ≡ length old
   pub long : length new ≡ length old
   pub behind : drop r.count new ≡ drop r.count old

@@ -23,11 +23,15 @@ use Rattle.jri_memory.specs.declared.rows_report.RowsReport.{RowsReport}
 abbrev pub are_all : ℕ → Bool
 are_all more = more == 0
 
--- a report of no rows and no refusal
-pub record TellsNothing (r : RowsReport) : Type 0 where
+-- a report of no rows
+pub record TellsNoRows (r : RowsReport) : Type 0 where
   pub rows : r.rows ≡ 0
   pub lines : r.lines ≡ 0
   pub first : r.first_line ≡ 0
+
+-- a report of no rows and no refusal
+pub record TellsNothing (r : RowsReport) : Type 0 where
+  pub no_rows : TellsNoRows r
   pub refusal : r.refusal ≡ 0
   pub detail : r.detail ≡ 0
 
@@ -100,10 +104,11 @@ pub record LacksRows (bytes : List ℕ) (p : RowPlace) (rows : ℕ) : Type 0 whe
   pub is : HeadOf bytes h
   pub none : HasRowAt h p rows → ⊥
 
--- so many bytes have no room for the lines of the row of MCUs at the place
+-- the bytes' picture has a row of MCUs at the place, for whose lines so many bytes have no room
 pub record LacksRoomForRow (bytes : List ℕ) (p : RowPlace) (room : ℕ) : Type 0 where
   pub h : HeadValue
   pub is : HeadOf bytes h
+  pub row : p.row < mcus_down h
   pub less : rows_with_room h p.row room ≡ 0
 
 -- why a place is not moved

@@ -112,6 +112,7 @@ fn list_one(scan: &Scan, spans: &[CodedSpan], i: u32, damages: &mut [Damage], co
 fn list(scan: &Scan, spans: &[CodedSpan], first: u32, damages: &mut [Damage]) -> (u32, u32)
     requires { first ≤ length scan.now.intervals }
     ensures listed { AreDamages scan.now spans.now first result.1 result.0 damages.new }
+    ensures within { result.1 ≤ length scan.now.intervals }
     ensures room { result.1 < length scan.now.intervals → result.0 ≡ length damages.old }
     ensures long { length damages.new ≡ length damages.old }
     ensures behind { drop result.0 damages.new ≡ drop result.0 damages.old }

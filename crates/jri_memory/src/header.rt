@@ -45,8 +45,8 @@ fn number_of_kind(kind: Kind) -> u32
 }
 
 impl Header {
-    /// Nothing is told.
-    pub(crate) const fn empty() -> Header
+    /// Returns the header whose numbers are all 0.
+    pub const fn empty() -> Header
         ensures no_header { TellsNoHeader result }
         ensures no_fault { result.refusal ≡ 0 }
         ensures no_detail { result.detail ≡ 0 }

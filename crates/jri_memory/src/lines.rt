@@ -23,8 +23,8 @@ fn has_lines(head: &Head, first: u32, count: u32) -> bool
     0 < count && count <= height && first <= height - count
 }
 
-/// DecodesFile what some lines of a file's picture take: their pixels fill the front of `pixels`. None where the picture has no
-/// such lines; then, and where it fails, nothing is written.
+/// Decodes `count` lines from `first` on into the start of `pixels`. `None` if the image has no such lines; then, and on `Err`,
+/// `pixels` are unchanged.
 pub(crate) fn decode_some(
     alloc: Global,
     file: &[u8],

@@ -1,7 +1,7 @@
 //! The calls that go on from a place: rows of MCUs that are decoded, or passed over.
 
 ghost use Rattle.std.specs.Prelude.{◌≡◌, ◌≢◌, ◌≤◌, length};
-ghost use Rattle.jri_memory.specs.Rows.{GivesRows, IsRefusedPlace, LacksRoomForRow, LacksRows, SkipsRows, TellsFaultSoFar, TellsNothing, are_all};
+ghost use Rattle.jri_memory.specs.Rows.{GivesRows, IsRefusedPlace, LacksRoomForRow, LacksRows, SkipsRows, TellsFaultSoFar, TellsNoRows, TellsNothing, are_all};
 
 use crate::answers::status_of;
 use crate::places::{PlaceError, decode_from, skip_from};
@@ -21,7 +21,7 @@ fn tell_why(unmoved: PlaceError, report: &mut RowsReport) -> u32
     ensures room_alone { result ≡ 4 → TellsNothing report.new }
     ensures rows { result ≡ 5 → unmoved ≡ PlaceError.NoRows }
     ensures rows_alone { result ≡ 5 → TellsNothing report.new }
-    ensures no_rows { report.new.rows ≡ 0 }
+    ensures no_rows { TellsNoRows report.new }
 {
     match unmoved {
         PlaceError::Refused(refusal) => {
@@ -59,7 +59,7 @@ pub fn decode_file_rows(
     ensures room_alone { result ≡ 4 → TellsNothing report.new }
     ensures rows { result ≡ 5 → LacksRows file.now place.old rows }
     ensures rows_alone { result ≡ 5 → TellsNothing report.new }
-    ensures no_rows { result ≢ 0 → report.new.rows ≡ 0 }
+    ensures no_rows { result ≢ 0 → TellsNoRows report.new }
     ensures pixels { result ≢ 0 → pixels.new ≡ pixels.old }
     ensures place { result ≢ 0 → place.new ≡ place.old }
     ensures undamaged { result ≢ 3 }
@@ -96,7 +96,7 @@ pub fn skip_file_rows(
     ensures rows { result ≡ 5 → LacksRows file.now place.old rows }
     ensures rows_alone { result ≡ 5 → TellsNothing report.new }
     ensures no_room { result ≢ 4 }
-    ensures no_rows { result ≢ 0 → report.new.rows ≡ 0 }
+    ensures no_rows { result ≢ 0 → TellsNoRows report.new }
     ensures place { result ≢ 0 → place.new ≡ place.old }
     ensures undamaged { result ≢ 3 }
     ensures few { result ≤ 5 }

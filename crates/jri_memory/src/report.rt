@@ -49,8 +49,8 @@ pub fn detail(refusal: Refusal) -> u64
 }
 
 impl DecodeReport {
-    /// Nothing is told.
-    pub(crate) const fn empty() -> DecodeReport
+    /// Returns the report whose numbers are all 0.
+    pub const fn empty() -> DecodeReport
         ensures no_picture { TellsNoPicture result }
         ensures no_fault { TellsNoRefusal result }
     {

@@ -4,7 +4,7 @@ ghost use Rattle.std.specs.Prelude.{◌≡◌, ◌+◌, ◌≤◌};
 ghost use Rattle.jr_segments.specs.Refusal.{number_of};
 ghost use Rattle.jr_arrival.specs.Places.{lines_above, lines_between};
 ghost use Rattle.jri_memory.specs.Calls.{detail_of};
-ghost use Rattle.jri_memory.specs.Rows.{TellsNothing};
+ghost use Rattle.jri_memory.specs.Rows.{TellsNoRows, TellsNothing};
 
 use crate::report::detail;
 use jr_arrival::{lines_before, lines_between};
@@ -27,8 +27,8 @@ pub struct RowsReport {
 }
 
 impl RowsReport {
-    /// Nothing is told.
-    pub(crate) const fn empty() -> RowsReport
+    /// Returns the report whose numbers are all 0.
+    pub const fn empty() -> RowsReport
         ensures { TellsNothing result }
     {
         RowsReport {
@@ -42,9 +42,7 @@ impl RowsReport {
 
     /// A refusal.
     pub(crate) fn refused(refusal: Refusal) -> RowsReport
-        ensures rows { result.rows ≡ 0 }
-        ensures lines { result.lines ≡ 0 }
-        ensures first { result.first_line ≡ 0 }
+        ensures no_rows { TellsNoRows result }
         ensures number { result.refusal ≡ number_of refusal }
         ensures detail { result.detail ≡ detail_of refusal }
     {

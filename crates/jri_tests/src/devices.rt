@@ -69,7 +69,7 @@ fn lines_and_status(alloc: Global, outcome: Result<Report, Fault>) -> (Vec<u8>, 
 
 #[test]
 fn tells_an_input_that_cannot_be_read(rt: HostRuntime) -> Result<(), Fail> {
-    let (picture, lines, status) = finished(&rt, Unreadable, Vec::new(rt.alloc()), 1, None);
+    let (picture, lines, status) = finished(&rt, Unreadable, Vec::new(rt.alloc()));
     assert!(rt; picture.is_empty());
     assert!(rt; lines.as_slice() == b"cannot read the input\n".as_slice());
     assert!(rt; status == 1);
@@ -82,7 +82,7 @@ fn tells_a_full_device(rt: HostRuntime) -> Result<(), Fail> {
     let whole = picture(rt.alloc(), "P5 8 8 : 8*136")?;
     for room in 0..whole.len() {
         let full = Full::new(rt.alloc(), room, true);
-        let (full, lines, status) = finished(&rt, bytes.as_slice(), full, 1, None);
+        let (full, lines, status) = finished(&rt, bytes.as_slice(), full);
         let is_front = whole.as_slice().starts_with(full.bytes.as_slice());
         assert!(rt; is_front, "room for {room}");
         let is_told = lines.as_slice() == b"cannot write the picture\n".as_slice();
@@ -95,7 +95,7 @@ fn tells_a_full_device(rt: HostRuntime) -> Result<(), Fail> {
 fn tells_a_failed_flush(rt: HostRuntime) -> Result<(), Fail> {
     let bytes = file(rt.alloc(), "G 63 E")?;
     let full = Full::new(rt.alloc(), 1000, false);
-    let (_full, lines, status) = finished(&rt, bytes.as_slice(), full, 1, None);
+    let (_full, lines, status) = finished(&rt, bytes.as_slice(), full);
     assert!(rt; lines.as_slice() == b"cannot write the picture\n".as_slice());
     assert!(rt; status == 1);
     Ok(())

@@ -1,5 +1,5 @@
-//! Tests of runs through public calls, for what the program `cases` does not show of whole files: buffers without enough capacity,
-//! files cut and changed at many bytes, several workers at a gate, the program's arguments, and devices that fail.
+//! Tests of runs through public calls, for what the program `cases` does not show of whole files: buffers without enough
+//! capacity, several workers at a gate, the program's arguments, and devices that fail.
 #![tactic(auto)]
 
 #[cfg(test)]

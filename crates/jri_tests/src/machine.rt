@@ -200,7 +200,7 @@ impl Devices for Machine {
         }
     }
 
-    fn open_device(&self, name: &str) -> IoResult<Handle> {
+    fn open_device(&mut self, name: &str) -> IoResult<Handle> {
         self.open(name)
     }
 

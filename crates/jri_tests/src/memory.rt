@@ -12,18 +12,7 @@ use test_files::files::{COLOURED, file};
 const BEFORE: u8 = 7;
 
 /// A report of nothing.
-pub(crate) const NONE: DecodeReport = DecodeReport {
-    intervals: 0,
-    sound: 0,
-    damaged: 0,
-    blank: 0,
-    ended: 0,
-    found: 0,
-    due: 0,
-    refusal: 0,
-    at: 0,
-    detail: 0,
-};
+pub(crate) const NONE: DecodeReport = DecodeReport::empty();
 
 /// A report that no call has written into.
 const UNWRITTEN: DecodeReport = DecodeReport {
@@ -205,16 +194,7 @@ fn answers_lines(rt: HostRuntime) -> Result<(), Fail> {
 }
 
 /// A header of nothing.
-const NO_HEADER: Header = Header {
-    width: 0,
-    height: 0,
-    kind: 0,
-    components: 0,
-    intervals: 0,
-    refusal: 0,
-    pixels: 0,
-    detail: 0,
-};
+const NO_HEADER: Header = Header::empty();
 
 /// A header that no call has written into.
 const UNREAD: Header = Header {

@@ -21,13 +21,7 @@ const TOP: RowPlace = RowPlace {
 };
 
 /// A report of nothing.
-const NONE: RowsReport = RowsReport {
-    rows: 0,
-    lines: 0,
-    first_line: 0,
-    refusal: 0,
-    detail: 0,
-};
+const NONE: RowsReport = RowsReport::empty();
 
 /// A report that no call has written into.
 const UNWRITTEN: RowsReport = RowsReport {

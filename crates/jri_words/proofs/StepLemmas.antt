@@ -4,7 +4,7 @@ use Rattle.jri_file.specs.declared.report.Report.{Report}
 use Rattle.jri_file.specs.declared.report.Fault.{Fault}
 use Rattle.jri_file.specs.declared.report.Fault.TheVariants as fault
 use Rattle.jri_file.specs.Status.{report_status, fault_status}
-use Rattle.jri_words.specs.Steps.{Step, Created, Renamed, Removed, Follow, LeavesFile, is_picture_status}
+use Rattle.jri_words.specs.Steps.{Step, Created, Renamed, Removed, Opened, Follow, OpensDevice, LeavesFile, is_picture_status}
 
 pub follow : (a b c : Option (List Step)) (s t : List Step) → Follow a b s → Follow b c t → Follow a c (s ++ t)
 follow None b c s t p q = tt
@@ -16,18 +16,17 @@ pub none_yet : (a : Option (List Step)) → Follow a a []
 none_yet None = tt
 none_yet (Some k) = sym (append-nil k)
 
-pub leaves_no_part : (name : List ℕ) (a b : Option (List Step)) (is_written : Bool) → Follow a b [] → LeavesFile name a b is_written
-leaves_no_part name a b true p = inl p
-leaves_no_part name a b false p = inl p
+module _ (are_devices : List ℕ → Type 0) (name : List ℕ) where
+  -- a device is open, whether or not the image is written
+  pub opened : (a b : Option (List Step)) (is_written : Bool) → OpensDevice are_devices name a b → LeavesFile are_devices name a b is_written
+  opened a b true p = inl p
+  opened a b false p = inr (inl p)
 
-pub leaves_nothing : (name : List ℕ) (a : Option (List Step)) (is_written : Bool) → LeavesFile name a a is_written
-leaves_nothing name a is_written = leaves_no_part name a a is_written (none_yet a)
-
--- a part was made, and then placed or removed
-pub placed : (name part : List ℕ) (a b c : Option (List Step)) (r : Result Report Fault) → Follow a b (Created part ∷ [])
-    → IfOk r (λ _. Follow b c (Renamed part name ∷ [])) → IfErr r (λ _. Follow b c (Removed part ∷ [])) → LeavesFile name a c (is_ok r)
-placed name part a b c (Ok report) made p q = inr (part, follow a b c (Created part ∷ []) (Renamed part name ∷ []) made p)
-placed name part a b c (Err f) made p q = inr (part, follow a b c (Created part ∷ []) (Removed part ∷ []) made q)
+  -- a part was made, and then placed or removed
+  pub placed : (part : List ℕ) (a b c : Option (List Step)) (r : Result Report Fault) → Follow a b (Created part ∷ [])
+      → IfOk r (λ _. Follow b c (Renamed part name ∷ [])) → IfErr r (λ _. Follow b c (Removed part ∷ [])) → LeavesFile are_devices name a c (is_ok r)
+  placed part a b c (Ok report) made p q = inr (part, follow a b c (Created part ∷ []) (Renamed part name ∷ []) made p)
+  placed part a b c (Err f) made p q = inr (inr (part, follow a b c (Created part ∷ []) (Removed part ∷ []) made q))
 
 damage_tells : (b : Bool) → is_picture_status (if b then 0 else 3) ≡ true
 damage_tells true = refl

@@ -73,3 +73,7 @@ IsTarget (Some name) force t = IsTargetNamed name t
 IsTarget None force target.Output = force ≢ Some (codes "true")
 IsTarget None force target.AnyOutput = force ≢ Some (codes "false")
 IsTarget None force (target.File file) = ⊥
+
+-- the picture goes where these words say
+abbrev pub IsTargetOf : List Text → Target → Type 0
+IsTargetOf words t = IsTarget (option_value (codes "output") words) (reading (codes "force") words) t

@@ -1,11 +1,15 @@
 -- The steps of a run in the folders of its machine.
 use Rattle.std.specs.Prelude.{◌≡◌, ℕ, List, [], ◌∷◌, ◌++◌, Option, Some, None, ⊤, Bool, true, false, ◌==◌, ◌||◌, ◌⊎◌}
+use Rattle.std.specs.String.{string_bytes}
+use Rattle.jri_words.specs.declared.answers.Target.{Target}
+use Rattle.jri_words.specs.declared.answers.Target.TheVariants as target
 
--- a new file of this name is there; a file has another name; a file is removed, or was to be
+-- a new file of this name is there; a file has another name; a file is removed, or was to be; a device of this name is open
 pub data Step : Type 0 where
   Created : List ℕ → Step
   Renamed : List ℕ → List ℕ → Step
   Removed : List ℕ → Step
+  Opened : List ℕ → Step
 
 -- known steps are followed by these
 abbrev pub Follow : Option (List Step) → Option (List Step) → List Step → Type 0
@@ -13,15 +17,26 @@ Follow None new steps = ⊤
 Follow (Some xs) None steps = ⊥
 Follow (Some xs) (Some ys) steps = ys ≡ xs ++ steps
 
--- What a picture's file gets of a run: nothing is done, as where a device has its name; or a part is made, which takes the
--- file's name where the picture is written, and is else removed.
-abbrev pub LeavesFile : List ℕ → Option (List Step) → Option (List Step) → Bool → Type 0
-LeavesFile name old new true = Follow old new [] ⊎ ((part : List ℕ) × Follow old new (Created part ∷ Renamed part name ∷ []))
-LeavesFile name old new false = Follow old new [] ⊎ ((part : List ℕ) × Follow old new (Created part ∷ Removed part ∷ []))
+-- a device that has this name is open
+pub record OpensDevice (are_devices : List ℕ → Type 0) (name : List ℕ) (old new : Option (List Step)) : Type 0 where
+  pub is : are_devices name
+  pub opened : Follow old new (Opened name ∷ [])
 
--- the same of some name
-abbrev pub Leaves : Option (List Step) → Option (List Step) → Bool → Type 0
-Leaves old new is_written = (name : List ℕ) × LeavesFile name old new is_written
+-- What a run does with an image's file: a device of that name is open; or a part is made, which takes the file's name if the image is
+-- written, and is otherwise removed; or, if no image is written, nothing.
+abbrev pub LeavesFile : (are_devices : List ℕ → Type 0) → List ℕ → Option (List Step) → Option (List Step) → Bool → Type 0
+LeavesFile are_devices name old new true = OpensDevice are_devices name old new ⊎ ((part : List ℕ) × Follow old new (Created part ∷ Renamed part name ∷ []))
+LeavesFile are_devices name old new false = Follow old new [] ⊎ OpensDevice are_devices name old new ⊎ ((part : List ℕ) × Follow old new (Created part ∷ Removed part ∷ []))
+
+-- what it does with the place of an image: nothing with a file if that is standard output
+abbrev pub Leaves : (are_devices : List ℕ → Type 0) → Target → Option (List Step) → Option (List Step) → Bool → Type 0
+Leaves are_devices target.Output old new is_written = Follow old new []
+Leaves are_devices target.AnyOutput old new is_written = Follow old new []
+Leaves are_devices (target.File name) old new is_written = LeavesFile are_devices (string_bytes name) old new is_written
+
+-- what a run by such words does with files: nothing, or what belongs to the place that they name
+abbrev pub LeavesNamed : (are_devices : List ℕ → Type 0) → (is_named : Target → Type 0) → Option (List Step) → Option (List Step) → Bool → Type 0
+LeavesNamed are_devices is_named old new is_written = Follow old new [] ⊎ ((t : Target) × is_named t × Leaves are_devices t old new is_written)
 
 -- the exit statuses of pictures that are written
 abbrev pub is_picture_status : ℕ → Bool

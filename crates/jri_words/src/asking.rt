@@ -4,7 +4,7 @@ ghost use Rattle.std.specs.Prelude.{◌≡◌, ◌≤◌, IfOk, false, codes, ma
 ghost use Rattle.std.specs.String.{string_bytes};
 ghost use Rattle.clap.specs.Words.{app_of, first_value, found_of, one_text, rule_of};
 ghost use Rattle.jr_base.specs.declared.limits.TheConstants.{MAX_WORKERS};
-ghost use Rattle.jri_words.specs.CommandLine.{IsFlag, IsTarget, decoding_app, file_named, file_rule, first_rule, flag_rule, jri, output_rule, reading, option_value, workers_rule, writing_app};
+ghost use Rattle.jri_words.specs.CommandLine.{IsFlag, IsTarget, IsTargetOf, decoding_app, file_named, file_rule, first_rule, flag_rule, jri, output_rule, reading, option_value, workers_rule, writing_app};
 
 use crate::answers::{Asked, Target, Telling, Unasked};
 use crate::help::{ABOUT, AFTER_HELP};
@@ -169,7 +169,7 @@ pub fn asked<'a>(alloc: Global, words: &'a [String]) -> Result<Asked, Unasked>
     ensures some { IfOk result (λ a. 1 ≤ a.workers) }
     ensures few { IfOk result (λ a. a.workers ≤ MAX_WORKERS) }
     ensures file { IfOk result (λ a. option_map string_bytes a.file ≡ file_named (option_value (codes "file") (map string_bytes words.now))) }
-    ensures target { IfOk result (λ a. IsTarget (option_value (codes "output") (map string_bytes words.now)) (reading (codes "force") (map string_bytes words.now)) a.target) }
+    ensures target { IfOk result (λ a. IsTargetOf (map string_bytes words.now) a.target) }
     ensures quiet { IfOk result (λ a. IsFlag (reading (codes "quiet") (map string_bytes words.now)) a.telling.is_quiet) }
     ensures verbose { IfOk result (λ a. IsFlag (reading (codes "verbose") (map string_bytes words.now)) a.telling.is_verbose) }
 {

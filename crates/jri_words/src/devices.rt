@@ -1,7 +1,7 @@
 //! What the program asks of the machine that it runs on.
 
-ghost use Rattle.std.specs.Prelude.{Option, List, None, OnOk, OnErr, ◌∷◌, []};
-ghost use Rattle.jri_words.specs.Steps.{Step, Created, Renamed, Removed, Follow};
+ghost use Rattle.std.specs.Prelude.{Option, List, ℕ, ⊤, None, OnOk, OnErr, ◌≡◌, ◌∷◌, []};
+ghost use Rattle.jri_words.specs.Steps.{Step, Created, Renamed, Removed, Opened, Follow};
 
 use std::io::{Error, Read, Result as IoResult, Write};
 
@@ -28,6 +28,9 @@ pub trait Devices {
     // The steps so far, where they are known.
     ghost steps: { Self → Option (List Step) } = { λ _. None };
 
+    // The names of devices, pipes and streams, where they are known.
+    ghost are_devices: { Self → List ℕ → Type 0 } = { λ _ _. ⊤ };
+
     /// Standard input.
     fn input(&self) -> Self::Input;
 
@@ -44,10 +47,13 @@ pub trait Devices {
     fn open(&self, name: &str) -> IoResult<Self::File>;
 
     /// Returns what this name leads to if the file `source` is read, or standard input if it is `None`.
-    fn destination(&self, name: &str, source: Option<&str>) -> Destination;
+    fn destination(&self, name: &str, source: Option<&str>) -> Destination
+        ensures { result ≡ Destination.WrittenInto → are_devices self.now name.now };
 
     /// Opens what is written into and not replaced.
-    fn open_device(&self, name: &str) -> IoResult<Self::File>;
+    fn open_device(&mut self, name: &str) -> IoResult<Self::File>
+        ensures opened { OnOk result (Follow (steps self.old) (steps self.new) (Opened name.now ∷ [])) }
+        ensures failed { OnErr result (Follow (steps self.old) (steps self.new) []) };
 
     /// Returns a number that names this run of the program.
     fn run_number(&self) -> u64;

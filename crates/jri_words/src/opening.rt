@@ -1,8 +1,10 @@
 //! What the words of a run ask for, what they get where that is nothing, and the source that they name.
 
-ghost use Rattle.std.specs.Prelude.{◌≡◌, ◌≤◌, IfOk};
+ghost use Rattle.std.specs.Prelude.{◌≡◌, ◌≤◌, IfOk, map};
+ghost use Rattle.std.specs.String.{string_bytes};
 ghost use Rattle.jr_base.specs.declared.limits.TheConstants.{MAX_WORKERS};
 ghost use Rattle.jr_base.specs.Tally.{has_failed};
+ghost use Rattle.jri_words.specs.CommandLine.{IsTargetOf};
 ghost use Rattle.jri_words.specs.Status.{answered_status};
 
 use crate::answers::{Asked, Target, Unasked};
@@ -97,6 +99,7 @@ pub fn understood<D: Devices>(
 ) -> Result<Asked, Unasked>
     ensures some { IfOk result (λ a. 1 ≤ a.workers) }
     ensures few { IfOk result (λ a. a.workers ≤ MAX_WORKERS) }
+    ensures target { IfOk result (λ a. IfOk words (λ given. IsTargetOf (map string_bytes given.items) a.target)) }
 {
     let words = match words {
         Ok(words) => words,

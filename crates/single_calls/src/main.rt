@@ -1,16 +1,22 @@
 //! Calls of the library, made by themselves.
 //!
-//! Without words it makes each call that takes memory on the file on standard input, and tells what came of each. A line on
-//! standard error stands before each call and one behind it, so that a library that is loaded before this program can refuse
+//! `single_calls --calls FILE` makes each call that allocates on a file, and reports what came of each. A line on
+//! standard error is before each call and one after it, so that a library that is loaded before this program can refuse
 //! memory in one call alone, as `tools/refuse-memory` does.
 //!
-//! `single_calls FILE ..` decodes each file by 1, 2 and 4 workers in turns, and tells the least microseconds that
-//! `decode_all` takes with each number of workers, for `tools/bench-beside-djpeg --decoding`. It keeps no picture.
+//! `single_calls FILE ..` decodes each file with 1, 2 and 4 workers, interleaved, and reports the minimum of the
+//! microseconds that `decode_all` takes with each number of workers, for `tools/bench-beside-djpeg --decoding`. It keeps
+//! no image.
 //!
-//! `single_calls --guesses FILE ..` reads each file by guesses, and tells how many of them come into step and how many MCUs
-//! are taken over, for `tools/compare-workers`.
+//! `single_calls --guesses FILE ..` reads each file by guesses, and reports how many of them come into step and how many
+//! MCUs are taken over, for `tools/compare-workers`.
+//!
+//! `single_calls --arriving BYTES < photo.jpg > photo.ppm` writes the image while the file arrives in parts of at most
+//! BYTES bytes, and reports on standard error how many restart intervals are sound and damaged, for
+//! `tools/compare-arriving`.
 #![tactic(auto)]
 
+mod arriving;
 mod caller;
 mod guesses;
 mod intervals;
@@ -21,11 +27,11 @@ mod writing;
 
 use caller::Caller;
 use guesses::{guess_counts, tell_guesses};
-use std::env;
-use std::io::{Read, Write};
+use std::io::Write;
 use std::process::ExitCode;
 use std::sync::Wait;
 use std::thread::Threads;
+use std::{env, fs};
 use times::{least_times, scan_of};
 
 /// A call, and whether it did right; None where it said that it was out of memory.
@@ -70,10 +76,34 @@ fn tell<W: Write>(out: &mut W, outcomes: &[Outcome]) {
     }
 }
 
-/// The word behind which files are read by guesses.
-const GUESSES: &str = "--guesses";
+/// What is done with the words after one that names it.
+#[derive(Clone, Copy)]
+enum Task {
+    Times,
+    Guesses,
+    Calls,
+    Arriving,
+}
 
-/// Tells what guesses of a file come to. None where there is no such file, or memory is refused.
+/// Returns the task that a word names, if it names one.
+fn task_of(word: &str) -> Option<Task> {
+    match word {
+        "--guesses" => Some(Task::Guesses),
+        "--calls" => Some(Task::Calls),
+        "--arriving" => Some(Task::Arriving),
+        _ => None,
+    }
+}
+
+/// Reports the times of a file's decoding. `None` if there is no such file, or memory or a thread is refused.
+fn tell_times_of(rt: &HostRuntime, name: &str) -> Option<()> {
+    let scan = scan_of(rt, name)?;
+    let times = least_times(rt, rt.alloc(), &scan)?;
+    times::tell(&mut rt.stdout(), &times);
+    Some(())
+}
+
+/// Reports what guesses of a file come to. `None` if there is no such file, or memory is refused.
 fn tell_guesses_of(rt: &HostRuntime, name: &str) -> Option<()> {
     let scan = scan_of(rt, name)?;
     let counts = guess_counts(rt.alloc(), &scan)?;
@@ -81,41 +111,40 @@ fn tell_guesses_of(rt: &HostRuntime, name: &str) -> Option<()> {
     Some(())
 }
 
+/// Makes each call on a file, and reports what came of them. `None` if there is no such file.
+fn tell_calls_on(rt: &HostRuntime, name: &str) -> Option<()> {
+    let file = fs::read(rt, name).ok()?;
+    let mut caller = Caller::of(rt.alloc(), file.as_slice(), rt.stderr())?;
+    let outcomes = make_calls(rt, &mut caller);
+    tell(&mut rt.stdout(), &outcomes);
+    Some(())
+}
+
+/// Does a task with a word, and returns the exit status.
+fn run(rt: &HostRuntime, task: Task, word: &str) -> u8 {
+    let done = match task {
+        Task::Times => tell_times_of(rt, word),
+        Task::Guesses => tell_guesses_of(rt, word),
+        Task::Calls => tell_calls_on(rt, word),
+        Task::Arriving => return arriving::show_input(rt, word),
+    };
+    if done.is_some() { 0 } else { 1 }
+}
+
 fn main(rt: HostRuntime) -> ExitCode {
     let Ok(words) = env::args(&rt) else {
         return ExitCode::from(1);
     };
-    let (mut has_words, mut is_guessed) = (false, false);
+    let mut task = Task::Times;
     for word in words.skip(1) {
-        has_words = true;
-        if word.as_str() == GUESSES {
-            is_guessed = true;
+        if let Some(named) = task_of(word.as_str()) {
+            task = named;
             continue;
         }
-        if is_guessed {
-            let Some(()) = tell_guesses_of(&rt, word.as_str()) else {
-                return ExitCode::from(2);
-            };
-            continue;
+        let status = run(&rt, task, word.as_str());
+        if status > 0 {
+            return ExitCode::from(status);
         }
-        let Some(scan) = scan_of(&rt, word.as_str()) else {
-            return ExitCode::from(2);
-        };
-        let Some(times) = least_times(&rt, rt.alloc(), &scan) else {
-            return ExitCode::from(1);
-        };
-        times::tell(&mut rt.stdout(), &times);
     }
-    if has_words {
-        return ExitCode::SUCCESS;
-    }
-    let mut file = Vec::new(rt.alloc());
-    let is_read = rt.stdin().read_to_end(&mut file).is_ok();
-    let caller = Caller::of(rt.alloc(), file.as_slice(), rt.stderr());
-    let (Some(mut caller), true) = (caller, is_read) else {
-        return ExitCode::from(1);
-    };
-    let outcomes = make_calls(&rt, &mut caller);
-    tell(&mut rt.stdout(), &outcomes);
     ExitCode::SUCCESS
 }

@@ -63,10 +63,6 @@ pub const TEN: &str =
 pub const MIXED: &str =
     "GW 63 FF D0 E0 FF D1 63 FF D2 63 63 FF D3 E0 FF D4 63 FF D5 FF D6 63 FF D7 E0 FF D0 63 E";
 
-/// A file of 4096 intervals that have a decoding.
-pub const THOUSANDS: &str = "S Q F:0200:0200 D A I C \
-     511*63FFD063FFD163FFD263FFD363FFD463FFD563FFD663FFD7 63FFD063FFD163FFD263FFD363FFD463FFD563FFD663 E";
-
 /// Two intervals of three components; the same where the second has no decoding.
 pub const COLOURED: &str = "S Q F3:0009:0011:22 D:00:03:06 A I C3 00 01 48 FF D0 60 00 07 E";
 

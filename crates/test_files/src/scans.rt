@@ -16,15 +16,6 @@ pub fn scan_of(alloc: Global, bytes: &[u8]) -> Result<Scan, Fail> {
     Ok(Scan::cut(alloc, head, bytes)?)
 }
 
-/// The scan of a file, in the memory of its bytes.
-pub fn scan_in_place(alloc: Global, bytes: Vec<u8>) -> Result<Scan, Fail> {
-    if bytes.len() > 100_000 {
-        return Err(Fail::from("a file that is too long"));
-    }
-    let head = read_head(alloc, bytes.as_slice())?;
-    Ok(Scan::cut_in_place(alloc, head, bytes)?)
-}
-
 /// The scan of a file in the notation of files.
 pub fn scan(alloc: Global, words: &str) -> Result<Arc<Scan>, Fail> {
     let bytes = file(alloc, words)?;

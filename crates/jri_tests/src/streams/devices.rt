@@ -3,7 +3,7 @@
 ghost use Rattle.std.specs.Prelude.{◌≤◌};
 ghost use Rattle.jr_base.specs.declared.limits.TheConstants.{MAX_WORKERS};
 
-use crate::decoding::{decode, outcome_of};
+use crate::decoding::outcome_of;
 use jr_wall::OpenGate;
 use jri_engine::Fault;
 use std::alloc::Global;
@@ -88,7 +88,7 @@ fn check<R: Threads + Wait + Sync + AllocGlobal + Abort>(
     requires few { workers ≤ MAX_WORKERS }
 {
     let bytes = file(rt.alloc(), words)?;
-    let whole = decode(rt, bytes.as_slice(), 2, None)?.picture;
+    let whole = written(rt, bytes.as_slice(), 2, 100_000, 0).1.bytes;
     let (fault, all) = written(rt, bytes.as_slice(), workers, most, 0);
     assert!(rt;
         fault.is_none() && all.bytes == whole,

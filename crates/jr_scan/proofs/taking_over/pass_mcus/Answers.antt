@@ -8,11 +8,11 @@ pub loop-k-init : goal.loop-k-init
 loop-k-init c =
     let p = c.args.place.now in
     let three : length p.predictions ≡ 3 = search rules in
-    record { run = ([], no_run c.args.guess.now.interval p three); within = c.requires.within; in_range = c.requires.in_range }
+    record { run = ([], no_run c.args.interval.now p three); within = c.requires.within; in_range = c.requires.in_range }
 
 pub loop-k-preserved : goal.loop-k-preserved
 loop-k-preserved c =
-    let i = c.args.guess.now.interval in
+    let i = c.args.interval.now in
     let before = c.loop-k.invariant.run in
     let ys = c.in-Some.ensures.shifted in
     let next = c.in-Some.ensures.some ys.0 ys.1 in

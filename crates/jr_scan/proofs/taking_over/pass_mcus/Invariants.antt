@@ -7,7 +7,7 @@ use Rattle.jr_scan.proofs.taking_over.pass_mcus.Given as goal
 
 abbrev pub invariant-loop-k : goal.invariant-loop-k
 invariant-loop-k l = record {
-  run : (ys : List (List ℤ)) × IsRun (run_from l.guess.interval l.fn.place l.k) ys l.place AllRead;
-  within : l.place.bit ≤ 8 * length l.guess.interval.bytes;
+  run : (ys : List (List ℤ)) × IsRun (run_from l.interval l.fn.place l.k) ys l.place AllRead;
+  within : l.place.bit ≤ 8 * length l.interval.bytes;
   in_range : All IsInDcRange l.place.predictions;
 }

@@ -8,7 +8,7 @@ use Rattle.jr_scan.proofs.taking_over.put_mcus.Given as goal
 abbrev pub invariant-loop-k : goal.invariant-loop-k
 invariant-loop-k l = record {
   room : length l.blocks ≡ length l.fn.blocks;
-  run : IsRun (run_from l.guess.interval l.fn.place l.k) (take (l.k * l.per_mcu) l.blocks) l.place AllRead;
-  within : l.place.bit ≤ 8 * length l.guess.interval.bytes;
+  run : IsRun (run_from l.interval l.fn.place l.k) (take (l.k * l.per_mcu) l.blocks) l.place AllRead;
+  within : l.place.bit ≤ 8 * length l.interval.bytes;
   in_range : All IsInDcRange l.place.predictions;
 }

@@ -9,6 +9,7 @@ returns-clause-listed c = record {
   spans = c.in-Ok.spans.items;
   segments = search (rules, c.in-Ok.ensures);
   are = search (rules, c.list-count.ensures.listed);
+  within = search (rules, c.list-count.ensures.within);
   room = search (rules, c.list-count.ensures.room);
   long = c.list-count.ensures.long;
   behind = c.list-count.ensures.behind;

@@ -18,6 +18,7 @@ returns-clause-decoded c =
       there = search rules;
       painted = filled _ _ _ _ shown.lines long;
       counted = search (rules, shown.counted);
+      blank = search rules;
       intervals = search rules;
       ended = search rules;
       no_fault = c.of.ensures.no_fault;

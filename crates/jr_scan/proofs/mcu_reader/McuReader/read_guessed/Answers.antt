@@ -17,10 +17,10 @@ returns-then-taken-gt0-clause-read c = λ zs s.
     let k = c.put_mcus-taken.result in
     let to = c.put_mcus-taken.new.place in
     let bs = c.put_mcus-taken.new.blocks in
-    let g = c.args.guess.now.interval in
-    let lawful = subst IsLawful (c.head.ensures.value ∙ ap (λ (j : IntervalValue). j.head) c.interval.ensures) c.head.ensures.lawful in
-    let run = own_run r g c.place-place.result to k (take (k * length (order_of g.head)) bs) c.requires.same c.place-place.ensures.value c.put_mcus-taken.ensures.run in
-    let mine = subst (λ (j : IntervalValue). IsRun (run_from r.run.interval r.place k) (take (k * length (order_of j.head)) bs) to AllRead) c.requires.same run in
+    let g = c.interval-interval.result.now in
+    let lawful = subst IsLawful (c.head.ensures.value ∙ ap (λ (j : IntervalValue). j.head) c.interval-interval.ensures) c.head.ensures.lawful in
+    let run = own_run r g c.place-place.result to k (take (k * length (order_of g.head)) bs) c.interval-interval.ensures c.place-place.ensures.value c.put_mcus-taken.ensures.run in
+    let mine = subst (λ (j : IntervalValue). IsRun (run_from r.run.interval r.place k) (take (k * length (order_of j.head)) bs) to AllRead) c.interval-interval.ensures run in
     let few : r.mcu + k ≤ r.run.mcus = search (rules, arith, c.put_mcus-taken.ensures.most) in
     gone_read r c.go_on.new.self k to zs (take (k * per_mcu r) bs) lawful c.go_on.ensures few mine s
 
@@ -28,16 +28,16 @@ pub returns-then-taken-gt0-clause-in_range : goal.returns-then-taken-gt0-clause-
 returns-then-taken-gt0-clause-in_range c =
     let k = c.put_mcus-taken.result in
     let here = run_in_range _ _ _ _ c.put_mcus-taken.ensures.run in
-    subst (λ (j : IntervalValue). All IsInRange (take (k * length (order_of j.head)) c.put_mcus-taken.new.blocks)) c.requires.same here
+    subst (λ (j : IntervalValue). All IsInRange (take (k * length (order_of j.head)) c.put_mcus-taken.new.blocks)) c.interval-interval.ensures here
 
 pub returns-then-taken-gt0-clause-stays : goal.returns-then-taken-gt0-clause-stays
 returns-then-taken-gt0-clause-stays c = λ ended.
     let r = c.args.self.now in
     let k = c.put_mcus-taken.result in
     let to = c.put_mcus-taken.new.place in
-    let g = c.args.guess.now.interval in
+    let g = c.interval-interval.result.now in
     let zs = take (k * length (order_of g.head)) c.put_mcus-taken.new.blocks in
-    let mine = own_run r g c.place-place.result to k zs c.requires.same c.place-place.ensures.value c.put_mcus-taken.ensures.run in
+    let mine = own_run r g c.place-place.result to k zs c.interval-interval.ensures c.place-place.ensures.value c.put_mcus-taken.ensures.run in
     let few : r.mcu + k ≤ r.run.mcus = search (rules, arith, c.put_mcus-taken.ensures.most) in
     ended_stays r c.go_on.new.self k to zs c.if-taken-gt0.true few mine ended
 

@@ -11,7 +11,7 @@ returns-then-taken-gt0-clause-passed c = λ zs s.
     let to = c.pass_mcus-taken.new.place in
     let lawful = c.place-place.ensures.lawful in
     let run = c.pass_mcus-taken.ensures.run in
-    let mine = own_run r c.args.guess.now.interval c.place-place.result to k run.0 c.requires.same c.place-place.ensures.value run.1 in
+    let mine = own_run r c.interval.result.now c.place-place.result to k run.0 c.interval.ensures c.place-place.ensures.value run.1 in
     let few : r.mcu + k ≤ r.run.mcus = search (rules, arith, c.pass_mcus-taken.ensures.most) in
     gone_passed r c.go_on.new.self k to zs run.0 lawful c.go_on.ensures few mine s
 
@@ -21,7 +21,7 @@ returns-then-taken-gt0-clause-stays c = λ ended.
     let k = c.pass_mcus-taken.result in
     let to = c.pass_mcus-taken.new.place in
     let run = c.pass_mcus-taken.ensures.run in
-    let mine = own_run r c.args.guess.now.interval c.place-place.result to k run.0 c.requires.same c.place-place.ensures.value run.1 in
+    let mine = own_run r c.interval.result.now c.place-place.result to k run.0 c.interval.ensures c.place-place.ensures.value run.1 in
     let few : r.mcu + k ≤ r.run.mcus = search (rules, arith, c.pass_mcus-taken.ensures.most) in
     ended_stays r c.go_on.new.self k to run.0 c.if-taken-gt0.true few mine ended
 

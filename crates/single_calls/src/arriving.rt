@@ -1,10 +1,5 @@
-//! An example of a file that arrives: it reads standard input in parts, and behind each part writes the lines of the picture that
-//! the bytes so far settle. Who reads its output sees the picture grow while the file still comes.
-//!
-//! `arriving [BYTES] < photo.jpg > photo.ppm`: BYTES is the most that is read at once, 65536 where nothing is said. Standard error
-//! tells how many restart intervals are sound and damaged. The exit status is 0, 3 where one is damaged, 1 for a stream that failed
-//! or want of memory, and 2 for a refused file or wrong words.
-#![tactic(auto)]
+//! An example of a file that arrives: standard input is read in parts, and after each part the lines of the image that
+//! the bytes so far determine are written. A reader of the output sees the image grow while the file still arrives.
 
 ghost use Rattle.std.specs.Prelude.{◌≤◌};
 
@@ -17,15 +12,10 @@ use jr_rows::{paint_scan_lines, shape_of};
 use jr_scan::Scan;
 use jr_segments::Refusal;
 use std::alloc::{AllocError, Global};
-use std::env;
 use std::io::{Error, Read, Write};
-use std::process::ExitCode;
 
-/// The most that is read at once, where nothing is said.
-const PART: usize = 65_536;
-
-/// The most that may be said.
-const GREATEST_PART: usize = 1 << 30;
+/// The maximum number of bytes that may be read at once.
+const MAX_PART: usize = 1 << 30;
 
 /// More lines than a picture has.
 const MOST_LINES: u32 = 65_536;
@@ -161,34 +151,6 @@ fn show<I: Read, W: Write>(
     Ok(counts)
 }
 
-/// What the words ask for.
-#[derive(Clone, Copy, Debug)]
-enum Request {
-    /// To read so many bytes at once.
-    Show(usize),
-    Help,
-    Wrong,
-}
-
-/// What is told of the words.
-const USAGE: &str = "usage: arriving [BYTES] < photo.jpg > photo.ppm\n";
-
-/// What the words ask for: one number at most.
-fn request_of(rt: &HostRuntime) -> Request {
-    let Ok(words) = env::args(rt) else {
-        return Request::Wrong;
-    };
-    let mut request = Request::Show(PART);
-    for word in words.skip(1) {
-        request = match word.as_str().parse::<usize>() {
-            Ok(part) if part > 0 && part <= GREATEST_PART => Request::Show(part),
-            _ if word.as_str() == "--help" => return Request::Help,
-            _ => return Request::Wrong,
-        };
-    }
-    request
-}
-
 /// Tells how many restart intervals are sound and damaged, and answers the exit status.
 fn report<E: Write>(errors: &mut E, counts: &Counts) -> u8 {
     let (sound, damaged) = (counts.sound, counts.damaged);
@@ -214,22 +176,17 @@ fn tell<E: Write>(errors: &mut E, failure: &Failure) -> u8 {
     }
 }
 
-fn main(rt: HostRuntime) -> ExitCode {
+/// Writes the image of standard input, read in parts of at most the number of bytes that the word gives, and reports on
+/// standard error. Returns the exit status: 0, 3 if an interval is damaged, 1 if a stream or memory failed, 2 for a
+/// refused file or another word.
+pub(crate) fn show_input(rt: &HostRuntime, word: &str) -> u8 {
     let (mut out, mut errors) = (rt.stdout(), rt.stderr());
-    let part = match request_of(&rt) {
-        Request::Show(part) => part,
-        Request::Help => {
-            let _ = out.write_all(USAGE.as_bytes());
-            return ExitCode::SUCCESS;
-        }
-        Request::Wrong => {
-            let _ = errors.write_all(USAGE.as_bytes());
-            return ExitCode::from(2);
-        }
+    let part = match word.parse::<usize>() {
+        Ok(part) if part > 0 && part <= MAX_PART => part,
+        _ => return 2,
     };
-    let shown = show(rt.alloc(), part, &mut rt.stdin(), &mut out);
-    ExitCode::from(match shown {
+    match show(rt.alloc(), part, &mut rt.stdin(), &mut out) {
         Ok(counts) => report(&mut errors, &counts),
         Err(failure) => tell(&mut errors, &failure),
-    })
+    }
 }

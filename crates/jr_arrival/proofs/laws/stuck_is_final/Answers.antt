@@ -1,6 +1,0 @@
-use Rattle.std.proofs.Common.{rules}
-use Rattle.jr_arrival.proofs.RunsGoOn as laws
-use Rattle.jr_arrival.proofs.laws.stuck_is_final.Goals as goal
-
-pub returns : goal.returns
-returns c = λ r more blocks to within run stuck. search (rules, laws.stuck_is_final r more blocks to within run stuck)
