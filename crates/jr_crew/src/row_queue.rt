@@ -15,13 +15,13 @@ use std::mem::replace;
 
 /// What a thread does next.
 #[derive(Drop)]
-pub(crate) enum RowTask<'a, S: OneFirstIntervals> {
+pub(crate) enum RowTask<S: OneFirstIntervals> {
     /// Reads the next row.
-    Read(Baton<'a, S>, Bench<S>),
+    Read(Baton<S>, Bench<S>),
     /// Passes over the next row, so that another thread can read it while the rows behind it are passed over.
-    Pass(Baton<'a, S>, Bench<S>),
+    Pass(Baton<S>, Bench<S>),
     /// Reads and paints a row that was passed over.
-    Finish(PassedRow<'a, S>),
+    Finish(PassedRow<S>),
     /// Paints a row that is read.
     Paint(CodedRow<S>),
     /// Makes a guess.
@@ -41,8 +41,8 @@ pub(crate) enum Spare<S: OneFirstIntervals> {
 
 /// A row that was passed over, and what it will be read on: so it needs nothing that a later row could take.
 #[derive(Drop)]
-pub(crate) struct PassedRow<'a, S: OneFirstIntervals> {
-    pub(crate) baton: Baton<'a, S>,
+pub(crate) struct PassedRow<S: OneFirstIntervals> {
+    pub(crate) baton: Baton<S>,
     pub(crate) bench: Bench<S>,
 }
 
@@ -73,9 +73,9 @@ pub(crate) enum Waiter {
 /// The rows that are read and not yet written, no more than there are benches, and who waits for them, so that nobody is woken
 /// where nobody waits.
 #[derive(Drop)]
-pub(crate) struct RowQueue<'a, S: OneFirstIntervals> {
+pub(crate) struct RowQueue<S: OneFirstIntervals> {
     /// None before the first row may begin, while a thread reads by it, and where no row is left to read.
-    baton: Option<Baton<'a, S>>,
+    baton: Option<Baton<S>>,
     /// No row is left to begin.
     is_begun: bool,
     /// Nothing is read or painted any more.
@@ -88,7 +88,7 @@ pub(crate) struct RowQueue<'a, S: OneFirstIntervals> {
     /// A queue without room, which takes the place of the other when no row is left to begin.
     no_guesses: Option<GuessQueue<ScanOf<S>>>,
     /// In their order.
-    passed: VecDeque<PassedRow<'a, S>>,
+    passed: VecDeque<PassedRow<S>>,
     /// In their order.
     coded: VecDeque<CodedRow<S>>,
     /// The slot of a row is its number modulo how many slots there are: as many as benches.
@@ -100,7 +100,7 @@ pub(crate) struct RowQueue<'a, S: OneFirstIntervals> {
     ghost some: { 0 < length painted.items },
 }
 
-impl<'a, S: OneFirstIntervals> RowQueue<'a, S> {
+impl<S: OneFirstIntervals> RowQueue<S> {
     /// No row may begin yet. Threads bring so many benches, beside those of the calling one. There is room for as many benches, and
     /// passed, coded and painted rows, as there will be benches.
     pub(crate) fn of(
@@ -108,10 +108,10 @@ impl<'a, S: OneFirstIntervals> RowQueue<'a, S> {
         lacking: u32,
         guesses: GuessQueue<ScanOf<S>>,
         no_guesses: GuessQueue<ScanOf<S>>,
-        passed: VecDeque<PassedRow<'a, S>>,
+        passed: VecDeque<PassedRow<S>>,
         coded: VecDeque<CodedRow<S>>,
         painted: Vec<Option<Painted<S>>>,
-    ) -> RowQueue<'a, S>
+    ) -> RowQueue<S>
         requires { 0 < length painted.items }
     {
         RowQueue {
@@ -131,7 +131,7 @@ impl<'a, S: OneFirstIntervals> RowQueue<'a, S> {
     }
 
     /// The first of these rows may begin.
-    pub(crate) fn start(&mut self, baton: Option<Baton<'a, S>>) {
+    pub(crate) fn start(&mut self, baton: Option<Baton<S>>) {
         self.baton = baton;
     }
 
@@ -200,7 +200,7 @@ impl<'a, S: OneFirstIntervals> RowQueue<'a, S> {
     }
 
     /// The rows that come next, with the guesses for the first of them.
-    fn begin(&mut self, part: &FirstIntervals<'a>) -> Option<Baton<'a, S>>
+    fn begin(&mut self, part: &FirstIntervals<'_>) -> Option<Baton<S>>
         requires { S.part ≡ Some part.now }
     {
         let baton = self.baton.take()?;
@@ -215,7 +215,7 @@ impl<'a, S: OneFirstIntervals> RowQueue<'a, S> {
     }
 
     /// What a thread does next. None where it has to wait, or all is over.
-    pub(crate) fn task(&mut self, part: &FirstIntervals<'a>) -> Option<RowTask<'a, S>>
+    pub(crate) fn task(&mut self, part: &FirstIntervals<'_>) -> Option<RowTask<S>>
         requires { S.part ≡ Some part.now }
     {
         match self.choice(part.scan()) {
@@ -236,7 +236,7 @@ impl<'a, S: OneFirstIntervals> RowQueue<'a, S> {
 
     /// Memory that nobody needs any more, where there is some, for a thread that has nothing else to do: room for guesses first, since
     /// it is more than that of a bench.
-    pub(crate) fn spare(&mut self) -> Option<RowTask<'a, S>> {
+    pub(crate) fn spare(&mut self) -> Option<RowTask<S>> {
         if !self.is_begun {
             return None;
         }
@@ -249,12 +249,14 @@ impl<'a, S: OneFirstIntervals> RowQueue<'a, S> {
     }
 
     /// The rows behind those that are begun. Answers who is to be woken, since something can be done now.
-    fn go_on(&mut self, scan: &Scan, behind: Option<Baton<'a, S>>) -> Option<Waiter> {
+    fn go_on(&mut self, part: &FirstIntervals<'_>, behind: Option<Baton<S>>) -> Option<Waiter>
+        requires { S.part ≡ Some part.now }
+    {
         let (number, bit) = match &behind {
-            Some(baton) => baton.next_start(),
+            Some(baton) => baton.next_start(part),
             None => (u32::MAX, 0),
         };
-        self.guesses.reach(scan, number, bit);
+        self.guesses.reach(part.scan(), number, bit);
         self.is_begun = behind.is_none();
         self.baton = behind;
         self.waiter()
@@ -271,15 +273,17 @@ impl<'a, S: OneFirstIntervals> RowQueue<'a, S> {
     /// Keeps a row that was passed over, and the rows behind it. Answers who is to be woken.
     pub(crate) fn put_passed(
         &mut self,
-        scan: &Scan,
-        passed: PassedRow<'a, S>,
-        behind: Option<Baton<'a, S>>,
-    ) -> Option<Waiter> {
+        part: &FirstIntervals<'_>,
+        passed: PassedRow<S>,
+        behind: Option<Baton<S>>,
+    ) -> Option<Waiter>
+        requires { S.part ≡ Some part.now }
+    {
         if self.is_over {
             return None;
         }
         let _ = self.passed.push_back(passed);
-        self.go_on(scan, behind)
+        self.go_on(part, behind)
     }
 
     /// Keeps a guess in its place. Answers who is to be woken, since a row may have waited for it.
@@ -291,27 +295,31 @@ impl<'a, S: OneFirstIntervals> RowQueue<'a, S> {
     /// Keeps a row that is read, and the rows behind it. Answers who is to be woken, so that somebody paints it.
     pub(crate) fn put_coded(
         &mut self,
-        scan: &Scan,
+        part: &FirstIntervals<'_>,
         coded: CodedRow<S>,
-        behind: Option<Baton<'a, S>>,
-    ) -> Option<Waiter> {
+        behind: Option<Baton<S>>,
+    ) -> Option<Waiter>
+        requires { S.part ≡ Some part.now }
+    {
         if self.is_over {
             return None;
         }
         let _ = self.coded.push_back(coded);
-        self.go_on(scan, behind)
+        self.go_on(part, behind)
     }
 
     /// Keeps the rows behind one that is read and painted. Answers who is to be woken.
     pub(crate) fn put_behind(
         &mut self,
-        scan: &Scan,
-        behind: Option<Baton<'a, S>>,
-    ) -> Option<Waiter> {
+        part: &FirstIntervals<'_>,
+        behind: Option<Baton<S>>,
+    ) -> Option<Waiter>
+        requires { S.part ≡ Some part.now }
+    {
         if self.is_over {
             return None;
         }
-        self.go_on(scan, behind)
+        self.go_on(part, behind)
     }
 
     /// Whether a row is painted.

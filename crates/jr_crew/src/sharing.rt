@@ -105,7 +105,7 @@ fn open_queue<'a, S: OneFirstIntervals>(
     part: &FirstIntervals<'a>,
     count: u32,
     own: u32,
-) -> Result<RowQueue<'a, S>, Memory> {
+) -> Result<RowQueue<S>, Memory> {
     let free = VecDeque::with_capacity(alloc, count as usize)?;
     let guesses = open_guesses(alloc, part, guesses_of(part, count))?;
     let no_guesses = open_guesses(alloc, part, 0)?;

@@ -133,12 +133,7 @@ impl Cursor {
     }
 
     /// Skips the next MCUs of the interval.
-    pub(crate) fn skip(
-        &mut self,
-        interval: IntervalRef<'_>,
-        guesses: Option<&Guesses>,
-        mcus: u32,
-    )
+    pub(crate) fn skip(&mut self, interval: IntervalRef<'_>, guesses: Option<&Guesses>, mcus: u32)
         requires at { IsAt interval self.old.mcu self.old.place }
         requires few { self.old.mcu + mcus ≤ interval.mcus }
         requires same { IfSome guesses (λ g. AreGuessesOf interval g.now) }

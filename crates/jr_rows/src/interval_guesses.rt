@@ -17,7 +17,7 @@ pub struct IntervalGuesses {
 impl IntervalGuesses {
     /// Returns these guesses of interval `number`.
     pub fn of(number: u32, guesses: Guesses) -> IntervalGuesses
-        ensures { (s : ScanValue) → AreGuessesOf (interval_of s number) guesses.entry → AreGuessesIn s result }
+        ensures { (s : ScanValue) → AreGuessesOf (interval_of s number) guesses → AreGuessesIn s result }
     {
         IntervalGuesses { number, guesses }
     }

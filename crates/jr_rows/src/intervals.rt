@@ -145,12 +145,7 @@ impl Cursor {
     }
 
     /// Skips the next MCUs.
-    pub(crate) fn skip_mcus(
-        &mut self,
-        scan: &Scan,
-        guesses: Option<&IntervalGuesses>,
-        mcus: u32,
-    )
+    pub(crate) fn skip_mcus(&mut self, scan: &Scan, guesses: Option<&IntervalGuesses>, mcus: u32)
         requires stands { StandsIn scan.now self.old }
         requires same { IfSome guesses (λ g. AreGuessesIn scan.now g.now) }
         requires few { mcus_to scan.now.head self.old + mcus ≤ mcus_of scan.now.head }
