@@ -3,7 +3,6 @@
 ghost use Rattle.std.specs.Prelude.{◌≡◌, Some};
 ghost use Rattle.jr_scan.specs.Guesses.{AreGuessesOf};
 ghost use Rattle.jr_scan.specs.ScanValue.{interval_of};
-ghost use Rattle.jr_rows.specs.Cursors.{AreGuessesIn};
 ghost use Rattle.jr_rows.specs.Rows.{AreRows};
 
 use crate::bench::{Bench, CodedRow, Painted, WorkBench};
@@ -34,21 +33,16 @@ impl<S: OneFirstIntervals> Model for Baton<S> {
 }
 
 /// Returns these rows, where one is left.
-fn baton_over<S: OneFirstIntervals>(
-    part: &FirstIntervals<'_>,
-    rows: Rows,
-    guesses: IntervalGuesses,
-) -> Option<Baton<S>>
+fn baton_over<S: OneFirstIntervals>(part: &FirstIntervals<'_>, rows: Rows) -> Option<Baton<S>>
     requires part { S.part ≡ Some part.now }
     requires rows { AreRows part.now rows }
-    requires guesses { AreGuessesIn part.now.scan guesses }
 {
     if rows.row() >= shape_of(part.scan().head()).down {
         return None;
     }
     Some(Baton {
         rows,
-        guesses,
+        guesses: IntervalGuesses::none(),
         of: PhantomData,
     })
 }
@@ -58,7 +52,7 @@ impl<S: OneFirstIntervals> Baton<S> {
     pub(crate) fn of(part: &FirstIntervals<'_>) -> Option<Baton<S>>
         requires { S.part ≡ Some part.now }
     {
-        baton_over(part, Rows::of(part), IntervalGuesses::none())
+        baton_over(part, Rows::of(part))
     }
 
     /// Returns the rows after the next one, which can be read before it where rows are whole intervals.
@@ -72,8 +66,7 @@ impl<S: OneFirstIntervals> Baton<S> {
         if row >= down {
             return None;
         }
-        let rows = Rows::from(part, row, intervals);
-        baton_over(part, rows, IntervalGuesses::none())
+        baton_over(part, Rows::from(part, row, intervals))
     }
 
     /// Returns where the next row starts: the number of its interval, and the bit.
@@ -112,7 +105,7 @@ impl<S: OneFirstIntervals> Baton<S> {
         let mut rows = self.rows;
         announce(part.scan(), part.limit(), rows.row(), gate);
         rows.skip(part, Some(&self.guesses));
-        let behind = baton_over(part, rows, IntervalGuesses::none());
+        let behind = baton_over(part, rows);
         (self, behind)
     }
 
@@ -146,7 +139,7 @@ impl<S: OneFirstIntervals> Baton<S> {
     {
         let mut rows = self.rows;
         let coded = bench.read(part, &mut rows, Some(&self.guesses));
-        (coded, baton_over(part, rows, IntervalGuesses::none()))
+        (coded, baton_over(part, rows))
     }
 
     /// Decodes and paints the next row, of whose intervals the gate was told. Returns it with those after it.
@@ -160,6 +153,6 @@ impl<S: OneFirstIntervals> Baton<S> {
     {
         let mut rows = self.rows;
         let painted = bench.decode(part, &mut rows, Some(&self.guesses), room);
-        (painted, baton_over(part, rows, IntervalGuesses::none()))
+        (painted, baton_over(part, rows))
     }
 }

@@ -10,7 +10,9 @@ use crate::one_first_intervals::OneFirstIntervals;
 use crate::paint_room::PaintRoom;
 use crate::row::Row;
 use jr_base::Memory;
-use jr_rows::{FirstIntervals, IntervalGuesses, Marked, Rows, SampleRow, bytes_of_row, lines_of, shape_of};
+use jr_rows::{
+    FirstIntervals, IntervalGuesses, Marked, Rows, SampleRow, bytes_of_row, lines_of, shape_of,
+};
 use std::alloc::Global;
 use std::marker::{Model, PhantomData};
 use std::mem;

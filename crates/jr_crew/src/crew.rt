@@ -121,9 +121,11 @@ impl<'a, S: OneFirstIntervals> Crew<'a, S> {
         let scan = self.part.scan();
         let mut queue = self.queue.lock(rt);
         queue.set_awaited(Some(row));
-        let mut queue = self
-            .has_row
-            .wait_while(rt, queue, |queue| !queue.has(row) && queue.has_no_task(scan));
+        let mut queue = self.has_row.wait_while(
+            rt,
+            queue,
+            |queue| !queue.has(row) && queue.has_no_task(scan),
+        );
         queue.set_awaited(None);
         if queue.has(row) {
             return None;

@@ -11,7 +11,9 @@ ghost use Rattle.jr_rows.specs.Rows.{HasFirst, HasRowRoom, AreRead, AreRows, Cou
 
 use jr_base::{Coefficients, Memory};
 use jr_head::Head;
-use jr_rows::{FirstIntervals, IntervalGuesses, Marked, RowLines, Rows, coded_of_row, paint_row, shape_of};
+use jr_rows::{
+    FirstIntervals, IntervalGuesses, Marked, RowLines, Rows, coded_of_row, paint_row, shape_of,
+};
 use jr_scan::Scan;
 use std::alloc::Global;
 use std::marker::Model;

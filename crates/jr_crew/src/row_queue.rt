@@ -173,8 +173,9 @@ impl<S: OneFirstIntervals> RowQueue<S> {
     /// can't, and makes a guess where nothing else is to be done, or brings room for one. A row at whose start a guess is being
     /// made waits for it.
     fn choice(&self, scan: &Scan) -> Choice {
-        let can_begin =
-            self.baton.is_some() && !self.free.is_empty() && !self.guesses.makes_next(scan);
+        let can_begin = self.baton.is_some()
+            && !self.free.is_empty()
+            && !self.guesses.makes_next(scan);
         if self.is_over {
             Choice::End
         } else if can_begin && self.guesses.has_next(scan) {

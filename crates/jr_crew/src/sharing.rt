@@ -100,9 +100,9 @@ fn open_guesses<S: OneFirstIntervals>(
 }
 
 /// A queue of so many benches, of which the calling thread brings `own`.
-fn open_queue<'a, S: OneFirstIntervals>(
+fn open_queue<S: OneFirstIntervals>(
     alloc: Global,
-    part: &FirstIntervals<'a>,
+    part: &FirstIntervals<'_>,
     count: u32,
     own: u32,
 ) -> Result<RowQueue<S>, Memory> {
