@@ -9,7 +9,7 @@ ghost use Rattle.jr_rows.specs.MarkBytes.{HasMarkRoom, PutsBetween};
 ghost use Rattle.jr_rows.specs.Rows.{HasFirst, HasSampleRoom};
 ghost use Rattle.jr_rows.specs.SomeLines.{CountsBetween, PaintsLines, row_behind, row_with};
 
-use crate::{Marked, Rows, SampleRow, shape_of};
+use crate::{FirstIntervals, Marked, Rows, SampleRow, shape_of};
 use jr_base::Memory;
 use jr_head::Head;
 use jr_scan::Scan;
@@ -82,12 +82,13 @@ pub(crate) fn paint_between(
     let _intervals = scan.intervals();
     let line = shape_of(head).line;
     let (row, behind) = rows_of(head, first, end);
-    let mut rows = Rows::at(scan, row);
+    let part = FirstIntervals::of(scan, None);
+    let mut rows = Rows::at(&part, row);
     let mut marked = Marked::none();
     'rows: while rows.row() < behind {
         let row = rows.row();
         let (y, count) = lines_in(head, row, first, end);
-        let more = work.decode(&mut rows, marks);
+        let more = work.decode(&part, &mut rows, marks);
         marked = marked.with(more);
         let from = bytes_to(y - first, end - first, line);
         let to = bytes_to(y - first + count, end - first, line);
