@@ -117,18 +117,16 @@ impl<'a, S: OneFirstIntervals> Crew<'a, S> {
     fn task<R: Wait>(&self, rt: &R) -> Option<RowTask<S>> {
         let scan = self.part.scan();
         let mut queue = self.queue.lock(rt);
-        queue.begin_waiting();
+        queue.waiting = queue.waiting.saturating_add(1);
         let mut queue = self.has_task.wait_while(rt, queue, |queue| {
             queue.has_no_task(scan) && !queue.has_spare()
         });
-        queue.end_waiting();
-        if let Some(task) = queue.task(&self.part) {
-            return Some(task);
+        queue.waiting = queue.waiting.saturating_sub(1);
+        if queue.is_idle(scan) {
+            queue.spare(self.alloc)
+        } else {
+            queue.task(&self.part)
         }
-        if let Some(spare) = queue.spare(self.alloc) {
-            return Some(RowTask::GiveBack(spare));
-        }
-        None
     }
 
     /// What the calling thread does next, once there is something or this row is painted. None where it is, or nothing is left.
@@ -143,9 +141,10 @@ impl<'a, S: OneFirstIntervals> Crew<'a, S> {
         );
         queue.set_awaited(None);
         if queue.has(row) {
-            return None;
+            None
+        } else {
+            queue.task(&self.part)
         }
-        queue.task(&self.part)
     }
 
     /// Keeps a painted row.
@@ -253,7 +252,7 @@ impl<'a, S: OneFirstIntervals> Crew<'a, S> {
     /// Brings room for a guess of so many MCUs. Where memory is refused there are fewer guesses.
     fn bring_guess<R: Wait>(&self, rt: &R, most: u32) {
         if let Ok(room) = ScanGuess::open(self.alloc, self.part.scan(), most) {
-            self.queue.lock(rt).bring_guess(room);
+            self.queue.lock(rt).guesses.bring(room);
         }
     }
 

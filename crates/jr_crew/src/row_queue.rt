@@ -8,7 +8,7 @@ use crate::bench::{Bench, CodedRow, Painted};
 use crate::one_first_intervals::OneFirstIntervals;
 use crate::scan_of::ScanOf;
 use jr_base::Memory;
-use jr_guesses::{GuessQueue, GuessTask, ScanGuess};
+use jr_guesses::{GuessQueue, GuessTask};
 use jr_rows::{FirstIntervals, intervals_of_row};
 use jr_scan::Scan;
 use std::alloc::Global;
@@ -86,7 +86,7 @@ pub(crate) struct RowQueue<S: OneFirstIntervals> {
     free: VecDeque<Bench<S>>,
     /// So many benches nobody brings yet.
     lacking: u32,
-    guesses: GuessQueue<ScanOf<S>>,
+    pub(crate) guesses: GuessQueue<ScanOf<S>>,
     /// Whether their memory is given back.
     has_given_back: bool,
     /// In their order.
@@ -96,7 +96,7 @@ pub(crate) struct RowQueue<S: OneFirstIntervals> {
     /// The slot of a row is its number modulo how many slots there are: as many as benches.
     painted: Vec<Option<Painted<S>>>,
     /// How many threads wait for something to do.
-    waiting: u32,
+    pub(crate) waiting: u32,
     /// The row that the calling thread waits for.
     awaited: Option<u32>,
     ghost some: { 0 < length painted.items },
@@ -150,21 +150,6 @@ impl<S: OneFirstIntervals> RowQueue<S> {
         let is_lacking = self.lacking > 0;
         self.lacking = self.lacking.saturating_sub(1);
         is_lacking
-    }
-
-    /// Room for a guess, which a thread brings. It makes the guess itself, so nobody is woken.
-    pub(crate) fn bring_guess(&mut self, room: ScanGuess<ScanOf<S>>) {
-        self.guesses.bring(room);
-    }
-
-    /// A thread begins to wait for something to do.
-    pub(crate) fn begin_waiting(&mut self) {
-        self.waiting = self.waiting.saturating_add(1);
-    }
-
-    /// A thread waits no more.
-    pub(crate) fn end_waiting(&mut self) {
-        self.waiting = self.waiting.saturating_sub(1);
     }
 
     /// Whether a thread waits for something to do.
@@ -232,6 +217,11 @@ impl<S: OneFirstIntervals> RowQueue<S> {
         Some(BegunRow { baton, bench })
     }
 
+    /// Whether nothing is to be done now, or all is over.
+    pub(crate) fn is_idle(&self, scan: &Scan) -> bool {
+        matches!(self.choice(scan), Choice::Wait | Choice::End)
+    }
+
     /// What a thread does next. None where it has to wait, or all is over.
     pub(crate) fn task(&mut self, part: &FirstIntervals<'_>) -> Option<RowTask<S>>
         requires { S.part ≡ Some part.now }
@@ -281,17 +271,17 @@ impl<S: OneFirstIntervals> RowQueue<S> {
 
     /// Memory that nobody needs any more, where there is some, for a thread that has nothing else to do: room for guesses first, since
     /// it is more than that of a bench.
-    pub(crate) fn spare(&mut self, alloc: Global) -> Option<Spare<S>> {
+    pub(crate) fn spare(&mut self, alloc: Global) -> Option<RowTask<'a, S>> {
         if !self.is_begun {
             return None;
         }
         if !self.has_given_back {
             self.has_given_back = true;
             let guesses = replace(&mut self.guesses, GuessQueue::none(alloc));
-            return Some(Spare::Guesses(guesses));
+            return Some(RowTask::GiveBack(Spare::Guesses(guesses)));
         }
         if let Some(bench) = self.free.pop_front() {
-            return Some(Spare::Bench(bench));
+            return Some(RowTask::GiveBack(Spare::Bench(bench)));
         }
         None
     }
