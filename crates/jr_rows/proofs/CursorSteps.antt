@@ -11,7 +11,7 @@ use Rattle.jr_scan.specs.declared.place.Place.{Place}
 use Rattle.jr_scan.specs.declared.place.RunEnd.TheVariants.{AllRead}
 use Rattle.jr_scan.specs.IntervalValue.{IntervalValue}
 use Rattle.jr_scan.specs.Mcus.{Decodes, HasNoDecoding, LongestFront}
-use Rattle.jr_scan.specs.McuReader.{HasEnded, HasRead, McuReaderValue}
+use Rattle.jr_scan.specs.McuReader.{HasEnded, HasRead, McuReaderValue, per_mcu}
 use Rattle.jr_scan.specs.ScanValue.{ScanValue, intervals_of, mcus_in}
 use Rattle.jr_scan.specs.Run.{IsRun, RunOf, left_at, run_from, start_of_interval, whole_run}
 use Rattle.jr_scan.proofs.McuReaders.{front_of_run, left_is}
@@ -37,6 +37,22 @@ at_start i mcu place none e =
       next = λ p f. let is : Some start_of_interval ≡ Some p = sym e ∙ f in (start.blocks, subst (λ (k : ℕ). IsNext i k start.blocks p) (sym none) (start.next p is));
       none = λ f. let z : Some start_of_interval ≡ None = sym e ∙ f in cc;
     }
+
+-- a reader has read n more MCUs into these blocks
+pub record HasReadInto (r r' : McuReaderValue) (n : ℕ) (blocks : List (List ℤ)) : Type 0 where
+  pub run : r'.run ≡ r.run
+  pub mcus : r'.mcu ≡ r.mcu + n
+  pub few : r'.mcu ≤ r'.run.mcus
+  pub read : (zs : List (List ℤ)) → HasRead r zs → HasRead r' (zs ++ take (n * per_mcu r) blocks)
+  pub ended : (n + 1) * per_mcu r ≤ length blocks → HasEnded r'
+
+-- or has skipped n of at most so many
+pub record HasSkipped (r r' : McuReaderValue) (most n : ℕ) : Type 0 where
+  pub run : r'.run ≡ r.run
+  pub mcus : r'.mcu ≡ r.mcu + n
+  pub few : n ≤ most
+  pub read : (zs : List (List ℤ)) → HasRead r zs → (ys : List (List ℤ)) × HasRead r' (zs ++ ys)
+  pub ended : n < most → HasEnded r'
 
 -- what a reader has read from a place on, that was to read so many MCUs
 pub record GoesOn (i : IntervalValue) (p : Place) (r r' : McuReaderValue) (mcus n : ℕ) (ys : List (List ℤ)) : Type 0 where

@@ -1,10 +1,9 @@
 //! A position between two MCUs of a scan, from which one can read or skip.
 
-ghost use Rattle.std.specs.Prelude.{◌≡◌, ◌+◌, ◌*◌, ◌<◌, ◌≤◌, ◌++◌, ℕ, ℤ, List, Some, None, [], length, take, slice_index_or, IfSome};
+ghost use Rattle.std.specs.Prelude.{◌≡◌, ◌+◌, ◌*◌, ◌<◌, ◌≤◌, ℕ, Some, None, [], length, slice_index_or, IfSome};
 ghost use Rattle.jr_head.specs.Geometry.{order_of};
 ghost use Rattle.jr_scan.specs.declared.place.Place.{Place};
 ghost use Rattle.jr_scan.specs.Guesses.{AreGuessesOf};
-ghost use Rattle.jr_scan.specs.McuReader.{HasEnded, HasRead, per_mcu};
 ghost use Rattle.jr_scan.specs.Run.{start_of_interval};
 ghost use Rattle.jr_piece.specs.Outcome.{IsOutcome};
 ghost use Rattle.jr_piece.specs.PieceValue.{PieceValue};
@@ -52,40 +51,6 @@ fn place_after(reader: &McuReader<'_>, whole: u32, mcus: u32) -> Option<Place>
     Some(reader.place())
 }
 
-/// Reads the blocks of the next whole MCUs, over the guesses where there are some. Returns the number of these MCUs.
-fn read_by(
-    reader: &mut McuReader<'_>,
-    guesses: Option<&Guesses>,
-    blocks: &mut [Coefficients],
-) -> u32
-    requires same { IfSome guesses (λ g. AreGuessesOf reader.old.run.interval g.now) }
-    ensures run { reader.new.run ≡ reader.old.run }
-    ensures mcus { reader.new.mcu ≡ reader.old.mcu + result }
-    ensures few { reader.new.mcu ≤ reader.new.run.mcus }
-    ensures read { (zs : List (List ℤ)) → HasRead reader.old zs → HasRead reader.new (zs ++ take (result * per_mcu reader.old) blocks.new) }
-    ensures ended { (result + 1) * per_mcu reader.old ≤ length blocks.new → HasEnded reader.new }
-{
-    match guesses {
-        Some(guesses) => reader.read_by(guesses, blocks),
-        None => reader.read(blocks),
-    }
-}
-
-/// Skips the next whole MCUs, at most so many. Returns the number of them.
-fn skip_by(reader: &mut McuReader<'_>, guesses: Option<&Guesses>, mcus: u32) -> u32
-    requires same { IfSome guesses (λ g. AreGuessesOf reader.old.run.interval g.now) }
-    ensures run { reader.new.run ≡ reader.old.run }
-    ensures mcus { reader.new.mcu ≡ reader.old.mcu + result }
-    ensures most { result ≤ mcus }
-    ensures read { (zs : List (List ℤ)) → HasRead reader.old zs → (ys : List (List ℤ)) × HasRead reader.new (zs ++ ys) }
-    ensures ended { result < mcus → HasEnded reader.new }
-{
-    match guesses {
-        Some(guesses) => reader.skip_by(guesses, mcus),
-        None => reader.skip(mcus),
-    }
-}
-
 impl Cursor {
     /// Returns the start of an interval.
     pub(crate) fn at_start(number: u32) -> Cursor
@@ -127,7 +92,10 @@ impl Cursor {
             return;
         };
         let mut reader = McuReader::at(interval, place, mcus);
-        let whole = read_by(&mut reader, guesses, blocks);
+        let whole = match guesses {
+            Some(guesses) => reader.read_by(guesses, blocks),
+            None => reader.read(blocks),
+        };
         self.place = place_after(&reader, whole, mcus);
         zero_from(blocks, whole as usize * per_mcu);
     }
@@ -148,7 +116,10 @@ impl Cursor {
             return;
         };
         let mut reader = McuReader::at(interval, place, mcus);
-        let whole = skip_by(&mut reader, guesses, mcus);
+        let whole = match guesses {
+            Some(guesses) => reader.skip_by(guesses, mcus),
+            None => reader.skip(mcus),
+        };
         self.place = place_after(&reader, whole, mcus);
     }
 
