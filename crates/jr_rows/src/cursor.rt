@@ -27,7 +27,7 @@ pub struct Cursor {
 }
 
 /// Makes the blocks from one on zeros.
-fn zero_from(blocks: &mut [Coefficients], first: usize)
+pub(crate) fn zero_from(blocks: &mut [Coefficients], first: usize)
     requires { first ≤ length blocks.old }
     ensures kept { (k : ℕ) → k < first → slice_index_or blocks.new k [] ≡ slice_index_or blocks.old k [] }
     ensures zeros { (k : ℕ) → first ≤ k → k < length blocks.new → slice_index_or blocks.new k [] ≡ zero_block }
