@@ -6,6 +6,7 @@ use Rattle.std.proofs.lemmas.List.{get_or-take}
 use Rattle.std.proofs.Math.Nat.{add-mul, mul-le-mul_right}
 use Rattle.jr_head.specs.Geometry.{IsLawful, order_of, quantiser_of}
 use Rattle.jr_idct.specs.Transform.{samples}
+use Rattle.jr_idct.proofs.Zeros.{grey}
 use Rattle.jr_mcu.specs.Mcus.{component}
 use Rattle.jr_scan.specs.declared.place.Place.{Place}
 use Rattle.jr_scan.specs.declared.place.RunEnd.TheVariants.{AllRead}
@@ -21,7 +22,7 @@ use Rattle.jr_piece.specs.Strips.{CanReadFrom, FirstMcus, IsNext, units_before}
 use Rattle.jr_piece.specs.Units.{CodesUnits, grey_unit, unit_in_piece, zero_block}
 use Rattle.jr_piece.proofs.ScanLaws as laws
 use Rattle.jr_piece.proofs.StripRuns as runs
-use Rattle.jr_piece.proofs.UnitReading.{ZerosAreGrey, tells, zero_unit}
+use Rattle.jr_piece.proofs.UnitReading.{tells, zero_unit}
 use Rattle.jr_rows.specs.Cursors.{IsAt, mcus_to}
 use Rattle.jr_rows.specs.Rows.{intervals_before, mcus_before}
 use Rattle.jr_rows.specs.declared.cursor.Cursor.{Cursor}
@@ -98,10 +99,10 @@ module _ (i : IntervalValue) (lawful : IsLawful i.head) (mcu mcus n : ℕ) (p : 
   }
 
   -- and the blocks are the interval's, where those behind the whole MCUs are zeros
-  pub codes : ZerosAreGrey → (us : List (List ℤ)) → length us ≡ mcus * length (order_of i.head) → ((k : ℕ) → k < n * length (order_of i.head) → get_or us k [] ≡ get_or ys k [])
+  pub codes : (us : List (List ℤ)) → length us ≡ mcus * length (order_of i.head) → ((k : ℕ) → k < n * length (order_of i.head) → get_or us k [] ≡ get_or ys k [])
       → ((k : ℕ) → n * length (order_of i.head) ≤ k → k < length us → get_or us k [] ≡ zero_block)
       → (o : PieceValue) → IsOutcome o → o.interval ≡ i → CodesUnits o (units_before i mcu) us
-  codes grey us long kept zeros o out e k lt =
+  codes us long kept zeros o out e k lt =
       let per = length (order_of i.head) in
       ap (λ (v : IntervalValue). unit_of v.head us k) e ∙ elim (cases_lt k (n * per)) [
         | inl l ↦
@@ -125,8 +126,8 @@ module _ (i : IntervalValue) (mcu : ℕ) (place : Option Place) (at : IsAt i mcu
     none = λ e. let far = at.none is in (far.0, far.1, omega (arith, far.2), far.3);
   }
 
-  pub all_grey : ZerosAreGrey → (us : List (List ℤ)) → ((k : ℕ) → k < length us → get_or us k [] ≡ zero_block) → (o : PieceValue) → IsOutcome o → o.interval ≡ i → CodesUnits o (units_before i mcu) us
-  all_grey grey us zeros o out e k lt =
+  pub all_grey : (us : List (List ℤ)) → ((k : ℕ) → k < length us → get_or us k [] ≡ zero_block) → (o : PieceValue) → IsOutcome o → o.interval ≡ i → CodesUnits o (units_before i mcu) us
+  all_grey us zeros o out e k lt =
       let far = at.none is in
       let before = far.2 in
       ap (λ (v : IntervalValue). unit_of v.head us k) e ∙ zero_unit grey i.head us k (zeros k lt) ∙ grey_codes i far.0 mcu far.1 (omega (arith, before)) far.3 o e out k

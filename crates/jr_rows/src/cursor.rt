@@ -12,7 +12,6 @@ ghost use Rattle.jr_piece.specs.Units.{CodesUnits, zero_block};
 ghost use Rattle.jr_rows.specs.Cursors.{IsAt};
 
 use jr_base::Coefficients;
-use jr_idct::zeros_are_grey;
 use jr_scan::{Guesses, IntervalRef, McuReader, Place};
 
 /// A position between two MCUs of a scan.
@@ -84,7 +83,6 @@ impl Cursor {
         ensures blocks { (p : PieceValue) → IsOutcome p → p.interval ≡ interval.entry
             → CodesUnits p (units_before interval.entry self.old.mcu) blocks.new }
     {
-        zeros_are_grey();
         let per_mcu = interval.head().order().len();
         self.mcu += mcus;
         let Some(place) = self.place else {

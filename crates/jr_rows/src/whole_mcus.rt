@@ -13,7 +13,6 @@ use crate::row_lines::RowLines;
 use crate::shape::{mcus_at_once, shape_of, units_to};
 use jr_base::Coefficients;
 use jr_head::Head;
-use jr_idct::zeros_are_grey;
 use jr_piece::transform_blocks;
 use jr_scan::McuReader;
 
@@ -88,7 +87,6 @@ pub(crate) fn put_grey(
     ensures kept { (k : ℕ) → k < done * blocks_of head.now → slice_index_or (units_in head.now lines.new.groups) k [] ≡ slice_index_or (units_in head.now lines.old.groups) k [] }
     ensures grey { (k : ℕ) → k < result * blocks_of head.now → slice_index_or (units_in head.now lines.new.groups) (done * blocks_of head.now + k) [] ≡ grey_unit }
 {
-    zeros_are_grey();
     let at_once = mcus_at_once(head);
     let some = at_once.min(mcus);
     let blocks = &mut blocks[..units_to(some, at_once, head.order().len())];

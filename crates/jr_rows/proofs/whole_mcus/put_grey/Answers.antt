@@ -2,6 +2,7 @@ use Rattle.std.proofs.Common.{◌≡◌, ◌+◌, ◌*◌, ◌<◌, ◌≤◌, �
 use Rattle.std.proofs.Math.Nat.{add-mul, mul-le-mul_right}
 use Rattle.jr_head.specs.Geometry.{blocks_of, mcus_across, quantiser_of}
 use Rattle.jr_idct.specs.Transform.{samples}
+use Rattle.jr_idct.proofs.Zeros.{grey}
 use Rattle.jr_mcu.specs.Mcus.{component}
 use Rattle.jr_rows.specs.Groups.{units_in}
 use Rattle.jr_rows.proofs.GroupLists.{units_long}
@@ -23,4 +24,4 @@ returns-clause-grey c k lt =
     let some = c.min-some.result in
     let long : length c.zero_from.new.blocks ≡ some * blocks_of h = search (rules, arith) in
     let here : k < length c.zero_from.new.blocks = omega (arith, lt, long) in
-    c.transform_blocks.ensures.here k here ∙ ap (λ z. samples z (quantiser_of h (component h k))) (c.zero_from.ensures.zeros k (omega arith) here) ∙ c.zeros_are_grey.ensures (quantiser_of h (component h k))
+    c.transform_blocks.ensures.here k here ∙ ap (λ z. samples z (quantiser_of h (component h k))) (c.zero_from.ensures.zeros k (omega arith) here) ∙ grey (quantiser_of h (component h k))

@@ -12,7 +12,7 @@ use Rattle.jr_rows.proofs.cursor.Cursor.read.Goals.{in-Some-guesses, in-None}
 pub returns-in_default-clause-blocks : goal.returns-in_default-clause-blocks
 returns-in_default-clause-blocks c =
     let none : c.args.self.now.place ≡ None = search rules in
-    all_grey c.args.interval c.args.self.now.mcu c.args.self.now.place c.requires.at none c.zeros_are_grey.ensures c.zero_from.new.blocks (λ k lt. c.zero_from.ensures.zeros k (omega arith) lt)
+    all_grey c.args.interval c.args.self.now.mcu c.args.self.now.place c.requires.at none c.zero_from.new.blocks (λ k lt. c.zero_from.ensures.zeros k (omega arith) lt)
 
 abbrev Told : Type 0
 Told = goal.After-blocks-2-1
@@ -81,4 +81,4 @@ returns-clause-blocks c =
     let kept : (k : ℕ) → k < n * per → get_or us k [] ≡ get_or (blocks c) k [] = λ k lt.
     c.zero_from-2.ensures.kept k (omega (arith, lt, first)) ∙ sym (get_or-take (n * per_mcu c.at-reader.result) new k [] (omega (arith, lt, ap (λ (m : ℕ). n * m) (per_is c)))) in
     codes c.args.interval (lawful c) c.args.self.now.mcu c.args.mcus n c.in-Some.place c.args.self.now.place c.requires.at c.in-Some.is c.requires.few (most c) c.at-reader.result c.match-guesses.reader (blocks c) (on c)
-    c.zeros_are_grey.ensures us all kept (λ k le lt. c.zero_from-2.ensures.zeros k (omega (arith, le, first)) lt)
+    us all kept (λ k le lt. c.zero_from-2.ensures.zeros k (omega (arith, le, first)) lt)
