@@ -23,14 +23,14 @@ use Rattle.jr_piece.specs.Units.{CodesUnits, grey_unit, unit_in_piece, zero_bloc
 use Rattle.jr_piece.proofs.ScanLaws as laws
 use Rattle.jr_piece.proofs.StripRuns as runs
 use Rattle.jr_piece.proofs.UnitReading.{tells, zero_unit}
-use Rattle.jr_rows.specs.Cursors.{IsAt, mcus_to}
+use Rattle.jr_rows.specs.Cursors.{IsPlaceAfter, mcus_to}
 use Rattle.jr_rows.specs.Rows.{intervals_before, mcus_before}
 use Rattle.jr_rows.specs.declared.cursor.Cursor.{Cursor}
 use Rattle.jr_rows.proofs.CodedUnits.{grey_codes, whole_codes}
 use Rattle.jr_rows.proofs.IntervalPlaces.{ends_before, of_first}
 
 -- at the start of an interval
-pub at_start : (i : IntervalValue) (mcu : ℕ) (place : Option Place) → mcu ≡ 0 → place ≡ Some start_of_interval → IsAt i mcu place
+pub at_start : (i : IntervalValue) (mcu : ℕ) (place : Option Place) → mcu ≡ 0 → place ≡ Some start_of_interval → IsPlaceAfter i mcu place
 at_start i mcu place none e =
     let start = runs.at_start i in
     record {
@@ -64,7 +64,7 @@ pub record GoesOn (i : IntervalValue) (p : Place) (r r' : McuReaderValue) (mcus 
   pub read : HasRead r' ys
   pub ended : n < mcus → HasEnded r'
 
-module _ (i : IntervalValue) (lawful : IsLawful i.head) (mcu mcus n : ℕ) (p : Place) (place : Option Place) (at : IsAt i mcu place) (is : place ≡ Some p) (few : mcu + mcus ≤ i.mcus) (most : n ≤ mcus)
+module _ (i : IntervalValue) (lawful : IsLawful i.head) (mcu mcus n : ℕ) (p : Place) (place : Option Place) (at : IsPlaceAfter i mcu place) (is : place ≡ Some p) (few : mcu + mcus ≤ i.mcus) (most : n ≤ mcus)
     (r r' : McuReaderValue) (ys : List (List ℤ)) (on : GoesOn i p r r' mcus n ys) where
   abbrev zs : List (List ℤ)
   zs = (at.next p is).0
@@ -88,7 +88,7 @@ module _ (i : IntervalValue) (lawful : IsLawful i.head) (mcu mcus n : ℕ) (p : 
   own = ap (λ (o : RunOf). o.interval) (on.run' ∙ on.run)
 
   -- it is where the reader is, or no further MCU is whole
-  pub moved : (q : Option Place) → ((x : Place) → q ≡ Some x → n ≡ mcus) → ((x : Place) → q ≡ Some x → x ≡ r'.place) → ((x : Place) → q ≡ Some x → CanReadFrom r'.run.interval x) → (q ≡ None → n < mcus) → IsAt i (mcu + mcus) q
+  pub moved : (q : Option Place) → ((x : Place) → q ≡ Some x → n ≡ mcus) → ((x : Place) → q ≡ Some x → x ≡ r'.place) → ((x : Place) → q ≡ Some x → CanReadFrom r'.run.interval x) → (q ≡ None → n < mcus) → IsPlaceAfter i (mcu + mcus) q
   moved q whole there can stuck = record {
     few = few;
     next = λ x e.
@@ -118,8 +118,8 @@ module _ (i : IntervalValue) (lawful : IsLawful i.head) (mcu mcus n : ℕ) (p : 
       ]
 
 -- where no further MCU is whole
-module _ (i : IntervalValue) (mcu : ℕ) (place : Option Place) (at : IsAt i mcu place) (is : place ≡ None) where
-  pub grey_on : (mcus : ℕ) → mcu + mcus ≤ i.mcus → IsAt i (mcu + mcus) place
+module _ (i : IntervalValue) (mcu : ℕ) (place : Option Place) (at : IsPlaceAfter i mcu place) (is : place ≡ None) where
+  pub grey_on : (mcus : ℕ) → mcu + mcus ≤ i.mcus → IsPlaceAfter i (mcu + mcus) place
   grey_on mcus few = record {
     few = few;
     next = λ p e. let z : Some p ≡ None = sym e ∙ is in cc;
@@ -142,7 +142,7 @@ module _ (i : IntervalValue) (mcu : ℕ) (place : Option Place) (at : IsAt i mcu
       omega (arith, le, before, all)
 
 -- where all MCUs are whole the interval has a decoding, if fewer than eight bits are left
-module _ (i : IntervalValue) (lawful : IsLawful i.head) (mcu : ℕ) (place : Option Place) (at : IsAt i mcu place) (p : Place) (is : place ≡ Some p) (all : mcu ≡ i.mcus) where
+module _ (i : IntervalValue) (lawful : IsLawful i.head) (mcu : ℕ) (place : Option Place) (at : IsPlaceAfter i mcu place) (p : Place) (is : place ≡ Some p) (all : mcu ≡ i.mcus) where
   abbrev blocks : List (List ℤ)
   blocks = (at.next p is).0
 

@@ -9,7 +9,7 @@ ghost use Rattle.jr_piece.specs.Outcome.{IsOutcome};
 ghost use Rattle.jr_piece.specs.PieceValue.{PieceValue};
 ghost use Rattle.jr_piece.specs.Strips.{CanReadFrom, units_before};
 ghost use Rattle.jr_piece.specs.Units.{CodesUnits, zero_block};
-ghost use Rattle.jr_rows.specs.Cursors.{IsAt};
+ghost use Rattle.jr_rows.specs.Cursors.{IsPlaceAfter};
 
 use jr_base::Coefficients;
 use jr_scan::{Guesses, IntervalRef, McuReader, Place};
@@ -73,11 +73,11 @@ impl Cursor {
         mcus: u32,
         blocks: &mut [Coefficients],
     )
-        requires at { IsAt interval self.old.mcu self.old.place }
+        requires at { IsPlaceAfter interval self.old.mcu self.old.place }
         requires few { self.old.mcu + mcus ≤ interval.mcus }
         requires room { length blocks.old ≡ mcus * length (order_of interval.head) }
         requires same { IfSome guesses (λ g. AreGuessesOf interval g.now) }
-        ensures at { IsAt interval.entry self.new.mcu self.new.place }
+        ensures at { IsPlaceAfter interval.entry self.new.mcu self.new.place }
         ensures number { self.new.number ≡ self.old.number }
         ensures mcu { self.new.mcu ≡ self.old.mcu + mcus }
         ensures blocks { (p : PieceValue) → IsOutcome p → p.interval ≡ interval.entry
@@ -100,10 +100,10 @@ impl Cursor {
 
     /// Skips the next MCUs of the interval.
     pub(crate) fn skip(&mut self, interval: IntervalRef<'_>, guesses: Option<&Guesses>, mcus: u32)
-        requires at { IsAt interval self.old.mcu self.old.place }
+        requires at { IsPlaceAfter interval self.old.mcu self.old.place }
         requires few { self.old.mcu + mcus ≤ interval.mcus }
         requires same { IfSome guesses (λ g. AreGuessesOf interval g.now) }
-        ensures at { IsAt interval.entry self.new.mcu self.new.place }
+        ensures at { IsPlaceAfter interval.entry self.new.mcu self.new.place }
         ensures number { self.new.number ≡ self.old.number }
         ensures mcu { self.new.mcu ≡ self.old.mcu + mcus }
     {
@@ -123,7 +123,7 @@ impl Cursor {
 
     /// Returns whether the interval has a decoding, once all its MCUs are read.
     pub(crate) fn is_sound(&self, interval: &IntervalRef<'_>) -> bool
-        requires at { IsAt interval.now self.now.mcu self.now.place }
+        requires at { IsPlaceAfter interval.now self.now.mcu self.now.place }
         requires all { self.now.mcu ≡ interval.now.mcus }
         ensures { (p : PieceValue) → IsOutcome p → p.interval ≡ interval.now → p.is_sound ≡ result }
     {

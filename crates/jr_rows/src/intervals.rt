@@ -3,7 +3,7 @@
 ghost use Rattle.std.specs.Prelude.{◌≡◌, ◌+◌, ◌*◌, ◌<◌, ◌≤◌, length, IfSome};
 ghost use Rattle.jr_head.specs.Geometry.{blocks_of, mcus_of};
 ghost use Rattle.jr_scan.specs.ScanValue.{intervals_of, mcus_in};
-ghost use Rattle.jr_rows.specs.Cursors.{AreGuessesIn, StandsIn, mcus_to};
+ghost use Rattle.jr_rows.specs.Cursors.{AreGuessesIn, IsCursorOf, mcus_to};
 ghost use Rattle.jr_rows.specs.MarkBytes.{HasMarkRoom, PutsMarks, PutsMcus};
 ghost use Rattle.jr_rows.specs.Rows.{CountsMarks, CountsMcus, GivesMcus, intervals_before, mcus_before};
 
@@ -19,9 +19,9 @@ use jr_scan::Scan;
 impl Cursor {
     /// Goes on to the next interval where this one is read to its end. Returns the number of its MCUs that are left.
     fn ready(&mut self, scan: &Scan) -> u32
-        requires stands { StandsIn scan.now self.old }
+        requires stands { IsCursorOf scan.now self.old }
         requires more { mcus_to scan.now.head self.old < mcus_of scan.now.head }
-        ensures stands { StandsIn scan.now self.new }
+        ensures stands { IsCursorOf scan.now self.new }
         ensures some { 0 < result }
         ensures left { self.new.mcu + result ≡ mcus_in scan.now.head self.new.number }
         ensures number { self.new.number < intervals_of scan.now.head }
@@ -39,7 +39,7 @@ impl Cursor {
 
     /// Returns the mark of the interval, where it is read to its end, and puts it into its place in `marks`, where these are asked for.
     fn marked(&self, part: &FirstIntervals<'_>, marks: &mut [u8]) -> Marked
-        requires stands { StandsIn part.now.scan self.now }
+        requires stands { IsCursorOf part.now.scan self.now }
         requires decoded { self.now.number < part.now.limit }
         requires some { 0 < self.now.mcu }
         requires places { HasMarkRoom part.now.scan marks.old }
@@ -66,12 +66,12 @@ impl Cursor {
         blocks: &mut [Coefficients],
         marks: &mut [u8],
     ) -> Marked
-        requires stands { StandsIn part.now.scan self.old }
+        requires stands { IsCursorOf part.now.scan self.old }
         requires same { IfSome guesses (λ g. AreGuessesIn part.now.scan g.now) }
         requires few { mcus_to part.now.scan.head self.old + mcus ≤ mcus_before part.now.scan.head part.now.limit }
         requires room { length blocks.old ≡ mcus * blocks_of part.now.scan.head }
         requires places { HasMarkRoom part.now.scan marks.old }
-        ensures stands { StandsIn part.now.scan self.new }
+        ensures stands { IsCursorOf part.now.scan self.new }
         ensures moved { mcus_to part.now.scan.head self.new ≡ mcus_to part.now.scan.head self.old + mcus }
         ensures gives { GivesMcus part.now.scan part.now.limit (mcus_to part.now.scan.head self.old) mcus blocks.new }
         ensures counts { CountsMcus part.now.scan part.now.limit (mcus_to part.now.scan.head self.old) (mcus_to part.now.scan.head self.new) result }
@@ -99,10 +99,10 @@ impl Cursor {
 
     /// Skips the next MCUs.
     pub(crate) fn skip_mcus(&mut self, scan: &Scan, guesses: Option<&IntervalGuesses>, mcus: u32)
-        requires stands { StandsIn scan.now self.old }
+        requires stands { IsCursorOf scan.now self.old }
         requires same { IfSome guesses (λ g. AreGuessesIn scan.now g.now) }
         requires few { mcus_to scan.now.head self.old + mcus ≤ mcus_of scan.now.head }
-        ensures stands { StandsIn scan.now self.new }
+        ensures stands { IsCursorOf scan.now self.new }
         ensures moved { mcus_to scan.now.head self.new ≡ mcus_to scan.now.head self.old + mcus }
     {
         let mut left = mcus;

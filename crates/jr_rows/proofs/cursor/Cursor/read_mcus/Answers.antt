@@ -13,7 +13,7 @@ use Rattle.jr_piece.specs.Strips.{units_before}
 use Rattle.jr_piece.specs.Units.{CodesUnits}
 use Rattle.jr_piece.proofs.Parts.{kept_before, put_there}
 use Rattle.jr_rows.specs.Bands.{unit_shown}
-use Rattle.jr_rows.specs.Cursors.{IsAt, mcus_to}
+use Rattle.jr_rows.specs.Cursors.{IsPlaceAfter, mcus_to}
 use Rattle.jr_rows.specs.MarkBytes.{PutsMarks}
 use Rattle.jr_rows.specs.Rows.{CountsMarks, GivesBehind, GivesMcus, intervals_before}
 use Rattle.jr_rows.proofs.CursorSteps.{IsReady, decoded, ended}
@@ -105,7 +105,7 @@ intervals-preserved c =
       long = search rules;
       stands = record {
         number = omega (arith, e.stands.number, ap (λ (s : ScanValue). length s.intervals) c.scan-scan.ensures, c.read.ensures.number);
-        at = subst (λ (k : ℕ). IsAt (interval_of t k) c.read.new.self.mcu c.read.new.self.place) (sym c.read.ensures.number) (subst (λ (i : IntervalValue). IsAt i c.read.new.self.mcu c.read.new.self.place) interval c.read.ensures.at);
+        at = subst (λ (k : ℕ). IsPlaceAfter (interval_of t k) c.read.new.self.mcu c.read.new.self.place) (sym c.read.ensures.number) (subst (λ (i : IntervalValue). IsPlaceAfter i c.read.new.self.mcu c.read.new.self.place) interval c.read.ensures.at);
       };
       moved = omega (arith, number, c.read.ensures.mcu, ready.to, keep.moved);
       gives = λ b first. shown_more n done mcus from (unit_shown b) (unit_of h old) (unit_of h new) positive (keep.gives b first)
