@@ -38,6 +38,7 @@ fn baton_over<S: OneFirstIntervals>(part: &FirstIntervals<'_>, rows: Rows) -> Op
     requires rows { AreRowsOf part.now rows }
 {
     if rows.row() >= shape_of(part.scan().head()).down {
+        drop(rows);
         return None;
     }
     Some(Baton {
@@ -60,7 +61,9 @@ impl<S: OneFirstIntervals> Baton<S> {
         requires { S.part ≡ Some part.now }
     {
         let head = part.scan().head();
-        let intervals = intervals_of_row(head)?;
+        let Some(intervals) = intervals_of_row(head) else {
+            return None;
+        };
         let down = shape_of(head).down;
         let row = self.rows.row() + 1;
         if row >= down {
@@ -119,7 +122,9 @@ impl<S: OneFirstIntervals> Baton<S> {
         requires { S.part ≡ Some part.now }
     {
         let mut rows = self.rows;
-        bench.decode(part, &mut rows, Some(&self.guesses), room)
+        let painted = bench.decode(part, &mut rows, Some(&self.guesses), room);
+        drop(rows);
+        painted
     }
 
     /// Tells the gate of the intervals that begin in the next row.

@@ -89,7 +89,9 @@ impl<S: OneFirstIntervals> Bench<S> {
     pub fn open(alloc: Global, part: &FirstIntervals<'_>) -> Result<Bench<S>, Memory>
         requires { S.part ≡ Some part.now }
     {
-        let pixels = vec![in alloc; 0; bytes_of_row(part.scan().head())]?;
+        let Ok(pixels) = vec![in alloc; 0; bytes_of_row(part.scan().head())] else {
+            return Err(Memory);
+        };
         Ok(Bench {
             work: None,
             pixels,

@@ -10,12 +10,12 @@ use crate::bench::{Bench, Painted, WorkBench};
 use crate::caller_room::CallerRoom;
 use crate::one_first_intervals::OneFirstIntervals;
 use crate::paint_room::PaintRoom;
-use crate::row_queue::{PassedRow, RowQueue, RowTask, Waiter};
+use crate::row_queue::{BegunRow, RowQueue, RowTask, Waiter};
 use crate::scan_of::ScanOf;
 use jr_base::Memory;
 use jr_guesses::{GuessTask, ScanGuess};
 use jr_picture::Gate;
-use jr_rows::{FirstIntervals, intervals_of_row, room_for};
+use jr_rows::{FirstIntervals, intervals_of_row};
 use std::alloc::Global;
 use std::marker::Model;
 use std::sync::{Condvar, Mutex, Wait};
@@ -81,15 +81,27 @@ impl<'a, S: OneFirstIntervals> Crew<'a, S> {
         ensures lines { IfOk result (λ r. 8 * vertical_max self.now.scan.head * line_size self.now.scan.head ≤ length r.pixels.items) }
         ensures header { IfOk result (λ r. HEADER_ROOM ≤ length r.pixels.items) }
     {
-        let paint = PaintRoom::open(self.alloc, &self.part)?;
-        let pixels = vec![in self.alloc; 0; room_for(self.part.scan().head())]?;
-        for _ in 0..benches {
-            let bench = Bench::open(self.alloc, &self.part)?;
-            self.give_back(rt, bench);
+        let Ok(room) = CallerRoom::open(self.alloc, &self.part) else {
+            return Err(Memory);
+        };
+        if self.bring_benches(rt, benches).is_err() {
+            drop(room);
+            return Err(Memory);
         }
         self.queue.lock(rt).start(Baton::of(&self.part));
         self.has_task.notify_all();
-        Ok(CallerRoom { paint, pixels })
+        Ok(room)
+    }
+
+    /// Brings so many benches.
+    fn bring_benches<R: Wait>(&self, rt: &R, benches: u32) -> Result<(), Memory> {
+        for _ in 0..benches {
+            let Ok(bench) = Bench::open(self.alloc, &self.part) else {
+                return Err(Memory);
+            };
+            self.give_back(rt, bench);
+        }
+        Ok(())
     }
 
     /// What of the scan is decoded.
@@ -105,14 +117,15 @@ impl<'a, S: OneFirstIntervals> Crew<'a, S> {
     fn task<R: Wait>(&self, rt: &R) -> Option<RowTask<S>> {
         let scan = self.part.scan();
         let mut queue = self.queue.lock(rt);
-        queue.begin_waiting();
+        queue.waiting = queue.waiting.saturating_add(1);
         let mut queue = self.has_task.wait_while(rt, queue, |queue| {
             queue.has_no_task(scan) && !queue.has_spare()
         });
-        queue.end_waiting();
-        match queue.task(&self.part) {
-            Some(task) => Some(task),
-            None => queue.spare(),
+        queue.waiting = queue.waiting.saturating_sub(1);
+        if queue.is_idle(scan) {
+            queue.spare(self.alloc)
+        } else {
+            queue.task(&self.part)
         }
     }
 
@@ -128,9 +141,10 @@ impl<'a, S: OneFirstIntervals> Crew<'a, S> {
         );
         queue.set_awaited(None);
         if queue.has(row) {
-            return None;
+            None
+        } else {
+            queue.task(&self.part)
         }
-        queue.task(&self.part)
     }
 
     /// Keeps a painted row.
@@ -142,22 +156,22 @@ impl<'a, S: OneFirstIntervals> Crew<'a, S> {
     }
 
     /// Reads a row, and paints it where rows are whole intervals; else it waits for whoever is free.
-    fn read<R: Wait, G: Gate>(
-        &self,
-        rt: &R,
-        gate: &G,
-        baton: Baton<S>,
-        bench: Bench<S>,
-        room: &mut PaintRoom<S>,
-    ) {
-        baton.announce(&self.part, gate);
+    fn read<R: Wait, G: Gate>(&self, rt: &R, gate: &G, row: BegunRow<S>, room: &mut PaintRoom<S>) {
+        row.baton.announce(&self.part, gate);
         if intervals_of_row(self.part.scan().head()).is_some() {
-            return self.put_painted(rt, baton.finish(&self.part, bench, room));
+            return self.finish(rt, row, room);
         }
+        let BegunRow { baton, bench } = row;
         match bench.with_work(self.alloc, &self.part) {
             Ok(bench) => self.read_on(rt, baton, bench),
             Err(bench) => self.decode_on(rt, baton, bench, room),
         }
+    }
+
+    /// Reads and paints a row, of whose intervals the gate was told.
+    fn finish<R: Wait>(&self, rt: &R, row: BegunRow<S>, room: &mut PaintRoom<S>) {
+        let BegunRow { baton, bench } = row;
+        self.put_painted(rt, baton.finish(&self.part, bench, room));
     }
 
     /// Reads a row, which waits for whoever is free.
@@ -191,9 +205,12 @@ impl<'a, S: OneFirstIntervals> Crew<'a, S> {
     }
 
     /// Passes over a row; it waits for whoever is free.
-    fn pass<R: Wait, G: Gate>(&self, rt: &R, gate: &G, baton: Baton<S>, bench: Bench<S>) {
-        let (baton, behind) = baton.pass(&self.part, gate);
-        let passed = PassedRow { baton, bench };
+    fn pass<R: Wait, G: Gate>(&self, rt: &R, gate: &G, row: BegunRow<S>) {
+        let (baton, behind) = row.baton.pass(&self.part, gate);
+        let passed = BegunRow {
+            baton,
+            bench: row.bench,
+        };
         let waiter = self.queue.lock(rt).put_passed(&self.part, passed, behind);
         self.wake(waiter);
     }
@@ -214,11 +231,9 @@ impl<'a, S: OneFirstIntervals> Crew<'a, S> {
         room: &mut PaintRoom<S>,
     ) {
         match task {
-            RowTask::Read(baton, bench) => self.read(rt, gate, baton, bench, room),
-            RowTask::Pass(baton, bench) => self.pass(rt, gate, baton, bench),
-            RowTask::Finish(row) => {
-                self.put_painted(rt, row.baton.finish(&self.part, row.bench, room))
-            }
+            RowTask::Read(row) => self.read(rt, gate, row, room),
+            RowTask::Pass(row) => self.pass(rt, gate, row),
+            RowTask::Finish(row) => self.finish(rt, row, room),
             RowTask::Paint(coded) => self.put_painted(rt, coded.paint(&self.part, room)),
             RowTask::Guess(task) => self.guess(rt, task),
             RowTask::BringGuess(most) => self.bring_guess(rt, most),
@@ -237,7 +252,7 @@ impl<'a, S: OneFirstIntervals> Crew<'a, S> {
     /// Brings room for a guess of so many MCUs. Where memory is refused there are fewer guesses.
     fn bring_guess<R: Wait>(&self, rt: &R, most: u32) {
         if let Ok(room) = ScanGuess::open(self.alloc, self.part.scan(), most) {
-            self.queue.lock(rt).bring_guess(room);
+            self.queue.lock(rt).guesses.bring(room);
         }
     }
 

@@ -36,8 +36,12 @@ impl<S: OneFirstIntervals> PaintRoom<S> {
         requires { S.part ≡ Some part.now }
     {
         let head = part.scan().head();
-        let bytes = vec![in alloc; 0; line_room(head)]?;
-        let work = SampleRow::open(alloc, head)?;
+        let Ok(bytes) = vec![in alloc; 0; line_room(head)] else {
+            return Err(Memory);
+        };
+        let Ok(work) = SampleRow::open(alloc, head) else {
+            return Err(Memory);
+        };
         Ok(PaintRoom {
             bytes,
             work,

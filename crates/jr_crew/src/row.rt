@@ -39,8 +39,12 @@ impl Row {
         ensures { IfOk result (HasRowRoom head.now) }
     {
         let count = shape_of(head).across as usize * head.order().len();
-        let blocks = vec![in alloc; Coefficients::zeros(); count]?;
-        let lines = RowLines::open(alloc, head)?;
+        let Ok(blocks) = vec![in alloc; Coefficients::zeros(); count] else {
+            return Err(Memory);
+        };
+        let Ok(lines) = RowLines::open(alloc, head) else {
+            return Err(Memory);
+        };
         Ok(Row { blocks, lines })
     }
 

@@ -7,9 +7,11 @@ use crate::baton::Baton;
 use crate::bench::{Bench, CodedRow, Painted};
 use crate::one_first_intervals::OneFirstIntervals;
 use crate::scan_of::ScanOf;
-use jr_guesses::{GuessQueue, GuessTask, ScanGuess};
+use jr_base::Memory;
+use jr_guesses::{GuessQueue, GuessTask};
 use jr_rows::{FirstIntervals, intervals_of_row};
 use jr_scan::Scan;
+use std::alloc::Global;
 use std::collections::VecDeque;
 use std::mem::replace;
 
@@ -17,11 +19,11 @@ use std::mem::replace;
 #[derive(Drop)]
 pub(crate) enum RowTask<S: OneFirstIntervals> {
     /// Reads the next row.
-    Read(Baton<S>, Bench<S>),
+    Read(BegunRow<S>),
     /// Passes over the next row, so that another thread can read it while the rows behind it are passed over.
-    Pass(Baton<S>, Bench<S>),
+    Pass(BegunRow<S>),
     /// Reads and paints a row that was passed over.
-    Finish(PassedRow<S>),
+    Finish(BegunRow<S>),
     /// Paints a row that is read.
     Paint(CodedRow<S>),
     /// Makes a guess.
@@ -39,9 +41,9 @@ pub(crate) enum Spare<S: OneFirstIntervals> {
     Bench(Bench<S>),
 }
 
-/// A row that was passed over, and what it will be read on: so it needs nothing that a later row could take.
+/// A row that is begun, and what it is read on: so it needs nothing that a later row could take.
 #[derive(Drop)]
-pub(crate) struct PassedRow<S: OneFirstIntervals> {
+pub(crate) struct BegunRow<S: OneFirstIntervals> {
     pub(crate) baton: Baton<S>,
     pub(crate) bench: Bench<S>,
 }
@@ -84,32 +86,28 @@ pub(crate) struct RowQueue<S: OneFirstIntervals> {
     free: VecDeque<Bench<S>>,
     /// So many benches nobody brings yet.
     lacking: u32,
-    guesses: GuessQueue<ScanOf<S>>,
-    /// A queue without room, which takes the place of the other when no row is left to begin.
-    no_guesses: Option<GuessQueue<ScanOf<S>>>,
+    pub(crate) guesses: GuessQueue<ScanOf<S>>,
+    /// Whether their memory is given back.
+    has_given_back: bool,
     /// In their order.
-    passed: VecDeque<PassedRow<S>>,
+    passed: VecDeque<BegunRow<S>>,
     /// In their order.
     coded: VecDeque<CodedRow<S>>,
     /// The slot of a row is its number modulo how many slots there are: as many as benches.
     painted: Vec<Option<Painted<S>>>,
     /// How many threads wait for something to do.
-    waiting: u32,
+    pub(crate) waiting: u32,
     /// The row that the calling thread waits for.
     awaited: Option<u32>,
     ghost some: { 0 < length painted.items },
 }
 
 impl<S: OneFirstIntervals> RowQueue<S> {
-    /// No row may begin yet. Threads bring so many benches, beside those of the calling one. There is room for as many benches, and
-    /// passed, coded and painted rows, as there will be benches.
+    /// No row may begin yet. Threads bring so many benches, beside those of the calling one.
     pub(crate) fn of(
-        free: VecDeque<Bench<S>>,
+        alloc: Global,
         lacking: u32,
         guesses: GuessQueue<ScanOf<S>>,
-        no_guesses: GuessQueue<ScanOf<S>>,
-        passed: VecDeque<PassedRow<S>>,
-        coded: VecDeque<CodedRow<S>>,
         painted: Vec<Option<Painted<S>>>,
     ) -> RowQueue<S>
         requires { 0 < length painted.items }
@@ -118,21 +116,33 @@ impl<S: OneFirstIntervals> RowQueue<S> {
             baton: None,
             is_begun: false,
             is_over: false,
-            free,
+            free: VecDeque::new(alloc),
             lacking,
             guesses,
-            no_guesses: Some(no_guesses),
-            passed,
-            coded,
+            has_given_back: false,
+            passed: VecDeque::new(alloc),
+            coded: VecDeque::new(alloc),
             painted,
             waiting: 0,
             awaited: None,
         }
     }
 
+    /// Takes memory for so many benches, and passed and coded rows: as many as there will be benches.
+    pub(crate) fn reserve(&mut self, count: u32) -> Result<(), Memory> {
+        let count = count as usize;
+        if self.free.reserve_exact(count).is_err()
+            || self.passed.reserve_exact(count).is_err()
+            || self.coded.reserve_exact(count).is_err()
+        {
+            return Err(Memory);
+        }
+        Ok(())
+    }
+
     /// The first of these rows may begin.
     pub(crate) fn start(&mut self, baton: Option<Baton<S>>) {
-        self.baton = baton;
+        drop(replace(&mut self.baton, baton));
     }
 
     /// Whether a thread is to bring a bench.
@@ -140,21 +150,6 @@ impl<S: OneFirstIntervals> RowQueue<S> {
         let is_lacking = self.lacking > 0;
         self.lacking = self.lacking.saturating_sub(1);
         is_lacking
-    }
-
-    /// Room for a guess, which a thread brings. It makes the guess itself, so nobody is woken.
-    pub(crate) fn bring_guess(&mut self, room: ScanGuess<ScanOf<S>>) {
-        self.guesses.bring(room);
-    }
-
-    /// A thread begins to wait for something to do.
-    pub(crate) fn begin_waiting(&mut self) {
-        self.waiting = self.waiting.saturating_add(1);
-    }
-
-    /// A thread waits no more.
-    pub(crate) fn end_waiting(&mut self) {
-        self.waiting = self.waiting.saturating_sub(1);
     }
 
     /// Whether a thread waits for something to do.
@@ -200,19 +195,31 @@ impl<S: OneFirstIntervals> RowQueue<S> {
         self.choice(scan) == Choice::Wait
     }
 
-    /// The rows that come next, with the guesses for the first of them.
-    fn begin(&mut self, part: &FirstIntervals<'_>) -> Option<Baton<S>>
+    /// The rows that come next, with the guesses for the first of them, and the bench that it is read on.
+    fn begin(&mut self, part: &FirstIntervals<'_>, bench: Option<Bench<S>>) -> Option<BegunRow<S>>
         requires { S.part ≡ Some part.now }
     {
-        let baton = self.baton.take()?;
-        self.baton = baton.behind(part);
+        let Some(bench) = bench else {
+            return None;
+        };
+        let Some(baton) = self.baton.take() else {
+            drop(bench);
+            return None;
+        };
+        self.start(baton.behind(part));
         // Where rows are whole intervals, this was the last one that could be begun.
         if self.baton.is_none() && intervals_of_row(part.scan().head()).is_some() {
             self.is_begun = true;
         }
         let number = self.guesses.number();
         let guesses = self.guesses.for_next(part.scan());
-        Some(baton.with_guesses(part, number, guesses))
+        let baton = baton.with_guesses(part, number, guesses);
+        Some(BegunRow { baton, bench })
+    }
+
+    /// Whether nothing is to be done now, or all is over.
+    pub(crate) fn is_idle(&self, scan: &Scan) -> bool {
+        matches!(self.choice(scan), Choice::Wait | Choice::End)
     }
 
     /// What a thread does next. None where it has to wait, or all is over.
@@ -220,33 +227,63 @@ impl<S: OneFirstIntervals> RowQueue<S> {
         requires { S.part ≡ Some part.now }
     {
         match self.choice(part.scan()) {
-            Choice::Read => Some(RowTask::Read(self.begin(part)?, self.free.pop_back()?)),
-            Choice::Pass => Some(RowTask::Pass(self.begin(part)?, self.free.pop_front()?)),
-            Choice::Finish => Some(RowTask::Finish(self.passed.pop_front()?)),
-            Choice::Paint => Some(RowTask::Paint(self.coded.pop_front()?)),
-            Choice::Guess => Some(RowTask::Guess(self.guesses.take(part.scan())?)),
-            Choice::BringGuess => Some(RowTask::BringGuess(self.guesses.lacks_room()?)),
-            Choice::Wait | Choice::End => None,
+            Choice::Read => {
+                let bench = self.free.pop_back();
+                if let Some(row) = self.begin(part, bench) {
+                    return Some(RowTask::Read(row));
+                }
+            }
+            Choice::Pass => {
+                let bench = self.free.pop_front();
+                if let Some(row) = self.begin(part, bench) {
+                    return Some(RowTask::Pass(row));
+                }
+            }
+            Choice::Finish => {
+                if let Some(row) = self.passed.pop_front() {
+                    return Some(RowTask::Finish(row));
+                }
+            }
+            Choice::Paint => {
+                if let Some(row) = self.coded.pop_front() {
+                    return Some(RowTask::Paint(row));
+                }
+            }
+            Choice::Guess => {
+                if let Some(guess) = self.guesses.take(part.scan()) {
+                    return Some(RowTask::Guess(guess));
+                }
+            }
+            Choice::BringGuess => {
+                if let Some(most) = self.guesses.lacks_room() {
+                    return Some(RowTask::BringGuess(most));
+                }
+            }
+            Choice::Wait | Choice::End => (),
         }
+        None
     }
 
     /// Whether there is memory that nobody needs any more.
     pub(crate) fn has_spare(&self) -> bool {
-        self.is_begun && (self.no_guesses.is_some() || !self.free.is_empty())
+        self.is_begun && (!self.has_given_back || !self.free.is_empty())
     }
 
     /// Memory that nobody needs any more, where there is some, for a thread that has nothing else to do: room for guesses first, since
     /// it is more than that of a bench.
-    pub(crate) fn spare(&mut self) -> Option<RowTask<S>> {
+    pub(crate) fn spare(&mut self, alloc: Global) -> Option<RowTask<'a, S>> {
         if !self.is_begun {
             return None;
         }
-        if let Some(none) = self.no_guesses.take() {
-            let guesses = replace(&mut self.guesses, none);
+        if !self.has_given_back {
+            self.has_given_back = true;
+            let guesses = replace(&mut self.guesses, GuessQueue::none(alloc));
             return Some(RowTask::GiveBack(Spare::Guesses(guesses)));
         }
-        let bench = self.free.pop_front()?;
-        Some(RowTask::GiveBack(Spare::Bench(bench)))
+        if let Some(bench) = self.free.pop_front() {
+            return Some(RowTask::GiveBack(Spare::Bench(bench)));
+        }
+        None
     }
 
     /// The rows behind those that are begun. Answers who is to be woken, since something can be done now.
@@ -259,7 +296,7 @@ impl<S: OneFirstIntervals> RowQueue<S> {
         };
         self.guesses.reach(part.scan(), number, bit);
         self.is_begun = behind.is_none();
-        self.baton = behind;
+        self.start(behind);
         self.waiter()
     }
 
@@ -275,15 +312,16 @@ impl<S: OneFirstIntervals> RowQueue<S> {
     pub(crate) fn put_passed(
         &mut self,
         part: &FirstIntervals<'_>,
-        passed: PassedRow<S>,
+        passed: BegunRow<S>,
         behind: Option<Baton<S>>,
     ) -> Option<Waiter>
         requires { S.part ≡ Some part.now }
     {
         if self.is_over {
+            drop((passed, behind));
             return None;
         }
-        let _ = self.passed.push_back(passed);
+        drop(self.passed.push_back(passed));
         self.go_on(part, behind)
     }
 
@@ -303,9 +341,10 @@ impl<S: OneFirstIntervals> RowQueue<S> {
         requires { S.part ≡ Some part.now }
     {
         if self.is_over {
+            drop((coded, behind));
             return None;
         }
-        let _ = self.coded.push_back(coded);
+        drop(self.coded.push_back(coded));
         self.go_on(part, behind)
     }
 
@@ -318,6 +357,7 @@ impl<S: OneFirstIntervals> RowQueue<S> {
         requires { S.part ≡ Some part.now }
     {
         if self.is_over {
+            drop(behind);
             return None;
         }
         self.go_on(part, behind)
@@ -338,7 +378,7 @@ impl<S: OneFirstIntervals> RowQueue<S> {
     pub(crate) fn put_painted(&mut self, painted: Painted<S>) -> bool {
         let row = painted.row();
         let slot = row as usize % self.painted.len();
-        self.painted[slot] = Some(painted);
+        drop(replace(&mut self.painted[slot], Some(painted)));
         self.awaited == Some(row)
     }
 
@@ -353,11 +393,12 @@ impl<S: OneFirstIntervals> RowQueue<S> {
 
     /// Keeps a bench, to be used again. There is room for it, since it came from here. Answers whether a thread waits.
     pub(crate) fn give_back(&mut self, bench: Bench<S>) -> bool {
-        let _ = if bench.has_work() {
+        let kept = if bench.has_work() {
             self.free.push_back(bench)
         } else {
             self.free.push_front(bench)
         };
+        drop(kept);
         self.is_waited_for()
     }
 
@@ -365,7 +406,7 @@ impl<S: OneFirstIntervals> RowQueue<S> {
     pub(crate) fn end(&mut self) {
         self.is_over = true;
         self.is_begun = true;
-        self.baton = None;
+        self.start(None);
         self.passed.clear();
         self.coded.clear();
     }

@@ -36,7 +36,9 @@ fn send<R: Wait, W: Write, G: Gate, S: OneFirstIntervals>(
     let _counts = (scan.intervals(), crew.part().limit());
     let CallerRoom { paint, mut pixels } = room;
     let mut caller = Caller::of(crew, rt, gate, paint);
-    write_rows(scan.head(), &mut caller, &mut pixels, out)
+    let sent = write_rows(scan.head(), &mut caller, &mut pixels, out);
+    drop(caller);
+    sent
 }
 
 /// What another thread decodes and paints rows by.

@@ -19,7 +19,6 @@ use jr_picture::{Counts, Gate};
 use jr_rows::{FirstIntervals, Marked, PictureError, counts_of, intervals_of_row, shape_of};
 use jr_scan::Scan;
 use std::alloc::Global;
-use std::collections::VecDeque;
 use std::io::Write;
 use std::marker::Brand;
 use std::sync::Wait;
@@ -47,7 +46,9 @@ fn open_slots<S: OneFirstIntervals>(
 ) -> Result<Vec<Option<Painted<S>>>, Memory>
     ensures { IfOk result (λ v. 0 < length v.items) }
 {
-    let mut slots = Vec::with_capacity(alloc, count as usize)?;
+    let Ok(mut slots) = Vec::with_capacity(alloc, count as usize) else {
+        return Err(Memory);
+    };
     slots.push(None)?;
     for _ in 1..count {
         slots.push(None)?;
@@ -106,21 +107,18 @@ fn open_queue<S: OneFirstIntervals>(
     count: u32,
     own: u32,
 ) -> Result<RowQueue<S>, Memory> {
-    let free = VecDeque::with_capacity(alloc, count as usize)?;
-    let guesses = open_guesses(alloc, part, guesses_of(part, count))?;
-    let no_guesses = open_guesses(alloc, part, 0)?;
-    let passed = VecDeque::with_capacity(alloc, count as usize)?;
-    let coded = VecDeque::with_capacity(alloc, count as usize)?;
-    let painted = open_slots(alloc, count)?;
-    Ok(RowQueue::of(
-        free,
-        count.saturating_sub(own),
-        guesses,
-        no_guesses,
-        passed,
-        coded,
-        painted,
-    ))
+    let Ok(painted) = open_slots(alloc, count) else {
+        return Err(Memory);
+    };
+    let Ok(guesses) = open_guesses(alloc, part, guesses_of(part, count)) else {
+        return Err(Memory);
+    };
+    let mut queue = RowQueue::of(alloc, count.saturating_sub(own), guesses, painted);
+    if queue.reserve(count).is_err() {
+        drop(queue);
+        return Err(Memory);
+    }
+    Ok(queue)
 }
 
 /// Writes what a crew paints: the calling thread, which brings so many benches, and so many others. None where memory was refused

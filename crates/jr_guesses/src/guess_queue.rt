@@ -80,6 +80,21 @@ impl<S: OneScan> GuessQueue<S> {
         })
     }
 
+    /// A queue of no guesses.
+    pub fn none(alloc: Global) -> GuessQueue<S>
+        ensures { result.at ≡ (0, 0) }
+    {
+        GuessQueue {
+            limit: 0,
+            slots: Vec::new(alloc),
+            lacking: 0,
+            most: 0,
+            at: (0, 0),
+            next: (0, 0),
+            step_bits: LEAST_BITS,
+        }
+    }
+
     /// Whether room for a guess more is of use: nobody brings some yet, and there are bits to guess.
     pub fn wants_room(&self, scan: &Scan) -> bool {
         self.lacking > 0 && self.next_window(scan).is_some()
@@ -100,7 +115,7 @@ impl<S: OneScan> GuessQueue<S> {
     pub fn bring(&mut self, room: ScanGuess<S>)
         ensures { self.new.at ≡ self.old.at }
     {
-        let _ = self.slots.push(GuessSlot::of(room));
+        drop(self.slots.push(GuessSlot::of(room)));
     }
 
     /// The reader stands at this bit of an interval.
@@ -194,10 +209,16 @@ impl<S: OneScan> GuessQueue<S> {
     pub fn take(&mut self, scan: &Scan) -> Option<GuessTask<S>>
         ensures { self.new.at ≡ self.old.at }
     {
-        let place = self.free_slot()?;
-        let window = self.next_window(scan)?;
+        let (Some(place), Some(window)) = (self.free_slot(), self.next_window(scan)) else {
+            return None;
+        };
         self.next = (window.number, window.to);
-        let guess = self.slots.get_mut(place)?.take(window)?;
+        let Some(slot) = self.slots.get_mut(place) else {
+            return None;
+        };
+        let Some(guess) = slot.take(window) else {
+            return None;
+        };
         Some(GuessTask {
             place,
             window,

@@ -7,6 +7,7 @@ use crate::one_scan::OneScan;
 use crate::scan_guess::ScanGuess;
 use crate::window::Window;
 use jr_scan::Guesses;
+use std::mem::replace;
 
 /// Room for a guess, and the bits that it covers.
 #[derive(Drop)]
@@ -65,7 +66,7 @@ impl<S: OneScan> GuessSlot<S> {
 
     /// Keeps a guess that is made.
     pub(crate) fn put(&mut self, guess: ScanGuess<S>) {
-        self.guess = Some(guess);
+        drop(replace(&mut self.guess, Some(guess)));
     }
 
     /// These guesses of an interval, and the one that is here, where it is of the interval, too.

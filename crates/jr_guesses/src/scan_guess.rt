@@ -37,7 +37,9 @@ impl<S: OneScan> ScanGuess<S> {
     {
         // By its contract a scan has an interval.
         let _some = scan.intervals();
-        let guess = Guess::open(alloc, &scan.interval_ref(0), most)?;
+        let Ok(guess) = Guess::open(alloc, &scan.interval_ref(0), most) else {
+            return Err(Memory);
+        };
         let Ok(guess) = Arc::new(alloc, guess) else {
             return Err(Memory);
         };

@@ -18,6 +18,7 @@ use jr_scan::{Guesses, Scan};
 use std::alloc::Global;
 use std::collections::VecDeque;
 use std::marker::{Model, PhantomData};
+use std::mem::replace;
 use std::sync::Arc;
 
 /// A strip of an interval of the scan that waits.
@@ -143,13 +144,23 @@ impl<S: OneScan> Progress<S> {
             .guesses
             .as_ref()
             .is_some_and(|queue| queue.makes_next(scan));
-        if can_read && self.guesses.as_ref().is_some_and(|queue| queue.has_next(scan)) && !makes_next {
+        if can_read
+            && self
+                .guesses
+                .as_ref()
+                .is_some_and(|queue| queue.has_next(scan))
+            && !makes_next
+        {
             Choice::Pass
         } else if can_read && !makes_next {
             Choice::Read
         } else if !self.waiting.is_empty() {
             Choice::Decode
-        } else if self.guesses.as_ref().is_some_and(|queue| queue.can_guess(scan)) {
+        } else if self
+            .guesses
+            .as_ref()
+            .is_some_and(|queue| queue.can_guess(scan))
+        {
             Choice::Guess
         } else {
             Choice::Wait
@@ -176,7 +187,9 @@ impl<S: OneScan> Progress<S> {
     fn begin(&mut self, scan: &Scan, passes: bool) -> Option<Reading<S>>
         requires { S.scan ≡ Some scan.now }
     {
-        let mut reading = self.reading.take()?;
+        let Some(mut reading) = self.reading.take() else {
+            return None;
+        };
         if passes {
             let guesses = self.guesses_for(scan, reading.number());
             reading.guide(guesses);
@@ -193,14 +206,29 @@ impl<S: OneScan> Progress<S> {
     pub(crate) fn task(&mut self, scan: &Scan) -> Option<StripTask<S>>
         requires { S.scan ≡ Some scan.now }
     {
-        match self.choice(scan) {
-            Choice::Read => Some(StripTask::Read(self.begin(scan, false)?)),
-            Choice::Pass => Some(StripTask::Read(self.begin(scan, true)?)),
-            Choice::Decode => Some(StripTask::Decode(self.waiting.pop_front()?)),
-            Choice::Guess => Some(StripTask::Guess(self.guesses.as_mut()?.take(scan)?)),
-            Choice::Wait => None,
-            Choice::Leave => Some(StripTask::Leave),
+        let choice = self.choice(scan);
+        match choice {
+            Choice::Read | Choice::Pass => {
+                if let Some(reading) = self.begin(scan, choice == Choice::Pass) {
+                    return Some(StripTask::Read(reading));
+                }
+            }
+            Choice::Decode => {
+                if let Some(strip) = self.waiting.pop_front() {
+                    return Some(StripTask::Decode(strip));
+                }
+            }
+            Choice::Guess => {
+                if let Some(queue) = &mut self.guesses
+                    && let Some(guess) = queue.take(scan)
+                {
+                    return Some(StripTask::Guess(guess));
+                }
+            }
+            Choice::Wait => (),
+            Choice::Leave => return Some(StripTask::Leave),
         }
+        None
     }
 
     /// For how many MCUs a worker is to bring room for a guess, where it is to bring some.
@@ -233,7 +261,9 @@ impl<S: OneScan> Progress<S> {
     {
         match next {
             Ok(Next::Strip(strip)) => {
-                self.is_over |= self.waiting.push_back(ScanStrip::of(strip)).is_err();
+                let kept = self.waiting.push_back(ScanStrip::of(strip));
+                self.is_over |= kept.is_err();
+                drop(kept);
             }
             Ok(Next::End(end)) => {
                 self.gathered.close(end);
@@ -242,13 +272,14 @@ impl<S: OneScan> Progress<S> {
             Err(Memory) => self.is_over = true,
         }
         if self.is_over {
+            drop(reading);
             self.spare.clear();
-            self.guesses = None;
+            drop(self.guesses.take());
         } else {
             if let Some(queue) = &mut self.guesses {
                 queue.reach(scan, reading.number(), reading.bit());
             }
-            self.reading = Some(reading);
+            drop(replace(&mut self.reading, Some(reading)));
         }
         self.is_over
     }
@@ -256,7 +287,7 @@ impl<S: OneScan> Progress<S> {
     /// Takes the memory of a strip that is transformed, as long as strips are read.
     fn reuse(&mut self, blocks: Vec<Coefficients>) {
         if !self.is_over {
-            let _ = self.spare.push(blocks);
+            drop(self.spare.push(blocks));
         }
     }
 
@@ -278,8 +309,8 @@ impl<S: OneScan> Progress<S> {
     /// Ends the work, since memory is refused.
     pub(crate) fn give_up(&mut self) {
         self.is_over = true;
-        self.reading = None;
-        self.guesses = None;
+        drop(self.reading.take());
+        drop(self.guesses.take());
         self.waiting.clear();
         self.spare.clear();
     }

@@ -14,6 +14,7 @@ use jr_piece::StripReader;
 use jr_scan::{Guesses, Interval};
 use std::alloc::Global;
 use std::marker::{Model, PhantomData};
+use std::mem::replace;
 use std::sync::Arc;
 
 /// How many strips a long interval has at least, but for the roundings.
@@ -140,7 +141,7 @@ impl<S: OneScan> Reading<S> {
         requires { AreGuessesOf self.old guesses }
         ensures { self.new ≡ self.old }
     {
-        self.guesses = guesses;
+        drop(replace(&mut self.guesses, guesses));
     }
 
     /// Reads the next strip, or passes over it.

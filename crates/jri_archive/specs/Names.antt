@@ -28,7 +28,7 @@ IsNoText name e = (e ≡ NameIsNoText) × (IsUtf8 name → ⊥)
 -- a file has that name, is not opened only if the name is no text, and is not skipped
 pub record IsNamed (file : NamedFile) (name : List ℕ) : Type 0 where
   pub name_is : file.name.items ≡ name
-  pub error : (e : ReadError) → file.error ≡ Some e → IsNoText name e
+  pub error : (e : ReadError) → file.error ≡ Some e → IsNoText file.name.items e
   pub kept : file.is_skipped ≡ false
 
 -- the file of the next of these names, and those that are left

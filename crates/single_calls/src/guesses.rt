@@ -1,7 +1,7 @@
 //! How many MCUs of a file guesses have, and how many guesses come into step with it.
 
 ghost use Rattle.std.specs.Prelude.{◌≡◌, ◌<◌, length};
-ghost use Rattle.jr_scan.specs.ScanValue.{interval_of};
+ghost use Rattle.jr_scan.specs.Guess.{IsGuessOf};
 
 use jr_guesses::windows_of;
 use jr_scan::{Guess, McuReader, Scan};
@@ -25,8 +25,8 @@ pub(crate) struct GuessCounts {
 }
 
 /// Passes over the next MCU, and tells whether a guess had it. None where no whole one follows.
-fn pass(reader: &mut McuReader<'_>, guess: &Guess<'_>) -> Option<bool>
-    requires same { guess.now.interval ≡ reader.old.run.interval }
+fn pass(reader: &mut McuReader<'_>, guess: &Guess) -> Option<bool>
+    requires same { IsGuessOf reader.old.run.interval guess.now }
     ensures run { reader.new.run ≡ reader.old.run }
 {
     let bit = reader.place().bit;
@@ -43,8 +43,8 @@ fn pass(reader: &mut McuReader<'_>, guess: &Guess<'_>) -> Option<bool>
 }
 
 /// Passes over the MCUs that start before a bit, by a guess.
-fn pass_by(reader: &mut McuReader<'_>, guess: &Guess<'_>, to: u64, counts: &mut GuessCounts)
-    requires same { guess.now.interval ≡ reader.old.run.interval }
+fn pass_by(reader: &mut McuReader<'_>, guess: &Guess, to: u64, counts: &mut GuessCounts)
+    requires same { IsGuessOf reader.old.run.interval guess.now }
     ensures run { reader.new.run ≡ reader.old.run }
 {
     for _mcu in 0..reader.interval().mcus() {
@@ -71,12 +71,12 @@ fn count_interval(alloc: Global, scan: &Scan, number: u32, counts: &mut GuessCou
     let windows = windows_of(scan, number);
     let bits = 8 * scan.interval_ref(number).bytes().len() as u64;
     let mut reader = McuReader::over(scan.interval_ref(number));
-    let mut guess = Guess::open(alloc, scan.interval_ref(number), MOST_MCUS).ok()?;
+    let mut guess = Guess::open(alloc, &scan.interval_ref(number), MOST_MCUS).ok()?;
     pass_by(&mut reader, &guess, window_start(bits, 1, windows), counts);
     for k in 1..windows {
         let from = window_start(bits, k, windows);
         let to = window_start(bits, k + 1, windows);
-        guess.read(scan.interval_ref(number), from, to);
+        guess.read(&scan.interval_ref(number), from, to);
         let before = counts.taken_over;
         pass_by(&mut reader, &guess, to, counts);
         counts.guesses = counts.guesses.saturating_add(1);

@@ -1,6 +1,7 @@
 //! Intervals that are read by guesses.
 
-ghost use Rattle.std.specs.Prelude.{◌≡◌, IfOk};
+ghost use Rattle.std.specs.Prelude.{IfOk};
+ghost use Rattle.jr_scan.specs.Guess.{IsGuessOf};
 ghost use Rattle.jr_scan.specs.Guesses.{AreGuessesOf};
 
 use jr_base::Coefficients;
@@ -35,22 +36,22 @@ struct Chunk {
     found: Option<usize>,
 }
 
-fn guess_of<'a>(alloc: Global, interval: IntervalRef<'a>, chunk: Chunk) -> Result<Guess<'a>, Fail>
-    ensures { IfOk result (λ g. g.interval ≡ interval.entry) }
+fn guess_of(alloc: Global, interval: &IntervalRef<'_>, chunk: Chunk) -> Result<Guess, Fail>
+    ensures { IfOk result (IsGuessOf interval.now) }
 {
-    let mut guess = Guess::open(alloc, interval.again(), chunk.most)?;
+    let mut guess = Guess::open(alloc, interval, chunk.most)?;
     guess.read(interval, chunk.from, chunk.to);
     Ok(guess)
 }
 
 /// The guess that this chunk makes, which finds what it says.
-fn guesses_of<'a>(
+fn guesses_of(
     rt: &impl Abort,
     alloc: Global,
-    interval: IntervalRef<'a>,
+    interval: &IntervalRef<'_>,
     chunk: Chunk,
-) -> Result<Guesses<'a>, Fail>
-    ensures { IfOk result (λ g. AreGuessesOf interval.entry g) }
+) -> Result<Guesses, Fail>
+    ensures { IfOk result (AreGuessesOf interval.now) }
 {
     let guess = guess_of(alloc, interval, chunk)?;
     assert!(rt; guess.find(chunk.bit) == chunk.found);
@@ -67,7 +68,7 @@ fn read(interval: IntervalRef<'_>, blocks: &mut [Coefficients]) -> (u32, Place, 
 /// The same by guesses.
 fn read_by(
     interval: IntervalRef<'_>,
-    guesses: &Guesses<'_>,
+    guesses: &Guesses,
     blocks: &mut [Coefficients],
 ) -> (u32, Place, bool)
     requires { AreGuessesOf interval guesses.now }
@@ -78,7 +79,7 @@ fn read_by(
 }
 
 /// How many MCUs a reader passes over by guesses, and the place behind them.
-fn skip_by(interval: IntervalRef<'_>, guesses: &Guesses<'_>) -> (u32, Place)
+fn skip_by(interval: IntervalRef<'_>, guesses: &Guesses) -> (u32, Place)
     requires { AreGuessesOf interval guesses.now }
 {
     let most = interval.mcus();
@@ -91,7 +92,7 @@ fn skip_by(interval: IntervalRef<'_>, guesses: &Guesses<'_>) -> (u32, Place)
 fn check_readers(
     rt: &impl Abort,
     interval: IntervalRef<'_>,
-    guesses: &Guesses<'_>,
+    guesses: &Guesses,
     plain: &mut [Coefficients],
     guessed: &mut [Coefficients],
 )
@@ -118,7 +119,7 @@ fn check_reader(
     let units = units_of(&interval);
     let mut plain = vec![in alloc; Coefficients::zeros(); units]?;
     let mut guessed = vec![in alloc; Coefficients::zeros(); units]?;
-    let guesses = guesses_of(rt, alloc, interval.again(), chunk)?;
+    let guesses = guesses_of(rt, alloc, &interval, chunk)?;
     check_readers(rt, interval, &guesses, &mut plain, &mut guessed);
     Ok(())
 }

@@ -7,7 +7,7 @@ use Rattle.jr_crew.proofs.sending.send.Goals as goal
 
 pub returns : goal.returns
 returns g c =
-    let to = c.write_rows.result in
-    let counts = subst (λ (r : RowsValue). IfOk to (CountsRows r.scan r.limit)) c.of-caller.ensures c.write_rows.ensures.counts in
-    let sent = subst (λ (r : RowsValue). SendsPicture g.W.Write.contents c.args.out.now c.write_rows.new.out to r.scan r.limit) c.of-caller.ensures c.write_rows.ensures.sent in
-    record { counts = counts; failed = c.write_rows.ensures.failed; sent = sent }
+    let to = c.write_rows-sent.result in
+    let counts = subst (λ (r : RowsValue). IfOk to (CountsRows r.scan r.limit)) c.of-caller.ensures c.write_rows-sent.ensures.counts in
+    let sent = subst (λ (r : RowsValue). SendsPicture g.W.Write.contents c.args.out.now c.write_rows-sent.new.out to r.scan r.limit) c.of-caller.ensures c.write_rows-sent.ensures.sent in
+    record { counts = counts; failed = c.write_rows-sent.ensures.failed; sent = sent }
