@@ -6,7 +6,7 @@ use Rattle.jr_crew.specs.Bench.{OfPart}
 use Rattle.jr_crew.specs.BenchValue.{PaintedValue}
 use Rattle.jr_rows.specs.FirstIntervalsValue.{FirstIntervalsValue}
 use Rattle.jr_rows.specs.Cursors.{AreGuessesIn}
-use Rattle.jr_rows.specs.Rows.{AreRows}
+use Rattle.jr_rows.specs.Rows.{AreRowsOf}
 use Rattle.jr_rows.specs.declared.interval_guesses.IntervalGuesses.{IntervalGuesses}
 use Rattle.jr_rows.specs.declared.rows.Rows.{Rows}
 
@@ -17,7 +17,7 @@ scan_of (Some part) = Some part.scan
 
 -- these are rows of the part, and guesses of its scan, and there is a next row
 pub record HasNextOf (part : FirstIntervalsValue) (r : Rows) (g : IntervalGuesses) : Type 0 where
-  pub rows : AreRows part r
+  pub rows : AreRowsOf part r
   pub row : r.row < mcus_down part.scan.head
   pub guesses : AreGuessesIn part.scan g
 

@@ -3,7 +3,7 @@
 ghost use Rattle.std.specs.Prelude.{◌≡◌, Some};
 ghost use Rattle.jr_scan.specs.Guesses.{AreGuessesOf};
 ghost use Rattle.jr_scan.specs.ScanValue.{interval_of};
-ghost use Rattle.jr_rows.specs.Rows.{AreRows};
+ghost use Rattle.jr_rows.specs.Rows.{AreRowsOf};
 
 use crate::bench::{Bench, CodedRow, Painted, WorkBench};
 use crate::one_first_intervals::OneFirstIntervals;
@@ -35,7 +35,7 @@ impl<S: OneFirstIntervals> Model for Baton<S> {
 /// Returns these rows, where one is left.
 fn baton_over<S: OneFirstIntervals>(part: &FirstIntervals<'_>, rows: Rows) -> Option<Baton<S>>
     requires part { S.part ≡ Some part.now }
-    requires rows { AreRows part.now rows }
+    requires rows { AreRowsOf part.now rows }
 {
     if rows.row() >= shape_of(part.scan().head()).down {
         drop(rows);

@@ -4,7 +4,7 @@ ghost use Rattle.std.specs.Prelude.{◌≡◌, ◌+◌, ◌-◌, ◌*◌, ◌<�
 ghost use Rattle.jr_head.specs.Geometry.{mcus_down, vertical_max};
 ghost use Rattle.jr_paint.specs.Lines.{line_room, line_size};
 ghost use Rattle.jr_rows.specs.Cursors.{AreGuessesIn};
-ghost use Rattle.jr_rows.specs.Rows.{AreRead, AreRows, CountsRow, HasRowRoom, HasSampleRoom, ShowsLines, line_count};
+ghost use Rattle.jr_rows.specs.Rows.{AreRead, AreRowsOf, CountsRow, HasRowRoom, HasSampleRoom, ShowsLines, line_count};
 
 use crate::one_first_intervals::OneFirstIntervals;
 use crate::paint_room::PaintRoom;
@@ -47,12 +47,12 @@ fn decode_first(
     guesses: Option<&IntervalGuesses>,
     pixels: &mut [u8],
 ) -> Marked
-    requires rows { AreRows part.now rows.old }
+    requires rows { AreRowsOf part.now rows.old }
     requires same { IfSome guesses (λ g. AreGuessesIn part.now.scan g.now) }
     requires row { rows.old.row < mcus_down part.now.scan.head }
     requires room { HasSampleRoom part.now.scan.head work.old }
     requires pixels { 8 * vertical_max part.now.scan.head * line_size part.now.scan.head ≤ length pixels.old }
-    ensures rows { AreRows part.now rows.new }
+    ensures rows { AreRowsOf part.now rows.new }
     ensures row { rows.new.row ≡ rows.old.row + 1 }
     ensures room { HasSampleRoom part.now.scan.head work.new }
     ensures lines { ShowsLines part.now.scan part.now.limit rows.old.row (take (line_count part.now.scan.head rows.old.row * line_size part.now.scan.head) pixels.new) }
@@ -113,11 +113,11 @@ impl<S: OneFirstIntervals> Bench<S> {
         room: &mut PaintRoom<S>,
     ) -> Painted<S>
         requires part { S.part ≡ Some part.now }
-        requires rows { AreRows part.now rows.old }
+        requires rows { AreRowsOf part.now rows.old }
         requires same { IfSome guesses (λ g. AreGuessesIn part.now.scan g.now) }
         requires row { rows.old.row < mcus_down part.now.scan.head }
         ensures row { result.row ≡ rows.old.row }
-        ensures rows { AreRows part.now rows.new }
+        ensures rows { AreRowsOf part.now rows.new }
     {
         let row = rows.row();
         let mut pixels = self.pixels;
@@ -183,11 +183,11 @@ impl<S: OneFirstIntervals> WorkBench<S> {
         guesses: Option<&IntervalGuesses>,
     ) -> CodedRow<S>
         requires part { S.part ≡ Some part.now }
-        requires rows { AreRows part.now rows.old }
+        requires rows { AreRowsOf part.now rows.old }
         requires same { IfSome guesses (λ g. AreGuessesIn part.now.scan g.now) }
         requires row { rows.old.row < mcus_down part.now.scan.head }
         ensures row { result.row ≡ rows.old.row }
-        ensures rows { AreRows part.now rows.new }
+        ensures rows { AreRowsOf part.now rows.new }
     {
         let row = rows.row();
         let mut work = self.work;

@@ -7,7 +7,7 @@ ghost use Rattle.jr_picture.specs.BoardValue.{BoardValue};
 ghost use Rattle.jr_rows.specs.Bands.{ShowsMcus};
 ghost use Rattle.jr_rows.specs.Cursors.{AreGuessesIn};
 ghost use Rattle.jr_rows.specs.Groups.{units_in};
-ghost use Rattle.jr_rows.specs.Rows.{HasFirst, HasRowRoom, AreRead, AreRows, CountsRow, ShowsLines, line_count};
+ghost use Rattle.jr_rows.specs.Rows.{HasFirst, HasRowRoom, AreRead, AreRowsOf, CountsRow, ShowsLines, line_count};
 
 use jr_base::{Coefficients, Memory};
 use jr_head::Head;
@@ -55,12 +55,12 @@ impl Row {
         rows: &mut Rows,
         guesses: Option<&IntervalGuesses>,
     ) -> Marked
-        requires rows { AreRows part.now rows.old }
+        requires rows { AreRowsOf part.now rows.old }
         requires same { IfSome guesses (λ g. AreGuessesIn part.now.scan g.now) }
         requires row { rows.old.row < mcus_down part.now.scan.head }
         requires room { HasRowRoom part.now.scan.head self.old }
         ensures room { HasRowRoom part.now.scan.head self.new }
-        ensures rows { AreRows part.now rows.new }
+        ensures rows { AreRowsOf part.now rows.new }
         ensures row { rows.new.row ≡ rows.old.row + 1 }
         ensures read { AreRead part.now.scan part.now.limit rows.old.row self.new.blocks }
         ensures counts { CountsRow part.now.scan part.now.limit rows.old.row result }

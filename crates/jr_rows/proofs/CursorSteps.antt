@@ -6,12 +6,13 @@ use Rattle.std.proofs.lemmas.List.{get_or-take}
 use Rattle.std.proofs.Math.Nat.{add-mul, mul-le-mul_right}
 use Rattle.jr_head.specs.Geometry.{IsLawful, order_of, quantiser_of}
 use Rattle.jr_idct.specs.Transform.{samples}
+use Rattle.jr_idct.proofs.Zeros.{grey}
 use Rattle.jr_mcu.specs.Mcus.{component}
 use Rattle.jr_scan.specs.declared.place.Place.{Place}
 use Rattle.jr_scan.specs.declared.place.RunEnd.TheVariants.{AllRead}
 use Rattle.jr_scan.specs.IntervalValue.{IntervalValue}
 use Rattle.jr_scan.specs.Mcus.{Decodes, HasNoDecoding, LongestFront}
-use Rattle.jr_scan.specs.McuReader.{HasEnded, HasRead, McuReaderValue}
+use Rattle.jr_scan.specs.McuReader.{HasEnded, HasRead, McuReaderValue, per_mcu}
 use Rattle.jr_scan.specs.ScanValue.{ScanValue, intervals_of, mcus_in}
 use Rattle.jr_scan.specs.Run.{IsRun, RunOf, left_at, run_from, start_of_interval, whole_run}
 use Rattle.jr_scan.proofs.McuReaders.{front_of_run, left_is}
@@ -21,15 +22,15 @@ use Rattle.jr_piece.specs.Strips.{CanReadFrom, FirstMcus, IsNext, units_before}
 use Rattle.jr_piece.specs.Units.{CodesUnits, grey_unit, unit_in_piece, zero_block}
 use Rattle.jr_piece.proofs.ScanLaws as laws
 use Rattle.jr_piece.proofs.StripRuns as runs
-use Rattle.jr_piece.proofs.UnitReading.{ZerosAreGrey, tells, zero_unit}
-use Rattle.jr_rows.specs.Cursors.{IsAt, mcus_to}
+use Rattle.jr_piece.proofs.UnitReading.{tells, zero_unit}
+use Rattle.jr_rows.specs.Cursors.{IsPlaceAfter, mcus_to}
 use Rattle.jr_rows.specs.Rows.{intervals_before, mcus_before}
 use Rattle.jr_rows.specs.declared.cursor.Cursor.{Cursor}
 use Rattle.jr_rows.proofs.CodedUnits.{grey_codes, whole_codes}
 use Rattle.jr_rows.proofs.IntervalPlaces.{ends_before, of_first}
 
 -- at the start of an interval
-pub at_start : (i : IntervalValue) (mcu : ℕ) (place : Option Place) → mcu ≡ 0 → place ≡ Some start_of_interval → IsAt i mcu place
+pub at_start : (i : IntervalValue) (mcu : ℕ) (place : Option Place) → mcu ≡ 0 → place ≡ Some start_of_interval → IsPlaceAfter i mcu place
 at_start i mcu place none e =
     let start = runs.at_start i in
     record {
@@ -37,6 +38,22 @@ at_start i mcu place none e =
       next = λ p f. let is : Some start_of_interval ≡ Some p = sym e ∙ f in (start.blocks, subst (λ (k : ℕ). IsNext i k start.blocks p) (sym none) (start.next p is));
       none = λ f. let z : Some start_of_interval ≡ None = sym e ∙ f in cc;
     }
+
+-- a reader has read n more MCUs into these blocks
+pub record HasReadInto (r r' : McuReaderValue) (n : ℕ) (blocks : List (List ℤ)) : Type 0 where
+  pub run : r'.run ≡ r.run
+  pub mcus : r'.mcu ≡ r.mcu + n
+  pub few : r'.mcu ≤ r'.run.mcus
+  pub read : (zs : List (List ℤ)) → HasRead r zs → HasRead r' (zs ++ take (n * per_mcu r) blocks)
+  pub ended : (n + 1) * per_mcu r ≤ length blocks → HasEnded r'
+
+-- or has skipped n of at most so many
+pub record HasSkipped (r r' : McuReaderValue) (most n : ℕ) : Type 0 where
+  pub run : r'.run ≡ r.run
+  pub mcus : r'.mcu ≡ r.mcu + n
+  pub few : n ≤ most
+  pub read : (zs : List (List ℤ)) → HasRead r zs → (ys : List (List ℤ)) × HasRead r' (zs ++ ys)
+  pub ended : n < most → HasEnded r'
 
 -- what a reader has read from a place on, that was to read so many MCUs
 pub record GoesOn (i : IntervalValue) (p : Place) (r r' : McuReaderValue) (mcus n : ℕ) (ys : List (List ℤ)) : Type 0 where
@@ -47,7 +64,7 @@ pub record GoesOn (i : IntervalValue) (p : Place) (r r' : McuReaderValue) (mcus 
   pub read : HasRead r' ys
   pub ended : n < mcus → HasEnded r'
 
-module _ (i : IntervalValue) (lawful : IsLawful i.head) (mcu mcus n : ℕ) (p : Place) (place : Option Place) (at : IsAt i mcu place) (is : place ≡ Some p) (few : mcu + mcus ≤ i.mcus) (most : n ≤ mcus)
+module _ (i : IntervalValue) (lawful : IsLawful i.head) (mcu mcus n : ℕ) (p : Place) (place : Option Place) (at : IsPlaceAfter i mcu place) (is : place ≡ Some p) (few : mcu + mcus ≤ i.mcus) (most : n ≤ mcus)
     (r r' : McuReaderValue) (ys : List (List ℤ)) (on : GoesOn i p r r' mcus n ys) where
   abbrev zs : List (List ℤ)
   zs = (at.next p is).0
@@ -71,7 +88,7 @@ module _ (i : IntervalValue) (lawful : IsLawful i.head) (mcu mcus n : ℕ) (p : 
   own = ap (λ (o : RunOf). o.interval) (on.run' ∙ on.run)
 
   -- it is where the reader is, or no further MCU is whole
-  pub moved : (q : Option Place) → ((x : Place) → q ≡ Some x → n ≡ mcus) → ((x : Place) → q ≡ Some x → x ≡ r'.place) → ((x : Place) → q ≡ Some x → CanReadFrom r'.run.interval x) → (q ≡ None → n < mcus) → IsAt i (mcu + mcus) q
+  pub moved : (q : Option Place) → ((x : Place) → q ≡ Some x → n ≡ mcus) → ((x : Place) → q ≡ Some x → x ≡ r'.place) → ((x : Place) → q ≡ Some x → CanReadFrom r'.run.interval x) → (q ≡ None → n < mcus) → IsPlaceAfter i (mcu + mcus) q
   moved q whole there can stuck = record {
     few = few;
     next = λ x e.
@@ -82,10 +99,10 @@ module _ (i : IntervalValue) (lawful : IsLawful i.head) (mcu mcus n : ℕ) (p : 
   }
 
   -- and the blocks are the interval's, where those behind the whole MCUs are zeros
-  pub codes : ZerosAreGrey → (us : List (List ℤ)) → length us ≡ mcus * length (order_of i.head) → ((k : ℕ) → k < n * length (order_of i.head) → get_or us k [] ≡ get_or ys k [])
+  pub codes : (us : List (List ℤ)) → length us ≡ mcus * length (order_of i.head) → ((k : ℕ) → k < n * length (order_of i.head) → get_or us k [] ≡ get_or ys k [])
       → ((k : ℕ) → n * length (order_of i.head) ≤ k → k < length us → get_or us k [] ≡ zero_block)
       → (o : PieceValue) → IsOutcome o → o.interval ≡ i → CodesUnits o (units_before i mcu) us
-  codes grey us long kept zeros o out e k lt =
+  codes us long kept zeros o out e k lt =
       let per = length (order_of i.head) in
       ap (λ (v : IntervalValue). unit_of v.head us k) e ∙ elim (cases_lt k (n * per)) [
         | inl l ↦
@@ -101,16 +118,16 @@ module _ (i : IntervalValue) (lawful : IsLawful i.head) (mcu mcus n : ℕ) (p : 
       ]
 
 -- where no further MCU is whole
-module _ (i : IntervalValue) (mcu : ℕ) (place : Option Place) (at : IsAt i mcu place) (is : place ≡ None) where
-  pub grey_on : (mcus : ℕ) → mcu + mcus ≤ i.mcus → IsAt i (mcu + mcus) place
+module _ (i : IntervalValue) (mcu : ℕ) (place : Option Place) (at : IsPlaceAfter i mcu place) (is : place ≡ None) where
+  pub grey_on : (mcus : ℕ) → mcu + mcus ≤ i.mcus → IsPlaceAfter i (mcu + mcus) place
   grey_on mcus few = record {
     few = few;
     next = λ p e. let z : Some p ≡ None = sym e ∙ is in cc;
     none = λ e. let far = at.none is in (far.0, far.1, omega (arith, far.2), far.3);
   }
 
-  pub all_grey : ZerosAreGrey → (us : List (List ℤ)) → ((k : ℕ) → k < length us → get_or us k [] ≡ zero_block) → (o : PieceValue) → IsOutcome o → o.interval ≡ i → CodesUnits o (units_before i mcu) us
-  all_grey grey us zeros o out e k lt =
+  pub all_grey : (us : List (List ℤ)) → ((k : ℕ) → k < length us → get_or us k [] ≡ zero_block) → (o : PieceValue) → IsOutcome o → o.interval ≡ i → CodesUnits o (units_before i mcu) us
+  all_grey us zeros o out e k lt =
       let far = at.none is in
       let before = far.2 in
       ap (λ (v : IntervalValue). unit_of v.head us k) e ∙ zero_unit grey i.head us k (zeros k lt) ∙ grey_codes i far.0 mcu far.1 (omega (arith, before)) far.3 o e out k
@@ -125,7 +142,7 @@ module _ (i : IntervalValue) (mcu : ℕ) (place : Option Place) (at : IsAt i mcu
       omega (arith, le, before, all)
 
 -- where all MCUs are whole the interval has a decoding, if fewer than eight bits are left
-module _ (i : IntervalValue) (lawful : IsLawful i.head) (mcu : ℕ) (place : Option Place) (at : IsAt i mcu place) (p : Place) (is : place ≡ Some p) (all : mcu ≡ i.mcus) where
+module _ (i : IntervalValue) (lawful : IsLawful i.head) (mcu : ℕ) (place : Option Place) (at : IsPlaceAfter i mcu place) (p : Place) (is : place ≡ Some p) (all : mcu ≡ i.mcus) where
   abbrev blocks : List (List ℤ)
   blocks = (at.next p is).0
 

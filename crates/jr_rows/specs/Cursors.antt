@@ -11,15 +11,15 @@ use Rattle.jr_rows.specs.declared.cursor.Cursor.{Cursor}
 use Rattle.jr_rows.specs.declared.interval_guesses.IntervalGuesses.{IntervalGuesses}
 
 -- so many MCUs of an interval stand before this place; without a place no further one is whole
-pub record IsAt (i : IntervalValue) (mcu : ℕ) (place : Option Place) : Type 0 where
+pub record IsPlaceAfter (i : IntervalValue) (mcu : ℕ) (place : Option Place) : Type 0 where
   pub few : mcu ≤ i.mcus
   pub next : (p : Place) → place ≡ Some p → (zs : List (List ℤ)) × IsNext i mcu zs p
   pub none : place ≡ None → (front : ℕ) × (zs : List (List ℤ)) × (front < mcu) × LongestFront i front zs
 
 -- the cursor is one of the scan
-pub record StandsIn (s : ScanValue) (c : Cursor) : Type 0 where
+pub record IsCursorOf (s : ScanValue) (c : Cursor) : Type 0 where
   pub number : c.number < length s.intervals
-  pub at : IsAt (interval_of s c.number) c.mcu c.place
+  pub at : IsPlaceAfter (interval_of s c.number) c.mcu c.place
 
 -- how many MCUs of the scan stand before it
 abbrev pub mcus_to : HeadValue → Cursor → ℕ

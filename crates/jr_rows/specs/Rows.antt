@@ -11,7 +11,7 @@ use Rattle.jr_picture.specs.Headline.{AreFirst, is_sound, is_damaged, interval_n
 use Rattle.jr_picture.specs.Samples.{samples_of}
 use Rattle.jr_rows.specs.Bands.{unit_shown}
 use Rattle.jr_rows.specs.RowLines.{HasLines, mcus_at_once}
-use Rattle.jr_rows.specs.Cursors.{StandsIn, mcus_to}
+use Rattle.jr_rows.specs.Cursors.{IsCursorOf, mcus_to}
 use Rattle.jr_rows.specs.FirstIntervalsValue.{FirstIntervalsValue}
 use Rattle.jr_rows.specs.RowsValue.{RowValue, SampleRowValue}
 use Rattle.jr_rows.specs.declared.marked.Marked.{Marked}
@@ -40,8 +40,8 @@ abbrev pub coded_in : HeadValue → (n row : ℕ) → ℕ
 coded_in h n row = coded_before h n (row + 1) - coded_before h n row
 
 -- the cursor is where the decoded MCUs of the next row start
-pub record AreRows (part : FirstIntervalsValue) (r : Rows) : Type 0 where
-  pub stands : StandsIn part.scan r.cursor
+pub record AreRowsOf (part : FirstIntervalsValue) (r : Rows) : Type 0 where
+  pub stands : IsCursorOf part.scan r.cursor
   pub at : mcus_to part.scan.head r.cursor ≡ coded_before part.scan.head part.limit r.row
 
 -- among the intervals from number `from` on and before `to`, so many are sound and so many damaged, on every such board

@@ -19,14 +19,14 @@ pub(crate) struct Alone<'a, G: Gate> {
 }
 
 impl<'a, G: Gate> Model for Alone<'a, G> {
-    ghost use Rattle.jr_rows.specs.Rows.{AreRows, HasSampleRoom};
+    ghost use Rattle.jr_rows.specs.Rows.{AreRowsOf, HasSampleRoom};
     ghost use Rattle.jr_rows.specs.RowsValue.{RowsValue};
 
     ghost Value = { RowsValue };
 
     ghost view = { λ a. record { scan = a.part.scan; limit = a.part.limit; row = a.rows.row } };
 
-    ghost invariant = { λ a. AreRows a.part a.rows × HasSampleRoom a.part.scan.head a.work };
+    ghost invariant = { λ a. AreRowsOf a.part a.rows × HasSampleRoom a.part.scan.head a.work };
 }
 
 impl<'a, G: Gate> Alone<'a, G> {

@@ -1,19 +1,17 @@
 //! A position between two MCUs of a scan, from which one can read or skip.
 
-ghost use Rattle.std.specs.Prelude.{◌≡◌, ◌+◌, ◌*◌, ◌<◌, ◌≤◌, ◌++◌, ℕ, ℤ, List, Some, None, [], length, take, slice_index_or, IfSome};
+ghost use Rattle.std.specs.Prelude.{◌≡◌, ◌+◌, ◌*◌, ◌<◌, ◌≤◌, ℕ, Some, None, [], length, slice_index_or, IfSome};
 ghost use Rattle.jr_head.specs.Geometry.{order_of};
 ghost use Rattle.jr_scan.specs.declared.place.Place.{Place};
 ghost use Rattle.jr_scan.specs.Guesses.{AreGuessesOf};
-ghost use Rattle.jr_scan.specs.McuReader.{HasEnded, HasRead, per_mcu};
 ghost use Rattle.jr_scan.specs.Run.{start_of_interval};
 ghost use Rattle.jr_piece.specs.Outcome.{IsOutcome};
 ghost use Rattle.jr_piece.specs.PieceValue.{PieceValue};
 ghost use Rattle.jr_piece.specs.Strips.{CanReadFrom, units_before};
 ghost use Rattle.jr_piece.specs.Units.{CodesUnits, zero_block};
-ghost use Rattle.jr_rows.specs.Cursors.{IsAt};
+ghost use Rattle.jr_rows.specs.Cursors.{IsPlaceAfter};
 
 use jr_base::Coefficients;
-use jr_idct::zeros_are_grey;
 use jr_scan::{Guesses, IntervalRef, McuReader, Place};
 
 /// A position between two MCUs of a scan.
@@ -28,7 +26,7 @@ pub struct Cursor {
 }
 
 /// Makes the blocks from one on zeros.
-fn zero_from(blocks: &mut [Coefficients], first: usize)
+pub(crate) fn zero_from(blocks: &mut [Coefficients], first: usize)
     requires { first ≤ length blocks.old }
     ensures kept { (k : ℕ) → k < first → slice_index_or blocks.new k [] ≡ slice_index_or blocks.old k [] }
     ensures zeros { (k : ℕ) → first ≤ k → k < length blocks.new → slice_index_or blocks.new k [] ≡ zero_block }
@@ -50,40 +48,6 @@ fn place_after(reader: &McuReader<'_>, whole: u32, mcus: u32) -> Option<Place>
         return None;
     }
     Some(reader.place())
-}
-
-/// Reads the blocks of the next whole MCUs, over the guesses where there are some. Returns the number of these MCUs.
-fn read_by(
-    reader: &mut McuReader<'_>,
-    guesses: Option<&Guesses>,
-    blocks: &mut [Coefficients],
-) -> u32
-    requires same { IfSome guesses (λ g. AreGuessesOf reader.old.run.interval g.now) }
-    ensures run { reader.new.run ≡ reader.old.run }
-    ensures mcus { reader.new.mcu ≡ reader.old.mcu + result }
-    ensures few { reader.new.mcu ≤ reader.new.run.mcus }
-    ensures read { (zs : List (List ℤ)) → HasRead reader.old zs → HasRead reader.new (zs ++ take (result * per_mcu reader.old) blocks.new) }
-    ensures ended { (result + 1) * per_mcu reader.old ≤ length blocks.new → HasEnded reader.new }
-{
-    match guesses {
-        Some(guesses) => reader.read_by(guesses, blocks),
-        None => reader.read(blocks),
-    }
-}
-
-/// Skips the next whole MCUs, at most so many. Returns the number of them.
-fn skip_by(reader: &mut McuReader<'_>, guesses: Option<&Guesses>, mcus: u32) -> u32
-    requires same { IfSome guesses (λ g. AreGuessesOf reader.old.run.interval g.now) }
-    ensures run { reader.new.run ≡ reader.old.run }
-    ensures mcus { reader.new.mcu ≡ reader.old.mcu + result }
-    ensures most { result ≤ mcus }
-    ensures read { (zs : List (List ℤ)) → HasRead reader.old zs → (ys : List (List ℤ)) × HasRead reader.new (zs ++ ys) }
-    ensures ended { result < mcus → HasEnded reader.new }
-{
-    match guesses {
-        Some(guesses) => reader.skip_by(guesses, mcus),
-        None => reader.skip(mcus),
-    }
 }
 
 impl Cursor {
@@ -109,17 +73,16 @@ impl Cursor {
         mcus: u32,
         blocks: &mut [Coefficients],
     )
-        requires at { IsAt interval self.old.mcu self.old.place }
+        requires at { IsPlaceAfter interval self.old.mcu self.old.place }
         requires few { self.old.mcu + mcus ≤ interval.mcus }
         requires room { length blocks.old ≡ mcus * length (order_of interval.head) }
         requires same { IfSome guesses (λ g. AreGuessesOf interval g.now) }
-        ensures at { IsAt interval.entry self.new.mcu self.new.place }
+        ensures at { IsPlaceAfter interval.entry self.new.mcu self.new.place }
         ensures number { self.new.number ≡ self.old.number }
         ensures mcu { self.new.mcu ≡ self.old.mcu + mcus }
         ensures blocks { (p : PieceValue) → IsOutcome p → p.interval ≡ interval.entry
             → CodesUnits p (units_before interval.entry self.old.mcu) blocks.new }
     {
-        zeros_are_grey();
         let per_mcu = interval.head().order().len();
         self.mcu += mcus;
         let Some(place) = self.place else {
@@ -127,17 +90,20 @@ impl Cursor {
             return;
         };
         let mut reader = McuReader::at(interval, place, mcus);
-        let whole = read_by(&mut reader, guesses, blocks);
+        let whole = match guesses {
+            Some(guesses) => reader.read_by(guesses, blocks),
+            None => reader.read(blocks),
+        };
         self.place = place_after(&reader, whole, mcus);
         zero_from(blocks, whole as usize * per_mcu);
     }
 
     /// Skips the next MCUs of the interval.
     pub(crate) fn skip(&mut self, interval: IntervalRef<'_>, guesses: Option<&Guesses>, mcus: u32)
-        requires at { IsAt interval self.old.mcu self.old.place }
+        requires at { IsPlaceAfter interval self.old.mcu self.old.place }
         requires few { self.old.mcu + mcus ≤ interval.mcus }
         requires same { IfSome guesses (λ g. AreGuessesOf interval g.now) }
-        ensures at { IsAt interval.entry self.new.mcu self.new.place }
+        ensures at { IsPlaceAfter interval.entry self.new.mcu self.new.place }
         ensures number { self.new.number ≡ self.old.number }
         ensures mcu { self.new.mcu ≡ self.old.mcu + mcus }
     {
@@ -148,13 +114,16 @@ impl Cursor {
             return;
         };
         let mut reader = McuReader::at(interval, place, mcus);
-        let whole = skip_by(&mut reader, guesses, mcus);
+        let whole = match guesses {
+            Some(guesses) => reader.skip_by(guesses, mcus),
+            None => reader.skip(mcus),
+        };
         self.place = place_after(&reader, whole, mcus);
     }
 
     /// Returns whether the interval has a decoding, once all its MCUs are read.
     pub(crate) fn is_sound(&self, interval: &IntervalRef<'_>) -> bool
-        requires at { IsAt interval.now self.now.mcu self.now.place }
+        requires at { IsPlaceAfter interval.now self.now.mcu self.now.place }
         requires all { self.now.mcu ≡ interval.now.mcus }
         ensures { (p : PieceValue) → IsOutcome p → p.interval ≡ interval.now → p.is_sound ≡ result }
     {

@@ -1,11 +1,11 @@
 //! A cursor goes over the intervals of a scan, one after the other.
 
-ghost use Rattle.std.specs.Prelude.{◌≡◌, ℕ, ◌+◌, ◌-◌, ◌*◌, ◌<◌, ◌≤◌, [], length, slice_index_or, IfSome};
+ghost use Rattle.std.specs.Prelude.{◌≡◌, ◌+◌, ◌*◌, ◌<◌, ◌≤◌, length, IfSome};
 ghost use Rattle.jr_head.specs.Geometry.{blocks_of, mcus_of};
 ghost use Rattle.jr_scan.specs.ScanValue.{intervals_of, mcus_in};
-ghost use Rattle.jr_rows.specs.Cursors.{AreGuessesIn, StandsIn, mcus_to};
+ghost use Rattle.jr_rows.specs.Cursors.{AreGuessesIn, IsCursorOf, mcus_to};
 ghost use Rattle.jr_rows.specs.MarkBytes.{HasMarkRoom, PutsMarks, PutsMcus};
-ghost use Rattle.jr_rows.specs.Rows.{CountsMarks, CountsMcus, GivesBehind, GivesMcus, intervals_before, mcus_before};
+ghost use Rattle.jr_rows.specs.Rows.{CountsMarks, CountsMcus, GivesMcus, intervals_before, mcus_before};
 
 use crate::cursor::Cursor;
 use crate::first_intervals::FirstIntervals;
@@ -19,9 +19,9 @@ use jr_scan::Scan;
 impl Cursor {
     /// Goes on to the next interval where this one is read to its end. Returns the number of its MCUs that are left.
     fn ready(&mut self, scan: &Scan) -> u32
-        requires stands { StandsIn scan.now self.old }
+        requires stands { IsCursorOf scan.now self.old }
         requires more { mcus_to scan.now.head self.old < mcus_of scan.now.head }
-        ensures stands { StandsIn scan.now self.new }
+        ensures stands { IsCursorOf scan.now self.new }
         ensures some { 0 < result }
         ensures left { self.new.mcu + result ≡ mcus_in scan.now.head self.new.number }
         ensures number { self.new.number < intervals_of scan.now.head }
@@ -39,7 +39,7 @@ impl Cursor {
 
     /// Returns the mark of the interval, where it is read to its end, and puts it into its place in `marks`, where these are asked for.
     fn marked(&self, part: &FirstIntervals<'_>, marks: &mut [u8]) -> Marked
-        requires stands { StandsIn part.now.scan self.now }
+        requires stands { IsCursorOf part.now.scan self.now }
         requires decoded { self.now.number < part.now.limit }
         requires some { 0 < self.now.mcu }
         requires places { HasMarkRoom part.now.scan marks.old }
@@ -57,43 +57,6 @@ impl Cursor {
         Marked::one(is_sound)
     }
 
-    /// Reads the blocks of the next MCUs, of one interval, behind those of the first `done` of `mcus`. Returns the number of these
-    /// MCUs, and the mark of the interval where it ends with them.
-    fn read_some(
-        &mut self,
-        part: &FirstIntervals<'_>,
-        guesses: Option<&IntervalGuesses>,
-        done: u32,
-        mcus: u32,
-        blocks: &mut [Coefficients],
-        marks: &mut [u8],
-    ) -> (u32, Marked)
-        requires stands { StandsIn part.now.scan self.old }
-        requires same { IfSome guesses (λ g. AreGuessesIn part.now.scan g.now) }
-        requires some { done < mcus }
-        requires few { mcus_to part.now.scan.head self.old + (mcus - done) ≤ mcus_before part.now.scan.head part.now.limit }
-        requires room { length blocks.old ≡ mcus * blocks_of part.now.scan.head }
-        requires places { HasMarkRoom part.now.scan marks.old }
-        ensures stands { StandsIn part.now.scan self.new }
-        ensures some { 0 < result.0 }
-        ensures few { done + result.0 ≤ mcus }
-        ensures moved { mcus_to part.now.scan.head self.new ≡ mcus_to part.now.scan.head self.old + result.0 }
-        ensures kept { (k : ℕ) → k < done * blocks_of part.now.scan.head → slice_index_or blocks.new k [] ≡ slice_index_or blocks.old k [] }
-        ensures gives { GivesBehind part.now.scan part.now.limit (mcus_to part.now.scan.head self.old) (done * blocks_of part.now.scan.head) result.0 blocks.new }
-        ensures counts { CountsMcus part.now.scan part.now.limit (mcus_to part.now.scan.head self.old) (mcus_to part.now.scan.head self.new) result.1 }
-        ensures puts { PutsMcus part.now.scan part.now.limit (mcus_to part.now.scan.head self.old) (mcus_to part.now.scan.head self.new) marks.old marks.new }
-    {
-        let scan = part.scan();
-        let per_mcu = scan.head().order().len();
-        let some = self.ready(scan).min(mcus - done);
-        let from = units_to(done, mcus, per_mcu);
-        let end = units_to(done + some, mcus, per_mcu);
-        let own = of_interval(guesses, self.number);
-        let interval = scan.interval_ref(self.number);
-        self.read(interval, own, some, &mut blocks[from..end]);
-        (some, self.marked(part, marks))
-    }
-
     /// Reads the blocks of the next MCUs. Returns the marks of the intervals that end with them, and puts these into `marks`, too.
     pub(crate) fn read_mcus(
         &mut self,
@@ -103,58 +66,52 @@ impl Cursor {
         blocks: &mut [Coefficients],
         marks: &mut [u8],
     ) -> Marked
-        requires stands { StandsIn part.now.scan self.old }
+        requires stands { IsCursorOf part.now.scan self.old }
         requires same { IfSome guesses (λ g. AreGuessesIn part.now.scan g.now) }
         requires few { mcus_to part.now.scan.head self.old + mcus ≤ mcus_before part.now.scan.head part.now.limit }
         requires room { length blocks.old ≡ mcus * blocks_of part.now.scan.head }
         requires places { HasMarkRoom part.now.scan marks.old }
-        ensures stands { StandsIn part.now.scan self.new }
+        ensures stands { IsCursorOf part.now.scan self.new }
         ensures moved { mcus_to part.now.scan.head self.new ≡ mcus_to part.now.scan.head self.old + mcus }
         ensures gives { GivesMcus part.now.scan part.now.limit (mcus_to part.now.scan.head self.old) mcus blocks.new }
         ensures counts { CountsMcus part.now.scan part.now.limit (mcus_to part.now.scan.head self.old) (mcus_to part.now.scan.head self.new) result }
         ensures puts { PutsMcus part.now.scan part.now.limit (mcus_to part.now.scan.head self.old) (mcus_to part.now.scan.head self.new) marks.old marks.new }
     {
-        // By their contracts there is room for the counts of all intervals, and an MCU has a data unit.
-        let _most = (part.scan().intervals(), part.scan().head().order().len());
+        let scan = part.scan();
+        let per_mcu = scan.head().order().len();
+        // By its contract there is room for the counts of all intervals.
+        let _most = scan.intervals();
         let mut done = 0;
         let mut marked = Marked::none();
         'intervals: while done < mcus {
-            let (some, more) = self.read_some(part, guesses, done, mcus, blocks, marks);
+            let some = self.ready(scan).min(mcus - done);
+            let from = units_to(done, mcus, per_mcu);
+            let end = units_to(done + some, mcus, per_mcu);
+            let own = of_interval(guesses, self.number);
+            let interval = scan.interval_ref(self.number);
+            self.read(interval, own, some, &mut blocks[from..end]);
+            let more = self.marked(part, marks);
             marked = marked.with(more);
             done += some;
         }
         marked
     }
 
-    /// Skips the next MCUs, of one interval. Returns the number of them.
-    fn skip_some(&mut self, scan: &Scan, guesses: Option<&IntervalGuesses>, most: u32) -> u32
-        requires stands { StandsIn scan.now self.old }
-        requires same { IfSome guesses (λ g. AreGuessesIn scan.now g.now) }
-        requires some { 0 < most }
-        requires few { mcus_to scan.now.head self.old + most ≤ mcus_of scan.now.head }
-        ensures stands { StandsIn scan.now self.new }
-        ensures some { 0 < result }
-        ensures few { result ≤ most }
-        ensures moved { mcus_to scan.now.head self.new ≡ mcus_to scan.now.head self.old + result }
-    {
-        let some = self.ready(scan).min(most);
-        let own = of_interval(guesses, self.number);
-        let interval = scan.interval_ref(self.number);
-        self.skip(interval, own, some);
-        some
-    }
-
     /// Skips the next MCUs.
     pub(crate) fn skip_mcus(&mut self, scan: &Scan, guesses: Option<&IntervalGuesses>, mcus: u32)
-        requires stands { StandsIn scan.now self.old }
+        requires stands { IsCursorOf scan.now self.old }
         requires same { IfSome guesses (λ g. AreGuessesIn scan.now g.now) }
         requires few { mcus_to scan.now.head self.old + mcus ≤ mcus_of scan.now.head }
-        ensures stands { StandsIn scan.now self.new }
+        ensures stands { IsCursorOf scan.now self.new }
         ensures moved { mcus_to scan.now.head self.new ≡ mcus_to scan.now.head self.old + mcus }
     {
         let mut left = mcus;
         'mcus: while left > 0 {
-            left -= self.skip_some(scan, guesses, left);
+            let some = self.ready(scan).min(left);
+            let own = of_interval(guesses, self.number);
+            let interval = scan.interval_ref(self.number);
+            self.skip(interval, own, some);
+            left -= some;
         }
     }
 }

@@ -36,7 +36,7 @@ pub use row_lines::RowLines;
 pub use rows::Rows;
 pub use sample_row::SampleRow;
 pub use shape::{
-    Shape, bytes_of_row, coded_of_row, intervals_of_row, lines_of, room_for, shape_of,
+    Shape, bytes_of_row, bytes_to, coded_of_row, intervals_of_row, lines_of, room_for, shape_of,
 };
 pub use whole::paint_scan;
 pub use writing::{PictureError, counts_of, write_rows, write_scan};

@@ -9,7 +9,7 @@ ghost use Rattle.jr_rows.specs.MarkBytes.{HasMarkRoom, PutsBetween};
 ghost use Rattle.jr_rows.specs.Rows.{HasFirst, HasSampleRoom};
 ghost use Rattle.jr_rows.specs.SomeLines.{CountsBetween, PaintsLines, row_behind, row_with};
 
-use crate::{FirstIntervals, Marked, Rows, SampleRow, shape_of};
+use crate::{FirstIntervals, Marked, Rows, SampleRow, bytes_to, shape_of};
 use jr_base::Memory;
 use jr_head::Head;
 use jr_scan::Scan;
@@ -45,17 +45,6 @@ fn lines_in(head: &Head, row: u32, first: u32, end: u32) -> (u32, u32)
     let deep = shape_of(head).deep;
     let y = first.max(row * deep);
     (y, end.min(row * deep + deep) - y)
-}
-
-/// How many bytes so many lines have, of `all`.
-fn bytes_to(lines: u32, all: u32, line: usize) -> usize
-    requires within { lines ≤ all }
-    requires few { all < 65536 }
-    requires short { line ≤ 196605 }
-    ensures value { result ≡ lines * line }
-    ensures within { result ≤ all * line }
-{
-    lines as usize * line
 }
 
 /// Paints lines `first` to `end` of a scan's picture, and puts the marks of the intervals that end in their rows of MCUs, where

@@ -8,7 +8,7 @@ ghost use Rattle.jr_rows.specs.Cursors.{AreGuessesIn};
 ghost use Rattle.jr_rows.specs.Groups.{units_in};
 ghost use Rattle.jr_rows.specs.MarkBytes.{HasMarkRoom, PutsRow};
 ghost use Rattle.jr_rows.specs.RowLines.{HasLines, mcus_at_once};
-ghost use Rattle.jr_rows.specs.Rows.{AreRead, AreRows, CountsRow, HasFirst};
+ghost use Rattle.jr_rows.specs.Rows.{AreRead, AreRowsOf, CountsRow, HasFirst};
 
 use crate::cursor::Cursor;
 use crate::first_intervals::FirstIntervals;
@@ -31,7 +31,7 @@ pub struct Rows {
 impl Rows {
     /// Returns all rows.
     pub fn of(part: &FirstIntervals<'_>) -> Rows
-        ensures rows { AreRows part.now result }
+        ensures rows { AreRowsOf part.now result }
         ensures row { result.row ≡ 0 }
     {
         // By its contract a scan has an interval.
@@ -46,7 +46,7 @@ impl Rows {
     pub fn from(part: &FirstIntervals<'_>, row: u32, intervals: u32) -> Rows
         requires row { row < mcus_down part.now.scan.head }
         requires whole { intervals * part.now.scan.head.restart ≡ mcus_across part.now.scan.head }
-        ensures rows { AreRows part.now result }
+        ensures rows { AreRowsOf part.now result }
         ensures row { result.row ≡ row }
     {
         let scan = part.scan();
@@ -63,7 +63,7 @@ impl Rows {
     pub fn at(part: &FirstIntervals<'_>, row: u32) -> Rows
         requires all { part.now.limit ≡ length part.now.scan.intervals }
         requires row { row < mcus_down part.now.scan.head }
-        ensures rows { AreRows part.now result }
+        ensures rows { AreRowsOf part.now result }
         ensures row { result.row ≡ row }
     {
         let scan = part.scan();
@@ -78,7 +78,7 @@ impl Rows {
 
     /// Returns where the next row starts: the number of its interval, and the bit.
     pub fn next_start(&self, part: &FirstIntervals<'_>) -> (u32, u64)
-        requires { AreRows part.now self.now }
+        requires { AreRowsOf part.now self.now }
     {
         // By its contract a scan has as many intervals as its head says.
         let _most = part.scan().intervals();
@@ -95,10 +95,10 @@ impl Rows {
 
     /// Skips the next row.
     pub fn skip(&mut self, part: &FirstIntervals<'_>, guesses: Option<&IntervalGuesses>)
-        requires rows { AreRows part.now self.old }
+        requires rows { AreRowsOf part.now self.old }
         requires same { IfSome guesses (λ g. AreGuessesIn part.now.scan g.now) }
         requires row { self.old.row < mcus_down part.now.scan.head }
-        ensures rows { AreRows part.now self.new }
+        ensures rows { AreRowsOf part.now self.new }
         ensures row { self.new.row ≡ self.old.row + 1 }
     {
         let scan = part.scan();
@@ -117,11 +117,11 @@ impl Rows {
         guesses: Option<&IntervalGuesses>,
         blocks: &mut [Coefficients],
     ) -> Marked
-        requires rows { AreRows part.now self.old }
+        requires rows { AreRowsOf part.now self.old }
         requires same { IfSome guesses (λ g. AreGuessesIn part.now.scan g.now) }
         requires row { self.old.row < mcus_down part.now.scan.head }
         requires room { length blocks.old ≡ mcus_across part.now.scan.head * blocks_of part.now.scan.head }
-        ensures rows { AreRows part.now self.new }
+        ensures rows { AreRowsOf part.now self.new }
         ensures row { self.new.row ≡ self.old.row + 1 }
         ensures read { AreRead part.now.scan part.now.limit self.old.row blocks.new }
         ensures counts { CountsRow part.now.scan part.now.limit self.old.row result }
@@ -146,13 +146,13 @@ impl Rows {
         lines: &mut RowLines,
         marks: &mut [u8],
     ) -> Marked
-        requires rows { AreRows part.now self.old }
+        requires rows { AreRowsOf part.now self.old }
         requires same { IfSome guesses (λ g. AreGuessesIn part.now.scan g.now) }
         requires row { self.old.row < mcus_down part.now.scan.head }
         requires near { length blocks.old ≡ mcus_at_once part.now.scan.head * blocks_of part.now.scan.head }
         requires room { HasLines part.now.scan.head lines.old }
         requires places { HasMarkRoom part.now.scan marks.old }
-        ensures rows { AreRows part.now self.new }
+        ensures rows { AreRowsOf part.now self.new }
         ensures row { self.new.row ≡ self.old.row + 1 }
         ensures room { HasLines part.now.scan.head lines.new }
         ensures units { (b : BoardValue) → HasFirst part.now.scan part.now.limit b → ShowsMcus b (self.old.row * mcus_across part.now.scan.head) (units_in part.now.scan.head lines.new.groups) }

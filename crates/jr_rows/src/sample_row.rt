@@ -10,7 +10,7 @@ ghost use Rattle.jr_rows.specs.Bands.{ShowsMcus, samples_in};
 ghost use Rattle.jr_rows.specs.Cursors.{AreGuessesIn};
 ghost use Rattle.jr_rows.specs.Groups.{units_in};
 ghost use Rattle.jr_rows.specs.MarkBytes.{HasMarkRoom, PutsRow};
-ghost use Rattle.jr_rows.specs.Rows.{AreRows, CountsRow, HasFirst, HasSampleRoom, ShowsLines, line_count};
+ghost use Rattle.jr_rows.specs.Rows.{AreRowsOf, CountsRow, HasFirst, HasSampleRoom, ShowsLines, line_count};
 ghost use Rattle.jr_rows.specs.WholeMcus.{DecodesMcus};
 
 use crate::band::Band;
@@ -66,12 +66,12 @@ impl SampleRow {
 
     /// Decodes the next row. Returns the marks of the intervals that end in it, and puts them into `marks`, too.
     pub fn decode(&mut self, part: &FirstIntervals<'_>, rows: &mut Rows, marks: &mut [u8]) -> Marked
-        requires rows { AreRows part.now rows.old }
+        requires rows { AreRowsOf part.now rows.old }
         requires row { rows.old.row < mcus_down part.now.scan.head }
         requires room { HasSampleRoom part.now.scan.head self.old }
         requires places { HasMarkRoom part.now.scan marks.old }
         ensures room { HasSampleRoom part.now.scan.head self.new }
-        ensures rows { AreRows part.now rows.new }
+        ensures rows { AreRowsOf part.now rows.new }
         ensures row { rows.new.row ≡ rows.old.row + 1 }
         ensures units { (b : BoardValue) → HasFirst part.now.scan part.now.limit b → ShowsMcus b (rows.old.row * mcus_across part.now.scan.head) (units_in part.now.scan.head self.new.lines.groups) }
         ensures counts { CountsRow part.now.scan part.now.limit rows.old.row result }
@@ -132,13 +132,13 @@ impl SampleRow {
         guesses: Option<&IntervalGuesses>,
         pixels: &mut [u8],
     ) -> Marked
-        requires rows { AreRows part.now rows.old }
+        requires rows { AreRowsOf part.now rows.old }
         requires same { IfSome guesses (λ g. AreGuessesIn part.now.scan g.now) }
         requires row { rows.old.row < mcus_down part.now.scan.head }
         requires room { HasSampleRoom part.now.scan.head self.old }
         requires pixels { length pixels.old ≡ line_count part.now.scan.head rows.old.row * line_size part.now.scan.head }
         ensures room { HasSampleRoom part.now.scan.head self.new }
-        ensures rows { AreRows part.now rows.new }
+        ensures rows { AreRowsOf part.now rows.new }
         ensures row { rows.new.row ≡ rows.old.row + 1 }
         ensures lines { ShowsLines part.now.scan part.now.limit rows.old.row pixels.new }
         ensures counts { CountsRow part.now.scan part.now.limit rows.old.row result }

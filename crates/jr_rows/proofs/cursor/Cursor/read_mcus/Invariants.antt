@@ -1,5 +1,5 @@
 use Rattle.std.proofs.Common.{◌≡◌, ◌+◌, ◌-◌, ◌≤◌, length}
-use Rattle.jr_rows.specs.Cursors.{StandsIn, mcus_to}
+use Rattle.jr_rows.specs.Cursors.{IsCursorOf, mcus_to}
 use Rattle.jr_rows.specs.MarkBytes.{HasMarkRoom, PutsMcus}
 use Rattle.jr_rows.specs.Rows.{CountsMcus, GivesMcus}
 use Rattle.jr_rows.proofs.cursor.Cursor.read_mcus.Given as goal
@@ -11,7 +11,7 @@ invariant-intervals l =
     let from = mcus_to t.head l.initial.self in record {
       within : l.done ≤ l.fn.mcus;
       long : length l.blocks ≡ length l.initial.blocks;
-      stands : StandsIn t l.self;
+      stands : IsCursorOf t l.self;
       moved : mcus_to t.head l.self ≡ from + l.done;
       gives : GivesMcus t n from l.done l.blocks;
       counts : CountsMcus t n from (mcus_to t.head l.self) l.marked;

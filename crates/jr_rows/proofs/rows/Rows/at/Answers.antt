@@ -2,7 +2,7 @@ use Rattle.std.proofs.Common.{rules, arith, subst, sym, ◌∙◌, ◌≡◌, �
 use Rattle.jr_head.specs.Geometry.{mcus_across, mcus_of}
 use Rattle.jr_scan.specs.ScanValue.{ScanValue, intervals_of}
 use Rattle.jr_picture.specs.Headline.{interval_number, within_interval}
-use Rattle.jr_rows.specs.Cursors.{StandsIn, mcus_to}
+use Rattle.jr_rows.specs.Cursors.{IsCursorOf, mcus_to}
 use Rattle.jr_rows.proofs.RowCursors.{start_to, starts}
 use Rattle.jr_rows.proofs.RowStarts.{mcu_there, row_starts}
 use Rattle.jr_rows.proofs.rows.Rows.at.Goals as goal
@@ -16,7 +16,7 @@ skip_mcus-requires-clause-stands c =
     let number : c.interval_with-number.result.0 ≡ interval_number h (c.args.row * mcus_across h) = search rules in
     let count : length t.intervals ≡ intervals_of h = search (rules, arith) in
     let e = c.at_start-cursor.ensures in
-    subst (λ (s : ScanValue). StandsIn s c.at_start-cursor.result) (sym c.scan-scan.ensures) (starts t c.interval_with-number.result.0 c.at_start-cursor.result (omega (arith, there.0, number, count)) e.number e.mcu e.place)
+    subst (λ (s : ScanValue). IsCursorOf s c.at_start-cursor.result) (sym c.scan-scan.ensures) (starts t c.interval_with-number.result.0 c.at_start-cursor.result (omega (arith, there.0, number, count)) e.number e.mcu e.place)
 
 pub skip_mcus-requires-clause-few : goal.skip_mcus-requires-clause-few
 skip_mcus-requires-clause-few c =

@@ -1,5 +1,5 @@
 use Rattle.std.proofs.Common.{◌≡◌, ◌+◌, ◌-◌, ◌≤◌, length}
-use Rattle.jr_rows.specs.Cursors.{StandsIn, mcus_to}
+use Rattle.jr_rows.specs.Cursors.{IsCursorOf, mcus_to}
 use Rattle.jr_rows.specs.MarkBytes.{HasMarkRoom, PutsMcus}
 use Rattle.jr_rows.specs.Groups.{units_in}
 use Rattle.jr_rows.specs.RowLines.{HasLines}
@@ -15,7 +15,7 @@ invariant-parts l =
       near : length l.blocks ≡ length l.initial.blocks;
       room : HasLines t.head l.lines;
       row : l.self.row ≡ l.initial.self.row;
-      stands : StandsIn t l.self.cursor;
+      stands : IsCursorOf t l.self.cursor;
       moved : mcus_to t.head l.self.cursor ≡ from + l.done;
       shows : ShowsFirstUnits t n from l.done (units_in t.head l.lines.groups);
       counts : CountsMcus t n from (mcus_to t.head l.self.cursor) l.marked;
