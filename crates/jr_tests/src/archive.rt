@@ -95,10 +95,14 @@ fn owned(alloc: Global, words: &[&[u8]]) -> Result<Vec<Vec<u8>>, Fail> {
 }
 
 /// There is no list of names.
-const NO_LIST: Option<BufReader<Cursor<[u8; 1]>>> = None;
+pub(crate) const NO_LIST: Option<BufReader<Cursor<[u8; 1]>>> = None;
 
 /// Returns what words ask for, by the given number of workers.
-fn request_of(alloc: Global, words: &[&[u8]], workers: u32) -> Result<CheckRequest, Fail> {
+pub(crate) fn request_of(
+    alloc: Global,
+    words: &[&[u8]],
+    workers: u32,
+) -> Result<CheckRequest, Fail> {
     let words = owned(alloc, words)?;
     let mut asked = asked(alloc, words.as_slice())?;
     asked.workers = workers;
@@ -277,24 +281,30 @@ fn reads_no_fifo(rt: HostRuntime) -> Result<(), Fail> {
     )
 }
 
+/// Returns the lines of a check of `ten` and of a list's names.
+fn told_of_list<R: Threads + Wait + Sync + AllocGlobal>(
+    rt: &R,
+    list: &[u8],
+    workers: u32,
+) -> Result<Vec<u8>, Fail> {
+    let list = BufReader::new(rt.alloc(), list)?;
+    let words: [&[u8]; 3] = [b"--files0-from", b"-", b"ten"];
+    let (_report, found) = told_by(rt, &words, workers, Some(list), Vec::new(rt.alloc()))?;
+    Ok(found)
+}
+
 /// Names of a list, behind those of the words; the last one may end with the list.
 #[test]
 fn takes_names_from_a_list(rt: HostRuntime) -> Result<(), Fail> {
+    let all =
+        "ten: sound, 10 intervals\ntwo: sound, 2 intervals\nmissing: cannot be read: no such file\n";
     for (list, lines) in [
-        (
-            b"two\0missing\0".as_slice(),
-            "ten: sound, 10 intervals\ntwo: sound, 2 intervals\nmissing: cannot be read: no such file\n",
-        ),
-        (
-            b"two\0missing",
-            "ten: sound, 10 intervals\ntwo: sound, 2 intervals\nmissing: cannot be read: no such file\n",
-        ),
+        (b"two\0missing\0".as_slice(), all),
+        (b"two\0missing", all),
         (b"", "ten: sound, 10 intervals\n"),
     ] {
         for workers in [1, 4] {
-            let list = BufReader::new(rt.alloc(), list)?;
-            let words: [&[u8]; 3] = [b"--files0-from", b"-", b"ten"];
-            let (_report, found) = told_by(&rt, &words, workers, Some(list), Vec::new(rt.alloc()))?;
+            let found = told_of_list(&rt, list, workers)?;
             assert!(rt; found.as_slice() == lines.as_bytes(), "{lines}");
         }
     }
