@@ -1,5 +1,6 @@
 -- Steps one after another, and what a run leaves.
 use Rattle.std.proofs.Common.{◌≡◌, ℕ, Bool, true, false, inl, inr, List, [], ◌∷◌, ◌++◌, Option, Some, None, Result, Ok, Err, IfOk, IfErr, is_ok, append_assoc, append-nil, ap, sym, refl, ◌∙◌, ◌==◌, if◌then◌else◌}
+use Rattle.std.proofs.lemmas.Bool.{true≢false}
 use Rattle.jri_file.specs.declared.report.Report.{Report}
 use Rattle.jri_file.specs.declared.report.Fault.{Fault}
 use Rattle.jri_file.specs.declared.report.Fault.TheVariants as fault
@@ -21,6 +22,11 @@ module _ (are_devices : List ℕ → Type 0) (name : List ℕ) where
   pub opened : (a b : Option (List Step)) (is_written : Bool) → OpensDevice are_devices name a b → LeavesFile are_devices name a b is_written
   opened a b true p = inl p
   opened a b false p = inr (inl p)
+
+  -- nothing was done, and no image is written
+  pub undone : (a b : Option (List Step)) (r : Result Report Fault) → Follow a b [] → is_ok r ≡ false → LeavesFile are_devices name a b (is_ok r)
+  undone a b (Ok report) p q = absurd (true≢false q)
+  undone a b (Err f) p q = inl p
 
   -- a part was made, and then placed or removed
   pub placed : (part : List ℕ) (a b c : Option (List Step)) (r : Result Report Fault) → Follow a b (Created part ∷ [])

@@ -1,6 +1,6 @@
 //! A picture that takes its file's name when it is whole.
 
-ghost use Rattle.std.specs.Prelude.{IfOk, IfErr, List, ◌∷◌, [], ◌≡◌};
+ghost use Rattle.std.specs.Prelude.{IfOk, IfErr, List, ◌∷◌, [], ◌≡◌, is_ok, false};
 ghost use Rattle.std.specs.String.{string_bytes};
 ghost use Rattle.jri_words.specs.Steps.{Step, Created, Renamed, Removed, Follow};
 
@@ -48,6 +48,7 @@ pub fn make_part<D: Devices>(
 ) -> Result<Part<D::File>, Ending>
     ensures made { IfOk result (λ part. Follow (D.steps devices.old) (D.steps devices.new) (Created (string_bytes part.name) ∷ [])) }
     ensures none { IfErr result (λ ending. Follow (D.steps devices.old) (D.steps devices.new) []) }
+    ensures unwritten { IfErr result (λ ending. is_ok ending.outcome ≡ false) }
 {
     let run = devices.run_number();
     for number in 1..=MAX_PARTS {

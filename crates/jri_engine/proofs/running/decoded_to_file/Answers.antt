@@ -1,6 +1,6 @@
-use Rattle.std.proofs.Common.{ℕ, List, [], ◌∷◌, subst, sym}
+use Rattle.std.proofs.Common.{rules, ℕ, List, [], ◌∷◌, subst, sym}
 use Rattle.jri_words.specs.Steps.{Created, Follow}
-use Rattle.jri_words.proofs.StepLemmas.{placed}
+use Rattle.jri_words.proofs.StepLemmas.{placed, undone}
 use Rattle.jri_engine.proofs.running.decoded_to_file.Goals as goal
 
 pub returns : goal.returns
@@ -9,4 +9,9 @@ returns g c =
     let made = g.D.Devices.steps c.make_part.new.devices in
     let part = c.as_str.result.now in
     let is_made : Follow old made (Created part ∷ []) = subst (λ (l : List ℕ). Follow old made (Created l ∷ [])) (sym c.as_str.ensures.value) c.in-Ok-make_part.ensures.made in
-    placed c.args.name.now part old made (g.D.Devices.steps c.place.new.devices) c.place.result.outcome is_made c.place.ensures.placed c.place.ensures.removed
+    let fact = placed (g.D.Devices.are_devices c.args.devices.now) c.args.name.now part old made (g.D.Devices.steps c.place.new.devices) c.place.result.outcome is_made in
+    search (rules, fact, c.place.ensures.placed, c.place.ensures.removed)
+
+pub returns-in-Err-make_part : goal.returns-in-Err-make_part
+returns-in-Err-make_part g c =
+    undone (g.D.Devices.are_devices c.args.devices.now) c.args.name.now _ _ c.in-Err-make_part.ending.outcome (search (rules, c.in-Err-make_part.ensures.none)) (search (rules, c.in-Err-make_part.ensures.unwritten))
