@@ -21,7 +21,7 @@ const MAX_PART: usize = 1 << 30;
 const MOST_LINES: u32 = 65_536;
 
 /// Why there is no picture, or no whole one.
-#[derive(Debug, Drop)]
+#[derive(Drop)]
 enum Failure {
     Stream,
     Memory,
