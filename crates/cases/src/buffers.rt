@@ -13,15 +13,9 @@ use std::alloc::{AllocError, Global};
 /// What is in a buffer before a call.
 const BEFORE: u8 = 7;
 
-/// A report of nothing.
-pub(crate) const NONE: DecodeReport = DecodeReport::empty();
-
-/// A header of nothing.
-const NO_HEADER: Header = Header::empty();
-
 /// Returns what a file's header says.
 pub(crate) fn header_of(alloc: Global, bytes: &[u8]) -> Header {
-    let mut header = NO_HEADER;
+    let mut header = Header::empty();
     let _answer = read_header(alloc, bytes, 0, &mut header);
     header
 }
@@ -71,7 +65,7 @@ fn check_decoding(case: &Case<'_>, marks: &[u8], out: &mut String) -> Result<(),
     let alloc = case.alloc;
     let mut pixels = vec![in alloc; BEFORE; case.samples().len()]?;
     let mut found = vec![in alloc; BEFORE; marks.len()]?;
-    let mut report = NONE;
+    let mut report = DecodeReport::empty();
     let answer = decode_file(alloc, case.bytes, &mut pixels, &mut found, &mut report);
     compare_bytes(out, case.at("decode, marks"), marks, found.as_slice())?;
     let lines = report_lines(alloc, &report)?;
@@ -82,7 +76,7 @@ fn check_decoding(case: &Case<'_>, marks: &[u8], out: &mut String) -> Result<(),
 fn check_marks_of(case: &Case<'_>, marks: &[u8], out: &mut String) -> Result<(), Failure> {
     let alloc = case.alloc;
     let mut found = vec![in alloc; BEFORE; marks.len()]?;
-    let mut report = NONE;
+    let mut report = DecodeReport::empty();
     let answer = check_marks(alloc, case.bytes, &mut found, &mut report);
     compare_bytes(out, case.at("marks"), marks, found.as_slice())?;
     let lines = report_lines(alloc, &report)?;
@@ -100,7 +94,7 @@ fn check_small_buffer(case: &Case<'_>, out: &mut String) -> Result<(), Failure> 
     let alloc = case.alloc;
     let size = case.samples().len().saturating_sub(1);
     let mut pixels = vec![in alloc; BEFORE; size]?;
-    let mut report = NONE;
+    let mut report = DecodeReport::empty();
     let answer = decode_file(alloc, case.bytes, &mut pixels, &mut [], &mut report);
     let kept = pixels.iter().filter(|byte| **byte == BEFORE).count();
     compare_numbers(out, case.at("bytes kept"), size as u64, kept as u64)?;

@@ -1,11 +1,11 @@
 //! The calls of the C library that decode some lines, decode onto a canvas, and list damage.
 
-use crate::buffers::{NONE, report_lines};
+use crate::buffers::report_lines;
 use crate::case::Case;
 use crate::differences::{compare_bytes, compare_texts};
 use crate::failure::Failure;
 use crate::texts::map_lines;
-use jri_memory::{Damage, DamageReport, decode_canvas, decode_lines, list_damages};
+use jri_memory::{Damage, DamageReport, DecodeReport, decode_canvas, decode_lines, list_damages};
 use std::alloc::{AllocError, Global};
 
 /// The number of lines that are decoded at once.
@@ -32,7 +32,7 @@ fn check_some_lines(case: &Case<'_>, out: &mut String) -> Result<(), Failure> {
     for first in (0..height).step_by(step as usize) {
         let count = LINES.min(height.saturating_sub(first));
         let mut pixels = vec![in alloc; 0; usize::saturating_mul(count as usize, line)]?;
-        let mut report = NONE;
+        let mut report = DecodeReport::empty();
         let _answer = decode_lines(alloc, case.bytes, first, count, &mut pixels, &mut report);
         let wanted = lines_at(case.samples(), line, first, count);
         compare_bytes(out, case.at("some lines"), wanted, pixels.as_slice())?;
@@ -44,7 +44,7 @@ fn check_some_lines(case: &Case<'_>, out: &mut String) -> Result<(), Failure> {
 fn check_all_lines(case: &Case<'_>, out: &mut String) -> Result<(), Failure> {
     let (alloc, height) = (case.alloc, case.header.height);
     let mut pixels = vec![in alloc; 0; case.samples().len()]?;
-    let mut report = NONE;
+    let mut report = DecodeReport::empty();
     let answer = decode_lines(alloc, case.bytes, 0, height, &mut pixels, &mut report);
     let lines = report_lines(alloc, &report)?;
     case.compare("all lines", pixels.as_slice(), lines.as_str(), answer, out)
@@ -64,7 +64,7 @@ fn check_canvas(case: &Case<'_>, out: &mut String) -> Result<(), Failure> {
     let (alloc, line, bytes) = (case.alloc, case.line(), case.bytes);
     let stride = line.saturating_add(SPARE);
     let mut canvas = vec![in alloc; 7; stride.saturating_mul(case.header.height as usize)]?;
-    let mut report = NONE;
+    let mut report = DecodeReport::empty();
     let answer = decode_canvas(alloc, bytes, &mut canvas, stride, 0, &mut [], &mut report);
     let found = without_spare(alloc, canvas.as_slice(), line)?;
     let lines = report_lines(alloc, &report)?;

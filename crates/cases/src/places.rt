@@ -24,9 +24,6 @@ const TOP: RowPlace = RowPlace {
     state: 0,
 };
 
-/// A report of nothing.
-const NONE: RowsReport = RowsReport::empty();
-
 /// The position behind the rows that are decoded, and what the last call reported.
 #[derive(Clone, Copy)]
 struct Reading {
@@ -40,7 +37,7 @@ impl Reading {
     fn at_top(line: usize) -> Reading {
         Reading {
             place: TOP,
-            report: NONE,
+            report: RowsReport::empty(),
             line,
         }
     }
@@ -57,7 +54,7 @@ impl Reading {
     ) -> u32 {
         let from = usize::saturating_mul(first_line as usize, self.line).min(pixels.len());
         let pixels = &mut pixels[from..];
-        let (mut place, mut report) = (self.place, NONE);
+        let (mut place, mut report) = (self.place, RowsReport::empty());
         let answer = decode_file_rows(alloc, bytes, more, &mut place, rows, pixels, &mut report);
         self.place = place;
         self.report = report;
@@ -115,7 +112,7 @@ fn index(alloc: Global, bytes: &[u8], height: u32) -> Result<Vec<IndexEntry>, Fa
     let mut next = TOP;
     for _ in 0..height {
         let place = next;
-        let mut report = NONE;
+        let mut report = RowsReport::empty();
         if skip_file_rows(alloc, bytes, 0, &mut next, 1, &mut report) != OK {
             return Ok(entries);
         }

@@ -12,7 +12,18 @@ use test_files::files::{COLOURED, file};
 const BEFORE: u8 = 7;
 
 /// A report of nothing.
-pub(crate) const NONE: DecodeReport = DecodeReport::empty();
+pub(crate) const NONE: DecodeReport = DecodeReport {
+    intervals: 0,
+    sound: 0,
+    damaged: 0,
+    blank: 0,
+    ended: 0,
+    found: 0,
+    due: 0,
+    refusal: 0,
+    at: 0,
+    detail: 0,
+};
 
 /// A report that no call has written into.
 const UNWRITTEN: DecodeReport = DecodeReport {
@@ -194,7 +205,16 @@ fn answers_lines(rt: HostRuntime) -> Result<(), Fail> {
 }
 
 /// A header of nothing.
-const NO_HEADER: Header = Header::empty();
+const NO_HEADER: Header = Header {
+    width: 0,
+    height: 0,
+    kind: 0,
+    components: 0,
+    intervals: 0,
+    refusal: 0,
+    pixels: 0,
+    detail: 0,
+};
 
 /// A header that no call has written into.
 const UNREAD: Header = Header {

@@ -21,7 +21,13 @@ const TOP: RowPlace = RowPlace {
 };
 
 /// A report of nothing.
-const NONE: RowsReport = RowsReport::empty();
+const NONE: RowsReport = RowsReport {
+    rows: 0,
+    lines: 0,
+    first_line: 0,
+    refusal: 0,
+    detail: 0,
+};
 
 /// A report that no call has written into.
 const UNWRITTEN: RowsReport = RowsReport {
