@@ -38,16 +38,14 @@ const MOST_TASKS: u64 = u64::MAX;
 /// By three and more, guesses are made ahead: where they cover a strip it is passed over, and read by them, from the place
 /// where it starts, by the worker that decodes it. So nobody waits for the reader but who has nothing else to do.
 #[derive(Drop)]
-pub struct Job<'a, S: OneScan> {
-    scan: &'a Scan,
+pub struct Job<S: OneScan> {
     interval: Arc<Interval>,
     progress: Mutex<Progress<S>>,
     /// Somebody has read a strip, or all, or made a guess.
     has_read: Condvar,
 }
 
-impl<'a, S: OneScan> Model for Job<'a, S> {
-    ghost use Rattle.std.specs.Prelude.{◌≡◌, Some};
+impl<S: OneScan> Model for Job<S> {
     ghost use Rattle.std.specs.Arc.{arc_value};
     ghost use Rattle.jr_scan.specs.IntervalValue.{IntervalValue};
     ghost use Rattle.jr_job.specs.Sharing.{IsOneOf};
@@ -56,7 +54,7 @@ impl<'a, S: OneScan> Model for Job<'a, S> {
 
     ghost view = { λ j. arc_value j.interval };
 
-    ghost invariant = { λ j. IsOneOf S.scan (arc_value j.interval) × (S.scan ≡ Some j.scan.now) };
+    ghost invariant = { λ j. IsOneOf S.scan (arc_value j.interval) };
 }
 
 /// A queue of guesses of interval i of a scan by so many workers, for which these bring room. None where they are not worth their
@@ -92,9 +90,9 @@ fn open_guesses<S: OneScan>(
     Some(queue)
 }
 
-impl<'a, S: OneScan> Job<'a, S> {
+impl<S: OneScan> Job<S> {
     /// A job of interval i of a scan for so many workers, of which nothing is done yet. `Err` where memory is refused.
-    pub fn open(alloc: Global, scan: &'a Scan, i: u32, workers: usize) -> Result<Job<'a, S>, Memory>
+    pub fn open(alloc: Global, scan: &Scan, i: u32, workers: usize) -> Result<Job<S>, Memory>
         requires scan { S.scan ≡ Some scan.now }
         requires i { i < length scan.now.intervals }
         ensures { IfOk result (λ j. j ≡ interval_of scan.now i) }
@@ -112,7 +110,6 @@ impl<'a, S: OneScan> Job<'a, S> {
         let most_waiting = workers.saturating_sub(1).max(1);
         let progress = Progress::of(alloc, reading, guesses, gathered, most_waiting);
         Ok(Job {
-            scan,
             interval,
             progress: Mutex::new(progress),
             has_read: Condvar::new(),
@@ -127,8 +124,9 @@ impl<'a, S: OneScan> Job<'a, S> {
     }
 
     /// What to do next, once there is something.
-    fn task<R: Wait>(&self, rt: &R) -> Option<StripTask<S>> {
-        let scan = self.scan;
+    fn task<R: Wait>(&self, rt: &R, scan: &Scan) -> Option<StripTask<S>>
+        requires { S.scan ≡ Some scan.now }
+    {
         let progress = self.progress.lock(rt);
         let mut progress = self
             .has_read
@@ -137,9 +135,9 @@ impl<'a, S: OneScan> Job<'a, S> {
     }
 
     /// Reads a strip or passes over it, and wakes whoever waits for one.
-    fn read<R: Wait>(&self, rt: &R, alloc: Global, mut reading: Reading<S>) {
+    fn read<R: Wait>(&self, rt: &R, alloc: Global, scan: &Scan, mut reading: Reading<S>) {
         let next = reading.next(alloc);
-        let is_over = self.progress.lock(rt).put(self.scan, reading, next);
+        let is_over = self.progress.lock(rt).put(scan, reading, next);
         if is_over {
             self.has_read.notify_all();
         } else {
@@ -149,10 +147,12 @@ impl<'a, S: OneScan> Job<'a, S> {
 
     /// Brings room for a guess, where some is lacking: so an interval that nobody decodes yet takes none, and where memory is
     /// refused others make those that have room.
-    fn bring<R: Wait>(&self, rt: &R, alloc: Global) {
+    fn bring<R: Wait>(&self, rt: &R, alloc: Global, scan: &Scan)
+        requires { S.scan ≡ Some scan.now }
+    {
         let lacking = self.progress.lock(rt).lacks_guess();
         if let Some(most) = lacking
-            && let Ok(room) = ScanGuess::open(alloc, self.scan, most)
+            && let Ok(room) = ScanGuess::open(alloc, scan, most)
         {
             self.progress.lock(rt).bring_guess(room);
             self.has_read.notify_one();
@@ -160,8 +160,10 @@ impl<'a, S: OneScan> Job<'a, S> {
     }
 
     /// Makes a guess, and wakes whoever waits for it.
-    fn guess<R: Wait>(&self, rt: &R, task: GuessTask<S>) {
-        let made = task.make(self.scan);
+    fn guess<R: Wait>(&self, rt: &R, scan: &Scan, task: GuessTask<S>)
+        requires { S.scan ≡ Some scan.now }
+    {
+        let made = task.make(scan);
         self.progress.lock(rt).put_guess(made);
         self.has_read.notify_one();
     }
@@ -210,17 +212,18 @@ impl<'a, S: OneScan> Job<'a, S> {
 
     /// Decodes a strip, as other workers may do at the same time. None where nothing is left to do for this one, and
     /// where memory is refused.
-    pub fn step<R: Wait>(&self, rt: &R, alloc: Global) -> Option<Arc<Strip>>
+    pub fn step<R: Wait>(&self, rt: &R, alloc: Global, scan: &Scan) -> Option<Arc<Strip>>
+        requires { S.scan ≡ Some scan.now }
         ensures { IfSome result (λ s. (arc_value s).interval ≡ self.now) }
     {
-        self.bring(rt, alloc);
+        self.bring(rt, alloc, scan);
         for _ in 0..MOST_TASKS {
-            let Some(task) = self.task(rt) else {
+            let Some(task) = self.task(rt, scan) else {
                 return None;
             };
             match task {
-                StripTask::Read(reading) => self.read(rt, alloc, reading),
-                StripTask::Guess(task) => self.guess(rt, task),
+                StripTask::Read(reading) => self.read(rt, alloc, scan, reading),
+                StripTask::Guess(task) => self.guess(rt, scan, task),
                 StripTask::Decode(waiting) => {
                     let strip = self.decode(rt, alloc, waiting).ok();
                     if strip.is_none() {

@@ -155,21 +155,12 @@ impl Decoding {
 
     /// `run`, with the jobs that the workers share, and a seat for the calling thread.
     fn run_with<
-        'a,
         R: Threads + Wait + Sync,
         G: Gate + Sync,
         T,
         F: FnOnce(&Decoding) -> T,
         S: OneScan + Send,
-    >(
-        &'a self,
-        rt: &R,
-        seats: Vec<Seat>,
-        own: Option<Seat>,
-        gate: &G,
-        jobs: &Jobs<'a, S>,
-        beside: F,
-    ) -> T
+    >(&self, rt: &R, seats: Vec<Seat>, own: Option<Seat>, gate: &G, jobs: &Jobs<S>, beside: F) -> T
         requires scan { S.scan ≡ Some self.now.scan }
         requires seats { All (λ s. s.desk ≡ self.now.desk) seats.items }
         requires own { IfSome own (λ s. s.desk ≡ self.now.desk) }
@@ -212,12 +203,12 @@ impl Decoding {
     }
 
     /// Works at a seat of its desk until that has ended, and then helps with the long intervals.
-    fn work_with<'a, R: Wait, G: Gate, S: OneScan>(
-        &'a self,
+    fn work_with<R: Wait, G: Gate, S: OneScan>(
+        &self,
         rt: &R,
         seat: &mut Seat,
         gate: &G,
-        jobs: &Jobs<'a, S>,
+        jobs: &Jobs<S>,
     )
         requires scan { S.scan ≡ Some self.now.scan }
         requires desk { seat.old.desk ≡ self.now.desk }
@@ -237,12 +228,12 @@ impl Decoding {
     }
 
     /// Decodes an interval that a worker has claimed, or a part of it.
-    fn decode_claimed<'a, R: Wait, G: Gate, S: OneScan>(
-        &'a self,
+    fn decode_claimed<R: Wait, G: Gate, S: OneScan>(
+        &self,
         rt: &R,
         number: u32,
         gate: &G,
-        jobs: &Jobs<'a, S>,
+        jobs: &Jobs<S>,
     ) -> Option<Arc<Piece>>
         requires scan { S.scan ≡ Some self.now.scan }
         requires number { number < length self.now.scan.intervals }
@@ -256,12 +247,12 @@ impl Decoding {
     }
 
     /// Works on what is left of every job, beginning with another one at each seat.
-    fn help<'a, R: Wait, G: Gate, S: OneScan>(
-        &'a self,
+    fn help<R: Wait, G: Gate, S: OneScan>(
+        &self,
         rt: &R,
         place: u32,
         gate: &G,
-        jobs: &Jobs<'a, S>,
+        jobs: &Jobs<S>,
         sight: &mut Option<Sight>,
     )
         requires scan { S.scan ≡ Some self.now.scan }
@@ -285,14 +276,14 @@ impl Decoding {
         &self,
         rt: &R,
         gate: &G,
-        job: &Job<'_, S>,
+        job: &Job<S>,
         cells: &StripCells,
     ) -> Option<Arc<Piece>>
         requires { S.scan ≡ Some self.now.scan }
     {
         let mut sight = cells.sight().ok();
         for _ in 0..job.interval().mcus() {
-            let Some(strip) = job.step(rt, self.alloc) else {
+            let Some(strip) = job.step(rt, self.alloc, &self.scan) else {
                 break;
             };
             hang_strip(cells, strip, &mut sight);
@@ -345,7 +336,7 @@ fn run_as<
 {
     let is_alone = own.is_some() && seats.is_empty();
     let workers = seats.len().saturating_add(usize::from(own.is_some()));
-    let jobs: Jobs<'_, S> = if is_alone {
+    let jobs: Jobs<S> = if is_alone {
         Jobs::Whole
     } else {
         Jobs::shared(
@@ -367,6 +358,6 @@ fn work_as<R: Wait, G: Gate, S: OneScan>(decoding: &Decoding, rt: &R, seat: &mut
     ensures place { seat.new.place ≡ seat.old.place }
     ensures drawn { (rest : List ℕ) × (seat.new.drawn ≡ seat.old.drawn ++ rest) }
 {
-    let jobs: Jobs<'_, S> = Jobs::Own;
+    let jobs: Jobs<S> = Jobs::Own;
     decoding.work_with(rt, seat, gate, &jobs);
 }

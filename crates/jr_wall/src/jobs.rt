@@ -10,9 +10,9 @@ use std::sync::Arc;
 
 /// How a worker decodes long intervals.
 #[derive(Drop)]
-pub(crate) enum Jobs<'a, S: OneScan> {
+pub(crate) enum Jobs<S: OneScan> {
     /// Together with the others: a job for each, by the interval's number.
-    Shared(Vec<Option<Arc<Job<'a, S>>>>),
+    Shared(Vec<Option<Arc<Job<S>>>>),
     /// Each that it claims by itself, strip by strip.
     Own,
     /// As it decodes short ones: nobody looks for strips.
@@ -20,26 +20,21 @@ pub(crate) enum Jobs<'a, S: OneScan> {
 }
 
 /// A job of interval i for so many workers. None where memory is refused.
-fn job_of<'a, S: OneScan>(
-    alloc: Global,
-    scan: &'a Scan,
-    i: u32,
-    workers: usize,
-) -> Option<Arc<Job<'a, S>>>
+fn job_of<S: OneScan>(alloc: Global, scan: &Scan, i: u32, workers: usize) -> Option<Arc<Job<S>>>
     requires scan { S.scan ≡ Some scan.now }
     requires i { i < length scan.now.intervals }
 {
     Arc::new(alloc, Job::open(alloc, scan, i, workers).ok()?).ok()
 }
 
-impl<'a, S: OneScan> Jobs<'a, S> {
+impl<S: OneScan> Jobs<S> {
     /// Jobs for the intervals that have cells of strips, each for so many workers.
     pub(crate) fn shared(
         alloc: Global,
-        scan: &'a Scan,
+        scan: &Scan,
         strips: &[Option<StripCells>],
         workers: usize,
-    ) -> Jobs<'a, S>
+    ) -> Jobs<S>
         requires scan { S.scan ≡ Some scan.now }
         requires strips { length strips.now ≤ length scan.now.intervals }
     {
@@ -67,7 +62,7 @@ impl<'a, S: OneScan> Jobs<'a, S> {
     }
 
     /// The shared job of interval i, where there is one.
-    pub(crate) fn get(&self, i: usize) -> Option<&Job<'a, S>> {
+    pub(crate) fn get(&self, i: usize) -> Option<&Job<S>> {
         match self {
             Jobs::Shared(jobs) => jobs.get(i)?.as_deref(),
             Jobs::Own | Jobs::Whole => None,
@@ -75,7 +70,7 @@ impl<'a, S: OneScan> Jobs<'a, S> {
     }
 
     /// The job by which a long interval i is decoded that a worker has claimed. None where it is decoded as a whole.
-    pub(crate) fn claimed(&self, alloc: Global, scan: &'a Scan, i: u32) -> Option<Arc<Job<'a, S>>>
+    pub(crate) fn claimed(&self, alloc: Global, scan: &Scan, i: u32) -> Option<Arc<Job<S>>>
         requires scan { S.scan ≡ Some scan.now }
         requires i { i < length scan.now.intervals }
     {
