@@ -29,13 +29,14 @@ use Rattle.jr_rows.specs.Rows.{CountsMarks, HasFirst, HasSampleRoom, ShowsFirstU
 use Rattle.jr_rows.specs.RowLinesValue.{RowLinesValue}
 use Rattle.jr_rows.specs.RowsValue.{SampleRowValue}
 use Rattle.jr_rows.specs.declared.marked.Marked.{Marked}
+use Rattle.jr_rows.proofs.CodedUnits.{grey_codes, whole_codes}
 use Rattle.jr_rows.proofs.IntervalPlaces.{mcus_in_some, next_there}
 use Rattle.jr_rows.proofs.PictureRows.{row_inside}
 use Rattle.jr_rows.proofs.ReadRows.{counts_none}
 use Rattle.jr_arrival.specs.More.{with_more}
 use Rattle.jr_arrival.proofs.LinesOfPictures.{row_of_board}
 use Rattle.jr_arrival.proofs.MoreData.{run_is_final}
-use Rattle.jr_arrival.proofs.ShownMcus.{grey_codes, shown_on, shown_there, whole_codes}
+use Rattle.jr_arrival.proofs.ShownMcus.{shown_on, shown_there}
 use Rattle.jr_arrival.specs.Coming.{AreComing, Becomes, Begins, ComingRowValue, HasGiven, IsComing, IsOver, MayGoOn, ReadsAll, ReadsTo, StandsIn}
 use Rattle.jr_arrival.proofs.LinesStay.{interval_more}
 

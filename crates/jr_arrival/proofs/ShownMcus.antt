@@ -1,60 +1,19 @@
 -- What MCUs of an interval show.
-use Rattle.std.proofs.Common.{◌≡◌, ℕ, ◌+◌, ◌-◌, ◌*◌, ◌/◌, ◌%◌, ◌<◌, ◌≤◌, Some, List, [], ◌++◌, length, get_or, refl, sym, ap, ◌∙◌, arith}
-use Rattle.std.specs.Prelude.{ℤ}
-use Rattle.std.proofs.lemmas.List.{get_or-append_right}
+use Rattle.std.proofs.Common.{◌≡◌, ℕ, ◌+◌, ◌*◌, ◌/◌, ◌%◌, ◌<◌, ◌≤◌, Some, List, [], get_or, sym, ap, ◌∙◌, arith}
 use Rattle.std.proofs.lemmas.Nat.{div-add-mod'}
-use Rattle.std.proofs.Math.Nat.{add-mul, div-lt_iff_lt-mul, mul-le-mul_right}
+use Rattle.std.proofs.Math.Nat.{add-mul, div-lt_iff_lt-mul}
 use Rattle.jr_head.specs.HeadValue.{HeadValue}
-use Rattle.jr_head.specs.Geometry.{IsLawful, blocks_of, order_of, quantiser_of}
+use Rattle.jr_head.specs.Geometry.{blocks_of}
 use Rattle.jr_head.specs.Intervals.{interval_number, within_interval}
-use Rattle.jr_idct.specs.Transform.{samples}
-use Rattle.jr_mcu.specs.Mcus.{component}
-use Rattle.jr_scan.specs.declared.place.Place.{Place}
-use Rattle.jr_scan.specs.declared.place.RunEnd.TheVariants.{AllRead}
-use Rattle.jr_scan.specs.IntervalValue.{IntervalValue}
-use Rattle.jr_scan.specs.Mcus.{LongestFront}
-use Rattle.jr_scan.specs.Run.{IsRun, run_from}
 use Rattle.jr_scan.specs.ScanValue.{ScanValue, interval_of, intervals_of, mcus_in}
 use Rattle.jr_piece.specs.PieceValue.{PieceValue}
-use Rattle.jr_piece.specs.Outcome.{IsOutcome, unit_of}
-use Rattle.jr_piece.specs.Strips.{FirstMcus, IsNext}
-use Rattle.jr_piece.specs.Units.{grey_unit, unit_in_piece}
-use Rattle.jr_piece.proofs.ScanLaws.{one_front, one_run, runs_meet, shorter_front}
-use Rattle.jr_piece.proofs.Strips.{component_on}
-use Rattle.jr_piece.proofs.StripRuns as runs
-use Rattle.jr_piece.proofs.UnitReading.{shown, behind}
+use Rattle.jr_piece.specs.Outcome.{IsOutcome}
+use Rattle.jr_piece.specs.Units.{unit_in_piece}
 use Rattle.jr_picture.specs.Boards.{piece_at}
 use Rattle.jr_rows.specs.Bands.{unit_shown, unit_shown_of}
 use Rattle.jr_rows.specs.Rows.{ShowsBehind, ShowsFirstUnits}
 use Rattle.jr_rows.proofs.IntervalPlaces.{interval_at}
 use Rattle.jr_rows.proofs.ReadRows.{posted_there, shown_more}
-
--- those that are there
-module _ (i : IntervalValue) (lawful : IsLawful i.head) (first : ℕ) (zs : List (List ℤ)) (p : Place) (next : IsNext i first zs p) (n : ℕ) (ys : List (List ℤ)) (q : Place) (run : IsRun (run_from i p n) ys q AllRead) (few : first + n ≤ i.mcus) where
-  abbrev per : ℕ
-  per = length (order_of i.head)
-
-  here : FirstMcus (run_from i p n) n ys
-  here = record { to = q; run = run; none = λ lt. absurd (omega (arith, lt)) }
-
-  block_there : (k : ℕ) → get_or ys k [] ≡ get_or (zs ++ ys) (first * per + k) []
-  block_there k =
-      let long : length zs ≡ first * per = next.run.mcus.0 ∙ ap (λ (m : ℕ). m * per) next.run.ends in
-      let there : first * per + k - length zs ≡ k = omega (arith, long) in
-      sym (get_or-append_right zs ys (length zs) (first * per + k) [] refl (omega (arith, long)) ∙ ap (λ (m : ℕ). get_or ys m []) there)
-
-  pub whole_codes : (o : PieceValue) → o.interval ≡ i → IsOutcome o → (k : ℕ) → k < n * per → unit_of i.head ys k ≡ unit_in_piece o (first * per + k)
-  whole_codes o same is k lt =
-      let front = runs.front one_run runs_meet shorter_front i lawful first zs p next n n ys here few in
-      ap (λ (z : List ℤ). samples z (quantiser_of i.head (component i.head k))) (block_there k)
-      ∙ ap (λ (c : ℕ). samples (get_or (zs ++ ys) (first * per + k) []) (quantiser_of i.head c)) (sym (component_on i.head first k))
-      ∙ shown one_front shorter_front i o same is (first + n) (zs ++ ys) front (first * per + k) (omega (arith, lt, add-mul first n per))
-
--- those behind the last whole one
-pub grey_codes : (i : IntervalValue) (front mcu : ℕ) (zs : List (List ℤ)) → front ≤ mcu → LongestFront i front zs → (o : PieceValue) → o.interval ≡ i → IsOutcome o → (k : ℕ) → grey_unit ≡ unit_in_piece o (mcu * length (order_of i.head) + k)
-grey_codes i front mcu zs le longest o same is k =
-    let past : front * length (order_of i.head) ≤ mcu * length (order_of i.head) = mul-le-mul_right {m = front} {n = mcu} (length (order_of i.head)) le in
-    behind one_front shorter_front i o same is front zs longest (mcu * length (order_of i.head) + k) (omega (arith, past))
 
 -- where data units are those of each outcome of an interval, they are those that a board shows
 module _ (t : ScanValue) (n number mcu mcus before : ℕ) (units : List (List ℕ)) (some : 0 < blocks_of t.head) (number_few : number < intervals_of t.head) (marked : number < n) (few : mcu + mcus ≤ mcus_in t.head number)

@@ -15,7 +15,8 @@ use Rattle.jr_piece.specs.Units.{grey_unit, unit_in_piece}
 use Rattle.jr_rows.specs.Groups.{units_in}
 use Rattle.jr_rows.specs.Rows.{ShowsFirstUnits}
 use Rattle.jr_arrival.proofs.ScanIntervals.{count_is}
-use Rattle.jr_arrival.proofs.ShownMcus.{grey_codes, shown_on, shown_there, whole_codes}
+use Rattle.jr_rows.proofs.CodedUnits.{grey_codes, whole_codes}
+use Rattle.jr_arrival.proofs.ShownMcus.{shown_on, shown_there}
 use Rattle.jr_arrival.specs.declared.cursor.Reading.{Reading}
 use Rattle.jr_arrival.specs.declared.cursor.Reading.TheVariants.{GoesOn, IsStuck, HasEnded}
 use Rattle.jr_arrival.specs.declared.cursor.ScanCursor.{ScanCursor}

@@ -11,7 +11,7 @@ ghost use Rattle.jr_arrival.specs.Coming.{AreComing, Becomes, Begins, HasNoMore,
 
 use jr_base::Memory;
 use jr_head::Head;
-use jr_rows::{Marked, SampleRow, lines_of, shape_of};
+use jr_rows::{Marked, SampleRow, bytes_to, lines_of, shape_of};
 use jr_scan::{GrowingScan, McuReader, Place, ScanEnd};
 use std::alloc::Global;
 use std::marker::Model;
@@ -62,17 +62,6 @@ fn lines_with_room(head: &Head, first: u32, bytes: usize) -> u32
     head.be_lawful();
     let left = head.height().saturating_sub(first);
     (bytes / shape_of(head).line).min(left as usize) as u32
-}
-
-/// How many bytes so many lines have, of `all`.
-fn bytes_to(lines: u32, all: u32, line: usize) -> usize
-    requires within { lines ≤ all }
-    requires few { all < 65536 }
-    requires short { line ≤ 196605 }
-    ensures value { result ≡ lines * line }
-    ensures within { result ≤ all * line }
-{
-    lines as usize * line
 }
 
 /// The row of MCUs that comes next, decoded as far as its data are there, and lines of the picture that are given of it.

@@ -5,21 +5,24 @@ use Rattle.jr_scan.specs.ScanValue.{ScanValue}
 use Rattle.jr_crew.specs.Bench.{OfPart}
 use Rattle.jr_crew.specs.BenchValue.{PaintedValue}
 use Rattle.jr_rows.specs.FirstIntervalsValue.{FirstIntervalsValue}
-use Rattle.jr_rows.specs.RowsValue.{RowsValue}
+use Rattle.jr_rows.specs.Cursors.{AreGuessesIn}
+use Rattle.jr_rows.specs.Rows.{AreRowsOf}
+use Rattle.jr_rows.specs.declared.interval_guesses.IntervalGuesses.{IntervalGuesses}
+use Rattle.jr_rows.specs.declared.rows.Rows.{Rows}
 
 -- the scan of the part that a proof knows of
 abbrev pub scan_of : Option FirstIntervalsValue → Option ScanValue
 scan_of None = None
 scan_of (Some part) = Some part.scan
 
--- these are rows of the scan, of which just this part is decoded, and there is a next one
-pub record HasNextOf (part : FirstIntervalsValue) (r : RowsValue) : Type 0 where
-  pub scan_is : r.scan ≡ part.scan
-  pub limit : r.limit ≡ part.limit
+-- these are rows of the part, and guesses of its scan, and there is a next row
+pub record HasNextOf (part : FirstIntervalsValue) (r : Rows) (g : IntervalGuesses) : Type 0 where
+  pub rows : AreRowsOf part r
   pub row : r.row < mcus_down part.scan.head
+  pub guesses : AreGuessesIn part.scan g
 
-abbrev pub HaveNext : Option FirstIntervalsValue → RowsValue → Type 0
-HaveNext known r = OfPart known (λ part. HasNextOf part r)
+abbrev pub HaveNext : Option FirstIntervalsValue → Rows → IntervalGuesses → Type 0
+HaveNext known r g = OfPart known (λ part. HasNextOf part r g)
 
 -- a slot holds this row
 abbrev pub HoldsRow : Option (Option PaintedValue) → ℕ → Type 0

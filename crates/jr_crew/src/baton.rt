@@ -3,41 +3,39 @@
 ghost use Rattle.std.specs.Prelude.{◌≡◌, Some};
 ghost use Rattle.jr_scan.specs.Guesses.{AreGuessesOf};
 ghost use Rattle.jr_scan.specs.ScanValue.{interval_of};
+ghost use Rattle.jr_rows.specs.Rows.{AreRowsOf};
 
 use crate::bench::{Bench, CodedRow, Painted, WorkBench};
 use crate::one_first_intervals::OneFirstIntervals;
 use crate::paint_room::PaintRoom;
 use jr_picture::Gate;
-use jr_rows::{FirstIntervals, Rows, announce, intervals_of_row, shape_of};
+use jr_rows::{FirstIntervals, IntervalGuesses, Rows, announce, intervals_of_row, shape_of};
 use jr_scan::Guesses;
 use std::marker::{Model, PhantomData};
 
-/// The reader of a scan's rows from one of them on, that one thread holds at a time.
+/// A scan's rows from one of them on, which one thread at a time reads, and guesses that it goes over.
 #[derive(Drop)]
-pub(crate) struct Baton<'a, S: OneFirstIntervals> {
-    rows: Rows<'a>,
+pub(crate) struct Baton<S: OneFirstIntervals> {
+    rows: Rows,
+    guesses: IntervalGuesses,
     of: PhantomData<S>,
 }
 
-impl<'a, S: OneFirstIntervals> Model for Baton<'a, S> {
+impl<S: OneFirstIntervals> Model for Baton<S> {
+    ghost use Rattle.std.specs.Prelude.{ℕ};
     ghost use Rattle.jr_crew.specs.Crew.{HaveNext};
-    ghost use Rattle.jr_rows.specs.RowsValue.{RowsValue};
 
-    ghost Value = { RowsValue };
+    ghost Value = { ℕ };
 
-    ghost view = { λ b. b.rows };
+    ghost view = { λ b. b.rows.row };
 
-    ghost invariant = { λ b. HaveNext S.part b.rows };
+    ghost invariant = { λ b. HaveNext S.part b.rows b.guesses };
 }
 
-/// These rows, where one is left.
-fn baton_over<'a, S: OneFirstIntervals>(
-    part: &FirstIntervals<'_>,
-    rows: Rows<'a>,
-) -> Option<Baton<'a, S>>
+/// Returns these rows, where one is left.
+fn baton_over<S: OneFirstIntervals>(part: &FirstIntervals<'_>, rows: Rows) -> Option<Baton<S>>
     requires part { S.part ≡ Some part.now }
-    requires of { rows.scan ≡ part.now.scan }
-    requires limit { rows.limit ≡ part.now.limit }
+    requires rows { AreRowsOf part.now rows }
 {
     if rows.row() >= shape_of(part.scan().head()).down {
         drop(rows);
@@ -45,20 +43,21 @@ fn baton_over<'a, S: OneFirstIntervals>(
     }
     Some(Baton {
         rows,
+        guesses: IntervalGuesses::none(),
         of: PhantomData,
     })
 }
 
-impl<'a, S: OneFirstIntervals> Baton<'a, S> {
-    /// All rows of the scan.
-    pub(crate) fn of(part: &FirstIntervals<'a>) -> Option<Baton<'a, S>>
+impl<S: OneFirstIntervals> Baton<S> {
+    /// Returns all rows of the scan.
+    pub(crate) fn of(part: &FirstIntervals<'_>) -> Option<Baton<S>>
         requires { S.part ≡ Some part.now }
     {
-        baton_over(part, Rows::of(part.scan(), part.limit()))
+        baton_over(part, Rows::of(part))
     }
 
-    /// The rows behind the next one, which can be read before it where rows are whole intervals.
-    pub(crate) fn behind(&self, part: &FirstIntervals<'a>) -> Option<Baton<'a, S>>
+    /// Returns the rows after the next one, which can be read before it where rows are whole intervals.
+    pub(crate) fn behind(&self, part: &FirstIntervals<'_>) -> Option<Baton<S>>
         requires { S.part ≡ Some part.now }
     {
         let head = part.scan().head();
@@ -73,90 +72,92 @@ impl<'a, S: OneFirstIntervals> Baton<'a, S> {
         baton_over(part, Rows::from(part, row, intervals))
     }
 
-    /// Where the next row starts: the number of its interval, and the bit.
-    pub(crate) fn next_start(&self) -> (u32, u64) {
-        self.rows.next_start()
+    /// Returns where the next row starts: the number of its interval, and the bit.
+    pub(crate) fn next_start(&self, part: &FirstIntervals<'_>) -> (u32, u64)
+        requires { S.part ≡ Some part.now }
+    {
+        self.rows.next_start(part)
     }
 
-    /// The same rows, which go over these guesses.
+    /// Returns the same rows, which go over these guesses.
     pub(crate) fn with_guesses(
         self,
-        part: &FirstIntervals<'a>,
+        part: &FirstIntervals<'_>,
         number: u32,
         guesses: Guesses,
-    ) -> Baton<'a, S>
+    ) -> Baton<S>
         requires part { S.part ≡ Some part.now }
         requires guesses { AreGuessesOf (interval_of part.now.scan number) guesses }
     {
-        let mut rows = self.rows;
-        rows.set_guesses(number, guesses);
         Baton {
-            rows,
+            rows: self.rows,
+            guesses: IntervalGuesses::of(number, guesses),
             of: PhantomData,
         }
     }
 
-    /// Tells the gate of the intervals that begin in the next row, and passes over it: answers the rows from it on, and those
-    /// behind it.
+    /// Tells the gate of the intervals that begin in the next row, and skips it. Returns the rows from it on, and those
+    /// after it.
     pub(crate) fn pass<G: Gate>(
         self,
-        part: &FirstIntervals<'a>,
+        part: &FirstIntervals<'_>,
         gate: &G,
-    ) -> (Baton<'a, S>, Option<Baton<'a, S>>)
+    ) -> (Baton<S>, Option<Baton<S>>)
         requires { S.part ≡ Some part.now }
     {
-        let mut rows = self.rows.again();
+        let mut rows = self.rows;
         announce(part.scan(), part.limit(), rows.row(), gate);
-        rows.pass();
-        (self, baton_over(part, rows))
+        rows.skip(part, Some(&self.guesses));
+        let behind = baton_over(part, rows);
+        (self, behind)
     }
 
     /// Decodes and paints the next row, of whose intervals the gate was told.
     pub(crate) fn finish(
         self,
-        part: &FirstIntervals<'a>,
+        part: &FirstIntervals<'_>,
         bench: Bench<S>,
         room: &mut PaintRoom<S>,
     ) -> Painted<S>
         requires { S.part ≡ Some part.now }
     {
         let mut rows = self.rows;
-        let painted = bench.decode(part, &mut rows, room);
+        let painted = bench.decode(part, &mut rows, Some(&self.guesses), room);
         drop(rows);
         painted
     }
 
     /// Tells the gate of the intervals that begin in the next row.
-    pub(crate) fn announce<G: Gate>(&self, part: &FirstIntervals<'a>, gate: &G)
+    pub(crate) fn announce<G: Gate>(&self, part: &FirstIntervals<'_>, gate: &G)
         requires { S.part ≡ Some part.now }
     {
         announce(part.scan(), part.limit(), self.rows.row(), gate);
     }
 
-    /// Reads the next row, of whose intervals the gate was told: answers it with those behind it.
+    /// Reads the next row, of whose intervals the gate was told. Returns it with those after it.
     pub(crate) fn read(
         self,
         part: &FirstIntervals<'_>,
         bench: WorkBench<S>,
-    ) -> (CodedRow<S>, Option<Baton<'a, S>>)
+    ) -> (CodedRow<S>, Option<Baton<S>>)
         requires { S.part ≡ Some part.now }
     {
         let mut rows = self.rows;
-        let coded = bench.read(part, &mut rows);
+        let coded = bench.read(part, &mut rows, Some(&self.guesses));
         (coded, baton_over(part, rows))
     }
 
-    /// Decodes and paints the next row, of whose intervals the gate was told: answers it with those behind it.
+    /// Decodes and paints the next row, of whose intervals the gate was told. Returns it with those after it.
     pub(crate) fn decode(
         self,
         part: &FirstIntervals<'_>,
         bench: Bench<S>,
         room: &mut PaintRoom<S>,
-    ) -> (Painted<S>, Option<Baton<'a, S>>)
+    ) -> (Painted<S>, Option<Baton<S>>)
         requires { S.part ≡ Some part.now }
     {
         let mut rows = self.rows;
-        let painted = bench.decode(part, &mut rows, room);
+        let painted = bench.decode(part, &mut rows, Some(&self.guesses), room);
         (painted, baton_over(part, rows))
     }
 }

@@ -1,15 +1,18 @@
 //! Memory for a row of MCUs of a scan: empty, read, or painted.
 
-ghost use Rattle.std.specs.Prelude.{◌≡◌, ◌+◌, ◌-◌, ◌*◌, ◌<◌, ◌≤◌, Some, length, take, drop};
+ghost use Rattle.std.specs.Prelude.{◌≡◌, ◌+◌, ◌-◌, ◌*◌, ◌<◌, ◌≤◌, Some, length, take, drop, IfSome};
 ghost use Rattle.jr_head.specs.Geometry.{mcus_down, vertical_max};
 ghost use Rattle.jr_paint.specs.Lines.{line_room, line_size};
-ghost use Rattle.jr_rows.specs.Rows.{AreRead, CountsRow, HasRowRoom, HasSampleRoom, ShowsLines, line_count};
+ghost use Rattle.jr_rows.specs.Cursors.{AreGuessesIn};
+ghost use Rattle.jr_rows.specs.Rows.{AreRead, AreRowsOf, CountsRow, HasRowRoom, HasSampleRoom, ShowsLines, line_count};
 
 use crate::one_first_intervals::OneFirstIntervals;
 use crate::paint_room::PaintRoom;
 use crate::row::Row;
 use jr_base::Memory;
-use jr_rows::{FirstIntervals, Marked, Rows, SampleRow, bytes_of_row, lines_of, shape_of};
+use jr_rows::{
+    FirstIntervals, IntervalGuesses, Marked, Rows, SampleRow, bytes_of_row, lines_of, shape_of,
+};
 use std::alloc::Global;
 use std::marker::{Model, PhantomData};
 use std::mem;
@@ -40,15 +43,17 @@ fn paint_first(
 fn decode_first(
     work: &mut SampleRow,
     part: &FirstIntervals<'_>,
-    rows: &mut Rows<'_>,
+    rows: &mut Rows,
+    guesses: Option<&IntervalGuesses>,
     pixels: &mut [u8],
 ) -> Marked
-    requires of { rows.old.scan ≡ part.now.scan }
-    requires limit { rows.old.limit ≡ part.now.limit }
+    requires rows { AreRowsOf part.now rows.old }
+    requires same { IfSome guesses (λ g. AreGuessesIn part.now.scan g.now) }
     requires row { rows.old.row < mcus_down part.now.scan.head }
     requires room { HasSampleRoom part.now.scan.head work.old }
     requires pixels { 8 * vertical_max part.now.scan.head * line_size part.now.scan.head ≤ length pixels.old }
-    ensures moved { rows.new ≡ record rows.old { row = rows.old.row + 1 } }
+    ensures rows { AreRowsOf part.now rows.new }
+    ensures row { rows.new.row ≡ rows.old.row + 1 }
     ensures room { HasSampleRoom part.now.scan.head work.new }
     ensures lines { ShowsLines part.now.scan part.now.limit rows.old.row (take (line_count part.now.scan.head rows.old.row * line_size part.now.scan.head) pixels.new) }
     ensures counts { CountsRow part.now.scan part.now.limit rows.old.row result }
@@ -56,7 +61,7 @@ fn decode_first(
     let head = part.scan().head();
     let (_y, count) = lines_of(head, rows.row());
     let size = count as usize * shape_of(head).line;
-    work.paint(rows, &mut pixels[..size])
+    work.paint(part, rows, guesses, &mut pixels[..size])
 }
 
 /// Memory for the lines of a row of MCUs of the scan, and for its blocks and samples, where a row has been read by it.
@@ -103,19 +108,20 @@ impl<S: OneFirstIntervals> Bench<S> {
     pub fn decode(
         self,
         part: &FirstIntervals<'_>,
-        rows: &mut Rows<'_>,
+        rows: &mut Rows,
+        guesses: Option<&IntervalGuesses>,
         room: &mut PaintRoom<S>,
     ) -> Painted<S>
         requires part { S.part ≡ Some part.now }
-        requires of { rows.old.scan ≡ part.now.scan }
-        requires limit { rows.old.limit ≡ part.now.limit }
+        requires rows { AreRowsOf part.now rows.old }
+        requires same { IfSome guesses (λ g. AreGuessesIn part.now.scan g.now) }
         requires row { rows.old.row < mcus_down part.now.scan.head }
         ensures row { result.row ≡ rows.old.row }
-        ensures moved { rows.new ≡ record rows.old { row = rows.old.row + 1 } }
+        ensures rows { AreRowsOf part.now rows.new }
     {
         let row = rows.row();
         let mut pixels = self.pixels;
-        let marked = decode_first(&mut room.work, part, rows, &mut pixels);
+        let marked = decode_first(&mut room.work, part, rows, guesses, &mut pixels);
         Painted {
             row,
             marked,
@@ -170,17 +176,22 @@ impl<S: OneFirstIntervals> Model for WorkBench<S> {
 
 impl<S: OneFirstIntervals> WorkBench<S> {
     /// Reads the next row of the scan.
-    pub fn read(self, part: &FirstIntervals<'_>, rows: &mut Rows<'_>) -> CodedRow<S>
+    pub fn read(
+        self,
+        part: &FirstIntervals<'_>,
+        rows: &mut Rows,
+        guesses: Option<&IntervalGuesses>,
+    ) -> CodedRow<S>
         requires part { S.part ≡ Some part.now }
-        requires of { rows.old.scan ≡ part.now.scan }
-        requires limit { rows.old.limit ≡ part.now.limit }
+        requires rows { AreRowsOf part.now rows.old }
+        requires same { IfSome guesses (λ g. AreGuessesIn part.now.scan g.now) }
         requires row { rows.old.row < mcus_down part.now.scan.head }
         ensures row { result.row ≡ rows.old.row }
-        ensures moved { rows.new ≡ record rows.old { row = rows.old.row + 1 } }
+        ensures rows { AreRowsOf part.now rows.new }
     {
         let row = rows.row();
         let mut work = self.work;
-        let marked = work.read(rows);
+        let marked = work.read(part, rows, guesses);
         CodedRow {
             row,
             marked,

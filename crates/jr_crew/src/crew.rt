@@ -43,7 +43,7 @@ pub(crate) const BENCHES_OF_ONE: u32 = 2;
 pub(crate) struct Crew<'a, S: OneFirstIntervals> {
     alloc: Global,
     part: FirstIntervals<'a>,
-    queue: Mutex<RowQueue<'a, S>>,
+    queue: Mutex<RowQueue<S>>,
     /// Somebody has read a row, or given back a bench, or all is over. It wakes nobody where nobody waits.
     has_task: Condvar,
     /// The row is painted that the calling thread waits for, or one is read and nobody else waits for it.
@@ -63,7 +63,7 @@ impl<'a, S: OneFirstIntervals> Model for Crew<'a, S> {
 
 impl<'a, S: OneFirstIntervals> Crew<'a, S> {
     /// Nothing is done yet.
-    pub(crate) fn of(alloc: Global, part: FirstIntervals<'a>, queue: RowQueue<'a, S>) -> Crew<'a, S>
+    pub(crate) fn of(alloc: Global, part: FirstIntervals<'a>, queue: RowQueue<S>) -> Crew<'a, S>
         requires { S.part ≡ Some part }
         ensures { result ≡ part.entry }
     {
@@ -114,7 +114,7 @@ impl<'a, S: OneFirstIntervals> Crew<'a, S> {
 
     /// What a thread does next, once there is something: it gives back memory where nothing else is to be done. None where nothing is
     /// left.
-    fn task<R: Wait>(&self, rt: &R) -> Option<RowTask<'a, S>> {
+    fn task<R: Wait>(&self, rt: &R) -> Option<RowTask<S>> {
         let scan = self.part.scan();
         let mut queue = self.queue.lock(rt);
         queue.waiting = queue.waiting.saturating_add(1);
@@ -129,7 +129,7 @@ impl<'a, S: OneFirstIntervals> Crew<'a, S> {
     }
 
     /// What the calling thread does next, once there is something or this row is painted. None where it is, or nothing is left.
-    pub(crate) fn task_before<R: Wait>(&self, rt: &R, row: u32) -> Option<RowTask<'a, S>> {
+    pub(crate) fn task_before<R: Wait>(&self, rt: &R, row: u32) -> Option<RowTask<S>> {
         let scan = self.part.scan();
         let mut queue = self.queue.lock(rt);
         queue.set_awaited(Some(row));
@@ -155,13 +155,7 @@ impl<'a, S: OneFirstIntervals> Crew<'a, S> {
     }
 
     /// Reads a row, and paints it where rows are whole intervals; else it waits for whoever is free.
-    fn read<R: Wait, G: Gate>(
-        &self,
-        rt: &R,
-        gate: &G,
-        row: BegunRow<'a, S>,
-        room: &mut PaintRoom<S>,
-    ) {
+    fn read<R: Wait, G: Gate>(&self, rt: &R, gate: &G, row: BegunRow<S>, room: &mut PaintRoom<S>) {
         row.baton.announce(&self.part, gate);
         if intervals_of_row(self.part.scan().head()).is_some() {
             return self.finish(rt, row, room);
@@ -174,18 +168,15 @@ impl<'a, S: OneFirstIntervals> Crew<'a, S> {
     }
 
     /// Reads and paints a row, of whose intervals the gate was told.
-    fn finish<R: Wait>(&self, rt: &R, row: BegunRow<'a, S>, room: &mut PaintRoom<S>) {
+    fn finish<R: Wait>(&self, rt: &R, row: BegunRow<S>, room: &mut PaintRoom<S>) {
         let BegunRow { baton, bench } = row;
         self.put_painted(rt, baton.finish(&self.part, bench, room));
     }
 
     /// Reads a row, which waits for whoever is free.
-    fn read_on<R: Wait>(&self, rt: &R, baton: Baton<'a, S>, bench: WorkBench<S>) {
+    fn read_on<R: Wait>(&self, rt: &R, baton: Baton<S>, bench: WorkBench<S>) {
         let (coded, behind) = baton.read(&self.part, bench);
-        let waiter = self
-            .queue
-            .lock(rt)
-            .put_coded(self.part.scan(), coded, behind);
+        let waiter = self.queue.lock(rt).put_coded(&self.part, coded, behind);
         self.wake(waiter);
     }
 
@@ -193,12 +184,12 @@ impl<'a, S: OneFirstIntervals> Crew<'a, S> {
     fn decode_on<R: Wait>(
         &self,
         rt: &R,
-        baton: Baton<'a, S>,
+        baton: Baton<S>,
         bench: Bench<S>,
         room: &mut PaintRoom<S>,
     ) {
         let (painted, behind) = baton.decode(&self.part, bench, room);
-        let waiter = self.queue.lock(rt).put_behind(self.part.scan(), behind);
+        let waiter = self.queue.lock(rt).put_behind(&self.part, behind);
         self.wake(waiter);
         self.put_painted(rt, painted);
     }
@@ -213,16 +204,13 @@ impl<'a, S: OneFirstIntervals> Crew<'a, S> {
     }
 
     /// Passes over a row; it waits for whoever is free.
-    fn pass<R: Wait, G: Gate>(&self, rt: &R, gate: &G, row: BegunRow<'a, S>) {
+    fn pass<R: Wait, G: Gate>(&self, rt: &R, gate: &G, row: BegunRow<S>) {
         let (baton, behind) = row.baton.pass(&self.part, gate);
         let passed = BegunRow {
             baton,
             bench: row.bench,
         };
-        let waiter = self
-            .queue
-            .lock(rt)
-            .put_passed(self.part.scan(), passed, behind);
+        let waiter = self.queue.lock(rt).put_passed(&self.part, passed, behind);
         self.wake(waiter);
     }
 
@@ -238,7 +226,7 @@ impl<'a, S: OneFirstIntervals> Crew<'a, S> {
         &self,
         rt: &R,
         gate: &G,
-        task: RowTask<'a, S>,
+        task: RowTask<S>,
         room: &mut PaintRoom<S>,
     ) {
         match task {

@@ -1,16 +1,19 @@
 //! A row of MCUs in work: its blocks, and the samples that they give.
 
-ghost use Rattle.std.specs.Prelude.{◌≡◌, ◌+◌, ◌*◌, ◌<◌, ◌≤◌, length, IfOk};
+ghost use Rattle.std.specs.Prelude.{◌≡◌, ◌+◌, ◌*◌, ◌<◌, ◌≤◌, length, IfOk, IfSome};
 ghost use Rattle.jr_head.specs.Geometry.{mcus_across, mcus_down};
 ghost use Rattle.jr_paint.specs.Lines.{line_room, line_size};
 ghost use Rattle.jr_picture.specs.BoardValue.{BoardValue};
 ghost use Rattle.jr_rows.specs.Bands.{ShowsMcus};
+ghost use Rattle.jr_rows.specs.Cursors.{AreGuessesIn};
 ghost use Rattle.jr_rows.specs.Groups.{units_in};
-ghost use Rattle.jr_rows.specs.Rows.{HasFirst, HasRowRoom, AreRead, CountsRow, ShowsLines, line_count};
+ghost use Rattle.jr_rows.specs.Rows.{HasFirst, HasRowRoom, AreRead, AreRowsOf, CountsRow, ShowsLines, line_count};
 
 use jr_base::{Coefficients, Memory};
 use jr_head::Head;
-use jr_rows::{Marked, RowLines, Rows, coded_of_row, paint_row, shape_of};
+use jr_rows::{
+    FirstIntervals, IntervalGuesses, Marked, RowLines, Rows, coded_of_row, paint_row, shape_of,
+};
 use jr_scan::Scan;
 use std::alloc::Global;
 use std::marker::Model;
@@ -46,15 +49,23 @@ impl Row {
     }
 
     /// Reads the next row: answers the marks of the intervals that end in it.
-    pub(crate) fn read(&mut self, rows: &mut Rows<'_>) -> Marked
-        requires row { rows.old.row < mcus_down rows.old.scan.head }
-        requires room { HasRowRoom rows.old.scan.head self.old }
-        ensures room { HasRowRoom rows.old.scan.head self.new }
-        ensures moved { rows.new ≡ record rows.old { row = rows.old.row + 1 } }
-        ensures read { AreRead rows.old.scan rows.old.limit rows.old.row self.new.blocks }
-        ensures counts { CountsRow rows.old.scan rows.old.limit rows.old.row result }
+    pub(crate) fn read(
+        &mut self,
+        part: &FirstIntervals<'_>,
+        rows: &mut Rows,
+        guesses: Option<&IntervalGuesses>,
+    ) -> Marked
+        requires rows { AreRowsOf part.now rows.old }
+        requires same { IfSome guesses (λ g. AreGuessesIn part.now.scan g.now) }
+        requires row { rows.old.row < mcus_down part.now.scan.head }
+        requires room { HasRowRoom part.now.scan.head self.old }
+        ensures room { HasRowRoom part.now.scan.head self.new }
+        ensures rows { AreRowsOf part.now rows.new }
+        ensures row { rows.new.row ≡ rows.old.row + 1 }
+        ensures read { AreRead part.now.scan part.now.limit rows.old.row self.new.blocks }
+        ensures counts { CountsRow part.now.scan part.now.limit rows.old.row result }
     {
-        rows.read(&mut self.blocks)
+        rows.read(part, guesses, &mut self.blocks)
     }
 
     /// Transforms the decoded MCUs of the row that is read; the others are blank.

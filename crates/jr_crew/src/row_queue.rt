@@ -17,13 +17,13 @@ use std::mem::replace;
 
 /// What a thread does next.
 #[derive(Drop)]
-pub(crate) enum RowTask<'a, S: OneFirstIntervals> {
+pub(crate) enum RowTask<S: OneFirstIntervals> {
     /// Reads the next row.
-    Read(BegunRow<'a, S>),
+    Read(BegunRow<S>),
     /// Passes over the next row, so that another thread can read it while the rows behind it are passed over.
-    Pass(BegunRow<'a, S>),
+    Pass(BegunRow<S>),
     /// Reads and paints a row that was passed over.
-    Finish(BegunRow<'a, S>),
+    Finish(BegunRow<S>),
     /// Paints a row that is read.
     Paint(CodedRow<S>),
     /// Makes a guess.
@@ -43,8 +43,8 @@ pub(crate) enum Spare<S: OneFirstIntervals> {
 
 /// A row that is begun, and what it is read on: so it needs nothing that a later row could take.
 #[derive(Drop)]
-pub(crate) struct BegunRow<'a, S: OneFirstIntervals> {
-    pub(crate) baton: Baton<'a, S>,
+pub(crate) struct BegunRow<S: OneFirstIntervals> {
+    pub(crate) baton: Baton<S>,
     pub(crate) bench: Bench<S>,
 }
 
@@ -75,9 +75,9 @@ pub(crate) enum Waiter {
 /// The rows that are read and not yet written, no more than there are benches, and who waits for them, so that nobody is woken
 /// where nobody waits.
 #[derive(Drop)]
-pub(crate) struct RowQueue<'a, S: OneFirstIntervals> {
+pub(crate) struct RowQueue<S: OneFirstIntervals> {
     /// None before the first row may begin, while a thread reads by it, and where no row is left to read.
-    baton: Option<Baton<'a, S>>,
+    baton: Option<Baton<S>>,
     /// No row is left to begin.
     is_begun: bool,
     /// Nothing is read or painted any more.
@@ -90,7 +90,7 @@ pub(crate) struct RowQueue<'a, S: OneFirstIntervals> {
     /// Whether their memory is given back.
     has_given_back: bool,
     /// In their order.
-    passed: VecDeque<BegunRow<'a, S>>,
+    passed: VecDeque<BegunRow<S>>,
     /// In their order.
     coded: VecDeque<CodedRow<S>>,
     /// The slot of a row is its number modulo how many slots there are: as many as benches.
@@ -102,14 +102,14 @@ pub(crate) struct RowQueue<'a, S: OneFirstIntervals> {
     ghost some: { 0 < length painted.items },
 }
 
-impl<'a, S: OneFirstIntervals> RowQueue<'a, S> {
+impl<S: OneFirstIntervals> RowQueue<S> {
     /// No row may begin yet. Threads bring so many benches, beside those of the calling one.
     pub(crate) fn of(
         alloc: Global,
         lacking: u32,
         guesses: GuessQueue<ScanOf<S>>,
         painted: Vec<Option<Painted<S>>>,
-    ) -> RowQueue<'a, S>
+    ) -> RowQueue<S>
         requires { 0 < length painted.items }
     {
         RowQueue {
@@ -141,7 +141,7 @@ impl<'a, S: OneFirstIntervals> RowQueue<'a, S> {
     }
 
     /// The first of these rows may begin, in the place of others.
-    pub(crate) fn start(&mut self, baton: Option<Baton<'a, S>>) {
+    pub(crate) fn start(&mut self, baton: Option<Baton<S>>) {
         drop(replace(&mut self.baton, baton));
     }
 
@@ -196,11 +196,7 @@ impl<'a, S: OneFirstIntervals> RowQueue<'a, S> {
     }
 
     /// The rows that come next, with the guesses for the first of them, and the bench that it is read on.
-    fn begin(
-        &mut self,
-        part: &FirstIntervals<'a>,
-        bench: Option<Bench<S>>,
-    ) -> Option<BegunRow<'a, S>>
+    fn begin(&mut self, part: &FirstIntervals<'_>, bench: Option<Bench<S>>) -> Option<BegunRow<S>>
         requires { S.part ≡ Some part.now }
     {
         let Some(bench) = bench else {
@@ -222,7 +218,7 @@ impl<'a, S: OneFirstIntervals> RowQueue<'a, S> {
     }
 
     /// What a thread does next. None where it has to wait, or all is over.
-    pub(crate) fn task(&mut self, part: &FirstIntervals<'a>) -> Option<RowTask<'a, S>>
+    pub(crate) fn task(&mut self, part: &FirstIntervals<'_>) -> Option<RowTask<S>>
         requires { S.part ≡ Some part.now }
     {
         match self.choice(part.scan()) {
@@ -270,7 +266,7 @@ impl<'a, S: OneFirstIntervals> RowQueue<'a, S> {
 
     /// Memory that nobody needs any more, where there is some, for a thread that has nothing else to do: room for guesses first, since
     /// it is more than that of a bench.
-    pub(crate) fn spare(&mut self, alloc: Global) -> Option<RowTask<'a, S>> {
+    pub(crate) fn spare(&mut self, alloc: Global) -> Option<RowTask<S>> {
         if !self.is_begun {
             return None;
         }
@@ -286,12 +282,14 @@ impl<'a, S: OneFirstIntervals> RowQueue<'a, S> {
     }
 
     /// The rows behind those that are begun. Answers who is to be woken, since something can be done now.
-    fn go_on(&mut self, scan: &Scan, behind: Option<Baton<'a, S>>) -> Option<Waiter> {
+    fn go_on(&mut self, part: &FirstIntervals<'_>, behind: Option<Baton<S>>) -> Option<Waiter>
+        requires { S.part ≡ Some part.now }
+    {
         let (number, bit) = match &behind {
-            Some(baton) => baton.next_start(),
+            Some(baton) => baton.next_start(part),
             None => (u32::MAX, 0),
         };
-        self.guesses.reach(scan, number, bit);
+        self.guesses.reach(part.scan(), number, bit);
         self.is_begun = behind.is_none();
         self.start(behind);
         self.waiter()
@@ -308,16 +306,18 @@ impl<'a, S: OneFirstIntervals> RowQueue<'a, S> {
     /// Keeps a row that was passed over, and the rows behind it. Answers who is to be woken.
     pub(crate) fn put_passed(
         &mut self,
-        scan: &Scan,
-        passed: BegunRow<'a, S>,
-        behind: Option<Baton<'a, S>>,
-    ) -> Option<Waiter> {
+        part: &FirstIntervals<'_>,
+        passed: BegunRow<S>,
+        behind: Option<Baton<S>>,
+    ) -> Option<Waiter>
+        requires { S.part ≡ Some part.now }
+    {
         if self.is_over {
             drop((passed, behind));
             return None;
         }
         drop(self.passed.push_back(passed));
-        self.go_on(scan, behind)
+        self.go_on(part, behind)
     }
 
     /// Keeps a guess in its place. Answers who is to be woken, since a row may have waited for it.
@@ -329,29 +329,33 @@ impl<'a, S: OneFirstIntervals> RowQueue<'a, S> {
     /// Keeps a row that is read, and the rows behind it. Answers who is to be woken, so that somebody paints it.
     pub(crate) fn put_coded(
         &mut self,
-        scan: &Scan,
+        part: &FirstIntervals<'_>,
         coded: CodedRow<S>,
-        behind: Option<Baton<'a, S>>,
-    ) -> Option<Waiter> {
+        behind: Option<Baton<S>>,
+    ) -> Option<Waiter>
+        requires { S.part ≡ Some part.now }
+    {
         if self.is_over {
             drop((coded, behind));
             return None;
         }
         drop(self.coded.push_back(coded));
-        self.go_on(scan, behind)
+        self.go_on(part, behind)
     }
 
     /// Keeps the rows behind one that is read and painted. Answers who is to be woken.
     pub(crate) fn put_behind(
         &mut self,
-        scan: &Scan,
-        behind: Option<Baton<'a, S>>,
-    ) -> Option<Waiter> {
+        part: &FirstIntervals<'_>,
+        behind: Option<Baton<S>>,
+    ) -> Option<Waiter>
+        requires { S.part ≡ Some part.now }
+    {
         if self.is_over {
             drop(behind);
             return None;
         }
-        self.go_on(scan, behind)
+        self.go_on(part, behind)
     }
 
     /// Whether a row is painted.

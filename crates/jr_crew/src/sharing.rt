@@ -101,12 +101,12 @@ fn open_guesses<S: OneFirstIntervals>(
 }
 
 /// A queue of so many benches, of which the calling thread brings `own`.
-fn open_queue<'a, S: OneFirstIntervals>(
+fn open_queue<S: OneFirstIntervals>(
     alloc: Global,
-    part: &FirstIntervals<'a>,
+    part: &FirstIntervals<'_>,
     count: u32,
     own: u32,
-) -> Result<RowQueue<'a, S>, Memory> {
+) -> Result<RowQueue<S>, Memory> {
     let Ok(painted) = open_slots(alloc, count) else {
         return Err(Memory);
     };

@@ -1,7 +1,5 @@
 -- The data units of an interval in their order (T.81, A.2.3), those that its bits give and those that they don't.
-use Rattle.std.specs.Prelude.{◌≡◌, ℕ, ◌+◌, ◌-◌, ◌<◌, ◌≤◌, List, length, replicate, ◌⊎◌, ℤ, pos, slice_index_or}
-use Rattle.jr_scan.specs.Run.{whole_run}
-use Rattle.jr_scan.specs.McuReader.{McuReaderValue, HasRead, HasEnded}
+use Rattle.std.specs.Prelude.{◌≡◌, ℕ, ◌+◌, ◌<◌, List, length, replicate, ℤ, pos, slice_index_or}
 use Rattle.jr_piece.specs.PieceValue.{PieceValue}
 use Rattle.jr_piece.specs.Outcome.{unit_of}
 
@@ -20,15 +18,3 @@ unit_in_piece p n = slice_index_or p.samples n grey_unit
 -- the samples of these blocks, which begin with an MCU, are the data units of a piece from data unit `first` on
 abbrev pub CodesUnits : PieceValue → ℕ → List (List ℤ) → Type 0
 CodesUnits p first blocks = (k : ℕ) → k < length blocks → unit_of p.interval.head blocks k ≡ unit_in_piece p (first + k)
-
--- it has read so many MCUs, or has ended before
-abbrev pub StandsAt : McuReaderValue → ℕ → Type 0
-StandsAt r mcu = (r.mcu ≡ mcu) ⊎ ((r.mcu < mcu) × HasEnded r)
-
--- what a reader of data units keeps, where so many MCUs are left: its blocks are those of all of its interval
-pub record IsUnitReader (r : McuReaderValue) (left : ℕ) : Type 0 where
-  pub run : r.run ≡ whole_run r.run.interval
-  pub few : left ≤ r.run.interval.mcus
-  pub blocks : List (List ℤ)
-  pub read : HasRead r blocks
-  pub stands : StandsAt r (r.run.interval.mcus - left)

@@ -11,7 +11,6 @@ mod placed_strip;
 mod strip;
 mod strip_reader;
 mod transforming;
-mod unit_reader;
 mod unit_sink;
 
 pub use laws::{
@@ -23,5 +22,4 @@ pub use placed_strip::PlacedStrip;
 pub use strip::{CodedStrip, Strip};
 pub use strip_reader::StripReader;
 pub use transforming::transform_blocks;
-pub use unit_reader::UnitReader;
 pub use unit_sink::UnitSink;

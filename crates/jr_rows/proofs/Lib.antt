@@ -1,5 +1,7 @@
 pub mod BandLines
+pub mod CodedUnits
 pub mod Countings
+pub mod CursorSteps
 pub mod FirstBoards
 pub mod GroupLists
 pub mod GroupNumbers
@@ -11,6 +13,7 @@ pub mod PictureLines
 pub mod PictureRows
 pub mod PutMarks
 pub mod ReadRows
+pub mod RowCursors
 pub mod RowStarts
 pub mod Sendings
 pub mod ShownUnits

@@ -26,8 +26,9 @@ use Rattle.jr_picture.proofs.BoardPictures.{marks_at, interval_is}
 use Rattle.jr_rows.proofs.FirstBoards.{marks_there, not_blank}
 use Rattle.jr_rows.proofs.IntervalPlaces.{interval_at}
 use Rattle.jr_rows.specs.Bands.{unit_shown_of}
-use Rattle.jr_rows.specs.RowsValue.{ScanMcusValue}
-use Rattle.jr_rows.specs.Rows.{HasFirst, CountsMarks, GivesBehind, mcus_read}
+use Rattle.jr_rows.specs.Cursors.{mcus_to}
+use Rattle.jr_rows.specs.Rows.{HasFirst, CountsMarks, GivesBehind}
+use Rattle.jr_rows.specs.declared.cursor.Cursor.{Cursor}
 use Rattle.jr_rows.specs.declared.marked.Marked.{Marked}
 
 -- a count of one more
@@ -113,12 +114,12 @@ counts_both scan n from at to k m r a c s d = record {
 }
 
 -- the blocks of MCUs of an interval give what a board shows of the scan
-module _ (r : ScanMcusValue) (mcus done : ℕ) (sub new : List (List ℤ)) (some : 0 < blocks_of r.scan.head) (number : r.number < intervals_of r.scan.head) (decoded : r.number < r.limit) (few : r.mcu + mcus ≤ mcus_in r.scan.head r.number)
-    (long : length sub ≡ mcus * blocks_of r.scan.head)
-    (codes : (p : PieceValue) → IsOutcome p → p.interval ≡ interval_of r.scan r.number → CodesUnits p (units_before (interval_of r.scan r.number) r.mcu) sub)
-    (part : (k : ℕ) → k < length sub → slice_index_or new (done * blocks_of r.scan.head + k) [] ≡ slice_index_or sub k []) where
+module _ (scan : ScanValue) (limit : ℕ) (r : Cursor) (mcus done : ℕ) (sub new : List (List ℤ)) (some : 0 < blocks_of scan.head) (number : r.number < intervals_of scan.head) (decoded : r.number < limit) (few : r.mcu + mcus ≤ mcus_in scan.head r.number)
+    (long : length sub ≡ mcus * blocks_of scan.head)
+    (codes : (p : PieceValue) → IsOutcome p → p.interval ≡ interval_of scan r.number → CodesUnits p (units_before (interval_of scan r.number) r.mcu) sub)
+    (part : (k : ℕ) → k < length sub → slice_index_or new (done * blocks_of scan.head + k) [] ≡ slice_index_or sub k []) where
   abbrev h : HeadValue
-  h = r.scan.head
+  h = scan.head
 
   abbrev n : ℕ
   n = blocks_of h
@@ -128,24 +129,24 @@ module _ (r : ScanMcusValue) (mcus done : ℕ) (sub new : List (List ℤ)) (some
       let per : length (order_of h) ≡ n = length-order 0 h.components in
       ap (λ (j : ℕ). slice_index_or (order_of h) j 0) (ap (λ (m : ℕ). (done * m + k) % length (order_of h)) (sym per) ∙ mul-add-mod_self_right done (length (order_of h)) k)
 
-  pub gives_there : GivesBehind r.scan r.limit (mcus_read r) (done * n) mcus new
+  pub gives_there : GivesBehind scan limit (mcus_to h r) (done * n) mcus new
   gives_there b first k lt =
       let j = k / n in
       let here : k < length sub = omega (arith, lt, long) in
       let near : j < mcus = (div-lt_iff_lt-mul some).1 lt in
       let place = interval_at h r.number (r.mcu + j) number (omega (arith, near, few)) in
-      let mcu : mcus_read r + j ≡ r.number * h.restart + (r.mcu + j) = omega arith in
-      let p = posted_there r.scan r.limit b first r.number decoded in
+      let mcu : mcus_to h r + j ≡ r.number * h.restart + (r.mcu + j) = omega arith in
+      let p = posted_there scan limit b first r.number decoded in
       let head : p.piece.interval.head ≡ h = ap (λ (i : IntervalValue). i.head) p.interval in
       let unit : unit_of h sub k ≡ unit_in_piece p.piece (r.mcu * length (order_of h) + k) = subst (λ (g : HeadValue). unit_of g sub k ≡ unit_in_piece p.piece (r.mcu * length (order_of h) + k)) head (codes p.piece p.outcome p.interval k here) in
       let per : r.mcu * length (order_of h) + k ≡ (r.mcu + j) * n + k % n = ap (λ (m : ℕ). r.mcu * m + k) (length-order 0 h.components) ∙ omega (arith, div-add-mod' k n, add-mul r.mcu j n) in
-      let turned : unit_shown_of h (k % n) (Some p.piece) ((r.mcu + j) * n + k % n) ≡ unit_shown_of h (k % n) (piece_at b (interval_number h (mcus_read r + j))) (within_interval h (mcus_read r + j) * n + k % n) =
+      let turned : unit_shown_of h (k % n) (Some p.piece) ((r.mcu + j) * n + k % n) ≡ unit_shown_of h (k % n) (piece_at b (interval_number h (mcus_to h r + j))) (within_interval h (mcus_to h r + j) * n + k % n) =
       ap (λ q. unit_shown_of h (k % n) q ((r.mcu + j) * n + k % n)) (sym p.at)
       ∙ ap (λ m. unit_shown_of h (k % n) (piece_at b r.number) (m * n + k % n)) (sym (ap (within_interval h) mcu ∙ place.1))
-      ∙ ap (λ i. unit_shown_of h (k % n) (piece_at b i) (within_interval h (mcus_read r + j) * n + k % n)) (sym (ap (interval_number h) mcu ∙ place.0)) in
+      ∙ ap (λ i. unit_shown_of h (k % n) (piece_at b i) (within_interval h (mcus_to h r + j) * n + k % n)) (sym (ap (interval_number h) mcu ∙ place.0)) in
       ap (λ z. samples z (quantiser_of h (component h (done * n + k)))) (part k here) ∙ ap (λ c. samples (slice_index_or sub k []) (quantiser_of h c)) (same_component k)
       ∙ unit ∙ ap (unit_in_piece p.piece) per ∙ turned
-      ∙ ap (λ (g : HeadValue). unit_shown_of g (k % n) (piece_at b (interval_number g (mcus_read r + j))) (within_interval g (mcus_read r + j) * blocks_of g + k % n)) (ap (λ (t : ScanValue). t.head) (sym first.scan_is))
+      ∙ ap (λ (g : HeadValue). unit_shown_of g (k % n) (piece_at b (interval_number g (mcus_to h r + j))) (within_interval g (mcus_to h r + j) * blocks_of g + k % n)) (ap (λ (t : ScanValue). t.head) (sym first.scan_is))
 
 -- the data units of more MCUs behind those of the first
 pub shown_more : (n done some start : ℕ) (f : ℕ → ℕ → List ℕ) (old new : ℕ → List ℕ) → 0 < n → ((k : ℕ) → k < done * n → old k ≡ f (start + k / n) (k % n)) → ((k : ℕ) → k < done * n → new k ≡ old k)

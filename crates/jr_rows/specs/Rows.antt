@@ -11,18 +11,17 @@ use Rattle.jr_picture.specs.Headline.{AreFirst, is_sound, is_damaged, interval_n
 use Rattle.jr_picture.specs.Samples.{samples_of}
 use Rattle.jr_rows.specs.Bands.{unit_shown}
 use Rattle.jr_rows.specs.RowLines.{HasLines, mcus_at_once}
-use Rattle.jr_rows.specs.RowsValue.{ScanMcusValue, RowValue, SampleRowValue}
+use Rattle.jr_rows.specs.Cursors.{IsCursorOf, mcus_to}
+use Rattle.jr_rows.specs.FirstIntervalsValue.{FirstIntervalsValue}
+use Rattle.jr_rows.specs.RowsValue.{RowValue, SampleRowValue}
 use Rattle.jr_rows.specs.declared.marked.Marked.{Marked}
+use Rattle.jr_rows.specs.declared.rows.Rows.{Rows}
 
 -- the board of the scan on which the first n intervals are marked, and no other
 pub record HasFirst (scan : ScanValue) (n : ℕ) (b : BoardValue) : Type 0 where
   pub scan_is : b.scan ≡ scan
   pub lawful : IsLawfulBoard b
   pub first : AreFirst n (marks_of b)
-
--- how many MCUs of the scan are read
-abbrev pub mcus_read : ScanMcusValue → ℕ
-mcus_read r = r.number * r.scan.head.restart + r.mcu
 
 -- the MCUs of the first n intervals
 abbrev pub mcus_before : HeadValue → ℕ → ℕ
@@ -39,6 +38,11 @@ coded_before h n row = min (row * mcus_across h) (mcus_before h n)
 -- how many of a row's MCUs are decoded: its first ones
 abbrev pub coded_in : HeadValue → (n row : ℕ) → ℕ
 coded_in h n row = coded_before h n (row + 1) - coded_before h n row
+
+-- the cursor is where the decoded MCUs of the next row start
+pub record AreRowsOf (part : FirstIntervalsValue) (r : Rows) : Type 0 where
+  pub stands : IsCursorOf part.scan r.cursor
+  pub at : mcus_to part.scan.head r.cursor ≡ coded_before part.scan.head part.limit r.row
 
 -- among the intervals from number `from` on and before `to`, so many are sound and so many damaged, on every such board
 pub record CountsMarks (scan : ScanValue) (n from to : ℕ) (m : Marked) : Type 0 where

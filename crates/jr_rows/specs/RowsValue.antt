@@ -1,16 +1,9 @@
--- What contracts see of the MCUs of a scan, as far as they are read, and of its rows of MCUs.
+-- What contracts see of the rows of MCUs of a scan.
 use Rattle.std.specs.Prelude.{ℕ, List, ℤ}
 use Rattle.jr_scan.specs.ScanValue.{ScanValue}
 use Rattle.jr_rows.specs.RowLinesValue.{RowLinesValue}
 
--- a scan, of which the first `limit` intervals are decoded, and interval `number` is read as far as its MCU `mcu`
-pub record ScanMcusValue : Type 0 where
-  pub scan : ScanValue
-  pub limit : ℕ
-  pub number : ℕ
-  pub mcu : ℕ
-
--- such a scan, and the number of the row of MCUs that comes next
+-- a scan, of which the first `limit` intervals are decoded, and the number of the row of MCUs that comes next
 pub record RowsValue : Type 0 where
   pub scan : ScanValue
   pub limit : ℕ

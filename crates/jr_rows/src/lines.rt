@@ -9,7 +9,7 @@ ghost use Rattle.jr_rows.specs.MarkBytes.{HasMarkRoom, PutsBetween};
 ghost use Rattle.jr_rows.specs.Rows.{HasFirst, HasSampleRoom};
 ghost use Rattle.jr_rows.specs.SomeLines.{CountsBetween, PaintsLines, row_behind, row_with};
 
-use crate::{Marked, Rows, SampleRow, shape_of};
+use crate::{FirstIntervals, Marked, Rows, SampleRow, bytes_to, shape_of};
 use jr_base::Memory;
 use jr_head::Head;
 use jr_scan::Scan;
@@ -47,17 +47,6 @@ fn lines_in(head: &Head, row: u32, first: u32, end: u32) -> (u32, u32)
     (y, end.min(row * deep + deep) - y)
 }
 
-/// How many bytes so many lines have, of `all`.
-fn bytes_to(lines: u32, all: u32, line: usize) -> usize
-    requires within { lines ≤ all }
-    requires few { all < 65536 }
-    requires short { line ≤ 196605 }
-    ensures value { result ≡ lines * line }
-    ensures within { result ≤ all * line }
-{
-    lines as usize * line
-}
-
 /// Paints lines `first` to `end` of a scan's picture, and puts the marks of the intervals that end in their rows of MCUs, where
 /// these are asked for.
 pub(crate) fn paint_between(
@@ -82,12 +71,13 @@ pub(crate) fn paint_between(
     let _intervals = scan.intervals();
     let line = shape_of(head).line;
     let (row, behind) = rows_of(head, first, end);
-    let mut rows = Rows::at(scan, row);
+    let part = FirstIntervals::of(scan, None);
+    let mut rows = Rows::at(&part, row);
     let mut marked = Marked::none();
     'rows: while rows.row() < behind {
         let row = rows.row();
         let (y, count) = lines_in(head, row, first, end);
-        let more = work.decode(&mut rows, marks);
+        let more = work.decode(&part, &mut rows, marks);
         marked = marked.with(more);
         let from = bytes_to(y - first, end - first, line);
         let to = bytes_to(y - first + count, end - first, line);

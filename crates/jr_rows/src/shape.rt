@@ -48,6 +48,17 @@ pub fn shape_of(head: &Head) -> Shape
     }
 }
 
+/// Returns the number of bytes of so many lines, of `all`.
+pub fn bytes_to(lines: u32, all: u32, line: usize) -> usize
+    requires within { lines ≤ all }
+    requires few { all < 65536 }
+    requires short { line ≤ 196605 }
+    ensures value { result ≡ lines * line }
+    ensures within { result ≤ all * line }
+{
+    lines as usize * line
+}
+
 /// How many data units so many MCUs have, at most `most`.
 pub(crate) fn units_to(mcus: u32, most: u32, per_mcu: usize) -> usize
     requires few { mcus ≤ most }

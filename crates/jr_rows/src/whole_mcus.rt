@@ -3,27 +3,18 @@
 ghost use Rattle.std.specs.Prelude.{◌≡◌, ◌+◌, ◌*◌, ◌<◌, ◌≤◌, ◌++◌, ℕ, ℤ, List, [], length, take, slice_index_or};
 ghost use Rattle.jr_head.specs.Geometry.{blocks_of, mcus_across};
 ghost use Rattle.jr_scan.specs.McuReader.{HasEnded, HasRead};
-ghost use Rattle.jr_piece.specs.Units.{grey_unit, zero_block};
+ghost use Rattle.jr_piece.specs.Units.{grey_unit};
 ghost use Rattle.jr_rows.specs.Groups.{units_in};
 ghost use Rattle.jr_rows.specs.RowLines.{HasLines, mcus_at_once};
 ghost use Rattle.jr_rows.specs.WholeMcus.{DecodesMcus};
 
+use crate::cursor::zero_from;
 use crate::row_lines::RowLines;
 use crate::shape::{mcus_at_once, shape_of, units_to};
 use jr_base::Coefficients;
 use jr_head::Head;
-use jr_idct::zeros_are_grey;
 use jr_piece::transform_blocks;
 use jr_scan::McuReader;
-
-/// Makes all coefficients of these blocks 0.
-fn clear(blocks: &mut [Coefficients])
-    ensures { (k : ℕ) → k < length blocks.new → slice_index_or blocks.new k [] ≡ zero_block }
-{
-    for k in 0..blocks.len() {
-        blocks[k] = Coefficients::zeros();
-    }
-}
 
 /// Reads whole MCUs into blocks with room for `most`, as many as follow: answers how many.
 fn read_whole(
@@ -96,11 +87,10 @@ pub(crate) fn put_grey(
     ensures kept { (k : ℕ) → k < done * blocks_of head.now → slice_index_or (units_in head.now lines.new.groups) k [] ≡ slice_index_or (units_in head.now lines.old.groups) k [] }
     ensures grey { (k : ℕ) → k < result * blocks_of head.now → slice_index_or (units_in head.now lines.new.groups) (done * blocks_of head.now + k) [] ≡ grey_unit }
 {
-    zeros_are_grey();
     let at_once = mcus_at_once(head);
     let some = at_once.min(mcus);
     let blocks = &mut blocks[..units_to(some, at_once, head.order().len())];
-    clear(blocks);
+    zero_from(blocks, 0);
     transform_blocks(head, done, blocks, lines);
     some
 }

@@ -107,10 +107,11 @@ pub fn write_scan<W: Write, G: Gate>(
     let Ok(mut pixels) = vec![in alloc; 0; room_for(scan.head())] else {
         return Err(PictureError::Memory);
     };
-    let limit = FirstIntervals::of(scan, first).limit();
+    let part = FirstIntervals::of(scan, first);
+    let limit = part.limit();
     // By its contract a scan has as many intervals as its head says.
     let _all = scan.intervals();
-    let mut painter = Alone::of(scan, limit, work, gate);
+    let mut painter = Alone::of(part, work, gate);
     match write_rows(scan.head(), &mut painter, &mut pixels, out) {
         Ok(marked) => Ok(counts_of(scan, limit, marked)),
         Err(_) => Err(PictureError::Write),

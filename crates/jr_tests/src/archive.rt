@@ -3,7 +3,7 @@
 
 use jr_base::Tally;
 use jri_archive::{
-    CheckEnd, CheckReport, Entry, EntryKind, FileCounts, Folder, LineForm, ReadError,
+    CheckEnd, CheckReport, CheckRequest, Entry, EntryKind, FileCounts, Folder, LineForm, ReadError,
     answer as answer_by, asked, check_all, tell_counts, write_counts_line,
 };
 use std::alloc::{AllocError, Global};
@@ -14,19 +14,10 @@ use std::test::Fail;
 use std::thread::Threads;
 use test_files::files::{COLOURED, TEN, file};
 
-/// Files in memory, by their places, and directories. `in` has `in/b.jpg`, `in/a.JPEG`, `in/c.txt` and `in/d`, which has
+/// Files in memory, by their names, and directories. `in` has `in/b.jpg`, `in/a.JPEG`, `in/c.txt` and `in/d`, which has
 /// `in/d/e.jfif` and names that are not UTF-8. `odd` has only such names, none of which ends as that of a JPEG file.
 #[derive(Drop)]
-struct Shelf<'a> {
-    files: &'a [Vec<u8>],
-}
-
-fn copy(alloc: Global, bytes: &[u8]) -> Result<Vec<u8>, ReadError> {
-    match bytes.to_vec(alloc) {
-        Ok(bytes) => Ok(bytes),
-        Err(_) => Err(ReadError::Memory),
-    }
-}
+struct Shelf;
 
 /// Returns the entries of a directory from their names and kinds.
 fn entries_of(alloc: Global, all: &[(&[u8], EntryKind)]) -> Result<Vec<Entry>, AllocError> {
@@ -59,21 +50,24 @@ const ODD: [(&[u8], EntryKind); 2] = [
     (b"odd/\xE8", EntryKind::Unread(ReadError::NameIsNoText)),
 ];
 
-impl<'a> Folder for Shelf<'a> {
+/// Ten intervals, of which two have come.
+const CUT: &str = "GW 63 FF D0 63";
+
+impl Folder for Shelf {
     fn read(&self, alloc: Global, name: &str) -> Result<Vec<u8>, ReadError> {
-        let place = match name {
-            "ten" | "in/b.jpg" => 0,
-            "two" | "in/a.JPEG" => 1,
-            "progressive" => 2,
-            "coloured" | "in/d/e.jfif" => 3,
-            "cut" => 4,
+        let words = match name {
+            "ten" | "in/b.jpg" => TEN,
+            "two" | "in/a.JPEG" => "GI 63 FF D0 63 E",
+            "progressive" => "S FF C2",
+            "coloured" | "in/d/e.jfif" => COLOURED,
+            "cut" => CUT,
             "shut" => return Err(ReadError::NotAllowed),
             "fifo" => return Err(ReadError::NotRegular),
             _ => return Err(ReadError::NotFound),
         };
-        match self.files.get(place) {
-            Some(bytes) => copy(alloc, bytes.as_slice()),
-            None => Err(ReadError::Failed),
+        match file(alloc, words) {
+            Ok(bytes) => Ok(bytes),
+            Err(_) => Err(ReadError::Memory),
         }
     }
 
@@ -91,18 +85,6 @@ impl<'a> Folder for Shelf<'a> {
     }
 }
 
-/// Ten intervals, of which two have come.
-const CUT: &str = "GW 63 FF D0 63";
-
-/// The files in their places.
-fn files(alloc: Global) -> Result<Vec<Vec<u8>>, Fail> {
-    let mut files = Vec::new(alloc);
-    for words in [TEN, "GI 63 FF D0 63 E", "S FF C2", COLOURED, CUT] {
-        files.push(file(alloc, words)?)?;
-    }
-    Ok(files)
-}
-
 /// Words as the system has them.
 fn owned(alloc: Global, words: &[&[u8]]) -> Result<Vec<Vec<u8>>, Fail> {
     let mut all = Vec::new(alloc);
@@ -113,23 +95,31 @@ fn owned(alloc: Global, words: &[&[u8]]) -> Result<Vec<Vec<u8>>, Fail> {
 }
 
 /// There is no list of names.
-const NO_LIST: Option<BufReader<Cursor<[u8; 1]>>> = None;
+pub(crate) const NO_LIST: Option<BufReader<Cursor<[u8; 1]>>> = None;
 
-/// Checks what words ask for, and gives what is written.
+/// Returns what words ask for, by the given number of workers.
+pub(crate) fn request_of(
+    alloc: Global,
+    words: &[&[u8]],
+    workers: u32,
+) -> Result<CheckRequest, Fail> {
+    let words = owned(alloc, words)?;
+    let mut asked = asked(alloc, words.as_slice())?;
+    asked.workers = workers;
+    Ok(asked)
+}
+
+/// Checks what words ask for, and returns what is written.
 fn told_by<R: Threads + Wait + Sync + AllocGlobal, I: Read + Send + Drop, O: Write + Send + Drop>(
     rt: &R,
     words: &[&[u8]],
+    workers: u32,
     list: Option<BufReader<I>>,
     out: O,
 ) -> Result<(CheckReport, O), Fail> {
-    let words = owned(rt.alloc(), words)?;
-    let asked = asked(rt.alloc(), words.as_slice())?;
-    let files = files(rt.alloc())?;
-    let shelf = Shelf {
-        files: files.as_slice(),
-    };
+    let asked = request_of(rt.alloc(), words, workers)?;
     let nowhere: Option<Vec<u8>> = None;
-    Ok(check_all(rt, rt.alloc(), shelf, asked, list, out, nowhere))
+    Ok(check_all(rt, rt.alloc(), Shelf, asked, list, out, nowhere))
 }
 
 /// Whether words give these lines, and this status, whatever the number of workers.
@@ -139,15 +129,9 @@ fn check<R: Threads + Wait + Sync + AllocGlobal + Abort>(
     lines: &str,
     status: u8,
 ) -> Result<(), Fail> {
-    for workers in [b"1".as_slice(), b"3", b"8"] {
-        let mut all = Vec::new(rt.alloc());
-        all.push(b"--workers".as_slice())?;
-        all.push(workers)?;
-        for word in words {
-            all.push(*word)?;
-        }
+    for workers in [1, 3, 8] {
         let out = Vec::new(rt.alloc());
-        let (report, found) = told_by(rt, all.as_slice(), NO_LIST, out)?;
+        let (report, found) = told_by(rt, words, workers, NO_LIST, out)?;
         assert!(rt; report.status() == status);
         assert!(rt; found.as_slice() == lines.as_bytes(), "{lines}");
     }
@@ -297,24 +281,30 @@ fn reads_no_fifo(rt: HostRuntime) -> Result<(), Fail> {
     )
 }
 
+/// Returns the lines of a check of `ten` and of a list's names.
+fn told_of_list<R: Threads + Wait + Sync + AllocGlobal>(
+    rt: &R,
+    list: &[u8],
+    workers: u32,
+) -> Result<Vec<u8>, Fail> {
+    let list = BufReader::new(rt.alloc(), list)?;
+    let words: [&[u8]; 3] = [b"--files0-from", b"-", b"ten"];
+    let (_report, found) = told_by(rt, &words, workers, Some(list), Vec::new(rt.alloc()))?;
+    Ok(found)
+}
+
 /// Names of a list, behind those of the words; the last one may end with the list.
 #[test]
 fn takes_names_from_a_list(rt: HostRuntime) -> Result<(), Fail> {
+    let all =
+        "ten: sound, 10 intervals\ntwo: sound, 2 intervals\nmissing: cannot be read: no such file\n";
     for (list, lines) in [
-        (
-            b"two\0missing\0".as_slice(),
-            "ten: sound, 10 intervals\ntwo: sound, 2 intervals\nmissing: cannot be read: no such file\n",
-        ),
-        (
-            b"two\0missing",
-            "ten: sound, 10 intervals\ntwo: sound, 2 intervals\nmissing: cannot be read: no such file\n",
-        ),
+        (b"two\0missing\0".as_slice(), all),
+        (b"two\0missing", all),
         (b"", "ten: sound, 10 intervals\n"),
     ] {
-        for workers in [b"1".as_slice(), b"4"] {
-            let list = BufReader::new(rt.alloc(), list)?;
-            let words: [&[u8]; 5] = [b"--workers", workers, b"--files0-from", b"-", b"ten"];
-            let (_report, found) = told_by(&rt, &words, Some(list), Vec::new(rt.alloc()))?;
+        for workers in [1, 4] {
+            let found = told_of_list(&rt, list, workers)?;
             assert!(rt; found.as_slice() == lines.as_bytes(), "{lines}");
         }
     }
@@ -324,7 +314,7 @@ fn takes_names_from_a_list(rt: HostRuntime) -> Result<(), Fail> {
 #[test]
 fn tells_that_lines_cannot_be_written(rt: HostRuntime) -> Result<(), Fail> {
     let words: [&[u8]; 2] = [b"two", b"two"];
-    let (report, _) = told_by(&rt, &words, NO_LIST, Cursor::new([0; 10]))?;
+    let (report, _) = told_by(&rt, &words, 4, NO_LIST, Cursor::new([0; 10]))?;
     assert!(rt; report.end == CheckEnd::Unwritten);
     assert!(rt; report.counts == FileCounts::none());
     assert!(rt; report.status() == 4);
@@ -356,7 +346,7 @@ fn each_line_is_one_write(rt: HostRuntime) -> Result<(), Fail> {
         lines: 0,
         is_whole: true,
     };
-    let (_report, out) = told_by(&rt, &NAMES, NO_LIST, out)?;
+    let (_report, out) = told_by(&rt, &NAMES, 4, NO_LIST, out)?;
     assert!(rt; out.lines == 5);
     assert!(rt; out.is_whole);
     Ok(())
@@ -421,33 +411,33 @@ impl Write for Gone {
     }
 }
 
-/// Returns the status of words that ask for no check, and what is written to standard error.
-fn answered<W: Write + Drop>(alloc: Global, word: &[u8], out: W) -> Result<(u8, Vec<u8>), Fail> {
+/// Returns whether a word that asks for no check gets this status, and this text on standard error.
+fn is_answered<W: Write + Drop>(
+    alloc: Global,
+    word: &[u8],
+    out: W,
+    status: u8,
+    told: &str,
+) -> Result<bool, Fail> {
     let words = owned(alloc, &[word])?;
-    let mut errors = Vec::new(alloc);
-    let status = match asked(alloc, words.as_slice()) {
-        Ok(_) => 255,
-        Err(unasked) => answer_by(&mut Tally::of(out), &mut errors, &unasked),
+    let Err(unasked) = asked(alloc, words.as_slice()) else {
+        return Ok(false);
     };
-    Ok((status, errors))
+    let mut errors = Vec::new(alloc);
+    let found = answer_by(&mut Tally::of(out), &mut errors, &unasked);
+    Ok(found == status && errors.as_slice() == told.as_bytes())
 }
 
 /// Help and the version that cannot be written are no success.
 #[test]
 fn help_is_written(rt: HostRuntime) -> Result<(), Fail> {
     let alloc = rt.alloc();
+    let full = "cannot write to standard output\n";
     for word in [b"--help".as_slice(), b"--version"] {
-        let (status, errors) = answered(alloc, word, Vec::new(alloc))?;
-        assert!(rt; status == 0 && errors.is_empty());
-        let (status, errors) = answered(alloc, word, Cursor::new([0; 10]))?;
-        assert!(rt;
-            status == 4 && errors.as_slice() == b"cannot write to standard output\n".as_slice()
-        );
-        let (status, errors) = answered(alloc, word, Gone)?;
-        assert!(rt; status == 4 && errors.is_empty());
+        assert!(rt; is_answered(alloc, word, Vec::new(alloc), 0, "")?);
+        assert!(rt; is_answered(alloc, word, Cursor::new([0; 10]), 4, full)?);
+        assert!(rt; is_answered(alloc, word, Gone, 4, "")?);
     }
-    let (status, _) = answered(alloc, b"--workers", Gone)?;
-    assert!(rt; status == 2);
     Ok(())
 }
 

@@ -1,6 +1,6 @@
 //! Heads of files, and the files that have none.
 
-mod accepted;
+pub(crate) mod accepted;
 mod long;
 
 use jr_head::{Head, Refusal, read_head};

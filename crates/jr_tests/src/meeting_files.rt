@@ -1,17 +1,14 @@
 //! Two files that are read at once, since several workers check them: the reading of each waits for that of the other.
 
-use jri_archive::{CheckRequest, Entry, Folder, LineForm, ReadError, check_all};
+use crate::archive::{NO_LIST, request_of};
+use jri_archive::{Entry, Folder, ReadError, check_all};
 use std::alloc::Global;
-use std::io::{BufReader, Cursor};
 use std::sync::atomic::{AtomicU64, Ordering};
 use std::test::Fail;
 use std::thread;
 
 /// How often a reading looks at most whether the other one has begun.
 const TURNS: u32 = 10_000_000;
-
-/// There is no list of names.
-const NO_LIST: Option<BufReader<Cursor<[u8; 1]>>> = None;
 
 /// Files of no bytes, whose readings wait until two have begun.
 #[derive(Drop)]
@@ -41,21 +38,7 @@ impl<'a> Folder for Meeting<'a> {
 
 #[test]
 fn two_files_are_read_at_once(rt: HostRuntime) -> Result<(), Fail> {
-    let mut names = Vec::new(rt.alloc());
-    names.push(b"a".to_vec(rt.alloc())?)?;
-    names.push(b"b".to_vec(rt.alloc())?)?;
-    let asked = CheckRequest {
-        workers: 2,
-        form: LineForm {
-            has_map: false,
-            is_json: false,
-            is_quiet: false,
-        },
-        has_counts: false,
-        is_recursive: false,
-        names_from: None,
-        names,
-    };
+    let asked = request_of(rt.alloc(), &[b"a", b"b"], 2)?;
     let begun = AtomicU64::new(0);
     let met = AtomicU64::new(0);
     let folder = Meeting {

@@ -8,8 +8,7 @@ use Rattle.std.proofs.lemmas.Bool.{cases_lt}
 use Rattle.std.proofs.lemmas.Option.{none-some, slice_get-get_or}
 use Rattle.jri_archive.specs.declared.names.NamedFile.{NamedFile}
 use Rattle.jri_archive.specs.declared.reading.ReadError.{ReadError}
-use Rattle.jri_archive.specs.declared.reading.ReadError.TheVariants.{NameIsNoText}
-use Rattle.jri_archive.specs.Names.{IsNamed, IsNextFile}
+use Rattle.jri_archive.specs.Names.{IsNamed, IsNextFile, IsNoText}
 use Rattle.jri_archive.specs.declared.outcome.Outcome.{Outcome}
 use Rattle.jri_archive.specs.declared.outcome.Outcome.TheVariants as outcome
 use Rattle.jri_archive.specs.Outcomes.{IsOutcomeOf}
@@ -42,7 +41,7 @@ claim_of (Some all) number file next =
     let n = next all refl in (get_or all number [], slice_get-get_or all number [] n.1.within, n.1.named)
 
 pub check_of : (opened : Type 0) (holds : List ℕ → List ℕ → Type 0) (fails : List ℕ → ReadError → Type 0) (name : List ℕ) (r : Result (Vec ℕ) ReadError) (o : Outcome)
-    → IfOk r (λ b. holds name b.items) → IfErr r (λ e. opened → fails name e ⊎ (e ≡ NameIsNoText)) → opened → IfOk r (λ b. IsOutcomeOf b.items o) → IfErr r (λ e. o ≡ outcome.Unread e)
+    → IfOk r (λ b. holds name b.items) → IfErr r (λ e. opened → fails name e ⊎ IsNoText name e) → opened → IfOk r (λ b. IsOutcomeOf b.items o) → IfErr r (λ e. o ≡ outcome.Unread e)
     → IsCheckOf holds fails name o
 check_of opened holds fails name (Ok b) (outcome.Checked c) held failed o is unread = (b.items, held, is)
 check_of opened holds fails name (Ok b) (outcome.Refused f) held failed o is unread = (b.items, held, is)

@@ -7,8 +7,7 @@ use Rattle.std.proofs.Math.Seq.{drop-cons}
 use Rattle.std.specs.Prelude.{IfSome, IfNone}
 use Rattle.jri_archive.specs.declared.names.NamedFile.{NamedFile}
 use Rattle.jri_archive.specs.declared.reading.ReadError.{ReadError}
-use Rattle.jri_archive.specs.declared.reading.ReadError.TheVariants.{NameIsNoText}
-use Rattle.jri_archive.specs.Names.{names_left, IsNamed, IsNextFile, IsNextGiven}
+use Rattle.jri_archive.specs.Names.{names_left, IsNamed, IsNextFile, IsNextGiven, IsNoText}
 
 abbrev bytes_of : Vec ℕ → List ℕ
 bytes_of w = w.items
@@ -37,6 +36,6 @@ next_file (n ∷ ns) name file left next none some =
     let f = subst (λ (o : Option (Vec ℕ)). IfSome o (λ n. (f : NamedFile) × (file ≡ Some f) × IsNamed f n.items)) next.1.1 some in
     (next.0, (f.0, f.1, subst (λ (bytes : List ℕ). IsNamed f.0 bytes) next.1.2 f.2))
 
-pub file_named : (name : Vec ℕ) (error : Option ReadError) → ((e : ReadError) → error ≡ Some e → e ≡ NameIsNoText)
+pub file_named : (name : Vec ℕ) (error : Option ReadError) → ((e : ReadError) → error ≡ Some e → IsNoText name.items e)
     → (f : NamedFile) × (Some (record { name = name; error = error; is_skipped = false }) ≡ Some f) × IsNamed f name.items
 file_named name error is = (record { name = name; error = error; is_skipped = false }, refl, record { name_is = refl; error = is; kept = refl })

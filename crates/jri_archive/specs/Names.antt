@@ -1,6 +1,7 @@
 -- The names of the files that are to be checked.
 use Rattle.std.specs.Prelude.{◌≡◌, ℕ, false, List, [], ◌∷◌, drop, map, Option, Some, None}
 use Rattle.std.specs.Global.{Vec}
+use Rattle.std.specs.Str.{IsUtf8}
 use Rattle.jri_archive.specs.declared.names.NamedFile.{NamedFile}
 use Rattle.jri_archive.specs.declared.reading.ReadError.{ReadError}
 use Rattle.jri_archive.specs.declared.reading.ReadError.TheVariants.{NameIsNoText}
@@ -20,10 +21,14 @@ abbrev pub IsNextGiven : List (List ℕ) → Option (Vec ℕ) → Option (List (
 IsNextGiven [] name left = (name ≡ None) × (left ≡ Some [])
 IsNextGiven (n ∷ ns) name left = (left ≡ Some ns) × ((taken : Vec ℕ) × (name ≡ Some taken) × (taken.items ≡ n))
 
--- a file has that name, is not opened only where the name is no text, and is not skipped
+-- a file is not opened since its name is no text
+abbrev pub IsNoText : List ℕ → ReadError → Type 0
+IsNoText name e = (e ≡ NameIsNoText) × (IsUtf8 name → ⊥)
+
+-- a file has that name, is not opened only if the name is no text, and is not skipped
 pub record IsNamed (file : NamedFile) (name : List ℕ) : Type 0 where
   pub name_is : file.name.items ≡ name
-  pub error : (e : ReadError) → file.error ≡ Some e → e ≡ NameIsNoText
+  pub error : (e : ReadError) → file.error ≡ Some e → IsNoText file.name.items e
   pub kept : file.is_skipped ≡ false
 
 -- the file of the next of these names, and those that are left

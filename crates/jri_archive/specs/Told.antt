@@ -2,9 +2,8 @@
 use Rattle.std.specs.Prelude.{◌≡◌, ℕ, ◌-◌, ◌^◌, ◌<◌, ◌≤◌, ◌⊎◌, Bool, true, false, List, [], Option, Some, None, drop, length, map, min, sum_by, slice_get, slice_index_or}
 use Rattle.std.specs.Global.{Vec}
 use Rattle.jri_archive.specs.declared.reading.ReadError.{ReadError}
-use Rattle.jri_archive.specs.declared.reading.ReadError.TheVariants.{NameIsNoText}
 use Rattle.jri_archive.specs.declared.names.NamedFile.{NamedFile}
-use Rattle.jri_archive.specs.Names.{IsNamed}
+use Rattle.jri_archive.specs.Names.{IsNamed, IsNoText}
 use Rattle.jri_archive.specs.declared.counts.CheckEnd.{CheckEnd}
 use Rattle.jri_archive.specs.declared.counts.CheckEnd.TheVariants.{AllTold, NamesUnread, Unwritten, Memory as NoMemory}
 use Rattle.jri_archive.specs.declared.counts.CheckReport.{CheckReport}
@@ -15,11 +14,11 @@ use Rattle.jri_archive.specs.declared.outcome.Outcome.{Outcome}
 use Rattle.jri_archive.specs.declared.outcome.Outcome.TheVariants as outcome
 use Rattle.jri_archive.specs.Outcomes.{IsOutcomeOf, state_of}
 
--- a check of the file of that name, which holds such bytes or cannot be read for such a reason, may come to this
+-- a check of the file of that name, which has such bytes, cannot be read for such a reason or has a name that is no text, may come to this
 abbrev pub IsCheckOf : (holds : List ℕ → List ℕ → Type 0) → (fails : List ℕ → ReadError → Type 0) → List ℕ → Outcome → Type 0
 IsCheckOf holds fails name (outcome.Checked c) = (bytes : List ℕ) × holds name bytes × IsOutcomeOf bytes (outcome.Checked c)
 IsCheckOf holds fails name (outcome.Refused f) = (bytes : List ℕ) × holds name bytes × IsOutcomeOf bytes (outcome.Refused f)
-IsCheckOf holds fails name (outcome.Unread e) = fails name e ⊎ (e ≡ NameIsNoText)
+IsCheckOf holds fails name (outcome.Unread e) = fails name e ⊎ IsNoText name e
 IsCheckOf holds fails name outcome.Skipped = ⊥
 
 -- further files can be told of

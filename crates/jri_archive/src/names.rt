@@ -1,7 +1,7 @@
 //! The names of the files that are to be checked, one after the other.
 
 ghost use Rattle.std.specs.Prelude.{◌≡◌, ℕ, List, Some, None, false, length, map, IfOk, IfSome, IfNone};
-ghost use Rattle.jri_archive.specs.Names.{IsNamed, IsNextFile};
+ghost use Rattle.jri_archive.specs.Names.{IsNamed, IsNextFile, IsNoText};
 
 use crate::folders::FolderWalk;
 use crate::given::GivenNames;
@@ -51,7 +51,7 @@ impl<I: Read + Drop> Model for FileNames<I> {
 
 /// Why a file is not opened by this name: that it is no text.
 fn refused_name(name: &[u8]) -> Option<ReadError>
-    ensures { (e : ReadError) → result ≡ Some e → e ≡ ReadError.NameIsNoText }
+    ensures { (e : ReadError) → result ≡ Some e → IsNoText name.now e }
 {
     match str::from_utf8(name) {
         Ok(_) => None,

@@ -1,7 +1,7 @@
 //! Many files, checked by several workers and told in their order.
 
 ghost use Rattle.std.specs.Prelude.{◌≡◌, ◌≤◌, ◌<◌, ◌^◌, ◌⊎◌, ℕ, List, Some, None, false, length, map, drop, slice_get, IfOk, IfErr, IfSome, IfNone};
-ghost use Rattle.jri_archive.specs.Names.{IsNamed};
+ghost use Rattle.jri_archive.specs.Names.{IsNamed, IsNoText};
 ghost use Rattle.jri_archive.specs.Outcomes.{IsOutcomeOf};
 ghost use Rattle.jri_archive.specs.Told.{AreChecksOf, AreTold, IsCheckOf, IsClaimOf, given_names};
 
@@ -176,7 +176,7 @@ impl<
     /// The bytes of a file.
     fn read(&self, file: &NamedFile) -> Result<Vec<u8>, ReadError>
         ensures bytes { IfOk result (λ b. F.holds self.now file.now.name.items b.items) }
-        ensures error { IfErr result (λ e. ((x : ReadError) → file.now.error ≡ Some x → x ≡ ReadError.NameIsNoText) → F.fails self.now file.now.name.items e ⊎ (e ≡ ReadError.NameIsNoText)) }
+        ensures error { IfErr result (λ e. ((x : ReadError) → file.now.error ≡ Some x → IsNoText file.now.name.items x) → F.fails self.now file.now.name.items e ⊎ IsNoText file.now.name.items e) }
     {
         if let Some(error) = file.error {
             return Err(error);
@@ -190,7 +190,7 @@ impl<
     /// Checks a file, by several workers where others have none.
     fn check<R: Threads + Wait + Sync>(&self, rt: &R, file: &NamedFile) -> CheckedFile
         ensures map { IfSome result.bytes (λ b. IsOutcomeOf b.items result.outcome) }
-        ensures outcome { ((x : ReadError) → file.now.error ≡ Some x → x ≡ ReadError.NameIsNoText) → file.now.is_skipped ≡ false → S.may_be file.now.name.items result.outcome }
+        ensures outcome { ((x : ReadError) → file.now.error ≡ Some x → IsNoText file.now.name.items x) → file.now.is_skipped ≡ false → S.may_be file.now.name.items result.outcome }
     {
         if file.is_skipped {
             self.desk.lock(rt).give_back(1);

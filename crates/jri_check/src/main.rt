@@ -217,6 +217,29 @@ impl<'a> Folder for Disk<'a> {
     }
 }
 
+/// An output, and whether its reader has gone away.
+#[derive(Drop)]
+struct Watched<W> {
+    out: W,
+    is_closed: bool,
+}
+
+impl<W: Write> Write for Watched<W> {
+    fn write(&mut self, bytes: &[u8]) -> IoResult<usize> {
+        let written = self.out.write(bytes);
+        if let Err(error) = &written
+            && error.kind() == ErrorKind::BrokenPipe
+        {
+            self.is_closed = true;
+        }
+        written
+    }
+
+    fn flush(&mut self) -> IoResult<()> {
+        self.out.flush()
+    }
+}
+
 /// Writes the counts, and why not every file has its line, and returns the exit status. It allocates nothing.
 fn finish<E: Write>(errors: &mut E, report: CheckReport, is_quiet: bool) -> u8 {
     if !is_quiet {
@@ -269,7 +292,14 @@ fn check<
         },
     };
     let is_quiet = asked.form.is_quiet;
-    let (report, _) = check_all(rt, alloc, disk, asked, list, out, progress);
+    let out = Watched {
+        out,
+        is_closed: false,
+    };
+    let (report, out) = check_all(rt, alloc, disk, asked, list, out, progress);
+    if out.is_closed {
+        return report.status();
+    }
     finish(&mut errors, report, is_quiet)
 }
 

@@ -21,7 +21,7 @@ use crate::room::{asked_for, lacks_room};
 use jr_base::Memory;
 use jr_head::{Head, Kind, Refusal};
 use jr_picture::Counts;
-use jr_rows::{Marked, Rows, SampleRow, bytes_of_row, counts_of, lines_of, shape_of};
+use jr_rows::{FirstIntervals, Marked, Rows, SampleRow, bytes_of_row, counts_of, lines_of, shape_of};
 use jr_scan::Scan;
 use jri_canvas::{CanvasLines, Pixels, have_places, lay_lines};
 use jri_file::scan_of_file;
@@ -102,11 +102,12 @@ fn lay_rows(
     // By their contracts a picture has an MCU, and a scan as many intervals as its head says.
     let _some = (head.mcus(), scan.intervals());
     let down = shape_of(head).down;
-    let mut rows = Rows::of(scan, scan.intervals());
+    let part = FirstIntervals::of(scan, None);
+    let mut rows = Rows::of(&part);
     let mut marked = Marked::none();
     'rows: while rows.row() < down {
         let row = rows.row();
-        let more = work.decode(&mut rows, marks);
+        let more = work.decode(&part, &mut rows, marks);
         marked = marked.with(more);
         lay_row(head, work, row, lines, form, canvas);
     }

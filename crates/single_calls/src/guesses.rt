@@ -2,7 +2,6 @@
 
 ghost use Rattle.std.specs.Prelude.{◌≡◌, ◌<◌, length};
 ghost use Rattle.jr_scan.specs.Guess.{IsGuessOf};
-ghost use Rattle.jr_scan.specs.ScanValue.{interval_of};
 
 use jr_guesses::windows_of;
 use jr_scan::{Guess, McuReader, Scan};

@@ -31,6 +31,7 @@ use std::io::Write;
 use std::process::ExitCode;
 use std::sync::Wait;
 use std::thread::Threads;
+use std::time::Clock;
 use std::{env, fs};
 use times::{least_times, scan_of};
 
@@ -96,9 +97,13 @@ fn task_of(word: &str) -> Option<Task> {
 }
 
 /// Reports the times of a file's decoding. `None` if there is no such file, or memory or a thread is refused.
-fn tell_times_of(rt: &HostRuntime, name: &str) -> Option<()> {
+fn tell_times_of<R: Threads + Wait + Clock + Sync>(
+    rt: &HostRuntime,
+    threads: &R,
+    name: &str,
+) -> Option<()> {
     let scan = scan_of(rt, name)?;
-    let times = least_times(rt, rt.alloc(), &scan)?;
+    let times = least_times(threads, rt.alloc(), &scan)?;
     times::tell(&mut rt.stdout(), &times);
     Some(())
 }
@@ -112,20 +117,29 @@ fn tell_guesses_of(rt: &HostRuntime, name: &str) -> Option<()> {
 }
 
 /// Makes each call on a file, and reports what came of them. `None` if there is no such file.
-fn tell_calls_on(rt: &HostRuntime, name: &str) -> Option<()> {
+fn tell_calls_on<R: Threads + Wait + Sync>(
+    rt: &HostRuntime,
+    threads: &R,
+    name: &str,
+) -> Option<()> {
     let file = fs::read(rt, name).ok()?;
     let mut caller = Caller::of(rt.alloc(), file.as_slice(), rt.stderr())?;
-    let outcomes = make_calls(rt, &mut caller);
+    let outcomes = make_calls(threads, &mut caller);
     tell(&mut rt.stdout(), &outcomes);
     Some(())
 }
 
 /// Does a task with a word, and returns the exit status.
-fn run(rt: &HostRuntime, task: Task, word: &str) -> u8 {
+fn run<R: Threads + Wait + Clock + Sync>(
+    rt: &HostRuntime,
+    threads: &R,
+    task: Task,
+    word: &str,
+) -> u8 {
     let done = match task {
-        Task::Times => tell_times_of(rt, word),
+        Task::Times => tell_times_of(rt, threads, word),
         Task::Guesses => tell_guesses_of(rt, word),
-        Task::Calls => tell_calls_on(rt, word),
+        Task::Calls => tell_calls_on(rt, threads, word),
         Task::Arriving => return arriving::show_input(rt, word),
     };
     if done.is_some() { 0 } else { 1 }
@@ -141,7 +155,7 @@ fn main(rt: HostRuntime) -> ExitCode {
             task = named;
             continue;
         }
-        let status = run(&rt, task, word.as_str());
+        let status = run(&rt, &rt, task, word.as_str());
         if status > 0 {
             return ExitCode::from(status);
         }

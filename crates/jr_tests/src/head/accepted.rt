@@ -7,7 +7,7 @@ use std::test::Fail;
 use test_files::files::file;
 
 /// The head of a file in the notation of files.
-fn head_of(alloc: Global, words: &str) -> Result<Head, Fail> {
+pub(crate) fn head_of(alloc: Global, words: &str) -> Result<Head, Fail> {
     let bytes = file(alloc, words)?;
     head_in(alloc, bytes.as_slice())
 }

@@ -1,7 +1,7 @@
 //! Heads of thousands of bytes, and of as many segments.
 
 use super::head_in;
-use crate::head::accepted::have_same_books;
+use crate::head::accepted::{have_same_books, head_of};
 use jr_head::Head;
 use std::alloc::Global;
 use std::test::Fail;
@@ -70,6 +70,12 @@ fn repeated_part(alloc: Global, part: &str, times: u32) -> Result<Vec<u8>, Fail>
     Ok(bytes)
 }
 
+/// The head of such a file.
+fn repeated_head(alloc: Global, part: &str, times: u32) -> Result<Head, Fail> {
+    let bytes = repeated_part(alloc, part, times)?;
+    head_in(alloc, bytes.as_slice())
+}
+
 /// A part, how often it stands, and where the scan begins.
 const SEGMENTS: [(&str, u32, u64); 9] = [
     ("FF FE 00 02", 1500, 6140),
@@ -90,11 +96,9 @@ fn have_same_quantiser(a: &Head, b: &Head) -> bool {
 
 #[test]
 fn accepts_many_segments(rt: HostRuntime) -> Result<(), Fail> {
-    let plain = file(rt.alloc(), "S Q F D A C")?;
-    let plain = head_in(rt.alloc(), plain.as_slice())?;
+    let plain = head_of(rt.alloc(), "S Q F D A C")?;
     for (part, times, length) in &SEGMENTS {
-        let bytes = repeated_part(rt.alloc(), part, *times)?;
-        let head = head_in(rt.alloc(), bytes.as_slice())?;
+        let head = repeated_head(rt.alloc(), part, *times)?;
         assert!(rt; head.scan_at() == *length, "{part} {times} times");
         assert!(rt; have_same_quantiser(&head, &plain));
         assert!(rt; have_same_books(&head, &plain));
@@ -114,11 +118,9 @@ const TABLES: [(&str, u32); 4] = [
 /// A book of each of these tables would take longer than a test may.
 #[test]
 fn accepts_millions_of_code_tables(rt: HostRuntime) -> Result<(), Fail> {
-    let plain = file(rt.alloc(), "S Q F D A C")?;
-    let plain = head_in(rt.alloc(), plain.as_slice())?;
+    let plain = head_of(rt.alloc(), "S Q F D A C")?;
     for (part, times) in &TABLES {
-        let bytes = repeated_part(rt.alloc(), part, *times)?;
-        let head = head_in(rt.alloc(), bytes.as_slice())?;
+        let head = repeated_head(rt.alloc(), part, *times)?;
         assert!(rt; (head.width(), head.height()) == (8, 8), "{part}");
         assert!(rt; have_same_books(&head, &plain));
     }
@@ -147,8 +149,7 @@ fn accepts_many_quantisers_in_a_segment(rt: HostRuntime) -> Result<(), Fail> {
 #[test]
 fn accepts_tables_of_256_symbols(rt: HostRuntime) -> Result<(), Fail> {
     let words = "S Q F FF C4 01 13 00 7*00 FF 01 7*00 256*03 FF C4 01 13 10 14*00 01 FF 256*00 C";
-    let bytes = file(rt.alloc(), words)?;
-    let head = head_in(rt.alloc(), bytes.as_slice())?;
+    let head = head_of(rt.alloc(), words)?;
     assert!(rt; head.scan_at() == 648);
     Ok(())
 }

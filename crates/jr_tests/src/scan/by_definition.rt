@@ -211,21 +211,21 @@ fn check_interval(
     Ok(())
 }
 
-/// The scan is cut as the definitions say, and so are its intervals read.
+/// The scan is cut into these segments, with this end, and so are its intervals read.
 fn check_scan(
     rt: &impl Abort,
     alloc: Global,
     picture: &Picture<'_>,
     scan: &Scan,
-    bytes: &[u8],
+    segments: &[Vec<u8>],
+    end: u8,
 ) -> Result<(), Fail> {
-    let (segments, end) = segments(alloc, bytes, scan.intervals() as usize)?;
     if let Some(code) = code(scan.ended()) {
         assert!(rt; code == end);
     }
     for i in 0..scan.intervals() {
         let interval = scan.interval(i)?;
-        let segment = match segments.as_slice().get(i as usize) {
+        let segment = match segments.get(i as usize) {
             Some(segment) => segment.as_slice(),
             None => &[],
         };
@@ -234,16 +234,27 @@ fn check_scan(
     Ok(())
 }
 
+/// The scan of a head and these bytes is cut as the definitions say, and so are its intervals read.
+fn check_bytes(
+    rt: &impl Abort,
+    alloc: Global,
+    picture: &Picture<'_>,
+    mut file: Vec<u8>,
+    bytes: &[u8],
+) -> Result<(), Fail> {
+    file.extend_from_slice(bytes)?;
+    let scan = scan_of(alloc, file.as_slice())?;
+    let (segments, end) = segments(alloc, bytes, scan.intervals() as usize)?;
+    check_scan(rt, alloc, picture, &scan, segments.as_slice(), end)
+}
+
 /// Thousands of such scans behind a picture's head.
 fn check_picture(rt: &impl Abort, alloc: Global, picture: &Picture<'_>) -> Result<(), Fail> {
     let head = file(alloc, picture.words)?;
     let mut state: u64 = 7;
     for _ in 0..4000u32 {
         let bytes = bytes_of(alloc, &mut state)?;
-        let mut file = head.clone()?;
-        file.extend_from_slice(bytes.as_slice())?;
-        let scan = scan_of(alloc, file.as_slice())?;
-        check_scan(rt, alloc, picture, &scan, bytes.as_slice())?;
+        check_bytes(rt, alloc, picture, head.clone()?, bytes.as_slice())?;
     }
     Ok(())
 }

@@ -88,10 +88,10 @@ fn check<R: Threads + Wait + Sync + AllocGlobal + Abort>(
     requires few { workers ≤ MAX_WORKERS }
 {
     let bytes = file(rt.alloc(), words)?;
-    let (_, Sink { bytes: whole, .. }) = written(rt, bytes.as_slice(), 2, 100_000, 0);
+    let (_fault, whole) = written(rt, bytes.as_slice(), 2, 100_000, 0);
     let (fault, all) = written(rt, bytes.as_slice(), workers, most, 0);
     assert!(rt;
-        fault.is_none() && all.bytes == whole,
+        fault.is_none() && all.bytes == whole.bytes,
         "{} by {most}",
         words
     );
@@ -99,7 +99,7 @@ fn check<R: Threads + Wait + Sync + AllocGlobal + Abort>(
         let (fault, sink) = written(rt, bytes.as_slice(), workers, most, failing);
         assert!(rt; fault == Some(Fault::Write), "{} call {failing}", words);
         assert!(rt; sink.calls == failing, "{} call {failing}", words);
-        let is_front = whole.as_slice().starts_with(sink.bytes.as_slice());
+        let is_front = whole.bytes.as_slice().starts_with(sink.bytes.as_slice());
         assert!(rt; is_front, "{} call {failing}", words);
     }
     Ok(())

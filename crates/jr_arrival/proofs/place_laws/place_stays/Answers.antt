@@ -1,5 +1,5 @@
 use Rattle.jr_arrival.proofs.GivenPlaces as given
-use Rattle.jr_arrival.proofs.laws.place_stays.Goals as goal
+use Rattle.jr_arrival.proofs.place_laws.place_stays.Goals as goal
 
 pub returns : goal.returns
 returns c = λ bytes more whole t p is. given.place_stays bytes more whole t p is

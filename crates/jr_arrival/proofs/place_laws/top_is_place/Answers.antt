@@ -1,5 +1,5 @@
 use Rattle.jr_arrival.proofs.GivenPlaces as given
-use Rattle.jr_arrival.proofs.laws.top_is_place.Goals as goal
+use Rattle.jr_arrival.proofs.place_laws.top_is_place.Goals as goal
 
 pub returns : goal.returns
 returns c = λ bytes whole t scan come. given.top_is_place bytes whole t scan come

@@ -20,10 +20,7 @@ returns-clause-lines c b first =
     let inside : size ≤ length c.args.pixels.now = omega (arith, fits, is) in
     let new = c.paint.new.pixels in
     let long : length new ≡ size = c.paint.auto.pixels ∙ length-take-le size c.args.pixels.now inside in
-    let painted : ShowsLines old.scan old.limit old.row new = search (rules, c.paint.ensures.lines) in
-    let of_part = subst (λ (s : ScanValue). ShowsLines s old.limit old.row new) c.requires.of painted in
-    let lines = subst (λ (n : ℕ). ShowsLines t n old.row new) c.requires.limit of_part in
-    ap (λ (n : ℕ). take n (new ++ drop size c.args.pixels.now)) (sym is ∙ sym long) ∙ take-append_seam new (drop size c.args.pixels.now) ∙ lines b first
+    ap (λ (n : ℕ). take n (new ++ drop size c.args.pixels.now)) (sym is ∙ sym long) ∙ take-append_seam new (drop size c.args.pixels.now) ∙ c.paint.ensures.lines b first
 
 pub slice_bounds-paint-end : goal.slice_bounds-paint-end
 slice_bounds-paint-end c =
@@ -35,6 +32,16 @@ slice_bounds-paint-end c =
     let is : size ≡ line_count t.head old.row * line_size t.head = ap (λ (n : ℕ). n * c.shape_of.result.line) count ∙ ap (λ (n : ℕ). line_count t.head old.row * n) line in
     omega (arith, row_fits t old.row c.args.pixels.now c.requires.pixels, is)
 
+pub slice_bounds-paint-end-2 : goal.slice_bounds-paint-end-2
+slice_bounds-paint-end-2 c =
+    let t = c.args.part.now.scan in
+    let old = c.args.rows.now in
+    let size = c.lines_of-y.result.1 * c.shape_of.result.line in
+    let count : c.lines_of-y.result.1 ≡ line_count t.head old.row = search rules in
+    let line : c.shape_of.result.line ≡ line_size t.head = search rules in
+    let is : size ≡ line_count t.head old.row * line_size t.head = ap (λ (n : ℕ). n * c.shape_of.result.line) count ∙ ap (λ (n : ℕ). line_count t.head old.row * n) line in
+    sym (length-take-le size c.args.pixels.now (omega (arith, row_fits t old.row c.args.pixels.now c.requires.pixels, is)))
+
 pub paint-requires-clause-pixels : goal.paint-requires-clause-pixels
 paint-requires-clause-pixels c =
     let t = c.args.part.now.scan in
@@ -44,22 +51,4 @@ paint-requires-clause-pixels c =
     let line : c.shape_of.result.line ≡ line_size t.head = search rules in
     let is : size ≡ line_count t.head old.row * line_size t.head = ap (λ (n : ℕ). n * c.shape_of.result.line) count ∙ ap (λ (n : ℕ). line_count t.head old.row * n) line in
     let inside : size ≤ length c.args.pixels.now = omega (arith, row_fits t old.row c.args.pixels.now c.requires.pixels, is) in
-    length-take-le size c.args.pixels.now inside ∙ is ∙ ap (λ (s : ScanValue). line_count s.head old.row * line_size s.head) (sym c.requires.of)
-
-pub paint-requires-clause-row : goal.paint-requires-clause-row
-paint-requires-clause-row c = subst (λ (s : ScanValue). c.args.rows.now.row < mcus_down s.head) (sym c.requires.of) c.requires.row
-
-pub paint-requires-clause-room : goal.paint-requires-clause-room
-paint-requires-clause-room c = subst (λ (s : ScanValue). HasSampleRoom s.head c.args.work.now) (sym c.requires.of) c.requires.room
-
-pub returns-clause-moved : goal.returns-clause-moved
-returns-clause-moved c = c.paint.ensures.moved
-
-pub returns-clause-room : goal.returns-clause-room
-returns-clause-room c = subst (λ (s : ScanValue). HasSampleRoom s.head c.paint.new.self) c.requires.of c.paint.ensures.room
-
-pub returns-clause-counts : goal.returns-clause-counts
-returns-clause-counts c =
-    let old = c.args.rows.now in
-    let of_part = subst (λ (s : ScanValue). CountsRow s old.limit old.row c.paint.result) c.requires.of c.paint.ensures.counts in
-    subst (λ (n : ℕ). CountsRow c.args.part.now.scan n old.row c.paint.result) c.requires.limit of_part
+    length-take-le size c.args.pixels.now inside ∙ is

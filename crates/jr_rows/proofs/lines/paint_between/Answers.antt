@@ -7,11 +7,13 @@ use Rattle.jr_head.specs.Geometry.{IsLawful, mcus_across, vertical_max}
 use Rattle.jr_paint.specs.Lines.{line_size, next_lines_of}
 use Rattle.jr_paint.proofs.PixelLaws.{next_lines_more}
 use Rattle.jr_scan.specs.ScanValue.{ScanValue, intervals_of}
+use Rattle.jr_picture.specs.BoardValue.{BoardValue}
 use Rattle.jr_picture.specs.Samples.{samples_of}
 use Rattle.jr_rows.specs.Bands.{ShowsMcus, samples_in}
+use Rattle.jr_rows.specs.FirstIntervalsValue.{FirstIntervalsValue}
 use Rattle.jr_rows.specs.Groups.{units_in}
 use Rattle.jr_rows.specs.MarkBytes.{PutsBetween, PutsRow}
-use Rattle.jr_rows.specs.Rows.{CountsRow, coded_before}
+use Rattle.jr_rows.specs.Rows.{CountsRow, HasFirst, coded_before}
 use Rattle.jr_rows.specs.SomeLines.{CountsBetween, row_behind, row_with}
 use Rattle.jr_rows.proofs.IntervalPlaces.{ends_few}
 use Rattle.jr_rows.proofs.PaintedRows.{row_painted}
@@ -30,8 +32,7 @@ rows-init c =
     let none_done : done_lines h c.args.first c.args.end c.at-rows.result.row ≡ 0 = ap (done_lines h c.args.first c.args.end) at ∙ none in
     let first_is : row_with h c.args.first ≡ c.at-rows.result.row = search rules in
     record {
-      scan = search rules;
-      limit = search rules;
+      rows = c.at-rows.ensures.rows;
       within = search (rules, arith);
       reaches = search (rules, arith);
       room = search rules;
@@ -48,7 +49,7 @@ pub with-marked-requires : goal.with-marked-requires
 with-marked-requires c =
     let t = c.args.scan.now in
     let keep = c.rows.invariant in
-    let marks : CountsRow t (length t.intervals) c.rows.rows.row c.decode-more.result = rw (keep.scan, keep.limit) at c.decode-more.ensures.counts in
+    let marks = subst (λ (p : FirstIntervalsValue). CountsRow p.scan p.limit c.rows.rows.row c.decode-more.result) c.of-part.ensures c.decode-more.ensures.counts in
     let few = ends_few t.head (coded_before t.head (length t.intervals) (c.rows.rows.row + 1)) in
     let room : intervals_of t.head < 2 ^ 32 = search (rules, arith) in
     omega (arith, keep.counts.few, marks.few, few, room)
@@ -84,12 +85,11 @@ rows-preserved c =
     let end_is : to ≡ from + length pix = omega (arith, long, from_is, to_is, sum) in
     let inside : from ≤ length c.rows.pixels = search (rules, arith) in
     let next : done_lines h c.args.first c.args.end c.decode-more.new.rows.row ≡ old_done + count = ap (done_lines h c.args.first c.args.end) next_row ∙ done.1 in
-    let marks : CountsRow t n row c.decode-more.result = rw (keep.scan, keep.limit) at c.decode-more.ensures.counts in
+    let marks = subst (λ (p : FirstIntervalsValue). CountsRow p.scan p.limit row c.decode-more.result) c.of-part.ensures c.decode-more.ensures.counts in
     let bytes = c.decode-more.new.marks in
-    let puts : PutsRow t n row c.rows.marks bytes = rw (keep.scan, keep.limit) at c.decode-more.ensures.puts in
+    let puts = subst (λ (p : FirstIntervalsValue). PutsRow p.scan p.limit row c.rows.marks bytes) c.of-part.ensures c.decode-more.ensures.puts in
     record {
-      scan = search rules;
-      limit = search rules;
+      rows = c.decode-more.ensures.rows;
       within = search (rules, arith);
       reaches = omega (arith, keep.reaches, ap (λ (k : ℕ). (k + 1) * deep) next_row, add-mul row 1 deep, add-mul (row + 1) 1 deep);
       room = search rules;
@@ -101,7 +101,7 @@ rows-preserved c =
           let few : y - row * deep + count ≤ deep = omega (arith, at, ends, add-mul row 1 deep) in
           let down : y + count ≤ h.height = omega (arith, ends, c.requires.inside) in
           let head : c.head-head.result.now ≡ h = search rules in
-          let shows : ShowsMcus b (row * mcus_across h) (units_in h work.lines.groups) = (rw (keep.scan, keep.limit) at c.decode-more.ensures.units) b first in
+          let shows = (subst (λ (p : FirstIntervalsValue). (b : BoardValue) → HasFirst p.scan p.limit b → ShowsMcus b (row * mcus_across p.scan.head) (units_in p.scan.head work.lines.groups)) c.of-part.ensures c.decode-more.ensures.units) b first in
           let shown = ap (λ (g : HeadValue). next_lines_of g (samples_in (record { head = g; groups = work.lines.groups })) y count) head
           ∙ row_painted b h (ap (λ (s : ScanValue). s.head) first.scan_is) lawful work.lines.groups row shows y count (y - row * deep) start few down in
           let lines : pix ≡ next_lines_of h f (c.args.first + old_done) count = c.paint_some.ensures.lines ∙ shown ∙ ap (λ (k : ℕ). next_lines_of h f k count) done.0 in

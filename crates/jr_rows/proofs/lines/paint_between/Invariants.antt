@@ -4,7 +4,7 @@ use Rattle.jr_paint.specs.Lines.{line_size, next_lines_of}
 use Rattle.jr_picture.specs.BoardValue.{BoardValue}
 use Rattle.jr_picture.specs.Samples.{samples_of}
 use Rattle.jr_rows.specs.MarkBytes.{HasMarkRoom, PutsBetween}
-use Rattle.jr_rows.specs.Rows.{HasFirst, HasSampleRoom}
+use Rattle.jr_rows.specs.Rows.{AreRowsOf, HasFirst, HasSampleRoom}
 use Rattle.jr_rows.specs.SomeLines.{CountsBetween, row_with}
 use Rattle.jr_rows.proofs.SomeLines.{done_lines}
 use Rattle.jr_rows.proofs.lines.paint_between.Given as goal
@@ -15,8 +15,7 @@ invariant-rows l =
     let h = t.head in
     let n = length t.intervals in
     let done = done_lines h l.fn.first l.fn.end l.rows.row in record {
-      scan : l.rows.scan ≡ t;
-      limit : l.rows.limit ≡ n;
+      rows : AreRowsOf l.part l.rows;
       within : l.rows.row ≤ l.behind;
       reaches : l.fn.first < (l.rows.row + 1) * (8 * vertical_max h);
       room : HasSampleRoom h l.work;

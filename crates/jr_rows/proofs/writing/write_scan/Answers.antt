@@ -2,6 +2,7 @@ use Rattle.std.proofs.Common.{rules, subst, ◌≡◌, ℕ, length}
 use Rattle.jr_head.specs.Geometry.{IsLawful}
 use Rattle.jr_picture.specs.Headline.{least}
 use Rattle.jr_rows.specs.Stream.{SendsPicture, HasCounts}
+use Rattle.jr_rows.specs.FirstIntervalsValue.{FirstIntervalsValue}
 use Rattle.jr_rows.specs.RowsValue.{RowsValue}
 use Rattle.jr_rows.proofs.FirstBoards.{least_few}
 use Rattle.jr_piece.proofs.ScanLaws.{outcome}
@@ -14,7 +15,8 @@ returns-in-Ok-write_rows-clause-painted g c =
     let n = least c.args.first (length t.intervals) in
     let lawful = subst IsLawful c.head.ensures.value c.head.ensures.lawful in
     let is : c.limit-limit.result ≡ n = search rules in
-    let sends : SendsPicture g.W.Write.contents c.args.out.now c.write_rows.new.out c.write_rows.result t n = subst (λ (k : ℕ). SendsPicture g.W.Write.contents c.args.out.now c.write_rows.new.out c.write_rows.result t k) is (subst (λ (r : RowsValue). SendsPicture g.W.Write.contents c.args.out.now c.write_rows.new.out c.write_rows.result r.scan r.limit) c.of-painter.ensures c.write_rows.ensures.sent) in
+    let painter = subst (λ (r : RowsValue). SendsPicture g.W.Write.contents c.args.out.now c.write_rows.new.out c.write_rows.result r.scan r.limit) c.of-painter.ensures c.write_rows.ensures.sent in
+    let sends = subst (λ (p : FirstIntervalsValue). SendsPicture g.W.Write.contents c.args.out.now c.write_rows.new.out c.write_rows.result p.scan p.limit) c.of-part.ensures painter in
     painted_picture g.W.Write.contents _ _ c.write_rows.result outcome t lawful n (least_few c.args.first (length t.intervals)) sends _ c.in-Ok-write_rows.is c.counts_of.result (subst (λ (k : ℕ). HasCounts t k c.counts_of.result) is c.counts_of.ensures)
 
 pub returns-clause-begun : goal.returns-clause-begun
@@ -22,8 +24,8 @@ returns-clause-begun g c failed =
     let t = c.args.scan.now in
     let n = least c.args.first (length t.intervals) in
     let lawful = subst IsLawful c.head.ensures.value c.head.ensures.lawful in
-    let is : c.limit-limit.result ≡ n = search rules in
-    let sends : SendsPicture g.W.Write.contents c.args.out.now c.write_rows.new.out c.write_rows.result t n = subst (λ (k : ℕ). SendsPicture g.W.Write.contents c.args.out.now c.write_rows.new.out c.write_rows.result t k) is (subst (λ (r : RowsValue). SendsPicture g.W.Write.contents c.args.out.now c.write_rows.new.out c.write_rows.result r.scan r.limit) c.of-painter.ensures c.write_rows.ensures.sent) in
+    let painter = subst (λ (r : RowsValue). SendsPicture g.W.Write.contents c.args.out.now c.write_rows.new.out c.write_rows.result r.scan r.limit) c.of-painter.ensures c.write_rows.ensures.sent in
+    let sends = subst (λ (p : FirstIntervalsValue). SendsPicture g.W.Write.contents c.args.out.now c.write_rows.new.out c.write_rows.result p.scan p.limit) c.of-part.ensures painter in
     begun_picture g.W.Write.contents _ _ c.write_rows.result outcome t lawful n (least_few c.args.first (length t.intervals)) sends _ c.in-Err.is
 
 pub returns-clause-memory : goal.returns-clause-memory

@@ -6,11 +6,13 @@ use Rattle.jr_head.specs.HeadValue.{HeadValue}
 use Rattle.jr_head.specs.Geometry.{mcus_across, mcus_down, vertical_max}
 use Rattle.jr_paint.specs.Lines as paint
 use Rattle.jr_paint.proofs.Places.{below_div_ceil}
+use Rattle.jr_picture.specs.BoardValue.{BoardValue}
 use Rattle.jr_picture.specs.Samples.{samples_of}
 use Rattle.jr_rows.specs.Bands.{ShowsMcus}
+use Rattle.jr_rows.specs.FirstIntervalsValue.{FirstIntervalsValue}
 use Rattle.jr_rows.specs.Groups.{units_in}
 use Rattle.jr_rows.specs.MarkBytes.{PutsBetween, PutsRow}
-use Rattle.jr_rows.specs.Rows.{CountsMcus, CountsRow, coded_before, first_line, line_count}
+use Rattle.jr_rows.specs.Rows.{CountsMcus, CountsRow, HasFirst, coded_before, first_line, line_count}
 use Rattle.jr_rows.proofs.IntervalPlaces.{ends_few}
 use Rattle.jr_rows.proofs.PutMarks.{puts_both}
 use Rattle.jr_rows.proofs.ReadRows.{counts_both}
@@ -23,7 +25,7 @@ pub with-marked-requires : goal.with-marked-requires
 with-marked-requires c =
     let t = c.args.scan.now in
     let keep = c.rows.invariant in
-    let marks : CountsRow t (length t.intervals) c.rows.rows.row c.decode-more.result = rw (keep.scan, keep.limit) at c.decode-more.ensures.counts in
+    let marks = subst (λ (p : FirstIntervalsValue). CountsRow p.scan p.limit c.rows.rows.row c.decode-more.result) c.of-part.ensures c.decode-more.ensures.counts in
     let few = ends_few t.head (coded_before t.head (length t.intervals) (c.rows.rows.row + 1)) in
     let room : intervals_of t.head < 2 ^ 32 = search (rules, arith) in
     omega (arith, keep.counts.few, marks.few, few, room)
@@ -53,18 +55,17 @@ rows-preserved c =
     let before : min (row * deep) h.height ≡ first_line h row = omega (arith, inside) in
     let behind : first_line h row + line_count h row ≡ min ((row + 1) * deep) h.height = omega (arith, inside, add-mul row 1 deep) in
     let end : first_line h row + line_count h row ≡ min (c.decode-more.new.rows.row * deep) h.height = behind ∙ ap (λ (k : ℕ). min (k * deep) h.height) (sym next_row) in
-    let marks : CountsRow t n row c.decode-more.result = rw (keep.scan, keep.limit) at c.decode-more.ensures.counts in
-    let puts : PutsRow t n row c.rows.marks bytes = rw (keep.scan, keep.limit) at c.decode-more.ensures.puts in
+    let marks = subst (λ (p : FirstIntervalsValue). CountsRow p.scan p.limit row c.decode-more.result) c.of-part.ensures c.decode-more.ensures.counts in
+    let puts = subst (λ (p : FirstIntervalsValue). PutsRow p.scan p.limit row c.rows.marks bytes) c.of-part.ensures c.decode-more.ensures.puts in
     record {
-      scan = search rules;
-      limit = search rules;
+      rows = c.decode-more.ensures.rows;
       within = search (rules, arith);
       room = search rules;
       long = search (rules, keep.long, c.lay_row.ensures.long);
       wide = search (rules, keep.wide, c.lay_row.auto.canvas);
       stand = λ b first.
           let g = λ (k : ℕ). laid_line form (paint.line_of h (samples_of b) k) in
-          let shows : ShowsMcus b (row * mcus_across h) (units_in h groups) = (rw (keep.scan, keep.limit) at c.decode-more.ensures.units) b first in
+          let shows = (subst (λ (p : FirstIntervalsValue). (b : BoardValue) → HasFirst p.scan p.limit b → ShowsMcus b (row * mcus_across p.scan.head) (units_in p.scan.head groups)) c.of-part.ensures c.decode-more.ensures.units) b first in
           let at_row = subst (λ (r : ℕ). b.scan.head ≡ c.head-head.result.now → ShowsMcus b (r * mcus_across c.head-head.result.now) (units_in c.head-head.result.now groups)
           → StandOn form (first_line c.head-head.result.now r) (first_line c.head-head.result.now r + line_count c.head-head.result.now r) (λ k. laid_line form (paint.line_of c.head-head.result.now (samples_of b) k)) c.rows.canvas c.lay_row.new.canvas) row_is (c.lay_row.ensures.stand b) in
           let there = subst (λ (d : HeadValue). b.scan.head ≡ d → ShowsMcus b (row * mcus_across d) (units_in d groups)

@@ -4,7 +4,7 @@ use Rattle.jr_paint.specs.Lines as paint
 use Rattle.jr_picture.specs.BoardValue.{BoardValue}
 use Rattle.jr_picture.specs.Samples.{samples_of}
 use Rattle.jr_rows.specs.MarkBytes.{HasMarkRoom, PutsBetween}
-use Rattle.jr_rows.specs.Rows.{CountsMcus, HasFirst, HasSampleRoom, coded_before}
+use Rattle.jr_rows.specs.Rows.{AreRowsOf, CountsMcus, HasFirst, HasSampleRoom, coded_before}
 use Rattle.jri_canvas.specs.Layouts.{StandOn, laid_line}
 use Rattle.jri_memory.proofs.canvas.lay_rows.Given as goal
 
@@ -13,8 +13,7 @@ invariant-rows l =
     let t = l.fn.scan in
     let h = t.head in
     let n = length t.intervals in record {
-      scan : l.rows.scan ≡ t;
-      limit : l.rows.limit ≡ n;
+      rows : AreRowsOf l.part l.rows;
       within : l.rows.row ≤ l.down;
       room : HasSampleRoom h l.work;
       long : length l.lines ≡ length l.initial.lines;

@@ -1,6 +1,6 @@
 use Rattle.std.proofs.Common.{◌≡◌}
-use Rattle.jr_scan.specs.Guess.{IsGuessOf}
 use Rattle.jr_scan.specs.ScanValue.{interval_of}
+use Rattle.jr_scan.specs.Guess.{IsGuessOf}
 use Rattle.single_calls.proofs.guesses.count_interval.Given as goal
 
 abbrev pub invariant-loop-k : goal.invariant-loop-k

@@ -8,12 +8,6 @@ use Rattle.jr_rows.proofs.Lent.{all_back}
 use Rattle.jr_crew.specs.Bench.{HasRoom, HasSamples, HasWork, IsPainted}
 use Rattle.jr_crew.proofs.bench.Bench.decode.Goals as goal
 
-pub decode_first-marked-requires-clause-of : goal.decode_first-marked-requires-clause-of
-decode_first-marked-requires-clause-of g c = c.requires.of
-
-pub decode_first-marked-requires-clause-limit : goal.decode_first-marked-requires-clause-limit
-decode_first-marked-requires-clause-limit g c = c.requires.limit
-
 pub decode_first-marked-requires-clause-row : goal.decode_first-marked-requires-clause-row
 decode_first-marked-requires-clause-row g c = c.requires.row
 

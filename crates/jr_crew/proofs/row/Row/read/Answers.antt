@@ -17,16 +17,13 @@ returns-clause-room c =
     let e = all_back c.self.inside.blocks.len new items long in
     record { blocks = ap length e ∙ sym long ∙ search (rules, arith); lines = search rules }
 
-pub returns-clause-moved : goal.returns-clause-moved
-returns-clause-moved c = c.read.ensures.moved
-
 pub returns-clause-read : goal.returns-clause-read
 returns-clause-read c =
     let new = c.read.new.blocks in
     let items = c.self.inside.blocks.items in
     let long : c.self.inside.blocks.len ≡ length new = search (rules, arith, c.read.auto.blocks) in
     let e = all_back c.self.inside.blocks.len new items long in
-    subst (AreRead c.args.rows.now.scan c.args.rows.now.limit c.args.rows.now.row) (sym e) c.read.ensures.read
+    subst (AreRead c.args.part.now.scan c.args.part.now.limit c.args.rows.now.row) (sym e) c.read.ensures.read
 
 pub returns-clause-counts : goal.returns-clause-counts
 returns-clause-counts c = c.read.ensures.counts

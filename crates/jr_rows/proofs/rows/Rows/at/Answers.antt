@@ -1,26 +1,32 @@
-use Rattle.std.proofs.Common.{rules, arith, ◌*◌, ◌<◌}
+use Rattle.std.proofs.Common.{rules, arith, subst, sym, ◌∙◌, ◌≡◌, ◌+◌, ◌*◌, ◌<◌, ◌≤◌, length}
 use Rattle.jr_head.specs.Geometry.{mcus_across, mcus_of}
-use Rattle.jr_rows.proofs.RowStarts.{mcu_there, row_starts, all_before, all_mcus}
+use Rattle.jr_scan.specs.ScanValue.{ScanValue, intervals_of}
+use Rattle.jr_picture.specs.Headline.{interval_number, within_interval}
+use Rattle.jr_rows.specs.Cursors.{IsCursorOf, mcus_to}
+use Rattle.jr_rows.proofs.RowCursors.{start_to, starts}
+use Rattle.jr_rows.proofs.RowStarts.{mcu_there, row_starts}
 use Rattle.jr_rows.proofs.rows.Rows.at.Goals as goal
 
-pub of-mcus-requires : goal.of-mcus-requires
-of-mcus-requires c =
-    let h = c.args.scan.now.head in
+pub skip_mcus-requires-clause-stands : goal.skip_mcus-requires-clause-stands
+skip_mcus-requires-clause-stands c =
+    let t = c.args.part.now.scan in
+    let h = t.head in
     let some : 0 < mcus_of h = search (rules, arith) in
     let there = mcu_there h (c.args.row * mcus_across h) (row_starts h c.args.row some c.requires.row) in
-    search (rules, arith, there)
+    let number : c.interval_with-number.result.0 ≡ interval_number h (c.args.row * mcus_across h) = search rules in
+    let count : length t.intervals ≡ intervals_of h = search (rules, arith) in
+    let e = c.at_start-cursor.ensures in
+    subst (λ (s : ScanValue). IsCursorOf s c.at_start-cursor.result) (sym c.scan-scan.ensures) (starts t c.interval_with-number.result.0 c.at_start-cursor.result (omega (arith, there.0, number, count)) e.number e.mcu e.place)
 
-pub pass-requires : goal.pass-requires
-pass-requires c =
-    let h = c.args.scan.now.head in
+pub skip_mcus-requires-clause-few : goal.skip_mcus-requires-clause-few
+skip_mcus-requires-clause-few c =
+    let h = c.args.part.now.scan.head in
     let some : 0 < mcus_of h = search (rules, arith) in
     let starts = row_starts h c.args.row some c.requires.row in
     let there = mcu_there h (c.args.row * mcus_across h) starts in
-    search (rules, arith, there, starts, all_mcus h)
-
-pub invariant_of-result : goal.invariant_of-result
-invariant_of-result c =
-    let h = c.args.scan.now.head in
-    let some : 0 < mcus_of h = search (rules, arith) in
-    let there = mcu_there h (c.args.row * mcus_across h) (row_starts h c.args.row some c.requires.row) in
-    search (rules, arith, there, all_before h c.args.row some c.requires.row)
+    let whole = there.1 in
+    let number : c.interval_with-number.result.0 ≡ interval_number h (c.args.row * mcus_across h) = search rules in
+    let within : c.interval_with-number.result.1 ≡ within_interval h (c.args.row * mcus_across h) = search rules in
+    let e = c.at_start-cursor.ensures in
+    let to = start_to h (interval_number h (c.args.row * mcus_across h)) c.at_start-cursor.result (e.number ∙ number) e.mcu in
+    subst (λ (s : ScanValue). mcus_to s.head c.at_start-cursor.result + c.interval_with-number.result.1 ≤ mcus_of s.head) (sym c.scan-scan.ensures) (omega (arith, to, within, whole, starts))

@@ -1,40 +1,125 @@
-use Rattle.std.proofs.Common.{rules, arith, subst, ap, ◌∙◌, ◌≡◌, ℕ, ◌*◌, ◌%◌, ◌<◌, ◌≤◌, [], None, slice_index_or}
-use Rattle.std.proofs.Math.Nat.{mul-le-mul_right}
+use Rattle.std.proofs.Common.{rules, arith, sym, subst, ap, ◌∙◌, ◌≡◌, ℕ, ◌+◌, ◌*◌, ◌%◌, ◌<◌, ◌≤◌, ◌^◌, [], None, length, slice_index_or}
+use Rattle.std.proofs.Math.Nat.{add-mul, mul-le-mul_right}
+use Rattle.jr_head.specs.HeadValue.{HeadValue}
 use Rattle.jr_head.specs.Geometry.{blocks_of, mcus_across}
-use Rattle.jr_scan.specs.ScanValue.{ScanValue}
-use Rattle.jr_rows.specs.RowsValue.{RowsValue}
-use Rattle.jr_rows.specs.Rows.{ShowsFirstUnits, coded_before, coded_in, mcus_read}
-use Rattle.jr_rows.specs.Bands.{unit_shown_of}
+use Rattle.jr_scan.specs.ScanValue.{intervals_of}
+use Rattle.jr_piece.specs.Outcome.{unit_of}
+use Rattle.jr_rows.specs.Bands.{unit_shown, unit_shown_of}
+use Rattle.jr_rows.specs.Cursors.{mcus_to}
 use Rattle.jr_rows.specs.Groups.{units_in}
+use Rattle.jr_rows.specs.MarkBytes.{PutsMarks}
+use Rattle.jr_rows.specs.RowLines.{HasLines}
+use Rattle.jr_rows.specs.Rows.{CountsMarks, ShowsBehind, ShowsFirstUnits, coded_before, coded_in, intervals_before}
 use Rattle.jr_rows.proofs.GroupLists.{units_long}
+use Rattle.jr_rows.proofs.IntervalPlaces.{ends_few}
+use Rattle.jr_rows.proofs.PutMarks.{puts_both}
+use Rattle.jr_rows.proofs.ReadRows.{counts_both, shown_more}
 use Rattle.jr_rows.proofs.ShownUnits.{row_shown}
 use Rattle.jr_rows.proofs.rows.Rows.decode.Goals as goal
 
+pub transform_blocks-requires-clause-inside : goal.transform_blocks-requires-clause-inside
+transform_blocks-requires-clause-inside c =
+    let h = c.args.part.now.scan.head in
+    let hd = c.head-head.result.now in
+    let here : hd ≡ h = search rules in
+    let some = c.min-some.result in
+    let done = c.parts.done in
+    let per : done * blocks_of hd ≡ done * blocks_of h = ap (λ (x : HeadValue). done * blocks_of x) here in
+    let long : length c.read_mcus-more.new.blocks ≡ some * blocks_of h = search (rules, arith) in
+    let whole : length (units_in hd c.parts.lines.groups) ≡ mcus_across h * blocks_of h = units_long hd c.parts.lines.groups ∙ ap (λ (x : HeadValue). mcus_across x * blocks_of x) here in
+    let within : done + some ≤ mcus_across h = search (rules, arith) in
+    let all : (done + some) * blocks_of h ≤ mcus_across h * blocks_of h = mul-le-mul_right {m = done + some} {n = mcus_across h} (blocks_of h) within in
+    omega (arith, per, long, whole, all, add-mul done some (blocks_of h))
+
+pub with-marked-requires : goal.with-marked-requires
+with-marked-requires c =
+    let t = c.args.part.now.scan in
+    let few = ends_few t.head (mcus_to t.head c.read_mcus-more.new.self) in
+    let room : intervals_of t.head < 2 ^ 32 = search (rules, arith) in
+    omega (arith, c.parts.invariant.counts.few, c.read_mcus-more.ensures.counts.few, few, room)
+
+pub parts-preserved : goal.parts-preserved
+parts-preserved c =
+    let t = c.args.part.now.scan in
+    let h = t.head in
+    let n = blocks_of h in
+    let limit = c.args.part.now.limit in
+    let keep = c.parts.invariant in
+    let read = c.read_mcus-more in
+    let some = c.min-some.result in
+    let done = c.parts.done in
+    let from = mcus_to h c.args.self.now.cursor in
+    let hd = c.head-head.result.now in
+    let here : hd ≡ h = search rules in
+    let new = c.transform_blocks.new.units in
+    let old = c.parts.lines in
+    let positive : 0 < n = search (rules, arith) in
+    let long : length read.new.blocks ≡ some * n = search (rules, arith) in
+    let kept : (k : ℕ) → k < done * n → slice_index_or (units_in h new.groups) k [] ≡ slice_index_or (units_in h old.groups) k [] =
+    subst (λ (x : HeadValue). (k : ℕ) → k < done * blocks_of x → slice_index_or (units_in x new.groups) k [] ≡ slice_index_or (units_in x old.groups) k []) here c.transform_blocks.ensures.kept in
+    let put : (k : ℕ) → k < length read.new.blocks → slice_index_or (units_in h new.groups) (done * n + k) [] ≡ unit_of h read.new.blocks k =
+    subst (λ (x : HeadValue). (k : ℕ) → k < length read.new.blocks → slice_index_or (units_in x new.groups) (done * blocks_of x + k) [] ≡ unit_of x read.new.blocks k) here c.transform_blocks.ensures.here in
+    let shows : ShowsBehind t limit (from + done) (done * n) some (units_in h new.groups) =
+    subst (λ (m : ℕ). ShowsBehind t limit m (done * n) some (units_in h new.groups)) keep.moved (λ b first k lt. put k (omega (arith, lt, long)) ∙ read.ensures.gives b first k lt) in
+    let puts = read.ensures.puts in
+    record {
+      within = search (rules, arith);
+      near = search (rules, arith);
+      room = subst (λ (x : HeadValue). HasLines x new) here c.transform_blocks.ensures.room;
+      row = keep.row;
+      stands = read.ensures.stands;
+      moved = omega (arith, read.ensures.moved, keep.moved);
+      shows = λ b first. shown_more n done some from (unit_shown b) (λ k. slice_index_or (units_in h old.groups) k []) (λ k. slice_index_or (units_in h new.groups) k []) positive (keep.shows b first) kept (shows b first);
+      counts = counts_both t limit _ _ _ c.parts.marked read.result c.with-marked.result keep.counts read.ensures.counts c.with-marked.ensures.sound c.with-marked.ensures.damaged;
+      places = λ there. puts.long ∙ keep.places (omega (arith, there, puts.long));
+      puts = puts_both t limit _ _ _ c.args.marks.now c.parts.marks read.new.marks (omega (arith, keep.counts.few)) keep.puts puts;
+    }
+
 pub returns-clause-units : goal.returns-clause-units
 returns-clause-units c =
-    let r = c.args.self.now in
-    let t = r.scan in
+    let t = c.args.part.now.scan in
     let h = t.head in
-    let n = r.limit in
+    let n = c.args.part.now.limit in
+    let row = c.args.self.now.row in
     let per = blocks_of h in
-    let us = units_in h c.decode-marked.new.lines.groups in
+    let us = units_in h c.parts.lines.groups in
     let all = units_in h c.fill_blank.new.self.groups in
     let coded = c.coded_of_row-coded.result in
-    let coded_is : coded ≡ coded_in h n r.row = search rules in
+    let coded_is : coded ≡ coded_in h n row = search rules in
+    let done_is : c.parts.done ≡ coded = omega (arith, c.parts.invariant.within, c.parts-test.false) in
     let few : coded ≤ mcus_across h = search rules in
     let some : 0 < per = search (rules, arith) in
-    let i = c.self.inside in
-    let scan : i.mcus.scan ≡ t = ap (λ (u : RowsValue). u.scan) c.self.view_is in
-    let limit : i.mcus.limit ≡ n = ap (λ (u : RowsValue). u.limit) c.self.view_is in
-    let at : mcus_read i.mcus ≡ coded_before h n r.row = search rules in
-    let of_scan = subst (λ (s : ScanValue). ShowsFirstUnits s i.mcus.limit (mcus_read i.mcus) coded (units_in s.head c.decode-marked.new.lines.groups)) scan c.decode-marked.ensures.shows in
-    let of_first = subst (λ (k : ℕ). ShowsFirstUnits t k (mcus_read i.mcus) coded us) limit of_scan in
-    let from = subst (λ (k : ℕ). ShowsFirstUnits t n k coded us) at of_first in
+    let at : mcus_to h c.args.self.now.cursor ≡ coded_before h n row = c.requires.rows.at in
+    let from = subst (λ (m : ℕ). ShowsFirstUnits t n m c.parts.done us) at c.parts.invariant.shows in
+    let done = subst (λ (m : ℕ). ShowsFirstUnits t n (coded_before h n row) m us) done_is from in
     let head : c.head-head.result.now ≡ h = search rules in
     let kept : (k : ℕ) → k < coded * per → k < mcus_across h * per → slice_index_or all k [] ≡ slice_index_or us k [] = rw head at c.fill_blank.ensures.kept in
     let blank : (k : ℕ) → coded * per ≤ k → k < mcus_across h * per → slice_index_or all k [] ≡ unit_shown_of h (k % per) None 0 = rw head at c.fill_blank.ensures.blank in
     let most : coded * per ≤ mcus_across h * per = mul-le-mul_right {m = coded} {n = mcus_across h} per few in
-    let shows : ShowsFirstUnits t n (coded_before h n r.row) coded all = λ b first k lt. kept k lt (omega (arith, lt, most)) ∙ from b first k lt in
-    row_shown t n r.row c.requires.row some all (units_long h c.fill_blank.new.self.groups)
-    (subst (λ (k : ℕ). ShowsFirstUnits t n (coded_before h n r.row) k all) coded_is shows)
+    let shows : ShowsFirstUnits t n (coded_before h n row) coded all = λ b first k lt. kept k lt (omega (arith, lt, most)) ∙ done b first k lt in
+    row_shown t n row c.requires.row some all (units_long h c.fill_blank.new.self.groups)
+    (subst (λ (k : ℕ). ShowsFirstUnits t n (coded_before h n row) k all) coded_is shows)
     (λ k le lt. blank k (omega (arith, le, ap (λ (m : ℕ). m * per) coded_is)) (omega (arith, lt, units_long h c.fill_blank.new.self.groups)))
+
+-- where the cursor is once the row is decoded
+pub returns-clause-counts : goal.returns-clause-counts
+returns-clause-counts c =
+    let t = c.args.part.now.scan in
+    let h = t.head in
+    let n = c.args.part.now.limit in
+    let row = c.args.self.now.row in
+    let moved : coded_before h n row + c.coded_of_row-coded.result ≡ coded_before h n (row + 1) = search rules in
+    let to : mcus_to h c.parts.self.cursor ≡ coded_before h n (row + 1) = omega (arith, moved, c.requires.rows.at, c.parts.invariant.moved, c.parts.invariant.within, c.parts-test.false) in
+    let here = subst (λ (m : ℕ). CountsMarks t n (intervals_before h m) (intervals_before h (mcus_to h c.parts.self.cursor)) c.parts.marked) c.requires.rows.at c.parts.invariant.counts in
+    subst (λ (m : ℕ). CountsMarks t n (intervals_before h (coded_before h n row)) (intervals_before h m) c.parts.marked) to here
+
+pub returns-clause-puts : goal.returns-clause-puts
+returns-clause-puts c =
+    let t = c.args.part.now.scan in
+    let h = t.head in
+    let n = c.args.part.now.limit in
+    let row = c.args.self.now.row in
+    let moved : coded_before h n row + c.coded_of_row-coded.result ≡ coded_before h n (row + 1) = search rules in
+    let to : mcus_to h c.parts.self.cursor ≡ coded_before h n (row + 1) = omega (arith, moved, c.requires.rows.at, c.parts.invariant.moved, c.parts.invariant.within, c.parts-test.false) in
+    let here = subst (λ (m : ℕ). PutsMarks t n (intervals_before h m) (intervals_before h (mcus_to h c.parts.self.cursor)) c.args.marks.now c.parts.marks) c.requires.rows.at c.parts.invariant.puts in
+    subst (λ (m : ℕ). PutsMarks t n (intervals_before h (coded_before h n row)) (intervals_before h m) c.args.marks.now c.parts.marks) to here

@@ -7,17 +7,16 @@ use Rattle.jr_scan.specs.ScanValue.{ScanValue}
 use Rattle.jr_rows.specs.Bands.{ShowsMcus}
 use Rattle.jr_rows.specs.Groups.{units_in}
 use Rattle.jr_rows.specs.Rows.{first_line, line_count}
-use Rattle.jr_rows.specs.RowsValue.{RowsValue}
 use Rattle.jr_rows.proofs.Lent.{all_back}
 use Rattle.jr_rows.proofs.sample_row.SampleRow.paint.Goals as goal
 
 pub returns-clause-lines : goal.returns-clause-lines
 returns-clause-lines c b first =
-    let h = c.args.rows.now.scan.head in
+    let h = c.args.part.now.scan.head in
     let groups = c.decode-marked.new.lines.groups in
-    let g = c.head.result.now in
+    let g = c.head-head.result.now in
     let row = c.row-row.result in
-    let head : g ≡ h = c.head.ensures ∙ ap (λ (r : RowsValue). r.scan.head) c.decode-marked.ensures.moved in
+    let head : g ≡ h = search rules in
     let own : b.scan.head ≡ g = ap (λ (s : ScanValue). s.head) first.scan_is ∙ sym head in
     let at = subst (λ (r : ℕ). ShowsMcus b (r * mcus_across h) (units_in h groups)) (sym c.row-row.ensures) (c.decode-marked.ensures.units b first) in
     let there = subst (λ (k : HeadValue). ShowsMcus b (row * mcus_across k) (units_in k groups)) (sym head) at in

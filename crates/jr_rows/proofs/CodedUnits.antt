@@ -1,0 +1,48 @@
+-- What the MCUs of an interval show: those that are there, and those behind the last whole one.
+use Rattle.std.proofs.Common.{◌≡◌, ℕ, ◌+◌, ◌-◌, ◌*◌, ◌<◌, ◌≤◌, List, [], ◌++◌, length, get_or, refl, sym, ap, ◌∙◌, arith}
+use Rattle.std.specs.Prelude.{ℤ}
+use Rattle.std.proofs.lemmas.List.{get_or-append_right}
+use Rattle.std.proofs.Math.Nat.{add-mul, mul-le-mul_right}
+use Rattle.jr_head.specs.Geometry.{IsLawful, order_of, quantiser_of}
+use Rattle.jr_idct.specs.Transform.{samples}
+use Rattle.jr_mcu.specs.Mcus.{component}
+use Rattle.jr_scan.specs.declared.place.Place.{Place}
+use Rattle.jr_scan.specs.declared.place.RunEnd.TheVariants.{AllRead}
+use Rattle.jr_scan.specs.IntervalValue.{IntervalValue}
+use Rattle.jr_scan.specs.Mcus.{LongestFront}
+use Rattle.jr_scan.specs.Run.{IsRun, run_from}
+use Rattle.jr_piece.specs.PieceValue.{PieceValue}
+use Rattle.jr_piece.specs.Outcome.{IsOutcome, unit_of}
+use Rattle.jr_piece.specs.Strips.{FirstMcus, IsNext}
+use Rattle.jr_piece.specs.Units.{grey_unit, unit_in_piece}
+use Rattle.jr_piece.proofs.ScanLaws.{one_front, one_run, runs_meet, shorter_front}
+use Rattle.jr_piece.proofs.Strips.{component_on}
+use Rattle.jr_piece.proofs.StripRuns as runs
+use Rattle.jr_piece.proofs.UnitReading.{shown, behind}
+
+-- those that are there
+module _ (i : IntervalValue) (lawful : IsLawful i.head) (first : ℕ) (zs : List (List ℤ)) (p : Place) (next : IsNext i first zs p) (n : ℕ) (ys : List (List ℤ)) (q : Place) (run : IsRun (run_from i p n) ys q AllRead) (few : first + n ≤ i.mcus) where
+  abbrev per : ℕ
+  per = length (order_of i.head)
+
+  here : FirstMcus (run_from i p n) n ys
+  here = record { to = q; run = run; none = λ lt. absurd (omega (arith, lt)) }
+
+  block_there : (k : ℕ) → get_or ys k [] ≡ get_or (zs ++ ys) (first * per + k) []
+  block_there k =
+      let long : length zs ≡ first * per = next.run.mcus.0 ∙ ap (λ (m : ℕ). m * per) next.run.ends in
+      let there : first * per + k - length zs ≡ k = omega (arith, long) in
+      sym (get_or-append_right zs ys (length zs) (first * per + k) [] refl (omega (arith, long)) ∙ ap (λ (m : ℕ). get_or ys m []) there)
+
+  pub whole_codes : (o : PieceValue) → o.interval ≡ i → IsOutcome o → (k : ℕ) → k < n * per → unit_of i.head ys k ≡ unit_in_piece o (first * per + k)
+  whole_codes o same is k lt =
+      let front = runs.front one_run runs_meet shorter_front i lawful first zs p next n n ys here few in
+      ap (λ (z : List ℤ). samples z (quantiser_of i.head (component i.head k))) (block_there k)
+      ∙ ap (λ (c : ℕ). samples (get_or (zs ++ ys) (first * per + k) []) (quantiser_of i.head c)) (sym (component_on i.head first k))
+      ∙ shown one_front shorter_front i o same is (first + n) (zs ++ ys) front (first * per + k) (omega (arith, lt, add-mul first n per))
+
+-- those behind the last whole one
+pub grey_codes : (i : IntervalValue) (front mcu : ℕ) (zs : List (List ℤ)) → front ≤ mcu → LongestFront i front zs → (o : PieceValue) → o.interval ≡ i → IsOutcome o → (k : ℕ) → grey_unit ≡ unit_in_piece o (mcu * length (order_of i.head) + k)
+grey_codes i front mcu zs le longest o same is k =
+    let past : front * length (order_of i.head) ≤ mcu * length (order_of i.head) = mul-le-mul_right {m = front} {n = mcu} (length (order_of i.head)) le in
+    behind one_front shorter_front i o same is front zs longest (mcu * length (order_of i.head) + k) (omega (arith, past))

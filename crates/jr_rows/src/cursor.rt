@@ -1,0 +1,151 @@
+//! A position between two MCUs of a scan, from which one can read or skip.
+
+ghost use Rattle.std.specs.Prelude.{◌≡◌, ◌+◌, ◌*◌, ◌<◌, ◌≤◌, ℕ, Some, None, [], length, slice_index_or, IfSome};
+ghost use Rattle.jr_head.specs.Geometry.{order_of};
+ghost use Rattle.jr_scan.specs.declared.place.Place.{Place};
+ghost use Rattle.jr_scan.specs.Guesses.{AreGuessesOf};
+ghost use Rattle.jr_scan.specs.Run.{start_of_interval};
+ghost use Rattle.jr_piece.specs.Outcome.{IsOutcome};
+ghost use Rattle.jr_piece.specs.PieceValue.{PieceValue};
+ghost use Rattle.jr_piece.specs.Strips.{CanReadFrom, units_before};
+ghost use Rattle.jr_piece.specs.Units.{CodesUnits, zero_block};
+ghost use Rattle.jr_rows.specs.Cursors.{IsPlaceAfter};
+
+use jr_base::Coefficients;
+use jr_scan::{Guesses, IntervalRef, McuReader, Place};
+
+/// A position between two MCUs of a scan.
+#[derive(Clone, Copy)]
+pub struct Cursor {
+    /// The interval.
+    pub(crate) number: u32,
+    /// The number of its MCUs that are read, those after its front among them.
+    pub(crate) mcu: u32,
+    /// Where the next MCU starts; none where no further one is whole.
+    pub(crate) place: Option<Place>,
+}
+
+/// Makes the blocks from one on zeros.
+pub(crate) fn zero_from(blocks: &mut [Coefficients], first: usize)
+    requires { first ≤ length blocks.old }
+    ensures kept { (k : ℕ) → k < first → slice_index_or blocks.new k [] ≡ slice_index_or blocks.old k [] }
+    ensures zeros { (k : ℕ) → first ≤ k → k < length blocks.new → slice_index_or blocks.new k [] ≡ zero_block }
+{
+    for k in first..blocks.len() {
+        blocks[k] = Coefficients::zeros();
+    }
+}
+
+/// Returns where a reader is that has read `whole` of `mcus` MCUs, unless these are fewer.
+fn place_after(reader: &McuReader<'_>, whole: u32, mcus: u32) -> Option<Place>
+    requires { whole ≤ mcus }
+    ensures whole { (p : Place) → result ≡ Some p → whole ≡ mcus }
+    ensures place { (p : Place) → result ≡ Some p → p ≡ reader.now.place }
+    ensures can { (p : Place) → result ≡ Some p → CanReadFrom reader.now.run.interval p }
+    ensures none { result ≡ None → whole < mcus }
+{
+    if whole < mcus {
+        return None;
+    }
+    Some(reader.place())
+}
+
+impl Cursor {
+    /// Returns the start of an interval.
+    pub(crate) fn at_start(number: u32) -> Cursor
+        ensures number { result.number ≡ number }
+        ensures mcu { result.mcu ≡ 0 }
+        ensures place { result.place ≡ Some start_of_interval }
+    {
+        Cursor {
+            number,
+            mcu: 0,
+            place: Some(Place::start()),
+        }
+    }
+
+    /// Reads the coefficients of the next MCUs of the interval; the slice has room for just these. Those of an MCU that is not
+    /// whole, and all after it, are zeros, whose samples are grey. The guesses change nothing of what is read.
+    pub(crate) fn read(
+        &mut self,
+        interval: IntervalRef<'_>,
+        guesses: Option<&Guesses>,
+        mcus: u32,
+        blocks: &mut [Coefficients],
+    )
+        requires at { IsPlaceAfter interval self.old.mcu self.old.place }
+        requires few { self.old.mcu + mcus ≤ interval.mcus }
+        requires room { length blocks.old ≡ mcus * length (order_of interval.head) }
+        requires same { IfSome guesses (λ g. AreGuessesOf interval g.now) }
+        ensures at { IsPlaceAfter interval.entry self.new.mcu self.new.place }
+        ensures number { self.new.number ≡ self.old.number }
+        ensures mcu { self.new.mcu ≡ self.old.mcu + mcus }
+        ensures blocks { (p : PieceValue) → IsOutcome p → p.interval ≡ interval.entry
+            → CodesUnits p (units_before interval.entry self.old.mcu) blocks.new }
+    {
+        let per_mcu = interval.head().order().len();
+        self.mcu += mcus;
+        let Some(place) = self.place else {
+            zero_from(blocks, 0);
+            return;
+        };
+        let mut reader = McuReader::at(interval, place, mcus);
+        let whole = match guesses {
+            Some(guesses) => reader.read_by(guesses, blocks),
+            None => reader.read(blocks),
+        };
+        self.place = place_after(&reader, whole, mcus);
+        zero_from(blocks, whole as usize * per_mcu);
+    }
+
+    /// Skips the next MCUs of the interval.
+    pub(crate) fn skip(&mut self, interval: IntervalRef<'_>, guesses: Option<&Guesses>, mcus: u32)
+        requires at { IsPlaceAfter interval self.old.mcu self.old.place }
+        requires few { self.old.mcu + mcus ≤ interval.mcus }
+        requires same { IfSome guesses (λ g. AreGuessesOf interval g.now) }
+        ensures at { IsPlaceAfter interval.entry self.new.mcu self.new.place }
+        ensures number { self.new.number ≡ self.old.number }
+        ensures mcu { self.new.mcu ≡ self.old.mcu + mcus }
+    {
+        // By its contract an interval's head is lawful.
+        let _lawful = interval.head();
+        self.mcu += mcus;
+        let Some(place) = self.place else {
+            return;
+        };
+        let mut reader = McuReader::at(interval, place, mcus);
+        let whole = match guesses {
+            Some(guesses) => reader.skip_by(guesses, mcus),
+            None => reader.skip(mcus),
+        };
+        self.place = place_after(&reader, whole, mcus);
+    }
+
+    /// Returns whether the interval has a decoding, once all its MCUs are read.
+    pub(crate) fn is_sound(&self, interval: &IntervalRef<'_>) -> bool
+        requires at { IsPlaceAfter interval.now self.now.mcu self.now.place }
+        requires all { self.now.mcu ≡ interval.now.mcus }
+        ensures { (p : PieceValue) → IsOutcome p → p.interval ≡ interval.now → p.is_sound ≡ result }
+    {
+        // By its contract an interval's head is lawful.
+        let _lawful = interval.head();
+        let Some(place) = self.place else {
+            return false;
+        };
+        let bits = 8 * interval.bytes().len() as u64;
+        bits.saturating_sub(place.bit) < 8
+    }
+
+    /// Returns where reading goes on, of an interval with `mcus` MCUs: the number of an interval, and the bit.
+    pub(crate) fn next_start(&self, mcus: u32) -> (u32, u64) {
+        let next = (self.number.saturating_add(1), 0);
+        let Some(place) = self.place else {
+            return next;
+        };
+        if self.mcu < mcus {
+            (self.number, place.bit)
+        } else {
+            next
+        }
+    }
+}
