@@ -122,10 +122,9 @@ impl<'a, S: OneFirstIntervals> Crew<'a, S> {
             queue.has_no_task(scan) && !queue.has_spare()
         });
         queue.waiting = queue.waiting.saturating_sub(1);
-        if queue.is_idle(scan) {
-            queue.spare(self.alloc)
-        } else {
-            queue.task(&self.part)
+        match queue.task(&self.part) {
+            Some(task) => Some(task),
+            None => queue.spare(self.alloc),
         }
     }
 

@@ -140,7 +140,7 @@ impl<S: OneFirstIntervals> RowQueue<S> {
         Ok(())
     }
 
-    /// The first of these rows may begin.
+    /// The first of these rows may begin, in the place of others.
     pub(crate) fn start(&mut self, baton: Option<Baton<S>>) {
         drop(replace(&mut self.baton, baton));
     }
@@ -215,11 +215,6 @@ impl<S: OneFirstIntervals> RowQueue<S> {
         let guesses = self.guesses.for_next(part.scan());
         let baton = baton.with_guesses(part, number, guesses);
         Some(BegunRow { baton, bench })
-    }
-
-    /// Whether nothing is to be done now, or all is over.
-    pub(crate) fn is_idle(&self, scan: &Scan) -> bool {
-        matches!(self.choice(scan), Choice::Wait | Choice::End)
     }
 
     /// What a thread does next. None where it has to wait, or all is over.

@@ -84,13 +84,14 @@ impl<S: OneScan> GuessQueue<S> {
     pub fn none(alloc: Global) -> GuessQueue<S>
         ensures { result.at ≡ (0, 0) }
     {
+        let start = (0, 0);
         GuessQueue {
             limit: 0,
             slots: Vec::new(alloc),
             lacking: 0,
             most: 0,
-            at: (0, 0),
-            next: (0, 0),
+            at: start,
+            next: start,
             step_bits: LEAST_BITS,
         }
     }

@@ -135,9 +135,7 @@ impl<S: OneScan> Job<S> {
     }
 
     /// Reads a strip or passes over it, and wakes whoever waits for one.
-    fn read<R: Wait>(&self, rt: &R, alloc: Global, scan: &Scan, mut reading: Reading<S>)
-        requires { S.scan ≡ Some scan.now }
-    {
+    fn read<R: Wait>(&self, rt: &R, alloc: Global, scan: &Scan, mut reading: Reading<S>) {
         let next = reading.next(alloc);
         let is_over = self.progress.lock(rt).put(scan, reading, next);
         if is_over {
@@ -220,7 +218,10 @@ impl<S: OneScan> Job<S> {
     {
         self.bring(rt, alloc, scan);
         for _ in 0..MOST_TASKS {
-            match self.task(rt, scan)? {
+            let Some(task) = self.task(rt, scan) else {
+                return None;
+            };
+            match task {
                 StripTask::Read(reading) => self.read(rt, alloc, scan, reading),
                 StripTask::Guess(task) => self.guess(rt, scan, task),
                 StripTask::Decode(waiting) => {

@@ -5,7 +5,7 @@ use Rattle.jr_head.specs.HeadValue.{HeadValue}
 use Rattle.jr_head.specs.Geometry.{order_of}
 use Rattle.jr_scan.specs.declared.guessed.Guessed.{Guessed}
 use Rattle.jr_mcu.specs.Mcus.{no_predictions, TakesMcu, predicted}
-use Rattle.jr_scan.specs.Guess.{GuessValue, IsGuessOf, AreLastBits}
+use Rattle.jr_scan.specs.Guess.{IsGuessOf}
 use Rattle.jr_scan.proofs.KeptMcus.{either, guess_of, kept_before, kept_more, last_few, last_behind, guessed}
 use Rattle.jr_scan.proofs.guess.Guess.keep.Goals as goal
 
