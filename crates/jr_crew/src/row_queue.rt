@@ -271,7 +271,7 @@ impl<S: OneFirstIntervals> RowQueue<S> {
 
     /// Memory that nobody needs any more, where there is some, for a thread that has nothing else to do: room for guesses first, since
     /// it is more than that of a bench.
-    pub(crate) fn spare(&mut self, alloc: Global) -> Option<RowTask<'a, S>> {
+    pub(crate) fn spare(&mut self, alloc: Global) -> Option<RowTask<S>> {
         if !self.is_begun {
             return None;
         }
