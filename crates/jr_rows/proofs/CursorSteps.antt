@@ -2,7 +2,6 @@
 use Rattle.std.proofs.Common.{◌≡◌, ℕ, ◌+◌, ◌-◌, ◌*◌, ◌<◌, ◌≤◌, Bool, true, false, inl, inr, Option, Some, None, List, [], ◌++◌, length, get_or, take, refl, sym, ap, subst, ◌∙◌, arith}
 use Rattle.std.specs.Prelude.{ℤ}
 use Rattle.std.proofs.lemmas.Bool.{cases_lt}
-use Rattle.std.proofs.lemmas.List.{get_or-take}
 use Rattle.std.proofs.Math.Nat.{add-mul, mul-le-mul_right}
 use Rattle.jr_head.specs.Geometry.{IsLawful, order_of, quantiser_of}
 use Rattle.jr_idct.specs.Transform.{samples}
@@ -19,7 +18,7 @@ use Rattle.jr_scan.proofs.McuReaders.{front_of_run, left_is}
 use Rattle.jr_piece.specs.PieceValue.{PieceValue}
 use Rattle.jr_piece.specs.Outcome.{IsOutcome, unit_of}
 use Rattle.jr_piece.specs.Strips.{CanReadFrom, FirstMcus, IsNext, units_before}
-use Rattle.jr_piece.specs.Units.{CodesUnits, grey_unit, unit_in_piece, zero_block}
+use Rattle.jr_piece.specs.Units.{CodesUnits, unit_in_piece, zero_block}
 use Rattle.jr_piece.proofs.ScanLaws as laws
 use Rattle.jr_piece.proofs.StripRuns as runs
 use Rattle.jr_piece.proofs.UnitReading.{tells, zero_unit}

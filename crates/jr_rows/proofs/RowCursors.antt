@@ -1,5 +1,5 @@
 -- Where the cursor of a row of MCUs is.
-use Rattle.std.proofs.Common.{◌≡◌, ℕ, ◌+◌, ◌*◌, ◌<◌, Some, length, sym, ap, subst, ◌∙◌, arith}
+use Rattle.std.proofs.Common.{◌≡◌, ℕ, ◌+◌, ◌*◌, ◌<◌, Some, length, ap, arith}
 use Rattle.jr_head.specs.HeadValue.{HeadValue}
 use Rattle.jr_scan.specs.Run.{start_of_interval}
 use Rattle.jr_scan.specs.ScanValue.{ScanValue, interval_of}

@@ -2,7 +2,7 @@
 
 ghost use Rattle.std.specs.Prelude.{◌≡◌, ◌+◌, ◌*◌, ◌<◌, ◌≤◌, length, IfSome};
 ghost use Rattle.jr_head.specs.Geometry.{blocks_of, mcus_of};
-ghost use Rattle.jr_scan.specs.ScanValue.{intervals_of, mcus_in};
+ghost use Rattle.jr_scan.specs.ScanValue.{interval_of, intervals_of, mcus_in};
 ghost use Rattle.jr_rows.specs.Cursors.{AreGuessesIn, IsCursorOf, mcus_to};
 ghost use Rattle.jr_rows.specs.MarkBytes.{HasMarkRoom, PutsMarks, PutsMcus};
 ghost use Rattle.jr_rows.specs.Rows.{CountsMarks, CountsMcus, GivesMcus, intervals_before, mcus_before};
@@ -14,7 +14,7 @@ use crate::mark_bytes::put_mark;
 use crate::marked::Marked;
 use crate::shape::units_to;
 use jr_base::Coefficients;
-use jr_scan::Scan;
+use jr_scan::{IntervalRef, Scan};
 
 impl Cursor {
     /// Goes on to the next interval where this one is read to its end. Returns the number of its MCUs that are left.
@@ -38,7 +38,13 @@ impl Cursor {
     }
 
     /// Returns the mark of the interval, where it is read to its end, and puts it into its place in `marks`, where these are asked for.
-    fn marked(&self, part: &FirstIntervals<'_>, marks: &mut [u8]) -> Marked
+    fn marked(
+        &self,
+        part: &FirstIntervals<'_>,
+        interval: &IntervalRef<'_>,
+        marks: &mut [u8],
+    ) -> Marked
+        requires interval { interval.now ≡ interval_of part.now.scan self.now.number }
         requires stands { IsCursorOf part.now.scan self.now }
         requires decoded { self.now.number < part.now.limit }
         requires some { 0 < self.now.mcu }
@@ -48,11 +54,10 @@ impl Cursor {
     {
         // By their contracts a scan has as many intervals as its head says, and a picture has an MCU.
         let _counts = (part.scan().intervals(), part.scan().head().mcus());
-        let interval = part.scan().interval_ref(self.number);
         if self.mcu < interval.mcus() {
             return Marked::none();
         }
-        let is_sound = self.is_sound(&interval);
+        let is_sound = self.is_sound(interval);
         put_mark(is_sound, self.number, marks);
         Marked::one(is_sound)
     }
@@ -89,8 +94,8 @@ impl Cursor {
             let end = units_to(done + some, mcus, per_mcu);
             let own = of_interval(guesses, self.number);
             let interval = scan.interval_ref(self.number);
-            self.read(interval, own, some, &mut blocks[from..end]);
-            let more = self.marked(part, marks);
+            self.read(interval.again(), own, some, &mut blocks[from..end]);
+            let more = self.marked(part, &interval, marks);
             marked = marked.with(more);
             done += some;
         }

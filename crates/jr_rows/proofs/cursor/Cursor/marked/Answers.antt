@@ -2,7 +2,7 @@ use Rattle.std.proofs.Common.{rules, arith, sym, subst, cond, ap, ◌∙◌, ◌
 use Rattle.std.specs.Prelude.{slice_index}
 use Rattle.jr_head.specs.Geometry.{mcus_of}
 use Rattle.jr_scan.specs.IntervalValue.{IntervalValue}
-use Rattle.jr_scan.specs.ScanValue.{ScanValue, intervals_of, interval_of, mcus_in}
+use Rattle.jr_scan.specs.ScanValue.{intervals_of, interval_of, mcus_in}
 use Rattle.jr_piece.specs.PieceValue.{PieceValue}
 use Rattle.jr_piece.specs.Outcome.{IsOutcome}
 use Rattle.jr_picture.specs.declared.mark.Mark.TheVariants.{Sound, Damaged}
@@ -36,7 +36,7 @@ returns-clause-counts c =
     let n = c.args.part.now.limit in
     let number : r.number < intervals_of t.head = search (rules, arith, c.requires.stands.number) in
     let some : 0 < mcus_of t.head = search (rules, arith) in
-    let interval : c.interval_ref-interval.result ≡ interval_of t r.number = c.interval_ref-interval.ensures ∙ ap (λ (s : ScanValue). interval_of s r.number) c.scan-3.ensures in
+    let interval = c.requires.interval in
     let all : r.mcu ≡ mcus_in t.head r.number = omega (arith, c.requires.stands.at.few, c.if-self-mcus.false, c.mcus-2.ensures, ap (λ (i : IntervalValue). i.mcus) interval) in
     let tells : (p : PieceValue) → IsOutcome p → p.interval ≡ interval_of t r.number → p.is_sound ≡ c.is_sound-is_sound.result = λ p o e. c.is_sound-is_sound.ensures p o (e ∙ sym interval) in
     let sound : c.one.result.sound ≡ cond {A = ℕ} c.is_sound-is_sound.result 1 0 = search (rules, c.one.ensures.sound) in
@@ -51,7 +51,7 @@ returns-clause-puts c =
     let n = c.args.part.now.limit in
     let number : r.number < intervals_of t.head = search (rules, arith, c.requires.stands.number) in
     let some : 0 < mcus_of t.head = search (rules, arith) in
-    let interval : c.interval_ref-interval.result ≡ interval_of t r.number = c.interval_ref-interval.ensures ∙ ap (λ (s : ScanValue). interval_of s r.number) c.scan-3.ensures in
+    let interval = c.requires.interval in
     let all : r.mcu ≡ mcus_in t.head r.number = omega (arith, c.requires.stands.at.few, c.if-self-mcus.false, c.mcus-2.ensures, ap (λ (i : IntervalValue). i.mcus) interval) in
     let tells : (p : PieceValue) → IsOutcome p → p.interval ≡ interval_of t r.number → p.is_sound ≡ c.is_sound-is_sound.result = λ p o e. c.is_sound-is_sound.ensures p o (e ∙ sym interval) in
     let put : 0 < length c.args.marks.now → slice_index c.put_mark.new.marks r.number ≡ mark_byte (cond c.is_sound-is_sound.result Sound Damaged) = λ there. c.put_mark.ensures.put there in

@@ -35,7 +35,7 @@ pub read-requires-clause-same : goal.read-requires-clause-same
 read-requires-clause-same c =
     let t = c.args.part.now.scan in
     let r = c.ready.new.self in
-    let interval : c.interval_ref-interval.result ≡ interval_of t r.number = c.interval_ref-interval.ensures ∙ ap (λ (s : ScanValue). interval_of s r.number) c.scan-scan.ensures in
+    let interval : c.again.result ≡ interval_of t r.number = c.again.ensures ∙ c.interval_ref-interval.ensures ∙ ap (λ (s : ScanValue). interval_of s r.number) c.scan-scan.ensures in
     subst (λ (i : IntervalValue). IfSome c.of_interval-own.result (λ g. AreGuessesOf i g.now)) (sym interval) (c.of_interval-own.ensures t c.requires.same)
 
 pub marked-more-requires-clause-decoded : goal.marked-more-requires-clause-decoded
@@ -87,7 +87,7 @@ intervals-preserved c =
     let start_is : start ≡ done * n = search rules in
     let long : length sub ≡ mcus * n = search (rules, arith) in
     let inside : start ≤ length old = search (rules, arith) in
-    let interval : c.interval_ref-interval.result ≡ interval_of t r.number = c.interval_ref-interval.ensures ∙ ap (λ (s : ScanValue). interval_of s r.number) c.scan-scan.ensures in
+    let interval : c.again.result ≡ interval_of t r.number = c.again.ensures ∙ c.interval_ref-interval.ensures ∙ ap (λ (s : ScanValue). interval_of s r.number) c.scan-scan.ensures in
     let codes : (p : PieceValue) → IsOutcome p → p.interval ≡ interval_of t r.number → CodesUnits p (units_before (interval_of t r.number) r.mcu) sub =
     subst (λ (i : IntervalValue). (p : PieceValue) → IsOutcome p → p.interval ≡ i → CodesUnits p (units_before i r.mcu) sub) interval c.read.ensures.blocks in
     let part : (k : ℕ) → k < length sub → slice_index_or new (done * n + k) [] ≡ slice_index_or sub k [] =

@@ -1,4 +1,4 @@
-use Rattle.std.proofs.Common.{sym, subst, ◌≡◌, ℕ, []}
+use Rattle.std.proofs.Common.{sym, subst, []}
 use Rattle.jr_head.specs.Geometry.{IsLawful}
 use Rattle.jr_scan.specs.McuReader.{McuReaderValue}
 use Rattle.jr_rows.proofs.CursorSteps.{HasSkipped, moved}

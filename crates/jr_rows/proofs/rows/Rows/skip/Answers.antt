@@ -1,7 +1,5 @@
-use Rattle.std.proofs.Common.{rules, arith, ◌+◌, ◌<◌, ◌≤◌, subst}
+use Rattle.std.proofs.Common.{rules, arith, ◌<◌}
 use Rattle.jr_head.specs.Geometry.{mcus_of}
-use Rattle.jr_scan.specs.ScanValue.{ScanValue}
-use Rattle.jr_rows.specs.Cursors.{mcus_to}
 use Rattle.jr_rows.proofs.IntervalPlaces.{first_few}
 use Rattle.jr_rows.proofs.rows.Rows.skip.Goals as goal
 
