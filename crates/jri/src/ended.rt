@@ -1,8 +1,10 @@
 //! How the program ends.
 
-ghost use Rattle.std.specs.Prelude.{◌≡◌};
+ghost use Rattle.std.specs.Prelude.{◌≡◌, IfOk, map};
 ghost use Rattle.std.specs.Process.{exit_status};
-ghost use Rattle.jri_words.specs.Steps.{Leaves, is_picture_status};
+ghost use Rattle.std.specs.String.{string_bytes};
+ghost use Rattle.jri_words.specs.CommandLine.{IsTargetOf};
+ghost use Rattle.jri_words.specs.Steps.{LeavesNamed, is_picture_status};
 
 use jri_engine::{Devices, program};
 use std::alloc::Global;
@@ -33,7 +35,7 @@ pub(crate) fn run<T: Threads + Wait + Sync, D: Devices, E: Write>(
     words: IoResult<Vec<String>>,
     errors: &mut E,
 ) -> Ended
-    ensures { Leaves (D.steps devices.old) (D.steps devices.new) (is_picture_status result.status) }
+    ensures { LeavesNamed (D.are_devices devices.old) (λ target. IfOk words (λ given. IsTargetOf (map string_bytes given.items) target)) (D.steps devices.old) (D.steps devices.new) (is_picture_status result.status) }
 {
     let status = program(rt, alloc, devices, words, errors);
     Ended { status }
