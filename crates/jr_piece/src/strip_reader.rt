@@ -216,11 +216,7 @@ impl StripReader {
     }
 
     /// The same, and passes over what the guesses have without reading it.
-    pub fn pass_by(
-        &mut self,
-        guesses: &Guesses,
-        most: u32,
-    ) -> Result<Option<PlacedStrip>, Memory>
+    pub fn pass_by(&mut self, guesses: &Guesses, most: u32) -> Result<Option<PlacedStrip>, Memory>
         requires { AreGuessesOf self.old.interval guesses.now }
         ensures interval { self.new.interval ≡ self.old.interval }
         ensures of { IfOk result (λ o. IfSome o (λ s. s.interval ≡ self.old.interval)) }

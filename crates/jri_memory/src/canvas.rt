@@ -21,7 +21,9 @@ use crate::room::{asked_for, lacks_room};
 use jr_base::Memory;
 use jr_head::{Head, Kind, Refusal};
 use jr_picture::Counts;
-use jr_rows::{FirstIntervals, Marked, Rows, SampleRow, bytes_of_row, counts_of, lines_of, shape_of};
+use jr_rows::{
+    FirstIntervals, Marked, Rows, SampleRow, bytes_of_row, counts_of, lines_of, shape_of,
+};
 use jr_scan::Scan;
 use jri_canvas::{CanvasLines, Pixels, have_places, lay_lines};
 use jri_file::scan_of_file;
