@@ -43,19 +43,29 @@ pub(crate) fn report_lines(alloc: Global, report: &DecodeReport) -> Result<Strin
     )
 }
 
-/// Returns the number of the interval that a line of a map is of.
-fn interval_of(line: &str) -> Result<usize, Failure> {
+/// Returns the first and the last interval that a line of a map is of.
+fn intervals_of(line: &str) -> Result<(usize, usize), Failure> {
     let (words, _rest) = line.split_once(',').ok_or(Failure::Malformed)?;
-    let (_word, digits) = words.split_once(' ').ok_or(Failure::Malformed)?;
-    Ok(digits.parse::<usize>()?)
+    let (_word, numbers) = words.split_once(' ').ok_or(Failure::Malformed)?;
+    let (first, last) = numbers.split_once(" to ").unwrap_or((numbers, numbers));
+    Ok((first.parse::<usize>()?, last.parse::<usize>()?))
+}
+
+/// Marks the intervals from one to another as damaged.
+fn mark_damaged(marks: &mut [u8], first: usize, last: usize) -> Result<(), Failure> {
+    for i in first..=last {
+        let mark = marks.get_mut(i).ok_or(Failure::Malformed)?;
+        *mark = 2;
+    }
+    Ok(())
 }
 
 /// Returns the marks of the given number of intervals: 2 for each of the map, and 1 for all others.
 fn marks_of(alloc: Global, intervals: u32, map: &str) -> Result<Vec<u8>, Failure> {
     let mut marks = vec![in alloc; 1; intervals as usize]?;
     for line in map.lines() {
-        let mark = marks.get_mut(interval_of(line)?).ok_or(Failure::Malformed)?;
-        *mark = 2;
+        let (first, last) = intervals_of(line)?;
+        mark_damaged(&mut marks, first, last)?;
     }
     Ok(marks)
 }
