@@ -13,7 +13,7 @@ use jr_rows::{FirstIntervals, IntervalGuesses, Rows, announce, intervals_of_row,
 use jr_scan::Guesses;
 use std::marker::{Model, PhantomData};
 
-/// A scan's rows from one of them on, which one thread at a time reads, and guesses that it goes over.
+/// The remaining rows of a scan, which one thread at a time reads, and the speculative reads that it uses.
 #[derive(Drop)]
 pub(crate) struct Baton<S: OneFirstIntervals> {
     rows: Rows,
@@ -96,8 +96,8 @@ impl<S: OneFirstIntervals> Baton<S> {
         }
     }
 
-    /// Tells the gate of the intervals that begin in the next row, and skips it. Returns the rows from it on, and those
-    /// after it.
+    /// Reports the intervals that begin in the next row to the gate, and skips the row. Returns the rows starting at that row, and
+    /// those after it.
     pub(crate) fn pass<G: Gate>(
         self,
         part: &FirstIntervals<'_>,

@@ -93,7 +93,7 @@ impl<'a, S: OneFirstIntervals> Crew<'a, S> {
         Ok(room)
     }
 
-    /// Brings so many benches.
+    /// Allocates `benches` row buffers and adds them to the queue.
     fn bring_benches<R: Wait>(&self, rt: &R, benches: u32) -> Result<(), Memory> {
         for _ in 0..benches {
             let Ok(bench) = Bench::open(self.alloc, &self.part) else {

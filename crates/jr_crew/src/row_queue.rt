@@ -103,7 +103,7 @@ pub(crate) struct RowQueue<S: OneFirstIntervals> {
 }
 
 impl<S: OneFirstIntervals> RowQueue<S> {
-    /// No row may begin yet. Threads bring so many benches, beside those of the calling one.
+    /// Returns a queue in which no row can begin yet. Helper threads allocate `lacking` row buffers, besides those of the caller.
     pub(crate) fn of(
         alloc: Global,
         lacking: u32,
@@ -128,7 +128,7 @@ impl<S: OneFirstIntervals> RowQueue<S> {
         }
     }
 
-    /// Takes memory for so many benches, and passed and coded rows: as many as there will be benches.
+    /// Allocates space for `count` row buffers, and for as many skipped and read rows.
     pub(crate) fn reserve(&mut self, count: u32) -> Result<(), Memory> {
         let count = count as usize;
         if self.free.reserve_exact(count).is_err()

@@ -46,7 +46,7 @@ pub record HasReadInto (r r' : McuReaderValue) (n : ℕ) (blocks : List (List �
   pub read : (zs : List (List ℤ)) → HasRead r zs → HasRead r' (zs ++ take (n * per_mcu r) blocks)
   pub ended : (n + 1) * per_mcu r ≤ length blocks → HasEnded r'
 
--- or has skipped n of at most so many
+-- or has skipped n of at most `most`
 pub record HasSkipped (r r' : McuReaderValue) (most n : ℕ) : Type 0 where
   pub run : r'.run ≡ r.run
   pub mcus : r'.mcu ≡ r.mcu + n
@@ -54,7 +54,7 @@ pub record HasSkipped (r r' : McuReaderValue) (most n : ℕ) : Type 0 where
   pub read : (zs : List (List ℤ)) → HasRead r zs → (ys : List (List ℤ)) × HasRead r' (zs ++ ys)
   pub ended : n < most → HasEnded r'
 
--- what a reader has read from a place on, that was to read so many MCUs
+-- what a reader that was to read `mcus` MCUs has read, starting at a place
 pub record GoesOn (i : IntervalValue) (p : Place) (r r' : McuReaderValue) (mcus n : ℕ) (ys : List (List ℤ)) : Type 0 where
   pub run : r.run ≡ run_from i p mcus
   pub start : r.mcu ≡ 0
@@ -174,6 +174,6 @@ module _ (s : ScanValue) (limit : ℕ) (old r : Cursor) (left : ℕ) (ready : Is
   pub decoded : (some : ℕ) → 0 < some → mcus_to s.head old + some ≤ mcus_before s.head limit → r.number < limit
   decoded some positive few = of_first s.head limit r.number r.mcu some ready.number positive (omega (arith, few, ready.to))
 
-  -- before it so many intervals end
+  -- the number of intervals that end before it
   pub ended : r.number ≡ intervals_before s.head (mcus_to s.head old)
   ended = sym (ends_before s.head r.number r.mcu ready.number (omega (arith, ready.left_is, ready.some))) ∙ ap (intervals_before s.head) ready.to

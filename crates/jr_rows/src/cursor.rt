@@ -25,7 +25,7 @@ pub struct Cursor {
     pub(crate) place: Option<Place>,
 }
 
-/// Makes the blocks from one on zeros.
+/// Fills the blocks starting at `first` with zeros.
 pub(crate) fn zero_from(blocks: &mut [Coefficients], first: usize)
     requires { first ≤ length blocks.old }
     ensures kept { (k : ℕ) → k < first → slice_index_or blocks.new k [] ≡ slice_index_or blocks.old k [] }
@@ -136,7 +136,7 @@ impl Cursor {
         bits.saturating_sub(place.bit) < 8
     }
 
-    /// Returns where reading goes on, of an interval with `mcus` MCUs: the number of an interval, and the bit.
+    /// Returns where reading continues, as the number of an interval and a bit. This interval has `mcus` MCUs.
     pub(crate) fn next_start(&self, mcus: u32) -> (u32, u64) {
         let next = (self.number.saturating_add(1), 0);
         let Some(place) = self.place else {

@@ -27,7 +27,7 @@ impl Cursor {
         ensures number { self.new.number < intervals_of scan.now.head }
         ensures to { mcus_to scan.now.head self.new ≡ mcus_to scan.now.head self.old }
     {
-        // By their contracts a scan has as many intervals as its head says, and a picture has an MCU.
+        // By contract the number of a scan's intervals is that of its header, and an image has an MCU.
         let _counts = (scan.intervals(), scan.head().mcus());
         let left = scan.head().mcus_in(self.number) - self.mcu;
         if left > 0 {
@@ -52,7 +52,7 @@ impl Cursor {
         ensures counts { CountsMarks part.now.scan part.now.limit self.now.number (intervals_before part.now.scan.head (mcus_to part.now.scan.head self.now)) result }
         ensures puts { PutsMarks part.now.scan part.now.limit self.now.number (intervals_before part.now.scan.head (mcus_to part.now.scan.head self.now)) marks.old marks.new }
     {
-        // By their contracts a scan has as many intervals as its head says, and a picture has an MCU.
+        // By contract the number of a scan's intervals is that of its header, and an image has an MCU.
         let _counts = (part.scan().intervals(), part.scan().head().mcus());
         if self.mcu < interval.mcus() {
             return Marked::none();
