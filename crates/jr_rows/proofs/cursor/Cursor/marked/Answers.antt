@@ -54,6 +54,6 @@ returns-clause-puts c =
     let interval = c.requires.interval in
     let all : r.mcu ≡ mcus_in t.head r.number = omega (arith, c.requires.stands.at.few, c.if-self-mcus.false, c.mcus-2.ensures, ap (λ (i : IntervalValue). i.mcus) interval) in
     let tells : (p : PieceValue) → IsOutcome p → p.interval ≡ interval_of t r.number → p.is_sound ≡ c.is_sound-is_sound.result = λ p o e. c.is_sound-is_sound.ensures p o (e ∙ sym interval) in
-    let put : 0 < length c.args.marks.now → slice_index c.put_mark.new.marks r.number ≡ mark_byte (cond c.is_sound-is_sound.result Sound Damaged) = λ there. c.put_mark.ensures.put there in
+    let put : 0 < length c.args.marks.now → slice_index c.put_mark.new.marks r.number ≡ mark_byte (cond c.is_sound-is_sound.result Sound Damaged) = λ there. search (rules, c.put_mark.ensures.put there) in
     subst (λ (to : ℕ). PutsMarks t n r.number to c.args.marks.now c.put_mark.new.marks) (sym (ends_with t.head r.number r.mcu some number all))
     (puts_one t n r.number c.args.marks.now c.put_mark.new.marks c.requires.decoded c.is_sound-is_sound.result tells c.put_mark.ensures.long put c.put_mark.ensures.kept)
