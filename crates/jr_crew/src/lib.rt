@@ -7,6 +7,7 @@ mod bench;
 mod caller;
 mod caller_room;
 mod crew;
+mod crew_size;
 mod one_first_intervals;
 mod paint_room;
 mod row;

@@ -9,6 +9,7 @@ ghost use Rattle.jr_rows.specs.Stream.{WritesPicture, BeginsPicture, IsSentBy};
 use crate::baton::Baton;
 use crate::bench::Painted;
 use crate::crew::{BENCHES_OF_ONE, Crew};
+use crate::crew_size::crew_size;
 use crate::one_first_intervals::OneFirstIntervals;
 use crate::row_queue::RowQueue;
 use crate::scan_of::ScanOf;
@@ -16,7 +17,9 @@ use crate::sending::{Helping, Sending};
 use jr_base::{Memory, Tally, WriteFault};
 use jr_guesses::{GuessQueue, run_beside, windows_of};
 use jr_picture::{Counts, Gate};
-use jr_rows::{FirstIntervals, Marked, PictureError, counts_of, intervals_of_row, shape_of};
+use jr_rows::{
+    FirstIntervals, Marked, PictureError, counts_of, intervals_of_row, shape_of, write_scan,
+};
 use jr_scan::Scan;
 use std::alloc::Global;
 use std::io::Write;
@@ -184,8 +187,8 @@ fn write_as<R: Threads + Wait + Sync, W: Write, G: Gate + Sync, S: OneFirstInter
 }
 
 /// Decodes the first intervals of a scan, or all, by so many workers (1 to 64), and writes its picture, a row of MCUs after
-/// the other. The calling thread is one of them, and writes. No more threads work than there are rows. The gate is told each
-/// interval that is decoded; no piece is made.
+/// the other. The calling thread is one of them, and writes. No more threads work than there are rows, and than 32 MB and 16 bytes
+/// for each byte of data serve. The gate is told each interval that is decoded; no piece is made.
 ///
 /// The calling thread takes all memory that it needs before the first row is decoded, and none for the picture: for the lines of
 /// three rows of MCUs, and room to decode and paint by. Each other thread takes as much as it starts; where that is refused, it
@@ -217,5 +220,9 @@ pub fn write_scan_by<R: Threads + Wait + Sync, W: Write, G: Gate + Sync>(
     ensures write { result ≡ Err PictureError.Write → has_failed out.new ≡ true }
 {
     let part = FirstIntervals::of(scan, first);
+    let workers = crew_size(&part, workers, BENCHES_OF_ONE);
+    if workers == 1 {
+        return write_scan(alloc, scan, first, gate, out);
+    }
     write_as::<R, W, G, Brand>(rt, alloc, part, workers, gate, out)
 }
