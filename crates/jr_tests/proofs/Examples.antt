@@ -1,9 +1,9 @@
 -- Worked examples of the definitions that the headline cites: figures and tables of T.81 and JFIF, computed by the definitions.
-use Rattle.std.proofs.Common.{◌≡◌, ◌≢◌, ℕ, ◌+◌, ◌*◌, ◌<◌, ◌≤◌, Bool, true, false, List, [], ◌∷◌, ◌++◌, length, replicate, ℤ, pos, neg_ℤ, refl, arith, get_or, zero, suc, ap, inr, sym}
-use Rattle.jr_segments.specs.declared.kind.Kind.TheVariants.{Grey, Rgb, Ycc}
+use Rattle.std.proofs.Common.{◌≡◌, ℕ, ◌+◌, ◌*◌, ◌<◌, Bool, true, false, List, [], ◌∷◌, replicate, ℤ, pos, neg_ℤ, refl, arith, get_or, zero, suc, ap, inr}
+use Rattle.jr_segments.specs.declared.kind.Kind.TheVariants.{Grey, Ycc}
 use Rattle.jr_base.specs.Zigzag.{natural_indexes, zigzag_place}
 use Rattle.jr_code.specs.Bits.{bits, bits_of, number, value}
-use Rattle.jr_code.specs.Code.{Table, IsWord, IsLawfulTable, lengths, space}
+use Rattle.jr_code.specs.Code.{Table, IsWord, IsLawfulTable, space}
 use Rattle.jr_code.proofs.CodeLemmas.{one_word}
 use Rattle.jr_cut.specs.declared.scan_end.ScanEnd.TheVariants.{EndOfImage, OutOfStep}
 use Rattle.jr_cut.specs.Cut.{IsCut, Plain, Stuffed}
@@ -136,19 +136,19 @@ lines_of_four_pixels = refl
 
 -- An interval of one MCU: the word 01 of category 3 with the bits 100, the end of the block, and two bits of padding.
 
-abbrev dc_table : Table
+abbrev pub dc_table : Table
 dc_table = record { counts = 0 ∷ 3 ∷ replicate 14 0; symbols = 0 ∷ 3 ∷ 11 ∷ [] }
 
-abbrev ac_table : Table
+abbrev pub ac_table : Table
 ac_table = record { counts = 1 ∷ replicate 15 0; symbols = 0 ∷ [] }
 
-abbrev head_of_a_block : HeadValue
-head_of_a_block = record { width = 8; height = 8; kind = Grey; components = record { horizontal = 1; vertical = 1; quantiser = replicate 64 1; dc = dc_table; ac = ac_table } ∷ []; restart = 0; scan_at = 0 }
+abbrev pub head_of_a_block : HeadValue
+head_of_a_block = record { width = 8; height = 8; kind = Grey; components = record { horizontal = 1; vertical = 1; quantiser = replicate 64 16; dc = dc_table; ac = ac_table } ∷ []; restart = 0; scan_at = 140 }
 
-abbrev interval : IntervalValue
+abbrev pub interval : IntervalValue
 interval = record { number = 0; mcus = 1; bytes = 97 ∷ []; head = head_of_a_block }
 
-abbrev block_with : ℤ → List ℤ
+abbrev pub block_with : ℤ → List ℤ
 block_with z = z ∷ replicate 63 (pos 0)
 
 abbrev block_bits : List Bool
@@ -179,7 +179,7 @@ each_block : (n : ℕ) → n < 1 → IsBlock head_of_a_block no_predictions (blo
 each_block zero h = block
 each_block (suc n) h = absurd (omega (arith, h))
 
-decodes : Decodes interval (block_with (pos 4) ∷ [])
+pub decodes : Decodes interval (block_with (pos 4) ∷ [])
 unfolding bits_of
 decodes = record { taken = block_bits; padding = false ∷ true ∷ []; mcus = (refl, record { parts = block_bits ∷ []; count = refl; spelled = refl; each = each_block }); short = omega arith; spelled = refl }
 
