@@ -6,25 +6,9 @@ use Rattle.std.proofs.lemmas.List.{append_cancel_left}
 use Rattle.jr_code.specs.Bits.{value}
 use Rattle.jr_code.specs.Code.{Table}
 use Rattle.jr_mcu.specs.Block.{AcCode, IsAcCode, code_bits, entries, IsEnd, DifferenceAt, OthersAt, CodedAt, BlockAt}
-use Rattle.jr_mcu.specs.Step.{TakesDifference, HasNoDifference, TakesOthers, HasNoOthers, TakesCoded, HasNoCoded}
 use Rattle.jr_mcu.proofs.Words.{IsPrefixFree}
 use Rattle.jr_mcu.proofs.AcCodes.{split_same, same_code, not_end}
 use Rattle.jr_mcu.proofs.Rest.{end_within, entries_some}
-
-pub no_coded_first : (dc ac : Table) (old : List Bool) → HasNoDifference dc old → HasNoCoded dc ac old
-no_coded_first dc ac old none d others bits rest b e = none d b.first_bits (b.others_bits ++ rest) b.is_first (e ∙ ap (λ (x : List Bool). x ++ rest) b.spelled ∙ append_assoc b.first_bits b.others_bits rest)
-
-pub takes_coded : (dc ac : Table) (d : ℤ) (z : List ℤ) (old mid new : List Bool) → TakesDifference dc d old mid → (others : List ℤ) × (z ≡ d ∷ others) × TakesOthers ac others mid new → TakesCoded dc ac z old new
-takes_coded dc ac d z old mid new f some =
-    let o = some.2 in
-    record {
-      difference = d;
-      others = some.0;
-      bits = f.bits ++ o.bits;
-      is = record { first_bits = f.bits; others_bits = o.bits; is_first = f.is; are_others = o.is; spelled = refl };
-      split = f.split ∙ ap (λ (x : List Bool). f.bits ++ x) o.split ∙ sym (append_assoc f.bits o.bits new);
-      values = some.1;
-    }
 
 -- no first coefficient's bits begin another's, and they give one difference
 pub same_difference : (dc : Table) → IsPrefixFree dc → (a b : ℤ) (u v x y : List Bool) → DifferenceAt dc a u → DifferenceAt dc b v → u ++ x ≡ v ++ y → (u ≡ v) × (a ≡ b)
@@ -36,13 +20,6 @@ same_difference dc free a b u v x y f g e =
       f.spelled ∙ ap (λ (q : List Bool). q ++ f.extra) w.0 ∙ ap (λ (q : List Bool). g.word ++ q) s.0 ∙ sym g.spelled,
       f.is ∙ ap value s.0 ∙ sym g.is,
     )
-
-pub no_coded_others : (dc ac : Table) → IsPrefixFree dc → (d : ℤ) (old mid : List Bool) → TakesDifference dc d old mid → HasNoOthers ac mid → HasNoCoded dc ac old
-no_coded_others dc ac free d old mid f none d' others bits rest b e =
-    let whole : f.bits ++ mid ≡ b.first_bits ++ (b.others_bits ++ rest) = sym f.split ∙ e ∙ ap (λ (x : List Bool). x ++ rest) b.spelled ∙ append_assoc b.first_bits b.others_bits rest in
-    let s = same_difference dc free d d' f.bits b.first_bits mid (b.others_bits ++ rest) f.is b.is_first whole in
-    let left : mid ≡ b.others_bits ++ rest = append_cancel_left b.first_bits _ _ (subst (λ (q : List Bool). q ++ mid ≡ b.first_bits ++ (b.others_bits ++ rest)) s.0 whole) in
-    none others b.others_bits rest b.are_others left
 
 same_codes : (ac : Table) → IsPrefixFree ac → (n : ℕ) (is js : List AcCode) (s t x y : List Bool) → AllByRecursion (IsAcCode ac) is → AllByRecursion (IsAcCode ac) js
     → IsEnd ac (n + length (flat_map entries is)) s → IsEnd ac (n + length (flat_map entries js)) t
@@ -65,7 +42,7 @@ same_codes ac free n (i ∷ is) (j ∷ js) s t x y hi hj f g e =
     let rest : is ≡ js = others.0 in
     (cc, others.1)
 
-pub same_others : (ac : Table) → IsPrefixFree ac → (a b : List ℤ) (u v x y : List Bool) → OthersAt ac a u → OthersAt ac b v → u ++ x ≡ v ++ y → (u ≡ v) × (a ≡ b)
+same_others : (ac : Table) → IsPrefixFree ac → (a b : List ℤ) (u v x y : List Bool) → OthersAt ac a u → OthersAt ac b v → u ++ x ≡ v ++ y → (u ≡ v) × (a ≡ b)
 same_others ac free a b u v x y f g e =
     let z = λ (n : ℕ). n in
     let fz : length (flat_map entries f.items) ≡ 0 + length (flat_map entries f.items) = omega arith in
@@ -76,7 +53,7 @@ same_others ac free a b u v x y f g e =
       f.values ∙ ap (λ (is : List AcCode). flat_map entries is ++ replicate (63 - length (flat_map entries is)) (pos 0)) s.0 ∙ sym g.values,
     )
 
-pub same_coded : (dc ac : Table) → IsPrefixFree dc → IsPrefixFree ac → (a b : ℤ) (us vs : List ℤ) (u v x y : List Bool) → CodedAt dc ac a us u → CodedAt dc ac b vs v → u ++ x ≡ v ++ y → (u ≡ v) × (a ≡ b) × (us ≡ vs)
+same_coded : (dc ac : Table) → IsPrefixFree dc → IsPrefixFree ac → (a b : ℤ) (us vs : List ℤ) (u v x y : List Bool) → CodedAt dc ac a us u → CodedAt dc ac b vs v → u ++ x ≡ v ++ y → (u ≡ v) × (a ≡ b) × (us ≡ vs)
 same_coded dc ac dfree afree a b us vs u v x y f g e =
     let whole : f.first_bits ++ (f.others_bits ++ x) ≡ g.first_bits ++ (g.others_bits ++ y) = sym (append_assoc f.first_bits f.others_bits x) ∙ ap (λ (q : List Bool). q ++ x) (sym f.spelled) ∙ e ∙ ap (λ (q : List Bool). q ++ y) g.spelled ∙ append_assoc g.first_bits g.others_bits y in
     let s = same_difference dc dfree a b f.first_bits g.first_bits _ _ f.is_first g.is_first whole in

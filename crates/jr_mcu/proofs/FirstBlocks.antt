@@ -1,17 +1,16 @@
 -- Whether a block is in front of bits is decided, part by part.
-use Rattle.std.proofs.Common.{◌≡◌, ℕ, zero, suc, ◌+◌, ◌-◌, ◌/◌, ◌%◌, ◌<◌, ◌≤◌, Bool, List, [], ◌∷◌, ◌++◌, length, get_or, replicate, set, refl, sym, ap, inl, inr, arith}
+use Rattle.std.proofs.Common.{◌≡◌, ℕ, zero, suc, ◌+◌, ◌-◌, ◌/◌, ◌%◌, ◌<◌, ◌≤◌, Bool, List, [], ◌∷◌, ◌++◌, length, replicate, refl, sym, ap, inl, inr, arith}
 use Rattle.std.specs.Prelude.{◌⊎◌, ℤ, pos, neg_ℤ, ◌+ℤ◌}
 use Rattle.std.proofs.lemmas.Bool.{cases_lt, cases_eq}
 use Rattle.std.proofs.lemmas.Int.{ints, by_lt_z}
 use Rattle.jr_code.specs.Code.{Table, HasNoExtended}
 use Rattle.jr_mcu.specs.Block.{IsInDcRange}
-use Rattle.jr_mcu.specs.Step.{TakesAcCode, TakesEnd, HasNoStep, TakesDifference, HasNoDifference, TakesOthers, HasNoOthers, TakesCoded, HasNoCoded, TakesBlock, HasNoBlock}
+use Rattle.jr_mcu.specs.Step.{TakesAcCode, TakesEnd, HasNoStep, TakesDifference, HasNoDifference, TakesOthers, HasNoOthers, TakesBlock, HasNoBlock}
 use Rattle.jr_mcu.proofs.Words.{IsPrefixFree}
 use Rattle.jr_mcu.proofs.FirstWords.{FirstExtended, first_extended}
 use Rattle.jr_mcu.proofs.Steps.{word_of, word_alone, extra_of, takes_end, takes_zeros, takes_coef, takes_difference_of, no_difference_far, no_difference_extended, no_step_past, no_step_size, no_step_extended}
 use Rattle.jr_mcu.proofs.Rest.{IsSoFar, entries_some, so_far_none, so_far_more, so_far_all, so_far_end, so_far_stuck, so_far_over}
-use Rattle.jr_mcu.proofs.Coded.{no_coded_first, no_coded_others, takes_coded}
-use Rattle.jr_mcu.proofs.Predicted.{takes_block, no_block_coded, no_block_far}
+use Rattle.jr_mcu.proofs.Predicted.{takes_block, no_block_first, no_block_far, no_block_others}
 
 -- ---- the first coefficient's difference
 
@@ -130,21 +129,7 @@ others_behind ac free old left block index (suc steps) s room enough = elim (fir
 pub first_others : (ac : Table) → IsPrefixFree ac → (old : List Bool) → FirstOthers ac old ⊎ HasNoOthers ac old
 first_others ac free old = others_behind ac free old old (pos 0 ∷ replicate 63 (pos 0)) 1 63 (so_far_none ac (pos 0) old) (omega arith) (omega arith)
 
--- ---- the block as it is coded, and with its prediction
-
-pub record FirstCoded (dc ac : Table) (old : List Bool) : Type 0 where
-  pub coded : List ℤ
-  pub left : List Bool
-  pub takes : TakesCoded dc ac coded old left
-
-pub first_coded : (dc ac : Table) → IsPrefixFree dc → IsPrefixFree ac → (old : List Bool) → FirstCoded dc ac old ⊎ HasNoCoded dc ac old
-first_coded dc ac dfree afree old = elim (first_difference dc dfree old) [
-  | inr none ↦ inr (no_coded_first dc ac old none)
-  | inl d ↦ elim (first_others ac afree d.left) [
-    | inr none ↦ inr (no_coded_others dc ac dfree d.difference old d.left d.takes none)
-    | inl o ↦ inl (record { coded = d.difference ∷ o.others; left = o.left; takes = takes_coded dc ac d.difference (d.difference ∷ o.others) old d.left o.left d.takes (o.others, refl, o.takes) })
-  ]
-]
+-- ---- the block, with its prediction
 
 in_dc_range : (z : ℤ) → IsInDcRange z ⊎ (IsInDcRange z → ⊥)
 in_dc_range z = by_lt_z z (neg_ℤ (pos 32768)) (λ below. inr (λ h. let low = h.0 in omega (arith, ints))) (λ low. by_lt_z (pos 32767) z (λ above. inr (λ h. let high = h.1 in omega (arith, ints))) (λ high. inl (low, high)))
@@ -155,12 +140,13 @@ pub record FirstBlock (dc ac : Table) (p : ℤ) (old : List Bool) : Type 0 where
   pub takes : TakesBlock dc ac p block old left
 
 pub first_block : (dc ac : Table) → IsPrefixFree dc → IsPrefixFree ac → (p : ℤ) (old : List Bool) → FirstBlock dc ac p old ⊎ HasNoBlock dc ac p old
-first_block dc ac dfree afree p old = elim (first_coded dc ac dfree afree old) [
-  | inr none ↦ inr (no_block_coded dc ac p old none)
-  | inl c ↦
-      let first = p +ℤ get_or c.coded 0 (pos 0) in
-      elim (in_dc_range (p +ℤ get_or c.coded 0 (pos 0))) [
-        | inl within ↦ inl (record { block = set c.coded 0 first; left = c.left; takes = takes_block dc ac p first c.coded (set c.coded 0 first) old c.left c.takes refl within refl })
-        | inr far ↦ inr (no_block_far dc ac dfree afree p first c.coded old c.left c.takes refl far)
-      ]
+first_block dc ac dfree afree p old = elim (first_difference dc dfree old) [
+  | inr none ↦ inr (no_block_first dc p old none ac)
+  | inl d ↦ elim (in_dc_range (p +ℤ d.difference)) [
+    | inr far ↦ inr (no_block_far dc dfree p d.difference old d.left d.takes far ac)
+    | inl within ↦ elim (first_others ac afree d.left) [
+      | inr none ↦ inr (no_block_others dc ac dfree p d.difference old d.left d.takes none)
+      | inl o ↦ inl (record { block = (p +ℤ d.difference) ∷ o.others; left = o.left; takes = takes_block dc ac p d.difference (p +ℤ d.difference) o.others old d.left o.left d.takes refl within o.takes })
+    ]
+  ]
 ]

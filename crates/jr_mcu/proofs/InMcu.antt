@@ -1,12 +1,12 @@
 -- Inside an MCU: the blocks of it that are taken so far, and what its last block or a missing one says.
-use Rattle.std.proofs.Common.{◌≡◌, ◌≢◌, ℕ, suc, ◌+◌, ◌*◌, ◌<◌, Bool, cond, inl, inr, List, [], ◌∷◌, ◌++◌, length, get_or, set, refl, sym, ap, subst, ◌∙◌, length-append, arith}
+use Rattle.std.proofs.Common.{◌≡◌, ◌≢◌, ℕ, suc, ◌+◌, ◌*◌, ◌<◌, ◌≤◌, Bool, cond, inl, inr, List, [], ◌∷◌, ◌++◌, length, get_or, set, take, refl, sym, ap, subst, ◌∙◌, length-append, arith}
 use Rattle.std.specs.Prelude.{ℤ, pos}
 use Rattle.std.specs.List.{All}
 use Rattle.std.proofs.lemmas.Bool.{cases_eq}
 use Rattle.std.proofs.lemmas.Bool.Decides.{eqb_tells}
 use Rattle.std.proofs.lemmas.Nat.{mod-mul-add}
 use Rattle.std.proofs.Math.Seq.{get_or-append_seam}
-use Rattle.std.proofs.lemmas.List.{get_or-set_same, get_or-set_other, get_or_append_left, length-set}
+use Rattle.std.proofs.lemmas.List.{get_or-set_same, get_or-set_other, get_or_append_left, length-set, length-take-le, take-take, take_at}
 use Rattle.std.proofs.lemmas.List.Elements.{All-from_get_or}
 use Rattle.jr_head.specs.HeadValue.{HeadValue}
 use Rattle.jr_segments.specs.declared.kind.Kind.{Kind}
@@ -103,3 +103,7 @@ predicted_behind h start last all left zs s = three_are last _ _ _ s.three (s.ea
 
 pub mcu_taken : (h : HeadValue) (start last : List ℤ) (all left : List Bool) (zs : List (List ℤ)) → length zs ≡ length (order_of h) → InMcu h start all left last zs → TakesMcu h start zs all left
 mcu_taken h start last all left zs count s = record { taken = s.reads.taken; mcu = (omega (arith, count), s.reads.blocks); split = s.reads.split }
+
+-- what begins some blocks stays, and more follow it
+pub front_kept : (n m : ℕ) (xs ys zs : List (List ℤ)) → n ≤ m → n ≤ length ys → take m xs ≡ take n ys ++ zs → take n xs ≡ take n ys
+front_kept n m xs ys zs le room e = sym (take-take n m xs le) ∙ ap (take n) e ∙ take_at (take n ys) zs n (length-take-le n ys room)

@@ -9,7 +9,6 @@ use Rattle.jr_code.specs.Bits.{value}
 use Rattle.jr_code.specs.Code.{Table, TakesExtended}
 use Rattle.jr_mcu.specs.Block.{AcCode, IsAcCode, entries, DifferenceAt, OthersAt, CodedAt, BlockAt, IsInDcRange, IsInRange}
 use Rattle.jr_mcu.specs.Block.AcCode.{ZeroRun, RunAndSize}
-use Rattle.jr_mcu.specs.Step.{TakesCoded}
 use Rattle.jr_code.proofs.ValueLemmas.{Within, within_zero, value_within}
 use Rattle.jr_mcu.proofs.Rest.{end_within}
 
@@ -84,8 +83,3 @@ block_in_range dc ac p z bits b =
     behind : (x : ℤ) (xs : List ℤ) → ((k : ℕ) → Within 1023 (get_or xs k (pos 0))) → (k : ℕ) → 0 < k → Within 1023 (get_or (x ∷ xs) k (pos 0))
     behind x xs h zero some = absurd (omega arith)
     behind x xs h (suc k) some = h k
-
-pub coded_first : (dc ac : Table) (z : List ℤ) (old new : List Bool) → TakesCoded dc ac z old new → Within 2047 (get_or z 0 (pos 0)) × (length z ≡ 64)
-coded_first dc ac z old new t =
-    let first : t.difference ≡ get_or z 0 (pos 0) = sym (ap (λ (x : List ℤ). get_or x 0 (pos 0)) t.values) in
-    (subst (Within 2047) first (difference_within dc t.difference t.is.first_bits t.is.is_first), omega (arith, ap length t.values, coded_count dc ac t.difference t.others t.bits t.is))

@@ -1,8 +1,8 @@
 -- What the readers of parts of a block promise.
-use Rattle.std.specs.Prelude.{◌≡◌, ℕ, Bool, List, ◌∷◌, ◌++◌, length, ℤ}
+use Rattle.std.specs.Prelude.{◌≡◌, ℕ, Bool, List, ◌++◌, length, ℤ}
 use Rattle.jr_code.specs.Bits.{value}
 use Rattle.jr_code.specs.Code.{Table, IsWord}
-use Rattle.jr_mcu.specs.Block.{AcCode, IsAcCode, code_bits, entries, OthersAt, DifferenceAt, CodedAt, BlockAt}
+use Rattle.jr_mcu.specs.Block.{AcCode, IsAcCode, code_bits, entries, OthersAt, DifferenceAt, BlockAt}
 
 -- old is so many extra bits of that value, and then new
 pub record TakesExtra (size : ℕ) (v : ℤ) (old new : List Bool) : Type 0 where
@@ -44,19 +44,6 @@ pub record TakesOthers (ac : Table) (others : List ℤ) (old new : List Bool) : 
 
 abbrev pub HasNoOthers : Table → List Bool → Type 0
 HasNoOthers ac old = (others : List ℤ) (bits rest : List Bool) → OthersAt ac others bits → old ≡ bits ++ rest → ⊥
-
--- old is the bits of a block whose first place holds the difference, and then new
-pub record TakesCoded (dc ac : Table) (z : List ℤ) (old new : List Bool) : Type 0 where
-  pub difference : ℤ
-  pub others : List ℤ
-  pub bits : List Bool
-  pub is : CodedAt dc ac difference others bits
-  pub split : old ≡ bits ++ new
-  pub values : z ≡ difference ∷ others
-
--- no block begins these bits
-abbrev pub HasNoCoded : Table → Table → List Bool → Type 0
-HasNoCoded dc ac old = (difference : ℤ) (others : List ℤ) (bits rest : List Bool) → CodedAt dc ac difference others bits → old ≡ bits ++ rest → ⊥
 
 -- old is a block's bits, where its first coefficient is predicted to be p, and then new
 pub record TakesBlock (dc ac : Table) (p : ℤ) (z : List ℤ) (old new : List Bool) : Type 0 where

@@ -1,21 +1,28 @@
-//! The bits of one block.
+//! The bits of one block, read or skipped.
 
-ghost use Rattle.std.specs.Prelude.{◌≡◌, ℕ, ◌<◌, ◌≤◌, ◌^◌, ℤ, pos, negsuc, ◌≤ℤ◌, ◌∷◌, ◌↔◌, ◌⊎◌, List, length, slice_set, IsSome, IfSome, IfNone};
-ghost use Rattle.jr_mcu.specs.Step.{TakesDifference, HasNoDifference, TakesOthers, HasNoOthers, TakesCoded, HasNoCoded};
+ghost use Rattle.std.specs.Prelude.{◌≡◌, ◌≤◌, ℤ, ◌+ℤ◌, ◌∷◌, ◌↔◌, ◌⊎◌, List, slice_set, IsSome, IfSome, IfNone};
+ghost use Rattle.jr_code.specs.Code.{Table};
+ghost use Rattle.jr_mcu.specs.Block.{IsInDcRange};
+ghost use Rattle.jr_mcu.specs.Step.{TakesDifference, TakesOthers, HasNoOthers, HasNoBlock};
 
 use jr_base::Coefficients;
 use jr_code::{Bits, CodeBook, WordBook};
 
-/// Takes the first coefficient's difference to its prediction (T.81, F.1.2.1).
-fn read_difference(dc: &WordBook, bits: &mut Bits<'_>) -> Option<i16>
-    ensures some { IfSome result (λ d. TakesDifference dc.now d bits.old bits.new) }
-    ensures none { IfNone result (HasNoDifference dc.now bits.old) }
+/// Reads a block's first coefficient: its difference, added to its prediction (T.81, F.1.2.1 and F.2.1.3.1).
+pub(crate) fn read_first(dc: &WordBook, bits: &mut Bits<'_>, prediction: i32) -> Option<i16>
+    requires { IsInDcRange prediction }
+    ensures some { IfSome result (λ first. (d : ℤ) × TakesDifference dc.now d bits.old bits.new × (first ≡ prediction +ℤ d)) }
+    ensures none { IfNone result ((ac : Table) → HasNoBlock dc.now ac prediction bits.old) }
 {
-    let (size, v) = dc.read_extended(bits)?;
+    let (size, difference) = dc.read_extended(bits)?;
     if size > 11 {
         return None;
     }
-    Some(v as i16)
+    let first = prediction + difference;
+    if first < -32768 || first > 32767 {
+        return None;
+    }
+    Some(first as i16)
 }
 
 /// Ends a block whose last code went on to its last place, or past it: where that is the last place its value is put there,
@@ -35,8 +42,8 @@ fn end_block(place: u32, value: i16, block: &mut Coefficients) -> Option<()>
     Some(())
 }
 
-/// Takes the coefficients behind the first into a block, two codes a turn: a refill lasts for both.
-fn read_others(
+/// Reads the coefficients after the first into a block, two codes a turn: a refill lasts for both.
+pub(crate) fn read_others(
     ac: &CodeBook,
     bits: &mut Bits<'_>,
     first: i16,
@@ -77,8 +84,8 @@ fn end_at(place: u32) -> Option<()>
     }
 }
 
-/// Passes over the coefficients behind the first, of which it keeps none.
-fn skip_others(ac: &CodeBook, bits: &mut Bits<'_>) -> Option<()>
+/// Skips the coefficients after the first.
+pub(crate) fn skip_others(ac: &CodeBook, bits: &mut Bits<'_>) -> Option<()>
     ensures some { IfSome result (λ _. (others : List ℤ) × TakesOthers ac.now others bits.old bits.new) }
     ensures none { IfNone result (HasNoOthers ac.now bits.old) }
 {
@@ -96,33 +103,4 @@ fn skip_others(ac: &CodeBook, bits: &mut Bits<'_>) -> Option<()>
             return end_at(place);
         }
     }
-}
-
-/// Takes a block into the caller's memory, the difference of its first coefficient in place of it.
-pub(crate) fn read_block(
-    dc: &WordBook,
-    ac: &CodeBook,
-    bits: &mut Bits<'_>,
-    block: &mut Coefficients,
-) -> Option<()>
-    ensures some { IfSome result (λ _. TakesCoded dc.now ac.now block.new bits.old bits.new) }
-    ensures none { IfNone result (HasNoCoded dc.now ac.now bits.old) }
-{
-    let mut left = bits.again();
-    let difference = read_difference(dc, &mut left)?;
-    read_others(ac, &mut left, difference, block)?;
-    *bits = left;
-    Some(())
-}
-
-/// Passes over a block, and gives the difference of its first coefficient.
-pub(crate) fn skip_block(dc: &WordBook, ac: &CodeBook, bits: &mut Bits<'_>) -> Option<i16>
-    ensures some { IfSome result (λ d. (others : List ℤ) × TakesCoded dc.now ac.now (d ∷ others) bits.old bits.new) }
-    ensures none { IfNone result (HasNoCoded dc.now ac.now bits.old) }
-{
-    let mut left = bits.again();
-    let difference = read_difference(dc, &mut left)?;
-    skip_others(ac, &mut left)?;
-    *bits = left;
-    Some(difference)
 }

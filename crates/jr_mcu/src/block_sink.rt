@@ -1,19 +1,19 @@
 //! Where the blocks of an MCU go.
 
-ghost use Rattle.std.specs.Prelude.{◌≡◌, ◌<◌, ℤ, List, Bool, true, false, IsTrue, length, pos, IfSome, IfNone, slice_index_or, slice_set};
+ghost use Rattle.std.specs.Prelude.{◌≡◌, ◌<◌, ℤ, List, Bool, true, false, IsTrue, length, take, pos, IfSome, IfNone, slice_index_or, slice_set};
 ghost use Rattle.jr_mcu.specs.Block.{IsInDcRange};
 ghost use Rattle.jr_mcu.specs.Step.{TakesBlock, HasNoBlock};
 
-use crate::predicting::{read_predicted, skip_predicted};
+use crate::block::{read_first, read_others, skip_others};
 use jr_base::Coefficients;
 use jr_code::{Bits, CodeBook, WordBook};
 
-/// What becomes of the blocks of an MCU, one after the other.
-pub(crate) trait BlockSink {
+/// Where the blocks of an MCU go, one after the other.
+pub trait BlockSink {
     // whether they are kept
     ghost keeps: { Bool };
 
-    /// Takes block k of an MCU, and gives its first coefficient, the prediction added.
+    /// Takes the next block, which is block k of those that are kept, and returns its first coefficient.
     fn take(
         dc: &WordBook,
         ac: &CodeBook,
@@ -25,11 +25,12 @@ pub(crate) trait BlockSink {
         requires in_range { IsInDcRange prediction }
         requires room { IsTrue keeps → k < length blocks.old }
         ensures some { IfSome result (λ first. (z : List ℤ) × TakesBlock dc.now ac.now prediction z bits.old bits.new × (first ≡ slice_index_or z 0 (pos 0)) × (IsTrue keeps → blocks.new ≡ slice_set blocks.old k z)) }
+        ensures front { IsTrue keeps → take k blocks.new ≡ take k blocks.old }
         ensures none { IfNone result (HasNoBlock dc.now ac.now prediction bits.old) };
 }
 
-/// They are kept, each at its place in the MCU.
-pub(crate) struct Kept;
+/// Keeps each block.
+pub struct Kept;
 
 impl BlockSink for Kept {
     ghost keeps = { true };
@@ -43,14 +44,16 @@ impl BlockSink for Kept {
         k: usize,
         blocks: &mut [Coefficients],
     ) -> Option<i32> {
-        read_predicted(dc, ac, bits, prediction, &mut blocks[k])
+        let first = read_first(dc, bits, prediction)?;
+        read_others(ac, bits, first, &mut blocks[k])?;
+        Some(i32::from(first))
     }
 }
 
-/// They are passed over, and none is kept.
-pub(crate) struct PassedOver;
+/// Skips each block.
+pub struct Skipped;
 
-impl BlockSink for PassedOver {
+impl BlockSink for Skipped {
     ghost keeps = { false };
 
     #[inline(always)]
@@ -62,6 +65,8 @@ impl BlockSink for PassedOver {
         _k: usize,
         _blocks: &mut [Coefficients],
     ) -> Option<i32> {
-        skip_predicted(dc, ac, bits, prediction)
+        let first = read_first(dc, bits, prediction)?;
+        skip_others(ac, bits)?;
+        Some(i32::from(first))
     }
 }

@@ -1,29 +1,32 @@
 //! The blocks of one MCU.
 
-ghost use Rattle.std.specs.Prelude.{◌≡◌, ℤ, List, length, IsTrue, IfNone, OnSome};
+ghost use Rattle.std.specs.Prelude.{◌≡◌, ◌+◌, ◌<◌, ◌≤◌, ◌^◌, ◌++◌, ℤ, List, length, take, IsTrue, IfNone, OnSome};
 ghost use Rattle.std.specs.List.{All};
 ghost use Rattle.jr_head.specs.Geometry.{IsLawful, order_of};
 ghost use Rattle.jr_mcu.specs.Block.{IsInDcRange};
 ghost use Rattle.jr_mcu.specs.Mcus.{predicted, TakesMcu, BeginsNoMcu};
 
-use crate::block_sink::{BlockSink, Kept, PassedOver};
+use crate::block_sink::BlockSink;
 use jr_base::Coefficients;
 use jr_code::Bits;
 use jr_head::Head;
 
-/// Takes the blocks of one MCU, in order, and makes of the predictions those behind it. Bits and predictions move only
-/// where all of it is there; else the blocks hold nothing of meaning.
+/// Reads the blocks of one MCU in order; those that are kept go to `blocks` starting at `start`. The predictions become those
+/// after the MCU. If it is not whole, bits, predictions and the blocks before `start` are unchanged.
 #[inline(always)]
-fn take_mcu<S: BlockSink>(
+pub fn read_mcu<S: BlockSink>(
     head: &Head,
     bits: &mut Bits<'_>,
     predictions: &mut [i32; 3],
+    start: usize,
     blocks: &mut [Coefficients],
 ) -> Option<()>
     requires lawful { IsLawful head.now }
-    requires room { IsTrue S.keeps → length blocks.old ≡ length (order_of head.now) }
+    requires fits { start + length (order_of head.now) < 2 ^ 64 }
+    requires room { IsTrue S.keeps → start + length (order_of head.now) ≤ length blocks.old }
     requires in_range { All IsInDcRange predictions.old }
-    ensures some { OnSome result ((zs : List (List ℤ)) × TakesMcu head.now predictions.old zs bits.old bits.new × (predictions.new ≡ predicted head.now predictions.old zs) × (IsTrue S.keeps → blocks.new ≡ zs)) }
+    ensures some { OnSome result ((zs : List (List ℤ)) × TakesMcu head.now predictions.old zs bits.old bits.new × (predictions.new ≡ predicted head.now predictions.old zs) × (IsTrue S.keeps → take (start + length (order_of head.now)) blocks.new ≡ take start blocks.old ++ zs)) }
+    ensures front { IsTrue S.keeps → take start blocks.new ≡ take start blocks.old }
     ensures in_range { All IsInDcRange predictions.new }
     ensures none { IfNone result (BeginsNoMcu head.now predictions.old bits.old) }
     ensures kept { IfNone result ((bits.new ≡ bits.old) × (predictions.new ≡ predictions.old)) }
@@ -36,7 +39,7 @@ fn take_mcu<S: BlockSink>(
         let dc = head.dc_book(u32::from(c));
         let ac = head.ac_book(u32::from(c));
         let prediction = last[c as usize];
-        let Some(first) = S::take(dc, ac, &mut left, prediction, k, blocks) else {
+        let Some(first) = S::take(dc, ac, &mut left, prediction, start + k, blocks) else {
             return None;
         };
         last[c as usize] = first;
@@ -44,37 +47,4 @@ fn take_mcu<S: BlockSink>(
     *bits = left;
     *predictions = last;
     Some(())
-}
-
-/// Takes the blocks of one MCU, in order, and makes of the predictions those behind it. Bits and predictions move only
-/// where all of it is there; else the blocks hold nothing of meaning.
-pub fn read_mcu(
-    head: &Head,
-    bits: &mut Bits<'_>,
-    predictions: &mut [i32; 3],
-    blocks: &mut [Coefficients],
-) -> Option<()>
-    requires lawful { IsLawful head.now }
-    requires room { length blocks.old ≡ length (order_of head.now) }
-    requires in_range { All IsInDcRange predictions.old }
-    ensures some { OnSome result (TakesMcu head.now predictions.old blocks.new bits.old bits.new) }
-    ensures predicted { OnSome result (predictions.new ≡ predicted head.now predictions.old blocks.new) }
-    ensures in_range { All IsInDcRange predictions.new }
-    ensures none { IfNone result (BeginsNoMcu head.now predictions.old bits.old) }
-    ensures kept { IfNone result ((bits.new ≡ bits.old) × (predictions.new ≡ predictions.old)) }
-{
-    take_mcu::<Kept>(head, bits, predictions, blocks)
-}
-
-/// Passes over the blocks of one MCU, and makes of the predictions those behind it. Bits and predictions move only where all
-/// of it is there.
-pub fn skip_mcu(head: &Head, bits: &mut Bits<'_>, predictions: &mut [i32; 3]) -> Option<()>
-    requires lawful { IsLawful head.now }
-    requires in_range { All IsInDcRange predictions.old }
-    ensures some { OnSome result ((zs : List (List ℤ)) × TakesMcu head.now predictions.old zs bits.old bits.new × (predictions.new ≡ predicted head.now predictions.old zs)) }
-    ensures in_range { All IsInDcRange predictions.new }
-    ensures none { IfNone result (BeginsNoMcu head.now predictions.old bits.old) }
-    ensures kept { IfNone result ((bits.new ≡ bits.old) × (predictions.new ≡ predictions.old)) }
-{
-    take_mcu::<PassedOver>(head, bits, predictions, &mut [])
 }

@@ -7,6 +7,7 @@ ghost use Rattle.jr_mcu.specs.Block.{IsInDcRange};
 ghost use Rattle.jr_mcu.specs.Mcus.{no_predictions, predicted, TakesMcu};
 ghost use Rattle.jr_mcu.specs.Shift.{AreGreater, IsShifted, AreShifted, IsSmall, HaveSmallFirst};
 
+use crate::block_sink::Kept;
 use crate::mcu::read_mcu;
 use jr_base::Coefficients;
 use jr_code::Bits;
@@ -77,7 +78,7 @@ pub fn read_unpredicted(
 {
     let mut left = bits.again();
     let mut predictions = [0; 3];
-    read_mcu(head, &mut left, &mut predictions, blocks)?;
+    read_mcu::<Kept>(head, &mut left, &mut predictions, 0, blocks)?;
     if !are_small(blocks) {
         return None;
     }

@@ -11,6 +11,7 @@ use Rattle.jr_code.specs.Bits.{bits}
 use Rattle.jr_code.proofs.BitLemmas.{length-bits}
 use Rattle.jr_code.proofs.CodeLemmas.{one_word}
 use Rattle.jr_head.specs.Geometry.{order_of, IsLawful}
+use Rattle.jr_scan.specs.declared.mcu_reader.McuReader.TheInside.{Inside}
 use Rattle.jr_scan.specs.declared.place.Place.{Place}
 use Rattle.jr_scan.specs.declared.place.RunEnd.TheVariants.{AllRead, NoMcu}
 use Rattle.jr_scan.specs.IntervalValue.{IntervalValue}
@@ -18,7 +19,7 @@ use Rattle.jr_mcu.specs.Mcus.{Mcus, no_predictions, predicted, TakesMcu}
 use Rattle.jr_scan.specs.Mcus.{HasNoDecoding, Front, LongestFront}
 use Rattle.jr_scan.specs.Run.{RunOf, start_of_interval, whole_run, run_from, left_at, HasNoMcu, IsRun}
 use Rattle.std.specs.List.{All}
-use Rattle.jr_mcu.specs.Block.{IsInRange}
+use Rattle.jr_mcu.specs.Block.{IsInDcRange, IsInRange}
 use Rattle.jr_scan.proofs.InRange.{run_in_range}
 use Rattle.jr_scan.specs.McuReader.{per_mcu, McuReaderValue, HasRead, HasEnded, HasReadOf, HasReadAll, IsMcuReader}
 use Rattle.jr_mcu.proofs.LongMcus.{mcus_long}
@@ -66,6 +67,30 @@ one_mcu i p q zs new within t at last =
 
 pub left_behind : (i : IntervalValue) (p : Place) (bit : ℕ) (zs : List (List ℤ)) (new : List Bool) → p.bit ≤ 8 * length i.bytes → TakesMcu i.head p.predictions zs (left_at i p) new → bit ≡ 8 * length i.bytes - length new → new ≡ drop bit (bits i.bytes)
 left_behind i p bit zs new within t at = sym (behind i p bit t.taken new within t.split at).1
+
+-- the value of a reader with these fields
+abbrev pub value_of : Inside → McuReaderValue
+value_of r = record { run = record { interval = r.interval; from = r.from; mcus = r.mcus }; mcu = r.mcu; place = record { bit = 8 * length r.interval.bytes - length r.bits; predictions = r.predictions } }
+
+-- a reader takes one more MCU
+pub next_mcu : (r : McuReaderValue) (left new : List Bool) (ps : List ℤ) (zs : List (List ℤ)) → IsMcuReader r left → r.mcu < r.run.mcus → r.place.bit ≤ 8 * length r.run.interval.bytes
+    → TakesMcu r.run.interval.head r.place.predictions zs left new → ps ≡ predicted r.run.interval.head r.place.predictions zs → All IsInDcRange ps
+    → IsMcuReader (record { run = r.run; mcu = r.mcu + 1; place = record { bit = 8 * length r.run.interval.bytes - length new; predictions = ps } }) new
+    × IsRun (run_from r.run.interval r.place 1) zs (record { bit = 8 * length r.run.interval.bytes - length new; predictions = ps }) AllRead
+next_mcu r left new ps zs kept more within t last range =
+    let i = r.run.interval in
+    let q : Place = record { bit = 8 * length i.bytes - length new; predictions = ps } in
+    let t1 = subst (λ (b : List Bool). TakesMcu i.head r.place.predictions zs b new) kept.bits t in (
+      record {
+        lawful = kept.lawful;
+        few = omega (arith, more);
+        small = kept.small;
+        bits = left_behind i r.place q.bit zs new within t1 refl;
+        three = ap (λ (xs : List ℤ). length xs) last;
+        in_range = range;
+      },
+      one_mcu i r.place q zs new within t1 refl last,
+    )
 
 -- a reader that goes on has read both
 pub read_on : (r r' : McuReaderValue) (k : ℕ) (zs ys : List (List ℤ)) → IsLawful r.run.interval.head → r'.run ≡ r.run → r'.mcu ≡ r.mcu + k → r'.mcu ≤ r'.run.mcus
@@ -161,6 +186,11 @@ no_first i p q k zs none r = elim (cases_lt 0 k) [
       absurd (none (take (1 * per) zs) b.0 b.1 (length-take-le (1 * per) zs room, b.2) b.3)
   | inr none_read ↦ omega (arith, none_read)
 ]
+
+-- a reader that has ended takes none
+pub takes_none : (r : McuReaderValue) (q : Place) (k : ℕ) (zs : List (List ℤ)) → r.mcu + k ≤ r.run.mcus → IsRun (run_from r.run.interval r.place k) zs q AllRead → HasEnded r → k ≡ 0
+takes_none r q k zs few run (inl full) = omega (arith, full, few)
+takes_none r q k zs few run (inr none) = no_first r.run.interval r.place q k zs none run
 
 -- where as many MCUs are read as can be, no whole one follows
 pub no_room : (i : IntervalValue) (from to : Place) (n m most : ℕ) (zs : List (List ℤ)) → IsLawful i.head → to.bit ≤ 8 * length i.bytes → IsRun (run_from i from n) zs to AllRead

@@ -1,6 +1,6 @@
 //! The whole MCUs of an interval, one after the other.
 
-ghost use Rattle.std.specs.Prelude.{◌≡◌, ◌<◌, ◌≤◌, ◌+◌, ◌*◌, ◌++◌, ◌^◌, ℕ, ℤ, List, [], length, take, drop, false, IsTrue, IfNone, OnSome};
+ghost use Rattle.std.specs.Prelude.{◌≡◌, ◌<◌, ◌≤◌, ◌+◌, ◌*◌, ◌++◌, ◌^◌, ℤ, List, [], length, take, drop, false, IsTrue};
 ghost use Rattle.std.specs.List.{All};
 ghost use Rattle.jr_code.specs.Bits.{bits};
 ghost use Rattle.jr_head.specs.Geometry.{IsLawful};
@@ -10,7 +10,7 @@ use crate::interval_ref::IntervalRef;
 use crate::place::Place;
 use jr_base::Coefficients;
 use jr_code::Bits;
-use jr_mcu::{read_mcu, skip_mcu};
+use jr_mcu::{BlockSink, Kept, Skipped, read_mcu};
 use std::marker::Model;
 
 /// The most data units that an MCU has (T.81, B.2.3): blocks with so much room take a whole one of any head.
@@ -132,20 +132,29 @@ impl<'a> McuReader<'a> {
         &self.interval
     }
 
-    /// Reads the next MCU into blocks that have just room for it. None where no whole one follows.
-    fn next(&mut self, blocks: &mut [Coefficients]) -> Option<()>
-        requires more { self.old.mcu < self.old.run.mcus }
-        requires room { length blocks.old ≡ per_mcu self.old }
+    /// Takes the next MCUs, at most `most`, as many whole ones as follow. Returns their number.
+    fn take_mcus<S: BlockSink>(&mut self, most: u32, blocks: &mut [Coefficients]) -> u32
+        requires few { self.old.mcu + most ≤ self.old.run.mcus }
+        requires room { IsTrue S.keeps → most * per_mcu self.old ≤ length blocks.old }
         ensures run { self.new.run ≡ self.old.run }
-        ensures mcu { OnSome result (self.new.mcu ≡ self.old.mcu + 1) }
-        ensures some { OnSome result (IsRun (run_from self.old.run.interval self.old.place 1) blocks.new self.new.place AllRead) }
-        ensures none { IfNone result (HasNoMcu self.old.run.interval self.old.place) }
-        ensures kept { IfNone result (self.new ≡ self.old) }
+        ensures mcus { self.new.mcu ≡ self.old.mcu + result }
+        ensures few { self.new.mcu ≤ self.new.run.mcus }
+        ensures most { result ≤ most }
+        ensures taken { (zs : List (List ℤ)) × IsRun (run_from self.old.run.interval self.old.place result) zs self.new.place AllRead × (IsTrue S.keeps → take (result * per_mcu self.old) blocks.new ≡ zs) }
+        ensures ended { result < most → HasNoMcu self.new.run.interval self.new.place }
+        ensures stays { result ≡ 0 → self.new ≡ self.old }
     {
         let head = self.interval.head();
-        read_mcu(head, &mut self.bits, &mut self.predictions, blocks)?;
-        self.mcu += 1;
-        Some(())
+        let per_mcu = head.order().len();
+        for k in 0..most {
+            let start = k as usize * per_mcu;
+            let Some(()) = read_mcu::<S>(head, &mut self.bits, &mut self.predictions, start, blocks)
+            else {
+                return k;
+            };
+            self.mcu += 1;
+        }
+        most
     }
 
     /// Reads the blocks of the next MCUs, as many whole ones as the slice has room for or as follow; tells how many MCUs
@@ -164,29 +173,7 @@ impl<'a> McuReader<'a> {
         let per_mcu = self.interval.head().order().len();
         let room = blocks.len() / per_mcu;
         let most = room.min((self.mcus - self.mcu) as usize) as u32;
-        for k in 0..most {
-            let start = k as usize * per_mcu;
-            let end = start + per_mcu;
-            let Some(()) = self.next(&mut blocks[start..end]) else {
-                return k;
-            };
-        }
-        most
-    }
-
-    /// Passes over the next MCU. None where no whole one follows.
-    fn skip_next(&mut self) -> Option<()>
-        requires more { self.old.mcu < self.old.run.mcus }
-        ensures run { self.new.run ≡ self.old.run }
-        ensures mcu { OnSome result (self.new.mcu ≡ self.old.mcu + 1) }
-        ensures some { OnSome result ((zs : List (List ℤ)) × IsRun (run_from self.old.run.interval self.old.place 1) zs self.new.place AllRead) }
-        ensures none { IfNone result (HasNoMcu self.old.run.interval self.old.place) }
-        ensures kept { IfNone result (self.new ≡ self.old) }
-    {
-        let head = self.interval.head();
-        skip_mcu(head, &mut self.bits, &mut self.predictions)?;
-        self.mcu += 1;
-        Some(())
+        self.take_mcus::<Kept>(most, blocks)
     }
 
     /// Passes over the next MCUs, as many whole ones as are asked for or as follow, and keeps none of their blocks; tells how
@@ -201,12 +188,7 @@ impl<'a> McuReader<'a> {
         ensures stays { HasEnded self.old → self.new ≡ self.old }
     {
         let most = mcus.min(self.mcus - self.mcu);
-        for done in 0..most {
-            let Some(()) = self.skip_next() else {
-                return done;
-            };
-        }
-        most
+        self.take_mcus::<Skipped>(most, &mut [])
     }
 
     /// How many MCUs are read: those of the interval's longest front, once no further one follows.

@@ -1,7 +1,7 @@
-use Rattle.std.proofs.Common.{rules, ◌≡◌, ◌≤◌, ◌+◌, ◌<◌, ◌∷◌, ◌++◌, [], refl, ℕ, ℤ, pos, List, length, get_or, take, set, sym, ap, subst, ◌∙◌, arith, w32, length-append}
+use Rattle.std.proofs.Common.{rules, ◌≡◌, ◌+◌, ◌<◌, ◌∷◌, ◌++◌, [], refl, ℕ, ℤ, pos, List, length, get_or, take, set, sym, ap, subst, ◌∙◌, arith, w32, append_assoc, append-nil, length-append}
 use mir.Val.{SFits, to_z, of_z}
 use Rattle.std.proofs.lemmas.Int.{to_z-of_z}
-use Rattle.std.proofs.lemmas.List.{take_all, take_more_set}
+use Rattle.std.proofs.lemmas.List.{take_more_set}
 use Rattle.jr_code.specs.Code.{Table}
 use Rattle.jr_code.proofs.CodeLemmas.{one_word}
 use Rattle.jr_head.specs.HeadValue.{HeadValue}
@@ -10,8 +10,8 @@ use Rattle.jr_mcu.specs.Block.{IsInDcRange}
 use Rattle.jr_mcu.specs.Step.{TakesBlock, HasNoBlock}
 use Rattle.jr_mcu.specs.Mcus.{component}
 use Rattle.jr_mcu.proofs.Predicted.{kept_fits}
-use Rattle.jr_mcu.proofs.InMcu.{few_components, component_in, last_in_range, mcu_taken, missing, one_more, predicted_behind}
-use Rattle.jr_mcu.proofs.mcu.take_mcu.Goals as goal
+use Rattle.jr_mcu.proofs.InMcu.{few_components, component_in, last_in_range, mcu_taken, missing, one_more, predicted_behind, front_kept}
+use Rattle.jr_mcu.proofs.mcu.read_mcu.Goals as goal
 
 -- what is known of the next block, before it is read
 record Next (h : HeadValue) (order : List ℕ) (c k : ℕ) : Type 0 where
@@ -25,7 +25,10 @@ next h order k is lt within count =
     record { at = ap (λ (o : List ℕ). get_or o k 0) is ∙ sym (component_in h k room); three = few_components h h.kind (components_of h) (get_or order k 0) count within; room = room }
 
 pub loop-k-init : goal.loop-k-init
-loop-k-init g c = record { room = refl; taken = ([], refl, search rules, λ _. refl) }
+loop-k-init g c =
+    let start = c.args.start in
+    let none : start + 0 ≡ start = omega arith in
+    record { room = refl; taken = ([], refl, search rules, λ _. ap (λ (n : ℕ). take n c.args.blocks.now) none ∙ sym (append-nil (take start c.args.blocks.now))) }
 
 pub take-requires-clause-in_range : goal.take-requires-clause-in_range
 take-requires-clause-in_range g c =
@@ -37,6 +40,13 @@ take-requires-clause-in_range g c =
     let s = c.loop-k.invariant.taken.2 in
     let p = get_or c.loop-k.last d (pos 0) in
     subst IsInDcRange (sym (to_z-of_z w32 p (kept_fits p (s.in_range d n.three)))) (s.in_range d n.three)
+
+pub bounds-last-c-in-loop-k : goal.bounds-last-c-in-loop-k
+bounds-last-c-in-loop-k g c =
+    let h = c.args.head.now in
+    let order = c.order-order.result.now in
+    let n = next h order c.loop-k.k c.order-order.ensures.value (search rules) (c.order-order.ensures.within c.loop-k.k 0 (search rules)) c.requires.lawful.components.count in
+    omega (arith, n.three, c.loop-k.invariant.taken.2.three)
 
 pub returns-in_default-clause-none : goal.returns-in_default-clause-none
 returns-in_default-clause-none g c =
@@ -58,6 +68,7 @@ returns-in_default-clause-none g c =
 pub loop-k-preserved : goal.loop-k-preserved
 loop-k-preserved g c =
     let h = c.args.head.now in
+    let start = c.args.start in
     let order = c.order-order.result.now in
     let k = c.loop-k.k in
     let d = get_or order k 0 in
@@ -84,8 +95,11 @@ loop-k-preserved g c =
         omega (arith, s.1, length-append s.0 (z ∷ [])),
         search (rules, more),
         λ keeps.
-            let long : k < length c.loop-k.blocks = omega (arith, n.room, c.loop-k.invariant.room, c.requires.room keeps) in
-            ap (λ (bs : List (List ℤ)). take (k + 1) bs) (t.3 keeps) ∙ take_more_set c.loop-k.blocks k z long ∙ ap (λ (zs : List (List ℤ)). zs ++ z ∷ []) (s.3 keeps),
+            let at = start + k in
+            let next : start + (k + 1) ≡ at + 1 = omega arith in
+            let long : at < length c.loop-k.blocks = omega (arith, n.room, c.loop-k.invariant.room, c.requires.room keeps) in
+            ap (λ (bs : List (List ℤ)). take (start + (k + 1)) bs) (t.3 keeps) ∙ ap (λ (m : ℕ). take m (set c.loop-k.blocks at z)) next ∙ take_more_set c.loop-k.blocks at z long
+            ∙ ap (λ (zs : List (List ℤ)). zs ++ z ∷ []) (s.3 keeps) ∙ append_assoc (take start c.args.blocks.now) s.0 (z ∷ []),
       );
     }
 
@@ -100,7 +114,15 @@ returns-clause-some g c =
       s.0,
       mcu_taken h c.args.predictions.now c.loop-k.last c.args.bits.now c.loop-k.left s.0 (omega (arith, all, s.1)) s.2,
       predicted_behind h c.args.predictions.now c.loop-k.last c.args.bits.now c.loop-k.left s.0 s.2,
-      λ keeps.
-          let full : length c.loop-k.blocks ≤ c.loop-k.k = omega (arith, all, c.loop-k.invariant.room, c.requires.room keeps) in
-          sym (take_all c.loop-k.k c.loop-k.blocks full) ∙ s.3 keeps,
+      λ keeps. ap (λ (n : ℕ). take (c.args.start + n) c.loop-k.blocks) (sym all) ∙ s.3 keeps,
     )
+
+pub returns-clause-front : goal.returns-clause-front
+returns-clause-front g c = λ keeps.
+    let s = c.loop-k.invariant.taken in
+    front_kept c.args.start (c.args.start + c.loop-k.k) c.loop-k.blocks c.args.blocks.now s.0 (omega arith) (omega (arith, c.requires.room keeps)) (s.3 keeps)
+
+pub returns-in_default-clause-front : goal.returns-in_default-clause-front
+returns-in_default-clause-front g c = λ keeps.
+    let s = c.loop-k.invariant.taken in
+    front_kept c.args.start (c.args.start + c.loop-k.k) c.take.new.blocks c.args.blocks.now s.0 (omega arith) (omega (arith, c.requires.room keeps)) (c.take.ensures.front keeps ∙ s.3 keeps)
