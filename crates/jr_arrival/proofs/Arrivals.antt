@@ -7,7 +7,7 @@ use Rattle.jr_head.specs.HeadValue.{HeadValue}
 use Rattle.jr_segments.specs.declared.refusal.Refusal.TheVariants.{TooLong}
 use Rattle.jr_head.specs.Heads.{HeadOf, RefusalOf}
 use Rattle.jr_paint.specs.Lines.{line_size}
-use Rattle.jr_scan.specs.GrowingScan.{HasCome}
+use Rattle.jr_scan.specs.GrowingScan.{GrowingScanValue, HasCome}
 use Rattle.jr_scan.specs.ScanValue.{ScanValue}
 use Rattle.jr_arrival.proofs.LinesOfPictures.{of_picture}
 use Rattle.jr_arrival.specs.Growing.{HasScan}
@@ -24,15 +24,15 @@ begun_stays c d bytes more small head count come (h, has, n) =
     (subst (HeadOf (bytes ++ more)) (sym head) (head_stays bytes more small c.growing.scan.head h), come has, count ∙ ap (λ (k : ℕ). k + length more) n ∙ sym (length-append bytes more))
 
 -- lines of whatever the scan may become are those of every file that the bytes can become
-pub coming_final : (bytes : List ℕ) (s : ScanValue) (first count : ℕ) (pixels : List ℕ) → first + count ≤ s.head.height → HasScan bytes s → AreComing s first count pixels → AreFinal bytes first count pixels
-coming_final bytes s first count pixels high has are file t marks f can there shows =
-    let becomes = file_becomes bytes file s t can has there in
+pub coming_final : (bytes : List ℕ) (part : GrowingScanValue) (first count : ℕ) (pixels : List ℕ) → first + count ≤ part.scan.head.height → HeadOf bytes part.scan.head → HasCome part bytes → AreComing part first count pixels → AreFinal bytes first count pixels
+coming_final bytes part first count pixels high head come are file t marks f can there shows =
+    let becomes = file_becomes bytes file part t can head come there in
     of_picture t marks f first count pixels (subst (λ (h : HeadValue). first + count ≤ h.height) (sym becomes.head) high) shows (are t becomes)
 
 pub given_next : (c : ComingValue) (bytes : List ℕ) (first n : ℕ) (pixels : List ℕ) → HasBegun c bytes → GivesComing c first n pixels → GivesNext bytes first n pixels
 given_next c bytes first n pixels begun given =
     let s = c.growing.scan in
-    let g = given.settled in
+    let g = given.settled bytes begun.1 in
     let has : HasScan bytes s = record { head = begun.0; scan = begun.1.scan } in
     let few : 0 < n → first + n ≤ s.head.height = λ some. omega (arith, g.count, some) in
     inr (record {
@@ -41,7 +41,7 @@ given_next c bytes first n pixels begun given =
       rows = g.has;
       count = g.count;
       are = elim (cases_lt 0 n) [
-        | inl some ↦ coming_final bytes s first n (take (n * line_size s.head) pixels) (few some) has given.are
+        | inl some ↦ coming_final bytes c.growing first n (take (n * line_size s.head) pixels) (few some) begun.0 begun.1 given.are
         | inr none ↦ subst (λ (k : ℕ). AreFinal bytes first k (take (k * line_size s.head) pixels)) {x = 0} {y = n} (omega (arith, none)) (λ file t marks f can there shows. let zero : 0 * line_size s.head ≡ 0 = omega arith in ap (λ (k : ℕ). take k pixels) zero)
       ];
     })

@@ -1,8 +1,6 @@
 -- How many rows of MCUs the bytes so far settle, by where the reading of a scan stands.
-use Rattle.std.proofs.Common.{◌≡◌, ◌≢◌, ℕ, ◌+◌, ◌-◌, ◌*◌, ◌/◌, ◌<◌, ◌≤◌, ◌⊎◌, min, Bool, cond, inl, inr, Option, Some, None, refl, sym, ap, subst, ◌∙◌, arith}
-use Rattle.std.specs.Int.{div_ceil}
+use Rattle.std.proofs.Common.{◌≡◌, ◌≢◌, ℕ, ◌+◌, ◌-◌, ◌*◌, ◌/◌, ◌<◌, ◌≤◌, ◌⊎◌, min, inl, inr, List, Option, Some, None, refl, sym, ap, subst, ◌∙◌, arith}
 use Rattle.std.proofs.lemmas.Bool.{cases_lt}
-use Rattle.std.proofs.lemmas.Bool.Decides.{eqb_tells}
 use Rattle.std.proofs.lemmas.Nat.{div-mul-add}
 use Rattle.std.proofs.Math.Nat.{add-mul, div-mul-le_self, mul-le-mul_right}
 use Rattle.std.proofs.lemmas.Nat.{le-div}
@@ -14,66 +12,54 @@ use Rattle.jr_paint.proofs.Places.{below_div_ceil, in_div_ceil}
 use Rattle.jr_cut.specs.declared.scan_end.ScanEnd.{ScanEnd}
 use Rattle.jr_cut.specs.declared.scan_end.ScanEnd.TheVariants.{EndOfFile, EndOfImage, OtherMarker, OutOfStep, ExtraRestart}
 use Rattle.jr_scan.specs.declared.place.Place.{Place}
-use Rattle.jr_scan.specs.GrowingScan.{IsLatest}
+use Rattle.jr_scan.specs.GrowingScan.{GrowingScanValue, HasCome}
 use Rattle.jr_scan.specs.Mcus.{HasLongestFront}
 use Rattle.jr_scan.specs.ScanValue.{ScanValue, interval_of, intervals_of, mcus_in}
 use Rattle.jr_code.proofs.CodeLemmas.{one_word}
 use Rattle.jr_scan.proofs.LongestFronts.{longest_front}
 use Rattle.jr_scan.proofs.McuReaders.{front_of_run}
 use Rattle.jr_rows.specs.Rows.{first_line}
-use Rattle.jr_arrival.specs.Coming.{ComingRowValue, HasNoMore, IsComing, MayGoOn, ReadsTo}
-use Rattle.jr_arrival.specs.Settled.{GivesSettled}
-use Rattle.jr_arrival.proofs.Readings.{over_or_going}
-use Rattle.jr_arrival.proofs.SettledRows.{has_rows, one_count}
+use Rattle.jr_rows.proofs.PictureRows.{row_inside}
+use Rattle.jr_arrival.specs.Coming.{ComingRowValue, HasNoMore, IsComing, ReadsTo}
+use Rattle.jr_arrival.specs.Growing.{IsOver}
+use Rattle.jr_arrival.specs.Settled.{GivesSettled, HasRows}
+use Rattle.jr_arrival.proofs.SettledRows.{before_later, has_rows}
 
--- ---- no MCU is read behind the whole ones of the interval that has come last
+-- ---- no MCU is read behind the whole ones of the interval that has begun last
 
--- an interval's MCUs stand before those of the later ones
-before_later : (h : HeadValue) (i j mcu : ℕ) → i < j → j < intervals_of h → mcu ≤ mcus_in h i → i * h.restart + mcu ≤ j * h.restart
-before_later h i j mcu lt few le = elim (eqb_tells h.restart 0) [
-  | inl t ↦
-      let one : j < 1 = subst (λ (b : Bool). j < cond b 1 (div_ceil (mcus_of h) h.restart)) t.0 few in
-      absurd (omega (arith, lt, one))
-  | inr f ↦
-      let low : mcu ≤ min h.restart (mcus_of h - i * h.restart) = subst (λ (b : Bool). mcu ≤ cond b (mcus_of h) (min h.restart (mcus_of h - i * h.restart))) f.0 le in
-      let next : (i + 1) * h.restart ≤ j * h.restart = mul-le-mul_right {m = i + 1} {n = j} h.restart (omega (arith, lt)) in
-      omega (arith, low, next, add-mul i 1 h.restart)
-]
+-- which is not over
+is_open : (part : GrowingScanValue) (i : ℕ) → part.scan.ended ≡ EndOfFile → i + 1 ≡ part.segments → IsOver part.scan part.segments i → ⊥
+is_open part i end last (inl n) = n end
+is_open part i end last (inr lt) = absurd (omega (arith, lt, last))
 
-read_few : (s : ScanValue) (number mcu front : ℕ) (place : Option Place) → MayGoOn s number → mcu ≤ mcus_in s.head number → ReadsTo s number mcu place → HasLongestFront (interval_of s number) front → mcu ≤ front
-read_few s number mcu front (Some p) going few r far = far.1.longest mcu r.0 (front_of_run (interval_of s number) mcu r.0 p r.1.run few)
-read_few s number mcu front None going few r far = absurd (over_or_going s number r.0 going)
+read_few : (part : GrowingScanValue) (number mcu front : ℕ) (place : Option Place) → (IsOver part.scan part.segments number → ⊥) → mcu ≤ mcus_in part.scan.head number → ReadsTo part number mcu place → HasLongestFront (interval_of part.scan number) front → mcu ≤ front
+read_few part number mcu front (Some p) going few r far = far.1.longest mcu r.0 (front_of_run (interval_of part.scan number) mcu r.0 p r.1.run few)
+read_few part number mcu front None going few r far = absurd (going r.0)
 
-pub reaches : (s : ScanValue) (v : ComingRowValue) (i front : ℕ) → IsComing s v → s.ended ≡ EndOfFile → IsLatest s i → i < intervals_of s.head → HasLongestFront (interval_of s i) front
-    → v.number * s.head.restart + v.mcu ≤ first_mcu_of s.head i + front
-reaches s v i front c end latest few far = elim (cases_lt v.number i) [
-  | inl l ↦ let le = before_later s.head v.number i v.mcu l few c.stands.few in omega (arith, le)
-  | inr g ↦ elim (cases_lt i v.number) [
-    | inl l ↦ absurd (over_or_going s i (c.begun i l) (end, latest.none))
-    | inr k ↦
-        let same : v.number ≡ i = omega (arith, g, k) in
-        let going : MayGoOn s v.number = (end, λ j lt. latest.none j (omega (arith, lt, same))) in
-        let there : HasLongestFront (interval_of s v.number) front = subst (λ (n : ℕ). HasLongestFront (interval_of s n) front) (sym same) far in
-        let le = read_few s v.number v.mcu front v.place going c.stands.few c.reads there in
-        omega (arith, le, ap (λ (n : ℕ). n * s.head.restart) same)
-  ]
-]
+module _ (part : GrowingScanValue) (v : ComingRowValue) (i front : ℕ) (c : IsComing part v) (end : part.scan.ended ≡ EndOfFile) (last : i + 1 ≡ part.segments) (far : HasLongestFront (interval_of part.scan i) front) where
+  abbrev h : HeadValue
+  h = part.scan.head
 
--- where no further MCU is there, they are all read
-module _ (s : ScanValue) (v : ComingRowValue) (i front : ℕ) (c : IsComing s v) (none : HasNoMore s v) (latest : IsLatest s i) (far : HasLongestFront (interval_of s i) front) where
-  number_is : v.number ≡ i
-  number_is = elim (cases_lt v.number i) [
-    | inl l ↦ absurd (latest.some (omega (arith, l)) (none.0.1 i l))
-    | inr g ↦ elim (cases_lt i v.number) [
-      | inl l ↦ absurd (over_or_going s i (c.begun i l) (none.0.0, latest.none))
-      | inr k ↦ omega (arith, g, k)
-    ]
+  not_later : v.number ≤ i
+  not_later = elim (cases_lt i v.number) [ inl l ↦ absurd (is_open part i end last (c.begun i l)) | inr k ↦ k ]
+
+  reaches : i < intervals_of h → v.number * h.restart + v.mcu ≤ first_mcu_of h i + front
+  reaches few = elim (cases_lt v.number i) [
+    | inl l ↦ let le = before_later h v.number i v.mcu l few c.stands.few in omega (arith, le)
+    | inr g ↦
+        let same : i ≡ v.number = omega (arith, g, not_later) in
+        let there : HasLongestFront (interval_of part.scan v.number) front = subst (λ (n : ℕ). HasLongestFront (interval_of part.scan n) front) same far in
+        let le = read_few part v.number v.mcu front v.place (is_open part v.number end (omega (arith, same, last))) c.stands.few c.reads there in
+        omega (arith, le, ap (λ (n : ℕ). n * h.restart) same)
   ]
 
-  pub all_read_there : v.number * s.head.restart + v.mcu ≡ first_mcu_of s.head i + front
-  all_read_there =
-      let there : HasLongestFront (interval_of s v.number) front = subst (λ (n : ℕ). HasLongestFront (interval_of s n) front) (sym number_is) far in
-      omega (arith, one_count s v.number v.mcu front none.1 there, ap (λ (n : ℕ). n * s.head.restart) number_is)
+  -- where no further MCU is there, they are all read
+  all_read_there : HasNoMore part v → v.number * h.restart + v.mcu ≡ first_mcu_of h i + front
+  all_read_there none =
+      let same : i ≡ v.number = elim (cases_lt v.number i) [ inl l ↦ absurd (none.0 (inr (omega (arith, l, last)))) | inr k ↦ omega (arith, k, not_later) ] in
+      let there : HasLongestFront (interval_of part.scan v.number) front = subst (λ (n : ℕ). HasLongestFront (interval_of part.scan n) front) same far in
+      let count : v.mcu ≡ front = omega (arith, none.1.1.longest front there.0 there.1.front, there.1.longest v.mcu none.1.0 none.1.1.front) in
+      omega (arith, count, ap (λ (n : ℕ). n * h.restart) same)
 
 -- ---- the lines that a look gives
 
@@ -85,12 +71,15 @@ ended_or_not (OutOfStep found expected at) = inr (λ e. absurd cc)
 ended_or_not (ExtraRestart at) = inr (λ e. absurd cc)
 
 -- a look has given lines up to those of a row, all that have room or all that are there
-pub record HasLooked (s : ScanValue) (v : ComingRowValue) (first n most : ℕ) : Type 0 where
+pub record HasLooked (part : GrowingScanValue) (v : ComingRowValue) (first n most : ℕ) : Type 0 where
   pub lines : v.lines ≡ first + n
-  pub few : n ≤ min most (s.head.height - first)
-  pub all : n < min most (s.head.height - first) → HasNoMore s v × (v.done < mcus_across s.head)
+  pub few : n ≤ min most (part.scan.head.height - first)
+  pub all : n < min most (part.scan.head.height - first) → HasNoMore part v × (v.done < mcus_across part.scan.head)
 
-module _ (s : ScanValue) (v : ComingRowValue) (lawful : IsLawful s.head) (c : IsComing s v) (first n most : ℕ) (looked : HasLooked s v first n most) where
+module _ (part : GrowingScanValue) (v : ComingRowValue) (lawful : IsLawful part.scan.head) (c : IsComing part v) (first n most : ℕ) (looked : HasLooked part v first n most) where
+  abbrev s : ScanValue
+  s = part.scan
+
   abbrev deep : ℕ
   deep = 8 * vertical_max s.head
 
@@ -120,45 +109,43 @@ module _ (s : ScanValue) (v : ComingRowValue) (lawful : IsLawful s.head) (c : Is
     | inr g ↦ omega (arith, g, looked.few, looked.lines, le, few)
   ]
 
-  module _ (i front : ℕ) (some : 0 < mcus_across s.head) (end : s.ended ≡ EndOfFile) (latest : IsLatest s i) (inside : i < intervals_of s.head) (far : HasLongestFront (interval_of s i) front) where
-    abbrev rows : ℕ
-    rows = (first_mcu_of s.head i + front) / mcus_across s.head
+  -- where these are the lines of settled rows
+  gives : (bytes : List ℕ) (rows room : ℕ) → most ≡ room / line_size s.head → HasRows bytes s rows → v.lines ≤ min s.head.height (rows * deep) → (n < min most (s.head.height - first) → v.lines ≡ min s.head.height (rows * deep)) → GivesSettled bytes s first n room
+  gives bytes rows room is has few all = record {
+    rows = rows;
+    has = has;
+    count = count_is (min s.head.height (rows * deep)) (omega arith) few all ∙ ap (λ (k : ℕ). min (min s.head.height (rows * deep) - first) k) is;
+  }
 
-    coming_few : v.lines ≤ min s.head.height (rows * deep)
-    coming_few =
-        let le = reaches s v i front c end latest inside far in
-        let place = v.row * mcus_across s.head + v.done in
-        lines_few rows (le-div (place / mcus_across s.head) (first_mcu_of s.head i + front) (mcus_across s.head) some (omega (arith, le, c.stands.at, div-mul-le_self place (mcus_across s.head)))) some
-
-    coming_all : n < min most (s.head.height - first) → v.lines ≡ min s.head.height (rows * deep)
-    coming_all lt =
+  module _ (bytes : List ℕ) (come : HasCome part bytes) (room : ℕ) (some : 0 < mcus_across s.head) (is : most ≡ room / line_size s.head) where
+    settled_coming : (i front : ℕ) → s.ended ≡ EndOfFile → i + 1 ≡ part.segments → i < intervals_of s.head → HasLongestFront (interval_of s i) front → GivesSettled bytes s first n room
+    settled_coming i front end last inside far =
+        let across = mcus_across s.head in
+        let place = v.row * across + v.done in
+        let all = first_mcu_of s.head i + front in
+        let rows = all / across in
+        let mcus : 0 < mcus_of s.head = omega (arith, some, row_inside s.head v.row c.stands.row) in
+        let has = has_rows bytes s come.scan i end (omega (arith, last, come.segments)) inside front far lawful some mcus in
+        let le = reaches part v i front c end last far inside in
+        let few = lines_few rows (le-div (place / across) all across some (omega (arith, le, c.stands.at, div-mul-le_self place across))) some in
+        gives bytes rows room is has few
+        (λ lt.
         let none = looked.all lt in
-        let there = all_read_there s v i front c none.0 latest far in
-        let at : first_mcu_of s.head i + front ≡ v.row * mcus_across s.head + v.done = sym there ∙ c.stands.at in
-        let row : rows ≡ v.row = ap (λ (k : ℕ). k / mcus_across s.head) at ∙ div-mul-add v.row (mcus_across s.head) v.done none.1 in
-        omega (arith, c.given.none none.1, row_high, ap (λ (k : ℕ). k * deep) row)
+        let at : all ≡ place = sym (all_read_there part v i front c end last far none.0) ∙ c.stands.at in
+        let row : rows ≡ v.row = ap (λ (k : ℕ). k / across) at ∙ div-mul-add v.row across v.done none.1 in
+        omega (arith, c.given.none none.1, row_high, ap (λ (k : ℕ). k * deep) row))
 
-    pub settled_coming : (room : ℕ) → most ≡ room / line_size s.head → GivesSettled s first n room
-    settled_coming room is = record {
-      rows = rows;
-      has = has_rows s i front rows end latest far refl;
-      count = count_is (min s.head.height (rows * deep)) (omega arith) coming_few coming_all ∙ ap (λ (k : ℕ). min (min s.head.height (rows * deep) - first) k) is;
-    }
+    settled_ended : s.ended ≢ EndOfFile → GivesSettled bytes s first n room
+    settled_ended ended =
+        let down : s.head.height ≤ mcus_down s.head * deep = elim (cases_lt (mcus_down s.head * deep) s.head.height) [
+          | inl l ↦ absurd (omega (arith, in_div_ceil (mcus_down s.head) s.head.height deep positive l))
+          | inr g ↦ g
+        ] in
+        let has : HasRows bytes s (mcus_down s.head) = record { few = omega arith; settled = λ row lt m from to. inl (come.scan, inl ended); next = λ lt. absurd (omega (arith, lt)) } in
+        gives bytes (mcus_down s.head) room is has (omega (arith, down, c.given.to, row_high)) (λ lt. absurd ((looked.all lt).0.0 (inl ended)))
 
-  settled_ended : (room : ℕ) → s.ended ≢ EndOfFile → most ≡ room / line_size s.head → GivesSettled s first n room
-  settled_ended room ended is =
-      let down : s.head.height ≤ mcus_down s.head * deep = elim (cases_lt (mcus_down s.head * deep) s.head.height) [
-        | inl l ↦ absurd (omega (arith, in_div_ceil (mcus_down s.head) s.head.height deep positive l))
-        | inr g ↦ g
-      ] in
-      record {
-        rows = mcus_down s.head;
-        has = record { ended = λ e. refl; coming = λ e. absurd (ended e) };
-        count = count_is (min s.head.height (mcus_down s.head * deep)) (omega arith) (omega (arith, down, c.given.to, row_high)) (λ lt. absurd (ended (looked.all lt).0.0.0)) ∙ ap (λ (k : ℕ). min (min s.head.height (mcus_down s.head * deep) - first) k) is;
-      }
-
-  pub gives_settled : (i room : ℕ) → 0 < mcus_across s.head → IsLatest s i → i < intervals_of s.head → most ≡ room / line_size s.head → GivesSettled s first n room
-  gives_settled i room some latest inside is = elim (ended_or_not s.ended) [
-    | inl end ↦ let far = longest_front one_word (interval_of s i) in settled_coming i far.0 some end latest inside (far.1, far.2) room is
-    | inr ended ↦ settled_ended room ended is
-  ]
+    pub gives_settled : (i : ℕ) → i + 1 ≡ part.segments → i < intervals_of s.head → GivesSettled bytes s first n room
+    gives_settled i last inside = elim (ended_or_not s.ended) [
+      | inl end ↦ let far = longest_front one_word (interval_of s i) in settled_coming i far.0 end last inside (far.1, far.2)
+      | inr ended ↦ settled_ended ended
+    ]

@@ -1,5 +1,5 @@
 -- What is read of a row of MCUs is that of whatever the scan may become.
-use Rattle.std.proofs.Common.{◌≡◌, ◌≢◌, ℕ, ◌+◌, ◌*◌, ◌<◌, ◌≤◌, inl, inr, Option, Some, None, List, [], ◌∷◌, ◌++◌, length, get_or, refl, sym, ap, subst, ◌∙◌, append_assoc, length-append, arith}
+use Rattle.std.proofs.Common.{◌≡◌, ℕ, ◌+◌, ◌*◌, ◌<◌, ◌≤◌, inl, inr, Option, Some, None, List, [], ◌∷◌, ◌++◌, length, get_or, refl, sym, ap, subst, ◌∙◌, append_assoc, length-append, arith}
 use Rattle.std.specs.Prelude.{ℤ}
 use Rattle.std.proofs.lemmas.Bool.{cases_lt}
 use Rattle.std.proofs.Math.Nat.{add-mul}
@@ -8,6 +8,7 @@ use Rattle.jr_head.specs.Geometry.{IsLawful, blocks_of, order_of, mcus_across, m
 use Rattle.jr_head.proofs.SamplingLaws.{length-order}
 use Rattle.jr_scan.specs.declared.place.Place.{Place}
 use Rattle.jr_scan.specs.declared.place.RunEnd.TheVariants.{AllRead}
+use Rattle.jr_scan.specs.GrowingScan.{GrowingScanValue, HasCome}
 use Rattle.jr_scan.specs.IntervalValue.{IntervalValue}
 use Rattle.jr_paint.specs.Lines.{next_lines_of}
 use Rattle.jr_paint.proofs.Places.{in_div_ceil}
@@ -37,38 +38,45 @@ use Rattle.jr_arrival.specs.More.{with_more}
 use Rattle.jr_arrival.proofs.LinesOfPictures.{row_of_board}
 use Rattle.jr_arrival.proofs.MoreData.{run_is_final}
 use Rattle.jr_arrival.proofs.ShownMcus.{shown_on, shown_there}
-use Rattle.jr_arrival.specs.Coming.{AreComing, Becomes, Begins, ComingRowValue, HasGiven, IsComing, IsOver, MayGoOn, ReadsAll, ReadsTo, StandsIn}
+use Rattle.jr_arrival.specs.Coming.{AreComing, Becomes, Begins, ComingRowValue, HasGiven, IsComing, ReadsAll, ReadsTo, StandsIn}
+use Rattle.jr_arrival.specs.Growing.{IsOver}
 use Rattle.jr_arrival.proofs.LinesStay.{interval_more}
+use Rattle.jr_arrival.proofs.ScansGoOn.{becomes, grown_few}
 
 -- ---- what a scan may become
 
-not_empty : (xs ys : List ℕ) → xs ≢ [] → xs ++ ys ≢ []
-not_empty [] ys some e = some refl
-not_empty (x ∷ xs) ys some e = absurd cc
+-- more bytes have come, with which no fewer segments have begun
+pub record Grows (old new : GrowingScanValue) : Type 0 where
+  pub becomes : Becomes old new.scan
+  pub segments : old.segments ≤ new.segments
 
-pub over_stays : (s t : ScanValue) (i : ℕ) → Becomes s t → IsOver s i → IsOver t i
-over_stays s t i b (inl n) = inl (λ e. n (sym (b.end n) ∙ e))
-over_stays s t i b (inr later) =
-    let d = b.so_far later.0 in
-    inr (later.0, later.1, λ e. not_empty (get_or s.intervals later.0 []) d.0 later.2 (sym d.1 ∙ e))
+pub grows : (bytes more : List ℕ) (old new : GrowingScanValue) → new.scan.head ≡ old.scan.head → HasCome old bytes → HasCome new (bytes ++ more) → Grows old new
+grows bytes more old new heads was is = record {
+  becomes = becomes bytes more old new.scan heads was is.scan;
+  segments = omega (arith, grown_few bytes more old.scan new.scan heads was.starts was.scan is.scan, was.segments, is.segments);
+}
 
-pub becomes_itself : (s : ScanValue) → Becomes s s
-becomes_itself s = record { head = refl; count = refl; so_far = λ i. ([], sym (append-nil (get_or s.intervals i []))); whole = λ i over. refl; end = λ n. refl }
+over_stays : (old new : GrowingScanValue) (i : ℕ) → Grows old new → IsOver old.scan old.segments i → IsOver new.scan new.segments i
+over_stays old new i b (inl n) = inl (λ e. n (sym (b.becomes.end n) ∙ e))
+over_stays old new i b (inr lt) = inr (omega (arith, lt, b.segments))
+
+pub becomes_itself : (part : GrowingScanValue) → Becomes part part.scan
+becomes_itself part = record { head = refl; count = refl; so_far = λ i. ([], sym (append-nil (get_or part.scan.intervals i []))); whole = λ i over. refl; end = λ n. refl }
   where
     append-nil : (xs : List ℕ) → xs ++ [] ≡ xs
     append-nil [] = refl
     append-nil (x ∷ xs) = ap (λ (ys : List ℕ). x ∷ ys) (append-nil xs)
 
-pub becomes_more : (s t u : ScanValue) → Becomes s t → Becomes t u → Becomes s u
-becomes_more s t u a b = record {
-  head = b.head ∙ a.head;
-  count = b.count ∙ a.count;
+becomes_more : (old new : GrowingScanValue) (t : ScanValue) → Grows old new → Becomes new t → Becomes old t
+becomes_more old new t a b = record {
+  head = b.head ∙ a.becomes.head;
+  count = b.count ∙ a.becomes.count;
   so_far = λ i.
-      let d = a.so_far i in
+      let d = a.becomes.so_far i in
       let e = b.so_far i in
-      (d.0 ++ e.0, e.1 ∙ ap (λ (l : List ℕ). l ++ e.0) d.1 ∙ append_assoc (get_or s.intervals i []) d.0 e.0);
-  whole = λ i over. b.whole i (over_stays s t i a over) ∙ a.whole i over;
-  end = λ n. b.end (λ e. n (sym (a.end n) ∙ e)) ∙ a.end n;
+      (d.0 ++ e.0, e.1 ∙ ap (λ (l : List ℕ). l ++ e.0) d.1 ∙ append_assoc (get_or old.scan.intervals i []) d.0 e.0);
+  whole = λ i over. b.whole i (over_stays old new i a over) ∙ a.becomes.whole i over;
+  end = λ n. b.end (λ e. n (sym (a.becomes.end n) ∙ e)) ∙ a.becomes.end n;
 }
 
 -- ---- where the reading stands
@@ -79,22 +87,22 @@ next_stays i more first zs p n = record {
   can = (omega (arith, n.can.0, length-append i.bytes more), n.can.1);
 }
 
-reads_stays : (s t : ScanValue) (number mcu : ℕ) (place : Option Place) → Becomes s t → ReadsTo s number mcu place → ReadsTo t number mcu place
-reads_stays s t number mcu (Some p) b r =
-    let d = b.so_far number in
-    (r.0, subst (λ (i : IntervalValue). IsNext i mcu r.0 p) (sym (interval_more s t number d.0 b.head d.1)) (next_stays (interval_of s number) d.0 mcu r.0 p r.1))
-reads_stays s t number mcu None b r =
+reads_stays : (old new : GrowingScanValue) (number mcu : ℕ) (place : Option Place) → Grows old new → ReadsTo old number mcu place → ReadsTo new number mcu place
+reads_stays old new number mcu (Some p) b r =
+    let d = b.becomes.so_far number in
+    (r.0, subst (λ (i : IntervalValue). IsNext i mcu r.0 p) (sym (interval_more old.scan new.scan number d.0 b.becomes.head d.1)) (next_stays (interval_of old.scan number) d.0 mcu r.0 p r.1))
+reads_stays old new number mcu None b r =
     let far = r.1 in
-    (over_stays s t number b r.0, (far.0, far.1, far.2, subst (λ (i : IntervalValue). LongestFront i far.0 far.1) (sym (b.whole number r.0)) far.3))
+    (over_stays old new number b r.0, (far.0, far.1, far.2, subst (λ (i : IntervalValue). LongestFront i far.0 far.1) (sym (b.becomes.whole number r.0)) far.3))
 
-pub coming_stays : (s t : ScanValue) (v : ComingRowValue) → Becomes s t → IsComing s v → IsComing t v
-coming_stays s t v b c = record {
-  stands = subst (λ (h : HeadValue). StandsIn h v) (sym b.head) c.stands;
-  given = subst (λ (h : HeadValue). HasGiven h v) (sym b.head) c.given;
-  begun = λ i lt. over_stays s t i b (c.begun i lt);
-  reads = reads_stays s t v.number v.mcu v.place b c.reads;
-  shows = λ u then. c.shows u (becomes_more s t u b then);
-  counts = λ u then. c.counts u (becomes_more s t u b then);
+pub coming_stays : (old new : GrowingScanValue) (v : ComingRowValue) → Grows old new → IsComing old v → IsComing new v
+coming_stays old new v b c = record {
+  stands = subst (λ (h : HeadValue). StandsIn h v) (sym b.becomes.head) c.stands;
+  given = subst (λ (h : HeadValue). HasGiven h v) (sym b.becomes.head) c.given;
+  begun = λ i lt. over_stays old new i b (c.begun i lt);
+  reads = reads_stays old new v.number v.mcu v.place b c.reads;
+  shows = λ u then. c.shows u (becomes_more old new u b then);
+  counts = λ u then. c.counts u (becomes_more old new u b then);
 }
 
 -- nothing of an interval is read at its start
@@ -103,26 +111,26 @@ at_the_start i = let start = runs.at_start i in (start.blocks, start.next start_
 
 -- ---- one step
 
-module _ (s : ScanValue) (v : ComingRowValue) (lawful : IsLawful s.head) (some : 0 < blocks_of s.head) (count : length s.intervals ≡ intervals_of s.head) (c : IsComing s v) where
-  per_mcu : length (order_of s.head) ≡ blocks_of s.head
-  per_mcu = length-order 0 s.head.components
+module _ (part : GrowingScanValue) (v : ComingRowValue) (lawful : IsLawful part.scan.head) (some : 0 < blocks_of part.scan.head) (count : length part.scan.intervals ≡ intervals_of part.scan.head) (c : IsComing part v) where
+  per_mcu : length (order_of part.scan.head) ≡ blocks_of part.scan.head
+  per_mcu = length-order 0 part.scan.head.components
 
   -- further MCUs of the interval, which are the outcomes' in whatever the scan may become
-  module _ (n : ℕ) (place : Option Place) (w : SampleRowValue) (within : v.done + n ≤ mcus_across s.head) (few : v.mcu + n ≤ mcus_in s.head v.number) (room : HasSampleRoom s.head w) (reads : ReadsTo s v.number (v.mcu + n) place)
-      (kept : (k : ℕ) → k < v.done * blocks_of s.head → get_or (units_in s.head w.lines.groups) k [] ≡ get_or (units_in s.head v.samples.lines.groups) k [])
-      (codes : (t : ScanValue) → Becomes s t → (o : PieceValue) → o.interval ≡ interval_of t v.number → IsOutcome o → (k : ℕ) → k < n * blocks_of s.head → get_or (units_in s.head w.lines.groups) (v.done * blocks_of s.head + k) [] ≡ unit_in_piece o (v.mcu * blocks_of s.head + k)) where
+  module _ (n : ℕ) (place : Option Place) (w : SampleRowValue) (within : v.done + n ≤ mcus_across part.scan.head) (few : v.mcu + n ≤ mcus_in part.scan.head v.number) (room : HasSampleRoom part.scan.head w) (reads : ReadsTo part v.number (v.mcu + n) place)
+      (kept : (k : ℕ) → k < v.done * blocks_of part.scan.head → get_or (units_in part.scan.head w.lines.groups) k [] ≡ get_or (units_in part.scan.head v.samples.lines.groups) k [])
+      (codes : (t : ScanValue) → Becomes part t → (o : PieceValue) → o.interval ≡ interval_of t v.number → IsOutcome o → (k : ℕ) → k < n * blocks_of part.scan.head → get_or (units_in part.scan.head w.lines.groups) (v.done * blocks_of part.scan.head + k) [] ≡ unit_in_piece o (v.mcu * blocks_of part.scan.head + k)) where
     abbrev new : ComingRowValue
     new = record { row = v.row; done = v.done + n; number = v.number; mcu = v.mcu + n; place = place; samples = w; lines = v.lines; marked = v.marked }
 
     -- by the head of whatever the scan may become
-    module _ (t : ScanValue) (b : Becomes s t) where
+    module _ (t : ScanValue) (b : Becomes part t) where
       abbrev KeptBy : HeadValue → Type 0
       KeptBy g = (k : ℕ) → k < v.done * blocks_of g → get_or (units_in g w.lines.groups) k [] ≡ get_or (units_in g v.samples.lines.groups) k []
 
       abbrev CodesBy : HeadValue → Type 0
       CodesBy g = (o : PieceValue) → o.interval ≡ interval_of t v.number → IsOutcome o → (k : ℕ) → k < n * blocks_of g → get_or (units_in g w.lines.groups) (v.done * blocks_of g + k) [] ≡ unit_in_piece o (v.mcu * blocks_of g + k)
 
-      e : s.head ≡ t.head
+      e : part.scan.head ≡ t.head
       e = sym b.head
 
       shows_on : ShowsFirstUnits t (length t.intervals) (v.row * mcus_across t.head) (v.done + n) (units_in t.head w.lines.groups)
@@ -135,7 +143,7 @@ module _ (s : ScanValue) (v : ComingRowValue) (lawful : IsLawful s.head) (some :
           (c.shows t b) (subst KeptBy e kept)
           (shown_there t (length t.intervals) v.number v.mcu n (v.done * blocks_of t.head) (units_in t.head w.lines.groups) positive here.number (omega (arith, here.number, all)) there (subst CodesBy e (codes t b)))
 
-    pub step : IsComing s new
+    pub step : IsComing part new
     step = record {
       stands = record { row = c.stands.row; within = within; number = c.stands.number; few = few; at = omega (arith, c.stands.at); room = room };
       given = record { from = c.given.from; to = c.given.to; none = λ lt. c.given.none (omega (arith, lt)); left = c.given.left };
@@ -146,77 +154,73 @@ module _ (s : ScanValue) (v : ComingRowValue) (lawful : IsLawful s.head) (some :
     }
 
   -- whole MCUs
-  module _ (p q : Place) (zs ys : List (List ℤ)) (n : ℕ) (w : SampleRowValue) (next : IsNext (interval_of s v.number) v.mcu zs p) (run : IsRun (run_from (interval_of s v.number) p n) ys q AllRead) (can : CanReadFrom (interval_of s v.number) q)
-      (within : v.done + n ≤ mcus_across s.head) (few : v.mcu + n ≤ mcus_in s.head v.number) (room : HasSampleRoom s.head w)
-      (kept : (k : ℕ) → k < v.done * blocks_of s.head → get_or (units_in s.head w.lines.groups) k [] ≡ get_or (units_in s.head v.samples.lines.groups) k [])
-      (units : (k : ℕ) → k < n * blocks_of s.head → get_or (units_in s.head w.lines.groups) (v.done * blocks_of s.head + k) [] ≡ unit_of s.head ys k) where
+  module _ (p q : Place) (zs ys : List (List ℤ)) (n : ℕ) (w : SampleRowValue) (next : IsNext (interval_of part.scan v.number) v.mcu zs p) (run : IsRun (run_from (interval_of part.scan v.number) p n) ys q AllRead) (can : CanReadFrom (interval_of part.scan v.number) q)
+      (within : v.done + n ≤ mcus_across part.scan.head) (few : v.mcu + n ≤ mcus_in part.scan.head v.number) (room : HasSampleRoom part.scan.head w)
+      (kept : (k : ℕ) → k < v.done * blocks_of part.scan.head → get_or (units_in part.scan.head w.lines.groups) k [] ≡ get_or (units_in part.scan.head v.samples.lines.groups) k [])
+      (units : (k : ℕ) → k < n * blocks_of part.scan.head → get_or (units_in part.scan.head w.lines.groups) (v.done * blocks_of part.scan.head + k) [] ≡ unit_of part.scan.head ys k) where
     abbrev i : IntervalValue
-    i = interval_of s v.number
+    i = interval_of part.scan v.number
 
-    codes_whole : (t : ScanValue) → Becomes s t → (o : PieceValue) → o.interval ≡ interval_of t v.number → IsOutcome o → (k : ℕ) → k < n * blocks_of s.head → get_or (units_in s.head w.lines.groups) (v.done * blocks_of s.head + k) [] ≡ unit_in_piece o (v.mcu * blocks_of s.head + k)
+    codes_whole : (t : ScanValue) → Becomes part t → (o : PieceValue) → o.interval ≡ interval_of t v.number → IsOutcome o → (k : ℕ) → k < n * blocks_of part.scan.head → get_or (units_in part.scan.head w.lines.groups) (v.done * blocks_of part.scan.head + k) [] ≡ unit_in_piece o (v.mcu * blocks_of part.scan.head + k)
     codes_whole t b o same is k lt =
         let d = b.so_far v.number in
         let longer = with_more i d.0 in
-        let of_longer : o.interval ≡ longer = same ∙ interval_more s t v.number d.0 b.head d.1 in
+        let of_longer : o.interval ≡ longer = same ∙ interval_more part.scan t v.number d.0 b.head d.1 in
         let goes_on = run_is_final (run_from i p n) d.0 ys q next.can.0 run in
-        let there : k < n * length (order_of s.head) = omega (arith, lt, ap (λ (m : ℕ). n * m) per_mcu) in
+        let there : k < n * length (order_of part.scan.head) = omega (arith, lt, ap (λ (m : ℕ). n * m) per_mcu) in
         units k lt ∙ whole_codes longer lawful v.mcu zs p (next_stays i d.0 v.mcu zs p next) n ys q goes_on few o of_longer is k there
         ∙ ap (λ (m : ℕ). unit_in_piece o (v.mcu * m + k)) per_mcu
 
-    pub step_whole : IsComing s (record { row = v.row; done = v.done + n; number = v.number; mcu = v.mcu + n; place = Some q; samples = w; lines = v.lines; marked = v.marked })
+    pub step_whole : IsComing part (record { row = v.row; done = v.done + n; number = v.number; mcu = v.mcu + n; place = Some q; samples = w; lines = v.lines; marked = v.marked })
     step_whole =
         let first : FirstMcus (run_from i p n) n ys = record { to = q; run = run; none = λ lt. absurd (omega (arith, lt)) } in
         step n (Some q) w within few room (zs ++ ys, runs.going one_run runs_meet shorter_front i lawful v.mcu zs p next n n ys first few q run can) kept codes_whole
 
   -- grey ones behind the last whole one of an interval that is over
-  module _ (front n : ℕ) (zs : List (List ℤ)) (w : SampleRowValue) (over : IsOver s v.number) (more : 0 < n) (far : front ≤ v.mcu) (longest : LongestFront (interval_of s v.number) front zs)
-      (within : v.done + n ≤ mcus_across s.head) (few : v.mcu + n ≤ mcus_in s.head v.number) (room : HasSampleRoom s.head w)
-      (kept : (k : ℕ) → k < v.done * blocks_of s.head → get_or (units_in s.head w.lines.groups) k [] ≡ get_or (units_in s.head v.samples.lines.groups) k [])
-      (grey : (k : ℕ) → k < n * blocks_of s.head → get_or (units_in s.head w.lines.groups) (v.done * blocks_of s.head + k) [] ≡ grey_unit) where
-    codes_grey : (t : ScanValue) → Becomes s t → (o : PieceValue) → o.interval ≡ interval_of t v.number → IsOutcome o → (k : ℕ) → k < n * blocks_of s.head → get_or (units_in s.head w.lines.groups) (v.done * blocks_of s.head + k) [] ≡ unit_in_piece o (v.mcu * blocks_of s.head + k)
+  module _ (front n : ℕ) (zs : List (List ℤ)) (w : SampleRowValue) (over : IsOver part.scan part.segments v.number) (more : 0 < n) (far : front ≤ v.mcu) (longest : LongestFront (interval_of part.scan v.number) front zs)
+      (within : v.done + n ≤ mcus_across part.scan.head) (few : v.mcu + n ≤ mcus_in part.scan.head v.number) (room : HasSampleRoom part.scan.head w)
+      (kept : (k : ℕ) → k < v.done * blocks_of part.scan.head → get_or (units_in part.scan.head w.lines.groups) k [] ≡ get_or (units_in part.scan.head v.samples.lines.groups) k [])
+      (grey : (k : ℕ) → k < n * blocks_of part.scan.head → get_or (units_in part.scan.head w.lines.groups) (v.done * blocks_of part.scan.head + k) [] ≡ grey_unit) where
+    codes_grey : (t : ScanValue) → Becomes part t → (o : PieceValue) → o.interval ≡ interval_of t v.number → IsOutcome o → (k : ℕ) → k < n * blocks_of part.scan.head → get_or (units_in part.scan.head w.lines.groups) (v.done * blocks_of part.scan.head + k) [] ≡ unit_in_piece o (v.mcu * blocks_of part.scan.head + k)
     codes_grey t b o same is k lt =
-        grey k lt ∙ grey_codes (interval_of s v.number) front v.mcu zs far longest o (same ∙ b.whole v.number over) is k
+        grey k lt ∙ grey_codes (interval_of part.scan v.number) front v.mcu zs far longest o (same ∙ b.whole v.number over) is k
         ∙ ap (λ (m : ℕ). unit_in_piece o (v.mcu * m + k)) per_mcu
 
-    pub step_grey : IsComing s (record { row = v.row; done = v.done + n; number = v.number; mcu = v.mcu + n; place = None; samples = w; lines = v.lines; marked = v.marked })
+    pub step_grey : IsComing part (record { row = v.row; done = v.done + n; number = v.number; mcu = v.mcu + n; place = None; samples = w; lines = v.lines; marked = v.marked })
     step_grey = step n None w within few room (over, (front, zs, omega (arith, far, more), longest)) kept codes_grey
 
-started_next : (s : ScanValue) (v : ComingRowValue) → ReadsTo s (v.number + 1) 0 (Some start_of_interval)
-started_next s v = at_the_start (interval_of s (v.number + 1))
+started_next : (part : GrowingScanValue) (v : ComingRowValue) → ReadsTo part (v.number + 1) 0 (Some start_of_interval)
+started_next part v = at_the_start (interval_of part.scan (v.number + 1))
 
 -- on to the next interval
-pub step_next : (s : ScanValue) (v : ComingRowValue) (m : Marked) → IsComing s v → IsOver s v.number → v.mcu ≡ mcus_in s.head v.number → v.done < mcus_across s.head
-    → ((t : ScanValue) → Becomes s t → interval_of t v.number ≡ interval_of s v.number → CountsMarks t (length t.intervals) 0 (v.number + 1) m)
-    → IsComing s (record { row = v.row; done = v.done; number = v.number + 1; mcu = 0; place = Some start_of_interval; samples = v.samples; lines = v.lines; marked = m })
-step_next s v m c over all more counts =
-    let next = next_there s.head v.number v.mcu c.stands.number all (omega (arith, c.stands.at, more, row_inside s.head v.row c.stands.row)) in
+pub step_next : (part : GrowingScanValue) (v : ComingRowValue) (m : Marked) → IsComing part v → IsOver part.scan part.segments v.number → v.mcu ≡ mcus_in part.scan.head v.number → v.done < mcus_across part.scan.head
+    → ((t : ScanValue) → Becomes part t → interval_of t v.number ≡ interval_of part.scan v.number → CountsMarks t (length t.intervals) 0 (v.number + 1) m)
+    → IsComing part (record { row = v.row; done = v.done; number = v.number + 1; mcu = 0; place = Some start_of_interval; samples = v.samples; lines = v.lines; marked = m })
+step_next part v m c over all more counts =
+    let next = next_there part.scan.head v.number v.mcu c.stands.number all (omega (arith, c.stands.at, more, row_inside part.scan.head v.row c.stands.row)) in
     record {
       stands = record { row = c.stands.row; within = c.stands.within; number = next.0; few = omega arith; at = omega (arith, next.1, c.stands.at); room = c.stands.room };
       given = record { from = c.given.from; to = c.given.to; none = c.given.none; left = c.given.left };
-      begun = λ j lt. elim (cases_lt j v.number) [ inl l ↦ c.begun j l | inr g ↦ subst (λ (k : ℕ). IsOver s k) {x = v.number} {y = j} (omega (arith, g, lt)) over ];
-      reads = started_next s v;
+      begun = λ j lt. elim (cases_lt j v.number) [ inl l ↦ c.begun j l | inr g ↦ subst (λ (k : ℕ). IsOver part.scan part.segments k) {x = v.number} {y = j} (omega (arith, g, lt)) over ];
+      reads = started_next part v;
       shows = c.shows;
       counts = λ t b. counts t b (b.whole v.number over);
     }
 
 -- which has an MCU
-pub next_inside : (s : ScanValue) (v : ComingRowValue) → IsComing s v → v.mcu ≡ mcus_in s.head v.number → v.done < mcus_across s.head → 0 < mcus_in s.head (v.number + 1)
-next_inside s v c all more =
-    let inside = row_inside s.head v.row c.stands.row in
-    let next = next_there s.head v.number v.mcu c.stands.number all (omega (arith, c.stands.at, more, inside)) in
-    mcus_in_some s.head (v.number + 1) (omega (arith, more, inside)) next.0
+pub next_inside : (part : GrowingScanValue) (v : ComingRowValue) → IsComing part v → v.mcu ≡ mcus_in part.scan.head v.number → v.done < mcus_across part.scan.head → 0 < mcus_in part.scan.head (v.number + 1)
+next_inside part v c all more =
+    let inside = row_inside part.scan.head v.row c.stands.row in
+    let next = next_there part.scan.head v.number v.mcu c.stands.number all (omega (arith, c.stands.at, more, inside)) in
+    mcus_in_some part.scan.head (v.number + 1) (omega (arith, more, inside)) next.0
 
 -- ---- where the reading ends
 
-pub over_or_going : (s : ScanValue) (i : ℕ) → IsOver s i → MayGoOn s i → ⊥
-over_or_going s i (inl n) g = n g.0
-over_or_going s i (inr later) g = later.2 (g.1 later.0 later.1)
-
 -- all MCUs of an interval are its longest front
-pub all_read : (s : ScanValue) (number mcu : ℕ) (place : Option Place) → MayGoOn s number → ReadsTo s number mcu place → mcu ≡ mcus_in s.head number → HasLongestFront (interval_of s number) mcu
-all_read s number mcu (Some p) going r all =
-    (r.0, record { front = front_of_run (interval_of s number) mcu r.0 p r.1.run (omega (arith, all)); longest = λ j ys f. omega (arith, f.at_most, all) })
-all_read s number mcu None going r all = absurd (over_or_going s number r.0 going)
+pub all_read : (part : GrowingScanValue) (number mcu : ℕ) (place : Option Place) → (IsOver part.scan part.segments number → ⊥) → ReadsTo part number mcu place → mcu ≡ mcus_in part.scan.head number → HasLongestFront (interval_of part.scan number) mcu
+all_read part number mcu (Some p) going r all =
+    (r.0, record { front = front_of_run (interval_of part.scan number) mcu r.0 p r.1.run (omega (arith, all)); longest = λ j ys f. omega (arith, f.at_most, all) })
+all_read part number mcu None going r all = absurd (going r.0)
 
 -- a reader that reads nothing stands there
 pub nothing_follows : (i : IntervalValue) (first left : ℕ) (zs ys : List (List ℤ)) (p : Place) → IsLawful i.head → IsNext i first zs p → FirstMcus (run_from i p left) 0 ys → 0 < left → first ≤ i.mcus → HasLongestFront i (first + 0)
@@ -224,24 +228,24 @@ nothing_follows i first left zs ys p lawful next here some few =
     (zs ++ ys, runs.longest one_run runs_meet shorter_front i lawful first zs p next 0 left ys here (omega (arith, few)) some)
 
 -- the grey MCUs of an interval stand behind a longest front
-pub far_front : (s : ScanValue) (number mcu : ℕ) (place : Option Place) → ReadsTo s number mcu place → ReadsAll s number mcu place → (front : ℕ) × (zs : List (List ℤ)) × (front ≤ mcu) × LongestFront (interval_of s number) front zs
-far_front s number mcu (Some p) r all = (mcu, all.0, omega arith, all.1)
-far_front s number mcu None r all = (r.1.0, r.1.1, omega (arith, r.1.2), r.1.3)
+pub far_front : (part : GrowingScanValue) (number mcu : ℕ) (place : Option Place) → ReadsTo part number mcu place → ReadsAll part.scan number mcu place → (front : ℕ) × (zs : List (List ℤ)) × (front ≤ mcu) × LongestFront (interval_of part.scan number) front zs
+far_front part number mcu (Some p) r all = (mcu, all.0, omega arith, all.1)
+far_front part number mcu None r all = (r.1.0, r.1.1, omega (arith, r.1.2), r.1.3)
 
 -- ---- a row of MCUs
 
 -- on to the next one
-pub step_row : (s : ScanValue) (v : ComingRowValue) → IsComing s v → 0 < vertical_max s.head → v.done ≡ mcus_across s.head → (lines : ℕ) → lines ≡ first_line s.head v.row + line_count s.head v.row → lines < s.head.height
-    → IsComing s (record { row = v.row + 1; done = 0; number = v.number; mcu = v.mcu; place = v.place; samples = v.samples; lines = lines; marked = v.marked })
-step_row s v c some whole lines given more =
-    let deep = 8 * vertical_max s.head in
+pub step_row : (part : GrowingScanValue) (v : ComingRowValue) → IsComing part v → 0 < vertical_max part.scan.head → v.done ≡ mcus_across part.scan.head → (lines : ℕ) → lines ≡ first_line part.scan.head v.row + line_count part.scan.head v.row → lines < part.scan.head.height
+    → IsComing part (record { row = v.row + 1; done = 0; number = v.number; mcu = v.mcu; place = v.place; samples = v.samples; lines = lines; marked = v.marked })
+step_row part v c some whole lines given more =
+    let deep = 8 * vertical_max part.scan.head in
     let positive : 0 < deep = omega (arith, some) in
     let next : (v.row + 1) * deep ≡ v.row * deep + deep = omega (arith, add-mul v.row 1 deep) in
     let at : lines ≡ (v.row + 1) * deep = omega (arith, given, more, next) in
-    let across : (v.row + 1) * mcus_across s.head ≡ v.row * mcus_across s.head + mcus_across s.head = omega (arith, add-mul v.row 1 (mcus_across s.head)) in
+    let across : (v.row + 1) * mcus_across part.scan.head ≡ v.row * mcus_across part.scan.head + mcus_across part.scan.head = omega (arith, add-mul v.row 1 (mcus_across part.scan.head)) in
     record {
       stands = record {
-        row = in_div_ceil (v.row + 1) s.head.height deep positive (omega (arith, at, more));
+        row = in_div_ceil (v.row + 1) part.scan.head.height deep positive (omega (arith, at, more));
         within = omega arith;
         number = c.stands.number;
         few = c.stands.few;
@@ -256,9 +260,9 @@ step_row s v c some whole lines given more =
     }
 
 -- lines that are given of it
-pub step_lines : (s : ScanValue) (v : ComingRowValue) (n : ℕ) → IsComing s v → v.done ≡ mcus_across s.head → v.lines + n ≤ first_line s.head v.row + line_count s.head v.row → (v.lines + n < s.head.height → v.lines + n < first_line s.head v.row + line_count s.head v.row)
-    → IsComing s (record { row = v.row; done = v.done; number = v.number; mcu = v.mcu; place = v.place; samples = v.samples; lines = v.lines + n; marked = v.marked })
-step_lines s v n c whole few left = record {
+pub step_lines : (part : GrowingScanValue) (v : ComingRowValue) (n : ℕ) → IsComing part v → v.done ≡ mcus_across part.scan.head → v.lines + n ≤ first_line part.scan.head v.row + line_count part.scan.head v.row → (v.lines + n < part.scan.head.height → v.lines + n < first_line part.scan.head v.row + line_count part.scan.head v.row)
+    → IsComing part (record { row = v.row; done = v.done; number = v.number; mcu = v.mcu; place = v.place; samples = v.samples; lines = v.lines + n; marked = v.marked })
+step_lines part v n c whole few left = record {
   stands = record { row = c.stands.row; within = c.stands.within; number = c.stands.number; few = c.stands.few; at = c.stands.at; room = c.stands.room };
   given = record { from = omega (arith, c.given.from); to = few; none = λ lt. absurd (omega (arith, lt, whole)); left = left };
   begun = c.begun;
@@ -268,7 +272,7 @@ step_lines s v n c whole few left = record {
 }
 
 -- the row's samples are painted as the picture's
-module _ (s : ScanValue) (v : ComingRowValue) (lawful : IsLawful s.head) (c : IsComing s v) (whole : v.done ≡ mcus_across s.head) (n : ℕ) (few : v.lines + n ≤ first_line s.head v.row + line_count s.head v.row) (t : ScanValue) (b : Becomes s t) (board : BoardValue) (first : HasFirst t (length t.intervals) board) where
+module _ (part : GrowingScanValue) (v : ComingRowValue) (lawful : IsLawful part.scan.head) (c : IsComing part v) (whole : v.done ≡ mcus_across part.scan.head) (n : ℕ) (few : v.lines + n ≤ first_line part.scan.head v.row + line_count part.scan.head v.row) (t : ScanValue) (b : Becomes part t) (board : BoardValue) (first : HasFirst t (length t.intervals) board) where
   abbrev groups : List (List ℕ)
   groups = v.samples.lines.groups
 
@@ -283,36 +287,36 @@ module _ (s : ScanValue) (v : ComingRowValue) (lawful : IsLawful s.head) (c : Is
       let end = subst (λ (g : HeadValue). v.lines + n ≤ first_line g v.row + line_count g v.row) e few in
       row_of_board t (length t.intervals) v.row groups (subst IsLawful e lawful) (subst (λ (g : HeadValue). v.row < mcus_down g) e c.stands.row) all board first v.lines n (subst (λ (g : HeadValue). HasGiven g v) e c.given).from end
 
-  pub lines_are : PaintedBy s.head
+  pub lines_are : PaintedBy part.scan.head
   lines_are = subst PaintedBy b.head painted_there
 
-pub row_coming : (s : ScanValue) (v : ComingRowValue) → IsLawful s.head → IsComing s v → v.done ≡ mcus_across s.head → (n : ℕ) → v.lines + n ≤ first_line s.head v.row + line_count s.head v.row
-    → (pixels : List ℕ) → pixels ≡ next_lines_of s.head (samples_in (record { head = s.head; groups = v.samples.lines.groups })) v.lines n → AreComing s v.lines n pixels
-row_coming s v lawful c whole n few pixels are t b board first = are ∙ lines_are s v lawful c whole n few t b board first
+pub row_coming : (part : GrowingScanValue) (v : ComingRowValue) → IsLawful part.scan.head → IsComing part v → v.done ≡ mcus_across part.scan.head → (n : ℕ) → v.lines + n ≤ first_line part.scan.head v.row + line_count part.scan.head v.row
+    → (pixels : List ℕ) → pixels ≡ next_lines_of part.scan.head (samples_in (record { head = part.scan.head; groups = v.samples.lines.groups })) v.lines n → AreComing part v.lines n pixels
+row_coming part v lawful c whole n few pixels are t b board first = are ∙ lines_are part v lawful c whole n few t b board first
 
 -- ---- the beginning
 
-pub begins_coming : (s : ScanValue) (v : ComingRowValue) → Begins s.head v → 0 < mcus_down s.head → 0 < intervals_of s.head → 0 < s.head.height → 0 < vertical_max s.head → IsComing s v
-begins_coming s v b down some high deep =
-    let none : v.row * mcus_across s.head ≡ 0 * mcus_across s.head = ap (λ (n : ℕ). n * mcus_across s.head) b.row in
-    let before : v.number * s.head.restart ≡ 0 * s.head.restart = ap (λ (n : ℕ). n * s.head.restart) b.number in
-    let top : first_line s.head v.row ≡ 0 * (8 * vertical_max s.head) = ap (λ (n : ℕ). n * (8 * vertical_max s.head)) b.row in
+pub begins_coming : (part : GrowingScanValue) (v : ComingRowValue) → Begins part.scan.head v → 0 < mcus_down part.scan.head → 0 < intervals_of part.scan.head → 0 < part.scan.head.height → 0 < vertical_max part.scan.head → IsComing part v
+begins_coming part v b down some high deep =
+    let none : v.row * mcus_across part.scan.head ≡ 0 * mcus_across part.scan.head = ap (λ (n : ℕ). n * mcus_across part.scan.head) b.row in
+    let before : v.number * part.scan.head.restart ≡ 0 * part.scan.head.restart = ap (λ (n : ℕ). n * part.scan.head.restart) b.number in
+    let top : first_line part.scan.head v.row ≡ 0 * (8 * vertical_max part.scan.head) = ap (λ (n : ℕ). n * (8 * vertical_max part.scan.head)) b.row in
     record {
       stands = record { row = omega (arith, b.row, down); within = omega (arith, b.done); number = omega (arith, b.number, some); few = omega (arith, b.mcu); at = omega (arith, b.mcu, b.done, none, before); room = b.room };
       given = record { from = omega (arith, top, b.lines); to = omega (arith, b.lines); none = λ lt. omega (arith, top, b.lines); left = λ lt. omega (arith, top, b.lines, high, deep) };
       begun = λ i lt. absurd (omega (arith, lt, b.number));
-      reads = subst (λ (o : Option Place). ReadsTo s v.number v.mcu o) (sym b.place) (subst (λ (m : ℕ). ReadsTo s v.number m (Some start_of_interval)) (sym b.mcu) started);
+      reads = subst (λ (o : Option Place). ReadsTo part v.number v.mcu o) (sym b.place) (subst (λ (m : ℕ). ReadsTo part v.number m (Some start_of_interval)) (sym b.mcu) started);
       shows = λ t becomes board first k lt. let zero : v.done * blocks_of t.head ≡ 0 * blocks_of t.head = ap (λ (n : ℕ). n * blocks_of t.head) b.done in absurd (omega (arith, lt, zero));
       counts = λ t becomes. counts_none t (length t.intervals) 0 v.number v.marked b.sound b.damaged (sym b.number);
     }
   where
-    started : ReadsTo s v.number 0 (Some start_of_interval)
-    started = at_the_start (interval_of s v.number)
+    started : ReadsTo part v.number 0 (Some start_of_interval)
+    started = at_the_start (interval_of part.scan v.number)
 
 -- what is read of a row does not hang on what else its memory holds
-pub same_lines : (s : ScanValue) (v : ComingRowValue) (w : SampleRowValue) → IsComing s v → w.lines ≡ v.samples.lines → HasSampleRoom s.head w
-    → IsComing s (record { row = v.row; done = v.done; number = v.number; mcu = v.mcu; place = v.place; samples = w; lines = v.lines; marked = v.marked })
-same_lines s v w c same room = record {
+pub same_lines : (part : GrowingScanValue) (v : ComingRowValue) (w : SampleRowValue) → IsComing part v → w.lines ≡ v.samples.lines → HasSampleRoom part.scan.head w
+    → IsComing part (record { row = v.row; done = v.done; number = v.number; mcu = v.mcu; place = v.place; samples = w; lines = v.lines; marked = v.marked })
+same_lines part v w c same room = record {
   stands = record { row = c.stands.row; within = c.stands.within; number = c.stands.number; few = c.stands.few; at = c.stands.at; room = room };
   given = record { from = c.given.from; to = c.given.to; none = c.given.none; left = c.given.left };
   begun = c.begun;

@@ -1,18 +1,18 @@
 -- More bytes keep the head, and the data of each interval.
 use Rattle.std.proofs.Common.{◌≡◌, ◌≢◌, ℕ, zero, suc, ◌+◌, ◌-◌, ◌<◌, ◌≤◌, ◌⊎◌, List, [], ◌∷◌, ◌++◌, length, replicate, drop, get_or, refl, sym, ap, subst, ◌∙◌, inl, inr, length-append, arith}
-use Rattle.std.proofs.lemmas.Bool.{cases_lt}
-use Rattle.std.proofs.lemmas.List.{append-nil, drop-append-le, get_or_past}
-use Rattle.jr_arrival.specs.Coming.{Becomes, IsOver}
+use Rattle.std.proofs.lemmas.List.{append-nil, drop-append-le}
+use Rattle.jr_arrival.specs.Coming.{Becomes}
 use Rattle.jr_head.specs.HeadValue.{HeadValue}
 use Rattle.jr_head.specs.Heads.{HeadOf, HasOneHead, HasOneFault}
 use Rattle.jr_head.proofs.OneHeadLaws.{one_head_or_one_fault}
 use Rattle.jr_cut.specs.declared.scan_end.ScanEnd.TheVariants.{EndOfFile}
 use Rattle.jr_cut.specs.Cut.{IsCut, Cutting}
+use Rattle.jr_scan.specs.GrowingScan.{GrowingScanValue, HasCome}
 use Rattle.jr_scan.specs.IntervalValue.{IntervalValue}
 use Rattle.jr_scan.specs.ScanValue.{ScanValue, IsScanOf, interval_of, intervals_of, mcus_in}
 use Rattle.jr_arrival.proofs.ScanIntervals.{count_is, none_in}
 use Rattle.jr_arrival.specs.Arrival.{CanBecome}
-use Rattle.jr_arrival.specs.Growing.{GrowsTo, HasEndedAt, HasScan, KeepsScan}
+use Rattle.jr_arrival.specs.Growing.{GrowsTo, HasEndedAt, HasScan, IsOver, KeepsScan}
 use Rattle.jr_arrival.proofs.HeadsStay.{head_is_final}
 use Rattle.jr_arrival.proofs.CutsGoOn.{cut_is_final}
 
@@ -33,7 +33,7 @@ get_padded [] m i = none_in m i
 get_padded (d ∷ ds) m zero = refl
 get_padded (d ∷ ds) m (suc i) = get_padded ds m i
 
-data_at : (s : ScanValue) (segments : List (List ℕ)) (m i : ℕ) → s.intervals ≡ segments ++ replicate m [] → get_or s.intervals i [] ≡ get_or segments i []
+pub data_at : (s : ScanValue) (segments : List (List ℕ)) (m i : ℕ) → s.intervals ≡ segments ++ replicate m [] → get_or s.intervals i [] ≡ get_or segments i []
 data_at s segments m i e = ap (λ (l : List (List ℕ)). get_or l i []) e ∙ get_padded segments m i
 
 get_more : (ended : List (List ℕ)) (last more : List ℕ) (others : List (List ℕ)) (i : ℕ) → (rest : List ℕ) × (get_or (ended ++ (last ++ more) ∷ others) i [] ≡ get_or (ended ++ last ∷ []) i [] ++ rest)
@@ -92,7 +92,7 @@ module _ (bytes more : List ℕ) (s t : ScanValue) (heads : t.head ≡ s.head) (
       let m = get_more g.ended g.last g.more g.others i in
       (m.0, there i ∙ ap (λ (l : List (List ℕ)). get_or l i []) g.longer_is ∙ m.1 ∙ ap (λ (l : List (List ℕ)). get_or l i [] ++ m.0) (sym g.is) ∙ ap (λ (d : List ℕ). d ++ m.0) (sym (so_far c i)))
 
-  data_ended : (i : ℕ) (c : IsScanOf bytes s) → (s.ended ≢ EndOfFile) ⊎ (i + 1 < length c.segments) → get_or t.intervals i [] ≡ get_or s.intervals i []
+  data_ended : (i : ℕ) (c : IsScanOf bytes s) → IsOver s (length c.segments) i → get_or t.intervals i [] ≡ get_or s.intervals i []
   data_ended i c (inl n) = there i ∙ ap (λ (l : List (List ℕ)). get_or l i []) (finished c n).0 ∙ sym (so_far c i)
   data_ended i c (inr lt) =
       let g = grown c in
@@ -107,23 +107,23 @@ module _ (bytes more : List ℕ) (s t : ScanValue) (heads : t.head ≡ s.head) (
     end = λ n. (finished a n).1;
   }
 
-  -- an interval that is over has ended
-  over_ended : (i : ℕ) → IsOver s i → HasEndedAt bytes s i
-  over_ended i (inl n) = (a, inl n)
-  over_ended i (inr later) = elim (cases_lt later.0 (length a.segments)) [
-    | inl l ↦ (a, inr (omega (arith, l, later.1)))
-    | inr g ↦ absurd (later.2 (so_far a later.0 ∙ get_or_past a.segments later.0 [] g))
-  ]
+  -- no fewer segments
+  pub grown_few : length a.segments ≤ length b.segments
+  grown_few = let g = grown a in omega (arith, ap length g.is, length-append g.ended (g.last ∷ []), ap length g.longer_is, length-append g.ended ((g.last ++ g.more) ∷ g.others))
 
-  -- so the scan becomes the longer one
-  pub becomes : Becomes s t
-  becomes = record {
-    head = heads;
-    count = count_is (bytes ++ more) t b ∙ ap intervals_of heads ∙ sym (count_is bytes s a);
-    so_far = data_goes_on;
-    whole = λ i over. kept.whole i (over_ended i over);
-    end = kept.end;
-  }
+-- so a scan whose file is arriving becomes the longer one
+module _ (bytes more : List ℕ) (part : GrowingScanValue) (t : ScanValue) (heads : t.head ≡ part.scan.head) (come : HasCome part bytes) (b : IsScanOf (bytes ++ more) t) where
+  pub becomes : Becomes part t
+  becomes =
+      let s = part.scan in
+      let keeps = kept bytes more s t heads come.starts come.scan b in
+      record {
+        head = heads;
+        count = count_is (bytes ++ more) t b ∙ ap intervals_of heads ∙ sym (count_is bytes s come.scan);
+        so_far = keeps.so_far;
+        whole = λ i over. keeps.whole i (come.scan, subst (λ (n : ℕ). IsOver s n i) (sym come.segments) over);
+        end = keeps.end;
+      }
 
 -- of a file that the bytes can become
 module _ (bytes file : List ℕ) (s t : ScanValue) (can : CanBecome bytes file) (a : HasScan bytes s) (b : HasScan file t) where
@@ -139,5 +139,7 @@ module _ (bytes file : List ℕ) (s t : ScanValue) (can : CanBecome bytes file) 
   pub scan_is_final : KeepsScan bytes s t
   scan_is_final = kept bytes can.more s t heads_are begins a.scan longer
 
-  pub file_becomes : Becomes s t
-  file_becomes = becomes bytes can.more s t heads_are begins a.scan longer
+pub file_becomes : (bytes file : List ℕ) (part : GrowingScanValue) (t : ScanValue) → CanBecome bytes file → HeadOf bytes part.scan.head → HasCome part bytes → HasScan file t → Becomes part t
+file_becomes bytes file part t can head come b =
+    let has : HasScan bytes part.scan = record { head = head; scan = come.scan } in
+    becomes bytes can.more part t (heads_are bytes file part.scan t can has b) come (longer bytes file part.scan t can has b)

@@ -1,31 +1,133 @@
--- There is one count of the rows of MCUs that the bytes so far settle.
-use Rattle.std.proofs.Common.{◌≡◌, ℕ, ◌+◌, ◌/◌, inl, inr, sym, ap, subst, ◌∙◌, arith}
+-- The rows of MCUs that the bytes so far settle.
+use Rattle.std.proofs.Common.{◌≡◌, ℕ, ◌+◌, ◌-◌, ◌*◌, ◌/◌, ◌%◌, ◌<◌, ◌≤◌, min, Bool, cond, inl, inr, List, [], length, take, drop, get_or, sym, ap, subst, ◌∙◌, arith}
+use Rattle.std.specs.Prelude.{ℤ}
+use Rattle.std.specs.Int.{div_ceil}
 use Rattle.std.proofs.lemmas.Bool.{cases_lt}
-use Rattle.jr_head.specs.Geometry.{mcus_across}
-use Rattle.jr_head.specs.Intervals.{first_mcu_of}
+use Rattle.std.proofs.lemmas.Bool.Decides.{eqb_tells}
+use Rattle.std.proofs.lemmas.List.{get_or_past}
+use Rattle.std.proofs.lemmas.Nat.{div-add-mod', mod_below}
+use Rattle.std.proofs.Math.Nat.{add-mul, mul-le-mul_right}
+use Rattle.jr_head.specs.HeadValue.{HeadValue}
+use Rattle.jr_head.specs.Geometry.{IsLawful, mcus_across, mcus_down, mcus_of, order_of}
+use Rattle.jr_head.proofs.SamplingLaws.{some_there, units_some}
+use Rattle.jr_head.specs.Intervals.{first_mcu_of, interval_number, within_interval}
 use Rattle.jr_cut.specs.declared.scan_end.ScanEnd.TheVariants.{EndOfFile}
-use Rattle.jr_scan.specs.GrowingScan.{IsLatest}
-use Rattle.jr_scan.specs.ScanValue.{ScanValue, interval_of}
-use Rattle.jr_scan.specs.Mcus.{HasLongestFront}
+use Rattle.jr_cut.proofs.CutLaw.{one_cut}
+use Rattle.jr_scan.specs.Mcus.{Front, HasLongestFront}
+use Rattle.jr_scan.specs.ScanValue.{ScanValue, IsScanOf, interval_of, intervals_of, mcus_in}
+use Rattle.jr_piece.proofs.ScanLaws.{shorter_front}
+use Rattle.jr_rows.proofs.IntervalPlaces.{inside, interval_at, mcus_in_some, next_there}
+use Rattle.jr_rows.proofs.PictureRows.{all_rows}
+use Rattle.jr_rows.proofs.RowStarts.{mcu_there}
+use Rattle.jr_arrival.specs.Growing.{HasEndedAt, IsSettled, RowIsSettled}
 use Rattle.jr_arrival.specs.Settled.{HasRows}
+use Rattle.jr_arrival.proofs.ReadOn.{nothing_whole}
+use Rattle.jr_arrival.proofs.ScansGoOn.{data_at}
 
-one_latest : (s : ScanValue) (i j : ℕ) → IsLatest s i → IsLatest s j → i ≡ j
-one_latest s i j a b = elim (cases_lt i j) [
-  | inl l ↦ absurd (b.some (omega (arith, l)) (a.none j l))
-  | inr g ↦ elim (cases_lt j i) [
-    | inl l ↦ absurd (a.some (omega (arith, l)) (b.none i l))
-    | inr k ↦ omega (arith, g, k)
-  ]
+-- an interval's MCUs stand before those of the later ones
+pub before_later : (h : HeadValue) (i j mcu : ℕ) → i < j → j < intervals_of h → mcu ≤ mcus_in h i → i * h.restart + mcu ≤ j * h.restart
+before_later h i j mcu lt few le = elim (eqb_tells h.restart 0) [
+  | inl t ↦
+      let one : j < 1 = subst (λ (b : Bool). j < cond b 1 (div_ceil (mcus_of h) h.restart)) t.0 few in
+      absurd (omega (arith, lt, one))
+  | inr f ↦
+      let low : mcu ≤ min h.restart (mcus_of h - i * h.restart) = subst (λ (b : Bool). mcu ≤ cond b (mcus_of h) (min h.restart (mcus_of h - i * h.restart))) f.0 le in
+      let next : (i + 1) * h.restart ≤ j * h.restart = mul-le-mul_right {m = i + 1} {n = j} h.restart (omega (arith, lt)) in
+      omega (arith, low, next, add-mul i 1 h.restart)
 ]
 
-pub one_count : (s : ScanValue) (i k n : ℕ) → HasLongestFront (interval_of s i) k → HasLongestFront (interval_of s i) n → k ≡ n
-one_count s i k n a b = omega (arith, a.1.longest n b.0 b.1.front, b.1.longest k a.0 a.1.front)
+-- the MCUs of an interval are some of the picture's
+mcus_few : (h : HeadValue) (i n : ℕ) → 0 < mcus_of h → i < intervals_of h → n ≤ mcus_in h i → first_mcu_of h i + n ≤ mcus_of h
+mcus_few h i n some few le = elim (cases_lt 0 n) [
+  | inl l ↦ let last = inside h i (n - 1) few (omega (arith, l, le)) in omega (arith, l, last)
+  | inr g ↦ let first = inside h i 0 few (mcus_in_some h i some few) in omega (arith, g, first)
+]
 
-pub has_rows : (s : ScanValue) (i front rows : ℕ) → s.ended ≡ EndOfFile → IsLatest s i → HasLongestFront (interval_of s i) front → rows ≡ (first_mcu_of s.head i + front) / mcus_across s.head → HasRows s rows
-has_rows s i front rows end latest longest are = record {
-  ended = λ n. absurd (n end);
-  coming = λ e j k other far.
-      let same : j ≡ i = one_latest s j i other latest in
-      let count : k ≡ front = one_count s i k front (subst (λ (x : ℕ). HasLongestFront (interval_of s x) k) same far) longest in
-      are ∙ ap (λ (x : ℕ). (first_mcu_of s.head x + front) / mcus_across s.head) (sym same) ∙ ap (λ (x : ℕ). (first_mcu_of s.head j + x) / mcus_across s.head) (sym count);
-}
+-- the first rows, whose MCUs are among the first ones
+pub settles_rows : (bytes : List ℕ) (s : ScanValue) (mcus : ℕ) → mcus ≤ mcus_of s.head → 0 < mcus_across s.head → ((m : ℕ) → m < mcus → IsSettled bytes s m) → (mcus < mcus_of s.head → IsSettled bytes s mcus → ⊥)
+    → HasRows bytes s (mcus / mcus_across s.head)
+settles_rows bytes s mcus most some before none =
+    let across = mcus_across s.head in
+    let rows = mcus / across in
+    let whole : mcus ≡ rows * across + mcus % across = sym (div-add-mod' mcus across) in
+    let low = mod_below mcus across some in
+    let next : (rows + 1) * across ≡ rows * across + across = omega (arith, add-mul rows 1 across) in
+    record {
+      few = elim (cases_lt (mcus_down s.head) rows) [
+        | inl l ↦
+            let more : (mcus_down s.head + 1) * across ≤ rows * across = mul-le-mul_right {m = mcus_down s.head + 1} {n = rows} across (omega (arith, l)) in
+            absurd (omega (arith, more, add-mul (mcus_down s.head) 1 across, all_rows s.head, whole, most, some))
+        | inr g ↦ g
+      ];
+      settled = λ row lt m from to.
+          let high : (row + 1) * across ≤ rows * across = mul-le-mul_right {m = row + 1} {n = rows} across (omega (arith, lt)) in
+          before m (omega (arith, to, high, whole));
+      next = λ lt settled.
+          let high : (rows + 1) * across ≤ mcus_down s.head * across = mul-le-mul_right {m = rows + 1} {n = mcus_down s.head} across (omega (arith, lt)) in
+          none (omega (arith, high, next, all_rows s.head, whole, low)) (settled mcus (omega (arith, whole)) (omega (arith, whole, low, next)));
+    }
+
+-- while no marker has ended the scan its last interval is not over
+module _ (bytes : List ℕ) (s : ScanValue) (c : IsScanOf bytes s) (i : ℕ) (end : s.ended ≡ EndOfFile) (last : i + 1 ≡ length c.segments) (inside : i < intervals_of s.head) where
+  abbrev h : HeadValue
+  h = s.head
+
+  not_ended : (j : ℕ) → i ≤ j → HasEndedAt bytes s j → ⊥
+  not_ended j le e = elim e.1 [
+    | inl n ↦ n end
+    | inr lt ↦
+        let same = (one_cut (intervals_of h) h.scan_at (drop h.scan_at bytes) e.0.segments c.segments s.ended s.ended e.0.cut c.cut).0 in
+        absurd (omega (arith, lt, le, last, ap length same))
+  ]
+
+  no_data : get_or s.intervals (i + 1) [] ≡ []
+  no_data = data_at s c.segments (intervals_of h - length c.segments) (i + 1) c.intervals ∙ get_or_past c.segments (i + 1) [] (omega (arith, last))
+
+  -- an MCU of it that is not whole is not settled; behind its last one none is
+  pub not_settled : (mcu : ℕ) → mcu ≤ mcus_in h i → ((j : ℕ) (ys : List (List ℤ)) → Front (interval_of s i) j ys → j ≤ mcu) → IsLawful h → first_mcu_of h i + mcu < mcus_of h → IsSettled bytes s (first_mcu_of h i + mcu) → ⊥
+  not_settled mcu few none lawful more settled =
+      let m = first_mcu_of h i + mcu in
+      elim (cases_lt mcu (mcus_in h i)) [
+        | inl l ↦
+            let at = interval_at h i mcu inside l in
+            elim settled [
+              | inl e ↦ not_ended (interval_number h m) (omega (arith, at.0)) e
+              | inr w ↦
+                  let longer = none (within_interval h m + 1) w.0 (subst (λ (k : ℕ). Front (interval_of s k) (within_interval h m + 1) w.0) at.0 w.1) in
+                  absurd (omega (arith, longer, at.1))
+            ]
+        | inr g ↦
+            let next = next_there h i mcu inside (omega (arith, g, few)) more in
+            let is : m ≡ (i + 1) * h.restart + 0 = omega (arith, next.1) in
+            let number : interval_number h m ≡ i + 1 = ap (interval_number h) is ∙ (interval_at h (i + 1) 0 next.0 (mcus_in_some h (i + 1) (omega (arith, more)) next.0)).0 in
+            elim settled [
+              | inl e ↦ not_ended (interval_number h m) (omega (arith, number)) e
+              | inr w ↦
+                  let some = units_some h.components (some_there h.kind h.components lawful.components.count) lawful.components.sampled in
+                  let empty = nothing_whole s (i + 1) 0 some no_data in
+                  let longer = empty.longest.longest (within_interval h m + 1) w.0 (subst (λ (k : ℕ). Front (interval_of s k) (within_interval h m + 1) w.0) number w.1) in
+                  absurd (omega (arith, longer, empty.few))
+            ]
+      ]
+
+  -- the MCUs before it and its whole ones are
+  module _ (front : ℕ) (far : HasLongestFront (interval_of s i) front) where
+    settled_before : (m : ℕ) → m < mcus_of h → m < first_mcu_of h i + front → IsSettled bytes s m
+    settled_before m there lt =
+        let at = mcu_there h m there in
+        let j = interval_number h m in
+        elim (cases_lt j i) [
+          | inl l ↦ inl (c, inr (omega (arith, l, last)))
+          | inr ge ↦ elim (cases_lt i j) [
+            | inl l ↦ let before = before_later h i j front l at.0 far.1.front.at_most in absurd (omega (arith, before, at.1, lt))
+            | inr le ↦
+                let same : i ≡ j = omega (arith, ge, le) in
+                let count : within_interval h m + 1 ≤ front = omega (arith, lt, at.1, ap (λ (k : ℕ). k * h.restart) same) in
+                inr (take ((within_interval h m + 1) * length (order_of h)) far.0, subst (λ (k : ℕ). Front (interval_of s k) (within_interval h m + 1) (take ((within_interval h m + 1) * length (order_of h)) far.0)) same (shorter_front (interval_of s i) (within_interval h m + 1) front far.0 count far.1.front))
+          ]
+        ]
+
+    pub has_rows : IsLawful h → 0 < mcus_across h → 0 < mcus_of h → HasRows bytes s ((first_mcu_of h i + front) / mcus_across h)
+    has_rows lawful across mcus =
+        let most = mcus_few h i front mcus inside far.1.front.at_most in
+        settles_rows bytes s (first_mcu_of h i + front) most across (λ m lt. settled_before m (omega (arith, lt, most)) lt) (not_settled front far.1.front.at_most far.1.longest lawful)

@@ -40,5 +40,5 @@ given_of (Some c) = c.row.lines
 
 -- a look at the scan gives lines of it
 pub record GivesComing (c : ComingValue) (first n : ℕ) (pixels : List ℕ) : Type 0 where
-  pub settled : GivesSettled c.growing.scan first n (length pixels)
-  pub are : AreComing c.growing.scan first n (take (n * line_size c.growing.scan.head) pixels)
+  pub settled : (bytes : List ℕ) → HasCome c.growing bytes → GivesSettled bytes c.growing.scan first n (length pixels)
+  pub are : AreComing c.growing first n (take (n * line_size c.growing.scan.head) pixels)

@@ -1,9 +1,10 @@
 -- The row of MCUs that comes next of a scan whose file is still arriving.
-use Rattle.std.specs.Prelude.{◌≡◌, ◌≢◌, ℕ, ◌+◌, ◌*◌, ◌<◌, ◌≤◌, ◌⊎◌, ⊤, List, [], ◌++◌, length, ℤ, Option, Some, None, slice_index_or}
+use Rattle.std.specs.Prelude.{◌≡◌, ◌≢◌, ℕ, ◌+◌, ◌*◌, ◌<◌, ◌≤◌, ⊤, List, [], ◌++◌, length, ℤ, Option, Some, None, slice_index_or}
 use Rattle.jr_head.specs.HeadValue.{HeadValue}
 use Rattle.jr_head.specs.Geometry.{mcus_across, mcus_down}
 use Rattle.jr_cut.specs.declared.scan_end.ScanEnd.TheVariants.{EndOfFile}
 use Rattle.jr_scan.specs.declared.place.Place.{Place}
+use Rattle.jr_scan.specs.GrowingScan.{GrowingScanValue}
 use Rattle.jr_scan.specs.Mcus.{HasLongestFront, LongestFront}
 use Rattle.jr_scan.specs.ScanValue.{ScanValue, interval_of, intervals_of, mcus_in}
 use Rattle.jr_scan.specs.Run.{start_of_interval}
@@ -15,18 +16,15 @@ use Rattle.jr_rows.specs.Groups.{units_in}
 use Rattle.jr_rows.specs.Rows.{CountsMarks, HasFirst, HasSampleRoom, ShowsFirstUnits, first_line, line_count}
 use Rattle.jr_rows.specs.RowsValue.{SampleRowValue}
 use Rattle.jr_rows.specs.declared.marked.Marked.{Marked}
+use Rattle.jr_arrival.specs.Growing.{IsOver}
 
--- interval i is over: a later one has data, or a marker has ended the scan
-abbrev pub IsOver : ScanValue → ℕ → Type 0
-IsOver s i = (s.ended ≢ EndOfFile) ⊎ ((j : ℕ) × (i < j) × (slice_index_or s.intervals j [] ≢ []))
-
--- what a scan may become as bytes come: intervals that are over stay as they are, and data come behind the others'
-pub record Becomes (s t : ScanValue) : Type 0 where
-  pub head : t.head ≡ s.head
-  pub count : length t.intervals ≡ length s.intervals
-  pub so_far : (i : ℕ) → (more : List ℕ) × (slice_index_or t.intervals i [] ≡ slice_index_or s.intervals i [] ++ more)
-  pub whole : (i : ℕ) → IsOver s i → interval_of t i ≡ interval_of s i
-  pub end : s.ended ≢ EndOfFile → t.ended ≡ s.ended
+-- what a scan may become as bytes come: intervals that are over are unchanged, and data follow those of the others
+pub record Becomes (g : GrowingScanValue) (t : ScanValue) : Type 0 where
+  pub head : t.head ≡ g.scan.head
+  pub count : length t.intervals ≡ length g.scan.intervals
+  pub so_far : (i : ℕ) → (more : List ℕ) × (slice_index_or t.intervals i [] ≡ slice_index_or g.scan.intervals i [] ++ more)
+  pub whole : (i : ℕ) → IsOver g.scan g.segments i → interval_of t i ≡ interval_of g.scan i
+  pub end : g.scan.ended ≢ EndOfFile → t.ended ≡ g.scan.ended
 
 -- a row of MCUs and its samples, of how many MCUs; how many MCUs of which interval stand before its next one, and where that
 -- starts: nowhere, where no further one of the interval is whole; how many lines of the picture are given; and the marks of the
@@ -42,9 +40,9 @@ pub record ComingRowValue : Type 0 where
   pub marked : Marked
 
 -- this is the place behind so many MCUs of an interval; without a place it is over, and has no more whole ones
-abbrev pub ReadsTo : ScanValue → (number mcu : ℕ) → Option Place → Type 0
-ReadsTo s number mcu (Some p) = (zs : List (List ℤ)) × IsNext (interval_of s number) mcu zs p
-ReadsTo s number mcu None = IsOver s number × ((front : ℕ) × (zs : List (List ℤ)) × (front < mcu) × LongestFront (interval_of s number) front zs)
+abbrev pub ReadsTo : GrowingScanValue → (number mcu : ℕ) → Option Place → Type 0
+ReadsTo g number mcu (Some p) = (zs : List (List ℤ)) × IsNext (interval_of g.scan number) mcu zs p
+ReadsTo g number mcu None = IsOver g.scan g.segments number × ((front : ℕ) × (zs : List (List ℤ)) × (front < mcu) × LongestFront (interval_of g.scan number) front zs)
 
 -- no further MCU of the interval is whole
 abbrev pub ReadsAll : ScanValue → (number mcu : ℕ) → Option Place → Type 0
@@ -80,22 +78,18 @@ pub record Begins (h : HeadValue) (v : ComingRowValue) : Type 0 where
   pub damaged : v.marked.damaged ≡ 0
 
 -- so far the row is that of whatever the scan may become
-pub record IsComing (s : ScanValue) (v : ComingRowValue) : Type 0 where
-  pub stands : StandsIn s.head v
-  pub given : HasGiven s.head v
-  pub begun : (i : ℕ) → i < v.number → IsOver s i
-  pub reads : ReadsTo s v.number v.mcu v.place
-  pub shows : (t : ScanValue) → Becomes s t → ShowsFirstUnits t (length t.intervals) (v.row * mcus_across t.head) v.done (units_in t.head v.samples.lines.groups)
-  pub counts : (t : ScanValue) → Becomes s t → CountsMarks t (length t.intervals) 0 v.number v.marked
+pub record IsComing (g : GrowingScanValue) (v : ComingRowValue) : Type 0 where
+  pub stands : StandsIn g.scan.head v
+  pub given : HasGiven g.scan.head v
+  pub begun : (i : ℕ) → i < v.number → IsOver g.scan g.segments i
+  pub reads : ReadsTo g v.number v.mcu v.place
+  pub shows : (t : ScanValue) → Becomes g t → ShowsFirstUnits t (length t.intervals) (v.row * mcus_across t.head) v.done (units_in t.head v.samples.lines.groups)
+  pub counts : (t : ScanValue) → Becomes g t → CountsMarks t (length t.intervals) 0 v.number v.marked
 
--- data of interval i, or of one behind, may come, and none behind it are there
-abbrev pub MayGoOn : ScanValue → ℕ → Type 0
-MayGoOn s i = (s.ended ≡ EndOfFile) × ((j : ℕ) → i < j → slice_index_or s.intervals j [] ≡ [])
-
--- no further MCU is there
-abbrev pub HasNoMore : ScanValue → ComingRowValue → Type 0
-HasNoMore s v = MayGoOn s v.number × HasLongestFront (interval_of s v.number) v.mcu
+-- the interval is not over, and no further MCU of it is whole
+abbrev pub HasNoMore : GrowingScanValue → ComingRowValue → Type 0
+HasNoMore g v = (IsOver g.scan g.segments v.number → ⊥) × HasLongestFront (interval_of g.scan v.number) v.mcu
 
 -- these are lines of the picture of whatever the scan may become, so many from this one on
-abbrev pub AreComing : ScanValue → (first count : ℕ) → List ℕ → Type 0
-AreComing s first count pixels = (t : ScanValue) → Becomes s t → (b : BoardValue) → HasFirst t (length t.intervals) b → pixels ≡ next_lines_of t.head (samples_of b) first count
+abbrev pub AreComing : GrowingScanValue → (first count : ℕ) → List ℕ → Type 0
+AreComing g first count pixels = (t : ScanValue) → Becomes g t → (b : BoardValue) → HasFirst t (length t.intervals) b → pixels ≡ next_lines_of t.head (samples_of b) first count

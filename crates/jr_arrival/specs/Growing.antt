@@ -24,9 +24,13 @@ pub record HasScan (bytes : List ℕ) (s : ScanValue) : Type 0 where
   pub head : HeadOf bytes s.head
   pub scan : IsScanOf bytes s
 
--- interval i of the bytes' scan has ended: another segment follows it, or a marker has ended the scan
+-- interval i of a scan of that many segments is over: another segment follows it, or a marker has ended the scan
+abbrev pub IsOver : ScanValue → (segments i : ℕ) → Type 0
+IsOver s segments i = (s.ended ≢ EndOfFile) ⊎ (i + 1 < segments)
+
+-- interval i of the bytes' scan is over
 abbrev pub HasEndedAt : List ℕ → ScanValue → ℕ → Type 0
-HasEndedAt bytes s i = (c : IsScanOf bytes s) × ((s.ended ≢ EndOfFile) ⊎ (i + 1 < length c.segments))
+HasEndedAt bytes s i = (c : IsScanOf bytes s) × IsOver s (length c.segments) i
 
 -- what a longer file's scan keeps: the head; of each interval the data so far, and all of an interval that has ended; and how a scan
 -- ended that a marker ended

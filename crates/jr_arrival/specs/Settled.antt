@@ -1,28 +1,24 @@
 -- What the bytes so far settle of a picture.
-use Rattle.std.specs.Prelude.{◌≡◌, ◌≢◌, ℕ, ◌+◌, ◌-◌, ◌*◌, ◌/◌, ◌<◌, ◌⊎◌, min, List, length, take}
+use Rattle.std.specs.Prelude.{◌≡◌, ℕ, ◌-◌, ◌*◌, ◌/◌, ◌<◌, ◌≤◌, ◌⊎◌, min, List, length, take}
 use Rattle.jr_segments.specs.declared.refusal.Refusal.TheVariants.{EndsEarly, NotJpeg}
-use Rattle.jr_head.specs.Geometry.{mcus_across, mcus_down, vertical_max}
+use Rattle.jr_head.specs.Geometry.{mcus_down, vertical_max}
 use Rattle.jr_head.specs.Heads.{RefusalOf}
-use Rattle.jr_head.specs.Intervals.{first_mcu_of}
 use Rattle.jr_paint.specs.Lines.{line_size, next_lines_of}
-use Rattle.jr_cut.specs.declared.scan_end.ScanEnd.TheVariants.{EndOfFile}
-use Rattle.jr_scan.specs.GrowingScan.{IsLatest}
-use Rattle.jr_scan.specs.Mcus.{HasLongestFront}
-use Rattle.jr_scan.specs.ScanValue.{ScanValue, interval_of}
+use Rattle.jr_scan.specs.ScanValue.{ScanValue}
 use Rattle.jr_picture.specs.declared.mark.Mark.{Mark}
 use Rattle.jr_picture.specs.Headline.{ShowsFirst}
 use Rattle.jr_arrival.specs.Arrival.{CanBecome}
-use Rattle.jr_arrival.specs.Growing.{HasScan}
+use Rattle.jr_arrival.specs.Growing.{HasScan, RowIsSettled}
 
 -- the bytes' refusal says that some are missing
 abbrev pub WantsMore : List ℕ → Type 0
 WantsMore bytes = RefusalOf bytes EndsEarly ⊎ (RefusalOf bytes NotJpeg × (length bytes < 2))
 
--- so many rows of MCUs, from the first on, are there: all where a marker has ended the scan, else those whose MCUs stand before the
--- end of the whole ones of the interval that has come last
-pub record HasRows (s : ScanValue) (rows : ℕ) : Type 0 where
-  pub ended : s.ended ≢ EndOfFile → rows ≡ mcus_down s.head
-  pub coming : s.ended ≡ EndOfFile → (i front : ℕ) → IsLatest s i → HasLongestFront (interval_of s i) front → rows ≡ (first_mcu_of s.head i + front) / mcus_across s.head
+-- the bytes so far settle the first `rows` rows of MCUs, and not the next one
+pub record HasRows (bytes : List ℕ) (s : ScanValue) (rows : ℕ) : Type 0 where
+  pub few : rows ≤ mcus_down s.head
+  pub settled : (row : ℕ) → row < rows → RowIsSettled bytes s row
+  pub next : rows < mcus_down s.head → RowIsSettled bytes s rows → ⊥
 
 -- what the bytes so far settle: the scan that they are cut into, and how many rows of MCUs
 pub record SoFarValue : Type 0 where
@@ -39,16 +35,16 @@ AreFinal bytes first count pixels = (file : List ℕ) (t : ScanValue) (marks : L
     → ShowsFirst t (length t.intervals) marks f → pixels ≡ next_lines_of t.head f first count
 
 -- so many of the settled lines come next, as many as have room in so many bytes
-pub record GivesSettled (s : ScanValue) (first n room : ℕ) : Type 0 where
+pub record GivesSettled (bytes : List ℕ) (s : ScanValue) (first n room : ℕ) : Type 0 where
   pub rows : ℕ
-  pub has : HasRows s rows
+  pub has : HasRows bytes s rows
   pub count : n ≡ min (lines_in (record { scan = s; rows = rows }) - first) (room / line_size s.head)
 
 -- the next lines that the bytes settle, as many as have room: n from this one on
 pub record NextLines (bytes : List ℕ) (first n : ℕ) (pixels : List ℕ) : Type 0 where
   pub settled : SoFarValue
   pub scan : HasScan bytes settled.scan
-  pub rows : HasRows settled.scan settled.rows
+  pub rows : HasRows bytes settled.scan settled.rows
   pub count : n ≡ min (lines_in settled - first) (length pixels / line_size settled.scan.head)
   pub are : AreFinal bytes first n (take (n * line_size settled.scan.head) pixels)
 

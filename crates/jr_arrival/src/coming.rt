@@ -43,7 +43,7 @@ impl Model for Coming {
 
     ghost view = { λ c. record { growing = c.scan; bytes = c.bytes; row = c.row } };
 
-    ghost invariant = { λ c. IsComing c.scan.scan c.row × (c.bytes ≤ MAX_FILE_BYTES) × ((bytes : List ℕ) × HasCome c.scan bytes × (length bytes ≡ c.bytes)) };
+    ghost invariant = { λ c. IsComing c.scan c.row × (c.bytes ≤ MAX_FILE_BYTES) × ((bytes : List ℕ) × HasCome c.scan bytes × (length bytes ≡ c.bytes)) };
 }
 
 impl Coming {
@@ -129,12 +129,12 @@ impl Coming {
         ensures scan { self.new.growing ≡ self.old.growing }
         ensures bytes { self.new.bytes ≡ self.old.bytes }
         ensures lines { self.new.row.lines ≡ self.old.row.lines + result }
-        ensures settled { GivesSettled self.old.growing.scan self.old.row.lines result (length pixels.old) }
-        ensures given { AreComing self.old.growing.scan self.old.row.lines result (take (result * line_size self.old.growing.scan.head) pixels.new) }
+        ensures settled { (bytes : List ℕ) → HasCome self.old.growing bytes → GivesSettled bytes self.old.growing.scan self.old.row.lines result (length pixels.old) }
+        ensures given { AreComing self.old.growing self.old.row.lines result (take (result * line_size self.old.growing.scan.head) pixels.new) }
         ensures long { length pixels.new ≡ length pixels.old }
     {
-        // By their contracts one of the intervals is the latest, and the head is lawful.
-        let _latest = self.scan.latest();
+        // By their contracts one of the intervals is the last that has begun, and the head is lawful.
+        let _last = self.scan.last_begun();
         let _most = self.scan.intervals();
         let _across = shape_of(self.scan.head());
         self.row.give(&self.scan, pixels)

@@ -7,7 +7,8 @@ ghost use Rattle.jr_scan.specs.Mcus.{HasDecoding, HasNoDecoding};
 ghost use Rattle.jr_scan.specs.ScanValue.{ScanValue, interval_of, mcus_in};
 ghost use Rattle.jr_piece.specs.Strips.{TellsSound};
 ghost use Rattle.jr_rows.specs.Rows.{CountsMarks, first_line, line_count};
-ghost use Rattle.jr_arrival.specs.Coming.{AreComing, Becomes, Begins, HasNoMore, IsComing, IsOver, MayGoOn, ReadsAll, ReadsTo};
+ghost use Rattle.jr_arrival.specs.Coming.{AreComing, Becomes, Begins, HasNoMore, IsComing, ReadsAll, ReadsTo};
+ghost use Rattle.jr_arrival.specs.Growing.{IsOver};
 
 use jr_base::Memory;
 use jr_head::Head;
@@ -16,13 +17,13 @@ use jr_scan::{GrowingScan, McuReader, Place, ScanEnd};
 use std::alloc::Global;
 use std::marker::Model;
 
-/// Whether an interval is over: whether no more data of it can come.
+/// Returns whether an interval is over: no more data of it can come.
 fn is_over(scan: &GrowingScan, i: u32) -> bool
-    ensures over { result ≡ true → IsOver scan.now.scan i }
-    ensures going { result ≡ false → MayGoOn scan.now.scan i }
+    ensures over { result ≡ true → IsOver scan.now.scan scan.now.segments i }
+    ensures going { result ≡ false → IsOver scan.now.scan scan.now.segments i → ⊥ }
 {
     match scan.ended() {
-        ScanEnd::EndOfFile => i < scan.latest(),
+        ScanEnd::EndOfFile => i < scan.last_begun(),
         ScanEnd::EndOfImage
         | ScanEnd::OtherMarker(..)
         | ScanEnd::OutOfStep { .. }
@@ -35,7 +36,7 @@ fn is_over(scan: &GrowingScan, i: u32) -> bool
 fn is_sound(scan: &GrowingScan, i: u32, mcu: u32, place: Option<Place>) -> bool
     requires number { i < length scan.now.scan.intervals }
     requires few { mcu ≤ mcus_in scan.now.scan.head i }
-    requires reads { ReadsTo scan.now.scan i mcu place }
+    requires reads { ReadsTo scan.now i mcu place }
     ensures sound { result ≡ true → HasDecoding (interval_of scan.now.scan i) }
     ensures damaged { result ≡ false → HasNoDecoding (interval_of scan.now.scan i) }
 {
@@ -115,8 +116,8 @@ impl ComingRow {
 
     /// The marks of the intervals up to the one that is read: its own is that of its data so far.
     fn marks_so_far(&self, scan: &GrowingScan) -> Marked
-        requires coming { IsComing scan.now.scan self.now }
-        ensures counts { (t : ScanValue) → Becomes scan.now.scan t → interval_of t self.now.number ≡ interval_of scan.now.scan self.now.number → CountsMarks t (length t.intervals) 0 (self.now.number + 1) result }
+        requires coming { IsComing scan.now self.now }
+        ensures counts { (t : ScanValue) → Becomes scan.now t → interval_of t self.now.number ≡ interval_of scan.now.scan self.now.number → CountsMarks t (length t.intervals) 0 (self.now.number + 1) result }
     {
         // By its contract there is room for the numbers of all intervals.
         let _most = scan.intervals();
@@ -126,7 +127,7 @@ impl ComingRow {
 
     /// The marks of all intervals, where nothing more comes.
     pub(crate) fn marks(&self, scan: &GrowingScan) -> Marked
-        requires { IsComing scan.now.scan self.now }
+        requires { IsComing scan.now self.now }
         ensures { CountsMarks scan.now.scan (length scan.now.scan.intervals) 0 (length scan.now.scan.intervals) result }
     {
         let mut marked = self.marks_so_far(scan);
@@ -140,14 +141,14 @@ impl ComingRow {
 
     /// Goes on to the next interval where this one is read to its end. False where that has not begun.
     fn advance(&mut self, scan: &GrowingScan) -> bool
-        requires coming { IsComing scan.now.scan self.old }
+        requires coming { IsComing scan.now self.old }
         requires more { self.old.done < mcus_across scan.now.scan.head }
-        ensures coming { IsComing scan.now.scan self.new }
+        ensures coming { IsComing scan.now self.new }
         ensures row { self.new.row ≡ self.old.row }
         ensures done { self.new.done ≡ self.old.done }
         ensures lines { self.new.lines ≡ self.old.lines }
         ensures some { result ≡ true → self.new.mcu < mcus_in scan.now.scan.head self.new.number }
-        ensures none { result ≡ false → HasNoMore scan.now.scan self.new }
+        ensures none { result ≡ false → HasNoMore scan.now self.new }
     {
         // By its contract there is room for the numbers of all intervals.
         let _most = scan.intervals();
@@ -166,10 +167,10 @@ impl ComingRow {
 
     /// Decodes further whole MCUs of the interval into the row: answers how many.
     fn decode_whole(&mut self, scan: &GrowingScan) -> u32
-        requires coming { IsComing scan.now.scan self.old }
+        requires coming { IsComing scan.now self.old }
         requires more { self.old.done < mcus_across scan.now.scan.head }
         requires some { self.old.mcu < mcus_in scan.now.scan.head self.old.number }
-        ensures coming { IsComing scan.now.scan self.new }
+        ensures coming { IsComing scan.now self.new }
         ensures row { self.new.row ≡ self.old.row }
         ensures done { self.new.done ≡ self.old.done + result }
         ensures number { self.new.number ≡ self.old.number }
@@ -198,12 +199,12 @@ impl ComingRow {
 
     /// Makes MCUs of the row grey, of an interval that is over and has no further whole one.
     fn decode_grey(&mut self, scan: &GrowingScan)
-        requires coming { IsComing scan.now.scan self.old }
+        requires coming { IsComing scan.now self.old }
         requires more { self.old.done < mcus_across scan.now.scan.head }
         requires some { self.old.mcu < mcus_in scan.now.scan.head self.old.number }
-        requires over { IsOver scan.now.scan self.old.number }
+        requires over { IsOver scan.now.scan scan.now.segments self.old.number }
         requires all { ReadsAll scan.now.scan self.old.number self.old.mcu self.old.place }
-        ensures coming { IsComing scan.now.scan self.new }
+        ensures coming { IsComing scan.now self.new }
         ensures row { self.new.row ≡ self.old.row }
         ensures done { self.old.done < self.new.done }
         ensures lines { self.new.lines ≡ self.old.lines }
@@ -222,13 +223,13 @@ impl ComingRow {
 
     /// Decodes some further MCUs of the row. False where no further one is there.
     fn decode_some(&mut self, scan: &GrowingScan) -> bool
-        requires coming { IsComing scan.now.scan self.old }
+        requires coming { IsComing scan.now self.old }
         requires more { self.old.done < mcus_across scan.now.scan.head }
-        ensures coming { IsComing scan.now.scan self.new }
+        ensures coming { IsComing scan.now self.new }
         ensures row { self.new.row ≡ self.old.row }
         ensures lines { self.new.lines ≡ self.old.lines }
         ensures some { result ≡ true → self.old.done < self.new.done }
-        ensures none { result ≡ false → HasNoMore scan.now.scan self.new × (self.new.done < mcus_across scan.now.scan.head) }
+        ensures none { result ≡ false → HasNoMore scan.now self.new × (self.new.done < mcus_across scan.now.scan.head) }
     {
         if !self.advance(scan) {
             return false;
@@ -245,12 +246,12 @@ impl ComingRow {
 
     /// Decodes the MCUs of the row, as many as are there: whether it is whole then.
     fn decode(&mut self, scan: &GrowingScan) -> bool
-        requires coming { IsComing scan.now.scan self.old }
-        ensures coming { IsComing scan.now.scan self.new }
+        requires coming { IsComing scan.now self.old }
+        ensures coming { IsComing scan.now self.new }
         ensures row { self.new.row ≡ self.old.row }
         ensures lines { self.new.lines ≡ self.old.lines }
         ensures whole { result ≡ true → self.new.done ≡ mcus_across scan.now.scan.head }
-        ensures none { result ≡ false → HasNoMore scan.now.scan self.new × (self.new.done < mcus_across scan.now.scan.head) }
+        ensures none { result ≡ false → HasNoMore scan.now self.new × (self.new.done < mcus_across scan.now.scan.head) }
     {
         let across = shape_of(scan.head()).across;
         'mcus: while self.done < across {
@@ -263,10 +264,10 @@ impl ComingRow {
 
     /// So many lines of the row, which is whole, are given: goes on to the next row behind the last one.
     fn pass_lines(&mut self, scan: &GrowingScan, count: u32)
-        requires coming { IsComing scan.now.scan self.old }
+        requires coming { IsComing scan.now self.old }
         requires whole { self.old.done ≡ mcus_across scan.now.scan.head }
         requires inside { self.old.lines + count ≤ first_line scan.now.scan.head self.old.row + line_count scan.now.scan.head self.old.row }
-        ensures coming { IsComing scan.now.scan self.new }
+        ensures coming { IsComing scan.now self.new }
         ensures lines { self.new.lines ≡ self.old.lines + count }
     {
         // By its contract there is room for the numbers of the rows.
@@ -282,7 +283,7 @@ impl ComingRow {
 
     /// How many lines of the row are not given yet.
     fn lines_left(&self, scan: &GrowingScan) -> u32
-        requires { IsComing scan.now.scan self.now }
+        requires { IsComing scan.now self.now }
         ensures { self.now.lines + result ≡ first_line scan.now.scan.head self.now.row + line_count scan.now.scan.head self.now.row }
     {
         let (first, count) = lines_of(scan.head(), self.row);
@@ -291,13 +292,13 @@ impl ComingRow {
 
     /// Paints the next lines of the row, which is whole.
     fn paint(&mut self, scan: &GrowingScan, count: u32, pixels: &mut [u8])
-        requires coming { IsComing scan.now.scan self.old }
+        requires coming { IsComing scan.now self.old }
         requires whole { self.old.done ≡ mcus_across scan.now.scan.head }
         requires inside { self.old.lines + count ≤ first_line scan.now.scan.head self.old.row + line_count scan.now.scan.head self.old.row }
         requires room { length pixels.old ≡ count * line_size scan.now.scan.head }
-        ensures coming { IsComing scan.now.scan self.new }
+        ensures coming { IsComing scan.now self.new }
         ensures lines { self.new.lines ≡ self.old.lines + count }
-        ensures painted { AreComing scan.now.scan self.old.lines count pixels.new }
+        ensures painted { AreComing scan.now self.old.lines count pixels.new }
     {
         let head = scan.head();
         // By its contract the row's lines are the picture's.
@@ -308,13 +309,13 @@ impl ComingRow {
 
     /// Gives the next lines that are there, as many as have room in `pixels`, a line behind the other: answers how many.
     pub(crate) fn give(&mut self, scan: &GrowingScan, pixels: &mut [u8]) -> u32
-        requires coming { IsComing scan.now.scan self.old }
-        ensures coming { IsComing scan.now.scan self.new }
+        requires coming { IsComing scan.now self.old }
+        ensures coming { IsComing scan.now self.new }
         ensures lines { self.new.lines ≡ self.old.lines + result }
-        ensures given { AreComing scan.now.scan self.old.lines result (take (result * line_size scan.now.scan.head) pixels.new) }
+        ensures given { AreComing scan.now self.old.lines result (take (result * line_size scan.now.scan.head) pixels.new) }
         ensures few { result ≤ min (length pixels.old / line_size scan.now.scan.head) (scan.now.scan.head.height - self.old.lines) }
         ensures all { result < min (length pixels.old / line_size scan.now.scan.head) (scan.now.scan.head.height - self.old.lines)
-            → HasNoMore scan.now.scan self.new × (self.new.done < mcus_across scan.now.scan.head) }
+            → HasNoMore scan.now self.new × (self.new.done < mcus_across scan.now.scan.head) }
         ensures long { length pixels.new ≡ length pixels.old }
     {
         let line = shape_of(scan.head()).line;

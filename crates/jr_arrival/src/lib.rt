@@ -2,9 +2,8 @@
 //! become, the lines that they give, and the places from which its rows are decoded or passed over.
 //!
 //! What was shown of a file that is still arriving is shown by every file that it can become. `laws.rt` says so of heads, refusals,
-//! restart intervals, whole MCUs, lines and marks, and `Arriving` gives each line once as bytes are pushed. An interval that its
-//! bits damage is settled up to its last whole MCU, and behind that once data of a later interval has come, or a marker has ended
-//! the scan.
+//! restart intervals, whole MCUs, lines and marks, and `Arriving` gives each line once as bytes are pushed. An interval is settled up
+//! to its last whole MCU, and all of it once the marker that ends it is whole, code included (`IsOver` in specs/Growing.antt).
 //!
 //! Nothing is read twice: the cut goes on where it stood, each MCU is decoded once into the row of MCUs that comes next, and its
 //! lines are painted once. So all pushes and looks together cost what one decoding of the whole file does, however it is split.

@@ -1,17 +1,14 @@
 -- Segments are read as their bytes come.
-use Rattle.std.proofs.Common.{◌≡◌, ◌≢◌, ℕ, suc, ◌+◌, ◌-◌, ◌%◌, ◌<◌, ◌≤◌, List, [], ◌∷◌, ◌++◌, length, replicate, map, take, drop, get_or, refl, sym, ap, subst, ◌∙◌, zero, inl, inr, append_assoc, length-append, length-drop, arith}
+use Rattle.std.proofs.Common.{◌≡◌, ◌≢◌, ℕ, suc, ◌+◌, ◌-◌, ◌%◌, ◌<◌, ◌≤◌, List, [], ◌∷◌, ◌++◌, length, replicate, map, take, drop, get_or, refl, sym, ap, subst, ◌∙◌, zero, append_assoc, length-append, length-drop, arith}
 use Rattle.std.specs.List.{All}
-use Rattle.std.proofs.Math.ListN.{get_or-append}
-use Rattle.std.proofs.Math.Seq.{get_or-append_seam, get_or-append_right}
-use Rattle.std.proofs.lemmas.Bool.{cases_lt}
-use Rattle.std.proofs.lemmas.List.{get_or_past, append-nil, length-map, take-append-drop, drop-append-le, take_all, drop_all, map_push, length-take-le}
+use Rattle.std.proofs.lemmas.List.{length-map, take-append-drop, drop-append-le, take_all, drop_all, map_push, length-take-le}
 use Rattle.jr_base.specs.declared.marker.TheConstants.{EOI, PREFIX, RST0}
 use Rattle.jr_cut.specs.declared.open_segments.OpenSegments.{OpenSegments}
 use Rattle.jr_cut.specs.declared.scan_end.ScanEnd.{ScanEnd}
 use Rattle.jr_cut.specs.declared.scan_end.ScanEnd.TheVariants.{EndOfImage, OtherMarker, OutOfStep, ExtraRestart, EndOfFile}
 use Rattle.jr_cut.specs.declared.span.Span.{Span}
 use Rattle.jr_cut.specs.Cut.{marker, HasMarker, IsEnding, IsCut, IsStop}
-use Rattle.jr_cut.specs.CutSoFar.{AreSegments, CutSoFarValue, HasCut, IsLatestOf}
+use Rattle.jr_cut.specs.CutSoFar.{AreSegments, CutSoFarValue, HasCut}
 use Rattle.jr_cut.specs.OpenSegments.{AreOpen, BeginsWithRestart, HaveAll, HaveRead, cut_of, datas_of}
 use Rattle.jr_cut.specs.Spans.{segment_data, IsSpanOf, Unstuffs}
 use Rattle.jr_cut.proofs.Cuts.{marker_read, raw_none}
@@ -66,28 +63,6 @@ restart_within k tail count b =
     let long : length tail ≡ count + (length tail - count) = omega (arith, ap length b.spelled, length-append (marker b.more (RST0 + k % 8)) (drop count tail), length_marker b.more (RST0 + k % 8), length-drop count tail, b.long) in
     (omega (arith, b.long), omega (arith, long))
 
--- the last one that has data
-latest_open : (ended : List (List ℕ)) (last : List ℕ) → last ≢ [] → IsLatestOf (ended ++ last ∷ []) (length ended)
-latest_open ended last some = record {
-  within = omega (arith, length-append ended (last ∷ []));
-  some = λ _ e. some (sym (get_or-append_seam ended last [] []) ∙ e);
-  none = λ j lt. get_or_past (ended ++ last ∷ []) j [] (omega (arith, lt, length-append ended (last ∷ [])));
-}
-
-latest_pushed : (ds : List (List ℕ)) (i : ℕ) → IsLatestOf ds i → IsLatestOf (ds ++ [] ∷ []) i
-latest_pushed ds i h = record {
-  within = omega (arith, h.within, length-append ds ([] ∷ []));
-  some = λ lt e. h.some lt (sym (get_or-append ds ([] ∷ []) [] i h.within) ∙ e);
-  none = λ j lt. elim (cases_lt j (length ds)) [
-    | inl l ↦ get_or-append ds ([] ∷ []) [] j l ∙ h.none j lt
-    | inr g ↦ get_or-append_right ds ([] ∷ []) j [] g ∙ only (j - length ds)
-  ];
-}
-  where
-    only : (n : ℕ) → get_or {A = List ℕ} ([] ∷ []) n [] ≡ []
-    only zero = refl
-    only (suc n) = get_or_past {X = List ℕ} ([] ∷ []) (suc n) [] (omega arith)
-
 -- the open one goes on
 pub datas_grown : (old new : OpenSegments) (added : List ℕ) → AreOpen old → new.spans ≡ old.spans → new.begin ≡ old.begin → new.bytes.unstuffed ≡ old.bytes.unstuffed ++ added
     → datas_of new ≡ map (segment_data old.bytes.unstuffed) old.spans.items ++ (drop old.begin old.bytes.unstuffed ++ added) ∷ []
@@ -98,26 +73,6 @@ datas_grown old new added is es eb eu =
     ∙ ap (λ (b : ℕ). map (segment_data (unst ++ added)) old.spans.items ++ drop b (unst ++ added) ∷ []) eb
     ∙ ap (λ (x : List (List ℕ)). x ++ drop old.begin (unst ++ added) ∷ []) (segments_kept unst added old.spans.items is.spans)
     ∙ ap (λ (x : List ℕ). map (segment_data unst) old.spans.items ++ x ∷ []) (drop-append-le old.begin unst added is.begin)
-
-pub latest_grown : (old new : OpenSegments) (read : List ℕ) → AreOpen old → new.spans ≡ old.spans → new.begin ≡ old.begin → Unstuffs read old.bytes.unstuffed new.bytes.unstuffed → new.begin < length new.bytes.unstuffed → new.latest ≡ length new.spans.items → IsLatestOf (datas_of new) new.latest
-latest_grown old new read is es eb u lt el =
-    let unst = old.bytes.unstuffed in
-    let last = drop old.begin unst ++ u.added in
-    let long : length last ≡ length new.bytes.unstuffed - old.begin = omega (arith, length-append (drop old.begin unst) u.added, length-drop old.begin unst, ap length u.joins, length-append unst u.added, is.begin) in
-    let some : last ≢ [] = λ e. omega (arith, ap length e, long, lt, eb) in
-    let count : length (map (segment_data unst) old.spans.items) ≡ length new.spans.items = omega (arith, length-map old.spans.items (segment_data unst), ap (λ v. length v.items) es) in
-    subst (λ (ds : List (List ℕ)). IsLatestOf ds new.latest) (sym (datas_grown old new u.added is es eb u.joins)) (subst (IsLatestOf (map (segment_data unst) old.spans.items ++ last ∷ [])) (count ∙ sym el) (latest_open (map (segment_data unst) old.spans.items) last some))
-
-pub latest_waits : (old new : OpenSegments) (read : List ℕ) → AreOpen old → new.spans ≡ old.spans → new.begin ≡ old.begin → Unstuffs read old.bytes.unstuffed new.bytes.unstuffed → length new.bytes.unstuffed ≤ new.begin → IsLatestOf (datas_of new) old.latest
-latest_waits old new read is es eb u le =
-    let unst = old.bytes.unstuffed in
-    let none : u.added ≡ [] = length_0 u.added (omega (arith, ap length u.joins, length-append unst u.added, is.begin, le, eb)) in
-    let same : datas_of new ≡ datas_of old = datas_grown old new u.added is es eb u.joins ∙ ap (λ (x : List ℕ). map (segment_data unst) old.spans.items ++ (drop old.begin unst ++ x) ∷ []) none ∙ ap (λ (x : List ℕ). map (segment_data unst) old.spans.items ++ x ∷ []) (append-nil (drop old.begin unst)) in
-    subst (λ (ds : List (List ℕ)). IsLatestOf ds old.latest) (sym same) is.latest
-  where
-    length_0 : (xs : List ℕ) → length xs ≡ 0 → xs ≡ []
-    length_0 [] e = refl
-    length_0 (x ∷ xs) e = absurd (omega (arith, e))
 
 pub have_grown : (old new : OpenSegments) (count : ℕ) → AreOpen old → new.spans ≡ old.spans → new.begin ≡ old.begin → new.intervals ≡ old.intervals → new.at ≡ old.at + count → count ≤ length old.bytes.rest
     → Unstuffs (take count old.bytes.rest) old.bytes.unstuffed new.bytes.unstuffed → new.bytes.rest ≡ drop count old.bytes.rest → HaveAll old new
@@ -140,8 +95,8 @@ have_grown old new count is es eb ei ea few u er =
     }
 
 pub open_grown : (old new : OpenSegments) (count : ℕ) → AreOpen old → new.spans ≡ old.spans → new.begin ≡ old.begin → new.intervals ≡ old.intervals → new.at ≡ old.at + count → count ≤ length old.bytes.rest
-    → Unstuffs (take count old.bytes.rest) old.bytes.unstuffed new.bytes.unstuffed → new.bytes.rest ≡ drop count old.bytes.rest → IsLatestOf (datas_of new) new.latest → AreOpen new
-open_grown old new count is es eb ei ea few u er latest =
+    → Unstuffs (take count old.bytes.rest) old.bytes.unstuffed new.bytes.unstuffed → new.bytes.rest ≡ drop count old.bytes.rest → AreOpen new
+open_grown old new count is es eb ei ea few u er =
     let long : length new.bytes.unstuffed ≡ length old.bytes.unstuffed + length u.added = omega (arith, ap length u.joins, length-append old.bytes.unstuffed u.added) in
     record {
       spans = subst (λ (s : List Span). All (IsSpanOf new.bytes.unstuffed) s) (sym (ap (λ v. v.items) es)) (λ k d lt. let w = is.spans k d lt in (w.0, omega (arith, w.1, long)));
@@ -149,13 +104,7 @@ open_grown old new count is es eb ei ea few u er latest =
       few = omega (arith, is.few, ei, ap (λ v. length v.items) es);
       small = omega (arith, is.small, ei);
       fits = omega (arith, is.fits, ea, ap length er, length-drop count old.bytes.rest, few);
-      latest = latest;
     }
-
--- it has data then
-pub open_with_data : (old new : OpenSegments) (count : ℕ) → AreOpen old → new.spans ≡ old.spans → new.begin ≡ old.begin → new.intervals ≡ old.intervals → new.at ≡ old.at + count → count ≤ length old.bytes.rest
-    → Unstuffs (take count old.bytes.rest) old.bytes.unstuffed new.bytes.unstuffed → new.bytes.rest ≡ drop count old.bytes.rest → new.begin < length new.bytes.unstuffed → new.latest ≡ length new.spans.items → AreOpen new
-open_with_data old new count is es eb ei ea few u er lt latest = open_grown old new count is es eb ei ea few u er (latest_grown old new (take count old.bytes.rest) is es eb u lt latest)
 
 -- the next one begins
 pub datas_next : (old new : OpenSegments) → AreOpen old → new.spans.items ≡ old.spans.items ++ (record { start = old.begin; end = length old.bytes.unstuffed }) ∷ [] → new.begin ≡ length old.bytes.unstuffed → new.bytes.unstuffed ≡ old.bytes.unstuffed
@@ -170,10 +119,6 @@ datas_next old new is es eb eu =
     ∙ ap (λ (b : ℕ). map (segment_data unst) (old.spans.items ++ s ∷ []) ++ drop b unst ∷ []) eb
     ∙ ap (λ (x : List ℕ). map (segment_data unst) (old.spans.items ++ s ∷ []) ++ x ∷ []) none
     ∙ ap (λ (x : List (List ℕ)). x ++ [] ∷ []) (map_push (segment_data unst) old.spans.items s ∙ ap (λ (x : List ℕ). map (segment_data unst) old.spans.items ++ x ∷ []) last)
-
-pub latest_next : (old new : OpenSegments) → AreOpen old → new.spans.items ≡ old.spans.items ++ (record { start = old.begin; end = length old.bytes.unstuffed }) ∷ [] → new.begin ≡ length old.bytes.unstuffed → new.bytes.unstuffed ≡ old.bytes.unstuffed
-    → IsLatestOf (datas_of new) old.latest
-latest_next old new is es eb eu = subst (λ (ds : List (List ℕ)). IsLatestOf ds old.latest) (sym (datas_next old new is es eb eu)) (latest_pushed (datas_of old) old.latest is.latest)
 
 pub have_next : (old new : OpenSegments) (count : ℕ) → AreOpen old → BeginsWithRestart (length old.spans.items) old.bytes.rest count
     → new.spans.items ≡ old.spans.items ++ (record { start = old.begin; end = length old.bytes.unstuffed }) ∷ [] → new.begin ≡ length old.bytes.unstuffed → new.intervals ≡ old.intervals → new.at ≡ old.at + count
@@ -200,8 +145,8 @@ have_next old new count is m es eb ei ea eu er =
 
 pub open_next : (old new : OpenSegments) (count : ℕ) → AreOpen old → BeginsWithRestart (length old.spans.items) old.bytes.rest count → length old.spans.items + 1 < old.intervals
     → new.spans.items ≡ old.spans.items ++ (record { start = old.begin; end = length old.bytes.unstuffed }) ∷ [] → new.begin ≡ length old.bytes.unstuffed → new.intervals ≡ old.intervals → new.at ≡ old.at + count
-    → new.bytes.unstuffed ≡ old.bytes.unstuffed → new.bytes.rest ≡ drop count old.bytes.rest → new.latest ≡ old.latest → AreOpen new
-open_next old new count is m few es eb ei ea eu er el =
+    → new.bytes.unstuffed ≡ old.bytes.unstuffed → new.bytes.rest ≡ drop count old.bytes.rest → AreOpen new
+open_next old new count is m few es eb ei ea eu er =
     let s : Span = record { start = old.begin; end = length old.bytes.unstuffed } in
     let within = restart_within (length old.spans.items) old.bytes.rest count m in
     record {
@@ -210,7 +155,6 @@ open_next old new count is m few es eb ei ea eu er el =
       few = omega (arith, few, ei, ap length es, length-append old.spans.items (s ∷ []));
       small = omega (arith, is.small, ei);
       fits = omega (arith, is.fits, ea, ap length er, length-drop count old.bytes.rest, within.1);
-      latest = subst (IsLatestOf (datas_of new)) (sym el) (latest_next old new is es eb eu);
     }
   where
     push : (ss : List Span) (s : Span) → All (IsSpanOf old.bytes.unstuffed) ss → IsSpanOf old.bytes.unstuffed s → All (IsSpanOf old.bytes.unstuffed) (ss ++ s ∷ [])
@@ -228,7 +172,7 @@ read_none start o es eb ea eu =
 
 -- ---- the cut
 
-count_of : (o : OpenSegments) → length (datas_of o) ≡ length o.spans.items + 1
+pub count_of : (o : OpenSegments) → length (datas_of o) ≡ length o.spans.items + 1
 count_of o = omega (arith, length-append (map (segment_data o.bytes.unstuffed) o.spans.items) (drop o.begin o.bytes.unstuffed ∷ []), length-map o.spans.items (segment_data o.bytes.unstuffed))
 
 pub cut_made : (start : ℕ) (bytes : List ℕ) (o : OpenSegments) (end : ScanEnd) → AreOpen o → HaveRead start bytes o → IsEnding o.intervals (length o.spans.items) o.at o.bytes.rest end → HasCut start bytes (cut_of o end)

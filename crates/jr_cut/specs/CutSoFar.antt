@@ -1,26 +1,19 @@
 -- The bytes of a scan that have come so far, and what they are cut into.
-use Rattle.std.specs.Prelude.{◌≡◌, ◌≢◌, ℕ, suc, ◌+◌, ◌-◌, ◌%◌, ◌<◌, ◌≤◌, List, [], ◌∷◌, ◌++◌, length, slice_index_or}
+use Rattle.std.specs.Prelude.{◌≡◌, ℕ, suc, ◌+◌, ◌-◌, ◌%◌, ◌≤◌, List, [], ◌∷◌, ◌++◌, length}
 use Rattle.jr_base.specs.declared.marker.TheConstants.{RST0}
 use Rattle.jr_cut.specs.declared.scan_end.ScanEnd.{ScanEnd}
 use Rattle.jr_cut.specs.declared.scan_end.ScanEnd.TheVariants.{EndOfFile}
 use Rattle.jr_cut.specs.Cut.{IsRaw, marker, IsEnding}
 
--- at most so many segments, the data of each, the last one that has data, all data one behind the other, where in the file the bytes
--- stand that are not read yet, those bytes, and what has ended the scan; while it is the end of the bytes the last segment may go on
+-- the maximum number of segments; the data of each; all data in order; the offset in the file of the bytes that are not read yet, and
+-- these bytes; and what has ended the scan. While that is the end of the bytes the last segment is open
 pub record CutSoFarValue : Type 0 where
   pub intervals : ℕ
   pub segments : List (List ℕ)
-  pub latest : ℕ
   pub unstuffed : List ℕ
   pub at : ℕ
   pub rest : List ℕ
   pub ended : ScanEnd
-
--- the last segment that has data, the first one where none has
-pub record IsLatestOf (segments : List (List ℕ)) (i : ℕ) : Type 0 where
-  pub within : i < length segments
-  pub some : 0 < i → slice_index_or segments i [] ≢ []
-  pub none : (j : ℕ) → i < j → slice_index_or segments j [] ≡ []
 
 -- the bytes are segments that spell these data, and the markers between them, the first of which has number k modulo 8
 abbrev pub AreSegments : ℕ → List ℕ → List (List ℕ) → Type 0

@@ -7,7 +7,7 @@ use Rattle.jr_cut.specs.declared.open_segments.OpenSegments.{OpenSegments}
 use Rattle.jr_cut.specs.declared.stop.Stop.{Stop}
 use Rattle.jr_cut.specs.declared.stop.Stop.TheVariants.{End, Restart}
 use Rattle.jr_cut.specs.Cut.{marker, IsEnding}
-use Rattle.jr_cut.specs.CutSoFar.{AreSegments, CutSoFarValue, IsLatestOf}
+use Rattle.jr_cut.specs.CutSoFar.{AreSegments, CutSoFarValue}
 use Rattle.jr_cut.specs.Spans.{segment_data, IsSpanOf}
 
 -- the data of those that have ended, and those so far of the open one
@@ -15,7 +15,7 @@ abbrev pub datas_of : OpenSegments → List (List ℕ)
 datas_of o = map (segment_data o.bytes.unstuffed) o.spans.items ++ drop o.begin o.bytes.unstuffed ∷ []
 
 abbrev pub cut_of : OpenSegments → ScanEnd → CutSoFarValue
-cut_of o end = record { intervals = o.intervals; segments = datas_of o; latest = o.latest; unstuffed = o.bytes.unstuffed; at = o.at; rest = o.bytes.rest; ended = end }
+cut_of o end = record { intervals = o.intervals; segments = datas_of o; unstuffed = o.bytes.unstuffed; at = o.at; rest = o.bytes.rest; ended = end }
 
 -- what they keep
 pub record AreOpen (o : OpenSegments) : Type 0 where
@@ -24,7 +24,6 @@ pub record AreOpen (o : OpenSegments) : Type 0 where
   pub few : length o.spans.items < o.intervals
   pub small : o.intervals < 2 ^ 32
   pub fits : o.at + length o.bytes.rest < 2 ^ 64
-  pub latest : IsLatestOf (datas_of o) o.latest
 
 -- all of these bytes but the last, which are not read yet, are read
 pub record HaveRead (start : ℕ) (bytes : List ℕ) (o : OpenSegments) : Type 0 where

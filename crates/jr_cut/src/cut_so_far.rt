@@ -2,7 +2,7 @@
 
 ghost use Rattle.std.specs.Prelude.{◌≡◌, ℕ, ◌+◌, ◌<◌, ◌≤◌, ◌^◌, List, [], ◌++◌, length, map, slice_index_or, IfOk, IfErr};
 ghost use Rattle.std.specs.List.{All};
-ghost use Rattle.jr_cut.specs.CutSoFar.{HasCut, IsLatestOf};
+ghost use Rattle.jr_cut.specs.CutSoFar.{HasCut};
 ghost use Rattle.jr_cut.specs.Spans.{segment_data, IsSpanOf};
 
 use crate::coded_segments::CodedSegments;
@@ -54,7 +54,6 @@ impl CutSoFar {
             bytes: scan,
             spans: Vec::new(alloc),
             begin: 0,
-            latest: 0,
             intervals,
             at: start,
         };
@@ -96,12 +95,12 @@ impl CutSoFar {
         self.ended
     }
 
-    /// The last segment that has data, the first one where none has.
-    pub fn latest(&self) -> u32
-        ensures value { result ≡ self.now.latest }
-        ensures latest { IsLatestOf self.now.segments result }
+    /// Returns the number of the last segment that has begun, which is open while no marker has ended the scan.
+    pub fn last_begun(&self) -> u32
+        ensures last { result + 1 ≡ length self.now.segments }
+        ensures inside { result < self.now.intervals }
     {
-        self.segments.latest
+        self.segments.spans.len() as u32
     }
 
     /// The data of segment i, without stuffing; none where it has not begun.

@@ -20,8 +20,6 @@ pub(crate) struct OpenSegments {
     pub spans: Vec<Span>,
     /// Where the data of the open one begin.
     pub begin: usize,
-    /// The number of the last one that has data, 0 where none has.
-    pub latest: u32,
     pub intervals: u32,
     /// Where in the file the bytes stand that are not read yet.
     pub at: u64,
@@ -38,9 +36,6 @@ impl OpenSegments {
         ensures stop { IsStop self.new.bytes.rest }
     {
         self.at += self.bytes.unstuff() as u64;
-        if self.bytes.len() > self.begin {
-            self.latest = self.spans.len() as u32;
-        }
     }
 
     /// Ends the open segment at a restart marker of that many bytes, and opens the next one.

@@ -9,8 +9,8 @@ use Rattle.jr_cut.specs.declared.span.Span.{Span}
 use Rattle.jr_cut.specs.Spans.{segment_data, IsSpanOf}
 use Rattle.jr_scan.specs.IntervalValue.{IntervalValue}
 use Rattle.jr_scan.specs.ScanValue.{ScanValue, intervals_of, scan_of_segments, IsScanOf}
-use Rattle.jr_scan.specs.GrowingScan.{HasCome, IsLatest, growing_scan}
-use Rattle.jr_cut.specs.CutSoFar.{CutSoFarValue, HasCut, IsLatestOf}
+use Rattle.jr_scan.specs.GrowingScan.{HasCome, growing_scan}
+use Rattle.jr_cut.specs.CutSoFar.{CutSoFarValue, HasCut}
 use Rattle.jr_cut.proofs.OpenSegments.{has_cut_is_cut}
 
 pub cut_few : (n at : ℕ) (bytes : List ℕ) (datas : List (List ℕ)) (end : ScanEnd) → IsCut n at bytes datas end → length datas ≤ n
@@ -46,26 +46,24 @@ padded_at [] n i = none n i
 padded_at (s ∷ ss) n zero = refl
 padded_at (s ∷ ss) n (suc i) = padded_at ss n i
 
-pub latest_of : (h : HeadValue) (segments : List (List ℕ)) (end : ScanEnd) (i : ℕ) → IsLatestOf segments i → IsLatest (scan_of_segments h segments end) i
-latest_of h segments end i l =
-    let n = intervals_of h - length segments in
-    record {
-      some = λ lt e. l.some lt (sym (padded_at segments n i) ∙ e);
-      none = λ j lt. padded_at segments n j ∙ l.none j lt;
-    }
+-- bytes are cut so
+pub has_come : (h : HeadValue) (c : CutSoFarValue) (bytes : List ℕ) → c.intervals ≡ intervals_of h → h.scan_at ≤ length bytes → c.at + length c.rest ≤ length bytes → HasCut h.scan_at (drop h.scan_at bytes) c → HasCome (growing_scan h c) bytes
+unfolding is_scan
+has_come h c bytes en starts few cut = record {
+  starts = starts;
+  few = few;
+  cut = cut;
+  scan = is_scan h bytes (drop h.scan_at bytes) c.segments c.intervals h.scan_at c.ended en refl refl (has_cut_is_cut h.scan_at (drop h.scan_at bytes) c cut);
+  segments = refl;
+}
 
 -- more bytes have come
 pub come_more : (h : HeadValue) (old new : CutSoFarValue) (bytes more : List ℕ) → new.intervals ≡ intervals_of h → new.at + length new.rest ≤ old.at + length old.rest + length more
     → ((start : ℕ) (xs : List ℕ) → HasCut start xs old → HasCut start (xs ++ more) new) → HasCome (growing_scan h old) bytes → HasCome (growing_scan h new) (bytes ++ more)
 come_more h old new bytes more en few on come =
     let behind : drop h.scan_at (bytes ++ more) ≡ drop h.scan_at bytes ++ more = drop-append-le h.scan_at bytes more come.starts in
-    let cut : HasCut h.scan_at (drop h.scan_at (bytes ++ more)) new = subst (λ (xs : List ℕ). HasCut h.scan_at xs new) (sym behind) (on h.scan_at (drop h.scan_at bytes) come.cut) in
-    record {
-      starts = omega (arith, come.starts, length-append bytes more);
-      few = omega (arith, come.few, few, length-append bytes more);
-      cut = cut;
-      scan = is_scan h (bytes ++ more) (drop h.scan_at (bytes ++ more)) new.segments new.intervals h.scan_at new.ended en refl refl (has_cut_is_cut h.scan_at (drop h.scan_at (bytes ++ more)) new cut);
-    }
+    has_come h new (bytes ++ more) en (omega (arith, come.starts, length-append bytes more)) (omega (arith, come.few, few, length-append bytes more))
+    (subst (λ (xs : List ℕ). HasCut h.scan_at xs new) (sym behind) (on h.scan_at (drop h.scan_at bytes) come.cut))
 
 -- an interval is its four parts
 pub interval_is : (i : IntervalValue) (n m : ℕ) (b : List ℕ) (h : HeadValue) → i.number ≡ n → i.mcus ≡ m → i.bytes ≡ b → i.head ≡ h → i ≡ record { number = n; mcus = m; bytes = b; head = h }

@@ -2,7 +2,7 @@
 
 ghost use Rattle.std.specs.Prelude.{◌≡◌, ◌+◌, ◌<◌, ◌≤◌, ◌^◌, ◌++◌, ℕ, List, length, IfOk, IfErr};
 ghost use Rattle.jr_head.specs.Geometry.{IsLawful};
-ghost use Rattle.jr_scan.specs.GrowingScan.{HasCome, IsLatest};
+ghost use Rattle.jr_scan.specs.GrowingScan.{HasCome};
 ghost use Rattle.jr_scan.specs.ScanValue.{intervals_of, interval_of};
 
 use crate::interval_ref::IntervalRef;
@@ -81,13 +81,12 @@ impl GrowingScan {
         self.cut.ended()
     }
 
-    /// The last interval that has data, the first one where none has.
-    pub fn latest(&self) -> u32
-        ensures value { result ≡ self.now.latest }
-        ensures latest { IsLatest self.now.scan result }
+    /// Returns the number of the last interval that has begun, to which the next data belong while no marker has ended the scan.
+    pub fn last_begun(&self) -> u32
+        ensures last { result + 1 ≡ self.now.segments }
         ensures inside { result < length self.now.scan.intervals }
     {
-        self.cut.latest()
+        self.cut.last_begun()
     }
 
     /// Interval i, as far as its data have come.

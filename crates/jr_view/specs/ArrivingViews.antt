@@ -49,7 +49,7 @@ pub record IsSeen (v : ArrivingViewValue) (bytes : List ℕ) : Type 0 where
 
 -- these are all lines that the bytes settle, or they have no head yet
 abbrev pub AreSettled : (bytes : List ℕ) → (lines : ℕ) → Type 0
-AreSettled bytes lines = WantsMore bytes ⊎ ((s : SoFarValue) × HasScan bytes s.scan × HasRows s.scan s.rows × (lines_in s ≤ lines))
+AreSettled bytes lines = WantsMore bytes ⊎ ((s : SoFarValue) × HasScan bytes s.scan × HasRows bytes s.scan s.rows × (lines_in s ≤ lines))
 
 -- the lines that were shown are shown as they were
 abbrev pub KeepsLines : (old new : ArrivingViewValue) → Type 0

@@ -11,7 +11,7 @@ pub returns-in_default-clause-damaged : goal.returns-in_default-clause-damaged
 returns-in_default-clause-damaged c = λ e.
     let s : ScanValue = c.args.scan.now.scan in
     let none : c.args.place ≡ None = search rules in
-    let far = (subst (ReadsTo s c.args.i c.args.mcu) none c.requires.reads).1 in
+    let far = (subst (ReadsTo c.args.scan.now c.args.i c.args.mcu) none c.requires.reads).1 in
     has_none (interval_of s c.args.i) far.0 c.args.mcu far.1 far.2 c.requires.few far.3
 
 pub returns-then-whole-left-clause-sound : goal.returns-then-whole-left-clause-sound
@@ -20,7 +20,7 @@ returns-then-whole-left-clause-sound c = λ e.
     let i : IntervalValue = interval_of s c.args.i in
     let lawful : IsLawful s.head = subst IsLawful c.head-head.ensures.value c.head-head.ensures.lawful in
     let left : c.mcus_in.result ≡ mcus_in s.head c.args.i = c.mcus_in.ensures.value ∙ ap (λ (h : HeadValue). mcus_in h c.args.i) c.head-head.ensures.value in
-    let before = subst (ReadsTo s c.args.i c.args.mcu) c.in-Some.is c.requires.reads in
+    let before = subst (ReadsTo c.args.scan.now c.args.i c.args.mcu) c.in-Some.is c.requires.reads in
     let read = c.skip-whole.ensures.passed [] c.at-reader.ensures.read in
     let d : IsPassed i c.args.mcu (c.mcus_in.result - c.args.mcu) c.skip-whole.result c.in-Some.place c.place-end.result =
     passed s c.args.i c.args.mcu (c.mcus_in.result - c.args.mcu) c.skip-whole.result c.in-Some.place c.place-end.result c.interval_ref-interval.result c.at-reader.result c.skip-whole.new.self before (omega (arith, left, c.requires.few))
@@ -36,7 +36,7 @@ returns-then-whole-left-clause-damaged c = λ e.
     let i : IntervalValue = interval_of s c.args.i in
     let lawful : IsLawful s.head = subst IsLawful c.head-head.ensures.value c.head-head.ensures.lawful in
     let left : c.mcus_in.result ≡ mcus_in s.head c.args.i = c.mcus_in.ensures.value ∙ ap (λ (h : HeadValue). mcus_in h c.args.i) c.head-head.ensures.value in
-    let before = subst (ReadsTo s c.args.i c.args.mcu) c.in-Some.is c.requires.reads in
+    let before = subst (ReadsTo c.args.scan.now c.args.i c.args.mcu) c.in-Some.is c.requires.reads in
     let read = c.skip-whole.ensures.passed [] c.at-reader.ensures.read in
     let d : IsPassed i c.args.mcu (c.mcus_in.result - c.args.mcu) c.skip-whole.result c.in-Some.place c.place-end.result =
     passed s c.args.i c.args.mcu (c.mcus_in.result - c.args.mcu) c.skip-whole.result c.in-Some.place c.place-end.result c.interval_ref-interval.result c.at-reader.result c.skip-whole.new.self before (omega (arith, left, c.requires.few))
@@ -51,7 +51,7 @@ returns-else-whole-left-clause-damaged c = λ e.
     let i : IntervalValue = interval_of s c.args.i in
     let lawful : IsLawful s.head = subst IsLawful c.head-head.ensures.value c.head-head.ensures.lawful in
     let left : c.mcus_in.result ≡ mcus_in s.head c.args.i = c.mcus_in.ensures.value ∙ ap (λ (h : HeadValue). mcus_in h c.args.i) c.head-head.ensures.value in
-    let before = subst (ReadsTo s c.args.i c.args.mcu) c.in-Some.is c.requires.reads in
+    let before = subst (ReadsTo c.args.scan.now c.args.i c.args.mcu) c.in-Some.is c.requires.reads in
     let read = c.skip-whole.ensures.passed [] c.at-reader.ensures.read in
     let d : IsPassed i c.args.mcu (c.mcus_in.result - c.args.mcu) c.skip-whole.result c.in-Some.place c.place-end.result =
     passed s c.args.i c.args.mcu (c.mcus_in.result - c.args.mcu) c.skip-whole.result c.in-Some.place c.place-end.result c.interval_ref-interval.result c.at-reader.result c.skip-whole.new.self before (omega (arith, left, c.requires.few))

@@ -1,8 +1,9 @@
-use Rattle.std.proofs.Common.{◌*◌, ◌/◌, ◌<◌, length, take, refl, sym, subst, ◌∙◌, arith}
+use Rattle.std.proofs.Common.{ℕ, List, ◌*◌, ◌/◌, ◌<◌, length, take, refl, sym, subst, ◌∙◌, arith}
 use Rattle.jr_head.specs.Geometry.{IsLawful, horizontal_max, mcus_across}
 use Rattle.jr_paint.specs.Lines.{line_size}
 use Rattle.jr_paint.proofs.Places.{in_div_ceil}
-use Rattle.jr_scan.specs.ScanValue.{ScanValue, intervals_of}
+use Rattle.jr_scan.specs.GrowingScan.{GrowingScanValue, HasCome}
+use Rattle.jr_scan.specs.ScanValue.{intervals_of}
 use Rattle.jr_arrival.specs.Arriving.{ComingValue}
 use Rattle.jr_arrival.specs.Coming.{AreComing}
 use Rattle.jr_arrival.specs.Settled.{GivesSettled}
@@ -12,17 +13,18 @@ use Rattle.jr_arrival.proofs.coming.Coming.give.Goals as goal
 pub returns-clause-settled : goal.returns-clause-settled
 returns-clause-settled c =
     let i = c.self.inside in
-    let s : ScanValue = i.scan.scan in
+    let part : GrowingScanValue = i.scan in
+    let h = part.scan.head in
     let n = c.give.result in
     let room = length c.args.pixels.now in
-    let lawful : IsLawful s.head = subst IsLawful c.head.ensures.value c.head.ensures.lawful in
-    let wide : 0 < 8 * horizontal_max s.head = let d = lawful.components.across in omega (arith, d) in
-    let some : 0 < mcus_across s.head = in_div_ceil 0 s.head.width (8 * horizontal_max s.head) wide (omega (arith, lawful.wide)) in
-    let looked : HasLooked s c.give.new.self i.row.lines n (room / line_size s.head) = record { lines = c.give.ensures.lines; few = c.give.ensures.few; all = c.give.ensures.all } in
-    let inside : c.latest-latest.result < intervals_of s.head = omega (arith, c.latest-latest.ensures.inside, sym c.intervals-most.ensures.value ∙ c.intervals-most.ensures.count) in
-    subst (λ (v : ComingValue). GivesSettled v.growing.scan v.row.lines n room) c.self.view_is
-    (gives_settled s c.give.new.self lawful c.give.ensures.coming i.row.lines n (room / line_size s.head) looked c.latest-latest.result room some c.latest-latest.ensures.latest inside refl)
+    let lawful : IsLawful h = subst IsLawful c.head.ensures.value c.head.ensures.lawful in
+    let wide : 0 < 8 * horizontal_max h = let d = lawful.components.across in omega (arith, d) in
+    let some : 0 < mcus_across h = in_div_ceil 0 h.width (8 * horizontal_max h) wide (omega (arith, lawful.wide)) in
+    let looked : HasLooked part c.give.new.self i.row.lines n (room / line_size h) = record { lines = c.give.ensures.lines; few = c.give.ensures.few; all = c.give.ensures.all } in
+    let inside : c.last_begun-last.result < intervals_of h = omega (arith, c.last_begun-last.ensures.inside, sym c.intervals-most.ensures.value ∙ c.intervals-most.ensures.count) in
+    subst (λ (v : ComingValue). (bytes : List ℕ) → HasCome v.growing bytes → GivesSettled bytes v.growing.scan v.row.lines n room) c.self.view_is
+    (λ bytes come. gives_settled part c.give.new.self lawful c.give.ensures.coming i.row.lines n (room / line_size h) looked bytes come room some refl c.last_begun-last.result c.last_begun-last.ensures.last inside)
 
 pub returns-clause-given : goal.returns-clause-given
 returns-clause-given c =
-    subst (λ (v : ComingValue). AreComing v.growing.scan v.row.lines c.give.result (take (c.give.result * line_size v.growing.scan.head) c.give.new.pixels)) c.self.view_is c.give.ensures.given
+    subst (λ (v : ComingValue). AreComing v.growing v.row.lines c.give.result (take (c.give.result * line_size v.growing.scan.head) c.give.new.pixels)) c.self.view_is c.give.ensures.given

@@ -18,4 +18,4 @@ invariant_of-result c =
     let come : HasCome g c.args.bytes.now = search rules in
     let deep : 0 < 8 * vertical_max g.scan.head = let d = lawful.components.down in omega (arith, d) in
     let down : 0 < mcus_down g.scan.head = in_div_ceil 0 g.scan.head.height (8 * vertical_max g.scan.head) deep (omega (arith, lawful.high)) in
-    (begins_coming g.scan v begins down some lawful.high lawful.components.down, c.requires.small, (c.args.bytes.now, come, refl))
+    (begins_coming g v begins down some lawful.high lawful.components.down, c.requires.small, (c.args.bytes.now, come, refl))

@@ -2,8 +2,7 @@ use Rattle.std.proofs.Common.{ℕ, ◌+◌, ◌≤◌, ◌++◌, length, length-
 use Rattle.jr_base.specs.declared.limits.TheConstants.{MAX_FILE_BYTES}
 use Rattle.jr_scan.specs.GrowingScan.{GrowingScanValue, HasCome}
 use Rattle.jr_arrival.specs.Arriving.{ComingValue}
-use Rattle.jr_arrival.proofs.Readings.{coming_stays}
-use Rattle.jr_arrival.proofs.ScansGoOn.{becomes}
+use Rattle.jr_arrival.proofs.Readings.{coming_stays, grows}
 use Rattle.jr_arrival.proofs.coming.Coming.push.Goals as goal
 
 pub invariant_of-self-2 : goal.invariant_of-self-2
@@ -14,9 +13,9 @@ invariant_of-self-2 c =
     let more = c.args.more.now in
     let was = c.self.invariant.2 in
     let come : HasCome new (was.0 ++ more) = c.in_ok-push.ensures.pushed was.0 was.1 in
-    let on = becomes was.0 more old.scan new.scan c.push.ensures.head was.1.starts was.1.scan come.scan in
+    let on = grows was.0 more old new c.push.ensures.head was.1 come in
     let small : i.bytes + length more ≤ MAX_FILE_BYTES = subst (λ (v : ComingValue). v.bytes + length more ≤ MAX_FILE_BYTES) (sym c.self.view_is) c.requires.few in
-    (coming_stays old.scan new.scan i.row on c.self.invariant.0, small, (was.0 ++ more, come, length-append was.0 more ∙ ap (λ (n : ℕ). n + length more) was.2))
+    (coming_stays old new i.row on c.self.invariant.0, small, (was.0 ++ more, come, length-append was.0 more ∙ ap (λ (n : ℕ). n + length more) was.2))
 
 pub returns-clause-pushed : goal.returns-clause-pushed
 returns-clause-pushed c bytes has =

@@ -1,10 +1,12 @@
-use Rattle.std.proofs.Common.{◌≡◌, ◌+◌, ◌<◌, Some, length, sym, ap, subst, ◌∙◌, arith}
+use Rattle.std.proofs.Common.{◌≡◌, ℕ, ◌+◌, ◌<◌, Some, length, sym, ap, subst, ◌∙◌, arith}
 use Rattle.jr_head.specs.HeadValue.{HeadValue}
 use Rattle.jr_head.specs.Geometry.{mcus_across}
+use Rattle.jr_scan.specs.GrowingScan.{GrowingScanValue}
 use Rattle.jr_scan.specs.ScanValue.{ScanValue, interval_of, mcus_in}
 use Rattle.jr_scan.specs.declared.place.Place.{Place}
 use Rattle.jr_rows.specs.Rows.{CountsMarks}
-use Rattle.jr_arrival.specs.Coming.{Becomes, ComingRowValue, IsComing, MayGoOn}
+use Rattle.jr_arrival.specs.Coming.{Becomes, ComingRowValue, IsComing}
+use Rattle.jr_arrival.specs.Growing.{IsOver}
 use Rattle.jr_arrival.proofs.Readings.{all_read, next_inside, step_next}
 use Rattle.jr_arrival.proofs.coming_row.ComingRow.advance.Goals as goal
 
@@ -15,27 +17,28 @@ returns-then-not-is_over-clause-none c wrong =
     let number : c.self.inside.number ≡ v.number = ap (λ (r : ComingRowValue). r.number) c.self.view_is in
     let mcu : c.self.inside.mcu ≡ v.mcu = ap (λ (r : ComingRowValue). r.mcu) c.self.view_is in
     let all : c.mcus_in.result ≡ mcus_in s.head v.number = c.mcus_in.ensures.value ∙ ap (λ (h : HeadValue). mcus_in h c.self.inside.number) c.head.ensures.value ∙ ap (mcus_in s.head) number in
-    let going : MayGoOn s v.number = subst (MayGoOn s) number (c.is_over.ensures.going c.if-not-is_over.true) in
-    (going, all_read s v.number v.mcu v.place going c.requires.coming.reads (omega (arith, c.requires.coming.stands.few, all, mcu, c.if-self-mcus_in.false)))
+    let g : GrowingScanValue = c.args.scan.now in
+    let going = subst (λ (n : ℕ). IsOver s g.segments n → ⊥) number (c.is_over.ensures.going c.if-not-is_over.true) in
+    (going, all_read g v.number v.mcu v.place going c.requires.coming.reads (omega (arith, c.requires.coming.stands.few, all, mcu, c.if-self-mcus_in.false)))
 
 pub returns-clause-coming : goal.returns-clause-coming
 returns-clause-coming c =
     let s : ScanValue = c.args.scan.now.scan in
     let i = c.self.inside in
     let v : ComingRowValue = record { row = i.row; done = i.done; number = i.number; mcu = i.mcu; place = i.place; samples = i.samples; lines = i.lines; marked = i.marked } in
-    let coming : IsComing s v = subst (IsComing s) (sym c.self.view_is) c.requires.coming in
+    let coming : IsComing c.args.scan.now v = subst (IsComing c.args.scan.now) (sym c.self.view_is) c.requires.coming in
     let more : i.done < mcus_across s.head = subst (λ (r : ComingRowValue). r.done < mcus_across s.head) (sym c.self.view_is) c.requires.more in
     let all : c.mcus_in.result ≡ mcus_in s.head i.number = c.mcus_in.ensures.value ∙ ap (λ (h : HeadValue). mcus_in h i.number) c.head.ensures.value in
-    let counts = subst (λ (r : ComingRowValue). (t : ScanValue) → Becomes s t → interval_of t r.number ≡ interval_of s r.number → CountsMarks t (length t.intervals) 0 (r.number + 1) c.marks_so_far-self-inside.result) (sym c.self.view_is) c.marks_so_far-self-inside.ensures.counts in
-    subst (λ (p : Place). IsComing s (record { row = i.row; done = i.done; number = i.number + 1; mcu = 0; place = Some p; samples = i.samples; lines = i.lines; marked = c.marks_so_far-self-inside.result })) (sym c.start.ensures)
-    (step_next s v c.marks_so_far-self-inside.result coming (c.is_over.ensures.over c.if-not-is_over.false) (omega (arith, coming.stands.few, all, c.if-self-mcus_in.false)) more counts)
+    let counts = subst (λ (r : ComingRowValue). (t : ScanValue) → Becomes c.args.scan.now t → interval_of t r.number ≡ interval_of s r.number → CountsMarks t (length t.intervals) 0 (r.number + 1) c.marks_so_far-self-inside.result) (sym c.self.view_is) c.marks_so_far-self-inside.ensures.counts in
+    subst (λ (p : Place). IsComing c.args.scan.now (record { row = i.row; done = i.done; number = i.number + 1; mcu = 0; place = Some p; samples = i.samples; lines = i.lines; marked = c.marks_so_far-self-inside.result })) (sym c.start.ensures)
+    (step_next c.args.scan.now v c.marks_so_far-self-inside.result coming (c.is_over.ensures.over c.if-not-is_over.false) (omega (arith, coming.stands.few, all, c.if-self-mcus_in.false)) more counts)
 
 pub returns-clause-some : goal.returns-clause-some
 returns-clause-some c told =
     let s : ScanValue = c.args.scan.now.scan in
     let i = c.self.inside in
     let v : ComingRowValue = record { row = i.row; done = i.done; number = i.number; mcu = i.mcu; place = i.place; samples = i.samples; lines = i.lines; marked = i.marked } in
-    let coming : IsComing s v = subst (IsComing s) (sym c.self.view_is) c.requires.coming in
+    let coming : IsComing c.args.scan.now v = subst (IsComing c.args.scan.now) (sym c.self.view_is) c.requires.coming in
     let more : i.done < mcus_across s.head = subst (λ (r : ComingRowValue). r.done < mcus_across s.head) (sym c.self.view_is) c.requires.more in
     let all : c.mcus_in.result ≡ mcus_in s.head i.number = c.mcus_in.ensures.value ∙ ap (λ (h : HeadValue). mcus_in h i.number) c.head.ensures.value in
-    next_inside s v coming (omega (arith, coming.stands.few, all, c.if-self-mcus_in.false)) more
+    next_inside c.args.scan.now v coming (omega (arith, coming.stands.few, all, c.if-self-mcus_in.false)) more

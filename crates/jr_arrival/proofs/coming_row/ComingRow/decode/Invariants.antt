@@ -4,7 +4,7 @@ use Rattle.jr_arrival.proofs.coming_row.ComingRow.decode.Given as goal
 
 abbrev pub invariant-mcus : goal.invariant-mcus
 invariant-mcus l = record {
-  coming : IsComing l.fn.scan.scan l.self;
+  coming : IsComing l.fn.scan l.self;
   row : l.self.row ≡ l.initial.self.row;
   lines : l.self.lines ≡ l.initial.self.lines;
 }

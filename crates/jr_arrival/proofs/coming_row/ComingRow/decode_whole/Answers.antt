@@ -24,8 +24,8 @@ returns-clause-coming c =
     let i = c.self.inside in
     let p : Place = c.in-Some.place in
     let v : ComingRowValue = record { row = i.row; done = i.done; number = i.number; mcu = i.mcu; place = i.place; samples = i.samples; lines = i.lines; marked = i.marked } in
-    let coming : IsComing s v = subst (IsComing s) (sym c.self.view_is) c.requires.coming in
-    let reads : ReadsTo s i.number i.mcu (Some p) = subst (ReadsTo s i.number i.mcu) c.in-Some.is coming.reads in
+    let coming : IsComing c.args.scan.now v = subst (IsComing c.args.scan.now) (sym c.self.view_is) c.requires.coming in
+    let reads : ReadsTo c.args.scan.now i.number i.mcu (Some p) = subst (ReadsTo c.args.scan.now i.number i.mcu) c.in-Some.is coming.reads in
     let interval = interval_of s i.number in
     let e : c.head-4.result.now ≡ s.head = c.head-4.ensures.value in
     let lawful : IsLawful s.head = subst IsLawful e c.head-4.ensures.lawful in
@@ -51,7 +51,7 @@ returns-clause-coming c =
     let at : c.place-next.result ≡ r'.place = c.place-next.ensures.value in
     let its : r'.run.interval ≡ interval = ap (λ (o : RunOf). o.interval) c.decode_whole-whole.ensures.run ∙ own in
     let can : CanReadFrom interval c.place-next.result = subst (λ (x : IntervalValue). CanReadFrom x c.place-next.result) its (c.place-next.ensures.within, c.place-next.ensures.in_range) in
-    let told = step_whole s v lawful some_unit count coming p c.place-next.result reads.0 decoded.blocks n w reads.1 (subst (λ (q : Place). IsRun (run_from interval p n) decoded.blocks q AllRead) (sym at) run) can within few room kept each in
+    let told = step_whole c.args.scan.now v lawful some_unit count coming p c.place-next.result reads.0 decoded.blocks n w reads.1 (subst (λ (q : Place). IsRun (run_from interval p n) decoded.blocks q AllRead) (sym at) run) can within few room kept each in
     search (rules, told)
 
 pub returns-clause-all : goal.returns-clause-all
@@ -60,9 +60,9 @@ returns-clause-all c none =
     let i = c.self.inside in
     let p : Place = c.in-Some.place in
     let v : ComingRowValue = record { row = i.row; done = i.done; number = i.number; mcu = i.mcu; place = i.place; samples = i.samples; lines = i.lines; marked = i.marked } in
-    let coming : IsComing s v = subst (IsComing s) (sym c.self.view_is) c.requires.coming in
+    let coming : IsComing c.args.scan.now v = subst (IsComing c.args.scan.now) (sym c.self.view_is) c.requires.coming in
     let some : i.mcu < mcus_in s.head i.number = subst (λ (r : ComingRowValue). r.mcu < mcus_in s.head r.number) (sym c.self.view_is) c.requires.some in
-    let reads : ReadsTo s i.number i.mcu (Some p) = subst (ReadsTo s i.number i.mcu) c.in-Some.is coming.reads in
+    let reads : ReadsTo c.args.scan.now i.number i.mcu (Some p) = subst (ReadsTo c.args.scan.now i.number i.mcu) c.in-Some.is coming.reads in
     let interval = interval_of s i.number in
     let e : c.head-4.result.now ≡ s.head = c.head-4.ensures.value in
     let lawful : IsLawful s.head = subst IsLawful e c.head-4.ensures.lawful in

@@ -5,11 +5,11 @@ use Rattle.jr_arrival.proofs.coming_row.ComingRow.give.Given as goal
 
 abbrev pub invariant-lines : goal.invariant-lines
 invariant-lines l = record {
-  coming : IsComing l.fn.scan.scan l.self;
+  coming : IsComing l.fn.scan l.self;
   lines : l.self.lines ≡ l.initial.self.lines + l.given;
   few : l.given ≤ l.room;
   long : length l.pixels ≡ length l.initial.pixels;
-  front : AreComing l.fn.scan.scan l.initial.self.lines l.given (take (l.given * line_size l.fn.scan.scan.head) l.pixels);
+  front : AreComing l.fn.scan l.initial.self.lines l.given (take (l.given * line_size l.fn.scan.scan.head) l.pixels);
 }
 
 abbrev pub decreases-lines : goal.decreases-lines

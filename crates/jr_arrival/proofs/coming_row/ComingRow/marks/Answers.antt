@@ -10,7 +10,7 @@ use Rattle.jr_arrival.proofs.coming_row.ComingRow.marks.Goals as goal
 pub loop-i-init : goal.loop-i-init
 loop-i-init c =
     let s : ScanValue = c.args.scan.now.scan in
-    let counted = c.marks_so_far-marked.ensures.counts s (becomes_itself s) refl in
+    let counted = c.marks_so_far-marked.ensures.counts s (becomes_itself c.args.scan.now) refl in
     subst (λ (r : ComingRowValue). CountsMarks s (length s.intervals) 0 (r.number + 1) c.marks_so_far-marked.result) (sym c.self.view_is) counted
 
 pub is_sound-is_sound-requires-clause-reads : goal.is_sound-is_sound-requires-clause-reads

@@ -8,7 +8,7 @@ use Rattle.jr_arrival.proofs.coming_row.ComingRow.marks_so_far.Goals as goal
 pub is_sound-is_sound-requires-clause-reads : goal.is_sound-is_sound-requires-clause-reads
 is_sound-is_sound-requires-clause-reads c =
     let s : ScanValue = c.args.scan.now.scan in
-    subst (λ (r : ComingRowValue). ReadsTo s r.number r.mcu r.place) (sym c.self.view_is) c.requires.coming.reads
+    subst (λ (r : ComingRowValue). ReadsTo c.args.scan.now r.number r.mcu r.place) (sym c.self.view_is) c.requires.coming.reads
 
 pub returns : goal.returns
 returns c = record {

@@ -15,9 +15,9 @@ pass_lines-requires-clause-coming c =
     let s : ScanValue = c.args.scan.now.scan in
     let i = c.self.inside in
     let v : ComingRowValue = record { row = i.row; done = i.done; number = i.number; mcu = i.mcu; place = i.place; samples = i.samples; lines = i.lines; marked = i.marked } in
-    let coming : IsComing s v = subst (IsComing s) (sym c.self.view_is) c.requires.coming in
+    let coming : IsComing c.args.scan.now v = subst (IsComing c.args.scan.now) (sym c.self.view_is) c.requires.coming in
     let w : SampleRowValue = c.paint_some.new.self in
-    same_lines s v w coming c.paint_some.ensures.kept (subst (λ (h : HeadValue). HasSampleRoom h w) c.head-head.ensures.value c.paint_some.ensures.room)
+    same_lines c.args.scan.now v w coming c.paint_some.ensures.kept (subst (λ (h : HeadValue). HasSampleRoom h w) c.head-head.ensures.value c.paint_some.ensures.room)
 
 pub returns-clause-painted : goal.returns-clause-painted
 returns-clause-painted c =
@@ -25,7 +25,7 @@ returns-clause-painted c =
     let i = c.self.inside in
     let n = c.args.count in
     let v : ComingRowValue = record { row = i.row; done = i.done; number = i.number; mcu = i.mcu; place = i.place; samples = i.samples; lines = i.lines; marked = i.marked } in
-    let coming : IsComing s v = subst (IsComing s) (sym c.self.view_is) c.requires.coming in
+    let coming : IsComing c.args.scan.now v = subst (IsComing c.args.scan.now) (sym c.self.view_is) c.requires.coming in
     let e : c.head-head.result.now ≡ s.head = c.head-head.ensures.value in
     let lawful : IsLawful s.head = subst IsLawful e c.head-head.ensures.lawful in
     let whole : i.done ≡ mcus_across s.head = subst (λ (r : ComingRowValue). r.done ≡ mcus_across s.head) (sym c.self.view_is) c.requires.whole in
@@ -33,4 +33,4 @@ returns-clause-painted c =
     let pixels = c.paint_some.new.pixels in
     let are : pixels ≡ next_lines_of s.head (samples_in (record { head = s.head; groups = i.samples.lines.groups })) i.lines n =
     c.paint_some.ensures.lines ∙ ap (λ (h : HeadValue). next_lines_of h (samples_in (record { head = h; groups = i.samples.lines.groups })) i.lines n) e in
-    subst (λ (r : ComingRowValue). AreComing s r.lines n pixels) c.self.view_is (row_coming s v lawful coming whole n few pixels are)
+    subst (λ (r : ComingRowValue). AreComing c.args.scan.now r.lines n pixels) c.self.view_is (row_coming c.args.scan.now v lawful coming whole n few pixels are)

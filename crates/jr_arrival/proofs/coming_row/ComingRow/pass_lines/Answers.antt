@@ -18,13 +18,13 @@ returns-then-self-first-clause-coming c =
     let s : ScanValue = c.args.scan.now.scan in
     let i = c.self.inside in
     let v : ComingRowValue = record { row = i.row; done = i.done; number = i.number; mcu = i.mcu; place = i.place; samples = i.samples; lines = i.lines; marked = i.marked } in
-    let coming : IsComing s v = subst (IsComing s) (sym c.self.view_is) c.requires.coming in
+    let coming : IsComing c.args.scan.now v = subst (IsComing c.args.scan.now) (sym c.self.view_is) c.requires.coming in
     let whole : i.done ≡ mcus_across s.head = subst (λ (r : ComingRowValue). r.done ≡ mcus_across s.head) (sym c.self.view_is) c.requires.whole in
     let few : Ends s v c.args.count = subst (λ (r : ComingRowValue). Ends s r c.args.count) (sym c.self.view_is) c.requires.inside in
     let e : c.head-2.result.now ≡ s.head = c.head-2.ensures.value in
     let first : c.lines_of-first.result.0 ≡ first_line s.head i.row = c.lines_of-first.ensures.first ∙ ap (λ (h : HeadValue). first_line h i.row) e in
     let count : c.lines_of-first.result.1 ≡ line_count s.head i.row = c.lines_of-first.ensures.count ∙ ap (λ (h : HeadValue). line_count h i.row) e in
-    step_lines s v c.args.count coming whole few (λ lt. elim c.then-self-first.branch [
+    step_lines c.args.scan.now v c.args.count coming whole few (λ lt. elim c.then-self-first.branch [
       | then-self-first-via-then-self-first w ↦ omega (arith, w.if-self-first, first, count)
       | then-self-first-via-else-self-first+then-self-height w ↦
           let high : w.height.result ≡ s.head.height = w.height.ensures.value ∙ ap (λ (h : HeadValue). h.height) w.head-else-self-first.ensures.value in
@@ -37,7 +37,7 @@ returns-clause-coming c =
     let i = c.self.inside in
     let n = c.args.count in
     let v : ComingRowValue = record { row = i.row; done = i.done; number = i.number; mcu = i.mcu; place = i.place; samples = i.samples; lines = i.lines; marked = i.marked } in
-    let coming : IsComing s v = subst (IsComing s) (sym c.self.view_is) c.requires.coming in
+    let coming : IsComing c.args.scan.now v = subst (IsComing c.args.scan.now) (sym c.self.view_is) c.requires.coming in
     let whole : i.done ≡ mcus_across s.head = subst (λ (r : ComingRowValue). r.done ≡ mcus_across s.head) (sym c.self.view_is) c.requires.whole in
     let few : Ends s v n = subst (λ (r : ComingRowValue). Ends s r n) (sym c.self.view_is) c.requires.inside in
     let e : c.head-2.result.now ≡ s.head = c.head-2.ensures.value in
@@ -51,5 +51,5 @@ returns-clause-coming c =
       | inl l ↦ l
       | inr g ↦ absurd (c.if-self-height.false (omega (arith, g, high, high_too, c.lines_of-first.ensures.inside, first, count, end)))
     ] in
-    let told = step_row s v coming lawful.components.down whole (i.lines + n) end more in
+    let told = step_row c.args.scan.now v coming lawful.components.down whole (i.lines + n) end more in
     search (rules, told)

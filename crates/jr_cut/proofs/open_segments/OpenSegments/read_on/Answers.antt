@@ -12,5 +12,5 @@ returns-in-End-clause-cut c =
     let end = c.in-End.ended in
     let ends : IsEnding o.intervals (length o.spans.items) o.at o.bytes.rest end = search (rules, c.in-End.ensures, c.rest.ensures, c.len-k.ensures, c.fill-fill.ensures.same) in
     λ start bytes h.
-    subst (λ (b : UnstuffingValue). HasCut start bytes (cut_of (record { bytes = b; spans = o.spans; begin = o.begin; latest = o.latest; intervals = o.intervals; at = o.at }) end)) (sym c.fill-fill.ensures.same)
+    subst (λ (b : UnstuffingValue). HasCut start bytes (cut_of (record { bytes = b; spans = o.spans; begin = o.begin; intervals = o.intervals; at = o.at }) end)) (sym c.fill-fill.ensures.same)
     (cut_made start bytes o end c.grow.ensures.is (c.grow.ensures.all.read start bytes (c.segments.invariant.1.read start bytes h)) ends)

@@ -1,6 +1,6 @@
 use Rattle.std.proofs.Common.{arith, ◌≡◌, ℕ, List, ◌++◌, length, length-append, sym, ap, subst, ◌∙◌, append_assoc, refl}
 use Rattle.std.specs.List.{All}
-use Rattle.jr_cut.specs.CutSoFar.{AreSegments, IsLatestOf}
+use Rattle.jr_cut.specs.CutSoFar.{AreSegments}
 use Rattle.jr_cut.specs.Spans.{IsSpanOf}
 use Rattle.jr_cut.specs.OpenSegments.{datas_of}
 use Rattle.jr_cut.specs.declared.open_segments.OpenSegments.{OpenSegments}
@@ -24,7 +24,6 @@ returns-clause-is c =
       few = omega (arith, ap length spans, is.few);
       small = is.small;
       fits = omega (arith, ap length c.in_ok-extend.ensures.rest, length-append o.bytes.rest c.args.more.now, c.requires.fits);
-      latest = subst (λ (d : List (List ℕ)). IsLatestOf d o.latest) (sym (same_datas o n spans bytes refl)) is.latest;
     }
 
 pub returns-clause-taken : goal.returns-clause-taken
