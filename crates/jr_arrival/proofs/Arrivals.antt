@@ -8,7 +8,6 @@ use Rattle.jr_segments.specs.declared.refusal.Refusal.TheVariants.{TooLong}
 use Rattle.jr_head.specs.Heads.{HeadOf, RefusalOf}
 use Rattle.jr_paint.specs.Lines.{line_size}
 use Rattle.jr_scan.specs.GrowingScan.{GrowingScanValue, HasCome}
-use Rattle.jr_scan.specs.ScanValue.{ScanValue}
 use Rattle.jr_arrival.proofs.LinesOfPictures.{of_picture}
 use Rattle.jr_arrival.specs.Growing.{HasScan}
 use Rattle.jr_arrival.specs.Arriving.{ComingValue, GivesComing, HasBegun, HoldsBytes, given_of}

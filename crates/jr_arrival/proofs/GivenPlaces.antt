@@ -1,6 +1,7 @@
 -- The top is a place, and a place stays one.
-use Rattle.std.proofs.Common.{◌≡◌, ℕ, ◌-◌, ◌≤◌, List, [], ◌++◌, length, replicate, drop, map, refl, sym, ap, subst, ◌∙◌, length-append, arith}
+use Rattle.std.proofs.Common.{◌≡◌, ℕ, ◌+◌, ◌-◌, ◌≤◌, List, [], ◌++◌, length, replicate, drop, map, refl, sym, ap, subst, ◌∙◌, length-append, arith}
 use Rattle.jr_cut.specs.Cut.{CodedSegment, CutFrom, IsRaw}
+use Rattle.jr_cut.proofs.CutLaw.{one_cut}
 use Rattle.jr_cut.proofs.Cuts.{raw_none}
 use Rattle.jr_scan.specs.Run.{start_of_interval}
 use Rattle.jr_scan.specs.ScanValue.{ScanValue, IsScanOf, intervals_of}
@@ -20,6 +21,9 @@ begins whole t s =
       empty = empty;
       cut = subst (λ (d : List (List ℕ)). CutFrom (intervals_of t.head) 0 t.head.scan_at (drop t.head.scan_at whole) d t.ended) c.means s.cut;
       datas = s.intervals ∙ ap (λ (d : List (List ℕ)). d ++ replicate empty []) c.means;
+      count = λ d.
+          let same = (one_cut (intervals_of t.head) t.head.scan_at (drop t.head.scan_at whole) d.segments s.segments t.ended t.ended d.cut s.cut).0 in
+          omega (arith, ap length same, ap length c.means);
     }
 
 pub top_is_place : (bytes whole : List ℕ) (t : ScanValue) → IsScanOf whole t → t.head.scan_at ≤ length bytes → IsPlaceIn bytes whole t top

@@ -1,14 +1,14 @@
 -- Where a scan goes on: from an offset of the file to a later one.
-use Rattle.std.proofs.Common.{◌≡◌, ◌≢◌, ℕ, suc, ◌+◌, ◌-◌, ◌%◌, ◌<◌, ◌≤◌, ◌⊎◌, inl, inr, List, [], ◌∷◌, ◌++◌, length, replicate, take, drop, get_or, refl, sym, ap, subst, ◌∙◌, append_assoc, length-append, add-one, arith}
+use Rattle.std.proofs.Common.{◌≡◌, ◌≢◌, ℕ, zero, suc, ◌+◌, ◌-◌, ◌%◌, ◌<◌, ◌≤◌, ◌⊎◌, inl, inr, List, [], ◌∷◌, ◌++◌, length, replicate, take, drop, get_or, refl, sym, ap, subst, ◌∙◌, append_assoc, length-append, add-one, arith}
 use Rattle.std.specs.List.{AllByRecursion}
 use Rattle.std.proofs.lemmas.List.{append-nil, drop-drop, get_or-drop}
-use Rattle.jr_base.specs.declared.marker.TheConstants.{RST0}
+use Rattle.jr_base.specs.declared.marker.TheConstants.{EOI, PREFIX, RST0}
 use Rattle.jr_cut.specs.declared.scan_end.ScanEnd.{ScanEnd}
-use Rattle.jr_cut.specs.declared.scan_end.ScanEnd.TheVariants.{EndOfFile}
+use Rattle.jr_cut.specs.declared.scan_end.ScanEnd.TheVariants.{EndOfFile, EndOfImage, ExtraRestart, OtherMarker, OutOfStep}
 use Rattle.jr_cut.specs.Cut.{IsRaw, marker, CodedSegment, with_markers, HasMarker, IsEnding, CutFrom, IsStop}
 use Rattle.jr_cut.proofs.OpenSegments.{ending_more as marked_more}
 use Rattle.jr_cut.proofs.Segments.{length_marker}
-use Rattle.jr_scan.specs.ScanValue.{ScanValue, intervals_of}
+use Rattle.jr_scan.specs.ScanValue.{ScanValue, IsScanOf, intervals_of}
 use Rattle.jr_cut.proofs.CutLaw.{ending_not_next}
 use Rattle.jr_arrival.proofs.Endings.{behind_marker, bytes_of, next_marker}
 use Rattle.jr_arrival.proofs.ScanIntervals.{none_in}
@@ -75,6 +75,27 @@ module _ (n i at : ℕ) (tail : List ℕ) (others : List (List ℕ)) (end : Scan
       go [] are spelled few = are
       go (p ∷ ps) are spelled few = absurd (ending_not_next n i o tail e ending (subst (λ (x : List ℕ). HasMarker x (RST0 + i % 8)) (sym spelled) (next_marker i p ps c.tail)) (omega (arith, few)))
 
+-- behind a segment without data that only fill bytes follow the file ends
+fill_no_marker : (n more code : ℕ) (rest : List ℕ) → replicate n PREFIX ≡ marker more code ++ rest → code ≡ PREFIX
+fill_no_marker zero more code rest e = absurd cc
+fill_no_marker (suc zero) zero code rest e = absurd cc
+fill_no_marker (suc (suc n)) zero code rest e = cc
+fill_no_marker (suc n) (suc more) code rest e = fill_no_marker n more code rest (let next : replicate n PREFIX ≡ marker more code ++ rest = cc in next)
+
+fill_ends : (n k at fill : ℕ) (tail : List ℕ) (end : ScanEnd) → tail ≡ replicate fill PREFIX → IsEnding n k at tail end → end ≡ EndOfFile
+fill_ends n k at fill tail EndOfFile all h = refl
+fill_ends n k at fill tail EndOfImage all h = absurd (let e = fill_no_marker fill h.0 EOI h.1 (sym all ∙ h.2) in omega (arith, e))
+fill_ends n k at fill tail (ExtraRestart o) all h = absurd (let m = h.2 in let e = fill_no_marker fill m.0 (RST0 + h.0) m.1 (sym all ∙ m.2) in omega (arith, e, h.1))
+fill_ends n k at fill tail (OutOfStep f x o) all h = absurd (let m = h.1 in let e = fill_no_marker fill m.0 (RST0 + f) m.1 (sym all ∙ m.2) in omega (arith, e, h.0))
+fill_ends n k at fill tail (OtherMarker c o) all h = absurd (let m = h.2 in let e = fill_no_marker fill m.0 c m.1 (sym all ∙ m.2) in omega (arith, e, h.1))
+
+only_fill : (n i at : ℕ) (tail : List ℕ) (fill : ℕ) (end : ScanEnd) → CutFrom n i at tail ([] ∷ []) end → tail ≡ replicate fill PREFIX → end ≡ EndOfFile
+only_fill n i at tail fill end c all = go c.segments (are n i at tail [] end c) (spelled n i at tail [] end c) c.ends
+  where
+    go : (ps : List CodedSegment) → [] ≡ bytes_of ps → tail ≡ with_markers i ps ++ c.tail → IsEnding n (i + length ps) (at + length (c.raw ++ with_markers i ps)) c.tail end → end ≡ EndOfFile
+    go [] none is ends = fill_ends n (i + 0) (at + length (c.raw ++ [])) fill c.tail end (sym is ∙ all) ends
+    go (p ∷ ps) none is ends = absurd cc
+
 -- ---- where a scan goes on
 
 -- what is left behind data that is spelled
@@ -102,6 +123,7 @@ on_by bytes more whole t i at read before found is g within raw =
         cut = subst (λ (o : ℕ). CutFrom n i o (drop (at + read) whole) (s.rest ∷ s.others) t.ended) long s.cut;
         datas = g.datas ∙ ap (λ (x : List ℕ). (before ++ x) ∷ (g.others ++ replicate g.empty [])) rest ∙ ap (λ (x : List ℕ). x ∷ (g.others ++ replicate g.empty [])) (sym (append_assoc before found s.rest))
             ∙ ap (λ (x : List (List ℕ)). ((before ++ found) ++ s.rest) ∷ (x ++ replicate g.empty [])) others;
+        count = λ c. omega (arith, g.count c, ap length others);
       };
       is = rest;
       none = s.none;
@@ -130,7 +152,15 @@ module _ (whole : List ℕ) (t : ScanValue) (i at : ℕ) (before : List ℕ) (g 
         empty = g.empty;
         cut = subst (λ (b : List ℕ). CutFrom (intervals_of t.head) (i + 1) (at + (more + 2)) b (c.first ∷ c.behind) t.ended) (sym there) c.cut;
         datas = behind_it ∙ ap (λ (x : List (List ℕ)). x ++ replicate g.empty []) c.are;
+        count = λ d. omega (arith, g.count d, ap length c.are);
       }
+
+  -- at the end of the bytes none follows, and no marker has ended the scan
+  pub waits_on : (fill : ℕ) → drop at whole ≡ replicate fill PREFIX → (t.ended ≡ EndOfFile) × ((c : IsScanOf whole t) → length c.segments ≡ i + 1)
+  waits_on fill all =
+      let n = intervals_of t.head in
+      let others = last_cut n i at (drop at whole) g.others t.ended cut_there at EndOfFile (fill, all) in
+      (only_fill n i at (drop at whole) fill t.ended (subst (λ (x : List (List ℕ)). CutFrom n i at (drop at whole) ([] ∷ x) t.ended) others cut_there) all, λ c. omega (arith, g.count c, ap length others))
 
   -- or to the scan's end
   pub ended_on : (o : ℕ) (e : ScanEnd) → IsEnding (intervals_of t.head) i o (drop at whole) e → HasNoData t (i + 1)

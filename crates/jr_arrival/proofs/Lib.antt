@@ -31,4 +31,5 @@ pub mod Stops
 pub mod TestsStay
 pub mod Threes
 pub mod Unstuffed
+pub mod Waiting
 pub mod Windows

@@ -12,7 +12,7 @@ use Rattle.jr_scan.specs.IntervalValue.{IntervalValue}
 use Rattle.jr_scan.specs.ScanValue.{ScanValue, IsScanOf, interval_of, intervals_of, mcus_in}
 use Rattle.jr_arrival.proofs.ScanIntervals.{count_is, none_in}
 use Rattle.jr_arrival.specs.Arrival.{CanBecome}
-use Rattle.jr_arrival.specs.Growing.{GrowsTo, HasEndedAt, HasScan, IsOver, KeepsScan}
+use Rattle.jr_arrival.specs.Growing.{GrowsTo, HasScan, IsOver, KeepsScan}
 use Rattle.jr_arrival.proofs.HeadsStay.{head_is_final}
 use Rattle.jr_arrival.proofs.CutsGoOn.{cut_is_final}
 

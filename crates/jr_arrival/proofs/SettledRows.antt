@@ -19,7 +19,7 @@ use Rattle.jr_piece.proofs.ScanLaws.{shorter_front}
 use Rattle.jr_rows.proofs.IntervalPlaces.{inside, interval_at, mcus_in_some, next_there}
 use Rattle.jr_rows.proofs.PictureRows.{all_rows}
 use Rattle.jr_rows.proofs.RowStarts.{mcu_there}
-use Rattle.jr_arrival.specs.Growing.{HasEndedAt, IsSettled, RowIsSettled}
+use Rattle.jr_arrival.specs.Growing.{HasEndedAt, IsSettled}
 use Rattle.jr_arrival.specs.Settled.{HasRows}
 use Rattle.jr_arrival.proofs.ReadOn.{nothing_whole}
 use Rattle.jr_arrival.proofs.ScansGoOn.{data_at}

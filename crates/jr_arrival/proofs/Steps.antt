@@ -129,7 +129,7 @@ module _ (h : HeadValue) (c : ScanCursor) (w : HasWindow c) (end read : ℕ) (fo
       }
 
   -- the interval has ended there
-  its_end : (whole : List ℕ) (t : ScanValue) (may : MayBe c.file.bytes.now c.file.are_all h whole t) → IsStop (drop end whole) → c.reading ≢ HasEnded → IsCursorIn whole t c → (before : List ℕ) × (g : GoesOnAt whole t c.interval end before) × (g.rest ≡ [])
+  pub its_end : (whole : List ℕ) (t : ScanValue) (may : MayBe c.file.bytes.now c.file.are_all h whole t) → IsStop (drop end whole) → c.reading ≢ HasEnded → IsCursorIn whole t c → (before : List ℕ) × (g : GoesOnAt whole t c.interval end before) × (g.rest ≡ [])
   its_end whole t may stop over s = go c.reading over s.means
     where
       on : (before : List ℕ) (g : GoesOnAt whole t c.interval c.at before) → (b : List ℕ) × (g : GoesOnAt whole t c.interval end b) × (g.rest ≡ [])

@@ -1,10 +1,12 @@
 -- A cursor over the MCUs of a scan.
-use Rattle.std.specs.Prelude.{◌≡◌, ℕ, ◌+◌, ◌-◌, ◌*◌, ◌/◌, ◌%◌, ◌≤◌, ◌⊎◌, Bool, true, false, List, length, take, drop}
+use Rattle.std.specs.Prelude.{◌≡◌, ℕ, ◌+◌, ◌-◌, ◌*◌, ◌/◌, ◌%◌, ◌<◌, ◌≤◌, ◌⊎◌, Bool, true, false, List, length, replicate, take, drop}
 use Rattle.std.specs.List.{All}
 use Rattle.jr_head.specs.HeadValue.{HeadValue}
+use Rattle.jr_head.specs.Geometry.{mcus_of}
 use Rattle.jr_head.specs.Intervals.{mcus_in}
 use Rattle.jr_mcu.specs.Block.{IsInDcRange}
 use Rattle.jr_mcu.specs.Mcus.{no_predictions}
+use Rattle.jr_base.specs.declared.marker.TheConstants.{PREFIX}
 use Rattle.jr_cut.specs.Cut.{IsRaw, IsStop}
 use Rattle.jr_scan.specs.IntervalValue.{IntervalValue}
 use Rattle.jr_scan.specs.Run.{HasNoMcu, left_at}
@@ -13,6 +15,7 @@ use Rattle.jr_arrival.specs.declared.cursor.Reading.{Reading}
 use Rattle.jr_arrival.specs.declared.cursor.Reading.TheVariants.{GoesOn, IsStuck, HasEnded}
 use Rattle.jr_arrival.specs.declared.cursor.ScanCursor.{ScanCursor}
 use Rattle.jr_arrival.specs.declared.cursor.TheConstants.{WINDOW}
+use Rattle.jr_arrival.specs.Growing.{IsSettled, RowIsSettled}
 use Rattle.jr_arrival.specs.Meaning.{MayBe, MeansAt}
 use Rattle.jr_arrival.specs.Places.{IsIn, mcus_before_place}
 
@@ -87,6 +90,24 @@ pub record IsCursorIn (whole : List ℕ) (t : ScanValue) (c : ScanCursor) : Type
 -- a step that leaves it there, in each file that its bytes may be
 abbrev pub StaysTrue : HeadValue → (old new : ScanCursor) → Type 0
 StaysTrue h old new = (whole : List ℕ) (t : ScanValue) → MayBe old.file.bytes.now old.file.are_all h whole t → IsCursorIn whole t old → IsCursorIn whole t new
+
+-- only fill bytes follow its interval's data, to the end of the bytes
+pub record IsOpen (c : ScanCursor) : Type 0 where
+  pub read : ℕ
+  pub found : List ℕ
+  pub within : c.at + read ≤ length c.file.bytes.now
+  pub spelled : IsRaw (take read (drop c.at c.file.bytes.now)) found
+  pub fill : ℕ
+  pub all : drop (c.at + read) c.file.bytes.now ≡ replicate fill PREFIX
+
+-- the bytes so far do not settle the MCU at which it stands, if it stands there in them
+abbrev pub Waits : HeadValue → ScanCursor → Type 0
+Waits h c = let m = mcus_before_place h c.interval c.mcu in
+    (s : ScanValue) → MayBe c.file.bytes.now c.file.are_all h c.file.bytes.now s → IsCursorIn c.file.bytes.now s c → m < mcus_of h → IsSettled c.file.bytes.now s m → ⊥
+
+-- nor all of that row of MCUs
+abbrev pub LeavesRow : HeadValue → ScanCursor → (row : ℕ) → Type 0
+LeavesRow h c row = (s : ScanValue) → MayBe c.file.bytes.now c.file.are_all h c.file.bytes.now s → IsCursorIn c.file.bytes.now s c → RowIsSettled c.file.bytes.now s row → ⊥
 
 -- that offset in the file stands behind so many bytes of the window's data
 pub record IsOffset (c : ScanCursor) (byte at : ℕ) : Type 0 where

@@ -27,13 +27,15 @@ pub record MayBe (bytes : List ℕ) (all : Bool) (h : HeadValue) (whole : List �
   pub head : t.head ≡ h
   pub scan : IsScanOf whole t
 
--- the bytes from that offset on are the rest of interval i, before which that data of it stand, and the segments that follow it
+-- the bytes from that offset on are the rest of interval i, before which that data of it stand, and the segments that follow it: all
+-- that the scan has
 pub record GoesOnAt (whole : List ℕ) (t : ScanValue) (i at : ℕ) (before : List ℕ) : Type 0 where
   pub rest : List ℕ
   pub others : List (List ℕ)
   pub empty : ℕ
   pub cut : CutFrom (intervals_of t.head) i at (drop at whole) (rest ∷ others) t.ended
   pub datas : drop i t.intervals ≡ (before ++ rest) ∷ (others ++ replicate empty [])
+  pub count : (c : IsScanOf whole t) → length c.segments ≡ i + 1 + length others
 
 -- so many MCUs of interval i are whole, and the next one's bits begin at that place, if it is counted from that offset on
 pub record ReadsAt (whole : List ℕ) (t : ScanValue) (i mcu at : ℕ) (p : Place) : Type 0 where

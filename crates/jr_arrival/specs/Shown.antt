@@ -11,6 +11,7 @@ use Rattle.jr_rows.specs.Rows.{ShowsFirstUnits}
 use Rattle.jr_arrival.specs.declared.cursor.ScanCursor.{ScanCursor}
 use Rattle.jr_arrival.specs.declared.place.RowPlace.{RowPlace}
 use Rattle.jr_arrival.specs.Cursors.{IsCursorIn}
+use Rattle.jr_arrival.specs.Growing.{RowIsSettled}
 use Rattle.jr_arrival.specs.Meaning.{IsPlaceIn, MayBe}
 use Rattle.jr_arrival.specs.Places.{mcus_before_place}
 
@@ -22,6 +23,10 @@ ShowsMore h c done more old new = (from : ℕ) → mcus_before_place h c.interva
 -- all MCUs of the row are
 abbrev pub ShowsRow : ScanValue → (row : ℕ) → List (List ℕ) → Type 0
 ShowsRow t row groups = ShowsFirstUnits t (length t.intervals) (row * mcus_across t.head) (mcus_across t.head) (units_in t.head groups)
+
+-- the bytes so far do not settle that row of MCUs, if the place is one of them
+abbrev pub LeavesRowAt : (bytes : List ℕ) (all : Bool) → HeadValue → RowPlace → (row : ℕ) → Type 0
+LeavesRowAt bytes all h p row = (s : ScanValue) → MayBe bytes all h bytes s → IsPlaceIn bytes bytes s p → RowIsSettled bytes s row → ⊥
 
 -- these are lines of the picture of each file that the bytes may be, of which this is a place: so many from this one on
 abbrev pub AreLines : (bytes : List ℕ) (all : Bool) → HeadValue → RowPlace → (first count : ℕ) → List ℕ → Type 0

@@ -1,7 +1,8 @@
 //! A cursor that goes over the MCUs of a scan, a window of the file's bytes at a time.
 
 ghost use Rattle.std.specs.List.{All};
-ghost use Rattle.std.specs.Prelude.{◌≡◌, ◌≢◌, ◌⊎◌, ◌≤◌, ◌<◌, ◌+◌, ◌-◌, ◌*◌, ◌/◌, ◌%◌, ◌^◌, ℕ, List, [], ◌++◌, length, take, drop, min, max, true, false, IfOk};
+ghost use Rattle.std.specs.Prelude.{◌≡◌, ◌≢◌, ◌⊎◌, ◌≤◌, ◌<◌, ◌+◌, ◌-◌, ◌*◌, ◌/◌, ◌%◌, ◌^◌, ℕ, List, [], ◌++◌, length, replicate, take, drop, min, max, true, false, IfOk};
+ghost use Rattle.jr_base.specs.declared.marker.TheConstants.{PREFIX};
 ghost use Rattle.jr_cut.specs.Cut.{IsRaw, IsStop};
 ghost use Rattle.jr_cut.specs.OpenSegments.{IsStopOf};
 ghost use Rattle.jr_head.specs.Geometry.{mcus_across, mcus_down, mcus_of};
@@ -10,7 +11,7 @@ ghost use Rattle.jr_mcu.specs.Block.{IsInDcRange};
 ghost use Rattle.jr_scan.specs.McuReader.{HasRead};
 ghost use Rattle.jr_scan.specs.Run.{run_from};
 ghost use Rattle.jr_arrival.specs.Places.{IsIn, IsPlaceOf, mcus_before_place};
-ghost use Rattle.jr_arrival.specs.Cursors.{HasWindow, IsCursor, IsOffset, BeginsNext, NoneFollows, PassesOver, IsCursorIn, StaysIn, StaysTrue, begun, in_window, reading_number, to_read, trimmed};
+ghost use Rattle.jr_arrival.specs.Cursors.{HasWindow, IsCursor, IsOffset, IsOpen, BeginsNext, NoneFollows, PassesOver, IsCursorIn, StaysIn, StaysTrue, Waits, begun, in_window, reading_number, to_read, trimmed};
 ghost use Rattle.jr_arrival.specs.Meaning.{HasBits, IsPlaceIn, MayBe};
 ghost use Rattle.jr_arrival.specs.declared.cursor.Reading.TheVariants.{GoesOn, HasEnded};
 ghost use Rattle.jr_cut.specs.declared.scan_end.ScanEnd.TheVariants.{EndOfFile};
@@ -312,6 +313,7 @@ impl<'a> ScanCursor<'a> {
         requires stop { IsStop (drop end self.now.file.bytes.now) }
         ensures ends { result ≡ true → (more : List ℕ) → (self.now.file.are_all ≡ true → more ≡ []) → IsStop (drop end (self.now.file.bytes.now ++ more)) }
         ensures all { self.now.file.are_all ≡ true → result ≡ true }
+        ensures fill { result ≡ false → (fill : ℕ) × (drop end self.now.file.bytes.now ≡ replicate fill PREFIX) }
     {
         let fill = fill_count(&self.file.bytes[end..]);
         if end + fill < self.file.bytes.len() {
@@ -328,6 +330,7 @@ impl<'a> ScanCursor<'a> {
         ensures over { result ≡ true → self.new.reading ≢ GoesOn }
         ensures stands { StaysTrue head.now self.old self.new }
         ensures all { self.old.file.are_all ≡ true → result ≡ true }
+        ensures waits { result ≡ false → Waits head.now self.new }
     {
         head.be_lawful();
         if self.reading != Reading::GoesOn {
@@ -358,6 +361,7 @@ impl<'a> ScanCursor<'a> {
     fn is_final(&self, ended: ScanEnd) -> bool
         ensures ends { result ≡ true → (more : List ℕ) → (self.now.file.are_all ≡ true → more ≡ []) → (ended ≢ EndOfFile) ⊎ (more ≡ []) }
         ensures all { self.now.file.are_all ≡ true → result ≡ true }
+        ensures waits { result ≡ false → ended ≡ EndOfFile }
     {
         match ended {
             ScanEnd::EndOfFile => self.file.are_all,
@@ -376,6 +380,7 @@ impl<'a> ScanCursor<'a> {
         ensures follows { result ≡ true → self.old.reading ≢ HasEnded → BeginsNext head.now self.old self.new }
         ensures kept { result ≡ false → self.new ≡ self.old }
         ensures all { self.old.file.are_all ≡ true → result ≡ true }
+        ensures waits { result ≡ false → IsOpen self.old }
     {
         let end = self.end_of_data();
         match self.stop_behind(head, end) {
@@ -401,6 +406,7 @@ impl<'a> ScanCursor<'a> {
         ensures follows { result ≡ true → BeginsNext head.now self.old self.new }
         ensures kept { result ≡ false → self.new ≡ self.old }
         ensures all { self.old.file.are_all ≡ true → result ≡ true }
+        ensures waits { result ≡ false → IsOpen self.old × (self.old.reading ≢ HasEnded) }
     {
         self.reading == Reading::HasEnded || self.leave_interval(head)
     }
@@ -425,9 +431,11 @@ impl<'a> ScanCursor<'a> {
         ensures stands { StaysTrue head.now self.old self.new }
         ensures some { result ≡ true → self.new.mcu < mcus_in head.now self.new.interval }
         ensures all { self.old.file.are_all ≡ true → result ≡ true }
+        ensures waits { result ≡ false → Waits head.now self.new }
     {
         // By its contract there is room for the numbers of all intervals.
         let _most = head.intervals();
+        head.be_lawful();
         if self.mcu < head.mcus_in(self.interval) {
             return true;
         }

@@ -1,12 +1,12 @@
 //! A row of MCUs, decoded.
 
-ghost use Rattle.std.specs.Prelude.{◌≡◌, ◌≢◌, ◌+◌, ◌*◌, ◌<◌, ◌≤◌, ℕ, List, true};
+ghost use Rattle.std.specs.Prelude.{◌≡◌, ◌≢◌, ◌+◌, ◌*◌, ◌<◌, ◌≤◌, ℕ, List, true, false};
 ghost use Rattle.jr_head.specs.Geometry.{mcus_across, mcus_down, mcus_of};
 ghost use Rattle.jr_head.specs.Intervals.{mcus_in};
 ghost use Rattle.jr_rows.specs.Rows.{HasSampleRoom};
 ghost use Rattle.jr_arrival.specs.Places.{mcus_before_place};
 ghost use Rattle.jr_arrival.specs.declared.cursor.Reading.TheVariants.{GoesOn};
-ghost use Rattle.jr_arrival.specs.Cursors.{IsCursor, NoneFollows, PassesOver, PassesIn, IsCursorIn, StaysTrue, in_window};
+ghost use Rattle.jr_arrival.specs.Cursors.{IsCursor, NoneFollows, PassesOver, PassesIn, IsCursorIn, LeavesRow, StaysTrue, Waits, in_window};
 ghost use Rattle.jr_scan.specs.ScanValue.{ScanValue};
 ghost use Rattle.jr_arrival.specs.Meaning.{MayBe};
 ghost use Rattle.jr_arrival.specs.Shown.{ShowsMore, ShowsRow};
@@ -100,6 +100,7 @@ fn decode_some(cursor: &mut ScanCursor<'_>, head: &Head, samples: &mut SampleRow
     ensures shows { 0 < result → ShowsMore head.now cursor.old done result samples.old.lines.groups samples.new.lines.groups }
     ensures few { done + result ≤ mcus_across head.now }
     ensures all { cursor.old.file.are_all ≡ true → 0 < result }
+    ensures waits { result ≡ 0 → Waits head.now cursor.new }
 {
     if !cursor.advance(head) {
         return 0;
@@ -132,6 +133,7 @@ pub(crate) fn decode_row(
     ensures shows { result ≡ true → (whole : List ℕ) (t : ScanValue) → MayBe cursor.old.file.bytes.now cursor.old.file.are_all head.now whole t → IsCursorIn whole t cursor.old → ShowsRow t row samples.new.lines.groups }
     ensures whole { result ≡ true → mcus_before_place head.now cursor.new.interval cursor.new.mcu ≡ (row + 1) * mcus_across head.now }
     ensures all { cursor.old.file.are_all ≡ true → result ≡ true }
+    ensures waits { result ≡ false → LeavesRow head.now cursor.old row }
 {
     let across = shape_of(head).across;
     let mut done = 0;

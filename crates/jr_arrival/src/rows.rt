@@ -5,7 +5,7 @@ ghost use Rattle.jr_head.specs.Geometry.{mcus_across, mcus_down};
 ghost use Rattle.jr_paint.specs.Lines.{line_size, next_lines_of};
 ghost use Rattle.jr_picture.specs.declared.mark.Mark.{Mark};
 ghost use Rattle.jr_picture.specs.Headline.{ShowsFirst};
-ghost use Rattle.jr_arrival.specs.Shown.{AreLines, ShowsRow};
+ghost use Rattle.jr_arrival.specs.Shown.{AreLines, LeavesRowAt, ShowsRow};
 ghost use Rattle.jr_rows.specs.Rows.{HasSampleRoom, line_count};
 ghost use Rattle.jr_scan.specs.ScanValue.{ScanValue};
 ghost use Rattle.jr_arrival.specs.Meaning.{IsPlaceIn, MayBe};
@@ -119,6 +119,7 @@ pub fn decode_rows(
     ensures on { IfOk result (λ p. place.now.row ≤ p.row) }
     ensures few { IfOk result (λ p. p.row ≤ place.now.row + rows_to_give head.now place.now.row rows (length pixels.old)) }
     ensures all { file.entry.are_all ≡ true → IfOk result (λ p. p.row ≡ place.now.row + rows_to_give head.now place.now.row rows (length pixels.old)) }
+    ensures most { IfOk result (λ p. p.row < place.now.row + rows_to_give head.now place.now.row rows (length pixels.old) → LeavesRowAt file.entry.bytes.now file.entry.are_all head.now place.now p.row) }
     ensures none { IfOk result (λ p. p.row ≡ place.now.row → p ≡ place.now) }
     ensures place { (whole : List ℕ) (t : ScanValue) → MayBe file.entry.bytes.now file.entry.are_all head.now whole t → IsPlaceIn file.entry.bytes.now whole t place.now → IfOk result (IsPlaceIn file.entry.bytes.now whole t) }
     ensures lines { IfOk result (λ p. AreLines file.entry.bytes.now file.entry.are_all head.now place.now (lines_above head.now place.now.row) (lines_between head.now place.now.row p.row)
@@ -157,6 +158,7 @@ pub fn skip_rows(
     ensures on { IfOk result (λ p. place.now.row ≤ p.row) }
     ensures few { IfOk result (λ p. p.row ≤ place.now.row + min rows (mcus_down head.now - place.now.row)) }
     ensures all { file.entry.are_all ≡ true → IfOk result (λ p. p.row ≡ place.now.row + min rows (mcus_down head.now - place.now.row)) }
+    ensures most { IfOk result (λ p. p.row < place.now.row + min rows (mcus_down head.now - place.now.row) → LeavesRowAt file.entry.bytes.now file.entry.are_all head.now place.now p.row) }
     ensures none { IfOk result (λ p. p.row ≡ place.now.row → p ≡ place.now) }
     ensures place { (whole : List ℕ) (t : ScanValue) → MayBe file.entry.bytes.now file.entry.are_all head.now whole t → IsPlaceIn file.entry.bytes.now whole t place.now → IfOk result (IsPlaceIn file.entry.bytes.now whole t) }
 {

@@ -1,11 +1,11 @@
 //! A row of MCUs, passed over by reading its bits alone.
 
-ghost use Rattle.std.specs.Prelude.{◌≡◌, ◌≢◌, ◌+◌, ◌*◌, ◌<◌, ◌≤◌, true};
+ghost use Rattle.std.specs.Prelude.{◌≡◌, ◌≢◌, ◌+◌, ◌*◌, ◌<◌, ◌≤◌, true, false};
 ghost use Rattle.jr_head.specs.Geometry.{mcus_across, mcus_down, mcus_of};
 ghost use Rattle.jr_head.specs.Intervals.{mcus_in};
 ghost use Rattle.jr_arrival.specs.Places.{mcus_before_place};
 ghost use Rattle.jr_arrival.specs.declared.cursor.Reading.TheVariants.{GoesOn};
-ghost use Rattle.jr_arrival.specs.Cursors.{IsCursor, NoneFollows, PassesOver, PassesIn, StaysTrue, in_window};
+ghost use Rattle.jr_arrival.specs.Cursors.{IsCursor, NoneFollows, PassesOver, PassesIn, LeavesRow, StaysTrue, Waits, in_window};
 ghost use Rattle.jr_scan.specs.Run.{HasNoMcu};
 
 use crate::cursor::{Reading, ScanCursor};
@@ -76,6 +76,7 @@ fn skip_some(cursor: &mut ScanCursor<'_>, head: &Head, mcus: u32) -> u32
     ensures stands { StaysTrue head.now cursor.old cursor.new }
     ensures few { result ≤ mcus }
     ensures all { cursor.old.file.are_all ≡ true → 0 < result }
+    ensures waits { result ≡ 0 → Waits head.now cursor.new }
 {
     if !cursor.advance(head) {
         return 0;
@@ -100,6 +101,7 @@ pub(crate) fn skip_row(cursor: &mut ScanCursor<'_>, head: &Head, row: u32) -> bo
     ensures stands { StaysTrue head.now cursor.old cursor.new }
     ensures whole { result ≡ true → mcus_before_place head.now cursor.new.interval cursor.new.mcu ≡ (row + 1) * mcus_across head.now }
     ensures all { cursor.old.file.are_all ≡ true → result ≡ true }
+    ensures waits { result ≡ false → LeavesRow head.now cursor.old row }
 {
     let across = shape_of(head).across;
     let mut done = 0;

@@ -1,10 +1,12 @@
-use Rattle.std.proofs.Common.{◌≡◌, ◌*◌, ◌<◌, length, sym, ap, subst, ◌∙◌, arith, rules}
+use Rattle.std.proofs.Common.{◌≡◌, ◌+◌, ◌*◌, ◌<◌, length, sym, ap, subst, ◌∙◌, arith, rules}
 use Rattle.jr_head.specs.Geometry.{mcus_across}
 use Rattle.jr_rows.specs.Groups.{units_in}
 use Rattle.jr_arrival.specs.declared.file_bytes.FileBytes.{FileBytes}
 use Rattle.jr_arrival.specs.Meaning.{MayBe}
 use Rattle.jr_arrival.proofs.ShownSteps.{row_shown}
 use Rattle.jr_arrival.proofs.Steps.{true_on}
+use Rattle.jr_arrival.proofs.Waiting.{row_waits}
+use Rattle.jr_arrival.specs.Places.{mcus_before_place}
 use Rattle.jr_rows.proofs.PictureRows.{row_inside}
 use Rattle.jr_arrival.proofs.decoding.decode_row.Goals as goal
 
@@ -81,3 +83,15 @@ returns-then-some-eq0-clause-shows c told = cc
 
 pub returns-clause-room : goal.returns-clause-room
 returns-clause-room c = c.mcus.invariant.room
+
+pub returns-then-some-eq0-clause-waits : goal.returns-then-some-eq0-clause-waits
+returns-then-some-eq0-clause-waits c told =
+    let h = c.args.head.now in
+    let k = c.mcus.invariant in
+    let e = c.decode_some-some.ensures in
+    let d = c.decode_some-some.new.cursor in
+    let at : mcus_before_place h d.interval d.mcu ≡ c.args.row * mcus_across h + c.mcus.done = omega (arith, e.passes.passed, k.at, c.if-some-eq0.true) in
+    row_waits h c.args.cursor.now d c.args.row c.mcus.done (e.passes.file ∙ k.file) (true_on h c.args.cursor.now c.mcus.cursor d k.file k.stands e.stands) at (omega (arith, c.mcus-test.true, c.shape_of-across.ensures.across)) c.requires.row (e.waits c.if-some-eq0.true)
+
+pub returns-clause-waits : goal.returns-clause-waits
+returns-clause-waits c told = cc

@@ -124,3 +124,15 @@ decode_grey-requires-clause-room c = c.decode_whole-whole.ensures.room
 
 pub returns-clause-room : goal.returns-clause-room
 returns-clause-room c = c.decode_grey.ensures.room
+
+pub returns-then-not-advance-clause-waits : goal.returns-then-not-advance-clause-waits
+returns-then-not-advance-clause-waits c none = c.advance.ensures.waits c.if-not-advance.true
+
+pub returns-then-whole-gt0-clause-waits : goal.returns-then-whole-gt0-clause-waits
+returns-then-whole-gt0-clause-waits c none = absurd (omega (arith, none, c.if-whole-gt0.true))
+
+pub returns-then-not-give_up-clause-waits : goal.returns-then-not-give_up-clause-waits
+returns-then-not-give_up-clause-waits c none = c.give_up.ensures.waits c.if-not-give_up.true
+
+pub returns-clause-waits : goal.returns-clause-waits
+returns-clause-waits c none = absurd (omega (arith, none, c.decode_grey.ensures.some))

@@ -9,7 +9,10 @@ use Rattle.std.specs.Prelude.{true, false}
 use Rattle.jr_arrival.proofs.PaintedLines.{no_lines}
 use Rattle.jr_arrival.proofs.RowLines.{before_more, next_row}
 use Rattle.jr_arrival.specs.declared.file_bytes.FileBytes.{FileBytes}
+use Rattle.jr_arrival.specs.Cursors.{IsCursorIn}
+use Rattle.jr_arrival.specs.Growing.{RowIsSettled}
 use Rattle.jr_arrival.specs.Meaning.{IsPlaceIn, MayBe}
+use Rattle.jr_scan.specs.ScanValue.{ScanValue}
 use Rattle.jr_arrival.specs.Places.{IsIn, lines_above, lines_between, mcus_before_place}
 use Rattle.jr_arrival.proofs.Passing.{kept_more}
 use Rattle.jr_arrival.proofs.CursorSteps.{cursor_stays}
@@ -119,3 +122,14 @@ rows-init c =
       lines = λ whole t marks f may is shows. no_lines h f (lines_above h c.args.place.now.row) (lines_between h c.args.place.now.row c.args.place.now.row) c.args.pixels.now (omega arith);
       kept = refl;
     }
+
+pub returns-then-not-decode_row-clause-most : goal.returns-then-not-decode_row-clause-most
+returns-then-not-decode_row-clause-most c lt s may is =
+    let h = c.args.head.now in
+    let k = c.rows.invariant in
+    let leaves = subst (λ (f : FileBytes). (s : ScanValue) → MayBe f.bytes.now f.are_all h f.bytes.now s → IsCursorIn f.bytes.now s c.rows.cursor → RowIsSettled f.bytes.now s c.rows.next.row → ⊥) k.file (c.decode_row.ensures.waits c.if-not-decode_row.true) in
+    leaves s may (k.place c.args.file.bytes.now s may is).0
+
+pub returns-clause-most : goal.returns-clause-most
+returns-clause-most c lt =
+    absurd (omega (arith, lt, c.rows-test.false, c.end_of_rows-end.ensures.value))

@@ -1,7 +1,10 @@
-use Rattle.std.proofs.Common.{◌≡◌, ℕ, ◌+◌, ◌-◌, ◌*◌, ◌≤◌, sym, ap, subst, ◌∙◌, arith, rules}
+use Rattle.std.proofs.Common.{◌≡◌, ℕ, ◌+◌, ◌-◌, ◌*◌, ◌≤◌, min, sym, ap, subst, ◌∙◌, arith, rules}
 use Rattle.jr_head.specs.Geometry.{mcus_across}
 use Rattle.jr_arrival.specs.declared.file_bytes.FileBytes.{FileBytes}
+use Rattle.jr_arrival.specs.Cursors.{IsCursorIn}
+use Rattle.jr_arrival.specs.Growing.{RowIsSettled}
 use Rattle.jr_arrival.specs.Meaning.{IsPlaceIn, MayBe}
+use Rattle.jr_scan.specs.ScanValue.{ScanValue}
 use Rattle.jr_arrival.specs.Places.{IsIn, mcus_before_place}
 use Rattle.jr_arrival.proofs.CursorSteps.{cursor_stays}
 use Rattle.jr_arrival.proofs.rows.skip_rows.Goals as goal
@@ -47,3 +50,15 @@ returns-then-not-skip_row-clause-place c whole t may is = (c.rows.invariant.plac
 
 pub returns-clause-place : goal.returns-clause-place
 returns-clause-place c whole t may is = (c.rows.invariant.place whole t may is).1
+
+pub returns-then-not-skip_row-clause-most : goal.returns-then-not-skip_row-clause-most
+returns-then-not-skip_row-clause-most c lt s may is =
+    let h = c.args.head.now in
+    let k = c.rows.invariant in
+    let leaves = subst (λ (f : FileBytes). (s : ScanValue) → MayBe f.bytes.now f.are_all h f.bytes.now s → IsCursorIn f.bytes.now s c.rows.cursor → RowIsSettled f.bytes.now s c.rows.next.row → ⊥) k.file (c.skip_row.ensures.waits c.if-not-skip_row.true) in
+    leaves s may (k.place c.args.file.bytes.now s may is).0
+
+pub returns-clause-most : goal.returns-clause-most
+returns-clause-most c lt =
+    let most : c.min-most.result ≡ min c.args.rows (c.shape_of.result.down - c.args.place.now.row) = search rules in
+    absurd (omega (arith, lt, c.rows-test.false, most, c.shape_of.ensures.down))

@@ -1,7 +1,8 @@
 use Rattle.std.proofs.Common.{◌≡◌, ℕ, ◌+◌, ◌*◌, ◌<◌, ap, sym, subst, ◌∙◌, arith, rules}
 use Rattle.jr_head.specs.Intervals.{intervals_of, mcus_in}
 use Rattle.jr_arrival.specs.declared.cursor.ScanCursor.{ScanCursor}
-use Rattle.jr_arrival.specs.Cursors.{IsCursorIn}
+use Rattle.jr_arrival.specs.Cursors.{IsCursorIn, Waits}
+use Rattle.jr_arrival.proofs.Waiting.{waits_behind}
 use Rattle.jr_rows.proofs.IntervalPlaces.{mcus_in_some, next_there}
 use Rattle.jr_arrival.proofs.cursor.ScanCursor.advance.Goals as goal
 
@@ -47,3 +48,12 @@ returns-clause-some c told =
 
 pub returns-clause-stands : goal.returns-clause-stands
 returns-clause-stands c whole t may s = subst (IsCursorIn whole t) (sym c.begin_next.ensures.is) (c.find_end.ensures.follows (search rules) whole t may s)
+
+pub returns-then-not-find_end-clause-waits : goal.returns-then-not-find_end-clause-waits
+returns-then-not-find_end-clause-waits c told =
+    let h = c.args.head.now in
+    let i = c.args.self.now in
+    let failed = c.if-not-find_end.true in
+    let still = c.find_end.ensures.waits failed in
+    let all : i.mcu ≡ mcus_in h i.interval = omega (arith, c.requires.cursor.is_in.few, c.mcus_in.ensures.value, c.if-self-mcus_in.false) in
+    subst (Waits h) (sym (c.find_end.ensures.kept failed)) (waits_behind h i c.requires.cursor c.be_lawful.ensures still.0 all still.1)

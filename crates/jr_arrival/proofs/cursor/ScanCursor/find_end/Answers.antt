@@ -1,4 +1,4 @@
-use Rattle.std.proofs.Common.{rules, ◌≡◌}
+use Rattle.std.proofs.Common.{rules, ◌≡◌, ◌≢◌}
 use Rattle.jr_arrival.specs.declared.cursor.Reading.TheVariants.{HasEnded}
 use Rattle.jr_arrival.proofs.CursorSteps.{ended_next}
 use Rattle.jr_arrival.proofs.cursor.ScanCursor.find_end.Goals as goal
@@ -16,3 +16,8 @@ returns-else-eq-clause-kept c = c.leave_interval.ensures.kept
 
 pub returns-else-eq-clause-all : goal.returns-else-eq-clause-all
 returns-else-eq-clause-all c = c.leave_interval.ensures.all
+
+pub returns-else-eq-clause-waits : goal.returns-else-eq-clause-waits
+returns-else-eq-clause-waits c told =
+    let over : c.args.self.now.reading ≢ HasEnded = search (rules, c.if-eq.ensures, c.eq.ensures) in
+    (c.leave_interval.ensures.waits told, over)

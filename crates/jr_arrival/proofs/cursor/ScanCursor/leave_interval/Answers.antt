@@ -2,7 +2,7 @@ use Rattle.std.proofs.Common.{◌≡◌, ◌≤◌, ◌+◌, ◌%◌, ◌++◌, 
 use Rattle.jr_cut.specs.declared.stop.Stop.TheVariants.{End, Restart}
 use Rattle.jr_cut.specs.OpenSegments.{IsStopOf}
 use Rattle.jr_base.specs.declared.marker.TheConstants.{RST0}
-use Rattle.jr_cut.specs.Cut.{marker}
+use Rattle.jr_cut.specs.Cut.{IsEnding, marker}
 use Rattle.jr_mcu.specs.Mcus.{no_predictions}
 use Rattle.jr_scan.specs.Run.{start_of_interval}
 use Rattle.jr_head.specs.Intervals.{intervals_of}
@@ -69,3 +69,21 @@ returns-else-not-is_final-clause-follows c told over whole t may s =
     let final = c.is_final.ensures.ends c.if-not-is_final.false may.more may.none in
     let none = ended_true h i c.requires.window end o.spells.0 o.spells.1 o.spells.2 o.within o.spells.3 whole t may over s c.in-End.ended ending final in
     stands_by whole t (begun d) (i.interval + 1) 0 end HasEnded (begun d).place (ap (λ (k : ℕ). k + 1) l.stays.interval) refl l.at l.reading refl (omega (arith, s.from, o.spells.2)) none
+
+pub returns-then-not-is_final-clause-waits : goal.returns-then-not-is_final-clause-waits
+returns-then-not-is_final-clause-waits c told =
+    let i = c.args.self.now in
+    let end = c.end_of_data-end.result in
+    let e = c.end_of_data-end.ensures in
+    let n = intervals_of c.args.head.now in
+    let tail = drop end i.file.bytes.now in
+    let ending : IsStopOf n i.interval end tail (End c.in-End.ended) = subst (IsStopOf n i.interval end tail) c.in-End.is c.stop_behind.ensures.is in
+    let fill = subst (IsEnding n i.interval end tail) (c.is_final.ensures.waits c.if-not-is_final.true) ending in
+    record {
+      read = e.spells.0;
+      found = e.spells.1;
+      within = omega (arith, e.within, e.spells.2);
+      spelled = e.spells.3;
+      fill = fill.0;
+      all = ap (λ (k : ℕ). drop k i.file.bytes.now) (sym e.spells.2) ∙ fill.1;
+    }

@@ -1,0 +1,65 @@
+-- Where a cursor finds no end of its interval's data, the bytes do not settle its next MCU.
+use Rattle.std.proofs.Common.{◌≡◌, ◌≢◌, ℕ, ◌+◌, ◌*◌, ◌<◌, ◌≤◌, List, drop, refl, sym, subst, ◌∙◌, arith}
+use Rattle.std.specs.Prelude.{ℤ}
+use Rattle.std.proofs.Math.Nat.{add-mul}
+use Rattle.jr_cut.specs.Cut.{IsStop}
+use Rattle.jr_cut.specs.declared.scan_end.ScanEnd.TheVariants.{EndOfFile}
+use Rattle.jr_cut.proofs.CutLaw.{ending_stop}
+use Rattle.jr_head.specs.HeadValue.{HeadValue}
+use Rattle.jr_head.specs.Geometry.{IsLawful, mcus_across, mcus_down, mcus_of}
+use Rattle.jr_head.specs.Intervals.{intervals_of, mcus_in}
+use Rattle.jr_scan.specs.Mcus.{Front}
+use Rattle.jr_scan.specs.ScanValue.{ScanValue, interval_of}
+use Rattle.jr_rows.proofs.PictureRows.{row_inside}
+use Rattle.jr_arrival.specs.declared.cursor.Reading.TheVariants.{GoesOn, HasEnded}
+use Rattle.jr_arrival.specs.declared.cursor.ScanCursor.{ScanCursor}
+use Rattle.jr_arrival.specs.declared.file_bytes.FileBytes.{FileBytes}
+use Rattle.jr_arrival.specs.Cursors.{IsCursor, IsCursorIn, IsOpen, LeavesRow, NoneFollows, StaysTrue, Waits}
+use Rattle.jr_arrival.specs.Growing.{IsSettled}
+use Rattle.jr_arrival.specs.Meaning.{MayBe}
+use Rattle.jr_arrival.specs.Places.{mcus_before_place}
+use Rattle.jr_arrival.proofs.Going.{waits_on}
+use Rattle.jr_arrival.proofs.SettledRows.{not_settled}
+use Rattle.jr_arrival.proofs.Steps.{its_end, stuck_true}
+
+module _ (h : HeadValue) (c : ScanCursor) (is : IsCursor h c) (lawful : IsLawful h) (still : IsOpen c) where
+  abbrev bytes : List ℕ
+  bytes = c.file.bytes.now
+
+  abbrev end : ℕ
+  end = c.at + still.read
+
+  stop : IsStop (drop end bytes)
+  stop = ending_stop (intervals_of h) c.interval end (drop end bytes) EndOfFile (still.fill, still.all)
+
+  waits : c.reading ≢ HasEnded → ((s : ScanValue) → MayBe bytes c.file.are_all h bytes s → IsCursorIn bytes s c → (j : ℕ) (ys : List (List ℤ)) → Front (interval_of s c.interval) j ys → j ≤ c.mcu) → Waits h c
+  waits over none s may stands more settled =
+      let e = sym may.head in
+      let on = its_end h c is.window end still.read still.found refl still.within still.spelled bytes s may stop over stands in
+      let waiting = waits_on bytes s c.interval end on.0 on.1 on.2 still.fill still.all in
+      not_settled bytes s may.scan c.interval waiting.0 (sym (waiting.1 may.scan)) (subst (λ (g : HeadValue). c.interval < intervals_of g) e is.is_in.number)
+      c.mcu (subst (λ (g : HeadValue). c.mcu ≤ mcus_in g c.interval) e is.is_in.few) (none s may stands) (subst IsLawful e lawful)
+      (subst (λ (g : HeadValue). mcus_before_place g c.interval c.mcu < mcus_of g) e more) (subst (λ (g : HeadValue). IsSettled bytes s (mcus_before_place g c.interval c.mcu)) e settled)
+
+  -- no further MCU of it is whole
+  pub waits_within : NoneFollows h c → c.reading ≡ GoesOn → Waits h c
+  waits_within none going = waits (λ e. going_not_ended (sym going ∙ e)) (λ s may stands j ys f.
+      let stuck = stuck_true h c is.window end still.read still.found refl still.within still.spelled is.is_in lawful none going stop bytes s may stop stands in
+      omega (arith, stuck.no_more.longest.longest j ys f, stuck.no_more.few))
+    where
+      going_not_ended : GoesOn ≢ HasEnded
+      going_not_ended e = absurd cc
+
+  -- or all of them are passed
+  pub waits_behind : c.mcu ≡ mcus_in h c.interval → c.reading ≢ HasEnded → Waits h c
+  waits_behind all over = waits over (λ s may stands j ys f. subst (λ (g : HeadValue). j ≤ mcus_in g c.interval → j ≤ c.mcu) (sym may.head) (λ le. omega (arith, le, all)) f.at_most)
+
+-- so the row in which it waits is not settled
+pub row_waits : (h : HeadValue) (a d : ScanCursor) (row done : ℕ) → d.file ≡ a.file → StaysTrue h a d → mcus_before_place h d.interval d.mcu ≡ row * mcus_across h + done → done < mcus_across h → row < mcus_down h → Waits h d → LeavesRow h a row
+row_waits h a d row done file stays at lt inside waiting s may stands settled =
+    let bytes = a.file.bytes.now in
+    let m = mcus_before_place h d.interval d.mcu in
+    let across = mcus_across h in
+    let here = subst (λ (f : FileBytes). (s : ScanValue) → MayBe f.bytes.now f.are_all h f.bytes.now s → IsCursorIn f.bytes.now s d → m < mcus_of h → IsSettled f.bytes.now s m → ⊥) file waiting in
+    let all = subst (λ (g : HeadValue). (m : ℕ) → row * mcus_across g ≤ m → m < (row + 1) * mcus_across g → IsSettled bytes s m) may.head settled in
+    here s may (stays bytes s may stands) (omega (arith, at, lt, row_inside h row inside)) (all m (omega (arith, at)) (omega (arith, at, lt, add-mul row 1 across)))
