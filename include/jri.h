@@ -212,11 +212,12 @@ uint32_t jri_check(const uint8_t *file, size_t file_length, uint8_t *marks, size
  *
  * Proved: if the position is the top, or was returned by a call with JRI_PARTIAL on bytes with which these begin, or
  * with JRI_COMPLETE by a call on these very bytes, the lines are those that jri_decode returns for these bytes or,
- * with JRI_PARTIAL, for every file that begins with them: no line is ever taken back. From any other position the
- * lines mean nothing.
+ * with JRI_PARTIAL, for every file that begins with them: no line is ever taken back. With JRI_PARTIAL, if these are
+ * fewer rows than were asked for, are left and fit, the bytes do not make the next row final: one of its MCUs is not
+ * whole, and the marker that ends that MCU's interval is not there with its code. From any other position the lines
+ * mean nothing.
  *
- * Tested: with JRI_PARTIAL each row is returned whose MCUs are there or whose intervals have ended. JRI_DAMAGED is
- * never returned: jri_check reports soundness.
+ * Proved: JRI_DAMAGED is never returned: jri_check reports soundness.
  */
 uint32_t jri_decode_rows(const uint8_t *file, size_t file_length, uint32_t more, struct jri_position *position,
                          uint32_t rows, uint8_t *pixels, size_t pixels_size, struct jri_rows *report);

@@ -11,7 +11,7 @@ use Rattle.jr_arrival.specs.Arrival.{IsFinalFault}
 use Rattle.jr_arrival.specs.Settled.{WantsMore}
 use Rattle.jr_scan.specs.ScanValue.{ScanValue}
 use Rattle.jr_arrival.specs.Meaning.{IsPlaceIn, MayBe}
-use Rattle.jr_arrival.specs.Shown.{AreLines}
+use Rattle.jr_arrival.specs.Shown.{AreLines, LeavesRowAt}
 use Rattle.jr_arrival.specs.declared.place.RowPlace.{RowPlace}
 use Rattle.jr_arrival.specs.Places.{IsPlaceOf, lines_above, lines_between, rows_to_give, rows_with_room}
 use Rattle.jri_memory.specs.Calls.{detail_of}
@@ -53,8 +53,8 @@ pub record HasRowAt (h : HeadValue) (p : RowPlace) (rows : ℕ) : Type 0 where
   pub row : p.row < mcus_down h
   pub some : 0 < rows
 
--- the place has moved on over the next rows of MCUs, at most so many: over as many where all bytes are there, and else over those
--- that are settled. Where it was one of a file that the bytes may be, it still is. The report tells how many they are, and their lines
+-- the place has moved by rows of MCUs, at most so many: by as many if all bytes are there, otherwise to the first one that the bytes
+-- do not settle. If it was one of a file that the bytes may be, it still is. The report has the numbers of the rows and of their lines
 pub record MovesOn (bytes : List ℕ) (all : Bool) (most : ℕ) (old new : RowPlace) (h : HeadValue) (r : RowsReport) : Type 0 where
   pub head : HeadOf bytes h
   pub from : IsPlaceOf h old
@@ -62,6 +62,7 @@ pub record MovesOn (bytes : List ℕ) (all : Bool) (most : ℕ) (old new : RowPl
   pub row : new.row ≡ old.row + r.rows
   pub few : r.rows ≤ most
   pub whole : all ≡ true → r.rows ≡ most
+  pub next : r.rows < most → LeavesRowAt bytes all h old new.row
   pub none : r.rows ≡ 0 → new ≡ old
   pub place : (whole : List ℕ) (t : ScanValue) → MayBe bytes all h whole t → IsPlaceIn bytes whole t old → IsPlaceIn bytes whole t new
   pub lines : r.lines ≡ lines_between h old.row new.row

@@ -19,6 +19,7 @@ returns-clause-given c =
         row = sym report.rows;
         few = omega (arith, report.rows, told.few);
         whole = λ all. let rows = told.all all in omega (arith, report.rows, rows);
+        next = λ lt. told.most (omega (arith, lt, report.rows));
         none = λ zero. told.none (omega (arith, report.rows, zero));
         place = told.place;
         lines = report.lines;

@@ -17,6 +17,7 @@ returns-clause-skipped c =
         row = sym report.rows;
         few = omega (arith, report.rows, told.few);
         whole = λ all. let rows = told.all all in omega (arith, report.rows, rows);
+        next = λ lt. told.most (omega (arith, lt, report.rows));
         none = λ zero. told.none (omega (arith, report.rows, zero));
         place = told.place;
         lines = report.lines;
