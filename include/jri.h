@@ -31,7 +31,7 @@ extern "C" {
 #define JRI_RELEASE "0.1.0"
 
 /* The number of this interface; jri_version() returns that of the library. */
-#define JRI_VERSION 4
+#define JRI_VERSION 5
 
 /* The status of a call. */
 enum {
@@ -139,6 +139,7 @@ struct jri_damage {
 struct jri_damage_list {
     uint32_t count;   /* number of entries */
     uint32_t next;    /* the interval after those that were examined; the number of intervals if none is left */
+    uint64_t next_at; /* offset of that interval's first byte; the length of the file if the scan ends before it */
     uint32_t refusal; /* the number of the refusal, 1 to 18, or 19 with JRI_NO_MEMORY; otherwise 0 */
     uint64_t detail;  /* the refusal's offset or marker code */
 };
@@ -242,17 +243,19 @@ uint32_t jri_skip_rows(const uint8_t *file, size_t file_length, uint32_t more, s
 uint64_t jri_refusal_text(uint32_t refusal, uint64_t detail, uint8_t *text, size_t text_size);
 
 /*
- * Lists the damaged intervals of a file starting at interval `first`, in order, as many as `damages` has entries:
- * `damages_count`; jri_check's report->damaged is the number of all. Finds the markers of the whole scan, reads the
- * intervals starting at `first`, and allocates for the scan and 16 bytes for each interval.
+ * Lists the damaged intervals of a file starting at interval `first`, whose bytes begin at offset `first_at`, in order,
+ * as many as `damages` has entries: `damages_count`. 0 and 0 are the first interval; list->next and list->next_at
+ * continue a list. Reads the header and the bytes of the intervals examined, and allocates as many bytes as the file
+ * has after `first_at`; only those that the longest of these intervals needs are used.
  *
- * Proved: with JRI_DAMAGED and JRI_SOUND the first list->count entries are exactly the damaged intervals from `first`
- * on and before list->next, each with its MCUs, lines and bytes; entries after them are unchanged; if list->next is
- * less than the number of intervals, all entries are used. JRI_DAMAGED means that some are listed, JRI_SOUND that
- * none is: with damages_count above 0, that none is left.
+ * Proved: with JRI_DAMAGED and JRI_SOUND, starting at 0 and 0 or where a list of the same file stopped, the first
+ * list->count entries are exactly the damaged intervals from `first` on and before list->next, each with its MCUs,
+ * lines and bytes. With any numbers entries after them are unchanged, and if list->next is less than the number of
+ * intervals, all entries are used. JRI_DAMAGED means that some are listed, JRI_SOUND that none is: with damages_count
+ * above 0, that none is left.
  */
-uint32_t jri_list_damage(const uint8_t *file, size_t file_length, uint32_t first, struct jri_damage *damages,
-                         size_t damages_count, struct jri_damage_list *list);
+uint32_t jri_list_damage(const uint8_t *file, size_t file_length, uint32_t first, uint64_t first_at,
+                         struct jri_damage *damages, size_t damages_count, struct jri_damage_list *list);
 
 /*
  * Writes what ended the scan of a report into the first bytes of `text`, as jri prints it and as jri_refusal_text

@@ -260,15 +260,18 @@ class Counted:
         return getattr(self.library, name)
 
 
-def test_many_damaged_intervals_by_few_calls(monkeypatch):
+def test_damaged_intervals_in_parts(monkeypatch):
     data = made(227, 149, ["-grayscale", "-restart", "1B"])
     cut = data[: len(data) // 3]
     picture, counted = jri.read(cut), Counted(jri.places.library)
+    at_once = list(jri.damages(cut))
     monkeypatch.setattr(jri.places, "library", counted)
+    monkeypatch.setattr(jri.places, "_DAMAGES", 16)
     found = list(jri.damages(cut))
+    assert found == at_once
     assert [one.interval for one in found] == [int(k) for k in numpy.flatnonzero(picture.marks == 2)]
     assert len(found) > 300
-    assert counted.calls <= 3
+    assert counted.calls == -(-len(found) // 16) + 1
 
 
 @pytest.mark.parametrize("count", [1, 7, 16, 100, 149, 1000])

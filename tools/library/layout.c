@@ -58,8 +58,9 @@ AT(jri_damage, last_line, 20);
 AT(jri_damage, start, 24);
 AT(jri_damage, end, 32);
 
-SIZE(jri_damage_list, 24);
+SIZE(jri_damage_list, 32);
 AT(jri_damage_list, count, 0);
 AT(jri_damage_list, next, 4);
-AT(jri_damage_list, refusal, 8);
-AT(jri_damage_list, detail, 16);
+AT(jri_damage_list, next_at, 8);
+AT(jri_damage_list, refusal, 16);
+AT(jri_damage_list, detail, 24);

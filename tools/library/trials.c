@@ -225,23 +225,24 @@ static void try_check(const struct trial *t) {
         refusals += 1;
 }
 
-/* Lists damage from an interval on into room for so many, while one request for memory is refused. How many requests there were. */
-static long list_damages(const struct trial *t, uint32_t first, size_t room, long k, struct jri_damage_list *list) {
+/* Lists damage from a position on into a buffer of `room` entries, while request k for memory is refused. Returns the number of requests. */
+static long list_damages(const struct trial *t, uint32_t first, uint64_t first_at, size_t room, long k, struct jri_damage_list *list) {
     size_t size = room * sizeof(struct jri_damage);
     uint8_t *bytes = buffer(size + ALIGNED_MORE);
     struct jri_damage *damages = (struct jri_damage *)bytes;
     requests = 0;
     refused = k;
-    uint32_t status = jri_list_damage(t->file, t->length, first, damages, room, list);
+    uint32_t status = jri_list_damage(t->file, t->length, first, first_at, damages, room, list);
     long made = requests;
     refused = -1;
     if (status == JRI_NO_MEMORY && made > k && k >= 0) {
         see(is_filled(bytes, size) && !list->count && list->refusal == 19, t, "damage, a request refused");
     } else {
         see(status == (list->count ? JRI_DAMAGED : JRI_SOUND) && list->count <= room, t, "an answer to damage");
+        see(list->count == room || list->next == t->header.intervals, t, "entries left");
         for (uint32_t i = 0; i < list->count; i++) {
-            see(t->marks[damages[i].interval] == JRI_MARK_DAMAGED && first <= damages[i].interval, t, "damage that is none");
-            see(damages[i].interval < list->next && damages[i].last_line < t->header.height && damages[i].end <= t->length, t, "numbers of damage");
+            see(first <= damages[i].interval && damages[i].interval < list->next, t, "an interval of damage");
+            see(damages[i].last_line < t->header.height && damages[i].end <= t->length, t, "numbers of damage");
         }
         see(is_filled(bytes + list->count * sizeof *damages, size - list->count * sizeof *damages), t, "behind the damage");
     }
@@ -249,17 +250,26 @@ static long list_damages(const struct trial *t, uint32_t first, size_t room, lon
     return made;
 }
 
-static void try_damages(const struct trial *t) {
-    struct jri_damage_list list = {0, 0, 0, 0};
+/* Sees that a list in parts of so many entries has each damaged interval and no other. */
+static void list_parts(const struct trial *t, size_t room) {
+    struct jri_damage_list list = {0};
+    struct jri_damage damages[3];
     uint32_t all = 0;
-    do {
-        list_damages(t, list.next, 3, -1, &list);
-        all += list.count;
-    } while (list.count);
+    while (jri_list_damage(t->file, t->length, list.next, list.next_at, damages, room, &list) == JRI_DAMAGED)
+        for (uint32_t i = 0; i < list.count; i++, all++)
+            see(t->marks[damages[i].interval] == JRI_MARK_DAMAGED, t, "damage that is none");
     see(all == t->report.damaged && list.next == t->header.intervals, t, "all damage");
-    list_damages(t, UINT32_MAX, 1, -1, &list);
-    list_damages(t, 0, 0, -1, &list);
-    for (long k = 0; list_damages(t, 0, 2, k, &list) > k; k++)
+}
+
+static void try_damages(const struct trial *t) {
+    struct jri_damage_list list = {0};
+    list_parts(t, 1);
+    list_parts(t, 3);
+    list_damages(t, UINT32_MAX, UINT64_MAX, 1, -1, &list);
+    list_damages(t, 0, 0, 0, -1, &list);
+    list_damages(t, t->header.intervals / 2, t->length / 2, 2, -1, &list);
+    list_damages(t, 0, t->length - 1, 2, -1, &list);
+    for (long k = 0; list_damages(t, 0, 0, 2, k, &list) > k; k++)
         refusals += 1;
 }
 
@@ -493,7 +503,7 @@ static void try_null(void) {
     see(!memcmp(text, "expected a marker at byte 18446744073709551615", 46), &none, "a long text's words");
     see(jri_refusal_text(1, 0, text, 5) == 5 && !memcmp(text, "not ated a marker", 17), &none, "a text without room");
     struct jri_damage_list list;
-    see(jri_list_damage(NULL, 0, 0, NULL, 0, &list) == JRI_REFUSED && list.refusal == 1, &none, "damage");
+    see(jri_list_damage(NULL, 0, 0, 0, NULL, 0, &list) == JRI_REFUSED && list.refusal == 1, &none, "damage");
     see(jri_end_text(&none.report, text, OF_TEXT) == 0, &none, "a text of no end");
     none.report.ended = JRI_END_OF_IMAGE;
     see(jri_end_text(&none.report, text, OF_TEXT) == 17 && !memcmp(text, "scan ended at EOI", 17), &none, "a text of an end");

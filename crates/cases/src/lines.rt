@@ -160,29 +160,41 @@ const UNDAMAGED: Damage = Damage {
     end: 0,
 };
 
-/// Returns the lines of the damaged intervals, listed two at a time.
-fn listed(alloc: Global, bytes: &[u8], intervals: u32) -> Result<String, AllocError> {
+/// Returns the lines of the damaged intervals, listed in parts of `entries`.
+fn listed(alloc: Global, bytes: &[u8], intervals: u32, entries: u32) -> Result<String, AllocError> {
     let mut text = String::new(alloc);
-    let mut next = 0;
+    let mut damages = vec![in alloc; UNDAMAGED; entries as usize]?;
     let mut run: Option<Run> = None;
+    let mut report = DamageReport {
+        count: 0,
+        next: 0,
+        next_at: 0,
+        refusal: 0,
+        detail: 0,
+    };
     for _ in 0..=intervals {
-        let mut damages = [UNDAMAGED; 2];
-        let mut report = DamageReport {
-            count: 0,
-            next: 0,
-            refusal: 0,
-            detail: 0,
-        };
-        let _answer = list_damages(alloc, bytes, next, &mut damages, &mut report);
+        let (next, at) = (report.next, report.next_at);
+        let _answer = list_damages(alloc, bytes, next, at, &mut damages, &mut report);
         let count = (report.count as usize).min(damages.len());
         run = put_damages(&mut text, run, &damages[..count])?;
-        next = report.next;
-        if next >= intervals {
+        if report.next >= intervals {
             break;
         }
     }
     put_run(&mut text, run)?;
     Ok(text)
+}
+
+/// Lists the damage by one call, and in parts of one and three entries.
+fn check_lists(case: &Case<'_>, out: &mut String) -> Result<(), Failure> {
+    let intervals = case.header.intervals;
+    let wanted = map_lines(case.alloc, case.row.damaged)?;
+    for entries in [1, 3, intervals] {
+        let found = listed(case.alloc, case.bytes, intervals, entries)?;
+        let at = case.at("list of damage");
+        compare_texts(out, at, wanted.as_str(), found.as_str())?;
+    }
+    Ok(())
 }
 
 /// Decodes lines of a case's file, decodes it onto a canvas, and lists its damage.
@@ -193,12 +205,5 @@ pub(crate) fn check_lines_of(case: &Case<'_>, out: &mut String) -> Result<(), Fa
     check_some_lines(case, out)?;
     check_all_lines(case, out)?;
     check_canvas(case, out)?;
-    let wanted = map_lines(case.alloc, case.row.damaged)?;
-    let found = listed(case.alloc, case.bytes, case.header.intervals)?;
-    compare_texts(
-        out,
-        case.at("list of damage"),
-        wanted.as_str(),
-        found.as_str(),
-    )
+    check_lists(case, out)
 }

@@ -2,7 +2,6 @@ pub mod Arrivals
 pub mod Behind
 pub mod CursorSteps
 pub mod CutsGoOn
-pub mod Endings
 pub mod GivenPlaces
 pub mod Going
 pub mod HeadsStay
@@ -23,8 +22,6 @@ pub mod SettledRows
 pub mod ShownMcus
 pub mod ShownSteps
 pub mod Spelled
-pub mod Spellings
-pub mod Splits
 pub mod Standing
 pub mod Steps
 pub mod Stops

@@ -1,18 +1,10 @@
 -- Bytes of a file that spell data.
-use Rattle.std.proofs.Common.{◌≡◌, ℕ, ◌+◌, ◌<◌, ◌≤◌, List, [], ◌∷◌, ◌++◌, length, take, drop, sym, ap, ◌∙◌, inl, inr, length-append, length-drop, length-take-le, arith}
-use Rattle.std.specs.List.{flat_map}
+use Rattle.std.proofs.Common.{◌≡◌, ℕ, ◌+◌, ◌<◌, ◌≤◌, List, ◌++◌, length, take, drop, sym, ap, ◌∙◌, inl, inr, length-append, length-drop, arith}
 use Rattle.std.proofs.lemmas.Bool.{cases_lt}
-use Rattle.std.proofs.lemmas.List.{length-map, take-append-drop, take-append-le, drop-append-le, drop-drop}
+use Rattle.std.proofs.lemmas.List.{take-append-drop, take-append-le, drop-append-le}
 use Rattle.std.proofs.Math.Seq.{take-append_seam}
-use Rattle.jr_cut.specs.Cut.{Spelling, spelling, byte_spelled, IsRaw, IsStop}
-use Rattle.jr_arrival.proofs.Spellings.{further, up_to_stop}
-
-pub nothing_spelled : (raw found : List ℕ) → IsRaw raw found → length found ≡ 0 → raw ≡ []
-nothing_spelled raw found is none = go is.parts (sym (length-map is.parts byte_spelled) ∙ ap length (sym is.means) ∙ none) is.spelled
-  where
-    go : (parts : List Spelling) → length parts ≡ 0 → raw ≡ flat_map spelling parts → raw ≡ []
-    go [] n e = e
-    go (p ∷ ps) n e = absurd (omega (arith, n))
+use Rattle.jr_cut.specs.Cut.{IsRaw, IsStop}
+use Rattle.jr_cut.proofs.Spellings.{further, up_to_stop}
 
 -- ---- bytes that are the first of a file
 
@@ -20,12 +12,6 @@ pub front_whole : (bytes more : List ℕ) (at read : ℕ) → at + read ≤ leng
 front_whole bytes more at read within =
     ap (take read) (drop-append-le at bytes more (omega (arith, within)))
     ∙ take-append-le read (drop at bytes) more (omega (arith, within, length-drop at bytes))
-
-pub split_at : (bytes : List ℕ) (at read : ℕ) → drop at bytes ≡ take read (drop at bytes) ++ drop (at + read) bytes
-split_at bytes at read = sym (take-append-drop read (drop at bytes)) ∙ ap (λ (x : List ℕ). take read (drop at bytes) ++ x) (drop-drop read at bytes)
-
-pub length_front : (bytes : List ℕ) (at read : ℕ) → at + read ≤ length bytes → length (take read (drop at bytes)) ≡ read
-length_front bytes at read within = length-take-le read (drop at bytes) (omega (arith, within, length-drop at bytes))
 
 -- as many bytes as are asked for spell what the first ones do
 pub same_spelled : (raw found more front : List ℕ) (read all : ℕ) → IsRaw (take read raw) front → length front ≤ length found → (length front < length found → IsStop (drop read raw)) → IsRaw (take all raw) (found ++ more) → front ≡ found

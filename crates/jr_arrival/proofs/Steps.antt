@@ -5,7 +5,6 @@ use Rattle.std.specs.List.{All}
 use Rattle.std.proofs.lemmas.List.{drop-append-le, drop-drop}
 use Rattle.jr_base.specs.declared.marker.TheConstants.{PREFIX, RST0}
 use Rattle.jr_cut.specs.Cut.{IsRaw, IsStop, IsEnding, marker}
-use Rattle.jr_cut.specs.OpenSegments.{BeginsWithRestart}
 use Rattle.jr_cut.specs.declared.scan_end.ScanEnd.{ScanEnd}
 use Rattle.jr_cut.specs.declared.scan_end.ScanEnd.TheVariants.{EndOfFile}
 use Rattle.jr_head.specs.HeadValue.{HeadValue}
@@ -22,7 +21,7 @@ use Rattle.jr_scan.specs.Run.{HasNoMcu, IsRun, RunOf, left_at, run_from, start_o
 use Rattle.jr_scan.specs.ScanValue.{ScanValue, interval_of}
 use Rattle.jr_piece.specs.Strips.{IsNext}
 use Rattle.jr_cut.proofs.CutLaw.{ending_stop, marker_stop}
-use Rattle.jr_arrival.proofs.Spellings.{one_stop}
+use Rattle.jr_cut.proofs.Spellings.{one_stop}
 use Rattle.jr_arrival.specs.declared.cursor.Reading.{Reading}
 use Rattle.jr_arrival.specs.declared.cursor.Reading.TheVariants.{GoesOn, IsStuck, HasEnded}
 use Rattle.jr_arrival.specs.declared.cursor.ScanCursor.{ScanCursor}
@@ -32,8 +31,7 @@ use Rattle.jr_arrival.specs.Places.{IsIn}
 use Rattle.jr_arrival.specs.Cursors.{HasWindow, IsCursor, IsOffset, NoneFollows, IsCursorIn, StaysTrue, in_window, reading_number, window}
 use Rattle.jr_arrival.proofs.Going.{ended_on, ending_more, next_on, on_by}
 use Rattle.jr_arrival.proofs.ReadOn.{none_on, reads_first, reads_on}
-use Rattle.jr_arrival.proofs.Spelled.{split_at}
-use Rattle.jr_arrival.proofs.Stops.{length-fill}
+use Rattle.jr_cut.proofs.Slices.{split_at}
 use Rattle.jr_arrival.proofs.Windows.{window_long}
 
 -- ---- one step behind the other
@@ -168,12 +166,6 @@ module _ (h : HeadValue) (c : ScanCursor) (w : HasWindow c) (end read : ℕ) (fo
       subst (λ (x : List ℕ). IsEnding (intervals_of h) c.interval end x e) (sym (tail_whole whole may.more may.is)) (ending_more (intervals_of h) c.interval end (drop end c.file.bytes.now) may.more e final ending) in
       let there = its_end whole t may (ending_stop (intervals_of h) c.interval end (drop end whole) e there_too) over s in
       ended_on whole t c.interval end there.0 there.1 there.2 end e (subst (λ (g : HeadValue). IsEnding (intervals_of g) c.interval end (drop end whole) e) (sym may.head) there_too)
-
--- a restart marker lies in the bytes
-pub restart_within : (bytes : List ℕ) (end k count : ℕ) → end ≤ length bytes → BeginsWithRestart k (drop end bytes) count → end + count ≤ length bytes
-restart_within bytes end k count within b =
-    let code = RST0 + k % 8 in
-    omega (arith, within, b.long, ap length b.spelled, length-append (marker b.more code) (drop count (drop end bytes)), length-append (replicate b.more PREFIX) (code ∷ []), length-fill b.more, length-drop count (drop end bytes), length-drop end bytes)
 
 -- where a reader of the window has ended and MCUs are left, none follows
 pub none_left : (h : HeadValue) (c : ScanCursor) (r r' : McuReaderValue) (n : ℕ) (q : Place) → r.run ≡ run_from (in_window h c) c.place (mcus_in h c.interval - c.mcu) → r.mcu ≡ 0 → r'.run ≡ r.run → r'.mcu ≡ r.mcu + n → q ≡ r'.place → readers.HasEnded r'

@@ -7,11 +7,12 @@ use Rattle.std.proofs.lemmas.List.{append_cancel_left, drop-drop, drop-take, len
 use Rattle.std.proofs.Math.Seq.{take-append_seam}
 use Rattle.jr_cut.specs.Cut.{Spelling, spelling, byte_spelled, IsRaw, IsStop}
 use Rattle.jr_cut.proofs.Cuts.{raw_none, rest_is}
-use Rattle.jr_arrival.proofs.Spellings.{further, up_to_stop}
+use Rattle.jr_cut.proofs.Spellings.{further, up_to_stop}
 use Rattle.jr_arrival.specs.declared.cursor.ScanCursor.{ScanCursor}
 use Rattle.jr_arrival.specs.Cursors.{HasWindow, IsOffset, Spells, trimmed, window}
 use Rattle.jr_arrival.specs.Meaning.{HasBits}
-use Rattle.jr_arrival.proofs.Spelled.{length_front, same_spelled, split_at}
+use Rattle.jr_cut.proofs.Slices.{length_front, split_at}
+use Rattle.jr_arrival.proofs.Spelled.{same_spelled}
 
 pub window_long : (c : ScanCursor) → HasWindow c → length (window c) ≡ c.found - c.from
 window_long c w = length-take-le (c.found - c.from) (drop c.from c.room.items) (omega (arith, w.from, w.found, w.room, length-drop c.from c.room.items))

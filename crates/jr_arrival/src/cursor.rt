@@ -23,7 +23,7 @@ use crate::file_bytes::FileBytes;
 use crate::place::RowPlace;
 use crate::unstuffing::{spelled_length, unstuff_some};
 use jr_base::Memory;
-use jr_cut::{ScanEnd, Stop, fill_count, segment_length, stop_at};
+use jr_cut::{ScanEnd, Stop, fill_count, offset_in, segment_length, stop_at};
 use jr_head::Head;
 use jr_scan::{IntervalRef, McuReader, Place};
 use std::alloc::Global;
@@ -110,17 +110,12 @@ fn reading_of(number: u32) -> Reading
     }
 }
 
-/// The offset of a place in a file whose scan begins at another: no byte before the scan's, and none past the end.
-fn offset_of(place: &RowPlace, scan_at: u64, length: usize) -> usize
-    ensures within { result ≤ length }
-    ensures there { max place.now.at scan_at ≤ length → result ≡ max place.now.at scan_at }
+/// Returns the offset of a position in a file whose scan begins at another: no byte before the scan's, and none past the end.
+fn offset_of(place: &RowPlace, scan_at: u64, file: &[u8]) -> usize
+    ensures within { result ≤ length file.now }
+    ensures there { max place.now.at scan_at ≤ length file.now → result ≡ max place.now.at scan_at }
 {
-    let at = place.at.max(scan_at);
-    if at < length as u64 {
-        at as usize
-    } else {
-        length
-    }
+    offset_in(file, place.at.max(scan_at))
 }
 
 /// Returns how far a window that begins at an offset may reach: twice as far where it began there before.
@@ -164,7 +159,7 @@ impl<'a> ScanCursor<'a> {
             mcu: place.mcu,
             reading: reading_of(place.state),
         };
-        let at = offset_of(place, head.scan_at(), file.bytes.len());
+        let at = offset_of(place, head.scan_at(), file.bytes);
         cursor.go_to(at, u64::from(place.bit));
         Ok(cursor)
     }

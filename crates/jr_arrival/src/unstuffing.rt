@@ -1,58 +1,10 @@
 //! Bytes of a scan, and the data that they spell (T.81, B.1.1.5 and F.1.2.3).
 
-ghost use Rattle.std.specs.Prelude.{◌≡◌, ◌≢◌, ◌<◌, ◌≤◌, ◌+◌, ◌++◌, ℕ, List, length, take, drop, replicate, slice_index, min, true, false};
+ghost use Rattle.std.specs.Prelude.{◌≡◌, ◌≢◌, ◌<◌, ◌≤◌, ℕ, List, length, take, drop, slice_index, true, false};
 ghost use Rattle.jr_base.specs.declared.marker.TheConstants.{PREFIX};
 ghost use Rattle.jr_cut.specs.Cut.{IsRaw, IsStop};
 
-use jr_base::marker::PREFIX;
-use jr_cut::{fill_count, plain_count};
-
-/// Bytes that are read, and the bytes of data that they spell.
-#[derive(Clone, Copy)]
-struct Spelled {
-    pub read: usize,
-    pub found: usize,
-}
-
-/// Copies the plain bytes at the front of `raw` to that of `room`, as many as have room: answers how many.
-fn copy_plain(raw: &[u8], room: &mut [u8]) -> usize
-    ensures within { result ≤ length raw.now }
-    ensures fits { result ≤ length room.old }
-    ensures long { length room.new ≡ length room.old }
-    ensures copied { take result room.new ≡ take result raw.now }
-    ensures plain { (k : ℕ) → k < result → slice_index raw.now k ≢ PREFIX }
-    ensures next { result < length raw.now → result < length room.old → slice_index raw.now result ≡ PREFIX }
-{
-    let most = raw.len().min(room.len());
-    let count = plain_count(&raw[..most]);
-    room[..count].copy_from_slice(&raw[..count]);
-    count
-}
-
-/// Puts the data that the bytes at the front of `raw` spell into the front of `room`, up to a marker or the end, or until the room is
-/// full.
-fn unstuff(raw: &[u8], room: &mut [u8]) -> Spelled
-    ensures within { result.read ≤ length raw.now }
-    ensures fits { result.found ≤ length room.old }
-    ensures long { length room.new ≡ length room.old }
-    ensures spells { IsRaw (take result.read raw.now) (take result.found room.new) }
-    ensures stop { result.found < length room.old → IsStop (drop result.read raw.now) }
-{
-    let mut read: usize = 0;
-    let mut found: usize = 0;
-    'bytes: loop {
-        let count = copy_plain(&raw[read..], &mut room[found..]);
-        read += count;
-        found += count;
-        let next = read + fill_count(&raw[read..]);
-        if found == room.len() || next >= raw.len() || raw[next] != 0 {
-            return Spelled { read, found };
-        }
-        room[found] = PREFIX;
-        found += 1;
-        read = next + 1;
-    }
-}
+use jr_cut::{Spelled, fill_count, plain_count, unstuff_into};
 
 /// The bytes of data in a part of a file, and whether they end there.
 #[derive(Clone, Copy)]
@@ -83,7 +35,7 @@ pub(crate) fn unstuff_some(raw: &[u8], most: usize, room: &mut [u8]) -> Part
     ensures some { (n : ℕ) (front : List ℕ) → n ≤ most → n ≤ length raw.now → IsRaw (take n raw.now) front → length front ≤ length room.old → length front ≤ result.found }
 {
     let end = most.min(raw.len());
-    let Spelled { read, found } = unstuff(&raw[..end], room);
+    let Spelled { read, found } = unstuff_into(&raw[..end], room);
     if found == room.len() {
         return Part { found, ends: false };
     }

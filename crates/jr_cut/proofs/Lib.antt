@@ -5,3 +5,8 @@ pub mod CutLaw
 pub mod Segments
 pub mod OpenSegments
 pub mod EachCut
+pub mod Spellings
+pub mod Endings
+pub mod Splits
+pub mod Following
+pub mod Buffers

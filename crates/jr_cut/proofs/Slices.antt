@@ -1,6 +1,6 @@
 -- What is found in a slice of bytes stands in the bytes from its place on.
-use Rattle.std.proofs.Common.{◌≡◌, ◌≢◌, ℕ, ◌+◌, ◌-◌, ◌<◌, List, length, take, drop, get_or, replicate, sym, subst, ◌∙◌, length-drop, arith}
-use Rattle.std.proofs.lemmas.List.{get_or-drop}
+use Rattle.std.proofs.Common.{◌≡◌, ◌≢◌, ℕ, ◌+◌, ◌-◌, ◌<◌, ◌≤◌, List, ◌++◌, length, take, drop, get_or, replicate, sym, ap, subst, ◌∙◌, length-drop, length-take-le, arith}
+use Rattle.std.proofs.lemmas.List.{get_or-drop, take-append-drop, drop-drop}
 use Rattle.jr_base.specs.declared.marker.TheConstants.{PREFIX}
 use Rattle.jr_cut.proofs.Cuts.{rest_is}
 
@@ -23,3 +23,11 @@ module _ (bytes : List ℕ) (at n : ℕ) where
   plain_next lt next =
       let f = subst (λ (xs : List ℕ). n < length xs → get_or xs n 0 ≡ PREFIX) (rest_is bytes at) next in
       sym (get_or-drop at bytes n 0) ∙ f (omega (arith, length-drop at bytes))
+
+-- ---- bytes from an offset on, in two parts
+
+pub split_at : (bytes : List ℕ) (at read : ℕ) → drop at bytes ≡ take read (drop at bytes) ++ drop (at + read) bytes
+split_at bytes at read = sym (take-append-drop read (drop at bytes)) ∙ ap (λ (x : List ℕ). take read (drop at bytes) ++ x) (drop-drop read at bytes)
+
+pub length_front : (bytes : List ℕ) (at read : ℕ) → at + read ≤ length bytes → length (take read (drop at bytes)) ≡ read
+length_front bytes at read within = length-take-le read (drop at bytes) (omega (arith, within, length-drop at bytes))

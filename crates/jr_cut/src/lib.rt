@@ -4,6 +4,7 @@
 mod coded_segments;
 mod cut_so_far;
 mod front;
+mod into_buffer;
 mod laws;
 mod open_segments;
 mod scan_end;
@@ -14,8 +15,9 @@ mod unstuff;
 pub use coded_segments::{CodedSegments, cut};
 pub use cut_so_far::CutSoFar;
 pub use front::{fill_count, plain_count, segment_length};
+pub use into_buffer::{Spelled, unstuff_into, unstuff_segment};
 pub use laws::{each_scan_has_a_cut, one_cut};
 pub use scan_end::ScanEnd;
 pub use span::Span;
 pub use stop::{Stop, stop_at};
-pub use unstuff::Unstuffing;
+pub use unstuff::{Unstuffing, offset_in};

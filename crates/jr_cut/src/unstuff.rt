@@ -11,9 +11,10 @@ use jr_base::marker::PREFIX;
 use std::alloc::Global;
 use std::marker::Model;
 
-/// An offset, or the end of the bytes where it is past it.
-fn offset_in(bytes: &[u8], offset: u64) -> usize
+/// Returns an offset, or the end of the bytes if that is earlier.
+pub fn offset_in(bytes: &[u8], offset: u64) -> usize
     ensures within { result ≤ length bytes.now }
+    ensures there { offset ≤ length bytes.now → result ≡ offset }
     ensures same { drop result bytes.now ≡ drop offset bytes.now }
 {
     if offset < bytes.len() as u64 {

@@ -1,3 +1,3 @@
 mod Rows
-mod FoundSegments
+mod NextSegments
 mod Verdicts

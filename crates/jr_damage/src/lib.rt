@@ -16,5 +16,5 @@ pub use damage::damaged_front;
 pub use laws::one_count;
 pub use lines::{Lines, McuRange, lines_of, mcus_of};
 pub use map::{DamagedInterval, damaged_interval};
-pub use segments::{CodedSpan, coded_segments};
+pub use segments::{CodedSpan, Segment, segment_at};
 pub use verdict::{Verdict, check_scan};

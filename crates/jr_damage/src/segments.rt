@@ -1,53 +1,59 @@
-//! Where the coded bytes of a scan's intervals stand in its file.
+//! Where the coded bytes of a scan's intervals are in its file.
 
-ghost use Rattle.std.specs.Prelude.{◌≡◌, ◌≢◌, ◌<◌, ◌≤◌, ◌+◌, ◌^◌, ℕ, List, length, take, drop, replicate, slice_index, IfOk, IsTrue, false, ◌%◌};
-ghost use Rattle.jr_base.specs.declared.marker.TheConstants.{PREFIX, RST0};
-ghost use Rattle.jr_cut.specs.Cut.{IsRaw, IsStop};
-ghost use Rattle.jr_damage.specs.Verdicts.{IsFileScan};
-ghost use Rattle.jr_damage.specs.Coded.{AreSegmentsOf};
+ghost use Rattle.std.specs.Prelude.{◌≡◌, ◌<◌, ◌≤◌, ◌+◌, ◌⊎◌, ℕ, List, length, drop};
+ghost use Rattle.jr_cut.specs.Cut.{IsStop};
+ghost use Rattle.jr_scan.specs.ScanValue.{ScanValue, intervals_of};
+ghost use Rattle.jr_damage.specs.Coded.{EndsAfter, GoesOnAfter, IsNextAt, IsSegmentOf, IsSpelledAt};
 
-use jr_base::Memory;
-use jr_base::marker::RST0;
-use jr_cut::{fill_count, segment_length};
-use jr_scan::Scan;
-use std::alloc::Global;
+use jr_cut::{Stop, fill_count, segment_length, stop_at};
 
 /// The bytes of a file from one offset up to another: those that code an interval, with their stuffing and without the
-/// markers before and behind them.
+/// markers before and after them.
 #[derive(Clone, Copy, Debug, PartialEq, Eq)]
 pub struct CodedSpan {
     pub start: usize,
     pub end: usize,
 }
 
-/// Whether a marker of this code behind segment k is the restart marker before another one.
-fn is_next(code: u8, k: u32, intervals: u32) -> bool
-    requires { k < intervals }
-    ensures next { IsTrue result → (code ≡ RST0 + k % 8) × (k + 1 < intervals) }
-    ensures end { result ≡ false → code ≡ RST0 + k % 8 → k + 1 < intervals → ⊥ }
-{
-    k + 1 < intervals && code == RST0 + (k % 8) as u8
+/// The bytes that code an interval, and where those of the next one begin.
+#[derive(Clone, Copy, Debug, PartialEq, Eq)]
+pub struct Segment {
+    pub bytes: CodedSpan,
+    /// Offset after the restart marker that is due, or the length of the file if the scan ends before it.
+    pub next: usize,
 }
 
-/// Where the bytes that code the first intervals of a file's scan stand in the file, in the order of the intervals; the
-/// other intervals, behind the scan's end, have none. It reads the scan's bytes once, and takes 16 bytes for each
-/// segment, of which each but the first stands behind a marker of two bytes or more.
-pub fn coded_segments(alloc: Global, file: &[u8], scan: &Scan) -> Result<Vec<CodedSpan>, Memory>
-    requires { IsFileScan file.now scan.now }
-    ensures { IfOk result (λ spans. AreSegmentsOf file.now scan.now spans.items) }
+/// Returns where the segment after segment k begins, which ends at offset `end`.
+fn next_at(file: &[u8], end: usize, k: u32, intervals: u32) -> usize
+    requires there { end ≤ length file.now }
+    requires few { k < intervals }
+    requires stop { IsStop (drop end file.now) }
+    ensures order { end ≤ result }
+    ensures within { result ≤ length file.now }
+    ensures next { GoesOnAfter file.now intervals k end result ⊎ EndsAfter file.now intervals k end result }
 {
-    let intervals = scan.intervals();
-    let mut spans = Vec::new(alloc);
-    let mut start = scan.head().scan_at() as usize;
-    let mut k: u32 = 0;
-    'segments: loop {
-        let end = start + segment_length(&file[start..]);
-        spans.push(CodedSpan { start, end })?;
-        let code_at = end + fill_count(&file[end..]);
-        if code_at >= file.len() || !is_next(file[code_at], k, intervals) {
-            return Ok(spans);
-        }
-        start = code_at + 1;
-        k += 1;
+    let tail = &file[end..];
+    let fill = fill_count(tail);
+    match stop_at(tail, fill, end as u64, k, intervals) {
+        Stop::Restart(marker) => end + marker,
+        Stop::End(_) => file.len(),
+    }
+}
+
+/// Returns the segment of interval k, which begins at offset `at` of the file. Reads its bytes and the marker after them alone.
+pub fn segment_at(file: &[u8], at: usize, k: u32, intervals: u32) -> Segment
+    requires there { at ≤ length file.now }
+    requires few { k < intervals }
+    ensures start { result.bytes.start ≡ at }
+    ensures spelled { (bytes : List ℕ) × IsSpelledAt file.now result.bytes bytes }
+    ensures order { result.bytes.end ≤ result.next }
+    ensures within { result.next ≤ length file.now }
+    ensures bytes { (s : ScanValue) → intervals_of s.head ≡ intervals → IsNextAt file.now s k at → IsSegmentOf file.now s k result.bytes }
+    ensures next { (s : ScanValue) → intervals_of s.head ≡ intervals → IsNextAt file.now s k at → IsNextAt file.now s (k + 1) result.next }
+{
+    let end = at + segment_length(&file[at..]);
+    Segment {
+        bytes: CodedSpan { start: at, end },
+        next: next_at(file, end, k, intervals),
     }
 }

@@ -6,7 +6,7 @@ use crate::checking::Checked;
 use crate::damaged_run::DamagedRun;
 use crate::json::{tell_empty_object, tell_interval_object};
 use crate::telling::{tell_empty, tell_map};
-use jr_damage::{coded_segments, damaged_interval};
+use jr_damage::{damaged_interval, segment_at};
 use std::alloc::{AllocError, Global};
 use std::io::{Error, Write};
 
@@ -64,13 +64,14 @@ pub fn write_map<O: Write>(
 ) -> Result<(), TellError>
     requires { IsFileScan file.now checked.now.scan }
 {
-    let Ok(spans) = coded_segments(alloc, file, &checked.scan) else {
-        return Err(TellError::Memory);
-    };
+    let intervals = checked.scan.intervals();
+    let mut at = checked.scan.head().scan_at() as usize;
     let mut line = String::new(alloc);
     let mut run: Option<DamagedRun> = None;
-    for i in 0..checked.scan.intervals() {
-        if let Some(damaged) = damaged_interval(&checked.scan, spans.as_slice(), i) {
+    for i in 0..intervals {
+        let segment = segment_at(file, at, i, intervals);
+        at = segment.next;
+        if let Some(damaged) = damaged_interval(checked.scan.interval_ref(i), segment.bytes) {
             let longer = run.and_then(|run| run.with(damaged));
             if longer.is_none() {
                 write_run(&mut line, out, name, run, is_json)?;

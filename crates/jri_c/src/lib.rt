@@ -20,12 +20,12 @@ use jri_memory::{
 use std::alloc::Global;
 
 /// The number of these calls: it is changed where one of them is.
-const VERSION: u32 = 4;
+const VERSION: u32 = 5;
 
 /// The number of these calls.
 #[unsafe(no_mangle)]
 pub extern "C" fn jri_version() -> u32
-    ensures { result ≡ 4 }
+    ensures { result ≡ 5 }
 {
     VERSION
 }
@@ -200,19 +200,20 @@ pub extern "C" fn jri_skip_rows(
     skip_file_rows(alloc, file, more, place, rows, report)
 }
 
-/// Lists the damaged intervals of a file from interval `first` on, in their order, as many as `damages` has room for: 3, and `next` of
-/// the report says where to go on; or 0 where none is left from there on. With 1 for want of memory and 2 where the file is refused
-/// `damages` is as it was.
+/// Lists the damaged intervals of a file from interval `first` on, whose bytes begin at offset `first_at`, in their order, as many as
+/// `damages` has room for: 3, and `next` and `next_at` of the report say where to go on; or 0 where none is left from there on. 0 and
+/// 0 are the first interval. With 1 for want of memory and 2 where the file is refused `damages` is as it was.
 #[unsafe(no_mangle)]
 pub extern "C" fn jri_list_damage(
     alloc: Global,
     file: &[u8],
     first: u32,
+    first_at: u64,
     damages: &mut [Damage],
     report: &mut DamageReport,
 ) -> u32
-    ensures none_left { result ≡ 0 → ListsDamages file.now first damages.old damages.new report.new }
-    ensures some_listed { result ≡ 3 → ListsDamages file.now first damages.old damages.new report.new }
+    ensures none_left { result ≡ 0 → ListsDamages file.now first first_at damages.old damages.new report.new }
+    ensures some_listed { result ≡ 3 → ListsDamages file.now first first_at damages.old damages.new report.new }
     ensures none { result ≡ 0 → report.new.count ≡ 0 }
     ensures some { result ≡ 3 → 0 < report.new.count }
     ensures refused { result ≡ 2 → TellsFault file.now report.new.refusal report.new.detail }
@@ -221,7 +222,7 @@ pub extern "C" fn jri_list_damage(
     ensures kept { result ≢ 0 → result ≢ 3 → damages.new ≡ damages.old }
     ensures few { result ≤ 3 }
 {
-    list_damages(alloc, file, first, damages, report)
+    list_damages(alloc, file, first, first_at, damages, report)
 }
 
 /// What ended the scan of a report in the words of `jri`, as much as `text` has room for, with no 0 behind it: how many bytes it has.

@@ -1,18 +1,27 @@
 -- Damaged intervals that are listed one after the other.
-use Rattle.std.proofs.Common.{arith, subst, sym, ap, ◌∙◌, ◌≡◌, ◌≢◌, ℕ, List, length, get_or, set, drop, ◌-◌, ◌+◌, ◌<◌, ◌≤◌, inl, inr}
+use Rattle.std.proofs.Common.{arith, refl, subst, sym, ap, ◌∙◌, ◌≡◌, ◌≢◌, ℕ, List, [], length, get_or, set, drop, max, min, ◌-◌, ◌+◌, ◌<◌, ◌≤◌, inl, inr}
+use Rattle.std.specs.List.{All}
 use Rattle.std.proofs.lemmas.Bool.{cases_lt}
-use Rattle.std.proofs.lemmas.List.{drop-drop, get_or-set_same, get_or-set_other}
+use Rattle.std.proofs.lemmas.List.{drop-drop, get_or_past, get_or-set_same, get_or-set_other}
+use Rattle.std.proofs.lemmas.List.Elements.{All-drop}
 use Rattle.jr_scan.specs.Mcus.{HasDecoding, HasNoDecoding}
-use Rattle.jr_scan.specs.ScanValue.{ScanValue, interval_of}
+use Rattle.jr_scan.specs.IntervalValue.{IntervalValue}
+use Rattle.jr_scan.specs.ScanValue.{ScanValue, interval_of, intervals_of, mcus_in, scan_of_segments}
 use Rattle.jr_damage.specs.declared.map.DamagedInterval.{DamagedInterval}
 use Rattle.jr_damage.specs.declared.segments.CodedSpan.{CodedSpan}
+use Rattle.jr_cut.proofs.EachCut.{each_scan_has_a_cut}
+use Rattle.jr_head.specs.HeadValue.{HeadValue}
+use Rattle.jr_head.specs.Heads.{HeadOf}
+use Rattle.jr_arrival.proofs.ScanIntervals.{count_is}
+use Rattle.jr_damage.specs.Coded.{BeginsAt, HasEndedBefore, IsNextAt, IsSegmentOf}
 use Rattle.jr_damage.specs.Map.{IsDamageOf}
 use Rattle.jri_memory.specs.declared.damages.Damage.{Damage}
-use Rattle.jri_memory.specs.Damages.{AreDamages, IsAt, IsListedAt, IsDamageEntry, damage_at, no_damage}
+use Rattle.jr_damage.specs.Verdicts.{IsFileScan}
+use Rattle.jri_memory.specs.Damages.{AreDamages, IsAt, IsListedAt, IsDamageEntry, IsPositionOf, damage_at, no_damage}
 
 -- nothing is listed yet
-pub damages_begin : (s : ScanValue) (spans : List CodedSpan) (first : ℕ) (list : List Damage) → AreDamages s spans first first 0 list
-damages_begin s spans first list = record {
+pub damages_begin : (file : List ℕ) (s : ScanValue) (first : ℕ) (list : List Damage) → AreDamages file s first first 0 list
+damages_begin file s first list = record {
   start = omega arith;
   each = λ k lt. absurd (omega (arith, lt));
   order = λ k lt. absurd (omega (arith, lt));
@@ -20,11 +29,11 @@ damages_begin s spans first list = record {
 }
 
 -- an interval that has a decoding is passed over
-pub damages_none : (s : ScanValue) (spans : List CodedSpan) (first i count : ℕ) (list : List Damage) → HasDecoding (interval_of s i) → AreDamages s spans first i count list
-    → AreDamages s spans first (i + 1) count list
-damages_none s spans first i count list sound a = record {
+pub damages_none : (file : List ℕ) (s : ScanValue) (first i count : ℕ) (list : List Damage) → HasDecoding (interval_of s i) → AreDamages file s first i count list
+    → AreDamages file s first (i + 1) count list
+damages_none file s first i count list sound a = record {
   start = omega (arith, a.start);
-  each = λ k lt. (let e = a.each k lt in record { interval = e.interval; tells = e.tells; is = e.is; from = e.from; before = omega (arith, e.before) });
+  each = λ k lt. (let e = a.each k lt in record { interval = e.interval; span = e.span; tells = e.tells; is = e.is; segment = e.segment; from = e.from; before = omega (arith, e.before) });
   order = a.order;
   all = λ j from before none. elim (cases_lt j i) [
     | inl lt ↦ a.all j from lt none
@@ -32,8 +41,8 @@ damages_none s spans first i count list sound a = record {
   ];
 }
 
-module _ (s : ScanValue) (spans : List CodedSpan) (first i count : ℕ) (list : List Damage) (damaged : DamagedInterval) (d : Damage) (room : count < length list)
-    (is : IsDamageOf s spans i damaged) (tells : IsDamageEntry damaged d) (a : AreDamages s spans first i count list) where
+module _ (file : List ℕ) (s : ScanValue) (span : CodedSpan) (first i count : ℕ) (list : List Damage) (damaged : DamagedInterval) (d : Damage) (room : count < length list)
+    (is : IsDamageOf (interval_of s i) span damaged) (segment : IsSegmentOf file s i span) (tells : IsDamageEntry damaged d) (a : AreDamages file s first i count list) where
   at : d.interval ≡ i
   at = tells.interval ∙ is.number
 
@@ -44,19 +53,21 @@ module _ (s : ScanValue) (spans : List CodedSpan) (first i count : ℕ) (list : 
   other k lt = get_or-set_other list count k d no_damage (λ e. omega (arith, lt, e))
 
   -- a damaged interval is listed
-  pub damages_one : AreDamages s spans first (i + 1) (count + 1) (set list count d)
+  pub damages_one : AreDamages file s first (i + 1) (count + 1) (set list count d)
   damages_one = record {
     start = omega (arith, a.start);
     each = λ k lt. elim (cases_lt k count) [
       | inl before ↦ (
           let e = a.each k before in
-          subst (IsListedAt s spans first (i + 1)) (sym (other k before)) (record { interval = e.interval; tells = e.tells; is = e.is; from = e.from; before = omega (arith, e.before) }))
+          subst (IsListedAt file s first (i + 1)) (sym (other k before)) (record { interval = e.interval; span = e.span; tells = e.tells; is = e.is; segment = e.segment; from = e.from; before = omega (arith, e.before) }))
       | inr last ↦ (
           let e : k ≡ count = omega (arith, last, lt) in
-          subst (λ (n : ℕ). IsListedAt s spans first (i + 1) (damage_at (set list count d) n)) (sym e) (subst (IsListedAt s spans first (i + 1)) (sym here) (record {
+          subst (λ (n : ℕ). IsListedAt file s first (i + 1) (damage_at (set list count d) n)) (sym e) (subst (IsListedAt file s first (i + 1)) (sym here) (record {
             interval = damaged;
+            span = span;
             tells = tells;
-            is = subst (λ (n : ℕ). IsDamageOf s spans n damaged) (sym at) is;
+            is = subst (λ (n : ℕ). IsDamageOf (interval_of s n) span damaged) (sym at) is;
+            segment = subst (λ (n : ℕ). IsSegmentOf file s n span) (sym at) segment;
             from = omega (arith, at, a.start);
             before = omega (arith, at);
           })))
@@ -82,3 +93,63 @@ pub drop_on : (old now new : List Damage) (a b : ℕ) → a ≤ b → drop a now
 drop_on old now new a b le before same =
     let e : a + (b - a) ≡ b = omega (arith, le) in
     same ∙ ap (λ (n : ℕ). drop n now) (sym e) ∙ sym (drop-drop (b - a) a now) ∙ ap (drop (b - a)) before ∙ drop-drop (b - a) a old ∙ ap (λ (n : ℕ). drop n old) e
+
+-- ---- the interval that is examined
+
+abbrev interval_with : (i mcus : ℕ) → List ℕ → HeadValue → IntervalValue
+interval_with i mcus bytes h = record { number = i; mcus = mcus; bytes = bytes; head = h }
+
+pub examined : (s : ScanValue) (h : HeadValue) (i mcus : ℕ) (bytes : List ℕ) → s.head ≡ h → mcus ≡ mcus_in h i → get_or s.intervals i [] ≡ bytes → interval_with i mcus bytes h ≡ interval_of s i
+examined s h i mcus bytes head count same =
+    ap (λ (m : ℕ). interval_with i m bytes h) count ∙ ap (λ (x : HeadValue). interval_with i (mcus_in x i) bytes x) (sym head) ∙ ap (λ (b : List ℕ). interval_with i (mcus_in s.head i) b s.head) (sym same)
+
+-- ---- positions
+
+-- the scan of a file with this head
+pub record FileScan (file : List ℕ) (h : HeadValue) : Type 0 where
+  pub scan : ScanValue
+  pub head : scan.head ≡ h
+  pub is : IsFileScan file scan
+  pub count : length scan.intervals ≡ intervals_of scan.head
+  pub top : IsPositionOf file scan 0 0
+
+pub file_scan : (file : List ℕ) (h : HeadValue) → 0 < intervals_of h → All (λ b. b < 256) file → HeadOf file h → FileScan file h
+file_scan file h some small head =
+    let c = each_scan_has_a_cut (intervals_of h) h.scan_at (drop h.scan_at file) some (All-drop (λ b. b < 256) h.scan_at file small) in
+    let s = scan_of_segments h c.datas c.end in
+    let is : IsFileScan file s = record { head = head; cut = record { segments = c.datas; cut = c.is; intervals = refl } } in
+    let begins : BeginsAt file s 0 h.scan_at = record { within = omega (arith, head.scan_at); segments = c.datas; empty = intervals_of h - length c.datas; cut = c.is; intervals = refl } in
+    let at : h.scan_at ≡ max 0 h.scan_at = omega arith in
+    record { scan = s; head = refl; is = is; count = count_is file s is.cut; top = inl (subst (BeginsAt file s 0) at begins) }
+
+-- where a list starts
+pub record StartsAt (file : List ℕ) (s : ScanValue) (first first_at start at : ℕ) : Type 0 where
+  pub start_is : start ≡ min first (length s.intervals)
+  pub at_is : at ≡ max first_at s.head.scan_at
+  pub begins : IsNextAt file s start at
+
+pub starts_at : (file : List ℕ) (s : ScanValue) (first first_at start at : ℕ) → length s.intervals ≡ intervals_of s.head → start ≡ min first (intervals_of s.head)
+    → (max first_at s.head.scan_at ≤ length file → at ≡ max first_at s.head.scan_at) → IsPositionOf file s first first_at → StartsAt file s first first_at start at
+starts_at file s first first_at start at count e there (inl b) =
+    let is = there b.within in
+    let same : first ≡ start = omega (arith, e, b.cut.few) in
+    record { start_is = omega (arith, e, count); at_is = is; begins = inl (subst (λ (k : ℕ). BeginsAt file s k at) same (subst (BeginsAt file s first) (sym is) b)) }
+starts_at file s first first_at start at count e there (inr h) =
+    let is = there (omega (arith, h.last)) in
+    record {
+      start_is = omega (arith, e, count);
+      at_is = is;
+      begins = inr (record {
+        last = is ∙ h.last;
+        none = λ j le. elim (cases_lt j (length s.intervals)) [
+          | inl lt ↦ h.none j (omega (arith, lt, le, e, count))
+          | inr past ↦ get_or_past s.intervals j [] past
+        ];
+      });
+    }
+
+-- where it stops
+pub stops_at : (file : List ℕ) (s : ScanValue) (first first_at start at next stop : ℕ) → StartsAt file s first first_at start at → at ≤ stop → IsNextAt file s next stop → IsPositionOf file s next stop
+stops_at file s first first_at start at next stop from le begins =
+    let same : stop ≡ max stop s.head.scan_at = omega (arith, le, from.at_is) in
+    subst (IsNextAt file s next) same begins

@@ -1,10 +1,10 @@
 -- What the call gives that lists the damaged intervals of a file in memory.
-use Rattle.std.specs.Prelude.{◌≡◌, ℕ, ◌+◌, ◌<◌, ◌≤◌, List, length, drop, min, Option, Some, None, slice_index_or}
+use Rattle.std.specs.Prelude.{◌≡◌, ℕ, ◌+◌, ◌<◌, ◌≤◌, List, length, drop, max, min, Option, Some, None, slice_index_or}
 use Rattle.jr_scan.specs.Mcus.{HasNoDecoding}
 use Rattle.jr_scan.specs.ScanValue.{ScanValue, interval_of}
 use Rattle.jr_damage.specs.declared.map.DamagedInterval.{DamagedInterval}
 use Rattle.jr_damage.specs.declared.segments.CodedSpan.{CodedSpan}
-use Rattle.jr_damage.specs.Coded.{AreSegmentsOf}
+use Rattle.jr_damage.specs.Coded.{IsNextAt, IsSegmentOf}
 use Rattle.jr_damage.specs.Map.{IsDamageOf}
 use Rattle.jr_damage.specs.Verdicts.{IsFileScan}
 use Rattle.jri_memory.specs.declared.damages.Damage.{Damage}
@@ -32,11 +32,13 @@ no_damage = record { interval = 0; first_mcu = 0; mcus = 0; decodable = 0; first
 abbrev pub damage_at : List Damage → ℕ → Damage
 damage_at damages k = slice_index_or damages k no_damage
 
--- number k of the list tells of a damaged interval from `first` on and before `next`
-pub record IsListedAt (s : ScanValue) (spans : List CodedSpan) (first next : ℕ) (d : Damage) : Type 0 where
+-- an entry of the list: a damaged interval from `first` on and before `next`, with the bytes of its segment
+pub record IsListedAt (file : List ℕ) (s : ScanValue) (first next : ℕ) (d : Damage) : Type 0 where
   pub interval : DamagedInterval
+  pub span : CodedSpan
   pub tells : IsDamageEntry interval d
-  pub is : IsDamageOf s spans d.interval interval
+  pub is : IsDamageOf (interval_of s d.interval) span interval
+  pub segment : IsSegmentOf file s d.interval span
   pub from : first ≤ d.interval
   pub before : d.interval < next
 
@@ -45,19 +47,27 @@ abbrev pub IsAt : List Damage → (count i : ℕ) → Type 0
 IsAt damages count i = (k : ℕ) × (k < count) × ((damage_at damages k).interval ≡ i)
 
 -- the first of a list are the damaged intervals from `first` on and before `next`, in their order
-pub record AreDamages (s : ScanValue) (spans : List CodedSpan) (first next count : ℕ) (damages : List Damage) : Type 0 where
+pub record AreDamages (file : List ℕ) (s : ScanValue) (first next count : ℕ) (damages : List Damage) : Type 0 where
   pub start : first ≤ next
-  pub each : (k : ℕ) → k < count → IsListedAt s spans first next (damage_at damages k)
+  pub each : (k : ℕ) → k < count → IsListedAt file s first next (damage_at damages k)
   pub order : (k : ℕ) → k + 1 < count → (damage_at damages k).interval < (damage_at damages (k + 1)).interval
   pub all : (i : ℕ) → first ≤ i → i < next → HasNoDecoding (interval_of s i) → IsAt damages count i
 
--- the damaged intervals of the file from this one on are listed, as many as have room; behind them the list is as it was
-pub record ListsDamages (file : List ℕ) (first : ℕ) (old new : List Damage) (r : DamageReport) : Type 0 where
+-- a position of the file: the segment of interval i begins at that offset, or at the scan's first byte if that is later
+abbrev pub IsPositionOf : (file : List ℕ) (s : ScanValue) (i at : ℕ) → Type 0
+IsPositionOf file s i at = IsNextAt file s i (max at s.head.scan_at)
+
+-- a list from a position has the damaged intervals up to the next one, and stops at a position
+pub record ListsFrom (file : List ℕ) (s : ScanValue) (first next next_at count : ℕ) (damages : List Damage) : Type 0 where
+  pub are : AreDamages file s first next count damages
+  pub stops : IsPositionOf file s next next_at
+
+-- the damaged intervals of the file from this position on are listed, as many as have room; behind them the list is as it was
+pub record ListsDamages (file : List ℕ) (first first_at : ℕ) (old new : List Damage) (r : DamageReport) : Type 0 where
   pub scan : ScanValue
   pub is : IsFileScan file scan
-  pub spans : List CodedSpan
-  pub segments : AreSegmentsOf file scan spans
-  pub are : AreDamages scan spans (min first (length scan.intervals)) r.next r.count new
+  pub top : IsPositionOf file scan 0 0
+  pub lists : IsPositionOf file scan first first_at → ListsFrom file scan (min first (length scan.intervals)) r.next r.next_at r.count new
   pub within : r.next ≤ length scan.intervals
   pub room : r.next < length scan.intervals → r.count ≡ length old
   pub long : length new ≡ length old
@@ -68,3 +78,4 @@ pub record ListsDamages (file : List ℕ) (first : ℕ) (old new : List Damage) 
 pub record TellsNoDamage (r : DamageReport) : Type 0 where
   pub count : r.count ≡ 0
   pub next : r.next ≡ 0
+  pub next_at : r.next_at ≡ 0

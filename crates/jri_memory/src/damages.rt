@@ -1,6 +1,12 @@
 //! The damaged intervals of a file in memory: their lines, and where their bytes are.
 
-ghost use Rattle.std.specs.Prelude.{◌≡◌, ◌≢◌, ℕ, ◌+◌, ◌<◌, ◌≤◌, length, take, drop, IfOk, IfErr};
+ghost use Rattle.std.specs.Prelude.{◌≡◌, ◌≢◌, ℕ, ◌+◌, ◌-◌, ◌<◌, ◌≤◌, ◌^◌, List, [], length, drop, max, slice_index_or, IfOk, IfErr, IfSome, IfNone};
+ghost use Rattle.std.specs.Vec.{vec_capacity};
+ghost use Rattle.jr_damage.specs.Coded.{IsNextAt, IsSegmentOf, IsSpelledAt};
+ghost use Rattle.jr_damage.specs.Map.{IsDamageOf};
+ghost use Rattle.jr_head.specs.Intervals.{intervals_of};
+ghost use Rattle.jr_scan.specs.Mcus.{HasDecoding};
+ghost use Rattle.jr_scan.specs.ScanValue.{ScanValue, interval_of};
 ghost use Rattle.jr_segments.specs.declared.refusal.Refusal.TheVariants as refusal;
 ghost use Rattle.jr_head.specs.Heads.{RefusalOf};
 ghost use Rattle.jri_memory.specs.Calls.{TellsFault, detail_of};
@@ -9,10 +15,10 @@ ghost use Rattle.jr_segments.specs.Refusal.{number_of};
 
 use crate::status::{DAMAGED, SOUND};
 use crate::{detail, status_of};
-use jr_damage::{CodedSpan, DamagedInterval, coded_segments, damaged_interval};
-use jr_head::Refusal;
-use jr_scan::Scan;
-use jri_file::scan_of_file;
+use jr_cut::{offset_in, unstuff_segment};
+use jr_damage::{CodedSpan, DamagedInterval, damaged_interval, segment_at};
+use jr_head::{Head, Refusal, read_head};
+use jr_scan::IntervalRef;
 use std::alloc::Global;
 
 /// An interval that has no decoding, as numbers.
@@ -34,14 +40,16 @@ pub struct Damage {
     pub end: u64,
 }
 
-/// What a list of damaged intervals tells.
+/// The report of a list of damaged intervals.
 #[repr(C)]
 #[derive(Clone, Copy, PartialEq, Eq)]
 pub struct DamageReport {
-    /// How many are listed.
+    /// The number of entries.
     pub count: u32,
-    /// The interval behind those that were looked at: the number of all where none is left.
+    /// The interval after those that were examined: the number of all if none is left.
     pub next: u32,
+    /// Offset of that interval's first byte: the length of the file if the scan ends before it.
+    pub next_at: u64,
     /// The number of the refusal and what it tells; 0 where there is none.
     pub refusal: u32,
     pub detail: u64,
@@ -57,6 +65,7 @@ impl DamageReport {
         DamageReport {
             count: 0,
             next: 0,
+            next_at: 0,
             refusal: u32::from(refusal.number()),
             detail: detail(refusal),
         }
@@ -85,21 +94,48 @@ impl Damage {
     }
 }
 
-/// Lists interval i behind the first ones where it is damaged: how many are listed then.
-fn list_one(scan: &Scan, spans: &[CodedSpan], i: u32, damages: &mut [Damage], count: u32) -> u32
-    requires there { i < length scan.now.intervals }
+/// How far a list has come: the number of its entries, the interval that is next, and the offset at which its bytes begin.
+#[derive(Clone, Copy)]
+struct Progress {
+    pub count: u32,
+    pub next: u32,
+    pub at: usize,
+}
+
+/// Returns what is damaged of interval i, whose segment is at `span`. The segment's data are written into `buffer`, whose capacity
+/// suffices.
+fn examine(
+    head: &Head,
+    file: &[u8],
+    span: CodedSpan,
+    i: u32,
+    buffer: &mut Vec<u8>,
+) -> Option<DamagedInterval>
+    requires there { i < intervals_of head.now }
+    requires small { length file.now < 2 ^ 61 }
+    requires spelled { (bytes : List ℕ) × IsSpelledAt file.now span bytes }
+    requires capacity { length file.now - span.start < vec_capacity buffer.old }
+    ensures sound { (s : ScanValue) → s.head ≡ head.now → IsSegmentOf file.now s i span → IfNone result (HasDecoding (interval_of s i)) }
+    ensures damaged { (s : ScanValue) → s.head ≡ head.now → IsSegmentOf file.now s i span → IfSome result (λ d. IsDamageOf (interval_of s i) span d) }
+    ensures capacity { vec_capacity buffer.old ≤ vec_capacity buffer.new }
+{
+    let found = unstuff_segment(&file[span.start..span.end], buffer);
+    let interval = IntervalRef::of(head, &buffer[..found], i, head.mcus_in(i));
+    damaged_interval(interval, span)
+}
+
+/// Writes what is damaged of interval i, if it is, after the first entries of a list, and returns their number then.
+fn put(damaged: Option<DamagedInterval>, damages: &mut [Damage], count: u32) -> u32
     requires room { count < length damages.old }
-    requires few { count ≤ i }
+    requires few { count + 1 < 2 ^ 32 }
     ensures long { length damages.new ≡ length damages.old }
     ensures more { count ≤ result }
-    ensures few { result ≤ i + 1 }
     ensures one { result ≤ count + 1 }
-    ensures listed { (first : ℕ) → AreDamages scan.now spans.now first i count damages.old → AreDamages scan.now spans.now first (i + 1) result damages.new }
+    ensures listed { (file : List ℕ) (s : ScanValue) (span : CodedSpan) (first i : ℕ) → IfNone damaged (HasDecoding (interval_of s i)) → IfSome damaged (λ d. IsDamageOf (interval_of s i) span d) → IsSegmentOf file s i span
+        → AreDamages file s first i count damages.old → AreDamages file s first (i + 1) result damages.new }
     ensures behind { drop result damages.new ≡ drop result damages.old }
 {
-    // By its contract a scan has as many intervals as its head says.
-    let _all = scan.intervals();
-    match damaged_interval(scan, spans, i) {
+    match damaged {
         Some(damaged) => {
             damages[count as usize] = Damage::of(&damaged);
             count + 1
@@ -108,62 +144,115 @@ fn list_one(scan: &Scan, spans: &[CodedSpan], i: u32, damages: &mut [Damage], co
     }
 }
 
-/// Lists the damaged intervals from this one on, as many as there is room for.
-fn list(scan: &Scan, spans: &[CodedSpan], first: u32, damages: &mut [Damage]) -> (u32, u32)
-    requires { first ≤ length scan.now.intervals }
-    ensures listed { AreDamages scan.now spans.now first result.1 result.0 damages.new }
-    ensures within { result.1 ≤ length scan.now.intervals }
-    ensures room { result.1 < length scan.now.intervals → result.0 ≡ length damages.old }
+/// Examines the next interval, and lists it if it is damaged.
+fn list_one(
+    head: &Head,
+    file: &[u8],
+    before: Progress,
+    buffer: &mut Vec<u8>,
+    damages: &mut [Damage],
+) -> Progress
+    requires there { before.next < intervals_of head.now }
+    requires at { before.at ≤ length file.now }
+    requires small { length file.now < 2 ^ 61 }
+    requires room { before.count < length damages.old }
+    requires few { before.count ≤ before.next }
+    requires capacity { length file.now - before.at < vec_capacity buffer.old }
+    ensures next { result.next ≡ before.next + 1 }
+    ensures at { before.at ≤ result.at }
+    ensures within { result.at ≤ length file.now }
     ensures long { length damages.new ≡ length damages.old }
-    ensures behind { drop result.0 damages.new ≡ drop result.0 damages.old }
+    ensures more { before.count ≤ result.count }
+    ensures one { result.count ≤ before.count + 1 }
+    ensures listed { (s : ScanValue) (first : ℕ) → s.head ≡ head.now → IsNextAt file.now s before.next before.at → AreDamages file.now s first before.next before.count damages.old → AreDamages file.now s first (before.next + 1) result.count damages.new }
+    ensures stops { (s : ScanValue) → s.head ≡ head.now → IsNextAt file.now s before.next before.at → IsNextAt file.now s (before.next + 1) result.at }
+    ensures behind { drop result.count damages.new ≡ drop result.count damages.old }
+    ensures capacity { vec_capacity buffer.old ≤ vec_capacity buffer.new }
 {
-    let all = scan.intervals();
-    let mut count = 0;
-    let mut next = first;
-    'intervals: while next < all && (count as usize) < damages.len() {
-        count = list_one(scan, spans, next, damages, count);
-        next += 1;
+    let segment = segment_at(file, before.at, before.next, head.intervals());
+    let damaged = examine(head, file, segment.bytes, before.next, buffer);
+    Progress {
+        count: put(damaged, damages, before.count),
+        next: before.next + 1,
+        at: segment.next,
     }
-    (count, next)
 }
 
-/// The damaged intervals of a file from this one on, as many as there is room for.
+/// Lists the damaged intervals from a position on, as many as there is room for.
+fn list(
+    head: &Head,
+    file: &[u8],
+    from: Progress,
+    buffer: &mut Vec<u8>,
+    damages: &mut [Damage],
+) -> Progress
+    requires none { from.count ≡ 0 }
+    requires there { from.next ≤ intervals_of head.now }
+    requires at { from.at ≤ length file.now }
+    requires small { length file.now < 2 ^ 61 }
+    requires capacity { length file.now - from.at < vec_capacity buffer.old }
+    ensures listed { (s : ScanValue) → s.head ≡ head.now → IsNextAt file.now s from.next from.at → AreDamages file.now s from.next result.next result.count damages.new }
+    ensures stops { (s : ScanValue) → s.head ≡ head.now → IsNextAt file.now s from.next from.at → IsNextAt file.now s result.next result.at }
+    ensures within { result.next ≤ intervals_of head.now }
+    ensures at { from.at ≤ result.at }
+    ensures room { result.next < intervals_of head.now → result.count ≡ length damages.old }
+    ensures long { length damages.new ≡ length damages.old }
+    ensures behind { drop result.count damages.new ≡ drop result.count damages.old }
+{
+    let all = head.intervals();
+    let mut progress = from;
+    'intervals: while progress.next < all && (progress.count as usize) < damages.len() {
+        progress = list_one(head, file, progress, buffer, damages);
+    }
+    progress
+}
+
+/// Lists the damaged intervals of a file from a position on, as many as there is room for. Reads the header and the bytes of the
+/// intervals examined.
 fn list_of_file(
     alloc: Global,
     file: &[u8],
     first: u32,
+    first_at: u64,
     damages: &mut [Damage],
 ) -> Result<DamageReport, Refusal>
-    ensures listed { IfOk result (ListsDamages file.now first damages.old damages.new) }
+    ensures listed { IfOk result (ListsDamages file.now first first_at damages.old damages.new) }
     ensures refused { IfErr result (λ f. f ≢ refusal.Memory → RefusalOf file.now f) }
     ensures kept { IfErr result (λ _. damages.new ≡ damages.old) }
 {
-    let scan = scan_of_file(alloc, file)?;
-    let Ok(spans) = coded_segments(alloc, file, &scan) else {
+    let head = read_head(alloc, file)?;
+    let from = Progress {
+        count: 0,
+        next: first.min(head.intervals()),
+        at: offset_in(file, first_at.max(head.scan_at())),
+    };
+    // No segment is longer than what is left of the file. The pages that none of those examined needs are not touched.
+    let Ok(mut buffer) = Vec::with_capacity(alloc, file.len() - from.at + 1) else {
         return Err(Refusal::Memory);
     };
-    let first = first.min(scan.intervals());
-    let (count, next) = list(&scan, spans.as_slice(), first, damages);
+    let listed = list(&head, file, from, &mut buffer, damages);
     Ok(DamageReport {
-        count,
-        next,
+        count: listed.count,
+        next: listed.next,
+        next_at: listed.at as u64,
         refusal: 0,
         detail: 0,
     })
 }
 
-/// Lists the damaged intervals of a file from interval `first` on, in their order, as many as `damages` has room for: 3, and `next` of
-/// the report says where to go on; or 0 where none is left from there on. With 1 for want of memory and 2 where the file is refused
-/// `damages` is as it was.
+/// Lists the damaged intervals of a file from interval `first` on, whose bytes begin at offset `first_at`, in their order, as many as
+/// `damages` has room for: 3, and `next` and `next_at` of the report say where to go on; or 0 where none is left from there on. 0 and
+/// 0 are the first interval. With 1 for want of memory and 2 where the file is refused `damages` is as it was.
 pub fn list_damages(
     alloc: Global,
     file: &[u8],
     first: u32,
+    first_at: u64,
     damages: &mut [Damage],
     report: &mut DamageReport,
 ) -> u32
-    ensures none_left { result ≡ 0 → ListsDamages file.now first damages.old damages.new report.new }
-    ensures some_listed { result ≡ 3 → ListsDamages file.now first damages.old damages.new report.new }
+    ensures none_left { result ≡ 0 → ListsDamages file.now first first_at damages.old damages.new report.new }
+    ensures some_listed { result ≡ 3 → ListsDamages file.now first first_at damages.old damages.new report.new }
     ensures none { result ≡ 0 → report.new.count ≡ 0 }
     ensures some { result ≡ 3 → 0 < report.new.count }
     ensures refused { result ≡ 2 → TellsFault file.now report.new.refusal report.new.detail }
@@ -172,7 +261,7 @@ pub fn list_damages(
     ensures kept { result ≢ 0 → result ≢ 3 → damages.new ≡ damages.old }
     ensures few { result ≤ 3 }
 {
-    match list_of_file(alloc, file, first, damages) {
+    match list_of_file(alloc, file, first, first_at, damages) {
         Ok(listed) => {
             *report = listed;
             if listed.count == 0 { SOUND } else { DAMAGED }

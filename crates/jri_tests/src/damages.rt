@@ -32,10 +32,11 @@ const fn damage(interval: u32, start: u64, end: u64) -> Damage {
     }
 }
 
-const fn listed(count: u32, next: u32) -> DamageReport {
+const fn listed(count: u32, next: u32, next_at: u64) -> DamageReport {
     DamageReport {
         count,
         next,
+        next_at,
         refusal: 0,
         detail: 0,
     }
@@ -44,58 +45,43 @@ const fn listed(count: u32, next: u32) -> DamageReport {
 /// Two intervals of one MCU each, whose data stand at bytes 146 and 149.
 const TWO: &str = "GI 63 FF D0 63 E";
 
-/// How many bytes of that file there are, from which interval on is asked, how many have room, the answer, what is told, and what the
-/// first two of the list are then.
-type Row = (usize, u32, usize, u32, DamageReport, [Damage; 2]);
+/// How many bytes of that file there are, the position that the list starts at, how many entries have room, the answer, what is told,
+/// and what the first two of the list are then.
+type Row = (usize, (u32, u64), usize, u32, DamageReport, [Damage; 2]);
 
-fn rows() -> [Row; 8] {
+fn rows() -> [Row; 10] {
+    let none = [UNWRITTEN, UNWRITTEN];
+    let first = [damage(0, 0, 0), UNWRITTEN];
+    let second = [damage(1, 0, 0), UNWRITTEN];
+    let both = [damage(0, 0, 0), damage(1, 0, 0)];
     [
-        (152, 0, 2, SOUND, listed(0, 2), [UNWRITTEN, UNWRITTEN]),
-        (
-            147,
-            0,
-            2,
-            DAMAGED,
-            listed(1, 2),
-            [damage(1, 0, 0), UNWRITTEN],
-        ),
-        (147, 2, 2, SOUND, listed(0, 2), [UNWRITTEN, UNWRITTEN]),
-        (147, 9, 2, SOUND, listed(0, 2), [UNWRITTEN, UNWRITTEN]),
-        (
-            146,
-            0,
-            2,
-            DAMAGED,
-            listed(2, 2),
-            [damage(0, 0, 0), damage(1, 0, 0)],
-        ),
-        (
-            146,
-            0,
-            1,
-            DAMAGED,
-            listed(1, 1),
-            [damage(0, 0, 0), UNWRITTEN],
-        ),
-        (
-            146,
-            1,
-            1,
-            DAMAGED,
-            listed(1, 2),
-            [damage(1, 0, 0), UNWRITTEN],
-        ),
-        (146, 0, 0, SOUND, listed(0, 0), [UNWRITTEN, UNWRITTEN]),
+        (152, (0, 0), 2, SOUND, listed(0, 2, 152), none),
+        (152, (1, 149), 2, SOUND, listed(0, 2, 152), none),
+        (147, (0, 0), 2, DAMAGED, listed(1, 2, 147), second),
+        (147, (2, 147), 2, SOUND, listed(0, 2, 147), none),
+        (147, (9, 147), 2, SOUND, listed(0, 2, 147), none),
+        (146, (0, 0), 2, DAMAGED, listed(2, 2, 146), both),
+        (146, (0, 146), 1, DAMAGED, listed(1, 1, 146), first),
+        (146, (1, 146), 1, DAMAGED, listed(1, 2, 146), second),
+        (146, (0, 0), 0, SOUND, listed(0, 0, 146), none),
+        // A position of no file: past its end.
+        (152, (0, u64::MAX), 1, DAMAGED, listed(1, 1, 152), first),
     ]
 }
 
-fn told(alloc: Global, bytes: &[u8], first: u32, room: usize) -> (u32, DamageReport, [Damage; 2]) {
+fn told(
+    alloc: Global,
+    bytes: &[u8],
+    (first, first_at): (u32, u64),
+    room: usize,
+) -> (u32, DamageReport, [Damage; 2]) {
     let mut damages = [UNWRITTEN; 2];
-    let mut report = listed(7, 7);
+    let mut report = listed(7, 7, 7);
     let answer = list_damages(
         alloc,
         bytes,
         first,
+        first_at,
         &mut damages[..room.min(2)],
         &mut report,
     );
@@ -105,11 +91,12 @@ fn told(alloc: Global, bytes: &[u8], first: u32, room: usize) -> (u32, DamageRep
 #[test]
 fn lists_damaged_intervals(rt: HostRuntime) -> Result<(), Fail> {
     let whole = file(rt.alloc(), TWO)?;
-    for (length, first, room, answer, report, damages) in &rows() {
-        let found = told(rt.alloc(), front(whole.as_slice(), *length), *first, *room);
+    for (length, (first, at), room, answer, report, damages) in &rows() {
+        let bytes = front(whole.as_slice(), *length);
+        let found = told(rt.alloc(), bytes, (*first, *at), *room);
         assert!(rt;
             found == (*answer, *report, *damages),
-            "{length} {first} {room}"
+            "{length} {first} {at} {room}"
         );
     }
     Ok(())
@@ -118,12 +105,43 @@ fn lists_damaged_intervals(rt: HostRuntime) -> Result<(), Fail> {
 #[test]
 fn lists_nothing_of_a_refused_file(rt: HostRuntime) -> Result<(), Fail> {
     let whole = file(rt.alloc(), TWO)?;
-    let (answer, report, damages) = told(rt.alloc(), front(whole.as_slice(), 100), 0, 2);
+    let (answer, report, damages) = told(rt.alloc(), front(whole.as_slice(), 100), (0, 0), 2);
     let early = DamageReport {
         refusal: 2,
-        ..listed(0, 0)
+        ..listed(0, 0, 0)
     };
     assert!(rt; (answer, report, damages) == (REFUSED, early, [UNWRITTEN, UNWRITTEN]));
+    Ok(())
+}
+
+/// Ten intervals of one MCU each, of which the second, fourth, fifth, seventh and ninth are damaged.
+const FIVE_OF_TEN: &str =
+    "GW 63 FF D0 E0 FF D1 63 FF D2 63 63 FF D3 E0 FF D4 63 FF D5 FF D6 63 FF D7 E0 FF D0 63 E";
+
+/// Each of them, and where a list of it alone stops.
+const STOPS: [(u32, u32, u64); 5] = [
+    (1, 2, 152),
+    (3, 4, 159),
+    (4, 5, 162),
+    (6, 7, 167),
+    (8, 9, 173),
+];
+
+#[test]
+fn continues_a_list(rt: HostRuntime) -> Result<(), Fail> {
+    let whole = file(rt.alloc(), FIVE_OF_TEN)?;
+    let bytes = whole.as_slice();
+    let mut from = (0, 0);
+    for (interval, next, next_at) in &STOPS {
+        let (answer, report, damages) = told(rt.alloc(), bytes, from, 1);
+        assert!(rt; answer == DAMAGED && report == listed(1, *next, *next_at));
+        assert!(rt; damages[0].interval == *interval);
+        from = (*next, *next_at);
+    }
+    let (answer, report, _) = told(rt.alloc(), bytes, from, 1);
+    assert!(rt; answer == SOUND && report == listed(0, 10, 176));
+    let (answer, report, _) = told(rt.alloc(), bytes, (2, 152), 2);
+    assert!(rt; answer == DAMAGED && report == listed(2, 5, 162));
     Ok(())
 }
 

@@ -1,10 +1,10 @@
-"""The structs, calls and numbers of jri.h, version 4."""
+"""The structs, calls and numbers of jri.h, version 5."""
 
 from __future__ import annotations
 
 from typing import Any
 
-CALLS = 4
+CALLS = 5
 
 SOUND, NO_MEMORY, REFUSED, DAMAGED, BUFFER_TOO_SMALL, NO_LINES, NO_LAYOUT, NEED_MORE = range(8)
 
@@ -26,7 +26,7 @@ def declare(builder: Any) -> None:
         struct jri_position { uint64_t at; uint32_t bit, row, interval, mcu; int32_t predictions[3]; uint32_t state; };
         struct jri_rows { uint32_t rows, lines, first_line, refusal; uint64_t detail; };
         struct jri_damage { uint32_t interval, first_mcu, mcus, decodable, first_line, last_line; uint64_t start, end; };
-        struct jri_damage_list { uint32_t count, next, refusal; uint64_t detail; };
+        struct jri_damage_list { uint32_t count, next; uint64_t next_at; uint32_t refusal; uint64_t detail; };
         uint32_t jri_version(void);
         uint32_t jri_read_header(const uint8_t *, size_t, uint32_t, struct jri_header *);
         uint32_t jri_decode(const uint8_t *, size_t, uint8_t *, size_t, uint8_t *, size_t, struct jri_report *);
@@ -36,7 +36,7 @@ def declare(builder: Any) -> None:
                                  struct jri_rows *);
         uint32_t jri_skip_rows(const uint8_t *, size_t, uint32_t, struct jri_position *, uint32_t, struct jri_rows *);
         uint32_t jri_decode_canvas(const uint8_t *, size_t, uint8_t *, size_t, size_t, uint32_t, uint8_t *, size_t, struct jri_report *);
-        uint32_t jri_list_damage(const uint8_t *, size_t, uint32_t, struct jri_damage *, size_t, struct jri_damage_list *);
+        uint32_t jri_list_damage(const uint8_t *, size_t, uint32_t, uint64_t, struct jri_damage *, size_t, struct jri_damage_list *);
         uint64_t jri_refusal_text(uint32_t, uint64_t, uint8_t *, size_t);
         uint64_t jri_end_text(const struct jri_report *, uint8_t *, size_t);
         uint64_t jri_build_text(uint8_t *, size_t);

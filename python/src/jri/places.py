@@ -417,11 +417,16 @@ def damages(source: Source) -> Iterator[Damage]:
     return _damages(_file(source))
 
 
+#: The number of damaged intervals that a call lists.
+_DAMAGES = 256
+
+
 def _damages(file: _File) -> Iterator[Damage]:
-    room, first, told = 64, 0, ffi.new("struct jri_damage_list *")
+    listed, told = ffi.new("struct jri_damage[]", _DAMAGES), ffi.new("struct jri_damage_list *")
     while True:
-        listed = ffi.new("struct jri_damage[]", room)
-        status = library.jri_list_damage(file.data, len(file.data), first, listed, room, told)
+        status = library.jri_list_damage(
+            file.data, len(file.data), told.next, told.next_at, listed, _DAMAGES, told
+        )
         if status == SOUND:
             return
         if status != DAMAGED:
@@ -431,5 +436,3 @@ def _damages(file: _File) -> Iterator[Damage]:
             yield Damage(
                 one.interval, one.first_mcu, one.mcus, one.decodable, one.first_line, one.last_line, span
             )
-        # each call reads the file again, so the space for the next one grows
-        first, room = told.next, min(16 * room, 1 << 20)

@@ -1,4 +1,4 @@
-use Rattle.jr_arrival.proofs.Splits.{split_cut}
+use Rattle.jr_cut.proofs.Splits.{split_cut}
 use Rattle.jr_arrival.proofs.place_laws.split_segment.Goals as goal
 
 pub returns : goal.returns

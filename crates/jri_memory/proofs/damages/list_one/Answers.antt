@@ -1,14 +1,11 @@
-use Rattle.std.proofs.Common.{arith, rules, ◌≡◌}
-use Rattle.jri_memory.proofs.Listing.{damages_none, damages_one}
+use Rattle.std.proofs.Common.{sym, ap, ◌∙◌}
+use Rattle.jr_scan.specs.ScanValue.{intervals_of}
 use Rattle.jri_memory.proofs.damages.list_one.Goals as goal
 
-pub overflow_add-result : goal.overflow_add-result
-overflow_add-result c = search (rules, c.intervals-all.ensures.value, c.requires.few, c.requires.there)
-
-pub returns-in-Some-clause-listed : goal.returns-in-Some-clause-listed
-returns-in-Some-clause-listed c first a =
-    search (rules, damages_one c.args.scan.now c.args.spans.now first c.args.i c.args.count c.args.damages.now c.in-Some.damaged c.of.result c.requires.room c.in-Some.ensures.damaged c.of.ensures a)
-
-pub returns-in-None-clause-listed : goal.returns-in-None-clause-listed
-returns-in-None-clause-listed c first a =
-    search (rules, damages_none c.args.scan.now c.args.spans.now first c.args.i c.args.count c.args.damages.now c.in-None.ensures.sound a)
+pub returns-clause-listed : goal.returns-clause-listed
+returns-clause-listed c s first e begins a =
+    let i = c.args.before.next in
+    let span = c.segment_at-segment.result.bytes in
+    let segment = c.segment_at-segment.ensures.bytes s (ap intervals_of e ∙ sym c.intervals.ensures.value) begins in
+    let told = c.examine-damaged.ensures in
+    c.put.ensures.listed c.args.file.now s span first i (told.sound s e segment) (told.damaged s e segment) segment a

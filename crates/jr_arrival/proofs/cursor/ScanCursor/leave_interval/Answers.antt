@@ -10,7 +10,8 @@ use Rattle.jr_arrival.specs.declared.cursor.Reading.TheVariants.{GoesOn, HasEnde
 use Rattle.jr_arrival.specs.declared.file_bytes.FileBytes.{FileBytes}
 use Rattle.jr_arrival.specs.Cursors.{begun}
 use Rattle.jr_arrival.proofs.Standing.{place_by, stands_by}
-use Rattle.jr_arrival.proofs.Steps.{ended_true, next_true, restart_within}
+use Rattle.jr_cut.proofs.Following.{restart_within}
+use Rattle.jr_arrival.proofs.Steps.{ended_true, next_true}
 use Rattle.jr_arrival.proofs.Windows.{no_bits}
 use Rattle.jr_arrival.proofs.cursor.ScanCursor.leave_interval.Goals as goal
 

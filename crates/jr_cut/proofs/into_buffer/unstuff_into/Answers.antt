@@ -5,21 +5,21 @@ use Rattle.jr_base.specs.declared.marker.TheConstants.{PREFIX}
 use Rattle.jr_cut.specs.Cut.{IsRaw}
 use Rattle.jr_cut.proofs.Cuts.{stop_end, stop_code, rest_is, fill_some, raw_stuffed}
 use Rattle.jr_cut.proofs.Slices.{fill_full, fill_next, plain_next}
-use Rattle.jr_arrival.proofs.Unstuffed.{run_put}
-use Rattle.jr_arrival.proofs.unstuffing.unstuff.Goals as goal
-use Rattle.jr_arrival.proofs.unstuffing.unstuff.Goals.{then-found-room-via-then-found-room, then-found-room-via-else-found-room+then-next-raw, then-found-room-via-else-found-room+else-next-raw+then-raw-next-ne0}
+use Rattle.jr_cut.proofs.Buffers.{run_put}
+use Rattle.jr_cut.proofs.into_buffer.unstuff_into.Goals as goal
+use Rattle.jr_cut.proofs.into_buffer.unstuff_into.Goals.{then-found-buffer-via-then-found-buffer, then-found-buffer-via-else-found-buffer+then-next-raw, then-found-buffer-via-else-found-buffer+else-next-raw+then-raw-next-ne0}
 
-pub returns-then-found-room-clause-spells : goal.returns-then-found-room-clause-spells
-returns-then-found-room-clause-spells c =
+pub returns-then-found-buffer-clause-spells : goal.returns-then-found-buffer-clause-spells
+returns-then-found-buffer-clause-spells c =
     let raw = c.args.raw.now in
     let keep = c.bytes.invariant in
     let e = c.copy_plain-count.ensures in
     let n = c.copy_plain-count.result in
     let fits : c.bytes.read + n ≤ length raw = omega (arith, e.within, ap length (rest_is raw c.bytes.read), length-drop c.bytes.read raw, keep.0) in
-    run_put raw c.bytes.room c.copy_plain-count.new.room c.bytes.read c.bytes.found n keep.0 (search (rules, arith, keep.1, keep.2)) fits (search (rules, arith, e.long, keep.1, keep.2)) (search (rules, arith, e.fits, e.long)) e.copied e.plain keep.3
+    run_put raw c.bytes.buffer c.copy_plain-count.new.buffer c.bytes.read c.bytes.found n keep.0 (search (rules, arith, keep.1)) fits (search (rules, arith, e.long, keep.1, keep.2)) (search (rules, arith, e.fits, e.long)) e.copied e.plain keep.3
 
-pub returns-then-found-room-clause-stop : goal.returns-then-found-room-clause-stop
-returns-then-found-room-clause-stop c less =
+pub returns-then-found-buffer-clause-stop : goal.returns-then-found-buffer-clause-stop
+returns-then-found-buffer-clause-stop c less =
     let raw = c.args.raw.now in
     let keep = c.bytes.invariant in
     let e = c.copy_plain-count.ensures in
@@ -29,33 +29,33 @@ returns-then-found-room-clause-stop c less =
     let f = c.fill_count.result in
     let fits : at + n ≤ length raw = omega (arith, e.within, ap length (rest_is raw at), length-drop at raw, keep.0) in
     let full = fill_full raw end f c.fill_count.ensures.full in
-    elim c.then-found-room.branch [
-      | then-found-room-via-then-found-room w ↦ absurd (search (rules, arith, less, w.if-found-room.true, e.long, keep.1, keep.2))
-      | then-found-room-via-else-found-room+then-next-raw w ↦ stop_end raw end f fits full w.if-next-raw.true
-      | then-found-room-via-else-found-room+else-next-raw+then-raw-next-ne0 w ↦
+    elim c.then-found-buffer.branch [
+      | then-found-buffer-via-then-found-buffer w ↦ absurd (search (rules, arith, less, w.if-found-buffer.true, e.long, keep.1, keep.2))
+      | then-found-buffer-via-else-found-buffer+then-next-raw w ↦ stop_end raw end f fits full w.if-next-raw.true
+      | then-found-buffer-via-else-found-buffer+else-next-raw+then-raw-next-ne0 w ↦
           let lt : end < length raw = omega (arith, w.if-next-raw.false) in
-          let room : c.copy_plain-count.result < length c.bytes.room - c.bytes.found = search (rules, arith, less, keep.1, keep.2) in
-          let some = fill_some raw end f lt (plain_next raw at n lt (λ h. e.next h (search (rules, arith, room)))) (λ h. fill_next raw end f h c.fill_count.ensures.next) in
+          let buffer : c.copy_plain-count.result < length c.bytes.buffer - c.bytes.found = search (rules, arith, less, keep.1, keep.2) in
+          let some = fill_some raw end f lt (plain_next raw at n lt (λ h. e.next h (search (rules, arith, buffer)))) (λ h. fill_next raw end f h c.fill_count.ensures.next) in
           stop_code raw end f full w.if-next-raw.false some (fill_next raw end f w.if-next-raw.false c.fill_count.ensures.next) w.if-raw-next-ne0.true
     ]
 
 pub bytes-preserved : goal.bytes-preserved
 bytes-preserved c =
     let raw = c.args.raw.now in
-    let room = c.bytes.room in
+    let buffer = c.bytes.buffer in
     let keep = c.bytes.invariant in
     let e = c.copy_plain-count.ensures in
     let n = c.copy_plain-count.result in
     let at = c.bytes.read in
     let end = at + n in
     let f = c.fill_count.result in
-    let put = put_mid c.bytes.found (length room - c.bytes.found) room c.copy_plain-count.new.room in
+    let put = put_mid c.bytes.found (length buffer - c.bytes.found) buffer c.copy_plain-count.new.buffer in
     let fits : at + n ≤ length raw = omega (arith, e.within, ap length (rest_is raw at), length-drop at raw, keep.0) in
-    let part_long : length c.copy_plain-count.new.room ≡ length room - c.bytes.found = search (rules, arith, e.long, keep.1, keep.2) in
-    let run = run_put raw room c.copy_plain-count.new.room at c.bytes.found n keep.0 (search (rules, arith, keep.1, keep.2)) fits part_long (search (rules, arith, e.fits, e.long)) e.copied e.plain keep.3 in
-    let put_long : length put ≡ length room = search (rules, arith, part_long, keep.1, keep.2) in
-    let less : c.bytes.found + n < length put = search (rules, arith, c.if-found-room.false, e.fits, e.long, part_long, put_long, keep.1, keep.2) in
-    let inside : n < length room - c.bytes.found = omega (arith, less, put_long) in
+    let part_long : length c.copy_plain-count.new.buffer ≡ length buffer - c.bytes.found = search (rules, arith, e.long, keep.1, keep.2) in
+    let run = run_put raw buffer c.copy_plain-count.new.buffer at c.bytes.found n keep.0 (search (rules, arith, keep.1)) fits part_long (search (rules, arith, e.fits, e.long)) e.copied e.plain keep.3 in
+    let put_long : length put ≡ length buffer = search (rules, arith, part_long, keep.1, keep.2) in
+    let less : c.bytes.found + n < length put = search (rules, arith, c.if-found-buffer.false, e.fits, e.long, part_long, put_long, keep.1, keep.2) in
+    let inside : n < length buffer - c.bytes.found = omega (arith, less, put_long) in
     let full = fill_full raw end f c.fill_count.ensures.full in
     let lt : end < length raw = omega (arith, c.if-next-raw.false) in
     let some = fill_some raw end f lt (plain_next raw at n lt (λ h. e.next h (search (rules, arith, inside)))) (λ h. fill_next raw end f h c.fill_count.ensures.next) in

@@ -3,7 +3,7 @@ use Rattle.std.proofs.Common.{◌≡◌, ℕ, ◌+◌, List, [], ◌∷◌, ◌+
 use Rattle.jr_cut.specs.declared.scan_end.ScanEnd.{ScanEnd}
 use Rattle.jr_cut.specs.Cut.{IsRaw, CodedSegment, with_markers, IsEnding, CutFrom, IsStop}
 use Rattle.jr_cut.proofs.CutLaw.{markers_stop}
-use Rattle.jr_arrival.proofs.Spellings.{begins_stopped}
+use Rattle.jr_cut.proofs.Spellings.{begins_stopped}
 
 -- the rest of the first segment, and the others
 pub record SplitCut (n k at : ℕ) (found tail : List ℕ) (datas : List (List ℕ)) (end : ScanEnd) : Type 0 where

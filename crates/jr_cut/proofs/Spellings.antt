@@ -1,9 +1,10 @@
 -- Bytes that spell data, beside others that begin as they do.
-use Rattle.std.proofs.Common.{◌≡◌, ℕ, ◌≤◌, List, [], ◌∷◌, ◌++◌, length, map, refl, sym, ap, subst, ◌∙◌, inl, inr, append_assoc, length-append, arith}
+use Rattle.std.proofs.Common.{◌≡◌, ℕ, ◌≤◌, List, [], ◌∷◌, ◌++◌, length, map, take, drop, refl, sym, ap, subst, ◌∙◌, inl, inr, append_assoc, length-append, arith}
 use Rattle.std.specs.List.{flat_map, AllByRecursion}
 use Rattle.std.proofs.lemmas.Bool.{cases_lt}
-use Rattle.std.proofs.lemmas.List.{append-nil, map-append, length-map}
+use Rattle.std.proofs.lemmas.List.{append-nil, map-append, length-map, take-append-drop}
 use Rattle.jr_cut.specs.Cut.{Spelling, IsSpelling, spelling, byte_spelled, IsRaw, IsStop}
+use Rattle.jr_cut.specs.Cut.Spelling.{Plain, Stuffed}
 use Rattle.jr_cut.proofs.CutLaw.{same_spelling, not_stop}
 
 -- the fewer spellings of the same bytes begin the others
@@ -75,3 +76,37 @@ one_stop r a q b s t hr hq e hs ht =
     let f = begins_stopped r a q b s t hr hq e ht in
     let none = f.none hs in
     (f.is ∙ ap (λ (x : List ℕ). a ++ x) none.0 ∙ append-nil a, none.1)
+
+-- ---- a segment's bytes, and the data that they spell
+
+pub nothing_spelled : (raw found : List ℕ) → IsRaw raw found → length found ≡ 0 → raw ≡ []
+nothing_spelled raw found is none = go is.parts (sym (length-map is.parts byte_spelled) ∙ ap length (sym is.means) ∙ none) is.spelled
+  where
+    go : (parts : List Spelling) → length parts ≡ 0 → raw ≡ flat_map spelling parts → raw ≡ []
+    go [] n e = e
+    go (p ∷ ps) n e = absurd (omega (arith, n))
+
+parts_few : (ps : List Spelling) → length ps ≤ length (flat_map spelling ps)
+parts_few [] = omega arith
+parts_few (p ∷ ps) = omega (arith, parts_few ps, some p, length-append (spelling p) (flat_map spelling ps))
+  where
+    some : (p : Spelling) → 1 ≤ length (spelling p)
+    some (Plain byte) = omega arith
+    some (Stuffed more) = omega arith
+
+-- they are no fewer
+pub found_few : (raw found : List ℕ) → IsRaw raw found → length found ≤ length raw
+found_few raw found is = omega (arith, parts_few is.parts, ap length is.spelled, ap length is.means, length-map is.parts byte_spelled)
+
+no_stop : IsStop []
+no_stop = record { more = 0; rest = []; spelled = refl; stops = inl refl }
+
+-- and spell nothing else
+pub same_found : (raw bytes found : List ℕ) → IsRaw raw bytes → IsRaw raw found → bytes ≡ found
+same_found raw bytes found is too = (one_stop raw found raw bytes [] [] too is refl no_stop no_stop).0
+
+-- up to a stop all of them are read
+pub all_read : (raw bytes found : List ℕ) (read : ℕ) → IsRaw raw bytes → IsRaw (take read raw) found → IsStop (drop read raw) → IsRaw raw found
+all_read raw bytes found read is some stop =
+    let same = one_stop (take read raw) found raw bytes (drop read raw) [] some is (take-append-drop read raw ∙ sym (append-nil raw)) stop no_stop in
+    subst (IsRaw raw) same.0 is
