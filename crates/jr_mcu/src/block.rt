@@ -9,6 +9,7 @@ use jr_base::Coefficients;
 use jr_code::{Bits, CodeBook, WordBook};
 
 /// Reads a block's first coefficient: its difference, added to its prediction (T.81, F.1.2.1 and F.2.1.3.1).
+#[inline(always)]
 pub(crate) fn read_first(dc: &WordBook, bits: &mut Bits<'_>, prediction: i32) -> Option<i16>
     requires { IsInDcRange prediction }
     ensures some { IfSome result (λ first. (d : ℤ) × TakesDifference dc.now d bits.old bits.new × (first ≡ prediction +ℤ d)) }
@@ -43,6 +44,7 @@ fn end_block(place: u32, value: i16, block: &mut Coefficients) -> Option<()>
 }
 
 /// Reads the coefficients after the first into a block, two codes a turn: a refill lasts for both.
+#[inline(always)]
 pub(crate) fn read_others(
     ac: &CodeBook,
     bits: &mut Bits<'_>,
@@ -85,6 +87,7 @@ fn end_at(place: u32) -> Option<()>
 }
 
 /// Skips the coefficients after the first.
+#[inline(always)]
 pub(crate) fn skip_others(ac: &CodeBook, bits: &mut Bits<'_>) -> Option<()>
     ensures some { IfSome result (λ _. (others : List ℤ) × TakesOthers ac.now others bits.old bits.new) }
     ensures none { IfNone result (HasNoOthers ac.now bits.old) }

@@ -35,7 +35,6 @@ pub struct Kept;
 impl BlockSink for Kept {
     ghost keeps = { true };
 
-    #[inline(always)]
     fn take(
         dc: &WordBook,
         ac: &CodeBook,
@@ -44,8 +43,10 @@ impl BlockSink for Kept {
         k: usize,
         blocks: &mut [Coefficients],
     ) -> Option<i32> {
-        let first = read_first(dc, bits, prediction)?;
-        read_others(ac, bits, first, &mut blocks[k])?;
+        let mut left = bits.again();
+        let first = read_first(dc, &mut left, prediction)?;
+        read_others(ac, &mut left, first, &mut blocks[k])?;
+        *bits = left;
         Some(i32::from(first))
     }
 }
@@ -56,7 +57,6 @@ pub struct Skipped;
 impl BlockSink for Skipped {
     ghost keeps = { false };
 
-    #[inline(always)]
     fn take(
         dc: &WordBook,
         ac: &CodeBook,
@@ -65,8 +65,10 @@ impl BlockSink for Skipped {
         _k: usize,
         _blocks: &mut [Coefficients],
     ) -> Option<i32> {
-        let first = read_first(dc, bits, prediction)?;
-        skip_others(ac, bits)?;
+        let mut left = bits.again();
+        let first = read_first(dc, &mut left, prediction)?;
+        skip_others(ac, &mut left)?;
+        *bits = left;
         Some(i32::from(first))
     }
 }

@@ -1,11 +1,10 @@
 //! `jri [--workers N] [--first K] [-o PICTURE] [FILE]`: decodes a JPEG file to a Netpbm picture.
 #![tactic(auto)]
 
-mod ended;
 mod machine;
 
-use crate::ended::{Ended, run};
 use crate::machine::{Machine, hold_streams};
+use jri_engine::{Ended, program};
 use std::env;
 use std::io::Result as IoResult;
 use std::rt::Env;
@@ -23,5 +22,5 @@ fn main(rt: HostRuntime) -> Ended {
     let _held = hold_streams(&rt);
     let mut machine = Machine { rt: &rt };
     let words = words(&rt);
-    run(&rt, rt.alloc(), &mut machine, words, &mut rt.stderr())
+    program(&rt, rt.alloc(), &mut machine, words, &mut rt.stderr())
 }

@@ -1,9 +1,11 @@
 //! Bytes of a JPEG file in, a picture's text and a report out; and the program that does so for the words of its command line.
 #![tactic(auto)]
 
+mod ended;
 mod engine;
 mod running;
 
+pub use ended::Ended;
 pub use engine::run;
 pub use jri_file::{Fault, Report, one_text, scan_of_file};
 pub use jri_words::{Asked, Destination, Devices, Target, Telling, Unasked, asked, finish};

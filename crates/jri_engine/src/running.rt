@@ -4,8 +4,9 @@ ghost use Rattle.std.specs.Prelude.{◌≡◌, ◌≤◌, IfOk, is_ok, map};
 ghost use Rattle.std.specs.String.{string_bytes};
 ghost use Rattle.jr_base.specs.declared.limits.TheConstants.{MAX_WORKERS};
 ghost use Rattle.jri_words.specs.CommandLine.{IsTargetOf};
-ghost use Rattle.jri_words.specs.Steps.{Leaves, LeavesFile, LeavesNamed, is_picture_status};
+ghost use Rattle.jri_words.specs.Steps.{LeavesFile, LeavesNamed, is_picture_status};
 
+use crate::ended::Ended;
 use crate::engine::run;
 use jr_base::Tally;
 use jr_wall::OpenGate;
@@ -19,8 +20,8 @@ use std::io::{Read, Result as IoResult, Write};
 use std::sync::Wait;
 use std::thread::Threads;
 
-/// Decodes a source into an output, which is flushed and let go.
-fn decoded<T: Threads + Wait + Sync, R: Read + Drop, W: Write + Drop>(
+/// Decodes a source into an output, which is flushed and dropped.
+fn decode<T: Threads + Wait + Sync, R: Read + Drop, W: Write + Drop>(
     rt: &T,
     alloc: Global,
     asked: &Asked,
@@ -51,8 +52,8 @@ fn decoded<T: Threads + Wait + Sync, R: Read + Drop, W: Write + Drop>(
     Ending { outcome, reason }
 }
 
-/// Decodes a source into a file, which has its name when the picture is whole, and is else as it was.
-fn decoded_to_file<T: Threads + Wait + Sync, D: Devices, R: Read + Drop>(
+/// Decodes a source into a file, which gets its name once the picture is whole, and is otherwise unchanged.
+fn decode_to_file<T: Threads + Wait + Sync, D: Devices, R: Read + Drop>(
     rt: &T,
     alloc: Global,
     devices: &mut D,
@@ -67,7 +68,7 @@ fn decoded_to_file<T: Threads + Wait + Sync, D: Devices, R: Read + Drop>(
     let file = asked.file.as_ref().map(|file| file.as_str());
     if let Destination::WrittenInto = devices.destination(name, file) {
         return match devices.open_device(name) {
-            Ok(device) => decoded(rt, alloc, asked, source, device),
+            Ok(device) => decode(rt, alloc, asked, source, device),
             Err(error) => unwritten(error),
         };
     }
@@ -75,56 +76,42 @@ fn decoded_to_file<T: Threads + Wait + Sync, D: Devices, R: Read + Drop>(
         Ok(part) => part,
         Err(ending) => return ending,
     };
-    let ending = decoded(rt, alloc, asked, source, part.file);
+    let ending = decode(rt, alloc, asked, source, part.file);
     place(devices, ending, part.name.as_str(), name)
 }
 
-/// Decodes what the words ask for.
-fn done<T: Threads + Wait + Sync, D: Devices, E: Write>(
-    rt: &T,
-    alloc: Global,
-    devices: &mut D,
-    asked: &Asked,
-    errors: &mut E,
-) -> Ending
-    requires some { 1 ≤ asked.now.workers }
-    requires few { asked.now.workers ≤ MAX_WORKERS }
-    ensures { Leaves (D.are_devices devices.old) asked.now.target (D.steps devices.old) (D.steps devices.new) (is_ok result.outcome) }
-{
-    let source = match opened(devices, asked, errors) {
-        Ok(source) => source,
-        Err(error) => {
-            return Ending {
-                outcome: Err(Fault::NoFile),
-                reason: Some(error),
-            };
-        }
-    };
-    match &asked.target {
-        Target::Output | Target::AnyOutput => {
-            let out = devices.output();
-            decoded(rt, alloc, asked, source, out)
-        }
-        Target::File(name) => decoded_to_file(rt, alloc, devices, asked, source, name.as_str()),
-    }
-}
-
-/// Does what the program's words ask for on these devices, tells of it, and answers the exit status: 0, or 3 where an
-/// interval is damaged, where the picture is written; 2 for a refused file and wrong words; 1 for devices and memory.
+/// Does what the program's arguments ask for on these devices, and reports it. The status is 0, or 3 where an interval is
+/// damaged, if the picture is written; 2 for a refused file and wrong arguments; 1 for devices and memory.
 pub fn program<T: Threads + Wait + Sync, D: Devices, E: Write>(
     rt: &T,
     alloc: Global,
     devices: &mut D,
     words: IoResult<Vec<String>>,
     errors: &mut E,
-) -> u8
-    ensures { LeavesNamed (D.are_devices devices.old) (λ target. IfOk words (λ given. IsTargetOf (map string_bytes given.items) target)) (D.steps devices.old) (D.steps devices.new) (is_picture_status result) }
+) -> Ended
+    ensures { LeavesNamed (D.are_devices devices.old) (λ target. IfOk words (λ given. IsTargetOf (map string_bytes given.items) target)) (D.steps devices.old) (D.steps devices.new) (is_picture_status result.status) }
 {
     let asked = match understood(alloc, devices, words) {
         Ok(asked) => asked,
-        Err(unasked) => return answer(&mut Tally::of(devices.output()), errors, &unasked),
+        Err(unasked) => {
+            let status = answer(&mut Tally::of(devices.output()), errors, &unasked);
+            return Ended { status };
+        }
     };
     warn_of_name(&asked, errors);
-    let ending = done(rt, alloc, devices, &asked, errors);
-    tell(&ending, &Names::of(&asked), asked.telling, errors)
+    let ending = match opened(devices, &asked, errors) {
+        Ok(source) => match &asked.target {
+            Target::Output | Target::AnyOutput => {
+                let out = devices.output();
+                decode(rt, alloc, &asked, source, out)
+            }
+            Target::File(name) => decode_to_file(rt, alloc, devices, &asked, source, name.as_str()),
+        },
+        Err(error) => Ending {
+            outcome: Err(Fault::NoFile),
+            reason: Some(error),
+        },
+    };
+    let status = tell(&ending, &Names::of(&asked), asked.telling, errors);
+    Ended { status }
 }

@@ -37,8 +37,8 @@ fn run_on<R: Threads + Wait + Sync + AllocGlobal>(
 ) -> Result<(Vec<u8>, u8), Fail> {
     let words = words_of(rt.alloc(), line)?;
     let mut lines = Vec::new(rt.alloc());
-    let status = program(rt, rt.alloc(), machine, Ok(words), &mut lines);
-    Ok((lines, status))
+    let ended = program(rt, rt.alloc(), machine, Ok(words), &mut lines);
+    Ok((lines, ended.status()))
 }
 
 /// Puts the sound file, a damaged one, a refused one and an old picture into the folder.
@@ -404,12 +404,12 @@ fn answers_words_that_ask_for_no_picture(rt: HostRuntime) -> Result<(), Fail> {
     assert!(rt; machine.written()?.as_slice() == told.as_bytes());
     let mut lines = Vec::new(rt.alloc());
     let unread = Err(Error::from(ErrorKind::InvalidData));
-    let status = program(&rt, rt.alloc(), &mut machine, unread, &mut lines);
+    let ended = program(&rt, rt.alloc(), &mut machine, unread, &mut lines);
     let told = "an argument is not valid UTF-8; use: jri < FILE\n";
-    assert!(rt; lines.as_slice() == told.as_bytes() && status == 2);
+    assert!(rt; lines.as_slice() == told.as_bytes() && ended.status() == 2);
     let mut lines = Vec::new(rt.alloc());
     let unread = Err(Error::from(ErrorKind::OutOfMemory));
-    let status = program(&rt, rt.alloc(), &mut machine, unread, &mut lines);
-    assert!(rt; lines.as_slice() == b"out of memory\n".as_slice() && status == 1);
+    let ended = program(&rt, rt.alloc(), &mut machine, unread, &mut lines);
+    assert!(rt; lines.as_slice() == b"out of memory\n".as_slice() && ended.status() == 1);
     Ok(())
 }

@@ -1,16 +1,33 @@
-use Rattle.std.proofs.Common.{rules, Bool, List, ℕ, map, inr, subst, sym}
-use Rattle.std.specs.Prelude.{IfOk}
-use Rattle.std.specs.String.{string_bytes}
-use Rattle.jri_words.specs.CommandLine.{IsTargetOf}
-use Rattle.jri_words.specs.Steps.{Leaves}
-use Rattle.jri_words.proofs.StepLemmas.{status_tells}
+use Rattle.std.proofs.Common.{rules, ◌≡◌, ◌⊎◌, inl, inr, Bool, false, List, [], ℕ, Option, is_ok, subst, sym}
+use Rattle.jri_words.specs.declared.answers.Target.{Target}
+use Rattle.jri_words.specs.declared.answers.Target.TheVariants as target
+use Rattle.jri_words.specs.declared.telling.Ending.{Ending}
+use Rattle.jri_words.specs.Steps.{Follow, Leaves, Step}
+use Rattle.jri_words.proofs.StepLemmas.{none_yet, status_tells}
 use Rattle.jri_engine.proofs.running.program.Goals as goal
+use Rattle.jri_engine.proofs.running.program.Goals.{in-Ok-opened+in-File, in-Ok-opened+in-Output, in-Err-opened}
+
+-- nothing is done with a file for standard output, nor without an input
+to_output : (are_devices : List ℕ → Type 0) (t : Target) (a b : Option (List Step)) (is_written : Bool) → (t ≡ target.Output) ⊎ (t ≡ target.AnyOutput) → Follow a b [] → Leaves are_devices t a b is_written
+to_output are_devices t a b is_written (inl e) p = rw e p
+to_output are_devices t a b is_written (inr e) p = rw e p
+
+without_input : (are_devices : List ℕ → Type 0) (t : Target) (a b : Option (List Step)) → Follow a b [] → Leaves are_devices t a b false
+without_input are_devices target.Output a b p = p
+without_input are_devices target.AnyOutput a b p = p
+without_input are_devices (target.File name) a b p = inl p
 
 pub returns : goal.returns
 returns g c =
-    let old = g.D.Devices.steps c.args.devices.now in
-    let new = g.D.Devices.steps c.done-ending.new.devices in
+    let steps = g.D.Devices.steps in
+    let old = steps c.args.devices.now in
+    let new = steps c.match-opened.devices in
     let are_devices = g.D.Devices.are_devices c.args.devices.now in
     let target = c.in-Ok.asked.target in
-    let told = status_tells c.done-ending.result.outcome c.tell.result c.tell.ensures.written c.tell.ensures.fault in
-    inr (target, c.in-Ok.ensures.target, subst (λ (b : Bool). Leaves are_devices target old new b) (sym told) c.done-ending.ensures)
+    let told = status_tells c.match-opened.ending.outcome c.tell-status.result c.tell-status.ensures.written c.tell-status.ensures.fault in
+    let left : Leaves are_devices target old new (is_ok c.match-opened.ending.outcome) = elim c.match-opened.branch [
+      | in-Ok-opened+in-File w ↦ search (rules, w.decode_to_file.ensures, w.devices-is, w.ending-is)
+      | in-Ok-opened+in-Output w ↦ to_output are_devices target old new (is_ok c.match-opened.ending.outcome) w.in-Output.is (rw w.devices-is (none_yet old))
+      | in-Err-opened w ↦ subst (λ (e : Ending). Leaves are_devices target old new (is_ok e.outcome)) (sym w.ending-is) (without_input are_devices target old new (rw w.devices-is (none_yet old)))
+    ] in
+    inr (target, c.in-Ok.ensures.target, subst (λ (b : Bool). Leaves are_devices target old new b) (sym told) left)

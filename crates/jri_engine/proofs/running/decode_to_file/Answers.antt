@@ -1,7 +1,7 @@
 use Rattle.std.proofs.Common.{rules, ℕ, List, [], ◌∷◌, subst, sym}
 use Rattle.jri_words.specs.Steps.{Created, Follow}
 use Rattle.jri_words.proofs.StepLemmas.{placed, undone}
-use Rattle.jri_engine.proofs.running.decoded_to_file.Goals as goal
+use Rattle.jri_engine.proofs.running.decode_to_file.Goals as goal
 
 pub returns : goal.returns
 returns g c =
