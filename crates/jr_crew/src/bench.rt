@@ -59,9 +59,12 @@ fn decode_first(
     ensures counts { CountsRow part.now.scan part.now.limit rows.old.row result }
 {
     let head = part.scan().head();
-    let (_y, count) = lines_of(head, rows.row());
+    let row = rows.row();
+    let (_y, count) = lines_of(head, row);
     let size = count as usize * shape_of(head).line;
-    work.paint(part, rows, guesses, &mut pixels[..size])
+    let marked = rows.decode(part, guesses, work, &mut []);
+    work.paint_row(head, row, &mut pixels[..size]);
+    marked
 }
 
 /// Memory for the lines of a row of MCUs of the scan, and for its blocks and samples, where a row has been read by it.

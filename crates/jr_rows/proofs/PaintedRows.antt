@@ -1,12 +1,14 @@
 -- The lines of a row of MCUs are those of the picture.
-use Rattle.std.proofs.Common.{◌≡◌, ℕ, ◌+◌, ◌*◌, ◌≤◌, List, subst}
+use Rattle.std.proofs.Common.{◌≡◌, ℕ, ◌+◌, ◌*◌, ◌≤◌, List, ap, sym, subst, ◌∙◌}
 use Rattle.jr_head.specs.HeadValue.{HeadValue}
 use Rattle.jr_head.specs.Geometry.{IsLawful, mcus_across, vertical_max}
 use Rattle.jr_paint.specs.Lines.{next_lines_of}
 use Rattle.jr_picture.specs.BoardValue.{BoardValue}
 use Rattle.jr_picture.specs.Samples.{samples_of}
+use Rattle.jr_scan.specs.ScanValue.{ScanValue}
 use Rattle.jr_rows.specs.Bands.{ShowsMcus, samples_in}
 use Rattle.jr_rows.specs.Groups.{units_in}
+use Rattle.jr_rows.specs.Rows.{HasFirst, PaintsRow, ShowsLines, first_line, line_count}
 use Rattle.jr_rows.proofs.PictureLines.{row_lines}
 
 abbrev pub Painted : BoardValue → HeadValue → Type 0
@@ -18,3 +20,11 @@ here b lawful groups r shows y n from first most inside = row_lines b lawful r g
 
 pub row_painted : (b : BoardValue) (h : HeadValue) → b.scan.head ≡ h → Painted b h
 row_painted b h e = subst (Painted b) e (here b)
+
+-- a row that is decoded and painted
+pub shows : (t : ScanValue) (limit row : ℕ) (h : HeadValue) (groups : List (List ℕ)) (pixels : List ℕ) → h ≡ t.head
+    → ((b : BoardValue) → HasFirst t limit b → ShowsMcus b (row * mcus_across t.head) (units_in t.head groups)) → PaintsRow h row groups pixels → ShowsLines t limit row pixels
+shows t limit row h groups pixels e units painted b first =
+    let own : b.scan.head ≡ h = ap (λ (s : ScanValue). s.head) first.scan_is ∙ sym e in
+    let there = subst (λ (k : HeadValue). ShowsMcus b (row * mcus_across k) (units_in k groups)) (sym e) (units b first) in
+    painted b own there ∙ ap (λ (k : HeadValue). next_lines_of k (samples_of b) (first_line k row) (line_count k row)) e

@@ -9,7 +9,8 @@ use Rattle.jr_picture.specs.BoardValue.{BoardValue}
 use Rattle.jr_picture.specs.Boards.{IsLawfulBoard, marks_of}
 use Rattle.jr_picture.specs.Headline.{AreFirst, is_sound, is_damaged, interval_number}
 use Rattle.jr_picture.specs.Samples.{samples_of}
-use Rattle.jr_rows.specs.Bands.{unit_shown}
+use Rattle.jr_rows.specs.Bands.{ShowsMcus, unit_shown}
+use Rattle.jr_rows.specs.Groups.{units_in}
 use Rattle.jr_rows.specs.RowLines.{HasLines, mcus_at_once}
 use Rattle.jr_rows.specs.Cursors.{IsCursorOf, mcus_to}
 use Rattle.jr_rows.specs.FirstIntervalsValue.{FirstIntervalsValue}
@@ -108,3 +109,8 @@ line_count h row = min (8 * vertical_max h) (h.height - first_line h row)
 abbrev pub ShowsLines : ScanValue → (n row : ℕ) → List ℕ → Type 0
 ShowsLines scan n row pixels = (b : BoardValue) → HasFirst scan n b
     → pixels ≡ next_lines_of scan.head (samples_of b) (first_line scan.head row) (line_count scan.head row)
+
+-- the same, as every board of this head shows them that shows these samples there
+abbrev pub PaintsRow : HeadValue → (row : ℕ) → (groups : List (List ℕ)) → List ℕ → Type 0
+PaintsRow h row groups pixels = (b : BoardValue) → b.scan.head ≡ h → ShowsMcus b (row * mcus_across h) (units_in h groups)
+    → pixels ≡ next_lines_of h (samples_of b) (first_line h row) (line_count h row)

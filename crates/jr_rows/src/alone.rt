@@ -51,7 +51,9 @@ impl<G: Gate> RowPainter for Alone<'_, G> {
     fn paint(&mut self, pixels: &mut Vec<u8>, from: usize, to: usize) -> Marked {
         let row = self.rows.row();
         announce(self.part.scan(), self.part.limit(), row, self.gate);
-        self.work
-            .paint(&self.part, &mut self.rows, None, &mut pixels[from..to])
+        let marked = self.rows.decode(&self.part, None, &mut self.work, &mut []);
+        let head = self.part.scan().head();
+        self.work.paint_row(head, row, &mut pixels[from..to]);
+        marked
     }
 }

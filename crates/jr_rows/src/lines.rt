@@ -77,7 +77,7 @@ pub(crate) fn paint_between(
     'rows: while rows.row() < behind {
         let row = rows.row();
         let (y, count) = lines_in(head, row, first, end);
-        let more = work.decode(&part, &mut rows, marks);
+        let more = rows.decode(&part, None, work, marks);
         marked = marked.with(more);
         let from = bytes_to(y - first, end - first, line);
         let to = bytes_to(y - first + count, end - first, line);

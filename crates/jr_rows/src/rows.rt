@@ -7,14 +7,13 @@ ghost use Rattle.jr_rows.specs.Bands.{ShowsMcus};
 ghost use Rattle.jr_rows.specs.Cursors.{AreGuessesIn};
 ghost use Rattle.jr_rows.specs.Groups.{units_in};
 ghost use Rattle.jr_rows.specs.MarkBytes.{HasMarkRoom, PutsRow};
-ghost use Rattle.jr_rows.specs.RowLines.{HasLines, mcus_at_once};
-ghost use Rattle.jr_rows.specs.Rows.{AreRead, AreRowsOf, CountsRow, HasFirst};
+ghost use Rattle.jr_rows.specs.Rows.{AreRead, AreRowsOf, CountsRow, HasFirst, HasSampleRoom};
 
 use crate::cursor::Cursor;
 use crate::first_intervals::FirstIntervals;
 use crate::interval_guesses::IntervalGuesses;
 use crate::marked::Marked;
-use crate::row_lines::RowLines;
+use crate::sample_row::SampleRow;
 use crate::shape::{coded_of_row, mcus_at_once, shape_of, units_to};
 use jr_base::Coefficients;
 use jr_piece::transform_blocks;
@@ -137,25 +136,23 @@ impl Rows {
     }
 
     /// Decodes the next row: its samples, of which those of MCUs that are not decoded are black. Returns the marks of the intervals
-    /// that end in it, and puts these into `marks`, too. Some MCUs at a time are read into `blocks` and transformed.
-    pub(crate) fn decode(
+    /// that end in it, and puts these into `marks`, too. Some MCUs at a time are read and transformed.
+    pub fn decode(
         &mut self,
         part: &FirstIntervals<'_>,
         guesses: Option<&IntervalGuesses>,
-        blocks: &mut [Coefficients],
-        lines: &mut RowLines,
+        work: &mut SampleRow,
         marks: &mut [u8],
     ) -> Marked
         requires rows { AreRowsOf part.now self.old }
         requires same { IfSome guesses (λ g. AreGuessesIn part.now.scan g.now) }
         requires row { self.old.row < mcus_down part.now.scan.head }
-        requires near { length blocks.old ≡ mcus_at_once part.now.scan.head * blocks_of part.now.scan.head }
-        requires room { HasLines part.now.scan.head lines.old }
+        requires room { HasSampleRoom part.now.scan.head work.old }
         requires places { HasMarkRoom part.now.scan marks.old }
         ensures rows { AreRowsOf part.now self.new }
         ensures row { self.new.row ≡ self.old.row + 1 }
-        ensures room { HasLines part.now.scan.head lines.new }
-        ensures units { (b : BoardValue) → HasFirst part.now.scan part.now.limit b → ShowsMcus b (self.old.row * mcus_across part.now.scan.head) (units_in part.now.scan.head lines.new.groups) }
+        ensures room { HasSampleRoom part.now.scan.head work.new }
+        ensures units { (b : BoardValue) → HasFirst part.now.scan part.now.limit b → ShowsMcus b (self.old.row * mcus_across part.now.scan.head) (units_in part.now.scan.head work.new.lines.groups) }
         ensures counts { CountsRow part.now.scan part.now.limit self.old.row result }
         ensures puts { PutsRow part.now.scan part.now.limit self.old.row marks.old marks.new }
     {
@@ -165,6 +162,7 @@ impl Rows {
         let _counts = (shape_of(head), part.scan().intervals());
         let coded = coded_of_row(part.scan(), part.limit(), self.row);
         let at_once = mcus_at_once(head);
+        let (blocks, lines) = (work.blocks.as_mut_slice(), &mut work.lines);
         let mut done = 0;
         let mut marked = Marked::none();
         'parts: while done < coded {

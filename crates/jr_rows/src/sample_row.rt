@@ -1,25 +1,18 @@
 //! A row of MCUs that one thread decodes and paints by itself.
 
-ghost use Rattle.std.specs.Prelude.{◌≡◌, ◌+◌, ◌*◌, ◌<◌, ◌≤◌, ℕ, [], length, slice_index_or, IfOk, IfSome};
+ghost use Rattle.std.specs.Prelude.{◌≡◌, ◌+◌, ◌*◌, ◌<◌, ◌≤◌, ℕ, [], length, slice_index_or, IfOk};
 ghost use Rattle.jr_head.specs.Geometry.{blocks_of, mcus_across, mcus_down};
 ghost use Rattle.jr_paint.specs.Lines.{line_size, next_lines_of};
 ghost use Rattle.jr_scan.specs.McuReader.{HasEnded};
 ghost use Rattle.jr_piece.specs.Units.{grey_unit};
-ghost use Rattle.jr_picture.specs.BoardValue.{BoardValue};
-ghost use Rattle.jr_rows.specs.Bands.{ShowsMcus, samples_in};
-ghost use Rattle.jr_rows.specs.Cursors.{AreGuessesIn};
+ghost use Rattle.jr_rows.specs.Bands.{samples_in};
 ghost use Rattle.jr_rows.specs.Groups.{units_in};
-ghost use Rattle.jr_rows.specs.MarkBytes.{HasMarkRoom, PutsRow};
-ghost use Rattle.jr_rows.specs.Rows.{AreRowsOf, CountsRow, HasFirst, HasSampleRoom, ShowsLines, line_count};
+ghost use Rattle.jr_rows.specs.Rows.{HasSampleRoom, PaintsRow, line_count};
 ghost use Rattle.jr_rows.specs.WholeMcus.{DecodesMcus};
 
 use crate::band::Band;
-use crate::first_intervals::FirstIntervals;
-use crate::interval_guesses::IntervalGuesses;
-use crate::marked::Marked;
 use crate::painting::paint_row;
 use crate::row_lines::RowLines;
-use crate::rows::Rows;
 use crate::shape::mcus_at_once;
 use crate::whole_mcus::{decode_whole, put_grey};
 use jr_base::{Coefficients, Memory};
@@ -33,8 +26,8 @@ use std::marker::Model;
 /// transformed while they are near, and for the samples that painting repeats.
 #[derive(Drop)]
 pub struct SampleRow {
-    blocks: Vec<Coefficients>,
-    lines: RowLines,
+    pub(crate) blocks: Vec<Coefficients>,
+    pub(crate) lines: RowLines,
     /// For painting.
     room: Vec<u8>,
 }
@@ -62,22 +55,6 @@ impl SampleRow {
             lines,
             room,
         })
-    }
-
-    /// Decodes the next row. Returns the marks of the intervals that end in it, and puts them into `marks`, too.
-    pub fn decode(&mut self, part: &FirstIntervals<'_>, rows: &mut Rows, marks: &mut [u8]) -> Marked
-        requires rows { AreRowsOf part.now rows.old }
-        requires row { rows.old.row < mcus_down part.now.scan.head }
-        requires room { HasSampleRoom part.now.scan.head self.old }
-        requires places { HasMarkRoom part.now.scan marks.old }
-        ensures room { HasSampleRoom part.now.scan.head self.new }
-        ensures rows { AreRowsOf part.now rows.new }
-        ensures row { rows.new.row ≡ rows.old.row + 1 }
-        ensures units { (b : BoardValue) → HasFirst part.now.scan part.now.limit b → ShowsMcus b (rows.old.row * mcus_across part.now.scan.head) (units_in part.now.scan.head self.new.lines.groups) }
-        ensures counts { CountsRow part.now.scan part.now.limit rows.old.row result }
-        ensures puts { PutsRow part.now.scan part.now.limit rows.old.row marks.old marks.new }
-    {
-        rows.decode(part, None, &mut self.blocks, &mut self.lines, marks)
     }
 
     /// Decodes the next whole MCUs of an interval behind the first `done` of a row: as many as the reader has, as are left of
@@ -124,29 +101,14 @@ impl SampleRow {
         paint_lines(&band, y, count, &mut self.room, pixels);
     }
 
-    /// Decodes the next row, and paints its lines. Returns the marks of the intervals that end in it.
-    pub fn paint(
-        &mut self,
-        part: &FirstIntervals<'_>,
-        rows: &mut Rows,
-        guesses: Option<&IntervalGuesses>,
-        pixels: &mut [u8],
-    ) -> Marked
-        requires rows { AreRowsOf part.now rows.old }
-        requires same { IfSome guesses (λ g. AreGuessesIn part.now.scan g.now) }
-        requires row { rows.old.row < mcus_down part.now.scan.head }
-        requires room { HasSampleRoom part.now.scan.head self.old }
-        requires pixels { length pixels.old ≡ line_count part.now.scan.head rows.old.row * line_size part.now.scan.head }
-        ensures room { HasSampleRoom part.now.scan.head self.new }
-        ensures rows { AreRowsOf part.now rows.new }
-        ensures row { rows.new.row ≡ rows.old.row + 1 }
-        ensures lines { ShowsLines part.now.scan part.now.limit rows.old.row pixels.new }
-        ensures counts { CountsRow part.now.scan part.now.limit rows.old.row result }
+    /// Paints the lines of the row of MCUs that is decoded.
+    pub fn paint_row(&mut self, head: &Head, row: u32, pixels: &mut [u8])
+        requires row { row < mcus_down head.now }
+        requires room { HasSampleRoom head.now self.old }
+        requires pixels { length pixels.old ≡ line_count head.now row * line_size head.now }
+        ensures room { HasSampleRoom head.now self.new }
+        ensures lines { PaintsRow head.now row self.old.lines.groups pixels.new }
     {
-        let head = part.scan().head();
-        let row = rows.row();
-        let marked = rows.decode(part, guesses, &mut self.blocks, &mut self.lines, &mut []);
         paint_row(head, &self.lines, row, &mut self.room, pixels);
-        marked
     }
 }

@@ -109,7 +109,7 @@ fn lay_rows(
     let mut marked = Marked::none();
     'rows: while rows.row() < down {
         let row = rows.row();
-        let more = work.decode(&part, &mut rows, marks);
+        let more = rows.decode(&part, None, work, marks);
         marked = marked.with(more);
         lay_row(head, work, row, lines, form, canvas);
     }

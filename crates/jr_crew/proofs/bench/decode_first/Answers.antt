@@ -4,7 +4,8 @@ use Rattle.std.proofs.Math.Seq.{take-append_seam}
 use Rattle.jr_head.specs.Geometry.{mcus_down}
 use Rattle.jr_paint.specs.Lines.{line_size}
 use Rattle.jr_scan.specs.ScanValue.{ScanValue}
-use Rattle.jr_rows.specs.Rows.{CountsRow, HasSampleRoom, ShowsLines, line_count}
+use Rattle.jr_rows.specs.Rows.{PaintsRow, line_count}
+use Rattle.jr_rows.proofs.PaintedRows.{shows}
 use Rattle.jr_crew.proofs.Benches.{row_fits}
 use Rattle.jr_crew.proofs.bench.decode_first.Goals as goal
 
@@ -18,12 +19,17 @@ returns-clause-lines c b first =
     let is : size ≡ line_count t.head old.row * line_size t.head = ap (λ (n : ℕ). n * c.shape_of.result.line) count ∙ ap (λ (n : ℕ). line_count t.head old.row * n) line in
     let fits = row_fits t old.row c.args.pixels.now c.requires.pixels in
     let inside : size ≤ length c.args.pixels.now = omega (arith, fits, is) in
-    let new = c.paint.new.pixels in
-    let long : length new ≡ size = c.paint.auto.pixels ∙ length-take-le size c.args.pixels.now inside in
-    ap (λ (n : ℕ). take n (new ++ drop size c.args.pixels.now)) (sym is ∙ sym long) ∙ take-append_seam new (drop size c.args.pixels.now) ∙ c.paint.ensures.lines b first
+    let new = c.paint_row.new.pixels in
+    let hd = c.head-head.result.now in
+    let head : hd ≡ t.head = search rules in
+    let groups = c.decode-marked.new.work.lines.groups in
+    let painted = subst (λ (r : ℕ). PaintsRow hd r groups new) c.row-row.ensures c.paint_row.ensures.lines in
+    let lines = shows t c.args.part.now.limit old.row hd groups new head c.decode-marked.ensures.units painted in
+    let long : length new ≡ size = c.paint_row.auto.pixels ∙ length-take-le size c.args.pixels.now inside in
+    ap (λ (n : ℕ). take n (new ++ drop size c.args.pixels.now)) (sym is ∙ sym long) ∙ take-append_seam new (drop size c.args.pixels.now) ∙ lines b first
 
-pub slice_bounds-paint-end : goal.slice_bounds-paint-end
-slice_bounds-paint-end c =
+pub slice_bounds-paint_row-end : goal.slice_bounds-paint_row-end
+slice_bounds-paint_row-end c =
     let t = c.args.part.now.scan in
     let old = c.args.rows.now in
     let size = c.lines_of-y.result.1 * c.shape_of.result.line in
@@ -32,8 +38,8 @@ slice_bounds-paint-end c =
     let is : size ≡ line_count t.head old.row * line_size t.head = ap (λ (n : ℕ). n * c.shape_of.result.line) count ∙ ap (λ (n : ℕ). line_count t.head old.row * n) line in
     omega (arith, row_fits t old.row c.args.pixels.now c.requires.pixels, is)
 
-pub slice_bounds-paint-end-2 : goal.slice_bounds-paint-end-2
-slice_bounds-paint-end-2 c =
+pub slice_bounds-paint_row-end-2 : goal.slice_bounds-paint_row-end-2
+slice_bounds-paint_row-end-2 c =
     let t = c.args.part.now.scan in
     let old = c.args.rows.now in
     let size = c.lines_of-y.result.1 * c.shape_of.result.line in
@@ -42,8 +48,8 @@ slice_bounds-paint-end-2 c =
     let is : size ≡ line_count t.head old.row * line_size t.head = ap (λ (n : ℕ). n * c.shape_of.result.line) count ∙ ap (λ (n : ℕ). line_count t.head old.row * n) line in
     sym (length-take-le size c.args.pixels.now (omega (arith, row_fits t old.row c.args.pixels.now c.requires.pixels, is)))
 
-pub paint-requires-clause-pixels : goal.paint-requires-clause-pixels
-paint-requires-clause-pixels c =
+pub paint_row-requires-clause-pixels : goal.paint_row-requires-clause-pixels
+paint_row-requires-clause-pixels c =
     let t = c.args.part.now.scan in
     let old = c.args.rows.now in
     let size = c.lines_of-y.result.1 * c.shape_of.result.line in
@@ -51,4 +57,5 @@ paint-requires-clause-pixels c =
     let line : c.shape_of.result.line ≡ line_size t.head = search rules in
     let is : size ≡ line_count t.head old.row * line_size t.head = ap (λ (n : ℕ). n * c.shape_of.result.line) count ∙ ap (λ (n : ℕ). line_count t.head old.row * n) line in
     let inside : size ≤ length c.args.pixels.now = omega (arith, row_fits t old.row c.args.pixels.now c.requires.pixels, is) in
-    length-take-le size c.args.pixels.now inside ∙ is
+    let hd = c.head-head.result.now in
+    length-take-le size c.args.pixels.now inside ∙ ap (λ (n : ℕ). n * c.shape_of.result.line) c.lines_of-y.ensures.count ∙ ap (λ (n : ℕ). line_count hd c.row-row.result * n) c.shape_of.ensures.line

@@ -63,7 +63,7 @@ rows-preserved c =
     let row = c.rows.rows.row in
     let y = c.lines_in-y.result.0 in
     let count = c.lines_in-y.result.1 in
-    let work = c.decode-more.new.self in
+    let work = c.decode-more.new.work in
     let old_done = done_lines h c.args.first c.args.end row in
     let from = c.bytes_to-from.result in
     let to = c.bytes_to-to.result in
@@ -75,7 +75,7 @@ rows-preserved c =
     let at : y ≡ max c.args.first (row * deep) = search rules in
     let ends : y + count ≡ min c.args.end ((row + 1) * deep) = search rules in
     let done = next_done h c.args.first c.args.end row y count c.requires.some starts keep.reaches at ends in
-    let next_row : c.decode-more.new.rows.row ≡ row + 1 = search rules in
+    let next_row : c.decode-more.new.self.row ≡ row + 1 = search rules in
     let line : c.shape_of-line.result.line ≡ line_size h = search rules in
     let from_is : from ≡ old_done * line_size h = c.bytes_to-from.ensures.value ∙ ap (λ (k : ℕ). (y - c.args.first) * k) line ∙ ap (λ (k : ℕ). k * line_size h) {y = old_done} (omega (arith, done.0)) in
     let to_is : to ≡ (old_done + count) * line_size h = c.bytes_to-to.ensures.value ∙ ap (λ (k : ℕ). (y - c.args.first + count) * k) line ∙ ap (λ (k : ℕ). k * line_size h) {y = old_done + count} (omega (arith, done.0)) in
@@ -84,7 +84,7 @@ rows-preserved c =
     let long : length pix ≡ to - from = search (rules, arith, c.paint_some.auto.pixels) in
     let end_is : to ≡ from + length pix = omega (arith, long, from_is, to_is, sum) in
     let inside : from ≤ length c.rows.pixels = search (rules, arith) in
-    let next : done_lines h c.args.first c.args.end c.decode-more.new.rows.row ≡ old_done + count = ap (done_lines h c.args.first c.args.end) next_row ∙ done.1 in
+    let next : done_lines h c.args.first c.args.end c.decode-more.new.self.row ≡ old_done + count = ap (done_lines h c.args.first c.args.end) next_row ∙ done.1 in
     let marks = subst (λ (p : FirstIntervalsValue). CountsRow p.scan p.limit row c.decode-more.result) c.of-part.ensures c.decode-more.ensures.counts in
     let bytes = c.decode-more.new.marks in
     let puts = subst (λ (p : FirstIntervalsValue). PutsRow p.scan p.limit row c.rows.marks bytes) c.of-part.ensures c.decode-more.ensures.puts in

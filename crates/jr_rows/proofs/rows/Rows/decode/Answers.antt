@@ -1,4 +1,4 @@
-use Rattle.std.proofs.Common.{rules, arith, subst, ap, ◌∙◌, ◌≡◌, ℕ, ◌+◌, ◌*◌, ◌%◌, ◌<◌, ◌≤◌, ◌^◌, [], None, length, slice_index_or}
+use Rattle.std.proofs.Common.{rules, arith, sym, subst, ap, ◌∙◌, ◌≡◌, ℕ, ◌+◌, ◌*◌, ◌%◌, ◌<◌, ◌≤◌, ◌^◌, [], None, length, slice_index_or}
 use Rattle.std.proofs.Math.Nat.{add-mul, mul-le-mul_right}
 use Rattle.jr_head.specs.HeadValue.{HeadValue}
 use Rattle.jr_head.specs.Geometry.{blocks_of, mcus_across}
@@ -12,6 +12,8 @@ use Rattle.jr_rows.specs.RowLines.{HasLines}
 use Rattle.jr_rows.specs.Rows.{CountsMarks, ShowsBehind, ShowsFirstUnits, coded_before, coded_in, intervals_before}
 use Rattle.jr_rows.proofs.GroupLists.{units_long}
 use Rattle.jr_rows.proofs.IntervalPlaces.{ends_few}
+use Rattle.jr_rows.specs.RowsValue.{SampleRowValue}
+use Rattle.jr_rows.proofs.Lent.{all_back}
 use Rattle.jr_rows.proofs.PutMarks.{puts_both}
 use Rattle.jr_rows.proofs.ReadRows.{counts_both, shown_more}
 use Rattle.jr_rows.proofs.ShownUnits.{row_shown}
@@ -123,3 +125,15 @@ returns-clause-puts c =
     let to : mcus_to h c.parts.self.cursor ≡ coded_before h n (row + 1) = omega (arith, moved, c.requires.rows.at, c.parts.invariant.moved, c.parts.invariant.within, c.parts-test.false) in
     let here = subst (λ (m : ℕ). PutsMarks t n (intervals_before h m) (intervals_before h (mcus_to h c.parts.self.cursor)) c.args.marks.now c.parts.marks) c.requires.rows.at c.parts.invariant.puts in
     subst (λ (m : ℕ). PutsMarks t n (intervals_before h (coded_before h n row)) (intervals_before h m) c.args.marks.now c.parts.marks) to here
+
+pub returns-clause-room : goal.returns-clause-room
+returns-clause-room c =
+    let h = c.args.part.now.scan.head in
+    let head : c.head-head.result.now ≡ h = search rules in
+    let blocks = c.parts.blocks in
+    let long : c.work.inside.blocks.len ≡ length blocks = search (rules, arith, c.parts.invariant.near) in
+    record {
+      blocks = ap length (all_back c.work.inside.blocks.len blocks c.work.inside.blocks.items long) ∙ sym long ∙ search (rules, arith);
+      lines = subst (λ (x : HeadValue). HasLines x c.fill_blank.new.self) head c.fill_blank.ensures.room;
+      room = ap (λ (r : SampleRowValue). r.room) c.work.view_is ∙ c.requires.room.room;
+    }
