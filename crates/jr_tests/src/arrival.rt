@@ -72,46 +72,82 @@ fn given_of(alloc: Global, bytes: &[u8]) -> Result<Option<Vec<u8>>, Fail> {
     push_and_take(alloc, &mut arriving, bytes)
 }
 
-/// What has come, and how many lines of 8 by 24 pixels are given then. The words 00, 01 and 10 code no, three and eleven extra
-/// bits, no word begins with 11, and 0 ends a block: 011000 is a block, and so is 000.
-const GIVEN: [(&str, usize); 16] = [
-    ("", 0),
-    ("63", 8),
-    ("61", 8),
-    ("61 86", 16),
-    ("61 86 3F", 24),
+/// The restart interval of an image of 8 by 24 pixels, the bytes of its scan that have arrived, and the number of its lines that are
+/// final then. The words 00, 01 and 10 code 0, 3 and 11 additional bits, no word begins with 11, and 0 ends a block: 011000 is a
+/// block, and so is 000.
+pub(crate) const FINAL: [(&str, &str, u32); 24] = [
+    ("", "", 0),
+    ("", "63", 8),
+    ("", "61", 8),
+    ("", "61 86", 16),
+    ("", "61 86 3F", 24),
     // More bytes can't mend these bits; but only the interval's end tells it.
-    ("E0", 0),
-    ("E0 FF", 0),
-    ("E0 FF FF", 0),
-    ("E0 FF D9", 24),
-    ("63 FF C4", 24),
-    ("63 FF D0", 24),
+    ("", "E0", 0),
+    ("", "E0 FF", 0),
+    ("", "E0 FF FF", 0),
+    ("", "E0 FF D9", 24),
+    ("", "63 FF C4", 24),
+    ("", "63 FF D0", 24),
     // FF bytes at the end belong to nothing yet. The third block has eleven ones.
-    ("02", 16),
-    ("02 FF", 16),
-    ("02 FF FF", 16),
-    ("02 FF FF 00", 16),
-    ("02 FF FF 00 E0", 24),
+    ("", "02", 16),
+    ("", "02 FF", 16),
+    ("", "02 FF FF", 16),
+    ("", "02 FF FF 00", 16),
+    ("", "02 FF FF 00 E0", 24),
+    // A restart marker ends an interval once its code is there, also where no data follow.
+    ("I", "E0 FF", 0),
+    ("I", "E0 FF FF", 0),
+    ("I", "E0 FF D0", 8),
+    ("I", "E0 FF FF D0 FF", 8),
+    ("I", "E0 FF D0 FF D1", 16),
+    ("I", "E0 FF D0 63", 16),
+    ("I", "63 FF D0 63", 16),
+    // Out of step.
+    ("I", "E0 FF D1", 24),
 ];
 
-/// How many bytes of lines are given once these have come.
-fn settled(alloc: Global, words: &str) -> Result<usize, Fail> {
-    let mut bytes = file(alloc, "S Q F:0018:0008 D:00:03:0B A C")?;
+/// Returns the first bytes of such a file.
+pub(crate) fn first_bytes(alloc: Global, restart: &str, words: &str) -> Result<Vec<u8>, Fail> {
+    let mut bytes = file(alloc, "S Q F:0018:0008 D:00:03:0B A")?;
+    put_parts(&mut bytes, restart)?;
+    put_parts(&mut bytes, "C")?;
     put_parts(&mut bytes, words)?;
+    Ok(bytes)
+}
+
+/// Returns the number of lines of 8 pixels that such a file's first bytes give.
+fn lines_of(alloc: Global, restart: &str, words: &str) -> Result<usize, Fail> {
+    let bytes = first_bytes(alloc, restart, words)?;
     let lines = given_of(alloc, bytes.as_slice())?;
-    Ok(lines.ok_or("refused")?.len())
+    Ok(lines.ok_or("refused")?.len() / 8)
 }
 
 #[test]
-fn gives_lines_as_soon_as_they_are_settled(rt: HostRuntime) -> Result<(), Fail> {
-    for (words, count) in &GIVEN {
-        let length = settled(rt.alloc(), words)?;
-        assert!(rt;
-            length == usize::saturating_mul(8, *count),
-            "{words}: {length}"
-        );
+fn gives_lines_as_soon_as_they_are_final(rt: HostRuntime) -> Result<(), Fail> {
+    for (restart, words, count) in &FINAL {
+        let lines = lines_of(rt.alloc(), restart, words)?;
+        assert!(rt; lines == *count as usize, "{restart} {words}: {lines}");
     }
+    Ok(())
+}
+
+/// Returns whether lines of 16 pixels are 136, then 128.
+fn are_half_grey(lines: &[u8]) -> bool {
+    for (i, sample) in lines.iter().enumerate() {
+        let wanted = if i % 16 < 8 { 136 } else { 128 };
+        if *sample != wanted {
+            return false;
+        }
+    }
+    true
+}
+
+#[test]
+fn shows_the_missing_mcu_of_an_ended_interval_grey(rt: HostRuntime) -> Result<(), Fail> {
+    let bytes = file(rt.alloc(), "S Q F:0010:0010 D A I:0002 C 63 FF D0")?;
+    let lines = given_of(rt.alloc(), bytes.as_slice())?.ok_or("refused")?;
+    assert!(rt; lines.len() == 128, "8 lines");
+    assert!(rt; are_half_grey(lines.as_slice()), "the second MCU is grey");
     Ok(())
 }
 

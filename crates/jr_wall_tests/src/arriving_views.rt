@@ -13,9 +13,9 @@ fn take(alloc: Global, view: &mut ArrivingView, more: &[u8]) -> Result<bool, Fai
     Ok(view.lines() >= lines)
 }
 
-/// What has come, how many lines of 8 by 24 pixels are shown then, and how many bytes of them there are. The words 00, 01 and 10
-/// code no, three and eleven extra bits, no word begins with 11, and 0 ends a block: 011000 is a block.
-const SHOWN: [(&str, u32, usize); 8] = [
+/// The bytes that have arrived, the number of lines of 8 by 24 pixels that are shown then, and the size of all lines in bytes. The
+/// words 00, 01 and 10 code 0, 3 and 11 additional bits, no word begins with 11, and 0 ends a block: 011000 is a block.
+const SHOWN: [(&str, u32, usize); 10] = [
     ("FF", 0, 0),
     ("S Q", 0, 0),
     ("S Q F:0018:0008 D:00:03:0B A", 0, 0),
@@ -24,6 +24,8 @@ const SHOWN: [(&str, u32, usize); 8] = [
     ("S Q F:0018:0008 D:00:03:0B A C 61 86", 16, 192),
     ("S Q F:0018:0008 D:00:03:0B A C E0 FF", 0, 192),
     ("S Q F:0018:0008 D:00:03:0B A C 61 86 3F", 24, 192),
+    ("S Q F:0018:0008 D:00:03:0B A I C E0 FF", 0, 192),
+    ("S Q F:0018:0008 D:00:03:0B A I C E0 FF D0", 8, 192),
 ];
 
 /// Whether all bytes of a view behind its lines of 8 pixels are mid-grey.
