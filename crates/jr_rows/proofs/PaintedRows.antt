@@ -8,7 +8,7 @@ use Rattle.jr_picture.specs.Samples.{samples_of}
 use Rattle.jr_scan.specs.ScanValue.{ScanValue}
 use Rattle.jr_rows.specs.Bands.{ShowsMcus, samples_in}
 use Rattle.jr_rows.specs.Groups.{units_in}
-use Rattle.jr_rows.specs.Rows.{HasFirst, PaintsRow, ShowsLines, first_line, line_count}
+use Rattle.jr_rows.specs.Rows.{HasFirst, PaintsRowLines, ShowsLines, first_line, line_count}
 use Rattle.jr_rows.proofs.PictureLines.{row_lines}
 
 abbrev pub Painted : BoardValue → HeadValue → Type 0
@@ -23,7 +23,7 @@ row_painted b h e = subst (Painted b) e (here b)
 
 -- a row that is decoded and painted
 pub shows : (t : ScanValue) (limit row : ℕ) (h : HeadValue) (groups : List (List ℕ)) (pixels : List ℕ) → h ≡ t.head
-    → ((b : BoardValue) → HasFirst t limit b → ShowsMcus b (row * mcus_across t.head) (units_in t.head groups)) → PaintsRow h row groups pixels → ShowsLines t limit row pixels
+    → ((b : BoardValue) → HasFirst t limit b → ShowsMcus b (row * mcus_across t.head) (units_in t.head groups)) → PaintsRowLines h row groups pixels → ShowsLines t limit row pixels
 shows t limit row h groups pixels e units painted b first =
     let own : b.scan.head ≡ h = ap (λ (s : ScanValue). s.head) first.scan_is ∙ sym e in
     let there = subst (λ (k : HeadValue). ShowsMcus b (row * mcus_across k) (units_in k groups)) (sym e) (units b first) in

@@ -111,6 +111,6 @@ ShowsLines scan n row pixels = (b : BoardValue) → HasFirst scan n b
     → pixels ≡ next_lines_of scan.head (samples_of b) (first_line scan.head row) (line_count scan.head row)
 
 -- the same, as every board of this head shows them that shows these samples there
-abbrev pub PaintsRow : HeadValue → (row : ℕ) → (groups : List (List ℕ)) → List ℕ → Type 0
-PaintsRow h row groups pixels = (b : BoardValue) → b.scan.head ≡ h → ShowsMcus b (row * mcus_across h) (units_in h groups)
+abbrev pub PaintsRowLines : HeadValue → (row : ℕ) → (groups : List (List ℕ)) → List ℕ → Type 0
+PaintsRowLines h row groups pixels = (b : BoardValue) → b.scan.head ≡ h → ShowsMcus b (row * mcus_across h) (units_in h groups)
     → pixels ≡ next_lines_of h (samples_of b) (first_line h row) (line_count h row)

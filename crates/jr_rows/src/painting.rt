@@ -4,7 +4,7 @@ ghost use Rattle.std.specs.Prelude.{◌≡◌, ◌*◌, ◌<◌, ◌≤◌, leng
 ghost use Rattle.jr_head.specs.Geometry.{mcus_down};
 ghost use Rattle.jr_paint.specs.Lines.{line_room, line_size};
 ghost use Rattle.jr_rows.specs.RowLines.{HasLines};
-ghost use Rattle.jr_rows.specs.Rows.{PaintsRow, line_count};
+ghost use Rattle.jr_rows.specs.Rows.{PaintsRowLines, line_count};
 
 use crate::band::Band;
 use crate::row_lines::RowLines;
@@ -18,7 +18,7 @@ pub fn paint_row(head: &Head, samples: &RowLines, row: u32, room: &mut [u8], pix
     requires row { row < mcus_down head.now }
     requires room { HasLines head.now samples.now }
     requires pixels { length pixels.old ≡ line_count head.now row * line_size head.now }
-    ensures { PaintsRow head.now row samples.now.groups pixels.new }
+    ensures { PaintsRowLines head.now row samples.now.groups pixels.new }
 {
     let (y, count) = lines_of(head, row);
     let band = Band::of(head, samples);

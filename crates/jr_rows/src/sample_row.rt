@@ -7,7 +7,7 @@ ghost use Rattle.jr_scan.specs.McuReader.{HasEnded};
 ghost use Rattle.jr_piece.specs.Units.{grey_unit};
 ghost use Rattle.jr_rows.specs.Bands.{samples_in};
 ghost use Rattle.jr_rows.specs.Groups.{units_in};
-ghost use Rattle.jr_rows.specs.Rows.{HasSampleRoom, PaintsRow, line_count};
+ghost use Rattle.jr_rows.specs.Rows.{HasSampleRoom, PaintsRowLines, line_count};
 ghost use Rattle.jr_rows.specs.WholeMcus.{DecodesMcus};
 
 use crate::band::Band;
@@ -107,7 +107,7 @@ impl SampleRow {
         requires room { HasSampleRoom head.now self.old }
         requires pixels { length pixels.old ≡ line_count head.now row * line_size head.now }
         ensures room { HasSampleRoom head.now self.new }
-        ensures lines { PaintsRow head.now row self.old.lines.groups pixels.new }
+        ensures lines { PaintsRowLines head.now row self.old.lines.groups pixels.new }
     {
         paint_row(head, &self.lines, row, &mut self.room, pixels);
     }

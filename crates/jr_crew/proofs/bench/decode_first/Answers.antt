@@ -4,7 +4,7 @@ use Rattle.std.proofs.Math.Seq.{take-append_seam}
 use Rattle.jr_head.specs.Geometry.{mcus_down}
 use Rattle.jr_paint.specs.Lines.{line_size}
 use Rattle.jr_scan.specs.ScanValue.{ScanValue}
-use Rattle.jr_rows.specs.Rows.{PaintsRow, line_count}
+use Rattle.jr_rows.specs.Rows.{PaintsRowLines, line_count}
 use Rattle.jr_rows.proofs.PaintedRows.{shows}
 use Rattle.jr_crew.proofs.Benches.{row_fits}
 use Rattle.jr_crew.proofs.bench.decode_first.Goals as goal
@@ -23,7 +23,7 @@ returns-clause-lines c b first =
     let hd = c.head-head.result.now in
     let head : hd ≡ t.head = search rules in
     let groups = c.decode-marked.new.work.lines.groups in
-    let painted = subst (λ (r : ℕ). PaintsRow hd r groups new) c.row-row.ensures c.paint_row.ensures.lines in
+    let painted = subst (λ (r : ℕ). PaintsRowLines hd r groups new) c.row-row.ensures c.paint_row.ensures.lines in
     let lines = shows t c.args.part.now.limit old.row hd groups new head c.decode-marked.ensures.units painted in
     let long : length new ≡ size = c.paint_row.auto.pixels ∙ length-take-le size c.args.pixels.now inside in
     ap (λ (n : ℕ). take n (new ++ drop size c.args.pixels.now)) (sym is ∙ sym long) ∙ take-append_seam new (drop size c.args.pixels.now) ∙ lines b first

@@ -1,6 +1,6 @@
 use Rattle.std.proofs.Common.{rules, arith, subst, ap, ◌∙◌, ◌≡◌, ◌-◌, ◌≤◌, List, ℕ, length, take, drop}
 use borrow.Rule.Slice.PartMut.{put_mid}
-use Rattle.jr_rows.specs.Rows.{PaintsRow, ShowsLines}
+use Rattle.jr_rows.specs.Rows.{PaintsRowLines, ShowsLines}
 use Rattle.jr_rows.specs.RowsValue.{RowsValue}
 use Rattle.jr_rows.proofs.Lent.{all_back, part_back}
 use Rattle.jr_rows.proofs.PaintedRows.{shows}
@@ -21,7 +21,7 @@ returns-clause-lines g c b first =
     let row = c.self.inside.rows.row in
     let head : c.head-head.result.now ≡ t.head = search rules in
     let units = c.decode-marked.ensures.units in
-    let painted = subst (λ (r : ℕ). PaintsRow c.head-head.result.now r c.decode-marked.new.work.lines.groups ys) c.row-row.ensures c.paint_row.ensures.lines in
+    let painted = subst (λ (r : ℕ). PaintsRowLines c.head-head.result.now r c.decode-marked.new.work.lines.groups ys) c.row-row.ensures c.paint_row.ensures.lines in
     let lines = shows t n row c.head-head.result.now c.decode-marked.new.work.lines.groups ys head units painted in
     let shown = subst (λ (r : RowsValue). ShowsLines r.scan r.limit r.row ys) c.self.view_is lines in
     ap (λ (l : List ℕ). take size (drop from l)) (all_back c.args.pixels.now.len mid c.args.pixels.now.items len) ∙ part_back from size xs ys inside long ∙ shown b first
