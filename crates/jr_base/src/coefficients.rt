@@ -36,7 +36,7 @@ impl Coefficients {
         Coefficients { natural: [0; 64] }
     }
 
-    /// Puts a value at a zigzag index.
+    /// Stores a value at a zigzag index.
     #[inline(always)]
     pub fn set(&mut self, index: usize, value: i16)
         requires { index < 64 }

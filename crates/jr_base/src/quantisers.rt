@@ -58,7 +58,7 @@ fn limit_of(factor: u16) -> u16
     MOST_PRODUCT / factor
 }
 
-/// The same for each factor.
+/// Returns the limit of each factor.
 fn limits_of(factors: &[u16; 64]) -> [u16; 64]
     ensures count { length result ≡ 64 }
     ensures limits { AreLimits factors.now result }
@@ -107,7 +107,7 @@ impl Quantisers {
         &self.limits
     }
 
-    /// Whether both have the same elements.
+    /// Returns whether both have the same elements.
     pub fn is_same(&self, other: &Quantisers) -> bool
         ensures { IsTrue result ↔ (self.now ≡ other.now) }
     {

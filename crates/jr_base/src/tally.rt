@@ -27,14 +27,14 @@ impl<T> Tally<T> {
         }
     }
 
-    /// What it holds.
+    /// Returns the device that it holds.
     pub fn into_inner(self) -> T
         ensures { result ≡ inner_of self }
     {
         self.inner
     }
 
-    /// Whether a call through it has answered an error, or a write of at least one byte has taken none.
+    /// Returns whether a call through it has failed, or a write of at least one byte has taken none.
     pub fn failed(&self) -> bool
         ensures { result ≡ has_failed self.now }
     {

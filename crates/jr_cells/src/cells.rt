@@ -33,7 +33,7 @@ impl Model for Cells {
     ghost invariant = { λ c. length c.cells.items < 2 ^ 32 };
 }
 
-/// What one thread has seen of some cells. Its notes take no bytes: they are what a proof knows of each cell.
+/// A record of what one thread has seen of some cells. It takes no bytes: it is what a proof knows of each cell.
 #[derive(Drop)]
 pub struct Sight {
     notes: Vec<Note<Arc<Piece>>>,
@@ -58,7 +58,7 @@ impl Cells {
         Ok(Cells { cells, alloc })
     }
 
-    /// How many cells there are.
+    /// Returns the number of cells.
     pub fn count(&self) -> u32
         ensures { result ≡ length self.now }
     {

@@ -106,7 +106,7 @@ impl Model for Seat {
     ghost invariant = { λ s. (s.pass.me.1 ≡ []) × (s.pass.me.0.seats ≡ 1) × (s.pass.me.0.ended ≡ cond s.ended 1 0) × (s.count ≡ length s.pass.me.0.drawn) × (s.pass.me.0.limit < 2 ^ 32) × (s.count ≤ s.pass.me.0.limit) };
 }
 
-/// What all seats of a desk drew together.
+/// The numbers that all seats of a desk drew.
 #[derive(Drop)]
 pub struct Drawn {
     total: u32,
@@ -120,7 +120,7 @@ impl Seat {
         self.place
     }
 
-    /// How many numbers it drew.
+    /// Returns the number of numbers drawn.
     pub fn drawn(&self) -> u32
         ensures { result ≡ length self.now.drawn }
     {
@@ -238,7 +238,7 @@ impl Desk {
         self.limit
     }
 
-    /// What all seats drew. The list has all seats that `open` gave.
+    /// Returns what all seats drew. The list has all seats that `open` returned.
     pub fn gather(self, seats: Vec<Seat>) -> Drawn
         requires seats { All (λ s. s.desk ≡ self) seats.items }
         requires all { length seats.items ≡ self.seats }

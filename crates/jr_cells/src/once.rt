@@ -8,7 +8,7 @@ use jr_code::Memory;
 use once_cell::race::{Note, OnceBox};
 use std::alloc::Global;
 
-/// So many empty cells.
+/// Returns `count` empty cells.
 pub(crate) fn empty_cells<T: Drop>(alloc: Global, count: u32) -> Result<Vec<OnceBox<T>>, Memory>
     ensures { IfOk result (λ v. length v.items ≡ count) }
 {
@@ -59,7 +59,7 @@ pub(crate) fn set_cell<T: Drop>(
     }
 }
 
-/// What the cell at a place holds; none while it is empty.
+/// Returns what a cell holds, or `None` while it is empty.
 pub(crate) fn get_cell<'a, T: Drop>(
     cells: &'a [OnceBox<T>],
     at: usize,

@@ -40,7 +40,8 @@ impl Model for StripCells {
     ghost invariant = { λ c. (0 < c.each) × (length c.cells.items < 2 ^ 32) × ((place : ℕ) → place < length c.cells.items → place * c.each < 2 ^ 32) };
 }
 
-/// What one thread has seen of an interval's strips. Its notes take no bytes: they are what a proof knows of each cell.
+/// A record of what one thread has seen of an interval's strips. It takes no bytes: it is what a proof knows of each
+/// cell.
 #[derive(Drop)]
 pub struct StripSight {
     number: u32,
@@ -85,7 +86,7 @@ impl StripCells {
         self.number
     }
 
-    /// How many MCUs each strip has but for the last.
+    /// Returns the number of MCUs of each strip but the last.
     pub fn each(&self) -> u32
         ensures value { result ≡ self.now.each }
         ensures some { 0 < result }
@@ -93,7 +94,7 @@ impl StripCells {
         self.each
     }
 
-    /// How many cells there are.
+    /// Returns the number of cells.
     pub fn count(&self) -> u32
         ensures { result ≡ length self.now.cells }
     {

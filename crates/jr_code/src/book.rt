@@ -46,7 +46,7 @@ impl PartialEq for CodeBook {
 }
 
 impl CodeBook {
-    /// Whether both have the same counts and symbols.
+    /// Returns whether both have the same counts and symbols.
     pub fn is_same(&self, other: &CodeBook) -> bool
         ensures { IsTrue result ↔ (self.now ≡ other.now) }
     {
@@ -84,14 +84,14 @@ impl CodeBook {
         Ok(CodeBook::of(CodeTable::with_symbols(alloc, counts, symbols)?))
     }
 
-    /// What holds of every book, for callers that rest on it: it is a lawful table (T.81, Annex C).
+    /// Asserts, for callers that rest on it, that the book is a valid table (T.81, Annex C).
     pub fn be_lawful(&self)
         ensures { IsLawfulTable self.now.counts self.now.symbols }
     {
         let _ = &self.words;
     }
 
-    /// The same table once more.
+    /// Returns a copy of the table.
     pub fn try_clone(&self) -> Result<CodeBook, Memory>
         ensures { IfOk result (λ b. b ≡ self.now) }
     {
@@ -121,8 +121,8 @@ impl CodeBook {
         self.words.entries()
     }
 
-    /// Takes a word from the bits and gives its symbol (T.81, F.2.2.3, DECODE). Where no word is in front it gives None,
-    /// and nothing moves.
+    /// Takes a word from the bits and returns its symbol (T.81, F.2.2.3, DECODE). If no word comes next, returns `None`
+    /// and takes nothing.
     #[inline(always)]
     pub fn read(&self, bits: &mut Bits) -> Option<u8>
         ensures found { IfSome result (λ s. (word : List Bool) × IsWord self.now word s × (bits.old ≡ word ++ bits.new)) }
@@ -135,8 +135,8 @@ impl CodeBook {
         self.words.read(bits)
     }
 
-    /// Takes a word and as many extra bits as the lower four bits of its symbol say, and gives the symbol and what the extra
-    /// bits stand for (T.81, F.2.2.1 and F.2.2.2). Where no such are in front it gives None, and nothing moves.
+    /// Takes a word and as many additional bits as the lower four bits of its symbol say. Returns the symbol and the
+    /// value of these bits (T.81, F.2.2.1 and F.2.2.2). If they do not come next, returns `None` and takes nothing.
     #[inline(always)]
     pub fn read_extended(&self, bits: &mut Bits) -> Option<(u8, i32)>
         ensures found { IfSome result (λ r. TakesExtended self.now r.0 r.1 bits.old bits.new) }
@@ -146,8 +146,8 @@ impl CodeBook {
         self.words.read_extended(bits)
     }
 
-    /// Takes the code of a coefficient behind the first, or of the end of a block (T.81, F.1.2.2): a word and its extra bits.
-    /// Where no such is in front it gives None, and nothing moves. It refills only where it must.
+    /// Takes the code of an AC coefficient, or of the end of a block (T.81, F.1.2.2): a word and its additional bits.
+    /// If none comes next, returns `None` and takes nothing. It refills only if it must.
     #[inline(always)]
     pub fn read_places(&self, bits: &mut Bits) -> Option<Packed>
         ensures found { IfSome result (λ p. TakesPlaces self.now p bits.old bits.new) }
@@ -165,7 +165,8 @@ impl CodeBook {
         Some(code)
     }
 
-    /// The same with a refill, which goes on beside the look-up and lasts for one more code that a look-up holds.
+    /// Does what `read_places` does, with a refill that overlaps the look-up and suffices for one more code that a
+    /// look-up holds.
     #[inline(always)]
     pub fn read_places_and_refill(&self, bits: &mut Bits) -> Option<Packed>
         ensures found { IfSome result (λ p. TakesPlaces self.now p bits.old bits.new) }
@@ -183,8 +184,8 @@ impl CodeBook {
         Some(next)
     }
 
-    /// What the next eleven bits look up, where zeros stand for those that the register hasn't: the word in front of the bits
-    /// and its extra bits, where the register has them all.
+    /// Looks up the next eleven bits, zeros in place of those that the register lacks. Returns the word that comes next
+    /// and its additional bits if the register has them all.
     #[inline(always)]
     fn pair(&self, register: Register) -> Packed
         ensures front { (unpacked result).long ≤ register.entry.count → IsInFront self.now (unpacked result) register.entry.count (bits_in register.entry) }
@@ -193,7 +194,7 @@ impl CodeBook {
         self.pairs[register.upper(LOOKED_UP as u32) as usize]
     }
 
-    /// The same of the code of a coefficient behind the first, or of the end of a block.
+    /// Reads the code of an AC coefficient, or of the end of a block, that one look-up does not hold.
     #[cold]
     #[inline(never)]
     fn rare_places(&self, held: u64, count: u32) -> Option<Packed>

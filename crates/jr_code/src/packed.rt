@@ -5,10 +5,10 @@ ghost use Rattle.jr_code.specs.Code.{unpacked, places_in, GoesOn};
 
 use crate::words::Extended;
 
-/// How many bits a look-up takes.
+/// Number of bits of a look-up.
 pub(crate) const LOOKED_UP: u8 = 11;
 
-/// How many numbers these bits write.
+/// Number of values that these bits have.
 pub(crate) const WINDOWS: usize = 2048;
 
 /// The places that stand for the end of a block: no block has as many.
@@ -20,9 +20,9 @@ const SIXTEEN_ZEROS: u8 = 0xF0;
 /// The most extra bits of a coefficient behind the first.
 const MOST_EXTRA: u8 = 10;
 
-/// What a table looks up. In the lowest byte it has how many bits the word and its extra bits have, in the next one how many
-/// places of a block they go on, in the lower half of the third the number of the extra bits, and in the upper eleven bits
-/// their value. Where there is nothing the lowest byte is 255, longer than any register.
+/// An entry of a table. The lowest byte is the number of bits of the word and its additional bits, the next one the
+/// number of places of a block that they advance; the lower half of the third is the number of additional bits, the
+/// upper eleven bits are their value. Without a word the lowest byte is 255, longer than any register.
 #[derive(Clone, Copy)]
 pub struct Packed {
     number: u32,
@@ -32,7 +32,7 @@ impl Packed {
     /// Nothing.
     pub(crate) const NONE: Packed = Packed { number: 255 };
 
-    /// What is looked up: a word, its extra bits, and how many places they go on.
+    /// Packs a word, its additional bits, and the number of places that they advance.
     pub(crate) fn of(both: Extended, places: u8) -> Packed
         requires places { GoesOn both.symbol places }
         requires least { negsuc 1023 ≤ℤ both.value }
@@ -47,7 +47,7 @@ impl Packed {
         }
     }
 
-    /// How many bits the word and its extra bits have.
+    /// Returns the number of bits of the word and its additional bits.
     #[inline(always)]
     pub(crate) fn long(self) -> u32
         ensures { result ≡ (unpacked self).long }
@@ -55,7 +55,8 @@ impl Packed {
         self.number % 256
     }
 
-    /// How many places of a block they go on: a run of zeros and the coefficient behind it; 128 to the end of the block.
+    /// Returns the number of places of a block that they advance: a run of zeros and the coefficient after it; 128 to
+    /// the end of the block.
     #[inline(always)]
     pub fn places(self) -> u32
         ensures value { result ≡ places_in self }
@@ -64,7 +65,7 @@ impl Packed {
         self.number / 256 % 256
     }
 
-    /// What the extra bits stand for.
+    /// Returns the value of the additional bits.
     #[inline(always)]
     pub fn value(self) -> i16
         ensures { result ≡ (unpacked self).value }
@@ -73,8 +74,9 @@ impl Packed {
     }
 }
 
-/// How many places of a block the code of a symbol goes on (T.81, F.1.2.2): its upper four bits are a run of zeros, and its
-/// lower ones how many extra bits the coefficient behind it has. None where it is the symbol of no such code.
+/// Returns the number of places of a block that the code of a symbol advances (T.81, F.1.2.2): its upper four bits are
+/// a run of zeros, its lower four the number of additional bits of the coefficient after it. `None` if it is the symbol
+/// of no such code.
 #[inline(always)]
 pub(crate) fn places_of(symbol: u8) -> Option<u8>
     ensures some { IfSome result (λ n. GoesOn symbol n) }

@@ -29,7 +29,7 @@ impl<'a> Register<'a> {
         }
     }
 
-    /// How many bits are left.
+    /// Returns the number of bits left.
     #[inline(always)]
     pub(crate) fn left(self) -> u64
         ensures { result ≡ length (bits_in self.entry) }
@@ -37,8 +37,8 @@ impl<'a> Register<'a> {
         8 * self.rest.len() as u64 + u64::from(self.count)
     }
 
-    /// The same bits, of which the register then holds at least 32, or all that are left, and no fewer than before. Without
-    /// a branch on how many it holds, which nobody could foretell.
+    /// Returns the same bits with at least 32 of them, or all that are left, in the register, and no fewer than before.
+    /// It does not branch on how many the register holds, which no processor predicts.
     #[inline(always)]
     pub(crate) fn refilled(self) -> Register<'a>
         ensures same { bits_in result ≡ bits_in self.entry }
@@ -56,7 +56,7 @@ impl<'a> Register<'a> {
         }
     }
 
-    /// The same bits, of which the register then holds at least 32, or all: at most three bytes are behind it.
+    /// Returns the same bits with at least 32 of them, or all, in the register: at most three bytes follow.
     #[inline(always)]
     fn ended(self) -> Register<'a>
         requires { length self.rest.now < 4 }
@@ -76,7 +76,7 @@ impl<'a> Register<'a> {
         }
     }
 
-    /// The same bits with the next n in the register, or None where fewer are left.
+    /// Returns the same bits with the next `n` in the register, or `None` if fewer are left.
     #[inline(always)]
     pub(crate) fn with(self, n: u32) -> Option<Register<'a>>
         requires { n ≤ 32 }

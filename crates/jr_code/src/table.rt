@@ -82,14 +82,14 @@ impl CodeTable {
         Ok(WordBook::of(self.try_clone()?))
     }
 
-    /// What holds of every table, for callers that rest on it: it is lawful (T.81, Annex C).
+    /// Asserts, for callers that rest on it, that the table is valid (T.81, Annex C).
     pub(crate) fn be_lawful(&self)
         ensures { IsLawfulTable self.now.counts self.now.symbols }
     {
         let _ = &self.counts;
     }
 
-    /// Whether both have the same counts and symbols.
+    /// Returns whether both have the same counts and symbols.
     pub(crate) fn is_same(&self, other: &CodeTable) -> bool
         ensures tells { result ≡ same_table self.now other.now }
         ensures same { IsTrue result ↔ (self.now ≡ other.now) }
@@ -97,7 +97,7 @@ impl CodeTable {
         self.counts == other.counts && self.symbols.as_slice() == other.symbols.as_slice()
     }
 
-    /// The same table once more.
+    /// Returns a copy of the table.
     pub(crate) fn try_clone(&self) -> Result<CodeTable, Memory>
         ensures { IfOk result (λ t. t ≡ self.now) }
     {
@@ -108,7 +108,7 @@ impl CodeTable {
     }
 }
 
-/// How many words there are, where `counts[i]` have i + 1 bits.
+/// Returns the number of words, of which `counts[i]` have i + 1 bits.
 pub fn word_count(counts: &[u8; 16]) -> u32
     ensures value { result ≡ sum counts.now }
     ensures few { result ≤ 4080 }

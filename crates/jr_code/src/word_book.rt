@@ -46,7 +46,7 @@ impl PartialEq for WordBook {
 }
 
 impl WordBook {
-    /// Whether both have the same counts and symbols.
+    /// Returns whether both have the same counts and symbols.
     pub fn is_same(&self, other: &WordBook) -> bool
         ensures tells { result ≡ same_table self.now other.now }
         ensures same { IsTrue result ↔ (self.now ≡ other.now) }
@@ -54,14 +54,14 @@ impl WordBook {
         self.table.is_same(&other.table)
     }
 
-    /// What holds of every book, for callers that rest on it: it is a lawful table (T.81, Annex C).
+    /// Asserts, for callers that rest on it, that the book is a valid table (T.81, Annex C).
     pub fn be_lawful(&self)
         ensures { IsLawfulTable self.now.counts self.now.symbols }
     {
         let _ = &self.table;
     }
 
-    /// The same table once more.
+    /// Returns a copy of the table.
     pub fn try_clone(&self) -> Result<WordBook, Memory>
         ensures { IfOk result (λ b. b ≡ self.now) }
     {
@@ -94,8 +94,8 @@ impl WordBook {
         &self.entries
     }
 
-    /// Takes a word from the bits and gives its symbol (T.81, F.2.2.3, DECODE). Where no word is in front it gives None,
-    /// and nothing moves.
+    /// Takes a word from the bits and returns its symbol (T.81, F.2.2.3, DECODE). If no word comes next, returns `None`
+    /// and takes nothing.
     #[inline(always)]
     pub fn read(&self, bits: &mut Bits) -> Option<u8>
         ensures found { IfSome result (λ s. (word : List Bool) × IsWord self.now word s × (bits.old ≡ word ++ bits.new)) }
@@ -118,8 +118,8 @@ impl WordBook {
         Some(symbol)
     }
 
-    /// Takes a word and as many extra bits as the lower four bits of its symbol say, and gives the symbol and what the extra
-    /// bits stand for (T.81, F.2.2.1 and F.2.2.2). Where no such are in front it gives None, and nothing moves.
+    /// Takes a word and as many additional bits as the lower four bits of its symbol say. Returns the symbol and the
+    /// value of these bits (T.81, F.2.2.1 and F.2.2.2). If they do not come next, returns `None` and takes nothing.
     #[inline(always)]
     pub fn read_extended(&self, bits: &mut Bits) -> Option<(u8, i32)>
         ensures found { IfSome result (λ r. TakesExtended self.now r.0 r.1 bits.old bits.new) }

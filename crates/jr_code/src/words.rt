@@ -12,14 +12,14 @@ use crate::table::CodeTable;
 #[derive(Clone, Copy)]
 pub(crate) struct Extended {
     pub(crate) symbol: u8,
-    /// What the extra bits stand for.
+    /// Value of the additional bits.
     pub(crate) value: i16,
-    /// How many bits both have.
+    /// Number of bits of both.
     pub(crate) long: u8,
 }
 
 impl CodeTable {
-    /// What each byte looks up: the symbol and length of the word of at most eight bits that it begins with.
+    /// Returns for each byte the symbol and length of the word of at most eight bits that it begins with.
     pub(crate) fn entries(&self) -> [Option<(u8, u8)>; 256]
         ensures { AreEntries self.now result }
     {
@@ -42,7 +42,7 @@ impl CodeTable {
         }
     }
 
-    /// What each eleven bits look up: the word that they begin with and its extra bits, where they hold both.
+    /// Returns for each eleven bits the word that they begin with and its additional bits, if they hold both.
     pub(crate) fn pairs(&self) -> [Packed; WINDOWS]
         ensures { ArePairs self.now result }
     {

@@ -127,7 +127,7 @@ impl<S: OneFirstIntervals> Baton<S> {
         painted
     }
 
-    /// Tells the gate of the intervals that begin in the next row.
+    /// Reports to the gate the intervals that begin in the next row.
     pub(crate) fn announce<G: Gate>(&self, part: &FirstIntervals<'_>, gate: &G)
         requires { S.part ≡ Some part.now }
     {

@@ -102,7 +102,7 @@ impl<S: OneFirstIntervals> Bench<S> {
         })
     }
 
-    /// Whether it has memory for a row's blocks and samples.
+    /// Returns whether it has memory for a row's blocks and samples.
     pub fn has_work(&self) -> bool {
         self.work.is_some()
     }
@@ -134,7 +134,7 @@ impl<S: OneFirstIntervals> Bench<S> {
         }
     }
 
-    /// The same bench with memory for a row's blocks and samples, or as it is where that is refused.
+    /// Allocates memory for a row's blocks and samples. If allocation fails, returns the bench unchanged.
     pub fn with_work(
         self,
         alloc: Global,
@@ -294,9 +294,9 @@ impl<S: OneFirstIntervals> Painted<S> {
         }
     }
 
-    /// Puts the lines from one byte up to another, between which is just room for them: in the place of all bytes where they
-    /// begin with these and are as many, which takes no copy. Answers the marks of the intervals that end in the row, and the bench,
-    /// to be used again.
+    /// Writes the lines between two byte offsets, which have exactly that space. If these are all bytes from the start,
+    /// it exchanges the buffers instead of copying. Returns the marks of the intervals that end in the row, and the
+    /// bench, to be used again.
     pub fn put_into(
         self,
         part: &FirstIntervals<'_>,

@@ -20,7 +20,7 @@ pub(crate) struct CallerRoom<S: OneFirstIntervals> {
 }
 
 impl<S: OneFirstIntervals> CallerRoom<S> {
-    /// As much as the calling thread works by.
+    /// Allocates what the calling thread works with.
     pub(crate) fn open(alloc: Global, part: &FirstIntervals<'_>) -> Result<CallerRoom<S>, Memory>
         requires { S.part ≡ Some part.now }
         ensures lines { IfOk result (λ r. 8 * vertical_max part.now.scan.head * line_size part.now.scan.head ≤ length r.pixels.items) }

@@ -24,21 +24,21 @@ use std::sync::{Condvar, Mutex, Wait};
 /// each covers bits that no other does.
 pub(crate) const MOST_TASKS: u64 = u64::MAX;
 
-/// So many benches for each thread, where there are as many rows: one that it works at, and one that waits to be painted or
-/// written.
+/// Number of benches for each thread, if there are as many rows: one that it works at, and one that waits to be painted
+/// or written.
 pub(crate) const BENCHES_OF_ONE: u32 = 2;
 
 /// What the threads share.
 ///
-/// A thread takes from the queue what is to be done next, and does it outside of the lock. No row begins before the calling
-/// thread has all memory that it needs. A row is begun with a bench, so there are no more rows in work than benches. Each thread
-/// takes the memory of its benches as it starts; a bench takes that of blocks when a row first waits by it to be painted.
+/// A thread takes its next task from the queue, and does it outside of the lock. No row begins before the calling thread has
+/// all memory that it needs. A row is begun with a bench, so there are no more rows in work than benches. Each thread allocates
+/// its benches as it starts; a bench gets memory for blocks when a row first waits on it to be painted.
 ///
-/// Where rows are whole intervals, each thread decodes and paints rows by itself. Else one thread at a time has the reader. Where
-/// guesses that others have made ahead of it cover the next row, it passes over the row. The row then waits, with a copy of the
-/// reader at its start and its bench, for whoever is free, who decodes and paints it some MCUs at a time. Where no guess covers
-/// it, the thread reads the row, and its blocks wait on the bench to be painted by whoever is free. What is painted waits for
-/// its turn to be written.
+/// If rows are whole intervals, each thread decodes and paints rows by itself. Otherwise one thread at a time has the reader. If
+/// speculative reads that others have made ahead of it cover the next row, it skips the row. The row then waits, with a copy of
+/// the reader at its start and its bench, for a free thread, which decodes and paints it some MCUs at a time. If none covers it,
+/// the thread reads the row, and its blocks wait on the bench to be painted by a free thread. Painted rows wait for their turn
+/// to be written.
 #[derive(Drop)]
 pub(crate) struct Crew<'a, S: OneFirstIntervals> {
     alloc: Global,
@@ -76,7 +76,7 @@ impl<'a, S: OneFirstIntervals> Crew<'a, S> {
         }
     }
 
-    /// Takes what the calling thread works by, and so many benches; then the first row may begin.
+    /// Allocates what the calling thread works with, and `benches` benches; then the first row may begin.
     pub(crate) fn begin<R: Wait>(&self, rt: &R, benches: u32) -> Result<CallerRoom<S>, Memory>
         ensures lines { IfOk result (λ r. 8 * vertical_max self.now.scan.head * line_size self.now.scan.head ≤ length r.pixels.items) }
         ensures header { IfOk result (λ r. HEADER_ROOM ≤ length r.pixels.items) }
@@ -104,7 +104,7 @@ impl<'a, S: OneFirstIntervals> Crew<'a, S> {
         Ok(())
     }
 
-    /// What of the scan is decoded.
+    /// Returns the part of the scan that is decoded.
     pub(crate) fn part(&self) -> &FirstIntervals<'a>
         ensures value { result.now ≡ self.now }
         ensures known { S.part ≡ Some self.now }
@@ -112,8 +112,7 @@ impl<'a, S: OneFirstIntervals> Crew<'a, S> {
         &self.part
     }
 
-    /// What a thread does next, once there is something: it gives back memory where nothing else is to be done. None where nothing is
-    /// left.
+    /// Waits for something to do and returns it; frees memory if nothing else is to be done. `None` if nothing is left.
     fn task<R: Wait>(&self, rt: &R) -> Option<RowTask<S>> {
         let scan = self.part.scan();
         let mut queue = self.queue.lock(rt);
@@ -128,7 +127,8 @@ impl<'a, S: OneFirstIntervals> Crew<'a, S> {
         }
     }
 
-    /// What the calling thread does next, once there is something or this row is painted. None where it is, or nothing is left.
+    /// Waits until the calling thread has something to do or this row is painted, and returns what to do. `None` if the
+    /// row is painted or nothing is left.
     pub(crate) fn task_before<R: Wait>(&self, rt: &R, row: u32) -> Option<RowTask<S>> {
         let scan = self.part.scan();
         let mut queue = self.queue.lock(rt);
@@ -203,7 +203,7 @@ impl<'a, S: OneFirstIntervals> Crew<'a, S> {
         }
     }
 
-    /// Passes over a row; it waits for whoever is free.
+    /// Skips a row, which then waits for a free thread.
     fn pass<R: Wait, G: Gate>(&self, rt: &R, gate: &G, row: BegunRow<S>) {
         let (baton, behind) = row.baton.pass(&self.part, gate);
         let passed = BegunRow {
@@ -214,7 +214,7 @@ impl<'a, S: OneFirstIntervals> Crew<'a, S> {
         self.wake(waiter);
     }
 
-    /// Makes a guess.
+    /// Makes a speculative read.
     fn guess<R: Wait>(&self, rt: &R, task: GuessTask<ScanOf<S>>) {
         let made = task.make(self.part.scan());
         let waiter = self.queue.lock(rt).put_guess(made);
@@ -263,8 +263,9 @@ impl<'a, S: OneFirstIntervals> Crew<'a, S> {
         }
     }
 
-    /// Takes memory of its own, then reads and paints rows until no one is left. Where memory is refused to it others work without
-    /// it. Before it brings a bench it brings room for a guess and makes one, where some are made, so that the reader has them early.
+    /// Allocates memory of its own, then reads and paints rows until none is left. If allocation fails, the others work
+    /// without this thread. Before it brings a bench it brings a buffer for speculative reads and makes one, if any are
+    /// made, so that the reader has them early.
     pub(crate) fn work<R: Wait, G: Gate>(&self, rt: &R, gate: &G) {
         let Ok(mut room) = PaintRoom::open(self.alloc, &self.part) else {
             return;
@@ -298,7 +299,7 @@ impl<'a, S: OneFirstIntervals> Crew<'a, S> {
         queue.take(row)
     }
 
-    /// Gives back a bench, so that another row can be read.
+    /// Returns a bench, so that another row can be read.
     pub(crate) fn give_back<R: Wait>(&self, rt: &R, bench: Bench<S>) {
         let is_waited_for = self.queue.lock(rt).give_back(bench);
         if is_waited_for {

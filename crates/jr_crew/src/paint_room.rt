@@ -31,7 +31,7 @@ impl<S: OneFirstIntervals> Model for PaintRoom<S> {
 }
 
 impl<S: OneFirstIntervals> PaintRoom<S> {
-    /// As much as painting takes.
+    /// Allocates what painting needs.
     pub fn open(alloc: Global, part: &FirstIntervals<'_>) -> Result<PaintRoom<S>, Memory>
         requires { S.part ≡ Some part.now }
     {

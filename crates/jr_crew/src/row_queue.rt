@@ -15,22 +15,22 @@ use std::alloc::Global;
 use std::collections::VecDeque;
 use std::mem::replace;
 
-/// What a thread does next.
+/// The next task of a thread.
 #[derive(Drop)]
 pub(crate) enum RowTask<S: OneFirstIntervals> {
     /// Reads the next row.
     Read(BegunRow<S>),
-    /// Passes over the next row, so that another thread can read it while the rows behind it are passed over.
+    /// Skips the next row, so that another thread can read it while the rows after it are skipped.
     Pass(BegunRow<S>),
     /// Reads and paints a row that was passed over.
     Finish(BegunRow<S>),
     /// Paints a row that is read.
     Paint(CodedRow<S>),
-    /// Makes a guess.
+    /// Makes a speculative read.
     Guess(GuessTask<ScanOf<S>>),
     /// Brings room for a guess of so many MCUs.
     BringGuess(u32),
-    /// Gives back memory that nobody needs any more.
+    /// Frees memory that no thread needs any more.
     GiveBack(Spare<S>),
 }
 
@@ -48,7 +48,7 @@ pub(crate) struct BegunRow<S: OneFirstIntervals> {
     pub(crate) bench: Bench<S>,
 }
 
-/// What a thread can do next.
+/// The kind of task that a thread can do next.
 #[derive(Clone, Copy, PartialEq, Eq)]
 enum Choice {
     Read,
@@ -78,16 +78,16 @@ pub(crate) enum Waiter {
 pub(crate) struct RowQueue<S: OneFirstIntervals> {
     /// None before the first row may begin, while a thread reads by it, and where no row is left to read.
     baton: Option<Baton<S>>,
-    /// No row is left to begin.
+    /// Whether no row is left to begin.
     is_begun: bool,
     /// Nothing is read or painted any more.
     is_over: bool,
     /// Those with room for a row's blocks behind the others.
     free: VecDeque<Bench<S>>,
-    /// So many benches nobody brings yet.
+    /// Number of benches that no thread brings yet.
     lacking: u32,
     pub(crate) guesses: GuessQueue<ScanOf<S>>,
-    /// Whether their memory is given back.
+    /// Whether their memory is freed.
     has_given_back: bool,
     /// In their order.
     passed: VecDeque<BegunRow<S>>,
@@ -95,7 +95,7 @@ pub(crate) struct RowQueue<S: OneFirstIntervals> {
     coded: VecDeque<CodedRow<S>>,
     /// The slot of a row is its number modulo how many slots there are: as many as benches.
     painted: Vec<Option<Painted<S>>>,
-    /// How many threads wait for something to do.
+    /// Number of threads that wait for something to do.
     pub(crate) waiting: u32,
     /// The row that the calling thread waits for.
     awaited: Option<u32>,
@@ -145,14 +145,14 @@ impl<S: OneFirstIntervals> RowQueue<S> {
         drop(replace(&mut self.baton, baton));
     }
 
-    /// Whether a thread is to bring a bench.
+    /// Returns whether a thread is to bring a bench.
     pub(crate) fn lacks_bench(&mut self) -> bool {
         let is_lacking = self.lacking > 0;
         self.lacking = self.lacking.saturating_sub(1);
         is_lacking
     }
 
-    /// Whether a thread waits for something to do.
+    /// Returns whether a thread waits for something to do.
     pub(crate) fn is_waited_for(&self) -> bool {
         self.waiting > 0
     }
@@ -164,9 +164,9 @@ impl<S: OneFirstIntervals> RowQueue<S> {
         self.awaited = row;
     }
 
-    /// What a thread does next: it passes over a row, or reads one, where it can, so that reading goes on, finishes one where it
-    /// can't, and makes a guess where nothing else is to be done, or brings room for one. A row at whose start a guess is being
-    /// made waits for it.
+    /// Chooses what a thread does next: it skips a row, or reads one, if it can, so that reading continues; otherwise
+    /// it finishes one; and it makes a speculative read, or brings a buffer for one, if nothing else is to be done. A
+    /// row at whose start a speculative read is being made waits for it.
     fn choice(&self, scan: &Scan) -> Choice {
         let can_begin = self.baton.is_some()
             && !self.free.is_empty()
@@ -190,7 +190,7 @@ impl<S: OneFirstIntervals> RowQueue<S> {
         }
     }
 
-    /// Whether a thread has to wait for what others read, paint or write.
+    /// Returns whether a thread has to wait for what others read, paint or write.
     pub(crate) fn has_no_task(&self, scan: &Scan) -> bool {
         self.choice(scan) == Choice::Wait
     }
@@ -217,7 +217,7 @@ impl<S: OneFirstIntervals> RowQueue<S> {
         Some(BegunRow { baton, bench })
     }
 
-    /// What a thread does next. None where it has to wait, or all is over.
+    /// Returns the next task of a thread. `None` if it has to wait, or all is over.
     pub(crate) fn task(&mut self, part: &FirstIntervals<'_>) -> Option<RowTask<S>>
         requires { S.part ≡ Some part.now }
     {
@@ -259,7 +259,7 @@ impl<S: OneFirstIntervals> RowQueue<S> {
         None
     }
 
-    /// Whether there is memory that nobody needs any more.
+    /// Returns whether there is memory that no thread needs any more.
     pub(crate) fn has_spare(&self) -> bool {
         self.is_begun && (!self.has_given_back || !self.free.is_empty())
     }
@@ -358,7 +358,7 @@ impl<S: OneFirstIntervals> RowQueue<S> {
         self.go_on(part, behind)
     }
 
-    /// Whether a row is painted.
+    /// Returns whether a row is painted.
     pub(crate) fn has(&self, row: u32) -> bool
         ensures { IsTrue result → HasRow self.now.painted.items row }
     {

@@ -41,7 +41,7 @@ fn send<R: Wait, W: Write, G: Gate, S: OneFirstIntervals>(
     sent
 }
 
-/// What another thread decodes and paints rows by.
+/// What another thread needs to decode and paint rows.
 #[derive(Drop)]
 pub(crate) struct Helping<'s, 'a, R: Wait, G: Gate, S: OneFirstIntervals> {
     pub(crate) crew: &'s Crew<'a, S>,
@@ -55,20 +55,20 @@ impl<'s, 'a, R: Wait, G: Gate, S: OneFirstIntervals> Help for Helping<'s, 'a, R,
     }
 }
 
-/// What the calling thread writes by.
+/// What the calling thread needs to write rows.
 #[derive(Drop)]
 pub(crate) struct Sending<'s, 'w, 'a, R: Wait, W: Write, G: Gate, S: OneFirstIntervals> {
     pub(crate) crew: &'s Crew<'a, S>,
     pub(crate) rt: &'s R,
     pub(crate) gate: &'s G,
-    /// So many benches are the calling thread's own.
+    /// Number of benches that are the calling thread's own.
     pub(crate) benches: u32,
     pub(crate) out: &'w mut Tally<W>,
 }
 
 impl<'s, 'w, 'a, R: Wait, W: Write, G: Gate, S: OneFirstIntervals> Beside
     for Sending<'s, 'w, 'a, R, W, G, S> {
-    /// What is answered, None where memory was refused, and the writer.
+    /// The answer, `None` if allocation failed, and the writer.
     type Answer = (Option<Result<Marked, WriteFault>>, &'w mut Tally<W>);
 
     ghost may = { λ s. has_failed s.out.now ≡ false };

@@ -33,13 +33,14 @@ const LEAST_BENCHES: u32 = 3 * BENCHES_OF_ONE;
 /// Guesses are worth their memory where the data of the longest interval have bits for so many: some 128 KB.
 const LEAST_WINDOWS: u64 = 32;
 
-/// So many guesses for each thread, where there are bits for as many: one that it makes, and two that a row is read by.
+/// Number of speculative reads for each thread, if there are bits for as many: one that it makes, and two from which a
+/// row is read.
 const GUESSES_OF_ONE: u32 = 3;
 
 /// A guess has room for so many MCUs at least where a row has fewer bits than it.
 const LEAST_MCUS: u32 = 512;
 
-/// So many intervals are looked at to find a long one: a head may claim millions.
+/// Maximum number of intervals among which a long one is looked for: a header may claim millions.
 const MOST_LOOKED_AT: u32 = 1024;
 
 /// Slots for painted rows: so many, and one at least.
@@ -59,8 +60,9 @@ fn open_slots<S: OneFirstIntervals>(
     Ok(slots)
 }
 
-/// How many guesses are kept at most by the threads of so many benches: none where rows are whole intervals, which are read apart, or where
-/// there are few threads or few data, and no more than the data of the longest interval have bits for.
+/// Returns the maximum number of speculative reads that are kept for `count` benches: none if rows are whole intervals,
+/// which are read apart, or if there are few threads or few data, and no more than the data of the longest interval
+/// have bits for.
 fn guesses_of(part: &FirstIntervals<'_>, count: u32) -> u32 {
     let scan = part.scan();
     if intervals_of_row(scan.head()).is_some() || count < LEAST_BENCHES {

@@ -80,7 +80,7 @@ impl CutSoFar {
         Ok(())
     }
 
-    /// How many segments the scan has at most.
+    /// Returns the maximum number of segments of the scan.
     pub fn intervals(&self) -> u32
         ensures value { result ≡ self.now.intervals }
         ensures some { 0 < result }
@@ -88,7 +88,7 @@ impl CutSoFar {
         self.segments.intervals
     }
 
-    /// What has ended the scan; the end of the file while no marker has.
+    /// Returns what has ended the scan: the end of the file while no marker has.
     pub fn ended(&self) -> ScanEnd
         ensures { result ≡ self.now.ended }
     {
@@ -112,7 +112,7 @@ impl CutSoFar {
         &self.segments.bytes.data()[span.start..span.end]
     }
 
-    /// Where they stand in the unstuffed bytes.
+    /// Returns where they are in the unstuffed bytes.
     fn span(&self, i: usize) -> Span
         ensures within { IsSpanOf self.now.unstuffed result }
         ensures bytes { segment_data self.now.unstuffed result ≡ slice_index_or self.now.segments i [] }

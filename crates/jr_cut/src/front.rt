@@ -8,7 +8,7 @@ ghost use Rattle.jr_cut.specs.Cut.{IsRaw, IsStop};
 use jr_base::marker::PREFIX;
 use memchr::memchr;
 
-/// How many bytes at the front are FF.
+/// Returns the number of FF bytes at the start.
 pub fn fill_count(bytes: &[u8]) -> usize
     ensures within { result ≤ length bytes.now }
     ensures full { take result bytes.now ≡ replicate result PREFIX }
@@ -24,7 +24,7 @@ pub fn fill_count(bytes: &[u8]) -> usize
     n
 }
 
-/// How many bytes at the front are not FF.
+/// Returns the number of bytes at the start that are not FF.
 pub fn plain_count(bytes: &[u8]) -> usize
     ensures within { result ≤ length bytes.now }
     ensures plain { (k : ℕ) → k < result → slice_index bytes.now k ≢ PREFIX }
@@ -36,7 +36,7 @@ pub fn plain_count(bytes: &[u8]) -> usize
     }
 }
 
-/// How many bytes at the front spell data, up to a marker or to the end.
+/// Returns the number of bytes at the start that spell data, up to a marker or the end.
 pub fn segment_length(bytes: &[u8]) -> usize
     ensures within { result ≤ length bytes.now }
     ensures data { (spelled : List ℕ) × IsRaw (take result bytes.now) spelled }

@@ -16,12 +16,12 @@ use jr_base::Memory;
 #[derive(Drop)]
 pub(crate) struct OpenSegments {
     pub bytes: Unstuffing,
-    /// Where the data of those that have ended stand.
+    /// Positions of the data of the segments that have ended.
     pub spans: Vec<Span>,
-    /// Where the data of the open one begin.
+    /// Start of the data of the open segment.
     pub begin: usize,
     pub intervals: u32,
-    /// Where in the file the bytes stand that are not read yet.
+    /// File offset of the bytes that are not read yet.
     pub at: u64,
 }
 
@@ -81,7 +81,7 @@ impl OpenSegments {
         }
     }
 
-    /// Takes more bytes, and makes room for what they can be cut into.
+    /// Appends bytes, and allocates for what they can be cut into.
     pub(crate) fn take(&mut self, more: &[u8]) -> Result<(), Memory>
         requires is { AreOpen self.old }
         requires fits { self.old.at + length self.old.bytes.rest + length more.now < 2 ^ 64 }

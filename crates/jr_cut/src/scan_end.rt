@@ -1,6 +1,6 @@
 //! What ends a scan.
 
-/// What stands behind the last data of a scan. Offsets are those in the file of the marker's first FF byte.
+/// What follows the last data of a scan. Offsets are those in the file of the marker's first FF byte.
 #[derive(Clone, Copy, Debug, PartialEq, Eq)]
 pub enum ScanEnd {
     /// EOI.

@@ -8,7 +8,7 @@ ghost use Rattle.jr_cut.specs.OpenSegments.{IsStopOf};
 use crate::scan_end::ScanEnd;
 use jr_base::marker::{EOI, RST0, RST7};
 
-/// What the bytes behind a segment mean.
+/// The meaning of the bytes after a segment.
 #[derive(Clone, Copy, Debug, PartialEq, Eq)]
 pub enum Stop {
     /// The next segment follows a restart marker of that many bytes.
@@ -17,7 +17,8 @@ pub enum Stop {
     End(ScanEnd),
 }
 
-/// What a marker behind segment k means: that the scan ends there, or that the next segment follows it.
+/// Returns what a marker after segment k means: that the scan ends there, or, with `None`, that the next segment
+/// follows.
 fn end_at(code: u8, at: u64, k: u32, intervals: u32) -> Option<ScanEnd>
     requires few { k < intervals }
     requires not_stuffing { code ≢ 0 }
@@ -47,7 +48,7 @@ fn end_at(code: u8, at: u64, k: u32, intervals: u32) -> Option<ScanEnd>
     None
 }
 
-/// What stands behind segment k, at an offset of the file: so many FF bytes, and further ones.
+/// Returns what follows segment k, at an offset of the file: `fill` FF bytes, and further ones.
 pub fn stop_at(tail: &[u8], fill: usize, at: u64, k: u32, intervals: u32) -> Stop
     requires few { k < intervals }
     requires stop { IsStop tail.now }

@@ -29,11 +29,11 @@ pub fn offset_in(bytes: &[u8], offset: u64) -> usize
 #[derive(Drop)]
 pub struct Unstuffing {
     bytes: Vec<u8>,
-    /// How many bytes of data there are.
+    /// Number of bytes of data.
     found: usize,
-    /// Where the bytes begin that are not read yet.
+    /// Start of the bytes that are not read yet.
     at: usize,
-    /// How many of them, from the first on, are known to be FF.
+    /// Number of FF bytes that these are known to begin with.
     fill: usize,
 }
 
@@ -73,7 +73,7 @@ impl Unstuffing {
         Ok(Unstuffing::of(copied, 0))
     }
 
-    /// How many bytes of data there are.
+    /// Returns the number of bytes of data.
     pub(crate) fn len(&self) -> usize
         ensures { result ≡ length self.now.unstuffed }
     {
@@ -87,7 +87,8 @@ impl Unstuffing {
         &self.bytes[self.at..]
     }
 
-    /// How many of the bytes that are not read yet, from the first on, are FF. Those that were counted before are not counted again.
+    /// Returns the number of FF bytes at the start of the unread bytes. It does not count anew those that it counted
+    /// before.
     pub(crate) fn fill(&mut self) -> usize
         ensures same { self.new ≡ self.old }
         ensures within { result ≤ length self.old.rest }
@@ -160,7 +161,7 @@ impl Unstuffing {
         }
     }
 
-    /// Takes more bytes behind those that are not read yet. Where memory is refused it takes none.
+    /// Appends bytes to the unread ones. If allocation fails it appends none.
     pub(crate) fn extend(&mut self, more: &[u8]) -> Result<(), Memory>
         ensures data { self.new.unstuffed ≡ self.old.unstuffed }
         ensures rest { IfOk result (λ _. self.new.rest ≡ self.old.rest ++ more.now) }

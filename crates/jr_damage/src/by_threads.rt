@@ -17,7 +17,7 @@ use std::thread::Threads;
 const LEAST_WINDOWS: u64 = 64;
 /// And one more for each so many: some 128 KB.
 const WINDOWS_OF_ONE: u64 = 32;
-/// So many intervals are looked at to see that: a head may claim millions.
+/// Maximum number of intervals that are looked at for that: a header may claim millions.
 const MOST_LOOKED_AT: u32 = 1024;
 
 /// There is room for one guess a thread, and for so many that wait for the reader.
@@ -26,7 +26,7 @@ const WAITING_GUESSES: u32 = 4;
 /// A guess has room for the MCUs of so many steps, since its bits are about those of one.
 const STEPS_OF_GUESS: u32 = 2;
 
-/// How many of so many threads are worth their start beside the one that reads.
+/// Returns how many of `threads` threads are worth their start next to the one that reads.
 fn helpers_of(scan: &Scan, threads: u32) -> u32 {
     let mut windows: u64 = 0;
     for i in 0..scan.intervals().min(MOST_LOOKED_AT) {

@@ -34,7 +34,8 @@ pub(crate) fn step_of(head: &Head) -> u32
     (UNITS_OF_STEP / (head.order().len() as u32).max(1)).max(1)
 }
 
-/// Passes over the next MCUs of interval i, at most so many, by the guesses that others make of them; tells how many they are.
+/// Skips the next MCUs of interval i, at most `most`, by the speculative reads that other threads make of them. Returns
+/// their number.
 fn pass_some<'a, R: Wait, S: OneScan>(
     scan: &SharedScan<'a, S>,
     rt: &R,
@@ -54,7 +55,7 @@ fn pass_some<'a, R: Wait, S: OneScan>(
     reader.skip_by(&guesses, mcus)
 }
 
-/// Passes over so many steps of MCUs of interval i, or over those that follow.
+/// Skips the given number of steps of MCUs of interval i, or those that follow if these are fewer.
 fn pass_steps<'a, R: Wait, S: OneScan>(
     scan: &SharedScan<'a, S>,
     rt: &R,
@@ -75,7 +76,7 @@ fn pass_steps<'a, R: Wait, S: OneScan>(
     }
 }
 
-/// The same reader of interval i of a scan, by the guesses that others make of it.
+/// Returns the reader of interval i past all its whole MCUs, by the speculative reads that other threads make.
 fn pass_all_by<'a, R: Wait, S: OneScan>(scan: &SharedScan<'a, S>, rt: &R, i: u32) -> McuReader<'a>
     requires { i < length scan.now.intervals }
     ensures run { result.run ≡ whole_run (interval_of scan.now i) }
@@ -91,7 +92,7 @@ fn pass_all_by<'a, R: Wait, S: OneScan>(scan: &SharedScan<'a, S>, rt: &R, i: u32
     reader
 }
 
-/// What a reader tells that has passed over all whole MCUs of its interval.
+/// Returns what a reader says that has skipped all whole MCUs of its interval.
 fn front_of(reader: &McuReader<'_>) -> Option<u32>
     requires run { reader.now.run ≡ whole_run reader.now.run.interval }
     requires read { (zs : List (List ℤ)) × HasRead reader.now zs }
@@ -119,7 +120,7 @@ pub fn damaged_front(interval: IntervalRef<'_>) -> Option<u32>
     front_of(&reader)
 }
 
-/// The same of interval i of a scan, by the guesses that others make of it.
+/// Does what `damaged_front` does for interval i of a scan, by the speculative reads that other threads make.
 pub(crate) fn damaged_front_by<R: Wait, S: OneScan>(
     scan: &SharedScan<'_, S>,
     rt: &R,

@@ -19,26 +19,26 @@ struct Guessing<S: OneScan> {
     guesses: GuessQueue<S>,
     /// All is read.
     is_over: bool,
-    /// How many threads wait until another guess can be made.
+    /// Number of threads that wait until another speculative read can be made.
     waiting: u32,
-    /// Whether the reader waits for a guess that is being made.
+    /// Whether the reader waits for a speculative read that is being made.
     is_awaited: bool,
 }
 
 impl<S: OneScan> Guessing<S> {
-    /// Whether a thread has to wait until another guess can be made.
+    /// Returns whether a thread has to wait until another speculative read can be made.
     fn has_no_task(&self, scan: &Scan) -> bool {
         !self.is_over && !self.guesses.can_guess(scan)
     }
 
-    /// Whether a thread waits for a guess to make, and one can be made.
+    /// Returns whether a thread waits for a speculative read to make, and one can be made.
     fn is_waited_for(&self, scan: &Scan) -> bool {
         self.waiting > 0 && self.guesses.can_guess(scan)
     }
 }
 
-/// What the threads share that check one scan: one reads it, and the others make guesses ahead, each outside of the lock. The
-/// reader waits for nothing but a guess that a thread is making.
+/// What the threads share that check one scan: one reads it, the others read ahead speculatively, outside of the lock.
+/// The reader waits only for a speculative read that a thread is making.
 #[derive(Drop)]
 pub(crate) struct SharedScan<'a, S: OneScan> {
     scan: &'a Scan,
@@ -105,7 +105,7 @@ impl<'a, S: OneScan> SharedScan<'a, S> {
         task
     }
 
-    /// Makes a guess, and keeps it.
+    /// Makes a speculative read and keeps it.
     fn make<R: Wait>(&self, rt: &R, task: GuessTask<S>) {
         let made = task.make(self.scan);
         let mut guessing = self.guessing.lock(rt);
@@ -133,7 +133,7 @@ impl<'a, S: OneScan> SharedScan<'a, S> {
         }
     }
 
-    /// Takes memory of its own, and makes guesses until all is read.
+    /// Allocates memory of its own, and makes speculative reads until all is read.
     pub(crate) fn work<R: Wait>(&self, rt: &R, alloc: Global) {
         self.bring(rt, alloc);
         for _ in 0..MOST_GUESSES {

@@ -12,7 +12,7 @@ use jr_guesses::OneScan;
 use jr_scan::Scan;
 use std::sync::Wait;
 
-/// How many intervals of a scan have no decoding, and from which to which line of the picture these reach.
+/// The number of intervals of a scan without a decoding, and the first and last line of the image that they touch.
 #[derive(Clone, Copy, Debug, PartialEq, Eq)]
 pub struct Verdict {
     pub damaged: u32,
@@ -34,7 +34,7 @@ fn joined(some: Option<Lines>, others: Lines) -> Lines
     }
 }
 
-/// What is damaged of the intervals up to interval i, given what is of those before it and how far interval i can be decoded.
+/// Adds interval i, by how far it can be decoded, to the verdict on the intervals before it.
 fn with_front(scan: &Scan, i: u32, front: Option<u32>, before: Verdict) -> Verdict
     requires there { i < length scan.now.intervals }
     requires below { i < intervals_of scan.now.head }
@@ -69,7 +69,7 @@ pub fn check_scan(scan: &Scan) -> Verdict
     verdict
 }
 
-/// The same, by the guesses that others make of the scan.
+/// Does what `check` does, by the speculative reads that other threads make of the scan.
 pub(crate) fn check_by<R: Wait, S: OneScan>(scan: &SharedScan<'_, S>, rt: &R) -> Verdict
     ensures { IsVerdictOf scan.now (length scan.now.intervals) result }
 {

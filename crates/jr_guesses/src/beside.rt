@@ -4,14 +4,14 @@ use std::sync::Wait;
 use std::thread;
 use std::thread::Threads;
 
-/// What threads do that help the calling one.
+/// The work of threads that help the calling one.
 pub trait Help {
     /// Helps until nothing is left to do.
     fn help(&self);
 }
 
-/// What the calling thread does while others help it: a type of its own, since the prover passes on what a scope's closure ensures
-/// where that is a word of a trait.
+/// The work of the calling thread while others help it: a trait, since the prover passes on what a scope's closure
+/// ensures if that is the clause of a trait.
 pub trait Beside {
     type Answer;
 

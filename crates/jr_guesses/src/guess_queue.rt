@@ -17,7 +17,7 @@ use std::alloc::Global;
 /// A guess covers so many bits at least, where the interval has them, since it takes some until its MCUs are those of the picture.
 const LEAST_BITS: u64 = 32_768;
 
-/// How many guesses the data of an interval of the scan have bits for.
+/// Returns the number of speculative reads for which an interval's data have bits.
 pub fn windows_of(scan: &Scan, number: u32) -> u64
     requires { number < length scan.now.intervals }
     ensures { result ≡ 8 * length (interval_of scan.now number).bytes / LEAST_BITS }
@@ -25,7 +25,7 @@ pub fn windows_of(scan: &Scan, number: u32) -> u64
     scan.interval_ref(number).bytes().len() as u64 * 8 / LEAST_BITS
 }
 
-/// How many bits so many MCUs of the scan's first interval have, if all have as many; some at least.
+/// Returns the number of bits of `mcus` MCUs of the scan's first interval, if all have equally many; at least one.
 fn bits_of_step(scan: &Scan, mcus: u32) -> u64 {
     // By its contract a scan has an interval.
     let _some = scan.intervals();
@@ -37,18 +37,18 @@ fn bits_of_step(scan: &Scan, mcus: u32) -> u64 {
 /// outside of the lock under which it stands.
 #[derive(Drop)]
 pub struct GuessQueue<S: OneScan> {
-    /// How many intervals are read.
+    /// Number of intervals that are read.
     limit: u32,
     slots: Vec<GuessSlot<S>>,
     /// For so many guesses nobody brings room yet.
     lacking: u32,
     /// For so many MCUs a guess has room.
     most: u32,
-    /// Where the reader stands: its interval and its bit.
+    /// Position of the reader: its interval and bit.
     at: (u32, u64),
-    /// Where the next guess starts.
+    /// Start of the next speculative read.
     next: (u32, u64),
-    /// How many bits the reader's last step had, if it ended in the interval that it began in, or was all of it.
+    /// Number of bits of the reader's last step, if it ended in the interval in which it began, or was all of it.
     step_bits: u64,
 }
 
@@ -96,7 +96,7 @@ impl<S: OneScan> GuessQueue<S> {
         }
     }
 
-    /// Whether room for a guess more is of use: nobody brings some yet, and there are bits to guess.
+    /// Returns whether one more buffer is of use: no thread brings one yet, and there are bits to read ahead.
     pub fn wants_room(&self, scan: &Scan) -> bool {
         self.lacking > 0 && self.next_window(scan).is_some()
     }
@@ -153,8 +153,8 @@ impl<S: OneScan> GuessQueue<S> {
         }
     }
 
-    /// Whether a guess has an MCU that starts where the reader stands, and one covers the end of its next step: then the step
-    /// takes no reading.
+    /// Returns whether a speculative read has an MCU that starts where the reader is, and one covers the end of its
+    /// next step: then the step needs no reading.
     pub fn has_next(&self, scan: &Scan) -> bool {
         let (number, bit) = self.at;
         let has_end = match self.next_end(scan) {
@@ -164,14 +164,14 @@ impl<S: OneScan> GuessQueue<S> {
         has_end && self.slots.iter().any(|slot| slot.has(number, bit))
     }
 
-    /// Whether a thread makes a guess that the reader's next step may be taken by.
+    /// Returns whether a thread makes a speculative read that can serve the reader's next step.
     pub fn makes_next(&self, scan: &Scan) -> bool {
         let (number, bit) = self.at;
         let end = self.next_end(scan).unwrap_or(bit);
         self.slots.iter().any(|slot| slot.is_made(number, bit) || slot.is_made(number, end))
     }
 
-    /// Where there is room for another guess.
+    /// Returns a slot that is free for another speculative read.
     fn free_slot(&self) -> Option<usize> {
         let (number, bit) = self.at;
         self.slots.iter().position(|slot| slot.is_free(number, bit))
@@ -201,7 +201,7 @@ impl<S: OneScan> GuessQueue<S> {
         })
     }
 
-    /// Whether another guess can be made.
+    /// Returns whether another speculative read can be made.
     pub fn can_guess(&self, scan: &Scan) -> bool {
         self.free_slot().is_some() && self.next_window(scan).is_some()
     }

@@ -26,13 +26,14 @@ impl<S: OneScan> GuessSlot<S> {
         }
     }
 
-    /// Whether another guess can be made here, where what stands before this bit of an interval is of no use any more.
+    /// Returns whether another speculative read can be made here, if what lies before this bit of an interval is of no
+    /// more use.
     pub(crate) fn is_free(&self, number: u32, bit: u64) -> bool {
         self.window.is_before(number, bit)
             && self.guess.as_ref().is_some_and(|guess| guess.is_unused())
     }
 
-    /// Whether it covers this bit of an interval, and one of its MCUs starts there.
+    /// Returns whether it covers this bit of an interval, and one of its MCUs starts there.
     pub(crate) fn has(&self, number: u32, bit: u64) -> bool {
         self.window.has(number, bit)
             && self
@@ -41,24 +42,24 @@ impl<S: OneScan> GuessSlot<S> {
                 .is_some_and(|guess| guess.has(number, bit))
     }
 
-    /// Whether it is made, and covers this bit of an interval.
+    /// Returns whether it is made, and covers this bit of an interval.
     pub(crate) fn is_ready(&self, number: u32, bit: u64) -> bool {
         self.guess.is_some() && self.window.has(number, bit)
     }
 
-    /// Whether a thread makes it, and it covers this bit of an interval.
+    /// Returns whether a thread makes it, and it covers this bit of an interval.
     pub(crate) fn is_made(&self, number: u32, bit: u64) -> bool {
         self.guess.is_none() && self.window.has(number, bit)
     }
 
-    /// Whether it covers a bit of an interval from one on and before another.
+    /// Returns whether it covers a bit of an interval in `from..to`.
     pub(crate) fn is_between(&self, number: u32, from: u64, to: u64) -> bool {
         !self.window.is_before(number, from)
             && self.window.number == number
             && self.window.from < to
     }
 
-    /// Takes the room for a guess of these bits.
+    /// Takes the buffer for a speculative read of these bits.
     pub(crate) fn take(&mut self, window: Window) -> Option<ScanGuess<S>> {
         self.window = window;
         self.guess.take()

@@ -49,17 +49,17 @@ impl<S: OneScan> ScanGuess<S> {
         })
     }
 
-    /// Whether nobody else reads it.
+    /// Returns whether no other thread reads it.
     pub(crate) fn is_unused(&self) -> bool {
         Arc::strong_count(&self.guess) == 1
     }
 
-    /// Whether one of its MCUs starts at this bit of an interval.
+    /// Returns whether one of its MCUs starts at this bit of an interval.
     pub(crate) fn has(&self, number: u32, bit: u64) -> bool {
         self.guess.number() == number && self.guess.find(bit).is_some()
     }
 
-    /// Makes the guess of these bits.
+    /// Makes the speculative read of these bits.
     pub(crate) fn read(self, scan: &Scan, window: Window) -> ScanGuess<S>
         requires { S.scan ≡ Some scan.now }
     {

@@ -14,7 +14,7 @@ pub(crate) struct Window {
 }
 
 impl Window {
-    /// No bits.
+    /// Returns a window of no bits.
     pub(crate) fn none() -> Window {
         Window {
             number: 0,
@@ -23,18 +23,18 @@ impl Window {
         }
     }
 
-    /// Whether it has this bit of an interval.
+    /// Returns whether it has this bit of an interval.
     pub(crate) fn has(&self, number: u32, bit: u64) -> bool {
         self.number == number && self.from <= bit && bit < self.to
     }
 
-    /// Whether all of it lies before a bit of an interval.
+    /// Returns whether all of it lies before a bit of an interval.
     pub(crate) fn is_before(&self, number: u32, bit: u64) -> bool {
         self.number < number || (self.number == number && self.to <= bit)
     }
 }
 
-/// How many bits the data of an interval of the scan have; none where the scan has no such interval.
+/// Returns the number of bits of an interval's data, 0 if the scan has no such interval.
 pub(crate) fn bits_of(scan: &Scan, number: u32) -> u64 {
     if number >= scan.intervals() {
         return 0;

@@ -8,7 +8,7 @@ ghost use Rattle.jr_head.specs.Intervals.{first_mcu_of, interval_number, interva
 use crate::head::Head;
 
 impl Head {
-    /// How many MCUs, of 8 Hmax columns each, cover the picture's width (T.81, A.2.4).
+    /// Returns the number of MCUs, of 8 Hmax columns each, that cover the image's width (T.81, A.2.4).
     pub fn mcus_across(&self) -> u32
         ensures value { result ≡ mcus_across self.now }
         ensures some { 0 < result }
@@ -17,7 +17,7 @@ impl Head {
         self.width().div_ceil(8 * self.horizontal_max())
     }
 
-    /// How many rows of MCUs, of 8 Vmax lines each, cover the picture's height (T.81, A.2.4).
+    /// Returns the number of rows of MCUs, of 8 Vmax lines each, that cover the image's height (T.81, A.2.4).
     pub fn mcus_down(&self) -> u32
         ensures value { result ≡ mcus_down self.now }
         ensures some { 0 < result }
@@ -26,7 +26,7 @@ impl Head {
         self.height().div_ceil(8 * self.vertical_max())
     }
 
-    /// How many MCUs, of 8 Hmax by 8 Vmax pixels, cover the picture (T.81, A.2.4).
+    /// Returns the number of MCUs, of 8 Hmax by 8 Vmax pixels, that cover the image (T.81, A.2.4).
     pub fn mcus(&self) -> u32
         ensures value { result ≡ mcus_of self.now }
         ensures some { 0 < result }
@@ -35,7 +35,7 @@ impl Head {
         self.mcus_across() * self.mcus_down()
     }
 
-    /// How many restart intervals the scan has (T.81, E.1.4): one where there are no restart markers.
+    /// Returns the number of restart intervals of the scan (T.81, E.1.4): one if there are no restart markers.
     pub fn intervals(&self) -> u32
         ensures value { result ≡ intervals_of self.now }
         ensures some { 0 < result }
@@ -58,7 +58,7 @@ impl Head {
         interval * u32::from(self.restart())
     }
 
-    /// How many MCUs an interval has: the last one may have fewer than the others.
+    /// Returns the number of MCUs of an interval: the last one may have fewer than the others.
     pub fn mcus_in(&self, interval: u32) -> u32
         requires { interval < intervals_of self.now }
         ensures value { result ≡ mcus_in self.now interval }

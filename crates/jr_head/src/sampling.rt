@@ -7,7 +7,7 @@ ghost use Rattle.jr_head.specs.Geometry.{order_from, IsSampled, greatest_across,
 use crate::component::Component;
 use std::alloc::{AllocError, Global};
 
-/// Puts a component's number into the order, once for each of its data units.
+/// Appends a component's number to the order, once for each of its data units.
 fn push_units(order: &mut Vec<u8>, component: u8, count: u8) -> Result<(), AllocError>
     ensures { IfOk result (λ _. order.new.items ≡ order.old.items ++ replicate count component) }
 {

@@ -36,7 +36,7 @@ const OWN_OF_X5: i16 = 16819;
 /// -c1 + c3 + c5 - c7: the same of x7 in entry 3.
 const OWN_OF_X7: i16 = 2446;
 
-/// What x2 and x6 make of entry 1 (and, with the other sign, of entry 2), and of entry 0 (and of entry 3).
+/// Returns what x2 and x6 add to entry 1 (and, with the other sign, to entry 2), and to entry 0 (and entry 3).
 #[inline]
 fn rotated<T: Number>(x2: T, x6: T) -> (T, T)
     requires x2_small { IsWithin T.reach (T.value x2) }

@@ -5,10 +5,10 @@ ghost use Rattle.std.proofs.Math.IntN.{◌*ℤ◌};
 ghost use Rattle.jr_idct.specs.Matrix.{descale, wide_reach, row_weight, IsInRoom, IsWithin};
 ghost use Rattle.jr_idct.specs.Transform.{byte_of};
 
-/// How many bits the pass over columns drops: the 13 of the constants, less two that are kept.
+/// Number of bits that the pass over columns drops: the 13 of the constants, less two that are kept.
 pub(crate) const COLUMN_BITS: u32 = 11;
 
-/// How many bits the pass over rows drops: those 13, the two, and three for the sum's scale of 8.
+/// Number of bits that the pass over rows drops: those 13, the two, and three for the sum's scale of 8.
 pub(crate) const ROW_BITS: u32 = 18;
 
 /// A signed number. What a pass makes of numbers within its reach is exact.

@@ -145,10 +145,10 @@ fn rows_of(a: &[i16; 64], b: &[i16; 64]) -> Rows
     (x0, x1, x2, x3, x4, x5, x6, x7)
 }
 
-/// What is added before the first pass drops its bits: a half.
+/// Added before the first pass drops its bits: a half.
 const COLUMN_CONSTANT: i32 = 1024;
 
-/// What is added before the second pass drops its bits: a half, and the level shift of 128 (T.81, A.3.1).
+/// Added before the second pass drops its bits: a half, and the level shift of 128 (T.81, A.3.1).
 const ROW_CONSTANT: i32 = 33_685_504;
 
 /// Both passes and the level shift: column c of both blocks is row c of these.

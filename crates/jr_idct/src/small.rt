@@ -7,7 +7,7 @@ ghost use Rattle.jr_idct.specs.Transform.{product_at};
 
 use jr_base::{Coefficients, Quantisers};
 
-/// Whether a coefficient is at most as large as a limit.
+/// Returns whether a coefficient is at most as large as a limit.
 #[inline(always)]
 fn is_within(coefficient: i16, limit: u16) -> bool
     ensures { IsTrue result ↔ (unsigned_abs coefficient ≤ limit) }
@@ -15,7 +15,8 @@ fn is_within(coefficient: i16, limit: u16) -> bool
     coefficient.unsigned_abs() <= limit
 }
 
-/// Whether each coefficient is at most as large as its limit. It has no early end, so that it is done by vectors.
+/// Returns whether each coefficient is at most as large as its limit. It has no early end, so that it is done by
+/// vectors.
 #[inline(always)]
 fn are_within(natural: &[i16; 64], limits: &[u16; 64]) -> bool
     ensures { IsTrue result ↔ ((n : ℕ) → n < 64 → unsigned_abs (at natural.now n) ≤ slice_index limits.now n) }
@@ -27,14 +28,14 @@ fn are_within(natural: &[i16; 64], limits: &[u16; 64]) -> bool
     within
 }
 
-/// No limit of the first coefficient, and that all others are 0.
+/// Limits that leave the first coefficient free and let all others be 0.
 static ONLY_FIRST: [u16; 64] = [
     65535, 0, 0, 0, 0, 0, 0, 0, 0, 0, 0, 0, 0, 0, 0, 0, 0, 0, 0, 0, 0, 0, 0, 0, 0, 0, 0, 0, 0, 0,
     0, 0, 0, 0, 0, 0, 0, 0, 0, 0, 0, 0, 0, 0, 0, 0, 0, 0, 0, 0, 0, 0, 0, 0, 0, 0, 0, 0, 0, 0, 0, 0,
     0, 0,
 ];
 
-/// Whether it is seen that all coefficients but the first are 0.
+/// Returns whether all coefficients but the first are seen to be 0.
 #[inline(always)]
 pub(crate) fn is_flat(block: &Coefficients) -> bool
     ensures { IsTrue result → (k : ℕ) → 0 < k → k < 64 → at block.now k ≡ pos 0 }
@@ -42,7 +43,7 @@ pub(crate) fn is_flat(block: &Coefficients) -> bool
     are_within(block.natural(), &ONLY_FIRST)
 }
 
-/// Whether the products with quantisers are so small that they may be transformed in lanes.
+/// Returns whether the products with quantisers are so small that they may be transformed in lanes.
 #[inline(always)]
 pub(crate) fn is_small(block: &Coefficients, quantisers: &Quantisers) -> bool
     ensures { IsTrue result → (n : ℕ) → n < 64 → IsWithin MOST_PRODUCT (product_at block.now quantisers.now n) }

@@ -25,7 +25,7 @@ fn by_doubles(a: i16x16, b: i16x16, upper: bool) -> i16x16
     )
 }
 
-/// The same, four of each by turns.
+/// Interleaves both, four entries of each at a time.
 #[inline(always)]
 fn by_quads(a: i16x16, b: i16x16, upper: bool) -> i16x16
     ensures { result ≡ pick_l (pos 0) (a ++ b) (quads upper) }

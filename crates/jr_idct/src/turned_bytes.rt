@@ -32,7 +32,7 @@ fn by_bytes(a: u8x32, b: u8x32, upper: bool) -> u8x32
     )
 }
 
-/// The same, four of each by turns.
+/// Interleaves both, four entries of each at a time.
 #[inline(always)]
 fn by_fours(a: u8x32, b: u8x32, upper: bool) -> u8x32
     ensures { result ≡ pick_l 0 (a ++ b) (fours upper) }

@@ -16,7 +16,7 @@ use std::alloc::Global;
 use std::marker::{Model, PhantomData};
 use std::sync::Arc;
 
-/// What has been decoded of an interval of the scan: each strip in its place, and its end once that is known.
+/// The decoded parts of an interval of the scan: each strip at its index, and the interval's end once that is known.
 #[derive(Drop)]
 pub(crate) struct Gathered<S: OneScan> {
     interval: Arc<Interval>,
@@ -55,7 +55,7 @@ fn all_of(alloc: Global, places: &[Option<Arc<Strip>>]) -> Option<Vec<Arc<Strip>
     Some(strips)
 }
 
-/// Puts a strip into its place. Places before it that are not there yet are empty.
+/// Stores a strip at its index. Indices before it that have none yet are empty.
 fn put(places: &mut Vec<Option<Arc<Strip>>>, place: usize, strip: Arc<Strip>) -> Result<(), Memory>
     ensures { (i : IntervalValue) → (arc_value strip).interval ≡ i → All (IsEmptyOrOf i) places.old.items → All (IsEmptyOrOf i) places.new.items }
 {

@@ -28,7 +28,7 @@ const GUESSES_OF_ONE: u32 = 2;
 /// A guess has room for the MCUs of so many strips, since its bits are about those of one.
 const STEPS_OF_GUESS: u32 = 2;
 
-/// No more than so many workers have room for guesses.
+/// Maximum number of workers with a buffer for speculative reads.
 const MOST_WORKERS: usize = 64;
 
 /// More tasks than there are: each reads or decodes a strip, or makes a guess of bits that no other has.
@@ -123,7 +123,7 @@ impl<S: OneScan> Job<S> {
         &self.interval
     }
 
-    /// What to do next, once there is something.
+    /// Waits for a task and returns it.
     fn task<R: Wait>(&self, rt: &R, scan: &Scan) -> Option<StripTask<S>>
         requires { S.scan ≡ Some scan.now }
     {
@@ -159,7 +159,7 @@ impl<S: OneScan> Job<S> {
         }
     }
 
-    /// Makes a guess, and wakes whoever waits for it.
+    /// Makes a speculative read, and wakes the workers that wait for it.
     fn guess<R: Wait>(&self, rt: &R, scan: &Scan, task: GuessTask<S>)
         requires { S.scan ≡ Some scan.now }
     {

@@ -65,7 +65,7 @@ impl<S: OneScan> ScanStrip<S> {
     }
 }
 
-/// What a worker does next.
+/// The next task of a worker.
 #[derive(Drop)]
 pub(crate) enum StripTask<S: OneScan> {
     /// Read the next strip, or pass over it.
@@ -78,7 +78,7 @@ pub(crate) enum StripTask<S: OneScan> {
     Leave,
 }
 
-/// What a worker can do next.
+/// The kind of task that a worker can do next.
 #[derive(Clone, Copy, PartialEq, Eq)]
 enum Choice {
     Read,
@@ -101,7 +101,7 @@ pub(crate) struct Progress<S: OneScan> {
     is_over: bool,
     /// In their order.
     waiting: VecDeque<ScanStrip<S>>,
-    /// As many of them may wait before the worker that reads decodes one.
+    /// Maximum number of them that wait before the worker that reads decodes one.
     most_waiting: usize,
     /// Memory of strips that are transformed, for those to be read.
     spare: Vec<Vec<Coefficients>>,
@@ -128,9 +128,9 @@ impl<S: OneScan> Progress<S> {
         }
     }
 
-    /// What a worker does next: it passes over a strip, or reads one, where it can, so that reading goes on, decodes one that
-    /// waits where it can't, and makes a guess where nothing else is to be done. A strip for which a guess is being made waits
-    /// for it, and for nothing else.
+    /// Chooses what a worker does next: it skips a strip, or reads one, if it can, so that reading continues; otherwise
+    /// it decodes one that waits; and it makes a speculative read if nothing else is to be done. A strip for which a
+    /// speculative read is being made waits for it, and for nothing else.
     fn choice(&self, scan: &Scan) -> Choice {
         if self.is_over {
             return if self.waiting.is_empty() {
@@ -167,7 +167,7 @@ impl<S: OneScan> Progress<S> {
         }
     }
 
-    /// Whether a worker has to wait for what others read or guess.
+    /// Returns whether a worker has to wait for what others read, ahead or in turn.
     pub(crate) fn has_no_task(&self, scan: &Scan) -> bool {
         self.choice(scan) == Choice::Wait
     }
@@ -202,7 +202,7 @@ impl<S: OneScan> Progress<S> {
         Some(reading)
     }
 
-    /// What a worker does next. None where it has to wait.
+    /// Returns the next task of a worker. `None` if it has to wait.
     pub(crate) fn task(&mut self, scan: &Scan) -> Option<StripTask<S>>
         requires { S.scan ≡ Some scan.now }
     {
@@ -250,7 +250,7 @@ impl<S: OneScan> Progress<S> {
         }
     }
 
-    /// Takes the reading back, with what was read. True where nothing will be read any more.
+    /// Takes the reading back, with what was read. Returns `true` if nothing will be read any more.
     pub(crate) fn put(
         &mut self,
         scan: &Scan,

@@ -17,17 +17,17 @@ use std::marker::{Model, PhantomData};
 use std::mem::replace;
 use std::sync::Arc;
 
-/// How many strips a long interval has at least, but for the roundings.
+/// Minimum number of strips of a long interval, up to rounding.
 const STRIPS: u32 = 64;
 
-/// How many MCUs a strip has at least: reading fewer takes no longer than handing the reader on.
+/// Minimum number of MCUs of a strip: reading fewer takes no longer than handing the reader on.
 const LEAST_MCUS: u32 = 256;
 
-/// How many data units a strip has at most, where it has more than the least: their blocks fit into a processor's own
-/// cache.
+/// Maximum number of data units of a strip that has more than the minimum of MCUs: their blocks fit into a processor's
+/// own cache.
 const MOST_UNITS: u32 = 3072;
 
-/// How many MCUs the strips of a shared interval have, but for the last one.
+/// Returns the number of MCUs of each strip of a shared interval but the last.
 pub fn strip_mcus(interval: &Interval) -> u32
     ensures { 0 < result }
 {
@@ -44,7 +44,7 @@ pub(crate) struct End {
     pub is_sound: bool,
 }
 
-/// What follows what is read.
+/// What follows the MCUs that are read.
 #[derive(Drop)]
 pub(crate) enum Next {
     /// The next strip.
@@ -136,7 +136,7 @@ impl<S: OneScan> Reading<S> {
         self.reader.bit()
     }
 
-    /// Gives it the guesses by which the next strip is passed over, or none.
+    /// Sets the speculative reads by which the next strip is skipped, if any.
     pub(crate) fn guide(&mut self, guesses: Guesses)
         requires { AreGuessesOf self.old guesses }
         ensures { self.new ≡ self.old }

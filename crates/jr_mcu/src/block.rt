@@ -74,7 +74,7 @@ pub(crate) fn read_others(
     }
 }
 
-/// Whether a block ends where its last code went on to this place: to the last one, or by the code of the end.
+/// Returns whether a block ends if its last code advanced to this place: at the last one, or by the code of the end.
 #[inline(always)]
 fn end_at(place: u32) -> Option<()>
     ensures { IsSome result ↔ ((place ≡ 63) ⊎ (128 ≤ place)) }

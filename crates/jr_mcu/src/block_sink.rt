@@ -8,7 +8,7 @@ use crate::block::{read_first, read_others, skip_others};
 use jr_base::Coefficients;
 use jr_code::{Bits, CodeBook, WordBook};
 
-/// Where the blocks of an MCU go, one after the other.
+/// The destination of the blocks of an MCU, one after the other.
 pub trait BlockSink {
     // whether they are kept
     ghost keeps: { Bool };

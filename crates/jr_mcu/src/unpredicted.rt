@@ -13,7 +13,7 @@ use jr_base::Coefficients;
 use jr_code::Bits;
 use jr_head::Head;
 
-/// Whether a number is so small that sixteen bits hold the sum of two.
+/// Returns whether a number is so small that sixteen bits hold the sum of two.
 #[inline(always)]
 fn is_small(value: i32) -> bool
     ensures { IsTrue result → IsSmall value }
@@ -21,7 +21,7 @@ fn is_small(value: i32) -> bool
     -16384 <= value && value <= 16383
 }
 
-/// Whether the predictions are small.
+/// Returns whether the predictions are small.
 #[inline(always)]
 pub fn all_small(predictions: &[i32; 3]) -> bool
     ensures { IsTrue result → All IsSmall predictions.now }
@@ -51,7 +51,7 @@ pub fn sums(a: &[i32; 3], b: &[i32; 3]) -> [i32; 3]
     [sum(a[0], b[0]), sum(a[1], b[1]), sum(a[2], b[2])]
 }
 
-/// Whether the first coefficients of these blocks are small.
+/// Returns whether the first coefficients of these blocks are small.
 fn are_small(blocks: &[Coefficients]) -> bool
     ensures { IsTrue result → HaveSmallFirst blocks.now }
 {
@@ -63,8 +63,8 @@ fn are_small(blocks: &[Coefficients]) -> bool
     true
 }
 
-/// Takes the blocks of one MCU where each component is predicted to be 0, and gives the predictions behind it. None where no
-/// whole one follows, or where a first coefficient is not small.
+/// Reads the blocks of one MCU with each component predicted to be 0, and returns the predictions after it. `None` if
+/// no whole MCU follows, or if a first coefficient is not small.
 pub fn read_unpredicted(
     head: &Head,
     bits: &mut Bits<'_>,
@@ -100,7 +100,7 @@ fn shifted(block: &Coefficients, by: i32) -> Option<Coefficients>
     Some(shifted)
 }
 
-/// Puts the blocks of an MCU into others, each first coefficient greater by what is given for its component.
+/// Copies the blocks of an MCU, adding to each first coefficient what is given for its component.
 pub fn put_shifted(
     head: &Head,
     by: &[i32; 3],

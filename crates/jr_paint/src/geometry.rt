@@ -35,7 +35,7 @@ fn mcu_number(line: u32, column: u32, columns: u32) -> u32
     line * columns + column
 }
 
-/// How many data units an MCU has before those of component c.
+/// Returns the number of data units of an MCU before those of component c.
 fn earlier_blocks(head: &Head, c: u32) -> u32
     requires lawful { IsLawful head.now }
     requires component { c < components_of head.now }
@@ -49,7 +49,7 @@ fn earlier_blocks(head: &Head, c: u32) -> u32
     sum
 }
 
-/// Where the sample in column x and line y of component c lies.
+/// Returns where the sample in column x and line y of component c lies.
 pub fn place(head: &Head, c: u32, x: u32, y: u32) -> Spot
     requires component { c < components_of head.now }
     requires column { x < samples_across head.now c }

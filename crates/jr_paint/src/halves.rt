@@ -10,7 +10,7 @@ use crate::colours::mixed;
 use crate::lanes::{load, paint, raised_blue, raised_green, raised_red};
 use std::simd::prelude::*;
 
-/// What red, green and blue have over luminance by sixteen samples of chrominance, from sample i on, raised.
+/// Returns what red, green and blue have over luminance by sixteen samples of chrominance starting at sample i, raised.
 #[inline(always)]
 fn raised(cb: &[u8], cr: &[u8], i: usize) -> (u16x16, u16x16, u16x16)
     requires first { i + 16 ≤ length cb.now }
@@ -67,7 +67,8 @@ fn convert_block(
     paint(next_luma, 2 * i, red, green, blue, second);
 }
 
-/// Where the last of so many pixels, which whole blocks of 32 leave, are the end of a block: half of that block's first pixel.
+/// Returns, if the last of `count` pixels, which whole blocks of 32 leave, are the end of a block, half of that block's
+/// first pixel.
 fn last_block(count: usize) -> Option<usize>
     ensures inside { IfSome result (λ i. 2 * i + 32 ≤ count) }
     ensures late { IfSome result (λ i. 2 * i ≤ 32 * (count / 32)) }

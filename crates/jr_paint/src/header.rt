@@ -20,7 +20,7 @@ fn magic(kind: Kind) -> &'static [u8]
     }
 }
 
-/// Puts `part` into `bytes` behind the first `at`: answers where it ends.
+/// Writes `part` into `bytes` after the first `at`, and returns where it ends.
 fn put(part: &[u8], bytes: &mut [u8], at: usize) -> usize
     requires { at + length part.now ≤ length bytes.old }
     ensures end { result ≡ at + length part.now }
@@ -31,7 +31,7 @@ fn put(part: &[u8], bytes: &mut [u8], at: usize) -> usize
     end
 }
 
-/// Puts a number in decimal into `bytes` behind the first `at`: answers where it ends.
+/// Writes a number in decimal into `bytes` after the first `at`, and returns where it ends.
 fn put_number(number: u32, bytes: &mut [u8], at: usize) -> usize
     requires { at + 10 ≤ length bytes.old }
     ensures end { result ≤ at + 10 }
@@ -41,7 +41,7 @@ fn put_number(number: u32, bytes: &mut [u8], at: usize) -> usize
     put(digits.format(number).as_bytes(), bytes, at)
 }
 
-/// Puts what stands before the pixels to the front of `bytes`: answers how long it is.
+/// Writes the text before the pixels at the start of `bytes`, and returns its length.
 pub fn put_header(head: &Head, bytes: &mut [u8]) -> usize
     requires { HEADER_ROOM ≤ length bytes.old }
     ensures end { result ≤ HEADER_ROOM }

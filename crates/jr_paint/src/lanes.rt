@@ -36,7 +36,7 @@ pub(crate) fn load_by_turns(bytes: &[u8], i: usize) -> (u16x16, u16x16)
     (words & Simd::splat(255), words >> Simd::splat(8))
 }
 
-/// What red has over luminance, raised. 45943 is about 65536 times 1.402 over 2.
+/// Returns what red has over luminance, raised. 45943 is about 65536 times 1.402 over 2.
 #[inline(always)]
 pub(crate) fn raised_red(cr: u16x16) -> u16x16
     requires { (k : ℕ) → k < 16 → slice_index cr k < 256 }
@@ -46,7 +46,7 @@ pub(crate) fn raised_red(cr: u16x16) -> u16x16
     (product >> Simd::splat(16)).cast::<u16>()
 }
 
-/// What blue has over luminance, raised. 58066 is about 65536 times 1.772 over 2.
+/// Returns what blue has over luminance, raised. 58066 is about 65536 times 1.772 over 2.
 #[inline(always)]
 pub(crate) fn raised_blue(cb: u16x16) -> u16x16
     requires { (k : ℕ) → k < 16 → slice_index cb k < 256 }
@@ -76,8 +76,8 @@ const GREEN_FACTORS: [u32; 16] = [
     4_294_943_895,
 ];
 
-/// What green has over luminance, raised, by twice the samples of both chrominances by turns. The sum wraps; what is
-/// added makes up for the middles, and is 65536 times 1628.5 more.
+/// Returns what green has over luminance, raised, by twice the interleaved samples of both chrominances. The sum wraps;
+/// what is added makes up for the middles, and is 65536 times 1628.5 more.
 #[inline(always)]
 fn green_of_pairs(pairs: u16x16) -> u16x8
     ensures { (j b r : ℕ) → j < 8 → b < 256 → r < 256 → slice_index pairs (2 * j) ≡ b + b → slice_index pairs (2 * j + 1) ≡ r + r → IsRaised (slice_index result j) (green_over_of b r) }
@@ -88,7 +88,7 @@ fn green_of_pairs(pairs: u16x16) -> u16x8
     ((first + second + Simd::splat(115_602_944)) >> Simd::splat(16)).cast::<u16>()
 }
 
-/// What green has over luminance, raised.
+/// Returns what green has over luminance, raised.
 #[inline(always)]
 pub(crate) fn raised_green(cb: u16x16, cr: u16x16) -> u16x16
     requires second { (k : ℕ) → k < 16 → slice_index cb k < 256 }

@@ -12,7 +12,8 @@ use crate::samples::Samples;
 use crate::upsampling::{halves_chroma, read_halves, shares_chroma, upsample};
 use jr_head::{Head, Kind};
 
-/// How many bytes of room the painting of a line takes, or of two: four lines of samples, of those that are not lent.
+/// Returns the number of bytes that painting a line, or two at once, needs: four lines of those samples that are not
+/// used in place.
 pub fn line_room(head: &Head) -> usize
     ensures value { result ≡ line_room head.now }
     ensures few { result < 262144 }
@@ -91,7 +92,8 @@ fn fill_two<S: Samples>(samples: &S, y: u32, room: &mut [u8], pixels: &mut [u8])
     convert_two(luma, next_luma, cb, cr, upper, lower);
 }
 
-/// How many lines are painted at once from line y on: two where both take the same samples of chrominance.
+/// Returns the number of lines that are painted at once starting at line y: two if both take the same samples of
+/// chrominance.
 pub(crate) fn lines_at_once(head: &Head, y: u32) -> u32
     requires lawful { IsLawful head.now }
     requires down { y < head.now.height }
@@ -129,7 +131,7 @@ pub(crate) fn fill_lines<S: Samples>(
     }
 }
 
-/// How many bytes a line of pixels has.
+/// Returns the size of a line of pixels in bytes.
 pub fn bytes_of_line(head: &Head) -> usize
     ensures value { result ≡ line_size head.now }
     ensures few { result ≤ 3 * head.now.width }
@@ -141,7 +143,7 @@ pub fn bytes_of_line(head: &Head) -> usize
     }
 }
 
-/// How many bytes the first lines have with some more, of `count` lines.
+/// Returns the size in bytes of the first `painted` lines and `more` after them, of `count` lines.
 fn bytes_to(painted: u32, more: u32, count: u32, line: usize) -> usize
     requires within { painted + more ≤ count }
     requires few { count < 65536 }

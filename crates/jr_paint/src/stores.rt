@@ -52,7 +52,7 @@ fn placed(red: u8x32, green: u8x32, blue: u8x32) -> (u8x32, u8x32, u8x32)
     (red, green, blue)
 }
 
-/// Puts 32 pixels of three bytes from byte i on, of pixels by turns.
+/// Stores 32 pixels of three bytes starting at byte i, from interleaved halves.
 #[inline(always)]
 pub(crate) fn put(red: u8x32, green: u8x32, blue: u8x32, out: &mut [u8], i: usize)
     requires { i + 96 ≤ length out.old }

@@ -27,7 +27,7 @@ pub trait Units {
     // the sample by component, MCU, data unit in the MCU and place in the data unit
     ghost shown_in: { Self → ℕ → ℕ → ℕ → ℕ → ℕ };
 
-    /// What is shown of a data unit of an MCU, one of component c.
+    /// Returns what is shown of data unit `block` of an MCU, one of component c.
     fn unit(&self, c: u32, mcu: u32, block: u32) -> Unit<'_>
         requires component { c < components_of (head_of self.now) }
         requires mcu { mcu < mcus_of (head_of self.now) }
@@ -47,7 +47,7 @@ fn copy(from: &[u8], out: &mut [u8])
     }
 }
 
-/// Puts the samples of a data unit from a place on.
+/// Copies the samples of a data unit starting at one of them.
 fn put(unit: &Unit<'_>, from: usize, out: &mut [u8])
     requires { from + length out.old ≤ 64 }
     ensures { (k : ℕ) → k < length out.new → slice_index out.new k ≡ sample_in_unit unit.now (from + k) }

@@ -10,7 +10,7 @@ ghost use Rattle.jr_paint.specs.Lines.{IsStretched, IsHalfStretched};
 use crate::samples::Samples;
 use jr_head::{Head, Kind};
 
-/// Puts each of `near` into two entries.
+/// Writes each of `near` into two entries.
 fn double(near: &[u8], out: &mut [u8])
     requires { length out.old ≤ 2 * length near.now }
     ensures { (k : ℕ) → k < length out.new → slice_index out.new k ≡ slice_index near.now (k / 2) }
@@ -25,7 +25,7 @@ fn double(near: &[u8], out: &mut [u8])
     }
 }
 
-/// Puts each of `near` into three entries.
+/// Writes each of `near` into three entries.
 fn triple(near: &[u8], out: &mut [u8])
     requires { length out.old ≤ 3 * length near.now }
     ensures { (k : ℕ) → k < length out.new → slice_index out.new k ≡ slice_index near.now (k / 3) }
@@ -41,7 +41,7 @@ fn triple(near: &[u8], out: &mut [u8])
     }
 }
 
-/// Puts each of `near` into four entries.
+/// Writes each of `near` into four entries.
 fn quadruple(near: &[u8], out: &mut [u8])
     requires { length out.old ≤ 4 * length near.now }
     ensures { (k : ℕ) → k < length out.new → slice_index out.new k ≡ slice_index near.now (k / 4) }
@@ -58,7 +58,7 @@ fn quadruple(near: &[u8], out: &mut [u8])
     }
 }
 
-/// Puts each of `near` into so many entries.
+/// Writes each of `near` into `factor` entries.
 fn repeat(near: &[u8], factor: u32, out: &mut [u8])
     requires some { 1 < factor }
     requires few { factor ≤ 4 }
@@ -83,7 +83,7 @@ fn sample_line(head: &Head, c: u32, y: u32) -> u32
     y * head.vertical(c) / head.vertical_max()
 }
 
-/// How many pixels of a line each sample of component c stands for.
+/// Returns the number of pixels of a line for which each sample of component c stands.
 fn pixels_per_sample(head: &Head, c: u32) -> u32
     requires lawful { IsLawful head.now }
     requires component { c < components_of head.now }
@@ -123,7 +123,7 @@ pub(crate) fn upsample<'a, S: Samples>(
     out
 }
 
-/// How many samples of each chrominance stand for the pixels of a line, two each.
+/// Returns the number of samples of each chrominance for the pixels of a line, two each.
 fn half_count(head: &Head) -> usize
     requires lawful { IsLawful head.now }
     requires halves { HalvesChroma head.now }
@@ -158,7 +158,7 @@ pub(crate) fn read_halves<'a, S: Samples>(
     (cb, cr)
 }
 
-/// Whether a sample of component c stands for two pixels of a line.
+/// Returns whether a sample of component c stands for two pixels of a line.
 fn is_halved(head: &Head, c: u32) -> bool
     requires lawful { IsLawful head.now }
     requires component { c < components_of head.now }
@@ -167,7 +167,7 @@ fn is_halved(head: &Head, c: u32) -> bool
     pixels_per_sample(head, c) == 2
 }
 
-/// Whether line y and the next take their samples of component c from one line.
+/// Returns whether line y and the next take their samples of component c from one line.
 fn is_shared(head: &Head, c: u32, y: u32) -> bool
     requires lawful { IsLawful head.now }
     requires component { c < components_of head.now }
@@ -177,7 +177,7 @@ fn is_shared(head: &Head, c: u32, y: u32) -> bool
     sample_line(head, c, y + 1) == sample_line(head, c, y)
 }
 
-/// Whether a sample of both chrominances stands for two pixels of a line.
+/// Returns whether a sample of both chrominances stands for two pixels of a line.
 pub(crate) fn halves_chroma(head: &Head) -> bool
     requires { IsLawful head.now }
     ensures { OnTrue result (HalvesChroma head.now) }
@@ -188,7 +188,8 @@ pub(crate) fn halves_chroma(head: &Head) -> bool
     }
 }
 
-/// Whether line y has a next, which takes the same samples of both chrominances, each for two pixels of a line.
+/// Returns whether line y has a next one that takes the same samples of both chrominances, each for two pixels of a
+/// line.
 pub(crate) fn shares_chroma(head: &Head, y: u32) -> bool
     requires lawful { IsLawful head.now }
     requires down { y < head.now.height }

@@ -1,12 +1,12 @@
 //! The numbers of marks.
 
-/// How many intervals of a scan are sound, damaged and blank.
+/// The numbers of sound, damaged and blank intervals of a scan.
 #[derive(Clone, Copy, Debug, PartialEq, Eq)]
 pub struct Counts {
-    /// How many intervals have a decoding.
+    /// Number of intervals with a decoding.
     pub sound: u32,
-    /// How many intervals have none.
+    /// Number of intervals without one.
     pub damaged: u32,
-    /// How many intervals are not decoded.
+    /// Number of intervals that are not decoded.
     pub blank: u32,
 }

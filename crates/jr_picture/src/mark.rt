@@ -5,8 +5,8 @@
 pub enum Mark {
     /// No piece is posted.
     Blank,
-    /// It has a decoding, whose samples are shown.
+    /// The interval has a decoding, whose samples are shown.
     Sound,
-    /// It has no decoding; its longest decodable front of whole MCUs is shown, and then grey.
+    /// The interval has no decoding; its longest decodable prefix of whole MCUs is shown, then grey.
     Damaged,
 }

@@ -9,7 +9,7 @@ use crate::strip::Strip;
 use std::marker::Model;
 use std::sync::Arc;
 
-/// What keeps the samples of data units.
+/// The storage of the samples of data units.
 #[derive(Drop)]
 enum Held {
     /// One list.

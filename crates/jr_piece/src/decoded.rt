@@ -12,8 +12,8 @@ use jr_scan::{Guesses, Interval, McuReader};
 use std::alloc::Global;
 use std::array;
 
-/// How many blocks are read before they are transformed: those of several MCUs, which are transformed two side by side, and
-/// so few that they stay in a processor's own cache.
+/// Number of blocks that are read before they are transformed: those of several MCUs, which are transformed two side by
+/// side, and so few that they stay in a processor's own cache.
 const BLOCKS: usize = 64;
 
 /// The samples of an interval's front, and whether the front is its decoding.
@@ -55,7 +55,7 @@ pub(crate) fn read_samples(
     }
 }
 
-/// What T.81 gives for an interval.
+/// Decodes an interval to what T.81 gives for it.
 pub(crate) fn decode(alloc: Global, interval: &Interval) -> Result<Decoded, Memory>
     ensures { IfOk result (λ d. IsOutcome (record { interval = interval.now; is_sound = d.is_sound; front = d.front; samples = d.samples.items })) }
 {

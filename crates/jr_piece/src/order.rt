@@ -7,7 +7,7 @@ ghost use Rattle.jr_piece.specs.Strips.{AreInOrder, IsStrip, mcus_of_each, share
 use crate::strip::Strip;
 use std::sync::Arc;
 
-/// How many MCUs the first strip has, 1 where there is none.
+/// Returns the number of MCUs of the first strip, 1 if there is none.
 pub(crate) fn mcus_of_each(strips: &[Arc<Strip>]) -> u32
     ensures { result ≡ mcus_of_each (shared_strips strips.now) }
 {
@@ -17,14 +17,14 @@ pub(crate) fn mcus_of_each(strips: &[Arc<Strip>]) -> u32
     }
 }
 
-/// Whether a strip has these MCUs, one at least.
+/// Returns whether a strip has these MCUs, one at least.
 fn has_mcus(strip: &Strip, first: u32, mcus: u32) -> bool
     ensures { IsTrue result ↔ ((0 < strip.now.mcus) × (strip.now.first ≡ first) × (strip.now.mcus ≡ mcus)) }
 {
     strip.mcus() > 0 && strip.first() == first && strip.mcus() == mcus
 }
 
-/// Whether strips follow one another from MCU 0 to MCU `front`, all but the last of equally many MCUs.
+/// Returns whether strips follow one another from MCU 0 to MCU `front`, all but the last of equally many MCUs.
 pub(crate) fn are_in_order(strips: &[Arc<Strip>], front: u32) -> bool
     ensures order { IsTrue result ↔ AreInOrder front (shared_strips strips.now) }
     ensures strips { IsTrue result → All IsStrip (shared_strips strips.now) }

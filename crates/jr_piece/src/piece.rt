@@ -93,7 +93,7 @@ impl Piece {
         })
     }
 
-    /// What holds of every piece: it tells what T.81 gives for its interval.
+    /// Asserts that the piece has what T.81 gives for its interval.
     pub fn be_outcome(&self)
         ensures { IsOutcome self.now }
     {
@@ -107,14 +107,14 @@ impl Piece {
         self.interval.number()
     }
 
-    /// Whether its interval has a decoding.
+    /// Returns whether its interval has a decoding.
     pub fn is_sound(&self) -> bool
         ensures { result ≡ self.now.is_sound }
     {
         self.is_sound
     }
 
-    /// How many whole MCUs it shows.
+    /// Returns the number of whole MCUs that it shows.
     pub fn front(&self) -> u32
         ensures { result ≡ self.now.front }
     {
@@ -128,7 +128,7 @@ impl Piece {
         self.samples.get(k)
     }
 
-    /// Whether its interval is this scan's interval of its number.
+    /// Returns whether its interval is this scan's interval of its number.
     pub fn is_for(&self, scan: &Scan) -> bool
         ensures { IsTrue result ↔ HasInterval scan.now self.now.interval }
     {

@@ -59,7 +59,7 @@ impl PlacedStrip {
         self.decode_by(alloc, &Guesses::none())
     }
 
-    /// The same, and takes over what the guesses have of its MCUs.
+    /// Decodes the strip, and takes over what the speculative reads have of its MCUs.
     pub fn decode_by(&self, alloc: Global, guesses: &Guesses) -> Result<Strip, Memory>
         requires { AreGuessesOf self.now.interval guesses.now }
         ensures interval { IfOk result (λ s. s.interval ≡ self.now.interval) }

@@ -122,7 +122,7 @@ impl Strip {
         }
     }
 
-    /// What holds of every strip: it shows whole MCUs of its interval.
+    /// Asserts that the strip shows whole MCUs of its interval.
     pub fn be_strip(&self)
         ensures { IsStrip self.now }
     {
@@ -143,7 +143,7 @@ impl Strip {
         self.first
     }
 
-    /// How many MCUs it has.
+    /// Returns the number of its MCUs.
     pub fn mcus(&self) -> u32
         ensures { result ≡ self.now.mcus }
     {

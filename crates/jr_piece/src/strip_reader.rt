@@ -26,7 +26,7 @@ struct Run {
     next: Option<Place>,
 }
 
-/// How many of so many MCUs the bits from a place on can code, where each data unit takes two bits or more.
+/// Returns how many of `mcus` MCUs the bits after a position can code, if each data unit takes two bits or more.
 fn most_mcus(interval: &Interval, from: Place, mcus: u32) -> u32
     ensures claimed { result ≤ mcus }
     ensures enough { (k : ℕ) (zs : List (List ℤ)) (to : Place) → IsRun (run_from interval.now from k) zs to AllRead → k ≤ mcus → k ≤ result }
@@ -69,14 +69,14 @@ fn read_run(
     })
 }
 
-/// So many whole MCUs of a run, and where the next one starts; no place where no whole one follows.
+/// The number of whole MCUs of a run, and where the next one starts; no position if no whole one follows.
 #[derive(Clone, Copy)]
 struct Passed {
     mcus: u32,
     next: Option<Place>,
 }
 
-/// Passes over the whole MCUs of a run of at most so many, and over those that the guesses have without reading them; keeps
+/// Skips the whole MCUs of a run, at most `mcus`, those that the speculative reads have without reading them. Keeps
 /// none of their blocks.
 fn pass_run(interval: &Interval, from: Place, guesses: &Guesses, mcus: u32) -> Passed
     requires can { CanReadFrom interval.now from }
@@ -148,7 +148,7 @@ impl StripReader {
         self.interval.number()
     }
 
-    /// How many MCUs are read.
+    /// Returns the number of MCUs that are read.
     pub fn first(&self) -> u32
         ensures { result ≡ self.now.first }
     {
@@ -196,8 +196,8 @@ impl StripReader {
         Ok(Some(CodedStrip::of(interval, first, mcus, blocks)))
     }
 
-    /// Passes over the next whole MCUs, as many as are asked for or as follow, and keeps none of their blocks. None where no
-    /// further one follows; then, and at an error, the reader stays as it is.
+    /// Skips the next whole MCUs, as many as are asked for or as follow, and keeps none of their blocks. `None` if no
+    /// further one follows; then, and on `Err`, the reader is unchanged.
     pub fn pass(&mut self, most: u32) -> Result<Option<PlacedStrip>, Memory>
         ensures interval { self.new.interval ≡ self.old.interval }
         ensures of { IfOk result (λ o. IfSome o (λ s. s.interval ≡ self.old.interval)) }
@@ -215,7 +215,7 @@ impl StripReader {
         self.pass_by(&Guesses::none(), most)
     }
 
-    /// The same, and passes over what the guesses have without reading it.
+    /// Does what `pass` does, and skips what the speculative reads have without reading it.
     pub fn pass_by(&mut self, guesses: &Guesses, most: u32) -> Result<Option<PlacedStrip>, Memory>
         requires { AreGuessesOf self.old.interval guesses.now }
         ensures interval { self.new.interval ≡ self.old.interval }
@@ -246,8 +246,8 @@ impl StripReader {
         Ok(Some(PlacedStrip::of(interval, first, passed.mcus, from)))
     }
 
-    /// Whether all MCUs are read and fewer than eight bits are left: then what is read is the interval's decoding. Where
-    /// no further MCU follows and it is false, the interval has none.
+    /// Returns whether all MCUs are read and fewer than eight bits are left: then what is read is the interval's
+    /// decoding. If no further MCU follows and it is `false`, the interval has none.
     pub fn is_sound(&self) -> bool
         ensures sound { IsTrue result → (zs : List (List ℤ)) → Front self.now.interval self.now.first zs → Decodes self.now.interval zs }
         ensures damaged { result ≡ false → HasLongestFront self.now.interval self.now.first → HasNoDecoding self.now.interval }

@@ -9,8 +9,8 @@ use jr_base::Coefficients;
 use jr_head::Head;
 use jr_idct::{transform_one, transform_two};
 
-/// Puts the samples of an MCU, and of the next one or a part of it: a block of the one and that of the other at its place are
-/// of one component, and are transformed side by side.
+/// Transforms an MCU, and the next one or a part of it: a block of the one and that of the other at its index are of
+/// one component, and are transformed side by side.
 fn transform_mcus<U: UnitSink>(head: &Head, mcu: usize, blocks: &[Coefficients], units: &mut U)
     requires room { U.has_room head.now units.old }
     requires small { mcu + 1 < 2 ^ 64 }
@@ -35,8 +35,8 @@ fn transform_mcus<U: UnitSink>(head: &Head, mcu: usize, blocks: &[Coefficients],
     }
 }
 
-/// Puts the samples of blocks that begin with an MCU: data unit k from MCU `first` on is that of block k, by the quantisers of
-/// its component (T.81, A.3.3, A.3.4 and A.3.6). The MCUs before are kept.
+/// Transforms blocks that begin with an MCU: data unit k starting at MCU `first` gets the samples of block k, by the quantisers
+/// of its component (T.81, A.3.3, A.3.4 and A.3.6). The MCUs before are kept.
 ///
 /// Any thread may transform what another one has read.
 pub fn transform_blocks<U: UnitSink>(

@@ -6,7 +6,7 @@ ghost use Rattle.jr_head.specs.HeadValue.{HeadValue};
 
 use jr_head::Head;
 
-/// What takes the samples of data units, MCU after MCU.
+/// A destination of the samples of data units, MCU after MCU.
 pub trait UnitSink {
     // whether it has room for MCUs of a picture with this head
     ghost has_room: { HeadValue → Self → Type 0 };
@@ -14,7 +14,7 @@ pub trait UnitSink {
     // the samples of the data units, in the order of their MCUs
     ghost units: { HeadValue → Self → List (List ℕ) };
 
-    /// Puts the samples of data unit j of an MCU, `8 row + column`.
+    /// Stores the samples of data unit j of an MCU, `8 row + column`.
     fn put(&mut self, head: &Head, mcu: usize, j: usize, samples: &[u8; 64])
         requires room { has_room head.now self.old }
         requires unit { j < blocks_of head.now }

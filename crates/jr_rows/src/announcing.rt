@@ -8,7 +8,7 @@ use jr_head::Head;
 use jr_picture::Gate;
 use jr_scan::Scan;
 
-/// How many intervals begin before an MCU.
+/// Returns the number of intervals that begin before an MCU.
 fn begun_before(head: &Head, mcu: u32) -> u32 {
     match u32::from(head.restart()) {
         0 => mcu.min(1),
@@ -16,7 +16,7 @@ fn begun_before(head: &Head, mcu: u32) -> u32 {
     }
 }
 
-/// Tells the gate of each interval that begins in this row and is one of the first `limit`, before it is decoded.
+/// Reports to the gate each interval that begins in this row and is one of the first `limit`, before it is decoded.
 pub fn announce<G: Gate>(scan: &Scan, limit: u32, row: u32, gate: &G)
     requires { row < mcus_down scan.now.head }
 {

@@ -21,7 +21,7 @@ pub struct Cursor {
     pub(crate) number: u32,
     /// The number of its MCUs that are read, those after its front among them.
     pub(crate) mcu: u32,
-    /// Where the next MCU starts; none where no further one is whole.
+    /// Start of the next MCU; `None` if no further one is whole.
     pub(crate) place: Option<Place>,
 }
 

@@ -45,7 +45,7 @@ impl<'a> FirstIntervals<'a> {
         self.scan
     }
 
-    /// How many intervals are decoded.
+    /// Returns the number of intervals that are decoded.
     pub fn limit(&self) -> u32
         ensures value { result ≡ self.now.limit }
         ensures few { self.now.limit ≤ length self.now.scan.intervals }

@@ -17,7 +17,7 @@ use jr_base::Coefficients;
 use jr_scan::{IntervalRef, Scan};
 
 impl Cursor {
-    /// Goes on to the next interval where this one is read to its end. Returns the number of its MCUs that are left.
+    /// Moves to the next interval if this one is read to its end. Returns the number of its MCUs that are left.
     fn ready(&mut self, scan: &Scan) -> u32
         requires stands { IsCursorOf scan.now self.old }
         requires more { mcus_to scan.now.head self.old < mcus_of scan.now.head }

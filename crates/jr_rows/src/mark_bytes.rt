@@ -10,7 +10,7 @@ const SOUND: u8 = 1;
 /// A damaged one.
 const DAMAGED: u8 = 2;
 
-/// Puts the mark of interval `number` into its place, where marks are asked for.
+/// Stores the mark of interval `number` at its index if marks are asked for.
 pub fn put_mark(is_sound: bool, number: u32, marks: &mut [u8])
     requires { 0 < length marks.old → number < length marks.old }
     ensures long { length marks.new ≡ length marks.old }

@@ -2,17 +2,17 @@
 
 ghost use Rattle.std.specs.Prelude.{◌≡◌, ◌+◌, ◌<◌, ◌^◌, cond};
 
-/// How many intervals of a part of a scan are sound, and how many damaged.
+/// The numbers of sound and of damaged intervals of a part of a scan.
 #[derive(Clone, Copy)]
 pub struct Marked {
-    /// How many are sound.
+    /// Number of sound intervals.
     pub sound: u32,
-    /// How many are damaged.
+    /// Number of damaged intervals.
     pub damaged: u32,
 }
 
 impl Marked {
-    /// No interval.
+    /// Returns the counts of no interval.
     pub fn none() -> Marked
         ensures sound { result.sound ≡ 0 }
         ensures damaged { result.damaged ≡ 0 }

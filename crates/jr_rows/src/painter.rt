@@ -8,7 +8,7 @@ ghost use Rattle.jr_rows.specs.Rows.{CountsRow, ShowsLines, line_count};
 
 use crate::Marked;
 
-/// Gives the lines of a picture's rows of MCUs in their order.
+/// A source of the lines of an image's rows of MCUs, in their order.
 pub trait RowPainter {
     ghost at: { Self → RowsValue };
 

@@ -16,12 +16,12 @@ use jr_piece::{UnitSink, transform_blocks};
 use std::alloc::Global;
 use std::marker::Model;
 
-/// Where the data units of one number in an MCU stand in a row's lines.
+/// Where the data units of one number in an MCU are in a row's lines.
 #[derive(Clone, Copy)]
 pub struct UnitStart {
     /// The group of the first row of samples of the one of the first MCU.
     pub first: usize,
-    /// How many groups further that of the next MCU stands.
+    /// Number of groups from one MCU's to the next one's.
     pub step: usize,
 }
 
@@ -31,7 +31,7 @@ pub struct UnitStart {
 pub struct RowLines {
     groups: Vec<[u8; 8]>,
     starts: Vec<UnitStart>,
-    /// How many groups a line has room for.
+    /// Number of groups of a line.
     across: usize,
 }
 
@@ -54,7 +54,7 @@ fn row_of(unit: &[u8; 64], row: usize) -> [u8; 8]
     samples
 }
 
-/// Puts the rows of samples of a data unit into groups that stand in lines below one another.
+/// Stores the rows of samples of a data unit in groups of lines below one another.
 #[inline(always)]
 fn put_rows(groups: &mut [[u8; 8]], at: usize, across: usize, unit: &[u8; 64])
     requires some { 0 < across }
@@ -67,7 +67,7 @@ fn put_rows(groups: &mut [[u8; 8]], at: usize, across: usize, unit: &[u8; 64])
     }
 }
 
-/// Puts data unit j of an MCU.
+/// Stores data unit j of an MCU.
 #[inline(always)]
 fn put_unit(
     head: &Head,
@@ -90,7 +90,7 @@ fn put_unit(
     put_rows(groups, start.first + mcu * start.step, across, unit);
 }
 
-/// How many groups a line has room for.
+/// Returns the number of groups of a line.
 pub(crate) fn groups_across(head: &Head) -> u32
     requires { IsLawful head.now }
     ensures value { result ≡ groups_across head.now }
@@ -112,7 +112,7 @@ fn blank_mcu(head: &Head, groups: &mut [[u8; 8]], across: usize, starts: &[UnitS
     }
 }
 
-/// Makes each MCU from one on black.
+/// Makes each MCU starting at one of them black.
 fn blank_mcus(
     head: &Head,
     groups: &mut [[u8; 8]],
@@ -131,7 +131,7 @@ fn blank_mcus(
     }
 }
 
-/// How many lines the components before c have in a row of MCUs.
+/// Returns the number of lines of the components before c in a row of MCUs.
 pub(crate) fn lines_before(head: &Head, c: u32) -> u32
     requires lawful { IsLawful head.now }
     requires component { c ≤ components_of head.now }
@@ -145,7 +145,7 @@ pub(crate) fn lines_before(head: &Head, c: u32) -> u32
     lines
 }
 
-/// How many data units of an MCU those before component c are.
+/// Returns the number of data units of an MCU before component c.
 fn units_before(head: &Head, c: u32) -> u32
     requires lawful { IsLawful head.now }
     requires component { c < components_of head.now }
@@ -154,7 +154,7 @@ fn units_before(head: &Head, c: u32) -> u32
     place(head, c, 0, 0).block
 }
 
-/// Where data unit j of an MCU stands, where a line has room for so many groups.
+/// Returns where data unit j of an MCU is, if a line has `across` groups.
 fn start_of(head: &Head, across: u32, j: u32) -> UnitStart
     requires lawful { IsLawful head.now }
     requires across { across ≡ groups_across head.now }
@@ -199,7 +199,7 @@ impl RowLines {
         self.groups.as_slice()
     }
 
-    /// Makes the samples of a row, of whose MCUs the first `coded` have these blocks; the others are black.
+    /// Transforms the blocks of the first `coded` MCUs of a row; the others are black.
     pub fn decode(&mut self, head: &Head, coded: u32, blocks: &[Coefficients])
         requires room { HasLines head.now self.old }
         requires few { coded ≤ mcus_across head.now }
@@ -213,7 +213,7 @@ impl RowLines {
         self.fill_blank(head, coded);
     }
 
-    /// Makes the MCUs of the row from one on black; those before are kept.
+    /// Makes the MCUs of the row starting at `first` black; those before are kept.
     pub fn fill_blank(&mut self, head: &Head, first: u32)
         requires room { HasLines head.now self.old }
         ensures room { HasLines head.now self.new }

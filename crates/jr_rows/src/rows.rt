@@ -23,7 +23,7 @@ use jr_piece::transform_blocks;
 pub struct Rows {
     /// The row that comes next.
     row: u32,
-    /// Where its first decoded MCU starts.
+    /// Start of its first decoded MCU.
     cursor: Cursor,
 }
 

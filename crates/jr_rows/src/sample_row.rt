@@ -74,7 +74,8 @@ impl SampleRow {
         decode_whole(head, reader, done, &mut self.blocks, &mut self.lines)
     }
 
-    /// Makes MCUs of a row grey behind the first `done`: as many as are asked for, and as are decoded at once. Answers how many.
+    /// Makes MCUs of a row after the first `done` grey: as many as are asked for, and at most those that are decoded at
+    /// once. Returns their number.
     pub fn put_grey(&mut self, head: &Head, done: u32, mcus: u32) -> u32
         requires some { 0 < mcus }
         requires within { done + mcus ≤ mcus_across head.now }

@@ -11,23 +11,23 @@ use jr_head::Head;
 use jr_paint::{BATCH, bytes_of_line};
 use jr_scan::Scan;
 
-/// How many blocks are read before they are transformed, at most: 8 KB, which stay near.
+/// Maximum number of blocks that are read before they are transformed: 8 KB, which stay in the cache.
 pub(crate) const BLOCKS_AT_ONCE: usize = 64;
 
-/// What a row of MCUs of a picture has.
+/// The sizes of an image's rows of MCUs.
 #[derive(Clone, Copy)]
 pub struct Shape {
-    /// How many MCUs.
+    /// Number of MCUs of a row.
     pub across: u32,
-    /// How many lines of pixels, where the picture doesn't end in it.
+    /// Number of lines of pixels of a row, unless the image ends in it.
     pub deep: u32,
-    /// How many such rows the picture has.
+    /// Number of rows of the image.
     pub down: u32,
-    /// How many bytes a line of pixels has.
+    /// Size of a line of pixels in bytes.
     pub line: usize,
 }
 
-/// What the rows of MCUs of this head's picture have.
+/// Returns the sizes of the rows of MCUs of an image with this header.
 pub fn shape_of(head: &Head) -> Shape
     ensures across { result.across ≡ mcus_across head.now }
     ensures few { result.across < 65536 }
@@ -59,7 +59,7 @@ pub fn bytes_to(lines: u32, all: u32, line: usize) -> usize
     lines as usize * line
 }
 
-/// How many data units so many MCUs have, at most `most`.
+/// Returns the number of data units of `mcus` MCUs, at most `most` of them.
 pub(crate) fn units_to(mcus: u32, most: u32, per_mcu: usize) -> usize
     requires few { mcus ≤ most }
     requires short { per_mcu ≤ 10 }
@@ -70,7 +70,7 @@ pub(crate) fn units_to(mcus: u32, most: u32, per_mcu: usize) -> usize
     mcus as usize * per_mcu
 }
 
-/// How many MCUs are read before they are transformed.
+/// Returns the number of MCUs that are read before they are transformed.
 pub(crate) fn mcus_at_once(head: &Head) -> u32
     ensures value { result ≡ mcus_at_once head.now }
     ensures some { 0 < result }
@@ -113,7 +113,7 @@ pub fn room_for(head: &Head) -> usize
     BATCH.max(bytes_of_row(head))
 }
 
-/// How many MCUs the first n intervals of a scan have.
+/// Returns the number of MCUs of the first n intervals of a scan.
 pub(crate) fn mcus_of_first(scan: &Scan, n: u32) -> u32
     ensures value { result ≡ mcus_before scan.now.head n }
     ensures within { result ≤ mcus_of scan.now.head }
@@ -124,7 +124,7 @@ pub(crate) fn mcus_of_first(scan: &Scan, n: u32) -> u32
     scan.head().first_mcu(n)
 }
 
-/// How many MCUs of a row are decoded, where the first n intervals are.
+/// Returns the number of MCUs of a row that are decoded if the first n intervals are.
 pub fn coded_of_row(scan: &Scan, n: u32, row: u32) -> u32
     requires { row < mcus_down scan.now.head }
     ensures value { result ≡ coded_in scan.now.head n row }
@@ -140,7 +140,7 @@ pub fn coded_of_row(scan: &Scan, n: u32, row: u32) -> u32
     (start + across).min(all) - start.min(all)
 }
 
-/// How many intervals a row of MCUs has, where rows are whole intervals.
+/// Returns the number of intervals of a row of MCUs if rows are whole intervals.
 pub fn intervals_of_row(head: &Head) -> Option<u32>
     ensures { IfSome result (λ n. n * head.now.restart ≡ mcus_across head.now) }
 {

@@ -69,7 +69,8 @@ pub(crate) fn decode_whole(
     whole
 }
 
-/// Makes MCUs of a row grey behind the first `done`: as many as are asked for, and as have room in `blocks`. Answers how many.
+/// Makes MCUs of a row after the first `done` grey: as many as are asked for, and as fit into `blocks`. Returns their
+/// number.
 pub(crate) fn put_grey(
     head: &Head,
     done: u32,

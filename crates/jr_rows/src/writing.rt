@@ -68,7 +68,7 @@ pub fn write_rows<W: Write, P: RowPainter>(
     Ok(marked)
 }
 
-/// How many intervals are sound, damaged and blank.
+/// Returns the numbers of sound, damaged and blank intervals.
 pub fn counts_of(scan: &Scan, limit: u32, marked: Marked) -> Counts
     requires few { limit ≤ length scan.now.intervals }
     requires counts { CountsRows scan.now limit marked }

@@ -32,7 +32,7 @@ impl FrontBlocks {
         }
     }
 
-    /// How many whole MCUs there are.
+    /// Returns the number of whole MCUs.
     pub fn mcus(&self) -> u32
         ensures { result ≡ self.now.mcus }
     {
@@ -46,7 +46,7 @@ impl FrontBlocks {
         self.blocks.as_slice()
     }
 
-    /// Whether they are all of the interval, and fewer than eight bits are left behind them.
+    /// Returns whether they are all of the interval, and fewer than eight bits follow them.
     pub fn is_sound(&self) -> bool
         ensures { result ≡ self.now.is_sound }
     {

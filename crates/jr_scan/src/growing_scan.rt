@@ -65,7 +65,7 @@ impl GrowingScan {
         &self.head
     }
 
-    /// How many restart intervals there are.
+    /// Returns the number of restart intervals.
     pub fn intervals(&self) -> u32
         ensures value { result ≡ length self.now.scan.intervals }
         ensures count { result ≡ intervals_of self.now.scan.head }
@@ -74,7 +74,7 @@ impl GrowingScan {
         self.cut.intervals()
     }
 
-    /// What has ended the scan, the end of the bytes while no marker has.
+    /// Returns what has ended the scan: the end of the bytes while no marker has.
     pub fn ended(&self) -> ScanEnd
         ensures { result ≡ self.now.scan.ended }
     {

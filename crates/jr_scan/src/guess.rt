@@ -164,8 +164,8 @@ impl Guess {
         None
     }
 
-    /// Where MCU k leads from a place. None where it starts at another bit, or where sixteen bits may not hold what it makes
-    /// of the place's predictions.
+    /// Returns the position that MCU k leads to from a position. `None` if it starts at another bit, or if sixteen bits
+    /// may not hold its coefficients with the position's predictions.
     #[inline(always)]
     pub(crate) fn pass(&self, interval: &IntervalRef<'_>, k: usize, place: &Place) -> Option<Place>
         requires of { IsGuessOf interval.now self.now }
@@ -192,7 +192,7 @@ impl Guess {
         })
     }
 
-    /// The same, and puts the MCU's blocks.
+    /// Does what `pass` does, and copies the MCU's blocks.
     #[inline(always)]
     pub(crate) fn put(
         &self,

@@ -17,7 +17,7 @@ pub struct Guesses {
     third: Option<Arc<Guess>>,
 }
 
-/// The same guess once more, or none.
+/// Returns another reference to the same speculative read, or none.
 fn guess_again(guess: &Option<Arc<Guess>>) -> Option<Arc<Guess>>
     ensures { (i : IntervalValue) → IsGuessOrNone i guess.now → IsGuessOrNone i result }
 {
@@ -33,7 +33,7 @@ fn found<'g>(guess: &'g Option<Arc<Guess>>, bit: u64) -> Option<(&'g Guess, usiz
 }
 
 impl Guesses {
-    /// No guess.
+    /// Returns no speculative reads.
     pub fn none() -> Guesses
         ensures { (i : IntervalValue) → AreGuessesOf i result }
     {
@@ -44,7 +44,7 @@ impl Guesses {
         }
     }
 
-    /// The same guesses once more; where one has too many owners it is left out.
+    /// Returns further references to the same speculative reads; one that has too many is left out.
     pub fn again(&self) -> Guesses
         ensures { (i : IntervalValue) → AreGuessesOf i self.now → AreGuessesOf i result }
     {
@@ -66,7 +66,7 @@ impl Guesses {
         }
     }
 
-    /// Whether there is none.
+    /// Returns whether there is none.
     pub fn is_none(&self) -> bool {
         self.first.is_none() && self.second.is_none() && self.third.is_none()
     }

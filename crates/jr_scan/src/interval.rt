@@ -42,7 +42,7 @@ impl Model for Interval {
     ghost invariant = { λ i. (i.start ≤ i.end) × (i.end ≤ length (arc_value i.unstuffed).items) × (length (arc_value i.unstuffed).items < 2 ^ 61) };
 }
 
-/// Puts more blocks behind those that are there, in zigzag order.
+/// Appends blocks, in zigzag order.
 fn push_zigzag(blocks: &mut Vec<Block>, more: &[Coefficients]) -> Result<(), Memory>
     ensures { OnOk result (blocks.new.items ≡ blocks.old.items ++ more.now) }
 {
@@ -89,7 +89,7 @@ impl Interval {
         self.number
     }
 
-    /// How many MCUs the interval codes.
+    /// Returns the number of MCUs that the interval codes.
     pub fn mcus(&self) -> u32
         ensures { result ≡ self.now.mcus }
     {
@@ -113,15 +113,15 @@ impl Interval {
         &self.head
     }
 
-    /// The same interval, borrowed.
+    /// Borrows the interval.
     pub fn as_ref(&self) -> IntervalRef<'_>
         ensures { result ≡ self.now }
     {
         IntervalRef::of(self.head(), self.bytes(), self.number, self.mcus)
     }
 
-    /// How many whole MCUs the interval can show at most: as many as its head claims, and no more than its bits can code,
-    /// where each data unit takes two bits or more.
+    /// Returns the maximum number of whole MCUs of the interval: as many as its header claims, and no more than its
+    /// bits can code, since each data unit takes two bits or more.
     pub fn most_mcus(&self) -> u32
         ensures enough { (k : ℕ) (zs : List (List ℤ)) → Front self.now k zs → k ≤ result }
         ensures claimed { result ≤ self.now.mcus }
@@ -133,7 +133,7 @@ impl Interval {
         mcus.min(self.mcus as usize) as u32
     }
 
-    /// Whether both are the same interval: equal numbers, MCU counts, data and heads.
+    /// Returns whether both are the same interval: equal numbers, MCU counts, data and headers.
     pub fn is_same(&self, other: &Interval) -> bool
         ensures { IsTrue result ↔ (self.now ≡ other.now) }
     {

@@ -40,7 +40,7 @@ impl<'a> IntervalRef<'a> {
         }
     }
 
-    /// The same interval once more.
+    /// Returns another reference to the same interval.
     pub fn again(&self) -> IntervalRef<'a>
         ensures { result ≡ self.now }
     {
@@ -59,7 +59,7 @@ impl<'a> IntervalRef<'a> {
         self.number
     }
 
-    /// How many MCUs the interval codes.
+    /// Returns the number of MCUs that the interval codes.
     pub fn mcus(&self) -> u32
         ensures { result ≡ self.now.mcus }
     {

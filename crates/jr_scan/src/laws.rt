@@ -19,12 +19,12 @@ pub fn one_front()
     ensures { (i : IntervalValue) (k : ℕ) (zs ys : List (List ℤ)) → Front i k zs → Front i k ys → zs ≡ ys }
 {}
 
-/// What a front begins with is a front of fewer MCUs.
+/// States that what a prefix of whole MCUs begins with is a prefix of fewer MCUs.
 pub fn shorter_front()
     ensures { (i : IntervalValue) (j k : ℕ) (zs : List (List ℤ)) → j ≤ k → Front i k zs → Front i j (take (j * length (order_of i.head)) zs) }
 {}
 
-/// No MCUs at all are a front of each interval.
+/// States that no MCUs at all are a prefix of each interval.
 pub fn no_front()
     ensures { (i : IntervalValue) → Front i 0 [] }
 {}
@@ -44,7 +44,7 @@ pub fn one_run()
     ensures { (r : RunOf) (a b : RunRead r) → IsLawful r.interval.head → (a.blocks ≡ b.blocks) × (a.to ≡ b.to) × (a.end ≡ b.end) }
 {}
 
-/// Where a run has all its MCUs and another starts at its end, they are one run.
+/// States that if a run has all its MCUs and another starts at its end, they are one run.
 pub fn runs_meet()
     ensures { (i : IntervalValue) (p : Place) (k m : ℕ) (a : RunRead (run_from i p k)) (b : RunRead (run_from i a.to m)) → IsLawful i.head
         → a.end ≡ AllRead → IsRun (run_from i p (k + m)) (a.blocks ++ b.blocks) b.to b.end }

@@ -92,7 +92,7 @@ impl<'a> McuReader<'a> {
         }
     }
 
-    /// The same reader once more, at the same place.
+    /// Returns a second reader at the same position.
     pub fn again(&self) -> McuReader<'a>
         ensures { result ≡ self.now }
     {
@@ -106,14 +106,14 @@ impl<'a> McuReader<'a> {
         }
     }
 
-    /// How many MCUs of its run are left to read.
+    /// Returns the number of MCUs of its run that are left to read.
     pub(crate) fn left(&self) -> u32
         ensures { self.now.mcu + result ≡ self.now.run.mcus }
     {
         self.mcus - self.mcu
     }
 
-    /// Goes on to the place behind so many further MCUs.
+    /// Moves to the position after `mcus` further MCUs.
     pub(crate) fn go_on(&mut self, mcus: u32, place: &Place)
         requires few { self.old.mcu + mcus ≤ self.old.run.mcus }
         requires within { place.now.bit ≤ 8 * length self.old.run.interval.bytes }
@@ -176,8 +176,8 @@ impl<'a> McuReader<'a> {
         self.take_mcus::<Kept>(most, blocks)
     }
 
-    /// Passes over the next MCUs, as many whole ones as are asked for or as follow, and keeps none of their blocks; tells how
-    /// many MCUs they are.
+    /// Skips the next MCUs, as many whole ones as are asked for or as follow, and keeps none of their blocks. Returns
+    /// their number.
     pub fn skip(&mut self, mcus: u32) -> u32
         ensures run { self.new.run ≡ self.old.run }
         ensures mcus { self.new.mcu ≡ self.old.mcu + result }
@@ -191,7 +191,7 @@ impl<'a> McuReader<'a> {
         self.take_mcus::<Skipped>(most, &mut [])
     }
 
-    /// How many MCUs are read: those of the interval's longest front, once no further one follows.
+    /// Returns the number of MCUs read: those of the interval's longest prefix, once no further one follows.
     pub fn mcus(&self) -> u32
         ensures value { result ≡ self.now.mcu }
         ensures front { (i : IntervalValue) (zs : List (List ℤ)) → HasReadAll self.now i zs → LongestFront i result zs }
@@ -199,7 +199,7 @@ impl<'a> McuReader<'a> {
         self.mcu
     }
 
-    /// Where the next MCU starts.
+    /// Returns where the next MCU starts.
     pub fn place(&self) -> Place
         ensures value { result ≡ self.now.place }
         ensures lawful { IsLawful self.now.run.interval.head }
@@ -213,7 +213,7 @@ impl<'a> McuReader<'a> {
         }
     }
 
-    /// Whether all MCUs are read and fewer than eight bits are left.
+    /// Returns whether all MCUs are read and fewer than eight bits are left.
     pub fn is_sound(&self) -> bool
         ensures sound { IsTrue result → (i : IntervalValue) (zs : List (List ℤ)) → HasReadOf self.now i zs → Decodes i zs }
         ensures damaged { result ≡ false → (i : IntervalValue) (zs : List (List ℤ)) → HasReadAll self.now i zs → HasNoDecoding i }

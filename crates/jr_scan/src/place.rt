@@ -26,7 +26,7 @@ impl Place {
 /// Why a run of MCUs ends.
 #[derive(Clone, Copy, Debug, PartialEq, Eq)]
 pub enum RunEnd {
-    /// It has as many MCUs as it may have.
+    /// The run has as many MCUs as it may have.
     AllRead,
     /// No further MCU follows.
     NoMcu,

@@ -103,7 +103,7 @@ impl Scan {
         &self.head
     }
 
-    /// How many restart intervals there are.
+    /// Returns the number of restart intervals.
     pub fn intervals(&self) -> u32
         ensures value { result ≡ length self.now.intervals }
         ensures count { result ≡ intervals_of self.now.head }
@@ -112,7 +112,7 @@ impl Scan {
         self.intervals
     }
 
-    /// What ended the scan.
+    /// Returns what ended the scan.
     pub fn ended(&self) -> ScanEnd
         ensures { result ≡ self.now.ended }
     {
@@ -154,7 +154,7 @@ impl Scan {
         &self.unstuffed[span.start..span.end]
     }
 
-    /// Whether both have equal heads, and the same data in each interval.
+    /// Returns whether both have equal headers, and the same data in each interval.
     pub fn is_same(&self, other: &Scan) -> bool
         ensures { IsTrue result ↔ IsSameScan self.now other.now }
     {
@@ -163,7 +163,7 @@ impl Scan {
             && self.has_same_data(other)
     }
 
-    /// Whether as many intervals have the same data.
+    /// Returns whether equally many intervals have the same data.
     fn has_same_data(&self, other: &Scan) -> bool
         requires { length self.now.intervals ≡ length other.now.intervals }
         ensures { IsTrue result ↔ (self.now.intervals ≡ other.now.intervals) }
@@ -176,7 +176,7 @@ impl Scan {
         true
     }
 
-    /// Whether an interval is this scan's interval of its number.
+    /// Returns whether an interval is this scan's interval of its number.
     pub fn has(&self, interval: &Interval) -> bool
         ensures { IsTrue result ↔ HasInterval self.now interval.now }
     {

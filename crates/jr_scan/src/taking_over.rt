@@ -18,8 +18,8 @@ use crate::mcu_reader::McuReader;
 use crate::place::Place;
 use jr_base::Coefficients;
 
-/// Takes over from a guess the MCUs that go on from a place, at most so many, from its MCU `at` on; goes on to the place
-/// behind them, and tells how many they are.
+/// Takes over from a speculative read the MCUs that continue from a position, starting at its MCU `at`, as many as
+/// `blocks` holds. Moves past them and returns their number.
 fn put_mcus(
     guess: &Guess,
     interval: &IntervalRef<'_>,
@@ -50,7 +50,7 @@ fn put_mcus(
     most
 }
 
-/// The same, but for the blocks.
+/// Does what `put_mcus` does, without the blocks.
 fn pass_mcus(
     guess: &Guess,
     interval: &IntervalRef<'_>,
@@ -76,8 +76,8 @@ fn pass_mcus(
 }
 
 impl<'a> McuReader<'a> {
-    /// Takes over the MCUs that a guess has from its MCU `at` on, as `read` reads them; none where that one starts at another
-    /// bit. How many they are says nothing of what follows.
+    /// Takes over the MCUs of a speculative read starting at its MCU `at`, as `read` reads them; none if that one
+    /// starts at another bit. Their number says nothing of what follows.
     pub fn read_guessed(&mut self, guess: &Guess, at: usize, blocks: &mut [Coefficients]) -> u32
         requires same { IsGuessOf self.old.run.interval guess.now }
         ensures run { self.new.run ≡ self.old.run }
@@ -100,8 +100,8 @@ impl<'a> McuReader<'a> {
         taken
     }
 
-    /// Passes over the MCUs that a guess has from its MCU `at` on, at most so many, as `skip` does; none where that one starts
-    /// at another bit. How many they are says nothing of what follows.
+    /// Skips the MCUs of a speculative read starting at its MCU `at`, at most `mcus`, as `skip` does; none if that one
+    /// starts at another bit. Their number says nothing of what follows.
     pub fn skip_guessed(&mut self, guess: &Guess, at: usize, mcus: u32) -> u32
         requires same { IsGuessOf self.old.run.interval guess.now }
         ensures run { self.new.run ≡ self.old.run }
@@ -152,7 +152,7 @@ impl<'a> McuReader<'a> {
         done
     }
 
-    /// Takes over what one of the guesses has from here on, or else reads the next MCU.
+    /// Takes over what one of the speculative reads has from here on, or reads the next MCU.
     fn read_some(&mut self, guesses: &Guesses, blocks: &mut [Coefficients]) -> u32
         requires same { AreGuessesOf self.old.run.interval guesses.now }
         requires room { per_mcu self.old ≤ length blocks.old }
@@ -175,7 +175,7 @@ impl<'a> McuReader<'a> {
         self.read(&mut blocks[..per_mcu])
     }
 
-    /// Passes over MCUs as `skip` does, and over those that the guesses have without reading them.
+    /// Skips MCUs as `skip` does, those that the speculative reads have without reading them.
     pub fn skip_by(&mut self, guesses: &Guesses, mcus: u32) -> u32
         requires same { AreGuessesOf self.old.run.interval guesses.now }
         ensures run { self.new.run ≡ self.old.run }
@@ -201,7 +201,7 @@ impl<'a> McuReader<'a> {
         done
     }
 
-    /// Passes over what one of the guesses has from here on, or else over the next MCU.
+    /// Skips what one of the speculative reads has from here on, or the next MCU.
     fn skip_some(&mut self, guesses: &Guesses, mcus: u32) -> u32
         requires same { AreGuessesOf self.old.run.interval guesses.now }
         requires some { 0 < mcus }

@@ -44,7 +44,7 @@ pub struct Frame {
 impl Frame {
     ghost use Rattle.std.specs.Prelude.{◌≡◌, ◌==◌, length};
 
-    /// Whether the picture has one component, whose sampling factors are read as 1 and 1.
+    /// Returns whether the image has one component, whose sampling factors are read as 1 and 1.
     pub fn is_single(&self) -> bool
         ensures { result ≡ (length self.now.components.items == 1) }
     {
@@ -76,7 +76,7 @@ fn has_id(components: &[FrameComponent], id: u8) -> bool
     components.iter().any(|c| c.id == id)
 }
 
-/// Whether two components have one identifier.
+/// Returns whether two components have one identifier.
 fn has_repeats(components: &[FrameComponent]) -> bool
     ensures { result ≡ has_repeats components.now }
 {
@@ -102,7 +102,7 @@ fn greatest_vertical(components: &[FrameComponent]) -> u8
     components.iter().fold(0, |most, c| c.vertical.max(most))
 }
 
-/// How many data units an MCU has (T.81, A.2.3).
+/// Returns the number of data units of an MCU (T.81, A.2.3).
 fn block_count(components: &[FrameComponent]) -> u32
     requires { length components.now ≤ 3 }
     ensures { result ≡ blocks components.now }
@@ -120,7 +120,7 @@ fn is_factor(factor: u8) -> bool
     factor > 0 && factor < 5
 }
 
-/// Whether all sampling factors are from 1 to 4.
+/// Returns whether all sampling factors are from 1 to 4.
 #[tactic(auto, unfolding(crate::specs::Frames::have_factors))]
 fn have_factors(components: &[FrameComponent]) -> bool
     ensures { result ≡ have_factors components.now }
@@ -136,7 +136,7 @@ fn is_divisor(d: u8, n: u8) -> bool
     d > 0 && n % d == 0
 }
 
-/// Whether each Hi divides Hmax and each Vi divides Vmax.
+/// Returns whether each Hi divides Hmax and each Vi divides Vmax.
 fn divide_greatest(components: &[FrameComponent]) -> bool
     ensures { result ≡ divide_greatest components.now }
 {
@@ -146,7 +146,7 @@ fn divide_greatest(components: &[FrameComponent]) -> bool
         && is_divisor(c.vertical, vertical))
 }
 
-/// Whether a destination Tqi is over 3.
+/// Returns whether a destination Tqi is over 3.
 #[tactic(auto, unfolding(crate::specs::Frames::has_far_quantiser))]
 fn has_far_quantiser(components: &[FrameComponent]) -> bool
     ensures { result ≡ has_far_quantiser components.now }
@@ -154,7 +154,8 @@ fn has_far_quantiser(components: &[FrameComponent]) -> bool
     components.iter().any(|c| c.quantiser > 3)
 }
 
-/// Whether three components have a factor that doesn't divide the greatest, or more than ten data units in an MCU.
+/// Returns whether three components have a factor that does not divide the greatest, or more than ten data units in an
+/// MCU.
 #[tactic(auto, unfolding(crate::specs::Frames::is_ill_sampled))]
 fn is_ill_sampled(components: &[FrameComponent]) -> bool
     ensures { result ≡ is_ill_sampled components.now }

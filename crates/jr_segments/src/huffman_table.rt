@@ -84,7 +84,7 @@ fn read_huffman_table(
     }
 }
 
-/// Puts the tables of a payload at the places of their destinations.
+/// Stores each table of a DHT payload at its destination.
 ///
 /// # Errors
 ///

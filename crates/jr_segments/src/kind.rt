@@ -7,7 +7,7 @@
 ghost use Rattle.std.specs.Prelude.{◌≡◌, ◌==◌, ◌&&◌, ◌≤◌, nat_le, nat_eq, codes, ◌++◌, ◌∷◌, [], ℕ, List, length, Option, Some, None, IfSome, IsNone, ◌↔◌};
 ghost use Rattle.jr_segments.specs.Marks.{has_jfif_mark, has_adobe_mark, kind_by, transform_of};
 
-/// What the samples of a picture stand for.
+/// The meaning of the samples of an image.
 #[derive(Clone, Copy, Debug, PartialEq, Eq)]
 pub enum Kind {
     /// One component: the intensity.
@@ -18,7 +18,7 @@ pub enum Kind {
     Ycc,
 }
 
-/// Whether the payload of an APP0 segment is a JFIF mark: it begins with `JFIF` and a 0 (JFIF 1.02).
+/// Returns whether the payload of an APP0 segment is a JFIF mark: it begins with `JFIF` and a 0 (JFIF 1.02).
 pub fn is_jfif_mark(payload: &[u8]) -> bool
     ensures { result ≡ has_jfif_mark payload.now }
 {

@@ -104,7 +104,7 @@ fn read_quantisation(head: u8, bytes: &[u8]) -> Result<(Quantisation, &[u8]), Re
     Ok((quantisation, rest))
 }
 
-/// Puts the tables of a payload at the places of their destinations.
+/// Stores each table of a DQT payload at its destination.
 ///
 /// # Errors
 ///

@@ -9,10 +9,10 @@ use thiserror::Error;
 /// Why a file is refused: the first test that fails. Offsets are those in the file, in bytes.
 #[derive(Clone, Copy, Debug, PartialEq, Eq, Error)]
 pub enum Refusal {
-    /// It doesn't begin with SOI (T.81, B.2.1).
+    /// The file does not begin with SOI (T.81, B.2.1).
     #[error("not a JPEG file")]
     NotJpeg,
-    /// It ends within a marker or a segment, or before the scan.
+    /// The file ends within a marker or a segment, or before the scan.
     #[error("the file ends early")]
     EndsEarly,
     /// At this offset no byte of a marker stands (B.1.1.2).
@@ -60,7 +60,7 @@ pub enum Refusal {
     /// A component uses a table that is not defined.
     #[error("a table is missing")]
     MissingTable,
-    /// It is longer than 1,073,741,824 bytes, a limit of this decoder.
+    /// The file is longer than 1,073,741,824 bytes, a limit of this decoder.
     #[error("the file is too long")]
     TooLong,
     /// Memory was refused; nothing is said of the file.

@@ -16,7 +16,7 @@ use jr_base::marker::{
     SOF13, SOF15, SOS,
 };
 
-/// How many bytes at the front are FF.
+/// Returns the number of FF bytes at the start.
 fn fill_count(bytes: &[u8]) -> usize
     ensures { result ≡ fill_count bytes.now }
 {

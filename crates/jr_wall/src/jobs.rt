@@ -15,7 +15,7 @@ pub(crate) enum Jobs<S: OneScan> {
     Shared(Vec<Option<Arc<Job<S>>>>),
     /// Each that it claims by itself, strip by strip.
     Own,
-    /// As it decodes short ones: nobody looks for strips.
+    /// As short ones are decoded: no caller looks for strips.
     Whole,
 }
 

@@ -12,10 +12,10 @@ use jr_scan::Scan;
 use std::alloc::Global;
 use std::sync::Arc;
 
-/// How many MCUs the data of an interval can code at least where it is decoded strip by strip: four strips.
+/// Minimum number of MCUs that the data of an interval can code if it is decoded strip by strip: four strips.
 const LONG_MCUS: u32 = 1024;
 
-/// Whether intervals of the scan can be long: all but the last one have equally many MCUs.
+/// Returns whether intervals of the scan can be long: all but the last one have equally many MCUs.
 fn may_be_long(scan: &Scan) -> bool {
     let restart = u32::from(scan.head().restart());
     restart == 0 || restart >= LONG_MCUS

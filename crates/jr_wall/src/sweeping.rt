@@ -15,7 +15,7 @@ use jr_scan::Scan;
 use std::alloc::Global;
 use std::sync::Arc;
 
-/// Whether a board is one of this scan, with no mark from n on.
+/// Returns whether a board is one of this scan, with no mark starting at interval n.
 fn is_left(board: &Board, scan: &Scan, n: u32) -> bool
     ensures { IsTrue result → IsSameScan board.now.scan scan.now × ((i : ℕ) → n ≤ i → mark_at board.now i ≡ Blank) }
 {

@@ -36,7 +36,7 @@ fn held_stream(rt: &HostRuntime) -> Option<File> {
     }
 }
 
-/// Takes the numbers of all standard streams that are closed, so that no file that the program opens is one of them.
+/// Takes the numbers of all standard streams that are closed, so that no file that the program opens gets one of them.
 pub(crate) fn hold_streams(rt: &HostRuntime) -> [Option<File>; 3] {
     [held_stream(rt), held_stream(rt), held_stream(rt)]
 }

@@ -173,10 +173,10 @@ pub extern "C" fn jri_decode_rows(
     decode_file_rows(alloc, file, more, place, rows, pixels, report)
 }
 
-/// Passes over the next rows of MCUs of a file's picture from a place on, at most so many, by reading their bits alone, and moves the
-/// place behind them; where more of the file is to come (`more` is not 0), over those that the bytes settle. It answers 0 then. With
-/// 1 for want of memory, 2 where the file is refused, and 5 where the picture has no row at the place, or none is asked for, the place
-/// is as it was.
+/// Skips the next rows of MCUs of a file's image starting at a position, at most the given number, by reading their
+/// bits alone, and moves the position past them; if more of the file may follow (`more` is not 0), those that the bytes
+/// make final. Returns 0 then. With 1 if allocation fails, 2 if the file is refused, and 5 if the image has no row at
+/// the position or none was asked for, the position is unchanged.
 #[unsafe(no_mangle)]
 pub extern "C" fn jri_skip_rows(
     alloc: Global,
@@ -225,8 +225,8 @@ pub extern "C" fn jri_list_damage(
     list_damages(alloc, file, first, first_at, damages, report)
 }
 
-/// What ended the scan of a report in the words of `jri`, as much as `text` has room for, with no 0 behind it: how many bytes it has.
-/// None where the report tells of no end.
+/// Writes what ended the scan of a report, in the words of `jri`, into `text`, as much as fits, with no 0 after it, and
+/// returns its length in bytes: 0 if the report has no end.
 #[unsafe(no_mangle)]
 pub extern "C" fn jri_end_text(report: &DecodeReport, text: &mut [u8]) -> u64
     ensures some { 1 ≤ report.now.ended → report.now.ended ≤ 5 → 0 < length text.old → 0 < result }

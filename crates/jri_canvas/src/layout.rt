@@ -3,7 +3,7 @@
 ghost use Rattle.std.specs.Prelude.{◌≡◌, ◌<◌, ◌≤◌, IfSome, None};
 ghost use Rattle.jri_canvas.specs.Layouts.{laid_size, layout_number, sample_count};
 
-/// What the pixels of a line are.
+/// The pixels of a line.
 #[derive(Clone, Copy)]
 pub enum Pixels {
     /// A byte of grey each.
@@ -28,14 +28,14 @@ pub enum Order {
 /// How the pixels of a canvas are laid out.
 #[derive(Clone, Copy)]
 pub enum Layout {
-    /// As they are: a byte of grey, or three of a colour.
+    /// Unchanged: a byte of grey, or three of a colour.
     Plain,
     /// As colours in this order.
     Coloured(Order),
 }
 
 impl Pixels {
-    /// How many bytes a pixel has.
+    /// Returns the size of a pixel in bytes.
     pub fn bytes(self) -> usize
         ensures value { result ≡ sample_count self }
         ensures some { 0 < result }
@@ -64,7 +64,7 @@ impl Layout {
         }
     }
 
-    /// How many bytes a pixel takes.
+    /// Returns the size of a pixel in bytes.
     pub fn bytes(self, pixels: Pixels) -> usize
         ensures value { result ≡ laid_size self pixels }
         ensures some { 0 < result }

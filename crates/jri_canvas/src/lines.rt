@@ -6,21 +6,21 @@ ghost use Rattle.jri_canvas.specs.Layouts.{HavePlaces, StandOn, laid_line, laid_
 use crate::layout::{Layout, Pixels};
 use crate::line::lay_line;
 
-/// What the lines of a canvas are.
+/// The form of the lines of a canvas.
 #[derive(Clone, Copy)]
 pub struct CanvasLines {
-    /// How many pixels a line has.
+    /// Number of pixels of a line.
     pub width: u32,
-    /// What they are before they are laid out.
+    /// The pixels before they are laid out.
     pub pixels: Pixels,
     /// How they are laid out.
     pub layout: Layout,
-    /// How many bytes lie between the starts of a line and the next.
+    /// Number of bytes from the start of a line to that of the next.
     pub stride: usize,
 }
 
 impl CanvasLines {
-    /// How many bytes a line has before it is laid out.
+    /// Returns the size of a line in bytes before it is laid out.
     pub fn bytes_before(&self) -> usize
         ensures value { result ≡ sample_count self.now.pixels * self.now.width }
         ensures short { result ≤ 3 * self.now.width }
@@ -28,7 +28,7 @@ impl CanvasLines {
         self.pixels.bytes() * self.width as usize
     }
 
-    /// How many bytes a line takes on the canvas.
+    /// Returns the size of a line on the canvas in bytes.
     pub fn bytes(&self) -> usize
         ensures value { result ≡ laid_size self.now.layout self.now.pixels * self.now.width }
         ensures short { result ≤ 4 * self.now.width }
@@ -38,7 +38,7 @@ impl CanvasLines {
     }
 }
 
-/// Whether so many lines have room on a canvas.
+/// Returns whether `count` lines fit on a canvas of `room` bytes.
 pub fn have_places(form: &CanvasLines, count: usize, room: usize) -> bool
     requires { 0 < form.now.stride }
     ensures there { result ≡ true → HavePlaces form.now 0 count room }

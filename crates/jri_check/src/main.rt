@@ -47,8 +47,8 @@ fn unread(error: &Error) -> ReadError {
     }
 }
 
-/// Makes room for all bytes of a file and one more, so that two reads take it and see its end; where the system tells no size, or
-/// there is no such room, reads take it part by part.
+/// Reserves space for all bytes of a file and one more, so that two reads take it and see its end. If the system
+/// reports no size, or allocation fails, reads take it part by part.
 fn make_room(bytes: &mut Vec<u8>, file: &File) {
     if let Ok(data) = file.metadata() {
         let _ = bytes.reserve(data.len().saturating_add(1).min(TOO_MANY) as usize);
@@ -254,11 +254,11 @@ fn finish<E: Write>(errors: &mut E, report: CheckReport, is_quiet: bool) -> u8 {
     report.status()
 }
 
-/// Where lines, and what is told beside them, go.
+/// Where lines, and reports next to them, go.
 struct Streams<O, E> {
     out: O,
     errors: E,
-    /// The same as `errors`, where it is a terminal.
+    /// The same stream as `errors` if it is a terminal.
     progress: Option<E>,
 }
 

@@ -17,7 +17,7 @@ use std::io::Read;
 /// One byte more than a file may have.
 pub(crate) const TOO_MANY: usize = MAX_FILE_BYTES + 1;
 
-/// How many bytes are asked of the input at once.
+/// Number of bytes that are asked of the input at once.
 pub(crate) const PART: usize = 65_536;
 
 /// The most bytes that the first reads take: `PART` of them are enough.

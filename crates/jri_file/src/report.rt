@@ -3,16 +3,16 @@
 use jr_head::Refusal;
 use jr_scan::ScanEnd;
 
-/// What was decoded of a file whose picture was written.
+/// The report of a file whose image was written.
 #[derive(Clone, Copy)]
 pub struct Report {
-    /// How many restart intervals the scan has.
+    /// Number of restart intervals of the scan.
     pub intervals: u32,
-    /// How many of them have a decoding.
+    /// Number of those with a decoding.
     pub sound: u32,
-    /// How many of them have none.
+    /// Number of those without one.
     pub damaged: u32,
-    /// How many of them were not to be decoded.
+    /// Number of those that were not to be decoded.
     pub blank: u32,
     /// What ended the scan.
     pub ended: ScanEnd,
