@@ -71,7 +71,7 @@ fn limits_of(factors: &[u16; 64]) -> [u16; 64]
 }
 
 impl Quantisers {
-    /// Those of a table's elements, which stand in zigzag order.
+    /// Returns the quantisers of a table's elements, which are in zigzag order.
     pub fn of(elements: [u16; 64]) -> Quantisers
         ensures { result ≡ elements }
     {

@@ -1,4 +1,4 @@
-//! Writing that goes on after short writes, and ends at the first failure.
+//! Writing that continues after short writes, and ends at the first failure.
 
 ghost use Rattle.std.specs.Prelude.{◌≡◌, is_err, false, OnOk, OnErr};
 ghost use Rattle.jr_base.specs.Tally.{Writes, WritesBeginning, has_failed};

@@ -74,7 +74,8 @@ impl Cells {
         Ok(Sight { notes })
     }
 
-    /// Hangs the piece of interval i into its cell. `Err` gives the piece back: the cell is full, or memory was refused.
+    /// Publishes the piece of interval i in its cell. On `Err` the cell is full or allocation failed, and the piece is
+    /// returned.
     pub fn hang(&self, i: u32, piece: Arc<Piece>, sight: &mut Sight) -> Result<(), Arc<Piece>>
         requires cell { i < length self.now }
         requires sight { sight.old.cells ≡ self.now }
@@ -88,7 +89,8 @@ impl Cells {
         set_cell(self.alloc, cells, i as usize, piece, &mut sight.notes)
     }
 
-    /// The piece in cell i; none where the cell is still empty. Whoever saw a piece in a cell finds it there ever after.
+    /// Returns the piece in cell i, `None` while the cell is empty. A thread that saw a piece in a cell finds it there
+    /// ever after.
     pub fn look<'a>(&'a self, i: u32, sight: &mut Sight) -> Option<&'a Piece>
         requires cell { i < length self.now }
         requires sight { sight.old.cells ≡ self.now }

@@ -113,7 +113,7 @@ pub struct Drawn {
 }
 
 impl Seat {
-    /// Its place among the seats of its desk, from 0 on.
+    /// Returns its index among the seats of its desk, from 0.
     pub fn place(&self) -> u32
         ensures { result ≡ self.now.place }
     {

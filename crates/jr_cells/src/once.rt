@@ -34,7 +34,7 @@ pub(crate) fn fresh_notes<T: Drop>(
     Ok(notes)
 }
 
-/// Sets the cell at a place. `Err` gives the value back: the cell is full, or memory was refused.
+/// Sets the cell at an index. On `Err` the cell is full or allocation failed, and the value is returned.
 pub(crate) fn set_cell<T: Drop>(
     alloc: Global,
     cells: &[OnceBox<T>],

@@ -16,10 +16,10 @@ use std::alloc::Global;
 use std::marker::Model;
 use std::sync::Arc;
 
-/// Cells for the strips of one interval, one for each `each` MCUs from its first on. Each is empty until a strip is hung
-/// into it, and holds that strip ever after.
+/// Cells for the strips of one interval, one for each `each` MCUs from its first. Each is empty until a strip is
+/// published in it, and holds that strip ever after.
 ///
-/// Threads hang and look through a shared `&StripCells`, and none ever waits for another.
+/// Threads publish and look through a shared `&StripCells`, and none ever waits for another.
 #[derive(Drop)]
 pub struct StripCells {
     number: u32,
@@ -60,8 +60,8 @@ impl Model for StripSight {
 }
 
 impl StripCells {
-    /// Cells for the strips of an interval, of so many MCUs each, all empty. `Err` where memory is refused. They are as
-    /// many as hold the MCUs that the interval's data can code, so a head that claims more takes no memory.
+    /// Allocates empty cells for the strips of an interval, of `each` MCUs each. They are as many as hold the MCUs that
+    /// the interval's data can code, so a header that claims more uses no memory. `Err` if allocation fails.
     pub fn open(alloc: Global, interval: &Interval, each: u32) -> Result<StripCells, Memory>
         requires { 0 < each }
         ensures number { IfOk result (λ c. c.number ≡ interval.now.number) }
@@ -114,8 +114,8 @@ impl StripCells {
         })
     }
 
-    /// Hangs the strip that begins with MCU `place * each` into the cell of this place. `Err` gives the strip back: the
-    /// cell is full, or memory was refused.
+    /// Publishes the strip that begins with MCU `place * each` in the cell of this index. On `Err` the cell is full or
+    /// allocation failed, and the strip is returned.
     pub fn hang(
         &self,
         place: u32,
@@ -135,8 +135,9 @@ impl StripCells {
         set_cell(self.alloc, cells, place as usize, strip, &mut sight.notes)
     }
 
-    /// The strip in the cell of this place; none where the cell is still empty. Whoever saw a strip in a cell finds it
-    /// there ever after, and by `strip_is_final` each piece of its interval shows the strip's samples at its MCUs.
+    /// Returns the strip in the cell of this index, `None` while the cell is empty. A thread that saw a strip in a cell
+    /// finds it there ever after, and by `strip_is_final` each piece of its interval shows the strip's samples at its
+    /// MCUs.
     pub fn look<'a>(&'a self, place: u32, sight: &mut StripSight) -> Option<&'a Strip>
         requires cell { place < length self.now.cells }
         requires sight { sight.old.cells ≡ self.now }

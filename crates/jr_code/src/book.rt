@@ -16,12 +16,12 @@ use jr_base::Memory;
 use std::alloc::Global;
 use std::marker::Model;
 
-/// A code table (T.81, Annex C) by which coefficients behind the first are read, word and extra bits at once. Two are equal
-/// where their counts and symbols are.
+/// A code table (T.81, Annex C) by which AC coefficients are read, word and additional bits at once. Two are equal if
+/// their counts and symbols are.
 #[derive(Drop)]
 pub struct CodeBook {
     words: WordBook,
-    /// By eleven bits: the word in front and its extra bits, where both are within them.
+    /// By eleven bits: the word that they begin with and its additional bits, if both are within them.
     pairs: [Packed; WINDOWS],
 }
 
@@ -53,8 +53,9 @@ impl CodeBook {
         self.words.is_same(&other.words)
     }
 
-    /// The table of these counts, `counts[i]` of words of i + 1 bits, and of a symbol for each word in order (T.81, B.2.4.2
-    /// and Annex C). A symbol may stand twice, the word of all ones may be assigned, and a table may be empty.
+    /// Builds the table of these counts, `counts[i]` of words of i + 1 bits, and of a symbol for each word in order
+    /// (T.81, B.2.4.2 and Annex C). A symbol may occur twice, the word of all ones may be assigned, and a table may be
+    /// empty.
     pub fn new(alloc: Global, counts: &[u8; 16], symbols: &[u8]) -> Result<CodeBook, CodeFault>
         ensures book { IfOk result (λ b. b ≡ record { counts = counts.now; symbols = symbols.now }) }
         ensures lawful { OnOk result (IsLawfulTable counts.now symbols.now) }
@@ -126,7 +127,7 @@ impl CodeBook {
     #[inline(always)]
     pub fn read(&self, bits: &mut Bits) -> Option<u8>
         ensures found { IfSome result (λ s. (word : List Bool) × IsWord self.now word s × (bits.old ≡ word ++ bits.new)) }
-        // No word is a front of what is left.
+        // No word is a prefix of what is left.
         ensures none { IfNone result ((word rest : List Bool) (s : ℕ) → IsWord self.now word s → bits.old ≢ word ++ rest) }
         ensures unmoved { IfNone result (bits.new ≡ bits.old) }
         // Two words of this table that begin the same bits are one word with one symbol.

@@ -1,4 +1,4 @@
-//! A word and its extra bits in one number, so that one load gives both.
+//! A word and its additional bits in one number, so that one load returns both.
 
 ghost use Rattle.std.specs.Prelude.{◌≡◌, ◌<◌, ◌≤ℤ◌, ℕ, pos, negsuc, IfSome, IfNone};
 ghost use Rattle.jr_code.specs.Code.{unpacked, places_in, GoesOn};
@@ -11,13 +11,13 @@ pub(crate) const LOOKED_UP: u8 = 11;
 /// Number of values that these bits have.
 pub(crate) const WINDOWS: usize = 2048;
 
-/// The places that stand for the end of a block: no block has as many.
+/// The number of places that means the end of a block: no block has as many.
 const TO_THE_END: u8 = 128;
 
 /// The symbol of a run of sixteen zeros.
 const SIXTEEN_ZEROS: u8 = 0xF0;
 
-/// The most extra bits of a coefficient behind the first.
+/// Maximum number of additional bits of an AC coefficient.
 const MOST_EXTRA: u8 = 10;
 
 /// An entry of a table. The lowest byte is the number of bits of the word and its additional bits, the next one the

@@ -3,7 +3,7 @@
 ghost use Rattle.std.specs.Prelude.{◌≡◌, ◌<◌, ◌≤◌, ◌+◌, ◌-◌, ◌*◌, ◌/◌, ◌%◌, ◌^◌, ◌⊎◌, ◌↔◌, length, IsSome, IfSome, drop, take, [], ◌∷◌, ◌++◌, ℕ};
 ghost use Rattle.jr_code.specs.Bits.{bits, bits_of, number, window_of};
 
-/// The first `count` bits of `held`, which has zeros behind them, and then those of `rest`.
+/// The first `count` bits of `held`, which has zeros after them, and then those of `rest`.
 #[derive(Clone, Copy)]
 pub(crate) struct Register<'a> {
     pub(crate) rest: &'a [u8],
@@ -116,7 +116,7 @@ impl<'a> Register<'a> {
         self.upper(n)
     }
 
-    /// The number of the next n bits, where zeros stand for those that are missing.
+    /// Returns the number of the next n bits, with zeros for those that are missing.
     #[inline(always)]
     pub(crate) fn window(self, n: u32) -> u64
         requires short { n ≤ 16 }
@@ -127,7 +127,7 @@ impl<'a> Register<'a> {
         self.upper(n)
     }
 
-    /// The bits behind the next n.
+    /// Returns the bits after the next n.
     #[inline(always)]
     pub(crate) fn behind(self, n: u32) -> Register<'a>
         requires { n ≤ self.count }
@@ -141,7 +141,8 @@ impl<'a> Register<'a> {
     }
 }
 
-/// A register's number with a word behind its first `count` bits where these are fewer than 32, and else as it is.
+/// Returns a register's number with a word after its first `count` bits if these are fewer than 32, and unchanged
+/// otherwise.
 #[inline(always)]
 fn with_word(held: u64, count: u32, word: u32) -> u64
     requires few { count < 64 }
@@ -161,7 +162,7 @@ fn word(a: u8, b: u8, c: u8, d: u8) -> u32
     u32::from_be_bytes([a, b, c, d])
 }
 
-/// A number with the last bytes of a slice behind it. By value, so that no address of a reader leaves its loop.
+/// Returns a number with the last bytes of a slice after it. By value, so that no address of a reader leaves its loop.
 #[cold]
 #[inline(never)]
 fn followed(held: u64, bytes: &[u8]) -> u64

@@ -10,7 +10,7 @@ use std::alloc::Global;
 use std::marker::Model;
 use thiserror::Error;
 
-/// Why counts and symbols are no code table, or why there is no room for it.
+/// The reason why counts and symbols are not a code table, or that allocation failed.
 #[derive(Debug, Drop, PartialEq, Eq, Error)]
 pub enum CodeFault {
     /// The counts add up to over 256, or not to the number of symbols.

@@ -19,7 +19,7 @@ use std::marker::Model;
 #[derive(Drop)]
 pub struct WordBook {
     table: CodeTable,
-    /// By eight bits: the symbol and length of the word of at most eight bits in front.
+    /// By eight bits: the symbol and length of the word of at most eight bits that they begin with.
     entries: [Option<(u8, u8)>; 256],
     /// For each length from nine to sixteen bits: the least word, and how many words are shorter.
     long: [(u32, u32); 8],
@@ -99,7 +99,7 @@ impl WordBook {
     #[inline(always)]
     pub fn read(&self, bits: &mut Bits) -> Option<u8>
         ensures found { IfSome result (λ s. (word : List Bool) × IsWord self.now word s × (bits.old ≡ word ++ bits.new)) }
-        // No word is a front of what is left.
+        // No word is a prefix of what is left.
         ensures none { IfNone result ((word rest : List Bool) (s : ℕ) → IsWord self.now word s → bits.old ≢ word ++ rest) }
         ensures unmoved { IfNone result (bits.new ≡ bits.old) }
         // Two words of this table that begin the same bits are one word with one symbol.
@@ -144,8 +144,8 @@ impl WordBook {
         Some((both.symbol, value))
     }
 
-    /// The word that is in front of the first `count` bits of `held` and its extra bits, long ones or ones near the end of
-    /// all bits. By value, so that no address of a reader leaves its loop.
+    /// Returns the word that the first `count` bits of `held` begin with and its additional bits, long ones or ones
+    /// near the end of all bits. By value, so that no address of a reader leaves its loop.
     #[cold]
     #[inline(never)]
     pub(crate) fn rare_pair(&self, held: u64, count: u32) -> Option<Extended>
@@ -173,7 +173,7 @@ impl WordBook {
         })
     }
 
-    /// The word of at most eight bits that is in front of the bits.
+    /// Returns the word of at most eight bits that comes next.
     #[inline(always)]
     fn short_word(&self, register: Register) -> Option<(u8, u8)>
         requires { 32 ≤ register.count }
@@ -182,8 +182,8 @@ impl WordBook {
         self.entries[register.first_bits(8) as usize]
     }
 
-    /// The word that is in front of the first `count` bits of `held`, a long one or one near the end of all bits. In line
-    /// with what it calls, since the answers of calls go through memory.
+    /// Returns the word that the first `count` bits of `held` begin with, a long one or one near the end of all bits.
+    /// In line with what it calls, since the results of calls go through memory.
     #[inline(always)]
     fn rare_word(&self, held: u64, count: u32) -> Option<(u8, u8)>
         requires few { count < 64 }
@@ -203,7 +203,7 @@ impl WordBook {
         Some((symbol, long))
     }
 
-    /// The word that is in front of the bits where these are as many; where they are fewer there is none.
+    /// Returns the word that comes next if there are as many bits; `None` if there are fewer.
     #[inline(always)]
     fn first_word(&self, register: Register) -> Option<(u8, u8)>
         requires { register.rest.now ≡ [] }

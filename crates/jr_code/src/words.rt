@@ -78,7 +78,7 @@ impl CodeTable {
         (2 * end, &self.symbols[from..from + count])
     }
 
-    /// The word of nine bits or more that is in front of sixteen bits.
+    /// Returns the word of nine bits or more that sixteen bits begin with.
     #[inline(always)]
     pub(crate) fn long_word(&self, long: &[(u32, u32); 8], window: u16) -> Option<(u8, u8)>
         requires { AreLong self.now long.now }

@@ -79,7 +79,7 @@ impl<S: OneFirstIntervals> Baton<S> {
         self.rows.next_start(part)
     }
 
-    /// Returns the same rows, which go over these guesses.
+    /// Returns the same rows, with these speculative reads.
     pub(crate) fn with_guesses(
         self,
         part: &FirstIntervals<'_>,
@@ -112,7 +112,7 @@ impl<S: OneFirstIntervals> Baton<S> {
         (self, behind)
     }
 
-    /// Decodes and paints the next row, of whose intervals the gate was told.
+    /// Decodes and paints the next row, whose intervals were reported to the gate.
     pub(crate) fn finish(
         self,
         part: &FirstIntervals<'_>,
@@ -134,7 +134,7 @@ impl<S: OneFirstIntervals> Baton<S> {
         announce(part.scan(), part.limit(), self.rows.row(), gate);
     }
 
-    /// Reads the next row, of whose intervals the gate was told. Returns it with those after it.
+    /// Reads the next row, whose intervals were reported to the gate. Returns it with those after it.
     pub(crate) fn read(
         self,
         part: &FirstIntervals<'_>,
@@ -147,7 +147,7 @@ impl<S: OneFirstIntervals> Baton<S> {
         (coded, baton_over(part, rows))
     }
 
-    /// Decodes and paints the next row, of whose intervals the gate was told. Returns it with those after it.
+    /// Decodes and paints the next row, whose intervals were reported to the gate. Returns it with those after it.
     pub(crate) fn decode(
         self,
         part: &FirstIntervals<'_>,

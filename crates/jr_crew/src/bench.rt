@@ -39,7 +39,7 @@ fn paint_first(
     work.paint(scan, limit, row, room, &mut pixels[..size]);
 }
 
-/// Decodes the next row and paints it at the beginning of `pixels`: answers the marks of the intervals that end in it.
+/// Decodes the next row and paints it at the beginning of `pixels`. Returns the marks of the intervals that end in it.
 fn decode_first(
     work: &mut SampleRow,
     part: &FirstIntervals<'_>,
@@ -211,7 +211,7 @@ pub struct CodedRow<S: OneFirstIntervals> {
     row: u32,
     marked: Marked,
     work: Row,
-    /// Room for its lines.
+    /// The space for its lines.
     pixels: Vec<u8>,
     of: PhantomData<S>,
 }
@@ -251,7 +251,7 @@ pub struct Painted<S: OneFirstIntervals> {
     row: u32,
     marked: Marked,
     work: Option<Row>,
-    /// The lines, and what of their room they leave.
+    /// The lines, and the space that they leave.
     pixels: Vec<u8>,
     of: PhantomData<S>,
 }
@@ -276,7 +276,7 @@ impl<S: OneFirstIntervals> Painted<S> {
         self.row
     }
 
-    /// Copies the lines, for which the slice has room.
+    /// Copies the lines, which fit into the slice.
     fn copy_to(&self, part: &FirstIntervals<'_>, pixels: &mut [u8])
         requires part { S.part ≡ Some part.now }
         requires room { length pixels.old ≡ line_count part.now.scan.head self.now.row * line_size part.now.scan.head }

@@ -74,7 +74,7 @@ impl<R: Wait, G: Gate, S: OneFirstIntervals> RowPainter for Caller<'_, '_, R, G,
     fn paint(&mut self, pixels: &mut Vec<u8>, from: usize, to: usize) -> Marked {
         self.help();
         let (crew, rt) = (self.crew, self.rt);
-        // By its contract a row's number has room.
+        // By its contract a row's number fits.
         let _rows = shape_of(crew.part().scan().head()).down;
         let painted = crew.painted(rt, self.row);
         let (marked, bench) = painted.put_into(crew.part(), pixels, from, to);

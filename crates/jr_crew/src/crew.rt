@@ -20,8 +20,8 @@ use std::alloc::Global;
 use std::marker::Model;
 use std::sync::{Condvar, Mutex, Wait};
 
-/// A bound of loops over tasks that no run reaches: a row has three at most, there is room for few guesses, and
-/// each covers bits that no other does.
+/// A bound of loops over tasks that no run reaches: a row has three at most, there is space for few speculative reads,
+/// and each covers bits that no other does.
 pub(crate) const MOST_TASKS: u64 = u64::MAX;
 
 /// Number of benches for each thread, if there are as many rows: one that it works at, and one that waits to be painted
@@ -44,9 +44,10 @@ pub(crate) struct Crew<'a, S: OneFirstIntervals> {
     alloc: Global,
     part: FirstIntervals<'a>,
     queue: Mutex<RowQueue<S>>,
-    /// Somebody has read a row, or given back a bench, or all is over. It wakes nobody where nobody waits.
+    /// Signalled when a thread has read a row or returned a bench, or all is over, if a thread waits.
     has_task: Condvar,
-    /// The row is painted that the calling thread waits for, or one is read and nobody else waits for it.
+    /// Signalled when the row is painted for which the calling thread waits, or one is read and no other thread waits
+    /// for it.
     has_row: Condvar,
 }
 
@@ -154,7 +155,7 @@ impl<'a, S: OneFirstIntervals> Crew<'a, S> {
         }
     }
 
-    /// Reads a row, and paints it where rows are whole intervals; else it waits for whoever is free.
+    /// Reads a row, and paints it if rows are whole intervals; otherwise it waits for a free thread.
     fn read<R: Wait, G: Gate>(&self, rt: &R, gate: &G, row: BegunRow<S>, room: &mut PaintRoom<S>) {
         row.baton.announce(&self.part, gate);
         if intervals_of_row(self.part.scan().head()).is_some() {
@@ -167,13 +168,13 @@ impl<'a, S: OneFirstIntervals> Crew<'a, S> {
         }
     }
 
-    /// Reads and paints a row, of whose intervals the gate was told.
+    /// Reads and paints a row, whose intervals were reported to the gate.
     fn finish<R: Wait>(&self, rt: &R, row: BegunRow<S>, room: &mut PaintRoom<S>) {
         let BegunRow { baton, bench } = row;
         self.put_painted(rt, baton.finish(&self.part, bench, room));
     }
 
-    /// Reads a row, which waits for whoever is free.
+    /// Reads a row, which then waits for a free thread.
     fn read_on<R: Wait>(&self, rt: &R, baton: Baton<S>, bench: WorkBench<S>) {
         let (coded, behind) = baton.read(&self.part, bench);
         let waiter = self.queue.lock(rt).put_coded(&self.part, coded, behind);
@@ -240,7 +241,7 @@ impl<'a, S: OneFirstIntervals> Crew<'a, S> {
         }
     }
 
-    /// Brings a bench, where one is lacking.
+    /// Brings a bench if one is lacking.
     fn bring_bench<R: Wait>(&self, rt: &R) {
         let is_lacking = self.queue.lock(rt).lacks_bench();
         if is_lacking && let Ok(bench) = Bench::open(self.alloc, &self.part) {
@@ -248,7 +249,8 @@ impl<'a, S: OneFirstIntervals> Crew<'a, S> {
         }
     }
 
-    /// Brings room for a guess of so many MCUs. Where memory is refused there are fewer guesses.
+    /// Brings a buffer for a speculative read of at most `most` MCUs. If allocation fails there are fewer speculative
+    /// reads.
     fn bring_guess<R: Wait>(&self, rt: &R, most: u32) {
         if let Ok(room) = ScanGuess::open(self.alloc, self.part.scan(), most) {
             self.queue.lock(rt).guesses.bring(room);

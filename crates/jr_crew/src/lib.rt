@@ -1,5 +1,5 @@
-//! A scan's picture, decoded and painted by several threads, and written in one pass; and the memory for a row of MCUs that threads
-//! hand on: empty, read, or painted.
+//! A scan's image, decoded and painted by several threads, and written in one pass; and the memory for a row of MCUs
+//! that threads hand on: empty, read, or painted.
 #![tactic(auto)]
 
 mod baton;

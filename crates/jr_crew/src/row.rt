@@ -1,4 +1,4 @@
-//! A row of MCUs in work: its blocks, and the samples that they give.
+//! A row of MCUs in work: its blocks and their samples.
 
 ghost use Rattle.std.specs.Prelude.{◌≡◌, ◌+◌, ◌*◌, ◌<◌, ◌≤◌, length, IfOk, IfSome};
 ghost use Rattle.jr_head.specs.Geometry.{mcus_across, mcus_down};
@@ -34,7 +34,7 @@ impl Model for Row {
 }
 
 impl Row {
-    /// Room for a row of this head's picture.
+    /// Allocates memory for a row of an image with this header.
     pub(crate) fn open(alloc: Global, head: &Head) -> Result<Row, Memory>
         ensures { IfOk result (HasRowRoom head.now) }
     {
@@ -48,7 +48,7 @@ impl Row {
         Ok(Row { blocks, lines })
     }
 
-    /// Reads the next row: answers the marks of the intervals that end in it.
+    /// Reads the next row. Returns the marks of the intervals that end in it.
     pub(crate) fn read(
         &mut self,
         part: &FirstIntervals<'_>,

@@ -28,13 +28,13 @@ pub(crate) enum RowTask<S: OneFirstIntervals> {
     Paint(CodedRow<S>),
     /// Makes a speculative read.
     Guess(GuessTask<ScanOf<S>>),
-    /// Brings room for a guess of so many MCUs.
+    /// Brings a buffer for a speculative read of at most this number of MCUs.
     BringGuess(u32),
     /// Frees memory that no thread needs any more.
     GiveBack(Spare<S>),
 }
 
-/// Memory that nobody needs any more.
+/// Memory that no thread needs any more.
 #[derive(Drop)]
 pub(crate) enum Spare<S: OneFirstIntervals> {
     Guesses(GuessQueue<ScanOf<S>>),
@@ -72,8 +72,8 @@ pub(crate) enum Waiter {
     Caller,
 }
 
-/// The rows that are read and not yet written, no more than there are benches, and who waits for them, so that nobody is woken
-/// where nobody waits.
+/// The rows that are read and not yet written, no more than there are benches, and the threads that wait for them, so
+/// that a wake-up is sent only if a thread waits.
 #[derive(Drop)]
 pub(crate) struct RowQueue<S: OneFirstIntervals> {
     /// None before the first row may begin, while a thread reads by it, and where no row is left to read.
@@ -82,7 +82,7 @@ pub(crate) struct RowQueue<S: OneFirstIntervals> {
     is_begun: bool,
     /// Nothing is read or painted any more.
     is_over: bool,
-    /// Those with room for a row's blocks behind the others.
+    /// Those with memory for a row's blocks come last.
     free: VecDeque<Bench<S>>,
     /// Number of benches that no thread brings yet.
     lacking: u32,
@@ -195,7 +195,8 @@ impl<S: OneFirstIntervals> RowQueue<S> {
         self.choice(scan) == Choice::Wait
     }
 
-    /// The rows that come next, with the guesses for the first of them, and the bench that it is read on.
+    /// Takes the rows that come next, with the speculative reads for the first of them, and the bench on which it is
+    /// read.
     fn begin(&mut self, part: &FirstIntervals<'_>, bench: Option<Bench<S>>) -> Option<BegunRow<S>>
         requires { S.part ≡ Some part.now }
     {
@@ -264,8 +265,8 @@ impl<S: OneFirstIntervals> RowQueue<S> {
         self.is_begun && (!self.has_given_back || !self.free.is_empty())
     }
 
-    /// Memory that nobody needs any more, where there is some, for a thread that has nothing else to do: room for guesses first, since
-    /// it is more than that of a bench.
+    /// Takes memory that no thread needs any more, if there is some, for a thread that has nothing else to do: buffers
+    /// for speculative reads first, since they are larger than a bench.
     pub(crate) fn spare(&mut self, alloc: Global) -> Option<RowTask<S>> {
         if !self.is_begun {
             return None;
@@ -281,7 +282,7 @@ impl<S: OneFirstIntervals> RowQueue<S> {
         None
     }
 
-    /// The rows behind those that are begun. Answers who is to be woken, since something can be done now.
+    /// Keeps the rows after those that are begun. Returns which thread to wake, since something can be done now.
     fn go_on(&mut self, part: &FirstIntervals<'_>, behind: Option<Baton<S>>) -> Option<Waiter>
         requires { S.part ≡ Some part.now }
     {
@@ -303,7 +304,7 @@ impl<S: OneFirstIntervals> RowQueue<S> {
         self.awaited.map(|_row| Waiter::Caller)
     }
 
-    /// Keeps a row that was passed over, and the rows behind it. Answers who is to be woken.
+    /// Keeps a row that was skipped, and the rows after it. Returns which thread to wake.
     pub(crate) fn put_passed(
         &mut self,
         part: &FirstIntervals<'_>,
@@ -320,13 +321,13 @@ impl<S: OneFirstIntervals> RowQueue<S> {
         self.go_on(part, behind)
     }
 
-    /// Keeps a guess in its place. Answers who is to be woken, since a row may have waited for it.
+    /// Keeps a speculative read at its index. Returns which thread to wake, since a row may have waited for it.
     pub(crate) fn put_guess(&mut self, made: GuessTask<ScanOf<S>>) -> Option<Waiter> {
         self.guesses.put(made);
         self.waiter()
     }
 
-    /// Keeps a row that is read, and the rows behind it. Answers who is to be woken, so that somebody paints it.
+    /// Keeps a row that is read, and the rows after it. Returns which thread to wake to paint it.
     pub(crate) fn put_coded(
         &mut self,
         part: &FirstIntervals<'_>,
@@ -343,7 +344,7 @@ impl<S: OneFirstIntervals> RowQueue<S> {
         self.go_on(part, behind)
     }
 
-    /// Keeps the rows behind one that is read and painted. Answers who is to be woken.
+    /// Keeps the rows after one that is read and painted. Returns which thread to wake.
     pub(crate) fn put_behind(
         &mut self,
         part: &FirstIntervals<'_>,
@@ -369,7 +370,7 @@ impl<S: OneFirstIntervals> RowQueue<S> {
         }
     }
 
-    /// Keeps a painted row. Answers whether the calling thread waits for it.
+    /// Keeps a painted row. Returns whether the calling thread waits for it.
     pub(crate) fn put_painted(&mut self, painted: Painted<S>) -> bool {
         let row = painted.row();
         let slot = row as usize % self.painted.len();
@@ -386,7 +387,7 @@ impl<S: OneFirstIntervals> RowQueue<S> {
         self.painted[slot].take().unwrap()
     }
 
-    /// Keeps a bench, to be used again. There is room for it, since it came from here. Answers whether a thread waits.
+    /// Keeps a bench, to be used again. It fits, since it came from here. Returns whether a thread waits.
     pub(crate) fn give_back(&mut self, bench: Bench<S>) -> bool {
         let kept = if bench.has_work() {
             self.free.push_back(bench)
@@ -397,7 +398,7 @@ impl<S: OneFirstIntervals> RowQueue<S> {
         self.is_waited_for()
     }
 
-    /// Ends the work; what is left is to give back memory.
+    /// Ends the work; only memory is left to free.
     pub(crate) fn end(&mut self) {
         self.is_over = true;
         self.is_begun = true;

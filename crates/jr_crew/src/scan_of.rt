@@ -6,7 +6,7 @@ use crate::one_first_intervals::OneFirstIntervals;
 use jr_guesses::OneScan;
 use std::marker::PhantomData;
 
-/// The scan of the part that is decoded, as the type that guesses know it by.
+/// The scan of the part that is decoded, as the type by which speculative reads know it.
 #[derive(Drop)]
 pub(crate) struct ScanOf<S: OneFirstIntervals> {
     _of: PhantomData<S>,

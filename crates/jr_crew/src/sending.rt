@@ -18,7 +18,7 @@ use jr_rows::{Marked, write_rows};
 use std::io::Write;
 use std::sync::Wait;
 
-/// Writes what a crew paints, in the calling thread, which has this room.
+/// Writes what the worker pool paints, in the calling thread, with its memory.
 fn send<R: Wait, W: Write, G: Gate, S: OneFirstIntervals>(
     crew: &Crew<'_, S>,
     rt: &R,

@@ -1,4 +1,4 @@
-//! A scan's picture, decoded and painted by several threads, and written in one pass.
+//! A scan's image, decoded and painted by several threads, and written in one pass.
 
 ghost use Rattle.std.specs.Prelude.{◌≡◌, ◌<◌, ◌≤◌, Some, IfOk, IfSome, IfNone, OnOk, length, true, false};
 ghost use Rattle.jr_base.specs.Tally.{has_failed};
@@ -27,23 +27,25 @@ use std::marker::Brand;
 use std::sync::Wait;
 use std::thread::Threads;
 
-/// Guesses are worth their work where there are benches for three threads: two are as fast where one reads and one paints.
+/// Minimum number of benches for speculative reads, those of three threads: two are as fast if one reads and one
+/// paints.
 const LEAST_BENCHES: u32 = 3 * BENCHES_OF_ONE;
 
-/// Guesses are worth their memory where the data of the longest interval have bits for so many: some 128 KB.
+/// Minimum number of speculative reads for which the longest interval must have bits, some 128 KB, to be worth their
+/// memory.
 const LEAST_WINDOWS: u64 = 32;
 
 /// Number of speculative reads for each thread, if there are bits for as many: one that it makes, and two from which a
 /// row is read.
 const GUESSES_OF_ONE: u32 = 3;
 
-/// A guess has room for so many MCUs at least where a row has fewer bits than it.
+/// Minimum number of MCUs of a buffer for speculative reads, if a row has fewer bits than one.
 const LEAST_MCUS: u32 = 512;
 
 /// Maximum number of intervals among which a long one is looked for: a header may claim millions.
 const MOST_LOOKED_AT: u32 = 1024;
 
-/// Slots for painted rows: so many, and one at least.
+/// Allocates `count` slots for painted rows, at least one.
 fn open_slots<S: OneFirstIntervals>(
     alloc: Global,
     count: u32,
@@ -79,8 +81,8 @@ fn guesses_of(part: &FirstIntervals<'_>, count: u32) -> u32 {
     most.min(u64::from(all)) as u32
 }
 
-/// For how many MCUs a guess has room: for more than a row has, since it has about the bits of one, or some least ones where that
-/// is more.
+/// Returns the number of MCUs of a buffer for speculative reads: more than a row has, since one has about the bits of a
+/// row, or a minimum if that is more.
 fn mcus_of_guess(scan: &Scan) -> u32 {
     // By its contract a scan has an interval.
     let _some = scan.intervals();
@@ -94,7 +96,7 @@ fn mcus_of_guess(scan: &Scan) -> u32 {
     }
 }
 
-/// A queue of so many guesses. A step of the reader is a row of MCUs.
+/// Opens a queue of at most `count` speculative reads. A step of the reader is a row of MCUs.
 fn open_guesses<S: OneFirstIntervals>(
     alloc: Global,
     part: &FirstIntervals<'_>,
@@ -105,7 +107,7 @@ fn open_guesses<S: OneFirstIntervals>(
     GuessQueue::open(alloc, part.scan(), part.limit(), guesses, across, most)
 }
 
-/// A queue of so many benches, of which the calling thread brings `own`.
+/// Opens a queue of `count` benches, of which the calling thread brings `own`.
 fn open_queue<S: OneFirstIntervals>(
     alloc: Global,
     part: &FirstIntervals<'_>,
@@ -126,8 +128,8 @@ fn open_queue<S: OneFirstIntervals>(
     Ok(queue)
 }
 
-/// Writes what a crew paints: the calling thread, which brings so many benches, and so many others. None where memory was refused
-/// to the calling thread.
+/// Writes what the worker pool paints: the calling thread, which brings some benches, and the other threads. `None` if
+/// allocation fails in the calling thread.
 fn write_by_crew<R: Threads + Wait + Sync, W: Write, G: Gate + Sync, S: OneFirstIntervals + Send>(
     crew: &Crew<'_, S>,
     rt: &R,
@@ -152,8 +154,8 @@ fn write_by_crew<R: Threads + Wait + Sync, W: Write, G: Gate + Sync, S: OneFirst
     sent
 }
 
-/// `write_scan_by`, where a type stands for the part that is decoded, so that what the threads share under locks is known to
-/// be of it.
+/// Does what `write_scan_by` does, with a type for the part that is decoded, so that what the threads share under locks
+/// is known to be of it.
 fn write_as<R: Threads + Wait + Sync, W: Write, G: Gate + Sync, S: OneFirstIntervals + Send>(
     rt: &R,
     alloc: Global,
@@ -188,21 +190,23 @@ fn write_as<R: Threads + Wait + Sync, W: Write, G: Gate + Sync, S: OneFirstInter
     }
 }
 
-/// Decodes the first intervals of a scan, or all, by so many workers (1 to 64), and writes its picture, a row of MCUs after
-/// the other. The calling thread is one of them, and writes. No more threads work than there are rows, and than 32 MB and 16 bytes
-/// for each byte of data serve. The gate is told each interval that is decoded; no piece is made.
+/// Decodes the first intervals of a scan, or all, with `workers` workers (1 to 64), and writes its image, a row of MCUs
+/// after the other. The calling thread is one of them, and writes. No more threads work than there are rows, and than
+/// 32 MB and 16 bytes for each byte of data suffice for. Each interval that is decoded is reported to the gate; no
+/// piece is made.
 ///
-/// The calling thread takes all memory that it needs before the first row is decoded, and none for the picture: for the lines of
-/// three rows of MCUs, and room to decode and paint by. Each other thread takes as much as it starts; where that is refused, it
-/// works with less or not at all. Where guesses are made, a thread that has nothing else to do brings room for one, three for each
-/// thread at most: the blocks of a row and a quarter of MCUs, or of 512 MCUs where a row may have fewer bits than a guess. A row
-/// that waits to be painted takes memory for its blocks and samples, which stays with its bench; where that is refused, the row is
-/// painted before the next one is read. Once the last row has begun, threads that would wait give back what nobody needs any more.
+/// The calling thread allocates all memory that it needs before the first row is decoded, and none for the image: for
+/// the lines of three rows of MCUs, and to decode and paint. Each other thread allocates as much as it starts; if that
+/// fails, it works with less or not at all. If speculative reads are made, a thread that has nothing else to do brings
+/// a buffer for one, three for each thread at most: the blocks of a row and a quarter of MCUs, or of 512 MCUs if a row
+/// may have fewer bits than a speculative read. A row that waits to be painted uses memory for its blocks and samples,
+/// which stays with its bench; if allocation fails, the row is painted before the next one is read. Once the last row
+/// has begun, threads that would wait free what no thread needs any more.
 ///
-/// Where a row has whole intervals, each worker decodes and paints its rows by itself. Else one at a time has the reader. From
-/// three workers on, where an interval has some 128 KB of data, the others make guesses ahead of it. A row that these cover it
-/// passes over; with a copy of the reader at its start the row waits for whoever is free, and is decoded and painted some MCUs
-/// at a time. A row that none covers is read in turn, and painted by whoever is free.
+/// If a row has whole intervals, each worker decodes and paints its rows by itself. Otherwise one at a time has the
+/// reader. With three workers and more, if an interval has some 128 KB of data, the others read ahead speculatively. A
+/// row that these reads cover is skipped; with a copy of the reader at its start the row waits for a free thread, and
+/// is decoded and painted some MCUs at a time. A row that none covers is read in turn, and painted by a free thread.
 pub fn write_scan_by<R: Threads + Wait + Sync, W: Write, G: Gate + Sync>(
     rt: &R,
     alloc: Global,

@@ -12,7 +12,7 @@ use crate::unstuff::Unstuffing;
 use jr_base::Memory;
 use std::alloc::Global;
 
-/// The unstuffed bytes of a scan, where in them each segment between restart markers stands, and what ended the scan.
+/// The unstuffed bytes of a scan, where in them each segment between restart markers is, and what ended the scan.
 #[derive(Drop)]
 pub struct CodedSegments {
     pub unstuffed: Vec<u8>,
@@ -20,7 +20,7 @@ pub struct CodedSegments {
     pub ended: ScanEnd,
 }
 
-/// Cuts the bytes of a scan, the first of which stands at an offset of the file.
+/// Cuts the bytes of a scan, which begins at offset `at` of the file.
 pub fn cut(
     alloc: Global,
     intervals: u32,

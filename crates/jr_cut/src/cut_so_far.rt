@@ -14,8 +14,8 @@ use jr_base::Memory;
 use std::alloc::Global;
 use std::marker::Model;
 
-/// The bytes of a scan that have come so far, cut as far as they go. While no marker has ended the scan its last segment is open:
-/// more bytes go on from there, and what was unstuffed stays where it is.
+/// The bytes of a scan that have arrived, cut as far as they go. While no marker has ended the scan its last segment is
+/// open: more bytes continue from there, and what was unstuffed stays where it is.
 #[derive(Drop)]
 pub struct CutSoFar {
     segments: OpenSegments,
@@ -34,7 +34,7 @@ impl Model for CutSoFar {
 }
 
 impl CutSoFar {
-    /// Cuts the bytes of a scan that have come so far, of which none is read, and the first stands at an offset of the file.
+    /// Cuts the bytes of a scan that have arrived, none of which is read, from an offset of the file.
     pub fn of(
         alloc: Global,
         intervals: u32,
@@ -61,8 +61,7 @@ impl CutSoFar {
         Ok(CutSoFar { segments, ended })
     }
 
-    /// More bytes of the scan have come. Behind a marker that has ended it they change nothing. Where memory is refused none of
-    /// them is taken.
+    /// Appends scan bytes; no effect after a marker has ended the scan. On `Err`, none is taken.
     pub fn push(&mut self, more: &[u8]) -> Result<(), Memory>
         requires { self.old.at + length self.old.rest + length more.now < 2 ^ 64 }
         ensures intervals { self.new.intervals ≡ self.old.intervals }

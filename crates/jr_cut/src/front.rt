@@ -1,4 +1,4 @@
-//! What stands at the front of coded bytes: fill, bytes that are data as they stand, or an entropy-coded segment (T.81, B.1.1.2 and
+//! The start of coded bytes: fill, bytes that are data as they are, or an entropy-coded segment (T.81, B.1.1.2 and
 //! B.1.1.5).
 
 ghost use Rattle.std.specs.Prelude.{◌≡◌, ◌≢◌, ℕ, ◌<◌, ◌≤◌, List, length, take, drop, replicate, slice_index};

@@ -12,7 +12,7 @@ use crate::stop::{Stop, stop_at};
 use crate::unstuff::Unstuffing;
 use jr_base::Memory;
 
-/// Segments that are being read: those that have ended, and the open one, whose data stand behind theirs and may go on.
+/// Segments that are being read: those that have ended, and the open one, whose data follow theirs and may continue.
 #[derive(Drop)]
 pub(crate) struct OpenSegments {
     pub bytes: Unstuffing,
@@ -61,7 +61,7 @@ impl OpenSegments {
         Ok(())
     }
 
-    /// Reads the bytes that have come, up to what ends the scan. Where there is room for the spans it takes no memory.
+    /// Reads the bytes that have arrived, up to what ends the scan. Allocates nothing if the spans fit.
     pub(crate) fn read_on(&mut self) -> Result<ScanEnd, Memory>
         requires { AreOpen self.old }
         ensures is { AreOpen self.new }

@@ -9,7 +9,7 @@ pub enum ScanEnd {
     OtherMarker(u8, u64),
     /// A restart marker of another number than the next, counted modulo 8.
     OutOfStep { found: u8, expected: u8, at: u64 },
-    /// A restart marker behind the last interval.
+    /// A restart marker after the last interval.
     ExtraRestart(u64),
     /// The end of the file, which FF bytes may precede.
     EndOfFile,

@@ -1,4 +1,4 @@
-//! Where data stand in the unstuffed bytes of a scan.
+//! The range of data in the unstuffed bytes of a scan.
 
 /// From one offset up to another.
 #[derive(Clone, Copy, Debug, PartialEq, Eq)]

@@ -1,4 +1,4 @@
-//! What stands behind a segment.
+//! What follows a segment.
 
 ghost use Rattle.std.specs.Prelude.{◌≡◌, ◌≢◌, ℕ, ◌+◌, ◌%◌, ◌<◌, ◌≤◌, List, length, take, replicate, slice_index, IfSome, IfNone};
 ghost use Rattle.jr_base.specs.declared.marker.TheConstants.{PREFIX, RST0};

@@ -24,8 +24,8 @@ pub fn offset_in(bytes: &[u8], offset: u64) -> usize
     }
 }
 
-/// Bytes of a scan that are read one after the other. The data that they spell takes their place at the front, since it is
-/// no longer than they are.
+/// Bytes of a scan that are read one after the other. The data that they spell replace them from the start, since they
+/// are no longer.
 #[derive(Drop)]
 pub struct Unstuffing {
     bytes: Vec<u8>,
@@ -50,7 +50,7 @@ impl Model for Unstuffing {
 }
 
 impl Unstuffing {
-    /// The bytes from an offset on, none where it is past their end. None of them is read yet.
+    /// Returns the bytes starting at an offset, none if it is past their end. None of them is read yet.
     pub fn of(bytes: Vec<u8>, offset: u64) -> Unstuffing
         ensures data { result.unstuffed ≡ [] }
         ensures rest { result.rest ≡ drop offset bytes.items }
@@ -99,7 +99,7 @@ impl Unstuffing {
         self.fill
     }
 
-    /// Reads bytes that are data as they stand.
+    /// Reads bytes that are data as they are.
     fn keep(&mut self, count: usize)
         requires { count ≤ length self.old.rest }
         ensures data { self.new.unstuffed ≡ self.old.unstuffed ++ take count self.old.rest }
@@ -138,14 +138,14 @@ impl Unstuffing {
         self.fill = 0;
     }
 
-    /// Reads the bytes that spell data, up to a marker or the end, and tells how many they are.
+    /// Reads the bytes that spell data, up to a marker or the end, and returns their number.
     pub(crate) fn unstuff(&mut self) -> usize
         ensures within { result ≤ length self.old.rest }
         ensures data { Unstuffs (take result self.old.rest) self.old.unstuffed self.new.unstuffed }
         ensures rest { self.new.rest ≡ drop result self.old.rest }
         ensures stop { IsStop self.new.rest }
     {
-        // A slice is so short that the count of its bytes has room.
+        // A slice is so short that the number of its bytes fits.
         let _whole = self.rest().len();
         let mut at: usize = 0;
         'bytes: loop {

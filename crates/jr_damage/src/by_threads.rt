@@ -13,17 +13,18 @@ use std::marker::Brand;
 use std::sync::Wait;
 use std::thread::Threads;
 
-/// Threads are worth their start where the data of the scan's intervals have bits for so many guesses: some 256 KB.
+/// Minimum number of speculative reads for which the scan's intervals must have bits, some 256 KB, for threads to be
+/// worth their start.
 const LEAST_WINDOWS: u64 = 64;
-/// And one more for each so many: some 128 KB.
+/// Number of speculative reads, some 128 KB, for each further thread.
 const WINDOWS_OF_ONE: u64 = 32;
 /// Maximum number of intervals that are looked at for that: a header may claim millions.
 const MOST_LOOKED_AT: u32 = 1024;
 
-/// There is room for one guess a thread, and for so many that wait for the reader.
+/// Number of buffers for speculative reads that wait for the reader, besides one for each thread.
 const WAITING_GUESSES: u32 = 4;
 
-/// A guess has room for the MCUs of so many steps, since its bits are about those of one.
+/// Number of steps whose MCUs fit into a buffer: a speculative read has about the bits of one.
 const STEPS_OF_GUESS: u32 = 2;
 
 /// Returns how many of `threads` threads are worth their start next to the one that reads.
@@ -59,7 +60,7 @@ impl<'s, 'a, R: Wait, S: OneScan> Beside for Reading<'s, 'a, R, S> {
     }
 }
 
-/// The others make guesses.
+/// The work of the other threads: speculative reads.
 #[derive(Drop)]
 struct Guessing<'s, 'a, R: Wait, S: OneScan> {
     scan: &'s SharedScan<'a, S>,
@@ -73,7 +74,8 @@ impl<'s, 'a, R: Wait, S: OneScan> Help for Guessing<'s, 'a, R, S> {
     }
 }
 
-/// `check_scan_by`, where a type stands for the scan, so that what the threads share under a lock is known to be of it.
+/// Does what `check_scan_by` does, with a type for the scan, so that what the threads share under a lock is known to be
+/// of it.
 fn check_as<R: Threads + Wait + Sync, S: OneScan + Send>(
     rt: &R,
     alloc: Global,
@@ -108,9 +110,9 @@ fn check_as<R: Threads + Wait + Sync, S: OneScan + Send>(
     }
 }
 
-/// `check_scan` by so many threads at most where the scan is large: the calling one reads it, and the others make guesses ahead of it.
-/// These take memory for four guesses and one more for each of them, each of some 400 KB: the blocks of 3072 data units at
-/// most, and where their MCUs start. Where that is refused they make fewer.
+/// Does what `check_scan` does, with at most `threads` threads if the scan is large: the calling one reads it, the
+/// others read ahead speculatively. They allocate for four speculative reads and one more for each of them, each of
+/// some 400 KB: the blocks of 3072 data units at most, and where their MCUs start. If allocation fails they make fewer.
 pub fn check_scan_by<R: Threads + Wait + Sync>(
     rt: &R,
     alloc: Global,

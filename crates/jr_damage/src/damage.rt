@@ -12,7 +12,7 @@ use jr_head::Head;
 use jr_scan::{IntervalRef, McuReader};
 use std::sync::Wait;
 
-/// A reader that goes by guesses asks for them every so many data units, which are some 20 KB of a photo.
+/// Number of data units, some 20 KB of a photo, after which a reader asks for speculative reads again.
 const UNITS_OF_STEP: u32 = 1536;
 
 /// A reader that has passed over all whole MCUs of an interval, up to its end or to where none follows.
@@ -27,7 +27,7 @@ fn pass_all(interval: IntervalRef<'_>) -> McuReader<'_>
     reader
 }
 
-/// The MCUs that a reader which goes by guesses passes over at a step.
+/// Returns the number of MCUs that a reader with speculative reads skips at a step.
 pub(crate) fn step_of(head: &Head) -> u32
     ensures { 0 < result }
 {
@@ -108,9 +108,10 @@ fn front_of(reader: &McuReader<'_>) -> Option<u32>
     }
 }
 
-/// `None` where the interval has a decoding (T.81, Annex F). Else how many of its MCUs, from the first on, can be decoded.
+/// Returns `None` if the interval has a decoding (T.81, Annex F), otherwise the number of its first MCUs that can be
+/// decoded.
 ///
-/// It reads the interval's bits once, keeps no coefficient and takes no memory.
+/// It reads the interval's bits once, keeps no coefficient and allocates nothing.
 pub fn damaged_front(interval: IntervalRef<'_>) -> Option<u32>
     ensures sound { IfNone result (HasDecoding interval.entry) }
     ensures damaged { OnSome result (HasNoDecoding interval.entry) }

@@ -4,7 +4,7 @@ ghost use Rattle.std.specs.Prelude.{◌≡◌, ℕ};
 ghost use Rattle.jr_scan.specs.ScanValue.{ScanValue};
 ghost use Rattle.jr_damage.specs.Damage.{CountsDamaged};
 
-/// The first so many intervals of a scan have one number of damaged ones.
+/// States that the first n intervals of a scan have one number of damaged ones.
 pub fn one_count()
     ensures { (s : ScanValue) (n a b : ℕ) → CountsDamaged s n a → CountsDamaged s n b → a ≡ b }
 {}

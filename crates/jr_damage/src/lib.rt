@@ -1,5 +1,5 @@
-//! What is damaged of a scan: which restart intervals have no decoding, and where they stand in the picture and in the file. No
-//! picture is made.
+//! The damage of a scan: which restart intervals have no decoding, and where they are in the image and in the file. No
+//! image is made.
 #![tactic(auto)]
 
 mod by_threads;

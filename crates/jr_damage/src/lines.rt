@@ -1,4 +1,4 @@
-//! Where the MCUs of an interval stand in the picture.
+//! The MCUs of an interval in the image.
 
 ghost use Rattle.std.specs.Prelude.{◌≡◌, ◌+◌, ◌-◌, ◌*◌, ◌/◌, ◌<◌, ◌≤◌, min};
 ghost use Rattle.jr_base.specs.declared.limits.TheConstants.{MAX_MCUS};
@@ -8,14 +8,14 @@ ghost use Rattle.jr_damage.specs.Lines.{first_mcu_of, AreRows, AreLinesOf};
 
 use jr_head::Head;
 
-/// MCUs that follow one another, the first by its number in the scan, from 0 on.
+/// MCUs that follow one another, the first by its number in the scan, from 0.
 #[derive(Clone, Copy, Debug, PartialEq, Eq)]
 pub struct McuRange {
     pub first: u32,
     pub count: u32,
 }
 
-/// Lines of a picture, the first and the last of them counted from 0 at the top.
+/// Lines of an image, the first and the last of them counted from 0 at the top.
 #[derive(Clone, Copy, Debug, PartialEq, Eq)]
 pub struct Lines {
     pub first: u32,
@@ -31,7 +31,7 @@ pub fn mcus_of(head: &Head, i: u32) -> McuRange
     ensures within { result.first + result.count ≤ geometry.mcus_of head.now }
     ensures few { result.first + result.count ≤ MAX_MCUS }
 {
-    // By its contract a picture has so few MCUs that their numbers have room.
+    // By its contract a picture has so few MCUs that their numbers fit.
     let _mcus = head.mcus();
     McuRange {
         first: head.first_mcu(i),
@@ -39,7 +39,7 @@ pub fn mcus_of(head: &Head, i: u32) -> McuRange
     }
 }
 
-/// The lines of rows of MCUs, so many MCUs in each, of which so many are taken from the first one on.
+/// Returns the lines that MCUs cover in rows of `across` MCUs.
 fn lines_of_rows(mcus: McuRange, across: u32, high: u32, height: u32) -> Lines
     requires rows { AreRows across high height mcus.first mcus.count }
     requires few { mcus.first + mcus.count ≤ MAX_MCUS }
@@ -56,7 +56,7 @@ fn lines_of_rows(mcus: McuRange, across: u32, high: u32, height: u32) -> Lines
     }
 }
 
-/// The lines of the picture that the MCUs of interval i cover (T.81, A.2.3).
+/// Returns the lines of the image that the MCUs of interval i cover (T.81, A.2.3).
 pub fn lines_of(head: &Head, i: u32) -> Lines
     requires { i < intervals_of head.now }
     ensures lines { AreLinesOf head.now i result }

@@ -1,4 +1,4 @@
-//! Where a damaged interval is in the picture and in the file.
+//! The position of a damaged interval in the image and in the file.
 
 ghost use Rattle.std.specs.Prelude.{◌<◌, IfSome, IfNone};
 ghost use Rattle.jr_scan.specs.ScanValue.{intervals_of};
@@ -18,7 +18,7 @@ pub struct DamagedInterval {
     pub mcus: McuRange,
     /// The number of its first MCUs that can be decoded.
     pub decodable: u32,
-    /// The lines of the picture that its MCUs cover.
+    /// The lines of the image that its MCUs cover.
     pub lines: Lines,
     /// Its bytes in the file; `None` if it has none.
     pub bytes: Option<CodedSpan>,

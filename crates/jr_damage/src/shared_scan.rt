@@ -1,4 +1,4 @@
-//! A scan that one thread reads while others make guesses ahead of it.
+//! A scan that one thread reads while others read ahead speculatively.
 
 ghost use Rattle.std.specs.Prelude.{◌≡◌, Some};
 ghost use Rattle.jr_scan.specs.Guesses.{AreGuessesOf};
@@ -10,10 +10,10 @@ use std::alloc::Global;
 use std::marker::Model;
 use std::sync::{Condvar, Mutex, Wait};
 
-/// More guesses than there are: each covers bits that no other does.
+/// More speculative reads than there are: each covers bits that no other does.
 const MOST_GUESSES: u64 = u64::MAX;
 
-/// Guesses, and who waits for them: to wake takes longer than to ask.
+/// Speculative reads, and the threads that wait for them: waking takes longer than asking.
 #[derive(Drop)]
 struct Guessing<S: OneScan> {
     guesses: GuessQueue<S>,
@@ -43,9 +43,9 @@ impl<S: OneScan> Guessing<S> {
 pub(crate) struct SharedScan<'a, S: OneScan> {
     scan: &'a Scan,
     guessing: Mutex<Guessing<S>>,
-    /// Another guess can be made, or all is read.
+    /// Signalled when another speculative read can be made, or all is read.
     has_room: Condvar,
-    /// A guess is made.
+    /// Signalled when a speculative read is made.
     has_guess: Condvar,
 }
 
@@ -86,7 +86,7 @@ impl<'a, S: OneScan> SharedScan<'a, S> {
         self.scan
     }
 
-    /// The next guess, once another can be made. None where all is read.
+    /// Waits until another speculative read can be made, and returns it. `None` once all is read.
     fn task<R: Wait>(&self, rt: &R) -> Option<GuessTask<S>> {
         let scan = self.scan;
         let mut guessing = self.guessing.lock(rt);
@@ -115,7 +115,8 @@ impl<'a, S: OneScan> SharedScan<'a, S> {
         }
     }
 
-    /// Brings room for guesses as long as some is lacking. Where memory is refused others make those that have room.
+    /// Brings buffers for speculative reads as long as some are lacking. If allocation fails, other threads make those
+    /// that have one.
     fn bring<R: Wait>(&self, rt: &R, alloc: Global) {
         for _ in 0..MOST_GUESSES {
             let lacking = self.guessing.lock(rt).guesses.lacks_room();
@@ -144,7 +145,7 @@ impl<'a, S: OneScan> SharedScan<'a, S> {
         }
     }
 
-    /// The reader stands at this bit of an interval.
+    /// Notes that the reader is at this bit of an interval.
     fn reach<R: Wait>(&self, rt: &R, number: u32, bit: u64) {
         let mut guessing = self.guessing.lock(rt);
         guessing.guesses.reach(self.scan, number, bit);
@@ -153,7 +154,8 @@ impl<'a, S: OneScan> SharedScan<'a, S> {
         }
     }
 
-    /// Another guess for the reader to make while it would wait for one that a thread is making. None once it need not wait.
+    /// Returns another speculative read for the reader to make while it would wait for one that a thread is making.
+    /// `None` once it need not wait.
     fn task_meanwhile<R: Wait>(&self, rt: &R) -> Option<GuessTask<S>> {
         let scan = self.scan;
         let mut guessing = self.guessing.lock(rt);
@@ -170,7 +172,8 @@ impl<'a, S: OneScan> SharedScan<'a, S> {
         None
     }
 
-    /// The guesses for a reader at this bit of an interval, once nobody makes one that it may go on by.
+    /// Waits until no thread makes a speculative read by which a reader at this bit of an interval may continue, and
+    /// returns those that are made.
     pub(crate) fn guesses<R: Wait>(&self, rt: &R, number: u32, bit: u64) -> Guesses
         ensures { AreGuessesOf (interval_of self.now number) result }
     {

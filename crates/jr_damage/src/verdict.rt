@@ -53,8 +53,8 @@ fn with_front(scan: &Scan, i: u32, front: Option<u32>, before: Verdict) -> Verdi
     }
 }
 
-/// Reads each interval of a scan once, and tells how many have no decoding (T.81, Annex F). It transforms nothing and
-/// takes no memory.
+/// Reads each interval of a scan once, and returns how many have no decoding (T.81, Annex F). It transforms nothing and
+/// allocates nothing.
 pub fn check_scan(scan: &Scan) -> Verdict
     ensures { IsVerdictOf scan.now (length scan.now.intervals) result }
 {

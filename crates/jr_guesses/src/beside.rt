@@ -25,7 +25,8 @@ pub trait Beside {
         ensures { gives self result };
 }
 
-/// Starts so many threads that help, and runs `beside` in the calling thread. A thread that can't be started is left out.
+/// Starts `helpers` threads that help, and runs `beside` in the calling thread. A thread that cannot be started is left
+/// out.
 pub fn run_beside<R: Threads + Wait + Sync, H: Help + Sync, B: Beside + Drop>(
     rt: &R,
     helpers: u32,

@@ -1,4 +1,4 @@
-//! Guesses ahead of a reader of a scan, and room for them.
+//! Speculative reads ahead of a reader of a scan, and buffers for them.
 
 ghost use Rattle.std.specs.Prelude.{◌≡◌, ◌*◌, ◌/◌, ◌<◌, Some, IfOk, length};
 ghost use Rattle.jr_guesses.specs.declared.guess_queue.TheConstants.{LEAST_BITS};
@@ -14,7 +14,8 @@ use jr_base::Memory;
 use jr_scan::{Guesses, Scan};
 use std::alloc::Global;
 
-/// A guess covers so many bits at least, where the interval has them, since it takes some until its MCUs are those of the picture.
+/// Minimum number of bits of a speculative read, if the interval has them: it takes some until its MCUs are those of
+/// the image.
 const LEAST_BITS: u64 = 32_768;
 
 /// Returns the number of speculative reads for which an interval's data have bits.
@@ -33,16 +34,16 @@ fn bits_of_step(scan: &Scan, mcus: u32) -> u64 {
     (bits_of(scan, 0) / steps.max(1)).max(LEAST_BITS)
 }
 
-/// Guesses ahead of a reader that goes over the scan's intervals one after the other, some MCUs at a step. Threads make them
-/// outside of the lock under which it stands.
+/// Speculative reads ahead of a reader that reads the scan's intervals one after the other, some MCUs at a step.
+/// Threads make them outside of the lock that guards the queue.
 #[derive(Drop)]
 pub struct GuessQueue<S: OneScan> {
     /// Number of intervals that are read.
     limit: u32,
     slots: Vec<GuessSlot<S>>,
-    /// For so many guesses nobody brings room yet.
+    /// Number of buffers that no thread brings yet.
     lacking: u32,
-    /// For so many MCUs a guess has room.
+    /// Number of MCUs that fit into a buffer.
     most: u32,
     /// Position of the reader: its interval and bit.
     at: (u32, u64),
@@ -53,12 +54,13 @@ pub struct GuessQueue<S: OneScan> {
 }
 
 impl<S: OneScan> GuessQueue<S> {
-    /// A queue of at most so many guesses of the first `limit` intervals, for which threads bring room: `most` MCUs each. The reader
-    /// stands at the start, and its steps are of `step` MCUs. A guess has about the bits of one step, so its room is for more.
+    /// Opens a queue of at most `count` speculative reads of the first `limit` intervals, for which threads bring
+    /// buffers of `most` MCUs each. The reader is at the start, and its steps are of `step` MCUs. A speculative read
+    /// has about the bits of one step, so its buffer holds more.
     ///
     /// # Errors
     ///
-    /// `Memory` where memory was refused.
+    /// `Memory` if allocation fails.
     pub fn open(
         alloc: Global,
         scan: &Scan,
@@ -80,7 +82,7 @@ impl<S: OneScan> GuessQueue<S> {
         })
     }
 
-    /// A queue of no guesses.
+    /// Returns a queue of no speculative reads.
     pub fn none(alloc: Global) -> GuessQueue<S>
         ensures { result.at ≡ (0, 0) }
     {
@@ -101,7 +103,8 @@ impl<S: OneScan> GuessQueue<S> {
         self.lacking > 0 && self.next_window(scan).is_some()
     }
 
-    /// For how many MCUs a thread is to bring room for a guess; None where all have room, or others bring it.
+    /// Returns the number of MCUs of a buffer that a thread is to bring; `None` if there are all buffers, or others
+    /// bring them.
     pub fn lacks_room(&mut self) -> Option<u32>
         ensures { self.new.at ≡ self.old.at }
     {
@@ -112,14 +115,14 @@ impl<S: OneScan> GuessQueue<S> {
         Some(self.most)
     }
 
-    /// Room for a guess more, which a thread brings.
+    /// Takes one more buffer, which a thread brings.
     pub fn bring(&mut self, room: ScanGuess<S>)
         ensures { self.new.at ≡ self.old.at }
     {
         drop(self.slots.push(GuessSlot::of(room)));
     }
 
-    /// The reader stands at this bit of an interval.
+    /// Notes that the reader is at this bit of an interval.
     pub fn reach(&mut self, scan: &Scan, number: u32, bit: u64)
         ensures { self.new.at ≡ (number, bit) }
     {
@@ -136,7 +139,7 @@ impl<S: OneScan> GuessQueue<S> {
         self.at = (number, bit);
     }
 
-    /// The number of the interval that the reader stands in.
+    /// Returns the number of the interval in which the reader is.
     pub fn number(&self) -> u32
         ensures { result ≡ self.now.at.0 }
     {
@@ -177,8 +180,8 @@ impl<S: OneScan> GuessQueue<S> {
         self.slots.iter().position(|slot| slot.is_free(number, bit))
     }
 
-    /// The bits of the next guess: behind those of the others, and behind the reader's next step, which it takes meanwhile; as
-    /// many as the last step had, and up to half as many more where the interval ends there.
+    /// Returns the bits of the next speculative read: past those of the others, and past the reader's next step, which
+    /// it makes meanwhile; as many as the last step had, and up to half as many more if the interval ends there.
     fn next_window(&self, scan: &Scan) -> Option<Window> {
         let (number, bit) = self
             .next
@@ -206,7 +209,7 @@ impl<S: OneScan> GuessQueue<S> {
         self.free_slot().is_some() && self.next_window(scan).is_some()
     }
 
-    /// The next guess, for a thread to make.
+    /// Takes the next speculative read, for a thread to make.
     pub fn take(&mut self, scan: &Scan) -> Option<GuessTask<S>>
         ensures { self.new.at ≡ self.old.at }
     {
@@ -227,7 +230,7 @@ impl<S: OneScan> GuessQueue<S> {
         })
     }
 
-    /// Keeps a guess that is made.
+    /// Keeps a speculative read that is made.
     pub fn put(&mut self, made: GuessTask<S>)
         ensures { self.new.at ≡ self.old.at }
     {
@@ -237,7 +240,7 @@ impl<S: OneScan> GuessQueue<S> {
         }
     }
 
-    /// The guesses for the reader's next step, where it is not much longer than the last one.
+    /// Returns the speculative reads for the reader's next step, if it is not much longer than the last one.
     pub fn for_next(&self, scan: &Scan) -> Guesses
         requires { S.scan ≡ Some scan.now }
         ensures { AreGuessesOf (interval_of scan.now self.now.at.0) result }

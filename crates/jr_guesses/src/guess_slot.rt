@@ -1,4 +1,4 @@
-//! Room for a guess in a queue of them.
+//! A slot for a speculative read in a queue of them.
 
 ghost use Rattle.std.specs.Prelude.{◌≡◌};
 ghost use Rattle.jr_guesses.specs.Guessing.{AreGuesses};
@@ -9,7 +9,7 @@ use crate::window::Window;
 use jr_scan::Guesses;
 use std::mem::replace;
 
-/// Room for a guess, and the bits that it covers.
+/// The buffer of a speculative read, and the bits that it covers.
 #[derive(Drop)]
 pub(crate) struct GuessSlot<S: OneScan> {
     window: Window,
@@ -18,7 +18,7 @@ pub(crate) struct GuessSlot<S: OneScan> {
 }
 
 impl<S: OneScan> GuessSlot<S> {
-    /// Room for a guess.
+    /// Returns a slot with this buffer.
     pub(crate) fn of(guess: ScanGuess<S>) -> GuessSlot<S> {
         GuessSlot {
             window: Window::none(),
@@ -65,12 +65,12 @@ impl<S: OneScan> GuessSlot<S> {
         self.guess.take()
     }
 
-    /// Keeps a guess that is made.
+    /// Keeps a speculative read that is made.
     pub(crate) fn put(&mut self, guess: ScanGuess<S>) {
         drop(replace(&mut self.guess, Some(guess)));
     }
 
-    /// These guesses of an interval, and the one that is here, where it is of the interval, too.
+    /// Adds the speculative read of this slot, if it is of the interval, to those of the interval.
     pub(crate) fn put_into(&self, number: u32, guesses: Guesses) -> Guesses
         requires { AreGuesses S.scan number guesses }
         ensures { AreGuesses S.scan number result }

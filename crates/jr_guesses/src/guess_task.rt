@@ -1,4 +1,4 @@
-//! A guess that a thread makes.
+//! A speculative read that a thread makes.
 
 ghost use Rattle.std.specs.Prelude.{◌≡◌, Some};
 
@@ -7,7 +7,7 @@ use crate::scan_guess::ScanGuess;
 use crate::window::Window;
 use jr_scan::Scan;
 
-/// Room for a guess that a thread makes outside of the lock, its bits, and its place in the queue.
+/// The buffer of a speculative read that a thread makes outside of the lock, its bits, and its index in the queue.
 #[derive(Drop)]
 pub struct GuessTask<S: OneScan> {
     pub(crate) place: usize,
@@ -16,7 +16,7 @@ pub struct GuessTask<S: OneScan> {
 }
 
 impl<S: OneScan> GuessTask<S> {
-    /// Reads MCUs from the first of its bits on, as if one started there and each prediction were 0.
+    /// Reads MCUs starting at the first of its bits, as if one started there and each prediction were 0.
     pub fn make(self, scan: &Scan) -> GuessTask<S>
         requires { S.scan ≡ Some scan.now }
     {

@@ -1,4 +1,4 @@
-//! Guesses that several threads make ahead of a reader of a scan, and the threads that help a calling one.
+//! Speculative reads that several threads make ahead of a reader of a scan, and the threads that help a calling one.
 #![tactic(auto)]
 
 mod beside;

@@ -1,4 +1,4 @@
-//! The scan that guesses are of, as a type.
+//! The scan of speculative reads, as a type.
 
 ghost use Rattle.std.specs.Prelude.{Option, None};
 ghost use Rattle.jr_scan.specs.ScanValue.{ScanValue};

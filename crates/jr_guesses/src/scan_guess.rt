@@ -1,4 +1,4 @@
-//! A guess of an interval of the scan.
+//! A speculative read of an interval of the scan.
 
 ghost use Rattle.std.specs.Prelude.{◌≡◌, Some};
 ghost use Rattle.jr_guesses.specs.Guessing.{AreGuesses};
@@ -11,7 +11,7 @@ use std::alloc::Global;
 use std::marker::{Model, PhantomData};
 use std::sync::Arc;
 
-/// A guess of an interval of the scan, or room for one. Several threads may read it.
+/// A speculative read of an interval of the scan, or a buffer for one. Several threads may read it.
 #[derive(Drop)]
 pub struct ScanGuess<S: OneScan> {
     guess: Arc<Guess>,
@@ -31,7 +31,7 @@ impl<S: OneScan> Model for ScanGuess<S> {
 }
 
 impl<S: OneScan> ScanGuess<S> {
-    /// Room for a guess of so many MCUs.
+    /// Allocates a buffer for a speculative read of at most `most` MCUs.
     pub fn open(alloc: Global, scan: &Scan, most: u32) -> Result<ScanGuess<S>, Memory>
         requires { S.scan ≡ Some scan.now }
     {
@@ -75,7 +75,7 @@ impl<S: OneScan> ScanGuess<S> {
         }
     }
 
-    /// These guesses of an interval, and this one where it is of the interval, too.
+    /// Adds this speculative read, if it is of the interval, to those of the interval.
     pub(crate) fn put_into(&self, number: u32, guesses: Guesses) -> Guesses
         requires { AreGuesses S.scan number guesses }
         ensures { AreGuesses S.scan number result }

@@ -1,4 +1,4 @@
-//! The bits that a guess covers.
+//! The bits that a speculative read covers.
 
 ghost use Rattle.std.specs.Prelude.{◌≡◌};
 

@@ -1,4 +1,4 @@
-//! The MCUs of a picture, in rows and in restart intervals.
+//! The MCUs of an image, in rows and in restart intervals.
 
 ghost use Rattle.std.specs.Prelude.{◌≡◌, ◌+◌, ◌<◌, ◌≤◌};
 ghost use Rattle.jr_base.specs.declared.limits.TheConstants.{MAX_MCUS, MAX_MCUS_ACROSS};
@@ -53,7 +53,7 @@ impl Head {
         ensures value { result ≡ first_mcu_of self.now interval }
         ensures inside { result < mcus_of self.now }
     {
-        // By its contract a picture has so few MCUs that their numbers have room.
+        // By its contract a picture has so few MCUs that their numbers fit.
         let _all = self.mcus();
         interval * u32::from(self.restart())
     }

@@ -13,12 +13,12 @@ use crate::small::{is_flat, is_small};
 use crate::wide::wide_samples;
 use jr_base::{Coefficients, Quantisers};
 
-/// The 64 samples of a block: dequantised, put in natural order, transformed and shifted (T.81, A.3.1,
-/// A.3.3, A.3.4 and A.3.6).
+/// Returns the 64 samples of a block: dequantised, put in natural order, transformed and shifted (T.81, A.3.1, A.3.3,
+/// A.3.4 and A.3.6).
 ///
-/// Coefficients and quantisers come in zigzag order; the samples are in natural order, at index
-/// `8 row + column`. Asked of the caller: each coefficient from -32768 to 32768. A quantiser may be any
-/// number of 16 bits, 0 included. The samples are exactly those of [`matrix_transform`](crate::matrix_transform).
+/// Coefficients and quantisers come in zigzag order; the samples are in natural order, at index `8 row + column`. Each
+/// coefficient must be in -32768..=32768. A quantiser may be any number of 16 bits, 0 included. The samples are exactly
+/// those of [`matrix_transform`](crate::matrix_transform).
 pub fn transform(coefficients: &[i32; 64], quantisers: &[u16; 64]) -> [u8; 64]
     requires { (k : ℕ) → k < 64 → IsWithin 32768 (at coefficients.now k) }
     ensures by_place { (r c : ℕ) → r < 8 → c < 8 → slice_index result (8 * r + c) ≡ sample coefficients.now quantisers.now r c }

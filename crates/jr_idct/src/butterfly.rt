@@ -27,7 +27,7 @@ const C3_PLUS_C5: i16 = 16069;
 const C7_MINUS_C3: i16 = -7373;
 /// -c1 - c3.
 const MINUS_C1_C3: i16 = -20995;
-/// c1 + c3 - c5 - c7: what x1 has in entry 0 beside the terms that it shares.
+/// c1 + c3 - c5 - c7: what x1 adds to entry 0 besides the terms that it shares.
 const OWN_OF_X1: i16 = 12299;
 /// c1 + c3 + c5 - c7: the same of x3 in entry 1.
 const OWN_OF_X3: i16 = 25172;
@@ -118,10 +118,10 @@ pub(crate) fn odd_part<T: Number>(x1: T, x3: T, x5: T, x7: T) -> (T, T, T, T)
     (entry_0, entry_1, entry_2, entry_3)
 }
 
-/// The part of entries 0 to 3 of a pass that numbers 0, 2, 4 and 6 make, before descaling.
+/// Returns the part of entries 0 to 3 of a pass that numbers 0, 2, 4 and 6 make, before descaling.
 ///
-/// Entry i is the sum of the matrix's weights 0, 2, 4 and 6 of row i, each times its number. Asked of
-/// the caller: each number from -2^40 to 2^40.
+/// Entry i is the sum of the matrix's weights 0, 2, 4 and 6 of row i, each times its number. Each input must be in
+/// -2^40..=2^40.
 #[inline]
 pub fn even(x: &[i64; 4]) -> [i64; 4]
     requires { (k : ℕ) → k < 4 → IsWithin (2 ^ 40) (at x.now k) }
@@ -132,10 +132,10 @@ pub fn even(x: &[i64; 4]) -> [i64; 4]
     [entry_0, entry_1, entry_2, entry_3]
 }
 
-/// The part of entries 0 to 3 of a pass that numbers 1, 3, 5 and 7 make, before descaling.
+/// Returns the part of entries 0 to 3 of a pass that numbers 1, 3, 5 and 7 make, before descaling.
 ///
-/// Entry i is the sum of the matrix's weights 1, 3, 5 and 7 of row i, each times its number. Asked of
-/// the caller: each number from -2^40 to 2^40.
+/// Entry i is the sum of the matrix's weights 1, 3, 5 and 7 of row i, each times its number. Each input must be in
+/// -2^40..=2^40.
 #[inline]
 pub fn odd(x: &[i64; 4]) -> [i64; 4]
     requires { (k : ℕ) → k < 4 → IsWithin (2 ^ 40) (at x.now k) }

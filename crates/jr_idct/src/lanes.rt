@@ -9,7 +9,7 @@ ghost use Rattle.jr_idct.specs.Matrix.{at, IsWithin};
 
 use std::simd::prelude::*;
 
-/// Lanes of both halves of two rows, one of each by turns.
+/// Interleaves the lanes of both halves of two rows, one of each at a time.
 #[inline(always)]
 pub(crate) fn by_words(a: i16x16, b: i16x16, upper: bool) -> i16x16
     ensures { result ≡ pick_l (pos 0) (a ++ b) (word_lanes upper) }

@@ -57,7 +57,7 @@ pub(crate) fn dequantised(coefficients: &[i32; 64], quantisers: &[u16; 64]) -> [
     table
 }
 
-/// Entry i of the pass over column c, before descaling.
+/// Returns entry i of the pass over column c, before descaling.
 fn plain_sum(table: &[i64; 64], c: usize, i: usize) -> i64
     requires column { c < 8 }
     requires row { i < 8 }
@@ -71,7 +71,7 @@ fn plain_sum(table: &[i64; 64], c: usize, i: usize) -> i64
     sum
 }
 
-/// The pass over each column, whose results are the rows of the answer.
+/// Makes the pass over each column; the results are the rows of what it returns.
 fn plain_passes(table: &[i64; 64], bits: u32) -> [i64; 64]
     requires positive { 0 < bits }
     requires few { bits < 19 }
@@ -85,8 +85,8 @@ fn plain_passes(table: &[i64; 64], bits: u32) -> [i64; 64]
     rows
 }
 
-/// The samples of [`transform`](crate::transform), by the matrix as it stands, in 64 bits: slow, and plain
-/// enough to be compared with.
+/// Returns the samples of [`transform`](crate::transform), by the matrix as it is, in 64 bits: slow, and plain enough
+/// to be compared with.
 ///
 /// Shapes, order and conditions are those of `transform`.
 #[inline(never)]

@@ -62,8 +62,8 @@ fn row(a: &[i16; 64], b: &[i16; 64], r: usize) -> i16x16
     )
 }
 
-/// The nearest bytes to two columns of both blocks: those of the first block, then those of the second. They are put in
-/// this order once they are bytes, so that no lane leaves its half of the registers.
+/// Returns the nearest bytes to two columns of both blocks: those of the first block, then those of the second. They
+/// are put in this order once they are bytes, so that no lane leaves its half of the registers.
 #[inline(always)]
 fn two_columns(first: i16x16, second: i16x16) -> u8x32
     ensures { (q : ℕ) → q < 32 → slice_index result q ≡ byte_of (lane (first ∷ second ∷ []) (q / 8 % 2) (8 * (q / 16) + q % 8)) }
@@ -189,7 +189,7 @@ fn sample_rows(x: Rows) -> Bytes
     byte_rows(t)
 }
 
-/// The samples of two blocks of one component, given their coefficients and quantisers in natural order.
+/// Returns the samples of two blocks of one component, by their coefficients and quantisers in natural order.
 #[inline(always)]
 pub(crate) fn pair_samples(
     a: &[i16; 64],

@@ -111,7 +111,7 @@ fn ends(
     (first, last)
 }
 
-/// The pass over each column: row i holds entry i of each, of its sum and a constant without the last bits.
+/// Makes the pass over each column: row i holds entry i of each, of its sum and a constant without the last bits.
 #[inline(always)]
 pub(crate) fn entries(x: Rows, constant: i32, bits: u32) -> Rows
     requires constant { IsWithin (2 ^ 26) constant }

@@ -8,7 +8,7 @@ use crate::lanes::by_words;
 use crate::pass::Rows;
 use std::simd::prelude::*;
 
-/// Lanes of both halves of two rows, two of each by turns.
+/// Interleaves the lanes of both halves of two rows, two of each at a time.
 #[inline(always)]
 fn by_doubles(a: i16x16, b: i16x16, upper: bool) -> i16x16
     ensures { result ≡ pick_l (pos 0) (a ++ b) (doubles upper) }

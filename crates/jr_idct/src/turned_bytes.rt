@@ -9,7 +9,7 @@ use std::simd::prelude::*;
 /// Eight columns or rows of bytes of each of two blocks, two a vector: both of the first block, then both of the second.
 pub(crate) type Bytes = (u8x32, u8x32, u8x32, u8x32);
 
-/// Bytes of both halves of two vectors, one of each by turns.
+/// Interleaves the bytes of both halves of two vectors, one of each at a time.
 #[inline(always)]
 fn by_bytes(a: u8x32, b: u8x32, upper: bool) -> u8x32
     ensures { result ≡ pick_l 0 (a ++ b) (bytes upper) }
@@ -55,7 +55,7 @@ fn by_fours(a: u8x32, b: u8x32, upper: bool) -> u8x32
     )
 }
 
-/// Rows 0 and 1, 2 and 3, 4 and 5, and 6 and 7, given columns 0 and 4, 1 and 5, 2 and 6, and 3 and 7.
+/// Returns rows 0 and 1, 2 and 3, 4 and 5, and 6 and 7 of columns 0 and 4, 1 and 5, 2 and 6, and 3 and 7.
 #[inline(always)]
 pub(crate) fn turned_bytes(x: Bytes) -> Bytes
     ensures { (m n : ℕ) → m < 4 → n < 32 → slice_index (slice_index_or (result.0 ∷ result.1 ∷ result.2 ∷ result.3 ∷ []) m []) n ≡ slice_index (slice_index_or (x.0 ∷ x.1 ∷ x.2 ∷ x.3 ∷ []) (n % 4) []) (16 * (n / 16) + 8 * (n % 8 / 4) + (2 * m + n % 16 / 8)) }

@@ -22,7 +22,7 @@ fn both_descaled(even: i64, odd: i64, bits: u32) -> (i64, i64)
     (sum, difference)
 }
 
-/// The pass over column c of a table.
+/// Makes the pass over column c of a table.
 #[inline(always)]
 fn column_pass(table: &[i64; 64], c: usize, bits: u32) -> [i64; 8]
     requires column { c < 8 }
@@ -40,7 +40,7 @@ fn column_pass(table: &[i64; 64], c: usize, bits: u32) -> [i64; 8]
     [y0, y1, y2, y3, y4, y5, y6, y7]
 }
 
-/// The first pass over each column, whose results are the rows of the answer. No step depends on what a column
+/// Makes the first pass over each column; the results are the rows of what it returns. No step depends on what a column
 /// holds, so that several are done at once, by vectors.
 #[inline]
 fn first_passes(table: &[i64; 64]) -> [i64; 64]
@@ -57,8 +57,8 @@ fn first_passes(table: &[i64; 64]) -> [i64; 64]
     rows
 }
 
-/// The second pass over each column of what the first one made, whose results, clamped at once, are the rows of
-/// the answer. Clamped in a loop of their own they would be stored one by one and read back by vectors.
+/// Makes the second pass over each column of the first one's result; its results, clamped at once, are the rows of what
+/// it returns. Clamped in a loop of their own they would be stored one by one and read back by vectors.
 #[inline]
 fn sample_rows(columns: &[i64; 64]) -> [u8; 64]
     requires { (k : ℕ) → k < 64 → IsWithin wide_reach (at columns.now k) }

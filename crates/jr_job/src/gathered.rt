@@ -98,7 +98,7 @@ impl<S: OneScan> Gathered<S> {
         Ok(())
     }
 
-    /// Notes where this interval ends, until its strips are given.
+    /// Notes where this interval ends, until its strips are taken.
     pub(crate) fn close(&mut self, end: End)
         requires { IsEndOf S.scan end }
         ensures { self.new ≡ self.old }
@@ -108,7 +108,7 @@ impl<S: OneScan> Gathered<S> {
         }
     }
 
-    /// The interval's number, all strips and the end, once they are there. They are given once.
+    /// Takes the interval's number, all strips and the end, once they are there. They are returned once.
     pub(crate) fn take(&mut self, alloc: Global) -> Option<(u32, Vec<Arc<Strip>>, End)>
         ensures own { IsOneOf S.scan self.old }
         ensures number { IfSome result (λ r. r.0 ≡ self.old.number) }

@@ -16,32 +16,33 @@ use std::alloc::Global;
 use std::marker::Model;
 use std::sync::{Arc, Condvar, Mutex, Wait};
 
-/// Guesses are worth their work by so many workers and more: two are as fast where one reads and one transforms.
+/// Minimum number of workers for speculative reads: two are as fast if one reads and one transforms.
 const LEAST_GUESSING: usize = 3;
 
-/// Guesses are worth their memory where the data of the interval have bits for so many: some 128 KB.
+/// Minimum number of speculative reads for which the interval must have bits, some 128 KB, to be worth their memory.
 const LEAST_WINDOWS: u64 = 32;
 
-/// There is room for so many guesses a worker: one that it makes, and one that strips are read by.
+/// Number of speculative reads for each worker: one that it makes, and one from which strips are read.
 const GUESSES_OF_ONE: u32 = 2;
 
-/// A guess has room for the MCUs of so many strips, since its bits are about those of one.
+/// Number of strips whose MCUs fit into a buffer: a speculative read has about the bits of one.
 const STEPS_OF_GUESS: u32 = 2;
 
 /// Maximum number of workers with a buffer for speculative reads.
 const MOST_WORKERS: usize = 64;
 
-/// More tasks than there are: each reads or decodes a strip, or makes a guess of bits that no other has.
+/// More tasks than there are: each reads or decodes a strip, or reads speculatively bits that no other does.
 const MOST_TASKS: u64 = u64::MAX;
 
-/// An interval that several workers decode, a strip at a time, each by whoever is free. One of them reads strip after strip.
-/// By three and more, guesses are made ahead: where they cover a strip it is passed over, and read by them, from the place
-/// where it starts, by the worker that decodes it. So nobody waits for the reader but who has nothing else to do.
+/// An interval that several workers decode, a strip at a time, each by a free worker. One of them reads strip after
+/// strip. With three and more, others read ahead speculatively: a strip that these reads cover is skipped, and read
+/// from where it starts by the worker that decodes it. So only a worker that has nothing else to do waits for the
+/// reader.
 #[derive(Drop)]
 pub struct Job<S: OneScan> {
     interval: Arc<Interval>,
     progress: Mutex<Progress<S>>,
-    /// Somebody has read a strip, or all, or made a guess.
+    /// Signalled when a worker has read a strip, or all, or made a speculative read.
     has_read: Condvar,
 }
 
@@ -57,8 +58,8 @@ impl<S: OneScan> Model for Job<S> {
     ghost invariant = { λ j. IsOneOf S.scan (arc_value j.interval) };
 }
 
-/// A queue of guesses of interval i of a scan by so many workers, for which these bring room. None where they are not worth their
-/// work, or where memory is refused.
+/// Opens a queue of speculative reads of interval i of a scan by `workers` workers, which bring the buffers. `None` if
+/// they are not worth their work, or if allocation fails.
 fn open_guesses<S: OneScan>(
     alloc: Global,
     scan: &Scan,
@@ -91,7 +92,8 @@ fn open_guesses<S: OneScan>(
 }
 
 impl<S: OneScan> Job<S> {
-    /// A job of interval i of a scan for so many workers, of which nothing is done yet. `Err` where memory is refused.
+    /// Opens a job of interval i of a scan for `workers` workers, of which nothing is done yet. `Err` if allocation
+    /// fails.
     pub fn open(alloc: Global, scan: &Scan, i: u32, workers: usize) -> Result<Job<S>, Memory>
         requires scan { S.scan ≡ Some scan.now }
         requires i { i < length scan.now.intervals }
@@ -134,7 +136,7 @@ impl<S: OneScan> Job<S> {
         progress.task(scan)
     }
 
-    /// Reads a strip or passes over it, and wakes whoever waits for one.
+    /// Reads a strip or skips it, and wakes a worker that waits for one.
     fn read<R: Wait>(&self, rt: &R, alloc: Global, scan: &Scan, mut reading: Reading<S>) {
         let next = reading.next(alloc);
         let is_over = self.progress.lock(rt).put(scan, reading, next);
@@ -145,8 +147,8 @@ impl<S: OneScan> Job<S> {
         }
     }
 
-    /// Brings room for a guess, where some is lacking: so an interval that nobody decodes yet takes none, and where memory is
-    /// refused others make those that have room.
+    /// Brings a buffer for speculative reads if some are lacking: so an interval that no worker decodes yet uses none,
+    /// and if allocation fails others make those that have one.
     fn bring<R: Wait>(&self, rt: &R, alloc: Global, scan: &Scan)
         requires { S.scan ≡ Some scan.now }
     {
@@ -237,7 +239,7 @@ impl<S: OneScan> Job<S> {
         None
     }
 
-    /// The interval's piece, once all strips are decoded; it is given once.
+    /// Returns the interval's piece, once all strips are decoded; it is returned once.
     pub fn piece<R: Wait>(&self, rt: &R, alloc: Global, scan: &Scan) -> Option<Piece>
         requires { S.scan ≡ Some scan.now }
         ensures { IfSome result (λ p. p.interval ≡ self.now) }

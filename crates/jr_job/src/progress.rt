@@ -68,11 +68,11 @@ impl<S: OneScan> ScanStrip<S> {
 /// The next task of a worker.
 #[derive(Drop)]
 pub(crate) enum StripTask<S: OneScan> {
-    /// Read the next strip, or pass over it.
+    /// Read the next strip, or skip it.
     Read(Reading<S>),
     /// Decode a strip that waits.
     Decode(ScanStrip<S>),
-    /// Make a guess of what comes behind the next strip.
+    /// Make a speculative read of what comes after the next strip.
     Guess(GuessTask<S>),
     /// Nothing: all is read, and others decode what is left.
     Leave,
@@ -85,17 +85,17 @@ enum Choice {
     Pass,
     Decode,
     Guess,
-    /// Others read or make guesses.
+    /// Others read, in turn or ahead.
     Wait,
     Leave,
 }
 
-/// How far an interval is: one worker reads or passes over strips, and these wait for whoever is free.
+/// The progress of an interval: one worker reads or skips strips, and these wait for a free worker.
 #[derive(Drop)]
 pub(crate) struct Progress<S: OneScan> {
     /// None while a worker reads, and where nothing is left to read.
     reading: Option<Reading<S>>,
-    /// None where strips are read and none is passed over, and where nothing is left to read: then their memory is given back.
+    /// `None` if strips are read and none is skipped, and if nothing is left to read: then their memory is freed.
     guesses: Option<GuessQueue<S>>,
     /// Nothing will be read any more.
     is_over: bool,
@@ -172,7 +172,7 @@ impl<S: OneScan> Progress<S> {
         self.choice(scan) == Choice::Wait
     }
 
-    /// The guesses by which the next strip is passed over.
+    /// Returns the speculative reads by which the next strip is skipped.
     fn guesses_for(&self, scan: &Scan, number: u32) -> Guesses
         requires { S.scan ≡ Some scan.now }
         ensures { AreGuessesOf (interval_of scan.now number) result }
@@ -183,7 +183,7 @@ impl<S: OneScan> Progress<S> {
         }
     }
 
-    /// The reading, with the guesses by which the next strip is passed over, or with none.
+    /// Takes the reading, with the speculative reads by which the next strip is skipped, or with none.
     fn begin(&mut self, scan: &Scan, passes: bool) -> Option<Reading<S>>
         requires { S.scan ≡ Some scan.now }
     {
@@ -231,19 +231,19 @@ impl<S: OneScan> Progress<S> {
         None
     }
 
-    /// For how many MCUs a worker is to bring room for a guess, where it is to bring some.
+    /// Returns the number of MCUs of a buffer for speculative reads that a worker is to bring, if it is to bring one.
     pub(crate) fn lacks_guess(&mut self) -> Option<u32> {
         self.guesses.as_mut()?.lacks_room()
     }
 
-    /// Room for a guess, which a worker brings.
+    /// Takes a buffer for a speculative read, which a worker brings.
     pub(crate) fn bring_guess(&mut self, room: ScanGuess<S>) {
         if let Some(queue) = &mut self.guesses {
             queue.bring(room);
         }
     }
 
-    /// Keeps a guess that is made.
+    /// Keeps a speculative read that is made.
     pub(crate) fn put_guess(&mut self, made: GuessTask<S>) {
         if let Some(queue) = &mut self.guesses {
             queue.put(made);
@@ -315,7 +315,7 @@ impl<S: OneScan> Progress<S> {
         self.spare.clear();
     }
 
-    /// The interval's number, all strips and the end, once they are there. They are given once.
+    /// Takes the interval's number, all strips and the end, once they are there. They are returned once.
     pub(crate) fn take(&mut self, alloc: Global) -> Option<(u32, Vec<Arc<Strip>>, End)>
         ensures own { IsOneOf S.scan self.old.gathered }
         ensures number { IfSome result (λ r. r.0 ≡ self.old.gathered.number) }

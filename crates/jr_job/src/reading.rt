@@ -53,7 +53,8 @@ pub(crate) enum Next {
     End(End),
 }
 
-/// Reads the next strip of so many MCUs; where there are guesses it passes over it by them. None where no whole MCU follows.
+/// Reads the next strip of `mcus` MCUs, or skips it by speculative reads if there are some. `None` if no whole MCU
+/// follows.
 fn next_strip(
     alloc: Global,
     reader: &mut StripReader,
@@ -144,7 +145,7 @@ impl<S: OneScan> Reading<S> {
         drop(replace(&mut self.guesses, guesses));
     }
 
-    /// Reads the next strip, or passes over it.
+    /// Reads the next strip, or skips it.
     pub(crate) fn next(&mut self, alloc: Global) -> Result<Next, Memory>
         ensures { IfOk result (IsNextOf S.scan) }
     {

@@ -1,4 +1,4 @@
-//! A strip of a shared interval that waits for whoever decodes it.
+//! A strip of a shared interval that waits for a free worker.
 
 ghost use Rattle.std.specs.Prelude.{◌≡◌, IfOk};
 ghost use Rattle.jr_job.specs.Sharing.{interval_of_strip, HasItsGuesses};
@@ -9,7 +9,8 @@ use jr_piece::{CodedStrip, PlacedStrip, Strip};
 use jr_scan::Guesses;
 use std::alloc::Global;
 
-/// A strip that waits: its blocks are read, or it is passed over, and then its place is known and guesses have its MCUs.
+/// A strip that waits: its blocks are read, or it is skipped, and then its position is known and speculative reads have
+/// its MCUs.
 #[derive(Drop)]
 pub(crate) enum WaitingStrip {
     Coded(CodedStrip),

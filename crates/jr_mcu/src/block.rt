@@ -26,8 +26,8 @@ pub(crate) fn read_first(dc: &WordBook, bits: &mut Bits<'_>, prediction: i32) ->
     Some(first as i16)
 }
 
-/// Ends a block whose last code went on to its last place, or past it: where that is the last place its value is put there,
-/// and from 128 on it was the code of the end. None where it is a place that no block has.
+/// Ends a block whose last code advanced to its last place, or past it: at the last place its value is stored there,
+/// and from 128 it was the code of the end. `None` if it is a place that no block has.
 #[inline(always)]
 fn end_block(place: u32, value: i16, block: &mut Coefficients) -> Option<()>
     requires { 63 ≤ place }

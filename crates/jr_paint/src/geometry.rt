@@ -1,4 +1,4 @@
-//! Where a sample lies among the data units of a picture (T.81, A.2).
+//! The position of a sample among the data units of an image (T.81, A.2).
 
 ghost use Rattle.std.specs.Prelude.{◌≡◌, ℕ, ◌+◌, ◌*◌, ◌<◌, ◌≤◌};
 ghost use Rattle.jr_base.specs.declared.limits.TheConstants.{MAX_MCUS_ACROSS};
@@ -25,7 +25,7 @@ pub fn exactly_one_place()
     ensures { (across down x y : ℕ) → 0 < across → 0 < down → IsOnlyOne (Where across down x y) }
 {}
 
-/// The number of the MCU in this line and column, where so many stand in a line.
+/// Returns the number of the MCU in this line and column, if a line has `columns` MCUs.
 fn mcu_number(line: u32, column: u32, columns: u32) -> u32
     requires line { line < 65536 }
     requires column { column < 65536 }

@@ -1,5 +1,5 @@
-//! Lines of pixels put together from their luminance and chrominance, a sample for two pixels of a line: one line, or two that
-//! share their chrominance.
+//! Lines of pixels put together from their luminance and chrominance, a sample for two pixels of a line: one line, or
+//! two that share their chrominance.
 
 ghost use Rattle.std.specs.Prelude.{◌≡◌, ℕ, ◌+◌, ◌*◌, ◌/◌, ◌<◌, ◌≤◌, IfSome, length, slice_index, take};
 ghost use Rattle.std.specs.Simd.Lanes.{put_chunk};
@@ -28,7 +28,7 @@ fn raised(cb: &[u8], cr: &[u8], i: usize) -> (u16x16, u16x16, u16x16)
     )
 }
 
-/// The colours of 32 pixels, from pixel 2 i on.
+/// Converts 32 pixels, starting at pixel 2 i.
 #[inline(always)]
 fn convert_block_of_one(luma: &[u8], cb: &[u8], cr: &[u8], i: usize, out: &mut [u8])
     requires line { 2 * i + 32 ≤ length luma.now }
@@ -41,7 +41,7 @@ fn convert_block_of_one(luma: &[u8], cb: &[u8], cr: &[u8], i: usize, out: &mut [
     paint(luma, 2 * i, (red, red), (green, green), (blue, blue), out);
 }
 
-/// The colours of 32 pixels of two lines, from pixel 2 i on, of one luminance each and the chrominance that they share.
+/// Converts 32 pixels of two lines, starting at pixel 2 i, of one luminance each and the chrominance that they share.
 #[inline(always)]
 fn convert_block(
     luma: &[u8],
@@ -80,8 +80,8 @@ fn last_block(count: usize) -> Option<usize>
     None
 }
 
-/// The colours of the first pixels, in blocks of 32, of which the last may begin within the one before: answers how many
-/// pixels there are.
+/// Converts the first pixels, in blocks of 32, of which the last may begin within the one before. Returns the number of
+/// pixels.
 fn convert_whole_blocks_of_one(luma: &[u8], cb: &[u8], cr: &[u8], out: &mut [u8]) -> usize
     requires enough { length luma.now ≤ 2 * length cb.now }
     requires third { length cr.now ≡ length cb.now }
@@ -100,8 +100,8 @@ fn convert_whole_blocks_of_one(luma: &[u8], cb: &[u8], cr: &[u8], out: &mut [u8]
     32 * whole
 }
 
-/// The colours of the first pixels of two lines, in blocks of 32, of which the last may begin within the one before:
-/// answers how many pixels of a line there are.
+/// Converts the first pixels of two lines, in blocks of 32, of which the last may begin within the one before. Returns
+/// the number of pixels of a line.
 fn convert_whole_blocks(
     luma: &[u8],
     next_luma: &[u8],
@@ -130,7 +130,7 @@ fn convert_whole_blocks(
     32 * whole
 }
 
-/// The colours of the pixels behind those that are done.
+/// Converts the pixels after those that are done.
 fn convert_rest(luma: &[u8], cb: &[u8], cr: &[u8], done: usize, out: &mut [u8])
     requires few { done ≤ length luma.now }
     requires enough { length luma.now ≤ 2 * length cb.now }

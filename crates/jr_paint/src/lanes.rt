@@ -13,7 +13,7 @@ ghost use Rattle.jr_paint.specs.Shades.{red_over_of, green_over_of, blue_over_of
 use crate::stores::put;
 use std::simd::prelude::*;
 
-/// The sixteen bytes from number i on.
+/// Loads the sixteen bytes starting at index i.
 #[inline(always)]
 pub(crate) fn load(bytes: &[u8], i: usize) -> u16x16
     requires { i + 16 ≤ length bytes.now }
@@ -23,7 +23,7 @@ pub(crate) fn load(bytes: &[u8], i: usize) -> u16x16
     u8x16::from_slice(&bytes[i..]).cast::<u16>()
 }
 
-/// The 32 bytes from number i on: each second one from the first on, and the others.
+/// Loads the 32 bytes starting at index i: those at even distances from it, and the others.
 #[inline(always)]
 pub(crate) fn load_by_turns(bytes: &[u8], i: usize) -> (u16x16, u16x16)
     requires { i + 32 ≤ length bytes.now }
@@ -56,7 +56,7 @@ pub(crate) fn raised_blue(cb: u16x16) -> u16x16
     (product >> Simd::splat(16)).cast::<u16>()
 }
 
-/// 2^32 less 11277 and less 23401, about 65536 times 0.34414 and 0.71414 over 2, by turns.
+/// 2^32 less 11277 and less 23401, about 65536 times 0.34414 and 0.71414 over 2, alternating.
 const GREEN_FACTORS: [u32; 16] = [
     4_294_956_019,
     4_294_943_895,
@@ -111,8 +111,8 @@ pub(crate) fn raised_green(cb: u16x16, cr: u16x16) -> u16x16
     )
 }
 
-/// The nearest bytes to luminance y and what is over it, which is raised, of pixels by turns: each half of the bytes
-/// holds eight with even numbers, then eight with odd ones.
+/// Returns the nearest bytes to luminance y and what is over it, which is raised, of interleaved pixels: each half of
+/// the bytes holds eight with even numbers, then eight with odd ones.
 #[inline(always)]
 fn lit(even: u16x16, odd: u16x16, even_over: u16x16, odd_over: u16x16) -> u8x32
     requires small_even { (k : ℕ) → k < 16 → slice_index even k < 256 }
@@ -135,7 +135,7 @@ fn lit(even: u16x16, odd: u16x16, even_over: u16x16, odd_over: u16x16) -> u8x32
         .cast::<u8>()
 }
 
-/// Paints 32 pixels from number i on, where what the colours have over luminance is raised, of pixels by turns.
+/// Paints 32 pixels starting at index i, by what the colours have over luminance, raised, of interleaved pixels.
 #[inline(always)]
 pub(crate) fn paint(
     luma: &[u8],

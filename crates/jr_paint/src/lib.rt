@@ -1,4 +1,4 @@
-//! Where samples lie (T.81, A.1 and A.2), colours (JFIF 1.02), and the Netpbm text of a picture.
+//! The positions of samples (T.81, A.1 and A.2), colours (JFIF 1.02), and the Netpbm text of an image.
 #![tactic(auto)]
 
 mod colours;

@@ -54,7 +54,7 @@ fn fill_colours<S: Samples>(samples: &S, y: u32, room: &mut [u8], pixels: &mut [
     mix(head.kind(), first, second, third, pixels);
 }
 
-/// The pixels of line y, where a sample of chrominance stands for two of them.
+/// Fills the pixels of line y if a sample of chrominance serves two of them.
 fn fill_halved<S: Samples>(samples: &S, y: u32, room: &mut [u8], pixels: &mut [u8])
     requires halves { HalvesChroma (S.head_of samples.now) }
     requires down { y < (S.head_of samples.now).height }
@@ -84,7 +84,7 @@ fn fill_two<S: Samples>(samples: &S, y: u32, room: &mut [u8], pixels: &mut [u8])
     let (luma, room) = room.split_at_mut(width);
     let (next_luma, room) = room.split_at_mut(width);
     let (cb, cr) = room.split_at_mut(width);
-    // Room for chrominance serves the luminance of both lines before.
+    // The space for chrominance served the luminance of both lines before.
     let luma = upsample(samples, 0, y, cb, luma);
     let next_luma = upsample(samples, 0, y + 1, cr, next_luma);
     let (cb, cr) = read_halves(samples, y, cb, cr);
@@ -105,7 +105,7 @@ pub(crate) fn lines_at_once(head: &Head, y: u32) -> u32
     if shares_chroma(head, y) { 2 } else { 1 }
 }
 
-/// The pixels of so many lines from line y on: of one, or of two that take the same samples of chrominance.
+/// Fills the pixels of `count` lines starting at line y: of one, or of two that take the same samples of chrominance.
 pub(crate) fn fill_lines<S: Samples>(
     samples: &S,
     y: u32,
@@ -154,8 +154,8 @@ fn bytes_to(painted: u32, more: u32, count: u32, line: usize) -> usize
     (painted + more) as usize * line
 }
 
-/// The pixels of `count` lines from line y on, a line behind the other, of one byte or three each. In `room` samples are put
-/// that are not lent; what it holds does not matter.
+/// Paints the pixels of `count` lines starting at line y, a line after the other, of one byte or three each. Samples
+/// that cannot be used in place are copied into `room`; its content does not matter.
 pub fn paint_lines<S: Samples>(samples: &S, y: u32, count: u32, room: &mut [u8], pixels: &mut [u8])
     requires down { y + count ≤ (S.head_of samples.now).height }
     requires room { line_room (S.head_of samples.now) ≤ length room.old }

@@ -1,4 +1,4 @@
-//! A picture's Netpbm text: PGM for grey pictures, PPM for the others.
+//! An image's Netpbm text: PGM for grey images, PPM for the others.
 
 ghost use Rattle.std.specs.Prelude.{◌≡◌, ◌+◌, ◌*◌, ◌≤◌, ◌++◌, is_err, false, OnOk, OnErr, IfOk, length, take};
 ghost use Rattle.jr_base.specs.Tally.{Writes, WritesBeginning, has_failed};
@@ -16,21 +16,21 @@ use std::io::Write;
 /// The most pixels of a line of most pictures.
 const NARROW: usize = 4096;
 
-/// The room that painting takes for lines of 4096 pixels.
+/// Size in bytes of the buffer for painting lines of 4096 pixels.
 const NARROW_ROOM: usize = 16_384;
 
-/// The most bytes of a write, where two lines have fewer: six lines of 4096 pixels. So a write has enough bytes that its
-/// own cost is small beside theirs, and few enough for a cache.
+/// Maximum number of bytes of a write, unless two lines have more: six lines of 4096 pixels. So a write has enough
+/// bytes that its own cost is small compared with theirs, and few enough for a cache.
 pub const BATCH: usize = 73_728;
 
-/// The room that painting takes for lines of 65,535 pixels, the most there can be.
+/// Size in bytes of the buffer for painting lines of 65,535 pixels, the maximum.
 const WIDEST_ROOM: usize = 262_140;
 
-/// The bytes of two lines of so many pixels.
+/// Size in bytes of two lines of as many pixels.
 const TWO_WIDEST: usize = 393_210;
 
-/// Writes what stands in `pixels` up to `filled`, where fewer than `more` bytes are left behind it: answers up to where
-/// bytes stand that are not written yet.
+/// Writes what `pixels` has up to `filled` if fewer than `more` bytes are left after it. Returns where the bytes end
+/// that are not written yet.
 pub fn make_room<W: Write>(
     pixels: &[u8],
     filled: usize,
@@ -52,7 +52,7 @@ pub fn make_room<W: Write>(
     Ok(0)
 }
 
-/// Writes the picture's text, as much at once as `pixels` has room for; up to `filled` the header stands there.
+/// Writes the image's text, as much at once as fits into `pixels`, which has the header up to `filled`.
 fn write_lines<S: Samples, W: Write>(
     samples: &S,
     room: &mut [u8],
@@ -83,8 +83,8 @@ fn write_lines<S: Samples, W: Write>(
     write_all(out, &pixels[..filled])
 }
 
-/// Writes the text of a picture for whose painting `ROOM` bytes are enough, of which up to `BYTES` go out by one write. A
-/// function of its own, so that only a wide picture takes the stack for two of its lines.
+/// Writes the text of an image for whose painting `ROOM` bytes suffice, of which up to `BYTES` go out by one write. A
+/// function of its own, so that only a wide image uses the stack for two of its lines.
 #[inline(never)]
 fn write_text<S: Samples, W: Write, const ROOM: usize, const BYTES: usize>(
     samples: &S,
@@ -106,8 +106,8 @@ fn write_text<S: Samples, W: Write, const ROOM: usize, const BYTES: usize>(
     write_lines(samples, &mut room, pixels, filled, out)
 }
 
-/// Writes the picture's text: `Ok` where all of it was written, a fault where the writer failed behind a
-/// beginning of it. It takes no memory, and goes on after a short write.
+/// Writes the image's text: `Ok` if all of it was written, a fault if the writer failed after a beginning of it. It
+/// allocates nothing, and continues after a short write.
 pub fn write_netpbm<S: Samples, W: Write>(samples: &S, out: &mut Tally<W>) -> Result<(), WriteFault>
     requires { has_failed out.old ≡ false }
     ensures ok { OnOk result (Writes W.contents out.old out.new (text_of (S.head_of samples.now) (S.shown samples.now))) }

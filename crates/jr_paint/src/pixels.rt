@@ -10,7 +10,7 @@ use crate::colours::mixed;
 use crate::lanes::{load_by_turns, paint, raised_blue, raised_green, raised_red};
 use jr_head::Kind;
 
-/// The colours of 32 pixels, from pixel i on, of luminance and chrominance.
+/// Converts 32 pixels of luminance and chrominance, starting at pixel i.
 #[inline(always)]
 fn convert_block(luma: &[u8], cb: &[u8], cr: &[u8], i: usize, out: &mut [u8])
     requires first { i + 32 ≤ length luma.now }
@@ -27,8 +27,8 @@ fn convert_block(luma: &[u8], cb: &[u8], cr: &[u8], i: usize, out: &mut [u8])
     paint(luma, i, red, green, blue, out);
 }
 
-/// The colours of the first pixels, in blocks of 32, of which the last may begin within the one before: answers how
-/// many pixels there are.
+/// Converts the first pixels, in blocks of 32, of which the last may begin within the one before. Returns the number of
+/// pixels.
 fn convert_whole_blocks(luma: &[u8], cb: &[u8], cr: &[u8], out: &mut [u8]) -> usize
     requires second { length cb.now ≡ length luma.now }
     requires third { length cr.now ≡ length luma.now }

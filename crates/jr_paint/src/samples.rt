@@ -1,4 +1,4 @@
-//! Samples of a picture, as painting asks for them.
+//! Samples of an image, as painting asks for them.
 
 ghost use Rattle.std.specs.Prelude.{◌≡◌, ℕ, ◌<◌, ◌≤◌, length, slice_index};
 ghost use Rattle.jr_head.specs.Geometry.{IsLawful, components_of};
@@ -7,7 +7,7 @@ ghost use Rattle.jr_paint.specs.Geometry.{samples_across, samples_down};
 
 use jr_head::Head;
 
-/// The decoded samples of a picture: for each component, columns from the left and lines from the top.
+/// The decoded samples of an image: for each component, columns from the left and lines from the top.
 pub trait Samples {
     // the head of the picture's file
     ghost head_of: { Self → HeadValue };
@@ -15,7 +15,7 @@ pub trait Samples {
     // the sample by component, column and line
     ghost shown: { Self → ℕ → ℕ → ℕ → ℕ };
 
-    /// The head of the picture's file.
+    /// Returns the header of the image's file.
     fn head(&self) -> &Head
         ensures value { result.now ≡ head_of self.now }
         ensures lawful { IsLawful result.now };
@@ -27,7 +27,8 @@ pub trait Samples {
         requires line { y < samples_down (head_of self.now) c }
         ensures { result ≡ shown self.now c x y };
 
-    /// The first `count` samples of line y of component c: lent where they lie in one piece, and else put into the room.
+    /// Returns the first `count` samples of line y of component c: a reference if they are in one piece, otherwise a
+    /// copy in `room`.
     fn line<'a>(&'a self, c: u32, y: u32, count: usize, room: &'a mut [u8]) -> &'a [u8]
         requires component { c < components_of (head_of self.now) }
         requires columns { count ≤ samples_across (head_of self.now) c }
@@ -36,7 +37,7 @@ pub trait Samples {
         ensures long { length result.now ≡ count }
         ensures samples { (k : ℕ) → k < count → slice_index result.now k ≡ shown self.now c k y }
     {
-        // By its contract a head has so few columns that their numbers have room.
+        // By its contract a head has so few columns that their numbers fit.
         let _lawful = self.head();
         let room = &mut room[..count];
         let mut x = 0;

@@ -1,5 +1,5 @@
-//! 32 pixels of three bytes put together from their colours and stored. Each third place of a half of 16 bytes is red's,
-//! the one behind it green's, then blue's; where a half begins, another of the three is first.
+//! 32 pixels of three bytes put together from their colours and stored. Each third place of a half of 16 bytes is
+//! red's, the one after it green's, then blue's; where a half begins, another of the three is first.
 
 ghost use Rattle.std.specs.Prelude.{◌≡◌, ◌+◌, ◌*◌, ◌/◌, ◌%◌, ◌≤◌, length, slice_index, slice_index_or, [], ◌∷◌, map};
 ghost use Rattle.std.specs.List.{range_with_len};
@@ -8,7 +8,7 @@ ghost use Rattle.jr_paint.specs.Lines.{interleaving_of, spread};
 
 use std::simd::prelude::*;
 
-/// The bytes of each third place of three vectors, by turns from the first on.
+/// Interleaves the bytes of each third place of three vectors, starting with the first.
 #[inline(always)]
 fn by_thirds(a: u8x32, b: u8x32, c: u8x32) -> u8x32
     ensures { result ≡ map (λ q. slice_index (slice_index_or (a ∷ b ∷ c ∷ []) (q % 16 % 3) []) q) (range_with_len 0 32) }

@@ -19,7 +19,7 @@ pub enum Unit<'a> {
     Of(&'a [u8; 64]),
 }
 
-/// A picture by its data units.
+/// An image by its data units.
 pub trait Units {
     // the head of the picture's file
     ghost head_of: { Self → HeadValue };
@@ -113,15 +113,14 @@ fn fill_unit<U: Units>(head: &Head, units: &U, c: u32, y: u32, start: Spot, n: u
     requires across { 8 * n + length out.old ≤ samples_across head.now c }
     ensures { (k : ℕ) → k < length out.new → slice_index out.new k ≡ sample_by_units head.now (U.shown_in units.now) c (8 * n + k) y }
 {
-    // By its contract a picture has so few MCUs that their numbers have room.
+    // By its contract a picture has so few MCUs that their numbers fit.
     let _mcus = head.mcus();
     let (column, part) = in_mcu(n, head.horizontal(c));
     let unit = units.unit(c, start.mcu + column, start.block + part);
     put(&unit, 8 * start.row as usize, out);
 }
 
-/// Fills a line of samples of component c, from column 0 on, as many as there is room for: those of a data unit after
-/// the other.
+/// Fills a line of samples of component c, starting at column 0, as many as fit: those of a data unit after the other.
 pub fn fill_line<U: Units>(head: &Head, units: &U, c: u32, y: u32, out: &mut [u8])
     requires head { head.now ≡ U.head_of units.now }
     requires component { c < components_of head.now }

@@ -1,4 +1,4 @@
-//! Lines of samples brought to the picture's size: each sample stands for a rectangle of pixels.
+//! Lines of samples brought to the image's size: each sample covers a rectangle of pixels.
 
 ghost use Rattle.std.specs.Prelude.{◌≡◌, ℕ, ◌+◌, ◌*◌, ◌/◌, ◌<◌, ◌≤◌, length, slice_index};
 ghost use Rattle.jr_head.specs.Geometry.{IsLawful, components_of, horizontal_of, horizontal_max, vertical_of, vertical_max};
@@ -95,8 +95,8 @@ fn pixels_per_sample(head: &Head, c: u32) -> u32
     head.horizontal_max() / head.horizontal(c)
 }
 
-/// The samples of component c that the pixels of line y take, one for each: lent, or put into `out`. There is room in `near`
-/// for them before they are repeated.
+/// Returns the samples of component c that the pixels of line y take, one for each: a reference, or a copy in `out`.
+/// `near` is the space for them before they are repeated.
 pub(crate) fn upsample<'a, S: Samples>(
     samples: &'a S,
     c: u32,
@@ -135,7 +135,8 @@ fn half_count(head: &Head) -> usize
     (head.width() as usize).div_ceil(2)
 }
 
-/// The samples of both chrominances that the pixels of line y take, a sample for two pixels: lent, or put into `cb` and `cr`.
+/// Returns the samples of both chrominances that the pixels of line y take, a sample for two pixels: references, or
+/// copies in `cb` and `cr`.
 pub(crate) fn read_halves<'a, S: Samples>(
     samples: &'a S,
     y: u32,

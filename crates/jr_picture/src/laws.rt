@@ -4,8 +4,8 @@ ghost use Rattle.std.specs.Prelude.{ℕ};
 ghost use Rattle.jr_scan.specs.ScanValue.{ScanValue};
 ghost use Rattle.jr_picture.specs.Headline.{HasOnePicture};
 
-/// A scan's first n intervals have one picture, for every number of workers and every order of their work: pictures
-/// with just these marked have equal marks and the same text.
+/// States that a scan's first n intervals have one image, for every number of workers and every order of their work:
+/// images with just these marked have equal marks and the same text.
 pub fn one_picture()
     ensures { (scan : ScanValue) (n : ℕ) → HasOnePicture scan n }
 {}

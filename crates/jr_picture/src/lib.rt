@@ -1,6 +1,6 @@
-//! What a picture of a scan is: the marks of its intervals, and the samples that each shows.
+//! The meaning of an image of a scan: the marks of its intervals, and the samples that each shows.
 //!
-//! The headline, that each interval of a picture shows what its mark says, is `IsPicture` in specs/Headline.antt.
+//! The headline, that each interval of an image shows what its mark says, is `IsPicture` in specs/Headline.antt.
 #![tactic(auto)]
 
 mod blank;

@@ -14,7 +14,7 @@ use std::sync::Arc;
 enum Held {
     /// One list.
     InList(Vec<[u8; 64]>),
-    /// Strips of so many data units each but for the last, which may have fewer.
+    /// Strips of this number of data units each but the last, which may have fewer.
     InStrips(Vec<Arc<Strip>>, usize),
 }
 
@@ -36,7 +36,7 @@ impl Model for DataUnits {
     ghost invariant = { λ u. AreFound u.held };
 }
 
-/// Data unit k of strips of so many each but for the last.
+/// Returns data unit k of strips of `each` data units but for the last.
 fn get_of(strips: &[Arc<Strip>], each: usize, k: usize) -> Option<&[u8; 64]>
     requires few { k < 2 ^ 32 }
     requires some { 0 < each }
@@ -59,7 +59,7 @@ impl DataUnits {
         }
     }
 
-    /// The data units of strips of so many each but for the last, which may have fewer.
+    /// Makes the data units of strips of `each` data units but for the last, which may have fewer.
     pub(crate) fn of_strips(strips: Vec<Arc<Strip>>, each: usize) -> DataUnits
         requires some { 0 < each }
         requires even { AreEven each (shared_strips strips.items) }

@@ -1,4 +1,4 @@
-//! The samples of an interval's longest decodable front.
+//! The samples of an interval's longest decodable prefix.
 
 ghost use Rattle.std.specs.Prelude.{◌≡◌, ℤ, List, [], IfOk, OnOk};
 ghost use Rattle.jr_scan.specs.Guesses.{AreGuessesOf};
@@ -16,7 +16,7 @@ use std::array;
 /// side, and so few that they stay in a processor's own cache.
 const BLOCKS: usize = 64;
 
-/// The samples of an interval's front, and whether the front is its decoding.
+/// The samples of an interval's longest prefix, and whether the prefix is its decoding.
 #[derive(Drop)]
 pub(crate) struct Decoded {
     pub is_sound: bool,
@@ -24,8 +24,8 @@ pub(crate) struct Decoded {
     pub samples: Vec<[u8; 64]>,
 }
 
-/// Reads the whole MCUs of a run of which none is read, up to its end or to where none follows, and transforms their blocks
-/// as they come; what the guesses have of them is taken over. They are about so many.
+/// Reads the whole MCUs of a run of which none is read, up to its end or to where none follows, and transforms their
+/// blocks as they come; what the speculative reads have of them is taken over. `mcus` is about their number.
 pub(crate) fn read_samples(
     alloc: Global,
     reader: &mut McuReader<'_>,

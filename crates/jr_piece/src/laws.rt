@@ -7,18 +7,18 @@ ghost use Rattle.jr_piece.specs.Outcome.{HasOutcome, IsOutcome};
 ghost use Rattle.jr_piece.specs.StripValue.{StripValue};
 ghost use Rattle.jr_piece.specs.Strips.{Follows, IsStrip, IsWhole, ShowsStrip, TellsSound, joined, piece_of};
 
-/// Each interval has an outcome: its one decoding, or none and a longest decodable front.
+/// States that each interval has an outcome: its one decoding, or none and a longest decodable prefix.
 pub fn each_interval_has_an_outcome()
     ensures { (i : IntervalValue) → HasOutcome i }
 {}
 
-/// T.81 gives one outcome for an interval: pieces of one interval are equal.
+/// States that T.81 gives one outcome for an interval: pieces of one interval are equal.
 pub fn one_outcome()
     ensures { (p q : PieceValue) → p.interval ≡ q.interval → IsOutcome p → IsOutcome q → p ≡ q }
 {}
 
-/// A strip is final: whatever comes behind it, a piece of its interval, sound or damaged, shows at least the strip's
-/// MCUs, and at their data units just its samples.
+/// States that a strip is final: whatever follows it, a piece of its interval, sound or damaged, shows at least the
+/// strip's MCUs, and at their data units exactly its samples.
 pub fn strip_is_final()
     ensures { (p : PieceValue) (s : StripValue) → p.interval ≡ s.interval → IsOutcome p → IsStrip s → ShowsStrip p s }
 {}
@@ -33,7 +33,7 @@ pub fn strips_meet()
     ensures { (a b : StripValue) → Follows a b → IsStrip a → IsStrip b → IsStrip (joined a b) }
 {}
 
-/// A strip of all whole MCUs that an interval has tells its outcome.
+/// States that a strip of all whole MCUs that an interval has says its outcome.
 pub fn whole_strip_is_outcome()
     ensures { (s : StripValue) (t : Bool) → IsStrip s → IsWhole s → TellsSound t s.interval → IsOutcome (piece_of t s) }
 {}

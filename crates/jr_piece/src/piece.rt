@@ -15,7 +15,7 @@ use std::alloc::Global;
 use std::marker::Model;
 use std::sync::Arc;
 
-/// A decoded interval: it, and the samples of its longest decodable front of whole MCUs.
+/// A decoded interval: it, and the samples of its longest decodable prefix of whole MCUs.
 #[derive(Drop)]
 pub struct Piece {
     interval: Interval,
@@ -46,7 +46,7 @@ pub struct OrderError {
 }
 
 impl Piece {
-    /// The piece of an interval. `Err` gives the interval back for want of memory.
+    /// Makes the piece of an interval. On `Err` memory ran out, and the interval is returned.
     pub fn make(alloc: Global, interval: Interval) -> Result<Piece, Interval>
         ensures ok { IfOk result (λ p. p.interval ≡ interval) }
         ensures outcome { IfOk result IsOutcome }
@@ -63,10 +63,10 @@ impl Piece {
         }
     }
 
-    /// The piece of an interval that is decoded as strips. It takes no memory, and copies no sample.
+    /// Makes the piece of an interval that is decoded as strips. It allocates nothing, and copies no sample.
     ///
-    /// The strips stand in the order of their MCUs; all but the last have equally many, and the last ends at `front`.
-    /// `Err` where they don't.
+    /// The strips are in the order of their MCUs; all but the last have equally many, and the last ends at `front`.
+    /// `Err` if they are not.
     pub fn of_strips(
         interval: Interval,
         strips: Vec<Arc<Strip>>,
@@ -121,7 +121,7 @@ impl Piece {
         self.front
     }
 
-    /// The samples of data unit k of the interval, `8 row + column`; none past the front.
+    /// Returns the samples of data unit k of the interval, `8 row + column`; `None` past its longest prefix.
     pub fn block(&self, k: u32) -> Option<&[u8; 64]>
         ensures { option_copied result ≡ slice_get self.now.samples k }
     {

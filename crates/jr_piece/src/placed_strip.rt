@@ -48,8 +48,8 @@ impl PlacedStrip {
         }
     }
 
-    /// The strip's samples: its MCUs are read from the place on where they start, and transformed as they come. Any thread may
-    /// ask for them, at any time.
+    /// Returns the strip's samples: its MCUs are read starting at its position, and transformed as they come. Any
+    /// thread may ask for them, at any time.
     pub fn decode(&self, alloc: Global) -> Result<Strip, Memory>
         ensures interval { IfOk result (λ s. s.interval ≡ self.now.interval) }
         ensures first { IfOk result (λ s. s.first ≡ self.now.first) }

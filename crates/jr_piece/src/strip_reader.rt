@@ -36,7 +36,7 @@ fn most_mcus(interval: &Interval, from: Place, mcus: u32) -> u32
     coded.min(u64::from(mcus)) as u32
 }
 
-/// The whole MCUs of a run of at most so many, in the place of the blocks that are there.
+/// Reads the whole MCUs of a run, at most `mcus`, over the blocks that are there.
 fn read_run(
     blocks: Vec<Coefficients>,
     interval: &Interval,
@@ -165,8 +165,8 @@ impl StripReader {
         }
     }
 
-    /// Reads the next whole MCUs, as many as are asked for or as follow. None where no further one follows; then, and at
-    /// an error, the reader stays as it is.
+    /// Reads the next whole MCUs, as many as are asked for or as follow. `None` if no further one follows; then, and on
+    /// `Err`, the reader is unchanged.
     pub fn next(&mut self, alloc: Global, most: u32) -> Result<Option<CodedStrip>, Memory>
         ensures interval { self.new.interval ≡ self.old.interval }
         ensures of { IfOk result (λ o. IfSome o (λ s. s.interval ≡ self.old.interval)) }

@@ -12,7 +12,7 @@ use jr_head::Head;
 use jr_paint::Samples;
 use std::marker::Model;
 
-/// The lines of one row of MCUs, as the picture of which each row of MCUs has these.
+/// The lines of one row of MCUs, as the image of which each row of MCUs has these.
 #[derive(Drop)]
 pub(crate) struct Band<'a> {
     head: &'a Head,
@@ -32,7 +32,7 @@ impl<'a> Model for Band<'a> {
     ghost invariant = { λ b. IsLawful b.head.now × HasGroups b.head.now (groups_across b.head.now) b.lines.now.groups };
 }
 
-/// The samples of groups of eight, one behind the other.
+/// Returns the samples of groups of eight, one after the other.
 fn samples_of(groups: &[[u8; 8]]) -> &[u8]
     ensures long { length result.now ≡ 8 * length groups.now }
     ensures samples { (k : ℕ) → k < 8 * length groups.now → slice_index result.now k ≡ sample_in_groups groups.now k }
@@ -49,7 +49,7 @@ fn sample_at(groups: &[[u8; 8]], at: usize) -> u8
 }
 
 impl<'a> Band<'a> {
-    /// A row of MCUs of this head's picture.
+    /// Returns a row of MCUs of an image with this header.
     pub(crate) fn of(head: &'a Head, lines: &'a RowLines) -> Band<'a>
         requires { HasGroups head.now (groups_across head.now) lines.now.groups }
         ensures value { result ≡ record { head = head.now; groups = lines.now.groups } }

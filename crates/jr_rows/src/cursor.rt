@@ -19,7 +19,7 @@ use jr_scan::{Guesses, IntervalRef, McuReader, Place};
 pub struct Cursor {
     /// The interval.
     pub(crate) number: u32,
-    /// The number of its MCUs that are read, those after its front among them.
+    /// Number of its MCUs that are read, those after its longest prefix among them.
     pub(crate) mcu: u32,
     /// Start of the next MCU; `None` if no further one is whole.
     pub(crate) place: Option<Place>,
@@ -64,8 +64,9 @@ impl Cursor {
         }
     }
 
-    /// Reads the coefficients of the next MCUs of the interval; the slice has room for just these. Those of an MCU that is not
-    /// whole, and all after it, are zeros, whose samples are grey. The guesses change nothing of what is read.
+    /// Reads the coefficients of the next MCUs of the interval, as many as fit into the slice. Those of an MCU that is
+    /// not whole, and all after it, are zeros, whose samples are grey. The speculative reads change nothing of what is
+    /// read.
     pub(crate) fn read(
         &mut self,
         interval: IntervalRef<'_>,

@@ -1,4 +1,4 @@
-//! Guesses of one interval of a scan.
+//! Speculative reads of one interval of a scan.
 
 ghost use Rattle.std.specs.Prelude.{IfSome};
 ghost use Rattle.jr_scan.specs.Guesses.{AreGuessesOf};
@@ -7,7 +7,7 @@ ghost use Rattle.jr_rows.specs.Cursors.{AreGuessesIn};
 
 use jr_scan::Guesses;
 
-/// Guesses of one interval of a scan. They change nothing of what is read.
+/// Speculative reads of one interval of a scan. They change nothing of what is read.
 #[derive(Drop)]
 pub struct IntervalGuesses {
     number: u32,
@@ -15,14 +15,14 @@ pub struct IntervalGuesses {
 }
 
 impl IntervalGuesses {
-    /// Returns these guesses of interval `number`.
+    /// Returns these speculative reads as those of interval `number`.
     pub fn of(number: u32, guesses: Guesses) -> IntervalGuesses
         ensures { (s : ScanValue) → AreGuessesOf (interval_of s number) guesses → AreGuessesIn s result }
     {
         IntervalGuesses { number, guesses }
     }
 
-    /// Returns no guess.
+    /// Returns no speculative reads.
     pub fn none() -> IntervalGuesses
         ensures { (s : ScanValue) → AreGuessesIn s result }
     {

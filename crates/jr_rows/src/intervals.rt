@@ -37,7 +37,7 @@ impl Cursor {
         scan.head().mcus_in(self.number)
     }
 
-    /// Returns the mark of the interval, where it is read to its end, and puts it into its place in `marks`, where these are asked for.
+    /// Returns the mark of the interval if it is read to its end, and stores it in `marks` if these are asked for.
     fn marked(
         &self,
         part: &FirstIntervals<'_>,
@@ -62,7 +62,8 @@ impl Cursor {
         Marked::one(is_sound)
     }
 
-    /// Reads the blocks of the next MCUs. Returns the marks of the intervals that end with them, and puts these into `marks`, too.
+    /// Reads the blocks of the next MCUs. Returns the marks of the intervals that end with them, and also stores these
+    /// in `marks`.
     pub(crate) fn read_mcus(
         &mut self,
         part: &FirstIntervals<'_>,
@@ -84,7 +85,7 @@ impl Cursor {
     {
         let scan = part.scan();
         let per_mcu = scan.head().order().len();
-        // By its contract there is room for the counts of all intervals.
+        // By its contract the counts of all intervals fit.
         let _most = scan.intervals();
         let mut done = 0;
         let mut marked = Marked::none();

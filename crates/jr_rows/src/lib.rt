@@ -1,5 +1,5 @@
-//! The rows of MCUs of a scan in their order: read, decoded and painted one after the other, and the picture or some of its lines
-//! written in one pass.
+//! The rows of MCUs of a scan in their order: read, decoded and painted one after the other, and the image or some of
+//! its lines written in one pass.
 #![tactic(auto)]
 
 mod alone;

@@ -1,4 +1,4 @@
-//! Some lines of a scan's picture, decoded and painted without the others.
+//! Some lines of a scan's image, decoded and painted without the others.
 
 ghost use Rattle.std.specs.Prelude.{◌≡◌, ℕ, ◌+◌, ◌-◌, ◌*◌, ◌<◌, ◌≤◌, max, min, IfOk, IfErr, length};
 ghost use Rattle.jr_head.specs.Geometry.{mcus_down, vertical_max};
@@ -15,7 +15,7 @@ use jr_head::Head;
 use jr_scan::Scan;
 use std::alloc::Global;
 
-/// The row of MCUs that has line `first`, and the one behind that of the last line before `end`.
+/// Returns the row of MCUs that has line `first`, and the one after that of the last line before `end`.
 fn rows_of(head: &Head, first: u32, end: u32) -> (u32, u32)
     requires some { first < end }
     requires inside { end ≤ head.now.height }
@@ -47,8 +47,8 @@ fn lines_in(head: &Head, row: u32, first: u32, end: u32) -> (u32, u32)
     (y, end.min(row * deep + deep) - y)
 }
 
-/// Paints lines `first` to `end` of a scan's picture, and puts the marks of the intervals that end in their rows of MCUs, where
-/// these are asked for.
+/// Paints lines `first` to `end` of a scan's image, and stores the marks of the intervals that end in their rows of
+/// MCUs if these are asked for.
 pub(crate) fn paint_between(
     scan: &Scan,
     work: &mut SampleRow,
@@ -86,11 +86,12 @@ pub(crate) fn paint_between(
     marked
 }
 
-/// Decodes as much of a scan as `count` lines of its picture from line `first` on take, and paints them, a line behind the
-/// other, of one byte or three a pixel. Answers the marks of the intervals that end in the rows of MCUs of these lines.
+/// Decodes as much of a scan as `count` lines of its image starting at line `first` need, and paints them, a line after
+/// the other, of one byte or three a pixel. Returns the marks of the intervals that end in the rows of MCUs of these
+/// lines.
 ///
-/// It takes memory for a row of MCUs, and none for the picture. Of what stands before these rows only the interval that
-/// reaches into them is read.
+/// It allocates for a row of MCUs, and not for the image. Of what lies before these rows only the interval that reaches
+/// into them is read.
 pub fn paint_scan_lines(
     alloc: Global,
     scan: &Scan,

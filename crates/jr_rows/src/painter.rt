@@ -1,4 +1,4 @@
-//! Who paints the rows of MCUs of a picture, one after the other.
+//! A source of the rows of MCUs of an image, one after the other.
 
 ghost use Rattle.std.specs.Prelude.{◌≡◌, ◌+◌, ◌-◌, ◌*◌, ◌<◌, ◌≤◌, length, take, drop};
 ghost use Rattle.jr_head.specs.Geometry.{mcus_down};
@@ -12,8 +12,8 @@ use crate::Marked;
 pub trait RowPainter {
     ghost at: { Self → RowsValue };
 
-    /// Paints the next row, from one byte of `pixels` up to another, between which is room for just its lines. What stands before
-    /// them stays; bytes as many as there are may take the place of all. Answers the marks of the intervals that end in the row.
+    /// Paints the next row, from one byte of `pixels` up to another: exactly the space of its lines. What lies before
+    /// them stays; an equally long buffer may replace all. Returns the marks of the intervals that end in the row.
     fn paint(&mut self, pixels: &mut Vec<u8>, from: usize, to: usize) -> Marked
         requires row { (at self.old).row < mcus_down (at self.old).scan.head }
         requires room { to ≡ from + line_count (at self.old).scan.head (at self.old).row * line_size (at self.old).scan.head }

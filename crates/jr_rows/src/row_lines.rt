@@ -25,8 +25,8 @@ pub struct UnitStart {
     pub step: usize,
 }
 
-/// The samples of a row of MCUs: for each component its lines from the top, eight samples a group, and a line behind the
-/// other. Data units are put into it, and the picture's lines are painted from it.
+/// The samples of a row of MCUs: for each component its lines from the top, eight samples a group, and a line after the
+/// other. Data units are stored in it, and the image's lines are painted from it.
 #[derive(Drop)]
 pub struct RowLines {
     groups: Vec<[u8; 8]>,
@@ -173,7 +173,7 @@ fn start_of(head: &Head, across: u32, j: u32) -> UnitStart
 }
 
 impl RowLines {
-    /// Room for a row of this head's picture.
+    /// Allocates memory for a row of an image with this header.
     pub fn open(alloc: Global, head: &Head) -> Result<RowLines, Memory>
         ensures { IfOk result (HasLines head.now) }
     {

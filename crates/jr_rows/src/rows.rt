@@ -18,7 +18,7 @@ use crate::shape::{coded_of_row, mcus_at_once, shape_of, units_to};
 use jr_base::Coefficients;
 use jr_piece::transform_blocks;
 
-/// The rows of MCUs of a scan from one of them on. Each call takes the scan of which it is, and what of it is decoded.
+/// The rows of MCUs of a scan starting at one of them. Each call takes the scan, and what of it is decoded.
 #[derive(Clone, Copy)]
 pub struct Rows {
     /// The row that comes next.
@@ -41,7 +41,7 @@ impl Rows {
         }
     }
 
-    /// Returns the rows from this one on, where a row has so many whole intervals.
+    /// Returns the rows starting at this one, if a row has this number of whole intervals.
     pub fn from(part: &FirstIntervals<'_>, row: u32, intervals: u32) -> Rows
         requires row { row < mcus_down part.now.scan.head }
         requires whole { intervals * part.now.scan.head.restart ≡ mcus_across part.now.scan.head }
@@ -58,7 +58,8 @@ impl Rows {
         }
     }
 
-    /// Returns the rows from this one on, where all intervals are decoded. It skips what stands before it in its interval.
+    /// Returns the rows starting at this one, if all intervals are decoded. It skips what lies before it in its
+    /// interval.
     pub fn at(part: &FirstIntervals<'_>, row: u32) -> Rows
         requires all { part.now.limit ≡ length part.now.scan.intervals }
         requires row { row < mcus_down part.now.scan.head }
@@ -101,7 +102,7 @@ impl Rows {
         ensures row { self.new.row ≡ self.old.row + 1 }
     {
         let scan = part.scan();
-        // By their contracts a picture has an MCU, and so few rows that their numbers have room.
+        // By their contracts a picture has an MCU, and so few rows that their numbers fit.
         let _counts = (scan.head().mcus(), shape_of(scan.head()));
         let coded = coded_of_row(scan, part.limit(), self.row);
         self.cursor.skip_mcus(scan, guesses, coded);
@@ -135,8 +136,8 @@ impl Rows {
         marked
     }
 
-    /// Decodes the next row: its samples, of which those of MCUs that are not decoded are black. Returns the marks of the intervals
-    /// that end in it, and puts these into `marks`, too. Some MCUs at a time are read and transformed.
+    /// Decodes the next row: its samples, black in MCUs that are not decoded. Returns the marks of the intervals that
+    /// end in it, and also stores these in `marks`. Some MCUs at a time are read and transformed.
     pub fn decode(
         &mut self,
         part: &FirstIntervals<'_>,
@@ -158,7 +159,7 @@ impl Rows {
     {
         let head = part.scan().head();
         let per_mcu = head.order().len();
-        // By their contracts there are few rows, and there is room for the counts of all intervals.
+        // By their contracts there are few rows, and the counts of all intervals fit.
         let _counts = (shape_of(head), part.scan().intervals());
         let coded = coded_of_row(part.scan(), part.limit(), self.row);
         let at_once = mcus_at_once(head);

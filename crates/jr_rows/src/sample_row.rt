@@ -42,7 +42,7 @@ impl Model for SampleRow {
 }
 
 impl SampleRow {
-    /// Room for a row of this head's picture.
+    /// Allocates memory for a row of an image with this header.
     pub fn open(alloc: Global, head: &Head) -> Result<SampleRow, Memory>
         ensures { IfOk result (HasSampleRoom head.now) }
     {
@@ -57,8 +57,8 @@ impl SampleRow {
         })
     }
 
-    /// Decodes the next whole MCUs of an interval behind the first `done` of a row: as many as the reader has, as are left of
-    /// the row and as are read at once. Answers how many.
+    /// Decodes the next whole MCUs of an interval after the first `done` of a row: as many as the reader has, as are
+    /// left of the row and as are read at once. Returns their number.
     pub fn decode_whole(&mut self, head: &Head, reader: &mut McuReader<'_>, done: u32) -> u32
         requires head { reader.old.run.interval.head ≡ head.now }
         requires within { done < mcus_across head.now }
@@ -89,7 +89,7 @@ impl SampleRow {
         put_grey(head, done, mcus, &mut self.blocks, &mut self.lines)
     }
 
-    /// Paints lines of the picture of which each row of MCUs has the samples of the row that is decoded.
+    /// Paints lines of the image of which each row of MCUs has the samples of the row that is decoded.
     pub fn paint_some(&mut self, head: &Head, y: u32, count: u32, pixels: &mut [u8])
         requires room { HasSampleRoom head.now self.old }
         requires inside { y + count ≤ head.now.height }

@@ -1,4 +1,4 @@
-//! The rows of MCUs of a picture, in numbers.
+//! The rows of MCUs of an image, in numbers.
 
 ghost use Rattle.std.specs.Prelude.{max, ◌≡◌, ◌+◌, ◌-◌, ◌*◌, ◌<◌, ◌≤◌, min, Option, Some, OnSome, IfSome};
 ghost use Rattle.jr_head.specs.Geometry.{mcus_across, mcus_down, mcus_of, vertical_max};
@@ -48,7 +48,7 @@ pub fn shape_of(head: &Head) -> Shape
     }
 }
 
-/// Returns the number of bytes of so many lines, of `all`.
+/// Returns the size in bytes of `lines` lines, of `all`.
 pub fn bytes_to(lines: u32, all: u32, line: usize) -> usize
     requires within { lines ≤ all }
     requires few { all < 65536 }
@@ -132,7 +132,7 @@ pub fn coded_of_row(scan: &Scan, n: u32, row: u32) -> u32
     ensures inside { coded_before scan.now.head n row + result ≤ mcus_before scan.now.head n }
     ensures few { result ≤ mcus_across scan.now.head }
 {
-    // By its contract a picture has so few MCUs that their numbers have room.
+    // By its contract a picture has so few MCUs that their numbers fit.
     let _most = scan.head().mcus();
     let all = mcus_of_first(scan, n);
     let across = shape_of(scan.head()).across;

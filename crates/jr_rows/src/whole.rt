@@ -1,4 +1,4 @@
-//! All of a scan's picture, decoded and painted into a buffer, a row of MCUs after the other.
+//! All of a scan's image, decoded and painted into a buffer, a row of MCUs after the other.
 
 ghost use Rattle.std.specs.Prelude.{◌≡◌, ◌*◌, ◌<◌, IfOk, IfErr, length};
 ghost use Rattle.jr_paint.specs.Lines.{line_size};
@@ -12,10 +12,11 @@ use jr_picture::Counts;
 use jr_scan::Scan;
 use std::alloc::Global;
 
-/// Decodes a scan and paints its picture, a line behind the other, of one byte or three a pixel. Where `marks` has room, the
-/// marks of the intervals are put there, a byte each: 1 where it is sound, and 2 where it is damaged. Answers how many are.
+/// Decodes a scan and paints its image, a line after the other, of one byte or three a pixel. Unless `marks` is empty,
+/// the marks of the intervals are stored there, a byte each: 1 if it is sound, and 2 if it is damaged. Returns the
+/// numbers of both.
 ///
-/// It takes memory for a row of MCUs, and none for the picture; nothing is painted or put before it has that.
+/// It allocates for a row of MCUs, and not for the image; nothing is painted or stored before it has that.
 pub fn paint_scan(
     alloc: Global,
     scan: &Scan,

@@ -1,4 +1,4 @@
-//! Whole MCUs of an interval, decoded behind those that a row has: each as soon as its data are there.
+//! Whole MCUs of an interval, decoded after those that a row has: each as soon as its data are there.
 
 ghost use Rattle.std.specs.Prelude.{◌≡◌, ◌+◌, ◌*◌, ◌<◌, ◌≤◌, ◌++◌, ℕ, ℤ, List, [], length, take, slice_index_or};
 ghost use Rattle.jr_head.specs.Geometry.{blocks_of, mcus_across};
@@ -16,7 +16,7 @@ use jr_head::Head;
 use jr_piece::transform_blocks;
 use jr_scan::McuReader;
 
-/// Reads whole MCUs into blocks with room for `most`, as many as follow: answers how many.
+/// Reads whole MCUs into blocks, at most `most`, as many as follow. Returns their number.
 fn read_whole(
     head: &Head,
     reader: &mut McuReader<'_>,
@@ -38,8 +38,8 @@ fn read_whole(
     reader.read(blocks)
 }
 
-/// Decodes the next whole MCUs of a reader behind the first `done` of a row: as many as follow, as are left of the row and as have
-/// room in `blocks`. Answers how many.
+/// Decodes the next whole MCUs of a reader after the first `done` of a row: as many as follow, as are left of the row
+/// and as fit into `blocks`. Returns their number.
 pub(crate) fn decode_whole(
     head: &Head,
     reader: &mut McuReader<'_>,

@@ -1,4 +1,4 @@
-//! A scan's picture, decoded, painted and written in one pass, a row of MCUs after the other.
+//! A scan's image, decoded, painted and written in one pass, a row of MCUs after the other.
 
 ghost use Rattle.std.specs.Prelude.{◌≡◌, ◌≢◌, ℕ, ◌+◌, ◌*◌, ◌<◌, ◌≤◌, ◌^◌, min, length, take, is_err, true, false, IfOk, OnOk};
 ghost use Rattle.jr_base.specs.Tally.{has_failed};
@@ -21,17 +21,17 @@ use jr_scan::Scan;
 use std::alloc::Global;
 use std::io::Write;
 
-/// Why a picture is not written whole.
+/// The reason why an image is not written whole.
 #[derive(Clone, Copy, Debug, PartialEq, Eq)]
 pub enum PictureError {
     /// Memory was refused; nothing is written.
     Memory,
-    /// The writer failed behind a beginning of the picture.
+    /// The writer failed after a beginning of the image.
     Write,
 }
 
-/// Writes a picture, of which the painter gives row after row; `pixels` has room for the lines of a row. Answers the marks
-/// of its intervals.
+/// Writes an image, row after row from the painter; the lines of a row fit into `pixels`. Returns the marks of its
+/// intervals.
 pub fn write_rows<W: Write, P: RowPainter>(
     head: &Head,
     painter: &mut P,
@@ -84,9 +84,9 @@ pub fn counts_of(scan: &Scan, limit: u32, marked: Marked) -> Counts
     }
 }
 
-/// Decodes the first intervals of a scan, or all, and writes its picture, a row of MCUs after the other, in the calling
-/// thread. It takes all memory that it needs before it writes the first byte: for two rows of MCUs, and none for the
-/// picture. The gate is told each interval that is decoded; no piece is made.
+/// Decodes the first intervals of a scan, or all, and writes its image, a row of MCUs after the other, in the calling
+/// thread. It allocates all memory that it needs before it writes the first byte: for two rows of MCUs, and none for
+/// the image. Each interval that is decoded is reported to the gate; no piece is made.
 pub fn write_scan<W: Write, G: Gate>(
     alloc: Global,
     scan: &Scan,

@@ -1,4 +1,4 @@
-//! The longest decodable front of an interval.
+//! The longest decodable prefix of an interval.
 
 ghost use Rattle.std.specs.Prelude.{◌≡◌};
 

@@ -13,7 +13,8 @@ use jr_head::Head;
 use std::alloc::Global;
 use std::marker::Model;
 
-/// A scan whose file is still arriving: what its bytes so far are cut into. More bytes are cut on from where the cut stands.
+/// A scan whose file is still arriving: what its bytes so far are cut into. More bytes are cut starting where the cut
+/// is.
 #[derive(Drop)]
 pub struct GrowingScan {
     head: Head,
@@ -33,7 +34,7 @@ impl Model for GrowingScan {
 }
 
 impl GrowingScan {
-    /// The scan of the bytes so far of a file, of which this is the head; in their memory.
+    /// Cuts the scan of the bytes so far of a file with this header, in their memory.
     pub fn of(alloc: Global, head: Head, bytes: Vec<u8>) -> Result<GrowingScan, Memory>
         requires few { length bytes.items < 2 ^ 61 }
         requires starts { head.scan_at ≤ length bytes.items }
@@ -56,7 +57,7 @@ impl GrowingScan {
         self.cut.push(more)
     }
 
-    /// The head of the file.
+    /// Returns the header of the file.
     pub fn head(&self) -> &Head
         ensures value { result.now ≡ self.now.scan.head }
         ensures lawful { IsLawful result.now }

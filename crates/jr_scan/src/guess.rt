@@ -22,21 +22,21 @@ use jr_mcu::{all_small, put_shifted, read_unpredicted, sums};
 use std::alloc::Global;
 use std::marker::Model;
 
-/// How often a guess from one bit up to another starts at most. Each start reads one MCU in vain, of 640 codes or fewer, so
-/// that all of them read fewer codes in vain than there are bits, but for some thousands.
+/// Returns how often a speculative read of these bits starts at most. Each start reads one MCU in vain, of 640 codes or
+/// fewer, so that all of them read fewer codes in vain than there are bits, but for some thousands.
 fn most_starts(from: u64, to: u64) -> u64 {
     16 + to.saturating_sub(from) / 1024
 }
 
-/// Whole MCUs of an interval, read from some bit on before it is known whether one starts there, each as if its components
-/// were predicted to be 0. What it keeps is true whatever the bit: a reader that comes to the bit at which one of its MCUs
-/// starts takes it over, its own predictions added.
+/// Whole MCUs of an interval, read from some bit before it is known whether one starts there, each as if its components
+/// were predicted to be 0. What it keeps is true whatever the bit: a reader that comes to the bit at which one of its
+/// MCUs starts takes it over, its own predictions added.
 #[derive(Drop)]
 pub struct Guess {
     /// The number of its interval.
     number: u32,
     mcus: Vec<Guessed>,
-    /// Those of its MCUs, and room for further ones.
+    /// Those of its MCUs, and space for further ones.
     blocks: Vec<Coefficients>,
 }
 
@@ -49,7 +49,7 @@ impl Model for Guess {
 }
 
 impl Guess {
-    /// Room for so many MCUs of an interval, of which none is read.
+    /// Allocates a buffer for a speculative read of at most `most` MCUs of an interval.
     pub fn open(alloc: Global, interval: &IntervalRef<'_>, most: u32) -> Result<Guess, Memory>
         ensures { IfOk result (IsGuessOf interval.now) }
     {
@@ -70,8 +70,8 @@ impl Guess {
         self.number
     }
 
-    /// Reads MCUs from a bit of an interval on, over those that were read before, until one starts at another bit or behind it, or
-    /// the room is full. Where no MCU follows it goes on at the next byte, but not for ever.
+    /// Reads MCUs starting at a bit of an interval, over those that were read before, until one starts at bit `to` or
+    /// past it, or the buffer is full. If no MCU follows it continues at the next byte, but not for ever.
     pub fn read(&mut self, interval: &IntervalRef<'_>, from: u64, to: u64)
         ensures { IsGuessOf interval.now self.new }
     {
@@ -94,8 +94,8 @@ impl Guess {
         self.mcus.clear();
     }
 
-    /// Reads the MCUs that follow one another from a bit on, and gives the bit at which none follows; the other bit where one
-    /// starts there or behind it, or where there is no room.
+    /// Reads the MCUs that follow one another starting at a bit, and returns the bit at which none follows; `to` if one
+    /// starts there or past it, or if the buffer is full.
     fn read_from(&mut self, interval: &IntervalRef<'_>, from: u64, to: u64) -> u64
         requires { IsGuessOf interval.now self.old }
         ensures { IsGuessOf interval.now self.new }
@@ -119,7 +119,7 @@ impl Guess {
         to
     }
 
-    /// Reads the next MCU behind the others, where there is room for it. Where it is none, the bits stay.
+    /// Reads the next MCU after the others, if it fits. If it is none, the bits stay.
     fn keep(&mut self, interval: &IntervalRef<'_>, bits: &mut Bits<'_>) -> Option<()>
         requires of { IsGuessOf interval.now self.old }
         requires bits { AreLastBits interval.now bits.old }

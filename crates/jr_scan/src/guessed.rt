@@ -1,8 +1,8 @@
-//! One MCU of a guess.
+//! One MCU of a speculative read.
 
 use crate::place::Place;
 
-/// An MCU that is read from a bit on where each component is predicted to be 0, and the place behind it.
+/// An MCU that is read starting at a bit with each component predicted to be 0, and the position after it.
 #[derive(Clone, Copy, Debug, PartialEq, Eq)]
 pub(crate) struct Guessed {
     pub from: u64,

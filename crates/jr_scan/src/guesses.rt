@@ -1,4 +1,4 @@
-//! The guesses that a reader goes over.
+//! The speculative reads that a reader takes over.
 
 ghost use Rattle.std.specs.Prelude.{IfSome};
 ghost use Rattle.std.specs.Arc.{arc_value};
@@ -9,7 +9,7 @@ ghost use Rattle.jr_scan.specs.IntervalValue.{IntervalValue};
 use crate::guess::Guess;
 use std::sync::Arc;
 
-/// The guesses that a reader goes over, of one interval: at most three.
+/// The speculative reads that a reader takes over, of one interval: at most three.
 #[derive(Drop)]
 pub struct Guesses {
     first: Option<Arc<Guess>>,
@@ -24,7 +24,7 @@ fn guess_again(guess: &Option<Arc<Guess>>) -> Option<Arc<Guess>>
     Arc::try_clone(guess.as_ref()?).ok()
 }
 
-/// The guess, and which of its MCUs starts at a bit.
+/// Returns the speculative read, and which of its MCUs starts at a bit.
 fn found<'g>(guess: &'g Option<Arc<Guess>>, bit: u64) -> Option<(&'g Guess, usize)>
     ensures { IfSome result (λ found. (i : IntervalValue) → IsGuessOrNone i guess.now → IsGuessOf i found.0.now) }
 {
@@ -71,7 +71,7 @@ impl Guesses {
         self.first.is_none() && self.second.is_none() && self.third.is_none()
     }
 
-    /// A guess that has an MCU that starts at a bit, and which MCU it is.
+    /// Returns a speculative read with an MCU that starts at a bit, and which MCU it is.
     pub(crate) fn find(&self, bit: u64) -> Option<(&Guess, usize)>
         ensures { IfSome result (λ found. (i : IntervalValue) → AreGuessesOf i self.now → IsGuessOf i found.0.now) }
     {

@@ -18,7 +18,7 @@ use std::sync::Arc;
 /// The coefficients of a block, in zigzag order.
 pub type Block = [i32; 64];
 
-/// A restart interval of a scan: so many MCUs, and the bytes that code them without stuffing.
+/// A restart interval of a scan: its number of MCUs, and the bytes that code them without stuffing.
 #[derive(Drop)]
 pub struct Interval {
     head: Arc<Head>,
@@ -82,7 +82,7 @@ impl Interval {
         }
     }
 
-    /// The interval's number in its scan, from 0 on.
+    /// Returns the interval's number in its scan, from 0.
     pub fn number(&self) -> u32
         ensures { result ≡ self.now.number }
     {
@@ -104,7 +104,7 @@ impl Interval {
         &self.unstuffed[self.start..self.end]
     }
 
-    /// The head that the interval is read by.
+    /// Returns the header by which the interval is read.
     pub fn head(&self) -> &Head
         ensures value { result.now ≡ self.now.head }
         ensures lawful { IsLawful result.now }

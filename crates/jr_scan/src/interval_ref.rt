@@ -1,4 +1,4 @@
-//! An interval whose data stand in its scan.
+//! An interval whose data are in its scan.
 
 ghost use Rattle.std.specs.Prelude.{◌≡◌, ◌<◌, ◌^◌, length};
 ghost use Rattle.jr_head.specs.Geometry.{IsLawful};
@@ -6,7 +6,7 @@ ghost use Rattle.jr_head.specs.Geometry.{IsLawful};
 use jr_head::Head;
 use std::marker::Model;
 
-/// A restart interval of which the head and the data are borrowed. To have one takes no memory.
+/// A restart interval of which the header and the data are borrowed. It uses no memory of its own.
 #[derive(Drop)]
 pub struct IntervalRef<'a> {
     head: &'a Head,
@@ -26,7 +26,8 @@ impl<'a> Model for IntervalRef<'a> {
 }
 
 impl<'a> IntervalRef<'a> {
-    /// Interval `number` of a scan with this head: how many MCUs it codes, and its data without stuffing.
+    /// Makes interval `number` of a scan with this header, by the number of MCUs that it codes and its data without
+    /// stuffing.
     pub fn of(head: &'a Head, bytes: &'a [u8], number: u32, mcus: u32) -> IntervalRef<'a>
         requires { length bytes.now < 2 ^ 61 }
         ensures { result ≡ record { number = number; mcus = mcus; bytes = bytes.now; head = head.now } }
@@ -52,7 +53,7 @@ impl<'a> IntervalRef<'a> {
         }
     }
 
-    /// The interval's number in its scan, from 0 on.
+    /// Returns the interval's number in its scan, from 0.
     pub fn number(&self) -> u32
         ensures { result ≡ self.now.number }
     {
@@ -74,7 +75,7 @@ impl<'a> IntervalRef<'a> {
         self.bytes
     }
 
-    /// The head that the interval is read by.
+    /// Returns the header by which the interval is read.
     pub fn head(&self) -> &'a Head
         ensures value { result.now ≡ self.now.head }
         ensures lawful { IsLawful result.now }

@@ -14,7 +14,7 @@ pub fn one_decoding()
     ensures { (i : IntervalValue) (zs ys : List (List ℤ)) → Decodes i zs → Decodes i ys → zs ≡ ys }
 {}
 
-/// An interval has at most one front of so many MCUs.
+/// States that an interval has at most one prefix of n whole MCUs.
 pub fn one_front()
     ensures { (i : IntervalValue) (k : ℕ) (zs ys : List (List ℤ)) → Front i k zs → Front i k ys → zs ≡ ys }
 {}
@@ -29,7 +29,7 @@ pub fn no_front()
     ensures { (i : IntervalValue) → Front i 0 [] }
 {}
 
-/// Each interval has a longest decodable front of whole MCUs.
+/// States that each interval has a longest decodable prefix of whole MCUs.
 pub fn each_interval_has_a_longest_front()
     ensures { (i : IntervalValue) → (k : ℕ) × (zs : List (List ℤ)) × LongestFront i k zs }
 {}
@@ -39,7 +39,7 @@ pub fn each_interval_decodes_or_not()
     ensures { (i : IntervalValue) → ((zs : List (List ℤ)) × Decodes i zs) ⊎ HasNoDecoding i }
 {}
 
-/// Each place of an interval starts one run of so many MCUs: its blocks, where it ends and why are settled.
+/// States that at each position of an interval one run of n MCUs starts: its blocks, where it ends and why are fixed.
 pub fn one_run()
     ensures { (r : RunOf) (a b : RunRead r) → IsLawful r.interval.head → (a.blocks ≡ b.blocks) × (a.to ≡ b.to) × (a.end ≡ b.end) }
 {}

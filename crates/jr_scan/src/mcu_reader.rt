@@ -13,10 +13,10 @@ use jr_code::Bits;
 use jr_mcu::{BlockSink, Kept, Skipped, read_mcu};
 use std::marker::Model;
 
-/// The most data units that an MCU has (T.81, B.2.3): blocks with so much room take a whole one of any head.
+/// Maximum number of data units of an MCU (T.81, B.2.3): as many blocks hold a whole one of any file.
 pub const MOST_UNITS: usize = 10;
 
-/// The bits of the bytes from a place on.
+/// Returns the bits of the bytes starting at one of them.
 pub(crate) fn bits_from(bytes: &[u8], bit: u64) -> Bits<'_>
     requires within { bit ≤ 8 * length bytes.now }
     requires few { length bytes.now < 2 ^ 61 }
@@ -27,7 +27,7 @@ pub(crate) fn bits_from(bytes: &[u8], bit: u64) -> Bits<'_>
     bits
 }
 
-/// Reads the whole MCUs of a run one after the other. It always stands between two of them: an MCU that is not whole
+/// A reader of the whole MCUs of a run, one after the other. It is always between two of them: an MCU that is not whole
 /// moves nothing.
 #[derive(Drop)]
 pub struct McuReader<'a> {
@@ -70,7 +70,7 @@ impl<'a> McuReader<'a> {
         McuReader::at(interval, Place::start(), mcus)
     }
 
-    /// A reader of so many MCUs from a place of an interval on.
+    /// Returns a reader of `mcus` MCUs starting at a position of an interval.
     pub fn at(interval: IntervalRef<'a>, from: Place, mcus: u32) -> McuReader<'a>
         requires within { from.bit ≤ 8 * length interval.bytes }
         requires in_range { All IsInDcRange from.predictions }
@@ -157,8 +157,8 @@ impl<'a> McuReader<'a> {
         most
     }
 
-    /// Reads the blocks of the next MCUs, as many whole ones as the slice has room for or as follow; tells how many MCUs
-    /// they are. What the slice holds behind them means nothing.
+    /// Reads the blocks of the next MCUs, as many whole ones as fit into the slice or as follow. Returns their number.
+    /// What the slice holds after them means nothing.
     pub fn read(&mut self, blocks: &mut [Coefficients]) -> u32
         ensures run { self.new.run ≡ self.old.run }
         ensures mcus { self.new.mcu ≡ self.old.mcu + result }

@@ -3,8 +3,8 @@
 ghost use Rattle.std.specs.Prelude.{◌≡◌};
 ghost use Rattle.jr_scan.specs.Run.{start_of_interval};
 
-/// A place between two MCUs of an interval: how many bits of its data stand before it, and what the first coefficient
-/// of each component is predicted to be there.
+/// A position between two MCUs of an interval: the number of bits of its data before it, and the prediction of each
+/// component's DC coefficient there.
 #[derive(Clone, Copy, Debug, PartialEq, Eq)]
 pub struct Place {
     pub bit: u64,

@@ -12,7 +12,7 @@ use std::alloc::Global;
 use std::marker::Model;
 use std::sync::Arc;
 
-/// A scan: its head, and the data of its restart intervals.
+/// A scan: its header, and the data of its restart intervals.
 #[derive(Drop)]
 pub struct Scan {
     head: Arc<Head>,
@@ -41,8 +41,7 @@ impl Scan {
     ghost use Rattle.jr_cut.specs.Spans.{segment_data, IsSpanOf};
     ghost use Rattle.jr_scan.specs.ScanValue.{intervals_of, interval_of, scan_of_segments, IsScanOf, IsSameScan, HasInterval};
 
-    /// Cuts the scan of a file, of which this is the head. Where the scan starts past the end of the file it has no
-    /// bytes.
+    /// Cuts the scan of a file with this header. If the scan starts past the end of the file it has no bytes.
     pub fn cut(alloc: Global, head: Head, bytes: &[u8]) -> Result<Scan, Memory>
         requires { length bytes.now < 2 ^ 61 }
         ensures head { IfOk result (λ s. s.head ≡ head) }
@@ -73,7 +72,7 @@ impl Scan {
         Scan::of_segments(alloc, head, segments)
     }
 
-    /// The scan of a head that is cut into these segments.
+    /// Returns the scan with this header that is cut into these segments.
     pub(crate) fn of_segments(
         alloc: Global,
         head: Head,
@@ -94,7 +93,7 @@ impl Scan {
         })
     }
 
-    /// The head of the file.
+    /// Returns the header of the file.
     pub fn head(&self) -> &Head
         ensures value { result.now ≡ self.now.head }
         ensures lawful { IsLawful result.now }

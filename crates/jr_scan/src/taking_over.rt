@@ -1,4 +1,4 @@
-//! A reader takes over from guesses the MCUs that it comes to.
+//! Taking over the MCUs of speculative reads that a reader comes to.
 
 ghost use Rattle.std.specs.Prelude.{◌≡◌, ◌<◌, ◌≤◌, ◌+◌, ◌*◌, ◌++◌, ℕ, ℤ, List, length, take, IfSome};
 ghost use Rattle.std.specs.List.{All};
@@ -121,7 +121,7 @@ impl<'a> McuReader<'a> {
         taken
     }
 
-    /// Reads as `read` does, and takes over what the guesses have of it.
+    /// Reads as `read` does, and takes over what the speculative reads have of it.
     pub fn read_by(&mut self, guesses: &Guesses, blocks: &mut [Coefficients]) -> u32
         requires same { AreGuessesOf self.old.run.interval guesses.now }
         ensures run { self.new.run ≡ self.old.run }

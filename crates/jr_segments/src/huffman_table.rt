@@ -34,12 +34,12 @@ fn counts_of(bytes: &[u8]) -> [u8; 16]
     counts
 }
 
-/// The table that a byte begins, and the bytes behind it.
+/// Reads the table that a byte begins, and returns it with the bytes after it.
 ///
 /// # Errors
 ///
-/// In this order: `BadCodeTable` where Tc is over 1 or Th over 3; `BadLength` where counts are missing; `BadCodeTable`
-/// for more than 256 words; `BadLength` where symbols are missing; `BadCodeTable` where the words do not fit into a tree.
+/// In this order: `BadCodeTable` if Tc is over 1 or Th over 3; `BadLength` if counts are missing; `BadCodeTable` for
+/// more than 256 words; `BadLength` if symbols are missing; `BadCodeTable` if the words do not fit into a tree.
 #[tactic(auto, unfolding(crate::specs::HuffmanTables::huffman_table_tests))]
 fn read_huffman_table(
     alloc: Global,

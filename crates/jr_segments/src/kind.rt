@@ -1,8 +1,8 @@
-//! What the samples stand for, and the marks that tell it.
+//! The meaning of the samples, and the marks that give it.
 //!
-//! T.81 leaves the colours to the application. A file of one component is grey. Of three components the picture is
-//! RGB where the last Adobe mark has transform 0 and no JFIF mark is there, else YCbCr, as JFIF 1.02 has it. The
-//! components' identifiers play no part.
+//! T.81 leaves the colours to the application. A file of one component is grey. Of three components the image is RGB if
+//! the last Adobe mark has transform 0 and no JFIF mark is there, otherwise YCbCr, as JFIF 1.02 has it. The components'
+//! identifiers play no part.
 
 ghost use Rattle.std.specs.Prelude.{◌≡◌, ◌==◌, ◌&&◌, ◌≤◌, nat_le, nat_eq, codes, ◌++◌, ◌∷◌, [], ℕ, List, length, Option, Some, None, IfSome, IsNone, ◌↔◌};
 ghost use Rattle.jr_segments.specs.Marks.{has_jfif_mark, has_adobe_mark, kind_by, transform_of};

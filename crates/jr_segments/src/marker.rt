@@ -1,6 +1,6 @@
-//! The markers that may stand before the scan (T.81, B.1.1.3 and table B.1).
+//! The markers that may occur before the scan (T.81, B.1.1.3 and table B.1).
 
-/// A marker that may stand before the scan.
+/// A marker that may occur before the scan.
 #[derive(Clone, Copy, Debug, PartialEq, Eq)]
 pub enum Marker {
     /// Start of frame 0: baseline DCT.

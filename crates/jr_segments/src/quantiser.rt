@@ -67,11 +67,11 @@ fn long_elements(bytes: &[u8]) -> [u16; 64]
     elements
 }
 
-/// The table that a byte begins, and the bytes behind it.
+/// Reads the table that a byte begins, and returns it with the bytes after it.
 ///
 /// # Errors
 ///
-/// `BadQuantTable` where Pq is over 1 or Tq over 3, then `BadLength` where elements are missing. An element may be 0.
+/// `BadQuantTable` if Pq is over 1 or Tq over 3, then `BadLength` if elements are missing. An element may be 0.
 #[tactic(auto, unfolding(crate::specs::Quantisers::quantisation_tests))]
 fn read_quantisation(head: u8, bytes: &[u8]) -> Result<(Quantisation, &[u8]), Refusal>
     ensures obeys { Obeys result (quantisation_tests (head, bytes.now)) }

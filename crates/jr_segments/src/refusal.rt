@@ -15,10 +15,10 @@ pub enum Refusal {
     /// The file ends within a marker or a segment, or before the scan.
     #[error("the file ends early")]
     EndsEarly,
-    /// At this offset no byte of a marker stands (B.1.1.2).
+    /// No marker is at this offset (B.1.1.2).
     #[error("expected a marker at byte {0}")]
     ExpectedMarker(u64),
-    /// A marker of this code may not stand before the scan.
+    /// A marker of this code may not occur before the scan.
     #[error("unexpected marker {0:02X}")]
     UnexpectedMarker(u8),
     /// A frame of this marker is not decoded: progressive, lossless, hierarchical or arithmetic.
@@ -54,7 +54,7 @@ pub enum Refusal {
     /// The scan is not that of all coefficients of all components in the frame's order (B.2.3).
     #[error("bad scan header")]
     BadScanHeader,
-    /// SOS stands before any frame header.
+    /// SOS comes before any frame header.
     #[error("a scan before any frame")]
     NoFrame,
     /// A component uses a table that is not defined.

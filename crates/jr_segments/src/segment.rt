@@ -23,14 +23,15 @@ fn fill_count(bytes: &[u8]) -> usize
     bytes.iter().take_while(|b| **b == PREFIX).count()
 }
 
-/// The code of the marker at the front, and the bytes behind it.
+/// Returns the code of the marker that comes first, and the bytes after it.
 ///
-/// A marker is one or more FF and a code other than 0 (T.81, B.1.1.2). `at` is the offset in the file of the first byte.
+/// A marker is one or more FF and a code other than 0 (T.81, B.1.1.2). `at` is the offset in the file of the first
+/// byte.
 ///
 /// # Errors
 ///
-/// `EndsEarly` where the file ends before the code; `ExpectedMarker` with the offset of the first byte that cannot stand
-/// where it does: one that isn't FF at the front, or a 00 behind the FF bytes.
+/// `EndsEarly` if the file ends before the code; `ExpectedMarker` with the offset of the first byte that cannot be
+/// where it is: one that is not FF at the start, or a 00 after the FF bytes.
 #[tactic(auto, unfolding(crate::specs::Segments::marker_tests))]
 fn read_marker(bytes: &[u8], at: u64) -> Result<(u8, &[u8]), Refusal>
     requires { at + length bytes.now < 2 ^ 63 }
@@ -51,13 +52,13 @@ fn read_marker(bytes: &[u8], at: u64) -> Result<(u8, &[u8]), Refusal>
     }
 }
 
-/// The marker of a code, where it may stand before the scan.
+/// Returns the marker of a code, if it may occur before the scan.
 ///
 /// `framed` says whether there was a frame header.
 ///
 /// # Errors
 ///
-/// `NotBaseline` for the frames SOF2 to SOF15, `SecondFrame` for SOF0 or SOF1 behind a frame, `NoFrame` for SOS before
+/// `NotBaseline` for the frames SOF2 to SOF15, `SecondFrame` for SOF0 or SOF1 after a frame, `NoFrame` for SOS before
 /// one, `UnexpectedMarker` for all others that are not DHT, DQT, DRI, APP0 to APP15 or COM.
 #[tactic(auto, unfolding(crate::specs::Segments::code_tests))]
 fn marker_of(code: u8, framed: bool) -> Result<Marker, Refusal>
@@ -80,13 +81,14 @@ fn marker_of(code: u8, framed: bool) -> Result<Marker, Refusal>
     }
 }
 
-/// The payload of a segment, and the bytes behind it.
+/// Returns the payload of a segment, and the bytes after it.
 ///
-/// `body` is what follows the marker: a big-endian length, which counts its own two bytes, and the payload (T.81, B.1.1.4).
+/// `body` is what follows the marker: a big-endian length, which counts its own two bytes, and the payload (T.81,
+/// B.1.1.4).
 ///
 /// # Errors
 ///
-/// `EndsEarly` where the length or the payload goes past the end of the file, `BadLength` for a length under 2.
+/// `EndsEarly` if the length or the payload goes past the end of the file, `BadLength` for a length under 2.
 #[tactic(auto, unfolding(crate::specs::Segments::length_tests))]
 fn read_payload(code: u8, body: &[u8]) -> Result<(&[u8], &[u8]), Refusal>
     ensures obeys { Obeys result (length_tests code body.now) }
@@ -106,7 +108,7 @@ fn read_payload(code: u8, body: &[u8]) -> Result<(&[u8], &[u8]), Refusal>
     Ok((&body[2..len], &body[len..]))
 }
 
-/// A marker segment, and the bytes behind it.
+/// A marker segment, and the bytes after it.
 #[derive(Clone, Copy)]
 pub struct Segment<'a> {
     pub marker: Marker,
@@ -114,7 +116,7 @@ pub struct Segment<'a> {
     pub rest: &'a [u8],
 }
 
-/// The segment at the front. `at` is the offset in the file of its first byte.
+/// Reads the segment that comes first. `at` is the offset in the file of its first byte.
 #[tactic(auto, unfolding(crate::specs::Segments::framing_tests), using(crate::proofs::TestLaws::test_laws))]
 pub fn read_segment(bytes: &[u8], at: u64, framed: bool) -> Result<Segment<'_>, Refusal>
     requires { at + length bytes.now < 2 ^ 63 }

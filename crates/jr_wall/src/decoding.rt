@@ -31,8 +31,8 @@ use std::thread::Threads;
 /// A decoding of a scan's first intervals: the desk that hands them out, the board that keeps the pieces, and the cells
 /// that show them, and of long intervals each strip.
 ///
-/// It is opened, run, and finished. Its threads share it: whoever has a `&Decoding` may look at the board and into the
-/// cells at any moment.
+/// It is opened, run, and finished. Its threads share it: each that has a `&Decoding` may look at the board and into
+/// the cells at any moment.
 #[derive(Drop)]
 pub struct Decoding {
     scan: Arc<Scan>,
@@ -121,8 +121,8 @@ impl Decoding {
         self.strips.get(i as usize)?.as_ref()
     }
 
-    /// Starts a worker at each seat, calls `beside` in the calling thread meanwhile, and returns what that gave, once all
-    /// workers have ended. A worker that can't be started is left out: `finish` decodes what no worker did.
+    /// Starts a worker at each seat, calls `beside` in the calling thread meanwhile, and returns its result once all
+    /// workers have ended. A worker that cannot be started is left out: `finish` decodes what no worker did.
     ///
     /// Long intervals are shared by all workers, a strip at a time.
     pub fn run<R: Threads + Wait + Sync, G: Gate + Sync, T, F: FnOnce(&Decoding) -> T>(
@@ -320,7 +320,8 @@ impl Decoding {
     }
 }
 
-/// `run_with`, where a type stands for the scan, so that what the workers share under locks is known to be of it.
+/// Does what `run_with` does, with a type for the scan, so that what the workers share under locks is known to be of
+/// it.
 fn run_as<
     R: Threads + Wait + Sync,
     G: Gate + Sync,
@@ -349,7 +350,7 @@ fn run_as<
     decoding.run_with(rt, seats, own, gate, &jobs, beside)
 }
 
-/// `work_with`, where a type stands for the scan.
+/// Does what `work_with` does, with a type for the scan.
 fn work_as<R: Wait, G: Gate, S: OneScan>(decoding: &Decoding, rt: &R, seat: &mut Seat, gate: &G)
     requires scan { S.scan ≡ Some decoding.now.scan }
     requires desk { seat.old.desk ≡ decoding.now.desk }

@@ -12,9 +12,9 @@ use jr_paint::Samples;
 use jr_picture::Counts;
 
 impl Board {
-    /// The headline, of this very board: for every component, column and line, an interval marked sound shows the samples
-    /// that T.81 gives for it; one marked damaged has no decoding, and shows its longest decodable front of whole MCUs and
-    /// then grey; every other is blank. The counts equal the marks.
+    /// States the headline of this very board: for every component, column and line, an interval marked sound shows the
+    /// samples that T.81 gives for it; one marked damaged has no decoding, and shows its longest decodable prefix of
+    /// whole MCUs and then grey; every other is blank. The counts equal the marks.
     pub fn headline(&self) -> Counts
         ensures picture { IsPicture self.now.scan (marks_of self.now) (samples_of self.now) }
         ensures counts { AreCounts (marks_of self.now) result.sound result.damaged result.blank }
@@ -30,8 +30,8 @@ impl Board {
     }
 }
 
-/// A picture of a scan is one of each scan with the same head and intervals: so the board that `decode_all` makes of a scan
-/// has the picture of that very scan.
+/// States that an image of a scan is one of each scan with the same header and intervals: so the board that
+/// `decode_all` makes of a scan has the image of that very scan.
 pub fn same_scan_has_the_picture()
     ensures { (s t : ScanValue) (marks : List Mark) (f : ℕ → ℕ → ℕ → ℕ) → IsSameScan s t → IsPicture s marks f → IsPicture t marks f }
 {}

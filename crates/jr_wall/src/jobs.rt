@@ -19,7 +19,7 @@ pub(crate) enum Jobs<S: OneScan> {
     Whole,
 }
 
-/// A job of interval i for so many workers. None where memory is refused.
+/// Opens a job of interval i for `workers` workers. `None` if allocation fails.
 fn job_of<S: OneScan>(alloc: Global, scan: &Scan, i: u32, workers: usize) -> Option<Arc<Job<S>>>
     requires scan { S.scan ≡ Some scan.now }
     requires i { i < length scan.now.intervals }
@@ -28,7 +28,7 @@ fn job_of<S: OneScan>(alloc: Global, scan: &Scan, i: u32, workers: usize) -> Opt
 }
 
 impl<S: OneScan> Jobs<S> {
-    /// Jobs for the intervals that have cells of strips, each for so many workers.
+    /// Opens jobs for the intervals that have cells of strips, each for `workers` workers.
     pub(crate) fn shared(
         alloc: Global,
         scan: &Scan,
@@ -38,7 +38,7 @@ impl<S: OneScan> Jobs<S> {
         requires scan { S.scan ≡ Some scan.now }
         requires strips { length strips.now ≤ length scan.now.intervals }
     {
-        // By its contract an interval's number has room in 32 bits.
+        // By its contract an interval's number fits into 32 bits.
         let _all = scan.intervals();
         let mut jobs = Vec::new(alloc);
         for i in 0..strips.len() {

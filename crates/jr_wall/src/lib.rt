@@ -1,7 +1,7 @@
-//! Pieces of a picture, the board that keeps them, and the workers that fill it.
+//! Pieces of an image, the board that keeps them, and the workers that fill it.
 //!
 //! The headline, that each interval of a board shows what its mark says, is the contract of `Board::headline`; its
-//! definition, `IsPicture`, stands in `jr_picture`.
+//! definition, `IsPicture`, is in `jr_picture`.
 #![tactic(auto)]
 
 mod board;

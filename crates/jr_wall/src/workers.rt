@@ -80,8 +80,8 @@ pub(crate) fn hang(cells: &Cells, piece: &Arc<Piece>, sight: &mut Option<Sight>)
     }
 }
 
-/// Decodes the first intervals of a scan, or all, by so many workers (1 to 64): each of them is marked on the board
-/// that comes back, and no other.
+/// Decodes the first intervals of a scan, or all, with `workers` workers (1 to 64): each of them is marked on the board
+/// that is returned, and no other.
 pub fn decode_all<R: Threads + Wait + Sync, G: Gate + Sync>(
     rt: &R,
     alloc: Global,

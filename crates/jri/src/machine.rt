@@ -41,7 +41,7 @@ pub(crate) fn hold_streams(rt: &HostRuntime) -> [Option<File>; 3] {
     [held_stream(rt), held_stream(rt), held_stream(rt)]
 }
 
-/// An open file, or a part of a picture, which flushing writes to the disk.
+/// An open file, or a part of an image, which flushing writes to the disk.
 #[derive(Drop)]
 pub(crate) struct Opened {
     file: File,

@@ -1,4 +1,4 @@
-//! `jri [--workers N] [--first K] [-o PICTURE] [FILE]`: decodes a JPEG file to a Netpbm picture.
+//! `jri [--workers N] [--first K] [-o PICTURE] [FILE]`: decodes a JPEG file to a Netpbm image.
 #![tactic(auto)]
 
 mod machine;

@@ -1,4 +1,4 @@
-//! libjri: the decoder for C. What each call does for a C caller stands in `jri.h`, and what does it in `jri_memory`.
+//! libjri: the decoder for C. `jri.h` says what each call does for a C caller, and `jri_memory` has what does it.
 //!
 //! No call starts a thread, waits, or keeps anything: calls on different buffers may run at once.
 #![tactic(auto)]
@@ -49,9 +49,9 @@ pub extern "C" fn jri_read_header(alloc: Global, file: &[u8], more: u32, header:
     read_header(alloc, file, more, header)
 }
 
-/// Decodes a file into the front of `pixels`, and its marks into that of `marks`, unless that has no room at all: 0, or 3
-/// where an interval is damaged. With 1 for want of memory, 2 where the file is refused, and 4 where a buffer has too
-/// little room, both are as they were.
+/// Decodes a file into the start of `pixels`, and its marks into that of `marks` unless that is empty. Returns 0, or 3
+/// if an interval is damaged. With 1 if allocation fails, 2 if the file is refused, and 4 if a buffer is too small,
+/// both are unchanged.
 #[unsafe(no_mangle)]
 pub extern "C" fn jri_decode(
     alloc: Global,
@@ -76,9 +76,9 @@ pub extern "C" fn jri_decode(
     decode_file(alloc, file, pixels, marks, report)
 }
 
-/// Decodes `count` lines of a file's picture from line `first` on into the front of `pixels`: 0, or 3 where an interval is
-/// damaged that ends in the rows of MCUs of these lines. With 1 for want of memory, 2 where the file is refused, 4 where
-/// the buffer has too little room, and 5 where the picture has no such lines, it is as it was.
+/// Decodes `count` lines of a file's image starting at line `first` into the start of `pixels`. Returns 0, or 3 if an
+/// interval is damaged that ends in the rows of MCUs of these lines. With 1 if allocation fails, 2 if the file is
+/// refused, 4 if the buffer is too small, and 5 if the image has no such lines, it is unchanged.
 #[unsafe(no_mangle)]
 pub extern "C" fn jri_decode_lines(
     alloc: Global,
@@ -105,8 +105,8 @@ pub extern "C" fn jri_decode_lines(
     decode_lines(alloc, file, first, count, pixels, report)
 }
 
-/// The text of a refusal by its numbers, as much as `text` has room for, with no 0 behind it: how many bytes it has. None
-/// where no refusal has that number.
+/// Writes the text of a refusal by its numbers into `text`, as much as fits, with no 0 after it, and returns its length
+/// in bytes: 0 if no refusal has that number.
 #[unsafe(no_mangle)]
 pub extern "C" fn jri_refusal_text(number: u32, detail: u64, text: &mut [u8]) -> u64
     ensures some { IsNumberOfSome number → 0 < length text.old → 0 < result }
@@ -118,9 +118,9 @@ pub extern "C" fn jri_refusal_text(number: u32, detail: u64, text: &mut [u8]) ->
     refusal_text(number, detail, text) as u64
 }
 
-/// Checks a file: reads each restart interval as a decoder does, makes no picture, and puts the marks into the front of
-/// `marks`, unless that has no room at all: 0, or 3 where an interval is damaged. With 1 for want of memory, 2 where the file is
-/// refused, and 4 where `marks` has too little room, it is as it was.
+/// Checks a file: reads each restart interval as a decoder does, makes no image, and stores the marks at the start of
+/// `marks` unless that is empty. Returns 0, or 3 if an interval is damaged. With 1 if allocation fails, 2 if the file
+/// is refused, and 4 if `marks` is too small, it is unchanged.
 #[unsafe(no_mangle)]
 pub extern "C" fn jri_check(
     alloc: Global,
@@ -143,10 +143,11 @@ pub extern "C" fn jri_check(
     check_marks(alloc, file, marks, report)
 }
 
-/// Decodes the next rows of MCUs of a file's picture from a place on, at most so many, into the front of `pixels`, and moves the
-/// place behind them: as many as have room there, and where more of the file is to come (`more` is not 0) as the bytes settle. It
-/// answers 0 then. With 1 for want of memory, 2 where the file is refused, 4 where the next row has no room, and 5 where the picture
-/// has no row at the place, or none is asked for, pixels and place are as they were.
+/// Decodes the next rows of MCUs of a file's image starting at a position, at most the given number, into the start of
+/// `pixels`, and moves the position past them: as many as fit, and, if more of the file may follow (`more` is not 0),
+/// as the bytes make final. Returns 0 then. With 1 if allocation fails, 2 if the file is refused, 4 if the next row
+/// does not fit, and 5 if the image has no row at the position or none was asked for, pixels and position are
+/// unchanged.
 #[unsafe(no_mangle)]
 pub extern "C" fn jri_decode_rows(
     alloc: Global,
@@ -200,9 +201,10 @@ pub extern "C" fn jri_skip_rows(
     skip_file_rows(alloc, file, more, place, rows, report)
 }
 
-/// Lists the damaged intervals of a file from interval `first` on, whose bytes begin at offset `first_at`, in their order, as many as
-/// `damages` has room for: 3, and `next` and `next_at` of the report say where to go on; or 0 where none is left from there on. 0 and
-/// 0 are the first interval. With 1 for want of memory and 2 where the file is refused `damages` is as it was.
+/// Lists the damaged intervals of a file starting at interval `first`, whose bytes begin at offset `first_at`, in their
+/// order, as many as `damages` holds. Returns 3, and `next` and `next_at` of the report say where to continue; or 0 if
+/// none is left from there. 0 and 0 are the first interval. With 1 if allocation fails and 2 if the file is refused
+/// `damages` is unchanged.
 #[unsafe(no_mangle)]
 pub extern "C" fn jri_list_damage(
     alloc: Global,
@@ -238,7 +240,8 @@ pub extern "C" fn jri_end_text(report: &DecodeReport, text: &mut [u8]) -> u64
     end_text(report, text) as u64
 }
 
-/// The name and the version of the build, as much as `text` has room for, with no 0 behind it: how many bytes it has.
+/// Writes the name and the version of the build into `text`, as much as fits, with no 0 after it, and returns its
+/// length in bytes.
 #[unsafe(no_mangle)]
 pub extern "C" fn jri_build_text(text: &mut [u8]) -> u64
     ensures some { 0 < length text.old → 0 < result }
@@ -249,10 +252,10 @@ pub extern "C" fn jri_build_text(text: &mut [u8]) -> u64
     build_text(text) as u64
 }
 
-/// Decodes a file onto a canvas, line k from byte `k * stride` on, in the layout of this number, and its marks into the front of
-/// `marks`, unless that has no room at all: 0, or 3 where an interval is damaged. With 1 for want of memory, 2 where the file is
-/// refused, 4 where a buffer has too little room, and 6 where there is no such layout or a line is longer than the stride, both
-/// are as they were.
+/// Decodes a file onto a canvas, line k starting at byte `k * stride`, in the layout of this number, and its marks into
+/// the start of `marks` unless that is empty. Returns 0, or 3 if an interval is damaged. With 1 if allocation fails, 2
+/// if the file is refused, 4 if a buffer is too small, and 6 if there is no such layout or a line is longer than the
+/// stride, both are unchanged.
 #[unsafe(no_mangle)]
 pub extern "C" fn jri_decode_canvas(
     alloc: Global,
@@ -282,8 +285,8 @@ pub extern "C" fn jri_decode_canvas(
     decode_canvas(alloc, file, canvas, stride, layout, marks, report)
 }
 
-/// Lays out lines that stand one behind the other, line k from byte `k * stride` of the canvas on: 0. With 4 where the canvas has
-/// too little room, and 6 where there are no such lines or no such layout, it is as it was.
+/// Lays out consecutive lines, line k starting at byte `k * stride` of the canvas. Returns 0. With 4 if the canvas is
+/// too small, and 6 if there are no such lines or no such layout, it is unchanged.
 #[unsafe(no_mangle)]
 pub extern "C" fn jri_lay_out(
     lines: &[u8],

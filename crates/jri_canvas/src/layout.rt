@@ -12,7 +12,7 @@ pub enum Pixels {
     Colour,
 }
 
-/// In which order the bytes of a colour stand; a grey is its own red, green and blue.
+/// The order of the bytes of a colour; a grey is its own red, green and blue.
 #[derive(Clone, Copy)]
 pub enum Order {
     /// Red, green, blue.

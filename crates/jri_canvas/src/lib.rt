@@ -1,4 +1,4 @@
-//! Lines of pixels laid out on a canvas: in the order of bytes that a caller's picture has, each where its stride says.
+//! Lines of pixels laid out on a canvas: in the order of bytes that a caller's image has, each where its stride says.
 #![tactic(auto)]
 
 mod layout;

@@ -22,7 +22,7 @@ fn spread_to_three(line: &[u8], out: &mut [u8])
     }
 }
 
-/// Each byte of grey behind those that are done three times, and 255.
+/// Writes each byte of grey after those that are done three times, and 255.
 fn spread_rest_to_four(line: &[u8], done: usize, out: &mut [u8])
     requires room { length out.old ≡ 4 * length line.now }
     requires few { done ≤ length line.now }
@@ -57,7 +57,7 @@ fn copy_three(line: &[u8], width: usize, out: &mut [u8])
     out.copy_from_slice(line);
 }
 
-/// Blue, green and red of the pixels behind those that are done.
+/// Writes blue, green and red of the pixels after those that are done.
 fn turn_rest(line: &[u8], done: usize, width: usize, out: &mut [u8])
     requires line { length line.now ≡ 3 * width }
     requires room { length out.old ≡ 3 * width }
@@ -82,7 +82,7 @@ fn turn_three(line: &[u8], width: usize, out: &mut [u8])
     turn_rest(line, done, width, out);
 }
 
-/// Red, green and blue of the pixels behind those that are done, and 255.
+/// Writes red, green and blue of the pixels after those that are done, and 255.
 fn copy_rest_to_four(line: &[u8], done: usize, width: usize, out: &mut [u8])
     requires line { length line.now ≡ 3 * width }
     requires room { length out.old ≡ 4 * width }
@@ -108,7 +108,7 @@ fn copy_to_four(line: &[u8], width: usize, out: &mut [u8])
     copy_rest_to_four(line, done, width, out);
 }
 
-/// Blue, green and red of the pixels behind those that are done, and 255.
+/// Writes blue, green and red of the pixels after those that are done, and 255.
 fn turn_rest_to_four(line: &[u8], done: usize, width: usize, out: &mut [u8])
     requires line { length line.now ≡ 3 * width }
     requires room { length out.old ≡ 4 * width }
@@ -134,7 +134,7 @@ fn turn_to_four(line: &[u8], width: usize, out: &mut [u8])
     turn_rest_to_four(line, done, width, out);
 }
 
-/// Lays out a line of so many pixels.
+/// Lays out a line of `width` pixels.
 pub fn lay_line(line: &[u8], width: usize, pixels: Pixels, layout: Layout, out: &mut [u8])
     requires line { length line.now ≡ sample_count pixels * width }
     requires room { length out.old ≡ laid_size layout pixels * width }

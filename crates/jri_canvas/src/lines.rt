@@ -65,8 +65,7 @@ fn lay_at(line: &[u8], form: &CanvasLines, number: usize, canvas: &mut [u8])
     );
 }
 
-/// Lays out `count` lines, which stand one behind the other, as lines `first` and the next of a canvas, each at its number times
-/// the stride.
+/// Lays out `count` consecutive lines as lines `first` and the next of a canvas, each at its number times the stride.
 pub fn lay_lines(lines: &[u8], form: &CanvasLines, first: u32, count: usize, canvas: &mut [u8])
     requires few { count ≤ length lines.now }
     requires lines { length lines.now ≡ count * plain_line_size form.now }

@@ -52,14 +52,14 @@ fn spread_with_fourth(bytes: u8x16) -> u8x64
     )
 }
 
-/// Lays out blue, green and red of the first pixels, five at a time: answers how many.
+/// Lays out blue, green and red of the first pixels, five at a time. Returns their number.
 pub(crate) fn turn_by_fives(line: &[u8], width: usize, out: &mut [u8]) -> usize
     requires line { length line.now ≡ 3 * width }
     requires room { length out.old ≡ 3 * width }
     ensures few { result ≤ width }
     ensures front { take (3 * result) out.new ≡ coloured order.Bgr pixels.Colour line.now result }
 {
-    // A vector reads and writes a byte behind its five pixels.
+    // A vector reads and writes a byte past its five pixels.
     let count = width.saturating_sub(1) / 5;
     for n in 0..count {
         let bytes = u8x16::from_slice(&line[15 * n..]);
@@ -68,14 +68,14 @@ pub(crate) fn turn_by_fives(line: &[u8], width: usize, out: &mut [u8]) -> usize
     5 * count
 }
 
-/// Lays out red, green, blue and 255 of the first pixels, four at a time: answers how many.
+/// Lays out red, green, blue and 255 of the first pixels, four at a time. Returns their number.
 pub(crate) fn copy_by_fours(line: &[u8], width: usize, out: &mut [u8]) -> usize
     requires line { length line.now ≡ 3 * width }
     requires room { length out.old ≡ 4 * width }
     ensures few { result ≤ width }
     ensures front { take (4 * result) out.new ≡ coloured order.Rgbx pixels.Colour line.now result }
 {
-    // A vector reads four bytes behind its four pixels.
+    // A vector reads four bytes past its four pixels.
     let count = width.saturating_sub(2) / 4;
     for n in 0..count {
         let bytes = u8x16::from_slice(&line[12 * n..]);
@@ -84,14 +84,14 @@ pub(crate) fn copy_by_fours(line: &[u8], width: usize, out: &mut [u8]) -> usize
     4 * count
 }
 
-/// Lays out blue, green, red and 255 of the first pixels, four at a time: answers how many.
+/// Lays out blue, green, red and 255 of the first pixels, four at a time. Returns their number.
 pub(crate) fn turn_by_fours(line: &[u8], width: usize, out: &mut [u8]) -> usize
     requires line { length line.now ≡ 3 * width }
     requires room { length out.old ≡ 4 * width }
     ensures few { result ≤ width }
     ensures front { take (4 * result) out.new ≡ coloured order.Bgrx pixels.Colour line.now result }
 {
-    // A vector reads four bytes behind its four pixels.
+    // A vector reads four bytes past its four pixels.
     let count = width.saturating_sub(2) / 4;
     for n in 0..count {
         let bytes = u8x16::from_slice(&line[12 * n..]);
@@ -100,7 +100,7 @@ pub(crate) fn turn_by_fours(line: &[u8], width: usize, out: &mut [u8]) -> usize
     4 * count
 }
 
-/// Lays out the first bytes of grey three times each, and 255, sixteen at a time: answers how many.
+/// Lays out the first bytes of grey three times each, and 255, sixteen at a time. Returns their number.
 pub(crate) fn spread_by_sixteens(line: &[u8], out: &mut [u8]) -> usize
     requires { length out.old ≡ 4 * length line.now }
     ensures few { result ≤ length line.now }

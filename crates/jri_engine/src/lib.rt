@@ -1,4 +1,5 @@
-//! Bytes of a JPEG file in, a picture's text and a report out; and the program that does so for the words of its command line.
+//! From the bytes of a JPEG file to an image's text and a report; and the program that does so for the arguments of its
+//! command line.
 #![tactic(auto)]
 
 mod ended;

@@ -52,7 +52,7 @@ fn decode<T: Threads + Wait + Sync, R: Read + Drop, W: Write + Drop>(
     Ending { outcome, reason }
 }
 
-/// Decodes a source into a file, which gets its name once the picture is whole, and is otherwise unchanged.
+/// Decodes a source into a file, which gets its name once the image is whole, and is otherwise unchanged.
 fn decode_to_file<T: Threads + Wait + Sync, D: Devices, R: Read + Drop>(
     rt: &T,
     alloc: Global,
@@ -80,8 +80,8 @@ fn decode_to_file<T: Threads + Wait + Sync, D: Devices, R: Read + Drop>(
     place(devices, ending, part.name.as_str(), name)
 }
 
-/// Does what the program's arguments ask for on these devices, and reports it. The status is 0, or 3 where an interval is
-/// damaged, if the picture is written; 2 for a refused file and wrong arguments; 1 for devices and memory.
+/// Does what the program's arguments ask for on these devices, and reports it. The status is 0, or 3 if an interval is
+/// damaged, if the image is written; 2 for a refused file and wrong arguments; 1 for devices and memory.
 pub fn program<T: Threads + Wait + Sync, D: Devices, E: Write>(
     rt: &T,
     alloc: Global,

@@ -40,7 +40,7 @@ fn scan_of_bytes(alloc: Global, file: Vec<u8>) -> Result<Arc<Scan>, Fault>
     }
 }
 
-/// The scan of a file whose head stands in the first bytes, those that are read: the others are cut while they are read.
+/// Cuts the scan of a file whose header is in the first bytes, those that are read, while the others are read.
 fn cut_while_read<R: Read>(
     alloc: Global,
     input: &mut Tally<R>,
@@ -71,8 +71,8 @@ fn cut_while_read<R: Read>(
     }
 }
 
-/// Reads the whole input: the scan of the file, or its fault. Where the first part has the head, the scan is cut while the others
-/// come.
+/// Reads the whole input, and returns the scan of the file or its fault. If the first part has the header, the scan is
+/// cut while the rest comes.
 pub fn read_scan<R: Read>(alloc: Global, input: &mut Tally<R>) -> Result<Arc<Scan>, Fault>
     requires { has_failed input.old ≡ false }
     ensures scan { IfOk result (λ scan. OfFile (known_in R.remaining input.old) (λ file. IsScanOfFile file (arc_value scan))) }

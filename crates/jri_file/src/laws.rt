@@ -10,8 +10,8 @@ ghost use Rattle.jri_file.specs.Files.{HasPicture, HasPictureOf, IsPictureOf};
 
 use jr_head::Head;
 
-/// The bytes of a file and the number of its first intervals settle all that a run writes: the scan, the marks and the
-/// picture's text are one, for every number of workers and every order of their work.
+/// States that the bytes of a file and the number of its first intervals fix all that a run writes: the scan, the marks
+/// and the image's text are one, for every number of workers and every order of their work.
 pub fn one_text()
     ensures { (file : List ℕ) (first : Option ℕ) (s t : ScanValue) (k m : List Mark) (f g : ℕ → ℕ → ℕ → ℕ) → All (λ b. b < 256) file
         → IsPictureOf file first s k f → IsPictureOf file first t m g → (s ≡ t) × (k ≡ m) × (text_of s.head f ≡ text_of t.head g) }
@@ -23,7 +23,8 @@ pub fn each_scan_has_a_picture()
     ensures { (scan : ScanValue) (n : ℕ) → IsLawful scan.head → n ≤ length scan.intervals → HasPicture scan n }
 {}
 
-/// A file with an accepted head has an image for each number of first intervals; by `one_text` its text is the only one.
+/// States that a file with an accepted header has an image for each number of first intervals; by `one_text` its text
+/// is the only one.
 pub fn each_accepted_file_has_a_picture(head: &Head)
     ensures { (file : List ℕ) (first : Option ℕ) → All (λ b. b < 256) file → HeadOf file head.now → HasPictureOf file first }
 {

@@ -23,7 +23,7 @@ pub(crate) const PART: usize = 65_536;
 /// The most bytes that the first reads take: `PART` of them are enough.
 pub(crate) const MAX_FIRST: usize = 2 * PART;
 
-/// Asks the input for some bytes: answers how many there are, none at its end.
+/// Reads some bytes of the input. Returns their number, 0 at its end.
 fn read_part<R: Read>(input: &mut Tally<R>, part: &mut [u8]) -> Result<usize, Fault>
     requires { has_failed input.old ≡ false }
     ensures within { ReadsAtMost result part.new }
@@ -73,8 +73,8 @@ pub(crate) fn read_more<R: Read>(
     Ok(())
 }
 
-/// Cuts on a scan of which so many bytes of the file have come, while the others are read: to the file's end, or until they are one
-/// more than a file may have. Answers how many have come.
+/// Cuts the scan of a file of which `count` bytes have come, while the others are read: to the file's end, or until
+/// they are one more than a file may have. Returns the number of bytes that have come.
 pub(crate) fn cut_on<R: Read>(
     input: &mut Tally<R>,
     scan: &mut GrowingScan,

@@ -18,7 +18,7 @@ pub struct Report {
     pub ended: ScanEnd,
 }
 
-/// Why no whole picture was written.
+/// The reason why no whole image was written.
 #[derive(Clone, Copy, PartialEq, Eq)]
 pub enum Fault {
     /// The input could not be read.
@@ -27,7 +27,7 @@ pub enum Fault {
     Refused(Refusal),
     /// Memory ran out.
     Memory,
-    /// The picture could not be written; a beginning of it was.
+    /// The image could not be written; a beginning of it was.
     Write,
     /// The file could not be opened.
     NoFile,

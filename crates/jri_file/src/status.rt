@@ -18,7 +18,7 @@ impl Fault {
 }
 
 impl Report {
-    /// The exit status of a picture that was written: 3 where an interval is damaged, else 0.
+    /// Returns the exit status of an image that was written: 3 if an interval is damaged, otherwise 0.
     pub fn status(&self) -> u8
         ensures { result ≡ report_status self.now false }
     {
