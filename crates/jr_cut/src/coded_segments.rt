@@ -20,7 +20,7 @@ pub struct CodedSegments {
     pub ended: ScanEnd,
 }
 
-/// Cuts the bytes of a scan, which begins at offset `at` of the file.
+/// Cuts the bytes of a scan, which begins at offset `start` of the file.
 pub fn cut(
     alloc: Global,
     intervals: u32,

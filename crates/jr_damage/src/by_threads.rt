@@ -110,7 +110,7 @@ fn check_as<R: Threads + Wait + Sync, S: OneScan + Send>(
     }
 }
 
-/// Does what `check_scan` does, with at most `threads` threads if the scan is large: the calling one reads it, the
+/// Does what `check_scan` does, with at most `workers` threads if the scan is large: the calling one reads it, the
 /// others read ahead speculatively. They allocate for four speculative reads and one more for each of them, each of
 /// some 400 KB: the blocks of 3072 data units at most, and where their MCUs start. If allocation fails they make fewer.
 pub fn check_scan_by<R: Threads + Wait + Sync>(

@@ -34,7 +34,7 @@ pub(crate) fn step_of(head: &Head) -> u32
     (UNITS_OF_STEP / (head.order().len() as u32).max(1)).max(1)
 }
 
-/// Skips the next MCUs of interval i, at most `most`, by the speculative reads that other threads make of them. Returns
+/// Skips the next MCUs of interval i, at most `mcus`, by the speculative reads that other threads make of them. Returns
 /// their number.
 fn pass_some<'a, R: Wait, S: OneScan>(
     scan: &SharedScan<'a, S>,

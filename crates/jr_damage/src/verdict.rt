@@ -69,7 +69,7 @@ pub fn check_scan(scan: &Scan) -> Verdict
     verdict
 }
 
-/// Does what `check` does, by the speculative reads that other threads make of the scan.
+/// Does what `check_scan` does, by the speculative reads that other threads make of the scan.
 pub(crate) fn check_by<R: Wait, S: OneScan>(scan: &SharedScan<'_, S>, rt: &R) -> Verdict
     ensures { IsVerdictOf scan.now (length scan.now.intervals) result }
 {

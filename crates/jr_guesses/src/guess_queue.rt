@@ -54,7 +54,7 @@ pub struct GuessQueue<S: OneScan> {
 }
 
 impl<S: OneScan> GuessQueue<S> {
-    /// Opens a queue of at most `count` speculative reads of the first `limit` intervals, for which threads bring
+    /// Opens a queue of at most `guesses` speculative reads of the first `limit` intervals, for which threads bring
     /// buffers of `most` MCUs each. The reader is at the start, and its steps are of `step` MCUs. A speculative read
     /// has about the bits of one step, so its buffer holds more.
     ///

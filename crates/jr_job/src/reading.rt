@@ -53,7 +53,7 @@ pub(crate) enum Next {
     End(End),
 }
 
-/// Reads the next strip of `mcus` MCUs, or skips it by speculative reads if there are some. `None` if no whole MCU
+/// Reads the next strip of `each` MCUs, or skips it by speculative reads if there are some. `None` if no whole MCU
 /// follows.
 fn next_strip(
     alloc: Global,

@@ -18,8 +18,8 @@ use crate::mcu_reader::McuReader;
 use crate::place::Place;
 use jr_base::Coefficients;
 
-/// Takes over from a speculative read the MCUs that continue from a position, starting at its MCU `at`, as many as
-/// `blocks` holds. Moves past them and returns their number.
+/// Takes over from a speculative read the MCUs that continue from a position, starting at its MCU `at`, at most `most`.
+/// Moves past them and returns their number.
 fn put_mcus(
     guess: &Guess,
     interval: &IntervalRef<'_>,

@@ -73,7 +73,7 @@ pub(crate) fn read_more<R: Read>(
     Ok(())
 }
 
-/// Cuts the scan of a file of which `count` bytes have come, while the others are read: to the file's end, or until
+/// Cuts the scan of a file of which `before` bytes have come, while the others are read: to the file's end, or until
 /// they are one more than a file may have. Returns the number of bytes that have come.
 pub(crate) fn cut_on<R: Read>(
     input: &mut Tally<R>,
