@@ -96,7 +96,7 @@ fn mcus_of_guess(scan: &Scan) -> u32 {
     }
 }
 
-/// Opens a queue of at most `count` speculative reads. A step of the reader is a row of MCUs.
+/// Opens a queue of at most `guesses` speculative reads. A step of the reader is a row of MCUs.
 fn open_guesses<S: OneFirstIntervals>(
     alloc: Global,
     part: &FirstIntervals<'_>,
