@@ -1,5 +1,5 @@
 -- The top is a place, and a place stays one.
-use Rattle.std.proofs.Common.{◌≡◌, ℕ, ◌+◌, ◌-◌, ◌≤◌, List, [], ◌++◌, length, replicate, drop, map, refl, sym, ap, subst, ◌∙◌, length-append, arith}
+use Rattle.std.proofs.Common.{◌≡◌, ℕ, ◌-◌, ◌≤◌, List, [], ◌++◌, length, replicate, drop, map, refl, sym, ap, subst, ◌∙◌, length-append, arith}
 use Rattle.jr_cut.specs.Cut.{CodedSegment, CutFrom, IsRaw}
 use Rattle.jr_cut.proofs.CutLaw.{one_cut}
 use Rattle.jr_cut.proofs.Cuts.{raw_none}

@@ -5,6 +5,7 @@ pub mod CutsGoOn
 pub mod GivenPlaces
 pub mod Going
 pub mod HeadsStay
+pub mod Knowing
 pub mod LinesOfPictures
 pub mod LinesStay
 pub mod Longest

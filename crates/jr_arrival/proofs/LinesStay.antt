@@ -29,7 +29,8 @@ use Rattle.jr_rows.proofs.PictureLines.{row_of}
 use Rattle.jr_arrival.specs.More.{with_more}
 use Rattle.jr_arrival.proofs.MoreData.{front_is_final}
 use Rattle.jr_arrival.specs.Arrival.{CanBecome}
-use Rattle.jr_arrival.specs.Growing.{HasScan, HasEndedAt, KeepsScan, IsSettled, RowIsSettled, lines_of_row}
+use Rattle.jr_arrival.specs.Growing.{HasScan, HasEndedAt, IsNeverWhole, KeepsScan, IsSettled, RowIsSettled, lines_of_row}
+use Rattle.jr_arrival.proofs.Knowing.{never_stays, same_longest, same_rest}
 use Rattle.jr_arrival.proofs.ScansGoOn.{interval_is, scan_is_final}
 
 -- ---- one interval
@@ -58,6 +59,19 @@ front_shown i f Sound not_blank p k zs front c x y held lt =
 front_shown i f Damaged not_blank p k zs front c x y held lt =
     let b = front_begins i p.front k p.blocks zs (p.longest.longest k zs front) p.longest.front front (unit_number i.head (spot_of i.head c x y)) lt in
     p.within c x y held b.0 ∙ ap (sample_by i c x y) b.1
+
+-- and grey at an MCU that never becomes whole
+never_shown : (i : IntervalValue) (f : ℕ → ℕ → ℕ → ℕ) (m : Mark) → m ≢ Blank → Shows m i f → (mcu : ℕ) → IsNeverWhole i mcu → (c x y : ℕ) → Holds i c x y
+    → mcu * length (order_of i.head) ≤ unit_number i.head (spot_of i.head c x y) → f c x y ≡ 128
+never_shown i f Blank not_blank p mcu n c x y held le = absurd (not_blank refl)
+never_shown i f Sound not_blank p mcu n c x y held le =
+    let all : Front i i.mcus p.blocks = record { at_most = omega arith; taken = p.decodes.taken; rest = p.decodes.padding; mcus = p.decodes.mcus; spelled = p.decodes.spelled } in
+    let count : n.front ≡ i.mcus = omega (arith, n.longest.longest i.mcus p.blocks all, n.longest.front.at_most) in
+    absurd (omega (arith, n.long, p.decodes.short, ap length (same_rest i n.front i.mcus n.blocks p.blocks count n.longest.front all)))
+never_shown i f Damaged not_blank p mcu n c x y held le =
+    let count : p.front ≡ n.front = same_longest i p.front n.front p.blocks n.blocks p.longest n.longest in
+    let past : p.front * length (order_of i.head) ≤ mcu * length (order_of i.head) = mul-le-mul_right (length (order_of i.head)) (omega (arith, count, n.few)) in
+    p.behind c x y held (omega (arith, p.longest.front.mcus.0, past, le))
 
 -- ---- two pictures
 
@@ -105,11 +119,35 @@ module _ (bytes : List ℕ) (s t : ScanValue) (n : ℕ) (k m : List Mark) (f g :
             p c x y held ∙ sym (q c x y held')
       ]
 
+  -- both pictures are grey, or blank, at an MCU that never becomes whole
+  never_sample : (c x y : ℕ) → Holds (interval_of s (interval_number h (spot_of h c x y).mcu)) c x y
+      → IsNeverWhole (interval_of s (interval_number h (spot_of h c x y).mcu)) (within_interval h (spot_of h c x y).mcu) → f c x y ≡ g c x y
+  never_sample c x y held never =
+      let spot = spot_of h c x y in
+      let i = interval_number h spot.mcu in
+      let mcu = within_interval h spot.mcu in
+      let d = keeps.so_far i in
+      let longer = with_more (interval_of s i) d.0 in
+      let there = subst (λ (v : IntervalValue). Shows (mark_in m i) v g) (interval_more s t i d.0 keeps.head d.1) (b.picture.each i) in
+      let per : length (order_of h) ≡ blocks_of h = length-order 0 h.components in
+      let before : mcu * length (order_of h) ≡ mcu * blocks_of h = ap (λ (p : ℕ). mcu * p) per in
+      let past : mcu * length (order_of h) ≤ unit_number h spot = omega (arith, before) in
+      let held' : Holds longer c x y = record { component = held.component; column = held.column; line = held.line; interval = held.interval } in
+      elim (cases_lt i n) [
+        | inl l ↦
+            never_shown (interval_of s i) f (mark_in k i) (a.first.marked i l) (a.picture.each i) mcu never c x y held past
+            ∙ sym (never_shown longer g (mark_in m i) (b.first.marked i l) there mcu (never_stays (interval_of s i) d.0 mcu a.lawful never) c x y held' past)
+        | inr r ↦
+            let p = subst (λ (w : Mark). Shows w (interval_of s i) f) (a.first.blank i r) (a.picture.each i) in
+            let q = subst (λ (w : Mark). Shows w longer g) (b.first.blank i r) there in
+            p c x y held ∙ sym (q c x y held')
+      ]
+
   settled_sample : (c x y : ℕ) → c < components_of h → x < samples_across h c → y < samples_down h c → IsSettled bytes s (spot_of h c x y).mcu → f c x y ≡ g c x y
   settled_sample c x y lt left top settled =
       let i = interval_of s (interval_number h (spot_of h c x y).mcu) in
       let held : Holds i c x y = record { component = lt; column = left; line = top; interval = refl } in
-      elim settled [ inl e ↦ ended_sample c x y held e | inr w ↦ front_sample c x y w.0 held w.1 ]
+      elim settled [ inl e ↦ ended_sample c x y held e | inr known ↦ elim known [ inl w ↦ front_sample c x y w.0 held w.1 | inr never ↦ never_sample c x y held never ] ]
 
   -- the row of MCUs that has a line is settled
   abbrev LineIsSettled : ℕ → Type 0

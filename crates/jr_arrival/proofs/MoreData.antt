@@ -13,7 +13,7 @@ use Rattle.jr_scan.specs.Mcus.{Front}
 use Rattle.jr_scan.specs.Run.{EndsAs, IsRun, RunOf, left_at}
 use Rattle.jr_arrival.specs.More.{run_with_more, with_more}
 
-bits_more : (bytes more : List ℕ) → bits (bytes ++ more) ≡ bits bytes ++ bits more
+pub bits_more : (bytes more : List ℕ) → bits (bytes ++ more) ≡ bits bytes ++ bits more
 bits_more bytes more = flat_map-append (bits_of 8) bytes more
 
 pub front_is_final : (i : IntervalValue) (more : List ℕ) (k : ℕ) (zs : List (List ℤ)) → Front i k zs → Front (with_more i more) k zs

@@ -13,53 +13,58 @@ use Rattle.jr_cut.specs.declared.scan_end.ScanEnd.{ScanEnd}
 use Rattle.jr_cut.specs.declared.scan_end.ScanEnd.TheVariants.{EndOfFile, EndOfImage, OtherMarker, OutOfStep, ExtraRestart}
 use Rattle.jr_scan.specs.declared.place.Place.{Place}
 use Rattle.jr_scan.specs.GrowingScan.{GrowingScanValue, HasCome}
-use Rattle.jr_scan.specs.Mcus.{HasLongestFront}
 use Rattle.jr_scan.specs.ScanValue.{ScanValue, interval_of, intervals_of, mcus_in}
-use Rattle.jr_code.proofs.CodeLemmas.{one_word}
-use Rattle.jr_scan.proofs.LongestFronts.{longest_front}
 use Rattle.jr_scan.proofs.McuReaders.{front_of_run}
 use Rattle.jr_rows.specs.Rows.{first_line}
 use Rattle.jr_rows.proofs.PictureRows.{row_inside}
 use Rattle.jr_arrival.specs.Coming.{ComingRowValue, HasNoMore, IsComing, ReadsTo}
 use Rattle.jr_arrival.specs.Growing.{IsOver}
 use Rattle.jr_arrival.specs.Settled.{GivesSettled, HasRows}
+use Rattle.jr_arrival.proofs.Knowing.{IsLimit, front_few, limit_of, never_few, not_known}
 use Rattle.jr_arrival.proofs.SettledRows.{before_later, has_rows}
 
--- ---- no MCU is read behind the whole ones of the interval that has begun last
+-- ---- no MCU is read past those that are settled of the interval that has begun last
 
 -- which is not over
 is_open : (part : GrowingScanValue) (i : ℕ) → part.scan.ended ≡ EndOfFile → i + 1 ≡ part.segments → IsOver part.scan part.segments i → ⊥
 is_open part i end last (inl n) = n end
 is_open part i end last (inr lt) = absurd (omega (arith, lt, last))
 
-read_few : (part : GrowingScanValue) (number mcu front : ℕ) (place : Option Place) → (IsOver part.scan part.segments number → ⊥) → mcu ≤ mcus_in part.scan.head number → ReadsTo part number mcu place → HasLongestFront (interval_of part.scan number) front → mcu ≤ front
-read_few part number mcu front (Some p) going few r far = far.1.longest mcu r.0 (front_of_run (interval_of part.scan number) mcu r.0 p r.1.run few)
-read_few part number mcu front None going few r far = absurd (going r.0)
+read_few : (part : GrowingScanValue) (number mcu limit : ℕ) (place : Option Place) → (IsOver part.scan part.segments number → ⊥) → mcu ≤ mcus_in part.scan.head number → ReadsTo part number mcu place → IsLimit (interval_of part.scan number) limit → mcu ≤ limit
+read_few part number mcu limit (Some p) going few r l = front_few (interval_of part.scan number) limit mcu r.0 l (front_of_run (interval_of part.scan number) mcu r.0 p r.1.run few)
+read_few part number mcu limit None going few r l = elim r.3.final [
+  | inl over ↦ absurd (going over)
+  | inr long ↦ never_few (interval_of part.scan number) limit mcu l few r.0 r.1 r.3.longest long
+]
 
-module _ (part : GrowingScanValue) (v : ComingRowValue) (i front : ℕ) (c : IsComing part v) (end : part.scan.ended ≡ EndOfFile) (last : i + 1 ≡ part.segments) (far : HasLongestFront (interval_of part.scan i) front) where
+module _ (part : GrowingScanValue) (v : ComingRowValue) (i limit : ℕ) (c : IsComing part v) (end : part.scan.ended ≡ EndOfFile) (last : i + 1 ≡ part.segments) (far : IsLimit (interval_of part.scan i) limit) where
   abbrev h : HeadValue
   h = part.scan.head
 
   not_later : v.number ≤ i
   not_later = elim (cases_lt i v.number) [ inl l ↦ absurd (is_open part i end last (c.begun i l)) | inr k ↦ k ]
 
-  reaches : i < intervals_of h → v.number * h.restart + v.mcu ≤ first_mcu_of h i + front
+  reaches : i < intervals_of h → v.number * h.restart + v.mcu ≤ first_mcu_of h i + limit
   reaches few = elim (cases_lt v.number i) [
     | inl l ↦ let le = before_later h v.number i v.mcu l few c.stands.few in omega (arith, le)
     | inr g ↦
         let same : i ≡ v.number = omega (arith, g, not_later) in
-        let there : HasLongestFront (interval_of part.scan v.number) front = subst (λ (n : ℕ). HasLongestFront (interval_of part.scan n) front) same far in
-        let le = read_few part v.number v.mcu front v.place (is_open part v.number end (omega (arith, same, last))) c.stands.few c.reads there in
+        let there : IsLimit (interval_of part.scan v.number) limit = subst (λ (n : ℕ). IsLimit (interval_of part.scan n) limit) same far in
+        let le = read_few part v.number v.mcu limit v.place (is_open part v.number end (omega (arith, same, last))) c.stands.few c.reads there in
         omega (arith, le, ap (λ (n : ℕ). n * h.restart) same)
   ]
 
-  -- where no further MCU is there, they are all read
-  all_read_there : HasNoMore part v → v.number * h.restart + v.mcu ≡ first_mcu_of h i + front
+  -- where no further MCU is settled, all that are have been read
+  all_read_there : HasNoMore part v → v.number * h.restart + v.mcu ≡ first_mcu_of h i + limit
   all_read_there none =
-      let same : i ≡ v.number = elim (cases_lt v.number i) [ inl l ↦ absurd (none.0 (inr (omega (arith, l, last)))) | inr k ↦ omega (arith, k, not_later) ] in
-      let there : HasLongestFront (interval_of part.scan v.number) front = subst (λ (n : ℕ). HasLongestFront (interval_of part.scan n) front) same far in
-      let count : v.mcu ≡ front = omega (arith, none.1.1.longest front there.0 there.1.front, there.1.longest v.mcu none.1.0 none.1.1.front) in
-      omega (arith, count, ap (λ (n : ℕ). n * h.restart) same)
+      let same : i ≡ v.number = elim (cases_lt v.number i) [ inl l ↦ absurd (none.going (inr (omega (arith, l, last)))) | inr k ↦ omega (arith, k, not_later) ] in
+      let there : IsLimit (interval_of part.scan v.number) limit = subst (λ (n : ℕ). IsLimit (interval_of part.scan n) limit) same far in
+      let few = read_few part v.number v.mcu limit v.place none.going c.stands.few c.reads there in
+      let most : limit ≤ v.mcu = elim none.next [
+        | inl all ↦ omega (arith, all, there.few)
+        | inr grows ↦ elim (cases_lt v.mcu limit) [ inl l ↦ absurd (not_known (interval_of part.scan v.number) v.mcu grows (there.before v.mcu l)) | inr g ↦ g ]
+      ] in
+      omega (arith, few, most, ap (λ (n : ℕ). n * h.restart) same)
 
 -- ---- the lines that a look gives
 
@@ -118,20 +123,20 @@ module _ (part : GrowingScanValue) (v : ComingRowValue) (lawful : IsLawful part.
   }
 
   module _ (bytes : List ℕ) (come : HasCome part bytes) (room : ℕ) (some : 0 < mcus_across s.head) (is : most ≡ room / line_size s.head) where
-    settled_coming : (i front : ℕ) → s.ended ≡ EndOfFile → i + 1 ≡ part.segments → i < intervals_of s.head → HasLongestFront (interval_of s i) front → GivesSettled bytes s first n room
-    settled_coming i front end last inside far =
+    settled_coming : (i limit : ℕ) → s.ended ≡ EndOfFile → i + 1 ≡ part.segments → i < intervals_of s.head → IsLimit (interval_of s i) limit → GivesSettled bytes s first n room
+    settled_coming i limit end last inside far =
         let across = mcus_across s.head in
         let place = v.row * across + v.done in
-        let all = first_mcu_of s.head i + front in
+        let all = first_mcu_of s.head i + limit in
         let rows = all / across in
         let mcus : 0 < mcus_of s.head = omega (arith, some, row_inside s.head v.row c.stands.row) in
-        let has = has_rows bytes s come.scan i end (omega (arith, last, come.segments)) inside front far lawful some mcus in
-        let le = reaches part v i front c end last far inside in
+        let has = has_rows bytes s come.scan i end (omega (arith, last, come.segments)) inside limit far lawful some mcus in
+        let le = reaches part v i limit c end last far inside in
         let few = lines_few rows (le-div (place / across) all across some (omega (arith, le, c.stands.at, div-mul-le_self place across))) some in
         gives bytes rows room is has few
         (λ lt.
         let none = looked.all lt in
-        let at : all ≡ place = sym (all_read_there part v i front c end last far none.0) ∙ c.stands.at in
+        let at : all ≡ place = sym (all_read_there part v i limit c end last far none.0) ∙ c.stands.at in
         let row : rows ≡ v.row = ap (λ (k : ℕ). k / across) at ∙ div-mul-add v.row across v.done none.1 in
         omega (arith, c.given.none none.1, row_high, ap (λ (k : ℕ). k * deep) row))
 
@@ -142,10 +147,10 @@ module _ (part : GrowingScanValue) (v : ComingRowValue) (lawful : IsLawful part.
           | inr g ↦ g
         ] in
         let has : HasRows bytes s (mcus_down s.head) = record { few = omega arith; settled = λ row lt m from to. inl (come.scan, inl ended); next = λ lt. absurd (omega (arith, lt)) } in
-        gives bytes (mcus_down s.head) room is has (omega (arith, down, c.given.to, row_high)) (λ lt. absurd ((looked.all lt).0.0 (inl ended)))
+        gives bytes (mcus_down s.head) room is has (omega (arith, down, c.given.to, row_high)) (λ lt. absurd ((looked.all lt).0.going (inl ended)))
 
     pub gives_settled : (i : ℕ) → i + 1 ≡ part.segments → i < intervals_of s.head → GivesSettled bytes s first n room
     gives_settled i last inside = elim (ended_or_not s.ended) [
-      | inl end ↦ let far = longest_front one_word (interval_of s i) in settled_coming i far.0 end last inside (far.1, far.2)
+      | inl end ↦ let far = limit_of (interval_of s i) in settled_coming i far.0 end last inside far.1
       | inr ended ↦ settled_ended ended
     ]

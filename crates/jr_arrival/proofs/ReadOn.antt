@@ -1,5 +1,5 @@
 -- What is read of an interval from a part of its data is read of all of it.
-use Rattle.std.proofs.Common.{◌≡◌, ℕ, ◌+◌, ◌*◌, ◌<◌, ◌≤◌, ◌⊎◌, inl, inr, Bool, List, [], ◌∷◌, ◌++◌, length, get_or, refl, sym, ap, subst, ◌∙◌, length-append, arith}
+use Rattle.std.proofs.Common.{◌≡◌, ℕ, ◌+◌, ◌*◌, ◌<◌, ◌≤◌, ◌⊎◌, inl, inr, Bool, List, [], ◌∷◌, ◌++◌, length, drop, get_or, refl, sym, ap, subst, ◌∙◌, length-append, arith}
 use Rattle.std.specs.Prelude.{ℤ}
 use Rattle.std.specs.List.{All}
 use Rattle.std.proofs.lemmas.List.{append-nil}
@@ -17,15 +17,19 @@ use Rattle.jr_scan.specs.declared.place.RunEnd.TheVariants.{AllRead}
 use Rattle.jr_scan.specs.IntervalValue.{IntervalValue}
 use Rattle.jr_scan.specs.Run.{HasNoMcu, IsRun, left_at, run_from, start_of_interval}
 use Rattle.jr_scan.specs.ScanValue.{ScanValue, interval_of, mcus_in}
-use Rattle.jr_scan.proofs.McuReaders.{no_run}
+use Rattle.jr_scan.specs.Mcus.{Front}
+use Rattle.jr_scan.proofs.McuReaders.{front_of_run, no_run}
 use Rattle.jr_piece.specs.Strips.{CanReadFrom, FirstMcus}
 use Rattle.jr_piece.proofs.ScanLaws.{one_run, runs_meet, shorter_front}
 use Rattle.jr_piece.proofs.StripRuns as runs
 use Rattle.jr_arrival.specs.More.{with_more}
 use Rattle.jr_arrival.proofs.MoreData.{run_is_final}
 use Rattle.jr_arrival.specs.Meaning.{GoesOnAt, HasNoFurtherMcu, ReadsAt, behind}
-use Rattle.jr_arrival.proofs.Behind.{none_behind, run_behind}
+use Rattle.jr_arrival.proofs.Behind.{left_behind, none_behind, run_behind}
 use Rattle.jr_arrival.proofs.Going.{its_data}
+use Rattle.jr_arrival.specs.declared.cursor.TheConstants.{MCU_BITS}
+use Rattle.jr_arrival.specs.Growing.{MayGrow}
+use Rattle.jr_arrival.proofs.Knowing.{rest_left}
 use Rattle.jr_arrival.proofs.Longest.{none_in_long}
 
 abbrev interval : (n m : ℕ) → List ℕ → HeadValue → IntervalValue
@@ -80,6 +84,23 @@ module _ (whole : List ℕ) (t : ScanValue) (i mcu at left : ℕ) (found rest : 
         blocks = r.blocks ++ [];
         few = omega arith;
         longest = runs.longest one_run runs_meet shorter_front all lawful mcu r.blocks (behind before p) r.next 0 1 [] here (omega (arith, few)) (omega arith);
+      }
+
+  -- which may become whole where the data end there and fewer bits are left than an MCU has at most
+  pub grows_on : rest ≡ [] → mcu ≤ mcus_in h i → HasNoFurtherMcu t i mcu → length (left_at near p) < MCU_BITS → MayGrow (interval_of t i) mcu
+  grows_on end few none short =
+      let all = interval_of t i in
+      let at = behind r.before p in
+      let front : Front all mcu r.blocks = front_of_run all mcu r.blocks at r.next.run few in
+      let left : left_at all at ≡ left_at near p =
+      ap (λ (b : List ℕ). drop (8 * length r.before + p.bit) (bits b)) (sym whole_data)
+      ∙ left_behind (with_more near rest) r.before p
+      ∙ ap (λ (x : List ℕ). drop p.bit (bits (found ++ x))) end
+      ∙ ap (λ (x : List ℕ). drop p.bit (bits x)) (append-nil found) in
+      record {
+        blocks = r.blocks;
+        longest = record { front = front; longest = λ j ys f. omega (arith, none.longest.longest j ys f, none.few) };
+        short = omega (arith, short, ap length (rest_left all mcu r.blocks r.blocks at front r.next.run ∙ left));
       }
 
 -- at the start of an interval

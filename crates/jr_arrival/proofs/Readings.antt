@@ -15,7 +15,6 @@ use Rattle.jr_paint.proofs.Places.{in_div_ceil}
 use Rattle.jr_scan.specs.Mcus.{HasLongestFront, LongestFront}
 use Rattle.jr_scan.specs.Run.{IsRun, run_from, start_of_interval}
 use Rattle.jr_scan.specs.ScanValue.{ScanValue, interval_of, intervals_of, mcus_in}
-use Rattle.jr_scan.proofs.McuReaders.{front_of_run}
 use Rattle.jr_piece.specs.PieceValue.{PieceValue}
 use Rattle.jr_piece.specs.Outcome.{IsOutcome, unit_of}
 use Rattle.jr_piece.specs.Strips.{CanReadFrom, FirstMcus, IsNext}
@@ -38,8 +37,10 @@ use Rattle.jr_arrival.specs.More.{with_more}
 use Rattle.jr_arrival.proofs.LinesOfPictures.{row_of_board}
 use Rattle.jr_arrival.proofs.MoreData.{run_is_final}
 use Rattle.jr_arrival.proofs.ShownMcus.{shown_on, shown_there}
-use Rattle.jr_arrival.specs.Coming.{AreComing, Becomes, Begins, ComingRowValue, HasGiven, IsComing, ReadsAll, ReadsTo, StandsIn}
+use Rattle.jr_arrival.specs.Coming.{AreComing, Becomes, Begins, ComingRowValue, HasGiven, HasNoMore, IsComing, IsFinal, ReadsAll, ReadsTo, StandsIn, StaysLongest}
 use Rattle.jr_arrival.specs.Growing.{IsOver}
+use Rattle.jr_arrival.specs.declared.cursor.TheConstants.{MCU_BITS}
+use Rattle.jr_arrival.proofs.Knowing.{HasLongRest, long_rest_stays, rest_left}
 use Rattle.jr_arrival.proofs.LinesStay.{interval_more}
 use Rattle.jr_arrival.proofs.ScansGoOn.{becomes, grown_few}
 
@@ -87,20 +88,29 @@ next_stays i more first zs p n = record {
   can = (omega (arith, n.can.0, length-append i.bytes more), n.can.1);
 }
 
-reads_stays : (old new : GrowingScanValue) (number mcu : ℕ) (place : Option Place) → Grows old new → ReadsTo old number mcu place → ReadsTo new number mcu place
-reads_stays old new number mcu (Some p) b r =
+-- a longest front that stays it is that of whatever the scan may become, and stays it there
+stays_longest : (old new : GrowingScanValue) (number front : ℕ) (zs : List (List ℤ)) → IsLawful old.scan.head → Grows old new → StaysLongest old number front zs → StaysLongest new number front zs
+stays_longest old new number front zs lawful b l = elim l.final [
+  | inl over ↦ record { longest = subst (λ (i : IntervalValue). LongestFront i front zs) (sym (b.becomes.whole number over)) l.longest; final = inl (over_stays old new number b over) }
+  | inr long ↦
+      let d = b.becomes.so_far number in
+      let there = long_rest_stays (interval_of old.scan number) d.0 front zs lawful (l.longest, long) in
+      let here : HasLongRest (interval_of new.scan number) front zs = subst (λ (i : IntervalValue). HasLongRest i front zs) (sym (interval_more old.scan new.scan number d.0 b.becomes.head d.1)) there in
+      record { longest = here.0; final = inr here.1 }
+]
+
+reads_stays : (old new : GrowingScanValue) (number mcu : ℕ) (place : Option Place) → IsLawful old.scan.head → Grows old new → ReadsTo old number mcu place → ReadsTo new number mcu place
+reads_stays old new number mcu (Some p) lawful b r =
     let d = b.becomes.so_far number in
     (r.0, subst (λ (i : IntervalValue). IsNext i mcu r.0 p) (sym (interval_more old.scan new.scan number d.0 b.becomes.head d.1)) (next_stays (interval_of old.scan number) d.0 mcu r.0 p r.1))
-reads_stays old new number mcu None b r =
-    let far = r.1 in
-    (over_stays old new number b r.0, (far.0, far.1, far.2, subst (λ (i : IntervalValue). LongestFront i far.0 far.1) (sym (b.becomes.whole number r.0)) far.3))
+reads_stays old new number mcu None lawful b r = (r.0, r.1, r.2, stays_longest old new number r.0 r.1 lawful b r.3)
 
-pub coming_stays : (old new : GrowingScanValue) (v : ComingRowValue) → Grows old new → IsComing old v → IsComing new v
-coming_stays old new v b c = record {
+pub coming_stays : (old new : GrowingScanValue) (v : ComingRowValue) → IsLawful old.scan.head → Grows old new → IsComing old v → IsComing new v
+coming_stays old new v lawful b c = record {
   stands = subst (λ (h : HeadValue). StandsIn h v) (sym b.becomes.head) c.stands;
   given = subst (λ (h : HeadValue). HasGiven h v) (sym b.becomes.head) c.given;
   begun = λ i lt. over_stays old new i b (c.begun i lt);
-  reads = reads_stays old new v.number v.mcu v.place b c.reads;
+  reads = reads_stays old new v.number v.mcu v.place lawful b c.reads;
   shows = λ u then. c.shows u (becomes_more old new u b then);
   counts = λ u then. c.counts u (becomes_more old new u b then);
 }
@@ -176,18 +186,25 @@ module _ (part : GrowingScanValue) (v : ComingRowValue) (lawful : IsLawful part.
         let first : FirstMcus (run_from i p n) n ys = record { to = q; run = run; none = λ lt. absurd (omega (arith, lt)) } in
         step n (Some q) w within few room (zs ++ ys, runs.going one_run runs_meet shorter_front i lawful v.mcu zs p next n n ys first few q run can) kept codes_whole
 
-  -- grey ones behind the last whole one of an interval that is over
-  module _ (front n : ℕ) (zs : List (List ℤ)) (w : SampleRowValue) (over : IsOver part.scan part.segments v.number) (more : 0 < n) (far : front ≤ v.mcu) (longest : LongestFront (interval_of part.scan v.number) front zs)
+  -- grey ones past the last one of an interval that becomes whole
+  module _ (front n : ℕ) (zs : List (List ℤ)) (w : SampleRowValue) (more : 0 < n) (far : front ≤ v.mcu) (longest : StaysLongest part v.number front zs)
       (within : v.done + n ≤ mcus_across part.scan.head) (few : v.mcu + n ≤ mcus_in part.scan.head v.number) (room : HasSampleRoom part.scan.head w)
       (kept : (k : ℕ) → k < v.done * blocks_of part.scan.head → get_or (units_in part.scan.head w.lines.groups) k [] ≡ get_or (units_in part.scan.head v.samples.lines.groups) k [])
       (grey : (k : ℕ) → k < n * blocks_of part.scan.head → get_or (units_in part.scan.head w.lines.groups) (v.done * blocks_of part.scan.head + k) [] ≡ grey_unit) where
     codes_grey : (t : ScanValue) → Becomes part t → (o : PieceValue) → o.interval ≡ interval_of t v.number → IsOutcome o → (k : ℕ) → k < n * blocks_of part.scan.head → get_or (units_in part.scan.head w.lines.groups) (v.done * blocks_of part.scan.head + k) [] ≡ unit_in_piece o (v.mcu * blocks_of part.scan.head + k)
     codes_grey t b o same is k lt =
-        grey k lt ∙ grey_codes (interval_of part.scan v.number) front v.mcu zs far longest o (same ∙ b.whole v.number over) is k
-        ∙ ap (λ (m : ℕ). unit_in_piece o (v.mcu * m + k)) per_mcu
+        let i = interval_of part.scan v.number in
+        let d = b.so_far v.number in
+        let codes : grey_unit ≡ unit_in_piece o (v.mcu * length (order_of part.scan.head) + k) = elim longest.final [
+          | inl over ↦ grey_codes i front v.mcu zs far longest.longest o (same ∙ b.whole v.number over) is k
+          | inr long ↦
+              let longer = long_rest_stays i d.0 front zs lawful (longest.longest, long) in
+              grey_codes (with_more i d.0) front v.mcu zs far longer.0 o (same ∙ interval_more part.scan t v.number d.0 b.head d.1) is k
+        ] in
+        grey k lt ∙ codes ∙ ap (λ (m : ℕ). unit_in_piece o (v.mcu * m + k)) per_mcu
 
     pub step_grey : IsComing part (record { row = v.row; done = v.done + n; number = v.number; mcu = v.mcu + n; place = None; samples = w; lines = v.lines; marked = v.marked })
-    step_grey = step n None w within few room (over, (front, zs, omega (arith, far, more), longest)) kept codes_grey
+    step_grey = step n None w within few room (front, zs, omega (arith, far, more), longest) kept codes_grey
 
 started_next : (part : GrowingScanValue) (v : ComingRowValue) → ReadsTo part (v.number + 1) 0 (Some start_of_interval)
 started_next part v = at_the_start (interval_of part.scan (v.number + 1))
@@ -216,21 +233,31 @@ next_inside part v c all more =
 
 -- ---- where the reading ends
 
--- all MCUs of an interval are its longest front
-pub all_read : (part : GrowingScanValue) (number mcu : ℕ) (place : Option Place) → (IsOver part.scan part.segments number → ⊥) → ReadsTo part number mcu place → mcu ≡ mcus_in part.scan.head number → HasLongestFront (interval_of part.scan number) mcu
-all_read part number mcu (Some p) going r all =
-    (r.0, record { front = front_of_run (interval_of part.scan number) mcu r.0 p r.1.run (omega (arith, all)); longest = λ j ys f. omega (arith, f.at_most, all) })
-all_read part number mcu None going r all = absurd (going r.0)
-
 -- a reader that reads nothing stands there
 pub nothing_follows : (i : IntervalValue) (first left : ℕ) (zs ys : List (List ℤ)) (p : Place) → IsLawful i.head → IsNext i first zs p → FirstMcus (run_from i p left) 0 ys → 0 < left → first ≤ i.mcus → HasLongestFront i (first + 0)
 nothing_follows i first left zs ys p lawful next here some few =
     (zs ++ ys, runs.longest one_run runs_meet shorter_front i lawful first zs p next 0 left ys here (omega (arith, few)) some)
 
--- the grey MCUs of an interval stand behind a longest front
-pub far_front : (part : GrowingScanValue) (number mcu : ℕ) (place : Option Place) → ReadsTo part number mcu place → ReadsAll part.scan number mcu place → (front : ℕ) × (zs : List (List ℤ)) × (front ≤ mcu) × LongestFront (interval_of part.scan number) front zs
-far_front part number mcu (Some p) r all = (mcu, all.0, omega arith, all.1)
-far_front part number mcu None r all = (r.1.0, r.1.1, omega (arith, r.1.2), r.1.3)
+-- the grey MCUs of an interval are past a longest front that stays it
+pub far_front : (part : GrowingScanValue) (number mcu : ℕ) (place : Option Place) → ReadsTo part number mcu place → ReadsAll part.scan number mcu place → IsFinal part number place → (front : ℕ) × (zs : List (List ℤ)) × (front ≤ mcu) × StaysLongest part number front zs
+far_front part number mcu (Some p) r all (inl over) = (mcu, all.0, omega arith, record { longest = all.1; final = inl over })
+far_front part number mcu (Some p) r all (inr long) =
+    (mcu, all.0, omega arith, record { longest = all.1; final = inr (omega (arith, long, ap length (rest_left (interval_of part.scan number) mcu all.0 r.0 p all.1.front r.1.run))) })
+far_front part number mcu None r all final = (r.0, r.1, omega (arith, r.2), r.3)
+
+-- where it may become longer, no further MCU is settled
+pub no_more : (part : GrowingScanValue) (v : ComingRowValue) → ReadsTo part v.number v.mcu v.place → ReadsAll part.scan v.number v.mcu v.place → (IsFinal part v.number v.place → ⊥) → HasNoMore part v
+no_more part v = go v.place
+  where
+    go : (place : Option Place) → ReadsTo part v.number v.mcu place → ReadsAll part.scan v.number v.mcu place → (IsFinal part v.number place → ⊥) → HasNoMore part v
+    go None r all going = absurd (going tt)
+    go (Some p) r all going =
+        let same = rest_left (interval_of part.scan v.number) v.mcu all.0 r.0 p all.1.front r.1.run in
+        let short : length all.1.front.rest < MCU_BITS = elim (cases_lt (length all.1.front.rest) MCU_BITS) [
+          | inl lt ↦ lt
+          | inr ge ↦ absurd (going (inr (omega (arith, ge, ap length same))))
+        ] in
+        record { going = λ over. going (inl over); next = inr (record { blocks = all.0; longest = all.1; short = short }) }
 
 -- ---- a row of MCUs
 

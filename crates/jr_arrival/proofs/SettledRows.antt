@@ -1,6 +1,5 @@
 -- The rows of MCUs that the bytes so far settle.
-use Rattle.std.proofs.Common.{◌≡◌, ℕ, ◌+◌, ◌-◌, ◌*◌, ◌/◌, ◌%◌, ◌<◌, ◌≤◌, min, Bool, cond, inl, inr, List, [], length, take, drop, get_or, sym, ap, subst, ◌∙◌, arith}
-use Rattle.std.specs.Prelude.{ℤ}
+use Rattle.std.proofs.Common.{◌≡◌, ℕ, ◌+◌, ◌-◌, ◌*◌, ◌/◌, ◌%◌, ◌<◌, ◌≤◌, min, Bool, cond, inl, inr, List, [], length, drop, get_or, sym, ap, subst, ◌∙◌, length-append, arith}
 use Rattle.std.specs.Int.{div_ceil}
 use Rattle.std.proofs.lemmas.Bool.{cases_lt}
 use Rattle.std.proofs.lemmas.Bool.Decides.{eqb_tells}
@@ -8,19 +7,19 @@ use Rattle.std.proofs.lemmas.List.{get_or_past}
 use Rattle.std.proofs.lemmas.Nat.{div-add-mod', mod_below}
 use Rattle.std.proofs.Math.Nat.{add-mul, mul-le-mul_right}
 use Rattle.jr_head.specs.HeadValue.{HeadValue}
-use Rattle.jr_head.specs.Geometry.{IsLawful, mcus_across, mcus_down, mcus_of, order_of}
+use Rattle.jr_code.specs.Bits.{bits}
+use Rattle.jr_head.specs.Geometry.{IsLawful, mcus_across, mcus_down, mcus_of}
 use Rattle.jr_head.proofs.SamplingLaws.{some_there, units_some}
 use Rattle.jr_head.specs.Intervals.{first_mcu_of, interval_number, within_interval}
 use Rattle.jr_cut.specs.declared.scan_end.ScanEnd.TheVariants.{EndOfFile}
 use Rattle.jr_cut.proofs.CutLaw.{one_cut}
-use Rattle.jr_scan.specs.Mcus.{Front, HasLongestFront}
 use Rattle.jr_scan.specs.ScanValue.{ScanValue, IsScanOf, interval_of, intervals_of, mcus_in}
-use Rattle.jr_piece.proofs.ScanLaws.{shorter_front}
 use Rattle.jr_rows.proofs.IntervalPlaces.{inside, interval_at, mcus_in_some, next_there}
 use Rattle.jr_rows.proofs.PictureRows.{all_rows}
 use Rattle.jr_rows.proofs.RowStarts.{mcu_there}
-use Rattle.jr_arrival.specs.Growing.{HasEndedAt, IsSettled}
+use Rattle.jr_arrival.specs.Growing.{HasEndedAt, IsKnown, IsSettled}
 use Rattle.jr_arrival.specs.Settled.{HasRows}
+use Rattle.jr_arrival.proofs.Knowing.{IsLimit}
 use Rattle.jr_arrival.proofs.ReadOn.{nothing_whole}
 use Rattle.jr_arrival.proofs.ScansGoOn.{data_at}
 
@@ -83,8 +82,20 @@ module _ (bytes : List ℕ) (s : ScanValue) (c : IsScanOf bytes s) (i : ℕ) (en
   no_data : get_or s.intervals (i + 1) [] ≡ []
   no_data = data_at s c.segments (intervals_of h - length c.segments) (i + 1) c.intervals ∙ get_or_past c.segments (i + 1) [] (omega (arith, last))
 
-  -- an MCU of it that is not whole is not settled; behind its last one none is
-  pub not_settled : (mcu : ℕ) → mcu ≤ mcus_in h i → ((j : ℕ) (ys : List (List ℤ)) → Front (interval_of s i) j ys → j ≤ mcu) → IsLawful h → first_mcu_of h i + mcu < mcus_of h → IsSettled bytes s (first_mcu_of h i + mcu) → ⊥
+  -- no data settle no MCU
+  not_known_there : (j : ℕ) → IsLawful h → get_or s.intervals j [] ≡ [] → (mcu : ℕ) → IsKnown (interval_of s j) mcu → ⊥
+  not_known_there j lawful none mcu (inl w) =
+      let some = units_some h.components (some_there h.kind h.components lawful.components.count) lawful.components.sampled in
+      let empty = nothing_whole s j 0 some none in
+      let longer = empty.longest.longest (mcu + 1) w.0 w.1 in
+      omega (arith, longer, empty.few)
+  not_known_there j lawful none mcu (inr n) =
+      let f = n.longest.front in
+      let empty : length (bits (get_or s.intervals j [])) ≡ length (bits []) = ap (λ (b : List ℕ). length (bits b)) none in
+      omega (arith, n.long, empty, ap length f.spelled, length-append f.taken f.rest)
+
+  -- an MCU of it that its data do not settle is not settled; past its last one none is
+  pub not_settled : (mcu : ℕ) → mcu ≤ mcus_in h i → (mcu < mcus_in h i → IsKnown (interval_of s i) mcu → ⊥) → IsLawful h → first_mcu_of h i + mcu < mcus_of h → IsSettled bytes s (first_mcu_of h i + mcu) → ⊥
   not_settled mcu few none lawful more settled =
       let m = first_mcu_of h i + mcu in
       elim (cases_lt mcu (mcus_in h i)) [
@@ -92,9 +103,7 @@ module _ (bytes : List ℕ) (s : ScanValue) (c : IsScanOf bytes s) (i : ℕ) (en
             let at = interval_at h i mcu inside l in
             elim settled [
               | inl e ↦ not_ended (interval_number h m) (omega (arith, at.0)) e
-              | inr w ↦
-                  let longer = none (within_interval h m + 1) w.0 (subst (λ (k : ℕ). Front (interval_of s k) (within_interval h m + 1) w.0) at.0 w.1) in
-                  absurd (omega (arith, longer, at.1))
+              | inr known ↦ none l (subst (IsKnown (interval_of s i)) at.1 (subst (λ (k : ℕ). IsKnown (interval_of s k) (within_interval h m)) at.0 known))
             ]
         | inr g ↦
             let next = next_there h i mcu inside (omega (arith, g, few)) more in
@@ -102,32 +111,27 @@ module _ (bytes : List ℕ) (s : ScanValue) (c : IsScanOf bytes s) (i : ℕ) (en
             let number : interval_number h m ≡ i + 1 = ap (interval_number h) is ∙ (interval_at h (i + 1) 0 next.0 (mcus_in_some h (i + 1) (omega (arith, more)) next.0)).0 in
             elim settled [
               | inl e ↦ not_ended (interval_number h m) (omega (arith, number)) e
-              | inr w ↦
-                  let some = units_some h.components (some_there h.kind h.components lawful.components.count) lawful.components.sampled in
-                  let empty = nothing_whole s (i + 1) 0 some no_data in
-                  let longer = empty.longest.longest (within_interval h m + 1) w.0 (subst (λ (k : ℕ). Front (interval_of s k) (within_interval h m + 1) w.0) number w.1) in
-                  absurd (omega (arith, longer, empty.few))
+              | inr known ↦ not_known_there (i + 1) lawful no_data (within_interval h m) (subst (λ (k : ℕ). IsKnown (interval_of s k) (within_interval h m)) number known)
             ]
       ]
 
-  -- the MCUs before it and its whole ones are
-  module _ (front : ℕ) (far : HasLongestFront (interval_of s i) front) where
-    settled_before : (m : ℕ) → m < mcus_of h → m < first_mcu_of h i + front → IsSettled bytes s m
+  -- the MCUs before it and those that its data settle are
+  module _ (limit : ℕ) (l : IsLimit (interval_of s i) limit) where
+    settled_before : (m : ℕ) → m < mcus_of h → m < first_mcu_of h i + limit → IsSettled bytes s m
     settled_before m there lt =
         let at = mcu_there h m there in
         let j = interval_number h m in
         elim (cases_lt j i) [
-          | inl l ↦ inl (c, inr (omega (arith, l, last)))
+          | inl early ↦ inl (c, inr (omega (arith, early, last)))
           | inr ge ↦ elim (cases_lt i j) [
-            | inl l ↦ let before = before_later h i j front l at.0 far.1.front.at_most in absurd (omega (arith, before, at.1, lt))
+            | inl late ↦ let before = before_later h i j limit late at.0 l.few in absurd (omega (arith, before, at.1, lt))
             | inr le ↦
                 let same : i ≡ j = omega (arith, ge, le) in
-                let count : within_interval h m + 1 ≤ front = omega (arith, lt, at.1, ap (λ (k : ℕ). k * h.restart) same) in
-                inr (take ((within_interval h m + 1) * length (order_of h)) far.0, subst (λ (k : ℕ). Front (interval_of s k) (within_interval h m + 1) (take ((within_interval h m + 1) * length (order_of h)) far.0)) same (shorter_front (interval_of s i) (within_interval h m + 1) front far.0 count far.1.front))
+                inr (subst (λ (k : ℕ). IsKnown (interval_of s k) (within_interval h m)) same (l.before (within_interval h m) (omega (arith, lt, at.1, ap (λ (k : ℕ). k * h.restart) same))))
           ]
         ]
 
-    pub has_rows : IsLawful h → 0 < mcus_across h → 0 < mcus_of h → HasRows bytes s ((first_mcu_of h i + front) / mcus_across h)
+    pub has_rows : IsLawful h → 0 < mcus_across h → 0 < mcus_of h → HasRows bytes s ((first_mcu_of h i + limit) / mcus_across h)
     has_rows lawful across mcus =
-        let most = mcus_few h i front mcus inside far.1.front.at_most in
-        settles_rows bytes s (first_mcu_of h i + front) most across (λ m lt. settled_before m (omega (arith, lt, most)) lt) (not_settled front far.1.front.at_most far.1.longest lawful)
+        let most = mcus_few h i limit mcus inside l.few in
+        settles_rows bytes s (first_mcu_of h i + limit) most across (λ m lt. settled_before m (omega (arith, lt, most)) lt) (not_settled limit l.few l.none lawful)

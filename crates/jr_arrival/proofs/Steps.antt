@@ -1,9 +1,9 @@
 -- What a cursor's steps keep true in each file that its bytes may be.
-use Rattle.std.proofs.Common.{◌≡◌, ◌≢◌, ℕ, ◌+◌, ◌-◌, ◌*◌, ◌/◌, ◌%◌, ◌<◌, ◌≤◌, ◌⊎◌, inl, inr, List, [], ◌∷◌, ◌++◌, length, replicate, take, drop, refl, sym, ap, subst, ◌∙◌, append_assoc, length-append, length-drop, length-take-le, arith}
+use Rattle.std.proofs.Common.{◌≡◌, ◌≢◌, ℕ, ◌+◌, ◌-◌, ◌*◌, ◌/◌, ◌%◌, ◌<◌, ◌≤◌, ◌⊎◌, inl, inr, List, [], ◌++◌, length, take, drop, refl, sym, ap, subst, ◌∙◌, append_assoc, length-append, length-drop, length-take-le, arith}
 use Rattle.std.specs.Prelude.{ℤ, true}
 use Rattle.std.specs.List.{All}
 use Rattle.std.proofs.lemmas.List.{drop-append-le, drop-drop}
-use Rattle.jr_base.specs.declared.marker.TheConstants.{PREFIX, RST0}
+use Rattle.jr_base.specs.declared.marker.TheConstants.{RST0}
 use Rattle.jr_cut.specs.Cut.{IsRaw, IsStop, IsEnding, marker}
 use Rattle.jr_cut.specs.declared.scan_end.ScanEnd.{ScanEnd}
 use Rattle.jr_cut.specs.declared.scan_end.ScanEnd.TheVariants.{EndOfFile}
@@ -28,9 +28,11 @@ use Rattle.jr_arrival.specs.declared.cursor.ScanCursor.{ScanCursor}
 use Rattle.jr_arrival.specs.declared.file_bytes.FileBytes.{FileBytes}
 use Rattle.jr_arrival.specs.Meaning.{GoesOnAt, HasNoData, HasNoFurtherMcu, IsStuckAt, MayBe, MeansAt, ReadsAt, behind}
 use Rattle.jr_arrival.specs.Places.{IsIn}
+use Rattle.jr_arrival.specs.declared.cursor.TheConstants.{MCU_BITS}
+use Rattle.jr_arrival.specs.Growing.{MayGrow}
 use Rattle.jr_arrival.specs.Cursors.{HasWindow, IsCursor, IsOffset, NoneFollows, IsCursorIn, StaysTrue, in_window, reading_number, window}
 use Rattle.jr_arrival.proofs.Going.{ended_on, ending_more, next_on, on_by}
-use Rattle.jr_arrival.proofs.ReadOn.{none_on, reads_first, reads_on}
+use Rattle.jr_arrival.proofs.ReadOn.{grows_on, none_on, reads_first, reads_on}
 use Rattle.jr_cut.proofs.Slices.{split_at}
 use Rattle.jr_arrival.proofs.Windows.{window_long}
 
@@ -99,9 +101,20 @@ moved h c at q off w bit predictions whole t may = go c.reading
 -- ---- behind its data
 
 module _ (h : HeadValue) (c : ScanCursor) (w : HasWindow c) (end read : ℕ) (found : List ℕ) (there : end ≡ c.at + read) (within : end ≤ length c.file.bytes.now) (raw : IsRaw (take read (drop c.at c.file.bytes.now)) found) where
-  -- where no further MCU is whole
-  pub stuck_true : IsIn h c.interval c.mcu → IsLawful h → NoneFollows h c → c.reading ≡ GoesOn → IsStop (drop end c.file.bytes.now) → (whole : List ℕ) (t : ScanValue) (may : MayBe c.file.bytes.now c.file.are_all h whole t) → IsStop (drop end whole) → IsCursorIn whole t c → IsStuckAt whole t c.interval c.mcu end
-  stuck_true is_in lawful none going here whole t may stop s =
+  -- its data in the window are all of it
+  module _ (whole : List ℕ) (t : ScanValue) (may : MayBe c.file.bytes.now c.file.are_all h whole t) (means : ReadsAt whole t c.interval c.mcu c.at c.place) where
+    all_there : c.ends ≡ true → IsStop (drop end c.file.bytes.now) → IsStop (drop end whole) → (rest : List ℕ) × (means.on.rest ≡ window c ++ rest) × (rest ≡ [])
+    all_there ends here stop =
+        let bytes = c.file.bytes.now in
+        let spells = w.spells in
+        let o = on_by bytes may.more whole t c.interval c.at read means.before found may.is means.on (omega (arith, there, within)) raw in
+        let same = one_stop (take spells.read (drop c.at bytes)) (window c) (take read (drop c.at bytes)) found (drop (c.at + spells.read) bytes) (drop (c.at + read) bytes) spells.spelled raw (sym (split_at bytes c.at spells.read) ∙ split_at bytes c.at read) (spells.stop ends) (subst (λ (k : ℕ). IsStop (drop k bytes)) there here) in
+        (o.on.rest, o.is ∙ ap (λ (x : List ℕ). x ++ o.on.rest) same.0, o.none (subst (λ (k : ℕ). IsStop (drop k whole)) there stop))
+
+  -- where no further MCU is whole, and as many bits are left as an MCU has at most, or the data end there
+  pub stuck_true : IsIn h c.interval c.mcu → IsLawful h → NoneFollows h c → c.reading ≡ GoesOn → IsStop (drop end c.file.bytes.now) → (whole : List ℕ) (t : ScanValue) (may : MayBe c.file.bytes.now c.file.are_all h whole t)
+      → IsStop (drop end whole) ⊎ (MCU_BITS ≤ length (left_at (in_window h c) c.place)) → IsCursorIn whole t c → IsStuckAt whole t c.interval c.mcu end
+  stuck_true is_in lawful none going here whole t may final s =
       let bytes = c.file.bytes.now in
       let spells = w.spells in
       let here_found = window c in
@@ -109,22 +122,40 @@ module _ (h : HeadValue) (c : ScanCursor) (w : HasWindow c) (end read : ℕ) (fo
       let e = may.head in
       let found_long : length here_found ≡ c.found - c.from = window_long c w in
       let o = on_by bytes may.more whole t c.interval c.at read means.before found may.is means.on (omega (arith, there, within)) raw in
-      let stopped : o.on.rest ≡ [] = o.none (subst (λ (k : ℕ). IsStop (drop k whole)) there stop) in
       let by : (rest : List ℕ) → means.on.rest ≡ here_found ++ rest → (rest ≡ []) ⊎ (16650 ≤ length (left_at (record { number = c.interval; mcus = mcus_in h c.interval - c.mcu; bytes = here_found; head = t.head }) c.place)) → HasNoFurtherMcu t c.interval c.mcu =
       λ rest rest_is far. none_on whole t c.interval c.mcu c.at (mcus_in h c.interval - c.mcu) here_found rest c.place (subst IsLawful (sym e) lawful) means rest_is (omega (arith, w.bit, found_long)) (subst (λ (g : HeadValue). c.mcu ≤ mcus_in g c.interval) (sym e) is_in.few)
       (subst (λ (g : HeadValue). HasNoMcu (record { number = c.interval; mcus = mcus_in h c.interval - c.mcu; bytes = here_found; head = g }) c.place) (sym e) none.none) far in
       record {
         before = means.before ++ found;
         on = subst (λ (k : ℕ). GoesOnAt whole t c.interval k (means.before ++ found)) (sym there) o.on;
-        no_more = elim none.far [
-          | inl ends ↦
-              let same = one_stop (take spells.read (drop c.at bytes)) here_found (take read (drop c.at bytes)) found (drop (c.at + spells.read) bytes) (drop (c.at + read) bytes) spells.spelled raw (sym (split_at bytes c.at spells.read) ∙ split_at bytes c.at read) (spells.stop ends) (subst (λ (k : ℕ). IsStop (drop k bytes)) there here) in
-              by o.on.rest (o.is ∙ ap (λ (x : List ℕ). x ++ o.on.rest) same.0) (inl stopped)
-          | inr long ↦
-              let p = on_by bytes may.more whole t c.interval c.at spells.read means.before here_found may.is means.on spells.within spells.spelled in
-              by p.on.rest p.is (inr long)
-        ];
+        no_more =
+            let p = on_by bytes may.more whole t c.interval c.at spells.read means.before here_found may.is means.on spells.within spells.spelled in
+            elim final [
+              | inr long ↦ by p.on.rest p.is (inr long)
+              | inl stop ↦ elim none.far [
+                | inl ends ↦ let all = all_there whole t may means ends here stop in by all.0 all.1 (inl all.2)
+                | inr long ↦ by p.on.rest p.is (inr long)
+              ]
+            ];
       }
+
+  -- or where it may become whole
+  pub grows_true : IsIn h c.interval c.mcu → IsLawful h → NoneFollows h c → c.reading ≡ GoesOn → length (left_at (in_window h c) c.place) < MCU_BITS → IsStop (drop end c.file.bytes.now) → (whole : List ℕ) (t : ScanValue) (may : MayBe c.file.bytes.now c.file.are_all h whole t)
+      → IsStop (drop end whole) → IsCursorIn whole t c → MayGrow (interval_of t c.interval) c.mcu
+  grows_true is_in lawful none going short here whole t may stop s =
+      let means : ReadsAt whole t c.interval c.mcu c.at c.place = subst (λ (r : Reading). MeansAt whole t (reading_number r) c.interval c.mcu c.at c.place) going s.means in
+      let e = may.head in
+      let few = subst (λ (g : HeadValue). c.mcu ≤ mcus_in g c.interval) (sym e) is_in.few in
+      let none_t = subst (λ (g : HeadValue). HasNoMcu (record { number = c.interval; mcus = mcus_in h c.interval - c.mcu; bytes = window c; head = g }) c.place) (sym e) none.none in
+      elim none.far [
+        | inl ends ↦
+            let all = all_there whole t may means ends here stop in
+            let left = mcus_in h c.interval - c.mcu in
+            let lawful_t = subst IsLawful (sym e) lawful in
+            let no_more = none_on whole t c.interval c.mcu c.at left (window c) all.0 c.place lawful_t means all.1 (omega (arith, w.bit, window_long c w)) few none_t (inl all.2) in
+            grows_on whole t c.interval c.mcu c.at left (window c) all.0 c.place lawful_t means all.1 all.2 few no_more short
+        | inr long ↦ absurd (omega (arith, long, short))
+      ]
 
   -- the interval has ended there
   pub its_end : (whole : List ℕ) (t : ScanValue) (may : MayBe c.file.bytes.now c.file.are_all h whole t) → IsStop (drop end whole) → c.reading ≢ HasEnded → IsCursorIn whole t c → (before : List ℕ) × (g : GoesOnAt whole t c.interval end before) × (g.rest ≡ [])
@@ -175,6 +206,10 @@ none_left h c r r' n q run zero_is same mcu place ended d is more =
       | inl full ↦ absurd (omega (arith, full, lt, mcu, zero_is, ap (λ (o : RunOf). o.mcus) (same ∙ run)))
       | inr stuck ↦ subst (HasNoMcu (in_window h c)) (sym place) (subst (λ (o : RunOf). HasNoMcu o.interval r'.place) (same ∙ run) stuck)
     ]) more
+
+-- the bits of the window from there on
+pub window_left : (h : HeadValue) (c : ScanCursor) → HasWindow c → length (left_at (in_window h c) c.place) ≡ 8 * (c.found - c.from) - c.place.bit
+window_left h c w = omega (arith, window_long c w, length-drop c.place.bit (bits (window c)), length-bits (window c))
 
 -- and to the end of the data, or by more bits than an MCU has
 pub none_follows : (h : HeadValue) (c : ScanCursor) → HasWindow c → HasNoMcu (in_window h c) c.place → (c.ends ≡ true) ⊎ (16650 + c.place.bit ≤ 8 * (c.found - c.from)) → NoneFollows h c

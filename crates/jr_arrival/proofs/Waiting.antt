@@ -1,6 +1,5 @@
 -- Where a cursor finds no end of its interval's data, the bytes do not settle its next MCU.
-use Rattle.std.proofs.Common.{◌≡◌, ◌≢◌, ℕ, ◌+◌, ◌*◌, ◌<◌, ◌≤◌, List, drop, refl, sym, subst, ◌∙◌, arith}
-use Rattle.std.specs.Prelude.{ℤ}
+use Rattle.std.proofs.Common.{◌≡◌, ◌≢◌, ℕ, ◌+◌, ◌*◌, ◌<◌, ◌≤◌, List, length, drop, refl, sym, subst, ◌∙◌, arith}
 use Rattle.std.proofs.Math.Nat.{add-mul}
 use Rattle.jr_cut.specs.Cut.{IsStop}
 use Rattle.jr_cut.specs.declared.scan_end.ScanEnd.TheVariants.{EndOfFile}
@@ -8,19 +7,21 @@ use Rattle.jr_cut.proofs.CutLaw.{ending_stop}
 use Rattle.jr_head.specs.HeadValue.{HeadValue}
 use Rattle.jr_head.specs.Geometry.{IsLawful, mcus_across, mcus_down, mcus_of}
 use Rattle.jr_head.specs.Intervals.{intervals_of, mcus_in}
-use Rattle.jr_scan.specs.Mcus.{Front}
+use Rattle.jr_scan.specs.Run.{left_at}
 use Rattle.jr_scan.specs.ScanValue.{ScanValue, interval_of}
 use Rattle.jr_rows.proofs.PictureRows.{row_inside}
 use Rattle.jr_arrival.specs.declared.cursor.Reading.TheVariants.{GoesOn, HasEnded}
 use Rattle.jr_arrival.specs.declared.cursor.ScanCursor.{ScanCursor}
 use Rattle.jr_arrival.specs.declared.file_bytes.FileBytes.{FileBytes}
-use Rattle.jr_arrival.specs.Cursors.{IsCursor, IsCursorIn, IsOpen, LeavesRow, NoneFollows, StaysTrue, Waits}
-use Rattle.jr_arrival.specs.Growing.{IsSettled}
+use Rattle.jr_arrival.specs.declared.cursor.TheConstants.{MCU_BITS}
+use Rattle.jr_arrival.specs.Cursors.{IsCursor, IsCursorIn, IsOpen, LeavesRow, NoneFollows, StaysTrue, Waits, in_window}
+use Rattle.jr_arrival.specs.Growing.{IsKnown, IsSettled}
 use Rattle.jr_arrival.specs.Meaning.{MayBe}
 use Rattle.jr_arrival.specs.Places.{mcus_before_place}
 use Rattle.jr_arrival.proofs.Going.{waits_on}
 use Rattle.jr_arrival.proofs.SettledRows.{not_settled}
-use Rattle.jr_arrival.proofs.Steps.{its_end, stuck_true}
+use Rattle.jr_arrival.proofs.Knowing.{not_known}
+use Rattle.jr_arrival.proofs.Steps.{grows_true, its_end}
 
 module _ (h : HeadValue) (c : ScanCursor) (is : IsCursor h c) (lawful : IsLawful h) (still : IsOpen c) where
   abbrev bytes : List ℕ
@@ -32,7 +33,7 @@ module _ (h : HeadValue) (c : ScanCursor) (is : IsCursor h c) (lawful : IsLawful
   stop : IsStop (drop end bytes)
   stop = ending_stop (intervals_of h) c.interval end (drop end bytes) EndOfFile (still.fill, still.all)
 
-  waits : c.reading ≢ HasEnded → ((s : ScanValue) → MayBe bytes c.file.are_all h bytes s → IsCursorIn bytes s c → (j : ℕ) (ys : List (List ℤ)) → Front (interval_of s c.interval) j ys → j ≤ c.mcu) → Waits h c
+  waits : c.reading ≢ HasEnded → ((s : ScanValue) → MayBe bytes c.file.are_all h bytes s → IsCursorIn bytes s c → c.mcu < mcus_in s.head c.interval → IsKnown (interval_of s c.interval) c.mcu → ⊥) → Waits h c
   waits over none s may stands more settled =
       let e = sym may.head in
       let on = its_end h c is.window end still.read still.found refl still.within still.spelled bytes s may stop over stands in
@@ -41,18 +42,17 @@ module _ (h : HeadValue) (c : ScanCursor) (is : IsCursor h c) (lawful : IsLawful
       c.mcu (subst (λ (g : HeadValue). c.mcu ≤ mcus_in g c.interval) e is.is_in.few) (none s may stands) (subst IsLawful e lawful)
       (subst (λ (g : HeadValue). mcus_before_place g c.interval c.mcu < mcus_of g) e more) (subst (λ (g : HeadValue). IsSettled bytes s (mcus_before_place g c.interval c.mcu)) e settled)
 
-  -- no further MCU of it is whole
-  pub waits_within : NoneFollows h c → c.reading ≡ GoesOn → Waits h c
-  waits_within none going = waits (λ e. going_not_ended (sym going ∙ e)) (λ s may stands j ys f.
-      let stuck = stuck_true h c is.window end still.read still.found refl still.within still.spelled is.is_in lawful none going stop bytes s may stop stands in
-      omega (arith, stuck.no_more.longest.longest j ys f, stuck.no_more.few))
+  -- the next MCU of it is not whole, and may become so
+  pub waits_within : NoneFollows h c → c.reading ≡ GoesOn → length (left_at (in_window h c) c.place) < MCU_BITS → Waits h c
+  waits_within none going short = waits (λ e. going_not_ended (sym going ∙ e)) (λ s may stands lt known.
+      not_known (interval_of s c.interval) c.mcu (grows_true h c is.window end still.read still.found refl still.within still.spelled is.is_in lawful none going short stop bytes s may stop stands) known)
     where
       going_not_ended : GoesOn ≢ HasEnded
       going_not_ended e = absurd cc
 
   -- or all of them are passed
   pub waits_behind : c.mcu ≡ mcus_in h c.interval → c.reading ≢ HasEnded → Waits h c
-  waits_behind all over = waits over (λ s may stands j ys f. subst (λ (g : HeadValue). j ≤ mcus_in g c.interval → j ≤ c.mcu) (sym may.head) (λ le. omega (arith, le, all)) f.at_most)
+  waits_behind all over = waits over (λ s may stands lt known. let here : c.mcu < mcus_in h c.interval = subst (λ (g : HeadValue). c.mcu < mcus_in g c.interval) may.head lt in omega (arith, here, all))
 
 -- so the row in which it waits is not settled
 pub row_waits : (h : HeadValue) (a d : ScanCursor) (row done : ℕ) → d.file ≡ a.file → StaysTrue h a d → mcus_before_place h d.interval d.mcu ≡ row * mcus_across h + done → done < mcus_across h → row < mcus_down h → Waits h d → LeavesRow h a row

@@ -1,5 +1,5 @@
 -- The row of MCUs that comes next of a scan whose file is still arriving.
-use Rattle.std.specs.Prelude.{◌≡◌, ◌≢◌, ℕ, ◌+◌, ◌*◌, ◌<◌, ◌≤◌, ⊤, List, [], ◌++◌, length, ℤ, Option, Some, None, slice_index_or}
+use Rattle.std.specs.Prelude.{◌≡◌, ◌≢◌, ℕ, ◌+◌, ◌*◌, ◌<◌, ◌≤◌, ◌⊎◌, ⊤, List, [], ◌++◌, length, ℤ, Option, Some, None, slice_index_or}
 use Rattle.jr_head.specs.HeadValue.{HeadValue}
 use Rattle.jr_head.specs.Geometry.{mcus_across, mcus_down}
 use Rattle.jr_cut.specs.declared.scan_end.ScanEnd.TheVariants.{EndOfFile}
@@ -7,7 +7,7 @@ use Rattle.jr_scan.specs.declared.place.Place.{Place}
 use Rattle.jr_scan.specs.GrowingScan.{GrowingScanValue}
 use Rattle.jr_scan.specs.Mcus.{HasLongestFront, LongestFront}
 use Rattle.jr_scan.specs.ScanValue.{ScanValue, interval_of, intervals_of, mcus_in}
-use Rattle.jr_scan.specs.Run.{start_of_interval}
+use Rattle.jr_scan.specs.Run.{left_at, start_of_interval}
 use Rattle.jr_piece.specs.Strips.{IsNext}
 use Rattle.jr_paint.specs.Lines.{next_lines_of}
 use Rattle.jr_picture.specs.BoardValue.{BoardValue}
@@ -16,7 +16,8 @@ use Rattle.jr_rows.specs.Groups.{units_in}
 use Rattle.jr_rows.specs.Rows.{CountsMarks, HasFirst, HasSampleRoom, ShowsFirstUnits, first_line, line_count}
 use Rattle.jr_rows.specs.RowsValue.{SampleRowValue}
 use Rattle.jr_rows.specs.declared.marked.Marked.{Marked}
-use Rattle.jr_arrival.specs.Growing.{IsOver}
+use Rattle.jr_arrival.specs.declared.cursor.TheConstants.{MCU_BITS}
+use Rattle.jr_arrival.specs.Growing.{IsOver, MayGrow}
 
 -- what a scan may become as bytes come: intervals that are over are unchanged, and data follow those of the others
 pub record Becomes (g : GrowingScanValue) (t : ScanValue) : Type 0 where
@@ -27,7 +28,7 @@ pub record Becomes (g : GrowingScanValue) (t : ScanValue) : Type 0 where
   pub end : g.scan.ended ≢ EndOfFile → t.ended ≡ g.scan.ended
 
 -- a row of MCUs and its samples, of how many MCUs; how many MCUs of which interval stand before its next one, and where that
--- starts: nowhere, where no further one of the interval is whole; how many lines of the picture are given; and the marks of the
+-- starts: nowhere, if no further one of the interval becomes whole; how many lines of the picture are given; and the marks of the
 -- intervals before that one
 pub record ComingRowValue : Type 0 where
   pub row : ℕ
@@ -39,15 +40,26 @@ pub record ComingRowValue : Type 0 where
   pub lines : ℕ
   pub marked : Marked
 
--- this is the place behind so many MCUs of an interval; without a place it is over, and has no more whole ones
+-- these whole MCUs are the longest front of an interval, and stay it: the interval is over, or as many bits are left past them as an
+-- MCU has at most
+pub record StaysLongest (g : GrowingScanValue) (number front : ℕ) (zs : List (List ℤ)) : Type 0 where
+  pub longest : LongestFront (interval_of g.scan number) front zs
+  pub final : IsOver g.scan g.segments number ⊎ (MCU_BITS ≤ length longest.front.rest)
+
+-- this is the place past so many MCUs of an interval; without a place no more of them become whole
 abbrev pub ReadsTo : GrowingScanValue → (number mcu : ℕ) → Option Place → Type 0
 ReadsTo g number mcu (Some p) = (zs : List (List ℤ)) × IsNext (interval_of g.scan number) mcu zs p
-ReadsTo g number mcu None = IsOver g.scan g.segments number × ((front : ℕ) × (zs : List (List ℤ)) × (front < mcu) × LongestFront (interval_of g.scan number) front zs)
+ReadsTo g number mcu None = (front : ℕ) × (zs : List (List ℤ)) × (front < mcu) × StaysLongest g number front zs
 
 -- no further MCU of the interval is whole
 abbrev pub ReadsAll : ScanValue → (number mcu : ℕ) → Option Place → Type 0
 ReadsAll s number mcu (Some p) = HasLongestFront (interval_of s number) mcu
 ReadsAll s number mcu None = ⊤
+
+-- no MCU becomes whole at that place: the interval is over, or as many bits are left as an MCU has at most
+abbrev pub IsFinal : GrowingScanValue → (number : ℕ) → Option Place → Type 0
+IsFinal g number (Some p) = IsOver g.scan g.segments number ⊎ (MCU_BITS ≤ length (left_at (interval_of g.scan number) p))
+IsFinal g number None = ⊤
 
 -- it stands at an MCU of a picture with this head
 pub record StandsIn (h : HeadValue) (v : ComingRowValue) : Type 0 where
@@ -86,9 +98,10 @@ pub record IsComing (g : GrowingScanValue) (v : ComingRowValue) : Type 0 where
   pub shows : (t : ScanValue) → Becomes g t → ShowsFirstUnits t (length t.intervals) (v.row * mcus_across t.head) v.done (units_in t.head v.samples.lines.groups)
   pub counts : (t : ScanValue) → Becomes g t → CountsMarks t (length t.intervals) 0 v.number v.marked
 
--- the interval is not over, and no further MCU of it is whole
-abbrev pub HasNoMore : GrowingScanValue → ComingRowValue → Type 0
-HasNoMore g v = (IsOver g.scan g.segments v.number → ⊥) × HasLongestFront (interval_of g.scan v.number) v.mcu
+-- the interval is not over, and its MCUs are passed, or the next one is not whole and may become so
+pub record HasNoMore (g : GrowingScanValue) (v : ComingRowValue) : Type 0 where
+  pub going : IsOver g.scan g.segments v.number → ⊥
+  pub next : (v.mcu ≡ mcus_in g.scan.head v.number) ⊎ MayGrow (interval_of g.scan v.number) v.mcu
 
 -- these are lines of the picture of whatever the scan may become, so many from this one on
 abbrev pub AreComing : GrowingScanValue → (first count : ℕ) → List ℕ → Type 0

@@ -14,7 +14,7 @@ use Rattle.jr_scan.specs.ScanValue.{ScanValue}
 use Rattle.jr_arrival.specs.declared.cursor.Reading.{Reading}
 use Rattle.jr_arrival.specs.declared.cursor.Reading.TheVariants.{GoesOn, IsStuck, HasEnded}
 use Rattle.jr_arrival.specs.declared.cursor.ScanCursor.{ScanCursor}
-use Rattle.jr_arrival.specs.declared.cursor.TheConstants.{WINDOW}
+use Rattle.jr_arrival.specs.declared.cursor.TheConstants.{MCU_BITS, WINDOW}
 use Rattle.jr_arrival.specs.Growing.{IsSettled, RowIsSettled}
 use Rattle.jr_arrival.specs.Meaning.{MayBe, MeansAt}
 use Rattle.jr_arrival.specs.Places.{IsIn, mcus_before_place}
@@ -71,10 +71,10 @@ pub record PassesOver (h : HeadValue) (old new : ScanCursor) (mcus : ℕ) : Type
 abbrev pub in_window : HeadValue → ScanCursor → IntervalValue
 in_window h c = record { number = c.interval; mcus = mcus_in h c.interval - c.mcu; bytes = window c; head = h }
 
--- no MCU follows in the window, to the end of the interval's data or by more bits than an MCU has
+-- no MCU follows in the window, which reaches to the end of the interval's data or by as many bits as an MCU has at most
 pub record NoneFollows (h : HeadValue) (c : ScanCursor) : Type 0 where
   pub none : HasNoMcu (in_window h c) c.place
-  pub far : (c.ends ≡ true) ⊎ (16650 ≤ length (left_at (in_window h c) c.place))
+  pub far : (c.ends ≡ true) ⊎ (MCU_BITS ≤ length (left_at (in_window h c) c.place))
 
 -- the number of a reading
 abbrev pub reading_number : Reading → ℕ

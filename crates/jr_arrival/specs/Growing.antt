@@ -5,10 +5,12 @@ use Rattle.jr_head.specs.Geometry.{mcus_across}
 use Rattle.jr_head.specs.Heads.{HeadOf}
 use Rattle.jr_head.specs.Intervals.{interval_number, within_interval}
 use Rattle.jr_cut.specs.declared.scan_end.ScanEnd.TheVariants.{EndOfFile}
+use Rattle.jr_scan.specs.IntervalValue.{IntervalValue}
 use Rattle.jr_scan.specs.ScanValue.{ScanValue, IsScanOf, interval_of}
-use Rattle.jr_scan.specs.Mcus.{Front}
+use Rattle.jr_scan.specs.Mcus.{Front, LongestFront}
 use Rattle.jr_paint.specs.Lines.{next_lines_of}
 use Rattle.jr_rows.specs.Rows.{first_line, line_count}
+use Rattle.jr_arrival.specs.declared.cursor.TheConstants.{MCU_BITS}
 
 -- of the segments that bytes are cut into, all but the last are kept by more bytes; the last one's data may go on, and others follow
 pub record GrowsTo (datas longer : List (List ℕ)) : Type 0 where
@@ -40,10 +42,29 @@ pub record KeepsScan (bytes : List ℕ) (s t : ScanValue) : Type 0 where
   pub whole : (i : ℕ) → HasEndedAt bytes s i → interval_of t i ≡ interval_of s i
   pub end : s.ended ≢ EndOfFile → t.ended ≡ s.ended
 
--- MCU m of the picture is settled by the bytes so far: its interval has ended, or whole MCUs of its data reach behind it
+-- no data that follow the interval's make MCU `mcu` of it whole: past its longest front of whole MCUs, which ends at that MCU or
+-- before, as many bits are left as an MCU has at most
+pub record IsNeverWhole (i : IntervalValue) (mcu : ℕ) : Type 0 where
+  pub front : ℕ
+  pub blocks : List (List ℤ)
+  pub few : front ≤ mcu
+  pub longest : LongestFront i front blocks
+  pub long : MCU_BITS ≤ length longest.front.rest
+
+-- the interval's longest front may become longer: fewer bits are left past it
+pub record MayGrow (i : IntervalValue) (front : ℕ) : Type 0 where
+  pub blocks : List (List ℤ)
+  pub longest : LongestFront i front blocks
+  pub short : length longest.front.rest < MCU_BITS
+
+-- the interval's data so far settle MCU `mcu` of it: whole MCUs reach past it, or it never becomes whole
+abbrev pub IsKnown : IntervalValue → (mcu : ℕ) → Type 0
+IsKnown i mcu = ((blocks : List (List ℤ)) × Front i (mcu + 1) blocks) ⊎ IsNeverWhole i mcu
+
+-- the bytes so far settle MCU m of the picture: its interval has ended, or the interval's data so far settle it
 abbrev pub IsSettled : List ℕ → ScanValue → ℕ → Type 0
 IsSettled bytes s m = let i = interval_number s.head m in
-    HasEndedAt bytes s i ⊎ ((blocks : List (List ℤ)) × Front (interval_of s i) (within_interval s.head m + 1) blocks)
+    HasEndedAt bytes s i ⊎ IsKnown (interval_of s i) (within_interval s.head m)
 
 -- each MCU of a row is
 abbrev pub RowIsSettled : List ℕ → ScanValue → ℕ → Type 0

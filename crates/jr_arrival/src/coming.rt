@@ -88,7 +88,7 @@ impl Coming {
         Ok(Some(coming))
     }
 
-    /// More bytes have come. Where memory is refused none of them is taken.
+    /// Appends bytes of the file. On `Err`, none is taken.
     pub(crate) fn push(&mut self, more: &[u8]) -> Result<(), Memory>
         requires few { self.old.bytes + length more.now ≤ MAX_FILE_BYTES }
         ensures pushed { IfOk result (λ _. (bytes : List ℕ) → HasCome self.old.growing bytes → HasCome self.new.growing (bytes ++ more.now)) }
@@ -97,6 +97,8 @@ impl Coming {
         ensures row { IfOk result (λ _. self.new.row ≡ self.old.row) }
         ensures memory { IfErr result (λ _. self.new ≡ self.old) }
     {
+        // By its contract the head is lawful.
+        let _lawful = self.scan.head();
         self.scan.push(more)?;
         self.bytes += more.len();
         Ok(())

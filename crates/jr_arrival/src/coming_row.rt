@@ -4,16 +4,18 @@ ghost use Rattle.std.specs.Prelude.{◌≡◌, ◌+◌, ◌-◌, ◌*◌, ◌/�
 ghost use Rattle.jr_head.specs.Geometry.{mcus_across};
 ghost use Rattle.jr_paint.specs.Lines.{line_size};
 ghost use Rattle.jr_scan.specs.Mcus.{HasDecoding, HasNoDecoding};
+ghost use Rattle.jr_scan.specs.Run.{left_at};
 ghost use Rattle.jr_scan.specs.ScanValue.{ScanValue, interval_of, mcus_in};
 ghost use Rattle.jr_piece.specs.Strips.{TellsSound};
 ghost use Rattle.jr_rows.specs.Rows.{CountsMarks, first_line, line_count};
-ghost use Rattle.jr_arrival.specs.Coming.{AreComing, Becomes, Begins, HasNoMore, IsComing, ReadsAll, ReadsTo};
+ghost use Rattle.jr_arrival.specs.Coming.{AreComing, Becomes, Begins, HasNoMore, IsComing, IsFinal, ReadsAll, ReadsTo};
 ghost use Rattle.jr_arrival.specs.Growing.{IsOver};
 
+use crate::cursor::MCU_BITS;
 use jr_base::Memory;
 use jr_head::Head;
 use jr_rows::{Marked, SampleRow, bytes_to, lines_of, shape_of};
-use jr_scan::{GrowingScan, McuReader, Place, ScanEnd};
+use jr_scan::{GrowingScan, IntervalRef, McuReader, Place, ScanEnd};
 use std::alloc::Global;
 use std::marker::Model;
 
@@ -31,8 +33,16 @@ fn is_over(scan: &GrowingScan, i: u32) -> bool
     }
 }
 
-/// Whether an interval has a decoding, of which so many MCUs stand before this place; without one no further MCU of it is whole. It
-/// passes over those that are left.
+/// Returns the number of bits of an interval's data from a position on.
+fn bits_left(interval: IntervalRef<'_>, place: Place) -> u64
+    requires within { place.bit ≤ 8 * length interval.bytes }
+    ensures { result ≡ length (left_at interval.entry place) }
+{
+    8 * interval.bytes().len() as u64 - place.bit
+}
+
+/// Returns whether an interval has a decoding, of which `mcu` MCUs are before a position; without one no further MCU becomes whole.
+/// It skips those that are left.
 fn is_sound(scan: &GrowingScan, i: u32, mcu: u32, place: Option<Place>) -> bool
     requires number { i < length scan.now.scan.intervals }
     requires few { mcu ≤ mcus_in scan.now.scan.head i }
@@ -75,7 +85,7 @@ pub(crate) struct ComingRow {
     /// The interval that is read, and how many of its MCUs are, or are grey.
     number: u32,
     mcu: u32,
-    /// Where its next MCU starts; none where no further one is whole.
+    /// Where its next MCU starts; none if no further one becomes whole.
     place: Option<Place>,
     lines: u32,
     /// The marks of the intervals before the one that is read.
@@ -197,12 +207,27 @@ impl ComingRow {
         whole
     }
 
-    /// Makes MCUs of the row grey, of an interval that is over and has no further whole one.
+    /// Returns whether the interval's next MCU, which is not whole, never becomes so: the interval is over, or the data so far have
+    /// as many bits from there on as an MCU has at most (T.81, F.1.2).
+    fn is_final(&self, scan: &GrowingScan) -> bool
+        requires coming { IsComing scan.now self.now }
+        ensures never { result ≡ true → IsFinal scan.now self.now.number self.now.place }
+        ensures going { result ≡ false → IsFinal scan.now self.now.number self.now.place → ⊥ }
+    {
+        // By its contract there is room for the numbers of all intervals.
+        let _most = scan.intervals();
+        let Some(place) = self.place else {
+            return true;
+        };
+        is_over(scan, self.number) || bits_left(scan.interval_ref(self.number), place) >= MCU_BITS
+    }
+
+    /// Makes MCUs of the row grey, of an interval whose next one never becomes whole.
     fn decode_grey(&mut self, scan: &GrowingScan)
         requires coming { IsComing scan.now self.old }
         requires more { self.old.done < mcus_across scan.now.scan.head }
         requires some { self.old.mcu < mcus_in scan.now.scan.head self.old.number }
-        requires over { IsOver scan.now.scan scan.now.segments self.old.number }
+        requires never { IsFinal scan.now self.old.number self.old.place }
         requires all { ReadsAll scan.now.scan self.old.number self.old.mcu self.old.place }
         ensures coming { IsComing scan.now self.new }
         ensures row { self.new.row ≡ self.old.row }
@@ -221,7 +246,7 @@ impl ComingRow {
         self.place = None;
     }
 
-    /// Decodes some further MCUs of the row. False where no further one is there.
+    /// Decodes some further MCUs of the row, and returns false if the bytes do not settle the next one.
     fn decode_some(&mut self, scan: &GrowingScan) -> bool
         requires coming { IsComing scan.now self.old }
         requires more { self.old.done < mcus_across scan.now.scan.head }
@@ -237,7 +262,7 @@ impl ComingRow {
         if self.decode_whole(scan) > 0 {
             return true;
         }
-        if !is_over(scan, self.number) {
+        if !self.is_final(scan) {
             return false;
         }
         self.decode_grey(scan);

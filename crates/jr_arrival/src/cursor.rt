@@ -35,8 +35,8 @@ pub(crate) const WINDOW: usize = 16384;
 /// end a window here, and a caller that asks for one row at a time reads no more of them.
 const REACH: usize = 2 * WINDOW;
 
-/// Number of bits in which a whole MCU begins and ends if any does.
-const MCU_BITS: u64 = 16650;
+/// Maximum number of bits of an MCU (T.81, F.1.2): where as many begin with no whole MCU, none begins them whatever data follow.
+pub(crate) const MCU_BITS: u64 = 16650;
 
 /// How the interval goes on in which a cursor stands.
 #[derive(Clone, Copy, Debug, PartialEq, Eq)]
@@ -317,7 +317,22 @@ impl<'a> ScanCursor<'a> {
         self.file.are_all
     }
 
-    /// No further MCU of the interval is whole. False where its end has not come: its last MCUs are settled once it has.
+    /// Returns whether the next MCU, which is not whole in the window, never becomes so: the window has as many bits from there on as
+    /// an MCU has at most, or the interval's data end at `end` whatever follows the bytes.
+    fn is_stuck_at(&self, end: usize) -> bool
+        requires window { HasWindow self.now }
+        requires within { end ≤ length self.now.file.bytes.now }
+        requires stop { IsStop (drop end self.now.file.bytes.now) }
+        ensures never { result ≡ true → (more : List ℕ) → (self.now.file.are_all ≡ true → more ≡ []) → IsStop (drop end (self.now.file.bytes.now ++ more)) ⊎ (MCU_BITS + self.now.place.bit ≤ 8 * (self.now.found - self.now.from)) }
+        ensures all { self.now.file.are_all ≡ true → result ≡ true }
+        ensures fill { result ≡ false → (fill : ℕ) × (drop end self.now.file.bytes.now ≡ replicate fill PREFIX) }
+        ensures short { result ≡ false → 8 * (self.now.found - self.now.from) < MCU_BITS + self.now.place.bit }
+    {
+        let bits = 8 * (self.found - self.from) as u64 - self.place.bit;
+        bits >= MCU_BITS || self.ends_at(end)
+    }
+
+    /// Returns whether no further MCU of the interval becomes whole, and then goes past its data so far.
     pub(crate) fn give_up(&mut self, head: &Head) -> bool
         requires cursor { IsCursor head.now self.old }
         requires none { self.old.reading ≡ GoesOn → NoneFollows head.now self.old }
@@ -332,7 +347,7 @@ impl<'a> ScanCursor<'a> {
             return true;
         }
         let end = self.end_of_data();
-        if !self.ends_at(end) {
+        if !self.is_stuck_at(end) {
             return false;
         }
         self.leave(end, Reading::IsStuck);

@@ -75,13 +75,13 @@ fn given_of(alloc: Global, bytes: &[u8]) -> Result<Option<Vec<u8>>, Fail> {
 /// The restart interval of an image of 8 by 24 pixels, the bytes of its scan that have arrived, and the number of its lines that are
 /// final then. The words 00, 01 and 10 code 0, 3 and 11 additional bits, no word begins with 11, and 0 ends a block: 011000 is a
 /// block, and so is 000.
-pub(crate) const FINAL: [(&str, &str, u32); 24] = [
+pub(crate) const FINAL: [(&str, &str, u32); 33] = [
     ("", "", 0),
     ("", "63", 8),
     ("", "61", 8),
     ("", "61 86", 16),
     ("", "61 86 3F", 24),
-    // More bytes can't mend these bits; but only the interval's end tells it.
+    // No bytes mend these bits, but so few do not say it before the interval's end.
     ("", "E0", 0),
     ("", "E0 FF", 0),
     ("", "E0 FF FF", 0),
@@ -94,6 +94,16 @@ pub(crate) const FINAL: [(&str, &str, u32); 24] = [
     ("", "02 FF FF", 16),
     ("", "02 FF FF 00", 16),
     ("", "02 FF FF 00 E0", 24),
+    // As many bits as an MCU has at most, 16,650, which begin with no word: after the block in 63 two ones are left.
+    ("", "2081*FF00", 0),
+    ("", "2081*FF00 FF", 0),
+    ("", "2082*FF00", 24),
+    ("", "63 1000*FF00", 8),
+    ("", "63 2080*FF00", 8),
+    ("", "63 2080*FF00 FF", 8),
+    ("", "63 2081*FF00", 24),
+    ("I", "2081*FF00", 0),
+    ("I", "2082*FF00", 8),
     // A restart marker ends an interval once its code is there, also where no data follow.
     ("I", "E0 FF", 0),
     ("I", "E0 FF FF", 0),

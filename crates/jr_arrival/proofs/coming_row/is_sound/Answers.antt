@@ -11,8 +11,8 @@ pub returns-in_default-clause-damaged : goal.returns-in_default-clause-damaged
 returns-in_default-clause-damaged c = λ e.
     let s : ScanValue = c.args.scan.now.scan in
     let none : c.args.place ≡ None = search rules in
-    let far = (subst (ReadsTo c.args.scan.now c.args.i c.args.mcu) none c.requires.reads).1 in
-    has_none (interval_of s c.args.i) far.0 c.args.mcu far.1 far.2 c.requires.few far.3
+    let far = subst (ReadsTo c.args.scan.now c.args.i c.args.mcu) none c.requires.reads in
+    has_none (interval_of s c.args.i) far.0 c.args.mcu far.1 far.2 c.requires.few far.3.longest
 
 pub returns-then-whole-left-clause-sound : goal.returns-then-whole-left-clause-sound
 returns-then-whole-left-clause-sound c = λ e.

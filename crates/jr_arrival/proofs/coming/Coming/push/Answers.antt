@@ -1,4 +1,5 @@
 use Rattle.std.proofs.Common.{ℕ, ◌+◌, ◌≤◌, ◌++◌, length, length-append, sym, ap, subst, ◌∙◌, rules}
+use Rattle.jr_head.specs.Geometry.{IsLawful}
 use Rattle.jr_base.specs.declared.limits.TheConstants.{MAX_FILE_BYTES}
 use Rattle.jr_scan.specs.GrowingScan.{GrowingScanValue, HasCome}
 use Rattle.jr_arrival.specs.Arriving.{ComingValue}
@@ -15,7 +16,8 @@ invariant_of-self-2 c =
     let come : HasCome new (was.0 ++ more) = c.in_ok-push.ensures.pushed was.0 was.1 in
     let on = grows was.0 more old new c.push.ensures.head was.1 come in
     let small : i.bytes + length more ≤ MAX_FILE_BYTES = subst (λ (v : ComingValue). v.bytes + length more ≤ MAX_FILE_BYTES) (sym c.self.view_is) c.requires.few in
-    (coming_stays old new i.row on c.self.invariant.0, small, (was.0 ++ more, come, length-append was.0 more ∙ ap (λ (n : ℕ). n + length more) was.2))
+    let lawful : IsLawful old.scan.head = subst IsLawful c.head-lawful.ensures.value c.head-lawful.ensures.lawful in
+    (coming_stays old new i.row lawful on c.self.invariant.0, small, (was.0 ++ more, come, length-append was.0 more ∙ ap (λ (n : ℕ). n + length more) was.2))
 
 pub returns-clause-pushed : goal.returns-clause-pushed
 returns-clause-pushed c bytes has =

@@ -1,4 +1,4 @@
-use Rattle.std.proofs.Common.{◌≡◌, ℕ, ◌+◌, ◌<◌, Some, length, sym, ap, subst, ◌∙◌, arith}
+use Rattle.std.proofs.Common.{◌≡◌, ℕ, ◌+◌, ◌<◌, Some, inl, length, sym, ap, subst, ◌∙◌, arith}
 use Rattle.jr_head.specs.HeadValue.{HeadValue}
 use Rattle.jr_head.specs.Geometry.{mcus_across}
 use Rattle.jr_scan.specs.GrowingScan.{GrowingScanValue}
@@ -7,7 +7,7 @@ use Rattle.jr_scan.specs.declared.place.Place.{Place}
 use Rattle.jr_rows.specs.Rows.{CountsMarks}
 use Rattle.jr_arrival.specs.Coming.{Becomes, ComingRowValue, IsComing}
 use Rattle.jr_arrival.specs.Growing.{IsOver}
-use Rattle.jr_arrival.proofs.Readings.{all_read, next_inside, step_next}
+use Rattle.jr_arrival.proofs.Readings.{next_inside, step_next}
 use Rattle.jr_arrival.proofs.coming_row.ComingRow.advance.Goals as goal
 
 pub returns-then-not-is_over-clause-none : goal.returns-then-not-is_over-clause-none
@@ -19,7 +19,7 @@ returns-then-not-is_over-clause-none c wrong =
     let all : c.mcus_in.result ≡ mcus_in s.head v.number = c.mcus_in.ensures.value ∙ ap (λ (h : HeadValue). mcus_in h c.self.inside.number) c.head.ensures.value ∙ ap (mcus_in s.head) number in
     let g : GrowingScanValue = c.args.scan.now in
     let going = subst (λ (n : ℕ). IsOver s g.segments n → ⊥) number (c.is_over.ensures.going c.if-not-is_over.true) in
-    (going, all_read g v.number v.mcu v.place going c.requires.coming.reads (omega (arith, c.requires.coming.stands.few, all, mcu, c.if-self-mcus_in.false)))
+    record { going = going; next = inl (omega (arith, c.requires.coming.stands.few, all, mcu, c.if-self-mcus_in.false)) }
 
 pub returns-clause-coming : goal.returns-clause-coming
 returns-clause-coming c =

@@ -6,8 +6,7 @@ use Rattle.jr_rows.specs.Groups.{units_in}
 use Rattle.jr_rows.specs.Rows.{HasSampleRoom}
 use Rattle.jr_rows.specs.RowsValue.{SampleRowValue}
 use Rattle.jr_scan.specs.ScanValue.{ScanValue, mcus_in}
-use Rattle.jr_arrival.specs.Coming.{ComingRowValue, IsComing, ReadsAll}
-use Rattle.jr_arrival.specs.Growing.{IsOver}
+use Rattle.jr_arrival.specs.Coming.{ComingRowValue, IsComing, IsFinal, ReadsAll}
 use Rattle.jr_arrival.proofs.Readings.{far_front, step_grey}
 use Rattle.jr_arrival.proofs.coming_row.ComingRow.decode_grey.Goals as goal
 
@@ -17,9 +16,9 @@ returns-clause-coming c =
     let i = c.self.inside in
     let v : ComingRowValue = record { row = i.row; done = i.done; number = i.number; mcu = i.mcu; place = i.place; samples = i.samples; lines = i.lines; marked = i.marked } in
     let coming : IsComing c.args.scan.now v = subst (IsComing c.args.scan.now) (sym c.self.view_is) c.requires.coming in
-    let over : IsOver s c.args.scan.now.segments i.number = subst (λ (r : ComingRowValue). IsOver s c.args.scan.now.segments r.number) (sym c.self.view_is) c.requires.over in
+    let final : IsFinal c.args.scan.now i.number i.place = subst (λ (r : ComingRowValue). IsFinal c.args.scan.now r.number r.place) (sym c.self.view_is) c.requires.never in
     let all : ReadsAll s i.number i.mcu i.place = subst (λ (r : ComingRowValue). ReadsAll s r.number r.mcu r.place) (sym c.self.view_is) c.requires.all in
-    let front = far_front c.args.scan.now i.number i.mcu i.place coming.reads all in
+    let front = far_front c.args.scan.now i.number i.mcu i.place coming.reads all final in
     let e : c.head-head.result.now ≡ s.head = c.head-head.ensures.value in
     let lawful : IsLawful s.head = subst IsLawful e c.head-head.ensures.lawful in
     let n = c.put_grey-grey.result in
@@ -34,4 +33,4 @@ returns-clause-coming c =
     let room : HasSampleRoom s.head w = subst (λ (h : HeadValue). HasSampleRoom h w) e c.put_grey-grey.ensures.room in
     let kept = subst (λ (h : HeadValue). (k : ℕ) → k < i.done * blocks_of h → slice_index_or (units_in h w.lines.groups) k [] ≡ slice_index_or (units_in h i.samples.lines.groups) k []) e c.put_grey-grey.ensures.kept in
     let grey = subst (λ (h : HeadValue). (k : ℕ) → k < n * blocks_of h → slice_index_or (units_in h w.lines.groups) (i.done * blocks_of h + k) [] ≡ grey_unit) e c.put_grey-grey.ensures.grey in
-    step_grey c.args.scan.now v lawful some_unit count coming front.0 n front.1 w over c.put_grey-grey.ensures.some front.2 front.3 within few room kept grey
+    step_grey c.args.scan.now v lawful some_unit count coming front.0 n front.1 w c.put_grey-grey.ensures.some front.2 front.3 within few room kept grey

@@ -1,9 +1,9 @@
-use Rattle.std.proofs.Common.{◌≡◌, ℕ, ap, subst}
-use Rattle.jr_arrival.specs.Coming.{ComingRowValue}
-use Rattle.jr_arrival.specs.Growing.{IsOver}
+use Rattle.std.proofs.Common.{◌≡◌, arith}
+use Rattle.jr_arrival.proofs.Readings.{no_more}
 use Rattle.jr_arrival.proofs.coming_row.ComingRow.decode_some.Goals as goal
 
-pub decode_grey-requires-clause-over : goal.decode_grey-requires-clause-over
-decode_grey-requires-clause-over c =
-    let number : c.self.inside.number ≡ c.decode_whole.new.self.number = ap (λ (r : ComingRowValue). r.number) c.self.view_is in
-    subst (λ (n : ℕ). IsOver c.args.scan.now.scan c.args.scan.now.segments n) number (c.is_over.ensures.over c.if-not-is_over.false)
+pub returns-then-not-is_final-clause-none : goal.returns-then-not-is_final-clause-none
+returns-then-not-is_final-clause-none c told =
+    let none : c.decode_whole.result ≡ 0 = omega (arith, c.if-decode_whole-gt0.false) in
+    let e = c.decode_whole.ensures in
+    (no_more c.args.scan.now c.decode_whole.new.self e.coming.reads (e.all none) (c.is_final.ensures.going c.if-not-is_final.true), omega (arith, e.done, none, c.advance.ensures.done, c.requires.more))
