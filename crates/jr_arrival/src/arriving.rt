@@ -20,11 +20,11 @@ use jr_segments::Refusal;
 use std::alloc::Global;
 use std::marker::Model;
 
-/// A file that is still arriving. Its bytes are pushed as they come, in any splitting, and the lines of its picture are given as
-/// soon as the bytes so far settle them, each once and in their order.
+/// A file that is still arriving. Its bytes are pushed as they come, in any splitting, and the lines of its image are
+/// returned as soon as the bytes so far make them final, each once and in their order.
 ///
-/// Each byte is read once: each look reads on in the head from the first segment that was not whole, and then in the scan from where
-/// the last look ended. It uses memory for the data of the scan and for a row of MCUs.
+/// Each byte is read once: each look reads on in the header from the first segment that was not whole, and then in the
+/// scan from where the last look ended. It uses memory for the data of the scan and for a row of MCUs.
 #[derive(Drop)]
 pub struct Arriving {
     /// Empty once the scan has begun.
@@ -45,7 +45,7 @@ impl Model for Arriving {
     ghost invariant = { λ a. IfSome a.coming (λ c. c.bytes ≤ a.count) × (length a.head ≤ a.count) };
 }
 
-/// More bytes have come, and are put behind those that are kept or cut.
+/// Appends bytes of the file to those that are kept or cut.
 fn hold(head: &mut ArrivingHead, coming: &mut Option<Coming>, more: &[u8]) -> Result<(), Memory>
     requires few { IfSome coming.old (λ c. c.bytes + length more.now ≤ MAX_FILE_BYTES) }
     ensures held { IfOk result (λ _. (so_far : List ℕ) → length (so_far ++ more.now) ≤ MAX_FILE_BYTES → HoldsBytes head.old coming.old so_far → HoldsBytes head.new coming.new (so_far ++ more.now)) }
@@ -62,7 +62,7 @@ fn hold(head: &mut ArrivingHead, coming: &mut Option<Coming>, more: &[u8]) -> Re
     Ok(())
 }
 
-/// Gives the next lines of a scan, none where it has not begun: answers how many.
+/// Returns the number of the next lines of a scan that are copied into `pixels`, 0 if it has not begun.
 fn give(coming: &mut Option<Coming>, pixels: &mut [u8]) -> u32
     ensures lines { given_of coming.new ≡ given_of coming.old + result }
     ensures bytes { (n : ℕ) → IfSome coming.old (λ c. c.bytes ≤ n) → IfSome coming.new (λ c. c.bytes ≤ n) }
@@ -122,14 +122,14 @@ impl Arriving {
         Ok(())
     }
 
-    /// How many bytes have come.
+    /// Returns the number of bytes that have come.
     pub fn bytes(&self) -> u64
         ensures { (bytes : List ℕ) → IsArriving self.now bytes → result ≡ min (length bytes) (2 ^ 64 - 1) }
     {
         self.count
     }
 
-    /// How many lines are given.
+    /// Returns the number of lines that were returned.
     pub fn lines(&self) -> u32
         ensures { result ≡ given_of self.now.coming }
     {
@@ -139,11 +139,11 @@ impl Arriving {
         }
     }
 
-    /// Reads the head of the file once it is there: that of every file that the bytes so far can become.
+    /// Reads the header of the file once it is there: that of every file that the bytes so far can become.
     ///
     /// # Errors
     ///
-    /// The refusal of every such file. `Memory` where memory was refused; it says nothing of the bytes.
+    /// The refusal of every such file. `Memory` if allocation fails; it says nothing of the bytes.
     pub fn begin(&mut self, alloc: Global) -> Result<(), Refusal>
         ensures arriving { (bytes : List ℕ) → IsArriving self.old bytes → IsArriving self.new bytes }
         ensures lines { given_of self.new.coming ≡ given_of self.old.coming }
@@ -167,7 +167,7 @@ impl Arriving {
         Ok(())
     }
 
-    /// The head of every file that the bytes so far can become, once it is read.
+    /// Returns the header of every file that the bytes so far can become, once it is read.
     pub fn head(&self) -> Option<&Head>
         ensures head { IfSome result (λ h. (bytes : List ℕ) → IsArriving self.now bytes → length bytes ≤ MAX_FILE_BYTES → HeadOf bytes h.now) }
         ensures none { IfNone result (self.now.coming ≡ None) }
@@ -178,12 +178,12 @@ impl Arriving {
         }
     }
 
-    /// Gives the next lines that the bytes so far settle, as many as have room in `pixels`, a line behind the other, of one byte or
-    /// three a pixel: answers how many. Every file that the bytes can become shows them.
+    /// Copies the next lines that the bytes so far make final into `pixels`, as many as fit, a line after the other, of
+    /// one byte or three a pixel. Returns their number. Every file that the bytes can become shows them.
     ///
     /// # Errors
     ///
-    /// The refusal of every file that the bytes can become. `Memory` where memory was refused; then no line is given.
+    /// The refusal of every file that the bytes can become. `Memory` if allocation fails; then no line is copied.
     pub fn next_lines(&mut self, alloc: Global, pixels: &mut [u8]) -> Result<u32, Refusal>
         ensures given { IfOk result (λ n. (bytes : List ℕ) → IsArriving self.old bytes → GivesNext bytes (given_of self.old.coming) n pixels.new) }
         ensures lines { IfOk result (λ n. given_of self.new.coming ≡ given_of self.old.coming + n) }
@@ -198,12 +198,12 @@ impl Arriving {
         }
     }
 
-    /// Nothing more comes: the scan of the file, of whose picture lines are missing from `lines` on, and how many of its restart
-    /// intervals are sound and damaged. The MCUs of lines that are not given are passed over.
+    /// Ends the file. Returns its scan, of whose image lines starting at `lines` are missing, and the numbers of its
+    /// sound and damaged restart intervals. It skips the MCUs of lines that were not returned.
     ///
     /// # Errors
     ///
-    /// The file's refusal. `Memory` where memory was refused.
+    /// The file's refusal. `Memory` if allocation fails.
     pub fn finish(self, alloc: Global) -> Result<Finished, Refusal>
         ensures scan { IfOk result (λ r. (bytes : List ℕ) → IsArriving self bytes → HasScan bytes r.scan) }
         ensures counts { IfOk result (λ r. HasCounts r.scan (length r.scan.intervals) r.counts) }

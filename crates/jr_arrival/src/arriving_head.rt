@@ -1,4 +1,4 @@
-//! The bytes of a file whose head has not arrived whole.
+//! The bytes of a file whose header has not arrived whole.
 
 ghost use Rattle.std.specs.Prelude.{◌≡◌, ◌≢◌, ◌++◌, List, [], ℕ, IfOk, IfErr, IfSome, IfNone};
 ghost use Rattle.jr_segments.specs.declared.refusal.Refusal.TheVariants as refusal;
@@ -14,7 +14,7 @@ use std::alloc::Global;
 use std::marker::Model;
 use std::mem;
 
-/// The bytes that have arrived of a file, and a reader of its head, which reads each segment once.
+/// The bytes that have arrived of a file, and a reader of its header, which reads each segment once.
 #[derive(Drop)]
 pub(crate) struct ArrivingHead {
     bytes: Vec<u8>,
@@ -33,7 +33,7 @@ impl Model for ArrivingHead {
 }
 
 impl ArrivingHead {
-    /// Returns the head of a file of which nothing has arrived.
+    /// Returns the header of a file of which nothing has arrived.
     pub(crate) fn new(alloc: Global) -> ArrivingHead
         ensures { result ≡ [] }
     {
@@ -59,7 +59,7 @@ impl ArrivingHead {
         &self.bytes
     }
 
-    /// Reads on, and returns the head of every file that the bytes can become, or `None` if more are wanted.
+    /// Reads on, and returns the header of every file that the bytes can become, or `None` if more are wanted.
     ///
     /// # Errors
     ///

@@ -1,4 +1,4 @@
-//! A scan whose file is still arriving, and the lines that it gives.
+//! A scan whose file is still arriving, and its lines.
 
 ghost use Rattle.std.specs.Prelude.{◌≡◌, ◌≢◌, ◌+◌, ◌-◌, ◌*◌, ◌/◌, ◌<◌, ◌≤◌, ◌++◌, ℕ, List, min, length, take, IfOk, IfErr, IfSome, IfNone};
 ghost use Rattle.jr_base.specs.declared.limits.TheConstants.{MAX_FILE_BYTES};
@@ -67,7 +67,7 @@ impl Coming {
         })
     }
 
-    /// Returns the scan of the bytes so far once they have its head, or `None` if more are wanted. It copies them.
+    /// Returns the scan of the bytes so far once they have its header, or `None` if more are wanted. It copies them.
     ///
     /// # Errors
     ///
@@ -104,14 +104,14 @@ impl Coming {
         Ok(())
     }
 
-    /// The head of the file.
+    /// Returns the header of the file.
     pub(crate) fn head(&self) -> &Head
         ensures { result.now ≡ self.now.growing.scan.head }
     {
         self.scan.head()
     }
 
-    /// How many bytes have come.
+    /// Returns the number of bytes that have come.
     pub(crate) fn bytes(&self) -> usize
         ensures value { result ≡ self.now.bytes }
         ensures few { result ≤ MAX_FILE_BYTES }
@@ -119,14 +119,14 @@ impl Coming {
         self.bytes
     }
 
-    /// How many lines are given.
+    /// Returns the number of lines that were returned.
     pub(crate) fn lines(&self) -> u32
         ensures { result ≡ self.now.row.lines }
     {
         self.row.lines()
     }
 
-    /// Gives the next lines that are there, as many as have room in `pixels`: answers how many.
+    /// Copies the next final lines into `pixels`, as many as fit, and returns their number.
     pub(crate) fn give(&mut self, pixels: &mut [u8]) -> u32
         ensures scan { self.new.growing ≡ self.old.growing }
         ensures bytes { self.new.bytes ≡ self.old.bytes }
@@ -142,7 +142,7 @@ impl Coming {
         self.row.give(&self.scan, pixels)
     }
 
-    /// Nothing more comes: the scan, and how many of its intervals are sound and damaged. It passes over the MCUs that are left.
+    /// Ends the scan. Returns it, and the numbers of its sound and damaged intervals. It skips the MCUs that are left.
     pub(crate) fn finish(self, alloc: Global) -> Result<Finished, Memory>
         ensures scan { IfOk result (λ r. r.scan ≡ self.growing.scan) }
         ensures counts { IfOk result (λ r. HasCounts self.growing.scan (length self.growing.scan.intervals) r.counts) }

@@ -33,7 +33,7 @@ fn is_over(scan: &GrowingScan, i: u32) -> bool
     }
 }
 
-/// Returns the number of bits of an interval's data from a position on.
+/// Returns the number of bits of an interval's data after a position.
 fn bits_left(interval: IntervalRef<'_>, place: Place) -> u64
     requires within { place.bit ≤ 8 * length interval.bytes }
     ensures { result ≡ length (left_at interval.entry place) }
@@ -50,7 +50,7 @@ fn is_sound(scan: &GrowingScan, i: u32, mcu: u32, place: Option<Place>) -> bool
     ensures sound { result ≡ true → HasDecoding (interval_of scan.now.scan i) }
     ensures damaged { result ≡ false → HasNoDecoding (interval_of scan.now.scan i) }
 {
-    // By its contract there is room for the numbers of all intervals.
+    // By its contract the numbers of all intervals fit.
     let _most = scan.intervals();
     let head = scan.head();
     let Some(place) = place else {
@@ -65,7 +65,7 @@ fn is_sound(scan: &GrowingScan, i: u32, mcu: u32, place: Option<Place>) -> bool
     whole == left && bits - end.bit < 8
 }
 
-/// How many lines of a picture from one on have room in so many bytes.
+/// Returns how many lines of an image starting at `first` fit into `bytes` bytes.
 fn lines_with_room(head: &Head, first: u32, bytes: usize) -> u32
     ensures value { result ≡ min (bytes / line_size head.now) (head.now.height - first) }
     ensures fits { result * line_size head.now ≤ bytes }
@@ -75,17 +75,17 @@ fn lines_with_room(head: &Head, first: u32, bytes: usize) -> u32
     (bytes / shape_of(head).line).min(left as usize) as u32
 }
 
-/// The row of MCUs that comes next, decoded as far as its data are there, and lines of the picture that are given of it.
+/// The row of MCUs that comes next, decoded as far as its data are there, and the number of lines that were returned.
 #[derive(Drop)]
 pub(crate) struct ComingRow {
     samples: SampleRow,
     row: u32,
-    /// How many of its MCUs are decoded.
+    /// Number of its MCUs that are decoded.
     done: u32,
     /// The interval that is read, and how many of its MCUs are, or are grey.
     number: u32,
     mcu: u32,
-    /// Where its next MCU starts; none if no further one becomes whole.
+    /// Start of its next MCU; `None` if no further one becomes whole.
     place: Option<Place>,
     lines: u32,
     /// The marks of the intervals before the one that is read.
@@ -101,7 +101,7 @@ impl Model for ComingRow {
 }
 
 impl ComingRow {
-    /// The first row of a picture with this head.
+    /// Returns the first row of an image with this header.
     pub(crate) fn open(alloc: Global, head: &Head) -> Result<ComingRow, Memory>
         ensures { IfOk result (Begins head.now) }
     {
@@ -117,7 +117,7 @@ impl ComingRow {
         })
     }
 
-    /// How many lines of the picture are given.
+    /// Returns the number of lines of the image that were returned.
     pub(crate) fn lines(&self) -> u32
         ensures { result ≡ self.now.lines }
     {
@@ -129,7 +129,7 @@ impl ComingRow {
         requires coming { IsComing scan.now self.now }
         ensures counts { (t : ScanValue) → Becomes scan.now t → interval_of t self.now.number ≡ interval_of scan.now.scan self.now.number → CountsMarks t (length t.intervals) 0 (self.now.number + 1) result }
     {
-        // By its contract there is room for the numbers of all intervals.
+        // By its contract the numbers of all intervals fit.
         let _most = scan.intervals();
         let is_sound = is_sound(scan, self.number, self.mcu, self.place);
         self.marked.with(Marked::one(is_sound))
@@ -149,7 +149,7 @@ impl ComingRow {
         marked
     }
 
-    /// Goes on to the next interval where this one is read to its end. False where that has not begun.
+    /// Moves to the next interval if this one is read to its end. Returns `false` if that has not begun.
     fn advance(&mut self, scan: &GrowingScan) -> bool
         requires coming { IsComing scan.now self.old }
         requires more { self.old.done < mcus_across scan.now.scan.head }
@@ -160,7 +160,7 @@ impl ComingRow {
         ensures some { result ≡ true → self.new.mcu < mcus_in scan.now.scan.head self.new.number }
         ensures none { result ≡ false → HasNoMore scan.now self.new }
     {
-        // By its contract there is room for the numbers of all intervals.
+        // By its contract the numbers of all intervals fit.
         let _most = scan.intervals();
         if self.mcu < scan.head().mcus_in(self.number) {
             return true;
@@ -175,7 +175,7 @@ impl ComingRow {
         true
     }
 
-    /// Decodes further whole MCUs of the interval into the row: answers how many.
+    /// Decodes further whole MCUs of the interval into the row, and returns their number.
     fn decode_whole(&mut self, scan: &GrowingScan) -> u32
         requires coming { IsComing scan.now self.old }
         requires more { self.old.done < mcus_across scan.now.scan.head }
@@ -188,7 +188,7 @@ impl ComingRow {
         ensures lines { self.new.lines ≡ self.old.lines }
         ensures all { result ≡ 0 → ReadsAll scan.now.scan self.new.number self.new.mcu self.new.place }
     {
-        // By their contracts there is room for the numbers of a row's MCUs and of all intervals, and an MCU has a data unit.
+        // By their contracts the numbers of a row's MCUs and of all intervals fit, and an MCU has a data unit.
         let _few = shape_of(scan.head());
         let _most = scan.intervals();
         let _some = scan.head().order().len();
@@ -207,14 +207,14 @@ impl ComingRow {
         whole
     }
 
-    /// Returns whether the interval's next MCU, which is not whole, never becomes so: the interval is over, or the data so far have
-    /// as many bits from there on as an MCU has at most (T.81, F.1.2).
+    /// Returns whether the interval's next MCU, which is not whole, never becomes so: the interval is over, or the data
+    /// so far have as many bits from there on as an MCU has at most (T.81, F.1.2).
     fn is_final(&self, scan: &GrowingScan) -> bool
         requires coming { IsComing scan.now self.now }
         ensures never { result ≡ true → IsFinal scan.now self.now.number self.now.place }
         ensures going { result ≡ false → IsFinal scan.now self.now.number self.now.place → ⊥ }
     {
-        // By its contract there is room for the numbers of all intervals.
+        // By its contract the numbers of all intervals fit.
         let _most = scan.intervals();
         let Some(place) = self.place else {
             return true;
@@ -234,7 +234,7 @@ impl ComingRow {
         ensures done { self.old.done < self.new.done }
         ensures lines { self.new.lines ≡ self.old.lines }
     {
-        // By their contracts there is room for the numbers of all intervals, and an MCU has a data unit.
+        // By their contracts the numbers of all intervals fit, and an MCU has a data unit.
         let head = scan.head();
         let _most = scan.intervals();
         let _some = head.order().len();
@@ -287,7 +287,8 @@ impl ComingRow {
         true
     }
 
-    /// So many lines of the row, which is whole, are given: goes on to the next row behind the last one.
+    /// Notes that `count` lines of the row, which is whole, were returned, and moves to the next row after the last
+    /// one.
     fn pass_lines(&mut self, scan: &GrowingScan, count: u32)
         requires coming { IsComing scan.now self.old }
         requires whole { self.old.done ≡ mcus_across scan.now.scan.head }
@@ -295,7 +296,7 @@ impl ComingRow {
         ensures coming { IsComing scan.now self.new }
         ensures lines { self.new.lines ≡ self.old.lines + count }
     {
-        // By its contract there is room for the numbers of the rows.
+        // By its contract the numbers of the rows fit.
         let _few = shape_of(scan.head());
         let (first, all) = lines_of(scan.head(), self.row);
         self.lines += count;
@@ -306,7 +307,7 @@ impl ComingRow {
         self.done = 0;
     }
 
-    /// How many lines of the row are not given yet.
+    /// Returns the number of lines of the row that were not returned yet.
     fn lines_left(&self, scan: &GrowingScan) -> u32
         requires { IsComing scan.now self.now }
         ensures { self.now.lines + result ≡ first_line scan.now.scan.head self.now.row + line_count scan.now.scan.head self.now.row }
@@ -332,7 +333,7 @@ impl ComingRow {
         self.pass_lines(scan, count);
     }
 
-    /// Gives the next lines that are there, as many as have room in `pixels`, a line behind the other: answers how many.
+    /// Copies the next final lines into `pixels`, as many as fit, a line after the other, and returns their number.
     pub(crate) fn give(&mut self, scan: &GrowingScan, pixels: &mut [u8]) -> u32
         requires coming { IsComing scan.now self.old }
         ensures coming { IsComing scan.now self.new }

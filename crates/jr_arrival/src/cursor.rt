@@ -28,7 +28,8 @@ use jr_head::Head;
 use jr_scan::{IntervalRef, McuReader, Place};
 use std::alloc::Global;
 
-/// Maximum number of data bytes in a window: some rows of a small picture, and many times the longest MCU, which has 2082.
+/// Maximum number of data bytes in a window: some rows of a small image, and many times the longest MCU, which has
+/// 2082.
 pub(crate) const WINDOW: usize = 16384;
 
 /// Number of file bytes that a window reads at first. A byte of data takes at most two without fill bytes, so only fill bytes
@@ -38,12 +39,12 @@ const REACH: usize = 2 * WINDOW;
 /// Maximum number of bits of an MCU (T.81, F.1.2): where as many begin with no whole MCU, none begins them whatever data follow.
 pub(crate) const MCU_BITS: u64 = 16650;
 
-/// How the interval goes on in which a cursor stands.
+/// How the interval continues in which a cursor is.
 #[derive(Clone, Copy, Debug, PartialEq, Eq)]
 pub(crate) enum Reading {
     /// MCUs may follow.
     GoesOn,
-    /// No further one is whole.
+    /// No further MCU is whole.
     IsStuck,
     /// The scan has ended before its end, and no further interval has data.
     HasEnded,
@@ -66,12 +67,12 @@ pub(crate) struct ScanCursor<'a> {
     /// Where in the window the next MCU begins.
     pub place: Place,
     pub interval: u32,
-    /// How many MCUs of the interval stand before it.
+    /// Number of MCUs of the interval before it.
     pub mcu: u32,
     pub reading: Reading,
 }
 
-/// What sixteen bits hold of a number.
+/// Returns what sixteen bits hold of a number.
 fn in_sixteen_bits(prediction: i32) -> i32
     ensures in_range { IsInDcRange result }
     ensures kept { IsInDcRange prediction → result ≡ prediction }
@@ -79,7 +80,7 @@ fn in_sixteen_bits(prediction: i32) -> i32
     prediction.clamp(-32768, 32767)
 }
 
-/// What they hold of each of these.
+/// Returns what sixteen bits hold of each number.
 fn in_range(predictions: [i32; 3]) -> [i32; 3]
     ensures in_range { All IsInDcRange result }
     ensures kept { All IsInDcRange predictions → result ≡ predictions }
@@ -130,7 +131,7 @@ fn next_reach(at: usize, reach: usize, passed: usize) -> usize
 }
 
 impl<'a> ScanCursor<'a> {
-    /// At a place of a file with this head. It takes memory for a window.
+    /// Opens a cursor at a position of a file with this header. It allocates a window.
     pub(crate) fn open(
         alloc: Global,
         head: &Head,
@@ -164,7 +165,7 @@ impl<'a> ScanCursor<'a> {
         Ok(cursor)
     }
 
-    /// Fills the window from an offset of the file on, where `bit` bits of the first byte of data are taken.
+    /// Fills the window starting at an offset of the file, where `bit` bits of the first byte of data are taken.
     fn go_to(&mut self, at: usize, bit: u64)
         requires room { length self.old.room.items ≡ WINDOW }
         requires in_range { All IsInDcRange self.old.place.predictions }
@@ -265,7 +266,7 @@ impl<'a> ScanCursor<'a> {
         McuReader::at(interval, self.place, left)
     }
 
-    /// So many further MCUs are read, up to that place of the window.
+    /// Moves past `mcus` further MCUs, to a position in the window.
     pub(crate) fn pass(&mut self, mcus: u32, place: Place)
         requires { self.old.mcu + mcus < 2 ^ 32 }
         ensures { self.new ≡ record self.old { mcu = self.old.mcu + mcus; place = place } }
@@ -274,7 +275,7 @@ impl<'a> ScanCursor<'a> {
         self.place = place;
     }
 
-    /// The offset in the file behind the interval's data.
+    /// Returns the offset in the file after the interval's data.
     fn end_of_data(&self) -> usize
         requires { HasWindow self.now }
         ensures within { result ≤ length self.now.file.bytes.now }
@@ -284,7 +285,7 @@ impl<'a> ScanCursor<'a> {
         self.at + segment_length(&self.file.bytes[self.at..])
     }
 
-    /// Goes to an offset of the file behind the interval's data.
+    /// Moves to an offset of the file after the interval's data.
     fn leave(&mut self, at: usize, reading: Reading)
         requires window { HasWindow self.old }
         requires at { at ≤ length self.old.file.bytes.now }
@@ -302,7 +303,7 @@ impl<'a> ScanCursor<'a> {
         self.reading = reading;
     }
 
-    /// Whether the data end there whatever comes behind the bytes: whether the marker is there, or none comes.
+    /// Returns whether the data end there whatever follows the bytes: whether the marker is there, or nothing follows.
     fn ends_at(&self, end: usize) -> bool
         requires within { end ≤ length self.now.file.bytes.now }
         requires stop { IsStop (drop end self.now.file.bytes.now) }
@@ -354,7 +355,7 @@ impl<'a> ScanCursor<'a> {
         true
     }
 
-    /// What stands behind the interval's data, which end there.
+    /// Returns what follows the interval's data, which end there.
     fn stop_behind(&self, head: &Head, end: usize) -> Stop
         requires number { self.now.interval < intervals_of head.now }
         requires within { end ≤ length self.now.file.bytes.now }
@@ -367,7 +368,7 @@ impl<'a> ScanCursor<'a> {
         stop_at(tail, fill, end as u64, self.interval, head.intervals())
     }
 
-    /// Whether what ends the scan ends it whatever comes behind the bytes.
+    /// Returns whether what ends the scan ends it whatever follows the bytes.
     fn is_final(&self, ended: ScanEnd) -> bool
         ensures ends { result ≡ true → (more : List ℕ) → (self.now.file.are_all ≡ true → more ≡ []) → (ended ≢ EndOfFile) ⊎ (more ≡ []) }
         ensures all { self.now.file.are_all ≡ true → result ≡ true }
@@ -408,7 +409,7 @@ impl<'a> ScanCursor<'a> {
         true
     }
 
-    /// The same, where it has not gone to the scan's end before.
+    /// Does what `leave_interval` does, unless it has moved to the scan's end before.
     fn find_end(&mut self, head: &Head) -> bool
         requires window { HasWindow self.old }
         requires number { self.old.interval < intervals_of head.now }
@@ -421,7 +422,7 @@ impl<'a> ScanCursor<'a> {
         self.reading == Reading::HasEnded || self.leave_interval(head)
     }
 
-    /// Stands before the first MCU of the next interval, to whose data it has gone.
+    /// Moves to the first MCU of the next interval, at whose data the cursor is.
     fn begin_next(&mut self)
         requires window { HasWindow self.old }
         requires number { self.old.interval + 1 < 2 ^ 32 }
@@ -433,7 +434,7 @@ impl<'a> ScanCursor<'a> {
         self.place.predictions = [0; 3];
     }
 
-    /// Goes on to the next interval where the MCUs of this one are all passed. False where its end has not come.
+    /// Moves to the next interval if all MCUs of this one are passed. Returns `false` if its end has not come.
     pub(crate) fn advance(&mut self, head: &Head) -> bool
         requires cursor { IsCursor head.now self.old }
         requires more { mcus_before_place head.now self.old.interval self.old.mcu < mcus_of head.now }
@@ -443,7 +444,7 @@ impl<'a> ScanCursor<'a> {
         ensures all { self.old.file.are_all ≡ true → result ≡ true }
         ensures waits { result ≡ false → Waits head.now self.new }
     {
-        // By its contract there is room for the numbers of all intervals.
+        // By its contract the numbers of all intervals fit.
         let _most = head.intervals();
         head.be_lawful();
         if self.mcu < head.mcus_in(self.interval) {

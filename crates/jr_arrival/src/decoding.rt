@@ -16,7 +16,7 @@ use crate::cursor::{Reading, ScanCursor};
 use jr_head::Head;
 use jr_rows::{SampleRow, shape_of};
 
-/// Decodes whole MCUs of the window behind the first `done` of a row: answers how many.
+/// Decodes whole MCUs of the window after the first `done` of a row, and returns their number.
 fn decode_near(cursor: &mut ScanCursor<'_>, head: &Head, samples: &mut SampleRow, done: u32) -> u32
     requires cursor { IsCursor head.now cursor.old }
     requires within { done < mcus_across head.now }
@@ -31,7 +31,7 @@ fn decode_near(cursor: &mut ScanCursor<'_>, head: &Head, samples: &mut SampleRow
     ensures none { result ≡ 0 → cursor.new.mcu < mcus_in head.now cursor.new.interval → HasNoMcu (in_window head.now cursor.new) cursor.new.place }
     ensures few { done + result ≤ mcus_across head.now }
 {
-    // By their contracts there is room for the numbers of the interval's MCUs, and an MCU has a data unit.
+    // By their contracts the numbers of the interval's MCUs fit, and an MCU has a data unit.
     let _most = head.mcus_in(cursor.interval);
     let _some = head.order().len();
     let mut reader = cursor.reader(head);
@@ -41,7 +41,7 @@ fn decode_near(cursor: &mut ScanCursor<'_>, head: &Head, samples: &mut SampleRow
     whole
 }
 
-/// Decodes the next whole MCUs of the interval: answers how many; none where no further one is whole.
+/// Decodes the next whole MCUs of the interval, and returns their number, 0 if no further one is whole.
 fn decode_whole(cursor: &mut ScanCursor<'_>, head: &Head, samples: &mut SampleRow, done: u32) -> u32
     requires cursor { IsCursor head.now cursor.old }
     requires within { done < mcus_across head.now }
@@ -64,7 +64,7 @@ fn decode_whole(cursor: &mut ScanCursor<'_>, head: &Head, samples: &mut SampleRo
     }
 }
 
-/// Makes MCUs of the row grey, of an interval of which no further one is whole: answers how many.
+/// Makes MCUs of the row grey, of an interval of which no further one is whole, and returns their number.
 fn decode_grey(cursor: &mut ScanCursor<'_>, head: &Head, samples: &mut SampleRow, done: u32) -> u32
     requires cursor { IsCursor head.now cursor.old }
     requires within { done < mcus_across head.now }
@@ -88,7 +88,7 @@ fn decode_grey(cursor: &mut ScanCursor<'_>, head: &Head, samples: &mut SampleRow
     grey
 }
 
-/// Decodes some further MCUs of the row: answers how many; none where the next one is not settled.
+/// Decodes some further MCUs of the row, and returns their number, 0 if the next one is not final.
 fn decode_some(cursor: &mut ScanCursor<'_>, head: &Head, samples: &mut SampleRow, done: u32) -> u32
     requires cursor { IsCursor head.now cursor.old }
     requires within { done < mcus_across head.now }
@@ -115,7 +115,7 @@ fn decode_some(cursor: &mut ScanCursor<'_>, head: &Head, samples: &mut SampleRow
     decode_grey(cursor, head, samples, done)
 }
 
-/// Decodes a row of MCUs: whether it is settled.
+/// Decodes a row of MCUs, and returns whether it is final.
 pub(crate) fn decode_row(
     cursor: &mut ScanCursor<'_>,
     head: &Head,

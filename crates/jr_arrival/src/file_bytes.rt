@@ -4,6 +4,7 @@
 #[derive(Clone, Copy)]
 pub struct FileBytes<'a> {
     pub bytes: &'a [u8],
-    /// Whether the file ends behind them. Else it goes on, and rows that further bytes could change are not given.
+    /// Whether the file ends after them. Otherwise it continues, and rows that further bytes could change are not
+    /// returned.
     pub are_all: bool,
 }

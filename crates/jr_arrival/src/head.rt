@@ -1,4 +1,4 @@
-//! The head that the bytes so far of a file begin with.
+//! The header that the bytes so far of a file begin with.
 
 ghost use Rattle.std.specs.Prelude.{◌≢◌, IfOk, IfErr, IfSome, IfNone};
 ghost use Rattle.jr_segments.specs.declared.refusal.Refusal.TheVariants.{Memory};
@@ -10,7 +10,7 @@ use jr_head::{Head, read_head};
 use jr_segments::Refusal;
 use std::alloc::Global;
 
-/// Returns the head that was read of these bytes, or `None` if more are wanted.
+/// Returns the header that was read of these bytes, or `None` if more are wanted.
 ///
 /// # Errors
 ///
@@ -31,8 +31,8 @@ pub(crate) fn head_of(bytes: &[u8], read: Result<Head, Refusal>) -> Result<Optio
     }
 }
 
-/// Returns the head that the bytes so far begin with, which is that of every file that they can become, or `None` if more
-/// are wanted.
+/// Returns the header that the bytes so far begin with, which is that of every file that they can become, or `None` if
+/// more are wanted.
 ///
 /// # Errors
 ///

@@ -19,7 +19,8 @@ ghost use Rattle.jr_arrival.specs.More.{run_with_more, with_more};
 ghost use Rattle.jr_arrival.specs.Arrival.{CanBecome, IsFinalFault};
 ghost use Rattle.jr_arrival.specs.Growing.{GrowsTo, HasScan, HasEndedAt, KeepsScan, RowIsSettled, lines_of_row};
 
-/// A head that is accepted of the bytes so far is the head of every file that they can become (T.81, B.2).
+/// States that a header that is accepted of the bytes so far is the header of every file that they can become (T.81,
+/// B.2).
 pub fn head_is_final()
     ensures { (bytes file : List ℕ) (h : HeadValue) → CanBecome bytes file → HeadOf bytes h → HeadOf file h }
 {}
@@ -29,7 +30,7 @@ pub fn fault_is_final()
     ensures { (bytes file : List ℕ) (f : Refusal) → CanBecome bytes file → IsFinalFault bytes f → RefusalOf bytes f → RefusalOf file f }
 {}
 
-/// What is too long stays too long.
+/// States that what is too long stays too long.
 pub fn too_long_is_final()
     ensures { (bytes more : List ℕ) → RefusalOf bytes TooLong → RefusalOf (bytes ++ more) TooLong }
 {}
@@ -51,19 +52,22 @@ pub fn front_is_final()
     ensures { (i : IntervalValue) (more : List ℕ) (k : ℕ) (blocks : List (List ℤ)) → Front i k blocks → Front (with_more i more) k blocks }
 {}
 
-/// A run of whole MCUs from a place of the data so far on is that run whatever data comes, and ends at the same place.
+/// States that a run of whole MCUs starting at a position of the data so far is that run whatever data follow, and ends
+/// at the same position.
 pub fn run_is_final()
     ensures { (r : RunOf) (more : List ℕ) (blocks : List (List ℤ)) (to : Place) → r.from.bit ≤ 8 * length r.interval.bytes
         → IsRun r blocks to AllRead → IsRun (run_with_more r more) blocks to AllRead }
 {}
 
-/// The lines of a row of MCUs that the bytes so far settle are those of the picture of every file that they can become.
+/// States that the lines of a row of MCUs that the bytes so far make final are those of the image of every file that
+/// they can become.
 pub fn lines_are_final()
     ensures { (bytes file : List ℕ) (s t : ScanValue) (row n : ℕ) (k m : List Mark) (f g : ℕ → ℕ → ℕ → ℕ) → CanBecome bytes file
         → HasScan bytes s → HasScan file t → RowIsSettled bytes s row → ShowsFirst s n k f → ShowsFirst t n m g → lines_of_row s.head f row ≡ lines_of_row t.head g row }
 {}
 
-/// The mark of an interval that has ended is its mark in the picture of every file that the bytes so far can become.
+/// States that the mark of an interval that has ended is its mark in the image of every file that the bytes so far can
+/// become.
 pub fn mark_is_final()
     ensures { (bytes file : List ℕ) (s t : ScanValue) (i n : ℕ) (k m : List Mark) (f g : ℕ → ℕ → ℕ → ℕ) → CanBecome bytes file
         → HasScan bytes s → HasScan file t → HasEndedAt bytes s i → ShowsFirst s n k f → ShowsFirst t n m g → mark_in k i ≡ mark_in m i }

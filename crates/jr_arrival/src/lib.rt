@@ -1,15 +1,18 @@
-//! A file that is still arriving, and a file entered in its middle: what its bytes so far settle of every file that they can
-//! become, the lines that they give, and the places from which its rows are decoded or passed over.
+//! A file that is still arriving, and a file entered in its middle: what its bytes so far make final in every file that
+//! they can become, the lines, and the positions from which its rows are decoded or skipped.
 //!
-//! What was shown of a file that is still arriving is shown by every file that it can become. `laws.rt` says so of heads, refusals,
-//! restart intervals, whole MCUs, lines and marks, and `Arriving` gives each line once as bytes are pushed. An interval is settled up
-//! to its last whole MCU, and all of it once the marker that ends it is whole, code included (`IsOver` in specs/Growing.antt).
+//! What was shown of a file that is still arriving is shown by every file that it can become. `laws.rt` says so of
+//! headers, refusals, restart intervals, whole MCUs, lines and marks, and `Arriving` returns each line once as bytes
+//! are pushed. An interval is final up to its last whole MCU; all of it is once the marker that ends it is whole, code
+//! included (`IsOver` in specs/Growing.antt), or once its data have more bits without a code than an MCU has
+//! (`IsNeverWhole`).
 //!
-//! Nothing is read twice: the cut goes on where it stood, each MCU is decoded once into the row of MCUs that comes next, and its
-//! lines are painted once. So all pushes and looks together cost what one decoding of the whole file does, however it is split.
+//! Nothing is read twice: the cut continues where it was, each MCU is decoded once into the row of MCUs that comes
+//! next, and its lines are painted once. So all pushes and looks together cost what one decoding of the whole file
+//! does, however it is split.
 //!
-//! A place is plain numbers: it holds no memory, and is copied, kept and forgotten as its holder likes. Of the scan only what stands
-//! behind the place is read, a window of it at a time, as far as the rows reach.
+//! A position is plain numbers: it holds no memory, and is copied, kept and forgotten as its holder likes. Of the scan
+//! only what follows the position is read, a window of it at a time, as far as the rows reach.
 #![tactic(auto)]
 
 mod arriving;

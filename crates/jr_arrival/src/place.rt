@@ -5,27 +5,29 @@ ghost use Rattle.jr_arrival.specs.Places.{IsPlaceOf};
 
 use jr_head::Head;
 
-/// Between two rows of MCUs of a file's picture, and where in the file the next one's bits begin. All 0 is the top.
+/// A position between two rows of MCUs of a file's image, and where in the file the next one's bits begin. All 0 is the
+/// top.
 #[repr(C)]
 #[derive(Clone, Copy, Debug, PartialEq, Eq)]
 pub struct RowPlace {
     /// The offset in the file of the byte that has the next bit; before the scan's first byte, that one is meant.
     pub at: u64,
-    /// How many bits of that byte are taken, 0 to 7.
+    /// Number of bits of that byte that are taken, 0 to 7.
     pub bit: u32,
-    /// How many rows of MCUs stand before it.
+    /// Number of rows of MCUs before it.
     pub row: u32,
     /// The restart interval that it is in.
     pub interval: u32,
-    /// How many MCUs of that interval stand before it.
+    /// Number of MCUs of that interval before it.
     pub mcu: u32,
-    /// What the first coefficient of each component is predicted to be.
+    /// The prediction of each component's DC coefficient.
     pub predictions: [i32; 3],
-    /// 0: the interval goes on; 1: no further MCU of it is whole; 2: the scan has ended, and no further interval has data.
+    /// 0: the interval continues; 1: no further MCU of it is whole; 2: the scan has ended, and no further interval has
+    /// data.
     pub state: u32,
 }
 
-/// Whether a place has numbers of this head's picture: a row, and the interval and MCU that begin it.
+/// Returns whether a position has numbers of an image with this header: a row, and the interval and MCU that begin it.
 pub fn stands_at(head: &Head, place: &RowPlace) -> bool
     ensures there { result ≡ true → IsPlaceOf head.now place.now }
     ensures not_there { result ≡ false → IsPlaceOf head.now place.now → ⊥ }

@@ -14,20 +14,21 @@ ghost use Rattle.jr_arrival.specs.Meaning.{IsPlaceIn, behind, top, with_before};
 
 use jr_scan::Place;
 
-/// A run of MCUs is that of the interval with other data before it, from the bits behind that data on.
+/// States that a run of MCUs is that of the interval with other data before it, starting at the bits after that data.
 pub fn run_behind()
     ensures { (i : IntervalValue) (front : List ℕ) (p : Place) (k : ℕ) (zs : List (List ℤ)) (to : Place) (end : RunEnd) → IsRun (run_from i p k) zs to end
         → IsRun (run_from (with_before i front) (behind front p) k) zs (behind front to) end }
 {}
 
-/// Where 16650 bits begin with no whole MCU of at most ten data units, none begins them whatever data comes behind.
+/// States that if 16,650 bits begin with no whole MCU of at most ten data units, none begins them whatever data follow.
 pub fn no_mcu_in_long_data()
     ensures { (i : IntervalValue) (more : List ℕ) (p : Place) → length (order_of i.head) ≤ 10 → p.bit ≤ 8 * length i.bytes → 16650 ≤ length (left_at i p) → HasNoMcu i p
         → HasNoMcu (with_more i more) p }
 {}
 
-/// Bytes at an offset of the file that are a segment and what follows it: where some of the first of them spell data, that data is a
-/// front of the segment's, and the bytes behind are the rest of the segment and what follows it; none where the data ends there.
+/// States, of bytes at an offset of the file that are a segment and what follows it: if some of the first of them spell
+/// data, that data is a prefix of the segment's, and the bytes after it are the rest of the segment and what follows
+/// it; none if the data end there.
 pub fn split_segment()
     ensures { (n k at : ℕ) (raw found tail : List ℕ) (datas : List (List ℕ)) (end : ScanEnd) → IsRaw raw found → CutFrom n k at (raw ++ tail) datas end
         → (rest : List ℕ) × (others : List (List ℕ)) × (datas ≡ (found ++ rest) ∷ others) × CutFrom n k (at + length raw) tail (rest ∷ others) end × (IsStop tail → rest ≡ []) }

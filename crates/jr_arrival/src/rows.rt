@@ -1,4 +1,4 @@
-//! Rows of MCUs from a place on, decoded and painted, or passed over.
+//! Rows of MCUs starting at a position, decoded and painted, or skipped.
 
 ghost use Rattle.std.specs.Prelude.{ℕ, List, ◌≡◌, ◌+◌, ◌-◌, ◌*◌, ◌/◌, ◌<◌, ◌≤◌, min, length, take, drop, true, IfOk, IfErr};
 ghost use Rattle.jr_head.specs.Geometry.{mcus_across, mcus_down};
@@ -21,7 +21,7 @@ use jr_head::Head;
 use jr_rows::{SampleRow, lines_of, shape_of};
 use std::alloc::Global;
 
-/// How many lines of the picture stand before a row of MCUs.
+/// Returns the number of lines of the image before a row of MCUs.
 pub fn lines_before(head: &Head, row: u32) -> u32
     ensures value { result ≡ lines_above head.now row }
     ensures few { result ≤ head.now.height }
@@ -31,7 +31,7 @@ pub fn lines_before(head: &Head, row: u32) -> u32
     (row.min(shape.down) * shape.deep).min(head.height())
 }
 
-/// How many lines of the picture the rows of MCUs from one on and before another have.
+/// Returns the number of lines of the image in the rows of MCUs from `from` to before `to`.
 pub fn lines_between(head: &Head, from: u32, to: u32) -> u32
     requires { from ≤ to }
     ensures value { result ≡ lines_between head.now from to }
@@ -40,7 +40,7 @@ pub fn lines_between(head: &Head, from: u32, to: u32) -> u32
     lines_before(head, to) - lines_before(head, from)
 }
 
-/// How many rows of MCUs from one on have room for their lines in so many bytes.
+/// Returns how many rows of MCUs starting at `row` fit with their lines into `bytes` bytes.
 pub fn rows_with_room(head: &Head, row: u32, bytes: usize) -> u32
     requires { row ≤ mcus_down head.now }
     ensures value { result ≡ rows_with_room head.now row bytes }
@@ -57,7 +57,8 @@ pub fn rows_with_room(head: &Head, row: u32, bytes: usize) -> u32
     lines as u32 / shape.deep
 }
 
-/// The row of MCUs behind so many further ones from one on, as many as are left and as have room for their lines in so many bytes.
+/// Returns the row of MCUs after `rows` further ones starting at `row`, or after as many as are left and as fit with
+/// their lines into `bytes` bytes.
 fn end_of_rows(head: &Head, row: u32, rows: u32, bytes: usize) -> u32
     requires { row ≤ mcus_down head.now }
     ensures value { result ≡ row + rows_to_give head.now row rows bytes }
@@ -70,7 +71,8 @@ fn end_of_rows(head: &Head, row: u32, rows: u32, bytes: usize) -> u32
     row + rows.min(rows_with_room(head, row, bytes))
 }
 
-/// Where the lines of a row of MCUs stand in so many bytes that have room for them, where those of another row are the first.
+/// Returns where the lines of a row of MCUs are in `room` bytes, into which they fit, if those of row `first` are the
+/// first.
 fn bytes_of_row(head: &Head, first: u32, row: u32, room: usize) -> (usize, usize)
     requires order { first ≤ row }
     requires row { row < mcus_down head.now }
@@ -102,10 +104,10 @@ fn paint_row(head: &Head, samples: &mut SampleRow, row: u32, pixels: &mut [u8])
     samples.paint_some(head, y, count, pixels);
 }
 
-/// Decodes the next rows of MCUs from a place on, at most so many, as many as have room for their lines and as are settled, into the
-/// front of `pixels`, and answers the place behind them. Where the place is one of a file that the bytes may be (all of them, or the
-/// first ones), the lines are those of its picture, and so is the place behind. It takes memory for a window and for one row of MCUs,
-/// before it writes the first pixel.
+/// Decodes the next rows of MCUs starting at a position, at most `rows`, as many as fit with their lines and are final,
+/// into the start of `pixels`, and returns the position after them. If the position is one of a file that the bytes may
+/// be (all of them, or the first ones), the lines are those of its image, and so is the position after. It allocates a
+/// window and one row of MCUs before it writes the first pixel.
 pub fn decode_rows(
     alloc: Global,
     head: &Head,
@@ -144,8 +146,9 @@ pub fn decode_rows(
     Ok(next)
 }
 
-/// Passes over the next rows of MCUs from a place on, at most so many and as many as are settled, by reading their bits alone, and
-/// answers the place behind them: one of each file that the bytes may be of which the given place is one. It takes memory for a window.
+/// Skips the next rows of MCUs starting at a position, at most `rows` and as many as are final, by reading their bits
+/// alone, and returns the position after them: one of each file that the bytes may be of which the given position is
+/// one. It allocates a window.
 pub fn skip_rows(
     alloc: Global,
     head: &Head,

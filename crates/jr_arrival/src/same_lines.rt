@@ -1,4 +1,4 @@
-//! What holds of the lines of each picture of a scan.
+//! What holds of the lines of each image of a scan.
 
 ghost use Rattle.std.specs.Prelude.{◌≡◌, ℕ, ◌+◌, ◌≤◌, List};
 ghost use Rattle.jr_paint.specs.Lines.{next_lines_of};

@@ -12,7 +12,7 @@ use crate::cursor::{Reading, ScanCursor};
 use jr_head::Head;
 use jr_rows::shape_of;
 
-/// Passes over whole MCUs of the window, at most so many: answers how many.
+/// Skips whole MCUs of the window, at most `mcus`, and returns their number.
 fn skip_near(cursor: &mut ScanCursor<'_>, head: &Head, mcus: u32) -> u32
     requires cursor { IsCursor head.now cursor.old }
     ensures passes { PassesIn head.now cursor.old cursor.new result }
@@ -22,7 +22,7 @@ fn skip_near(cursor: &mut ScanCursor<'_>, head: &Head, mcus: u32) -> u32
     ensures none { result < mcus → cursor.new.mcu < mcus_in head.now cursor.new.interval → HasNoMcu (in_window head.now cursor.new) cursor.new.place }
     ensures few { result ≤ mcus }
 {
-    // By its contract there is room for the numbers of the interval's MCUs.
+    // By its contract the numbers of the interval's MCUs fit.
     let _most = head.mcus_in(cursor.interval);
     let mut reader = cursor.reader(head);
     let whole = reader.skip(mcus);
@@ -31,7 +31,7 @@ fn skip_near(cursor: &mut ScanCursor<'_>, head: &Head, mcus: u32) -> u32
     whole
 }
 
-/// Passes over the next whole MCUs of the interval: answers how many; none where no further one is whole.
+/// Skips the next whole MCUs of the interval, and returns their number, 0 if no further one is whole.
 fn skip_whole(cursor: &mut ScanCursor<'_>, head: &Head, mcus: u32) -> u32
     requires cursor { IsCursor head.now cursor.old }
     ensures passes { PassesIn head.now cursor.old cursor.new result }
@@ -50,7 +50,7 @@ fn skip_whole(cursor: &mut ScanCursor<'_>, head: &Head, mcus: u32) -> u32
     }
 }
 
-/// Passes over MCUs of an interval of which no further one is whole: answers how many.
+/// Skips MCUs of an interval of which no further one is whole, and returns their number.
 fn skip_grey(cursor: &mut ScanCursor<'_>, head: &Head, mcus: u32) -> u32
     requires cursor { IsCursor head.now cursor.old }
     requires some { cursor.old.mcu < mcus_in head.now cursor.old.interval }
@@ -67,7 +67,7 @@ fn skip_grey(cursor: &mut ScanCursor<'_>, head: &Head, mcus: u32) -> u32
     grey
 }
 
-/// Passes over some further MCUs of the row: answers how many; none where the next one is not settled.
+/// Skips some further MCUs of the row, and returns their number, 0 if the next one is not final.
 fn skip_some(cursor: &mut ScanCursor<'_>, head: &Head, mcus: u32) -> u32
     requires cursor { IsCursor head.now cursor.old }
     requires more { mcus_before_place head.now cursor.old.interval cursor.old.mcu < mcus_of head.now }
@@ -91,7 +91,7 @@ fn skip_some(cursor: &mut ScanCursor<'_>, head: &Head, mcus: u32) -> u32
     skip_grey(cursor, head, mcus)
 }
 
-/// Passes over a row of MCUs: whether it is settled.
+/// Skips a row of MCUs, and returns whether it is final.
 pub(crate) fn skip_row(cursor: &mut ScanCursor<'_>, head: &Head, row: u32) -> bool
     requires cursor { IsCursor head.now cursor.old }
     requires row { row < mcus_down head.now }

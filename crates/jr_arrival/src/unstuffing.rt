@@ -45,7 +45,7 @@ pub(crate) fn unstuff_some(raw: &[u8], most: usize, room: &mut [u8]) -> Part
     }
 }
 
-/// How many plain bytes stand at the front of `raw`, at most so many.
+/// Returns the number of plain bytes at the start of `raw`, at most `most`.
 fn plain_within(raw: &[u8], most: usize) -> usize
     ensures within { result ≤ length raw.now }
     ensures few { result ≤ most }
@@ -56,7 +56,8 @@ fn plain_within(raw: &[u8], most: usize) -> usize
     plain_count(&raw[..most])
 }
 
-/// How many bytes at the front of `raw` spell so many bytes of data, or as many as there are up to a marker or the end.
+/// Returns the number of bytes at the start of `raw` that spell `count` bytes of data, or as many as there are up to a
+/// marker or the end.
 pub(crate) fn spelled_length(raw: &[u8], count: usize) -> usize
     ensures within { result ≤ length raw.now }
     ensures spells { (found : List ℕ) × IsRaw (take result raw.now) found × (length found ≤ count) × (length found < count → IsStop (drop result raw.now)) }

@@ -1,4 +1,4 @@
-//! What can be seen of a picture whose file is still arriving.
+//! What can be seen of an image whose file is still arriving.
 
 ghost use Rattle.std.specs.Prelude.{◌≡◌, ◌≢◌, ℕ, ◌+◌, ◌*◌, ◌<◌, ◌≤◌, ◌++◌, List, [], length, take, drop, replicate, IfOk, IfErr, IfSome, IfNone};
 ghost use Rattle.jr_base.specs.declared.limits.TheConstants.{MAX_FILE_BYTES};
@@ -22,16 +22,17 @@ use jr_segments::Refusal;
 use std::alloc::Global;
 use std::marker::Model;
 
-/// What can be seen of a picture whose file is still arriving: the lines that its bytes so far settle, which every file shows that
-/// they can become, and mid-grey behind them. What was shown is never taken back.
+/// What can be seen of an image whose file is still arriving: the lines that its bytes so far make final, which every
+/// file shows that they can become, and mid-grey after them. What was shown is never taken back.
 ///
-/// It takes memory for the data of the scan, for a row of MCUs, and, once the head is there, for all lines of the picture.
+/// It uses memory for the data of the scan, for a row of MCUs, and, once the header is there, for all lines of the
+/// image.
 #[derive(Drop)]
 pub struct ArrivingView {
     arriving: Arriving,
-    /// All lines of the picture, one behind the other; none before the head is there.
+    /// All lines of the image, one after the other; empty before the header is there.
     pixels: Vec<u8>,
-    /// Room for the lines of a row of MCUs, which are painted there before they are shown.
+    /// Space for the lines of a row of MCUs, which are painted there before they are shown.
     row: Vec<u8>,
 }
 
@@ -46,7 +47,7 @@ impl Model for ArrivingView {
     ghost invariant = { λ v. (bytes : List ℕ) × IsSeen (record { arriving = v.arriving; pixels = v.pixels.items; room = length v.row.items }) bytes };
 }
 
-/// All lines of this head's picture, mid-grey.
+/// Returns all lines of an image with this header, mid-grey.
 fn grey_lines(alloc: Global, head: &Head) -> Result<Vec<u8>, Memory>
     ensures grey { IfOk result (λ p. p.items ≡ replicate (head.now.height * line_size head.now) 128) }
     ensures some { IfOk result (λ p. p.items ≢ []) }
@@ -56,7 +57,7 @@ fn grey_lines(alloc: Global, head: &Head) -> Result<Vec<u8>, Memory>
     Ok(vec![in alloc; GREY; size]?)
 }
 
-/// Lines of this head's picture: those that are there, or else grey ones.
+/// Returns the lines of an image with this header: those that are there, or grey ones.
 fn lines_or_grey(alloc: Global, head: &Head, lines: Vec<u8>) -> Result<Vec<u8>, Memory>
     ensures there { IfOk result (λ p. lines.items ≢ [] → p.items ≡ lines.items) }
     ensures none { IfOk result (λ p. lines.items ≡ [] → length p.items ≡ head.now.height * line_size head.now) }
@@ -67,7 +68,7 @@ fn lines_or_grey(alloc: Global, head: &Head, lines: Vec<u8>) -> Result<Vec<u8>, 
     Ok(lines)
 }
 
-/// Room for the lines of a row of MCUs of this head's picture.
+/// Allocates space for the lines of a row of MCUs of an image with this header.
 fn row_room(alloc: Global, head: &Head) -> Result<Vec<u8>, Memory>
     ensures { IfOk result (λ r. line_size head.now ≤ length r.items) }
 {
@@ -75,7 +76,7 @@ fn row_room(alloc: Global, head: &Head) -> Result<Vec<u8>, Memory>
     Ok(vec![in alloc; 0; shape.deep as usize * shape.line]?)
 }
 
-/// Puts so many lines behind the first ones of a picture, of so many bytes a line.
+/// Copies `count` lines of `line` bytes after the first ones of an image.
 fn put_lines(pixels: &mut [u8], first: u32, lines: &[u8], count: u32, line: usize)
     requires short { line ≤ 196605 }
     requires inside { (first + count) * line ≤ length pixels.old }
@@ -89,7 +90,7 @@ fn put_lines(pixels: &mut [u8], first: u32, lines: &[u8], count: u32, line: usiz
     pixels[from..from + size].copy_from_slice(&lines[..size]);
 }
 
-/// Reads the head of a file once it is there, and takes room for the lines of its picture: nothing but grey.
+/// Reads the header of a file once it is there, and allocates the lines of its image, all grey.
 fn open(
     alloc: Global,
     arriving: &mut Arriving,
@@ -124,7 +125,8 @@ fn open(
     Ok(())
 }
 
-/// Shows the next lines that are settled, as many as have room in `row`, behind those of `pixels` that are shown: answers how many.
+/// Shows the next lines that are final, as many as fit into `row`, after those of `pixels` that are shown, and returns
+/// their number.
 fn show_next(
     alloc: Global,
     arriving: &mut Arriving,
@@ -156,7 +158,7 @@ fn show_next(
     Ok(count)
 }
 
-/// Shows all lines that are settled.
+/// Shows all lines that are final.
 fn show_all(
     alloc: Global,
     arriving: &mut Arriving,
@@ -173,7 +175,7 @@ fn show_all(
     ensures stays { IfErr result (λ f. (bytes : List ℕ) → IsSeen (view_of arriving.old pixels.old row.old) bytes → IsFinalFault bytes f) }
 {
     'rows: loop {
-        // By its contract there is room for the number of the lines.
+        // By its contract the number of the lines fits.
         let _lines = arriving.lines();
         let count = match show_next(alloc, arriving, row, pixels) {
             Ok(count) => count,
@@ -185,7 +187,7 @@ fn show_all(
     }
 }
 
-/// Shows all lines that are settled, once there is a head.
+/// Shows all lines that are final, once there is a header.
 fn show_settled(
     alloc: Global,
     arriving: &mut Arriving,
@@ -237,7 +239,7 @@ impl ArrivingView {
         Ok(())
     }
 
-    /// The head of every file that the bytes so far can become, once it is read.
+    /// Returns the header of every file that the bytes so far can become, once it is read.
     pub fn head(&self) -> Option<&Head>
         ensures head { IfSome result (λ h. (bytes : List ℕ) → IsSeen self.now bytes → length bytes ≤ MAX_FILE_BYTES → HeadOf bytes h.now) }
         ensures none { IfNone result (lines_shown self.now ≡ 0) }
@@ -245,15 +247,15 @@ impl ArrivingView {
         self.arriving.head()
     }
 
-    /// How many lines are shown.
+    /// Returns the number of lines that are shown.
     pub fn lines(&self) -> u32
         ensures { result ≡ lines_shown self.now }
     {
         self.arriving.lines()
     }
 
-    /// The lines of the picture, one behind the other, of one byte or three a pixel: those that are shown, and mid-grey. Empty
-    /// before there is a head.
+    /// Returns the lines of the image, one after the other, of one byte or three a pixel: those that are shown, and
+    /// mid-grey. Empty before there is a header.
     pub fn pixels(&self) -> &[u8]
         ensures { result.now ≡ self.now.pixels }
     {
@@ -277,12 +279,12 @@ impl ArrivingView {
         show_settled(alloc, &mut self.arriving, &mut self.row, &mut self.pixels)
     }
 
-    /// Nothing more comes: the picture of the file, of which the lines are decoded that were missing, with its scan and how many of
-    /// its restart intervals are sound and damaged.
+    /// Ends the file. Decodes the missing lines, and returns the image of the file with its scan and the numbers of its
+    /// sound and damaged restart intervals.
     ///
     /// # Errors
     ///
-    /// The file's refusal. `Memory` where memory was refused.
+    /// The file's refusal. `Memory` if allocation fails.
     pub fn finish(self, alloc: Global) -> Result<FinishedView, Refusal>
         ensures scan { IfOk result (λ r. (bytes : List ℕ) → IsSeen self bytes → HasScan bytes r.scan) }
         ensures counts { IfOk result (λ r. HasCounts r.scan (length r.scan.intervals) r.counts) }

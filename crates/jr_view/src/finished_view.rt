@@ -1,4 +1,4 @@
-//! The picture of a file that has come.
+//! The image of a file that has come.
 
 ghost use Rattle.std.specs.Prelude.{◌≡◌, ℕ, ◌-◌, ◌*◌, ◌≤◌, List, length, take, drop, IfOk};
 ghost use Rattle.jr_paint.specs.Lines.{line_size, next_lines_of};
@@ -11,8 +11,8 @@ use jr_rows::{paint_scan_lines, shape_of};
 use jr_scan::Scan;
 use std::alloc::Global;
 
-/// A file that has come: its scan, how many of its restart intervals are sound and damaged, and the lines of its picture, one behind
-/// the other, of one byte or three a pixel.
+/// A file that has come: its scan, the numbers of its sound and damaged restart intervals, and the lines of its image,
+/// one after the other, of one byte or three a pixel.
 #[derive(Drop)]
 pub struct FinishedView {
     pub scan: Scan,
@@ -20,7 +20,7 @@ pub struct FinishedView {
     pub pixels: Vec<u8>,
 }
 
-/// Paints the lines from one on; those before it stay.
+/// Paints the lines starting at one of them; those before it stay.
 pub(crate) fn paint_rest(
     alloc: Global,
     scan: &Scan,

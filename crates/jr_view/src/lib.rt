@@ -1,4 +1,4 @@
-//! What can be seen of a picture while it is decoded, for viewers.
+//! What can be seen of an image while it is decoded, for viewers.
 #![tactic(auto)]
 
 mod arriving_view;

@@ -1,4 +1,4 @@
-//! Tells a screen of what can be seen.
+//! Reporting to a screen what can be seen.
 
 ghost use Rattle.std.specs.Prelude.{◌≡◌, ◌<◌, ◌++◌, ◌∷◌, [], ℕ, List, length, true, false, IfOk, OnOk};
 ghost use Rattle.jr_scan.specs.ScanValue.{HasInterval, ScanValue};
@@ -13,16 +13,16 @@ use jr_scan::Scan;
 use jr_wall::Decoding;
 use std::alloc::Global;
 
-/// Tells a screen of each strip of an interval in their order, and then of its piece.
+/// Reports to a screen each strip of an interval in their order, and then its piece.
 #[derive(Drop)]
 pub(crate) struct Looker {
-    /// Whether it has told of the piece of each interval.
+    /// For each interval, whether its piece was reported.
     pieces: Vec<bool>,
     /// Of each interval that may be long, the first MCU that a strip may begin with by now.
     strips: Vec<u32>,
 }
 
-/// How many of the first intervals there are up to the last long one.
+/// Returns the number of first intervals up to the last long one.
 fn count_up_to_long(decoding: &Decoding) -> usize {
     let mut count = 0;
     for i in 0..decoding.scan().intervals() {
@@ -34,7 +34,7 @@ fn count_up_to_long(decoding: &Decoding) -> usize {
 }
 
 impl Looker {
-    /// One that has told of nothing. `Err` where memory is refused.
+    /// Returns one that has reported nothing. `Err` if allocation fails.
     pub(crate) fn of(alloc: Global, decoding: &Decoding) -> Result<Looker, Memory>
         ensures nothing { IfOk result (λ l. (scan : ScanValue) → Keeps scan l []) }
         ensures count { IfOk result (λ l. length l.pieces.items ≡ length decoding.now.scan.intervals) }
@@ -46,7 +46,7 @@ impl Looker {
         })
     }
 
-    /// Whether it has told of the piece of interval i.
+    /// Returns whether the piece of interval i was reported.
     fn has_told(&self, i: u32) -> bool
         ensures { result ≡ has_told self.now i }
     {
@@ -56,8 +56,8 @@ impl Looker {
         }
     }
 
-    /// Notes a strip, unless its interval's piece was told, or a strip that begins with its first MCU or a later one. Whether it
-    /// was noted.
+    /// Notes a strip, unless its interval's piece was reported, or a strip that begins with its first MCU or a later
+    /// one. Returns whether it was noted.
     fn note_strip(&mut self, strip: &Strip) -> bool
         ensures new { result ≡ true → (scan : ScanValue) (told : List Notice) → strip.now.interval.number < length scan.intervals → Keeps scan self.old told → Keeps scan self.new (told ++ StripOf strip.now ∷ []) }
         ensures old { result ≡ false → self.new ≡ self.old }
@@ -80,7 +80,7 @@ impl Looker {
         true
     }
 
-    /// Notes a piece, unless it was told. Whether it was noted.
+    /// Notes a piece, unless it was reported. Returns whether it was noted.
     fn note_piece(&mut self, piece: &Piece) -> bool
         ensures new { result ≡ true → (scan : ScanValue) (told : List Notice) → HasInterval scan piece.now.interval → Keeps scan self.old told → Keeps scan self.new (told ++ PieceOf piece.now ∷ []) }
         ensures old { result ≡ false → self.new ≡ self.old }
@@ -97,7 +97,7 @@ impl Looker {
         true
     }
 
-    /// Tells of a strip, where it is the next one of its interval.
+    /// Reports a strip if it is the next one of its interval.
     fn tell_strip<S: Screen>(&mut self, strip: &Strip, screen: &mut S)
         ensures { (scan : ScanValue) → strip.now.interval.number < length scan.intervals → Tells S.becomes scan self.old screen.old self.new screen.new }
     {
@@ -106,7 +106,7 @@ impl Looker {
         }
     }
 
-    /// Tells of a piece that it has not told of.
+    /// Reports a piece unless it was reported.
     fn tell_piece<S: Screen>(&mut self, piece: &Piece, screen: &mut S)
         ensures tells { (scan : ScanValue) → HasInterval scan piece.now.interval → Tells S.becomes scan self.old screen.old self.new screen.new }
         ensures told { piece.now.interval.number < length self.old.pieces.items → has_told self.new piece.now.interval.number ≡ true }
@@ -124,7 +124,7 @@ impl Looker {
         }
     }
 
-    /// Tells of the next strips of a long interval, as far as they are there one behind the other.
+    /// Reports the next strips of a long interval, as far as they are there one after the other.
     fn look_at_strips<S: Screen>(&mut self, cells: &StripCells, screen: &mut S)
         ensures { (scan : ScanValue) → cells.now.number < length scan.intervals → Tells S.becomes scan self.old screen.old self.new screen.new }
     {
@@ -139,7 +139,7 @@ impl Looker {
         }
     }
 
-    /// Tells of the next strips of interval i, if that is long.
+    /// Reports the next strips of interval i if that is long.
     fn look_for_strips<S: Screen>(&mut self, i: u32, decoding: &Decoding, screen: &mut S)
         requires { i < length decoding.now.scan.intervals }
         ensures { Tells S.becomes decoding.now.scan self.old screen.old self.new screen.new }
@@ -149,7 +149,7 @@ impl Looker {
         }
     }
 
-    /// Tells of the piece of interval i, if that is there.
+    /// Reports the piece of interval i if that is there.
     fn look_for_piece<S: Screen>(
         &mut self,
         i: u32,
@@ -169,7 +169,7 @@ impl Looker {
         }
     }
 
-    /// Tells of what can be seen of interval i by now.
+    /// Reports what can be seen of interval i at present.
     fn look_at<S: Screen>(&mut self, i: u32, decoding: &Decoding, sight: &mut Sight, screen: &mut S)
         requires cell { i < length decoding.now.cells }
         requires interval { i < length decoding.now.scan.intervals }
@@ -184,7 +184,7 @@ impl Looker {
         self.look_for_piece(i, decoding, sight, screen);
     }
 
-    /// Tells of what can be seen by now. What memory is refused for comes later.
+    /// Reports what can be seen at present. What is left out because allocation fails comes later.
     pub(crate) fn look<S: Screen>(&mut self, decoding: &Decoding, screen: &mut S)
         ensures { Tells S.becomes decoding.now.scan self.old screen.old self.new screen.new }
     {
@@ -197,7 +197,7 @@ impl Looker {
         }
     }
 
-    /// Tells of the piece of interval i, which it decodes itself, unless it was told.
+    /// Reports the piece of interval i, which it decodes itself, unless it was reported.
     fn tell_decoded<S: Screen>(
         &mut self,
         alloc: Global,
@@ -219,7 +219,7 @@ impl Looker {
         Ok(())
     }
 
-    /// Tells of the pieces that it has not told of: no worker has hung them.
+    /// Reports the pieces that were not reported: no worker has published them.
     pub(crate) fn tell_rest<S: Screen>(
         &mut self,
         alloc: Global,

@@ -4,7 +4,7 @@ ghost use Rattle.jr_view.specs.Told.{Notice, Asked, PieceOf, StripOf};
 
 use jr_piece::{Piece, Strip};
 
-/// What shows a decoding.
+/// A receiver of what a decoding makes visible.
 pub trait Screen {
     ghost use Rattle.jr_view.specs.Told.{Notice};
 
@@ -15,7 +15,7 @@ pub trait Screen {
     fn show_strip(&mut self, strip: &Strip)
         ensures { becomes self.old (StripOf strip.now) self.new };
 
-    /// Shows a piece, which can be seen from now on; of a long interval it comes behind its strips.
+    /// Shows a piece, which can be seen from now on; of a long interval it comes after its strips.
     fn show_piece(&mut self, piece: &Piece)
         ensures { becomes self.old (PieceOf piece.now) self.new };
 

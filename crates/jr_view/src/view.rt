@@ -1,4 +1,4 @@
-//! What can be seen of a picture so far.
+//! What can be seen of an image so far.
 
 ghost use Rattle.std.specs.Prelude.{◌≡◌, ◌↔◌, IsTrue, ℕ, ◌*◌, ◌+◌, ◌/◌, ◌<◌, ◌≤◌, ◌^◌, length, replicate, slice_index_or, true, false, IfOk};
 ghost use Rattle.std.specs.Arc.{arc_value};
@@ -18,15 +18,15 @@ use std::alloc::Global;
 use std::marker::Model;
 use std::sync::Arc;
 
-/// A picture's samples as they were seen; those that were not are mid-grey.
+/// An image's samples as they were seen; those that were not are mid-grey.
 #[derive(Drop)]
 pub struct View {
     scan: Arc<Scan>,
     /// The data units of all MCUs, in the order of the scan.
     units: Vec<[u8; 64]>,
-    /// Whether each MCU was seen.
+    /// For each MCU, whether it was seen.
     seen: Vec<bool>,
-    /// How many rows of MCUs were seen whole.
+    /// Number of rows of MCUs that were seen whole.
     rows: u32,
 }
 
@@ -42,7 +42,7 @@ impl Model for View {
     ghost invariant = { λ v. IsView (record { scan = arc_value v.scan; units = v.units.items; seen = v.seen.items }) v.rows };
 }
 
-/// So many data units, all grey.
+/// Returns `count` data units, all grey.
 fn grey_units(alloc: Global, count: usize) -> Result<Vec<[u8; 64]>, Memory>
     ensures { IfOk result (λ v. v.items ≡ replicate count grey_unit) }
 {
@@ -53,7 +53,7 @@ fn grey_units(alloc: Global, count: usize) -> Result<Vec<[u8; 64]>, Memory>
     Ok(units)
 }
 
-/// Puts the data units of an MCU, `count` from `start` on.
+/// Copies the data units of an MCU, `count` starting at `start`.
 fn put_mcu(shown: &Shown<'_>, from: u32, units: &mut [[u8; 64]], start: usize, count: usize)
     requires few { from + count < 2 ^ 32 }
     requires room { start + count ≤ length units.old }
@@ -64,7 +64,7 @@ fn put_mcu(shown: &Shown<'_>, from: u32, units: &mut [[u8; 64]], start: usize, c
     shown.put(from, &mut units[start..start + count]);
 }
 
-/// How many MCUs each interval has but for the last one.
+/// Returns the number of MCUs of each interval but the last.
 fn interval_size(head: &Head) -> usize
     ensures value { result ≡ size_of head.now }
     ensures few { result < 2 ^ 32 }
@@ -77,7 +77,7 @@ fn interval_size(head: &Head) -> usize
     }
 }
 
-/// Whether all MCUs of the row that this one stands in were seen.
+/// Returns whether all MCUs of the row of this one were seen.
 fn is_row_whole(head: &Head, seen: &[bool], mcu: usize) -> bool
     requires mcu { mcu < mcus_of head.now }
     requires seen { length seen.now ≡ mcus_of head.now }
@@ -92,8 +92,8 @@ fn is_row_whole(head: &Head, seen: &[bool], mcu: usize) -> bool
 }
 
 impl View {
-    /// A view of a scan's picture of which nothing was seen. It takes all its memory now, for each pixel that the head
-    /// claims. `Err` where memory is refused.
+    /// Makes a view of a scan's image of which nothing was seen. It allocates all its memory now, for each pixel that
+    /// the header claims. `Err` if allocation fails.
     pub fn of(alloc: Global, scan: &Arc<Scan>) -> Result<View, Memory>
         ensures scan { IfOk result (λ v. v.scan ≡ arc_value scan.now) }
         ensures unseen { IfOk result (λ v. (mcu : ℕ) → has_seen v mcu ≡ false) }
@@ -113,14 +113,14 @@ impl View {
         })
     }
 
-    /// How many rows of MCUs were seen whole.
+    /// Returns the number of rows of MCUs that were seen whole.
     pub fn rows(&self) -> u32
         ensures { result ≡ whole_rows self.now }
     {
         self.rows
     }
 
-    /// How many rows of MCUs the picture has.
+    /// Returns the number of rows of MCUs of the image.
     pub fn mcu_rows(&self) -> u32
         ensures value { result ≡ mcus_down self.now.scan.head }
         ensures some { 0 < result }
@@ -128,7 +128,7 @@ impl View {
         self.scan.head().mcus_down()
     }
 
-    /// Whether each MCU was seen.
+    /// Returns whether each MCU was seen.
     pub fn is_whole(&self) -> bool
         ensures rows { IsTrue result ↔ (whole_rows self.now ≡ mcus_down self.now.scan.head) }
         ensures all { IsTrue result → HasSeenAll self.now }
@@ -136,7 +136,7 @@ impl View {
         self.rows == self.scan.head().mcus_down()
     }
 
-    /// Whether an MCU was seen.
+    /// Returns whether an MCU was seen.
     pub fn has_seen(&self, mcu: u32) -> bool
         ensures { result ≡ has_seen self.now mcu }
     {
@@ -146,8 +146,8 @@ impl View {
         }
     }
 
-    /// Shows a strip, as far as the picture has its MCUs. Those that were seen before stay as they were. A view stays a part of
-    /// its picture where the strip is one of its own scan.
+    /// Shows a strip, as far as the image has its MCUs. Those that were seen before are unchanged. A view stays a part
+    /// of its image if the strip is one of its own scan.
     pub fn show_strip(&mut self, strip: &Strip)
         ensures scan { self.new.scan ≡ self.old.scan }
         ensures seen { (mcu : ℕ) → IsOfStrip self.old strip.now mcu → has_seen self.new mcu ≡ true }
@@ -162,8 +162,8 @@ impl View {
         self.show(first, strip.mcus() as usize, &Shown::OfStrip(strip));
     }
 
-    /// Shows a piece: all MCUs of its interval are seen then, and those behind its front are grey. Those that were seen
-    /// before stay as they were. A view stays a part of its picture where the piece is one of its own scan.
+    /// Shows a piece: all MCUs of its interval are seen then, and those after its longest prefix are grey. Those that
+    /// were seen before are unchanged. A view stays a part of its image if the piece is one of its own scan.
     pub fn show_piece(&mut self, piece: &Piece)
         ensures scan { self.new.scan ≡ self.old.scan }
         ensures seen { (mcu : ℕ) → IsOfPiece self.old piece.now mcu → has_seen self.new mcu ≡ true }
@@ -178,7 +178,7 @@ impl View {
         self.show(first, count, &Shown::OfPiece(piece));
     }
 
-    /// Shows so many MCUs from `first` on, those that the picture has and that were not seen.
+    /// Shows `count` MCUs starting at `first`, those that the image has and that were not seen.
     fn show(&mut self, first: usize, count: usize, shown: &Shown<'_>)
         requires first { first < 2 ^ 60 }
         requires count { count < 2 ^ 32 }
@@ -205,7 +205,7 @@ impl View {
         let per_mcu = head.order().len();
         put_mcu(shown, from as u32, &mut self.units, mcu * per_mcu, per_mcu);
         self.seen[mcu] = true;
-        // By its contract the number of rows has room.
+        // By its contract the number of rows fits.
         let _rows = head.mcus_down();
         self.rows += u32::from(is_row_whole(head, &self.seen, mcu));
     }

@@ -19,7 +19,7 @@ use std::thread;
 use std::thread::{Threads, sleep};
 use std::time::{Clock, Duration};
 
-/// What the calling thread looks by while workers run.
+/// What the calling thread needs to look while workers run.
 #[derive(Drop)]
 struct Looking<'s, 'w, R, S: Screen> {
     rt: &'s R,
@@ -30,7 +30,7 @@ struct Looking<'s, 'w, R, S: Screen> {
     screen: &'w mut S,
 }
 
-/// Tells of what can be seen by now: answers whether the screen has nothing left to show.
+/// Reports what can be seen at present, and returns whether the screen has nothing left to show.
 fn look_and_ask<S: Screen>(decoding: &Decoding, looker: &mut Looker, screen: &mut S) -> bool
     ensures { Tells S.becomes decoding.now.scan looker.old screen.old looker.new screen.new }
 {
@@ -59,7 +59,7 @@ fn look_meanwhile<R: Wait + Clock, S: Screen>(
 }
 
 impl<'s, 'w, R: Wait + Clock, S: Screen> Beside for Looking<'s, 'w, R, S> {
-    /// What was told, and the screen.
+    /// What was reported, and the screen.
     type Answer = (Looker, &'w mut S);
 
     ghost may = { λ l. Unit };
@@ -80,7 +80,7 @@ impl<'s, 'w, R: Wait + Clock, S: Screen> Beside for Looking<'s, 'w, R, S> {
 }
 
 /// Runs a decoding from a thread of its own, which notes when all workers have ended, and `beside` in the calling one
-/// meanwhile. Where that thread can't be started nobody works.
+/// meanwhile. If that thread cannot be started no thread works.
 fn run_meanwhile<R: Threads + Wait + Sync, G: Gate + Sync, B: Beside + Drop>(
     rt: &R,
     decoding: &Decoding,
@@ -116,7 +116,7 @@ fn run_meanwhile<R: Threads + Wait + Sync, G: Gate + Sync, B: Beside + Drop>(
     )
 }
 
-/// Runs a decoding, and looks meanwhile: answers what was told.
+/// Runs a decoding, and looks meanwhile. Returns what was reported.
 fn run_and_look<R: Threads + Wait + Clock + Sync, G: Gate + Sync, S: Screen>(
     rt: &R,
     decoding: &Decoding,
@@ -140,7 +140,7 @@ fn run_and_look<R: Threads + Wait + Clock + Sync, G: Gate + Sync, S: Screen>(
     looker
 }
 
-/// Tells of what the workers have left, once they have ended.
+/// Reports what the workers have left, once they have ended.
 fn tell_last<S: Screen>(
     alloc: Global,
     decoding: &Decoding,
@@ -157,7 +157,7 @@ fn tell_last<S: Screen>(
     Ok(())
 }
 
-/// Runs a decoding, and tells a screen of all of it.
+/// Runs a decoding, and reports all of it to a screen.
 fn tell_all<R: Threads + Wait + Clock + Sync, G: Gate + Sync, S: Screen>(
     rt: &R,
     alloc: Global,
@@ -175,12 +175,13 @@ fn tell_all<R: Threads + Wait + Clock + Sync, G: Gate + Sync, S: Screen>(
     Ok(())
 }
 
-/// Decodes a scan by so many workers (1 to 64), and tells a screen meanwhile of what can be seen; gives what is decoded,
-/// once all workers have ended and the screen was told of each piece. The gate is asked and told as `Decoding::run` does.
+/// Decodes a scan with `workers` workers (1 to 64), and meanwhile reports to a screen what can be seen. Returns what is
+/// decoded, once all workers have ended and each piece was reported to the screen. The gate is asked and informed as
+/// `Decoding::run` does.
 ///
-/// The workers run beside one thread more, which waits for them.
+/// The workers run next to one thread more, which waits for them.
 ///
-/// `Err` where memory is refused.
+/// `Err` if allocation fails.
 pub fn watch<R: Threads + Wait + Clock + Sync, G: Gate + Sync, S: Screen>(
     rt: &R,
     alloc: Global,

@@ -1,4 +1,4 @@
-//! What is answered and told of a decoding.
+//! The answer and the report of a decoding.
 
 ghost use Rattle.std.specs.Prelude.{◌≡◌, ◌≢◌, ◌<◌, ◌≤◌};
 ghost use Rattle.jr_segments.specs.declared.refusal.Refusal.TheVariants.{Memory};
@@ -9,7 +9,7 @@ use crate::report::DecodeReport;
 use crate::status::{BUFFER_TOO_SMALL, DAMAGED, NO_MEMORY, REFUSED, SOUND};
 use jr_head::Refusal;
 
-/// The answer to a refusal.
+/// Returns the status of a refusal.
 pub fn status_of(refusal: Refusal) -> u32
     ensures memory { refusal ≡ Memory → result ≡ 1 }
     ensures refused { refusal ≢ Memory → result ≡ 2 }
@@ -24,7 +24,7 @@ pub fn status_of(refusal: Refusal) -> u32
     }
 }
 
-/// Tells of a decoding, and gives the answer.
+/// Reports a decoding, and returns the status.
 pub(crate) fn tell(decoded: DecodeReport, report: &mut DecodeReport) -> u32
     ensures told { report.new ≡ decoded }
     ensures undamaged { result ≡ 0 → decoded.damaged ≡ 0 }
@@ -35,7 +35,7 @@ pub(crate) fn tell(decoded: DecodeReport, report: &mut DecodeReport) -> u32
     if decoded.damaged == 0 { SOUND } else { DAMAGED }
 }
 
-/// Tells why nothing is decoded, and gives the answer.
+/// Reports why nothing is decoded, and returns the status.
 pub(crate) fn tell_why(undecoded: DecodeError, report: &mut DecodeReport) -> u32
     ensures undone { result ≢ 0 }
     ensures undamaged { result ≢ 3 }

@@ -1,4 +1,4 @@
-//! The calls: a file's header, its picture, some lines of it, and the marks of its intervals alone.
+//! The calls: a file's header, its image, some lines of it, and the marks of its intervals alone.
 
 ghost use Rattle.std.specs.Prelude.{◌≡◌, ◌≢◌, ◌<◌, ◌≤◌, ℕ, List, length, false};
 ghost use Rattle.jr_arrival.specs.Arrival.{CanBecome};
@@ -53,9 +53,9 @@ pub fn read_header(alloc: Global, file: &[u8], more: u32, header: &mut Header) -
     }
 }
 
-/// Decodes a file into the front of `pixels`, and its marks into that of `marks`, unless that has no room at all: 0, or 3
-/// where an interval is damaged. With 1 for want of memory, 2 where the file is refused, and 4 where a buffer has too
-/// little room, both are as they were.
+/// Decodes a file into the start of `pixels`, and its marks into that of `marks` unless that is empty. Returns 0, or 3
+/// if an interval is damaged. With 1 if allocation fails, 2 if the file is refused, and 4 if a buffer is too small,
+/// both are unchanged.
 pub fn decode_file(
     alloc: Global,
     file: &[u8],
@@ -82,9 +82,9 @@ pub fn decode_file(
     }
 }
 
-/// Decodes `count` lines of a file's picture from line `first` on into the front of `pixels`: 0, or 3 where an interval is
-/// damaged that ends in the rows of MCUs of these lines. With 1 for want of memory, 2 where the file is refused, 4 where
-/// the buffer has too little room, and 5 where the picture has no such lines, it is as it was.
+/// Decodes `count` lines of a file's image starting at line `first` into the start of `pixels`. Returns 0, or 3 if an
+/// interval is damaged that ends in the rows of MCUs of these lines. With 1 if allocation fails, 2 if the file is
+/// refused, 4 if the buffer is too small, and 5 if the image has no such lines, it is unchanged.
 pub fn decode_lines(
     alloc: Global,
     file: &[u8],
@@ -117,9 +117,9 @@ pub fn decode_lines(
     }
 }
 
-/// Checks a file: reads each restart interval as a decoder does, makes no picture, and puts the marks into the front of
-/// `marks`, unless that has no room at all: 0, or 3 where an interval is damaged. With 1 for want of memory, 2 where the file is
-/// refused, and 4 where `marks` has too little room, it is as it was.
+/// Checks a file: reads each restart interval as a decoder does, makes no image, and stores the marks at the start of
+/// `marks` unless that is empty. Returns 0, or 3 if an interval is damaged. With 1 if allocation fails, 2 if the file
+/// is refused, and 4 if `marks` is too small, it is unchanged.
 pub fn check_marks(alloc: Global, file: &[u8], marks: &mut [u8], report: &mut DecodeReport) -> u32
     ensures sound { result ≡ 0 → ChecksFile file.now marks.old marks.new report.new }
     ensures damaged { result ≡ 3 → ChecksFile file.now marks.old marks.new report.new }

@@ -1,4 +1,4 @@
-//! From the bytes of a file to its picture on a canvas of the caller's.
+//! From the bytes of a file to its image on a canvas of the caller's.
 
 ghost use Rattle.std.specs.Prelude.{◌≡◌, ◌≢◌, ◌+◌, ◌*◌, ◌<◌, ◌≤◌, ℕ, length, IfOk, IfErr, IfSome, None};
 ghost use Rattle.jr_segments.specs.declared.refusal.Refusal.TheVariants as refusal;
@@ -29,7 +29,7 @@ use jri_canvas::{CanvasLines, Pixels, have_places, lay_lines};
 use jri_file::scan_of_file;
 use std::alloc::Global;
 
-/// Paints `count` lines from line y on of the row of MCUs that is decoded into `lines`, and lays them out.
+/// Paints `count` lines starting at line y of the row of MCUs that is decoded into `lines`, and lays them out.
 fn lay_some(
     head: &Head,
     work: &mut SampleRow,
@@ -80,7 +80,7 @@ fn lay_row(
     lay_some(head, work, y, count, &mut lines[..size], form, canvas);
 }
 
-/// Decodes a scan, lays the lines of its picture out, and puts its marks, where these are asked for.
+/// Decodes a scan, lays out the lines of its image, and stores its marks if these are asked for.
 fn lay_rows(
     scan: &Scan,
     work: &mut SampleRow,
@@ -116,8 +116,8 @@ fn lay_rows(
     marked
 }
 
-/// Decodes a scan and lays out its picture. It takes memory for a row of MCUs and for its lines; nothing is written before it has
-/// that.
+/// Decodes a scan and lays out its image. It allocates a row of MCUs and its lines; nothing is written before it has
+/// them.
 fn lay_scan(
     alloc: Global,
     scan: &Scan,
@@ -143,7 +143,7 @@ fn lay_scan(
     Ok(counts_of(scan, all, marked))
 }
 
-/// What the pixels of a picture are.
+/// Returns the pixels of an image.
 fn pixels_in(head: &Head) -> Pixels
     ensures components { sample_count result ≡ components_of head.now }
     ensures line { sample_count result * head.now.width ≡ paint.line_size head.now }
@@ -157,8 +157,8 @@ fn pixels_in(head: &Head) -> Pixels
     }
 }
 
-/// Decodes a file onto a canvas; its marks fill the front of `marks`, unless that has no room at all. None where there is no such
-/// layout, or a line is longer than the stride; then, and where it fails, nothing is written.
+/// Decodes a file onto a canvas, and stores its marks at the start of `marks` unless that is empty. `None` if there is
+/// no such layout, or a line is longer than the stride; then, and on `Err`, nothing is written.
 pub(crate) fn decode_on(
     alloc: Global,
     file: &[u8],

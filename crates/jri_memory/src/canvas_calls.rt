@@ -10,10 +10,10 @@ use crate::report::DecodeReport;
 use crate::status::NO_LAYOUT;
 use std::alloc::Global;
 
-/// Decodes a file onto a canvas, line k from byte `k * stride` on, in the layout of this number, and its marks into the front of
-/// `marks`, unless that has no room at all: 0, or 3 where an interval is damaged. With 1 for want of memory, 2 where the file is
-/// refused, 4 where a buffer has too little room, and 6 where there is no such layout or a line is longer than the stride, both
-/// are as they were.
+/// Decodes a file onto a canvas, line k starting at byte `k * stride`, in the layout of this number, and its marks into
+/// the start of `marks` unless that is empty. Returns 0, or 3 if an interval is damaged. With 1 if allocation fails, 2
+/// if the file is refused, 4 if a buffer is too small, and 6 if there is no such layout or a line is longer than the
+/// stride, both are unchanged.
 pub fn decode_canvas(
     alloc: Global,
     file: &[u8],

@@ -1,4 +1,4 @@
-//! From the bytes of a file to the marks of its intervals. No picture is made.
+//! From the bytes of a file to the marks of its intervals. No image is made.
 
 ghost use Rattle.std.specs.Prelude.{◌≡◌, ◌≢◌, ◌+◌, ◌<◌, ◌++◌, ◌∷◌, [], List, cond, length, IfOk, IfErr};
 ghost use Rattle.jr_segments.specs.declared.refusal.Refusal.TheVariants as refusal;
@@ -20,7 +20,7 @@ use jr_scan::Scan;
 use jri_file::scan_of_file;
 use std::alloc::Global;
 
-/// Whether interval i has a decoding.
+/// Returns whether interval i has a decoding.
 fn is_sound(scan: &Scan, i: u32) -> bool
     requires there { i < length scan.now.intervals }
     ensures { IsMarkOf (interval_of scan.now i) (cond result Sound Damaged) }
@@ -31,7 +31,7 @@ fn is_sound(scan: &Scan, i: u32) -> bool
     }
 }
 
-/// Reads interval i, and counts and puts its mark behind those of the intervals before it.
+/// Reads interval i, and counts and stores its mark after those of the intervals before it.
 fn mark_interval(scan: &Scan, i: u32, before: Marked, marks: &mut [u8]) -> Marked
     requires there { i < length scan.now.intervals }
     requires room { HasMarkRoom scan.now marks.old }
@@ -40,14 +40,14 @@ fn mark_interval(scan: &Scan, i: u32, before: Marked, marks: &mut [u8]) -> Marke
     ensures put { (ms : List Mark) → ArePut scan.now i before marks.old ms → (m : Mark) × ArePut scan.now (i + 1) result marks.new (ms ++ m ∷ []) }
     ensures few { result.sound + result.damaged ≡ i + 1 }
 {
-    // By its contract a scan has so few intervals that their numbers have room.
+    // By its contract a scan has so few intervals that their numbers fit.
     let _all = scan.intervals();
     let is_sound = is_sound(scan, i);
     put_mark(is_sound, i, marks);
     before.with(Marked::one(is_sound))
 }
 
-/// Reads each interval of a scan once, and counts their marks and puts them, where there is room for marks.
+/// Reads each interval of a scan once, counts their marks, and stores them if they fit.
 fn mark_intervals(scan: &Scan, marks: &mut [u8]) -> Marked
     requires room { HasMarkRoom scan.now marks.old }
     ensures put { (ms : List Mark) × ArePut scan.now (length scan.now.intervals) result marks.new ms }
@@ -60,7 +60,7 @@ fn mark_intervals(scan: &Scan, marks: &mut [u8]) -> Marked
     marked
 }
 
-/// Checks a file: its marks fill the front of `marks`, unless that has no room at all. Where it fails nothing is written.
+/// Checks a file, and stores its marks at the start of `marks` unless that is empty. On `Err` nothing is written.
 pub(crate) fn check(
     alloc: Global,
     file: &[u8],

@@ -25,17 +25,17 @@ use std::alloc::Global;
 #[repr(C)]
 #[derive(Clone, Copy, PartialEq, Eq)]
 pub struct Damage {
-    /// Its number in the scan, from 0 on.
+    /// Its number in the scan, from 0.
     pub interval: u32,
     /// The first of its MCUs, by its number in the scan, and how many it has.
     pub first_mcu: u32,
     pub mcus: u32,
-    /// How many of its MCUs, from the first on, can be decoded.
+    /// Number of its first MCUs that can be decoded.
     pub decodable: u32,
-    /// The first and the last line of the picture that its MCUs cover.
+    /// The first and the last line of the image that its MCUs cover.
     pub first_line: u32,
     pub last_line: u32,
-    /// Its bytes in the file, from this offset on and before that one; both 0 where it has none.
+    /// Its bytes in the file, starting at this offset and ending before that one; both 0 if it has none.
     pub start: u64,
     pub end: u64,
 }
@@ -50,7 +50,7 @@ pub struct DamageReport {
     pub next: u32,
     /// Offset of that interval's first byte: the length of the file if the scan ends before it.
     pub next_at: u64,
-    /// The number of the refusal and what it tells; 0 where there is none.
+    /// The number of the refusal and its detail; 0 if there is none.
     pub refusal: u32,
     pub detail: u64,
 }
@@ -178,7 +178,7 @@ fn list_one(
     }
 }
 
-/// Lists the damaged intervals from a position on, as many as there is room for.
+/// Lists the damaged intervals starting at a position, as many as fit.
 fn list(
     head: &Head,
     file: &[u8],
@@ -207,7 +207,7 @@ fn list(
     progress
 }
 
-/// Lists the damaged intervals of a file from a position on, as many as there is room for. Reads the header and the bytes of the
+/// Lists the damaged intervals of a file starting at a position, as many as fit. Reads the header and the bytes of the
 /// intervals examined.
 fn list_of_file(
     alloc: Global,
@@ -240,9 +240,10 @@ fn list_of_file(
     })
 }
 
-/// Lists the damaged intervals of a file from interval `first` on, whose bytes begin at offset `first_at`, in their order, as many as
-/// `damages` has room for: 3, and `next` and `next_at` of the report say where to go on; or 0 where none is left from there on. 0 and
-/// 0 are the first interval. With 1 for want of memory and 2 where the file is refused `damages` is as it was.
+/// Lists the damaged intervals of a file starting at interval `first`, whose bytes begin at offset `first_at`, in their
+/// order, as many as `damages` holds. Returns 3, and `next` and `next_at` of the report say where to continue; or 0 if
+/// none is left from there. 0 and 0 are the first interval. With 1 if allocation fails and 2 if the file is refused
+/// `damages` is unchanged.
 pub fn list_damages(
     alloc: Global,
     file: &[u8],

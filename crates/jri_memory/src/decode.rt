@@ -17,12 +17,12 @@ use std::alloc::Global;
 pub(crate) enum DecodeError {
     /// The file is refused, or memory is.
     Refused(Refusal),
-    /// A buffer has too little room.
+    /// A buffer is too small.
     NoRoom,
 }
 
-/// Decodes a file: its pixels fill the front of `pixels`, and its marks that of `marks`, unless that has no room at all.
-/// Where it fails nothing is written.
+/// Decodes a file into the start of `pixels`, and its marks into that of `marks` unless that is empty. On `Err` nothing
+/// is written.
 pub(crate) fn decode(
     alloc: Global,
     file: &[u8],

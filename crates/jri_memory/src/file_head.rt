@@ -1,4 +1,4 @@
-//! The head of a file of which all bytes are there, or more may come.
+//! The header of a file of which all bytes are there, or more may come.
 
 ghost use Rattle.std.specs.Prelude.{◌≡◌, ◌≢◌, false, IfOk, IfErr, IfSome, IfNone};
 ghost use Rattle.jr_segments.specs.declared.refusal.Refusal.TheVariants.{Memory};
@@ -10,11 +10,12 @@ use jr_arrival::{FileBytes, head_so_far};
 use jr_head::{Head, Refusal, read_head};
 use std::alloc::Global;
 
-/// Returns the head of a file, or `None` if more bytes may come and are wanted for it.
+/// Returns the header of a file, or `None` if more bytes may come and are wanted for it.
 ///
 /// # Errors
 ///
-/// The file's first fault. If more bytes may come it is that of every file that begins with these. `Memory` if allocation fails.
+/// The file's first fault. If more bytes may come it is that of every file that begins with these. `Memory` if
+/// allocation fails.
 pub(crate) fn head_of(alloc: Global, file: FileBytes<'_>) -> Result<Option<Head>, Refusal>
     ensures head { IfOk result (λ o. IfSome o (HeadOf file.entry.bytes.now)) }
     ensures wanted { IfOk result (λ o. IfNone o (WantsMore file.entry.bytes.now)) }

@@ -15,21 +15,21 @@ use jr_head::{Head, Kind, Refusal};
 #[repr(C)]
 #[derive(Clone, Copy, PartialEq, Eq)]
 pub struct Header {
-    /// The picture's width in pixels.
+    /// The image's width in pixels.
     pub width: u32,
-    /// The picture's height in lines.
+    /// The image's height in lines.
     pub height: u32,
     /// 0 for grey, 1 for RGB, 2 for YCbCr, which is decoded to RGB.
     pub kind: u32,
-    /// How many components there are, 1 or 3; a pixel has as many bytes.
+    /// Number of components, 1 or 3; a pixel has as many bytes.
     pub components: u32,
-    /// How many restart intervals the scan has, and bytes its marks.
+    /// Number of restart intervals of the scan; its marks have as many bytes.
     pub intervals: u32,
     /// The number of the refusal, from 1 to 19; 0 where there is none.
     pub refusal: u32,
-    /// How many bytes the pixels have.
+    /// Size of the pixels in bytes.
     pub pixels: u64,
-    /// What the refusal tells beside its number: the offset of a missing marker, or a marker's code.
+    /// The refusal's detail: the offset of a missing marker, or a marker's code.
     pub detail: u64,
 }
 
@@ -76,7 +76,7 @@ impl Header {
         }
     }
 
-    /// What a head says.
+    /// Returns what a header says.
     pub(crate) fn of(head: &Head) -> Header
         ensures width { result.width ≡ head.now.width }
         ensures height { result.height ≡ head.now.height }

@@ -7,7 +7,7 @@ ghost use Rattle.jri_memory.specs.Canvases.{HasForm, LacksLayout, LacksLinesToLa
 use crate::status::{BUFFER_TOO_SMALL, NO_LAYOUT, OK};
 use jri_canvas::{CanvasLines, Layout, Pixels, have_places, lay_lines};
 
-/// What pixels of so many components are.
+/// Returns the pixels of `components` components.
 pub(crate) fn pixels_of(components: u32) -> Option<Pixels>
     ensures some { IfSome result (λ p. sample_count p ≡ components) }
     ensures not_grey { result ≡ None → components ≢ 1 }
@@ -20,7 +20,7 @@ pub(crate) fn pixels_of(components: u32) -> Option<Pixels>
     }
 }
 
-/// What the lines of a canvas are, where none reaches into the next.
+/// Returns the form of the lines of a canvas, if none reaches into the next.
 pub(crate) fn form_of(width: u32, pixels: Pixels, stride: usize, layout: u32) -> Option<CanvasLines>
     ensures form { IfSome result (λ c. HasForm width (sample_count pixels) stride layout c) }
     ensures pixels { IfSome result (λ c. c.pixels ≡ pixels) }
@@ -39,7 +39,7 @@ pub(crate) fn form_of(width: u32, pixels: Pixels, stride: usize, layout: u32) ->
     Some(form)
 }
 
-/// How many whole lines so many bytes are.
+/// Returns how many whole lines `bytes` bytes are.
 fn whole_lines(bytes: usize, line: usize) -> Option<usize>
     ensures whole { IfSome result (λ n. bytes ≡ n * line) }
     ensures few { IfSome result (λ n. n ≤ bytes) }
@@ -52,8 +52,8 @@ fn whole_lines(bytes: usize, line: usize) -> Option<usize>
     Some(bytes / line)
 }
 
-/// Lays out lines that stand one behind the other, line k from byte `k * stride` of the canvas on: 0. With 4 where the canvas has
-/// too little room, and 6 where there are no such lines or no such layout, it is as it was.
+/// Lays out consecutive lines, line k starting at byte `k * stride` of the canvas. Returns 0. With 4 if the canvas is
+/// too small, and 6 if there are no such lines or no such layout, it is unchanged.
 pub fn lay_out(
     lines: &[u8],
     width: u32,

@@ -1,4 +1,4 @@
-//! From the bytes of a file to some lines of its picture, in the caller's buffer.
+//! From the bytes of a file to some lines of its image, in the caller's buffer.
 
 ghost use Rattle.std.specs.Prelude.{◌≡◌, ◌≢◌, ◌<◌, ◌≤◌, ◌+◌, length, IfOk, IfErr, IfSome, None, true, false};
 ghost use Rattle.jr_segments.specs.declared.refusal.Refusal.TheVariants as refusal;
@@ -14,7 +14,7 @@ use jr_rows::paint_scan_lines;
 use jri_file::scan_of_file;
 use std::alloc::Global;
 
-/// Whether a picture has these lines, and there is one.
+/// Returns whether an image has these lines, at least one.
 fn has_lines(head: &Head, first: u32, count: u32) -> bool
     ensures there { result ≡ true → HasTheseLines head.now first count }
     ensures not_there { result ≡ false → HasTheseLines head.now first count → ⊥ }
@@ -23,8 +23,8 @@ fn has_lines(head: &Head, first: u32, count: u32) -> bool
     0 < count && count <= height && first <= height - count
 }
 
-/// Decodes `count` lines from `first` on into the start of `pixels`. `None` if the image has no such lines; then, and on `Err`,
-/// `pixels` are unchanged.
+/// Decodes `count` lines starting at `first` into the start of `pixels`. `None` if the image has no such lines; then,
+/// and on `Err`, `pixels` are unchanged.
 pub(crate) fn decode_some(
     alloc: Global,
     file: &[u8],

@@ -1,4 +1,4 @@
-//! The calls that go on from a place: rows of MCUs that are decoded, or passed over.
+//! The calls that continue from a position: rows of MCUs that are decoded, or skipped.
 
 ghost use Rattle.std.specs.Prelude.{◌≡◌, ◌≢◌, ◌≤◌, length};
 ghost use Rattle.jri_memory.specs.Rows.{GivesRows, IsRefusedPlace, LacksRoomForRow, LacksRows, SkipsRows, TellsFaultSoFar, TellsNoRows, TellsNothing, are_all};
@@ -10,7 +10,7 @@ use crate::status::{BUFFER_TOO_SMALL, NO_LINES, OK};
 use jr_arrival::{FileBytes, RowPlace};
 use std::alloc::Global;
 
-/// Tells why a place is not moved, and gives the answer.
+/// Reports why a position is not moved, and returns the status.
 fn tell_why(unmoved: PlaceError, report: &mut RowsReport) -> u32
     ensures undone { result ≢ 0 }
     ensures undamaged { result ≢ 3 }
@@ -39,10 +39,10 @@ fn tell_why(unmoved: PlaceError, report: &mut RowsReport) -> u32
     }
 }
 
-/// Decodes the next rows of MCUs of a file's picture from a place on, at most so many, into the front of `pixels`, and moves the
-/// place behind them: as many as have room there, and where more of the file is to come (`more` is not 0) as the bytes settle. It
-/// answers 0 then. With 1 for want of memory, 2 where the file is refused, 4 where the next row has no room, and 5 where the picture
-/// has no row at the place, or none is asked for, pixels and place are as they were.
+/// Decodes the next rows of MCUs of a file's image starting at a position, at most `rows`, into the start of `pixels`,
+/// and moves the position past them: as many as fit, and, if more of the file may follow (`more` is not 0), as the
+/// bytes make final. Returns 0 then. With 1 if allocation fails, 2 if the file is refused, 4 if the next row does not
+/// fit, and 5 if the image has no row at the position or none was asked for, pixels and position are unchanged.
 pub fn decode_file_rows(
     alloc: Global,
     file: &[u8],
@@ -78,10 +78,10 @@ pub fn decode_file_rows(
     }
 }
 
-/// Passes over the next rows of MCUs of a file's picture from a place on, at most so many, by reading their bits alone, and moves the
-/// place behind them; where more of the file is to come (`more` is not 0), over those that the bytes settle. It answers 0 then. With
-/// 1 for want of memory, 2 where the file is refused, and 5 where the picture has no row at the place, or none is asked for, the place
-/// is as it was.
+/// Skips the next rows of MCUs of a file's image starting at a position, at most `rows`, by reading their bits alone,
+/// and moves the position past them; if more of the file may follow (`more` is not 0), those that the bytes make final.
+/// Returns 0 then. With 1 if allocation fails, 2 if the file is refused, and 5 if the image has no row at the position
+/// or none was asked for, the position is unchanged.
 pub fn skip_file_rows(
     alloc: Global,
     file: &[u8],

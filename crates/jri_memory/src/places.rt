@@ -1,4 +1,4 @@
-//! From the bytes of a file, or those of it that are there, to rows of MCUs of its picture from a place on.
+//! From the bytes of a file, or those of it that are there, to rows of MCUs of its image starting at a position.
 
 ghost use Rattle.std.specs.Prelude.{◌≡◌, ◌≢◌, ℕ, Err, length, true, false, IfOk, IfErr};
 ghost use Rattle.jr_head.specs.Heads.{HeadOf};
@@ -15,13 +15,13 @@ use std::alloc::Global;
 pub(crate) enum PlaceError {
     /// The file is refused, or memory is.
     Refused(Refusal),
-    /// The picture has no row of MCUs there, or none is asked for.
+    /// The image has no row of MCUs there, or none was asked for.
     NoRows,
-    /// The pixels have no room for the next row's lines.
+    /// The pixels are too small for the next row's lines.
     NoRoom,
 }
 
-/// Whether a picture has a row of MCUs at a place, and some are asked for.
+/// Returns whether an image has a row of MCUs at a position, and some are asked for.
 fn has_row_at(head: &Head, place: &RowPlace, rows: u32) -> bool
     ensures there { result ≡ true → HasRowAt head.now place.now rows }
     ensures not_there { result ≡ false → HasRowAt head.now place.now rows → ⊥ }
@@ -29,7 +29,7 @@ fn has_row_at(head: &Head, place: &RowPlace, rows: u32) -> bool
     0 < rows && place.row < head.mcus_down() && stands_at(head, place)
 }
 
-/// Decodes the next rows of MCUs from a place of a picture on into the front of `pixels`, and moves it behind them.
+/// Decodes the next rows of MCUs starting at a position of an image into the start of `pixels`, and moves it past them.
 fn decode_there(
     alloc: Global,
     head: &Head,
@@ -58,7 +58,7 @@ fn decode_there(
     Ok(report)
 }
 
-/// Decodes the next rows of MCUs from a place of a file on, once its head is there.
+/// Decodes the next rows of MCUs starting at a position of a file, once its header is there.
 pub(crate) fn decode_from(
     alloc: Global,
     file: FileBytes<'_>,
@@ -78,7 +78,7 @@ pub(crate) fn decode_from(
     }
 }
 
-/// Passes over the next rows of MCUs from a place of a picture on, and moves it behind them.
+/// Skips the next rows of MCUs starting at a position of an image, and moves it past them.
 fn skip_there(
     alloc: Global,
     head: &Head,
@@ -103,7 +103,7 @@ fn skip_there(
     Ok(report)
 }
 
-/// Passes over the next rows of MCUs from a place of a file on, once its head is there.
+/// Skips the next rows of MCUs starting at a position of a file, once its header is there.
 pub(crate) fn skip_from(
     alloc: Global,
     file: FileBytes<'_>,

@@ -1,4 +1,4 @@
-//! What a decoding tells.
+//! The report of a decoding.
 
 ghost use Rattle.std.specs.Prelude.{◌≡◌, length};
 ghost use Rattle.jr_segments.specs.Refusal.{number_of};
@@ -8,20 +8,20 @@ use jr_head::Refusal;
 use jr_picture::Counts;
 use jr_scan::{Scan, ScanEnd};
 
-/// What a decoding tells; all numbers are 0 that are not said otherwise.
+/// The report of a decoding; all numbers are 0 unless stated otherwise.
 #[repr(C)]
 #[derive(Clone, Copy, PartialEq, Eq)]
 pub struct DecodeReport {
-    /// How many restart intervals the scan has.
+    /// Number of restart intervals of the scan.
     pub intervals: u32,
-    /// How many of them have a decoding.
+    /// Number of those with a decoding.
     pub sound: u32,
-    /// How many of them have none.
+    /// Number of those without one.
     pub damaged: u32,
-    /// How many of them are not decoded: none where there is a picture.
+    /// Number of those that are not decoded: 0 if there is an image.
     pub blank: u32,
-    /// What ended the scan: 1 EOI, 2 another marker, 3 a restart marker out of step, 4 one past the last interval, 5 the
-    /// end of the file.
+    /// What ended the scan: 1 EOI, 2 another marker, 3 a restart marker out of step, 4 one past the last interval, 5
+    /// the end of the file.
     pub ended: u32,
     /// The code of that other marker, or the number, 0 to 7, of the restart marker out of step.
     pub found: u32,
@@ -31,11 +31,11 @@ pub struct DecodeReport {
     pub refusal: u32,
     /// The offset in the file of the marker that ended the scan, with 2, 3 and 4.
     pub at: u64,
-    /// What the refusal tells beside its number: the offset of a missing marker, or a marker's code.
+    /// The refusal's detail: the offset of a missing marker, or a marker's code.
     pub detail: u64,
 }
 
-/// What a refusal tells beside its number.
+/// Returns a refusal's detail.
 pub fn detail(refusal: Refusal) -> u64
     ensures { result ≡ detail_of refusal }
 {
@@ -81,7 +81,7 @@ impl DecodeReport {
         }
     }
 
-    /// What ended a scan.
+    /// Returns a report of what ended a scan.
     fn ended(end: ScanEnd) -> DecodeReport
         ensures end { TellsScanEnd end result }
         ensures no_fault { TellsNoRefusal result }
@@ -101,7 +101,7 @@ impl DecodeReport {
         report
     }
 
-    /// Of a scan, whose intervals are so many sound, damaged and blank.
+    /// Returns the report of a scan with these numbers of sound, damaged and blank intervals.
     pub(crate) fn of(scan: &Scan, counts: Counts) -> DecodeReport
         ensures intervals { result.intervals ≡ length scan.now.intervals }
         ensures sound { result.sound ≡ counts.sound }

@@ -1,4 +1,4 @@
-//! How much room a picture and its marks take.
+//! The sizes of an image and its marks.
 
 ghost use Rattle.std.specs.Prelude.{◌≡◌, ◌<◌, ◌≤◌, length, true, false};
 ghost use Rattle.jri_memory.specs.Calls.{picture_size};
@@ -6,7 +6,7 @@ ghost use Rattle.jri_memory.specs.Calls.{picture_size};
 use jr_head::Head;
 use jr_paint::bytes_of_line;
 
-/// How many bytes the pixels of a picture have: one for a grey pixel, three for a colour.
+/// Returns the size in bytes of the pixels of an image: one for a grey pixel, three for a colour.
 pub(crate) fn bytes_of_picture(head: &Head) -> usize
     ensures value { result ≡ picture_size head.now }
 {
@@ -14,7 +14,7 @@ pub(crate) fn bytes_of_picture(head: &Head) -> usize
     head.height() as usize * bytes_of_line(head)
 }
 
-/// Whether marks are asked for and are more than there is room for.
+/// Returns whether marks are asked for and do not fit.
 pub(crate) fn lacks_room(marks: &[u8], count: u32) -> bool
     ensures room { result ≡ false → 0 < length marks.now → count ≤ length marks.now }
     ensures less { result ≡ true → (0 < length marks.now) × (length marks.now < count) }
@@ -22,7 +22,7 @@ pub(crate) fn lacks_room(marks: &[u8], count: u32) -> bool
     !marks.is_empty() && marks.len() < count as usize
 }
 
-/// How many marks are asked for, of so many: none where there is no room at all.
+/// Returns how many of `count` marks are asked for: none if there is no space at all.
 pub(crate) fn asked_for(marks: &[u8], count: u32) -> usize
     ensures all { 0 < length marks.now → result ≡ count }
     ensures none { length marks.now ≡ 0 → result ≡ 0 }

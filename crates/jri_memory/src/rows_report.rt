@@ -1,4 +1,4 @@
-//! What a call tells that goes on from a place.
+//! The report of a call that continues from a position.
 
 ghost use Rattle.std.specs.Prelude.{◌≡◌, ◌+◌, ◌≤◌};
 ghost use Rattle.jr_segments.specs.Refusal.{number_of};
@@ -10,19 +10,19 @@ use crate::report::detail;
 use jr_arrival::{lines_before, lines_between};
 use jr_head::{Head, Refusal};
 
-/// What a call tells that goes on from a place; all numbers are 0 that are not said otherwise.
+/// The report of a call that continues from a position; all numbers are 0 unless stated otherwise.
 #[repr(C)]
 #[derive(Clone, Copy, PartialEq, Eq)]
 pub struct RowsReport {
-    /// How many rows of MCUs are decoded, or passed over.
+    /// Number of rows of MCUs that are decoded, or skipped.
     pub rows: u32,
-    /// How many lines of the picture they have.
+    /// Number of lines of the image that they have.
     pub lines: u32,
-    /// Which line of the picture is the first of them, the top one being 0.
+    /// The first of these lines of the image, from 0 at the top.
     pub first_line: u32,
     /// The number of the refusal, from 1 to 19; 0 where there is none.
     pub refusal: u32,
-    /// What the refusal tells beside its number: the offset of a missing marker, or a marker's code.
+    /// The refusal's detail: the offset of a missing marker, or a marker's code.
     pub detail: u64,
 }
 
@@ -53,7 +53,7 @@ impl RowsReport {
         }
     }
 
-    /// The rows of MCUs from one on and before another.
+    /// Returns a report of the rows of MCUs from one to before another.
     pub(crate) fn of(head: &Head, from: u32, to: u32) -> RowsReport
         requires { from ≤ to }
         ensures rows { from + result.rows ≡ to }

@@ -1,4 +1,4 @@
-//! What the calls answer.
+//! The statuses of the calls.
 
 /// Done, by a call that does not judge the restart intervals.
 pub const OK: u32 = 0;
@@ -18,7 +18,7 @@ pub const DAMAGED: u32 = 3;
 /// A buffer is too small.
 pub const BUFFER_TOO_SMALL: u32 = 4;
 
-/// The picture has no such lines.
+/// The image has no such lines.
 pub const NO_LINES: u32 = 5;
 
 /// There is no such layout, or a line is longer than the stride.

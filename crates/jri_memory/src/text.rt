@@ -9,13 +9,13 @@ use jr_base::VERSION;
 use jr_head::Refusal;
 use std::io::{Cursor, Write};
 
-/// As many bytes as the longest text of a refusal may have.
+/// Maximum length in bytes of the text of a refusal.
 const ROOM: usize = 64;
 
-/// As many bytes as the longest text of another kind may have.
+/// Maximum length in bytes of a text of another kind.
 const LONG_ROOM: usize = 96;
 
-/// The refusal of this number that tells this beside it.
+/// Returns the refusal of this number and detail.
 fn refusal_of(number: u32, detail: u64) -> Option<Refusal>
     ensures of_the_number { IfSome result (λ f. number ≡ number_of f) }
     ensures some { IsNumberOfSome number → result ≢ None }
@@ -45,8 +45,8 @@ fn refusal_of(number: u32, detail: u64) -> Option<Refusal>
     }
 }
 
-/// Puts the text of a refusal by its numbers, as much as `text` has room for, with no 0 behind it: how many bytes it has. None
-/// where no refusal has that number.
+/// Writes the text of a refusal by its numbers into `text`, as much as fits, with no 0 after it, and returns its length
+/// in bytes: 0 if no refusal has that number.
 pub fn refusal_text(number: u32, detail: u64, text: &mut [u8]) -> usize
     ensures some { IsNumberOfSome number → 0 < length text.old → 0 < result }
     ensures none { 0 < result → IsNumberOfSome number }
@@ -65,7 +65,7 @@ pub fn refusal_text(number: u32, detail: u64, text: &mut [u8]) -> usize
     length
 }
 
-/// Puts what is written on a line, as much as `text` has room for: how many bytes it has.
+/// Copies what is written on a line into `text`, as much as fits, and returns its length in bytes.
 fn put_line(line: &Cursor<[u8; LONG_ROOM]>, text: &mut [u8]) -> usize
     ensures some { 0 < length text.old → 0 < result }
     ensures few { result ≤ length text.new }
@@ -80,8 +80,8 @@ fn put_line(line: &Cursor<[u8; LONG_ROOM]>, text: &mut [u8]) -> usize
     length
 }
 
-/// Puts what ended the scan of a report in the words of `jri`, as much as `text` has room for, with no 0 behind it: how many bytes it
-/// has. None where the report tells of no end.
+/// Writes what ended the scan of a report, in the words of `jri`, into `text`, as much as fits, with no 0 after it, and
+/// returns its length in bytes: 0 if the report has no end.
 pub fn end_text(report: &DecodeReport, text: &mut [u8]) -> usize
     ensures some { 1 ≤ report.now.ended → report.now.ended ≤ 5 → 0 < length text.old → 0 < result }
     ensures none { 0 < result → (1 ≤ report.now.ended) × (report.now.ended ≤ 5) }
@@ -108,7 +108,8 @@ pub fn end_text(report: &DecodeReport, text: &mut [u8]) -> usize
     put_line(&line, text)
 }
 
-/// Puts the name and the version of the build, as much as `text` has room for, with no 0 behind it: how many bytes it has.
+/// Writes the name and the version of the build into `text`, as much as fits, with no 0 after it, and returns its
+/// length in bytes.
 pub fn build_text(text: &mut [u8]) -> usize
     ensures some { 0 < length text.old → 0 < result }
     ensures few { result ≤ length text.new }
