@@ -215,9 +215,9 @@ uint32_t jri_check(const uint8_t *file, size_t file_length, uint8_t *marks, size
  * with JRI_COMPLETE by a call on these very bytes, the lines are those that jri_decode returns for these bytes or,
  * with JRI_PARTIAL, for every file that begins with them: no line is ever taken back. With JRI_PARTIAL, if these are
  * fewer rows than were asked for, are left and fit, the bytes do not make the next row final: one of its MCUs is not
- * whole, the marker that ends that MCU's interval is not there with its code, and of that interval fewer than 16,650
- * bits follow its last whole MCU, so that an MCU may begin with them (T.81, F.1.2). From any other position the lines
- * mean nothing.
+ * whole, the marker that ends that MCU's interval is not there with its code, and fewer than 16,650 bits, as many as an
+ * MCU has at most (T.81, F.1.2), follow the whole MCUs of that interval. From any other position the lines mean
+ * nothing.
  *
  * Proved: JRI_DAMAGED is never returned: jri_check reports soundness.
  */

@@ -40,8 +40,8 @@ pub record ComingRowValue : Type 0 where
   pub lines : ℕ
   pub marked : Marked
 
--- these whole MCUs are the longest front of an interval, and stay it: the interval is over, or as many bits are left past them as an
--- MCU has at most
+-- these whole MCUs are the longest front of an interval, and stay it: the interval is over, or at least as many bits are left past
+-- them as an MCU has at most
 pub record StaysLongest (g : GrowingScanValue) (number front : ℕ) (zs : List (List ℤ)) : Type 0 where
   pub longest : LongestFront (interval_of g.scan number) front zs
   pub final : IsOver g.scan g.segments number ⊎ (MCU_BITS ≤ length longest.front.rest)
@@ -56,7 +56,7 @@ abbrev pub ReadsAll : ScanValue → (number mcu : ℕ) → Option Place → Type
 ReadsAll s number mcu (Some p) = HasLongestFront (interval_of s number) mcu
 ReadsAll s number mcu None = ⊤
 
--- no MCU becomes whole at that place: the interval is over, or as many bits are left as an MCU has at most
+-- no MCU becomes whole at that place: the interval is over, or at least as many bits are left there as an MCU has at most
 abbrev pub IsFinal : GrowingScanValue → (number : ℕ) → Option Place → Type 0
 IsFinal g number (Some p) = IsOver g.scan g.segments number ⊎ (MCU_BITS ≤ length (left_at (interval_of g.scan number) p))
 IsFinal g number None = ⊤

@@ -42,8 +42,8 @@ pub record KeepsScan (bytes : List ℕ) (s t : ScanValue) : Type 0 where
   pub whole : (i : ℕ) → HasEndedAt bytes s i → interval_of t i ≡ interval_of s i
   pub end : s.ended ≢ EndOfFile → t.ended ≡ s.ended
 
--- no data that follow the interval's make MCU `mcu` of it whole: past its longest front of whole MCUs, which ends at that MCU or
--- before, as many bits are left as an MCU has at most
+-- no data that follow make MCU `mcu` of the interval whole: its longest front of whole MCUs ends before that one, and at least as
+-- many bits are left past it as an MCU has at most (T.81, F.1.2)
 pub record IsNeverWhole (i : IntervalValue) (mcu : ℕ) : Type 0 where
   pub front : ℕ
   pub blocks : List (List ℤ)

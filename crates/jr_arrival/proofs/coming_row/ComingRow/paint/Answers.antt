@@ -1,4 +1,4 @@
-use Rattle.std.proofs.Common.{◌≡◌, ◌+◌, ◌≤◌, sym, ap, subst, ◌∙◌}
+use Rattle.std.proofs.Common.{◌≡◌, ◌+◌, ◌≤◌, sym, subst, rules}
 use Rattle.jr_head.specs.HeadValue.{HeadValue}
 use Rattle.jr_head.specs.Geometry.{IsLawful, mcus_across}
 use Rattle.jr_paint.specs.Lines.{next_lines_of}
@@ -32,5 +32,5 @@ returns-clause-painted c =
     let few : i.lines + n ≤ first_line s.head i.row + line_count s.head i.row = subst (λ (r : ComingRowValue). r.lines + n ≤ first_line s.head r.row + line_count s.head r.row) (sym c.self.view_is) c.requires.inside in
     let pixels = c.paint_some.new.pixels in
     let are : pixels ≡ next_lines_of s.head (samples_in (record { head = s.head; groups = i.samples.lines.groups })) i.lines n =
-    c.paint_some.ensures.lines ∙ ap (λ (h : HeadValue). next_lines_of h (samples_in (record { head = h; groups = i.samples.lines.groups })) i.lines n) e in
+    subst (λ (h : HeadValue). pixels ≡ next_lines_of h (samples_in (record { head = h; groups = i.samples.lines.groups })) i.lines n) e (search (rules, c.paint_some.ensures.lines)) in
     subst (λ (r : ComingRowValue). AreComing c.args.scan.now r.lines n pixels) c.self.view_is (row_coming c.args.scan.now v lawful coming whole n few pixels are)
