@@ -67,8 +67,3 @@ def test_decodes_in_threads(photo):
 def test_pictures_and_reports_can_be_sent(photo):
     sent = pickle.loads(pickle.dumps(jri.read(photo)))
     assert numpy.array_equal(sent.pixels, jri.decode(photo)) and sent.report == jri.read(photo).report
-
-
-def test_tells_the_version():
-    assert jri.version() == 4
-    assert made(1, 1, ["-grayscale"])[:2] == b"\xff\xd8"

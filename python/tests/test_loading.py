@@ -21,11 +21,21 @@ def read(*names):
         return file.read()
 
 
+def interface():
+    """Returns the number of the interface that jri.h states."""
+    (stated,) = re.findall(r"^#define JRI_VERSION (\d+)$", read("..", "include", "jri.h"), re.M)
+    return int(stated)
+
+
 def imported(library, code="import jri"):
     """Runs code in a Python of its own with this JRI_LIBRARY, and returns what it writes to both streams."""
     environment = {**os.environ, "JRI_LIBRARY": str(library)}
     streams = {"stdout": subprocess.PIPE, "stderr": subprocess.STDOUT}
     return subprocess.run([sys.executable, "-c", code], env=environment, check=False, **streams).stdout.decode()
+
+
+def test_one_interface():
+    assert jri.version() == interface()
 
 
 def test_one_version():
@@ -69,11 +79,11 @@ def test_a_library_that_is_another_one():
 
 def test_a_library_of_another_version(tmp_path):
     path = compiled(tmp_path, "unsigned jri_version(void) { return 2; }")
-    assert f"ImportError: {path} has version 2 of the interface, not 4: install" in imported(path)
+    assert f"ImportError: {path} has version 2 of the interface, not {interface()}: install" in imported(path)
 
 
 def test_a_library_without_a_call(tmp_path):
-    path = compiled(tmp_path, "unsigned jri_version(void) { return 4; }")
+    path = compiled(tmp_path, f"unsigned jri_version(void) {{ return {interface()}; }}")
     told = imported(path)
     assert f"ImportError: {path} lacks a call: install" in told and "jri_" in told
 
