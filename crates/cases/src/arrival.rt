@@ -3,11 +3,15 @@
 ghost use Rattle.std.specs.Prelude.{◌<◌};
 
 use crate::case::Case;
+use crate::differences::Differences;
 use crate::failure::Failure;
 use crate::runs::compare_outcome;
 use crate::scans::report_of;
 use jr_arrival::{Arriving, Finished};
+use jr_base::Memory;
+use jr_head::Refusal;
 use jr_rows::{paint_scan_lines, shape_of};
+use jr_scan::Scan;
 use jri_engine::{Fault, Report};
 use std::alloc::Global;
 
@@ -27,25 +31,37 @@ fn size_of(arriving: &Arriving) -> Option<(usize, u32)> {
     Some((shape_of(head).line, head.height()))
 }
 
+/// Appends the next lines that are final, at most those for which `room` has space. Returns whether
+/// there are any.
+fn take_next(
+    alloc: Global,
+    arriving: &mut Arriving,
+    line: usize,
+    room: &mut [u8],
+    shown: &mut Vec<u8>,
+) -> Result<bool, Refusal> {
+    let count = arriving.next_lines(alloc, room)?;
+    let length = usize::saturating_mul(count as usize, line).min(room.len());
+    shown.extend_from_slice(&room[..length])?;
+    Ok(count > 0)
+}
+
 /// Appends the lines that the bytes so far make final, at most the given number at once.
 fn take_lines(
     alloc: Global,
     arriving: &mut Arriving,
     most: u32,
     shown: &mut Vec<u8>,
-) -> Result<(), Failure> {
+) -> Result<(), Refusal> {
     arriving.begin(alloc)?;
     let Some((line, height)) = size_of(arriving) else {
         return Ok(());
     };
     let mut room = vec![in alloc; 0; usize::saturating_mul(most.min(height) as usize, line)]?;
     for _ in 0..height {
-        let count = arriving.next_lines(alloc, room.as_mut_slice())?;
-        if count == 0 {
-            return Ok(());
+        if !take_next(alloc, arriving, line, room.as_mut_slice(), shown)? {
+            break;
         }
-        let length = usize::saturating_mul(count as usize, line).min(room.len());
-        shown.extend_from_slice(&room[..length])?;
     }
     Ok(())
 }
@@ -57,67 +73,76 @@ fn push_parts(
     bytes: &[u8],
     pace: Pace,
     shown: &mut Vec<u8>,
-) -> Result<(), Failure>
+) -> Result<(), Refusal>
     requires { 0 < pace.part }
 {
     for more in bytes.chunks(pace.part) {
-        arriving.push(more)?;
+        if arriving.push(more).is_err() {
+            return Err(Refusal::Memory);
+        }
         take_lines(alloc, arriving, pace.lines, shown)?;
     }
     Ok(())
 }
 
-/// Appends the lines of a finished file, starting at one.
-fn put_missing(
-    alloc: Global,
-    finished: &Finished,
-    first: u32,
-    shown: &mut Vec<u8>,
-) -> Result<(), Failure> {
-    let head = finished.scan.head();
-    if first < head.height() {
-        let count = head.height() - first;
-        let mut pixels = vec![in alloc; 0; count as usize * shape_of(head).line]?;
-        let _marked = paint_scan_lines(alloc, &finished.scan, first, count, &mut pixels)?;
-        shown.extend_from_slice(pixels.as_slice())?;
+/// Returns the lines of a scan's picture, starting at one.
+fn missing(alloc: Global, scan: &Scan, first: u32) -> Result<Vec<u8>, Memory> {
+    let head = scan.head();
+    let count = head.height().saturating_sub(first);
+    let mut pixels = vec![in alloc; 0; count as usize * shape_of(head).line]?;
+    if count > 0 {
+        let _marked = paint_scan_lines(alloc, scan, first, count, pixels.as_mut_slice())?;
     }
-    Ok(())
+    Ok(pixels)
+}
+
+/// Appends the lines of a scan's picture, starting at one.
+fn put_missing(alloc: Global, scan: &Scan, first: u32, shown: &mut Vec<u8>) -> Result<(), Refusal> {
+    match missing(alloc, scan, first) {
+        Ok(pixels) => Ok(shown.extend_from_slice(pixels.as_slice())?),
+        Err(_) => Err(Refusal::Memory),
+    }
+}
+
+/// Appends the lines that are missing when no further byte comes.
+fn finish(alloc: Global, arriving: Arriving, shown: &mut Vec<u8>) -> Result<Report, Refusal> {
+    let lines = arriving.lines();
+    let Finished { scan, counts } = arriving.finish(alloc)?;
+    put_missing(alloc, &scan, lines, shown)?;
+    Ok(report_of(&scan, counts))
 }
 
 /// Lets a file arrive, and appends all lines of its picture.
-fn arrive(alloc: Global, bytes: &[u8], pace: Pace, shown: &mut Vec<u8>) -> Result<Report, Failure>
+fn arrive(alloc: Global, bytes: &[u8], pace: Pace, shown: &mut Vec<u8>) -> Result<Report, Refusal>
     requires { 0 < pace.part }
 {
     let mut arriving = Arriving::new(alloc);
-    let pushed = push_parts(alloc, &mut arriving, bytes, pace, shown);
-    let lines = arriving.lines();
-    let finished = arriving.finish(alloc);
-    pushed?;
-    let finished = finished?;
-    put_missing(alloc, &finished, lines, shown)?;
-    Ok(report_of(&finished.scan, finished.counts))
+    match push_parts(alloc, &mut arriving, bytes, pace, shown) {
+        Ok(()) => finish(alloc, arriving, shown),
+        Err(refusal) => Err(refusal),
+    }
 }
 
-fn check_arrival(case: &Case<'_>, pace: Pace, path: &str, out: &mut String) -> Result<(), Failure>
+fn check_arrival(case: &Case<'_>, pace: Pace, path: &str, out: &mut Differences)
     requires { 0 < pace.part }
 {
     let mut shown = Vec::new(case.alloc);
     let outcome = match arrive(case.alloc, case.bytes, pace, &mut shown) {
         Ok(report) => Ok(report),
-        Err(Failure::Refused(refusal)) => Err(Fault::Refused(refusal)),
-        Err(failure) => return Err(failure),
+        Err(Refusal::Memory) => return out.fail(Failure::Memory),
+        Err(refusal) => Err(Fault::Refused(refusal)),
     };
-    compare_outcome(case, path, shown.as_slice(), outcome, out)
+    compare_outcome(case, path, shown.as_slice(), outcome, out);
 }
 
 /// Lets a case's file arrive in parts of several sizes.
-pub(crate) fn check_arrivals(case: &Case<'_>, out: &mut String) -> Result<(), Failure> {
+pub(crate) fn check_arrivals(case: &Case<'_>, out: &mut Differences) {
     if case.bytes.len() <= LONG {
-        check_arrival(case, Pace { part: 1, lines: 8 }, "parts of 1 byte", out)?;
-        check_arrival(case, Pace { part: 7, lines: 3 }, "parts of 7 bytes", out)?;
+        check_arrival(case, Pace { part: 1, lines: 8 }, "parts of 1 byte", out);
+        check_arrival(case, Pace { part: 7, lines: 3 }, "parts of 7 bytes", out);
     }
     let part = 4099;
-    check_arrival(case, Pace { part, lines: 1 }, "parts of 4099 bytes", out)?;
+    check_arrival(case, Pace { part, lines: 1 }, "parts of 4099 bytes", out);
     let (part, lines) = (usize::MAX, u32::MAX);
-    check_arrival(case, Pace { part, lines }, "one part", out)
+    check_arrival(case, Pace { part, lines }, "one part", out);
 }

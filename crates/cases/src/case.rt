@@ -3,7 +3,7 @@
 use crate::arrival::check_arrivals;
 use crate::buffers::{check_buffers, header_of};
 use crate::checks::check_as_archive;
-use crate::differences::{Subject, compare_bytes, compare_numbers, compare_texts};
+use crate::differences::{Differences, Subject, compare_bytes, compare_numbers, compare_texts};
 use crate::failure::Failure;
 use crate::lines::check_lines_of;
 use crate::places::check_places;
@@ -12,7 +12,7 @@ use crate::runs::{check_runs, written};
 use crate::scans::check_scans;
 use crate::sums::crc_32;
 use crate::sweeps::check_sweep;
-use crate::texts::lines_of;
+use crate::texts::put_lines;
 use jri_memory::Header;
 use std::alloc::Global;
 use std::sync::Wait;
@@ -70,51 +70,70 @@ impl<'a> Case<'a> {
         found: &[u8],
         report: &str,
         status: u32,
-        out: &mut String,
-    ) -> Result<(), Failure> {
+        out: &mut Differences,
+    ) {
         let subject = self.at(path);
-        compare_bytes(out, subject, self.samples(), found)?;
-        compare_texts(out, subject, self.report, report)?;
-        compare_numbers(out, subject, u64::from(self.row.status), u64::from(status))
+        compare_bytes(out, subject, self.samples(), found);
+        compare_texts(out, subject, self.report, report);
+        compare_numbers(out, subject, u64::from(self.row.status), u64::from(status));
     }
 }
 
-/// Returns the Netpbm text of a row's picture; nothing where the file is refused. The text that has a sum is the one that one
-/// worker writes.
+/// Returns the Netpbm text that one worker writes, which has the sum of these digits.
+fn summed<R: Threads + Wait + Sync>(
+    rt: &R,
+    alloc: Global,
+    row: &Row<'_>,
+    bytes: &[u8],
+    digits: &str,
+    out: &mut Differences,
+) -> Vec<u8> {
+    let (text, _outcome) = written(rt, alloc, bytes, row.options.first);
+    let (name, path) = (row.name, "sum");
+    match u32::from_str_radix(digits, 16) {
+        Ok(wanted) => {
+            let found = u64::from(crc_32(text.as_slice()));
+            compare_numbers(out, Subject { name, path }, u64::from(wanted), found);
+        }
+        Err(_) => out.fail(Failure::Malformed),
+    }
+    text
+}
+
+/// Returns the Netpbm text of a row's picture; nothing where the file is refused.
 fn picture_of<R: Threads + Wait + Sync>(
     rt: &R,
     alloc: Global,
     row: &Row<'_>,
     bytes: &[u8],
-    out: &mut String,
-) -> Result<Vec<u8>, Failure> {
+    out: &mut Differences,
+) -> Vec<u8> {
     if row.status == 2 {
-        return Ok(Vec::new(alloc));
+        return Vec::new(alloc);
     }
-    let Some((_size, digits)) = row.picture.split_once(" sum ") else {
-        return Ok(picture(alloc, row.picture)?);
-    };
-    let (text, _outcome) = written(rt, alloc, bytes, row.options.first);
-    let subject = Subject {
-        name: row.name,
-        path: "sum",
-    };
-    let wanted = u64::from(u32::from_str_radix(digits, 16)?);
-    compare_numbers(out, subject, wanted, u64::from(crc_32(text.as_slice())))?;
-    Ok(text)
+    if let Some((_size, digits)) = row.picture.split_once(" sum ") {
+        return summed(rt, alloc, row, bytes, digits, out);
+    }
+    match picture(alloc, row.picture) {
+        Ok(text) => text,
+        Err(error) => {
+            out.fail(Failure::from(error));
+            Vec::new(alloc)
+        }
+    }
 }
 
-/// Checks the paths that decode all intervals.
-fn check_whole<R: Threads + Wait + Sync>(
-    rt: &R,
-    case: &Case<'_>,
-    out: &mut String,
-) -> Result<(), Failure> {
-    check_as_archive(rt, case, out)?;
-    check_arrivals(case, out)?;
-    check_places(case, out)?;
-    check_buffers(case, out)?;
-    check_lines_of(case, out)
+/// Checks a case's file on each path.
+fn check_paths<R: Threads + Wait + Sync>(rt: &R, case: &Case<'_>, out: &mut Differences) {
+    check_runs(rt, case, out);
+    check_scans(rt, case, out);
+    if case.row.options.first.is_none() {
+        check_as_archive(rt, case, out);
+        check_arrivals(case, out);
+        check_places(case, out);
+        check_buffers(case, out);
+        check_lines_of(case, out);
+    }
 }
 
 /// Checks a file of a row on each path.
@@ -123,10 +142,11 @@ fn check_file<R: Threads + Wait + Sync>(
     alloc: Global,
     row: &Row<'_>,
     bytes: &[u8],
-    out: &mut String,
-) -> Result<(), Failure> {
-    let picture = picture_of(rt, alloc, row, bytes, out)?;
-    let report = lines_of(alloc, row.report)?;
+    out: &mut Differences,
+) {
+    let picture = picture_of(rt, alloc, row, bytes, out);
+    let mut report = String::new(alloc);
+    out.note(put_lines(&mut report, row.report));
     let case = Case {
         alloc,
         row,
@@ -135,33 +155,39 @@ fn check_file<R: Threads + Wait + Sync>(
         report: report.as_str(),
         header: header_of(alloc, bytes),
     };
-    check_runs(rt, &case, out)?;
-    check_scans(rt, &case, out)?;
-    match row.options.first {
-        None => check_whole(rt, &case, out),
-        Some(_) => Ok(()),
+    check_paths(rt, &case, out);
+}
+
+/// Checks a row's file on each path, cut to each of its lengths.
+fn check_lengths<R: Threads + Wait + Sync>(
+    rt: &R,
+    alloc: Global,
+    row: &Row<'_>,
+    bytes: &[u8],
+    out: &mut Differences,
+) {
+    let (least, most) = row.options.cut.unwrap_or((bytes.len(), bytes.len()));
+    for length in least..=most {
+        let before = out.len();
+        check_file(rt, alloc, row, front(bytes, length), out);
+        if out.len() > before {
+            out.add(row.name, "the file has", length, " bytes");
+        }
+    }
+    if row.options.is_stored && row.status != 2 {
+        check_sweep(rt, alloc, row, bytes, out);
     }
 }
 
-/// Checks a row's file on each path, cut to each of its lengths. Each difference is a line of `out`.
+/// Checks a row's file. Each difference is a line of `out`.
 pub(crate) fn check_row<R: Threads + Wait + Sync>(
     rt: &R,
     alloc: Global,
     row: &Row<'_>,
-    out: &mut String,
-) -> Result<(), Failure> {
-    let bytes = file(alloc, row.file)?;
-    let all = bytes.len();
-    let (least, most) = row.options.cut.unwrap_or((all, all));
-    for length in least..=most {
-        let before = out.len();
-        check_file(rt, alloc, row, front(bytes.as_slice(), length), out)?;
-        if out.len() > before {
-            writeln!(out, "{}: the file has {length} bytes", row.name)?;
-        }
+    out: &mut Differences,
+) {
+    match file(alloc, row.file) {
+        Ok(bytes) => check_lengths(rt, alloc, row, bytes.as_slice(), out),
+        Err(error) => out.fail(Failure::from(error)),
     }
-    if row.options.is_stored && row.status != 2 {
-        check_sweep(rt, alloc, row, bytes.as_slice(), out)?;
-    }
-    Ok(())
 }

@@ -3,22 +3,41 @@
 ghost use Rattle.jr_damage.specs.Verdicts.{IsFileScan};
 
 use crate::case::Case;
-use crate::differences::compare_texts;
+use crate::differences::{Differences, compare_texts};
 use crate::failure::Failure;
-use crate::texts::check_lines;
+use crate::texts::put_check_lines;
 use jri_archive::{Checked, Outcome, check_file, tell, write_map};
 use std::sync::Wait;
 use std::thread::Threads;
 
 /// Appends the lines of the damaged intervals.
-fn put_map(case: &Case<'_>, checked: &Checked, lines: &mut Vec<u8>) -> Result<(), Failure>
+fn put_map(case: &Case<'_>, checked: &Checked, lines: &mut Vec<u8>, out: &mut Differences)
     requires { IsFileScan case.now.bytes.now checked.now.scan }
 {
     let name = case.row.name.as_bytes();
-    match write_map(case.alloc, lines, name, case.bytes, checked, false) {
-        Ok(()) => Ok(()),
-        Err(_) => Err(Failure::Memory),
+    if write_map(case.alloc, lines, name, case.bytes, checked, false).is_err() {
+        out.fail(Failure::Memory);
     }
+}
+
+/// Appends the lines of a check with this number of workers: that of the file to `found`, and those of
+/// its damaged intervals to `map`.
+fn put_check<R: Threads + Wait + Sync>(
+    rt: &R,
+    case: &Case<'_>,
+    workers: u32,
+    found: &mut String,
+    map: &mut Vec<u8>,
+    out: &mut Differences,
+) {
+    let outcome = match check_file(rt, case.alloc, case.bytes, workers) {
+        Ok(checked) => {
+            put_map(case, &checked, map, out);
+            Outcome::Checked(checked)
+        }
+        Err(refusal) => Outcome::Refused(refusal),
+    };
+    out.note(tell(found, case.row.name.as_bytes(), &outcome));
 }
 
 /// Checks a case's file with this number of workers.
@@ -26,31 +45,25 @@ fn check_by<R: Threads + Wait + Sync>(
     rt: &R,
     case: &Case<'_>,
     workers: u32,
-    out: &mut String,
-) -> Result<(), Failure> {
+    wanted: &str,
+    out: &mut Differences,
+) {
     let mut map = Vec::new(case.alloc);
-    let outcome = match check_file(rt, case.alloc, case.bytes, workers) {
-        Ok(checked) => {
-            put_map(case, &checked, &mut map)?;
-            Outcome::Checked(checked)
-        }
-        Err(refusal) => Outcome::Refused(refusal),
-    };
     let mut found = String::new(case.alloc);
-    tell(&mut found, case.row.name.as_bytes(), &outcome)?;
-    if let Ok(map) = str::from_utf8(map.as_slice()) {
-        found.push_str(map)?;
-    }
-    let wanted = check_lines(case.alloc, case.row)?;
-    compare_texts(out, case.at("check"), wanted.as_str(), found.as_str())
+    put_check(rt, case, workers, &mut found, &mut map, out);
+    let lines = str::from_utf8(map.as_slice()).unwrap_or("no text");
+    out.note(found.push_str(lines));
+    compare_texts(out, case.at("check"), wanted, found.as_str());
 }
 
 /// Checks a case's file with one worker and with three.
 pub(crate) fn check_as_archive<R: Threads + Wait + Sync>(
     rt: &R,
     case: &Case<'_>,
-    out: &mut String,
-) -> Result<(), Failure> {
-    check_by(rt, case, 1, out)?;
-    check_by(rt, case, 3, out)
+    out: &mut Differences,
+) {
+    let mut wanted = String::new(case.alloc);
+    out.note(put_check_lines(&mut wanted, case.row));
+    check_by(rt, case, 1, wanted.as_str(), out);
+    check_by(rt, case, 3, wanted.as_str(), out);
 }

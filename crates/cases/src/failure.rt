@@ -1,8 +1,6 @@
 //! Why a row is not checked.
 
-use jr_base::Memory;
-use jr_head::Refusal;
-use std::alloc::{AllocError, AllocFailed};
+use std::alloc::AllocError;
 use std::num::ParseIntError;
 use test_files::error::NotationError;
 
@@ -13,8 +11,6 @@ pub(crate) enum Failure {
     Malformed,
     /// Allocation fails.
     Memory,
-    /// A file is refused.
-    Refused(Refusal),
 }
 
 impl Failure {
@@ -23,14 +19,7 @@ impl Failure {
         match self {
             Failure::Malformed => "not a row",
             Failure::Memory => "out of memory",
-            Failure::Refused(_) => "refused",
         }
-    }
-}
-
-impl From<Refusal> for Failure {
-    fn from(refusal: Refusal) -> Self {
-        Failure::Refused(refusal)
     }
 }
 
@@ -49,20 +38,8 @@ impl From<AllocError> for Failure {
     }
 }
 
-impl From<Memory> for Failure {
-    fn from(_refused: Memory) -> Self {
-        Failure::Memory
-    }
-}
-
 impl From<ParseIntError> for Failure {
     fn from(_wrong: ParseIntError) -> Self {
         Failure::Malformed
-    }
-}
-
-impl<T: Drop> From<AllocFailed<T>> for Failure {
-    fn from(_refused: AllocFailed<T>) -> Self {
-        Failure::Memory
     }
 }

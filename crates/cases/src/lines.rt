@@ -1,12 +1,12 @@
 //! The calls of the C library that decode some lines, decode onto a canvas, and list damage.
 
-use crate::buffers::report_lines;
+use crate::buffers::compare_call;
 use crate::case::Case;
-use crate::differences::{compare_bytes, compare_texts};
+use crate::differences::{Differences, compare_bytes, compare_texts};
 use crate::failure::Failure;
-use crate::texts::map_lines;
+use crate::texts::{map_of, put_lines};
 use jri_memory::{Damage, DamageReport, DecodeReport, decode_canvas, decode_lines, list_damages};
-use std::alloc::{AllocError, Global};
+use std::alloc::AllocError;
 
 /// The number of lines that are decoded at once.
 const LINES: u32 = 3;
@@ -25,68 +25,80 @@ fn lines_at<'a>(samples: &'a [u8], line: usize, first: u32, count: u32) -> &'a [
     &rest[..length]
 }
 
+/// Decodes lines that start at one.
+fn check_lines_at(case: &Case<'_>, first: u32, out: &mut Differences) {
+    let (line, height) = (case.line(), case.header.height);
+    let count = LINES.min(height.saturating_sub(first));
+    let size = usize::saturating_mul(count as usize, line);
+    let mut pixels = out.bytes(case.alloc, 7, size);
+    let mut report = DecodeReport::empty();
+    let (alloc, bytes) = (case.alloc, case.bytes);
+    let _answer = decode_lines(alloc, bytes, first, count, &mut pixels, &mut report);
+    let wanted = lines_at(case.samples(), line, first, count);
+    compare_bytes(out, case.at("some lines"), wanted, pixels.as_slice());
+}
+
 /// Decodes lines that start at several lines of the picture.
-fn check_some_lines(case: &Case<'_>, out: &mut String) -> Result<(), Failure> {
-    let (alloc, line, height) = (case.alloc, case.line(), case.header.height);
+fn check_some_lines(case: &Case<'_>, out: &mut Differences) {
+    let height = case.header.height;
     let step = height.div_ceil(CALLS).max(1);
     for first in (0..height).step_by(step as usize) {
-        let count = LINES.min(height.saturating_sub(first));
-        let mut pixels = vec![in alloc; 0; usize::saturating_mul(count as usize, line)]?;
-        let mut report = DecodeReport::empty();
-        let _answer = decode_lines(alloc, case.bytes, first, count, &mut pixels, &mut report);
-        let wanted = lines_at(case.samples(), line, first, count);
-        compare_bytes(out, case.at("some lines"), wanted, pixels.as_slice())?;
+        check_lines_at(case, first, out);
+    }
+}
+
+/// Decodes all lines, which has the report of the whole picture.
+fn check_all_lines(case: &Case<'_>, out: &mut Differences) {
+    let (alloc, bytes, height) = (case.alloc, case.bytes, case.header.height);
+    let mut pixels = out.bytes(alloc, 7, case.samples().len());
+    let mut report = DecodeReport::empty();
+    let answer = decode_lines(alloc, bytes, 0, height, &mut pixels, &mut report);
+    compare_call(case, "all lines", pixels.as_slice(), &report, answer, out);
+}
+
+/// Appends the lines of a canvas, without what is between them.
+fn put_without_spare(lines: &mut Vec<u8>, canvas: &[u8], line: usize) -> Result<(), AllocError> {
+    for part in canvas.chunks(line.saturating_add(SPARE).max(1)) {
+        lines.extend_from_slice(&part[..line.min(part.len())])?;
     }
     Ok(())
 }
 
-/// Decodes all lines, which has the report of the whole picture.
-fn check_all_lines(case: &Case<'_>, out: &mut String) -> Result<(), Failure> {
-    let (alloc, height) = (case.alloc, case.header.height);
-    let mut pixels = vec![in alloc; 0; case.samples().len()]?;
-    let mut report = DecodeReport::empty();
-    let answer = decode_lines(alloc, case.bytes, 0, height, &mut pixels, &mut report);
-    let lines = report_lines(alloc, &report)?;
-    case.compare("all lines", pixels.as_slice(), lines.as_str(), answer, out)
-}
-
-/// Returns the lines of a canvas, without what is between them.
-fn without_spare(alloc: Global, canvas: &[u8], line: usize) -> Result<Vec<u8>, AllocError> {
-    let mut lines = Vec::new(alloc);
-    for part in canvas.chunks(line.saturating_add(SPARE).max(1)) {
-        lines.extend_from_slice(&part[..line.min(part.len())])?;
-    }
-    Ok(lines)
-}
-
 /// Decodes onto a canvas in the picture's own layout.
-fn check_canvas(case: &Case<'_>, out: &mut String) -> Result<(), Failure> {
+fn check_canvas(case: &Case<'_>, out: &mut Differences) {
     let (alloc, line, bytes) = (case.alloc, case.line(), case.bytes);
     let stride = line.saturating_add(SPARE);
-    let mut canvas = vec![in alloc; 7; stride.saturating_mul(case.header.height as usize)]?;
+    let mut canvas = out.bytes(alloc, 7, stride.saturating_mul(case.header.height as usize));
     let mut report = DecodeReport::empty();
     let answer = decode_canvas(alloc, bytes, &mut canvas, stride, 0, &mut [], &mut report);
-    let found = without_spare(alloc, canvas.as_slice(), line)?;
-    let lines = report_lines(alloc, &report)?;
-    case.compare("canvas", found.as_slice(), lines.as_str(), answer, out)
+    let mut found = Vec::new(alloc);
+    out.note(put_without_spare(&mut found, canvas.as_slice(), line));
+    compare_call(case, "canvas", found.as_slice(), &report, answer, out);
 }
 
-/// Puts the line of a damaged interval.
+/// Appends the bytes of a damaged interval, and the number of its MCUs that are decodable.
+fn put_damaged_bytes(text: &mut String, damage: &Damage) -> Result<(), AllocError> {
+    let (mcus, decodable) = (damage.mcus, damage.decodable);
+    if damage.start == damage.end {
+        return writeln!(text, "no bytes, {decodable} of {mcus} MCUs decodable");
+    }
+    let (start, last) = (damage.start, damage.end.saturating_sub(1));
+    writeln!(
+        text,
+        "bytes {start} to {last}, {decodable} of {mcus} MCUs decodable"
+    )
+}
+
+/// Appends the line of a damaged interval.
 fn put_damage(text: &mut String, damage: &Damage) -> Result<(), AllocError> {
-    let (interval, mcus, decodable) = (damage.interval, damage.mcus, damage.decodable);
+    let (interval, mcus) = (damage.interval, damage.mcus);
     let (first, top, bottom) = (damage.first_mcu, damage.first_line, damage.last_line);
     let last = first.saturating_add(mcus.saturating_sub(1));
     write!(
         text,
         "interval {interval}, MCUs {first} to {last}, lines {top} to {bottom}, "
     )?;
-    if damage.start == damage.end {
-        text.push_str("no bytes")?;
-    } else {
-        let (start, last) = (damage.start, damage.end.saturating_sub(1));
-        write!(text, "bytes {start} to {last}")?;
-    }
-    writeln!(text, ", {decodable} of {mcus} MCUs decodable")
+    put_damaged_bytes(text, damage)
 }
 
 /// A damaged interval, or consecutive ones without bytes, which share a line.
@@ -160,10 +172,13 @@ const UNDAMAGED: Damage = Damage {
     end: 0,
 };
 
-/// Returns the lines of the damaged intervals, listed in parts of `entries`.
-fn listed(alloc: Global, bytes: &[u8], intervals: u32, entries: u32) -> Result<String, AllocError> {
-    let mut text = String::new(alloc);
-    let mut damages = vec![in alloc; UNDAMAGED; entries as usize]?;
+/// Appends the lines of the damaged intervals, listed in parts for which `damages` has space.
+fn put_listed(
+    text: &mut String,
+    case: &Case<'_>,
+    damages: &mut [Damage],
+) -> Result<(), AllocError> {
+    let (bytes, intervals) = (case.bytes, case.header.intervals);
     let mut run: Option<Run> = None;
     let mut report = DamageReport {
         count: 0,
@@ -174,36 +189,44 @@ fn listed(alloc: Global, bytes: &[u8], intervals: u32, entries: u32) -> Result<S
     };
     for _ in 0..=intervals {
         let (next, at) = (report.next, report.next_at);
-        let _answer = list_damages(alloc, bytes, next, at, &mut damages, &mut report);
+        let _answer = list_damages(case.alloc, bytes, next, at, damages, &mut report);
         let count = (report.count as usize).min(damages.len());
-        run = put_damages(&mut text, run, &damages[..count])?;
+        run = put_damages(text, run, &damages[..count])?;
         if report.next >= intervals {
             break;
         }
     }
-    put_run(&mut text, run)?;
-    Ok(text)
+    put_run(text, run)
+}
+
+/// Lists the damage in parts of `entries`.
+fn check_list(case: &Case<'_>, wanted: &str, entries: u32, out: &mut Differences) {
+    let Ok(mut damages) = vec![in case.alloc; UNDAMAGED; entries as usize] else {
+        return out.fail(Failure::Memory);
+    };
+    let mut found = String::new(case.alloc);
+    out.note(put_listed(&mut found, case, damages.as_mut_slice()));
+    compare_texts(out, case.at("list of damage"), wanted, found.as_str());
 }
 
 /// Lists the damage by one call, and in parts of one and three entries.
-fn check_lists(case: &Case<'_>, out: &mut String) -> Result<(), Failure> {
-    let intervals = case.header.intervals;
-    let wanted = map_lines(case.alloc, case.row.damaged)?;
-    for entries in [1, 3, intervals] {
-        let found = listed(case.alloc, case.bytes, intervals, entries)?;
-        let at = case.at("list of damage");
-        compare_texts(out, at, wanted.as_str(), found.as_str())?;
+fn check_lists(case: &Case<'_>, out: &mut Differences) {
+    let mut wanted = String::new(case.alloc);
+    let map = map_of(case.row);
+    if !map.is_empty() {
+        out.note(put_lines(&mut wanted, map));
     }
-    Ok(())
+    check_list(case, wanted.as_str(), 1, out);
+    check_list(case, wanted.as_str(), 3, out);
+    check_list(case, wanted.as_str(), case.header.intervals, out);
 }
 
 /// Decodes lines of a case's file, decodes it onto a canvas, and lists its damage.
-pub(crate) fn check_lines_of(case: &Case<'_>, out: &mut String) -> Result<(), Failure> {
-    if case.is_refused() {
-        return Ok(());
+pub(crate) fn check_lines_of(case: &Case<'_>, out: &mut Differences) {
+    if !case.is_refused() {
+        check_some_lines(case, out);
+        check_all_lines(case, out);
+        check_canvas(case, out);
+        check_lists(case, out);
     }
-    check_some_lines(case, out)?;
-    check_all_lines(case, out)?;
-    check_canvas(case, out)?;
-    check_lists(case, out)
 }

@@ -20,7 +20,7 @@ mod sweeps;
 mod texts;
 
 use crate::case::check_row;
-use crate::failure::Failure;
+use crate::differences::Differences;
 use crate::row::row_of;
 use std::alloc::Global;
 use std::io::{Result as IoResult, Write};
@@ -34,70 +34,92 @@ fn check_line<R: Threads + Wait + Sync>(
     rt: &R,
     alloc: Global,
     line: &str,
-    out: &mut String,
-) -> Result<bool, Failure> {
+    out: &mut Differences,
+) -> bool {
     let line = line.trim();
     if line.is_empty() || line.starts_with('#') {
-        return Ok(false);
+        return false;
     }
-    check_row(rt, alloc, &row_of(line)?, out)?;
-    Ok(true)
+    match row_of(line) {
+        Ok(row) => check_row(rt, alloc, &row, out),
+        Err(failure) => out.fail(failure),
+    }
+    true
 }
 
-/// Checks each row of a table, writes the differences, and returns the number of rows and of differing ones.
+/// The number of rows of a table, and of differing ones.
+#[derive(Clone, Copy)]
+struct Rows {
+    all: u32,
+    wrong: u32,
+}
+
+impl Rows {
+    /// Checks the line of this number, and writes its differences.
+    fn check<R: Threads + Wait + Sync, W: Write>(
+        &mut self,
+        rt: &R,
+        alloc: Global,
+        (number, line): (usize, &str),
+        out: &mut W,
+    ) -> IoResult<()> {
+        let mut differences = Differences::new(alloc);
+        let is_row = check_line(rt, alloc, line, &mut differences);
+        let has_failed = differences.failure().is_some();
+        if is_row && !has_failed {
+            self.all = self.all.saturating_add(1);
+        }
+        if has_failed || differences.len() > 0 {
+            self.wrong = self.wrong.saturating_add(1);
+        }
+        differences.write(number, out)
+    }
+}
+
+/// Checks each row of a table, and writes the differences.
 fn check_table<R: Threads + Wait + Sync, W: Write>(
     rt: &R,
     alloc: Global,
     table: &str,
     out: &mut W,
-) -> IoResult<(u32, u32)> {
-    let mut rows: u32 = 0;
-    let mut wrong: u32 = 0;
-    for (i, line) in table.lines().enumerate() {
-        let mut differences = String::new(alloc);
-        let found = check_line(rt, alloc, line, &mut differences);
-        let number = i.saturating_add(1);
-        match found {
-            Ok(false) => {}
-            Ok(true) => rows = rows.saturating_add(1),
-            Err(failure) => writeln!(out, "line {number}: {}", failure.text())?,
-        }
-        out.write_all(differences.as_bytes())?;
-        if found.is_err() || !differences.is_empty() {
-            wrong = wrong.saturating_add(1);
-        }
+) -> IoResult<Rows> {
+    let mut rows = Rows { all: 0, wrong: 0 };
+    let mut number: usize = 0;
+    for line in table.lines() {
+        number = number.saturating_add(1);
+        rows.check(rt, alloc, (number, line), out)?;
     }
-    Ok((rows, wrong))
+    Ok(rows)
 }
 
 /// Returns the text of the file that the first word names.
 fn table_of(rt: &HostRuntime) -> IoResult<String> {
-    let mut text = String::new(rt.alloc());
-    for name in env::args(rt)?.skip(1) {
-        text = fs::read_to_string(rt, name.as_str())?;
+    let mut words = env::args(rt)?.skip(1);
+    match words.next() {
+        Some(name) => fs::read_to_string(rt, name.as_str()),
+        None => Ok(String::new(rt.alloc())),
     }
-    Ok(text)
 }
 
 /// Checks a table, and returns whether it has rows and every row holds.
-fn check<R: Threads + Wait + Sync, W: Write + Drop>(
+fn check<R: Threads + Wait + Sync, W: Write>(
     rt: &R,
     alloc: Global,
     table: &str,
-    mut out: W,
+    out: &mut W,
 ) -> IoResult<bool> {
-    let (rows, wrong) = check_table(rt, alloc, table, &mut out)?;
-    if rows == 0 {
+    let rows = check_table(rt, alloc, table, out)?;
+    if rows.all == 0 {
         writeln!(out, "the table has no rows")?;
-    } else if wrong == 0 {
+    } else if rows.wrong == 0 {
         writeln!(out, "every case holds")?;
     }
-    Ok(rows > 0 && wrong == 0)
+    Ok(rows.all > 0 && rows.wrong == 0)
 }
 
 fn main(rt: HostRuntime) -> ExitCode {
     let checked = match table_of(&rt) {
-        Ok(table) => check(&rt, rt.alloc(), table.as_str(), rt.stdout()),
+        Ok(table) => check(&rt, rt.alloc(), table.as_str(), &mut rt.stdout()),
         Err(error) => Err(error),
     };
     match checked {

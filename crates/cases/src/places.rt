@@ -2,13 +2,12 @@
 
 ghost use Rattle.std.specs.Prelude.{◌<◌};
 
-use crate::buffers::refusal_line;
+use crate::buffers::put_refusal;
 use crate::case::Case;
-use crate::differences::{compare_bytes, compare_texts};
-use crate::failure::Failure;
+use crate::differences::{Differences, compare_bytes, compare_texts};
 use jri_memory::status::OK;
 use jri_memory::{RowPlace, RowsReport, decode_file_rows, skip_file_rows};
-use std::alloc::Global;
+use std::alloc::{AllocError, Global};
 
 /// A file of more bytes does not come in small parts.
 const LONG: usize = 1024;
@@ -106,65 +105,70 @@ struct IndexEntry {
     first_line: u32,
 }
 
-/// Returns the positions before each row.
-fn index(alloc: Global, bytes: &[u8], height: u32) -> Result<Vec<IndexEntry>, Failure> {
-    let mut entries = Vec::new(alloc);
+/// Appends the positions before each row.
+fn put_index(
+    entries: &mut Vec<IndexEntry>,
+    alloc: Global,
+    bytes: &[u8],
+    height: u32,
+) -> Result<(), AllocError> {
     let mut next = TOP;
     for _ in 0..height {
         let place = next;
         let mut report = RowsReport::empty();
         if skip_file_rows(alloc, bytes, 0, &mut next, 1, &mut report) != OK {
-            return Ok(entries);
+            break;
         }
         let first_line = report.first_line;
-        entries.push(IndexEntry { place, first_line })?;
+        if entries.push(IndexEntry { place, first_line }).is_err() {
+            return Err(AllocError);
+        }
     }
-    Ok(entries)
+    Ok(())
 }
 
 /// Decodes each row from its own position, the last row first.
-fn by_index(case: &Case<'_>, pixels: &mut [u8]) -> Result<(), Failure> {
-    let entries = index(case.alloc, case.bytes, case.header.height)?;
+fn by_index(case: &Case<'_>, pixels: &mut [u8], out: &mut Differences) {
+    let mut entries = Vec::new(case.alloc);
+    out.note(put_index(&mut entries, case.alloc, case.bytes, case.header.height));
     for entry in entries.iter().rev() {
         let mut reading = Reading::at_top(case.line());
         reading.place = entry.place;
         reading.decode(case.alloc, case.bytes, 0, 1, entry.first_line, pixels);
     }
-    Ok(())
 }
 
 /// Compares a picture with a case's, and clears it.
-fn compare_pixels(
-    case: &Case<'_>,
-    path: &str,
-    pixels: &mut [u8],
-    out: &mut String,
-) -> Result<(), Failure> {
-    compare_bytes(out, case.at(path), case.samples(), pixels)?;
+fn compare_pixels(case: &Case<'_>, path: &str, pixels: &mut [u8], out: &mut Differences) {
+    compare_bytes(out, case.at(path), case.samples(), pixels);
     pixels.fill(7);
-    Ok(())
 }
 
 /// Compares the refusal that a call reports.
-fn compare_refusal(case: &Case<'_>, report: &RowsReport, out: &mut String) -> Result<(), Failure> {
-    let found = refusal_line(case.alloc, report.refusal, report.detail)?;
-    compare_texts(out, case.at("rows"), case.report, found.as_str())
+fn compare_refusal(case: &Case<'_>, report: &RowsReport, out: &mut Differences) {
+    let mut found = String::new(case.alloc);
+    out.note(put_refusal(&mut found, report.refusal, report.detail));
+    compare_texts(out, case.at("rows"), case.report, found.as_str());
 }
 
-/// Decodes the rows of a case's file from positions.
-pub(crate) fn check_places(case: &Case<'_>, out: &mut String) -> Result<(), Failure> {
-    let alloc = case.alloc;
-    let mut pixels = vec![in alloc; 7; case.samples().len()]?;
-    let reading = by_rows(case, 1, &mut pixels);
+/// Decodes the rows of a case's file in several ways; `pixels` has space for its picture.
+fn check_ways(case: &Case<'_>, pixels: &mut [u8], out: &mut Differences) {
+    let reading = by_rows(case, 1, pixels);
     if case.is_refused() {
         return compare_refusal(case, &reading.report, out);
     }
-    compare_pixels(case, "row by row", &mut pixels, out)?;
-    let _all = by_rows(case, u32::MAX, &mut pixels);
-    compare_pixels(case, "all rows", &mut pixels, out)?;
+    compare_pixels(case, "row by row", pixels, out);
+    let _all = by_rows(case, u32::MAX, pixels);
+    compare_pixels(case, "all rows", pixels, out);
     let part = if case.bytes.len() <= LONG { 1 } else { 4099 };
-    in_parts(case, part, &mut pixels);
-    compare_pixels(case, "rows as they come", &mut pixels, out)?;
-    by_index(case, &mut pixels)?;
-    compare_pixels(case, "rows by index", &mut pixels, out)
+    in_parts(case, part, pixels);
+    compare_pixels(case, "rows as they come", pixels, out);
+    by_index(case, pixels, out);
+    compare_pixels(case, "rows by index", pixels, out);
+}
+
+/// Decodes the rows of a case's file from positions.
+pub(crate) fn check_places(case: &Case<'_>, out: &mut Differences) {
+    let mut pixels = out.bytes(case.alloc, 7, case.samples().len());
+    check_ways(case, pixels.as_mut_slice(), out);
 }

@@ -29,10 +29,22 @@ pub(crate) struct Row<'a> {
     pub damaged: &'a str,
 }
 
+/// Returns the part of a text of this number, between separators; nothing if the text has fewer.
+pub(crate) fn part(text: &str, separator: char, number: usize) -> &str {
+    for (i, part) in text.split(separator).enumerate() {
+        if i == number {
+            return part;
+        }
+    }
+    ""
+}
+
 /// Returns the lengths of the option `cut`, as `2..145`.
 fn lengths_of(digits: &str) -> Result<(usize, usize), Failure> {
-    let (least, most) = digits.split_once("..").ok_or(Failure::Malformed)?;
-    Ok((least.parse::<usize>()?, most.parse::<usize>()?))
+    match digits.split_once("..") {
+        Some((least, most)) => Ok((least.parse::<usize>()?, most.parse::<usize>()?)),
+        None => Err(Failure::Malformed),
+    }
 }
 
 /// Returns options with that of a word.
@@ -62,12 +74,7 @@ fn options_of(words: &str) -> Result<Options, Failure> {
 
 /// Returns the field of this number, without the spaces around it; nothing if the line has fewer.
 fn field(line: &str, number: usize) -> &str {
-    for (i, text) in line.split('|').enumerate() {
-        if i == number {
-            return text.trim();
-        }
-    }
-    ""
+    part(line, '|', number).trim()
 }
 
 /// Returns the row that a line of the table has.

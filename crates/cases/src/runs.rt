@@ -4,8 +4,7 @@ ghost use Rattle.std.specs.Prelude.{◌≤◌};
 ghost use Rattle.jr_base.specs.declared.limits.TheConstants.{MAX_WORKERS};
 
 use crate::case::Case;
-use crate::differences::compare_bytes;
-use crate::failure::Failure;
+use crate::differences::{Differences, compare_bytes};
 use jr_paint::Tally;
 use jr_wall::OpenGate;
 use jri_engine::{Fault, Report, finish, run};
@@ -20,13 +19,13 @@ pub(crate) fn compare_outcome(
     path: &str,
     samples: &[u8],
     outcome: Result<Report, Fault>,
-    out: &mut String,
-) -> Result<(), Failure> {
+    out: &mut Differences,
+) {
     let mut report = Vec::new(case.alloc);
     let mut nothing = Tally::of(Vec::new(case.alloc));
     let status = finish(outcome, &mut nothing, &mut report);
     let found = str::from_utf8(report.as_slice()).unwrap_or("no text");
-    case.compare(path, samples, found, u32::from(status), out)
+    case.compare(path, samples, found, u32::from(status), out);
 }
 
 /// Compares the text of a picture, and its outcome.
@@ -35,10 +34,10 @@ pub(crate) fn compare_written(
     path: &str,
     text: &[u8],
     outcome: Result<Report, Fault>,
-    out: &mut String,
-) -> Result<(), Failure> {
-    compare_bytes(out, case.at(path), case.picture, text)?;
-    compare_outcome(case, path, case.samples(), outcome, out)
+    out: &mut Differences,
+) {
+    compare_bytes(out, case.at(path), case.picture, text);
+    compare_outcome(case, path, case.samples(), outcome, out);
 }
 
 /// Returns `count` bytes at most a call.
@@ -65,8 +64,8 @@ fn check_run<R: Threads + Wait + Sync, I: Read + Drop>(
     input: I,
     workers: u32,
     path: &str,
-    out: &mut String,
-) -> Result<(), Failure>
+    out: &mut Differences,
+)
     requires some { 1 ≤ workers }
     requires few { workers ≤ MAX_WORKERS }
 {
@@ -76,21 +75,17 @@ fn check_run<R: Threads + Wait + Sync, I: Read + Drop>(
     let outcome = run(
         rt, case.alloc, &mut input, &mut text, workers, first, &OpenGate,
     );
-    compare_written(case, path, text.into_inner().as_slice(), outcome, out)
+    compare_written(case, path, text.into_inner().as_slice(), outcome, out);
 }
 
 /// Runs a case with 1, 2, 4 and 64 workers, once with an input that returns some bytes a call.
-pub(crate) fn check_runs<R: Threads + Wait + Sync>(
-    rt: &R,
-    case: &Case<'_>,
-    out: &mut String,
-) -> Result<(), Failure> {
+pub(crate) fn check_runs<R: Threads + Wait + Sync>(rt: &R, case: &Case<'_>, out: &mut Differences) {
     let rest = case.bytes;
     let slow = SlowInput { rest, count: 4099 };
-    check_run(rt, case, rest, 1, "run with 1 worker", out)?;
-    check_run(rt, case, slow, 2, "run with 2 workers", out)?;
-    check_run(rt, case, rest, 4, "run with 4 workers", out)?;
-    check_run(rt, case, rest, 64, "run with 64 workers", out)
+    check_run(rt, case, rest, 1, "run with 1 worker", out);
+    check_run(rt, case, slow, 2, "run with 2 workers", out);
+    check_run(rt, case, rest, 4, "run with 4 workers", out);
+    check_run(rt, case, rest, 64, "run with 64 workers", out);
 }
 
 /// Returns the picture of a file that one worker writes, and what the run comes to.

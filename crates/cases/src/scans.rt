@@ -4,6 +4,7 @@ ghost use Rattle.std.specs.Prelude.{◌≤◌};
 ghost use Rattle.jr_base.specs.declared.limits.TheConstants.{MAX_WORKERS};
 
 use crate::case::Case;
+use crate::differences::Differences;
 use crate::failure::Failure;
 use crate::runs::compare_written;
 use jr_crew::write_scan_by;
@@ -33,8 +34,8 @@ fn check_crew<R: Threads + Wait + Sync>(
     scan: &Scan,
     workers: u32,
     path: &str,
-    out: &mut String,
-) -> Result<(), Failure>
+    out: &mut Differences,
+)
     requires some { 1 ≤ workers }
     requires few { workers ≤ MAX_WORKERS }
 {
@@ -44,52 +45,56 @@ fn check_crew<R: Threads + Wait + Sync>(
         Ok(counts) => Ok(report_of(scan, counts)),
         Err(_) => Err(Fault::Memory),
     };
-    compare_written(case, path, text.into_inner().as_slice(), outcome, out)
+    compare_written(case, path, text.into_inner().as_slice(), outcome, out);
 }
 
 /// Writes the picture of a board.
-fn check_board(
-    case: &Case<'_>,
-    scan: &Scan,
-    board: &Board,
-    path: &str,
-    out: &mut String,
-) -> Result<(), Failure> {
+fn check_board(case: &Case<'_>, scan: &Scan, board: &Board, path: &str, out: &mut Differences) {
     let counts = board.headline();
     let mut text = Tally::of(Vec::new(case.alloc));
     let outcome = match write_netpbm(board, &mut text) {
         Ok(()) => Ok(report_of(scan, counts)),
         Err(_) => Err(Fault::Write),
     };
-    compare_written(case, path, text.into_inner().as_slice(), outcome, out)
+    compare_written(case, path, text.into_inner().as_slice(), outcome, out);
 }
 
-/// Decodes a scan onto boards, with two workers and in the calling thread.
-fn check_boards<R: Threads + Wait + Sync>(
+/// Decodes a scan onto a board in the calling thread.
+fn check_alone(case: &Case<'_>, scan: &Arc<Scan>, out: &mut Differences) {
+    match decode_alone(case.alloc, scan, case.row.options.first) {
+        Ok(board) => check_board(case, scan, &board, "board of one worker", out),
+        Err(_) => out.fail(Failure::Memory),
+    }
+}
+
+/// Decodes a scan onto a board with two workers.
+fn check_two<R: Threads + Wait + Sync>(
     rt: &R,
     case: &Case<'_>,
-    scan: Arc<Scan>,
-    out: &mut String,
-) -> Result<(), Failure> {
-    let first = case.row.options.first;
-    let board = decode_alone(case.alloc, &scan, first)?;
-    check_board(case, &scan, &board, "board of one worker", out)?;
-    let shared = Arc::try_clone(&scan)?;
-    let board = decode_all(rt, case.alloc, shared, 2, first, &OpenGate)?;
-    check_board(case, &scan, &board, "board of two workers", out)
+    scan: &Arc<Scan>,
+    out: &mut Differences,
+) {
+    let Ok(shared) = Arc::try_clone(scan) else {
+        return out.fail(Failure::Memory);
+    };
+    match decode_all(rt, case.alloc, shared, 2, case.row.options.first, &OpenGate) {
+        Ok(board) => check_board(case, scan, &board, "board of two workers", out),
+        Err(_) => out.fail(Failure::Memory),
+    }
 }
 
 /// Writes the pictures of a case's scan, if its file has one.
 pub(crate) fn check_scans<R: Threads + Wait + Sync>(
     rt: &R,
     case: &Case<'_>,
-    out: &mut String,
-) -> Result<(), Failure> {
+    out: &mut Differences,
+) {
     match scan_of_file(case.alloc, case.bytes) {
         Ok(scan) => {
-            check_crew(rt, case, &scan, 2, "rows by 2 workers", out)?;
-            check_crew(rt, case, &scan, 5, "rows by 5 workers", out)?;
-            check_boards(rt, case, scan, out)
+            check_crew(rt, case, &scan, 2, "rows by 2 workers", out);
+            check_crew(rt, case, &scan, 5, "rows by 5 workers", out);
+            check_alone(case, &scan, out);
+            check_two(rt, case, &scan, out);
         }
         Err(refusal) => compare_written(case, "scan", &[], Err(Fault::Refused(refusal)), out),
     }

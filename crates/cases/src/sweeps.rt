@@ -2,23 +2,27 @@
 //! header says.
 
 use crate::buffers::header_of;
+use crate::differences::Differences;
 use crate::failure::Failure;
 use crate::row::Row;
 use crate::runs::written;
 use jri_engine::{Fault, Report};
 use jri_memory::Header;
-use std::alloc::{AllocError, Global};
+use std::alloc::Global;
 use std::sync::Wait;
 use std::thread::Threads;
 use test_files::files::{front, with_byte};
 use test_files::pictures::header;
 
 /// Returns whether a picture has the first lines and the size that a header says.
-fn is_of_header(alloc: Global, text: &[u8], read: &Header) -> Result<bool, AllocError> {
+fn is_of_header(alloc: Global, text: &[u8], read: &Header, out: &mut Differences) -> bool {
     let magic = if read.components == 1 { "P5" } else { "P6" };
-    let first_lines = header(alloc, magic, read.width, read.height)?;
+    let Ok(first_lines) = header(alloc, magic, read.width, read.height) else {
+        out.fail(Failure::Memory);
+        return false;
+    };
     let size = first_lines.len().saturating_add(read.pixels as usize);
-    Ok(text.starts_with(first_lines.as_bytes()) && text.len() == size)
+    text.starts_with(first_lines.as_bytes()) && text.len() == size
 }
 
 /// Returns whether a file's outcome agrees with its header.
@@ -27,14 +31,15 @@ fn is_right(
     bytes: &[u8],
     text: &[u8],
     outcome: &Result<Report, Fault>,
-) -> Result<bool, AllocError> {
+    out: &mut Differences,
+) -> bool {
     let read = header_of(alloc, bytes);
     match outcome {
-        Ok(_) => Ok(read.refusal == 0 && is_of_header(alloc, text, &read)?),
+        Ok(_) => read.refusal == 0 && is_of_header(alloc, text, &read, out),
         Err(Fault::Refused(refusal)) => {
-            Ok(u32::from(refusal.number()) == read.refusal && text.is_empty())
+            u32::from(refusal.number()) == read.refusal && text.is_empty()
         }
-        Err(_) => Ok(false),
+        Err(_) => false,
     }
 }
 
@@ -45,46 +50,42 @@ fn check_one<R: Threads + Wait + Sync>(
     row: &Row<'_>,
     bytes: &[u8],
     at: usize,
-    out: &mut String,
-) -> Result<(), AllocError> {
+    out: &mut Differences,
+) {
     let (text, outcome) = written(rt, alloc, bytes, None);
-    if is_right(alloc, bytes, text.as_slice(), &outcome)? {
-        return Ok(());
+    if !is_right(alloc, bytes, text.as_slice(), &outcome, out) {
+        let wrong = ": its outcome is not that of its header";
+        out.add(row.name, "changed or cut at byte", at, wrong);
     }
-    writeln!(
-        out,
-        "{}: changed or cut at byte {at}: its outcome is not that of its header",
-        row.name
-    )
 }
 
-/// Checks a file cut to a length, and changed at that byte to FF and to 00.
-fn check_at<R: Threads + Wait + Sync>(
+/// Checks a file changed at a byte to a value.
+fn check_changed<R: Threads + Wait + Sync>(
     rt: &R,
     alloc: Global,
     row: &Row<'_>,
     whole: &[u8],
     at: usize,
-    out: &mut String,
-) -> Result<(), Failure> {
-    check_one(rt, alloc, row, front(whole, at), at, out)?;
-    for value in [0xFF, 0x00] {
-        let bytes = with_byte(alloc, whole, at, value)?;
-        check_one(rt, alloc, row, bytes.as_slice(), at, out)?;
+    value: u8,
+    out: &mut Differences,
+) {
+    match with_byte(alloc, whole, at, value) {
+        Ok(bytes) => check_one(rt, alloc, row, bytes.as_slice(), at, out),
+        Err(error) => out.fail(Failure::from(error)),
     }
-    Ok(())
 }
 
-/// Checks a row's file, cut and changed at each byte.
+/// Checks a row's file, cut at each length, and changed at each byte to FF and to 00.
 pub(crate) fn check_sweep<R: Threads + Wait + Sync>(
     rt: &R,
     alloc: Global,
     row: &Row<'_>,
     whole: &[u8],
-    out: &mut String,
-) -> Result<(), Failure> {
+    out: &mut Differences,
+) {
     for at in 0..whole.len() {
-        check_at(rt, alloc, row, whole, at, out)?;
+        check_one(rt, alloc, row, front(whole, at), at, out);
+        check_changed(rt, alloc, row, whole, at, 0xFF, out);
+        check_changed(rt, alloc, row, whole, at, 0x00, out);
     }
-    Ok(())
 }

@@ -1,69 +1,61 @@
 //! The texts that follow from a row.
 
-use crate::failure::Failure;
-use crate::row::Row;
-use std::alloc::{AllocError, Global};
+use crate::row::{Row, part};
+use std::alloc::AllocError;
 
-/// Puts the lines that a field separates by `/`, each behind `before`.
-fn put_lines(text: &mut String, before: &str, field: &str) -> Result<(), AllocError> {
+/// Appends the lines that a field separates by `/`, each after `before` and `colon`.
+fn put_lines_after(
+    text: &mut String,
+    before: &str,
+    colon: &str,
+    field: &str,
+) -> Result<(), AllocError> {
     for line in field.split(" / ") {
-        text.push_str(before)?;
-        text.push_str(line)?;
-        text.push_str("\n")?;
+        writeln!(text, "{before}{colon}{line}")?;
     }
     Ok(())
 }
 
-/// Returns the lines that a field separates by `/`.
-pub(crate) fn lines_of(alloc: Global, field: &str) -> Result<String, AllocError> {
-    let mut text = String::new(alloc);
-    put_lines(&mut text, "", field)?;
-    Ok(text)
+/// Appends the lines that a field separates by `/`.
+pub(crate) fn put_lines(text: &mut String, field: &str) -> Result<(), AllocError> {
+    put_lines_after(text, "", "", field)
 }
 
-/// Returns the second word of a report, the number of intervals.
-fn intervals_of(report: &str) -> Result<&str, Failure> {
-    let (_word, rest) = report.split_once(' ').ok_or(Failure::Malformed)?;
-    let (intervals, _rest) = rest.split_once(' ').ok_or(Failure::Malformed)?;
-    Ok(intervals)
-}
-
-/// Puts the line of a sound file, which has the number of its intervals and the end of its scan, if that is not EOI.
-fn put_sound(text: &mut String, report: &str) -> Result<(), Failure> {
-    let intervals = intervals_of(report)?;
-    let unit = if intervals == "1" {
-        "interval"
-    } else {
-        "intervals"
-    };
-    let (_counts, end) = report.split_once(" / ").ok_or(Failure::Malformed)?;
-    let end = if end == "scan ended at EOI" { "" } else { end };
-    let comma = if end.is_empty() { "" } else { ", " };
-    Ok(writeln!(text, "sound, {intervals} {unit}{comma}{end}")?)
-}
-
-/// Returns the lines of a check with a map: those of the last field, or if it is empty the one that follows from the report.
-pub(crate) fn check_lines(alloc: Global, row: &Row<'_>) -> Result<String, Failure> {
-    let before = format!(in alloc; "{}: ", row.name)?;
-    let mut text = String::new(alloc);
-    if row.damaged.is_empty() && row.status != 2 {
-        text.push_str(before.as_str())?;
-        put_sound(&mut text, row.report)?;
-    } else {
-        let lines = if row.damaged.is_empty() {
-            row.report
-        } else {
-            row.damaged
-        };
-        put_lines(&mut text, before.as_str(), lines)?;
+/// Returns the end of the scan that a report has, if that is not EOI.
+fn end_of(report: &str) -> &str {
+    match report.split_once(" / ") {
+        None | Some((_, "scan ended at EOI")) => "",
+        Some((_, end)) => end,
     }
-    Ok(text)
 }
 
-/// Returns the lines of a check's map alone, without the first line: those of the damaged intervals.
-pub(crate) fn map_lines(alloc: Global, damaged: &str) -> Result<String, AllocError> {
-    match damaged.split_once(" / ") {
-        Some((_first, rest)) => lines_of(alloc, rest),
-        None => Ok(String::new(alloc)),
+/// Appends the line of a sound file, which has the number of its intervals and the end of its scan, if that is not EOI.
+fn put_sound(text: &mut String, name: &str, report: &str) -> Result<(), AllocError> {
+    let (intervals, end) = (part(report, ' ', 1), end_of(report));
+    let plural = if intervals == "1" { "" } else { "s" };
+    let comma = if end.is_empty() { "" } else { ", " };
+    writeln!(
+        text,
+        "{name}: sound, {intervals} interval{plural}{comma}{end}"
+    )
+}
+
+/// Appends the lines of a check with a map: those of the last field, or the one that follows from
+/// the report if that field is empty.
+pub(crate) fn put_check_lines(text: &mut String, row: &Row<'_>) -> Result<(), AllocError> {
+    if !row.damaged.is_empty() {
+        put_lines_after(text, row.name, ": ", row.damaged)
+    } else if row.status == 2 {
+        put_lines_after(text, row.name, ": ", row.report)
+    } else {
+        put_sound(text, row.name, row.report)
+    }
+}
+
+/// Returns the lines of a check's map alone, separated by `/`: those of the damaged intervals.
+pub(crate) fn map_of<'a>(row: &Row<'a>) -> &'a str {
+    match row.damaged.split_once(" / ") {
+        Some((_first, rest)) => rest,
+        None => "",
     }
 }

@@ -21,7 +21,7 @@ const MAX_PART: usize = 1 << 30;
 const MOST_LINES: u32 = 65_536;
 
 /// Why there is no picture, or no whole one.
-#[derive(Drop)]
+#[derive(Clone, Copy)]
 enum Failure {
     Stream,
     Memory,
@@ -64,75 +64,90 @@ fn bytes_of(head: &Head, lines: u32, room: usize) -> usize
         .min(room)
 }
 
-/// Room for the lines of a row of MCUs and for the header, which is written.
-fn begin<W: Write>(alloc: Global, head: &Head, out: &mut W) -> Result<Vec<u8>, Failure> {
+/// Allocates `pixels` for the lines of a row of MCUs and for the header, and writes the header.
+fn write_header<W: Write>(
+    alloc: Global,
+    head: &Head,
+    pixels: &mut Vec<u8>,
+    out: &mut W,
+) -> Result<(), Failure> {
     let shape = shape_of(head);
     let lines = (shape.deep as usize).saturating_mul(shape.line);
-    let mut pixels = vec![in alloc; 0; lines.max(HEADER_ROOM)]?;
+    *pixels = vec![in alloc; 0; lines.max(HEADER_ROOM)]?;
     let filled = put_header(head, pixels.as_mut_slice());
-    out.write_all(&pixels[..filled])?;
-    Ok(pixels)
+    Ok(out.write_all(&pixels[..filled])?)
 }
 
-/// Writes the lines that are settled by now. `pixels` is room for them, once there is a head.
-fn write_settled<W: Write>(
+/// Writes the header if it has come and is not written yet. `pixels` is empty until then.
+fn begin<W: Write>(
     alloc: Global,
     arriving: &mut Arriving,
-    pixels: &mut Option<Vec<u8>>,
+    pixels: &mut Vec<u8>,
     out: &mut W,
 ) -> Result<(), Failure> {
     arriving.begin(alloc)?;
-    if pixels.is_none()
-        && let Some(head) = arriving.head()
-    {
-        *pixels = Some(begin(alloc, head, out)?);
+    match arriving.head() {
+        Some(head) if pixels.is_empty() => write_header(alloc, head, pixels, out),
+        _ => Ok(()),
     }
-    let Some(room) = pixels else {
-        return Ok(());
-    };
-    for _ in 0..MOST_LINES {
-        let lines = arriving.next_lines(alloc, room.as_mut_slice())?;
-        let Some(head) = arriving.head() else {
-            break;
-        };
-        if lines == 0 {
-            break;
-        }
-        let end = bytes_of(head, lines, room.len());
-        out.write_all(&room[..end])?;
-    }
-    out.flush()?;
-    Ok(())
 }
 
-/// Writes the lines from one on: those that no further byte has settled.
-fn write_rest<W: Write>(
+/// Writes the next lines that are settled, and returns whether there are any.
+fn write_next<W: Write>(
     alloc: Global,
-    scan: &Scan,
-    first: u32,
+    arriving: &mut Arriving,
+    pixels: &mut [u8],
+    out: &mut W,
+) -> Result<bool, Failure> {
+    let lines = arriving.next_lines(alloc, pixels)?;
+    match arriving.head() {
+        Some(head) if lines > 0 => {
+            let end = bytes_of(head, lines, pixels.len());
+            out.write_all(&pixels[..end])?;
+            Ok(true)
+        }
+        _ => Ok(false),
+    }
+}
+
+/// Writes the lines that are settled by now. `pixels` has space for them once there is a header.
+fn write_settled<W: Write>(
+    alloc: Global,
+    arriving: &mut Arriving,
+    pixels: &mut [u8],
     out: &mut W,
 ) -> Result<(), Failure> {
-    let head = scan.head();
-    let left = head.height().saturating_sub(first);
-    if left == 0 {
+    if pixels.is_empty() {
         return Ok(());
     }
-    let mut pixels = vec![in alloc; 0; left as usize * shape_of(head).line]?;
-    paint_scan_lines(alloc, scan, first, left, pixels.as_mut_slice())?;
-    out.write_all(pixels.as_slice())?;
-    Ok(())
+    for _ in 0..MOST_LINES {
+        if !write_next(alloc, arriving, pixels, out)? {
+            break;
+        }
+    }
+    Ok(out.flush()?)
 }
 
-/// Writes the picture of a file that comes in parts of so many bytes at most; tells how many of its restart intervals are sound and
-/// damaged.
-fn show<I: Read, W: Write>(
+/// Returns the lines starting at one: those that no further byte has settled.
+fn rest_of(alloc: Global, scan: &Scan, first: u32) -> Result<Vec<u8>, Memory> {
+    let head = scan.head();
+    let left = head.height().saturating_sub(first);
+    let mut pixels = vec![in alloc; 0; left as usize * shape_of(head).line]?;
+    if left > 0 {
+        paint_scan_lines(alloc, scan, first, left, pixels.as_mut_slice())?;
+    }
+    Ok(pixels)
+}
+
+/// Takes a file that comes in parts of at most the given number of bytes, and writes what they settle.
+fn take_all<I: Read, W: Write>(
     alloc: Global,
     part: usize,
     input: &mut I,
+    arriving: &mut Arriving,
+    pixels: &mut Vec<u8>,
     out: &mut W,
-) -> Result<Counts, Failure> {
-    let mut arriving = Arriving::new(alloc);
-    let mut pixels = None;
+) -> Result<(), Failure> {
     let mut bytes = vec![in alloc; 0; part]?;
     for _ in 0..u64::MAX {
         let count = input.read(bytes.as_mut_slice())?;
@@ -140,15 +155,55 @@ fn show<I: Read, W: Write>(
             break;
         }
         arriving.push(&bytes[..count])?;
-        write_settled(alloc, &mut arriving, &mut pixels, out)?;
+        begin(alloc, arriving, pixels, out)?;
+        write_settled(alloc, arriving, pixels.as_mut_slice(), out)?;
     }
-    let first = arriving.lines();
+    Ok(())
+}
+
+/// Writes what is missing of a finished file's image, of which the given number of lines is written.
+/// `pixels` is empty if the header is missing also.
+fn write_missing<W: Write>(
+    alloc: Global,
+    scan: &Scan,
+    lines: u32,
+    pixels: &mut Vec<u8>,
+    out: &mut W,
+) -> Result<(), Failure> {
+    if pixels.is_empty() {
+        write_header(alloc, scan.head(), pixels, out)?;
+    }
+    let rest = rest_of(alloc, scan, lines)?;
+    Ok(out.write_all(rest.as_slice())?)
+}
+
+/// Writes what is missing when no further byte comes.
+fn finish<W: Write>(
+    alloc: Global,
+    arriving: Arriving,
+    pixels: &mut Vec<u8>,
+    out: &mut W,
+) -> Result<Counts, Failure> {
+    let lines = arriving.lines();
     let Finished { scan, counts } = arriving.finish(alloc)?;
-    if pixels.is_none() {
-        begin(alloc, scan.head(), out)?;
-    }
-    write_rest(alloc, &scan, first, out)?;
+    write_missing(alloc, &scan, lines, pixels, out)?;
     Ok(counts)
+}
+
+/// Writes the image of a file that comes in parts of at most the given number of bytes. Returns how many of its restart
+/// intervals are sound and damaged.
+fn show<I: Read, W: Write>(
+    alloc: Global,
+    part: usize,
+    input: &mut I,
+    out: &mut W,
+) -> Result<Counts, Failure> {
+    let mut arriving = Arriving::new(alloc);
+    let mut pixels = Vec::new(alloc);
+    match take_all(alloc, part, input, &mut arriving, &mut pixels, out) {
+        Ok(()) => finish(alloc, arriving, &mut pixels, out),
+        Err(failure) => Err(failure),
+    }
 }
 
 /// Tells how many restart intervals are sound and damaged, and answers the exit status.

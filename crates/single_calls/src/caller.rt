@@ -23,9 +23,15 @@ impl<'a> Caller<'a> {
         if file.len() > 1000 {
             return None;
         }
-        let head = read_head(alloc, file).ok()?;
-        let scan = Scan::cut(alloc, head, file).ok()?;
-        let scan = Arc::new(alloc, scan).ok()?;
+        let Ok(head) = read_head(alloc, file) else {
+            return None;
+        };
+        let Ok(scan) = Scan::cut(alloc, head, file) else {
+            return None;
+        };
+        let Ok(scan) = Arc::new(alloc, scan) else {
+            return None;
+        };
         Some(Caller {
             alloc,
             file,

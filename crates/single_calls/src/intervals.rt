@@ -1,7 +1,7 @@
 //! Calls that read an interval of the file: the first is sound, and the second is damaged behind five MCUs.
 
 use crate::caller::Caller;
-use jr_scan::{Block, Scan};
+use jr_scan::{Block, Interval, Scan};
 use jr_wall::Piece;
 
 /// How many MCUs an interval has in front, of one data unit each, all of one grey.
@@ -31,27 +31,36 @@ impl<'a> Caller<'a> {
         self.begin();
         let answer = interval.read(self.alloc);
         self.end();
-        Some(match answer.ok()? {
-            Some(blocks) => number == 0 && has_blocks(&blocks, number),
-            None => number == 1,
-        })
+        match answer {
+            Ok(Some(blocks)) => Some(number == 0 && has_blocks(&blocks, number)),
+            Ok(None) => Some(number == 1),
+            Err(_) => None,
+        }
     }
 
-    /// A refused piece gives the interval back, equal to what it was, and then a piece of it can be made.
+    /// Returns whether the interval that a refused piece returns is unchanged, and a piece of it can be
+    /// made.
+    fn is_kept(&self, back: Interval, number: u32) -> bool {
+        let Some(same) = self.interval(number) else {
+            return false;
+        };
+        if !back.is_same(&same) {
+            return false;
+        }
+        match Piece::make(self.alloc, back) {
+            Ok(piece) => is_piece(&piece, &self.scan, number),
+            Err(_) => false,
+        }
+    }
+
     pub(crate) fn make_piece(&mut self, number: u32) -> Option<bool> {
-        let (interval, same) = (self.interval(number)?, self.interval(number)?);
+        let interval = self.interval(number)?;
         self.begin();
         let answer = Piece::make(self.alloc, interval);
         self.end();
-        let back = match answer {
-            Ok(piece) => return Some(is_piece(&piece, &self.scan, number)),
-            Err(back) => back,
-        };
-        let is_same = back.is_same(&same);
-        let Ok(again) = Piece::make(self.alloc, back) else {
-            return Some(false);
-        };
-        let is_kept = is_same && is_piece(&again, &self.scan, number);
-        (!is_kept).then_some(false)
+        match answer {
+            Ok(piece) => Some(is_piece(&piece, &self.scan, number)),
+            Err(back) => (!self.is_kept(back, number)).then_some(false),
+        }
     }
 }

@@ -36,8 +36,29 @@ fn hang(cells: &StripCells, strip: Arc<Strip>, sight: &mut StripSight) -> Result
 
 impl<'a> Caller<'a> {
     fn strips(&self) -> Option<StripReader> {
-        let interval = Arc::new(self.alloc, self.interval(1)?).ok()?;
-        Some(StripReader::over(interval))
+        match Arc::new(self.alloc, self.interval(1)?) {
+            Ok(interval) => Some(StripReader::over(interval)),
+            Err(_) => None,
+        }
+    }
+
+    /// Returns the next strip of a reader, which it hasn't decoded.
+    fn next_strip(&self, reader: &mut StripReader) -> Option<CodedStrip> {
+        match reader.next(self.alloc, 9) {
+            Ok(coded) => coded,
+            Err(_) => None,
+        }
+    }
+
+    /// Returns whether a strip has the five MCUs when it is decoded.
+    fn is_coded_front(&self, coded: Option<CodedStrip>) -> bool {
+        let Some(coded) = coded else {
+            return false;
+        };
+        match coded.decode(self.alloc) {
+            Ok(strip) => is_front(&strip),
+            Err(_) => false,
+        }
     }
 
     /// A reader whose call is refused stays where it is, and gives the strip at the next call.
@@ -46,26 +67,27 @@ impl<'a> Caller<'a> {
         self.begin();
         let answer = reader.next(self.alloc, 9);
         self.end();
-        let is_refused = answer.is_err();
-        let coded = match answer {
-            Ok(coded) => coded,
-            Err(_) => reader.next(self.alloc, 9).ok().flatten(),
-        };
-        let strip = coded.and_then(|coded| coded.decode(self.alloc).ok());
-        let is_right = strip.is_some_and(|strip| is_front(&strip));
-        if is_right && is_refused {
-            return None;
+        if let Ok(coded) = answer {
+            return Some(self.is_coded_front(coded));
         }
-        Some(is_right)
+        let again = self.next_strip(&mut reader);
+        if self.is_coded_front(again) {
+            None
+        } else {
+            Some(false)
+        }
     }
 
     fn coded_strip(&self) -> Option<CodedStrip> {
-        self.strips()?.next(self.alloc, 9).ok()?
+        let mut reader = self.strips()?;
+        self.next_strip(&mut reader)
     }
 
     fn strip(&self) -> Option<Arc<Strip>> {
-        let strip = self.coded_strip()?.decode(self.alloc).ok()?;
-        Arc::new(self.alloc, strip).ok()
+        match self.coded_strip()?.decode(self.alloc) {
+            Ok(strip) => Arc::new(self.alloc, strip).ok(),
+            Err(_) => None,
+        }
     }
 
     pub(crate) fn decode_strip(&mut self) -> Option<bool> {
@@ -73,7 +95,10 @@ impl<'a> Caller<'a> {
         self.begin();
         let answer = coded.decode(self.alloc);
         self.end();
-        Some(is_front(&answer.ok()?))
+        match answer {
+            Ok(strip) => Some(is_front(&strip)),
+            Err(_) => None,
+        }
     }
 
     fn strip_cells(&self) -> Option<StripCells> {
@@ -85,8 +110,10 @@ impl<'a> Caller<'a> {
         self.begin();
         let answer = StripCells::open(self.alloc, &interval, 9);
         self.end();
-        let cells = answer.ok()?;
-        Some((cells.number(), cells.each(), cells.count()) == (1, 9, 2))
+        match answer {
+            Ok(cells) => Some((cells.number(), cells.each(), cells.count()) == (1, 9, 2)),
+            Err(_) => None,
+        }
     }
 
     pub(crate) fn open_strip_sight(&mut self) -> Option<bool> {
@@ -94,22 +121,32 @@ impl<'a> Caller<'a> {
         self.begin();
         let answer = cells.sight();
         self.end();
-        let mut sight = answer.ok()?;
-        Some(!sees(&cells, &mut sight))
+        match answer {
+            Ok(mut sight) => Some(!sees(&cells, &mut sight)),
+            Err(_) => None,
+        }
     }
 
-    /// Where it is refused, the strip comes back, and the cell stays empty.
-    pub(crate) fn hang_strip(&mut self) -> Option<bool> {
-        let cells = self.strip_cells()?;
-        let mut sight = cells.sight().ok()?;
-        let strip = self.strip()?;
+    /// Publishes a strip in the first of these cells. If it is refused, the strip is returned, and the cell
+    /// stays empty.
+    fn hang_into(&mut self, cells: &StripCells, strip: Arc<Strip>) -> Option<bool> {
+        let Ok(mut sight) = cells.sight() else {
+            return None;
+        };
         self.begin();
-        let answer = hang(&cells, strip, &mut sight);
+        let answer = hang(cells, strip, &mut sight);
         self.end();
-        let is_seen = sees(&cells, &mut sight);
+        let is_seen = sees(cells, &mut sight);
         match answer {
             Ok(()) => Some(is_seen),
-            Err(back) => (is_seen || !is_front(&back)).then_some(false),
+            Err(back) if !is_seen && is_front(&back) => None,
+            Err(_) => Some(false),
         }
+    }
+
+    pub(crate) fn hang_strip(&mut self) -> Option<bool> {
+        let strip = self.strip()?;
+        let cells = self.strip_cells()?;
+        self.hang_into(&cells, strip)
     }
 }

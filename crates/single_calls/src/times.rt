@@ -3,7 +3,7 @@
 use jr_base::limits::MAX_WORKERS;
 use jr_head::read_head;
 use jr_scan::Scan;
-use jr_wall::{OpenGate, decode_all};
+use jr_wall::{Board, OpenGate, decode_all};
 use std::alloc::Global;
 use std::fs;
 use std::io::Write;
@@ -20,28 +20,49 @@ const WORKERS: [u32; NUMBERS] = [1, 2, 4];
 /// How often each number of workers decodes a file.
 const TURNS: u32 = 9;
 
-/// The scan of the file of that name, if there is one.
+/// Returns the scan of the file of that name, if there is one.
 pub(crate) fn scan_of(rt: &HostRuntime, name: &str) -> Option<Arc<Scan>> {
-    let file = fs::read(rt, name).ok()?;
-    let head = read_head(rt.alloc(), file.as_slice()).ok()?;
-    let scan = Scan::cut(rt.alloc(), head, file.as_slice()).ok()?;
-    Arc::new(rt.alloc(), scan).ok()
+    let Ok(file) = fs::read(rt, name) else {
+        return None;
+    };
+    let Ok(head) = read_head(rt.alloc(), file.as_slice()) else {
+        return None;
+    };
+    match Scan::cut(rt.alloc(), head, file.as_slice()) {
+        Ok(scan) => Arc::new(rt.alloc(), scan).ok(),
+        Err(_) => None,
+    }
 }
 
-/// How many microseconds so many workers take, of which there are 1 to 64.
+/// Decodes a scan with the given number of workers, of which there are 1 to 64.
+fn decode<R: Threads + Wait + Sync>(
+    rt: &R,
+    alloc: Global,
+    scan: &Arc<Scan>,
+    workers: u32,
+) -> Option<Board> {
+    let Ok(shared) = Arc::try_clone(scan) else {
+        return None;
+    };
+    let workers = workers.clamp(1, MAX_WORKERS);
+    decode_all(rt, alloc, shared, workers, None, &OpenGate).ok()
+}
+
+/// Returns the microseconds that the given number of workers take.
 fn time_of<R: Threads + Wait + Clock + Sync>(
     rt: &R,
     alloc: Global,
     scan: &Arc<Scan>,
     workers: u32,
 ) -> Option<u128> {
-    let shared = Arc::try_clone(scan).ok()?;
-    let start = Instant::now(rt).ok()?;
-    let workers = workers.clamp(1, MAX_WORKERS);
-    let board = decode_all(rt, alloc, shared, workers, None, &OpenGate).ok()?;
-    let taken = start.elapsed(rt).ok()?.as_micros();
-    drop(board);
-    Some(taken)
+    let Ok(start) = Instant::now(rt) else {
+        return None;
+    };
+    let _board = decode(rt, alloc, scan, workers)?;
+    match start.elapsed(rt) {
+        Ok(taken) => Some(taken.as_micros()),
+        Err(_) => None,
+    }
 }
 
 /// The least microseconds of each number of workers.

@@ -49,15 +49,34 @@ fn judge(
 }
 
 impl<'a> Caller<'a> {
-    /// The text of the picture, as it is written from a board.
+    /// Posts the piece of the given number.
+    fn post(&self, board: &mut Board, number: u32) -> Option<()> {
+        board.post(self.piece(number)?).ok()
+    }
+
+    /// Returns a board with the pieces of both intervals.
+    fn board(&self) -> Option<Board> {
+        let Ok(shared) = Arc::try_clone(&self.scan) else {
+            return None;
+        };
+        let Ok(mut board) = Board::new(self.alloc, shared) else {
+            return None;
+        };
+        if self.post(&mut board, 0).is_some() && self.post(&mut board, 1).is_some() {
+            Some(board)
+        } else {
+            None
+        }
+    }
+
+    /// Returns the text of the picture, as it is written from a board.
     fn picture(&self) -> Option<Vec<u8>> {
-        let shared = Arc::try_clone(&self.scan).ok()?;
-        let mut board = Board::new(self.alloc, shared).ok()?;
-        board.post(self.piece(0)?).ok()?;
-        board.post(self.piece(1)?).ok()?;
+        let board = self.board()?;
         let mut out = Tally::of(Vec::new(self.alloc));
-        write_netpbm(&board, &mut out).ok()?;
-        Some(out.into_inner())
+        match write_netpbm(&board, &mut out) {
+            Ok(()) => Some(out.into_inner()),
+            Err(_) => None,
+        }
     }
 
     pub(crate) fn write(&mut self) -> Option<bool> {
@@ -88,10 +107,14 @@ impl<'a> Caller<'a> {
     /// Where it is refused, the caller's bytes are as they were.
     pub(crate) fn paint_lines(&mut self) -> Option<bool> {
         let picture = self.picture()?;
-        let scan = Arc::try_clone(&self.scan).ok()?;
+        let Ok(scan) = Arc::try_clone(&self.scan) else {
+            return None;
+        };
         let head = scan.head();
         let height = head.height();
-        let mut pixels = vec![in self.alloc; 7; height as usize * bytes_of_line(head)].ok()?;
+        let Ok(mut pixels) = vec![in self.alloc; 7; height as usize * bytes_of_line(head)] else {
+            return None;
+        };
         self.begin();
         let answer = paint_scan_lines(self.alloc, &scan, 0, height, &mut pixels);
         self.end();
@@ -100,7 +123,8 @@ impl<'a> Caller<'a> {
                 let is_right = (marked.sound, marked.damaged) == (1, 1);
                 Some(is_right && picture.ends_with(&pixels))
             }
-            Err(_) => pixels.iter().any(|byte| *byte != 7).then_some(false),
+            Err(_) if pixels.iter().all(|byte| *byte == 7) => None,
+            Err(_) => Some(false),
         }
     }
 }

@@ -12,7 +12,7 @@ use std::io::{Error, Read, Write};
 const PART: usize = 65_536;
 
 /// Why there is no picture.
-#[derive(Debug, Drop)]
+#[derive(Clone, Copy)]
 pub enum Failure {
     Stream,
     Memory,
@@ -48,7 +48,7 @@ impl From<Refusal> for Failure {
 
 impl Failure {
     /// Tells why, and answers the exit status.
-    pub fn tell<E: Write>(&self, errors: &mut E) -> u8 {
+    pub fn tell<E: Write>(self, errors: &mut E) -> u8 {
         match self {
             Failure::Stream => {
                 let _ = writeln!(errors, "cannot read the file");
@@ -87,14 +87,14 @@ fn write_due<W: Write>(view: &ArrivingView, shown: u64, out: &mut Tally<W>) -> u
     twentieths
 }
 
-/// Takes what comes, and writes meanwhile pictures of what it settles, where they are asked for.
+/// Takes what comes into `view`, and writes meanwhile pictures of what it settles, where they are asked for.
 fn take_all<I: Read, W: Write>(
     alloc: Global,
     input: &mut I,
     has_frames: bool,
+    view: &mut ArrivingView,
     out: &mut Tally<W>,
-) -> Result<ArrivingView, Failure> {
-    let mut view = ArrivingView::new(alloc);
+) -> Result<(), Failure> {
     let mut part = vec![in alloc; 0; PART]?;
     let mut shown = 0;
     for _ in 0..u64::MAX {
@@ -105,20 +105,19 @@ fn take_all<I: Read, W: Write>(
         view.push(&part[..count])?;
         if has_frames {
             view.show(alloc)?;
-            shown = write_due(&view, shown, out);
+            shown = write_due(view, shown, out);
         }
     }
-    Ok(view)
+    Ok(())
 }
 
-/// Shows a picture while its file comes; what stands there last is finished.
-pub fn show<I: Read, W: Write>(
+/// Shows the picture when no further byte comes.
+fn show_finished<W: Write>(
     alloc: Global,
-    input: &mut I,
+    view: ArrivingView,
     has_frames: bool,
     out: &mut Tally<W>,
 ) -> Result<(), Failure> {
-    let view = take_all(alloc, input, has_frames, out)?;
     let FinishedView {
         scan,
         counts,
@@ -127,11 +126,22 @@ pub fn show<I: Read, W: Write>(
     if has_frames {
         write_lines(scan.head(), &pixels, out);
     } else {
-        tell_of(
-            counts.sound.saturating_add(counts.damaged),
-            counts.damaged,
-            out,
-        );
+        let (sound, damaged) = (counts.sound, counts.damaged);
+        tell_of(sound.saturating_add(damaged), damaged, out);
     }
     Ok(())
+}
+
+/// Shows a picture while its file comes; the last one is finished.
+pub fn show<I: Read, W: Write>(
+    alloc: Global,
+    input: &mut I,
+    has_frames: bool,
+    out: &mut Tally<W>,
+) -> Result<(), Failure> {
+    let mut view = ArrivingView::new(alloc);
+    match take_all(alloc, input, has_frames, &mut view, out) {
+        Ok(()) => show_finished(alloc, view, has_frames, out),
+        Err(failure) => Err(failure),
+    }
 }

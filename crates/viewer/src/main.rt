@@ -45,6 +45,48 @@ fn scan_of<E: Write>(rt: &HostRuntime, name: &str, errors: &mut E) -> Result<Sca
     Scan::cut(rt.alloc(), head, file.as_slice()).map_err(|_| 1)
 }
 
+/// Decodes a scan, and writes meanwhile pictures of what can be seen of it.
+fn show_frames<R: Threads + Wait + Clock + Sync, W: Write>(
+    rt: &R,
+    alloc: Global,
+    scan: Arc<Scan>,
+    out: &mut Tally<W>,
+) -> Result<(), Memory> {
+    let mut frames = Frames {
+        view: View::of(alloc, &scan)?,
+        out,
+        twentieths: 0,
+    };
+    let decoding = watch(rt, alloc, scan, WORKERS, &OpenGate, &mut frames)?;
+    drop(frames);
+    write(&decoding.finish()?, out);
+    Ok(())
+}
+
+/// Decodes a scan, and reports meanwhile how many of its intervals can be seen.
+fn show_counts<R: Threads + Wait + Clock + Sync, W: Write, E: Write>(
+    rt: &R,
+    alloc: Global,
+    scan: Arc<Scan>,
+    out: &mut Tally<W>,
+    errors: &mut E,
+) -> Result<(), Memory> {
+    let mut counter = Counter {
+        errors,
+        all: scan.intervals(),
+        seen: 0,
+        damaged: 0,
+        told: 0,
+    };
+    match watch(rt, alloc, scan, WORKERS, &OpenGate, &mut counter) {
+        Ok(_decoding) => {
+            counter.tell(out);
+            Ok(())
+        }
+        Err(refused) => Err(refused),
+    }
+}
+
 /// Decodes a scan, and shows meanwhile what can be seen of it.
 fn show<R: Threads + Wait + Clock + Sync, W: Write, E: Write>(
     rt: &R,
@@ -53,42 +95,39 @@ fn show<R: Threads + Wait + Clock + Sync, W: Write, E: Write>(
     has_frames: bool,
     out: &mut Tally<W>,
     errors: &mut E,
-) -> Result<(), Memory> {
-    let scan = Arc::new(alloc, scan)?;
-    if has_frames {
-        let view = View::of(alloc, &scan)?;
-        let mut frames = Frames {
-            view,
-            out,
-            twentieths: 0,
-        };
-        let decoding = watch(rt, alloc, scan, WORKERS, &OpenGate, &mut frames)?;
-        drop(frames);
-        write(&decoding.finish()?, out);
+) -> Result<(), u8> {
+    let Ok(scan) = Arc::new(alloc, scan) else {
+        return Err(1);
+    };
+    let shown = if has_frames {
+        show_frames(rt, alloc, scan, out)
     } else {
-        let mut counter = Counter {
-            errors,
-            all: scan.intervals(),
-            seen: 0,
-            damaged: 0,
-            told: 0,
-        };
-        watch(rt, alloc, scan, WORKERS, &OpenGate, &mut counter)?;
-        counter.tell(out);
+        show_counts(rt, alloc, scan, out, errors)
+    };
+    match shown {
+        Ok(()) => Ok(()),
+        Err(_) => Err(1),
     }
-    Ok(())
 }
 
-/// Shows the file that comes on standard input; where that fails `errors` is told why, and the exit status is given.
-fn show_input<W: Write, E: Write>(
+/// Shows the file of a name; where that fails `errors` is told why, and the exit status is given.
+fn show_word<R: Threads + Wait + Clock + Sync, W: Write, E: Write>(
     rt: &HostRuntime,
+    threads: &R,
+    word: &str,
     has_frames: bool,
     out: &mut Tally<W>,
     errors: &mut E,
 ) -> Result<(), u8> {
-    match coming::show(rt.alloc(), &mut rt.stdin(), has_frames, out) {
-        Ok(()) => Ok(()),
-        Err(failure) => Err(failure.tell(errors)),
+    if word == "-" {
+        return match coming::show(rt.alloc(), &mut rt.stdin(), has_frames, out) {
+            Ok(()) => Ok(()),
+            Err(failure) => Err(failure.tell(errors)),
+        };
+    }
+    match scan_of(rt, word, errors) {
+        Ok(scan) => show(threads, rt.alloc(), scan, has_frames, out, errors),
+        Err(status) => Err(status),
     }
 }
 
@@ -103,17 +142,7 @@ fn main(rt: HostRuntime) -> ExitCode {
             has_frames = true;
             continue;
         }
-        let shown = if word.as_str() == "-" {
-            show_input(&rt, has_frames, &mut out, &mut errors)
-        } else {
-            match scan_of(&rt, word.as_str(), &mut errors) {
-                Ok(scan) => show(&rt, rt.alloc(), scan, has_frames, &mut out, &mut errors).map_err(
-                    |_| 1,
-                ),
-                Err(status) => Err(status),
-            }
-        };
-        if let Err(status) = shown {
+        if let Err(status) = show_word(&rt, &rt, word.as_str(), has_frames, &mut out, &mut errors) {
             return ExitCode::from(status);
         }
         if out.failed() {
