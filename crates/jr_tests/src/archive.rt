@@ -3,8 +3,9 @@
 
 use jr_base::Tally;
 use jri_archive::{
-    CheckEnd, CheckReport, CheckRequest, Entry, EntryKind, FileCounts, Folder, LineForm, ReadError,
-    answer as answer_by, asked, check_all, tell_counts, write_counts_line,
+    CheckEnd, CheckReport, CheckRequest, Entry, EntryKind, FileCounts, Folder, LineForm, Lists,
+    ReadError, Streams, answer as answer_by, asked, check_all, program, tell_counts,
+    write_counts_line,
 };
 use std::alloc::{AllocError, Global};
 use std::io::{BufReader, Cursor, Error, ErrorKind, Read, Result as IoResult, Write};
@@ -81,6 +82,17 @@ impl Folder for Shelf {
         match entries {
             Ok(entries) => Ok(Some(entries)),
             Err(_) => Err(ReadError::Memory),
+        }
+    }
+}
+
+impl Lists for Shelf {
+    type List = Cursor<[u8; 8]>;
+
+    fn list(&self, name: &str) -> Result<Cursor<[u8; 8]>, ReadError> {
+        match name {
+            "list" => Ok(Cursor::new(*b"two\0cut\0")),
+            _ => Err(ReadError::NotFound),
         }
     }
 }
@@ -464,5 +476,40 @@ fn asks_for_checks(rt: HostRuntime) -> Result<(), Fail> {
     for (words, expected) in &WORDS {
         assert!(rt; answer(rt.alloc(), words)? == *expected);
     }
+    Ok(())
+}
+
+/// Returns streams in memory.
+fn in_memory(alloc: Global) -> Streams<Vec<u8>, Vec<u8>> {
+    Streams {
+        out: Vec::new(alloc),
+        errors: Vec::new(alloc),
+        progress: None,
+    }
+}
+
+/// Arguments of the program, and the status that it ends with.
+const STATUSES: [(&[&[u8]], u8); 9] = [
+    (&[b"two"], 0),
+    (&[b"--help"], 0),
+    (&[b"cut", b"progressive"], 1),
+    (&[b"--files0-from", b"list"], 1),
+    (&[b"-j", b"65", b"two"], 2),
+    (&[b"two", b"missing", b"cut"], 3),
+    (&[b"--files0-from", b"missing"], 3),
+    (&[b"progressive", b"two"], 5),
+    (&[b"-q", b"progressive"], 5),
+];
+
+#[test]
+fn program_ends_with_each_status(rt: HostRuntime) -> Result<(), Fail> {
+    let alloc: Global = rt.alloc();
+    for (words, status) in STATUSES {
+        let words = owned(alloc, words)?;
+        let ended = program(&rt, alloc, Shelf, &Shelf, Ok(words), in_memory(alloc));
+        assert!(rt; ended.status() == status);
+    }
+    let ended = program(&rt, alloc, Shelf, &Shelf, Err(AllocError), in_memory(alloc));
+    assert!(rt; ended.status() == 4);
     Ok(())
 }

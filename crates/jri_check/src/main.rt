@@ -2,32 +2,19 @@
 //! what is damaged of the others.
 #![tactic(auto)]
 
-use jr_base::Tally;
 use jr_base::limits::MAX_FILE_BYTES;
-use jri_archive::{
-    CheckEnd, CheckReport, CheckRequest, Entry, EntryKind, Folder, ReadError, RequestError, answer,
-    asked, check_all, words_of, write_counts_line,
-};
+use jri_archive::{Ended, Entry, EntryKind, Folder, Lists, ReadError, Streams, program, words_of};
 use std::alloc::{AllocError, Global};
 use std::fs;
 use std::fs::File;
-use std::io::{BufRead, BufReader, Error, ErrorKind, IsTerminal, Read, Result as IoResult, Write};
-use std::process::ExitCode;
+use std::io::{BufRead, BufReader, Error, ErrorKind, IsTerminal, Read, Result as IoResult, Stdin};
 use std::rt::Files;
-use std::sync::Wait;
-use std::thread::Threads;
 
 /// One byte more than a file may have.
 const TOO_MANY: u64 = MAX_FILE_BYTES as u64 + 1;
 
-/// The exit status where the list of names can't be read.
-const LIST_UNREAD: u8 = 3;
-
 /// The name of standard input.
 const STANDARD_INPUT: &str = "-";
-
-/// There is no list of names.
-const NO_LIST: Option<IoResult<File>> = None;
 
 /// The files of the system.
 #[derive(Drop)]
@@ -217,127 +204,56 @@ impl<'a> Folder for Disk<'a> {
     }
 }
 
-/// An output, and whether its reader has gone away.
+/// A list of names.
 #[derive(Drop)]
-struct Watched<W> {
-    out: W,
-    is_closed: bool,
+enum NameList {
+    Input(Stdin),
+    File(File),
 }
 
-impl<W: Write> Write for Watched<W> {
-    fn write(&mut self, bytes: &[u8]) -> IoResult<usize> {
-        let written = self.out.write(bytes);
-        if let Err(error) = &written
-            && error.kind() == ErrorKind::BrokenPipe
-        {
-            self.is_closed = true;
+impl Read for NameList {
+    fn read(&mut self, buf: &mut [u8]) -> IoResult<usize> {
+        match self {
+            NameList::Input(input) => input.read(buf),
+            NameList::File(file) => file.read(buf),
         }
-        written
-    }
-
-    fn flush(&mut self) -> IoResult<()> {
-        self.out.flush()
     }
 }
 
-/// Writes the counts, and why not every file has its line, and returns the exit status. It allocates nothing.
-fn finish<E: Write>(errors: &mut E, report: CheckReport, is_quiet: bool) -> u8 {
-    if !is_quiet {
-        let _ = write_counts_line(errors, report.counts);
-    }
-    let _ = match report.end {
-        CheckEnd::AllTold => Ok(()),
-        CheckEnd::NamesUnread => writeln!(errors, "cannot read further names"),
-        CheckEnd::Unwritten => writeln!(errors, "cannot write the lines"),
-        CheckEnd::Memory => writeln!(errors, "out of memory"),
-    };
-    report.status()
-}
+impl<'a> Lists for Disk<'a> {
+    type List = NameList;
 
-/// Where lines, and reports next to them, go.
-struct Streams<O, E> {
-    out: O,
-    errors: E,
-    /// The same stream as `errors` if it is a terminal.
-    progress: Option<E>,
-}
-
-/// Checks files, further ones of which a list names.
-fn check<
-    R: Threads + Wait + Sync + AllocGlobal,
-    I: Read + Send + Drop,
-    O: Write + Send + Drop,
-    E: Write + Send + Drop,
->(
-    rt: &R,
-    disk: Disk<'_>,
-    asked: CheckRequest,
-    list: Option<IoResult<I>>,
-    streams: Streams<O, E>,
-) -> u8 {
-    let alloc: Global = rt.alloc();
-    let Streams {
-        out,
-        mut errors,
-        progress,
-    } = streams;
-    let list = match list {
-        None => None,
-        Some(input) => match input.and_then(|input| BufReader::new(alloc, input)) {
-            Ok(list) => Some(list),
-            Err(error) => {
-                let _ = writeln!(errors, "cannot read names: {}", unread(&error).text());
-                return LIST_UNREAD;
-            }
-        },
-    };
-    let is_quiet = asked.form.is_quiet;
-    let out = Watched {
-        out,
-        is_closed: false,
-    };
-    let (report, out) = check_all(rt, alloc, disk, asked, list, out, progress);
-    if out.is_closed {
-        return report.status();
-    }
-    finish(&mut errors, report, is_quiet)
-}
-
-fn main(rt: HostRuntime) -> ExitCode {
-    let alloc: Global = rt.alloc();
-    let (out, mut errors) = (rt.stdout(), rt.stderr());
-    let asked = match words_of(&rt, alloc) {
-        Ok(words) => asked(alloc, words.as_slice()),
-        Err(_) => Err(RequestError::Memory),
-    };
-    let mut asked = match asked {
-        Ok(asked) => asked,
-        Err(unasked) => {
-            return ExitCode::from(answer(&mut Tally::of(out), &mut errors, &unasked));
+    fn list(&self, name: &str) -> Result<NameList, ReadError> {
+        if name == STANDARD_INPUT {
+            return Ok(NameList::Input(self.rt.stdin()));
         }
-    };
+        match fs::open(self.rt, name) {
+            Ok(file) => Ok(NameList::File(file)),
+            Err(error) => Err(unread(&error)),
+        }
+    }
+}
+
+fn main(rt: HostRuntime) -> Ended {
+    let alloc: Global = rt.alloc();
+    let errors = rt.stderr();
     let progress = if errors.is_terminal() {
         Some(rt.stderr())
     } else {
         None
     };
     let streams = Streams {
-        out,
+        out: rt.stdout(),
         errors,
         progress,
     };
-    let disk = Disk { rt: &rt };
-    ExitCode::from(match asked.names_from.take() {
-        None => check(&rt, disk, asked, NO_LIST, streams),
-        Some(name) if name.as_str() == STANDARD_INPUT => {
-            check(&rt, disk, asked, Some(Ok(rt.stdin())), streams)
-        }
-        Some(name) => check(
-            &rt,
-            disk,
-            asked,
-            Some(fs::open(&rt, name.as_str())),
-            streams,
-        ),
-    })
+    let words = words_of(&rt, alloc);
+    program(
+        &rt,
+        alloc,
+        Disk { rt: &rt },
+        &Disk { rt: &rt },
+        words,
+        streams,
+    )
 }

@@ -1,0 +1,174 @@
+//! What the program does with its arguments.
+
+ghost use Rattle.std.specs.Prelude.{◌≡◌, IfErr};
+ghost use Rattle.std.specs.Process.{exit_status};
+
+use crate::answering::answer;
+use crate::answers::{CheckRequest, RequestError};
+use crate::asking::asked;
+use crate::counts::{CheckEnd, CheckReport};
+use crate::reading::{Folder, ReadError};
+use crate::sharing::check_all;
+use crate::telling::write_counts_line;
+use jr_base::Tally;
+use std::alloc::{AllocError, Global};
+use std::io::{BufReader, Eprint, ErrorKind, Read, Result as IoResult, Write};
+use std::process::{ExitCode, Termination};
+use std::sync::Wait;
+use std::thread::Threads;
+
+/// The exit status if the list of names cannot be read.
+const LIST_UNREAD: u8 = 3;
+
+/// The end of the program. Only `program` makes one, so a `main` that returns it ends with the status of a run.
+#[derive(Drop)]
+pub struct Ended {
+    status: u8,
+}
+
+impl Ended {
+    /// Returns the exit status.
+    pub fn status(&self) -> u8
+        ensures { result ≡ self.now.status }
+    {
+        self.status
+    }
+}
+
+impl Termination for Ended {
+    fn report<R: Eprint>(self, _rt: &R) -> ExitCode
+        ensures { exit_status result ≡ self.status }
+    {
+        ExitCode::from(self.status)
+    }
+}
+
+/// A source of lists of names.
+pub trait Lists {
+    /// An open list.
+    type List: Read + Send + Drop;
+
+    /// Opens the list of that name; `-` is standard input.
+    fn list(&self, name: &str) -> Result<Self::List, ReadError>;
+}
+
+/// The streams of a run.
+#[derive(Drop)]
+pub struct Streams<O, E> {
+    pub out: O,
+    pub errors: E,
+    /// The same stream as `errors` if it is a terminal.
+    pub progress: Option<E>,
+}
+
+/// An output, and whether its reader has gone away.
+#[derive(Drop)]
+struct Watched<W> {
+    out: W,
+    is_closed: bool,
+}
+
+impl<W: Write> Write for Watched<W> {
+    fn write(&mut self, bytes: &[u8]) -> IoResult<usize> {
+        let written = self.out.write(bytes);
+        if let Err(error) = &written
+            && error.kind() == ErrorKind::BrokenPipe
+        {
+            self.is_closed = true;
+        }
+        written
+    }
+
+    fn flush(&mut self) -> IoResult<()> {
+        self.out.flush()
+    }
+}
+
+/// Returns an output whose reader has not gone away.
+fn watch<W>(out: W) -> Watched<W> {
+    Watched {
+        out,
+        is_closed: false,
+    }
+}
+
+/// Writes the counts, and why not every file has its line. It allocates nothing.
+fn report_end<E: Write>(errors: &mut E, report: &CheckReport, is_quiet: bool) {
+    if !is_quiet {
+        let _ = write_counts_line(errors, report.counts);
+    }
+    let _ = match report.end {
+        CheckEnd::AllTold => Ok(()),
+        CheckEnd::NamesUnread => writeln!(errors, "cannot read further names"),
+        CheckEnd::Unwritten => writeln!(errors, "cannot write the lines"),
+        CheckEnd::Memory => writeln!(errors, "out of memory"),
+    };
+}
+
+/// Opens the list of names that the arguments name, if they name one.
+fn open_list<L: Lists>(
+    alloc: Global,
+    lists: &L,
+    asked: &CheckRequest,
+) -> Result<Option<BufReader<L::List>>, ReadError> {
+    let Some(name) = &asked.names_from else {
+        return Ok(None);
+    };
+    match BufReader::new(alloc, lists.list(name.as_str())?) {
+        Ok(list) => Ok(Some(list)),
+        Err(_) => Err(ReadError::Memory),
+    }
+}
+
+/// Does what the program's arguments ask for: checks the files of a directory and of a list, and writes a line for each. The
+/// status is that of the check's report, or of what `answer` writes instead, or 3 if the list of names cannot be read.
+pub fn program<
+    R: Threads + Wait + Sync,
+    F: Folder + Sync + Drop,
+    L: Lists,
+    O: Write + Send + Drop,
+    E: Write + Send + Drop,
+>(
+    rt: &R,
+    alloc: Global,
+    folder: F,
+    lists: &L,
+    words: Result<Vec<Vec<u8>>, AllocError>,
+    streams: Streams<O, E>,
+) -> Ended
+    ensures memory { IfErr words (λ _. result.status ≡ 4) }
+{
+    let Streams {
+        out,
+        mut errors,
+        progress,
+    } = streams;
+    let asked = match words {
+        Ok(words) => asked(alloc, words.as_slice()),
+        Err(_) => Err(RequestError::Memory),
+    };
+    let asked = match asked {
+        Ok(asked) => asked,
+        Err(unasked) => {
+            let status = answer(&mut Tally::of(out), &mut errors, &unasked);
+            return Ended { status };
+        }
+    };
+    let list = match open_list(alloc, lists, &asked) {
+        Ok(list) => list,
+        Err(error) => {
+            let _ = writeln!(errors, "cannot read names: {}", error.text());
+            return Ended {
+                status: LIST_UNREAD,
+            };
+        }
+    };
+    let is_quiet = asked.form.is_quiet;
+    let (report, out) = check_all(rt, alloc, folder, asked, list, watch(out), progress);
+    if !out.is_closed {
+        report_end(&mut errors, &report, is_quiet);
+    }
+    Ended {
+        status: report.status(),
+    }
+}
