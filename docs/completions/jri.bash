@@ -36,10 +36,10 @@ _jri() {
         case $before in
             --workers) compopt +o default; mapfile -t COMPREPLY < <(compgen -W '1 2 4 8 16 32 64' -- "$word"); return ;;
             --first) compopt +o default; return ;;
-            -o | --output) return ;;
+            -o | --output | --output-dir) return ;;
         esac
         case $word in
-            -*) compopt +o default; mapfile -t COMPREPLY < <(compgen -W '--workers --first --output --force --quiet --verbose --help --version' -- "$word"); return ;;
+            -*) compopt +o default; mapfile -t COMPREPLY < <(compgen -W '--workers --first --output --output-dir --info --json --force --quiet --verbose --help --version' -- "$word"); return ;;
         esac
     fi
     _jri_names "$word"

@@ -155,7 +155,9 @@ impl<'a> Devices for Machine<'a> {
             Ok(found) if self.is_source(&found, source) => Destination::Source,
             Ok(found) if !found.is_file() && !found.is_dir() => Destination::WrittenInto,
             Ok(_) if self.leads_into_system(name) => Destination::WrittenInto,
-            _ => Destination::Replaced,
+            Ok(_) => Destination::Replaced,
+            Err(_) if fs::symlink_metadata(self.rt, name).is_ok() => Destination::Replaced,
+            Err(_) => Destination::New,
         }
     }
 

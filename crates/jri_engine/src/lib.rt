@@ -4,10 +4,17 @@
 
 mod ended;
 mod engine;
+mod headers;
+mod many;
 mod running;
 
 pub use ended::Ended;
 pub use engine::run;
+pub use headers::program_for_headers;
 pub use jri_file::{Fault, Report, one_text, scan_of_file};
-pub use jri_words::{Asked, Destination, Devices, Target, Telling, Unasked, asked, finish};
+pub use jri_words::{
+    Asked, DescribeRequest, Destination, Devices, ManyRequest, Mode, Target, Telling, Unasked,
+    asked, describe_request, finish, many_request,
+};
+pub use many::program_for_many;
 pub use running::program;

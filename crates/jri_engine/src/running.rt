@@ -20,20 +20,39 @@ use std::io::{Read, Result as IoResult, Write};
 use std::sync::Wait;
 use std::thread::Threads;
 
+/// How a file is decoded.
+#[derive(Clone, Copy)]
+pub(crate) struct Decoding {
+    /// The number of workers, 1 to 64.
+    pub(crate) workers: u32,
+    /// The number of intervals that are decoded, from the first on; all if it is `None`.
+    pub(crate) first: Option<u32>,
+}
+
+/// Returns how the arguments ask for a file to be decoded.
+fn decoding_of(asked: &Asked) -> Decoding
+    ensures { result.workers ≡ asked.now.workers }
+{
+    Decoding {
+        workers: asked.workers,
+        first: asked.first,
+    }
+}
+
 /// Decodes a source into an output, which is flushed and dropped.
 fn decode<T: Threads + Wait + Sync, R: Read + Drop, W: Write + Drop>(
     rt: &T,
     alloc: Global,
-    asked: &Asked,
+    decoding: Decoding,
     source: R,
     out: W,
 ) -> Ending
-    requires some { 1 ≤ asked.now.workers }
-    requires few { asked.now.workers ≤ MAX_WORKERS }
+    requires some { 1 ≤ decoding.workers }
+    requires few { decoding.workers ≤ MAX_WORKERS }
 {
     let mut input = Tally::of(Noted::of(source));
     let mut output = Tally::of(Noted::of(out));
-    let (workers, first) = (asked.workers, asked.first);
+    let Decoding { workers, first } = decoding;
     let outcome = run(
         rt,
         alloc,
@@ -52,7 +71,28 @@ fn decode<T: Threads + Wait + Sync, R: Read + Drop, W: Write + Drop>(
     Ending { outcome, reason }
 }
 
-/// Decodes a source into a file, which gets its name once the image is whole, and is otherwise unchanged.
+/// Decodes a source into a part, which takes the name of a file if the image is whole, and is otherwise removed.
+pub(crate) fn decode_to_part<T: Threads + Wait + Sync, D: Devices, R: Read + Drop>(
+    rt: &T,
+    alloc: Global,
+    devices: &mut D,
+    decoding: Decoding,
+    source: R,
+    name: &str,
+) -> Ending
+    requires some { 1 ≤ decoding.workers }
+    requires few { decoding.workers ≤ MAX_WORKERS }
+    ensures { LeavesFile (λ _. ⊥) name.now (D.steps devices.old) (D.steps devices.new) (is_ok result.outcome) }
+{
+    let part = match make_part(alloc, devices, name) {
+        Ok(part) => part,
+        Err(ending) => return ending,
+    };
+    let ending = decode(rt, alloc, decoding, source, part.file);
+    place(devices, ending, part.name.as_str(), name)
+}
+
+/// Decodes a source into a file, which is replaced once the image is whole, or into a device.
 fn decode_to_file<T: Threads + Wait + Sync, D: Devices, R: Read + Drop>(
     rt: &T,
     alloc: Global,
@@ -68,16 +108,11 @@ fn decode_to_file<T: Threads + Wait + Sync, D: Devices, R: Read + Drop>(
     let file = asked.file.as_ref().map(|file| file.as_str());
     if let Destination::WrittenInto = devices.destination(name, file) {
         return match devices.open_device(name) {
-            Ok(device) => decode(rt, alloc, asked, source, device),
+            Ok(device) => decode(rt, alloc, decoding_of(asked), source, device),
             Err(error) => unwritten(error),
         };
     }
-    let part = match make_part(alloc, devices, name) {
-        Ok(part) => part,
-        Err(ending) => return ending,
-    };
-    let ending = decode(rt, alloc, asked, source, part.file);
-    place(devices, ending, part.name.as_str(), name)
+    decode_to_part(rt, alloc, devices, decoding_of(asked), source, name)
 }
 
 /// Does what the program's arguments ask for on these devices, and reports it. The status is 0, or 3 if an interval is
@@ -103,7 +138,7 @@ pub fn program<T: Threads + Wait + Sync, D: Devices, E: Write>(
         Ok(source) => match &asked.target {
             Target::Output | Target::AnyOutput => {
                 let out = devices.output();
-                decode(rt, alloc, &asked, source, out)
+                decode(rt, alloc, decoding_of(&asked), source, out)
             }
             Target::File(name) => decode_to_file(rt, alloc, devices, &asked, source, name.as_str()),
         },

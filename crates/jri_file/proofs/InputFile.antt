@@ -1,13 +1,15 @@
 -- What is read of an input is its file.
-use Rattle.std.proofs.Common.{◌≡◌, inl, inr, ℕ, ◌+◌, ◌<◌, ◌≤◌, List, [], ◌++◌, length, take, Option, Some, None, sym, ap, Result, Ok, Err, IfOk, IfErr, subst, ◌∙◌, append_assoc, append-nil}
+use Rattle.std.proofs.Common.{◌≡◌, inl, inr, ℕ, ◌+◌, ◌-◌, ◌<◌, ◌≤◌, List, [], ◌++◌, length, take, Option, Some, None, sym, ap, Result, Ok, Err, IfOk, IfErr, subst, ◌∙◌, append_assoc, append-nil, arith}
 use Rattle.std.specs.Io.KnownBytes.{Consumes, IsAtEnd, prepend_known}
 use Rattle.std.proofs.lemmas.Bool.{cases_lt}
 use Rattle.std.proofs.lemmas.List.{take-append-le, take_all}
 use Rattle.jr_base.specs.declared.limits.TheConstants.{MAX_FILE_BYTES}
-use Rattle.jr_head.specs.Heads.{RefusalOf}
+use Rattle.std.proofs.Math.Seq.{take-append-add}
+use Rattle.jr_head.specs.HeadValue.{HeadValue}
+use Rattle.jr_head.specs.Heads.{HeadOf, RefusalOf}
 use Rattle.jri_file.specs.declared.report.Fault.{Fault}
 use Rattle.jri_file.specs.declared.report.Fault.TheVariants as fault
-use Rattle.jri_file.specs.Files.{IsFaultOf, IsFaultOfInput, OfFile}
+use Rattle.jri_file.specs.Files.{BeginsWithHead, IsFaultOf, IsFaultOfInput, OfFile}
 
 -- what was read, and then more
 pub read_on : (left then behind : Option (List ℕ)) (first file : List ℕ) → Consumes left then first → Consumes (prepend_known first then) behind file → Consumes left behind file
@@ -55,6 +57,15 @@ fault_of_file left behind file (fault.Refused r) p few end is = of_file (λ f. R
 fault_of_file left behind file fault.Memory p few end is = tt
 fault_of_file left behind file fault.Write p few end is = absurd is
 fault_of_file left behind file fault.NoFile p few end is = absurd is
+
+-- the input's file begins with bytes that have a header
+pub begins_with : (left then : Option (List ℕ)) (front : List ℕ) (h : HeadValue) → Consumes left then front → HeadOf front h → OfFile left (λ file. BeginsWithHead file h)
+begins_with None then front h p is = tt
+begins_with (Some xs) None front h p is = absurd p
+begins_with (Some xs) (Some ys) front h p is =
+    let over = MAX_FILE_BYTES + 1 - length front in
+    let count : MAX_FILE_BYTES + 1 ≡ length front + over = omega (arith, is.small) in
+    record { front = front; rest = take over ys; begins = ap (λ (l : List ℕ). take (MAX_FILE_BYTES + 1) l) p ∙ ap (λ n. take n (front ++ ys)) count ∙ take-append-add front ys over; is = is }
 
 -- the first bytes, and those that a reader gave
 pub first_and : (then behind : Option (List ℕ)) (first given : List ℕ) → Consumes then behind given → Consumes (prepend_known first then) behind (first ++ given)

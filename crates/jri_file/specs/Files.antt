@@ -1,10 +1,11 @@
 -- What a file's scan and its picture are, and what becomes of a file that has none.
-use Rattle.std.specs.Prelude.{◌≡◌, ℕ, ◌+◌, List, length, take, Option}
+use Rattle.std.specs.Prelude.{◌≡◌, ℕ, ◌+◌, List, ◌++◌, length, take, Option}
 use Rattle.std.specs.Option.{IfSome}
 use Rattle.jr_segments.specs.declared.refusal.Refusal.{Refusal}
 use Rattle.jr_segments.specs.declared.refusal.Refusal.TheVariants as refusal
 use Rattle.jr_base.specs.declared.limits.TheConstants.{MAX_FILE_BYTES}
 use Rattle.jr_head.specs.Heads.{HeadOf, RefusalOf}
+use Rattle.jr_head.specs.HeadValue.{HeadValue}
 use Rattle.jr_head.specs.Geometry.{IsLawful}
 use Rattle.jr_scan.specs.ScanValue.{ScanValue, IsScanOf}
 use Rattle.jr_picture.specs.declared.mark.Mark.{Mark}
@@ -17,6 +18,13 @@ pub record IsScanOfFile (file : List ℕ) (scan : ScanValue) : Type 0 where
   pub head : HeadOf file scan.head
   pub lawful : IsLawful scan.head
   pub cut : IsScanOf file scan
+
+-- a prefix of the file has the header, and so has every file that begins with that prefix and is not too long
+pub record BeginsWithHead (file : List ℕ) (head : HeadValue) : Type 0 where
+  pub front : List ℕ
+  pub rest : List ℕ
+  pub begins : file ≡ front ++ rest
+  pub is : HeadOf front head
 
 -- a refused file, by its refusal; for want of memory nothing is said of the file
 abbrev pub fault_by : Refusal → Fault

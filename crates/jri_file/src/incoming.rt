@@ -19,8 +19,8 @@ use std::alloc::Global;
 use std::io::Read;
 use std::sync::Arc;
 
-/// The fault of a refused file; want of memory is a fault of its own.
-fn fault_of(refusal: Refusal) -> Fault
+/// Returns the fault of a refused file. Running out of memory is a fault of its own.
+pub(crate) fn fault_of(refusal: Refusal) -> Fault
     ensures { result ≡ fault_by refusal }
 {
     match refusal {

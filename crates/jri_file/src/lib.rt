@@ -1,6 +1,7 @@
 //! A file's scan, of bytes in memory or of a reader's, and how its decoding goes: a report or a fault.
 #![tactic(auto)]
 
+mod heading;
 mod incoming;
 mod laws;
 mod reading;
@@ -8,6 +9,7 @@ mod report;
 mod scanning;
 mod status;
 
+pub use heading::read_file_head;
 pub use incoming::read_scan;
 pub use laws::{each_accepted_file_has_a_picture, each_scan_has_a_picture, one_text};
 pub use report::{Fault, Report};

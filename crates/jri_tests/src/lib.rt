@@ -17,6 +17,8 @@ mod long_intervals;
 #[cfg(test)]
 mod machine;
 #[cfg(test)]
+mod many;
+#[cfg(test)]
 mod memory;
 #[cfg(test)]
 mod one_byte;

@@ -195,8 +195,10 @@ impl Devices for Machine {
             Destination::Source
         } else if self.named(name).is_some_and(|file| file.is_device) {
             Destination::WrittenInto
-        } else {
+        } else if self.named(name).is_some() {
             Destination::Replaced
+        } else {
+            Destination::New
         }
     }
 

@@ -1,11 +1,12 @@
 -- Steps one after another, and what a run leaves.
-use Rattle.std.proofs.Common.{◌≡◌, ℕ, Bool, true, false, inl, inr, List, [], ◌∷◌, ◌++◌, Option, Some, None, Result, Ok, Err, IfOk, IfErr, is_ok, append_assoc, append-nil, ap, sym, refl, ◌∙◌, ◌==◌, if◌then◌else◌}
+use Rattle.std.proofs.Common.{◌≡◌, ℕ, ◌+◌, length, length-append, Bool, true, false, inl, inr, List, [], ◌∷◌, ◌++◌, Option, Some, None, Result, Ok, Err, IfOk, IfErr, is_ok, append_assoc, append-nil, ap, sym, subst, refl, ◌∙◌, ◌==◌, if◌then◌else◌}
 use Rattle.std.proofs.lemmas.Bool.{true≢false}
 use Rattle.jri_file.specs.declared.report.Report.{Report}
 use Rattle.jri_file.specs.declared.report.Fault.{Fault}
 use Rattle.jri_file.specs.declared.report.Fault.TheVariants as fault
 use Rattle.jri_file.specs.Status.{report_status, fault_status}
-use Rattle.jri_words.specs.Steps.{Step, Created, Renamed, Removed, Opened, Follow, OpensDevice, LeavesFile, is_picture_status}
+use Rattle.std.specs.List.{AllByRecursion}
+use Rattle.jri_words.specs.Steps.{Step, Created, Renamed, Removed, Opened, Follow, OpensDevice, LeavesFile, is_picture_status, DecodesEach, ImageEnd, IsInDirectory, LeavesEach, worse, worst_of}
 
 pub follow : (a b c : Option (List Step)) (s t : List Step) → Follow a b s → Follow b c t → Follow a c (s ++ t)
 follow None b c s t p q = tt
@@ -46,3 +47,39 @@ status_tells (Err (fault.Refused f)) n p q = rw q refl
 status_tells (Err fault.Memory) n p q = rw q refl
 status_tells (Err fault.Write) n p q = rw q refl
 status_tells (Err fault.NoFile) n p q = rw q refl
+
+-- what a run leaves that opens no device
+pub without_devices : (are_devices : List ℕ → Type 0) (name : List ℕ) (a b : Option (List Step)) (is_written : Bool) → LeavesFile (λ _. ⊥) name a b is_written → LeavesFile are_devices name a b is_written
+without_devices are_devices name a b true (inl p) = absurd p.is
+without_devices are_devices name a b true (inr p) = inr p
+without_devices are_devices name a b false (inl p) = inl p
+without_devices are_devices name a b false (inr (inl p)) = absurd p.is
+without_devices are_devices name a b false (inr (inr p)) = inr (inr p)
+
+-- one more image
+leaves_one_more : (es : List ImageEnd) (e : ImageEnd) (old mid new : Option (List Step)) → LeavesEach es old mid → LeavesFile (λ _. ⊥) e.name mid new (is_picture_status e.status) → LeavesEach (es ++ e ∷ []) old new
+leaves_one_more [] e old mid new p q = (new, subst (λ (o : Option (List Step)). LeavesFile (λ _. ⊥) e.name o new (is_picture_status e.status)) (sym p) q, refl)
+leaves_one_more (d ∷ ds) e old mid new p q = (p.0, p.1, leaves_one_more ds e p.0 mid new p.2 q)
+
+worst_one_more : (before : ℕ) (es : List ImageEnd) (e : ImageEnd) → worst_of before (es ++ e ∷ []) ≡ worse (worst_of before es) e.status
+worst_one_more before [] e = refl
+worst_one_more before (d ∷ ds) e = worst_one_more (worse before d.status) ds e
+
+within_one_more : (P : ImageEnd → Type 0) (es : List ImageEnd) (e : ImageEnd) → AllByRecursion P es → P e → AllByRecursion P (es ++ e ∷ [])
+within_one_more P [] e p q = (q, tt)
+within_one_more P (d ∷ ds) e p q = (p.0, within_one_more P ds e p.1 q)
+
+pub decodes_one_more : (directory : List ℕ) (n : ℕ) (old mid new : Option (List Step)) (before status : ℕ) (name : List ℕ) → DecodesEach directory n old mid before → IsInDirectory directory name
+    → LeavesFile (λ _. ⊥) name mid new (is_picture_status status) → DecodesEach directory (n + 1) old new (worse before status)
+decodes_one_more directory n old mid new before status name d is_in left =
+    let e : ImageEnd = record { name = name; status = status } in
+    record {
+      ends = d.ends ++ e ∷ [];
+      count = length-append d.ends (e ∷ []) ∙ ap (λ k. k + 1) d.count;
+      within = within_one_more (λ i. IsInDirectory directory i.name) d.ends e d.within is_in;
+      left = leaves_one_more d.ends e old mid new d.left left;
+      worst = ap (λ b. worse b status) d.worst ∙ sym (worst_one_more 0 d.ends e);
+    }
+
+pub decodes_none : (directory : List ℕ) (a : Option (List Step)) → DecodesEach directory 0 a a 0
+decodes_none directory a = record { ends = []; count = refl; within = tt; left = refl; worst = refl }

@@ -1,5 +1,6 @@
 -- The steps of a run in the folders of its machine.
-use Rattle.std.specs.Prelude.{◌≡◌, ℕ, List, [], ◌∷◌, ◌++◌, Option, Some, None, ⊤, Bool, true, false, ◌==◌, ◌||◌, ◌⊎◌}
+use Rattle.std.specs.Prelude.{◌≡◌, ℕ, List, [], ◌∷◌, ◌++◌, Option, Some, None, ⊤, Bool, true, false, ◌==◌, ◌||◌, ◌⊎◌, length, if◌then◌else◌}
+use Rattle.std.specs.List.{AllByRecursion}
 use Rattle.std.specs.String.{string_bytes}
 use Rattle.jri_words.specs.declared.answers.Target.{Target}
 use Rattle.jri_words.specs.declared.answers.Target.TheVariants as target
@@ -41,3 +42,37 @@ LeavesNamed are_devices is_named old new is_written = Follow old new [] ⊎ ((t 
 -- the exit statuses of pictures that are written
 abbrev pub is_picture_status : ℕ → Bool
 is_picture_status status = (status == 0) || (status == 3)
+
+-- the name of a file in a directory: the directory's, a slash, and something
+abbrev pub IsInDirectory : List ℕ → List ℕ → Type 0
+IsInDirectory directory name = (rest : List ℕ) × (name ≡ directory ++ (47 ∷ rest))
+
+-- how the decoding of one file of many ended: the name of its image, and its exit status
+pub record ImageEnd : Type 0 where
+  pub name : List ℕ
+  pub status : ℕ
+
+-- the statuses of two files as one: the first that applies of 1, 2, 3 and 0
+abbrev pub worse : ℕ → ℕ → ℕ
+worse a b =
+    if (a == 1) || (b == 1) then 1 else
+    if (a == 2) || (b == 2) then 2 else
+    if (a == 3) || (b == 3) then 3 else 0
+
+-- the same of those before and of many
+abbrev pub worst_of : ℕ → List ImageEnd → ℕ
+worst_of before [] = before
+worst_of before (e ∷ es) = worst_of (worse before e.status) es
+
+-- images are made one after another, each by a part that takes its name if it is written, and is otherwise removed
+abbrev pub LeavesEach : List ImageEnd → Option (List Step) → Option (List Step) → Type 0
+LeavesEach [] old new = old ≡ new
+LeavesEach (e ∷ es) old new = (mid : Option (List Step)) × LeavesFile (λ _. ⊥) e.name old mid (is_picture_status e.status) × LeavesEach es mid new
+
+-- the images of so many files are made in a directory
+pub record DecodesEach (directory : List ℕ) (files : ℕ) (old new : Option (List Step)) (status : ℕ) : Type 0 where
+  pub ends : List ImageEnd
+  pub count : length ends ≡ files
+  pub within : AllByRecursion (λ e. IsInDirectory directory e.name) ends
+  pub left : LeavesEach ends old new
+  pub worst : status ≡ worst_of 0 ends

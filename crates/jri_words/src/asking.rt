@@ -15,7 +15,7 @@ use jr_base::limits::MAX_WORKERS;
 use std::alloc::{AllocError, Global};
 
 /// `--workers N`.
-fn workers_word<'a>(alloc: Global) -> Arg<'a>
+pub(crate) fn workers_word<'a>(alloc: Global) -> Arg<'a>
     ensures rule { rule_of result ≡ workers_rule }
     ensures local { result.global ≡ false }
 {
@@ -29,7 +29,7 @@ fn workers_word<'a>(alloc: Global) -> Arg<'a>
 }
 
 /// `--first K`.
-fn first_word<'a>(alloc: Global) -> Arg<'a>
+pub(crate) fn first_word<'a>(alloc: Global) -> Arg<'a>
     ensures rule { rule_of result ≡ first_rule }
     ensures local { result.global ≡ false }
 {
@@ -66,7 +66,7 @@ fn output_word<'a>(alloc: Global) -> Arg<'a>
 }
 
 /// A word that stands alone.
-fn flag_word<'a>(alloc: Global, name: &'a str, help: &'a str) -> Arg<'a>
+pub(crate) fn flag_word<'a>(alloc: Global, name: &'a str, help: &'a str) -> Arg<'a>
     ensures rule { rule_of result ≡ flag_rule name.now }
     ensures local { result.global ≡ false }
 {
@@ -113,7 +113,7 @@ fn command<'a>(alloc: Global) -> Result<Command<'a>, AllocError>
     with_writing_words(alloc, with_decoding_words(alloc, command)?)
 }
 
-fn refusal(alloc: Global, error: &Error) -> Unasked {
+pub(crate) fn refusal(alloc: Global, error: &Error) -> Unasked {
     if error.kind() == ErrorKind::OutOfMemory {
         return Unasked::Memory;
     }
@@ -124,6 +124,21 @@ fn refusal(alloc: Global, error: &Error) -> Unasked {
         },
         Err(_) => Unasked::Memory,
     }
+}
+
+/// Returns the values of an argument that may have several.
+pub(crate) fn strings_of(
+    alloc: Global,
+    matches: &ArgMatches<'_>,
+    name: &str,
+) -> Result<Vec<String>, AllocError> {
+    let mut strings = Vec::new(alloc);
+    if let Some(values) = matches.get_strs(name) {
+        for value in values {
+            strings.push(String::from_str(alloc, value)?)?;
+        }
+    }
+    Ok(strings)
 }
 
 /// The name of a stream in place of a file.

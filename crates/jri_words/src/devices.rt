@@ -8,7 +8,9 @@ use std::io::{Error, Read, Result as IoResult, Write};
 /// What the name of a picture leads to.
 #[derive(Clone, Copy, Drop)]
 pub enum Destination {
-    /// No file, or one that a whole picture replaces.
+    /// Nothing has the name.
+    New,
+    /// A file that a whole picture replaces.
     Replaced,
     /// A device, a pipe, or a stream that some program has open: it is written into.
     WrittenInto,

@@ -18,5 +18,9 @@ Exit status:
      the file that is read
   3  image written, an interval is damaged
 
+Many files, and headers alone:
+  jri --output-dir DIR [--workers N] [--first K] [--quiet] FILE..
+  jri --info [--json] FILE..
+
 PICTURE is replaced only on status 0 or 3. A file named - is ./- here. If a name
 is not UTF-8, use: jri < FILE";

@@ -3,18 +3,28 @@
 
 mod answers;
 mod asking;
+mod describing;
 mod devices;
 mod finishing;
+mod head_line;
 mod help;
 mod line;
+mod many;
+mod modes;
 mod opening;
 mod placing;
+mod quality;
 mod telling;
 
 pub use answers::{Asked, Target, Telling, Unasked};
 pub use asking::asked;
+pub use describing::{DescribeRequest, describe_request};
 pub use devices::{Destination, Devices, Noted, Source};
 pub use finishing::{finish, flushed};
+pub use head_line::describe;
+pub use many::{ManyRequest, image_name, many_request};
+pub use modes::Mode;
 pub use opening::{answer, opened, understood, warn_of_name};
 pub use placing::{Part, make_part, place, unwritten};
+pub use quality::quality_of;
 pub use telling::{Ending, Names, tell};

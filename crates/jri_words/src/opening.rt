@@ -37,8 +37,8 @@ const OTHER_ENDING: &str =
 /// The endings of other formats' names, in small letters.
 const OTHER_ENDINGS: [&str; 8] = ["png", "jpg", "jpeg", "gif", "webp", "tif", "tiff", "bmp"];
 
-/// A text as wrong words.
-fn wrong(alloc: Global, text: &str) -> Unasked {
+/// Returns a text as that of wrong arguments.
+pub(crate) fn wrong(alloc: Global, text: &str) -> Unasked {
     match String::from_str(alloc, text) {
         Ok(text) => Unasked::Wrong(text),
         Err(_) => Unasked::Memory,

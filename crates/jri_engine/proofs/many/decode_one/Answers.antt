@@ -1,0 +1,28 @@
+use Rattle.std.proofs.Common.{◌≡◌, ℕ, Bool, List, [], ◌∷◌, ◌++◌, Result, Err, refl, subst, sym}
+use Rattle.std.specs.String.{string_bytes}
+use Rattle.jri_file.specs.declared.report.Report.{Report}
+use Rattle.jri_file.specs.declared.report.Fault.{Fault}
+use Rattle.jri_file.specs.declared.report.Fault.TheVariants as fault
+use Rattle.jri_words.specs.Steps.{IsInDirectory, LeavesFile, is_picture_status}
+use Rattle.jri_words.proofs.StepLemmas.{none_yet, status_tells, undone}
+use Rattle.jri_engine.proofs.many.decode_one.Goals as goal
+
+pub returns-in_default : goal.returns-in_default
+returns-in_default g c =
+    let old = g.D.Devices.steps c.args.devices.now in
+    let directory = string_bytes c.args.request.now.directory in
+    let outcome : Result Report Fault = Err fault.Memory in
+    let told = status_tells outcome c.tell.result c.tell.ensures.written c.tell.ensures.fault in
+    let left = undone (λ _. ⊥) (directory ++ 47 ∷ []) old old outcome (none_yet old) refl in
+    (directory ++ 47 ∷ [], ([], refl), subst (λ (b : Bool). LeavesFile (λ _. ⊥) (directory ++ 47 ∷ []) old old b) (sym told) left)
+
+pub returns : goal.returns
+returns g c =
+    let old = g.D.Devices.steps c.args.devices.now in
+    let new = g.D.Devices.steps c.decode_into_new-ending.new.devices in
+    let name = c.as_str-2.result.now in
+    let is_in : IsInDirectory (string_bytes c.args.request.now.directory) name =
+    subst (λ (n : List ℕ). IsInDirectory (string_bytes c.args.request.now.directory) n) (sym c.as_str-2.ensures.value)
+    (subst (λ (d : List ℕ). IsInDirectory d (string_bytes c.in-Ok.image)) c.as_str.ensures.value c.in-Ok.ensures) in
+    let told = status_tells c.decode_into_new-ending.result.outcome c.tell-2.result c.tell-2.ensures.written c.tell-2.ensures.fault in
+    (name, is_in, subst (λ (b : Bool). LeavesFile (λ _. ⊥) name old new b) (sym told) c.decode_into_new-ending.ensures)

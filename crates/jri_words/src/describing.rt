@@ -1,0 +1,53 @@
+//! The arguments of `jri --info`.
+
+use crate::answers::Unasked;
+use crate::asking::{flag_word, refusal, strings_of};
+use clap::{Arg, ArgAction, ArgMatches, Command};
+use jr_base::VERSION;
+use std::alloc::{AllocError, Global};
+
+/// What the arguments of `jri --info` ask for.
+#[derive(Drop)]
+pub struct DescribeRequest {
+    /// Whether each line is a JSON object.
+    pub is_json: bool,
+    /// The names of the files.
+    pub files: Vec<String>,
+}
+
+/// `FILE..`.
+pub(crate) fn files_word<'a>(alloc: Global) -> Arg<'a> {
+    Arg::new(alloc, "files")
+        .action(ArgAction::Append)
+        .num_args(1..)
+        .value_name("FILE")
+        .help("JPEG files")
+        .required(true)
+}
+
+/// `jri --info [--json] FILE..`.
+fn command<'a>(alloc: Global) -> Result<Command<'a>, AllocError> {
+    Command::new(alloc, "jri")
+        .about("Print what the headers of JPEG files say, and decode nothing")
+        .version(VERSION.trim_end())
+        .no_binary_name(true)
+        .arg(flag_word(alloc, "info", "Describe files"))?
+        .arg(flag_word(alloc, "json", "Print each line as a JSON object"))?
+        .arg(files_word(alloc))
+}
+
+/// Returns what parsed arguments ask for.
+fn request_in(alloc: Global, matches: &ArgMatches<'_>) -> Result<DescribeRequest, AllocError> {
+    Ok(DescribeRequest {
+        is_json: matches.get_flag("json"),
+        files: strings_of(alloc, matches, "files")?,
+    })
+}
+
+/// Returns what the arguments of `jri --info` ask for, or the text to print if they ask for help or are wrong.
+pub fn describe_request(alloc: Global, words: &[String]) -> Result<DescribeRequest, Unasked> {
+    match command(alloc)?.try_get_matches_from(words) {
+        Ok(matches) => Ok(request_in(alloc, &matches)?),
+        Err(error) => Err(refusal(alloc, &error)),
+    }
+}

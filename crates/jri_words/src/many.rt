@@ -1,0 +1,126 @@
+//! The arguments of `jri --output-dir`, and the names of the images.
+
+ghost use Rattle.std.specs.Prelude.{◌≤◌, IfOk};
+ghost use Rattle.std.specs.String.{string_bytes};
+ghost use Rattle.jr_base.specs.declared.limits.TheConstants.{MAX_WORKERS};
+ghost use Rattle.jri_words.specs.Steps.{IsInDirectory};
+
+use crate::answers::Unasked;
+use crate::asking::{first_word, flag_word, refusal, strings_of, workers_word};
+use crate::describing::files_word;
+use crate::opening::wrong;
+use clap::{Arg, ArgAction, ArgMatches, Command};
+use jr_base::VERSION;
+use jr_base::limits::MAX_WORKERS;
+use std::alloc::{AllocError, Global};
+
+/// What the arguments of `jri --output-dir` ask for.
+#[derive(Drop)]
+pub struct ManyRequest {
+    /// The number of workers, 1 to 64.
+    pub workers: u32,
+    /// The number of intervals that are decoded of each file, from the first on; all if it is `None`.
+    pub first: Option<u32>,
+    /// Whether the reports are left out.
+    pub is_quiet: bool,
+    /// The directory of the images.
+    pub directory: String,
+    /// The names of the files.
+    pub files: Vec<String>,
+}
+
+/// `--output-dir DIR`.
+fn directory_word<'a>(alloc: Global) -> Arg<'a> {
+    Arg::new(alloc, "output-dir")
+        .long("output-dir")
+        .action(ArgAction::Set)
+        .value_name("DIR")
+        .help("Write the image of FILE to a new file of DIR, FILE's name with the ending .pnm")
+        .required(true)
+}
+
+/// `jri --output-dir DIR [--workers N] [--first K] [--quiet] FILE..`.
+fn command<'a>(alloc: Global) -> Result<Command<'a>, AllocError> {
+    Command::new(alloc, "jri")
+        .about("Decode baseline JPEG files to Netpbm images in a directory")
+        .version(VERSION.trim_end())
+        .no_binary_name(true)
+        .arg(directory_word(alloc))?
+        .arg(workers_word(alloc))?
+        .arg(first_word(alloc))?
+        .arg(flag_word(alloc, "quiet", "Do not print the reports"))?
+        .arg(files_word(alloc))
+}
+
+/// The name of standard input, which has no name for its image.
+const STREAM: &str = "-";
+
+/// The text if standard input is to be decoded.
+const NAMELESS: &str = "standard input has no name for its image; a file named - is ./-\n";
+
+/// Returns what parsed arguments ask for.
+fn request_in(alloc: Global, matches: &ArgMatches<'_>) -> Result<ManyRequest, Unasked>
+    ensures some { IfOk result (λ r. 1 ≤ r.workers) }
+    ensures few { IfOk result (λ r. r.workers ≤ MAX_WORKERS) }
+{
+    let files = strings_of(alloc, matches, "files")?;
+    if files.iter().any(|file| file.as_str() == STREAM) {
+        return Err(wrong(alloc, NAMELESS));
+    }
+    match (
+        matches.get_one::<u32>("workers"),
+        matches.get_str("output-dir"),
+    ) {
+        // the range of the argument's values, which the parser's contract does not repeat
+        (Some(workers), Some(directory)) if (1..=MAX_WORKERS).contains(&workers) => {
+            Ok(ManyRequest {
+                workers,
+                first: matches.get_one::<u32>("first"),
+                is_quiet: matches.get_flag("quiet"),
+                directory: String::from_str(alloc, directory)?,
+                files,
+            })
+        }
+        _ => Err(wrong(alloc, "")),
+    }
+}
+
+/// Returns what the arguments of `jri --output-dir` ask for, or the text to print if they ask for help or are wrong.
+pub fn many_request(alloc: Global, words: &[String]) -> Result<ManyRequest, Unasked>
+    ensures some { IfOk result (λ r. 1 ≤ r.workers) }
+    ensures few { IfOk result (λ r. r.workers ≤ MAX_WORKERS) }
+{
+    match command(alloc)?.try_get_matches_from(words) {
+        Ok(matches) => request_in(alloc, &matches),
+        Err(error) => Err(refusal(alloc, &error)),
+    }
+}
+
+/// The endings of JPEG files' names, in small letters.
+const ENDINGS: [&str; 4] = ["jpg", "jpeg", "jpe", "jfif"];
+
+/// Returns the last part of a file's name, without the ending of a JPEG file.
+fn stem_of(file: &str) -> &str {
+    let name = match file.rsplit_once('/') {
+        Some((_, name)) => name,
+        None => file,
+    };
+    match name.rsplit_once('.') {
+        Some((stem, ending))
+            if !stem.is_empty() && ENDINGS.iter().any(|e| ending.eq_ignore_ascii_case(e)) => {
+            stem
+        }
+        _ => name,
+    }
+}
+
+/// Returns the name of the image of a file in a directory: the last part of the file's name, its ending replaced by `.pnm`.
+pub fn image_name(alloc: Global, directory: &str, file: &str) -> Result<String, AllocError>
+    ensures { IfOk result (λ name. IsInDirectory directory.now (string_bytes name)) }
+{
+    let mut name = String::from_str(alloc, directory)?;
+    name.push_str("/")?;
+    name.push_str(stem_of(file))?;
+    name.push_str(".pnm")?;
+    Ok(name)
+}
