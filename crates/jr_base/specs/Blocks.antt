@@ -7,15 +7,15 @@ use Rattle.jr_base.specs.declared.quantisers.TheConstants.{MOST_PRODUCT}
 abbrev pub at : List ℤ → ℕ → ℤ
 at xs k = slice_index_or xs k (pos 0)
 
--- numbers in natural order, told in zigzag order
+-- numbers in natural order, arranged in zigzag order
 unfoldable pub in_zigzag_order : List ℤ → List ℤ
 in_zigzag_order xs = map (at xs) natural_indexes
 
--- numbers in zigzag order, told in natural order
+-- numbers in zigzag order, arranged in natural order
 unfoldable pub in_natural_order : List ℤ → List ℤ
 in_natural_order xs = map (at xs) places
 
--- the elements of a quantisation table, told in natural order
+-- the elements of a quantisation table, arranged in natural order
 abbrev pub AreFactors : (elements factors : List ℕ) → Type 0
 AreFactors elements factors = (n : ℕ) → n < 64 → slice_index factors n ≡ slice_index elements (zigzag_place n)
 

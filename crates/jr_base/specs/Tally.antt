@@ -26,7 +26,7 @@ pub record AppendsBeginning (old new : Option (List ℕ)) (bs : List ℕ) : Type
   pub whole : bs ≡ sent ++ left
   pub appended : Appends old new sent
 
--- these bytes are written behind what is known of a writer
+-- these bytes are written after what is known of a writer
 abbrev pub Writes : {T : Type 0} → (T → Option (List ℕ)) → Tally T → Tally T → List ℕ → Type 0
 Writes known old new bs = Appends (known_in known old) (known_in known new) bs
 

@@ -1,4 +1,4 @@
--- The rule of the desk's table, and what one claim tells.
+-- The rule of the desk's table, and the result of one claim.
 use Rattle.std.specs.Prelude.{◌≡◌, ℕ, ◌+◌, ◌<◌, ◌≤◌, ◌^◌, min, nat_lt, MatchBool, List, [], ◌∷◌, ◌++◌, length, slice_index}
 use mathlib.Core.Option.{some}
 use lib.ListN.{get_elem?}
@@ -11,7 +11,7 @@ use Rattle.jr_cells.specs.Count.{total, times, once_below}
 abbrev pub view : ℕ → ℕ → List ℕ → ℕ → ℕ → SeatView
 view limit all drawn seats ended = record { limit = limit; all = all; drawn = drawn; seats = seats; ended = ended }
 
--- what fits each view, where w is word 0
+-- the condition of each view; w is word 0
 pub record Fits (n k w : ℕ) (v : SeatView) : Type 0 where
   pub limit : 0 < v.seats → v.limit ≡ n
   pub all : 0 < v.seats → v.all ≡ k
@@ -31,7 +31,7 @@ pub record Dealt (n k : ℕ) (s : State (Unit {0}) SeatView) : Type 0 where
   pub over : slice_index s.words 0 ≤ n + total (λ v. v.ended) s.views
   pub each : (id : ℕ) (v : SeatView) → get_elem? s.views id ≡ some v → Fits n k (slice_index s.words 0) v
 
--- what a claim tells: a number below the limit is drawn, and else the seat has ended
+-- the result of a claim: a number below the limit is drawn, otherwise the seat has ended
 abbrev pub Told : Step (Unit {0}) → Me (Unit {0}) SeatView → ℕ → Me (Unit {0}) SeatView → Type 0
 Told step me found next =
     (next.1 ≡ me.1)

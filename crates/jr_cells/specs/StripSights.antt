@@ -16,7 +16,7 @@ StripNote = Note (Arc StripValue Global)
 abbrev pub stands_at : ℕ → ℕ → StripValue → Bool
 stands_at number first s = (s.interval.number == number) && (s.first == first)
 
--- a strip counts only if it stands there
+-- a strip counts only if it is at that position
 abbrev pub strip_in_cell : ℕ → ℕ → Option (Arc StripValue Global) → Option StripValue
 strip_in_cell number first None = None
 strip_in_cell number first (Some s) = cond (stands_at number first (arc_value s)) (Some (arc_value s)) None

@@ -1,4 +1,4 @@
--- What a register of a bit reader stands for.
+-- The bits that a bit reader's register represents.
 use Rattle.std.specs.Prelude.{Bool, List, ◌++◌}
 use Rattle.jr_code.specs.Bits.{bits, upper_bits}
 use Rattle.jr_code.specs.declared.register.Register.{Register}

@@ -12,19 +12,19 @@ abbrev pub OfPart : Option FirstIntervalsValue → (FirstIntervalsValue → Type
 OfPart None P = ⊥
 OfPart (Some part) P = P part
 
--- there is room for the lines of a row of MCUs
+-- the lines of a row of MCUs fit
 abbrev pub HasRoom : Option FirstIntervalsValue → List ℕ → Type 0
 HasRoom known pixels = OfPart known (λ part. 8 * vertical_max part.scan.head * line_size part.scan.head ≤ length pixels)
 
--- there is room for painting its lines
+-- the scratch space for painting its lines is there
 abbrev pub HasLineRoom : Option FirstIntervalsValue → ℕ → Type 0
 HasLineRoom known n = OfPart known (λ part. line_room part.scan.head ≤ n)
 
--- there is room for its samples, for some of its blocks, and for painting its lines
+-- its samples, some of its blocks and the scratch space for painting its lines fit
 abbrev pub HasSamples : Option FirstIntervalsValue → SampleRowValue → Type 0
 HasSamples known work = OfPart known (λ part. HasSampleRoom part.scan.head work)
 
--- there is room for its blocks and samples
+-- its blocks and samples fit
 abbrev pub HasWork : Option FirstIntervalsValue → RowValue → Type 0
 HasWork known work = OfPart known (λ part. HasRowRoom part.scan.head work)
 

@@ -3,12 +3,12 @@ use Rattle.std.specs.Prelude.{ℕ, List, Option}
 use Rattle.jr_rows.specs.RowsValue.{RowValue}
 use Rattle.jr_rows.specs.declared.marked.Marked.{Marked}
 
--- room for its lines, and for its blocks and samples where there is some
+-- buffers for its lines and, if there are some, for its blocks and samples
 pub record BenchValue : Type 0 where
   pub work : Option RowValue
   pub pixels : List ℕ
 
--- room for its blocks and samples, and for its lines
+-- buffers for its blocks and samples, and for its lines
 pub record WorkBenchValue : Type 0 where
   pub work : RowValue
   pub pixels : List ℕ

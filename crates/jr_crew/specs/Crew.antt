@@ -15,7 +15,7 @@ abbrev pub scan_of : Option FirstIntervalsValue → Option ScanValue
 scan_of None = None
 scan_of (Some part) = Some part.scan
 
--- these are rows of the part, and guesses of its scan, and there is a next row
+-- these are rows of the part, and speculative reads of its scan, and there is a next row
 pub record HasNextOf (part : FirstIntervalsValue) (r : Rows) (g : IntervalGuesses) : Type 0 where
   pub rows : AreRowsOf part r
   pub row : r.row < mcus_down part.scan.head

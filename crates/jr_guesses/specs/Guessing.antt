@@ -1,4 +1,4 @@
--- What several threads know of guesses that they share: by the scan that they are of.
+-- What several threads know of speculative reads that they share: the scan that they are of.
 use Rattle.std.specs.Prelude.{ℕ, Option, Some, None}
 use Rattle.jr_scan.specs.Guess.{GuessValue, IsGuessOf}
 use Rattle.jr_scan.specs.Guesses.{AreGuessesOf}
@@ -10,10 +10,10 @@ abbrev pub OfScan : Option ScanValue → (ScanValue → Type 0) → Type 0
 OfScan None P = ⊥
 OfScan (Some scan) P = P scan
 
--- a guess of an interval of the scan
+-- a speculative read of an interval of the scan
 abbrev pub HasGuessOf : Option ScanValue → GuessValue → Type 0
 HasGuessOf known g = OfScan known (λ scan. IsGuessOf (interval_of scan g.number) g)
 
--- guesses of the scan's interval of that number
+-- speculative reads of the scan's interval of that number
 abbrev pub AreGuesses : Option ScanValue → ℕ → Guesses → Type 0
 AreGuesses known number guesses = OfScan known (λ scan. AreGuessesOf (interval_of scan number) guesses)

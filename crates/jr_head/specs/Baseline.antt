@@ -20,7 +20,7 @@ use Rattle.jr_head.specs.Scans.{all_quantisations, all_huffman_tables, frame_seg
 use Rattle.jr_segments.specs.Tables.{tables}
 use Rattle.jr_segments.specs.Tests.{Test, ◌when◌, first_fault}
 
--- SOF1 is no frame of this reader
+-- SOF1 is not a frame of this reader
 unfoldable pub baseline_code_tests : Bool → ℕ → List Test
 baseline_code_tests framed code =
     (NotBaseline code when (is_not_baseline code || code == SOF1))

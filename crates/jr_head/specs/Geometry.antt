@@ -19,7 +19,7 @@ component_count Ycc = 3
 abbrev pub components_of : HeadValue → ℕ
 components_of h = length h.components
 
--- stands for a component past the last
+-- the component of a number past the last
 abbrev pub no_component : Component
 no_component = record { horizontal = 0; vertical = 0; quantiser = []; dc = record { counts = []; symbols = [] }; ac = record { counts = []; symbols = [] } }
 
@@ -66,7 +66,7 @@ blocks_before h c = sum_by units_of (take c h.components)
 abbrev pub blocks_of : HeadValue → ℕ
 blocks_of h = sum_by units_of h.components
 
--- the component of each data unit of an MCU in their order (A.2.3), where the first component has number c
+-- the component of each data unit of an MCU in their order (A.2.3); the first component has number c
 abbrev pub order_from : ℕ → List Component → List ℕ
 order_from c [] = []
 order_from c (k ∷ ks) = replicate (units_of k) c ++ order_from (suc c) ks
@@ -104,7 +104,7 @@ pub record IsCoded (c : Component) : Type 0 where
   pub dc : codes.IsLawfulTable c.dc.counts c.dc.symbols
   pub ac : codes.IsLawfulTable c.ac.counts c.ac.symbols
 
--- what holds of the components of every accepted file
+-- what holds for the components of every accepted file
 pub record AreLawful (kind : Kind) (components : List Component) : Type 0 where
   pub count : length components ≡ component_count kind
   pub sampled : All IsSampled components
@@ -117,7 +117,7 @@ pub record AreLawful (kind : Kind) (components : List Component) : Type 0 where
   pub low : greatest_down components ≤ 4
   pub blocks : sum_by units_of components ≤ 10
 
--- what holds of the head of every accepted file
+-- what holds for the header of every accepted file
 pub record IsLawful (h : HeadValue) : Type 0 where
   pub components : AreLawful h.kind h.components
   pub wide : 0 < h.width

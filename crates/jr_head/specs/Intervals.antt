@@ -4,7 +4,7 @@ use Rattle.std.specs.Int.{div_ceil}
 use Rattle.jr_head.specs.HeadValue.{HeadValue}
 use Rattle.jr_head.specs.Geometry.{mcus_of}
 
--- how many intervals there are: one where the restart interval is 0
+-- the number of intervals: one if the restart interval is 0
 abbrev pub intervals_of : HeadValue → ℕ
 intervals_of h = if h.restart == 0 then 1 else div_ceil (mcus_of h) h.restart
 

@@ -15,7 +15,7 @@ use Rattle.jr_job.specs.declared.reading.Next.TheVariants.{Strip, End as Ended}
 use Rattle.jr_job.specs.declared.waiting_strip.WaitingStrip.{WaitingStrip}
 use Rattle.jr_job.specs.declared.waiting_strip.WaitingStrip.TheVariants.{Coded, Placed}
 
--- the interval is one of the scan's, where there is one
+-- the interval is one of the scan's, if there is one
 abbrev pub IsOneOf : Option ScanValue → IntervalValue → Type 0
 IsOneOf None i = ⊥
 IsOneOf (Some s) i = HasInterval s i
@@ -35,7 +35,7 @@ abbrev pub interval_of_strip : WaitingStrip → IntervalValue
 interval_of_strip (Coded s) = s.interval
 interval_of_strip (Placed s guesses) = s.interval
 
--- the guesses that a strip is read by are of its interval
+-- the speculative reads with which a strip is read are of its interval
 abbrev pub HasItsGuesses : WaitingStrip → Type 0
 HasItsGuesses (Coded s) = Unit {0}
 HasItsGuesses (Placed s guesses) = AreGuessesOf s.interval guesses

@@ -18,16 +18,16 @@ abbrev pub code_bits : AcCode → List Bool
 code_bits (ZeroRun word) = word
 code_bits (RunAndSize run size word extra) = word ++ extra
 
--- the coefficients that a code stands for: as many as its span
+-- the coefficients of a code: as many as its span
 abbrev pub entries : AcCode → List ℤ
 entries (ZeroRun word) = replicate 16 (pos 0)
 entries (RunAndSize run size word extra) = replicate run (pos 0) ++ value extra ∷ []
 
--- behind items of so many places all 63 are there, or a word of 00 says that the rest is 0
+-- after items that have this many coefficients all 63 are there, or a code of 00 says that the others are 0
 abbrev pub IsEnd : Table → ℕ → List Bool → Type 0
 IsEnd ac places tail = ((places ≡ 63) × (tail ≡ [])) ⊎ ((places ≤ 62) × IsWord ac tail 0)
 
--- the bits behind the first coefficient, and the 63 other coefficients
+-- the bits after the first coefficient, and the 63 other coefficients
 pub record OthersAt (ac : Table) (others : List ℤ) (bits : List Bool) : Type 0 where
   pub items : List AcCode
   pub tail : List Bool
@@ -36,7 +36,7 @@ pub record OthersAt (ac : Table) (others : List ℤ) (bits : List Bool) : Type 0
   pub spelled : bits ≡ flat_map code_bits items ++ tail
   pub values : others ≡ flat_map entries items ++ replicate (63 - length (flat_map entries items)) (pos 0)
 
--- the bits of the first coefficient: a word of a size of at most 11, and so many extra bits for its difference to
+-- the bits of the first coefficient: a code of a size of at most 11, and as many additional bits for its difference from
 -- the prediction
 pub record DifferenceAt (dc : Table) (difference : ℤ) (bits : List Bool) : Type 0 where
   pub size : ℕ

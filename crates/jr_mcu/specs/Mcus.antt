@@ -13,8 +13,8 @@ component h n = slice_index_or (order_of h) (n % length (order_of h)) 0
 abbrev pub block_of : List (List ℤ) → ℕ → List ℤ
 block_of zs n = slice_index_or zs n []
 
--- the first coefficient of the last block before block n that is of component c; where there is none, what is
--- given for c to start with
+-- the first coefficient of the last block before block n that is of component c; if there is none, the prediction
+-- with which c starts
 abbrev pub prediction : HeadValue → List ℤ → List (List ℤ) → ℕ → ℕ → ℤ
 prediction h start zs c zero = slice_index_or start c (pos 0)
 prediction h start zs c (suc m) = if component h m == c then slice_index_or (block_of zs m) 0 (pos 0) else prediction h start zs c m
@@ -33,7 +33,7 @@ pub record Blocks (h : HeadValue) (start : List ℤ) (zs : List (List ℤ)) (all
   pub spelled : all ≡ all_bits parts
   pub each : (n : ℕ) → n < length zs → IsBlock h start zs n (slice_index_or parts n [])
 
--- so many MCUs of blocks
+-- the blocks of some MCUs
 abbrev pub Mcus : HeadValue → List ℤ → ℕ → List (List ℤ) → List Bool → Type 0
 Mcus h start k zs all = (length zs ≡ k * length (order_of h)) × Blocks h start zs all
 
@@ -41,11 +41,11 @@ Mcus h start k zs all = (length zs ≡ k * length (order_of h)) × Blocks h star
 abbrev pub no_predictions : List ℤ
 no_predictions = replicate 3 (pos 0)
 
--- what each component is predicted to be behind these blocks
+-- the prediction of each component after these blocks
 abbrev pub predicted : HeadValue → List ℤ → List (List ℤ) → List ℤ
 predicted h start zs = prediction h start zs 0 (length zs) ∷ prediction h start zs 1 (length zs) ∷ prediction h start zs 2 (length zs) ∷ []
 
--- old is the bits of the blocks of one MCU, each component predicted as given, and then new
+-- old is the bits of the blocks of one MCU, with these predictions, followed by new
 pub record TakesMcu (h : HeadValue) (start : List ℤ) (zs : List (List ℤ)) (old new : List Bool) : Type 0 where
   pub taken : List Bool
   pub mcu : Mcus h start 1 zs taken

@@ -1,15 +1,15 @@
--- Differences count from a prediction (T.81, F.1.1.5.1): the same bits, behind other predictions, give first coefficients
+-- Differences count from a prediction (T.81, F.1.1.5.1): the same bits, with other predictions, give first coefficients
 -- that are greater by as much.
 use Rattle.std.specs.Prelude.{◌≡◌, ℕ, ◌<◌, List, ◌∷◌, length, ℤ, pos, neg_ℤ, ◌+ℤ◌, ◌≤ℤ◌, slice_index_or}
 use Rattle.jr_head.specs.HeadValue.{HeadValue}
 use Rattle.jr_mcu.specs.Block.{IsInDcRange}
 use Rattle.jr_mcu.specs.Mcus.{component, block_of}
 
--- what is given for component c
+-- the amount for component c
 abbrev pub of_component : List ℤ → ℕ → ℤ
 of_component by c = slice_index_or by c (pos 0)
 
--- the predictions q are greater than p, each by what is given for its component
+-- the predictions q are greater than p, each by the amount for its component
 abbrev pub AreGreater : List ℤ → List ℤ → List ℤ → Type 0
 AreGreater by p q = (c : ℕ) → c < 3 → of_component q c ≡ of_component p c +ℤ of_component by c
 
@@ -20,7 +20,7 @@ pub record IsShifted (d : ℤ) (z y : List ℤ) : Type 0 where
   pub was : z ≡ first ∷ others
   pub is : y ≡ (first +ℤ d) ∷ others
 
--- the blocks ys are zs, each shifted by what is given for its component
+-- the blocks ys are zs, each shifted by the amount for its component
 pub record AreShifted (h : HeadValue) (by : List ℤ) (zs ys : List (List ℤ)) : Type 0 where
   pub count : length ys ≡ length zs
   pub each : (n : ℕ) → n < length zs → IsShifted (of_component by (component h n)) (block_of zs n) (block_of ys n)

@@ -4,14 +4,14 @@ use Rattle.jr_code.specs.Bits.{value}
 use Rattle.jr_code.specs.Code.{Table, IsWord}
 use Rattle.jr_mcu.specs.Block.{AcCode, IsAcCode, code_bits, entries, OthersAt, DifferenceAt, BlockAt}
 
--- old is so many extra bits of that value, and then new
+-- old is the additional bits of that value, followed by new
 pub record TakesExtra (size : ℕ) (v : ℤ) (old new : List Bool) : Type 0 where
   pub bits : List Bool
   pub split : old ≡ bits ++ new
   pub count : length bits ≡ size
   pub is : v ≡ value bits
 
--- old is a code that gives these coefficients, and then new
+-- old is a code with these coefficients, followed by new
 pub record TakesAcCode (ac : Table) (made : List ℤ) (old new : List Bool) : Type 0 where
   pub code : AcCode
   pub is : IsAcCode ac code

@@ -30,7 +30,7 @@ pub record Where (across down x y : ℕ) (p : Place) : Type 0 where
   pub row_in : p.row < 8
   pub col_in : p.col < 8
 
--- P holds of something, and of nothing else
+-- P holds for one value alone
 abbrev pub IsOnlyOne : {A : Type 0} → (A → Type 0) → Type 0
 IsOnlyOne {A} P = (a : A) × (P a × ((b : A) → P b → b ≡ a))
 
@@ -62,6 +62,6 @@ spot_of h c x y = spot_at h c (place_of (horizontal_of h c) (vertical_of h c) x 
 abbrev pub place_in : Spot → ℕ
 place_in s = 8 * s.row + s.col
 
--- the spot of the sample in column x of a line, from that of its column 0, where an MCU has so many data units across
+-- the spot of the sample in column x of a line, from that of its column 0, if an MCU has `across` data units across
 abbrev pub spot_in_line : Spot → ℕ → ℕ → Spot
 spot_in_line s across x = record { mcu = s.mcu + x / 8 / across; block = s.block + x / 8 % across; row = s.row; col = x % 8 }

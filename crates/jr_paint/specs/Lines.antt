@@ -13,16 +13,16 @@ abbrev pub colours_of : Kind → List ℕ → List ℕ → List ℕ → ℕ → 
 colours_of kind first second third i n =
     flat_map (λ k. colour_of kind (slice_index first k) (slice_index second k) (slice_index third k)) (range_with_len i n)
 
--- n pixels from number i on, where a sample of chrominance stands for two pixels
+-- n pixels starting at number i; a sample of chrominance serves two pixels
 abbrev pub halved_colours_of : List ℕ → List ℕ → List ℕ → ℕ → ℕ → List ℕ
 halved_colours_of luma cb cr i n =
     flat_map (λ k. colour_of Ycc (slice_index luma k) (slice_index cb (k / 2)) (slice_index cr (k / 2))) (range_with_len i n)
 
--- where pixel k of 32 stands in bytes whose halves hold eight pixels with even numbers, then eight with odd ones
+-- the position of pixel k of 32 in bytes whose halves contain eight pixels with even numbers, then eight with odd ones
 abbrev pub packed : ℕ → ℕ
 packed k = 16 * (k / 16) + 8 * (k % 2) + k % 16 / 2
 
--- which of those bytes stands at place q of a colour whose pixel k of 16 belongs at 3 k + shift, of places counted modulo 16
+-- the byte at position q of a colour whose pixel k of 16 belongs at 3 k + shift, with positions counted modulo 16
 abbrev pub spread : ℕ → ℕ → ℕ
 spread shift q = packed (16 * (q / 16) + 11 * (q + 16 - shift) % 16)
 
@@ -39,12 +39,12 @@ colour_over y red green blue = lowered y red ∷ lowered y green ∷ lowered y b
 abbrev pub turn_of : List (List ℕ) → ℕ → ℕ
 turn_of two k = slice_index (slice_index_or two (k % 2) []) (k / 2)
 
--- n pixels from luminance i on, where what the colours have over it is given by turns
+-- n pixels starting at luminance i; what the colours add to it is interleaved
 abbrev pub colours_over : List ℕ → ℕ → (red green blue : List (List ℕ)) → ℕ → List ℕ
 colours_over luma i red green blue n =
     flat_map (λ k. colour_over (slice_index luma (i + k)) (turn_of red k) (turn_of green k) (turn_of blue k)) (range_with_len 0 n)
 
--- entry k is the sample of component c that pixel k of line y takes
+-- entry k is the sample of component c for pixel k of line y
 abbrev pub IsStretched : HeadValue → (ℕ → ℕ → ℕ → ℕ) → ℕ → ℕ → List ℕ → Type 0
 IsStretched h f c y entries = (k : ℕ) → k < h.width → slice_index entries k ≡ value_at h f c k y
 
@@ -68,6 +68,6 @@ next_lines_of h f y n = flat_map (line_of h f) (range_with_len y n)
 abbrev pub line_size : HeadValue → ℕ
 line_size h = pixel_size h.kind * h.width
 
--- how many bytes of room the painting of a line takes, or of two
+-- the number of bytes that painting a line, or two, needs as scratch space
 abbrev pub line_room : HeadValue → ℕ
 line_room h = 4 * h.width

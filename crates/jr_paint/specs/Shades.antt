@@ -24,21 +24,21 @@ pub record IsRaised (v : ℕ) (z : ℤ) : Type 0 where
 abbrev pub lowered : ℕ → ℕ → ℕ
 lowered y v = min (y + v - 1628) 255
 
--- a sample of component c stands for two pixels of a line
+-- a sample of component c serves two pixels of a line
 abbrev pub IsHalved : HeadValue → ℕ → Type 0
 IsHalved h c = horizontal_max h ≡ horizontal_of h c * 2
 
--- line y and the next take their samples of component c from one line
+-- line y and the next have their samples of component c from one line
 abbrev pub IsShared : HeadValue → ℕ → ℕ → Type 0
 IsShared h c y = (y + 1) * vertical_of h c / vertical_max h ≡ y * vertical_of h c / vertical_max h
 
--- a sample of each of both chrominances stands for two pixels of a line
+-- a sample of each chrominance serves two pixels of a line
 pub record HalvesChroma (h : HeadValue) : Type 0 where
   pub kind : h.kind ≡ Ycc
   pub half_b : IsHalved h 1
   pub half_c : IsHalved h 2
 
--- line y has a next, and both take the same samples of both chrominances, each for two pixels of a line
+-- line y has a next, and both have the same samples of both chrominances, each for two pixels of a line
 pub record SharesChroma (h : HeadValue) (y : ℕ) : Type 0 where
   pub next : y + 1 < h.height
   pub halves : HalvesChroma h

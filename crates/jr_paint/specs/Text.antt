@@ -15,7 +15,7 @@ magic_of Ycc = codes "P6\n"
 abbrev pub header_of : HeadValue → List ℕ
 header_of h = magic_of h.kind ++ decimal h.width ++ codes " " ++ decimal h.height ++ codes "\n255\n"
 
--- the sample of component c that pixel (x, y) takes by the sampling factors (T.81, A.1.1), where f says the samples by component, column and line
+-- the sample of component c for pixel (x, y) by the sampling factors (T.81, A.1.1); f maps component, column and line to samples
 abbrev pub value_at : HeadValue → (ℕ → ℕ → ℕ → ℕ) → ℕ → ℕ → ℕ → ℕ
 value_at h f c x y = f c (x * horizontal_of h c / horizontal_max h) (y * vertical_of h c / vertical_max h)
 

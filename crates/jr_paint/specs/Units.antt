@@ -10,6 +10,6 @@ abbrev pub sample_in_unit : Unit → ℕ → ℕ
 sample_in_unit (Even value) at = value
 sample_in_unit (Of samples) at = slice_index samples.now at
 
--- the sample in column x and line y of component c, where `units` gives it by component, MCU, data unit and place in that
+-- the sample in column x and line y of component c; `units` maps component, MCU, data unit and index in that to samples
 abbrev pub sample_by_units : HeadValue → (ℕ → ℕ → ℕ → ℕ → ℕ) → (c x y : ℕ) → ℕ
 sample_by_units h units c x y = let s = spot_of h c x y in units c s.mcu s.block (place_in s)

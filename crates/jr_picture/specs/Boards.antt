@@ -35,7 +35,7 @@ is_damaged_piece (Some p) = cond p.is_sound false true
 abbrev pub IsFor : IntervalValue → ScanValue → Type 0
 IsFor i scan = HasInterval scan i
 
--- the piece is of interval i of the scan, and tells what T.81 gives for it
+-- the piece is of interval i of the scan, and contains the result that T.81 gives for it
 pub record IsPieceOf (scan : ScanValue) (i : ℕ) (p : PieceValue) : Type 0 where
   pub number : p.interval.number ≡ i
   pub interval : IsFor p.interval scan

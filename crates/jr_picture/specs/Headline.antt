@@ -45,7 +45,7 @@ pub record ShowsDecoding (i : IntervalValue) (f : ℕ → ℕ → ℕ → ℕ) :
   pub decodes : Decodes i blocks
   pub samples : (c x y : ℕ) → Holds i c x y → f c x y ≡ decoded_sample i blocks c x y
 
--- the interval has no decoding; its longest decodable front of whole MCUs is shown, and grey behind it
+-- the interval has no decoding; its longest decodable prefix of whole MCUs is shown, and grey after it
 pub record ShowsFront (i : IntervalValue) (f : ℕ → ℕ → ℕ → ℕ) : Type 0 where
   pub undecodable : HasNoDecoding i
   pub front : ℕ
@@ -79,13 +79,13 @@ is_damaged Sound = false
 is_damaged Damaged = true
 is_damaged Blank = false
 
--- so many intervals are sound, damaged and blank
+-- the numbers of intervals that are sound, damaged and blank
 pub record AreCounts (marks : List Mark) (s d b : ℕ) : Type 0 where
   pub sound : s ≡ count_by is_sound marks
   pub damaged : d ≡ count_by is_damaged marks
   pub blank : s + d + b ≡ length marks
 
--- so many intervals are to be decoded: the first of them, or all
+-- the number of intervals to decode: the first ones, or all
 abbrev pub least : Option ℕ → ℕ → ℕ
 least None n = n
 least (Some k) n = min k n

@@ -9,7 +9,7 @@ use Rattle.jr_picture.specs.BoardValue.{BoardValue}
 use Rattle.jr_picture.specs.Boards.{piece_at}
 use Rattle.jr_picture.specs.Headline.{blank_of, interval_number, within_interval}
 
--- the sample at a place of a data unit, 128 past the front
+-- the sample at an index of a data unit, 128 after the prefix
 abbrev pub sample_in : Option (List ℕ) → ℕ → ℕ
 sample_in None place = 128
 sample_in (Some samples) place = slice_index samples place

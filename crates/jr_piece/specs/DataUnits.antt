@@ -10,7 +10,7 @@ use Rattle.jr_piece.specs.Strips.{shared_strips}
 abbrev pub units_of_strips : List StripValue → List (List ℕ)
 units_of_strips strips = flat_map (λ s. s.samples) strips
 
--- each strip has so many data units but for the last, which may have fewer
+-- each strip has the same number of data units, except the last, which may have fewer
 abbrev pub AreEven : ℕ → List StripValue → Type 0
 AreEven n [] = ⊤
 AreEven n (s ∷ []) = length s.samples ≤ n

@@ -1,4 +1,4 @@
--- What T.81 gives for an interval: the samples of its data units, or that it has no decoding and how far it goes.
+-- The result that T.81 gives for an interval: the samples of its data units, or that it has no decoding and how long its prefix is.
 use Rattle.std.specs.Prelude.{◌≡◌, ℕ, ◌<◌, true, false, List, [], length, ℤ, slice_index_or}
 use Rattle.jr_head.specs.HeadValue.{HeadValue}
 use Rattle.jr_head.specs.Geometry.{quantiser_of}
@@ -23,19 +23,19 @@ pub record IsSound (i : IntervalValue) (units : List (List ℕ)) : Type 0 where
   pub decodes : Decodes i blocks
   pub samples : AreSamples i.head blocks units
 
--- the interval has none; its longest decodable front has so many whole MCUs, of which these are the samples
+-- the interval has none; its longest decodable prefix has n whole MCUs, of which these are the samples
 pub record IsDamaged (i : IntervalValue) (front : ℕ) (units : List (List ℕ)) : Type 0 where
   pub undecodable : HasNoDecoding i
   pub blocks : List (List ℤ)
   pub longest : LongestFront i front blocks
   pub samples : AreSamples i.head blocks units
 
--- a piece tells what T.81 gives for its interval
+-- a piece contains the result that T.81 gives for its interval
 pub record IsOutcome (p : PieceValue) : Type 0 where
   pub sound : p.is_sound ≡ true → IsSound p.interval p.samples
   pub whole : p.is_sound ≡ true → p.front ≡ p.interval.mcus
   pub damaged : p.is_sound ≡ false → IsDamaged p.interval p.front p.samples
 
--- there is a piece that tells what T.81 gives for the interval
+-- there is a piece that contains the result that T.81 gives for the interval
 abbrev pub HasOutcome : IntervalValue → Type 0
 HasOutcome i = (p : PieceValue) × (p.interval ≡ i) × IsOutcome p

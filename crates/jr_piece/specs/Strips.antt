@@ -1,4 +1,4 @@
--- Strips: whole MCUs of an interval that follow one another, as far as its bits hold them, whatever comes behind.
+-- Strips: consecutive whole MCUs of an interval, as far as its bits contain them, whatever follows.
 use Rattle.std.specs.Prelude.{◌≡◌, ℕ, ◌+◌, ◌-◌, ◌*◌, ◌<◌, ◌≤◌, min, Bool, true, false, List, [], ◌∷◌, ◌++◌, map, length, take, drop, slice_get, Some, None, ℤ}
 use Rattle.std.specs.List.{All}
 use Rattle.std.specs.declared.sync.Arc.{Arc}
@@ -105,7 +105,7 @@ abbrev pub mcus_of_each : List StripValue → ℕ
 mcus_of_each [] = 1
 mcus_of_each (s ∷ more) = s.mcus
 
--- strip j, where the MCUs before `front` make strips of so many each, and the last has those that are left
+-- strip j if the MCUs before `front` make strips of one size and the last has the MCUs that are left
 pub record IsStripAt (each front j : ℕ) (s : StripValue) : Type 0 where
   pub some : 0 < s.mcus
   pub first : s.first ≡ j * each
@@ -116,6 +116,6 @@ pub record AreInOrder (front : ℕ) (strips : List StripValue) : Type 0 where
   pub at : (j : ℕ) (s : StripValue) → slice_get strips j ≡ Some s → IsStripAt (mcus_of_each strips) front j s
   pub all : front ≤ length strips * mcus_of_each strips
 
--- so many whole MCUs are all that the interval's bits begin with, and this tells whether it has a decoding
+-- the interval's bits begin with that number of whole MCUs and no more, and the flag is whether it has a decoding
 abbrev pub TellsEnd : IntervalValue → ℕ → Bool → Type 0
 TellsEnd i front is_sound = HasLongestFront i front × TellsSound is_sound i

@@ -1,4 +1,4 @@
--- The blocks of so many whole MCUs, and whether they are the interval's decoding.
+-- The blocks of some whole MCUs, and whether they are the interval's decoding.
 use Rattle.std.specs.Prelude.{ℕ, Bool, List, ℤ}
 
 pub record FrontValue : Type 0 where

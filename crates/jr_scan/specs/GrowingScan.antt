@@ -4,15 +4,15 @@ use Rattle.jr_cut.specs.CutSoFar.{CutSoFarValue, HasCut}
 use Rattle.jr_scan.specs.ScanValue.{ScanValue, scan_of_segments, IsScanOf}
 use Rattle.jr_head.specs.HeadValue.{HeadValue}
 
--- the scan of the bytes so far; the number of its segments; the number of bytes of the file that are read or kept; and the cut that more
--- bytes continue
+-- the scan of the bytes so far; the number of its segments; the number of the file's bytes that are read or kept; and the cut that
+-- further bytes continue
 pub record GrowingScanValue : Type 0 where
   pub scan : ScanValue
   pub segments : ℕ
   pub come : ℕ
   pub cut : CutSoFarValue
 
--- that of a head and of what its scan's bytes so far are cut into
+-- that of a header and of the segments into which its scan's bytes so far are cut
 abbrev pub growing_scan : HeadValue → CutSoFarValue → GrowingScanValue
 growing_scan h c = record { scan = scan_of_segments h c.segments c.ended; segments = length c.segments; come = c.at + length c.rest; cut = c }
 

@@ -20,7 +20,7 @@ pub record IsGuessed (i : IntervalValue) (mcu : Guessed) (zs : List (List ℤ)) 
   pub run : IsRun (run_from i (unpredicted mcu.from) 1) zs mcu.to AllRead
   pub small : HaveSmallFirst zs
 
--- the number of an interval, MCUs of it, and the blocks of each, behind which others may stand that mean nothing
+-- the number of an interval, MCUs of it, and the blocks of each, after which others may follow that mean nothing
 pub record GuessValue : Type 0 where
   pub number : ℕ
   pub mcus : List Guessed
@@ -30,12 +30,12 @@ pub record GuessValue : Type 0 where
 abbrev pub blocks_at : IntervalValue → GuessValue → ℕ → List (List ℤ)
 blocks_at i g k = let per = length (order_of i.head) in take per (drop (k * per) g.blocks)
 
--- a guess of this interval: each of its MCUs is one of the interval, whatever bit it starts at
+-- a speculative read of this interval: each of its MCUs is one of the interval, whatever bit it starts at
 pub record IsGuessOf (i : IntervalValue) (g : GuessValue) : Type 0 where
   pub number : g.number ≡ i.number
   pub room : length g.mcus * length (order_of i.head) ≤ length g.blocks
   pub each : (k : ℕ) (d : Guessed) → k < length g.mcus → IsGuessed i (slice_index_or g.mcus k d) (blocks_at i g k)
 
--- bits that stand at the end of an interval's
+-- bits with which an interval's bits end
 abbrev pub AreLastBits : IntervalValue → List Bool → Type 0
 AreLastBits i left = left ≡ drop (8 * length i.bytes - length left) (bits i.bytes)

@@ -8,11 +8,11 @@ use Rattle.jr_scan.specs.Guess.{GuessValue, IsGuessOf}
 use Rattle.jr_scan.specs.IntervalValue.{IntervalValue}
 use Rattle.jr_scan.specs.declared.guesses.Guesses.{Guesses}
 
--- none, or a guess of the interval
+-- none, or a speculative read of the interval
 abbrev pub IsGuessOrNone : IntervalValue → Option (Arc GuessValue Global) → Type 0
 IsGuessOrNone i guess = IfSome guess (λ g. IsGuessOf i (arc_value g))
 
--- guesses of the interval
+-- speculative reads of the interval
 pub record AreGuessesOf (i : IntervalValue) (gs : Guesses) : Type 0 where
   pub first : IsGuessOrNone i gs.first
   pub second : IsGuessOrNone i gs.second

@@ -9,7 +9,7 @@ pub record IntervalValue : Type 0 where
   pub bytes : List ℕ
   pub head : HeadValue
 
--- what each borrowed one keeps: its head is lawful, and the count of its bits has room
+-- the invariant of a borrowed interval: its header is lawful, and the number of its bits fits
 pub record IsIntervalRef (i : IntervalValue) : Type 0 where
   pub lawful : IsLawful i.head
   pub few : length i.bytes < 2 ^ 61

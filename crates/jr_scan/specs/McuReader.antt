@@ -8,7 +8,7 @@ use Rattle.jr_mcu.specs.Block.{IsInDcRange}
 use Rattle.jr_scan.specs.IntervalValue.{IntervalValue}
 use Rattle.jr_scan.specs.Run.{RunOf, whole_run, run_from, left_at, HasNoMcu, IsRun}
 
--- a reader: its run, how many of its MCUs it has read, and the place behind them
+-- a reader: its run, the number of its MCUs that it has read, and the position after them
 pub record McuReaderValue : Type 0 where
   pub run : RunOf
   pub mcu : ℕ
@@ -18,7 +18,7 @@ pub record McuReaderValue : Type 0 where
 abbrev pub per_mcu : McuReaderValue → ℕ
 per_mcu r = length (order_of r.run.interval.head)
 
--- the blocks that a reader has read so far: those of its run's first MCUs, up to the place where it stands
+-- the blocks that a reader has read: those of its run's first MCUs, up to its position
 pub record HasRead (r : McuReaderValue) (zs : List (List ℤ)) : Type 0 where
   pub few : r.mcu ≤ r.run.mcus
   pub run : IsRun (run_from r.run.interval r.run.from r.mcu) zs r.place AllRead
@@ -27,7 +27,7 @@ pub record HasRead (r : McuReaderValue) (zs : List (List ℤ)) : Type 0 where
 abbrev pub HasEnded : McuReaderValue → Type 0
 HasEnded r = (r.mcu ≡ r.run.mcus) ⊎ HasNoMcu r.run.interval r.place
 
--- these blocks are those that a reader of a whole interval has read so far
+-- these blocks are those that a reader of a whole interval has read
 abbrev pub HasReadOf : McuReaderValue → IntervalValue → List (List ℤ) → Type 0
 HasReadOf r i zs = (r.run ≡ whole_run i) × HasRead r zs
 

@@ -28,11 +28,11 @@ pub record Front (i : IntervalValue) (k : ℕ) (zs : List (List ℤ)) : Type 0 w
   pub mcus : Mcus i.head no_predictions k zs taken
   pub spelled : bits i.bytes ≡ taken ++ rest
 
--- the front of the greatest number of whole MCUs
+-- the prefix of the greatest number of whole MCUs
 pub record LongestFront (i : IntervalValue) (k : ℕ) (zs : List (List ℤ)) : Type 0 where
   pub front : Front i k zs
   pub longest : (j : ℕ) (ys : List (List ℤ)) → Front i j ys → j ≤ k
 
--- so many whole MCUs are all that the interval's bits begin with
+-- the interval's bits begin with k whole MCUs, and with no more
 abbrev pub HasLongestFront : IntervalValue → ℕ → Type 0
 HasLongestFront i k = (zs : List (List ℤ)) × LongestFront i k zs

@@ -1,4 +1,4 @@
--- A run of MCUs: from a place of an interval on, as many whole MCUs as there are, at most so many.
+-- A run of MCUs: starting at a position of an interval, as many whole MCUs as there are, at most a given number.
 use Rattle.std.specs.Prelude.{◌≡◌, ℕ, ◌+◌, ◌<◌, ◌≤◌, Bool, List, ◌++◌, length, drop, ℤ}
 use Rattle.jr_code.specs.Bits.{bits}
 use Rattle.jr_scan.specs.declared.place.Place.{Place}
@@ -20,7 +20,7 @@ start_of_interval = record { bit = 0; predictions = no_predictions }
 abbrev pub whole_run : IntervalValue → RunOf
 whole_run i = record { interval = i; from = start_of_interval; mcus = i.mcus }
 
--- so many MCUs from a place of an interval on
+-- n MCUs starting at a position of an interval
 abbrev pub run_from : IntervalValue → Place → ℕ → RunOf
 run_from i p k = record { interval = i; from = p; mcus = k }
 
@@ -52,7 +52,7 @@ pub record IsRun (r : RunOf) (zs : List (List ℤ)) (to : Place) (end : RunEnd) 
   pub predictions : to.predictions ≡ predicted r.interval.head r.from.predictions zs
   pub ends : EndsAs r count to end
 
--- what a run gives: its blocks, where it ends and why
+-- the result of a run: its blocks, where it ends and why
 pub record RunRead (r : RunOf) : Type 0 where
   pub blocks : List (List ℤ)
   pub to : Place

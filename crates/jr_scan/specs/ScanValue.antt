@@ -19,7 +19,7 @@ scan_of_segments h segments end = record { head = h; intervals = segments ++ rep
 abbrev pub interval_of : ScanValue → ℕ → IntervalValue
 interval_of s i = record { number = i; mcus = mcus_in s.head i; bytes = slice_index_or s.intervals i []; head = s.head }
 
--- the intervals are the segments that the file's bytes behind the scan header are cut into, and empty ones
+-- the intervals are the segments into which the file's bytes after the scan header are cut, and then empty ones
 pub record IsScanOf (file : List ℕ) (s : ScanValue) : Type 0 where
   pub segments : List (List ℕ)
   pub cut : IsCut (intervals_of s.head) s.head.scan_at (drop s.head.scan_at file) segments s.ended

@@ -1,4 +1,4 @@
--- The codes of the markers that may stand before the scan (T.81, table B.1).
+-- The codes of the markers that may occur before the scan (T.81, table B.1).
 use Rattle.std.specs.Prelude.{ℕ, ◌+◌}
 use Rattle.jr_base.specs.declared.marker.TheConstants.{APP0, COM, DHT, DQT, DRI, SOF0, SOF1, SOS}
 use Rattle.jr_segments.specs.declared.marker.Marker.{Marker}

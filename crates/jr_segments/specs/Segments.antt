@@ -8,7 +8,7 @@ use Rattle.jr_segments.specs.Bytes.{byte, word}
 use Rattle.jr_segments.specs.Tables.{last_where}
 use Rattle.jr_segments.specs.Tests.{Test, ◌when◌}
 
--- so many extra FF bytes, a code, and a payload
+-- the number of extra FF bytes, a code, and a payload
 pub record Segment : Type 0 where
   pub fill : ℕ
   pub code : ℕ
@@ -40,7 +40,7 @@ frame_in segments = last_where (λ i. is_frame i.code) segments
 abbrev pub has_frame : List Segment → Bool
 has_frame segments = is_some (frame_in segments)
 
--- how many bytes at the front are FF
+-- the number of FF bytes at the start
 abbrev pub fill_count : List ℕ → ℕ
 fill_count bytes = length (take_while (λ b. b == PREFIX) bytes)
 
@@ -72,7 +72,7 @@ length_tests code body =
     ∷ (EndsEarly when nat_lt (length body) (word 0 body))
     ∷ []
 
--- the segment at a marker's place, and what is behind it
+-- the segment at a marker's position, and what follows it
 abbrev pub segment_at : List ℕ → Segment
 segment_at bytes = record { fill = fill_count bytes - 1; code = byte 0 (at_code bytes); payload = take (word 1 (at_code bytes) - 2) (drop 3 (at_code bytes)) }
 

@@ -5,7 +5,7 @@ use Rattle.jr_scan.specs.ScanValue.{ScanValue}
 use Rattle.jr_cells.specs.Values.{DeskValue}
 use Rattle.jr_cells.specs.StripCellsValue.{StripCellsValue}
 
--- the cells of pieces, and by interval the cells of strips, where it has such
+-- the cells of pieces, and by interval the cells of strips if it has such
 pub record DecodingValue : Type 0 where
   pub scan : ScanValue
   pub desk : DeskValue

@@ -1,4 +1,4 @@
--- What somebody sees who looks at a picture of a scan.
+-- What a thread sees that looks at an image of a scan.
 use Rattle.std.specs.Prelude.{◌≡◌, ℕ, List}
 use Rattle.jr_head.specs.HeadValue.{HeadValue}
 use Rattle.jr_scan.specs.ScanValue.{ScanValue}
@@ -12,7 +12,7 @@ pub record IsGlimpse (head : HeadValue) (marks : List Mark) (f : ℕ → ℕ →
   pub sample : g.sample ≡ f c x y
   pub counts : AreCounts marks g.sound g.damaged g.blank
 
--- somebody has looked at a picture of the scan: which, only the one who looked can say
+-- a thread has looked at an image of the scan; only that thread can say at which
 pub record IsSomeGlimpse (scan : ScanValue) (c x y : ℕ) (g : Glimpse) : Type 0 where
   pub marks : List Mark
   pub f : ℕ → ℕ → ℕ → ℕ

@@ -14,7 +14,7 @@ abbrev pub sample_count : Pixels → ℕ
 sample_count Grey = 1
 sample_count Colour = 3
 
--- how many it takes in a layout
+-- the number of bytes of a pixel in a layout
 abbrev pub laid_size : Layout → Pixels → ℕ
 laid_size Plain p = sample_count p
 laid_size (Coloured Rgb) p = 3
@@ -51,7 +51,7 @@ abbrev pub laid_pixels : Layout → Pixels → List ℕ → ℕ → List ℕ
 laid_pixels Plain p line n = line
 laid_pixels (Coloured o) p line n = coloured o p line n
 
--- how many bytes a line has, and how many it takes on a canvas
+-- the number of bytes of a line in memory, and on a canvas
 abbrev pub plain_line_size : CanvasLines → ℕ
 plain_line_size c = sample_count c.pixels * c.width
 
@@ -62,15 +62,15 @@ laid_line_size c = laid_size c.layout c.pixels * c.width
 abbrev pub laid_line : CanvasLines → List ℕ → List ℕ
 laid_line c line = laid_pixels c.layout c.pixels line c.width
 
--- line k of those of `size` bytes that stand one behind the other
+-- line k of consecutive lines of `size` bytes
 abbrev pub line_in : (size : ℕ) → List ℕ → ℕ → List ℕ
 line_in size lines k = take size (drop (k * size) lines)
 
--- each of the lines from one on and before another has room at its stride
+-- each line starting at `first` and before `end` fits at its stride
 abbrev pub HavePlaces : CanvasLines → (first end room : ℕ) → Type 0
 HavePlaces c first end room = (k : ℕ) → first ≤ k → k < end → k * c.stride + laid_line_size c ≤ room
 
--- each line k from one on and before another stands at k * stride, and each byte that is in none of them is as it was
+-- each line k starting at `first` and before `end` is at k * stride, and each byte that is in none of them is unchanged
 pub record StandOn (c : CanvasLines) (first end : ℕ) (line : ℕ → List ℕ) (old new : List ℕ) : Type 0 where
   pub long : length new ≡ length old
   pub lines : (k j : ℕ) → first ≤ k → k < end → j < laid_line_size c → slice_index new (k * c.stride + j) ≡ slice_index (line k) j

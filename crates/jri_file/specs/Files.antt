@@ -56,7 +56,7 @@ IsFaultOf file fault.Memory = Unit {0}
 IsFaultOf file fault.Write = ⊥
 IsFaultOf file fault.NoFile = ⊥
 
--- the fault where the bytes of a file could not be read, or had no room
+-- the fault if the bytes of a file cannot be read or allocated
 abbrev pub IsUnread : Fault → Type 0
 IsUnread fault.Read = Unit {0}
 IsUnread (fault.Refused f) = ⊥
@@ -83,7 +83,7 @@ pub record HasPicture (scan : ScanValue) (n : ℕ) : Type 0 where
   pub samples : ℕ → ℕ → ℕ → ℕ
   pub is : ShowsFirst scan n marks samples
 
--- what holds of the file that a reader has left, where its bytes are known: all of them, or one more than a file may have
+-- what holds for the file that a reader has left, if its bytes are known: all of them, or one more than a file may have
 abbrev pub OfFile : Option (List ℕ) → (List ℕ → Type 0) → Type 0
 OfFile remaining holds = IfSome remaining (λ bytes. holds (take (MAX_FILE_BYTES + 1) bytes))
 

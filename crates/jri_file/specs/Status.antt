@@ -11,6 +11,6 @@ fault_status fault.Memory = 1
 fault_status fault.Write = 1
 fault_status fault.NoFile = 1
 
--- the picture was written: 3 where an interval is damaged; 1 where the flush failed
+-- the image was written: 3 if an interval is damaged; 1 if the flush failed
 abbrev pub report_status : Report → Bool → ℕ
 report_status report failed = if failed then 1 else (if report.damaged == 0 then 0 else 3)

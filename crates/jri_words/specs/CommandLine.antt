@@ -1,4 +1,4 @@
--- What the words of the command line ask for.
+-- What the arguments of the command line ask for.
 use Rattle.std.specs.Prelude.{◌≡◌, ◌≢◌, Bool, true, false, List, [], ◌∷◌, Option, Some, None, codes, pos, if◌then◌else◌}
 use Rattle.std.specs.Str.{bytes_eq}
 use Rattle.std.specs.String.{string_bytes}
@@ -40,11 +40,11 @@ decoding_app a = with_rule (with_rule (with_rule a workers_rule) first_rule) fil
 abbrev pub writing_app : App → App
 writing_app a = with_rule (with_rule (with_rule (with_rule a output_rule) (flag_rule (codes "force"))) (flag_rule (codes "quiet"))) (flag_rule (codes "verbose"))
 
--- the words that the program knows
+-- the arguments that the program knows
 abbrev pub jri : App
 jri = writing_app (decoding_app empty_app)
 
--- the value of an option or of FILE in these words, by the rules of command lines
+-- the value of an option or of FILE in these arguments, by the rules of command lines
 unfoldable pub option_value : Text → List Text → Option Text
 option_value name words = first_of name (matches_of jri words)
 
@@ -61,19 +61,19 @@ file_named (Some name) = if bytes_eq name (codes "-") then None else Some name
 abbrev pub IsFlag : Option Text → Bool → Type 0
 IsFlag text is_set = (text ≡ Some (codes "true") → is_set ≡ true) × (text ≡ Some (codes "false") → is_set ≡ false)
 
--- the picture goes to the file of this name, or to standard output where that is -
+-- the image goes to the file of this name, or to standard output if that is -
 abbrev pub IsTargetNamed : Text → Target → Type 0
 IsTargetNamed name target.Output = ⊥
 IsTargetNamed name target.AnyOutput = name ≡ codes "-"
 IsTargetNamed name (target.File file) = (string_bytes file ≡ name) × (name ≢ codes "-")
 
--- where no file is named it goes to standard output, and by force onto a terminal, too
+-- if no file is named it goes to standard output, and with --force even to a terminal
 abbrev pub IsTarget : Option Text → Option Text → Target → Type 0
 IsTarget (Some name) force t = IsTargetNamed name t
 IsTarget None force target.Output = force ≢ Some (codes "true")
 IsTarget None force target.AnyOutput = force ≢ Some (codes "false")
 IsTarget None force (target.File file) = ⊥
 
--- the picture goes where these words say
+-- the image goes where these arguments say
 abbrev pub IsTargetOf : List Text → Target → Type 0
 IsTargetOf words t = IsTarget (option_value (codes "output") words) (reading (codes "force") words) t

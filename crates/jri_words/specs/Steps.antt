@@ -35,7 +35,7 @@ Leaves are_devices target.Output old new is_written = Follow old new []
 Leaves are_devices target.AnyOutput old new is_written = Follow old new []
 Leaves are_devices (target.File name) old new is_written = LeavesFile are_devices (string_bytes name) old new is_written
 
--- what a run by such words does with files: nothing, or what belongs to the place that they name
+-- what a run with such arguments does with files: nothing, or what belongs to the target that they name
 abbrev pub LeavesNamed : (are_devices : List ℕ → Type 0) → (is_named : Target → Type 0) → Option (List Step) → Option (List Step) → Bool → Type 0
 LeavesNamed are_devices is_named old new is_written = Follow old new [] ⊎ ((t : Target) × is_named t × Leaves are_devices t old new is_written)
 
@@ -69,7 +69,7 @@ abbrev pub LeavesEach : List ImageEnd → Option (List Step) → Option (List St
 LeavesEach [] old new = old ≡ new
 LeavesEach (e ∷ es) old new = (mid : Option (List Step)) × LeavesFile (λ _. ⊥) e.name old mid (is_picture_status e.status) × LeavesEach es mid new
 
--- the images of so many files are made in a directory
+-- the images of `files` files are made in a directory
 pub record DecodesEach (directory : List ℕ) (files : ℕ) (old new : Option (List Step)) (status : ℕ) : Type 0 where
   pub ends : List ImageEnd
   pub count : length ends ≡ files
