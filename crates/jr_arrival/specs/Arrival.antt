@@ -11,7 +11,7 @@ pub record CanBecome (bytes file : List ℕ) : Type 0 where
   pub are_bytes : All (λ b. b < 256) file
   pub small : length file ≤ MAX_FILE_BYTES
 
--- a refusal of the bytes that does not say that some are missing: EndsEarly does, and NotJpeg where SOI is not there whole
+-- a refusal of the bytes that does not say that some are missing: EndsEarly does, and so does NotJpeg if SOI is not there whole
 pub record IsFinalFault (bytes : List ℕ) (f : Refusal) : Type 0 where
   pub not_early : f ≢ EndsEarly
   pub start : f ≡ NotJpeg → 2 ≤ length bytes

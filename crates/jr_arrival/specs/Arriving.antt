@@ -33,12 +33,12 @@ pub record IsArriving (v : ArrivingValue) (bytes : List ℕ) : Type 0 where
   pub count : v.count ≡ min (length bytes) (2 ^ 64 - 1)
   pub holds : length bytes ≤ MAX_FILE_BYTES → HoldsBytes v.bytes v.coming bytes
 
--- how many lines are given
+-- the number of lines that were returned
 abbrev pub given_of : Option ComingValue → ℕ
 given_of None = 0
 given_of (Some c) = c.row.lines
 
--- a look at the scan gives lines of it
+-- a look at the scan returns lines of it
 pub record GivesComing (c : ComingValue) (first n : ℕ) (pixels : List ℕ) : Type 0 where
   pub settled : (bytes : List ℕ) → HasCome c.growing bytes → GivesSettled bytes c.growing.scan first n (length pixels)
   pub are : AreComing c.growing first n (take (n * line_size c.growing.scan.head) pixels)

@@ -27,8 +27,8 @@ pub record Becomes (g : GrowingScanValue) (t : ScanValue) : Type 0 where
   pub whole : (i : ℕ) → IsOver g.scan g.segments i → interval_of t i ≡ interval_of g.scan i
   pub end : g.scan.ended ≢ EndOfFile → t.ended ≡ g.scan.ended
 
--- a row of MCUs and its samples, of how many MCUs; how many MCUs of which interval stand before its next one, and where that
--- starts: nowhere, if no further one of the interval becomes whole; how many lines of the picture are given; and the marks of the
+-- a row of MCUs, its samples and the number of its MCUs; the interval of the next MCU, the number of that interval's MCUs before it, and
+-- where it starts: nowhere, if no further one of the interval becomes whole; the number of lines that were returned; and the marks of the
 -- intervals before that one
 pub record ComingRowValue : Type 0 where
   pub row : ℕ
@@ -40,13 +40,13 @@ pub record ComingRowValue : Type 0 where
   pub lines : ℕ
   pub marked : Marked
 
--- these whole MCUs are the longest front of an interval, and stay it: the interval is over, or at least as many bits are left past
+-- these whole MCUs are the longest prefix of an interval, and stay so: the interval is over, or at least as many bits are left after
 -- them as an MCU has at most
 pub record StaysLongest (g : GrowingScanValue) (number front : ℕ) (zs : List (List ℤ)) : Type 0 where
   pub longest : LongestFront (interval_of g.scan number) front zs
   pub final : IsOver g.scan g.segments number ⊎ (MCU_BITS ≤ length longest.front.rest)
 
--- this is the place past so many MCUs of an interval; without a place no more of them become whole
+-- this is the position after that number of MCUs of an interval; without a position no more of them become whole
 abbrev pub ReadsTo : GrowingScanValue → (number mcu : ℕ) → Option Place → Type 0
 ReadsTo g number mcu (Some p) = (zs : List (List ℤ)) × IsNext (interval_of g.scan number) mcu zs p
 ReadsTo g number mcu None = (front : ℕ) × (zs : List (List ℤ)) × (front < mcu) × StaysLongest g number front zs
@@ -61,7 +61,7 @@ abbrev pub IsFinal : GrowingScanValue → (number : ℕ) → Option Place → Ty
 IsFinal g number (Some p) = IsOver g.scan g.segments number ⊎ (MCU_BITS ≤ length (left_at (interval_of g.scan number) p))
 IsFinal g number None = ⊤
 
--- it stands at an MCU of a picture with this head
+-- it is at an MCU of an image with this header
 pub record StandsIn (h : HeadValue) (v : ComingRowValue) : Type 0 where
   pub row : v.row < mcus_down h
   pub within : v.done ≤ mcus_across h
@@ -70,14 +70,14 @@ pub record StandsIn (h : HeadValue) (v : ComingRowValue) : Type 0 where
   pub at : v.number * h.restart + v.mcu ≡ v.row * mcus_across h + v.done
   pub room : HasSampleRoom h v.samples
 
--- lines are given in their order, those of a row of MCUs once the row is whole
+-- lines are returned in order, those of a row of MCUs once the row is whole
 pub record HasGiven (h : HeadValue) (v : ComingRowValue) : Type 0 where
   pub from : first_line h v.row ≤ v.lines
   pub to : v.lines ≤ first_line h v.row + line_count h v.row
   pub none : v.done < mcus_across h → v.lines ≡ first_line h v.row
   pub left : v.lines < h.height → v.lines < first_line h v.row + line_count h v.row
 
--- nothing is read or given yet
+-- nothing is read or returned yet
 pub record Begins (h : HeadValue) (v : ComingRowValue) : Type 0 where
   pub row : v.row ≡ 0
   pub done : v.done ≡ 0
@@ -89,7 +89,7 @@ pub record Begins (h : HeadValue) (v : ComingRowValue) : Type 0 where
   pub sound : v.marked.sound ≡ 0
   pub damaged : v.marked.damaged ≡ 0
 
--- so far the row is that of whatever the scan may become
+-- the row is that of every scan that this one may become
 pub record IsComing (g : GrowingScanValue) (v : ComingRowValue) : Type 0 where
   pub stands : StandsIn g.scan.head v
   pub given : HasGiven g.scan.head v
@@ -103,6 +103,6 @@ pub record HasNoMore (g : GrowingScanValue) (v : ComingRowValue) : Type 0 where
   pub going : IsOver g.scan g.segments v.number → ⊥
   pub next : (v.mcu ≡ mcus_in g.scan.head v.number) ⊎ MayGrow (interval_of g.scan v.number) v.mcu
 
--- these are lines of the picture of whatever the scan may become, so many from this one on
+-- these are n lines of the image of every scan that this one may become, starting at this line
 abbrev pub AreComing : GrowingScanValue → (first count : ℕ) → List ℕ → Type 0
 AreComing g first count pixels = (t : ScanValue) → Becomes g t → (b : BoardValue) → HasFirst t (length t.intervals) b → pixels ≡ next_lines_of t.head (samples_of b) first count

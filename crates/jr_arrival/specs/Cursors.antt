@@ -30,7 +30,7 @@ pub record Spells (bytes : List ℕ) (at : ℕ) (found : List ℕ) (ends : Bool)
 abbrev pub window : ScanCursor → List ℕ
 window c = take (c.found - c.from) (drop c.from c.room.items)
 
--- its window is one of the file, and it stands in the window
+-- its window is one of the file, and its position is in the window
 pub record HasWindow (c : ScanCursor) : Type 0 where
   pub room : length c.room.items ≡ WINDOW
   pub from : c.from ≤ c.found
@@ -39,7 +39,7 @@ pub record HasWindow (c : ScanCursor) : Type 0 where
   pub bit : c.place.bit ≤ 8 * (c.found - c.from)
   pub in_range : All IsInDcRange c.place.predictions
   pub spells : Spells c.file.bytes.now c.at (window c) c.ends
-  -- only the data's end or a full window ends it where it may reach the end of the file
+  -- if it may reach the end of the file, only the data's end or a full window ends it
   pub full : length c.file.bytes.now ≤ c.reach → c.ends ≡ false → c.found ≡ WINDOW
 
 -- and so do the numbers of its interval and MCU
@@ -54,7 +54,7 @@ pub record StaysIn (old new : ScanCursor) : Type 0 where
   pub interval : new.interval ≡ old.interval
   pub mcu : new.mcu ≡ old.mcu
 
--- it has gone on over so many MCUs of its interval
+-- it has moved past that number of MCUs of its interval
 pub record PassesIn (h : HeadValue) (old new : ScanCursor) (mcus : ℕ) : Type 0 where
   pub is : IsCursor h new
   pub file : new.file ≡ old.file
@@ -67,7 +67,7 @@ pub record PassesOver (h : HeadValue) (old new : ScanCursor) (mcus : ℕ) : Type
   pub file : new.file ≡ old.file
   pub passed : mcus_before_place h new.interval new.mcu ≡ mcus_before_place h old.interval old.mcu + mcus
 
--- the rest of the interval, as far as its data stand in the window
+-- the rest of the interval, as far as its data are in the window
 abbrev pub in_window : HeadValue → ScanCursor → IntervalValue
 in_window h c = record { number = c.interval; mcus = mcus_in h c.interval - c.mcu; bytes = window c; head = h }
 
@@ -82,7 +82,7 @@ reading_number GoesOn = 0
 reading_number IsStuck = 1
 reading_number HasEnded = 2
 
--- it stands where it says in that file, of that scan
+-- its position is right in that file, of that scan
 pub record IsCursorIn (whole : List ℕ) (t : ScanValue) (c : ScanCursor) : Type 0 where
   pub from : t.head.scan_at ≤ c.at
   pub means : MeansAt whole t (reading_number c.reading) c.interval c.mcu c.at c.place
@@ -100,7 +100,7 @@ pub record IsOpen (c : ScanCursor) : Type 0 where
   pub fill : ℕ
   pub all : drop (c.at + read) c.file.bytes.now ≡ replicate fill PREFIX
 
--- the bytes so far do not settle the MCU at which it stands, if it stands there in them
+-- the bytes so far do not make the MCU at its position final, if the position is right in them
 abbrev pub Waits : HeadValue → ScanCursor → Type 0
 Waits h c = let m = mcus_before_place h c.interval c.mcu in
     (s : ScanValue) → MayBe c.file.bytes.now c.file.are_all h c.file.bytes.now s → IsCursorIn c.file.bytes.now s c → m < mcus_of h → IsSettled c.file.bytes.now s m → ⊥
@@ -109,7 +109,7 @@ Waits h c = let m = mcus_before_place h c.interval c.mcu in
 abbrev pub LeavesRow : HeadValue → ScanCursor → (row : ℕ) → Type 0
 LeavesRow h c row = (s : ScanValue) → MayBe c.file.bytes.now c.file.are_all h c.file.bytes.now s → IsCursorIn c.file.bytes.now s c → RowIsSettled c.file.bytes.now s row → ⊥
 
--- that offset in the file stands behind so many bytes of the window's data
+-- that offset in the file is after the given number of bytes of the window's data
 pub record IsOffset (c : ScanCursor) (byte at : ℕ) : Type 0 where
   pub read : ℕ
   pub is : at ≡ c.at + read
@@ -128,6 +128,6 @@ to_read c = (length c.file.bytes.now - c.at) + (length c.file.bytes.now - c.reac
 abbrev pub begun : ScanCursor → ScanCursor
 begun c = record c { interval = c.interval + 1; mcu = 0; place = record { bit = c.place.bit; predictions = no_predictions } }
 
--- a step to where the next interval begins, or to the scan's end
+-- a step to the beginning of the next interval, or to the scan's end
 abbrev pub BeginsNext : HeadValue → (old new : ScanCursor) → Type 0
 BeginsNext h old new = (whole : List ℕ) (t : ScanValue) → MayBe old.file.bytes.now old.file.are_all h whole t → IsCursorIn whole t old → IsCursorIn whole t (begun new)

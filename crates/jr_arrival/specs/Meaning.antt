@@ -14,12 +14,12 @@ use Rattle.jr_arrival.specs.declared.place.RowPlace.{RowPlace}
 abbrev pub with_before : IntervalValue → List ℕ → IntervalValue
 with_before i front = record { number = i.number; mcus = i.mcus; bytes = front ++ i.bytes; head = i.head }
 
--- the place behind that data
+-- the position after that data
 abbrev pub behind : List ℕ → Place → Place
 behind front p = record { bit = 8 * length front + p.bit; predictions = p.predictions }
 
--- a file that these bytes may be: that which they are where they are all of it, else any that begins with them; and its scan, by that
--- head
+-- a file that these bytes may be: these bytes if they are all of it, otherwise any that begins with them; and its scan, with
+-- that header
 pub record MayBe (bytes : List ℕ) (all : Bool) (h : HeadValue) (whole : List ℕ) (t : ScanValue) : Type 0 where
   pub more : List ℕ
   pub is : whole ≡ bytes ++ more
@@ -27,7 +27,7 @@ pub record MayBe (bytes : List ℕ) (all : Bool) (h : HeadValue) (whole : List �
   pub head : t.head ≡ h
   pub scan : IsScanOf whole t
 
--- the bytes from that offset on are the rest of interval i, before which that data of it stand, and the segments that follow it: all
+-- the bytes starting at that offset are the rest of interval i, after that data of it, and the segments that follow it: all
 -- that the scan has
 pub record GoesOnAt (whole : List ℕ) (t : ScanValue) (i at : ℕ) (before : List ℕ) : Type 0 where
   pub rest : List ℕ
@@ -37,37 +37,37 @@ pub record GoesOnAt (whole : List ℕ) (t : ScanValue) (i at : ℕ) (before : Li
   pub datas : drop i t.intervals ≡ (before ++ rest) ∷ (others ++ replicate empty [])
   pub count : (c : IsScanOf whole t) → length c.segments ≡ i + 1 + length others
 
--- so many MCUs of interval i are whole, and the next one's bits begin at that place, if it is counted from that offset on
+-- the given number of MCUs of interval i is whole, and the next one's bits begin at that position, counted from that offset
 pub record ReadsAt (whole : List ℕ) (t : ScanValue) (i mcu at : ℕ) (p : Place) : Type 0 where
   pub before : List ℕ
   pub on : GoesOnAt whole t i at before
   pub blocks : List (List ℤ)
   pub next : IsNext (interval_of t i) mcu blocks (behind before p)
 
--- behind so many MCUs of interval i none is whole
+-- after the given number of MCUs of interval i none is whole
 pub record HasNoFurtherMcu (t : ScanValue) (i mcu : ℕ) : Type 0 where
   pub front : ℕ
   pub blocks : List (List ℤ)
   pub few : front ≤ mcu
   pub longest : LongestFront (interval_of t i) front blocks
 
--- and what follows stands at that offset
+-- and what follows is at that offset
 pub record IsStuckAt (whole : List ℕ) (t : ScanValue) (i mcu at : ℕ) : Type 0 where
   pub before : List ℕ
   pub on : GoesOnAt whole t i at before
   pub no_more : HasNoFurtherMcu t i mcu
 
--- interval i and those behind it have no data
+-- interval i and those after it have no data
 abbrev pub HasNoData : ScanValue → ℕ → Type 0
 HasNoData t i = (j : ℕ) → i ≤ j → slice_index_or t.intervals j [] ≡ []
 
--- what a state says of the place behind so many MCUs of interval i
+-- what a state says of the position after the given number of MCUs of interval i
 abbrev pub MeansAt : (whole : List ℕ) (t : ScanValue) (state i mcu at : ℕ) (p : Place) → Type 0
 MeansAt whole t zero i mcu at p = ReadsAt whole t i mcu at p
 MeansAt whole t (suc zero) i mcu at p = IsStuckAt whole t i mcu at
 MeansAt whole t (suc (suc n)) i mcu at p = HasNoData t i
 
--- the bytes have so many bits of data from that offset on
+-- the bytes starting at that offset have that number of bits of data
 pub record HasBits (bytes : List ℕ) (at bit : ℕ) : Type 0 where
   pub read : ℕ
   pub found : List ℕ

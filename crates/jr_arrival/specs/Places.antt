@@ -6,12 +6,12 @@ use Rattle.jr_head.specs.Intervals.{intervals_of, mcus_in}
 use Rattle.jr_paint.specs.Lines.{line_size}
 use Rattle.jr_arrival.specs.declared.place.RowPlace.{RowPlace}
 
--- the picture has such an interval, and so many MCUs of it
+-- the image has such an interval, and that interval the given number of MCUs
 pub record IsIn (h : HeadValue) (interval mcu : ℕ) : Type 0 where
   pub number : interval < intervals_of h
   pub few : mcu ≤ mcus_in h interval
 
--- how many MCUs of the picture stand before one of an interval
+-- the number of MCUs of the image before one of an interval
 abbrev pub mcus_before_place : HeadValue → (interval mcu : ℕ) → ℕ
 mcus_before_place h interval mcu = interval * h.restart + mcu
 
@@ -21,7 +21,7 @@ pub record IsPlaceOf (h : HeadValue) (p : RowPlace) : Type 0 where
   pub is_in : IsIn h p.interval p.mcu
   pub at : mcus_before_place h p.interval p.mcu ≡ p.row * mcus_across h
 
--- how many lines of the picture stand before a row of MCUs
+-- the number of lines of the image before a row of MCUs
 abbrev pub lines_above : HeadValue → ℕ → ℕ
 lines_above h row = min (row * (8 * vertical_max h)) h.height
 
@@ -29,13 +29,13 @@ lines_above h row = min (row * (8 * vertical_max h)) h.height
 abbrev pub lines_between : HeadValue → (from to : ℕ) → ℕ
 lines_between h from to = lines_above h to - lines_above h from
 
--- how many rows of MCUs from one on have room for their lines in so many bytes: all that are left, or those that have it for as
--- many lines as a row has that is not the last
+-- the number of rows of MCUs, starting at one, whose lines fit into the given number of bytes: all that are left, or those that fit if
+-- each has as many lines as a row that is not the last
 abbrev pub rows_with_room : HeadValue → (row bytes : ℕ) → ℕ
 rows_with_room h row bytes = let lines = bytes / line_size h in
     if nat_le (h.height - lines_above h row) lines then mcus_down h - row else lines / (8 * vertical_max h)
 
--- how many rows of MCUs from one on are given where all of the file is there, so many are asked for, and their lines have so many
--- bytes of room
+-- the number of rows of MCUs that are returned, starting at one, if all of the file is there: at most the number asked for, and as many as fit
+-- with their lines into the given number of bytes
 abbrev pub rows_to_give : HeadValue → (row rows bytes : ℕ) → ℕ
 rows_to_give h row rows bytes = min rows (rows_with_room h row bytes)

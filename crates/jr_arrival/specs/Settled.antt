@@ -1,4 +1,4 @@
--- What the bytes so far settle of a picture.
+-- What the bytes so far make final of an image.
 use Rattle.std.specs.Prelude.{◌≡◌, ℕ, ◌-◌, ◌*◌, ◌/◌, ◌<◌, ◌≤◌, ◌⊎◌, min, List, length, take}
 use Rattle.jr_segments.specs.declared.refusal.Refusal.TheVariants.{EndsEarly, NotJpeg}
 use Rattle.jr_head.specs.Geometry.{mcus_down, vertical_max}
@@ -14,13 +14,13 @@ use Rattle.jr_arrival.specs.Growing.{HasScan, RowIsSettled}
 abbrev pub WantsMore : List ℕ → Type 0
 WantsMore bytes = RefusalOf bytes EndsEarly ⊎ (RefusalOf bytes NotJpeg × (length bytes < 2))
 
--- the bytes so far settle the first `rows` rows of MCUs, and not the next one
+-- the bytes so far make the first `rows` rows of MCUs final, and not the next one
 pub record HasRows (bytes : List ℕ) (s : ScanValue) (rows : ℕ) : Type 0 where
   pub few : rows ≤ mcus_down s.head
   pub settled : (row : ℕ) → row < rows → RowIsSettled bytes s row
   pub next : rows < mcus_down s.head → RowIsSettled bytes s rows → ⊥
 
--- what the bytes so far settle: the scan that they are cut into, and how many rows of MCUs
+-- what the bytes so far make final: the scan into which they are cut, and a number of rows of MCUs
 pub record SoFarValue : Type 0 where
   pub scan : ScanValue
   pub rows : ℕ
@@ -29,18 +29,18 @@ pub record SoFarValue : Type 0 where
 abbrev pub lines_in : SoFarValue → ℕ
 lines_in s = min s.scan.head.height (s.rows * (8 * vertical_max s.scan.head))
 
--- these are lines of the picture of every file that the bytes can become, so many from this one on
+-- these are n lines of the image of every file that the bytes can become, starting at this one
 abbrev pub AreFinal : (bytes : List ℕ) → (first count : ℕ) → (pixels : List ℕ) → Type 0
 AreFinal bytes first count pixels = (file : List ℕ) (t : ScanValue) (marks : List Mark) (f : ℕ → ℕ → ℕ → ℕ) → CanBecome bytes file → HasScan file t
     → ShowsFirst t (length t.intervals) marks f → pixels ≡ next_lines_of t.head f first count
 
--- so many of the settled lines come next, as many as have room in so many bytes
+-- the number of final lines that come next, as many as fit into the given number of bytes
 pub record GivesSettled (bytes : List ℕ) (s : ScanValue) (first n room : ℕ) : Type 0 where
   pub rows : ℕ
   pub has : HasRows bytes s rows
   pub count : n ≡ min (lines_in (record { scan = s; rows = rows }) - first) (room / line_size s.head)
 
--- the next lines that the bytes settle, as many as have room: n from this one on
+-- the next lines that the bytes make final, as many as fit: n starting at this one
 pub record NextLines (bytes : List ℕ) (first n : ℕ) (pixels : List ℕ) : Type 0 where
   pub settled : SoFarValue
   pub scan : HasScan bytes settled.scan
@@ -48,6 +48,6 @@ pub record NextLines (bytes : List ℕ) (first n : ℕ) (pixels : List ℕ) : Ty
   pub count : n ≡ min (lines_in settled - first) (length pixels / line_size settled.scan.head)
   pub are : AreFinal bytes first n (take (n * line_size settled.scan.head) pixels)
 
--- or none, where more bytes are wanted for a head
+-- or none, if more bytes are wanted for a header
 abbrev pub GivesNext : (bytes : List ℕ) → (first n : ℕ) → (pixels : List ℕ) → Type 0
 GivesNext bytes first n pixels = ((n ≡ 0) × WantsMore bytes) ⊎ NextLines bytes first n pixels

@@ -15,7 +15,7 @@ use Rattle.jr_arrival.specs.Growing.{RowIsSettled}
 use Rattle.jr_arrival.specs.Meaning.{IsPlaceIn, MayBe}
 use Rattle.jr_arrival.specs.Places.{mcus_before_place}
 
--- a step from where the cursor stands: where the first `done` MCUs of a row are those of the picture, so many more are
+-- a step from the cursor's position: if the first `done` MCUs of a row are those of the image, the given number more are
 abbrev pub ShowsMore : HeadValue → ScanCursor → (done more : ℕ) → (old new : List (List ℕ)) → Type 0
 ShowsMore h c done more old new = (from : ℕ) → mcus_before_place h c.interval c.mcu ≡ from + done → (whole : List ℕ) (t : ScanValue) → MayBe c.file.bytes.now c.file.are_all h whole t → IsCursorIn whole t c
     → ShowsFirstUnits t (length t.intervals) from done (units_in t.head old) → ShowsFirstUnits t (length t.intervals) from (done + more) (units_in t.head new)
@@ -24,11 +24,11 @@ ShowsMore h c done more old new = (from : ℕ) → mcus_before_place h c.interva
 abbrev pub ShowsRow : ScanValue → (row : ℕ) → List (List ℕ) → Type 0
 ShowsRow t row groups = ShowsFirstUnits t (length t.intervals) (row * mcus_across t.head) (mcus_across t.head) (units_in t.head groups)
 
--- the bytes so far do not settle that row of MCUs, if the place is one of them
+-- the bytes so far do not make that row of MCUs final, if the position is one of them
 abbrev pub LeavesRowAt : (bytes : List ℕ) (all : Bool) → HeadValue → RowPlace → (row : ℕ) → Type 0
 LeavesRowAt bytes all h p row = (s : ScanValue) → MayBe bytes all h bytes s → IsPlaceIn bytes bytes s p → RowIsSettled bytes s row → ⊥
 
--- these are lines of the picture of each file that the bytes may be, of which this is a place: so many from this one on
+-- these are n lines of the image of each file that the bytes may be and of which this is a position, starting at this line
 abbrev pub AreLines : (bytes : List ℕ) (all : Bool) → HeadValue → RowPlace → (first count : ℕ) → List ℕ → Type 0
 AreLines bytes all h p first count pixels = (whole : List ℕ) (t : ScanValue) (marks : List Mark) (f : ℕ → ℕ → ℕ → ℕ) → MayBe bytes all h whole t → IsPlaceIn bytes whole t p
     → ShowsFirst t (length t.intervals) marks f → pixels ≡ next_lines_of h f first count

@@ -21,10 +21,10 @@ pub record IsCursorOf (s : ScanValue) (c : Cursor) : Type 0 where
   pub number : c.number < length s.intervals
   pub at : IsPlaceAfter (interval_of s c.number) c.mcu c.place
 
--- how many MCUs of the scan stand before it
+-- the number of MCUs of the scan before it
 abbrev pub mcus_to : HeadValue → Cursor → ℕ
 mcus_to h c = c.number * h.restart + c.mcu
 
--- guesses of an interval of the scan
+-- speculative reads of an interval of the scan
 abbrev pub AreGuessesIn : ScanValue → IntervalGuesses → Type 0
 AreGuessesIn s g = AreGuessesOf (interval_of s g.number) g.guesses

@@ -1,5 +1,5 @@
 -- The samples of a row of MCUs as lines of its components, eight samples a group (T.81, A.1.1 and A.2.3): the lines of
--- component 0 from the top, behind them those of component 1, and so on, each with room for as many groups.
+-- component 0 from the top, then those of component 1, and so on, each with space for the same number of groups.
 use Rattle.std.specs.Prelude.{ℕ, ◌+◌, ◌-◌, ◌*◌, ◌/◌, ◌%◌, List, [], length, map, sum_by, take, slice_index, slice_index_or}
 use Rattle.std.specs.List.{range_with_len}
 use Rattle.jr_head.specs.declared.component.Component.{Component}
@@ -14,7 +14,7 @@ lines_before h c = 8 * sum_by (λ (k : Component). k.vertical) (take c h.compone
 abbrev pub all_lines : HeadValue → ℕ
 all_lines h = lines_before h (length h.components)
 
--- a line has room for so many groups
+-- a line has space for that number of groups
 abbrev pub groups_across : HeadValue → ℕ
 groups_across h = mcus_across h * horizontal_max h
 
@@ -22,7 +22,7 @@ groups_across h = mcus_across h * horizontal_max h
 abbrev pub group_in : HeadValue → (c i m r : ℕ) → ℕ
 group_in h c i m r = (lines_before h c + 8 * (i / horizontal_of h c) + r) * groups_across h + (m * horizontal_of h c + i % horizontal_of h c)
 
--- where row r of data unit j of MCU m of the row stands
+-- the position of row r of data unit j of MCU m of the row
 abbrev pub group_of : HeadValue → (m j r : ℕ) → ℕ
 group_of h m j r = let c = component h j in group_in h c (j - blocks_before h c) m r
 

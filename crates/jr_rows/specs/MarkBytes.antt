@@ -1,4 +1,4 @@
--- The marks of intervals as bytes in a buffer, which has no room at all where they are not asked for.
+-- The marks of intervals as bytes in a buffer, which is empty if they are not asked for.
 use Rattle.std.specs.Prelude.{◌≡◌, ℕ, ◌+◌, ◌<◌, ◌≤◌, List, length, slice_index}
 use Rattle.jr_scan.specs.ScanValue.{ScanValue}
 use Rattle.jr_picture.specs.declared.mark.Mark.{Mark}
@@ -14,11 +14,11 @@ mark_byte Blank = 0
 mark_byte Sound = 1
 mark_byte Damaged = 2
 
--- where marks are asked for there is a byte for each interval
+-- if marks are asked for there is a byte for each interval
 abbrev pub HasMarkRoom : ScanValue → List ℕ → Type 0
 HasMarkRoom scan bytes = 0 < length bytes → length bytes ≡ length scan.intervals
 
--- where marks are asked for, those of the intervals from number `from` on and before `to` are put, as on every such board, and
+-- if marks are asked for, those of the intervals starting at number `from` and before `to` are written, as on every such board, and
 -- those before are kept
 pub record PutsMarks (scan : ScanValue) (n from to : ℕ) (old new : List ℕ) : Type 0 where
   pub long : length new ≡ length old
@@ -33,6 +33,6 @@ PutsMcus scan n from to old new = PutsMarks scan n (intervals_before scan.head f
 abbrev pub PutsRow : ScanValue → (n row : ℕ) → (old new : List ℕ) → Type 0
 PutsRow scan n row old new = PutsMcus scan n (coded_before scan.head n row) (coded_before scan.head n (row + 1)) old new
 
--- those of the intervals that end in the rows of MCUs from one on and before another, where all are decoded
+-- those of the intervals that end in the rows of MCUs starting at one and before another, if all are decoded
 abbrev pub PutsBetween : ScanValue → (from to : ℕ) → (old new : List ℕ) → Type 0
 PutsBetween scan from to old new = let n = length scan.intervals in PutsMcus scan n (coded_before scan.head n from) (coded_before scan.head n to) old new

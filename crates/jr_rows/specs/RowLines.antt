@@ -12,12 +12,12 @@ use Rattle.jr_rows.specs.declared.shape.TheConstants.{BLOCKS_AT_ONCE}
 abbrev pub mcus_at_once : HeadValue → ℕ
 mcus_at_once h = BLOCKS_AT_ONCE / blocks_of h
 
--- there is room for the lines of a row
+-- the lines of a row fit
 pub record HasGroups (h : HeadValue) (across : ℕ) (groups : List (List ℕ)) : Type 0 where
   pub across_is : across ≡ groups_across h
   pub long : length groups ≡ all_lines h * groups_across h
 
--- data unit j of an MCU stands there
+-- the position of data unit j of an MCU
 pub record IsStartOf (h : HeadValue) (j : ℕ) (p : UnitStart) : Type 0 where
   pub first_is : p.first ≡ group_of h 0 j 0
   pub step_is : p.step ≡ horizontal_of h (component h j)

@@ -2,7 +2,7 @@
 use Rattle.std.specs.Prelude.{ℕ, List}
 use Rattle.jr_rows.specs.declared.row_lines.UnitStart.{UnitStart}
 
--- the groups of eight samples, line after line; where data units stand; and how many groups a line has room for
+-- the groups of eight samples, line after line; the positions of data units; and the number of groups for which a line has space
 pub record RowLinesValue : Type 0 where
   pub groups : List (List ℕ)
   pub starts : List UnitStart

@@ -32,7 +32,7 @@ mcus_before h n = if nat_le (intervals_of h) n then mcus_of h else n * h.restart
 abbrev pub intervals_before : HeadValue → ℕ → ℕ
 intervals_before h m = if nat_le (mcus_of h) m then intervals_of h else interval_number h m
 
--- how many MCUs are decoded before a row of MCUs, where the first n intervals are
+-- the number of MCUs that are decoded before a row of MCUs, if the first n intervals are
 abbrev pub coded_before : HeadValue → (n row : ℕ) → ℕ
 coded_before h n row = min (row * mcus_across h) (mcus_before h n)
 
@@ -45,7 +45,7 @@ pub record AreRowsOf (part : FirstIntervalsValue) (r : Rows) : Type 0 where
   pub stands : IsCursorOf part.scan r.cursor
   pub at : mcus_to part.scan.head r.cursor ≡ coded_before part.scan.head part.limit r.row
 
--- among the intervals from number `from` on and before `to`, so many are sound and so many damaged, on every such board
+-- the numbers of the intervals from number `from` and before `to` that are sound and damaged, on every such board
 pub record CountsMarks (scan : ScanValue) (n from to : ℕ) (m : Marked) : Type 0 where
   pub few : from + (m.sound + m.damaged) ≤ to
   pub sound : (b : BoardValue) → HasFirst scan n b → count_by is_sound (take from (marks_of b)) + m.sound ≡ count_by is_sound (take to (marks_of b))
@@ -60,12 +60,12 @@ abbrev pub GivesMcus : ScanValue → (n from mcus : ℕ) → List (List ℤ) →
 GivesMcus scan n from mcus blocks = (b : BoardValue) → HasFirst scan n b → (k : ℕ) → k < mcus * blocks_of scan.head
     → unit_of scan.head blocks k ≡ unit_shown b (from + k / blocks_of scan.head) (k % blocks_of scan.head)
 
--- the same of the blocks behind the first `before`
+-- the same of the blocks after the first `before`
 abbrev pub GivesBehind : ScanValue → (n from before mcus : ℕ) → List (List ℤ) → Type 0
 GivesBehind scan n from before mcus blocks = (b : BoardValue) → HasFirst scan n b → (k : ℕ) → k < mcus * blocks_of scan.head
     → unit_of scan.head blocks (before + k) ≡ unit_shown b (from + k / blocks_of scan.head) (k % blocks_of scan.head)
 
--- the data units of `mcus` MCUs, behind the first `before`, are what every such board shows from MCU `from` on
+-- the data units of `mcus` MCUs, after the first `before`, are what every such board shows starting at MCU `from`
 abbrev pub ShowsBehind : ScanValue → (n from before mcus : ℕ) → List (List ℕ) → Type 0
 ShowsBehind scan n from before mcus units = (b : BoardValue) → HasFirst scan n b → (k : ℕ) → k < mcus * blocks_of scan.head
     → slice_index_or units (before + k) [] ≡ unit_shown b (from + k / blocks_of scan.head) (k % blocks_of scan.head)
@@ -87,12 +87,12 @@ CountsRow scan n row m = CountsMcus scan n (coded_before scan.head n row) (coded
 abbrev pub CountsRows : ScanValue → (n : ℕ) → Marked → Type 0
 CountsRows scan n m = CountsMcus scan n (coded_before scan.head n 0) (coded_before scan.head n (mcus_down scan.head)) m
 
--- there is room for the blocks and the samples of a row of MCUs
+-- the blocks and the samples of a row of MCUs fit
 pub record HasRowRoom (h : HeadValue) (r : RowValue) : Type 0 where
   pub blocks : length r.blocks ≡ mcus_across h * blocks_of h
   pub lines : HasLines h r.lines
 
--- there is room for the samples of a row of MCUs, for the blocks of those that are read at once, and for painting
+-- the samples of a row of MCUs, the blocks of those that are read at once, and the scratch space for painting fit
 pub record HasSampleRoom (h : HeadValue) (r : SampleRowValue) : Type 0 where
   pub blocks : length r.blocks ≡ mcus_at_once h * blocks_of h
   pub lines : HasLines h r.lines

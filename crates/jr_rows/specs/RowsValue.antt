@@ -14,7 +14,7 @@ pub record RowValue : Type 0 where
   pub blocks : List (List ℤ)
   pub lines : RowLinesValue
 
--- the same of a row that one thread decodes and paints by itself, and how many bytes of room it has for painting
+-- the same of a row that one thread decodes and paints by itself, and the size of its scratch space for painting in bytes
 pub record SampleRowValue : Type 0 where
   pub blocks : List (List ℤ)
   pub lines : RowLinesValue

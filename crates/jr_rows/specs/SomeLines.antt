@@ -10,14 +10,14 @@ use Rattle.jr_picture.specs.Headline.{ShowsFirst, is_sound, is_damaged}
 use Rattle.jr_rows.specs.Rows.{CountsMcus, coded_before, intervals_before}
 use Rattle.jr_rows.specs.declared.marked.Marked.{Marked}
 
--- the row of MCUs that has a line, and the one behind the rows that have the lines before `end`
+-- the row of MCUs that has a line, and the one after the rows that have the lines before `end`
 abbrev pub row_with : HeadValue → ℕ → ℕ
 row_with h y = y / (8 * vertical_max h)
 
 abbrev pub row_behind : HeadValue → ℕ → ℕ
 row_behind h end = div_ceil end (8 * vertical_max h)
 
--- the marks of the intervals that end in the rows of MCUs from one on and before another, where all are decoded
+-- the marks of the intervals that end in the rows of MCUs starting at one and before another, if all are decoded
 abbrev pub CountsBetween : ScanValue → (from to : ℕ) → Marked → Type 0
 CountsBetween scan from to m =
     let n = length scan.intervals in CountsMcus scan n (coded_before scan.head n from) (coded_before scan.head n to) m
@@ -26,12 +26,12 @@ CountsBetween scan from to m =
 abbrev pub ended_before : ScanValue → ℕ → ℕ
 ended_before scan row = intervals_before scan.head (coded_before scan.head (length scan.intervals) row)
 
--- of the intervals that end in the rows of MCUs of these lines, so many are sound and so many damaged
+-- the numbers of the intervals that end in the rows of MCUs of these lines and are sound and damaged
 pub record EndInLines (scan : ScanValue) (first count : ℕ) (marks : List Mark) (sound damaged : ℕ) : Type 0 where
   pub sound_are : count_by is_sound (take (ended_before scan (row_with scan.head first)) marks) + sound ≡ count_by is_sound (take (ended_before scan (row_behind scan.head (first + count))) marks)
   pub damaged_are : count_by is_damaged (take (ended_before scan (row_with scan.head first)) marks) + damaged ≡ count_by is_damaged (take (ended_before scan (row_behind scan.head (first + count))) marks)
 
--- these are lines of the scan's picture, `count` of them from this one on, and so many intervals are sound and damaged that
+-- these are lines of the scan's image, `count` of them starting at this one, and the numbers of sound and damaged intervals that
 -- end in their rows of MCUs
 pub record PaintsLines (scan : ScanValue) (first count : ℕ) (pixels : List ℕ) (m : Marked) : Type 0 where
   pub marks : List Mark

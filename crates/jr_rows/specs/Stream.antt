@@ -35,7 +35,7 @@ pub record BeginsPicture {T : Type 0} (known : T → Option (List ℕ)) (old new
 abbrev pub SendsPicture : {T U E : Type 0} → (T → Option (List ℕ)) → Tally T → Tally T → Result U E → ScanValue → ℕ → Type 0
 SendsPicture known old new result scan n = (b : BoardValue) → HasFirst scan n b → IsSent known old new result (text_of scan.head (samples_of b))
 
--- so many intervals of every such board are sound, damaged and blank
+-- the numbers of intervals of every such board that are sound, damaged and blank
 abbrev pub HasCounts : ScanValue → ℕ → Counts → Type 0
 HasCounts scan n c = (b : BoardValue) → HasFirst scan n b → AreCounts (marks_of b) c.sound c.damaged c.blank
 

@@ -7,7 +7,7 @@ use Rattle.jr_picture.specs.declared.mark.Mark.{Mark}
 use Rattle.jr_picture.specs.Headline.{AreCounts, ShowsFirst}
 use Rattle.jr_rows.specs.MarkBytes.{mark_byte}
 
--- these are the lines of the scan's picture, all of whose intervals are marked; where marks were asked for, the bytes are its
+-- these are the lines of the scan's image, all of whose intervals are marked; if marks were asked for, the bytes are its
 -- marks; and these are their counts
 pub record PaintsWhole (scan : ScanValue) (pixels old_bytes bytes : List ℕ) (c : Counts) : Type 0 where
   pub marks : List Mark

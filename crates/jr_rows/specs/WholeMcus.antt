@@ -4,7 +4,7 @@ use Rattle.jr_head.specs.Geometry.{blocks_of}
 use Rattle.jr_scan.specs.McuReader.{McuReaderValue, HasRead}
 use Rattle.jr_piece.specs.Outcome.{unit_of}
 
--- the reader r' has read so many MCUs behind those of r, and their data units stand behind the first `done` MCUs
+-- the reader r' has read that number of MCUs after those of r, and their data units are after the first `done` MCUs
 pub record DecodesMcus (r r' : McuReaderValue) (done mcus : ℕ) (units : List (List ℕ)) : Type 0 where
   pub blocks : List (List ℤ)
   pub long : length blocks ≡ mcus * blocks_of r.run.interval.head

@@ -11,14 +11,14 @@ use Rattle.jr_arrival.specs.Arriving.{ArrivingValue, IsArriving, given_of}
 use Rattle.jr_arrival.specs.Growing.{HasScan}
 use Rattle.jr_arrival.specs.Settled.{AreFinal, HasRows, SoFarValue, WantsMore, lines_in}
 
--- what contracts see of such a view: the file as far as it has come; the bytes of all lines of its picture, none before there is room
--- for them; and how many bytes of room the lines have that come next
+-- what contracts see of such a view: the file as far as it has arrived; the bytes of all lines of its image, none before they are allocated;
+-- and the size of the space for the lines that come next in bytes
 pub record ArrivingViewValue : Type 0 where
   pub arriving : ArrivingValue
   pub pixels : List ℕ
   pub room : ℕ
 
--- the view of a file that has come so far, with these lines and this room
+-- the view of a file that has arrived so far, with these lines and this space
 abbrev pub view_of : ArrivingValue → (pixels row : List ℕ) → ArrivingViewValue
 view_of arriving pixels row = record { arriving = arriving; pixels = pixels; room = length row }
 
@@ -26,7 +26,7 @@ view_of arriving pixels row = record { arriving = arriving; pixels = pixels; roo
 abbrev pub lines_shown : ArrivingViewValue → ℕ
 lines_shown v = given_of v.arriving.coming
 
--- of a picture with this head so many lines are shown, which every file shows that the bytes can become; all behind them is mid-grey
+-- of an image with this header the given number of lines is shown, which every file shows that the bytes can become; all after them is mid-grey
 pub record ViewShowsLines (bytes : List ℕ) (h : HeadValue) (lines : ℕ) (pixels : List ℕ) : Type 0 where
   pub size : length pixels ≡ h.height * line_size h
   pub few : lines ≤ h.height
@@ -40,14 +40,14 @@ pub record ViewHasLines (v : ArrivingViewValue) (bytes : List ℕ) : Type 0 wher
   pub lines : ViewShowsLines bytes head (lines_shown v) v.pixels
   pub room : line_size head ≤ v.room
 
--- these bytes of the file have come, and what is shown is theirs; before there is room for lines none is shown
+-- these bytes of the file have arrived, and what is shown is theirs; before lines are allocated none is shown
 pub record IsSeen (v : ArrivingViewValue) (bytes : List ℕ) : Type 0 where
   pub are_bytes : All (λ b. b < 256) bytes
   pub arriving : IsArriving v.arriving bytes
   pub none : v.pixels ≡ [] → lines_shown v ≡ 0
   pub some : v.pixels ≢ [] → length bytes ≤ MAX_FILE_BYTES → ViewHasLines v bytes
 
--- these are all lines that the bytes settle, or they have no head yet
+-- these are all lines that the bytes make final, or they have no header yet
 abbrev pub AreSettled : (bytes : List ℕ) → (lines : ℕ) → Type 0
 AreSettled bytes lines = WantsMore bytes ⊎ ((s : SoFarValue) × HasScan bytes s.scan × HasRows bytes s.scan s.rows × (lines_in s ≤ lines))
 

@@ -1,15 +1,15 @@
--- What a looker keeps of what a screen was told of.
+-- What a looker keeps of what a screen was sent.
 use Rattle.std.specs.Prelude.{◌≡◌, ℕ, ◌≤◌, Bool, true, false, List, ◌++◌, length, count_by, if◌then◌else◌, slice_index_or}
 use Rattle.std.specs.List.{AllByRecursion}
 use Rattle.jr_scan.specs.ScanValue.{ScanValue}
 use Rattle.jr_view.specs.declared.looker.Looker.{Looker}
 use Rattle.jr_view.specs.Told.{Notice, AreToldInOrder, ScreenBecomes, IsOfScan, is_piece, is_strip}
 
--- whether it was told of the piece of interval i
+-- whether the piece of interval i was reported to it
 abbrev pub has_told : Looker → ℕ → Bool
 has_told l i = slice_index_or l.pieces.items i false
 
--- it was told of just the pieces that are marked, and of no strip of an interval from this MCU on
+-- the pieces that are marked were reported to it and no others, and no strip of an interval starting at this MCU
 pub record Keeps (scan : ScanValue) (l : Looker) (told : List Notice) : Type 0 where
   pub own : AllByRecursion (IsOfScan scan) told
   pub pieces : (i : ℕ) → count_by (is_piece i) told ≡ (if has_told l i then 1 else 0)
@@ -17,7 +17,7 @@ pub record Keeps (scan : ScanValue) (l : Looker) (told : List Notice) : Type 0 w
   pub next : (i first : ℕ) → slice_index_or l.strips.items i 0 ≤ first → count_by (is_strip i first) told ≡ 0
   pub order : AreToldInOrder told
 
--- a looker tells a screen of something, and both become others; no piece that was told is forgotten
+-- a looker reports something to a screen, and both change; no piece that was reported is forgotten
 pub record Tells {S : Type 0} (becomes : S → Notice → S → Type 0) (scan : ScanValue) (l : Looker) (a : S) (m : Looker) (b : S) : Type 0 where
   pub told : List Notice
   pub screen : ScreenBecomes becomes a told b

@@ -1,4 +1,4 @@
--- When a view is a part of the picture that T.81 gives for its scan.
+-- When a view is a part of the image that T.81 gives for its scan.
 use Rattle.std.specs.Prelude.{◌≡◌, ℕ, ◌<◌, true, false, length}
 use Rattle.jr_head.specs.Geometry.{blocks_of, mcus_of}
 use Rattle.jr_head.specs.Intervals.{interval_number, intervals_of}
@@ -8,7 +8,7 @@ use Rattle.jr_picture.specs.Boards.{IsPieceOf}
 use Rattle.jr_view.specs.ViewValue.{ViewValue}
 use Rattle.jr_view.specs.Views.{ShowsPiece, has_seen, unit_at}
 
--- where the MCU was seen it shows what the scan's piece of its interval shows; else it is grey
+-- an MCU that was seen shows what the scan's piece of its interval shows; any other is grey
 pub record ShowsOwn (v : ViewValue) (mcu : ℕ) : Type 0 where
   pub seen : has_seen v mcu ≡ true → (p : PieceValue) → IsPieceOf v.scan (interval_number v.scan.head mcu) p → ShowsPiece v p mcu
   pub unseen : has_seen v mcu ≡ false → (k : ℕ) → k < blocks_of v.scan.head → unit_at v mcu k ≡ grey_unit

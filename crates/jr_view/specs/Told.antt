@@ -1,4 +1,4 @@
--- What a screen is told while a scan is decoded.
+-- What is reported to a screen while a scan is decoded.
 use Rattle.std.specs.Prelude.{◌≡◌, ℕ, ◌<◌, ◌≤◌, ◌==◌, ◌&&◌, leb, ⊤, Bool, false, List, [], ◌∷◌, length, count_by}
 use Rattle.std.specs.List.{AllByRecursion}
 use Rattle.jr_scan.specs.ScanValue.{ScanValue}
@@ -25,12 +25,12 @@ is_strip i first (StripOf s) = (s.interval.number == i) && (s.first == first)
 is_strip i first (PieceOf p) = false
 is_strip i first Asked = false
 
--- a screen becomes another by what it is told, one after the other
+-- a screen changes with each report, one after the other
 abbrev pub ScreenBecomes : {S : Type 0} → (S → Notice → S → Type 0) → S → List Notice → S → Type 0
 ScreenBecomes becomes a [] b = b ≡ a
 ScreenBecomes {S} becomes a (t ∷ more) b = (c : S) × becomes a t c × ScreenBecomes becomes c more b
 
--- whether that comes too late behind this: the strips of an interval come in their order, then its piece, and each once
+-- whether that comes too late after this: the strips of an interval come in order, then its piece, and each once
 abbrev pub is_late : Notice → Notice → Bool
 is_late (StripOf s) (StripOf t) = (t.interval.number == s.interval.number) && leb t.first s.first
 is_late (StripOf s) (PieceOf q) = false
@@ -51,8 +51,8 @@ IsOfScan scan (StripOf s) = IsStrip s × (s.interval.number < length scan.interv
 IsOfScan scan (PieceOf p) = IsPieceOf scan p.interval.number p
 IsOfScan scan Asked = ⊤
 
--- A screen was told of no strip and no piece twice, and of an interval's strips in their order and before its piece; where the
--- watch has ended well, of the piece of each interval.
+-- No strip and no piece was reported to a screen twice, and an interval's strips were in order and before its piece; if the
+-- watch has ended well, the piece of each interval was reported.
 pub record IsTold {S : Type 0} (becomes : S → Notice → S → Type 0) (scan : ScanValue) (ended : Type 0) (before after : S) : Type 0 where
   pub told : List Notice
   pub screen : ScreenBecomes becomes before told after

@@ -41,17 +41,17 @@ pub record IsSameAt (a b : ViewValue) (mcu : ℕ) : Type 0 where
   pub seen : has_seen a mcu ≡ has_seen b mcu
   pub units : (k : ℕ) → k < blocks_of a.scan.head → unit_at a mcu k ≡ unit_at b mcu k
 
--- an MCU shows the data units of a list from this one on, grey ones where it has none
+-- an MCU shows the data units of a list starting at this one, grey ones if it has none
 abbrev pub ShowsUnits : ViewValue → ℕ → List (List ℕ) → ℕ → Type 0
 ShowsUnits v mcu units from = (k : ℕ) → k < blocks_of v.scan.head → unit_at v mcu k ≡ slice_index_or units (from + k) grey_unit
 
--- the picture has this MCU, and it is one of so many from `first` on
+-- the image has this MCU, and it is one of `count` starting at `first`
 pub record IsAmong (h : HeadValue) (first count mcu : ℕ) : Type 0 where
   pub picture : mcu < mcus_of h
   pub from : first ≤ mcu
   pub before : mcu < first + count
 
--- it is before or behind them
+-- it is before or after them
 abbrev pub IsOutside : (first count mcu : ℕ) → Type 0
 IsOutside first count mcu = (mcu < first) ⊎ (first + count ≤ mcu)
 
@@ -80,7 +80,7 @@ IsOfPiece v p mcu = IsAmong v.scan.head (first_mcu_of v.scan.head p.interval.num
 abbrev pub IsNotOfPiece : ViewValue → PieceValue → ℕ → Type 0
 IsNotOfPiece v p mcu = IsOutside (first_mcu_of v.scan.head p.interval.number) (size_of v.scan.head) mcu
 
--- it shows the piece's data units, grey ones behind its front
+-- it shows the piece's data units, grey ones after its prefix
 abbrev pub ShowsPiece : ViewValue → PieceValue → ℕ → Type 0
 ShowsPiece v p mcu = ShowsUnits v mcu p.samples ((mcu - first_mcu_of v.scan.head p.interval.number) * blocks_of v.scan.head)
 
@@ -102,7 +102,7 @@ pub record AddsMcu (old : ViewValue) (mcu : ℕ) (units : List (List ℕ)) (from
   pub shown : ShowsUnits new mcu units from
   pub others : (m : ℕ) → (m < mcu) ⊎ (mcu < m) → IsSameAt old new m
 
--- those of so many MCUs from `first` on that were not seen show data units; the others are as they were
+-- those MCUs of a number starting at `first` that were not seen show data units; the others are unchanged
 pub record AddsMcus (old : ViewValue) (first count : ℕ) (units : List (List ℕ)) (new : ViewValue) : Type 0 where
   pub scan : new.scan ≡ old.scan
   pub seen : (mcu : ℕ) → IsAmong old.scan.head first count mcu → has_seen new mcu ≡ true

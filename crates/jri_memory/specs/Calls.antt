@@ -21,7 +21,7 @@ use Rattle.jri_memory.specs.declared.decode.DecodeError.TheVariants.{Refused}
 use Rattle.jri_memory.specs.declared.header.Header.{Header}
 use Rattle.jri_memory.specs.declared.report.DecodeReport.{DecodeReport}
 
--- what a refusal tells beside its number: an offset, or a marker's code
+-- the detail of a refusal next to its number: an offset, or a marker's code
 abbrev pub detail_of : Refusal → ℕ
 detail_of refusal.NotJpeg = 0
 detail_of refusal.EndsEarly = 0
@@ -47,7 +47,7 @@ detail_of refusal.Memory = 0
 abbrev pub IsNumberOfSome : ℕ → Type 0
 IsNumberOfSome number = (0 < number) × (number < 20)
 
--- the file's first fault has this number, and tells this beside it
+-- the file's first fault has this number and this detail
 pub record TellsFault (file : List ℕ) (number detail : ℕ) : Type 0 where
   pub fault : Refusal
   pub is : RefusalOf file fault
@@ -111,11 +111,11 @@ pub record TellsReport (scan : ScanValue) (marks : List Mark) (r : DecodeReport)
   pub ended : TellsScanEnd scan.ended r
   pub no_fault : TellsNoRefusal r
 
--- these bytes stand at the front of a buffer, and behind them what stood there before
+-- these bytes are the first ones of a buffer, and the bytes after them are unchanged
 abbrev pub over : List ℕ → List ℕ → List ℕ
 over bytes old = bytes ++ drop (length bytes) old
 
--- the pixels are the lines of the file's picture, from the top; where marks were asked for they are its own; and so is the report
+-- the pixels are the lines of the file's image, from the top; marks that were asked for are its own; and so is the report
 pub record DecodesFile (file old_pixels pixels old_marks marks : List ℕ) (r : DecodeReport) : Type 0 where
   pub scan : ScanValue
   pub each : List Mark
@@ -125,7 +125,7 @@ pub record DecodesFile (file old_pixels pixels old_marks marks : List ℕ) (r : 
   pub marked : 0 < length old_marks → marks ≡ over (map mark_byte each) old_marks
   pub reported : TellsReport scan each r
 
--- the pixels of the file's picture have less room than they take, or its marks have, where they are asked for
+-- the pixels of the file's image do not fit, or its marks, which were asked for, do not
 pub record LacksRoom (file : List ℕ) (pixels marks : ℕ) : Type 0 where
   pub scan : ScanValue
   pub is : IsScanOfFile file scan
@@ -142,7 +142,7 @@ pub record LacksLines (file : List ℕ) (first count : ℕ) : Type 0 where
   pub is : HeadOf file head
   pub less : HasTheseLines head first count → ⊥
 
--- so many lines of the file's picture have less room than they take
+-- that number of lines of the file's image does not fit
 pub record LacksRoomForLines (file : List ℕ) (count pixels : ℕ) : Type 0 where
   pub head : HeadValue
   pub is : HeadOf file head
@@ -163,7 +163,7 @@ pub record DecodesLines (file : List ℕ) (first count : ℕ) (old_pixels pixels
   pub ended : TellsScanEnd scan.ended r
   pub no_fault : TellsNoRefusal r
 
--- nothing was decoded since the file is refused, and the report tells of that
+-- nothing was decoded since the file is refused, and the report says so
 pub record IsRefusal (undecoded : DecodeError) (r : DecodeReport) : Type 0 where
   pub fault : Refusal
   pub is : undecoded ≡ Refused fault

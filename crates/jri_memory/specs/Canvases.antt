@@ -45,24 +45,24 @@ pub record LaysOut (lines : List ℕ) (width components stride layout : ℕ) (ol
   pub all : length lines ≡ count * plain_line_size form
   pub stand : StandOn form 0 count (λ k. laid_line form (line_in (plain_line_size form) lines k)) old new
 
--- so many lines have no room
+-- that number of lines does not fit
 pub record LacksPlaces (width components stride layout count room : ℕ) : Type 0 where
   pub form : CanvasLines
   pub is : HasForm width components stride layout form
   pub less : HavePlaces form 0 count room → ⊥
 
--- these lines have no room
+-- these lines do not fit
 pub record LacksRoomToLay (lines : List ℕ) (width components stride layout room : ℕ) : Type 0 where
   pub count : ℕ
   pub all : length lines ≡ count * (components * width)
   pub less : LacksPlaces width components stride layout count room
 
--- pixels of so many components there are none, these bytes are no whole lines, or they have no layout
+-- there are no pixels of that number of components, these bytes are not whole lines, or they have no layout
 abbrev pub LacksLinesToLay : (lines : List ℕ) (width components stride layout : ℕ) → Type 0
 LacksLinesToLay lines width components stride layout =
     ((components ≢ 1) × (components ≢ 3)) ⊎ ((count : ℕ) → 0 < width → length lines ≢ count * (components * width)) ⊎ LacksLayout width components stride layout
 
--- the lines of the scan's picture are laid out, from the top of the canvas, and all its intervals are marked; where marks were
+-- the lines of the scan's image are laid out, from the top of the canvas, and all its intervals are marked; if marks were
 -- asked for, the bytes are these; and these are their counts
 pub record LaysScan (scan : ScanValue) (form : CanvasLines) (old new old_bytes bytes : List ℕ) (c : Counts) : Type 0 where
   pub marks : List Mark
@@ -72,7 +72,7 @@ pub record LaysScan (scan : ScanValue) (form : CanvasLines) (old new old_bytes b
   pub put : 0 < length old_bytes → bytes ≡ map mark_byte marks
   pub counted : AreCounts marks c.sound c.damaged c.blank
 
--- the lines of the file's picture are laid out, from the top of the canvas; where marks were asked for they are its own; and so is
+-- the lines of the file's image are laid out, from the top of the canvas; marks that were asked for are its own; and so is
 -- the report
 pub record DecodesCanvas (file : List ℕ) (stride layout : ℕ) (old new old_marks marks : List ℕ) (r : DecodeReport) : Type 0 where
   pub scan : ScanValue
@@ -85,7 +85,7 @@ pub record DecodesCanvas (file : List ℕ) (stride layout : ℕ) (old new old_ma
   pub marked : 0 < length old_marks → marks ≡ over (map mark_byte each) old_marks
   pub reported : TellsReport scan each r
 
--- the lines of the file's picture have no room on the canvas, or its marks have none, where they are asked for
+-- the lines of the file's image do not fit on the canvas, or its marks, which were asked for, do not
 pub record LacksCanvas (file : List ℕ) (stride layout room marks : ℕ) : Type 0 where
   pub scan : ScanValue
   pub is : IsScanOfFile file scan

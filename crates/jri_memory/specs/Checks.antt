@@ -1,4 +1,4 @@
--- What the call gives that checks a file in memory: the marks of its intervals, and no picture.
+-- The result of the call that checks a file in memory: the marks of its intervals, and no image.
 use Rattle.std.specs.Prelude.{◌≡◌, ℕ, ◌+◌, ◌<◌, List, length, map, count_by, slice_index}
 use Rattle.jr_scan.specs.IntervalValue.{IntervalValue}
 use Rattle.jr_scan.specs.Mcus.{HasDecoding, HasNoDecoding}
@@ -23,7 +23,7 @@ pub record AreMarksOf (scan : ScanValue) (n : ℕ) (marks : List Mark) : Type 0 
   pub long : length marks ≡ n
   pub each : (i : ℕ) → i < n → IsMarkOf (interval_of scan i) (mark_in marks i)
 
--- they are counted, and where there is room for marks they are put there
+-- they are counted, and written if there is space for marks
 pub record ArePut (scan : ScanValue) (n : ℕ) (counted : Marked) (bytes : List ℕ) (marks : List Mark) : Type 0 where
   pub are : AreMarksOf scan n marks
   pub sound : counted.sound ≡ count_by is_sound marks
@@ -31,7 +31,7 @@ pub record ArePut (scan : ScanValue) (n : ℕ) (counted : Marked) (bytes : List 
   pub all : counted.sound + counted.damaged ≡ n
   pub put : 0 < length bytes → (i : ℕ) → i < n → slice_index bytes i ≡ mark_byte (mark_in marks i)
 
--- each interval of the file's scan has its mark; where marks were asked for they are these, and so is the report
+-- each interval of the file's scan has its mark; marks that were asked for are these, and so is the report
 pub record ChecksFile (file old_marks marks : List ℕ) (r : DecodeReport) : Type 0 where
   pub scan : ScanValue
   pub each : List Mark
@@ -40,7 +40,7 @@ pub record ChecksFile (file old_marks marks : List ℕ) (r : DecodeReport) : Typ
   pub marked : 0 < length old_marks → marks ≡ over (map mark_byte each) old_marks
   pub reported : TellsReport scan each r
 
--- the marks of the file's intervals have less room than they take, and they are asked for
+-- the marks of the file's intervals were asked for and do not fit
 pub record LacksMarkRoom (file : List ℕ) (marks : ℕ) : Type 0 where
   pub scan : ScanValue
   pub is : IsScanOfFile file scan

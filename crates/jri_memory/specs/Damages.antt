@@ -1,4 +1,4 @@
--- What the call gives that lists the damaged intervals of a file in memory.
+-- The result of the call that lists the damaged intervals of a file in memory.
 use Rattle.std.specs.Prelude.{◌≡◌, ℕ, ◌+◌, ◌<◌, ◌≤◌, List, length, drop, max, min, Option, Some, None, slice_index_or}
 use Rattle.jr_scan.specs.Mcus.{HasNoDecoding}
 use Rattle.jr_scan.specs.ScanValue.{ScanValue, interval_of}
@@ -10,7 +10,7 @@ use Rattle.jr_damage.specs.Verdicts.{IsFileScan}
 use Rattle.jri_memory.specs.declared.damages.Damage.{Damage}
 use Rattle.jri_memory.specs.declared.damages.DamageReport.{DamageReport}
 
--- the bytes of an interval as numbers, 0 where it has none
+-- the bytes of an interval as numbers, 0 if it has none
 abbrev pub TellsBytes : Option CodedSpan → Damage → Type 0
 TellsBytes None d = (d.start ≡ 0) × (d.end ≡ 0)
 TellsBytes (Some span) d = (d.start ≡ span.start) × (d.end ≡ span.end)
@@ -25,7 +25,7 @@ pub record IsDamageEntry (i : DamagedInterval) (d : Damage) : Type 0 where
   pub last_line : d.last_line ≡ i.lines.last
   pub bytes : TellsBytes i.bytes d
 
--- stands for one past the last
+-- the entry past the last one
 abbrev pub no_damage : Damage
 no_damage = record { interval = 0; first_mcu = 0; mcus = 0; decodable = 0; first_line = 0; last_line = 0; start = 0; end = 0 }
 
@@ -62,7 +62,7 @@ pub record ListsFrom (file : List ℕ) (s : ScanValue) (first next next_at count
   pub are : AreDamages file s first next count damages
   pub stops : IsPositionOf file s next next_at
 
--- the damaged intervals of the file from this position on are listed, as many as have room; behind them the list is as it was
+-- the damaged intervals of the file starting at this position are listed, as many as fit; the list after them is unchanged
 pub record ListsDamages (file : List ℕ) (first first_at : ℕ) (old new : List Damage) (r : DamageReport) : Type 0 where
   pub scan : ScanValue
   pub is : IsFileScan file scan

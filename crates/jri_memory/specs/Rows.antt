@@ -1,4 +1,4 @@
--- What the calls give that decode or pass over rows of MCUs from a place on.
+-- The results of the calls that decode or skip rows of MCUs starting at a position.
 use Rattle.std.specs.Prelude.{◌≡◌, ◌≢◌, ℕ, ◌-◌, ◌+◌, ◌*◌, ◌<◌, ◌≤◌, ◌⊎◌, ◌==◌, min, Bool, true, false, List, length, take, drop}
 use Rattle.jr_segments.specs.declared.refusal.Refusal.{Refusal}
 use Rattle.jr_segments.specs.declared.refusal.Refusal.TheVariants.{Memory}
@@ -19,7 +19,7 @@ use Rattle.jri_memory.specs.declared.places.PlaceError.{PlaceError}
 use Rattle.jri_memory.specs.declared.places.PlaceError.TheVariants.{Refused, NoRows, NoRoom}
 use Rattle.jri_memory.specs.declared.rows_report.RowsReport.{RowsReport}
 
--- whether bytes are all of their file, by the number that a caller gives
+-- whether bytes are all of their file, by the number that a caller passes
 abbrev pub are_all : ℕ → Bool
 are_all more = more == 0
 
@@ -35,12 +35,12 @@ pub record TellsNothing (r : RowsReport) : Type 0 where
   pub refusal : r.refusal ≡ 0
   pub detail : r.detail ≡ 0
 
--- the bytes' first fault; where more bytes may come it is that of each longer file
+-- the bytes' first fault; if more bytes may come it is that of each longer file
 pub record IsFaultSoFar (bytes : List ℕ) (all : Bool) (fault : Refusal) : Type 0 where
   pub is : RefusalOf bytes fault
   pub stays : all ≡ false → IsFinalFault bytes fault
 
--- it has this number, and tells this beside it
+-- it has this number and this detail
 pub record TellsFaultSoFar (bytes : List ℕ) (all : Bool) (r : RowsReport) : Type 0 where
   pub fault : Refusal
   pub is : IsFaultSoFar bytes all fault
@@ -53,8 +53,8 @@ pub record HasRowAt (h : HeadValue) (p : RowPlace) (rows : ℕ) : Type 0 where
   pub row : p.row < mcus_down h
   pub some : 0 < rows
 
--- the place has moved by rows of MCUs, at most so many: by as many if all bytes are there, otherwise to the first one that the bytes
--- do not settle. If it was one of a file that the bytes may be, it still is. The report has the numbers of the rows and of their lines
+-- the position has moved by rows of MCUs, at most by `most`: by `most` if all bytes are there, otherwise to the first row that the bytes
+-- do not make final. If it was one of a file that the bytes may be, it still is. The report has the numbers of the rows and of their lines
 pub record MovesOn (bytes : List ℕ) (all : Bool) (most : ℕ) (old new : RowPlace) (h : HeadValue) (r : RowsReport) : Type 0 where
   pub head : HeadOf bytes h
   pub from : IsPlaceOf h old
@@ -70,15 +70,15 @@ pub record MovesOn (bytes : List ℕ) (all : Bool) (most : ℕ) (old new : RowPl
   pub refusal : r.refusal ≡ 0
   pub detail : r.detail ≡ 0
 
--- more bytes may come and are wanted for a head: nothing is told, and the place is as it was
+-- more bytes may come and are wanted for a header: no row is returned, and the position is unchanged
 pub record AwaitsHead (bytes : List ℕ) (all : Bool) (old new : RowPlace) (r : RowsReport) : Type 0 where
   pub more : all ≡ false
   pub wanted : WantsMore bytes
   pub place : new ≡ old
   pub told : TellsNothing r
 
--- rows are decoded, as many as were asked for and have room in the pixels: their lines are those of the picture of each file that the
--- bytes may be, where the place was one of it; what stands behind their lines is as it was
+-- rows are decoded, as many as were asked for and fit into the pixels: their lines are those of the image of each file that the
+-- bytes may be and of which the position was one; what follows their lines is unchanged
 pub record DecodesRows (bytes : List ℕ) (all : Bool) (rows : ℕ) (old new : RowPlace) (old_pixels pixels : List ℕ) (r : RowsReport) : Type 0 where
   pub h : HeadValue
   pub there : HasRowAt h old rows
@@ -90,7 +90,7 @@ pub record DecodesRows (bytes : List ℕ) (all : Bool) (rows : ℕ) (old new : R
 abbrev pub GivesRows : (bytes : List ℕ) (all : Bool) (rows : ℕ) (old new : RowPlace) (old_pixels pixels : List ℕ) → RowsReport → Type 0
 GivesRows bytes all rows old new old_pixels pixels r = (AwaitsHead bytes all old new r × (pixels ≡ old_pixels)) ⊎ DecodesRows bytes all rows old new old_pixels pixels r
 
--- rows are passed over, as many as were asked for
+-- rows are skipped, as many as were asked for
 pub record PassesRows (bytes : List ℕ) (all : Bool) (rows : ℕ) (old new : RowPlace) (r : RowsReport) : Type 0 where
   pub h : HeadValue
   pub there : HasRowAt h old rows
@@ -105,7 +105,7 @@ pub record LacksRows (bytes : List ℕ) (p : RowPlace) (rows : ℕ) : Type 0 whe
   pub is : HeadOf bytes h
   pub none : HasRowAt h p rows → ⊥
 
--- the bytes' picture has a row of MCUs at the place, for whose lines so many bytes have no room
+-- the bytes' image has a row of MCUs at the position, whose lines do not fit into that number of bytes
 pub record LacksRoomForRow (bytes : List ℕ) (p : RowPlace) (room : ℕ) : Type 0 where
   pub h : HeadValue
   pub is : HeadOf bytes h
@@ -118,7 +118,7 @@ IsWhy bytes all p rows room (Refused fault) = fault ≢ Memory → IsFaultSoFar 
 IsWhy bytes all p rows room NoRows = LacksRows bytes p rows
 IsWhy bytes all p rows room NoRoom = LacksRoomForRow bytes p room
 
--- it is not moved since the bytes are refused, and the report tells of that
+-- it is not moved since the bytes are refused, and the report says so
 pub record IsRefusedPlace (unmoved : PlaceError) (r : RowsReport) : Type 0 where
   pub fault : Refusal
   pub is : unmoved ≡ Refused fault
