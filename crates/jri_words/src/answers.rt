@@ -1,26 +1,26 @@
-//! What the words of a command line ask for, or why they ask for nothing.
+//! What the arguments of a command line ask for, or why they ask for nothing.
 
 ghost use Rattle.std.specs.Prelude.{◌≡◌};
 ghost use Rattle.jri_words.specs.Status.{unasked_status};
 
 use std::alloc::AllocError;
 
-/// What the words ask for.
+/// A request for one decoding.
 #[derive(Drop)]
 pub struct Asked {
-    /// How many workers decode: 1 to 64.
+    /// The number of workers that decode, 1 to 64.
     pub workers: u32,
-    /// How many intervals are decoded, from the first on; all where there is no number.
+    /// The number of intervals that are decoded, from the first on; all if it is `None`.
     pub first: Option<u32>,
-    /// The name of the file; standard input where there is none.
+    /// The name of the file; `None` is standard input.
     pub file: Option<String>,
-    /// Where the picture goes.
+    /// The destination of the image.
     pub target: Target,
-    /// How much is told on standard error.
+    /// What is reported on standard error.
     pub telling: Telling,
 }
 
-/// Where the picture goes.
+/// The destination of an image.
 #[derive(Drop)]
 pub enum Target {
     /// To standard output, but not onto a terminal.
@@ -31,24 +31,24 @@ pub enum Target {
     File(String),
 }
 
-/// How much is told on standard error.
+/// What is reported on standard error.
 #[derive(Clone, Copy, PartialEq, Eq)]
 pub struct Telling {
     /// No report, and no line of a reader that has gone away.
     pub is_quiet: bool,
-    /// Names and the system's reasons behind the lines.
+    /// Whether the lines end with names and the system's reasons.
     pub is_verbose: bool,
 }
 
 impl Telling {
-    /// What is told where the words say nothing of it.
+    /// What is reported without any argument about it.
     pub(crate) const PLAIN: Telling = Telling {
         is_quiet: false,
         is_verbose: false,
     };
 }
 
-/// Why the words ask for no decoding.
+/// The reason why arguments ask for no decoding.
 #[derive(Drop)]
 pub enum Unasked {
     /// They ask for help or for the version, which is this text.
@@ -60,7 +60,7 @@ pub enum Unasked {
 }
 
 impl Unasked {
-    /// The exit status: 0 for help and the version, 2 for wrong words, 1 for want of memory.
+    /// Returns the exit status: 0 for help and the version, 2 for wrong arguments, 1 if memory ran out.
     pub fn status(&self) -> u8
         ensures { result ≡ unasked_status self.now }
     {

@@ -1,4 +1,4 @@
-//! The words of a command line.
+//! The arguments of a command line.
 
 ghost use Rattle.std.specs.Prelude.{◌≡◌, ◌≤◌, IfOk, false, codes, map, option_map};
 ghost use Rattle.std.specs.String.{string_bytes};
@@ -65,7 +65,7 @@ fn output_word<'a>(alloc: Global) -> Arg<'a>
         .help("Write the image to PICTURE; - is standard output")
 }
 
-/// A word that stands alone.
+/// An argument without a value.
 pub(crate) fn flag_word<'a>(alloc: Global, name: &'a str, help: &'a str) -> Arg<'a>
     ensures rule { rule_of result ≡ flag_rule name.now }
     ensures local { result.global ≡ false }
@@ -76,7 +76,7 @@ pub(crate) fn flag_word<'a>(alloc: Global, name: &'a str, help: &'a str) -> Arg<
         .help(help)
 }
 
-/// The words that tell what is decoded.
+/// Adds the arguments that say what is decoded.
 fn with_decoding_words<'a>(alloc: Global, command: Command<'a>) -> Result<Command<'a>, AllocError>
     ensures { IfOk result (λ c. app_of c ≡ decoding_app (app_of command.entry)) }
 {
@@ -86,7 +86,7 @@ fn with_decoding_words<'a>(alloc: Global, command: Command<'a>) -> Result<Comman
         .arg(file_word(alloc))
 }
 
-/// The words that tell where the picture goes, and what is told on standard error.
+/// Adds the arguments that say where the image goes, and what is reported on standard error.
 fn with_writing_words<'a>(alloc: Global, command: Command<'a>) -> Result<Command<'a>, AllocError>
     ensures { IfOk result (λ c. app_of c ≡ writing_app (app_of command.entry)) }
 {
@@ -154,7 +154,7 @@ fn file_of(alloc: Global, matches: &ArgMatches) -> Result<Option<String>, AllocE
     }
 }
 
-/// Where the picture goes.
+/// Returns the destination of the image.
 fn target_of(alloc: Global, matches: &ArgMatches) -> Result<Target, AllocError>
     ensures { IfOk result (IsTarget (first_value (found_of matches.now) (codes "output")) (one_text (found_of matches.now) (codes "force"))) }
 {
@@ -166,7 +166,7 @@ fn target_of(alloc: Global, matches: &ArgMatches) -> Result<Target, AllocError>
     }
 }
 
-/// How much is told.
+/// Returns what is reported.
 fn telling_of(matches: &ArgMatches) -> Telling
     ensures quiet { IsFlag (one_text (found_of matches.now) (codes "quiet")) result.is_quiet }
     ensures verbose { IsFlag (one_text (found_of matches.now) (codes "verbose")) result.is_verbose }
@@ -177,9 +177,9 @@ fn telling_of(matches: &ArgMatches) -> Telling
     }
 }
 
-/// What the words after the program's name ask for: `--workers` from 1 to 64, 4 where it isn't there; `--first`; at most
-/// one file; and the words of the output and of what is told. `Unasked` has the text to print where they ask for help or
-/// the version or are wrong.
+/// Returns what the arguments after the program's name ask for: `--workers` from 1 to 64, 4 by default; `--first`; at most one file;
+/// and the arguments of the output and of the report. `Unasked` has the text to print if they ask for help or the version or are
+/// wrong.
 pub fn asked<'a>(alloc: Global, words: &'a [String]) -> Result<Asked, Unasked>
     ensures some { IfOk result (λ a. 1 ≤ a.workers) }
     ensures few { IfOk result (λ a. a.workers ≤ MAX_WORKERS) }

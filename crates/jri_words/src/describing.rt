@@ -6,7 +6,7 @@ use clap::{Arg, ArgAction, ArgMatches, Command};
 use jr_base::VERSION;
 use std::alloc::{AllocError, Global};
 
-/// What the arguments of `jri --info` ask for.
+/// A request for what the headers of files say.
 #[derive(Drop)]
 pub struct DescribeRequest {
     /// Whether each line is a JSON object.

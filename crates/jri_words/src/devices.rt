@@ -5,12 +5,12 @@ ghost use Rattle.jri_words.specs.Steps.{Step, Created, Renamed, Removed, Opened,
 
 use std::io::{Error, Read, Result as IoResult, Write};
 
-/// What the name of a picture leads to.
+/// What the name of an image leads to.
 #[derive(Clone, Copy, Drop)]
 pub enum Destination {
     /// Nothing has the name.
     New,
-    /// A file that a whole picture replaces.
+    /// A file that a whole image replaces.
     Replaced,
     /// A device, a pipe, or a stream that some program has open: it is written into.
     WrittenInto,
@@ -39,10 +39,10 @@ pub trait Devices {
     /// Standard output.
     fn output(&self) -> Self::Output;
 
-    /// Whether standard input is a terminal.
+    /// Returns whether standard input is a terminal.
     fn is_input_terminal(&self) -> bool;
 
-    /// Whether standard output is a terminal.
+    /// Returns whether standard output is a terminal.
     fn is_output_terminal(&self) -> bool;
 
     /// Opens a file to be read.

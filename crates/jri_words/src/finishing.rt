@@ -11,7 +11,7 @@ use jr_base::Tally;
 use jri_file::{Fault, Report};
 use std::io::Write;
 
-/// The outcome behind a flush of the picture that was written.
+/// Returns the outcome after a flush of the image that was written.
 pub fn flushed<W: Write>(
     outcome: Result<Report, Fault>,
     out: &mut Tally<W>,
@@ -30,8 +30,8 @@ pub fn flushed<W: Write>(
     }
 }
 
-/// Flushes a picture that was written, writes the report's two lines, or the fault's one, and answers the exit status. A
-/// failed flush is a fault. Faults of standard error are passed over.
+/// Flushes an image that was written, writes the report's two lines, or the fault's one, and returns the exit status. A
+/// failed flush is a fault. Errors of standard error are ignored.
 pub fn finish<W: Write, E: Write>(
     outcome: Result<Report, Fault>,
     out: &mut Tally<W>,

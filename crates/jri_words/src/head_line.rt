@@ -81,7 +81,7 @@ fn write_members(line: &mut String, head: &Head) -> Result<(), AllocError> {
     writeln!(line, ",\"scan_at\":{}}}", head.scan_at())
 }
 
-/// The words of a fault without a refusal.
+/// Returns the text of a fault without a refusal.
 fn fault_text(fault: Fault) -> &'static str {
     match fault {
         Fault::NoFile => "cannot open the file",

@@ -1,4 +1,4 @@
-//! What the words of the command line ask for, what the program asks of its machine, and what it tells and answers.
+//! What the arguments of the command line ask for, what the program asks of its machine, and what it reports.
 #![tactic(auto)]
 
 mod answers;

@@ -4,11 +4,11 @@ use std::fmt;
 use std::fmt::{Display, Formatter};
 use std::io::{Cursor, Error, Result as IoResult, Write};
 
-/// More bytes than the longest line has: words of 61 letters, a number of 20 digits, a name of 4,095 bytes, a reason of 256
+/// More bytes than the longest line has: text of 61 letters, a number of 20 digits, a name of 4,095 bytes, a reason of 256
 /// and the line's end.
 const LINE_ROOM: usize = 4608;
 
-/// What stands behind the words of a line: nothing, or a name and the system's reason.
+/// What follows the text of a line: nothing, or a name and the system's reason.
 #[derive(Clone, Copy)]
 pub(crate) struct Behind<'a> {
     pub(crate) name: Option<&'a str>,
@@ -16,7 +16,7 @@ pub(crate) struct Behind<'a> {
 }
 
 impl Display for Behind<'_> {
-    /// Characters of a name that would end the line, or move on a terminal, are told as `?`.
+    /// Writes characters of a name that would end the line, or move on a terminal, as `?`.
     fn fmt<W: fmt::Write>(&self, f: &mut Formatter<W>) -> fmt::Result {
         let Some(name) = self.name else {
             return Ok(());

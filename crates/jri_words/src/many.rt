@@ -14,7 +14,7 @@ use jr_base::VERSION;
 use jr_base::limits::MAX_WORKERS;
 use std::alloc::{AllocError, Global};
 
-/// What the arguments of `jri --output-dir` ask for.
+/// A request for the decoding of many files.
 #[derive(Drop)]
 pub struct ManyRequest {
     /// The number of workers, 1 to 64.

@@ -1,4 +1,4 @@
-//! What the words of a run ask for, what they get where that is nothing, and the source that they name.
+//! What the arguments of a run ask for, the answer if that is nothing, and the source that they name.
 
 ghost use Rattle.std.specs.Prelude.{◌≡◌, ◌≤◌, IfOk, map};
 ghost use Rattle.std.specs.String.{string_bytes};
@@ -24,13 +24,13 @@ const WAITING: &str = "waiting for a JPEG file on standard input\n";
 const ONTO_TERMINAL: &str =
     "refusing to write the image to a terminal; use -o PICTURE or --force\n";
 
-/// The text for a picture that would replace the file that is read.
+/// The text for an image that would replace the file that is read.
 const OWN_INPUT: &str = "refusing to replace the file that is read; name another PICTURE\n";
 
 /// The text for djpeg's option, which `-o` would take for a file named utfile.
 const NO_OUTFILE: &str = "there is no option -outfile; use -o PICTURE\n";
 
-/// The text for a picture whose name ends as those of other formats do.
+/// The text for an image whose name ends like that of another format.
 const OTHER_ENDING: &str =
     "warning: the image is written as PGM or PPM, whatever its name ends in\n";
 
@@ -45,7 +45,7 @@ pub(crate) fn wrong(alloc: Global, text: &str) -> Unasked {
     }
 }
 
-/// Why there are no words.
+/// Returns the reason why there are no arguments.
 fn unread(alloc: Global, error: &Error) -> Unasked {
     if error.kind() == ErrorKind::OutOfMemory {
         return Unasked::Memory;
@@ -53,7 +53,7 @@ fn unread(alloc: Global, error: &Error) -> Unasked {
     wrong(alloc, UNTOLD)
 }
 
-/// Returns whether djpeg's option is among the words, before `--`.
+/// Returns whether djpeg's option is among the arguments, before `--`.
 fn has_outfile(words: &[String]) -> bool {
     for word in words {
         match word.as_str() {
@@ -65,7 +65,7 @@ fn has_outfile(words: &[String]) -> bool {
     false
 }
 
-/// Returns whether a picture of this name would replace what is read.
+/// Returns whether an image of this name would replace what is read.
 fn is_own_input<D: Devices>(devices: &D, asked: &Asked, name: &str) -> bool {
     let source = asked.file.as_ref().map(|file| file.as_str());
     matches!(devices.destination(name, source), Destination::Source)
@@ -81,7 +81,7 @@ fn has_other_ending(name: &str) -> bool {
         .any(|other| ending.eq_ignore_ascii_case(other))
 }
 
-/// Writes a warning if the picture's name ends as those of other formats do, unless little is to be told.
+/// Writes a warning if the image's name ends like that of another format, unless `--quiet` is given.
 pub fn warn_of_name<E: Write>(asked: &Asked, errors: &mut E) {
     if let Target::File(name) = &asked.target {
         if !asked.telling.is_quiet && has_other_ending(name.as_str()) {
@@ -90,8 +90,8 @@ pub fn warn_of_name<E: Write>(asked: &Asked, errors: &mut E) {
     }
 }
 
-/// What words ask for that may be none, of a machine that may have a terminal for the picture, or the file that is read under the
-/// picture's name.
+/// Returns what the arguments ask for, if there are some, on a machine whose output may be a terminal, and whose image's name
+/// may be that of the file that is read.
 pub fn understood<D: Devices>(
     alloc: Global,
     devices: &D,
@@ -134,7 +134,7 @@ fn write_text<W: Write, E: Write>(out: &mut Tally<W>, errors: &mut E, text: &str
     }
 }
 
-/// Writes what the words get instead of a picture, and returns the exit status. Faults of standard error are ignored.
+/// Writes the answer to arguments that ask for no image, and returns the exit status. Errors of standard error are ignored.
 pub fn answer<W: Write, E: Write>(out: &mut Tally<W>, errors: &mut E, unasked: &Unasked) -> u8
     ensures { result ≡ answered_status unasked.now (has_failed out.new) }
 {
@@ -152,7 +152,7 @@ pub fn answer<W: Write, E: Write>(out: &mut Tally<W>, errors: &mut E, unasked: &
     unasked.status()
 }
 
-/// Opens what is read; tells that standard input is waited for, where somebody may sit before it.
+/// Opens what is read. Reports that standard input is awaited if that is a terminal.
 pub fn opened<D: Devices, E: Write>(
     devices: &D,
     asked: &Asked,

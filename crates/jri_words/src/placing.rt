@@ -1,4 +1,4 @@
-//! A picture that takes its file's name when it is whole.
+//! An image that takes its name when it is whole.
 
 ghost use Rattle.std.specs.Prelude.{IfOk, IfErr, List, ◌∷◌, [], ◌≡◌, is_ok, false};
 ghost use Rattle.std.specs.String.{string_bytes};
@@ -30,7 +30,7 @@ fn part_name(alloc: Global, name: &str, run: u64, number: u32) -> Result<String,
     }
 }
 
-/// Of a picture that cannot be written, for this reason.
+/// Returns the ending of an image that cannot be written, for this reason.
 pub fn unwritten(reason: Error) -> Ending
     ensures { result.outcome ≡ Err Fault.Write }
 {
@@ -67,7 +67,7 @@ pub fn make_part<D: Devices>(
     Err(unwritten(Error::from(ErrorKind::AlreadyExists)))
 }
 
-/// Gives a part the name of its file where it has a whole picture, else removes it.
+/// Gives a part the name of its file if it is a whole image; otherwise removes it.
 pub fn place<D: Devices>(devices: &mut D, ending: Ending, part: &str, name: &str) -> Ending
     ensures placed { IfOk result.outcome (λ _. Follow (D.steps devices.old) (D.steps devices.new) (Renamed part.now name.now ∷ [])) }
     ensures removed { IfErr result.outcome (λ _. Follow (D.steps devices.old) (D.steps devices.new) (Removed part.now ∷ [])) }

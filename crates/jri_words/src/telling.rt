@@ -1,4 +1,4 @@
-//! How a run ended, told on standard error.
+//! The end of a run, reported on standard error.
 
 ghost use Rattle.std.specs.Prelude.{◌≡◌, IfOk, IfErr, true, false};
 ghost use Rattle.jri_file.specs.Status.{fault_status, report_status};
@@ -11,16 +11,16 @@ use std::fmt;
 use std::fmt::{Display, Formatter};
 use std::io::{Error, ErrorKind, Result as IoResult, Write};
 
-/// How a run ended, and the system's reason where a device failed.
+/// The end of a run, and the system's reason if a device failed.
 #[derive(Clone, Copy)]
 pub struct Ending {
-    /// The report of a picture that was written, or the fault.
+    /// The report of an image that was written, or the fault.
     pub outcome: Result<Report, Fault>,
     /// The reason, where the system gave one.
     pub reason: Option<Error>,
 }
 
-/// What was read and what was written, as lines name them.
+/// The names of the input and of the output, for lines.
 #[derive(Clone, Copy)]
 pub struct Names<'a> {
     /// The name of the input.
@@ -38,7 +38,7 @@ impl Names<'_> {
 }
 
 impl<'a> Names<'a> {
-    /// Returns the names of what words ask for.
+    /// Returns the names that the arguments give.
     pub fn of(asked: &'a Asked) -> Self {
         Names {
             source: match &asked.file {
@@ -54,7 +54,7 @@ impl<'a> Names<'a> {
 }
 
 impl Ending {
-    /// Whether the picture's reader has gone away.
+    /// Returns whether the image's reader has gone away.
     fn is_left(&self) -> bool {
         match (self.outcome, self.reason) {
             (Err(Fault::Write), Some(reason)) => reason.kind() == ErrorKind::BrokenPipe,
@@ -63,7 +63,7 @@ impl Ending {
     }
 }
 
-/// What ended a scan, as the report names it.
+/// The name of what ended a scan, for the report.
 #[derive(Clone, Copy)]
 struct EndName(ScanEnd);
 
@@ -116,7 +116,7 @@ fn write_fault<E: Write>(errors: &mut E, fault: Fault, behind: Behind<'_>) -> Io
     write_line(errors, text, behind)
 }
 
-/// What stands behind the lines of an ending.
+/// Returns what follows the lines of an ending.
 fn behind<'a>(ending: &Ending, names: &Names<'a>, telling: Telling) -> Behind<'a> {
     let name = match ending.outcome {
         Err(Fault::Write) => names.target,
@@ -135,8 +135,8 @@ fn behind<'a>(ending: &Ending, names: &Names<'a>, telling: Telling) -> Behind<'a
     }
 }
 
-/// Writes the report's two lines, or the fault's one, and answers the exit status. Where little is to be told neither the
-/// report nor that the picture's reader has gone away is. Faults of standard error are passed over.
+/// Writes the report's two lines, or the fault's one, and returns the exit status. With `is_quiet` it writes neither the report
+/// nor that the image's reader has gone away. Errors of standard error are ignored.
 pub fn tell<E: Write>(ending: &Ending, names: &Names<'_>, telling: Telling, errors: &mut E) -> u8
     ensures written { IfOk ending.now.outcome (λ report. result ≡ report_status report false) }
     ensures fault { IfErr ending.now.outcome (λ fault. result ≡ fault_status fault) }
