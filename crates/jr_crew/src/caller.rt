@@ -2,9 +2,10 @@
 
 ghost use Rattle.std.specs.Prelude.{◌≡◌};
 
-use crate::crew::{Crew, MOST_TASKS};
+use crate::crew::Crew;
 use crate::one_first_intervals::OneFirstIntervals;
 use crate::paint_room::PaintRoom;
+use jr_guesses::tuning::MAX_TASKS;
 use jr_picture::Gate;
 use jr_rows::{Marked, RowPainter, shape_of};
 use std::marker::Model;
@@ -59,7 +60,7 @@ impl<'a, 'b, R: Wait, G: Gate, S: OneFirstIntervals> Caller<'a, 'b, R, G, S> {
     {
         let (crew, rt, gate, row) = (self.crew, self.rt, self.gate, self.row);
         let room = &mut self.room;
-        for _ in 0..MOST_TASKS {
+        for _ in 0..MAX_TASKS {
             let Some(task) = crew.task_before(rt, row) else {
                 return;
             };

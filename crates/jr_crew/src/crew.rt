@@ -13,20 +13,13 @@ use crate::paint_room::PaintRoom;
 use crate::row_queue::{BegunRow, RowQueue, RowTask, Waiter};
 use crate::scan_of::ScanOf;
 use jr_base::Memory;
+use jr_guesses::tuning::{MAX_TASKS, ROW_BUFFERS_OF_WORKER};
 use jr_guesses::{GuessTask, ScanGuess};
 use jr_picture::Gate;
 use jr_rows::{FirstIntervals, intervals_of_row};
 use std::alloc::Global;
 use std::marker::Model;
 use std::sync::{Condvar, Mutex, Wait};
-
-/// A bound of loops over tasks that no run reaches: a row has three at most, there is space for few speculative reads,
-/// and each covers bits that no other does.
-pub(crate) const MOST_TASKS: u64 = u64::MAX;
-
-/// Number of benches for each thread, if there are as many rows: one that it works at, and one that waits to be painted
-/// or written.
-pub(crate) const BENCHES_OF_ONE: u32 = 2;
 
 /// What the threads share.
 ///
@@ -272,7 +265,7 @@ impl<'a, S: OneFirstIntervals> Crew<'a, S> {
         let Ok(mut room) = PaintRoom::open(self.alloc, &self.part) else {
             return;
         };
-        for _ in 0..BENCHES_OF_ONE {
+        for _ in 0..ROW_BUFFERS_OF_WORKER {
             self.do_ready(rt, gate, &mut room);
             self.do_ready(rt, gate, &mut room);
             self.bring_bench(rt);
@@ -282,7 +275,7 @@ impl<'a, S: OneFirstIntervals> Crew<'a, S> {
 
     /// Reads and paints rows until no one is left.
     fn do_tasks<R: Wait, G: Gate>(&self, rt: &R, gate: &G, room: &mut PaintRoom<S>) {
-        for _ in 0..MOST_TASKS {
+        for _ in 0..MAX_TASKS {
             let Some(task) = self.task(rt) else {
                 return;
             };

@@ -2,6 +2,7 @@
 
 ghost use Rattle.std.specs.Prelude.{◌≤◌};
 
+use jr_guesses::tuning::MAX_COUNTED;
 use jr_head::Head;
 use jr_rows::{FirstIntervals, bytes_of_row, shape_of};
 
@@ -16,9 +17,6 @@ const SAMPLE_BYTES: u64 = 64;
 
 /// Size in bytes of a data unit's coefficients and samples in a row buffer.
 const UNIT_BYTES: u64 = 128 + SAMPLE_BYTES;
-
-/// Maximum number of intervals whose data are counted: a header may claim millions.
-const MAX_COUNTED: u32 = 1024;
 
 /// Returns about how many bytes of data the intervals to decode have.
 fn data_bytes(part: &FirstIntervals<'_>) -> u64 {

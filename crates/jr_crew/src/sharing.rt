@@ -8,13 +8,17 @@ ghost use Rattle.jr_rows.specs.Stream.{WritesPicture, BeginsPicture, IsSentBy};
 
 use crate::baton::Baton;
 use crate::bench::Painted;
-use crate::crew::{BENCHES_OF_ONE, Crew};
+use crate::crew::Crew;
 use crate::crew_size::crew_size;
 use crate::one_first_intervals::OneFirstIntervals;
 use crate::row_queue::RowQueue;
 use crate::scan_of::ScanOf;
 use crate::sending::{Helping, Sending};
 use jr_base::{Memory, Tally, WriteFault};
+use jr_guesses::tuning::{
+    MAX_COUNTED, MIN_MCUS_OF_BUFFER, MIN_READERS, MIN_READS, READS_OF_ROW_WORKER,
+    ROW_BUFFERS_OF_WORKER,
+};
 use jr_guesses::{GuessQueue, run_beside, windows_of};
 use jr_picture::{Counts, Gate};
 use jr_rows::{
@@ -26,24 +30,6 @@ use std::io::Write;
 use std::marker::Brand;
 use std::sync::Wait;
 use std::thread::Threads;
-
-/// Minimum number of benches for speculative reads, those of three threads: two are as fast if one reads and one
-/// paints.
-const LEAST_BENCHES: u32 = 3 * BENCHES_OF_ONE;
-
-/// Minimum number of speculative reads for which the longest interval must have bits, some 128 KB, to be worth their
-/// memory.
-const LEAST_WINDOWS: u64 = 32;
-
-/// Number of speculative reads for each thread, if there are bits for as many: one that it makes, and two from which a
-/// row is read.
-const GUESSES_OF_ONE: u32 = 3;
-
-/// Minimum number of MCUs of a buffer for speculative reads, if a row has fewer bits than one.
-const LEAST_MCUS: u32 = 512;
-
-/// Maximum number of intervals among which a long one is looked for: a header may claim millions.
-const MOST_LOOKED_AT: u32 = 1024;
 
 /// Allocates `count` slots for painted rows, at least one.
 fn open_slots<S: OneFirstIntervals>(
@@ -67,17 +53,17 @@ fn open_slots<S: OneFirstIntervals>(
 /// have bits for.
 fn guesses_of(part: &FirstIntervals<'_>, count: u32) -> u32 {
     let scan = part.scan();
-    if intervals_of_row(scan.head()).is_some() || count < LEAST_BENCHES {
+    if intervals_of_row(scan.head()).is_some() || count < MIN_READERS * ROW_BUFFERS_OF_WORKER {
         return 0;
     }
     let mut most: u64 = 0;
-    for i in 0..part.limit().min(MOST_LOOKED_AT) {
+    for i in 0..part.limit().min(MAX_COUNTED) {
         most = windows_of(scan, i).max(most);
     }
-    if most < LEAST_WINDOWS {
+    if most < MIN_READS {
         return 0;
     }
-    let all = (count / BENCHES_OF_ONE).saturating_mul(GUESSES_OF_ONE);
+    let all = (count / ROW_BUFFERS_OF_WORKER).saturating_mul(READS_OF_ROW_WORKER);
     most.min(u64::from(all)) as u32
 }
 
@@ -92,7 +78,7 @@ fn mcus_of_guess(scan: &Scan) -> u32 {
     if u64::from(rows) <= windows_of(scan, 0) {
         most
     } else {
-        most.max(LEAST_MCUS)
+        most.max(MIN_MCUS_OF_BUFFER)
     }
 }
 
@@ -177,8 +163,8 @@ fn write_as<R: Threads + Wait + Sync, W: Write, G: Gate + Sync, S: OneFirstInter
     let (scan, limit) = (part.scan(), part.limit());
     let rows = scan.head().mcus_down();
     let workers = workers.min(rows);
-    let benches = rows.min(BENCHES_OF_ONE * workers);
-    let own = benches.min(BENCHES_OF_ONE);
+    let benches = rows.min(ROW_BUFFERS_OF_WORKER * workers);
+    let own = benches.min(ROW_BUFFERS_OF_WORKER);
     let Ok(queue) = open_queue::<S>(alloc, &part, benches, own) else {
         return Err(PictureError::Memory);
     };
@@ -226,7 +212,7 @@ pub fn write_scan_by<R: Threads + Wait + Sync, W: Write, G: Gate + Sync>(
     ensures write { result ≡ Err PictureError.Write → has_failed out.new ≡ true }
 {
     let part = FirstIntervals::of(scan, first);
-    let workers = crew_size(&part, workers, BENCHES_OF_ONE);
+    let workers = crew_size(&part, workers, ROW_BUFFERS_OF_WORKER);
     if workers == 1 {
         return write_scan(alloc, scan, first, gate, out);
     }

@@ -6,6 +6,9 @@ ghost use Rattle.jr_damage.specs.Verdicts.{IsVerdictOf};
 use crate::damage::step_of;
 use crate::shared_scan::SharedScan;
 use crate::verdict::{Verdict, check_by, check_scan};
+use jr_guesses::tuning::{
+    MAX_COUNTED, MIN_READS_OF_CHECK, READS_OF_CHECKER, STEPS_OF_BUFFER, WAITING_READS_OF_CHECK,
+};
 use jr_guesses::{Beside, GuessQueue, Help, OneScan, run_beside, windows_of};
 use jr_scan::Scan;
 use std::alloc::Global;
@@ -13,30 +16,16 @@ use std::marker::Brand;
 use std::sync::Wait;
 use std::thread::Threads;
 
-/// Minimum number of speculative reads for which the scan's intervals must have bits, some 256 KB, for threads to be
-/// worth their start.
-const LEAST_WINDOWS: u64 = 64;
-/// Number of speculative reads, some 128 KB, for each further thread.
-const WINDOWS_OF_ONE: u64 = 32;
-/// Maximum number of intervals that are looked at for that: a header may claim millions.
-const MOST_LOOKED_AT: u32 = 1024;
-
-/// Number of buffers for speculative reads that wait for the reader, besides one for each thread.
-const WAITING_GUESSES: u32 = 4;
-
-/// Number of steps whose MCUs fit into a buffer: a speculative read has about the bits of one.
-const STEPS_OF_GUESS: u32 = 2;
-
 /// Returns how many of `threads` threads are worth their start next to the one that reads.
 fn helpers_of(scan: &Scan, threads: u32) -> u32 {
     let mut windows: u64 = 0;
-    for i in 0..scan.intervals().min(MOST_LOOKED_AT) {
+    for i in 0..scan.intervals().min(MAX_COUNTED) {
         windows = windows.saturating_add(windows_of(scan, i));
     }
-    if windows < LEAST_WINDOWS {
+    if windows < MIN_READS_OF_CHECK {
         return 0;
     }
-    (windows / WINDOWS_OF_ONE).min(u64::from(threads)) as u32
+    (windows / READS_OF_CHECKER).min(u64::from(threads)) as u32
 }
 
 /// The calling thread reads the scan, and then ends the others' work.
@@ -85,9 +74,9 @@ fn check_as<R: Threads + Wait + Sync, S: OneScan + Send>(
     requires { S.scan ≡ Some scan.now }
     ensures { IsVerdictOf scan.now (length scan.now.intervals) result }
 {
-    let room = helpers.saturating_add(WAITING_GUESSES);
+    let room = helpers.saturating_add(WAITING_READS_OF_CHECK);
     let step = step_of(scan.head());
-    let most = step.saturating_mul(STEPS_OF_GUESS);
+    let most = step.saturating_mul(STEPS_OF_BUFFER);
     let guesses: Result<GuessQueue<S>, _> = GuessQueue::open(
         alloc,
         scan,

@@ -8,12 +8,10 @@ ghost use Rattle.jr_scan.specs.ScanValue.{interval_of};
 
 use crate::shared_scan::SharedScan;
 use jr_guesses::OneScan;
+use jr_guesses::tuning::UNITS_OF_CHECK_STEP;
 use jr_head::Head;
 use jr_scan::{IntervalRef, McuReader};
 use std::sync::Wait;
-
-/// Number of data units, some 20 KB of a photo, after which a reader asks for speculative reads again.
-const UNITS_OF_STEP: u32 = 1536;
 
 /// A reader that has passed over all whole MCUs of an interval, up to its end or to where none follows.
 fn pass_all(interval: IntervalRef<'_>) -> McuReader<'_>
@@ -31,7 +29,7 @@ fn pass_all(interval: IntervalRef<'_>) -> McuReader<'_>
 pub(crate) fn step_of(head: &Head) -> u32
     ensures { 0 < result }
 {
-    (UNITS_OF_STEP / (head.order().len() as u32).max(1)).max(1)
+    (UNITS_OF_CHECK_STEP / (head.order().len() as u32).max(1)).max(1)
 }
 
 /// Skips the next MCUs of interval i, at most `mcus`, by the speculative reads that other threads make of them. Returns

@@ -4,14 +4,12 @@ ghost use Rattle.std.specs.Prelude.{◌≡◌, Some};
 ghost use Rattle.jr_scan.specs.Guesses.{AreGuessesOf};
 ghost use Rattle.jr_scan.specs.ScanValue.{interval_of};
 
+use jr_guesses::tuning::MAX_TASKS;
 use jr_guesses::{GuessQueue, GuessTask, OneScan, ScanGuess};
 use jr_scan::{Guesses, Scan};
 use std::alloc::Global;
 use std::marker::Model;
 use std::sync::{Condvar, Mutex, Wait};
-
-/// More speculative reads than there are: each covers bits that no other does.
-const MOST_GUESSES: u64 = u64::MAX;
 
 /// Speculative reads, and the threads that wait for them: waking takes longer than asking.
 #[derive(Drop)]
@@ -118,7 +116,7 @@ impl<'a, S: OneScan> SharedScan<'a, S> {
     /// Brings buffers for speculative reads as long as some are lacking. If allocation fails, other threads make those
     /// that have one.
     fn bring<R: Wait>(&self, rt: &R, alloc: Global) {
-        for _ in 0..MOST_GUESSES {
+        for _ in 0..MAX_TASKS {
             let lacking = self.guessing.lock(rt).guesses.lacks_room();
             let Some(most) = lacking else {
                 return;
@@ -137,7 +135,7 @@ impl<'a, S: OneScan> SharedScan<'a, S> {
     /// Allocates memory of its own, and makes speculative reads until all is read.
     pub(crate) fn work<R: Wait>(&self, rt: &R, alloc: Global) {
         self.bring(rt, alloc);
-        for _ in 0..MOST_GUESSES {
+        for _ in 0..MAX_TASKS {
             let Some(task) = self.task(rt) else {
                 return;
             };
@@ -178,7 +176,7 @@ impl<'a, S: OneScan> SharedScan<'a, S> {
         ensures { AreGuessesOf (interval_of self.now number) result }
     {
         self.reach(rt, number, bit);
-        for _ in 0..MOST_GUESSES {
+        for _ in 0..MAX_TASKS {
             let Some(task) = self.task_meanwhile(rt) else {
                 break;
             };

@@ -1,7 +1,7 @@
 //! Speculative reads ahead of a reader of a scan, and buffers for them.
 
 ghost use Rattle.std.specs.Prelude.{◌≡◌, ◌*◌, ◌/◌, ◌<◌, Some, IfOk, length};
-ghost use Rattle.jr_guesses.specs.declared.guess_queue.TheConstants.{LEAST_BITS};
+ghost use Rattle.jr_guesses.specs.declared.tuning.TheConstants.{MIN_BITS_OF_READ};
 ghost use Rattle.jr_scan.specs.ScanValue.{interval_of};
 ghost use Rattle.jr_scan.specs.Guesses.{AreGuessesOf};
 
@@ -9,21 +9,18 @@ use crate::guess_slot::GuessSlot;
 use crate::guess_task::GuessTask;
 use crate::one_scan::OneScan;
 use crate::scan_guess::ScanGuess;
+use crate::tuning::MIN_BITS_OF_READ;
 use crate::window::{Window, bits_of};
 use jr_base::Memory;
 use jr_scan::{Guesses, Scan};
 use std::alloc::Global;
 
-/// Minimum number of bits of a speculative read, if the interval has them: it takes some until its MCUs are those of
-/// the image.
-const LEAST_BITS: u64 = 32_768;
-
 /// Returns the number of speculative reads for which an interval's data have bits.
 pub fn windows_of(scan: &Scan, number: u32) -> u64
     requires { number < length scan.now.intervals }
-    ensures { result ≡ 8 * length (interval_of scan.now number).bytes / LEAST_BITS }
+    ensures { result ≡ 8 * length (interval_of scan.now number).bytes / MIN_BITS_OF_READ }
 {
-    scan.interval_ref(number).bytes().len() as u64 * 8 / LEAST_BITS
+    scan.interval_ref(number).bytes().len() as u64 * 8 / MIN_BITS_OF_READ
 }
 
 /// Returns the number of bits of `mcus` MCUs of the scan's first interval, if all have equally many; at least one.
@@ -31,7 +28,7 @@ fn bits_of_step(scan: &Scan, mcus: u32) -> u64 {
     // By its contract a scan has an interval.
     let _some = scan.intervals();
     let steps = u64::from(scan.interval_ref(0).mcus() / mcus.max(1));
-    (bits_of(scan, 0) / steps.max(1)).max(LEAST_BITS)
+    (bits_of(scan, 0) / steps.max(1)).max(MIN_BITS_OF_READ)
 }
 
 /// Speculative reads ahead of a reader that reads the scan's intervals one after the other, some MCUs at a step.
@@ -94,7 +91,7 @@ impl<S: OneScan> GuessQueue<S> {
             most: 0,
             at: start,
             next: start,
-            step_bits: LEAST_BITS,
+            step_bits: MIN_BITS_OF_READ,
         }
     }
 
@@ -134,7 +131,7 @@ impl<S: OneScan> GuessQueue<S> {
             0
         };
         if bits > 0 {
-            self.step_bits = bits.max(LEAST_BITS);
+            self.step_bits = bits.max(MIN_BITS_OF_READ);
         }
         self.at = (number, bit);
     }

@@ -7,6 +7,7 @@ mod guess_slot;
 mod guess_task;
 mod one_scan;
 mod scan_guess;
+pub mod tuning;
 mod window;
 
 pub use beside::{Beside, Help, run_beside};

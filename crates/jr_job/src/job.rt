@@ -9,6 +9,9 @@ use crate::gathered::Gathered;
 use crate::progress::{Progress, ScanStrip, StripTask};
 use crate::reading::{Reading, strip_mcus};
 use jr_code::Memory;
+use jr_guesses::tuning::{
+    MAX_TASKS, MIN_READERS, MIN_READS, READS_OF_STRIP_WORKER, STEPS_OF_BUFFER,
+};
 use jr_guesses::{GuessQueue, GuessTask, OneScan, ScanGuess, windows_of};
 use jr_piece::{Piece, Strip};
 use jr_scan::{Interval, Scan};
@@ -16,23 +19,8 @@ use std::alloc::Global;
 use std::marker::Model;
 use std::sync::{Arc, Condvar, Mutex, Wait};
 
-/// Minimum number of workers for speculative reads: two are as fast if one reads and one transforms.
-const LEAST_GUESSING: usize = 3;
-
-/// Minimum number of speculative reads for which the interval must have bits, some 128 KB, to be worth their memory.
-const LEAST_WINDOWS: u64 = 32;
-
-/// Number of speculative reads for each worker: one that it makes, and one from which strips are read.
-const GUESSES_OF_ONE: u32 = 2;
-
-/// Number of strips whose MCUs fit into a buffer: a speculative read has about the bits of one.
-const STEPS_OF_GUESS: u32 = 2;
-
 /// Maximum number of workers with a buffer for speculative reads.
 const MOST_WORKERS: usize = 64;
-
-/// More tasks than there are: each reads or decodes a strip, or reads speculatively bits that no other does.
-const MOST_TASKS: u64 = u64::MAX;
 
 /// An interval that several workers decode, a strip at a time, each by a free worker. One of them reads strip after
 /// strip. With three and more, others read ahead speculatively: a strip that these reads cover is skipped, and read
@@ -70,17 +58,17 @@ fn open_guesses<S: OneScan>(
     requires i { i < length scan.now.intervals }
 {
     let windows = windows_of(scan, i);
-    if workers < LEAST_GUESSING || windows < LEAST_WINDOWS {
+    if workers < MIN_READERS as usize || windows < MIN_READS {
         return None;
     }
-    let most = workers.min(MOST_WORKERS) as u32 * GUESSES_OF_ONE;
+    let most = workers.min(MOST_WORKERS) as u32 * READS_OF_STRIP_WORKER;
     let count = windows.min(u64::from(most)) as u32;
     let Ok(interval) = scan.interval(i) else {
         return None;
     };
     let step = strip_mcus(&interval);
     drop(interval);
-    let most = step.saturating_mul(STEPS_OF_GUESS);
+    let most = step.saturating_mul(STEPS_OF_BUFFER);
     let limit = i.saturating_add(1);
     let Ok(mut queue) = GuessQueue::open(alloc, scan, limit, count, step, most) else {
         return None;
@@ -219,7 +207,7 @@ impl<S: OneScan> Job<S> {
         ensures { IfSome result (λ s. (arc_value s).interval ≡ self.now) }
     {
         self.bring(rt, alloc, scan);
-        for _ in 0..MOST_TASKS {
+        for _ in 0..MAX_TASKS {
             let Some(task) = self.task(rt, scan) else {
                 return None;
             };

@@ -10,6 +10,7 @@ use crate::waiting_strip::WaitingStrip;
 use jr_base::Coefficients;
 use jr_code::Memory;
 use jr_guesses::OneScan;
+use jr_guesses::tuning::{MAX_UNITS_OF_STRIP, MIN_MCUS_OF_STRIP, MIN_STRIPS};
 use jr_piece::StripReader;
 use jr_scan::{Guesses, Interval};
 use std::alloc::Global;
@@ -17,23 +18,13 @@ use std::marker::{Model, PhantomData};
 use std::mem::replace;
 use std::sync::Arc;
 
-/// Minimum number of strips of a long interval, up to rounding.
-const STRIPS: u32 = 64;
-
-/// Minimum number of MCUs of a strip: reading fewer takes no longer than handing the reader on.
-const LEAST_MCUS: u32 = 256;
-
-/// Maximum number of data units of a strip that has more than the minimum of MCUs: their blocks fit into a processor's
-/// own cache.
-const MOST_UNITS: u32 = 3072;
-
 /// Returns the number of MCUs of each strip of a shared interval but the last.
 pub fn strip_mcus(interval: &Interval) -> u32
     ensures { 0 < result }
 {
     let units = interval.head().order().len() as u32;
-    let even = interval.mcus() / STRIPS;
-    even.min(MOST_UNITS / units).max(LEAST_MCUS)
+    let even = interval.mcus() / MIN_STRIPS;
+    even.min(MAX_UNITS_OF_STRIP / units).max(MIN_MCUS_OF_STRIP)
 }
 
 /// Where the whole MCUs of interval `number` end, and whether it has a decoding.
