@@ -6,10 +6,10 @@ use jri_memory::{decode_canvas, lay_out};
 use std::test::Fail;
 use test_files::files::file;
 
-/// What stands in a buffer before a call.
+/// The content of a buffer before a call.
 const BEFORE: u8 = 7;
 
-/// A line of two pixels, red, green and blue, a byte of a stride behind it, and the answer by layout; canvases have nine bytes.
+/// A line of two pixels, red, green and blue, one more byte of a stride after it, and the answer by layout; canvases have nine bytes.
 const COLOURS: [(u32, usize, u32, [u8; 9]); 7] = [
     (0, 9, OK, [1, 2, 3, 4, 5, 6, 7, 7, 7]),
     (1, 9, OK, [1, 2, 3, 4, 5, 6, 7, 7, 7]),
@@ -38,7 +38,7 @@ const SEVEN: [u8; 21] = [
     1, 2, 3, 4, 5, 6, 7, 8, 9, 10, 11, 12, 13, 14, 15, 16, 17, 18, 19, 20, 21,
 ];
 
-/// What a canvas of 29 bytes has of it, by layout.
+/// The content of a canvas of 29 bytes, by layout.
 const LONGER: [(u32, [u8; 29]); 3] = [
     (
         2,

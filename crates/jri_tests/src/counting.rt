@@ -18,7 +18,7 @@ use test_files::scans::scan;
 /// How often a call looks whether one more worker comes than it waits for.
 const MORE_TURNS: u32 = 10_000;
 
-/// Holds each call until so many are inside at once, and then a while longer.
+/// Holds each call until that number are inside at once, and then a while longer.
 #[derive(Drop)]
 struct Crowd {
     number: u64,
@@ -41,7 +41,7 @@ impl Crowd {
         }
     }
 
-    /// Notes that so many are inside. There are at most 64 workers, and each turn that fails has seen a greater number.
+    /// Notes that this number are inside. There are at most 64 workers, and each turn that fails has seen a greater number.
     fn note(&self, number: u64) {
         for _turn in 0..64u32 {
             let greatest = self.greatest.load(Ordering::SeqCst);
@@ -65,7 +65,7 @@ impl Crowd {
         false
     }
 
-    /// Whether just that number came, for the ten intervals.
+    /// Returns whether exactly that number came, for the ten intervals.
     fn is_exact(&self) -> bool {
         self.greatest.load(Ordering::SeqCst) == self.number
             && self.calls.load(Ordering::SeqCst) == 10
@@ -94,7 +94,7 @@ impl Gate for Crowd {
     fn made(&self, _piece: &Piece) {}
 }
 
-/// Whether a run goes well, and just so many workers come.
+/// Returns whether a run goes well, and exactly that number of workers come.
 fn runs_by<R: Threads + Wait + Sync + AllocGlobal>(rt: &R, workers: u32) -> Result<bool, Fail>
     requires some { 1 ≤ workers }
     requires few { workers ≤ MAX_WORKERS }
@@ -117,7 +117,7 @@ fn decodes_by<R: Threads + Wait + Sync + AllocGlobal>(rt: &R, workers: u32) -> R
     Ok(board.sound() == 10 && gate.is_exact())
 }
 
-/// So many workers come where `run` and where `decode_all` is asked for them.
+/// Checks that as many workers come as `run` and `decode_all` are asked for.
 fn check<R: Threads + Wait + Sync + AllocGlobal + Abort>(rt: &R, workers: u32) -> Result<(), Fail>
     requires some { 1 ≤ workers }
     requires few { workers ≤ MAX_WORKERS }

@@ -42,11 +42,11 @@ const fn listed(count: u32, next: u32, next_at: u64) -> DamageReport {
     }
 }
 
-/// Two intervals of one MCU each, whose data stand at bytes 146 and 149.
+/// Two intervals of one MCU each, whose data are at bytes 146 and 149.
 const TWO: &str = "GI 63 FF D0 63 E";
 
-/// How many bytes of that file there are, the position that the list starts at, how many entries have room, the answer, what is told,
-/// and what the first two of the list are then.
+/// The number of bytes of that file, the position at which the list starts, the number of entries that fit, the answer, the report,
+/// and the first two entries of the list.
 type Row = (usize, (u32, u64), usize, u32, DamageReport, [Damage; 2]);
 
 fn rows() -> [Row; 10] {

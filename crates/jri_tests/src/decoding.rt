@@ -10,7 +10,7 @@ use std::io::{Read, Write};
 use std::sync::Wait;
 use std::thread::Threads;
 
-/// What a run comes to, and its output.
+/// Returns the outcome of a run, and its output.
 pub(crate) fn outcome_of<
     R: Threads + Wait + Sync + AllocGlobal,
     I: Read + Drop,

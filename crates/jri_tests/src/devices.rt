@@ -11,7 +11,7 @@ use std::test::Fail;
 use test_files::files::file;
 use test_files::pictures::picture;
 
-/// Takes so many bytes, three a call, and then fails; or fails only when it is flushed.
+/// Takes a number of bytes, three a call, and then fails; or fails only when it is flushed.
 #[derive(Drop)]
 struct Full {
     bytes: Vec<u8>,
@@ -112,7 +112,7 @@ fn tells_faults_that_no_file_has(rt: HostRuntime) -> Result<(), Fail> {
     Ok(())
 }
 
-/// Takes all of each call, and puts a bar behind it.
+/// Takes all of each call, and appends a bar.
 #[derive(Drop)]
 struct Barred {
     bytes: Vec<u8>,
@@ -130,7 +130,7 @@ impl Write for Barred {
     }
 }
 
-/// Whether just these lines are written, each by one call.
+/// Returns whether exactly these lines are written, each by one call.
 fn is_told(alloc: Global, outcome: Result<Report, Fault>, lines: &str) -> bool {
     let mut out = Tally::of(Vec::new(alloc));
     let mut errors = Barred {

@@ -6,7 +6,7 @@ use std::test::Fail;
 use test_files::files::LONG;
 use test_files::scans::scan;
 
-/// How often a gate is passed, and how many MCUs the pieces have that it is shown.
+/// The number of times that a gate is passed, and the number of MCUs of the pieces that it is shown.
 #[derive(Drop)]
 struct Calls {
     passed: AtomicU32,

@@ -9,7 +9,7 @@ use std::rc::Rc;
 /// The bytes of a file or a stream, which all of its handles share.
 type Bytes = Rc<RefCell<Vec<u8>>>;
 
-/// An open file or stream, which takes so many bytes more.
+/// An open file or stream, which takes a number of bytes more.
 #[derive(Drop)]
 pub(crate) struct Handle {
     bytes: Option<Bytes>,
@@ -71,7 +71,7 @@ pub(crate) struct Machine {
     pub(crate) files: Vec<Named>,
     pub(crate) has_input_terminal: bool,
     pub(crate) has_output_terminal: bool,
-    /// How many bytes each output and each new file takes.
+    /// The number of bytes that each output and each new file takes.
     pub(crate) room: usize,
     /// Why it takes no more.
     pub(crate) refusal: ErrorKind,
@@ -111,7 +111,7 @@ impl Machine {
         })
     }
 
-    /// Puts a file into the folder.
+    /// Adds a file to the directory.
     pub(crate) fn put(
         &mut self,
         name: &str,
@@ -127,12 +127,12 @@ impl Machine {
         Ok(())
     }
 
-    /// What standard output has.
+    /// Returns the content of standard output.
     pub(crate) fn written(&self) -> Result<Vec<u8>, AllocError> {
         copied(self.alloc, &self.output)
     }
 
-    /// What a file has.
+    /// Returns the content of a file.
     pub(crate) fn kept(&self, name: &str) -> Result<Option<Vec<u8>>, AllocError> {
         match self.named(name) {
             Some(file) => Ok(Some(copied(self.alloc, &file.bytes)?)),

@@ -211,7 +211,7 @@ fn describes_headers(rt: HostRuntime) -> Result<(), Fail> {
     Ok(())
 }
 
-/// An output that takes no more is told, and is no success.
+/// An output that takes no more is reported, and is no success.
 #[test]
 fn tells_of_an_output_that_fails(rt: HostRuntime) -> Result<(), Fail> {
     let mut machine = machine(rt.alloc())?;

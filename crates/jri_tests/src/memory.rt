@@ -8,7 +8,7 @@ use std::process::Abort;
 use std::test::Fail;
 use test_files::files::{COLOURED, file};
 
-/// What stands in a buffer before a call.
+/// The content of a buffer before a call.
 const BEFORE: u8 = 7;
 
 /// A report of nothing.
@@ -62,7 +62,7 @@ fn counted(intervals: u32, sound: u32, damaged: u32) -> DecodeReport {
 /// A file of two sound intervals.
 const TWO: &str = "GI 63 FF D0 63 E";
 
-/// A file, the room for its pixels and marks, the answer, and the report.
+/// A file, the sizes of its buffers for pixels and marks, the answer, and the report.
 fn decodings() -> [(&'static str, usize, usize, u32, DecodeReport); 8] {
     [
         ("G 63 E", 65, 2, SOUND, counted(1, 1, 0)),
@@ -79,7 +79,7 @@ fn decodings() -> [(&'static str, usize, usize, u32, DecodeReport); 8] {
 /// A file of three rows of MCUs of 8 lines, of which the second is damaged.
 const THREE_ROWS: &str = "S Q F:0018:0008 D A I C 63 FF D0 E0 FF D1 63 E";
 
-/// Of that file the first line and how many, the room for them, the answer, and the report.
+/// The first line of that file, the number of lines, the size of their buffer, the answer, and the report.
 fn lines() -> [(u32, u32, usize, u32, DecodeReport); 13] {
     [
         (0, 24, 192, DAMAGED, counted(3, 2, 1)),
@@ -98,24 +98,24 @@ fn lines() -> [(u32, u32, usize, u32, DecodeReport); 13] {
     ]
 }
 
-/// Whether all bytes of a buffer are as they were.
+/// Returns whether all bytes of a buffer are unchanged.
 fn is_untouched(bytes: &[u8]) -> bool {
     bytes.iter().all(|byte| *byte == BEFORE)
 }
 
-/// Whether there is a picture with this answer.
+/// Returns whether there is an image with this answer.
 fn is_picture(answer: u32) -> bool {
     answer == SOUND || answer == DAMAGED
 }
 
-/// What is answered and told of a file.
+/// Returns the answer and the report of a file.
 fn told(alloc: Global, bytes: &[u8], pixels: &mut [u8], marks: &mut [u8]) -> (u32, DecodeReport) {
     let mut report = UNWRITTEN;
     let answer = decode_file(alloc, bytes, pixels, marks, &mut report);
     (answer, report)
 }
 
-/// What is answered and told of a file with so much room; whether the buffers are as they were where there is no picture.
+/// Returns the answer and the report of a file with buffers of these sizes, and whether the buffers are unchanged if there is no image.
 fn told_with_room(
     alloc: Global,
     words: &str,
@@ -142,7 +142,7 @@ fn answers_by_room_and_file(rt: HostRuntime) -> Result<(), Fail> {
     Ok(())
 }
 
-/// What is answered and told of a check with so much room for marks; whether they are as they were where it fails.
+/// Returns the answer and the report of a check with a buffer of this size for marks, and whether it is unchanged if it fails.
 fn checked_with_room(
     alloc: Global,
     words: &str,
@@ -162,7 +162,7 @@ fn checks_with_too_little_room(rt: HostRuntime) -> Result<(), Fail> {
     Ok(())
 }
 
-/// What is answered and told of lines of the file of three rows; whether they are those lines, or as they were.
+/// Returns the answer and the report of lines of the file of three rows, and whether they are those lines, or unchanged.
 fn told_of_lines(
     alloc: Global,
     bytes: &[u8],
@@ -287,7 +287,7 @@ fn headers() -> [(&'static str, u32, u32, Header); 15] {
     ]
 }
 
-/// What is answered and told of a file's header.
+/// Returns the answer and the report of a file's header.
 fn told_of_header(alloc: Global, bytes: &[u8], more: u32) -> (u32, Header) {
     let mut header = UNREAD;
     let answer = read_header(alloc, bytes, more, &mut header);

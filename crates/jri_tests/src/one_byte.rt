@@ -12,7 +12,7 @@ use std::thread::Threads;
 use test_files::files::file;
 use test_files::pictures::picture;
 
-/// Gives a byte a call; the call of one number fails, and those behind it go on.
+/// Returns a byte a call; one call fails, and those after it continue.
 #[derive(Drop)]
 struct Source<'a> {
     rest: &'a [u8],
@@ -45,7 +45,7 @@ enum Failure {
     TakesNone,
 }
 
-/// Takes a byte a call; the call of one number fails, and those behind it go on.
+/// Takes a byte a call; one call fails, and those after it continue.
 #[derive(Drop)]
 struct Sink {
     bytes: Vec<u8>,
@@ -116,7 +116,7 @@ fn fault_of_output<R: Threads + Wait + Sync + AllocGlobal>(
     (outcome.err(), out.into_inner().bytes)
 }
 
-/// The smallest file has 143 bytes, so its end is told by call 144.
+/// The smallest file has 143 bytes, so call 144 reports its end.
 #[test]
 fn tells_an_input_that_fails_at_one_call(rt: HostRuntime) -> Result<(), Fail> {
     let bytes = file(rt.alloc(), "G 63 E")?;

@@ -12,7 +12,7 @@ use std::thread::Threads;
 use test_files::files::file;
 use test_files::pictures::picture;
 
-/// One interval of one block, and its picture.
+/// One interval of one block, and its image.
 const SOUND: &str = "G 63 E";
 
 const SOUND_PICTURE: &str = "P5 8 8 : 8*136";
@@ -41,7 +41,7 @@ fn run_on<R: Threads + Wait + Sync + AllocGlobal>(
     Ok((lines, ended.status()))
 }
 
-/// Puts the sound file, a damaged one, a refused one and an old picture into the folder.
+/// Adds the sound file, a damaged one, a refused one and an old image to the directory.
 fn put_files(alloc: Global, machine: &mut Machine, sound: &[u8]) -> Result<(), Fail> {
     machine.put("sound.jpg", sound, false)?;
     machine.put("damaged.jpg", file(alloc, DAMAGED)?.as_slice(), false)?;
@@ -58,10 +58,10 @@ fn machine(alloc: Global) -> Result<Machine, Fail> {
     Ok(machine)
 }
 
-/// How many files stand in the folder of `machine`.
+/// The number of files in the directory of `machine`.
 const FILES: usize = 4;
 
-/// Words, the lines that they get on standard error and the exit status; the picture is that of the sound file where the
+/// Arguments, their lines on standard error and the exit status; the image is that of the sound file if the
 /// status is 0.
 const LINES: [(&str, &str, u8); 16] = [
     ("", SOUND_LINES, 0),
@@ -143,7 +143,7 @@ const ON_DAMAGE: [(&str, &str, u8); 3] = [
     ("--quiet damaged.jpg", "", 3),
 ];
 
-/// A damaged file ends with status 3, and its blank intervals are as many as the words say.
+/// A damaged file ends with status 3, and its blank intervals are as many as the arguments say.
 #[test]
 fn tells_damage(rt: HostRuntime) -> Result<(), Fail> {
     for (line, told, status) in &ON_DAMAGE {
@@ -153,7 +153,7 @@ fn tells_damage(rt: HostRuntime) -> Result<(), Fail> {
     Ok(())
 }
 
-/// Whether the folder has this in a file, and so many files.
+/// Checks that the directory has this content in a file, and this number of files.
 fn has<R: Abort>(
     rt: &R,
     machine: &Machine,
@@ -168,7 +168,7 @@ fn has<R: Abort>(
     Ok(())
 }
 
-/// The folder has this picture in a file, and one file more than at first.
+/// Checks that the directory has this image in a file, and one file more than at first.
 fn has_picture<R: AllocGlobal + Abort>(
     rt: &R,
     machine: &Machine,
@@ -179,7 +179,7 @@ fn has_picture<R: AllocGlobal + Abort>(
     has(rt, machine, name, whole.as_slice(), FILES + 1)
 }
 
-/// A new picture, one in place of an old file, and one in place of the new picture.
+/// Checks a new image, one that replaces an old file, and one that replaces the new image.
 fn check_places<R: Threads + Wait + Sync + AllocGlobal + Abort>(
     rt: &R,
     machine: &mut Machine,
@@ -218,7 +218,7 @@ fn passes_over_other_parts(rt: HostRuntime) -> Result<(), Fail> {
     check_parts(&rt, &mut machine)
 }
 
-/// Words that give no picture, their lines where these are looked at, and the exit status.
+/// Arguments that give no image, their lines if these are pinned, and the exit status.
 const KEEPING: [(&str, Option<&str>, u8); 5] = [
     ("-o old.pgm refused.jpg", Some(REFUSED_LINE), 2),
     ("-o old.pgm none.jpg", Some("cannot open the file\n"), 1),
@@ -246,7 +246,7 @@ fn check_keeping<R: Threads + Wait + Sync + AllocGlobal + Abort>(
     has(rt, machine, "old.pgm", b"old", FILES)
 }
 
-/// With a status that no picture has, the file is as it was, and no part is left.
+/// With a status of no image the file is unchanged, and no part is left.
 #[test]
 fn leaves_a_file_as_it_was(rt: HostRuntime) -> Result<(), Fail> {
     for (line, told, wanted) in &KEEPING {
@@ -256,7 +256,7 @@ fn leaves_a_file_as_it_was(rt: HostRuntime) -> Result<(), Fail> {
     Ok(())
 }
 
-/// Words of a run whose picture is placed into the folder.
+/// The arguments of a run whose image goes into the directory.
 const INTO_FOLDER: &str = "-o old.pgm --verbose sound.jpg";
 
 /// A full disk, a folder that takes no file, and one in which none can be renamed.
@@ -308,7 +308,7 @@ const REFUSALS: [(&str, ErrorKind, &str); 4] = [
     ),
 ];
 
-/// The reader of the picture goes away.
+/// The reader of the image goes away.
 #[test]
 fn ends_without_a_line_where_the_reader_has_gone(rt: HostRuntime) -> Result<(), Fail> {
     for (line, refusal, told) in &REFUSALS {
@@ -362,12 +362,12 @@ const ON_TERMINALS: [(&str, &str, u8); 6] = [
     ("-o new.pgm sound.jpg", SOUND_LINES, 0),
 ];
 
-/// Whether standard output or a new file has something.
+/// Returns whether standard output or a new file has something.
 fn has_written(machine: &Machine) -> Result<bool, Fail> {
     Ok(!machine.written()?.is_empty() || machine.files.len() > FILES)
 }
 
-/// A picture goes onto a terminal only where the words say so.
+/// An image goes to a terminal only if the arguments say so.
 #[test]
 fn keeps_pictures_from_terminals(rt: HostRuntime) -> Result<(), Fail> {
     for (line, told, wanted) in &ON_TERMINALS {
@@ -380,7 +380,7 @@ fn keeps_pictures_from_terminals(rt: HostRuntime) -> Result<(), Fail> {
     Ok(())
 }
 
-/// Standard input is waited for aloud where it is a terminal, but not where little is to be told.
+/// The program says that it waits for standard input if that is a terminal, but not with `--quiet`.
 #[test]
 fn tells_that_it_waits(rt: HostRuntime) -> Result<(), Fail> {
     let waiting = "waiting for a JPEG file on standard input\n";

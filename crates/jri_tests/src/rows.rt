@@ -6,10 +6,10 @@ use std::alloc::Global;
 use std::test::Fail;
 use test_files::files::file;
 
-/// What stands in a buffer before a call.
+/// The content of a buffer before a call.
 const BEFORE: u8 = 7;
 
-/// The top of a picture.
+/// The top of an image.
 const TOP: RowPlace = RowPlace {
     at: 0,
     bit: 0,
@@ -38,7 +38,7 @@ const UNWRITTEN: RowsReport = RowsReport {
     detail: 7,
 };
 
-/// Of so many rows of 8 lines.
+/// Returns the report of that number of rows of 8 lines.
 fn rows_of(rows: u32, first_line: u32) -> RowsReport {
     RowsReport {
         rows,
@@ -57,7 +57,7 @@ fn refused(refusal: u32, detail: u64) -> RowsReport {
     }
 }
 
-/// A picture of three rows of 8 lines and 8 columns, of which the second is damaged. Its data begin at byte 146.
+/// An image of three rows of 8 lines and 8 columns, of which the second is damaged. Its data begin at byte 146.
 const THREE: &str = "S Q F:0018:0008 D A I C 63 FF D0 E0 FF D1 63 E";
 
 /// The place behind the first row: behind six bits of the byte 63, two of a word, three of the difference 4 and one of a word.

@@ -17,10 +17,10 @@ use std::io::{Error, Read, Write};
 /// The maximum number of bytes that may be read at once.
 const MAX_PART: usize = 1 << 30;
 
-/// More lines than a picture has.
+/// More lines than an image has.
 const MOST_LINES: u32 = 65_536;
 
-/// Why there is no picture, or no whole one.
+/// The reason why there is no image, or no whole one.
 #[derive(Clone, Copy)]
 enum Failure {
     Stream,
@@ -55,7 +55,7 @@ impl From<Refusal> for Failure {
     }
 }
 
-/// How many bytes so many lines have, and no more than there is room for.
+/// Returns the size of that number of lines in bytes, and no more than fit.
 fn bytes_of(head: &Head, lines: u32, room: usize) -> usize
     ensures { result ≤ room }
 {
@@ -92,7 +92,7 @@ fn begin<W: Write>(
     }
 }
 
-/// Writes the next lines that are settled, and returns whether there are any.
+/// Writes the next lines that are final, and returns whether there are any.
 fn write_next<W: Write>(
     alloc: Global,
     arriving: &mut Arriving,
@@ -110,7 +110,7 @@ fn write_next<W: Write>(
     }
 }
 
-/// Writes the lines that are settled by now. `pixels` has space for them once there is a header.
+/// Writes the lines that are final so far. `pixels` has space for them once there is a header.
 fn write_settled<W: Write>(
     alloc: Global,
     arriving: &mut Arriving,
@@ -128,7 +128,7 @@ fn write_settled<W: Write>(
     Ok(out.flush()?)
 }
 
-/// Returns the lines starting at one: those that no further byte has settled.
+/// Returns the lines starting at one: those that no further byte has made final.
 fn rest_of(alloc: Global, scan: &Scan, first: u32) -> Result<Vec<u8>, Memory> {
     let head = scan.head();
     let left = head.height().saturating_sub(first);
@@ -206,14 +206,14 @@ fn show<I: Read, W: Write>(
     }
 }
 
-/// Tells how many restart intervals are sound and damaged, and answers the exit status.
+/// Reports the numbers of sound and damaged restart intervals, and returns the exit status.
 fn report<E: Write>(errors: &mut E, counts: &Counts) -> u8 {
     let (sound, damaged) = (counts.sound, counts.damaged);
     let _ = writeln!(errors, "intervals sound {sound} damaged {damaged}");
     if damaged > 0 { 3 } else { 0 }
 }
 
-/// Tells why there is no picture, or no whole one, and answers the exit status.
+/// Reports why there is no image, or no whole one, and returns the exit status.
 fn tell<E: Write>(errors: &mut E, failure: &Failure) -> u8 {
     match failure {
         Failure::Stream => {

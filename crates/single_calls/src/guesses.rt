@@ -8,23 +8,23 @@ use jr_scan::{Guess, McuReader, Scan};
 use std::alloc::Global;
 use std::io::Write;
 
-/// For so many MCUs a guess has room.
+/// The number of MCUs that fit into a speculative read.
 const MOST_MCUS: u32 = 4096;
 
-/// What guesses come to where a reader goes over all intervals of a file by them, one after the other.
+/// The use of speculative reads if a reader goes over all intervals of a file with them, one after the other.
 #[derive(Clone, Copy)]
 pub(crate) struct GuessCounts {
-    /// How many guesses are made.
+    /// The number of speculative reads that are made.
     guesses: u32,
     /// Of how many of them the reader takes an MCU over.
     in_step: u32,
-    /// How many MCUs it takes over.
+    /// The number of MCUs that it takes over.
     taken_over: u32,
-    /// How many it reads itself.
+    /// The number of MCUs that it reads itself.
     read: u32,
 }
 
-/// Passes over the next MCU, and tells whether a guess had it. None where no whole one follows.
+/// Skips the next MCU, and returns whether a speculative read had it. `None` if no whole one follows.
 fn pass(reader: &mut McuReader<'_>, guess: &Guess) -> Option<bool>
     requires same { IsGuessOf reader.old.run.interval guess.now }
     ensures run { reader.new.run ≡ reader.old.run }
@@ -42,7 +42,7 @@ fn pass(reader: &mut McuReader<'_>, guess: &Guess) -> Option<bool>
     }
 }
 
-/// Passes over the MCUs that start before a bit, by a guess.
+/// Skips the MCUs that start before a bit, with a speculative read.
 fn pass_by(reader: &mut McuReader<'_>, guess: &Guess, to: u64, counts: &mut GuessCounts)
     requires same { IsGuessOf reader.old.run.interval guess.now }
     ensures run { reader.new.run ≡ reader.old.run }
@@ -64,7 +64,7 @@ fn window_start(bits: u64, k: u64, windows: u64) -> u64 {
     bits.saturating_mul(k) / windows.max(1)
 }
 
-/// Goes over an interval by guesses of all its bits but the first ones. None where memory is refused.
+/// Goes over an interval with speculative reads of all its bits but the first ones. `None` if allocation fails.
 fn count_interval(alloc: Global, scan: &Scan, number: u32, counts: &mut GuessCounts) -> Option<()>
     requires { number < length scan.now.intervals }
 {
@@ -87,7 +87,7 @@ fn count_interval(alloc: Global, scan: &Scan, number: u32, counts: &mut GuessCou
     Some(())
 }
 
-/// What guesses of a scan's intervals come to. None where memory is refused.
+/// Returns the use of speculative reads of a scan's intervals. `None` if allocation fails.
 pub(crate) fn guess_counts(alloc: Global, scan: &Scan) -> Option<GuessCounts> {
     let mut counts = GuessCounts {
         guesses: 0,

@@ -4,7 +4,7 @@ use crate::caller::Caller;
 use jr_scan::{Block, Interval, Scan};
 use jr_wall::Piece;
 
-/// How many MCUs an interval has in front, of one data unit each, all of one grey.
+/// Returns the number of MCUs of an interval's prefix, of one data unit each, all of one grey.
 fn front_of(number: u32) -> u32 {
     if number == 0 { 16 } else { 5 }
 }

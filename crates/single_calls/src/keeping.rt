@@ -8,7 +8,7 @@ use jr_scan::{Scan, ScanEnd};
 use jr_wall::{Board, Cells, Decoding, Desk, Mark, Piece, Sight};
 use std::sync::Arc;
 
-/// Whether a cell gives the piece of its number.
+/// Returns whether a cell contains the piece of its number.
 fn sees(cells: &Cells, number: u32, sight: &mut Sight) -> bool
     requires { sight.old.cells ≡ cells.now }
     ensures { sight.new.cells ≡ sight.old.cells }

@@ -65,7 +65,7 @@ fn make_calls<R: Threads + Wait + Sync>(rt: &R, caller: &mut Caller<'_>) -> [Out
     ]
 }
 
-/// Tells what came of calls.
+/// Reports the outcomes of calls.
 fn tell<W: Write>(out: &mut W, outcomes: &[Outcome]) {
     for (name, outcome) in outcomes {
         let text = match outcome {
@@ -77,7 +77,7 @@ fn tell<W: Write>(out: &mut W, outcomes: &[Outcome]) {
     }
 }
 
-/// What is done with the words after one that names it.
+/// What is done with the arguments after one that names it.
 #[derive(Clone, Copy)]
 enum Task {
     Times,
@@ -108,7 +108,7 @@ fn tell_times_of<R: Threads + Wait + Clock + Sync>(
     Some(())
 }
 
-/// Reports what guesses of a file come to. `None` if there is no such file, or memory is refused.
+/// Reports the use of speculative reads of a file. `None` if there is no such file, or allocation fails.
 fn tell_guesses_of(rt: &HostRuntime, name: &str) -> Option<()> {
     let scan = scan_of(rt, name)?;
     let counts = guess_counts(rt.alloc(), &scan)?;

@@ -6,7 +6,7 @@ use crate::caller::Caller;
 use jr_wall::{CodedStrip, Strip, StripCells, StripReader, StripSight};
 use std::sync::Arc;
 
-/// Whether a strip has these five MCUs, of one data unit each, all of one grey.
+/// Returns whether a strip has these five MCUs, of one data unit each, all of one grey.
 fn is_front(strip: &Strip) -> bool {
     let mut is_grey = strip.block(5).is_none();
     for k in 0..5 {
@@ -15,7 +15,7 @@ fn is_front(strip: &Strip) -> bool {
     is_grey && (strip.number(), strip.first(), strip.mcus()) == (1, 0, 5)
 }
 
-/// Whether the first cell gives a strip.
+/// Returns whether the first cell contains a strip.
 fn sees(cells: &StripCells, sight: &mut StripSight) -> bool
     requires { sight.old.cells ≡ cells.now }
     ensures { sight.new.cells ≡ sight.old.cells }
@@ -23,7 +23,7 @@ fn sees(cells: &StripCells, sight: &mut StripSight) -> bool
     cells.count() > 0 && cells.look(0, sight).is_some()
 }
 
-/// Hangs a strip into the first cell, where it belongs there. `Err` gives it back.
+/// Publishes a strip in the first cell, if it belongs there. `Err` returns it.
 fn hang(cells: &StripCells, strip: Arc<Strip>, sight: &mut StripSight) -> Result<(), Arc<Strip>>
     requires { sight.old.cells ≡ cells.now }
     ensures { sight.new.cells ≡ sight.old.cells }
@@ -61,7 +61,7 @@ impl<'a> Caller<'a> {
         }
     }
 
-    /// A reader whose call is refused stays where it is, and gives the strip at the next call.
+    /// Reads a strip. A reader whose call is refused stays where it is, and returns the strip at the next call.
     pub(crate) fn read_strip(&mut self) -> Option<bool> {
         let mut reader = self.strips()?;
         self.begin();

@@ -11,13 +11,13 @@ use std::sync::{Arc, Wait};
 use std::thread::Threads;
 use std::time::{Clock, Instant};
 
-/// How many numbers of workers are told of.
+/// The number of numbers of workers that are reported.
 const NUMBERS: usize = 3;
 
-/// So many workers decode a file.
+/// The numbers of workers that decode a file.
 const WORKERS: [u32; NUMBERS] = [1, 2, 4];
 
-/// How often each number of workers decodes a file.
+/// The number of times that each number of workers decodes a file.
 const TURNS: u32 = 9;
 
 /// Returns the scan of the file of that name, if there is one.

@@ -9,10 +9,10 @@ use std::io::{Result as IoResult, Write};
 use std::sync::{Arc, Wait};
 use std::thread::Threads;
 
-/// A writer that takes no memory: it looks whether what is written is a picture's text.
+/// A writer that allocates nothing: it checks that what is written is an image's text.
 #[derive(Drop)]
 struct Reader<'a> {
-    /// What is still to come.
+    /// What is still to be written.
     rest: &'a [u8],
     is_same: bool,
 }
@@ -31,7 +31,7 @@ impl Write for Reader<'_> {
     }
 }
 
-/// Whether the whole picture was written, of a sound interval and a damaged one; where memory was refused, nothing was.
+/// Returns whether the whole image was written, of a sound interval and a damaged one; or nothing, if allocation failed.
 fn judge(
     outcome: Result<Counts, PictureError>,
     written: &Reader<'_>,
@@ -69,7 +69,7 @@ impl<'a> Caller<'a> {
         }
     }
 
-    /// Returns the text of the picture, as it is written from a board.
+    /// Returns the text of the image, as it is written from a board.
     fn picture(&self) -> Option<Vec<u8>> {
         let board = self.board()?;
         let mut out = Tally::of(Vec::new(self.alloc));

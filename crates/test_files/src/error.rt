@@ -3,7 +3,7 @@
 use std::alloc::{AllocError, AllocFailed};
 use std::num::ParseIntError;
 
-/// Why words are no file and no picture.
+/// The reason why a text is not a file and not an image in these notations.
 #[derive(Clone, Copy, Debug, PartialEq, Eq)]
 pub enum NotationError {
     /// They are not of the notation.

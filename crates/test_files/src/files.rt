@@ -80,7 +80,7 @@ pub const TWO_LONG: &str =
 pub const LONG_COLOURED: &str = "S Q F3:01E0:0240:22 D:00:03:06 A \
     C3 108*6000C06000C06000C06000C06000C05800B05800B05800B05800B05800B0 E";
 
-/// Parts with arguments: what stands before each argument, and behind the last.
+/// Parts with arguments: what precedes each argument, and what follows the last.
 const FORMS: [(&str, &str); 6] = [
     ("F", "FF C0 00 0B 08 | | 01 01 11 00"),
     ("F1", "FF C1 00 0B 08 | | 01 01 11 00"),
@@ -98,7 +98,7 @@ const UNITS: [u8; 33] = [
     0xD8,
 ];
 
-/// The text beside a name in a table.
+/// Returns the text next to a name in a table.
 fn text_of<'a>(table: &[(&'a str, &'a str)], word: &str) -> Option<&'a str> {
     for (name, text) in table {
         if *name == word {
@@ -108,7 +108,7 @@ fn text_of<'a>(table: &[(&'a str, &'a str)], word: &str) -> Option<&'a str> {
     None
 }
 
-/// Puts the bytes that pairs of hexadecimal digits write.
+/// Appends the bytes that pairs of hexadecimal digits write.
 fn put_hex(bytes: &mut Vec<u8>, digits: &str) -> Result<(), NotationError> {
     let mut high = None;
     for c in digits.chars() {
@@ -124,7 +124,7 @@ fn put_hex(bytes: &mut Vec<u8>, digits: &str) -> Result<(), NotationError> {
     Ok(())
 }
 
-/// Puts pairs of digits, or so many times a pair.
+/// Appends pairs of digits, or a number of times a pair.
 fn put_digits(bytes: &mut Vec<u8>, word: &str) -> Result<(), NotationError> {
     match word.split_once('*') {
         None => put_hex(bytes, word),
@@ -144,7 +144,7 @@ fn put_all_digits(bytes: &mut Vec<u8>, words: &str) -> Result<(), NotationError>
     Ok(())
 }
 
-/// Puts a part with arguments: each fragment, and the argument behind it.
+/// Appends a part with arguments: each fragment, and the argument after it.
 fn put_form(bytes: &mut Vec<u8>, fragments: &str, arguments: &str) -> Result<(), NotationError> {
     let mut values = arguments.split(':');
     for fragment in fragments.split('|') {
@@ -200,7 +200,7 @@ fn change(bytes: &mut Vec<u8>, arguments: &str) -> Result<(), NotationError> {
     Ok(())
 }
 
-/// Puts a part with arguments, or changes the bytes before it.
+/// Appends a part with arguments, or changes the bytes before it.
 fn put_named(bytes: &mut Vec<u8>, name: &str, arguments: &str) -> Result<(), NotationError> {
     match name {
         "cut" => {
@@ -226,7 +226,7 @@ fn put_part(bytes: &mut Vec<u8>, word: &str) -> Result<(), NotationError> {
     }
 }
 
-/// Puts the bytes of words; groups of parts are none of them.
+/// Appends the bytes of a text; groups of parts are not among its words.
 pub fn put_parts(bytes: &mut Vec<u8>, words: &str) -> Result<(), NotationError> {
     for word in words.split_whitespace() {
         put_part(bytes, word)?;
@@ -246,7 +246,7 @@ pub fn file(alloc: Global, words: &str) -> Result<Vec<u8>, NotationError> {
     Ok(bytes)
 }
 
-/// The first bytes of a file, at most so many.
+/// Returns the first bytes of a file, at most `length`.
 pub fn front(bytes: &[u8], length: usize) -> &[u8] {
     &bytes[..length.min(bytes.len())]
 }

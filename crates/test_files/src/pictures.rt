@@ -7,7 +7,7 @@
 use crate::error::NotationError;
 use std::alloc::{AllocError, Global};
 
-/// Puts so many times the bytes of a pixel, as `16*229,77,128`.
+/// Appends a number of times the bytes of a pixel, as `16*229,77,128`.
 fn put_run(bytes: &mut Vec<u8>, word: &str) -> Result<(), NotationError> {
     let (times, pixel) = word.split_once('*').ok_or(NotationError::Malformed)?;
     for _ in 0..times.parse::<u32>()? {
@@ -37,12 +37,12 @@ fn put_lines(bytes: &mut Vec<u8>, line: &str, times: u32) -> Result<(), Notation
     Ok(())
 }
 
-/// The first lines of a picture's Netpbm text.
+/// Returns the first lines of an image's Netpbm text.
 pub fn header(alloc: Global, magic: &str, width: u32, height: u32) -> Result<String, AllocError> {
     format!(in alloc; "{magic}\n{width} {height}\n255\n")
 }
 
-/// The Netpbm text of a picture in the notation above.
+/// Returns the Netpbm text of an image in the notation above.
 pub fn picture(alloc: Global, words: &str) -> Result<Vec<u8>, NotationError> {
     let (size, lines) = words.split_once(" : ").ok_or(NotationError::Malformed)?;
     let mut parts = size.split_whitespace();

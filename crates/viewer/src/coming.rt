@@ -11,7 +11,7 @@ use std::io::{Error, Read, Write};
 /// The most that is read at once.
 const PART: usize = 65_536;
 
-/// Why there is no picture.
+/// The reason why there is no image.
 #[derive(Clone, Copy)]
 pub enum Failure {
     Stream,
@@ -47,7 +47,7 @@ impl From<Refusal> for Failure {
 }
 
 impl Failure {
-    /// Tells why, and answers the exit status.
+    /// Reports the reason, and returns the exit status.
     pub fn tell<E: Write>(self, errors: &mut E) -> u8 {
         match self {
             Failure::Stream => {
@@ -63,7 +63,7 @@ impl Failure {
     }
 }
 
-/// Writes a picture of these lines, unless the writer has failed.
+/// Writes an image of these lines, unless the writer has failed.
 fn write_lines<W: Write>(head: &Head, lines: &[u8], out: &mut Tally<W>) {
     if out.failed() {
         return;
@@ -75,7 +75,7 @@ fn write_lines<W: Write>(head: &Head, lines: &[u8], out: &mut Tally<W>) {
     let _ = out.flush();
 }
 
-/// Writes a picture where a further twentieth of the lines is shown. Answers how many are. The finished one is not written here.
+/// Writes an image if a further twentieth of the lines is shown. Returns how many are. The finished one is not written here.
 fn write_due<W: Write>(view: &ArrivingView, shown: u64, out: &mut Tally<W>) -> u64 {
     let Some(head) = view.head() else {
         return shown;
@@ -111,7 +111,7 @@ fn take_all<I: Read, W: Write>(
     Ok(())
 }
 
-/// Shows the picture when no further byte comes.
+/// Shows the image when no further byte comes.
 fn show_finished<W: Write>(
     alloc: Global,
     view: ArrivingView,
@@ -132,7 +132,7 @@ fn show_finished<W: Write>(
     Ok(())
 }
 
-/// Shows a picture while its file comes; the last one is finished.
+/// Shows an image while its file arrives; the last one is finished.
 pub fn show<I: Read, W: Write>(
     alloc: Global,
     input: &mut I,

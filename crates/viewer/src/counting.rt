@@ -4,7 +4,7 @@ use jr_view::Screen;
 use jr_wall::{Piece, Strip};
 use std::io::Write;
 
-/// How many of all intervals can be seen, how many of them are damaged, and how many it told of last.
+/// The number of all intervals that can be seen, the number of them that are damaged, and the number that was reported last.
 #[derive(Drop)]
 pub struct Counter<'a, E> {
     pub errors: &'a mut E,
@@ -14,7 +14,7 @@ pub struct Counter<'a, E> {
     pub told: u32,
 }
 
-/// Tells how many can be seen, and how many of them are damaged.
+/// Reports how many can be seen, and how many of them are damaged.
 pub fn tell_of<W: Write>(seen: u32, damaged: u32, out: &mut W) {
     let plural = if seen == 1 { "" } else { "s" };
     let _ = writeln!(
@@ -24,7 +24,7 @@ pub fn tell_of<W: Write>(seen: u32, damaged: u32, out: &mut W) {
 }
 
 impl<E> Counter<'_, E> {
-    /// Tells how many can be seen.
+    /// Reports how many can be seen.
     pub fn tell<W: Write>(&self, out: &mut W) {
         tell_of(self.seen, self.damaged, out);
     }

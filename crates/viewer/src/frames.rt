@@ -5,7 +5,7 @@ use jr_view::{Screen, View};
 use jr_wall::{Piece, Strip};
 use std::io::Write;
 
-/// What can be seen, where its pictures go, and how many twentieths of the rows of MCUs the last one showed.
+/// What can be seen, where its images go, and how many twentieths of the rows of MCUs the last one showed.
 #[derive(Drop)]
 pub struct Frames<'a, W> {
     pub view: View,
@@ -13,7 +13,7 @@ pub struct Frames<'a, W> {
     pub twentieths: u64,
 }
 
-/// Writes a picture, unless the writer has failed.
+/// Writes an image, unless the writer has failed.
 pub fn write<S: Samples, W: Write>(picture: &S, out: &mut Tally<W>) {
     if !out.failed() {
         let _ = write_netpbm(picture, out);
@@ -22,7 +22,7 @@ pub fn write<S: Samples, W: Write>(picture: &S, out: &mut Tally<W>) {
 }
 
 impl<W: Write> Frames<'_, W> {
-    /// Writes a picture where a further twentieth can be seen. The finished one is not written here.
+    /// Writes an image if a further twentieth can be seen. The finished one is not written here.
     fn write_due(&mut self) {
         let twentieths = 20 * u64::from(self.view.rows()) / u64::from(self.view.mcu_rows());
         if self.twentieths < twentieths && twentieths < 20 {

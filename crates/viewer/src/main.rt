@@ -26,10 +26,10 @@ use std::thread::Threads;
 use std::time::Clock;
 use std::{env, fs};
 
-/// How many threads decode.
+/// The number of threads that decode.
 const WORKERS: u32 = 4;
 
-/// The scan of the file of that name; where there is none `errors` is told why, and the exit status is given.
+/// Returns the scan of the file of that name. If there is none, `Err` is the exit status, and `errors` has the reason.
 fn scan_of<E: Write>(rt: &HostRuntime, name: &str, errors: &mut E) -> Result<Scan, u8> {
     let Ok(file) = fs::read(rt, name) else {
         let _ = writeln!(errors, "cannot read the file");
@@ -110,7 +110,7 @@ fn show<R: Threads + Wait + Clock + Sync, W: Write, E: Write>(
     }
 }
 
-/// Shows the file of a name; where that fails `errors` is told why, and the exit status is given.
+/// Shows the file of a name. If that fails `errors` has the reason, and the exit status says so.
 fn show_word<R: Threads + Wait + Clock + Sync, W: Write, E: Write>(
     rt: &HostRuntime,
     threads: &R,
