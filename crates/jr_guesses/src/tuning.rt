@@ -1,4 +1,5 @@
-//! The numbers by which threads share a scan, each with its reason. They decide how soon an image is there, and no sample of it.
+//! The numbers by which threads share a scan, each with its reason. They decide how soon an image is there, and no
+//! sample of it.
 
 /// Minimum number of bits of a speculative read, if the interval has them: it takes some until its MCUs are those of
 /// the image.
@@ -10,8 +11,8 @@ pub const MIN_READERS: u32 = 3;
 /// Minimum number of speculative reads for which an interval must have bits, some 128 KB, to be worth their memory.
 pub const MIN_READS: u64 = 32;
 
-/// Minimum number of speculative reads for which a scan that is only checked must have bits, some 256 KB, for threads to be
-/// worth their start.
+/// Minimum number of speculative reads for which a scan that is only checked must have bits, some 256 KB, for threads
+/// to be worth their start.
 pub const MIN_READS_OF_CHECK: u64 = 64;
 
 /// Number of speculative reads of a check, some 128 KB, for which a further thread is worth its start.
@@ -20,10 +21,12 @@ pub const READS_OF_CHECKER: u64 = 32;
 /// Number of speculative reads that wait for the reader of a check, besides one for each thread.
 pub const WAITING_READS_OF_CHECK: u32 = 4;
 
-/// Number of speculative reads for each worker that decodes rows of MCUs: one that it makes, and two from which a row is read.
+/// Number of speculative reads for each worker that decodes rows of MCUs: one that it makes, and two from which a row
+/// is read.
 pub const READS_OF_ROW_WORKER: u32 = 3;
 
-/// Number of speculative reads for each worker that decodes strips: one that it makes, and one from which strips are read.
+/// Number of speculative reads for each worker that decodes strips: one that it makes, and one from which strips are
+/// read.
 pub const READS_OF_STRIP_WORKER: u32 = 2;
 
 /// Number of the reader's steps whose MCUs fit into a buffer: a speculative read has about the bits of one.
@@ -35,8 +38,8 @@ pub const MIN_MCUS_OF_BUFFER: u32 = 512;
 /// Number of data units, some 20 KB of a photo, after which a check asks for speculative reads again.
 pub const UNITS_OF_CHECK_STEP: u32 = 1536;
 
-/// Number of row buffers for each worker, if there are as many rows: one that it works at, and one that waits to be painted
-/// or written.
+/// Number of row buffers for each worker, if there are as many rows: one that it works at, and one that waits to be
+/// painted or written.
 pub const ROW_BUFFERS_OF_WORKER: u32 = 2;
 
 /// Minimum number of strips of a long interval, up to rounding.

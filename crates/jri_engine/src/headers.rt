@@ -66,9 +66,9 @@ fn describe_each<D: Devices, W: Write>(
     Ok(status)
 }
 
-/// Does what `jri --info` is asked for on these devices: writes a line for each file, what its header says or why it says
-/// nothing, and decodes no interval. The status is the first that applies of 1 (a file or the output failed, or memory ran
-/// out), 2 (a file is refused, or the arguments are wrong) and 0.
+/// Does what `jri --info` is asked for on these devices: writes a line for each file, what its header says or why it
+/// says nothing, and decodes no interval. The status is the first that applies of 1 (a file or the output failed, or
+/// memory ran out), 2 (a file is refused, or the arguments are wrong) and 0.
 pub fn program_for_headers<D: Devices, E: Write>(
     alloc: Global,
     devices: &D,

@@ -127,9 +127,9 @@ fn decode_each<T: Threads + Wait + Sync, D: Devices, E: Write>(
     status
 }
 
-/// Does what `jri --output-dir` is asked for on these devices: decodes each file into a new image of the directory, in order,
-/// and reports on each. Nothing is replaced. The status is the first that applies of 1 (a device failed, or memory ran out), 2
-/// (a file is refused, or the arguments are wrong), 3 (an interval is damaged) and 0.
+/// Does what `jri --output-dir` is asked for on these devices: decodes each file into a new image of the directory, in
+/// order, and reports on each. Nothing is replaced. The status is the first that applies of 1 (a device failed, or
+/// memory ran out), 2 (a file is refused, or the arguments are wrong), 3 (an interval is damaged) and 0.
 pub fn program_for_many<T: Threads + Wait + Sync, D: Devices, E: Write>(
     rt: &T,
     alloc: Global,

@@ -24,8 +24,8 @@ fn head_of_bytes(alloc: Global, file: &[u8]) -> Result<Head, Fault>
     }
 }
 
-/// Reads the header of a file, or its fault. If the first part of 64 KB contains the header, it reads no further; otherwise it
-/// reads the whole input.
+/// Reads the header of a file, or its fault. If the first part of 64 KB contains the header, it reads no further;
+/// otherwise it reads the whole input.
 pub fn read_file_head<R: Read>(alloc: Global, input: &mut Tally<R>) -> Result<Head, Fault>
     requires { has_failed input.old ≡ false }
     ensures head { IfOk result (λ head. OfFile (known_in R.remaining input.old) (λ file. BeginsWithHead file head)) }

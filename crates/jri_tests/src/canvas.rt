@@ -9,7 +9,8 @@ use test_files::files::file;
 /// The content of a buffer before a call.
 const BEFORE: u8 = 7;
 
-/// A line of two pixels, red, green and blue, one more byte of a stride after it, and the answer by layout; canvases have nine bytes.
+/// A line of two pixels, red, green and blue, one more byte of a stride after it, and the answer by layout; canvases
+/// have nine bytes.
 const COLOURS: [(u32, usize, u32, [u8; 9]); 7] = [
     (0, 9, OK, [1, 2, 3, 4, 5, 6, 7, 7, 7]),
     (1, 9, OK, [1, 2, 3, 4, 5, 6, 7, 7, 7]),

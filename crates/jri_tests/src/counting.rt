@@ -41,7 +41,8 @@ impl Crowd {
         }
     }
 
-    /// Notes that this number are inside. There are at most 64 workers, and each turn that fails has seen a greater number.
+    /// Notes that this number are inside. There are at most 64 workers, and each turn that fails has seen a greater
+    /// number.
     fn note(&self, number: u64) {
         for _turn in 0..64u32 {
             let greatest = self.greatest.load(Ordering::SeqCst);

@@ -45,8 +45,8 @@ const fn listed(count: u32, next: u32, next_at: u64) -> DamageReport {
 /// Two intervals of one MCU each, whose data are at bytes 146 and 149.
 const TWO: &str = "GI 63 FF D0 63 E";
 
-/// The number of bytes of that file, the position at which the list starts, the number of entries that fit, the answer, the report,
-/// and the first two entries of the list.
+/// The number of bytes of that file, the position at which the list starts, the number of entries that fit, the answer,
+/// the report, and the first two entries of the list.
 type Row = (usize, (u32, u64), usize, u32, DamageReport, [Damage; 2]);
 
 fn rows() -> [Row; 10] {

@@ -57,7 +57,8 @@ fn run_on<R: Threads + Wait + Sync + AllocGlobal>(
     Ok((lines, ended.status()))
 }
 
-/// The arguments of a run, its lines on standard error if they are pinned, its exit status, and the images that it makes.
+/// The arguments of a run, its lines on standard error if they are pinned, its exit status, and the images that it
+/// makes.
 type Run = (
     &'static str,
     Option<&'static str>,

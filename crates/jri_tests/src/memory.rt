@@ -115,7 +115,8 @@ fn told(alloc: Global, bytes: &[u8], pixels: &mut [u8], marks: &mut [u8]) -> (u3
     (answer, report)
 }
 
-/// Returns the answer and the report of a file with buffers of these sizes, and whether the buffers are unchanged if there is no image.
+/// Returns the answer and the report of a file with buffers of these sizes, and whether the buffers are unchanged if
+/// there is no image.
 fn told_with_room(
     alloc: Global,
     words: &str,
@@ -142,7 +143,8 @@ fn answers_by_room_and_file(rt: HostRuntime) -> Result<(), Fail> {
     Ok(())
 }
 
-/// Returns the answer and the report of a check with a buffer of this size for marks, and whether it is unchanged if it fails.
+/// Returns the answer and the report of a check with a buffer of this size for marks, and whether it is unchanged if it
+/// fails.
 fn checked_with_room(
     alloc: Global,
     words: &str,
@@ -162,7 +164,8 @@ fn checks_with_too_little_room(rt: HostRuntime) -> Result<(), Fail> {
     Ok(())
 }
 
-/// Returns the answer and the report of lines of the file of three rows, and whether they are those lines, or unchanged.
+/// Returns the answer and the report of lines of the file of three rows, and whether they are those lines, or
+/// unchanged.
 fn told_of_lines(
     alloc: Global,
     bytes: &[u8],

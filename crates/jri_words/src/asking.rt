@@ -177,9 +177,9 @@ fn telling_of(matches: &ArgMatches) -> Telling
     }
 }
 
-/// Returns what the arguments after the program's name ask for: `--workers` from 1 to 64, 4 by default; `--first`; at most one file;
-/// and the arguments of the output and of the report. `Unasked` has the text to print if they ask for help or the version or are
-/// wrong.
+/// Returns what the arguments after the program's name ask for: `--workers` from 1 to 64, 4 by default; `--first`; at
+/// most one file; and the arguments of the output and of the report. `Unasked` has the text to print if they ask for
+/// help or the version or are wrong.
 pub fn asked<'a>(alloc: Global, words: &'a [String]) -> Result<Asked, Unasked>
     ensures some { IfOk result (λ a. 1 ≤ a.workers) }
     ensures few { IfOk result (λ a. a.workers ≤ MAX_WORKERS) }

@@ -4,8 +4,8 @@ use std::fmt;
 use std::fmt::{Display, Formatter};
 use std::io::{Cursor, Error, Result as IoResult, Write};
 
-/// More bytes than the longest line has: text of 61 letters, a number of 20 digits, a name of 4,095 bytes, a reason of 256
-/// and the line's end.
+/// More bytes than the longest line has: text of 61 letters, a number of 20 digits, a name of 4,095 bytes, a reason of
+/// 256 and the line's end.
 const LINE_ROOM: usize = 4608;
 
 /// What follows the text of a line: nothing, or a name and the system's reason.

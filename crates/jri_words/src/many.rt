@@ -114,7 +114,8 @@ fn stem_of(file: &str) -> &str {
     }
 }
 
-/// Returns the name of the image of a file in a directory: the last part of the file's name, its ending replaced by `.pnm`.
+/// Returns the name of the image of a file in a directory: the last part of the file's name, its ending replaced by
+/// `.pnm`.
 pub fn image_name(alloc: Global, directory: &str, file: &str) -> Result<String, AllocError>
     ensures { IfOk result (λ name. IsInDirectory directory.now (string_bytes name)) }
 {

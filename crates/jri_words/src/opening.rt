@@ -90,8 +90,8 @@ pub fn warn_of_name<E: Write>(asked: &Asked, errors: &mut E) {
     }
 }
 
-/// Returns what the arguments ask for, if there are some, on a machine whose output may be a terminal, and whose image's name
-/// may be that of the file that is read.
+/// Returns what the arguments ask for, if there are some, on a machine whose output may be a terminal, and whose
+/// image's name may be that of the file that is read.
 pub fn understood<D: Devices>(
     alloc: Global,
     devices: &D,
@@ -134,7 +134,8 @@ fn write_text<W: Write, E: Write>(out: &mut Tally<W>, errors: &mut E, text: &str
     }
 }
 
-/// Writes the answer to arguments that ask for no image, and returns the exit status. Errors of standard error are ignored.
+/// Writes the answer to arguments that ask for no image, and returns the exit status. Errors of standard error are
+/// ignored.
 pub fn answer<W: Write, E: Write>(out: &mut Tally<W>, errors: &mut E, unasked: &Unasked) -> u8
     ensures { result ≡ answered_status unasked.now (has_failed out.new) }
 {

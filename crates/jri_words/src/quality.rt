@@ -61,8 +61,8 @@ fn is_scaled_table(table: &[u16; 64], percentage: u32) -> bool
     true
 }
 
-/// Returns the least quality, 1 to 100, by which libjpeg scales the luminance table of T.81, K.1, to the table of the first
-/// component; `None` if there is none.
+/// Returns the least quality, 1 to 100, by which libjpeg scales the luminance table of T.81, K.1, to the table of the
+/// first component; `None` if there is none.
 pub fn quality_of(head: &Head) -> Option<u32>
     ensures some { IfSome result (HasQuality head.now) }
     ensures none { IfNone result ((q : ℕ) → 1 ≤ q → q ≤ 100 → HasQuality head.now q → ⊥) }

@@ -135,8 +135,8 @@ fn behind<'a>(ending: &Ending, names: &Names<'a>, telling: Telling) -> Behind<'a
     }
 }
 
-/// Writes the report's two lines, or the fault's one, and returns the exit status. With `is_quiet` it writes neither the report
-/// nor that the image's reader has gone away. Errors of standard error are ignored.
+/// Writes the report's two lines, or the fault's one, and returns the exit status. With `is_quiet` it writes neither
+/// the report nor that the image's reader has gone away. Errors of standard error are ignored.
 pub fn tell<E: Write>(ending: &Ending, names: &Names<'_>, telling: Telling, errors: &mut E) -> u8
     ensures written { IfOk ending.now.outcome (λ report. result ≡ report_status report false) }
     ensures fault { IfErr ending.now.outcome (λ fault. result ≡ fault_status fault) }

@@ -31,7 +31,8 @@ impl Write for Reader<'_> {
     }
 }
 
-/// Returns whether the whole image was written, of a sound interval and a damaged one; or nothing, if allocation failed.
+/// Returns whether the whole image was written, of a sound interval and a damaged one; or nothing, if allocation
+/// failed.
 fn judge(
     outcome: Result<Counts, PictureError>,
     written: &Reader<'_>,

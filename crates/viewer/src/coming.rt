@@ -75,7 +75,8 @@ fn write_lines<W: Write>(head: &Head, lines: &[u8], out: &mut Tally<W>) {
     let _ = out.flush();
 }
 
-/// Writes an image if a further twentieth of the lines is shown. Returns how many are. The finished one is not written here.
+/// Writes an image if a further twentieth of the lines is shown. Returns how many are. The finished one is not written
+/// here.
 fn write_due<W: Write>(view: &ArrivingView, shown: u64, out: &mut Tally<W>) -> u64 {
     let Some(head) = view.head() else {
         return shown;

@@ -4,7 +4,8 @@ use jr_view::Screen;
 use jr_wall::{Piece, Strip};
 use std::io::Write;
 
-/// The number of all intervals that can be seen, the number of them that are damaged, and the number that was reported last.
+/// The number of all intervals that can be seen, the number of them that are damaged, and the number that was reported
+/// last.
 #[derive(Drop)]
 pub struct Counter<'a, E> {
     pub errors: &'a mut E,
