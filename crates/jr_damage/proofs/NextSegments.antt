@@ -1,6 +1,6 @@
 -- The segments of a scan, one after the other in its file.
-use Rattle.std.proofs.Common.{◌≡◌, ℕ, zero, suc, ◌+◌, ◌-◌, ◌%◌, ◌<◌, ◌≤◌, ◌⊎◌, inl, inr, List, [], ◌∷◌, ◌++◌, length, take, drop, replicate, get_or, refl, sym, ap, subst, ◌∙◌, length-append, length-drop, length-take-le, arith}
-use Rattle.std.proofs.lemmas.List.{append-nil, drop-drop, get_or-drop, get_or_past}
+use Rattle.std.proofs.Common.{◌≡◌, ℕ, zero, suc, ◌+◌, ◌-◌, ◌%◌, ◌<◌, ◌≤◌, ◌⊎◌, inl, inr, List, [], ◌∷◌, ◌++◌, length, take, drop, replicate, get_or, refl, sym, ap, subst, ◌∙◌, length-append, length-drop, arith}
+use Rattle.std.proofs.lemmas.List.{append-nil, drop-drop, get_or-drop}
 use Rattle.jr_base.specs.declared.marker.TheConstants.{RST0}
 use Rattle.jr_cut.specs.declared.scan_end.ScanEnd.{ScanEnd}
 use Rattle.jr_cut.specs.Cut.{IsRaw, IsStop, IsEnding, CutFrom, marker}
