@@ -1,5 +1,5 @@
 """A plain reader of baseline scans, bit by bit as ITU-T T.81 has them: which restart intervals have a decoding, how far
-the others go, and where their bytes stand. For comparisons: it shares nothing with jri, and takes only files whose head
+the others go, where their bytes stand, which values no 8-bit image has, and what follows EOI. For comparisons: it shares nothing with jri, and takes only files whose head
 would be accepted."""
 
 import re
@@ -43,7 +43,7 @@ class Head:
     """What the markers before the scan say."""
 
     def __init__(self, data):
-        self.restart, self.tables, self.at = 0, {}, 2
+        self.restart, self.tables, self.steps, self.at = 0, {}, {}, 2
         while True:
             while data[self.at + 1] == 0xFF:
                 self.at += 1
@@ -52,6 +52,8 @@ class Head:
             self.at += 2 + size
             if code == 0xC4:
                 self.add_tables(payload)
+            elif code == 0xDB:
+                self.add_steps(payload)
             elif code in (0xC0, 0xC1):
                 self.frame(payload)
             elif code == 0xDD:
@@ -73,6 +75,13 @@ class Head:
             self.tables[kind] = words
             payload = payload[17 + sum(counts) :]
 
+    def add_steps(self, payload):
+        """Quantisation tables, in zigzag order (B.2.4.1)."""
+        while payload:
+            width, number = 1 + (payload[0] >> 4), payload[0] & 15
+            self.steps[number] = [int.from_bytes(payload[1 + k * width : 1 + (k + 1) * width], "big") for k in range(64)]
+            payload = payload[1 + 64 * width :]
+
     def frame(self, payload):
         """Sizes, and the component of each data unit of an MCU (A.2.3)."""
         self.height, self.width = int.from_bytes(payload[1:3], "big"), int.from_bytes(payload[3:5], "big")
@@ -82,15 +91,16 @@ class Head:
         self.high = 8 * max(v for _, v in factors)
         self.across = -(-self.width // (8 * max(h for h, _ in factors)))
         self.mcus = self.across * -(-self.height // self.high)
+        self.step_numbers = [payload[8 + 3 * c] for c in range(payload[5])]
         self.order = [c for c, (h, v) in enumerate(factors) for _ in range(h * v)]
 
     def read_block(self, bits, component, prediction):
-        """The DC value of the next block (F.2.2)."""
+        """The DC value of the next block (F.2.2), and its AC values by their zigzag indexes."""
         size = bits.word(self.tables[self.used[component] >> 4])
         if size > 11:
             raise Undecodable
-        dc = prediction + bits.value(size)
-        if not -32768 <= dc <= 32767:
+        values = {0: prediction + bits.value(size)}
+        if not -32768 <= values[0] <= 32767:
             raise Undecodable
         place = 1
         while place < 64:
@@ -101,24 +111,35 @@ class Head:
             if symbol == 0xF0:
                 place += 16
             elif 1 <= size <= 10:
-                bits.value(size)
+                values[place + run] = bits.value(size)
                 place += run + 1
             else:
                 raise Undecodable
             if place > 64:
                 raise Undecodable
-        return dc
+        return values
+
+    def is_doubtful(self, component, values):
+        """Whether a value has a product with its step that exceeds 1024, the norm of 64 samples of -128, by more than the step."""
+        steps = self.steps[self.step_numbers[component]]
+        return any(abs(value) * steps[k] > 1024 + steps[k] for k, value in values.items())
 
     def decodable(self, data, mcus):
-        """How many whole MCUs can be decoded, and whether they are a decoding of the interval."""
-        bits, predictions = Bits(data), [0] * 3
+        """How many whole MCUs can be decoded, whether they are a decoding of the interval, and the bit after them; and the first
+        doubtful one, as its number, its first bit and the bit after it."""
+        bits, predictions, doubtful = Bits(data), [0] * 3, None
         for done in range(mcus):
+            start, doubts = bits.at, False
             try:
                 for component in self.order:
-                    predictions[component] = self.read_block(bits, component, predictions[component])
+                    values = self.read_block(bits, component, predictions[component])
+                    predictions[component] = values[0]
+                    doubts = doubts or self.is_doubtful(component, values)
             except Undecodable:
-                return done, False
-        return mcus, len(bits.text) - bits.at < 8
+                return done, False, start, doubtful
+            if doubts and not doubtful:
+                doubtful = done, start, bits.at
+        return mcus, len(bits.text) - bits.at < 8, bits.at, doubtful
 
 
 MARKER = re.compile(rb"(?<!\xff)\xff+[^\x00\xff]", re.DOTALL)
@@ -145,34 +166,60 @@ def segments(data, start, intervals):
         start = found.end()
 
 
+def offsets(data, start, end):
+    """Where each byte of a segment's data begins, and where they end."""
+    return [start + found.start() for found in re.finditer(rb"\xff+\x00|[^\xff]", data[start:end], re.DOTALL)] + [end]
+
+
 def check(data):
     """How many intervals there are; of each damaged one its number, first and last MCU, first and last line, first and
-    last byte, and how many MCUs can be decoded; and where the scan ended, if not at EOI."""
+    last byte, how many MCUs can be decoded and up to which byte; of each with a doubtful MCU its number, the MCU and its first and
+    last byte; and where the scan ended, if not at EOI."""
     head = Head(data)
     each = head.restart or head.mcus
     intervals = -(-head.mcus // each)
     spans, ended = segments(data, head.at, intervals)
-    damaged = []
+    damaged, doubts = [], []
     for number in range(intervals):
         start, end = spans[number] if number < len(spans) else (0, 0)
         mcus = min(each, head.mcus - number * each)
-        done, is_sound = head.decodable(re.sub(rb"\xff+\x00", b"\xff", data[start:end]), mcus)
+        done, is_sound, bit, doubtful = head.decodable(re.sub(rb"\xff+\x00", b"\xff", data[start:end]), mcus)
+        at = offsets(data, start, end)
         if not is_sound:
             first, last = number * each, number * each + mcus - 1
             lines = first // head.across * head.high, min((last // head.across + 1) * head.high, head.height) - 1
-            damaged.append((number, (first, last), lines, (start, end - 1) if start < end else None, done, mcus))
-    return intervals, damaged, ended
+            damaged.append((number, (first, last), lines, (start, end - 1) if start < end else None, done, mcus, at[bit // 8]))
+        if doubtful:
+            mcu, first, behind = doubtful
+            doubts.append((number, number * each + mcu, at[first // 8], at[(behind + 7) // 8] - 1))
+    return intervals, damaged, doubts, ended
+
+
+def after_end(data):
+    """The words on bytes that follow the EOI that ended the scan, if some do."""
+    head = Head(data)
+    spans, ended = segments(data, head.at, -(-head.mcus // (head.restart or head.mcus)))
+    if ended:
+        return f", scan ended at {ended}"
+    end = MARKER.search(data, spans[-1][1]).end()
+    count = len(data) - end
+    if count < 2:
+        return f", 1 byte after the end of the image, at byte {end}" if count else ""
+    return f", {count} bytes after the end of the image, starting at byte {end}"
 
 
 def lines(data):
     """The lines that a check with a map has of a file."""
-    intervals, damaged, ended = check(data)
+    intervals, damaged, doubts, _ = check(data)
     many = "1 interval" if intervals == 1 else f"{intervals} intervals"
-    end = ended and f", scan ended at {ended}"
+    end = after_end(data)
+    told = [(run[0][0], 0, interval_line(run)) for run in runs(damaged)]
+    told += [(number, 1, f"interval {number}, MCU {mcu}, bytes {first} to {last}, doubtful: no 8-bit image has such a value") for number, mcu, first, last in doubts]
+    those = [line for _, _, line in sorted(told)]
     if not damaged:
-        return [f"sound, {many}{end}"]
+        return [f"sound, {many}{end}", *those]
     top, bottom = min(d[2][0] for d in damaged), max(d[2][1] for d in damaged)
-    return [f"damaged, {len(damaged)} of {many}, lines {top} to {bottom}{end}", *map(interval_line, runs(damaged))]
+    return [f"damaged, {len(damaged)} of {many}, lines {top} to {bottom}{end}", *those]
 
 
 def runs(damaged):
@@ -188,12 +235,13 @@ def runs(damaged):
 
 def interval_line(run):
     """The line of a damaged interval, or of consecutive ones without bytes."""
-    number, mcus, touched, span, done, count = run[0]
+    number, mcus, touched, span, done, count, to = run[0]
     if len(run) > 1:
         last, last_mcus, last_touched = run[-1][:3]
         return f"intervals {number} to {last}, MCUs {mcus[0]} to {last_mcus[1]}, lines {touched[0]} to {last_touched[1]}, no bytes"
     place = "no bytes" if span is None else f"bytes {span[0]} to {span[1]}"
+    up_to = "" if span is None else f" up to byte {to}"
     return (
         f"interval {number}, MCUs {mcus[0]} to {mcus[1]}, lines {touched[0]} to {touched[1]}, {place}, "
-        f"{done} of {count} MCUs decodable"
+        f"{done} of {count} MCUs decodable{up_to}"
     )

@@ -4,7 +4,7 @@ use crate::case::Case;
 use crate::differences::{Differences, compare_bytes, compare_numbers};
 use crate::failure::Failure;
 use crate::row::part;
-use crate::texts::map_of;
+use crate::texts::{is_doubt, map_of};
 use jri_memory::status::BUFFER_TOO_SMALL;
 use jri_memory::{
     DecodeReport, Header, check_marks, decode_file, end_text, read_header, refusal_text,
@@ -81,14 +81,16 @@ fn mark_damaged(marks: &mut [u8], first: usize, last: usize) -> Result<(), Failu
     Ok(())
 }
 
-/// Marks the intervals of a map, whose lines are separated by `/`, as damaged.
+/// Marks the damaged intervals of a map, whose lines are separated by `/`.
 fn mark_map(marks: &mut [u8], map: &str) -> Result<(), Failure> {
     if map.is_empty() {
         return Ok(());
     }
     for line in map.split(" / ") {
-        let (first, last) = intervals_of(line)?;
-        mark_damaged(marks, first, last)?;
+        if !is_doubt(line) {
+            let (first, last) = intervals_of(line)?;
+            mark_damaged(marks, first, last)?;
+        }
     }
     Ok(())
 }

@@ -4,7 +4,7 @@ use crate::buffers::compare_call;
 use crate::case::Case;
 use crate::differences::{Differences, compare_bytes, compare_texts};
 use crate::failure::Failure;
-use crate::texts::{map_of, put_lines};
+use crate::texts::{map_of, put_damaged_lines};
 use jri_memory::{Damage, DamageReport, DecodeReport, decode_canvas, decode_lines, list_damages};
 use std::alloc::AllocError;
 
@@ -214,7 +214,7 @@ fn check_lists(case: &Case<'_>, out: &mut Differences) {
     let mut wanted = String::new(case.alloc);
     let map = map_of(case.row);
     if !map.is_empty() {
-        out.note(put_lines(&mut wanted, map));
+        out.note(put_damaged_lines(&mut wanted, map));
     }
     check_list(case, wanted.as_str(), 1, out);
     check_list(case, wanted.as_str(), 3, out);

@@ -52,10 +52,30 @@ pub(crate) fn put_check_lines(text: &mut String, row: &Row<'_>) -> Result<(), Al
     }
 }
 
-/// Returns the lines of a check's map alone, separated by `/`: those of the damaged intervals.
+/// Returns the lines of a check's map alone, separated by `/`: those of the damaged and of the doubtful intervals.
 pub(crate) fn map_of<'a>(row: &Row<'a>) -> &'a str {
     match row.damaged.split_once(" / ") {
         Some((_first, rest)) => rest,
         None => "",
     }
+}
+
+/// Returns whether a line of a map is that of a doubtful MCU.
+pub(crate) fn is_doubt(line: &str) -> bool {
+    line.contains(", doubtful: ")
+}
+
+/// Appends the lines of a map's damaged intervals, as far as calls of the library list them: without the byte up to which
+/// an interval can be decoded.
+pub(crate) fn put_damaged_lines(text: &mut String, map: &str) -> Result<(), AllocError> {
+    for line in map.split(" / ") {
+        if !is_doubt(line) {
+            let listed = match line.split_once(" up to byte ") {
+                Some((listed, _byte)) => listed,
+                None => line,
+            };
+            writeln!(text, "{listed}")?;
+        }
+    }
+    Ok(())
 }

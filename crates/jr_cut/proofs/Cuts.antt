@@ -45,6 +45,11 @@ cut_last n k at bytes raw found tail end few is e ends =
       ends = subst (λ (j : ℕ). IsEnding n j (at + length (raw ++ [])) tail end) a (subst (λ (j : ℕ). IsEnding n k j tail end) b ends);
     }
 
+pub cut_last_tail : (n k at : ℕ) (bytes raw found tail : List ℕ) (end : ScanEnd) (few : k < n) (is : IsRaw raw found) (e : bytes ≡ raw ++ tail) (ends : IsEnding n k (at + length raw) tail end)
+    → (cut_last n k at bytes raw found tail end few is e ends).tail ≡ tail
+unfolding cut_last
+cut_last_tail n k at bytes raw found tail end few is e ends = refl
+
 -- a segment and its marker before others
 pub cut_next : (n k at at' more : ℕ) (bytes raw found rest : List ℕ) (datas : List (List ℕ)) (end : ScanEnd) → IsRaw raw found → bytes ≡ raw ++ (marker more (RST0 + k % 8) ++ rest) → at' ≡ at + length raw + more + 2
     → CutFrom n (suc k) at' rest datas end → CutFrom n k at bytes (found ∷ datas) end
@@ -66,6 +71,11 @@ cut_next n k at at' more bytes raw found rest datas end is e next c =
       means = ap (λ (x : List (List ℕ)). found ∷ x) c.means;
       ends = subst (λ (j : ℕ). IsEnding n j (at + length (raw ++ (m ++ (c.raw ++ with_markers (suc k) c.segments)))) c.tail end) number (subst (λ (j : ℕ). IsEnding n (suc k + length c.segments) j c.tail end) tail_at c.ends);
     }
+
+pub cut_next_tail : (n k at at' more : ℕ) (bytes raw found rest : List ℕ) (datas : List (List ℕ)) (end : ScanEnd) (is : IsRaw raw found) (e : bytes ≡ raw ++ (marker more (RST0 + k % 8) ++ rest)) (next : at' ≡ at + length raw + more + 2)
+    (c : CutFrom n (suc k) at' rest datas end) → (cut_next n k at at' more bytes raw found rest datas end is e next c).tail ≡ c.tail
+unfolding cut_next
+cut_next_tail n k at at' more bytes raw found rest datas end is e next c = refl
 
 -- how far the cutter has come: it stands at segment k
 pub record CutSoFar (n start : ℕ) (bytes : List ℕ) (segments : List (List ℕ)) (at k : ℕ) : Type 0 where

@@ -10,3 +10,4 @@ pub mod Endings
 pub mod Splits
 pub mod Following
 pub mod Buffers
+pub mod ImageEnds

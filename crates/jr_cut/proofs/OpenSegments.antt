@@ -9,6 +9,7 @@ use Rattle.jr_cut.specs.declared.scan_end.ScanEnd.TheVariants.{EndOfImage, Other
 use Rattle.jr_cut.specs.declared.span.Span.{Span}
 use Rattle.jr_cut.specs.Cut.{marker, HasMarker, IsEnding, IsCut, IsStop}
 use Rattle.jr_cut.specs.CutSoFar.{AreSegments, CutSoFarValue, HasCut}
+use Rattle.jr_cut.specs.ImageEnd.{HasCutToRest}
 use Rattle.jr_cut.specs.OpenSegments.{AreOpen, BeginsWithRestart, HaveAll, HaveRead, cut_of, datas_of}
 use Rattle.jr_cut.specs.Spans.{segment_data, IsSpanOf, Unstuffs}
 use Rattle.jr_cut.proofs.Cuts.{marker_read, raw_none}
@@ -188,6 +189,15 @@ cut_made start bytes o end is h ends =
       few = omega (arith, h.at, ap length h.spelled, length-append h.read o.bytes.rest);
       unread = λ e. (h.at, refl);
     }
+
+-- and what is not read is what is behind the segments
+pub rest_made : (start : ℕ) (bytes : List ℕ) (o : OpenSegments) (end : ScanEnd) → AreOpen o → HaveRead start bytes o → IsEnding o.intervals (length o.spans.items) o.at o.bytes.rest end → HasCutToRest start bytes (cut_of o end)
+unfolding cut_made
+rest_made start bytes o end is h ends = record {
+  cut = cut_made start bytes o end is h ends;
+  rest = refl;
+  all = omega (arith, h.at, ap length h.spelled, length-append h.read o.bytes.rest);
+}
 
 pub read_again : (start : ℕ) (bytes : List ℕ) (o : OpenSegments) (end : ScanEnd) → end ≡ EndOfFile → HasCut start bytes (cut_of o end) → HaveRead start bytes o
 read_again start bytes o end e h =

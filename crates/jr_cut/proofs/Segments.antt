@@ -23,7 +23,7 @@ raw_append r d s e a b = record {
   means = ap (λ (x : List ℕ). x ++ e) a.means ∙ ap (λ (x : List ℕ). map byte_spelled a.parts ++ x) b.means ∙ sym (map-append byte_spelled a.parts b.parts);
 }
 
-longer : (raw m others s read : List ℕ) → read ≡ raw ++ (m ++ others) → read ++ s ≡ raw ++ (m ++ (others ++ s))
+pub longer : (raw m others s read : List ℕ) → read ≡ raw ++ (m ++ others) → read ++ s ≡ raw ++ (m ++ (others ++ s))
 longer raw m others s read e = ap (λ (x : List ℕ). x ++ s) e ∙ append_assoc raw (m ++ others) s ∙ ap (λ (x : List ℕ). raw ++ x) (append_assoc m others s)
 
 -- the last segment goes on

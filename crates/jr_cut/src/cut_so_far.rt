@@ -3,9 +3,11 @@
 ghost use Rattle.std.specs.Prelude.{◌≡◌, ℕ, ◌+◌, ◌<◌, ◌≤◌, ◌^◌, List, [], ◌++◌, length, map, slice_index_or, IfOk, IfErr};
 ghost use Rattle.std.specs.List.{All};
 ghost use Rattle.jr_cut.specs.CutSoFar.{HasCut};
+ghost use Rattle.jr_cut.specs.ImageEnd.{HasCutToRest, IsImageEndOf};
 ghost use Rattle.jr_cut.specs.Spans.{segment_data, IsSpanOf};
 
 use crate::coded_segments::CodedSegments;
+use crate::front::fill_count;
 use crate::open_segments::OpenSegments;
 use crate::scan_end::ScanEnd;
 use crate::span::Span;
@@ -46,6 +48,7 @@ impl CutSoFar {
         requires unread { scan.unstuffed ≡ [] }
         ensures intervals { IfOk result (λ c. c.intervals ≡ intervals) }
         ensures cut { IfOk result (λ c. HasCut start scan.rest c) }
+        ensures rest { IfOk result (λ c. HasCutToRest start scan.rest c) }
         ensures count { IfOk result (λ c. length c.segments ≤ c.intervals) }
         ensures data { IfOk result (λ c. start + length c.unstuffed ≤ c.at) }
         ensures all { IfOk result (λ c. c.at + length c.rest ≡ start + length scan.rest) }
@@ -92,6 +95,18 @@ impl CutSoFar {
         ensures { result ≡ self.now.ended }
     {
         self.ended
+    }
+
+    /// Returns the offset in the file of the first byte after the EOI marker that has ended the scan; `None` if no EOI has.
+    pub(crate) fn image_end(&self) -> Option<u64>
+        ensures { (start : ℕ) (bytes : List ℕ) → HasCutToRest start bytes self.now → IsImageEndOf self.now.intervals start bytes self.now.ended result }
+    {
+        let rest = self.segments.bytes.rest();
+        let fill = fill_count(rest);
+        if self.ended != ScanEnd::EndOfImage || fill >= rest.len() {
+            return None;
+        }
+        Some(self.segments.at + fill as u64 + 1)
     }
 
     /// Returns the number of the last segment that has begun, which is open while no marker has ended the scan.

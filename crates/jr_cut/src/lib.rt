@@ -12,7 +12,7 @@ mod span;
 mod stop;
 mod unstuff;
 
-pub use coded_segments::{CodedSegments, cut};
+pub use coded_segments::{CodedSegments, SegmentsToEnd, cut, cut_to_end};
 pub use cut_so_far::CutSoFar;
 pub use front::{fill_count, plain_count, segment_length};
 pub use into_buffer::{Spelled, unstuff_into, unstuff_segment};

@@ -4,6 +4,7 @@ ghost use Rattle.std.specs.Prelude.{◌≡◌, ℕ, ◌+◌, ◌*◌, ◌<◌, �
 ghost use Rattle.std.specs.Vec.{vec_capacity};
 ghost use Rattle.jr_cut.specs.Cut.{IsStop};
 ghost use Rattle.jr_cut.specs.CutSoFar.{HasCut};
+ghost use Rattle.jr_cut.specs.ImageEnd.{HasCutToRest};
 ghost use Rattle.jr_cut.specs.OpenSegments.{AreOpen, BeginsWithRestart, HaveAll, HaveRead, cut_of};
 
 use crate::scan_end::ScanEnd;
@@ -67,6 +68,7 @@ impl OpenSegments {
         ensures is { AreOpen self.new }
         ensures all { IfOk result (λ _. HaveAll self.old self.new) }
         ensures cut { IfOk result (λ end. (start : ℕ) (bytes : List ℕ) → HaveRead start bytes self.old → HasCut start bytes (cut_of self.new end)) }
+        ensures rest { IfOk result (λ end. (start : ℕ) (bytes : List ℕ) → HaveRead start bytes self.old → HasCutToRest start bytes (cut_of self.new end)) }
         ensures markers { OnErr result (2 * vec_capacity self.old.spans + 1 < 2 * length self.old.spans.items + length self.old.bytes.rest) }
         ensures segments { OnErr result (vec_capacity self.old.spans + 1 < self.old.intervals) }
     {

@@ -1,3 +1,5 @@
 mod Rows
-mod NextSegments
+pub mod NextSegments
 mod Verdicts
+pub mod FoundBytes
+pub mod Doubts

@@ -1,6 +1,6 @@
 -- The segments of a scan, one after the other in its file.
-use Rattle.std.proofs.Common.{◌≡◌, ℕ, zero, suc, ◌+◌, ◌-◌, ◌%◌, ◌<◌, ◌≤◌, ◌⊎◌, inl, inr, List, [], ◌∷◌, ◌++◌, length, take, drop, replicate, get_or, refl, sym, ap, subst, ◌∙◌, length-append, length-drop, length-take-le, arith}
-use Rattle.std.proofs.lemmas.List.{append-nil, drop-drop, get_or-drop, get_or_past}
+use Rattle.std.proofs.Common.{◌≡◌, ℕ, zero, suc, ◌+◌, ◌-◌, ◌%◌, ◌<◌, ◌≤◌, ◌⊎◌, inl, inr, List, [], ◌∷◌, ◌++◌, length, take, drop, replicate, get_or, refl, sym, ap, subst, ◌∙◌, length-append, length-drop, arith}
+use Rattle.std.proofs.lemmas.List.{append-nil, drop-drop, get_or-drop}
 use Rattle.jr_base.specs.declared.marker.TheConstants.{RST0}
 use Rattle.jr_cut.specs.declared.scan_end.ScanEnd.{ScanEnd}
 use Rattle.jr_cut.specs.Cut.{IsRaw, IsStop, IsEnding, CutFrom, marker}
@@ -12,6 +12,7 @@ use Rattle.jr_cut.proofs.Spellings.{found_few}
 use Rattle.jr_cut.proofs.Splits.{SplitCut, split_cut}
 use Rattle.jr_scan.specs.ScanValue.{ScanValue, intervals_of}
 use Rattle.jr_damage.specs.declared.segments.CodedSpan.{CodedSpan}
+use Rattle.jr_damage.specs.Verdicts.{IsFileScan}
 use Rattle.jr_damage.specs.Coded.{BeginsAt, EndsAfter, GoesOnAfter, HasEndedBefore, IsNextAt, IsSegmentOf, IsSpelledAt}
 
 no_bytes : (bytes : List ℕ) → length bytes ≡ 0 → bytes ≡ []
@@ -107,3 +108,13 @@ module _ (file : List ℕ) (s : ScanValue) (i at len : ℕ) (found : List ℕ) (
   next_is next (inl m) (inr h) = absurd (no_marker h m.count m.due)
   next_is next (inr e) (inl b) = inr (record { last = e.last; none = ends b e.ended e.ends })
   next_is next (inr e) (inr h) = inr (record { last = e.last; none = λ j le. h.none j (omega (arith, le)) })
+
+-- the first one
+pub first_begins : (file : List ℕ) (s : ScanValue) → IsFileScan file s → IsNextAt file s 0 s.head.scan_at
+first_begins file s f = inl (record {
+  within = omega (arith, f.head.scan_at);
+  segments = f.cut.segments;
+  empty = intervals_of s.head - length f.cut.segments;
+  cut = f.cut.cut;
+  intervals = f.cut.intervals;
+})

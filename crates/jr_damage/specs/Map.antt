@@ -1,5 +1,5 @@
 -- What is reported of a damaged interval.
-use Rattle.std.specs.Prelude.{◌≡◌, ℕ, ◌<◌, ◌≤◌, Option, Some, None}
+use Rattle.std.specs.Prelude.{◌≡◌, ◌<◌, ◌≤◌, Option, Some, None}
 use Rattle.jr_scan.specs.IntervalValue.{IntervalValue}
 use Rattle.jr_scan.specs.Mcus.{HasNoDecoding, HasLongestFront}
 use Rattle.jr_scan.specs.ScanValue.{mcus_in}

@@ -14,7 +14,7 @@ use jr_scan::{IntervalRef, McuReader};
 use std::sync::Wait;
 
 /// A reader that has passed over all whole MCUs of an interval, up to its end or to where none follows.
-fn pass_all(interval: IntervalRef<'_>) -> McuReader<'_>
+pub(crate) fn pass_all(interval: IntervalRef<'_>) -> McuReader<'_>
     ensures run { result.run ≡ whole_run interval.entry }
     ensures read { (zs : List (List ℤ)) × HasRead result zs }
     ensures ended { HasEnded result }

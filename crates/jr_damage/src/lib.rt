@@ -4,15 +4,20 @@
 
 mod by_threads;
 mod damage;
+mod decodable;
+mod doubtful;
 mod laws;
 mod lines;
 mod map;
+mod offsets;
 mod segments;
 mod shared_scan;
 mod verdict;
 
 pub use by_threads::check_scan_by;
 pub use damage::damaged_front;
+pub use decodable::decodable_end;
+pub use doubtful::{DoubtfulMcu, first_doubtful};
 pub use laws::one_count;
 pub use lines::{Lines, McuRange, lines_of, mcus_of};
 pub use map::{DamagedInterval, damaged_interval};

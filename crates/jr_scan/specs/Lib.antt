@@ -3,6 +3,7 @@ pub mod FrontValue
 pub mod Mcus
 pub mod ScanValue
 pub mod GrowingScan
+pub mod ImageEnd
 pub mod Run
 pub mod McuReader
 pub mod Guess

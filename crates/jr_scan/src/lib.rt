@@ -1,6 +1,7 @@
 //! The one scan of a JPEG file: its restart intervals, and the blocks that each of them codes.
 #![tactic(auto)]
 
+mod cut_scan;
 mod front;
 mod growing_scan;
 mod guess;
@@ -14,6 +15,7 @@ mod place;
 mod scan;
 mod taking_over;
 
+pub use cut_scan::CutScan;
 pub use front::FrontBlocks;
 pub use growing_scan::GrowingScan;
 pub use guess::Guess;

@@ -2,6 +2,7 @@
 use Rattle.std.specs.Prelude.{◌≡◌, ◌≢◌, ℕ, ◌==◌, List, length, if◌then◌else◌}
 use Rattle.jr_segments.specs.declared.refusal.Refusal.TheVariants as refusal
 use Rattle.jr_head.specs.Heads.{RefusalOf}
+use Rattle.jr_scan.specs.ImageEnd.{IsImageEndIn}
 use Rattle.jri_archive.specs.declared.counts.FileState.{FileState}
 use Rattle.jri_archive.specs.declared.counts.FileState.TheVariants.{Sound, Damaged, Refused, Unsupported, Unread, OutOfMemory, Skipped}
 use Rattle.jri_archive.specs.declared.reading.ReadError.TheVariants as read
@@ -10,9 +11,9 @@ use Rattle.jri_archive.specs.declared.outcome.Outcome.TheVariants as outcome
 use Rattle.jri_archive.specs.Unsupported.{may_be_valid}
 use Rattle.jr_damage.specs.Verdicts.{IsFileScan, IsVerdictOf}
 
--- the file's size and scan and what is damaged of it, or its first fault; if memory ran out nothing is said of it
+-- the file's size and scan, where its image ends and what is damaged of it, or its first fault; if memory ran out nothing is said of it
 abbrev pub IsOutcomeOf : List ℕ → Outcome → Type 0
-IsOutcomeOf file (outcome.Checked c) = (c.size ≡ length file) × IsFileScan file c.scan × IsVerdictOf c.scan (length c.scan.intervals) c.verdict
+IsOutcomeOf file (outcome.Checked c) = (c.size ≡ length file) × IsFileScan file c.scan × IsImageEndIn file c.scan c.image_end × IsVerdictOf c.scan (length c.scan.intervals) c.verdict
 IsOutcomeOf file (outcome.Refused fault) = fault ≢ refusal.Memory → RefusalOf file fault
 IsOutcomeOf file (outcome.Unread error) = ⊥
 IsOutcomeOf file outcome.Skipped = ⊥

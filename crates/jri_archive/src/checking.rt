@@ -3,11 +3,12 @@
 ghost use Rattle.std.specs.Prelude.{◌≡◌, ◌≢◌, length, IfOk, IfErr};
 ghost use Rattle.jr_segments.specs.declared.refusal.Refusal.TheVariants as refusal;
 ghost use Rattle.jr_head.specs.Heads.{RefusalOf};
+ghost use Rattle.jr_scan.specs.ImageEnd.{IsImageEndIn};
 ghost use Rattle.jr_damage.specs.Verdicts.{IsFileScan, IsVerdictOf};
 
 use jr_damage::{Verdict, check_scan_by};
 use jr_head::{Refusal, read_head};
-use jr_scan::Scan;
+use jr_scan::{CutScan, Scan};
 use std::alloc::Global;
 use std::sync::Wait;
 use std::thread::Threads;
@@ -18,6 +19,8 @@ pub struct Checked {
     /// The size of the file in bytes.
     pub size: u64,
     pub scan: Scan,
+    /// Offset in the file of the first byte after the EOI marker that ended the scan; `None` if no EOI did.
+    pub image_end: Option<u64>,
     pub verdict: Verdict,
 }
 
@@ -35,17 +38,19 @@ pub fn check_file<R: Threads + Wait + Sync>(
 ) -> Result<Checked, Refusal>
     ensures size { IfOk result (λ c. c.size ≡ length file.now) }
     ensures scan { IfOk result (λ c. IsFileScan file.now c.scan) }
+    ensures image_end { IfOk result (λ c. IsImageEndIn file.now c.scan c.image_end) }
     ensures verdict { IfOk result (λ c. IsVerdictOf c.scan (length c.scan.intervals) c.verdict) }
     ensures refused { IfErr result (λ fault. fault ≢ refusal.Memory → RefusalOf file.now fault) }
 {
     let head = read_head(alloc, file)?;
-    let Ok(scan) = Scan::cut(alloc, head, file) else {
+    let Ok(CutScan { scan, image_end }) = CutScan::cut(alloc, head, file) else {
         return Err(Refusal::Memory);
     };
     let verdict = check_scan_by(rt, alloc, &scan, workers);
     Ok(Checked {
         size: file.len() as u64,
         scan,
+        image_end,
         verdict,
     })
 }
@@ -63,17 +68,19 @@ pub fn check_file_in_place<R: Threads + Wait + Sync>(
 ) -> Result<Checked, Refusal>
     ensures size { IfOk result (λ c. c.size ≡ length file.items) }
     ensures scan { IfOk result (λ c. IsFileScan file.items c.scan) }
+    ensures image_end { IfOk result (λ c. IsImageEndIn file.items c.scan c.image_end) }
     ensures verdict { IfOk result (λ c. IsVerdictOf c.scan (length c.scan.intervals) c.verdict) }
     ensures refused { IfErr result (λ fault. fault ≢ refusal.Memory → RefusalOf file.items fault) }
 {
     let size = file.len() as u64;
     let head = read_head(alloc, &file)?;
-    match Scan::cut_in_place(alloc, head, file) {
-        Ok(scan) => {
+    match CutScan::cut_in_place(alloc, head, file) {
+        Ok(CutScan { scan, image_end }) => {
             let verdict = check_scan_by(rt, alloc, &scan, workers);
             Ok(Checked {
                 size,
                 scan,
+                image_end,
                 verdict,
             })
         }

@@ -7,19 +7,23 @@ use jr_damage::{DamagedInterval, Lines, McuRange};
 pub(crate) struct DamagedRun {
     pub(crate) first: DamagedInterval,
     pub(crate) last: DamagedInterval,
+    /// Offset in the file of the byte in which the first MCU of the first interval begins that cannot be decoded.
+    pub(crate) decodable_to: usize,
 }
 
 impl DamagedRun {
     /// Returns the run of one interval.
-    pub(crate) fn of(interval: DamagedInterval) -> DamagedRun {
+    pub(crate) fn of(interval: DamagedInterval, decodable_to: usize) -> DamagedRun {
         DamagedRun {
             first: interval,
             last: interval,
+            decodable_to,
         }
     }
 
-    /// Returns the run with this interval, if that follows it and neither has bytes.
-    pub(crate) fn with(self, next: DamagedInterval) -> Option<DamagedRun> {
+    /// Returns the run with this run of one interval, if that follows it and neither has bytes.
+    pub(crate) fn with(self, next: DamagedRun) -> Option<DamagedRun> {
+        let next = next.first;
         let is_next = self.last.number.checked_add(1) == Some(next.number);
         if !is_next || self.last.bytes.is_some() || next.bytes.is_some() {
             return None;
@@ -27,6 +31,7 @@ impl DamagedRun {
         Some(DamagedRun {
             first: self.first,
             last: next,
+            decodable_to: self.decodable_to,
         })
     }
 

@@ -51,7 +51,28 @@ impl<S: OneCheck, O, E> Model for FileQueue<S, O, E> {
     ghost invariant = { λ q. IsQueueOf S.names S.may_be (record { told = q.told; files = q.files; report = q.report }) };
 }
 
-/// Writes the line of a file by one write and, where they are asked for, those of its damaged intervals.
+/// Writes the line of a file by one write, unless the file is sound and sound ones are left out.
+fn write_file_line<O: Write>(
+    alloc: Global,
+    out: &mut O,
+    name: &[u8],
+    outcome: &Outcome,
+    form: LineForm,
+) -> Result<(), TellError> {
+    if form.is_quiet && outcome.state() == FileState::Sound {
+        return Ok(());
+    }
+    let mut line = String::new(alloc);
+    if form.is_json {
+        tell_object(&mut line, name, outcome)?;
+    } else {
+        tell(&mut line, name, outcome)?;
+    }
+    out.write_all(line.as_bytes())?;
+    Ok(())
+}
+
+/// Writes the line of a file and, if they are asked for, those of its damaged and doubtful intervals.
 fn write_lines<O: Write>(
     alloc: Global,
     out: &mut O,
@@ -61,19 +82,9 @@ fn write_lines<O: Write>(
 ) -> Result<(), TellError>
     requires { IfSome file.now.bytes (λ b. IsOutcomeOf b.items file.now.outcome) }
 {
-    if form.is_quiet && file.outcome.state() == FileState::Sound {
-        return Ok(());
-    }
-    let mut line = String::new(alloc);
-    if form.is_json {
-        tell_object(&mut line, name, &file.outcome)?;
-    } else {
-        tell(&mut line, name, &file.outcome)?;
-    }
-    out.write_all(line.as_bytes())?;
+    write_file_line(alloc, out, name, &file.outcome, form)?;
     if let Some(bytes) = &file.bytes
         && let Outcome::Checked(checked) = &file.outcome
-        && checked.verdict.damaged > 0
     {
         write_map(alloc, out, name, bytes.as_slice(), checked, form.is_json)?;
     }

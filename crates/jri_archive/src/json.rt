@@ -8,7 +8,7 @@ use crate::outcome::Outcome;
 use crate::reading::ReadError;
 use crate::telling::put_end;
 use crate::unsupported::{refused_word, write_reason};
-use jr_damage::{CodedSpan, DamagedInterval, Lines, McuRange};
+use jr_damage::{CodedSpan, DoubtfulMcu, Lines, McuRange};
 use jr_head::Refusal;
 use jr_scan::ScanEnd;
 use std::alloc::AllocError;
@@ -51,6 +51,17 @@ fn put_scan_end(line: &mut String, ended: ScanEnd) -> Result<(), AllocError> {
     line.push_str("\"")
 }
 
+/// Writes where bytes after the end of the image begin and how many they are, if there are some.
+fn write_after_end(line: &mut String, checked: &Checked) -> Result<(), AllocError> {
+    let Some(end) = checked.image_end else {
+        return Ok(());
+    };
+    match checked.size.saturating_sub(end) {
+        0 => Ok(()),
+        count => write!(line, ",\"after_end\":{end},\"bytes_after_end\":{count}"),
+    }
+}
+
 /// Puts what is damaged of a scan.
 fn put_damage(line: &mut String, damaged: u32, lines: Option<Lines>) -> Result<(), AllocError> {
     let Some(lines) = lines else {
@@ -70,7 +81,8 @@ fn put_checked(line: &mut String, checked: &Checked) -> Result<(), AllocError> {
         line,
         ",\"width\":{width},\"height\":{height},\"bytes\":{size}"
     )?;
-    put_scan_end(line, checked.scan.ended())
+    put_scan_end(line, checked.scan.ended())?;
+    write_after_end(line, checked)
 }
 
 /// Returns the offset or the marker's code that a refusal names.
@@ -130,14 +142,32 @@ pub(crate) fn tell_object(
 pub(crate) fn tell_interval_object(
     line: &mut String,
     name: &[u8],
-    damaged: &DamagedInterval,
+    run: &DamagedRun,
 ) -> Result<(), AllocError> {
+    let damaged = &run.first;
     put_file(line, name)?;
     write!(line, ",\"interval\":{}", damaged.number)?;
     put_mcus(line, damaged.mcus)?;
     put_lines(line, damaged.lines)?;
     put_bytes(line, damaged.bytes)?;
-    writeln!(line, ",\"decodable\":{}}}", damaged.decodable)
+    write!(line, ",\"decodable\":{}", damaged.decodable)?;
+    if damaged.bytes.is_some() {
+        write!(line, ",\"decodable_to\":{}", run.decodable_to)?;
+    }
+    line.push_str("}\n")
+}
+
+/// Appends the object of a doubtful MCU, with the line's end: `doubtful` is its number in the scan.
+pub(crate) fn write_doubtful_object(
+    line: &mut String,
+    name: &[u8],
+    doubtful: &DoubtfulMcu,
+) -> Result<(), AllocError> {
+    put_file(line, name)?;
+    write!(line, ",\"interval\":{}", doubtful.interval)?;
+    write!(line, ",\"doubtful\":{}", doubtful.mcu)?;
+    put_bytes(line, Some(doubtful.bytes))?;
+    line.push_str("}\n")
 }
 
 /// Appends the object of consecutive damaged intervals without bytes, with the line's end.

@@ -6,7 +6,7 @@ use crate::damaged_run::DamagedRun;
 use crate::outcome::Outcome;
 use crate::reading::ReadError;
 use crate::unsupported::{refused_word, write_reason};
-use jr_damage::{CodedSpan, DamagedInterval, Lines, McuRange};
+use jr_damage::{CodedSpan, DoubtfulMcu, Lines, McuRange};
 use jr_head::Refusal;
 use jr_scan::ScanEnd;
 use std::alloc::AllocError;
@@ -91,12 +91,28 @@ fn put_scan_end(line: &mut String, ended: ScanEnd) -> Result<(), AllocError> {
     put_end(line, ended)
 }
 
+/// Writes how many bytes follow the end of the image, and where they begin, if some do.
+fn write_after_end(line: &mut String, checked: &Checked) -> Result<(), AllocError> {
+    let Some(end) = checked.image_end else {
+        return Ok(());
+    };
+    match checked.size.saturating_sub(end) {
+        0 => Ok(()),
+        1 => write!(line, ", 1 byte after the end of the image, at byte {end}"),
+        count => write!(
+            line,
+            ", {count} bytes after the end of the image, starting at byte {end}"
+        ),
+    }
+}
+
 /// Puts what became of a file.
 fn put_outcome(line: &mut String, outcome: &Outcome) -> Result<(), AllocError> {
     match outcome {
         Outcome::Checked(checked) => {
             put_damage(line, checked)?;
-            put_scan_end(line, checked.scan.ended())
+            put_scan_end(line, checked.scan.ended())?;
+            write_after_end(line, checked)
         }
         Outcome::Refused(Refusal::Memory) | Outcome::Unread(ReadError::Memory) => {
             line.push_str("out of memory")
@@ -135,18 +151,36 @@ fn put_bytes(line: &mut String, bytes: Option<CodedSpan>) -> Result<(), AllocErr
 }
 
 /// Puts the line of a damaged interval, with its end. All is counted from 0, and ranges are told with their last one.
-pub(crate) fn tell_map(
-    line: &mut String,
-    name: &[u8],
-    damaged: &DamagedInterval,
-) -> Result<(), AllocError> {
+pub(crate) fn tell_map(line: &mut String, name: &[u8], run: &DamagedRun) -> Result<(), AllocError> {
+    let damaged = &run.first;
     put_name(line, name)?;
     write!(line, ": interval {}", damaged.number)?;
     put_mcus(line, damaged.mcus)?;
     put_lines(line, damaged.lines)?;
     put_bytes(line, damaged.bytes)?;
     let (decodable, count) = (damaged.decodable, damaged.mcus.count);
-    writeln!(line, ", {decodable} of {count} MCUs decodable")
+    write!(line, ", {decodable} of {count} MCUs decodable")?;
+    if damaged.bytes.is_some() {
+        write!(line, " up to byte {}", run.decodable_to)?;
+    }
+    line.push_str("\n")
+}
+
+/// Writes the line of a doubtful MCU, with its end.
+pub(crate) fn write_doubtful(
+    line: &mut String,
+    name: &[u8],
+    doubtful: &DoubtfulMcu,
+) -> Result<(), AllocError> {
+    put_name(line, name)?;
+    let DoubtfulMcu {
+        interval,
+        mcu,
+        bytes,
+    } = *doubtful;
+    write!(line, ": interval {interval}, MCU {mcu}")?;
+    put_bytes(line, Some(bytes))?;
+    line.push_str(", doubtful: no 8-bit image has such a value\n")
 }
 
 /// Appends the line of consecutive damaged intervals without bytes, with its end.

@@ -1,4 +1,4 @@
-use Rattle.std.proofs.Common.{◌≡◌, ℕ, ◌+◌, ◌≤◌, ◌⊎◌, List, length, take, drop, sym, ap, subst, length-drop, arith}
+use Rattle.std.proofs.Common.{ℕ, ◌+◌, ◌≤◌, ◌⊎◌, List, length, take, drop, sym, ap, subst, length-drop, arith}
 use Rattle.std.proofs.lemmas.List.{drop-drop}
 use Rattle.jr_cut.specs.Cut.{IsRaw, IsStop}
 use Rattle.jr_cut.proofs.Cuts.{rest_is}

@@ -1,4 +1,4 @@
-use Rattle.std.proofs.Common.{ap, length, sym, ◌∙◌, arith}
+use Rattle.std.proofs.Common.{ap, length, arith}
 use Rattle.jr_cut.specs.CutSoFar.{CutSoFarValue}
 use Rattle.jr_cut.proofs.OpenSegments.{count_of}
 use Rattle.jr_cut.proofs.cut_so_far.CutSoFar.last_begun.Goals as goal
