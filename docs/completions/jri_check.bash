@@ -35,10 +35,10 @@ _jri_check() {
     if ! _jri_check_is_behind_options; then
         case $before in
             --workers | -j) compopt +o default; mapfile -t COMPREPLY < <(compgen -W '1 2 4 8 16 32 64' -- "$word"); return ;;
-            --files0-from) return ;;
+            --files0-from | --state) return ;;
         esac
         case $word in
-            -*) compopt +o default; mapfile -t COMPREPLY < <(compgen -W '--map --json -q --quiet --counts -j --workers --recursive --files0-from --help --version' -- "$word"); return ;;
+            -*) compopt +o default; mapfile -t COMPREPLY < <(compgen -W '--map --json -q --quiet --counts -j --workers --recursive --files0-from --state --verify --help --version' -- "$word"); return ;;
         esac
     fi
     _jri_check_names "$word"

@@ -9,5 +9,7 @@ _arguments -S \
     '--counts[also print the counts as the last line]' \
     '(-r --recursive)'{-r,--recursive}'[check the JPEG files in directories, recursively]' \
     '--files0-from=[also check the NUL-terminated names in a list]:list:_files' \
+    '--state=[record files, and skip those recorded]:state file:_files' \
+    '--verify[read recorded files again and report changed bytes]' \
     '(-j --workers)'{-j+,--workers=}'[number of threads, 1 to 64]:files at once:(1 2 4 8 16 32 64)' \
     '*:JPEG file:_files -g "*.(#i)(jpg|jpeg|jpe|jfif)(-.)"'

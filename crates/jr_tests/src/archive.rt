@@ -4,8 +4,8 @@
 use jr_base::Tally;
 use jri_archive::{
     CheckEnd, CheckReport, CheckRequest, Entry, EntryKind, FileCounts, Folder, LineForm, Lists,
-    ReadError, Streams, answer as answer_by, asked, check_all, program, tell_counts,
-    write_counts_line,
+    ReadError, Source, State, StateError, Streams, answer as answer_by, asked, check_all, program,
+    tell_counts, write_counts_line,
 };
 use std::alloc::{AllocError, Global};
 use std::io::{BufReader, Cursor, Error, ErrorKind, Read, Result as IoResult, Write};
@@ -86,13 +86,37 @@ impl Folder for Shelf {
     }
 }
 
+/// Returns a log of 18 bytes, of which so many are full.
+fn log_behind(full: usize) -> Cursor<[u8; 18]> {
+    let mut log = Cursor::new([0; 18]);
+    log.set_position(full as u64);
+    log
+}
+
 impl Lists for Shelf {
     type List = Cursor<[u8; 8]>;
+
+    type Log = Cursor<[u8; 18]>;
 
     fn list(&self, name: &str) -> Result<Cursor<[u8; 8]>, ReadError> {
         match name {
             "list" => Ok(Cursor::new(*b"two\0cut\0")),
             _ => Err(ReadError::NotFound),
+        }
+    }
+
+    fn state(&self, alloc: Global, name: &str) -> Result<(Vec<u8>, Cursor<[u8; 18]>), StateError> {
+        let bytes: &[u8] = match name {
+            "new" => b"",
+            "damaged" => b"jri_check state 1\nx\n",
+            // The log has no space for what is missing.
+            "full" => b"jri_check state 1\nten letters",
+            "used" => return Err(StateError::InUse),
+            _ => return Err(StateError::Unread(ReadError::NotAllowed)),
+        };
+        match bytes.to_vec(alloc) {
+            Ok(read) => Ok((read, log_behind(bytes.len()))),
+            Err(_) => Err(StateError::Memory),
         }
     }
 }
@@ -121,6 +145,12 @@ pub(crate) fn request_of(
     Ok(asked)
 }
 
+/// Returns a directory of a run that has no state file.
+pub(crate) fn stateless<F>(folder: F) -> Source<F, Vec<u8>> {
+    let state: Option<State<Vec<u8>>> = None;
+    Source { folder, state }
+}
+
 /// Checks what words ask for, and returns what is written.
 fn told_by<R: Threads + Wait + Sync + AllocGlobal, I: Read + Send + Drop, O: Write + Send + Drop>(
     rt: &R,
@@ -131,7 +161,8 @@ fn told_by<R: Threads + Wait + Sync + AllocGlobal, I: Read + Send + Drop, O: Wri
 ) -> Result<(CheckReport, O), Fail> {
     let asked = request_of(rt.alloc(), words, workers)?;
     let nowhere: Option<Vec<u8>> = None;
-    Ok(check_all(rt, rt.alloc(), Shelf, asked, list, out, nowhere))
+    let source = stateless(Shelf);
+    Ok(check_all(rt, rt.alloc(), source, asked, list, out, nowhere))
 }
 
 /// Whether words give these lines, and this status, whatever the number of workers.
@@ -384,7 +415,7 @@ const PLAIN: LineForm = LineForm {
 };
 
 /// Words, and what they ask for.
-const WORDS: [(&[&[u8]], Answer); 12] = [
+const WORDS: [(&[&[u8]], Answer); 18] = [
     (&[b"a"], Ok((4, PLAIN, 1))),
     (
         &[b"--map", b"a", b"b"],
@@ -407,6 +438,12 @@ const WORDS: [(&[&[u8]], Answer); 12] = [
     (&[b"--workers", b"0", b"a"], Err(2)),
     (&[b"--workers", b"65", b"a"], Err(2)),
     (&[b"--first", b"1", b"a"], Err(2)),
+    (&[b"--state", b"s", b"a"], Ok((4, PLAIN, 1))),
+    (&[b"--verify", b"--state", b"s", b"a"], Ok((4, PLAIN, 1))),
+    (&[b"--verify", b"a"], Err(2)),
+    (&[b"a", b"--state"], Err(2)),
+    (&[b"--state", b"-", b"a"], Err(2)),
+    (&[b"--state", b"\xFF", b"a"], Err(2)),
 ];
 
 /// A writer whose reader has gone away.
@@ -463,6 +500,7 @@ fn counts_are_written_whole(rt: HostRuntime) -> Result<(), Fail> {
         unsupported: u64::MAX,
         unread: u64::MAX,
         out_of_memory: u64::MAX,
+        changed: u64::MAX,
     };
     let (mut line, mut wanted) = (Vec::new(rt.alloc()), String::new(rt.alloc()));
     write_counts_line(&mut line, counts)?;
@@ -489,7 +527,7 @@ fn in_memory(alloc: Global) -> Streams<Vec<u8>, Vec<u8>> {
 }
 
 /// Arguments of the program, and the status that it ends with.
-const STATUSES: [(&[&[u8]], u8); 9] = [
+const STATUSES: [(&[&[u8]], u8); 15] = [
     (&[b"two"], 0),
     (&[b"--help"], 0),
     (&[b"cut", b"progressive"], 1),
@@ -499,6 +537,12 @@ const STATUSES: [(&[&[u8]], u8); 9] = [
     (&[b"--files0-from", b"missing"], 3),
     (&[b"progressive", b"two"], 5),
     (&[b"-q", b"progressive"], 5),
+    (&[b"--state", b"new", b"two"], 0),
+    (&[b"--state", b"damaged", b"two"], 2),
+    (&[b"--state", b"used", b"two"], 2),
+    (&[b"--state", b"shut", b"two"], 2),
+    (&[b"--state", b"full", b"two"], 4),
+    (&[b"--state", b"new", b"--files0-from", b"missing"], 3),
 ];
 
 #[test]

@@ -6,6 +6,8 @@
 #[cfg(test)]
 mod archive;
 #[cfg(test)]
+mod archive_state;
+#[cfg(test)]
 mod arrival;
 #[cfg(test)]
 mod base;

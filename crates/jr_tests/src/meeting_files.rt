@@ -1,6 +1,6 @@
 //! Two files that are read at once, since several workers check them: the reading of each waits for that of the other.
 
-use crate::archive::{NO_LIST, request_of};
+use crate::archive::{NO_LIST, request_of, stateless};
 use jri_archive::{Entry, Folder, ReadError, check_all};
 use std::alloc::Global;
 use std::sync::atomic::{AtomicU64, Ordering};
@@ -47,7 +47,8 @@ fn two_files_are_read_at_once(rt: HostRuntime) -> Result<(), Fail> {
     };
     let nowhere: Option<Vec<u8>> = None;
     let out = Vec::new(rt.alloc());
-    let (report, lines) = check_all(&rt, rt.alloc(), folder, asked, NO_LIST, out, nowhere);
+    let source = stateless(folder);
+    let (report, lines) = check_all(&rt, rt.alloc(), source, asked, NO_LIST, out, nowhere);
     assert!(rt; met.load(Ordering::SeqCst) == 2);
     assert!(rt; report.counts.refused == 2);
     let expected = "a: refused 1: not a JPEG file\nb: refused 1: not a JPEG file\n";

@@ -1,7 +1,8 @@
 -- Names that are claimed one after the other, and checks of their files.
 use Rattle.std.proofs.Common.{arith, subst, sym, ap, refl, unwrap_or, ◌∙◌, ◌≡◌, ℕ, suc, List, [], Option, Some, None, Result, Ok, Err, length, drop, get_or, ◌+◌, ◌<◌, ◌⊎◌, inl, inr}
 use Rattle.std.specs.Global.{Vec}
-use Rattle.std.specs.Prelude.{IfOk, IfErr}
+use Rattle.std.specs.Prelude.{IfOk, IfErr, IfSome}
+use Rattle.sha2.specs.Sha256.{sha256}
 use Rattle.std.proofs.Math.ListN.{drop_of_length-le}
 use Rattle.std.proofs.Math.Seq.{drop-cons}
 use Rattle.std.proofs.lemmas.Bool.{cases_lt}
@@ -11,8 +12,12 @@ use Rattle.jri_archive.specs.declared.reading.ReadError.{ReadError}
 use Rattle.jri_archive.specs.Names.{IsNamed, IsNextFile, IsNoText}
 use Rattle.jri_archive.specs.declared.outcome.Outcome.{Outcome}
 use Rattle.jri_archive.specs.declared.outcome.Outcome.TheVariants as outcome
-use Rattle.jri_archive.specs.Outcomes.{IsOutcomeOf}
-use Rattle.jri_archive.specs.Told.{IsCheckOf, IsClaimOf}
+use Rattle.jri_archive.specs.Outcomes.{IsOutcomeOf, plain_outcome, state_of}
+use Rattle.jri_archive.specs.Records.{file_state}
+use Rattle.jri_archive.specs.declared.source.Seal.{Seal}
+use Rattle.jri_archive.specs.declared.state_record.FileRecord.{FileRecord}
+use Rattle.jri_archive.specs.declared.state_record.Stamp.{Stamp}
+use Rattle.jri_archive.specs.Told.{IsCheckOf, IsClaimOf, IsOther, IsOtherSeal, IsRecordOf, IsSealed, IsStamped}
 
 -- the next of all names is claimed, and those behind it are left
 pub record IsNext (all : List (List ℕ)) (claimed : ℕ) (file : NamedFile) (others : Option (List (List ℕ))) : Type 0 where
@@ -40,11 +45,79 @@ claim_of None number file next = tt
 claim_of (Some all) number file next =
     let n = next all refl in (get_or all number [], slice_get-get_or all number [] n.1.within, n.1.named)
 
-pub check_of : (opened : Type 0) (holds : List ℕ → List ℕ → Type 0) (fails : List ℕ → ReadError → Type 0) (name : List ℕ) (r : Result (Vec ℕ) ReadError) (o : Outcome)
-    → IfOk r (λ b. holds name b.items) → IfErr r (λ e. opened → fails name e ⊎ IsNoText name e) → opened → IfOk r (λ b. IsOutcomeOf b.items o) → IfErr r (λ e. o ≡ outcome.Unread e)
-    → IsCheckOf holds fails name o
-check_of opened holds fails name (Ok b) (outcome.Checked c) held failed o is unread = (b.items, held, is)
-check_of opened holds fails name (Ok b) (outcome.Refused f) held failed o is unread = (b.items, held, is)
-check_of opened holds fails name (Ok b) (outcome.Unread e) held failed o is unread = absurd is
-check_of opened holds fails name (Ok b) outcome.Skipped held failed o is unread = absurd is
-check_of opened holds fails name (Err e) o held failed so is unread = subst (λ (x : Outcome). IsCheckOf holds fails name x) (sym unread) (failed so)
+-- the predicates of the files of a run
+module _ (holds : List ℕ → List ℕ → Type 0) (fails : List ℕ → ReadError → Type 0) (stamps : List ℕ → Stamp → Type 0) (knows : List ℕ → FileRecord → Type 0) (name : List ℕ) where
+  plain_check : (bytes : List ℕ) (o : Outcome) → holds name bytes → IsOutcomeOf bytes o → IsCheckOf holds fails stamps knows name o
+  plain_check bytes (outcome.Checked c) held is = (bytes, held, is)
+  plain_check bytes (outcome.Refused f) held is = (bytes, held, is)
+  plain_check bytes (outcome.Unread e) held is = absurd is
+  plain_check bytes outcome.Skipped held is = absurd is
+  plain_check bytes (outcome.Unchanged was) held is = absurd is
+  plain_check bytes (outcome.Changed c) held is = absurd is
+  plain_check bytes (outcome.ChangedRefused f) held is = absurd is
+
+  other_check : (bytes : List ℕ) (o : Outcome) → holds name bytes → IsOutcomeOf bytes (plain_outcome o) → IsOther stamps knows name bytes → IsCheckOf holds fails stamps knows name o
+  other_check bytes (outcome.Checked c) held is other = (bytes, held, is)
+  other_check bytes (outcome.Refused f) held is other = (bytes, held, is)
+  other_check bytes (outcome.Unread e) held is other = absurd is
+  other_check bytes outcome.Skipped held is other = absurd is
+  other_check bytes (outcome.Unchanged was) held is other = absurd is
+  other_check bytes (outcome.Changed c) held is other = (bytes, held, is, other)
+  other_check bytes (outcome.ChangedRefused f) held is other = (bytes, held, is, other)
+
+  other_of : (bytes : List ℕ) (seal : Option Seal) (known : Option FileRecord) → IfSome seal (λ s. s.hash ≡ sha256 bytes) → IfSome known (IsStamped stamps knows name) → IsOtherSeal seal known → IsOther stamps knows name bytes
+  other_of bytes None known hash stamped other = absurd other
+  other_of bytes (Some s) None hash stamped other = absurd other
+  other_of bytes (Some s) (Some r) hash stamped other = (r, stamped, λ e. other (e ∙ sym hash))
+
+  no_other : (seal : Option Seal) (known : Option FileRecord) → seal ≡ None → IsOtherSeal seal known → ⊥
+  no_other None known e other = other
+  no_other (Some s) known e other = absurd (none-some s (sym e))
+
+  -- what is told of a file that was read is a check of it
+  pub check_of : (opened : Type 0) (r : Result (Vec ℕ) ReadError) (o p : Outcome) (seal : Option Seal) (known : Option FileRecord)
+      → IfOk r (λ b. holds name b.items) → IfErr r (λ e. opened → fails name e ⊎ IsNoText name e) → opened → IfOk r (λ b. IsOutcomeOf b.items o) → IfErr r (λ e. o ≡ outcome.Unread e)
+      → IfErr r (λ _. seal ≡ None) → IfSome seal (λ s. IfOk r (λ b. s.hash ≡ sha256 b.items)) → IfSome known (IsStamped stamps knows name)
+      → ((file : List ℕ) → IsOutcomeOf file o → IsOutcomeOf file (plain_outcome p)) → (p ≡ o) ⊎ IsOtherSeal seal known → IsCheckOf holds fails stamps knows name p
+  check_of opened (Ok b) o p seal known held failed so is unread none hash stamped same other = elim other [
+    | inl e ↦ subst (IsCheckOf holds fails stamps knows name) (sym e) (plain_check b.items o held is)
+    | inr differs ↦ other_check b.items p held (same b.items is) (other_of b.items seal known hash stamped differs)
+  ]
+  check_of opened (Err e) o p seal known held failed so is unread none hash stamped same other = elim other [
+    | inl e ↦ subst (IsCheckOf holds fails stamps knows name) (sym (e ∙ unread)) (failed so)
+    | inr differs ↦ absurd (no_other seal known none differs)
+  ]
+
+  sealed_record : (b : Vec ℕ) (o p : Outcome) (seal : Option Seal) (r : FileRecord) → holds name b.items → IsOutcomeOf b.items o → IfSome seal (λ s. stamps name s.stamp) → IfSome seal (λ s. s.hash ≡ sha256 b.items)
+      → IsSealed seal r → file_state r.state ≡ state_of p → p ≡ o → IsRecordOf holds stamps name r p
+  sealed_record b o p None r held is stamped hash sealed state same = absurd sealed
+  sealed_record b o p (Some s) r held is stamped hash sealed state same = record {
+    bytes = b.items;
+    held = held;
+    hash = sealed.0 ∙ hash;
+    checked = subst (IsOutcomeOf b.items) (sym same) is;
+    state = state;
+    stamp = subst (stamps name) (sym sealed.1) stamped;
+  }
+
+  no_seal : (seal : Option Seal) (r : FileRecord) → seal ≡ None → IsSealed seal r → ⊥
+  no_seal None r e sealed = sealed
+  no_seal (Some s) r e sealed = absurd (none-some s (sym e))
+
+  -- what is recorded of a file that was read is a record of it
+  pub recorded_of : (r : Result (Vec ℕ) ReadError) (o p : Outcome) (seal : Option Seal) (x : Option FileRecord)
+      → IfOk r (λ b. holds name b.items) → IfOk r (λ b. IsOutcomeOf b.items o) → IfErr r (λ _. seal ≡ None) → IfSome seal (λ s. stamps name s.stamp) → IfSome seal (λ s. IfOk r (λ b. s.hash ≡ sha256 b.items))
+      → IfSome x (λ f. IsSealed seal f × (file_state f.state ≡ state_of p) × (p ≡ o)) → IfSome x (λ f. IsRecordOf holds stamps name f p)
+  recorded_of r o p seal None held is none stamped hash sealed = tt
+  recorded_of (Ok b) o p seal (Some f) held is none stamped hash sealed = sealed_record b o p seal f held is stamped hash sealed.0 sealed.1 sealed.2
+  recorded_of (Err e) o p seal (Some f) held is none stamped hash sealed = absurd (no_seal seal f none sealed.0)
+
+some_plain : (o p : Outcome) (x : Option (Vec ℕ)) → IfSome x (λ b. IsOutcomeOf b.items o) → ((file : List ℕ) → IsOutcomeOf file o → IsOutcomeOf file (plain_outcome p))
+    → IfSome x (λ b. IsOutcomeOf b.items (plain_outcome p))
+some_plain o p None is same = tt
+some_plain o p (Some b) is same = same b.items is
+
+-- the bytes that a map is drawn of are still those of the check
+pub map_of : (o p : Outcome) (x y : Option (Vec ℕ)) → y ≡ x → IfSome x (λ b. IsOutcomeOf b.items o) → ((file : List ℕ) → IsOutcomeOf file o → IsOutcomeOf file (plain_outcome p))
+    → IfSome y (λ b. IsOutcomeOf b.items (plain_outcome p))
+map_of o p x y e is same = subst (λ (z : Option (Vec ℕ)). IfSome z (λ b. IsOutcomeOf b.items (plain_outcome p))) (sym e) (some_plain o p x is same)

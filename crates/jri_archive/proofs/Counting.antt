@@ -8,7 +8,7 @@ use Rattle.std.proofs.lemmas.List.{get_or_append_left, length-append}
 use Rattle.std.proofs.Math.Seq.{get_or-append_seam}
 use Rattle.jri_archive.specs.declared.counts.FileCounts.{FileCounts}
 use Rattle.jri_archive.specs.declared.counts.FileState.{FileState}
-use Rattle.jri_archive.specs.declared.counts.FileState.TheVariants.{Sound, Damaged, Refused, Unsupported, Unread, OutOfMemory, Skipped}
+use Rattle.jri_archive.specs.declared.counts.FileState.TheVariants.{Sound, Damaged, Refused, Unsupported, Unread, OutOfMemory, Skipped, Changed}
 use Rattle.jri_archive.specs.declared.outcome.Outcome.{Outcome}
 use Rattle.jri_archive.specs.Outcomes.{state_of}
 use Rattle.jri_archive.specs.Status.{counts_with}
@@ -41,6 +41,7 @@ counted_more c xs Sound a = record {
   unsupported = none_of Unsupported Sound xs c.unsupported refl a.unsupported;
   unread = none_of Unread Sound xs c.unread refl a.unread;
   out_of_memory = none_of OutOfMemory Sound xs c.out_of_memory refl a.out_of_memory;
+  changed = none_of Changed Sound xs c.changed refl a.changed;
 }
 counted_more c xs Damaged a = record {
   sound = none_of Sound Damaged xs c.sound refl a.sound;
@@ -49,6 +50,7 @@ counted_more c xs Damaged a = record {
   unsupported = none_of Unsupported Damaged xs c.unsupported refl a.unsupported;
   unread = none_of Unread Damaged xs c.unread refl a.unread;
   out_of_memory = none_of OutOfMemory Damaged xs c.out_of_memory refl a.out_of_memory;
+  changed = none_of Changed Damaged xs c.changed refl a.changed;
 }
 counted_more c xs Refused a = record {
   sound = none_of Sound Refused xs c.sound refl a.sound;
@@ -57,6 +59,7 @@ counted_more c xs Refused a = record {
   unsupported = none_of Unsupported Refused xs c.unsupported refl a.unsupported;
   unread = none_of Unread Refused xs c.unread refl a.unread;
   out_of_memory = none_of OutOfMemory Refused xs c.out_of_memory refl a.out_of_memory;
+  changed = none_of Changed Refused xs c.changed refl a.changed;
 }
 counted_more c xs Unsupported a = record {
   sound = none_of Sound Unsupported xs c.sound refl a.sound;
@@ -65,6 +68,7 @@ counted_more c xs Unsupported a = record {
   unsupported = one_of Unsupported Unsupported xs c.unsupported refl a.unsupported;
   unread = none_of Unread Unsupported xs c.unread refl a.unread;
   out_of_memory = none_of OutOfMemory Unsupported xs c.out_of_memory refl a.out_of_memory;
+  changed = none_of Changed Unsupported xs c.changed refl a.changed;
 }
 counted_more c xs Unread a = record {
   sound = none_of Sound Unread xs c.sound refl a.sound;
@@ -73,6 +77,7 @@ counted_more c xs Unread a = record {
   unsupported = none_of Unsupported Unread xs c.unsupported refl a.unsupported;
   unread = one_of Unread Unread xs c.unread refl a.unread;
   out_of_memory = none_of OutOfMemory Unread xs c.out_of_memory refl a.out_of_memory;
+  changed = none_of Changed Unread xs c.changed refl a.changed;
 }
 counted_more c xs OutOfMemory a = record {
   sound = none_of Sound OutOfMemory xs c.sound refl a.sound;
@@ -81,6 +86,7 @@ counted_more c xs OutOfMemory a = record {
   unsupported = none_of Unsupported OutOfMemory xs c.unsupported refl a.unsupported;
   unread = none_of Unread OutOfMemory xs c.unread refl a.unread;
   out_of_memory = one_of OutOfMemory OutOfMemory xs c.out_of_memory refl a.out_of_memory;
+  changed = none_of Changed OutOfMemory xs c.changed refl a.changed;
 }
 counted_more c xs Skipped a = record {
   sound = none_of Sound Skipped xs c.sound refl a.sound;
@@ -89,6 +95,16 @@ counted_more c xs Skipped a = record {
   unsupported = none_of Unsupported Skipped xs c.unsupported refl a.unsupported;
   unread = none_of Unread Skipped xs c.unread refl a.unread;
   out_of_memory = none_of OutOfMemory Skipped xs c.out_of_memory refl a.out_of_memory;
+  changed = none_of Changed Skipped xs c.changed refl a.changed;
+}
+counted_more c xs Changed a = record {
+  sound = none_of Sound Changed xs c.sound refl a.sound;
+  damaged = none_of Damaged Changed xs c.damaged refl a.damaged;
+  refused = none_of Refused Changed xs c.refused refl a.refused;
+  unsupported = none_of Unsupported Changed xs c.unsupported refl a.unsupported;
+  unread = none_of Unread Changed xs c.unread refl a.unread;
+  out_of_memory = none_of OutOfMemory Changed xs c.out_of_memory refl a.out_of_memory;
+  changed = one_of Changed Changed xs c.changed refl a.changed;
 }
 
 told_of : (may_be : List ℕ → Outcome → Type 0) (names : List (List ℕ)) (xs : List FileState) (state : FileState) (o : Outcome)

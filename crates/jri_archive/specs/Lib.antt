@@ -1,6 +1,7 @@
 pub mod Escapes
 pub mod Names
 pub mod Outcomes
+pub mod Records
 pub mod Status
 pub mod Told
 pub mod Unsupported

@@ -3,11 +3,13 @@ use Rattle.std.specs.Prelude.{ℕ, Bool, ◌+◌, ◌-◌, ◌^◌, min, nat_lt,
 use Rattle.jri_archive.specs.declared.answers.RequestError.{RequestError}
 use Rattle.jri_archive.specs.declared.answers.RequestError.TheVariants.{Help, Wrong, Memory}
 use Rattle.jri_archive.specs.declared.counts.FileState.{FileState}
-use Rattle.jri_archive.specs.declared.counts.FileState.TheVariants.{Sound, Damaged, Refused, Unsupported, Unread, OutOfMemory, Skipped}
+use Rattle.jri_archive.specs.declared.counts.FileState.TheVariants.{Sound, Damaged, Refused, Unsupported, Unread, OutOfMemory, Skipped, Changed}
 use Rattle.jri_archive.specs.declared.counts.FileCounts.{FileCounts}
 use Rattle.jri_archive.specs.declared.counts.CheckEnd.{CheckEnd}
-use Rattle.jri_archive.specs.declared.counts.CheckEnd.TheVariants.{AllTold, NamesUnread, Unwritten, Memory as NoMemory}
+use Rattle.jri_archive.specs.declared.counts.CheckEnd.TheVariants.{AllTold, NamesUnread, Unwritten, Memory as NoMemory, Unrecorded}
 use Rattle.jri_archive.specs.declared.counts.CheckReport.{CheckReport}
+use Rattle.jri_archive.specs.declared.state_file.StateError.{StateError}
+use Rattle.jri_archive.specs.declared.state_file.StateError.TheVariants as state
 
 abbrev pub request_error_status : RequestError → ℕ
 request_error_status (Help text) = 0
@@ -32,16 +34,17 @@ counts_with c Unsupported = record c { unsupported = one_more c.unsupported }
 counts_with c Unread = record c { unread = one_more c.unread }
 counts_with c OutOfMemory = record c { out_of_memory = one_more c.out_of_memory }
 counts_with c Skipped = c
+counts_with c Changed = record c { changed = one_more c.changed }
 
 abbrev pub files_in : FileCounts → ℕ
-files_in c = c.sound + (c.damaged + (c.refused + (c.unsupported + (c.unread + c.out_of_memory))))
+files_in c = c.sound + (c.damaged + (c.refused + (c.unsupported + (c.unread + (c.out_of_memory + c.changed)))))
 
 -- the status of files whose names and lines had no failure: the first that applies of 4, 3, 1, 5 and 0
 abbrev pub counts_status : FileCounts → ℕ
 counts_status c =
     if nat_lt 0 c.out_of_memory then 4 else
     if nat_lt 0 c.unread then 3 else
-    if nat_lt 0 (c.damaged + c.refused) then 1 else
+    if nat_lt 0 (c.damaged + (c.refused + c.changed)) then 1 else
     if nat_lt 0 c.unsupported then 5 else 0
 
 -- the same of an end and of files
@@ -50,6 +53,15 @@ status_of AllTold c = counts_status c
 status_of NamesUnread c = if nat_lt 0 c.out_of_memory then 4 else 3
 status_of Unwritten c = 4
 status_of NoMemory c = 4
+status_of Unrecorded c = 4
+
+-- a state file that is not used, or not written
+abbrev pub state_error_status : StateError → ℕ
+state_error_status (state.Unread error) = 2
+state_error_status state.InUse = 2
+state_error_status (state.Damaged line) = 2
+state_error_status state.Unwritten = 4
+state_error_status state.Memory = 4
 
 abbrev pub check_status : CheckReport → ℕ
 check_status r = status_of r.end r.counts

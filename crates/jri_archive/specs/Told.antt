@@ -1,25 +1,65 @@
 -- What is told of files that have names.
-use Rattle.std.specs.Prelude.{◌≡◌, ℕ, ◌-◌, ◌^◌, ◌<◌, ◌≤◌, ◌⊎◌, Bool, true, false, List, [], Option, Some, None, drop, length, map, min, sum_by, slice_get, slice_index_or}
+use Rattle.std.specs.Prelude.{◌≡◌, ◌≢◌, ℕ, ◌-◌, ◌^◌, ◌<◌, ◌≤◌, ◌⊎◌, Bool, true, false, List, [], Option, Some, None, drop, length, map, min, sum_by, slice_get, slice_index_or}
 use Rattle.std.specs.Global.{Vec}
 use Rattle.jri_archive.specs.declared.reading.ReadError.{ReadError}
 use Rattle.jri_archive.specs.declared.names.NamedFile.{NamedFile}
 use Rattle.jri_archive.specs.Names.{IsNamed, IsNoText}
 use Rattle.jri_archive.specs.declared.counts.CheckEnd.{CheckEnd}
-use Rattle.jri_archive.specs.declared.counts.CheckEnd.TheVariants.{AllTold, NamesUnread, Unwritten, Memory as NoMemory}
+use Rattle.jri_archive.specs.declared.counts.CheckEnd.TheVariants.{AllTold, NamesUnread, Unwritten, Memory as NoMemory, Unrecorded}
 use Rattle.jri_archive.specs.declared.counts.CheckReport.{CheckReport}
 use Rattle.jri_archive.specs.declared.counts.FileCounts.{FileCounts}
 use Rattle.jri_archive.specs.declared.counts.FileState.{FileState}
-use Rattle.jri_archive.specs.declared.counts.FileState.TheVariants.{Sound, Damaged, Refused, Unsupported, Unread, OutOfMemory, Skipped}
+use Rattle.jri_archive.specs.declared.counts.FileState.TheVariants.{Sound, Damaged, Refused, Unsupported, Unread, OutOfMemory, Skipped, Changed}
 use Rattle.jri_archive.specs.declared.outcome.Outcome.{Outcome}
 use Rattle.jri_archive.specs.declared.outcome.Outcome.TheVariants as outcome
 use Rattle.jri_archive.specs.Outcomes.{IsOutcomeOf, state_of}
+use Rattle.jri_archive.specs.declared.source.Seal.{Seal}
+use Rattle.jri_archive.specs.declared.state_record.FileRecord.{FileRecord}
+use Rattle.jri_archive.specs.declared.state_record.Stamp.{Stamp}
+use Rattle.jri_archive.specs.Records.{file_state, recorded}
+use Rattle.sha2.specs.Sha256.{sha256}
 
--- a check of the file of that name, which has such bytes, cannot be read for such a reason or has a name that is no text, may come to this
-abbrev pub IsCheckOf : (holds : List ℕ → List ℕ → Type 0) → (fails : List ℕ → ReadError → Type 0) → List ℕ → Outcome → Type 0
-IsCheckOf holds fails name (outcome.Checked c) = (bytes : List ℕ) × holds name bytes × IsOutcomeOf bytes (outcome.Checked c)
-IsCheckOf holds fails name (outcome.Refused f) = (bytes : List ℕ) × holds name bytes × IsOutcomeOf bytes (outcome.Refused f)
-IsCheckOf holds fails name (outcome.Unread e) = fails name e ⊎ IsNoText name e
-IsCheckOf holds fails name outcome.Skipped = ⊥
+-- that record of the file of that name has its size and time
+abbrev pub IsStamped : (stamps : List ℕ → Stamp → Type 0) (knows : List ℕ → FileRecord → Type 0) → List ℕ → FileRecord → Type 0
+IsStamped stamps knows name r = knows name r × stamps name r.stamp
+
+-- a record of the file of that name has its size and time, and the SHA-256 of other bytes
+abbrev pub IsOther : (stamps : List ℕ → Stamp → Type 0) (knows : List ℕ → FileRecord → Type 0) → List ℕ → List ℕ → Type 0
+IsOther stamps knows name bytes = (r : FileRecord) × IsStamped stamps knows name r × (r.hash ≢ sha256 bytes)
+
+-- a check of the file of that name may come to this: the file has such bytes, cannot be read for such a reason or has a name that is no text; an unchanged one has a record of its size and time
+abbrev pub IsCheckOf : (holds : List ℕ → List ℕ → Type 0) (fails : List ℕ → ReadError → Type 0) (stamps : List ℕ → Stamp → Type 0) (knows : List ℕ → FileRecord → Type 0) → List ℕ → Outcome → Type 0
+IsCheckOf holds fails stamps knows name (outcome.Checked c) = (bytes : List ℕ) × holds name bytes × IsOutcomeOf bytes (outcome.Checked c)
+IsCheckOf holds fails stamps knows name (outcome.Refused f) = (bytes : List ℕ) × holds name bytes × IsOutcomeOf bytes (outcome.Refused f)
+IsCheckOf holds fails stamps knows name (outcome.Unread e) = fails name e ⊎ IsNoText name e
+IsCheckOf holds fails stamps knows name outcome.Skipped = ⊥
+IsCheckOf holds fails stamps knows name (outcome.Unchanged was) = (r : FileRecord) × IsStamped stamps knows name r × (r.state ≡ was)
+IsCheckOf holds fails stamps knows name (outcome.Changed c) = (bytes : List ℕ) × holds name bytes × IsOutcomeOf bytes (outcome.Checked c) × IsOther stamps knows name bytes
+IsCheckOf holds fails stamps knows name (outcome.ChangedRefused f) = (bytes : List ℕ) × holds name bytes × IsOutcomeOf bytes (outcome.Refused f) × IsOther stamps knows name bytes
+
+-- what a state file, if there is one, has of the file of that name
+abbrev pub HasRecord : Option (List (Vec ℕ × FileRecord)) → List ℕ → FileRecord → Type 0
+HasRecord None name r = ⊥
+HasRecord (Some records) name r = recorded records name ≡ Some r
+
+-- the record has the SHA-256, size and time of such bytes
+abbrev pub IsSealed : Option Seal → FileRecord → Type 0
+IsSealed None r = ⊥
+IsSealed (Some s) r = (r.hash ≡ s.hash) × (r.stamp ≡ s.stamp)
+
+-- the record has another SHA-256 than such bytes
+abbrev pub IsOtherSeal : Option Seal → Option FileRecord → Type 0
+IsOtherSeal (Some s) (Some r) = r.hash ≢ s.hash
+IsOtherSeal s r = ⊥
+
+-- a record of the file of that name: its size and time, the SHA-256 of its bytes, and what their check came to
+pub record IsRecordOf (holds : List ℕ → List ℕ → Type 0) (stamps : List ℕ → Stamp → Type 0) (name : List ℕ) (r : FileRecord) (o : Outcome) : Type 0 where
+  pub bytes : List ℕ
+  pub held : holds name bytes
+  pub hash : r.hash ≡ sha256 bytes
+  pub checked : IsOutcomeOf bytes o
+  pub state : file_state r.state ≡ state_of o
+  pub stamp : stamps name r.stamp
 
 -- further files can be told of
 abbrev pub is_open : CheckEnd → Bool
@@ -27,6 +67,7 @@ is_open AllTold = true
 is_open NamesUnread = true
 is_open Unwritten = false
 is_open NoMemory = false
+is_open Unrecorded = false
 
 -- 1 where two states are one
 abbrev pub same_state : FileState → FileState → ℕ
@@ -37,6 +78,7 @@ same_state Unsupported Unsupported = 1
 same_state Unread Unread = 1
 same_state OutOfMemory OutOfMemory = 1
 same_state Skipped Skipped = 1
+same_state Changed Changed = 1
 same_state a b = 0
 
 -- how many files have that state, in 64 bits
@@ -51,6 +93,7 @@ pub record AreCounted (c : FileCounts) (states : List FileState) : Type 0 where
   pub unsupported : c.unsupported ≡ count_of Unsupported states
   pub unread : c.unread ≡ count_of Unread states
   pub out_of_memory : c.out_of_memory ≡ count_of OutOfMemory states
+  pub changed : c.changed ≡ count_of Changed states
 
 -- file k of these names has a check that comes to that state
 pub record IsToldOf (may_be : List ℕ → Outcome → Type 0) (names : List (List ℕ)) (states : List FileState) (k : ℕ) : Type 0 where
@@ -94,5 +137,5 @@ pub record IsNameQueueOf (names others : Option (List (List ℕ))) (claimed : �
   pub left : (all : List (List ℕ)) → names ≡ Some all → is_over ≡ false → others ≡ Some (drop claimed all)
 
 -- what a check of a file comes to is what a proof expects of it
-abbrev pub AreChecksOf : (holds : List ℕ → List ℕ → Type 0) → (fails : List ℕ → ReadError → Type 0) → (may_be : List ℕ → Outcome → Type 0) → Type 0
-AreChecksOf holds fails may_be = (name : List ℕ) (o : Outcome) → IsCheckOf holds fails name o → may_be name o
+abbrev pub AreChecksOf : (holds : List ℕ → List ℕ → Type 0) (fails : List ℕ → ReadError → Type 0) (stamps : List ℕ → Stamp → Type 0) (knows : List ℕ → FileRecord → Type 0) → (may_be : List ℕ → Outcome → Type 0) → Type 0
+AreChecksOf holds fails stamps knows may_be = (name : List ℕ) (o : Outcome) → IsCheckOf holds fails stamps knows name o → may_be name o

@@ -28,6 +28,10 @@ pub struct CheckRequest {
     pub is_recursive: bool,
     /// The file that has further names, each ended by a NUL byte; `-` is standard input.
     pub names_from: Option<String>,
+    /// The state file.
+    pub state: Option<String>,
+    /// Whether files that the state file has are read again.
+    pub is_verifying: bool,
     /// The names that the words give, of whatever bytes the system has.
     pub names: Vec<Vec<u8>>,
 }

@@ -4,7 +4,7 @@ ghost use Rattle.std.specs.Prelude.{◌≤◌, IfOk};
 ghost use Rattle.jr_base.specs.declared.limits.TheConstants.{MAX_WORKERS};
 
 use crate::answers::{CheckRequest, LineForm, RequestError};
-use crate::words::{bytes_of, texts};
+use crate::words::{bytes_of, is_no_text, texts};
 use clap::error::ErrorKind;
 use clap::{Arg, ArgAction, ArgMatches, Command, Error, value_parser};
 use jr_base::VERSION;
@@ -50,6 +50,25 @@ fn list_argument<'a>(alloc: Global) -> Arg<'a> {
         .help("Also check the NUL-terminated names in LIST; - is standard input")
 }
 
+/// Returns the argument of the state file.
+fn state_argument<'a>(alloc: Global) -> Arg<'a> {
+    Arg::new(alloc, "state")
+        .long("state")
+        .action(ArgAction::Set)
+        .value_name("STATE")
+        .help("Record files in STATE, and skip those that it has unless they changed")
+}
+
+/// Returns the argument by which recorded files are read again.
+fn verify_argument<'a>(alloc: Global) -> Result<Arg<'a>, AllocError> {
+    flag(
+        alloc,
+        "verify",
+        "Read recorded files again and report changed bytes; needs --state",
+    )
+    .requires_arg("state")
+}
+
 /// The files.
 fn files_argument<'a>(alloc: Global) -> Result<Arg<'a>, AllocError> {
     Arg::new(alloc, "files")
@@ -74,7 +93,9 @@ fn with_finding_words<'a>(alloc: Global, command: Command<'a>) -> Result<Command
     command
         .arg(workers_argument(alloc))?
         .arg(recursive_argument(alloc))?
-        .arg(list_argument(alloc))
+        .arg(list_argument(alloc))?
+        .arg(state_argument(alloc))?
+        .arg(verify_argument(alloc)?)
 }
 
 /// The words that tell which files are checked.
@@ -85,10 +106,10 @@ fn with_file_words<'a>(alloc: Global, command: Command<'a>) -> Result<Command<'a
 /// The text of `--help` after the options.
 const AFTER_HELP: &str = "\
 Exit status, the first that applies:
-  2  bad arguments
-  4  out of memory, or the output cannot be written
+  2  bad arguments, or the state file cannot be used
+  4  out of memory, or the output or the state file cannot be written
   3  a file or the list cannot be read
-  1  a file is damaged or refused
+  1  a file is damaged, refused or changed
   5  a file is of a kind that is not supported
   0  every file is sound
 The statuses 1 and 3 of jri mean other things.";
@@ -102,7 +123,7 @@ fn wordless<'a>(alloc: Global) -> Command<'a> {
         .no_binary_name(true)
 }
 
-/// `jri_check [--map] [--json] [-q] [--counts] [-j N] [-r] [--files0-from LIST] FILE..`.
+/// `jri_check [--map] [--json] [-q] [--counts] [-j N] [-r] [--files0-from LIST] [--state STATE [--verify]] FILE..`.
 fn command<'a>(alloc: Global) -> Result<Command<'a>, AllocError> {
     let command = with_telling_words(alloc, wordless(alloc))?;
     with_file_words(alloc, with_finding_words(alloc, command)?)
@@ -157,6 +178,29 @@ fn is_read_twice(names: &[Vec<u8>], names_from: &Option<String>) -> bool {
 const READ_TWICE: &str =
     "error: standard input cannot be both a FILE and the LIST of --files0-from\n";
 
+/// Returns the name of the state file.
+///
+/// # Errors
+///
+/// Standard input, and a name that is not UTF-8.
+fn state_in(alloc: Global, matches: &ArgMatches<'_>) -> Result<Option<String>, RequestError> {
+    let Some(name) = matches.get_str("state") else {
+        return Ok(None);
+    };
+    if name == "-" {
+        return Err(RequestError::Wrong(String::from_str(alloc, STATE_INPUT)?));
+    }
+    if is_no_text(name) {
+        return Err(RequestError::Wrong(String::from_str(alloc, STATE_NAME)?));
+    }
+    Ok(Some(String::from_str(alloc, name)?))
+}
+
+/// The errors of names that no state file has.
+const STATE_INPUT: &str = "error: the STATE of --state cannot be standard input\n";
+
+const STATE_NAME: &str = "error: the name of the STATE of --state is not UTF-8\n";
+
 /// What a line tells.
 fn form_in(matches: &ArgMatches<'_>) -> LineForm {
     LineForm {
@@ -177,6 +221,7 @@ fn request_in(
 {
     let names = names_in(alloc, words, matches)?;
     let names_from = list_in(alloc, matches)?;
+    let state = state_in(alloc, matches)?;
     if is_read_twice(names.as_slice(), &names_from) {
         return Err(RequestError::Wrong(String::from_str(alloc, READ_TWICE)?));
     }
@@ -188,6 +233,8 @@ fn request_in(
             has_counts: matches.get_flag("counts"),
             is_recursive: matches.get_flag("recursive"),
             names_from,
+            state,
+            is_verifying: matches.get_flag("verify"),
             names,
         }),
         _ => Err(RequestError::Wrong(String::new(alloc))),

@@ -1,7 +1,8 @@
 //! How many files are what, and the exit status.
 
-ghost use Rattle.std.specs.Prelude.{◌≡◌};
+ghost use Rattle.std.specs.Prelude.{◌≡◌, not};
 ghost use Rattle.jri_archive.specs.Status.{counts_with, files_in, check_status};
+ghost use Rattle.jri_archive.specs.Told.{is_open};
 
 /// What became of a file.
 #[derive(Clone, Copy, PartialEq, Eq)]
@@ -20,6 +21,8 @@ pub enum FileState {
     OutOfMemory,
     /// An entry of a directory that may be a file of any kind. No count has it.
     Skipped,
+    /// Its bytes are not those of its record, though its size and time are.
+    Changed,
 }
 
 /// How many files are what.
@@ -31,6 +34,7 @@ pub struct FileCounts {
     pub unsupported: u64,
     pub unread: u64,
     pub out_of_memory: u64,
+    pub changed: u64,
 }
 
 impl FileCounts {
@@ -45,6 +49,7 @@ impl FileCounts {
             unsupported: 0,
             unread: 0,
             out_of_memory: 0,
+            changed: 0,
         }
     }
 
@@ -62,6 +67,7 @@ impl FileCounts {
             FileState::OutOfMemory => {
                 counts.out_of_memory = counts.out_of_memory.saturating_add(1);
             }
+            FileState::Changed => counts.changed = counts.changed.saturating_add(1),
             FileState::Skipped => {}
         }
         counts
@@ -79,6 +85,20 @@ pub enum CheckEnd {
     Unwritten,
     /// Memory ran out for a name or a line.
     Memory,
+    /// A record could not be written to the state file.
+    Unrecorded,
+}
+
+impl CheckEnd {
+    /// Returns whether no further line is written.
+    pub(crate) fn is_last(self) -> bool
+        ensures { result ≡ not (is_open self) }
+    {
+        matches!(
+            self,
+            CheckEnd::Unwritten | CheckEnd::Memory | CheckEnd::Unrecorded
+        )
+    }
 }
 
 /// What became of all files.
@@ -90,20 +110,20 @@ pub struct CheckReport {
 }
 
 impl CheckReport {
-    /// Returns the exit status, the first that applies: 4 if memory or the output failed, 3 if a
-    /// file, or a name, could not be read, 1 if a file is damaged or refused, 5 if one is
+    /// Returns the exit status, the first that applies: 4 if memory, the output or the state file failed, 3 if a
+    /// file, or a name, could not be read, 1 if a file is damaged, refused or changed, 5 if one is
     /// unsupported, 0 if each file is sound.
     pub fn status(&self) -> u8
         ensures { result ≡ check_status self.now }
     {
         let counts = &self.counts;
-        if matches!(self.end, CheckEnd::Unwritten | CheckEnd::Memory) || counts.out_of_memory > 0 {
+        if self.end.is_last() || counts.out_of_memory > 0 {
             return 4;
         }
         if self.end == CheckEnd::NamesUnread || counts.unread > 0 {
             return 3;
         }
-        if counts.damaged > 0 || counts.refused > 0 {
+        if counts.damaged > 0 || counts.refused > 0 || counts.changed > 0 {
             return 1;
         }
         if counts.unsupported > 0 {

@@ -1,7 +1,7 @@
 //! Whose file is checked next, whose line is due, and where lines go.
 
 ghost use Rattle.std.specs.Prelude.{◌≡◌, ℕ, ◌<◌, ◌^◌, not, List, [], Some, None, true, false, length, slice_get, slice_index_or, IfSome};
-ghost use Rattle.jri_archive.specs.Outcomes.{IsOutcomeOf, state_of};
+ghost use Rattle.jri_archive.specs.Outcomes.{IsOutcomeOf, plain_outcome, state_of};
 ghost use Rattle.jri_archive.specs.Told.{AreTold, is_open};
 
 use crate::answers::LineForm;
@@ -11,6 +11,7 @@ use crate::map::{TellError, write_map};
 use crate::names::NamesError;
 use crate::one_check::OneCheck;
 use crate::outcome::Outcome;
+use crate::state_record::FileRecord;
 use crate::telling::{tell, tell_counts};
 use std::alloc::Global;
 use std::io::{Error, Write};
@@ -21,6 +22,8 @@ use std::marker::{Model, PhantomData};
 pub(crate) struct CheckedFile {
     pub(crate) outcome: Outcome,
     pub(crate) bytes: Option<Vec<u8>>,
+    /// What is appended to a state file.
+    pub(crate) entry: Option<FileRecord>,
 }
 
 /// Which line is due, and where lines go.
@@ -80,11 +83,11 @@ fn write_lines<O: Write>(
     file: &CheckedFile,
     form: LineForm,
 ) -> Result<(), TellError>
-    requires { IfSome file.now.bytes (λ b. IsOutcomeOf b.items file.now.outcome) }
+    requires { IfSome file.now.bytes (λ b. IsOutcomeOf b.items (plain_outcome file.now.outcome)) }
 {
     write_file_line(alloc, out, name, &file.outcome, form)?;
     if let Some(bytes) = &file.bytes
-        && let Outcome::Checked(checked) = &file.outcome
+        && let Some(checked) = file.outcome.checked()
     {
         write_map(alloc, out, name, bytes.as_slice(), checked, form.is_json)?;
     }
@@ -155,7 +158,7 @@ impl<S: OneCheck, O: Write, E: Write + Drop> FileQueue<S, O, E> {
     pub(crate) fn is_over(&self) -> bool
         ensures { result ≡ not (is_open self.now.report.end) }
     {
-        matches!(self.report.end, CheckEnd::Unwritten | CheckEnd::Memory)
+        self.report.end.is_last()
     }
 
     /// It is known by now how many files there are, if it was not known before.
@@ -223,6 +226,14 @@ impl<S: OneCheck, O: Write, E: Write + Drop> FileQueue<S, O, E> {
         }
     }
 
+    /// Notes that a record cannot be written.
+    pub(crate) fn end_records(&mut self, error: TellError) {
+        self.end(match error {
+            TellError::Write => CheckEnd::Unrecorded,
+            TellError::Memory => CheckEnd::Memory,
+        });
+    }
+
     /// Whether all files are told of, where it is known how many there are.
     fn has_told_all(&self) -> bool
         ensures { result ≡ true → (names : List (List ℕ)) → S.names ≡ Some names → self.now.told ≡ length names }
@@ -263,7 +274,7 @@ impl<S: OneCheck, O: Write, E: Write + Drop> FileQueue<S, O, E> {
 
     /// Tells of the file whose line is due.
     pub(crate) fn tell(&mut self, alloc: Global, name: &[u8], file: &CheckedFile)
-        requires bytes { IfSome file.now.bytes (λ b. IsOutcomeOf b.items file.now.outcome) }
+        requires bytes { IfSome file.now.bytes (λ b. IsOutcomeOf b.items (plain_outcome file.now.outcome)) }
         requires next { (names : List (List ℕ)) → S.names ≡ Some names → (slice_get names self.old.told ≡ Some name.now) × S.may_be name.now file.now.outcome }
     {
         self.show_progress(false);

@@ -62,18 +62,23 @@ fn write_after_end(line: &mut String, checked: &Checked) -> Result<(), AllocErro
     }
 }
 
-/// Puts what is damaged of a scan.
-fn put_damage(line: &mut String, damaged: u32, lines: Option<Lines>) -> Result<(), AllocError> {
+/// Puts what is damaged of a scan; the first member has the name `key`.
+fn put_damage(
+    line: &mut String,
+    key: &str,
+    damaged: u32,
+    lines: Option<Lines>,
+) -> Result<(), AllocError> {
     let Some(lines) = lines else {
-        return line.push_str(",\"is\":\"sound\"");
+        return write!(line, ",\"{key}\":\"sound\"");
     };
-    write!(line, ",\"is\":\"damaged\",\"damaged\":{damaged}")?;
+    write!(line, ",\"{key}\":\"damaged\",\"damaged\":{damaged}")?;
     put_lines(line, lines)
 }
 
 /// Puts what the check of a file's scan came to.
-fn put_checked(line: &mut String, checked: &Checked) -> Result<(), AllocError> {
-    put_damage(line, checked.verdict.damaged, checked.verdict.lines)?;
+fn put_checked(line: &mut String, key: &str, checked: &Checked) -> Result<(), AllocError> {
+    put_damage(line, key, checked.verdict.damaged, checked.verdict.lines)?;
     write!(line, ",\"intervals\":{}", checked.scan.intervals())?;
     let head = checked.scan.head();
     let (width, height, size) = (head.width(), head.height(), checked.size);
@@ -97,9 +102,9 @@ fn detail_of(refusal: &Refusal) -> Option<u64> {
 }
 
 /// Writes why a file is refused.
-fn write_refusal(line: &mut String, refusal: &Refusal) -> Result<(), AllocError> {
+fn write_refusal(line: &mut String, key: &str, refusal: &Refusal) -> Result<(), AllocError> {
     let (word, number) = (refused_word(refusal), refusal.number());
-    write!(line, ",\"is\":\"{word}\",\"refusal\":{number}")?;
+    write!(line, ",\"{key}\":\"{word}\",\"refusal\":{number}")?;
     if let Some(detail) = detail_of(refusal) {
         write!(line, ",\"detail\":{detail}")?;
     }
@@ -108,14 +113,28 @@ fn write_refusal(line: &mut String, refusal: &Refusal) -> Result<(), AllocError>
     line.push_str("\"")
 }
 
+/// What a file is whose bytes are not those of its record.
+const CHANGED: &str = ",\"is\":\"changed\"";
+
 /// Puts what became of a file.
 fn put_outcome(line: &mut String, outcome: &Outcome) -> Result<(), AllocError> {
     match outcome {
-        Outcome::Checked(checked) => put_checked(line, checked),
+        Outcome::Checked(checked) => put_checked(line, "is", checked),
         Outcome::Refused(Refusal::Memory) | Outcome::Unread(ReadError::Memory) => {
             line.push_str(",\"is\":\"out of memory\"")
         }
-        Outcome::Refused(refusal) => write_refusal(line, refusal),
+        Outcome::Refused(refusal) => write_refusal(line, "is", refusal),
+        Outcome::Unchanged(was) => {
+            write!(line, ",\"is\":\"unchanged\",\"was\":\"{}\"", was.text())
+        }
+        Outcome::Changed(checked) => {
+            line.push_str(CHANGED)?;
+            put_checked(line, "now", checked)
+        }
+        Outcome::ChangedRefused(refusal) => {
+            line.push_str(CHANGED)?;
+            write_refusal(line, "now", refusal)
+        }
         Outcome::Skipped => write!(
             line,
             ",\"is\":\"skipped\",\"why\":\"{}\"",
@@ -125,8 +144,8 @@ fn put_outcome(line: &mut String, outcome: &Outcome) -> Result<(), AllocError> {
     }
 }
 
-/// Appends the object of a file, with the line's end: `is` is `sound`, `damaged`, `refused`, `unsupported`, `unread`, `skipped` or
-/// `out of memory`.
+/// Appends the object of a file, with the line's end: `is` is `sound`, `damaged`, `refused`, `unsupported`, `unread`, `skipped`,
+/// `unchanged`, `changed` or `out of memory`.
 pub(crate) fn tell_object(
     line: &mut String,
     name: &[u8],
@@ -193,9 +212,14 @@ pub(crate) fn tell_counts_object(line: &mut String, counts: FileCounts) -> Resul
         unsupported,
         unread,
         out_of_memory,
+        changed,
     } = counts;
-    writeln!(
+    write!(
         line,
-        "{{\"sound\":{sound},\"damaged\":{damaged},\"refused\":{refused},\"unsupported\":{unsupported},\"unread\":{unread},\"out_of_memory\":{out_of_memory}}}"
-    )
+        "{{\"sound\":{sound},\"damaged\":{damaged},\"refused\":{refused},\"unsupported\":{unsupported},\"unread\":{unread},\"out_of_memory\":{out_of_memory}"
+    )?;
+    if changed > 0 {
+        write!(line, ",\"changed\":{changed}")?;
+    }
+    line.push_str("}\n")
 }

@@ -1,12 +1,15 @@
 //! What becomes of one file of many.
 
-ghost use Rattle.std.specs.Prelude.{◌≡◌, ◌≢◌, length, IfOk, IfErr};
+ghost use Rattle.std.specs.Prelude.{◌≡◌, ◌≢◌, ℕ, List, length, IfOk, IfErr, IfSome};
 ghost use Rattle.jr_head.specs.Heads.{RefusalOf};
-ghost use Rattle.jri_archive.specs.Outcomes.{IsOutcomeOf, state_of};
+ghost use Rattle.jr_segments.specs.declared.refusal.Refusal.TheVariants as refusal;
+ghost use Rattle.jr_damage.specs.Verdicts.{IsFileScan};
+ghost use Rattle.jri_archive.specs.Outcomes.{IsOutcomeOf, plain_outcome, state_of};
 
 use crate::checking::{Checked, check_file, check_file_in_place};
 use crate::counts::FileState;
 use crate::reading::ReadError;
+use crate::state_record::RecordedState;
 use crate::unsupported::is_unsupported;
 use jr_head::Refusal;
 use std::alloc::Global;
@@ -24,6 +27,12 @@ pub enum Outcome {
     Unread(ReadError),
     /// It was found in a directory and may be a file of any kind, since its name is neither UTF-8 nor that of a JPEG file.
     Skipped,
+    /// Its size and time are those of its record, so it is not read. This is what its check came to.
+    Unchanged(RecordedState),
+    /// Its bytes are not those of its record, though its size and time are. Its scan was read.
+    Changed(Checked),
+    /// Its bytes are not those of its record, though its size and time are. It is refused.
+    ChangedRefused(Refusal),
 }
 
 /// Checks a file whose bytes are there, or are not, by so many threads where it is large.
@@ -78,6 +87,32 @@ impl Outcome {
             Outcome::Refused(_) => FileState::Refused,
             Outcome::Skipped => FileState::Skipped,
             Outcome::Unread(_) => FileState::Unread,
+            Outcome::Unchanged(was) => was.file_state(),
+            Outcome::Changed(_) | Outcome::ChangedRefused(_) => FileState::Changed,
+        }
+    }
+
+    /// Returns the check of a file whose bytes are not those of its record. If memory ran out nothing is said of it.
+    pub(crate) fn changed(self) -> Outcome
+        ensures same { (file : List ℕ) → IsOutcomeOf file self → IsOutcomeOf file (plain_outcome result) }
+        ensures checked { (c : Checked) → self ≡ Outcome.Checked c → result ≡ Outcome.Changed c }
+        ensures refused { (f : Refusal) → f ≢ refusal.Memory → self ≡ Outcome.Refused f → result ≡ Outcome.ChangedRefused f }
+    {
+        match self {
+            Outcome::Checked(checked) => Outcome::Changed(checked),
+            Outcome::Refused(Refusal::Memory) => Outcome::Refused(Refusal::Memory),
+            Outcome::Refused(refusal) => Outcome::ChangedRefused(refusal),
+            other => other,
+        }
+    }
+
+    /// Returns what was read of the file's scan.
+    pub(crate) fn checked(&self) -> Option<&Checked>
+        ensures { (file : List ℕ) → IsOutcomeOf file (plain_outcome self.now) → IfSome result (λ c. IsFileScan file c.now.scan) }
+    {
+        match self {
+            Outcome::Checked(checked) | Outcome::Changed(checked) => Some(checked),
+            _ => None,
         }
     }
 }

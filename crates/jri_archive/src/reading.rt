@@ -1,7 +1,8 @@
 //! Where the bytes of files come from, and why they may not.
 
-ghost use Rattle.std.specs.Prelude.{ℕ, List, IfOk, IfErr};
+ghost use Rattle.std.specs.Prelude.{ℕ, List, IfOk, IfErr, IfSome};
 
+use crate::state_record::Stamp;
 use std::alloc::Global;
 
 /// Why the bytes of a file are not there.
@@ -61,6 +62,7 @@ pub struct Entry {
 /// Where files come from.
 pub trait Folder {
     ghost use Rattle.jri_archive.specs.declared.reading.ReadError.{ReadError};
+    ghost use Rattle.jri_archive.specs.declared.state_record.Stamp.{Stamp};
 
     // The bytes that a file of that name may have.
     ghost holds: { Self → List ℕ → List ℕ → Type 0 } = { λ _ _ _. Unit {0} };
@@ -68,10 +70,20 @@ pub trait Folder {
     // Why a file of that name may not be read.
     ghost fails: { Self → List ℕ → ReadError → Type 0 } = { λ _ _ _. Unit {0} };
 
+    // The size and time that a file of that name may have.
+    ghost stamps: { Self → List ℕ → Stamp → Type 0 } = { λ _ _ _. Unit {0} };
+
     /// The bytes of the file of that name, or one more than a file may have.
     fn read(&self, alloc: Global, name: &str) -> Result<Vec<u8>, ReadError>
         ensures bytes { IfOk result (λ bytes. holds self.now name.now bytes.items) }
         ensures error { IfErr result (fails self.now name.now) };
+
+    /// Returns the size and time of the regular file of that name; `None` if it is not one, or if they are not known.
+    fn stamp(&self, _name: &str) -> Option<Stamp>
+        ensures { IfSome result (stamps self.now _name.now) }
+    {
+        None
+    }
 
     /// Returns the files and directories in the directory of that name, in any order, and no links; `None` if it is not a
     /// directory. An entry whose name is not UTF-8 is `Unread` for that reason.

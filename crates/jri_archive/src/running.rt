@@ -2,6 +2,7 @@
 
 ghost use Rattle.std.specs.Prelude.{◌≡◌, IfErr};
 ghost use Rattle.std.specs.Process.{exit_status};
+ghost use Rattle.jri_archive.specs.Status.{state_error_status};
 
 use crate::answering::answer;
 use crate::answers::{CheckRequest, RequestError};
@@ -9,6 +10,8 @@ use crate::asking::asked;
 use crate::counts::{CheckEnd, CheckReport};
 use crate::reading::{Folder, ReadError};
 use crate::sharing::check_all;
+use crate::source::Source;
+use crate::state_file::{State, StateError};
 use crate::telling::write_counts_line;
 use jr_base::Tally;
 use std::alloc::{AllocError, Global};
@@ -43,13 +46,19 @@ impl Termination for Ended {
     }
 }
 
-/// A source of lists of names.
+/// A source of lists of names, and of state files.
 pub trait Lists {
     /// An open list.
     type List: Read + Send + Drop;
 
+    /// The end of an open state file, to which each write appends.
+    type Log: Write + Send + Drop;
+
     /// Opens the list of that name; `-` is standard input.
     fn list(&self, name: &str) -> Result<Self::List, ReadError>;
+
+    /// Opens the state file of that name for this run alone, and creates it if there is none. Returns its bytes and its end.
+    fn state(&self, alloc: Global, name: &str) -> Result<(Vec<u8>, Self::Log), StateError>;
 }
 
 /// The streams of a run.
@@ -102,6 +111,7 @@ fn report_end<E: Write>(errors: &mut E, report: &CheckReport, is_quiet: bool) {
         CheckEnd::NamesUnread => writeln!(errors, "cannot read further names"),
         CheckEnd::Unwritten => writeln!(errors, "cannot write the lines"),
         CheckEnd::Memory => writeln!(errors, "out of memory"),
+        CheckEnd::Unrecorded => writeln!(errors, "cannot write the state file"),
     };
 }
 
@@ -120,8 +130,59 @@ fn open_list<L: Lists>(
     }
 }
 
+/// Opens the state file that the arguments name, if they name one.
+fn open_state<L: Lists>(
+    alloc: Global,
+    lists: &L,
+    asked: &CheckRequest,
+) -> Result<Option<State<L::Log>>, StateError> {
+    let Some(name) = &asked.state else {
+        return Ok(None);
+    };
+    let (bytes, log) = lists.state(alloc, name.as_str())?;
+    let state = State::open(alloc, bytes.as_slice(), log, asked.is_verifying)?;
+    Ok(Some(state))
+}
+
+/// Reports why the state file is not used, and returns the exit status.
+fn report_state<E: Write>(errors: &mut E, error: &StateError) -> u8
+    ensures { result ≡ state_error_status error.now }
+{
+    let _ = match error {
+        StateError::Unread(why) => writeln!(errors, "cannot use the state file: {}", why.text()),
+        StateError::InUse => writeln!(errors, "cannot use the state file: another run uses it"),
+        StateError::Damaged(line) => {
+            writeln!(errors, "cannot use the state file: line {line} is damaged")
+        }
+        StateError::Unwritten => writeln!(errors, "cannot write the state file"),
+        StateError::Memory => writeln!(errors, "out of memory"),
+    };
+    error.status()
+}
+
+/// Opens the list of names and the state file, and reports why one of them is not opened, with the exit status.
+fn open_all<L: Lists, E: Write>(
+    alloc: Global,
+    lists: &L,
+    asked: &CheckRequest,
+    errors: &mut E,
+) -> Result<(Option<BufReader<L::List>>, Option<State<L::Log>>), u8> {
+    let list = match open_list(alloc, lists, asked) {
+        Ok(list) => list,
+        Err(error) => {
+            let _ = writeln!(errors, "cannot read names: {}", error.text());
+            return Err(LIST_UNREAD);
+        }
+    };
+    match open_state(alloc, lists, asked) {
+        Ok(state) => Ok((list, state)),
+        Err(error) => Err(report_state(errors, &error)),
+    }
+}
+
 /// Does what the program's arguments ask for: checks the files of a directory and of a list, and writes a line for each. The
-/// status is that of the check's report, or of what `answer` writes instead, or 3 if the list of names cannot be read.
+/// status is that of the check's report, or of what `answer` writes instead, 3 if the list of names cannot be read, or that of the
+/// error of the state file.
 pub fn program<
     R: Threads + Wait + Sync,
     F: Folder + Sync + Drop,
@@ -154,17 +215,13 @@ pub fn program<
             return Ended { status };
         }
     };
-    let list = match open_list(alloc, lists, &asked) {
-        Ok(list) => list,
-        Err(error) => {
-            let _ = writeln!(errors, "cannot read names: {}", error.text());
-            return Ended {
-                status: LIST_UNREAD,
-            };
-        }
+    let (list, state) = match open_all(alloc, lists, &asked, &mut errors) {
+        Ok(opened) => opened,
+        Err(status) => return Ended { status },
     };
+    let source = Source { folder, state };
     let is_quiet = asked.form.is_quiet;
-    let (report, out) = check_all(rt, alloc, folder, asked, list, watch(out), progress);
+    let (report, out) = check_all(rt, alloc, source, asked, list, watch(out), progress);
     if !out.is_closed {
         report_end(&mut errors, &report, is_quiet);
     }

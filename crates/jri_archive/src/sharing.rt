@@ -1,56 +1,26 @@
 //! Many files, checked by several workers and told in their order.
 
-ghost use Rattle.std.specs.Prelude.{◌≡◌, ◌≤◌, ◌<◌, ◌^◌, ◌⊎◌, ℕ, List, Some, None, false, length, map, drop, slice_get, IfOk, IfErr, IfSome, IfNone};
+ghost use Rattle.std.specs.Prelude.{◌≡◌, ◌≤◌, ◌<◌, ◌^◌, ℕ, List, Some, None, false, length, map, drop, slice_get, IfOk, IfSome, IfNone};
 ghost use Rattle.jri_archive.specs.Names.{IsNamed, IsNoText};
-ghost use Rattle.jri_archive.specs.Outcomes.{IsOutcomeOf};
-ghost use Rattle.jri_archive.specs.Told.{AreChecksOf, AreTold, IsCheckOf, IsClaimOf, given_names};
+ghost use Rattle.jri_archive.specs.Outcomes.{IsOutcomeOf, plain_outcome};
+ghost use Rattle.jri_archive.specs.Told.{AreChecksOf, AreTold, IsCheckOf, IsClaimOf, HasRecord, IsRecordOf, given_names};
 
 use crate::answers::CheckRequest;
 use crate::counts::{CheckEnd, CheckReport};
 use crate::file_queue::{CheckedFile, FileQueue, write_counts};
+use crate::judging::{checked_file, judged, unread};
 use crate::map::TellError;
 use crate::names::{FileNames, NamedFile, NamesError};
 use crate::one_check::OneCheck;
-use crate::outcome::{Outcome, outcome_in_place, outcome_of};
+use crate::outcome::Outcome;
 use crate::reading::{Folder, ReadError};
+use crate::source::{Content, Source};
 use std::alloc::Global;
 use std::io::{BufReader, Read, Write};
 use std::marker::{Brand, Model, PhantomData};
 use std::sync::{Condvar, Mutex, Wait};
 use std::thread;
 use std::thread::Threads;
-
-/// Checks a file, for a map or for its line alone, which takes half the memory.
-fn checked_file<R: Threads + Wait + Sync>(
-    rt: &R,
-    alloc: Global,
-    file: Result<Vec<u8>, ReadError>,
-    has_map: bool,
-    workers: u32,
-) -> CheckedFile
-    ensures map { IfSome result.bytes (λ b. IsOutcomeOf b.items result.outcome) }
-    ensures bytes { IfOk file (λ b. IsOutcomeOf b.items result.outcome) }
-    ensures error { IfErr file (λ e. result.outcome ≡ Outcome.Unread e) }
-{
-    if !has_map {
-        let outcome = outcome_in_place(rt, alloc, file, workers);
-        return CheckedFile {
-            outcome,
-            bytes: None,
-        };
-    }
-    let outcome = outcome_of(rt, alloc, &file, workers);
-    match file {
-        Ok(bytes) => CheckedFile {
-            outcome,
-            bytes: Some(bytes),
-        },
-        Err(_) => CheckedFile {
-            outcome,
-            bytes: None,
-        },
-    }
-}
 
 /// The names that nobody has claimed yet.
 #[derive(Drop)]
@@ -75,9 +45,9 @@ impl<S: OneCheck, I: Read + Drop> Model for NameQueue<S, I> {
 
 /// What the workers share.
 #[derive(Drop)]
-struct Sharing<S: OneCheck, F: Folder, I: Read + Drop, O, E> {
+struct Sharing<S: OneCheck, F: Folder, I: Read + Drop, O, E, W> {
     alloc: Global,
-    folder: F,
+    source: Source<F, W>,
     workers: u32,
     has_map: bool,
     names: Mutex<NameQueue<S, I>>,
@@ -86,15 +56,16 @@ struct Sharing<S: OneCheck, F: Folder, I: Read + Drop, O, E> {
     has_told: Condvar,
 }
 
-impl<S: OneCheck, F: Folder, I: Read + Drop, O, E> Model for Sharing<S, F, I, O, E> {
+impl<S: OneCheck, F: Folder, I: Read + Drop, O, E, W> Model for Sharing<S, F, I, O, E, W> {
     ghost use Rattle.std.specs.Prelude.{ℕ, List};
-    ghost use Rattle.jri_archive.specs.Told.{AreChecksOf};
+    ghost use Rattle.jri_archive.specs.declared.source.Source.{Source};
+    ghost use Rattle.jri_archive.specs.Told.{AreChecksOf, HasRecord};
 
-    ghost Value = { F };
+    ghost Value = { Source F W };
 
-    ghost view = { λ s. s.folder };
+    ghost view = { λ s. s.source };
 
-    ghost invariant = { λ s. AreChecksOf (F.holds s.folder) (F.fails s.folder) S.may_be };
+    ghost invariant = { λ s. AreChecksOf (F.holds s.source.folder) (F.fails s.source.folder) (F.stamps s.source.folder) (HasRecord s.source.state) S.may_be };
 }
 
 impl<S: OneCheck, I: Read + Drop> NameQueue<S, I> {
@@ -146,13 +117,14 @@ impl<
     I: Read + Send + Drop,
     O: Write + Send + Drop,
     E: Write + Send + Drop,
-> Sharing<S, F, I, O, E> {
+    W: Write + Send + Drop,
+> Sharing<S, F, I, O, E, W> {
     /// The next name, where there is one, and how many are claimed then.
     fn next_name<R: Wait>(&self, rt: &R) -> (Result<Option<(u64, NamedFile)>, NamesError>, u64)
         ensures { IfOk result.0 (λ o. IfSome o (λ c. IsClaimOf S.names c.0 c.1)) }
     {
         let mut names = self.names.lock(rt);
-        let file = names.claim(self.alloc, &self.folder);
+        let file = names.claim(self.alloc, &self.source.folder);
         (file, names.claimed())
     }
 
@@ -173,43 +145,33 @@ impl<
         None
     }
 
-    /// The bytes of a file.
-    fn read(&self, file: &NamedFile) -> Result<Vec<u8>, ReadError>
-        ensures bytes { IfOk result (λ b. F.holds self.now file.now.name.items b.items) }
-        ensures error { IfErr result (λ e. ((x : ReadError) → file.now.error ≡ Some x → IsNoText file.now.name.items x) → F.fails self.now file.now.name.items e ⊎ IsNoText file.now.name.items e) }
-    {
-        if let Some(error) = file.error {
-            return Err(error);
-        }
-        match str::from_utf8(file.name.as_slice()) {
-            Ok(name) => self.folder.read(self.alloc, name),
-            Err(_) => Err(ReadError::NameIsNoText),
-        }
-    }
-
-    /// Checks a file, by several workers where others have none.
+    /// Checks a file, by several workers where others have none; one that is recorded is not read, unless it is verified.
     fn check<R: Threads + Wait + Sync>(&self, rt: &R, file: &NamedFile) -> CheckedFile
-        ensures map { IfSome result.bytes (λ b. IsOutcomeOf b.items result.outcome) }
+        ensures map { IfSome result.bytes (λ b. IsOutcomeOf b.items (plain_outcome result.outcome)) }
         ensures outcome { ((x : ReadError) → file.now.error ≡ Some x → IsNoText file.now.name.items x) → file.now.is_skipped ≡ false → S.may_be file.now.name.items result.outcome }
+        ensures entry { IfSome result.entry (λ r. IsRecordOf (F.holds self.now.folder) (F.stamps self.now.folder) file.now.name.items r result.outcome) }
     {
         if file.is_skipped {
             self.desk.lock(rt).give_back(1);
-            return CheckedFile {
-                outcome: Outcome::Skipped,
-                bytes: None,
-            };
+            return unread(Outcome::Skipped);
         }
-        let bytes = self.read(file);
+        let glance = self.source.look(file);
+        if let Some(was) = self.source.unchanged(file, &glance) {
+            self.desk.lock(rt).give_back(1);
+            return unread(Outcome::Unchanged(was));
+        }
+        let Content { bytes, seal } = self.source.content(self.alloc, file, &glance);
         let workers = self.desk.lock(rt).share(self.workers);
         let checked = checked_file(rt, self.alloc, bytes, self.has_map, workers);
         self.desk.lock(rt).give_back(workers);
-        checked
+        judged(checked, seal, self.source.known(file, &glance))
     }
 
-    /// Tells of a file once its line is due.
+    /// Tells of a file once its line is due, and records it then.
     fn tell<R: Wait>(&self, rt: &R, number: u64, name: &[u8], file: &CheckedFile)
-        requires bytes { IfSome file.now.bytes (λ b. IsOutcomeOf b.items file.now.outcome) }
+        requires bytes { IfSome file.now.bytes (λ b. IsOutcomeOf b.items (plain_outcome file.now.outcome)) }
         requires next { (all : List (List ℕ)) → S.names ≡ Some all → (slice_get all number ≡ Some name.now) × S.may_be name.now file.now.outcome }
+        requires entry { IfSome file.now.entry (λ r. IsRecordOf (F.holds self.now.folder) (F.stamps self.now.folder) name.now r file.now.outcome) }
     {
         let desk = self.desk.lock(rt);
         let mut desk = self
@@ -218,9 +180,30 @@ impl<
         // It is, as the wait is over then.
         if desk.is_due(number) {
             desk.tell(self.alloc, name, file);
+            self.record(rt, &mut desk, name, file);
         }
         drop(desk);
         self.has_told.notify_all();
+    }
+
+    /// Records a file that is told of, unless lines can no longer be told.
+    fn record<R: Wait>(
+        &self,
+        rt: &R,
+        desk: &mut FileQueue<S, O, E>,
+        name: &[u8],
+        file: &CheckedFile,
+    )
+        requires { IfSome file.now.entry (λ r. IsRecordOf (F.holds self.now.folder) (F.stamps self.now.folder) name.now r file.now.outcome) }
+    {
+        if let Some(entry) = &file.entry
+            && !desk.is_over()
+            && let Err(error) = self
+                .source
+                .append(rt, self.alloc, name, entry, &file.outcome)
+        {
+            desk.end_records(error);
+        }
     }
 
     /// Claims and checks files until none is left, and tells of each when its line is due.
@@ -257,7 +240,7 @@ fn with_counts<O: Write>(
     ensures counts { result.counts ≡ report.counts }
     ensures end { result.end ≡ CheckEnd.AllTold → report.end ≡ CheckEnd.AllTold }
 {
-    if !has_counts || matches!(report.end, CheckEnd::Unwritten | CheckEnd::Memory) {
+    if !has_counts || report.end.is_last() {
         return report;
     }
     let end = match write_counts(alloc, out, report.counts, is_json) {
@@ -279,25 +262,26 @@ fn check_as<
     I: Read + Send + Drop,
     O: Write + Send + Drop,
     E: Write + Send + Drop,
+    W: Write + Send + Drop,
 >(
     rt: &R,
     alloc: Global,
-    folder: F,
+    source: Source<F, W>,
     asked: CheckRequest,
     list: Option<BufReader<I>>,
     out: O,
     progress: Option<E>,
 ) -> (CheckReport, O)
     requires names { S.names ≡ given_names list asked.is_recursive asked.names.items }
-    requires checks { AreChecksOf (F.holds folder) (F.fails folder) S.may_be }
+    requires checks { AreChecksOf (F.holds source.folder) (F.fails source.folder) (F.stamps source.folder) (HasRecord source.state) S.may_be }
     ensures { result.0.end ≡ CheckEnd.AllTold → (all : List (List ℕ)) → S.names ≡ Some all → AreTold S.may_be all (length all) result.0.counts }
 {
     let names = FileNames::of(alloc, asked.names, list, asked.is_recursive);
     let files = names.left();
     let (workers, form) = (asked.workers, asked.form);
-    let sharing: Sharing<S, F, I, O, E> = Sharing {
+    let sharing: Sharing<S, F, I, O, E, W> = Sharing {
         alloc,
-        folder,
+        source,
         workers,
         has_map: form.has_map,
         names: Mutex::new(NameQueue::of(names)),
@@ -310,7 +294,8 @@ fn check_as<
 
 /// Checks each file, so many at once, and writes a line for each, in their order, each by one write; with `has_map` one
 /// for each damaged interval, too. `list` has further names, each ended by a NUL byte, and is read as files are checked.
-/// `progress` is told how far it is, where there is one.
+/// `progress` is told how far it is, where there is one. With a state file, files that it has as they are are not read, unless it is
+/// verified, and others are recorded in it once their lines are written.
 ///
 /// For each worker it takes about the memory of the file that it checks, in which its scan is cut; with `has_map` about twice
 /// that, its bytes and those of its scan without their stuffing, and 16 bytes more for each restart marker, of a file that is
@@ -321,20 +306,21 @@ pub fn check_all<
     I: Read + Send + Drop,
     O: Write + Send + Drop,
     E: Write + Send + Drop,
+    W: Write + Send + Drop,
 >(
     rt: &R,
     alloc: Global,
-    folder: F,
+    source: Source<F, W>,
     asked: CheckRequest,
     list: Option<BufReader<I>>,
     out: O,
     progress: Option<E>,
 ) -> (CheckReport, O)
-    ensures { result.0.end ≡ CheckEnd.AllTold → IfNone list (asked.is_recursive ≡ false → AreTold (IsCheckOf (F.holds folder) (F.fails folder)) (map (λ w. w.items) asked.names.items) (length asked.names.items) result.0.counts) }
+    ensures { result.0.end ≡ CheckEnd.AllTold → IfNone list (asked.is_recursive ≡ false → AreTold (IsCheckOf (F.holds source.folder) (F.fails source.folder) (F.stamps source.folder) (HasRecord source.state)) (map (λ w. w.items) asked.names.items) (length asked.names.items) result.0.counts) }
 {
     let (form, has_counts) = (asked.form, asked.has_counts);
-    let (report, mut out) = check_as::<Brand, R, F, I, O, E>(
-        rt, alloc, folder, asked, list, out, progress,
+    let (report, mut out) = check_as::<Brand, R, F, I, O, E, W>(
+        rt, alloc, source, asked, list, out, progress,
     );
     let report = with_counts(alloc, &mut out, report, has_counts, form.is_json);
     (report, out)

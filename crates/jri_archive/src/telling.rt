@@ -106,20 +106,38 @@ fn write_after_end(line: &mut String, checked: &Checked) -> Result<(), AllocErro
     }
 }
 
+/// Writes what the check of a file's scan came to.
+fn put_checked(line: &mut String, checked: &Checked) -> Result<(), AllocError> {
+    put_damage(line, checked)?;
+    put_scan_end(line, checked.scan.ended())?;
+    write_after_end(line, checked)
+}
+
+/// Writes why a file is refused, with the refusal's number.
+fn write_refusal(line: &mut String, refusal: &Refusal) -> Result<(), AllocError> {
+    write!(line, "{} {}: ", refused_word(refusal), refusal.number())?;
+    write_reason(line, refusal)
+}
+
+/// What precedes the check of a file whose bytes are not those of its record.
+const CHANGED: &str = "changed, ";
+
 /// Puts what became of a file.
 fn put_outcome(line: &mut String, outcome: &Outcome) -> Result<(), AllocError> {
     match outcome {
-        Outcome::Checked(checked) => {
-            put_damage(line, checked)?;
-            put_scan_end(line, checked.scan.ended())?;
-            write_after_end(line, checked)
-        }
+        Outcome::Checked(checked) => put_checked(line, checked),
         Outcome::Refused(Refusal::Memory) | Outcome::Unread(ReadError::Memory) => {
             line.push_str("out of memory")
         }
-        Outcome::Refused(refusal) => {
-            write!(line, "{} {}: ", refused_word(refusal), refusal.number())?;
-            write_reason(line, refusal)
+        Outcome::Refused(refusal) => write_refusal(line, refusal),
+        Outcome::Unchanged(was) => write!(line, "unchanged, {}", was.text()),
+        Outcome::Changed(checked) => {
+            line.push_str(CHANGED)?;
+            put_checked(line, checked)
+        }
+        Outcome::ChangedRefused(refusal) => {
+            line.push_str(CHANGED)?;
+            write_refusal(line, refusal)
         }
         Outcome::Skipped => write!(line, "skipped: {}", ReadError::NameIsNoText.text()),
         Outcome::Unread(error) => write!(line, "cannot be read: {}", error.text()),
@@ -207,6 +225,7 @@ impl Display for FileCounts {
             (self.unsupported, "unsupported"),
             (self.unread, "cannot be read"),
             (self.out_of_memory, "out of memory"),
+            (self.changed, "changed"),
         ];
         for (count, text) in others {
             if count > 0 {
@@ -222,7 +241,7 @@ pub fn tell_counts(line: &mut String, counts: FileCounts) -> Result<(), AllocErr
     writeln!(line, "{counts}")
 }
 
-/// The size of the longest line of counts, rounded up: six numbers of 20 digits and 80 letters.
+/// The size of the longest line of counts, rounded up: seven numbers of 20 digits and 90 letters.
 const COUNTS_SIZE: usize = 256;
 
 /// Writes the line of the counts by one write. It allocates nothing, since memory may have run out.

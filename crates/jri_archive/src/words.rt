@@ -57,6 +57,11 @@ pub fn texts(alloc: Global, words: &[Vec<u8>]) -> Result<Vec<String>, AllocError
     Ok(texts)
 }
 
+/// Returns whether the word whose text this is is not UTF-8.
+pub fn is_no_text(text: &str) -> bool {
+    text.starts_with(NO_TEXT)
+}
+
 /// The bytes of the word whose text this is.
 pub fn bytes_of(alloc: Global, words: &[Vec<u8>], text: &str) -> Result<Vec<u8>, AllocError> {
     if let Some(number) = text.strip_prefix(NO_TEXT)

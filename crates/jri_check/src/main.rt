@@ -1,13 +1,17 @@
-//! `jri_check [--map] [--json] [-q] [--counts] [-j N] [-r] [--files0-from LIST] FILE..`: reports which JPEG files are sound, and
-//! what is damaged of the others.
+//! `jri_check [--map] [--json] [-q] [--counts] [-j N] [-r] [--files0-from LIST] [--state STATE [--verify]] FILE..`: reports which
+//! JPEG files are sound, and what is damaged of the others.
 #![tactic(auto)]
 
 use jr_base::limits::MAX_FILE_BYTES;
-use jri_archive::{Ended, Entry, EntryKind, Folder, Lists, ReadError, Streams, program, words_of};
+use jri_archive::{
+    Ended, Entry, EntryKind, Folder, Lists, ReadError, Stamp, StateError, Streams, program,
+    words_of,
+};
 use std::alloc::{AllocError, Global};
 use std::fs;
-use std::fs::File;
+use std::fs::{File, Metadata, OpenOptions, TryLockError};
 use std::io::{BufRead, BufReader, Error, ErrorKind, IsTerminal, Read, Result as IoResult, Stdin};
+use std::os::unix::fs::MetadataExt;
 use std::rt::Files;
 
 /// One byte more than a file may have.
@@ -158,12 +162,71 @@ fn read_file(alloc: Global, file: File) -> IoResult<Vec<u8>> {
 /// Beginnings of the names of open streams, which are read whatever they are: naming one asks for it.
 const STREAMS: [&str; 3] = ["/dev/stdin", "/dev/fd/", "/proc/"];
 
-/// Returns whether a name is that of a FIFO, a socket or a device, which may never end, or never begin.
-fn is_special(rt: &HostRuntime, name: &str) -> bool {
+/// Returns whether a name is that of an open stream.
+fn is_stream(name: &str) -> bool {
     for stream in STREAMS {
         if name.starts_with(stream) {
-            return false;
+            return true;
         }
+    }
+    name == STANDARD_INPUT
+}
+
+/// Returns the size and the time of a file.
+fn stamp_of(found: &Metadata) -> Stamp {
+    Stamp {
+        size: found.len(),
+        seconds: found.mtime(),
+        nanos: u32::try_from(found.mtime_nsec()).unwrap_or(0),
+    }
+}
+
+/// Opens a state file for reading and appending, and creates it if there is none.
+fn open_state(rt: &HostRuntime, name: &str) -> Result<File, StateError> {
+    if is_stream(name) || is_special(rt, name) {
+        return Err(StateError::Unread(ReadError::NotRegular));
+    }
+    let opened = OpenOptions::new()
+        .read(true)
+        .append(true)
+        .create(true)
+        .open(rt, name);
+    match opened {
+        Ok(file) => Ok(file),
+        Err(error) => Err(state_unread(&error)),
+    }
+}
+
+/// Returns why a state file is not there.
+fn state_unread(error: &Error) -> StateError {
+    match unread(error) {
+        ReadError::Memory => StateError::Memory,
+        error => StateError::Unread(error),
+    }
+}
+
+/// Takes the lock of a state file, which ends with the run, without waiting for another run. A file system without locks has none.
+fn lock_state(file: &File) -> Result<(), StateError> {
+    match file.try_lock() {
+        Err(TryLockError::WouldBlock) => Err(StateError::InUse),
+        _ => Ok(()),
+    }
+}
+
+/// Reads all bytes of a state file.
+fn read_whole(alloc: Global, file: &File) -> IoResult<Vec<u8>> {
+    let mut file = file;
+    let mut bytes = Vec::new(alloc);
+    let size = file.metadata()?.len();
+    let _ = bytes.reserve(size.min(usize::MAX as u64) as usize);
+    file.read_to_end(&mut bytes)?;
+    Ok(bytes)
+}
+
+/// Returns whether a name is that of a FIFO, a socket or a device, which may never end, or never begin.
+fn is_special(rt: &HostRuntime, name: &str) -> bool {
+    if is_stream(name) {
+        return false;
     }
     match fs::metadata(rt, name) {
         Ok(found) => !found.is_file() && !found.is_dir(),
@@ -189,6 +252,16 @@ impl<'a> Folder for Disk<'a> {
         match read {
             Ok(bytes) => Ok(bytes),
             Err(error) => Err(unread(&error)),
+        }
+    }
+
+    fn stamp(&self, name: &str) -> Option<Stamp> {
+        if is_stream(name) {
+            return None;
+        }
+        match fs::metadata(self.rt, name) {
+            Ok(found) if found.is_file() => Some(stamp_of(&found)),
+            _ => None,
         }
     }
 
@@ -223,6 +296,8 @@ impl Read for NameList {
 impl<'a> Lists for Disk<'a> {
     type List = NameList;
 
+    type Log = File;
+
     fn list(&self, name: &str) -> Result<NameList, ReadError> {
         if name == STANDARD_INPUT {
             return Ok(NameList::Input(self.rt.stdin()));
@@ -230,6 +305,15 @@ impl<'a> Lists for Disk<'a> {
         match fs::open(self.rt, name) {
             Ok(file) => Ok(NameList::File(file)),
             Err(error) => Err(unread(&error)),
+        }
+    }
+
+    fn state(&self, alloc: Global, name: &str) -> Result<(Vec<u8>, File), StateError> {
+        let file = open_state(self.rt, name)?;
+        lock_state(&file)?;
+        match read_whole(alloc, &file) {
+            Ok(bytes) => Ok((bytes, file)),
+            Err(error) => Err(state_unread(&error)),
         }
     }
 }

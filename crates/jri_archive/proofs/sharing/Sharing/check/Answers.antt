@@ -1,12 +1,29 @@
-use Rattle.std.proofs.Common.{subst, sym}
-use Rattle.jri_archive.specs.Told.{IsCheckOf}
-use Rattle.jri_archive.proofs.Claims.{check_of}
+use Rattle.std.proofs.Common.{subst}
+use Rattle.std.specs.Prelude.{IfSome}
+use Rattle.jri_archive.specs.Told.{HasRecord, IsRecordOf}
+use Rattle.jri_archive.proofs.Claims.{check_of, map_of, recorded_of}
 use Rattle.jri_archive.proofs.sharing.Sharing.check.Goals as goal
+
+pub returns-clause-map : goal.returns-clause-map
+returns-clause-map g c = map_of _ _ _ _ c.judged.ensures.bytes c.checked_file-checked.ensures.map c.judged.ensures.same
 
 pub returns-clause-outcome : goal.returns-clause-outcome
 returns-clause-outcome g c opened kept =
+    let source = c.self.inside.source in
     let name = c.args.file.now.name.items in
-    let o = c.checked_file-checked.result.outcome in
-    let is = check_of _ (g.F.Folder.holds c.args.self.now) (g.F.Folder.fails c.args.self.now) name c.read-bytes.result o
-    c.read-bytes.ensures.bytes c.read-bytes.ensures.error opened c.checked_file-checked.ensures.bytes c.checked_file-checked.ensures.error in
-    c.self.invariant name o (subst (λ f. IsCheckOf (g.F.Folder.holds f) (g.F.Folder.fails f) name o) (sym c.self.view_is) is)
+    let p = c.judged.result.outcome in
+    let is = check_of (g.F.Folder.holds source.folder) (g.F.Folder.fails source.folder) (g.F.Folder.stamps source.folder) (HasRecord source.state) name _ c.content-bytes.result.bytes
+    c.checked_file-checked.result.outcome p c.content-bytes.result.seal c.known.result
+    c.content-bytes.ensures.bytes c.content-bytes.ensures.error opened c.checked_file-checked.ensures.bytes c.checked_file-checked.ensures.error
+    c.content-bytes.ensures.sealed c.content-bytes.ensures.hash c.known.ensures c.judged.ensures.same c.judged.ensures.changed in
+    c.self.invariant name p is
+
+pub returns-clause-entry : goal.returns-clause-entry
+returns-clause-entry g c =
+    let source = c.self.inside.source in
+    let name = c.args.file.now.name.items in
+    let p = c.judged.result.outcome in
+    let is = recorded_of (g.F.Folder.holds source.folder) (g.F.Folder.fails source.folder) (g.F.Folder.stamps source.folder) (HasRecord source.state) name c.content-bytes.result.bytes
+    c.checked_file-checked.result.outcome p c.content-bytes.result.seal c.judged.result.entry
+    c.content-bytes.ensures.bytes c.checked_file-checked.ensures.bytes c.content-bytes.ensures.sealed c.content-bytes.ensures.stamp c.content-bytes.ensures.hash c.judged.ensures.entry in
+    subst (λ s. IfSome c.judged.result.entry (λ f. IsRecordOf (g.F.Folder.holds s.folder) (g.F.Folder.stamps s.folder) name f p)) c.self.view_is is

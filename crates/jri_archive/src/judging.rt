@@ -1,0 +1,132 @@
+//! What becomes of one file by its bytes and its record.
+
+ghost use Rattle.std.specs.Prelude.{◌≡◌, ◌≢◌, ◌⊎◌, ◌↔◌, ℕ, List, Some, None, IsTrue, IfOk, IfErr, IfSome};
+ghost use Rattle.jr_segments.specs.declared.refusal.Refusal.TheVariants as refusal;
+ghost use Rattle.jri_archive.specs.Outcomes.{IsOutcomeOf, plain_outcome, state_of};
+ghost use Rattle.jri_archive.specs.Records.{file_state};
+ghost use Rattle.jri_archive.specs.Told.{IsOtherSeal, IsSealed};
+
+use crate::checking::Checked;
+use crate::file_queue::CheckedFile;
+use crate::outcome::{Outcome, outcome_in_place, outcome_of};
+use crate::reading::ReadError;
+use crate::source::Seal;
+use crate::state_record::{FileRecord, RecordedState};
+use jr_head::Refusal;
+use std::alloc::Global;
+use std::sync::Wait;
+use std::thread::Threads;
+
+/// Checks a file, for a map or for its line alone, which takes half the memory.
+pub(crate) fn checked_file<R: Threads + Wait + Sync>(
+    rt: &R,
+    alloc: Global,
+    file: Result<Vec<u8>, ReadError>,
+    has_map: bool,
+    workers: u32,
+) -> CheckedFile
+    ensures map { IfSome result.bytes (λ b. IsOutcomeOf b.items result.outcome) }
+    ensures bytes { IfOk file (λ b. IsOutcomeOf b.items result.outcome) }
+    ensures error { IfErr file (λ e. result.outcome ≡ Outcome.Unread e) }
+{
+    if !has_map {
+        let outcome = outcome_in_place(rt, alloc, file, workers);
+        return CheckedFile {
+            outcome,
+            bytes: None,
+            entry: None,
+        };
+    }
+    let outcome = outcome_of(rt, alloc, &file, workers);
+    match file {
+        Ok(bytes) => CheckedFile {
+            outcome,
+            bytes: Some(bytes),
+            entry: None,
+        },
+        Err(_) => CheckedFile {
+            outcome,
+            bytes: None,
+            entry: None,
+        },
+    }
+}
+
+/// Returns a file that is not read.
+pub(crate) fn unread(outcome: Outcome) -> CheckedFile
+    ensures outcome { result.outcome ≡ outcome }
+    ensures bytes { result.bytes ≡ None }
+    ensures entry { result.entry ≡ None }
+{
+    CheckedFile {
+        outcome,
+        bytes: None,
+        entry: None,
+    }
+}
+
+/// Returns what is recorded of a file; `None` if its state is not one of those that are.
+fn record_of(seal: &Seal, outcome: &Outcome) -> Option<FileRecord>
+    ensures hash { IfSome result (λ r. r.hash ≡ seal.now.hash) }
+    ensures stamp { IfSome result (λ r. r.stamp ≡ seal.now.stamp) }
+    ensures state { IfSome result (λ r. file_state r.state ≡ state_of outcome.now) }
+{
+    let state = RecordedState::of(outcome.state())?;
+    Some(FileRecord {
+        hash: seal.hash,
+        stamp: seal.stamp,
+        state,
+    })
+}
+
+/// Returns whether a record is of such bytes.
+fn has_hash(known: &FileRecord, seal: &Seal) -> bool
+    ensures { IsTrue result ↔ (known.now.hash ≡ seal.now.hash) }
+{
+    let (a, b) = (known.hash, seal.hash);
+    a.as_slice() == b.as_slice()
+}
+
+/// Returns the check of a file with what is recorded of it: a file without a record gets one, and one with that of other bytes is
+/// changed.
+pub(crate) fn judged(
+    checked: CheckedFile,
+    seal: Option<Seal>,
+    known: Option<FileRecord>,
+) -> CheckedFile
+    ensures same { (file : List ℕ) → IsOutcomeOf file checked.outcome → IsOutcomeOf file (plain_outcome result.outcome) }
+    ensures bytes { result.bytes ≡ checked.bytes }
+    ensures entry { IfSome result.entry (λ r. IsSealed seal r × (file_state r.state ≡ state_of result.outcome) × (result.outcome ≡ checked.outcome)) }
+    ensures changed { (result.outcome ≡ checked.outcome) ⊎ IsOtherSeal seal known }
+    ensures told { IsOtherSeal seal known → (c : Checked) → checked.outcome ≡ Outcome.Checked c → result.outcome ≡ Outcome.Changed c }
+    ensures refused { IsOtherSeal seal known → (f : Refusal) → f ≢ refusal.Memory → checked.outcome ≡ Outcome.Refused f → result.outcome ≡ Outcome.ChangedRefused f }
+{
+    let CheckedFile { outcome, bytes, .. } = checked;
+    let Some(seal) = seal else {
+        return CheckedFile {
+            outcome,
+            bytes,
+            entry: None,
+        };
+    };
+    match known {
+        None => {
+            let entry = record_of(&seal, &outcome);
+            CheckedFile {
+                outcome,
+                bytes,
+                entry,
+            }
+        }
+        Some(known) if has_hash(&known, &seal) => CheckedFile {
+            outcome,
+            bytes,
+            entry: None,
+        },
+        Some(_) => CheckedFile {
+            outcome: outcome.changed(),
+            bytes,
+            entry: None,
+        },
+    }
+}

@@ -1,0 +1,167 @@
+//! The bytes of files, and what a state file has of them.
+
+ghost use Rattle.std.specs.Prelude.{◌≡◌, ◌⊎◌, IfOk, IfErr, IfSome, None, Some};
+ghost use Rattle.sha2.specs.Sha256.{sha256};
+ghost use Rattle.jri_archive.specs.Names.{IsNoText};
+ghost use Rattle.jri_archive.specs.Told.{HasRecord, IsRecordOf, IsStamped};
+
+use crate::map::TellError;
+use crate::names::NamedFile;
+use crate::outcome::Outcome;
+use crate::reading::{Folder, ReadError};
+use crate::state_file::State;
+use crate::state_record::{FileRecord, RecordedState, Stamp};
+use sha2::{Digest, Sha256};
+use std::alloc::Global;
+use std::io::Write;
+use std::sync::Wait;
+
+/// Where files come from, and the state file of a run, if it has one.
+#[derive(Drop)]
+pub struct Source<F, W> {
+    pub folder: F,
+    pub state: Option<State<W>>,
+}
+
+/// What is known of a file before it is read.
+#[derive(Clone, Copy)]
+pub(crate) struct Glance {
+    /// Its size and time.
+    pub(crate) stamp: Stamp,
+    /// Its record, if that has this size and time.
+    pub(crate) known: Option<FileRecord>,
+}
+
+/// What tells the bytes of a file from others.
+#[derive(Clone, Copy)]
+pub(crate) struct Seal {
+    /// The size and time of the file before and after it was read.
+    pub(crate) stamp: Stamp,
+    /// The SHA-256 of its bytes.
+    pub(crate) hash: [u8; 32],
+}
+
+/// The bytes of a file, and what tells them from others if a state is kept.
+#[derive(Drop)]
+pub(crate) struct Content {
+    pub(crate) bytes: Result<Vec<u8>, ReadError>,
+    pub(crate) seal: Option<Seal>,
+}
+
+impl<F: Folder, W: Write + Drop> Source<F, W> {
+    /// Returns the bytes of a file.
+    fn read(&self, alloc: Global, file: &NamedFile) -> Result<Vec<u8>, ReadError>
+        ensures bytes { IfOk result (λ b. F.holds self.now.folder file.now.name.items b.items) }
+        ensures error { IfErr result (λ e. ((x : ReadError) → file.now.error ≡ Some x → IsNoText file.now.name.items x) → F.fails self.now.folder file.now.name.items e ⊎ IsNoText file.now.name.items e) }
+    {
+        if let Some(error) = file.error {
+            return Err(error);
+        }
+        match str::from_utf8(file.name.as_slice()) {
+            Ok(name) => self.folder.read(alloc, name),
+            Err(_) => Err(ReadError::NameIsNoText),
+        }
+    }
+
+    /// Returns the size and time of a file; `None` if it is not a regular one.
+    fn stamp(&self, file: &NamedFile) -> Option<Stamp>
+        ensures { IfSome result (F.stamps self.now.folder file.now.name.items) }
+    {
+        match str::from_utf8(file.name.as_slice()) {
+            Ok(name) => self.folder.stamp(name),
+            Err(_) => None,
+        }
+    }
+
+    /// Returns what is known of a file before it is read; `None` if no state is kept, or if it is not a regular file.
+    pub(crate) fn look(&self, file: &NamedFile) -> Option<Glance>
+        ensures stamp { IfSome result (λ g. F.stamps self.now.folder file.now.name.items g.stamp) }
+        ensures known { IfSome result (λ g. IfSome g.known (IsStamped (F.stamps self.now.folder) (HasRecord self.now.state) file.now.name.items)) }
+    {
+        let state = self.state.as_ref()?;
+        let stamp = self.stamp(file)?;
+        match state.find(file.name.as_slice()) {
+            Some(known) if known.stamp == stamp => Some(Glance {
+                stamp,
+                known: Some(known),
+            }),
+            _ => Some(Glance { stamp, known: None }),
+        }
+    }
+
+    /// Returns what a file was that is not read again; `None` if it is read.
+    pub(crate) fn unchanged(
+        &self,
+        _file: &NamedFile,
+        glance: &Option<Glance>,
+    ) -> Option<RecordedState>
+        requires { IfSome glance.now (λ g. IfSome g.known (IsStamped (F.stamps self.now.folder) (HasRecord self.now.state) _file.now.name.items)) }
+        ensures { IfSome result (λ was. (r : FileRecord) × IsStamped (F.stamps self.now.folder) (HasRecord self.now.state) _file.now.name.items r × (r.state ≡ was)) }
+    {
+        if let Some(state) = &self.state
+            && !state.is_verifying()
+            && let Some(glance) = glance
+            && let Some(known) = glance.known
+        {
+            return Some(known.state);
+        }
+        None
+    }
+
+    /// Returns the record of a file that has its size and time.
+    pub(crate) fn known(&self, _file: &NamedFile, glance: &Option<Glance>) -> Option<FileRecord>
+        requires { IfSome glance.now (λ g. IfSome g.known (IsStamped (F.stamps self.now.folder) (HasRecord self.now.state) _file.now.name.items)) }
+        ensures { IfSome result (IsStamped (F.stamps self.now.folder) (HasRecord self.now.state) _file.now.name.items) }
+    {
+        match glance {
+            Some(glance) => glance.known,
+            None => None,
+        }
+    }
+
+    /// Reads a file once. There is no seal if its size or time changed meanwhile.
+    pub(crate) fn content(
+        &self,
+        alloc: Global,
+        file: &NamedFile,
+        glance: &Option<Glance>,
+    ) -> Content
+        requires { IfSome glance.now (λ g. F.stamps self.now.folder file.now.name.items g.stamp) }
+        ensures bytes { IfOk result.bytes (λ b. F.holds self.now.folder file.now.name.items b.items) }
+        ensures error { IfErr result.bytes (λ e. ((x : ReadError) → file.now.error ≡ Some x → IsNoText file.now.name.items x) → F.fails self.now.folder file.now.name.items e ⊎ IsNoText file.now.name.items e) }
+        ensures stamp { IfSome result.seal (λ s. F.stamps self.now.folder file.now.name.items s.stamp) }
+        ensures hash { IfSome result.seal (λ s. IfOk result.bytes (λ b. s.hash ≡ sha256 b.items)) }
+        ensures sealed { IfErr result.bytes (λ _. result.seal ≡ None) }
+    {
+        let bytes = self.read(alloc, file);
+        let mut seal = None;
+        if let Some(glance) = glance
+            && let Ok(read) = &bytes
+            && self.stamp(file) == Some(glance.stamp)
+        {
+            let hash = Sha256::digest(read.as_slice());
+            seal = Some(Seal {
+                stamp: glance.stamp,
+                hash,
+            });
+        }
+        Content { bytes, seal }
+    }
+
+    /// Appends the record of a file to the state file by one write.
+    pub(crate) fn append<R: Wait>(
+        &self,
+        rt: &R,
+        alloc: Global,
+        name: &[u8],
+        file: &FileRecord,
+        _outcome: &Outcome,
+    ) -> Result<(), TellError>
+        requires { IsRecordOf (F.holds self.now.folder) (F.stamps self.now.folder) name.now file.now _outcome.now }
+    {
+        match &self.state {
+            Some(state) => state.append(rt, alloc, name, file),
+            None => Ok(()),
+        }
+    }
+}
