@@ -1,0 +1,175 @@
+"""Trials of jri_check --state and --verify, which tools/compare-check runs."""
+
+import fcntl
+import hashlib
+import json
+import os
+import signal
+import subprocess
+import tempfile
+
+FRONT = b"jri_check state 1\n"
+REFUSED = "cannot use the state file: "
+
+
+def check_value(line):
+    """FNV-1a of 32 bits."""
+    value = 0x811C9DC5
+    for byte in line:
+        value = ((value ^ byte) * 0x01000193) & 0xFFFFFFFF
+    return value
+
+
+def line_of(name, state):
+    """The line that a file has in a state file."""
+    with open(name, "rb") as file:
+        digits = hashlib.sha256(file.read()).hexdigest()
+    found = os.stat(name)
+    seconds, nanos = divmod(found.st_mtime_ns, 10**9)
+    line = f'{digits} {found.st_size} {seconds}.{nanos:09} {state} "{name}"'.encode()
+    return line + b" %08x\n" % check_value(line)
+
+
+def read(name):
+    with open(name, "rb") as file:
+        return file.read()
+
+
+def write(name, data):
+    with open(name, "wb") as file:
+        file.write(data)
+
+
+def make_files(folder, data, many):
+    """Sound and damaged files by turns, and what each is."""
+    names = [os.path.join(folder, f"{number:05}.jpg") for number in range(many)]
+    states = ["damaged" if number % 3 == 0 else "sound" for number in range(many)]
+    for name, state in zip(names, states):
+        write(name, data[: len(data) * 2 // 3] + b"\xff\xd9" if state == "damaged" else data)
+    return names, states
+
+
+def unchanged(names, states):
+    return "".join(f"{name}: unchanged, {state}\n" for name, state in zip(names, states)).encode()
+
+
+class Trials:
+    """`check` runs the program, and `expect` compares."""
+
+    def __init__(self, program, check, expect):
+        self.program, self.check, self.expect, self.counts = program, check, expect, []
+
+    def see(self, title, found, wanted):
+        self.counts.append(self.expect(title, found, wanted))
+
+    def records(self, folder, data):
+        """What is recorded, a second run, and verifications of a file of which a byte is flipped."""
+        names, states = make_files(folder, data, 60)
+        state = os.path.join(folder, "state")
+        plain, status = self.check(names)
+        self.see("a first run", self.check(["--state", state, *names]), (plain, status))
+        wanted = FRONT + b"".join(line_of(name, it) for name, it in zip(names, states))
+        self.see("records", read(state), wanted)
+        self.see("a second run", self.check(["--state", state, *names]), (unchanged(names, states), status))
+        self.see("a verification", self.check(["--state", state, "--verify", *names]), (plain, status))
+        found = os.stat(names[1])
+        flipped = bytearray(read(names[1]))
+        flipped[-5] ^= 1
+        write(names[1], bytes(flipped))
+        os.utime(names[1], ns=(found.st_atime_ns, found.st_mtime_ns))
+        for number in range(2):
+            told, status = self.check(["--json", "--state", state, "--verify", *names])
+            changed = [line["file"] for line in map(json.loads, told.splitlines()) if line["is"] == "changed"]
+            self.see(f"a flipped byte, {number}", (changed, status), ([names[1]], 1))
+        self.see("records after that", read(state), wanted)
+        os.utime(names[1], ns=(found.st_atime_ns, found.st_mtime_ns + 1))
+        told, _ = self.check(["--state", state, *names])
+        self.see("a new version", (told.count(b"unchanged"), read(state)[: len(wanted)] == wanted, read(state).count(b"\n")), (59, True, 62))
+
+    def cuts(self, folder, data):
+        """State files that are cut off at each byte."""
+        names, states = make_files(folder, data, 2)
+        state = os.path.join(folder, "cut")
+        _, status = self.check(["--state", state, *names])
+        whole = read(state)
+        for end in range(len(whole)):
+            write(state, whole[:end])
+            found = self.check(["--state", state, *names])[1]
+            after = read(state)
+            told = self.check(["--state", state, *names])
+            is_kept = after.startswith(whole[:end]) and read(state) == after
+            self.see(f"cut at {end}", (found, told, is_kept), (status, (unchanged(names, states), status), True))
+
+    def damages(self, folder, data):
+        """State files of which a byte is changed, each of which is refused by its line's number and left alone."""
+        names, _ = make_files(folder, data, 2)
+        state = os.path.join(folder, "damaged")
+        self.check(["--state", state, *names])
+        whole = read(state)
+        for at in range(len(whole)):
+            for change in (0x01, 0x20, 0x80):
+                damaged = bytearray(whole)
+                damaged[at] ^= change
+                if damaged[-1] != 0x0A:
+                    continue
+                write(state, bytes(damaged))
+                run = subprocess.run([self.program, "--state", state, *names], capture_output=True, timeout=60)
+                line = whole[:at].count(b"\n") + 1
+                wanted = f"{REFUSED}line {line} is damaged\n".encode()
+                self.see(f"damaged at {at}", (run.stdout, run.stderr, run.returncode, read(state) == damaged), (b"", wanted, 2, True))
+
+    def refusals(self, folder, data):
+        """What is no state file, and is not written to."""
+        name, state = os.path.join(folder, "image.jpg"), os.path.join(folder, "used")
+        write(name, data)
+        os.mkfifo(os.path.join(folder, "fifo"))
+        cases = [(name, "line 1 is damaged"), (folder, "a folder"), ("/dev/null", "not a regular file"), (os.path.join(folder, "fifo"), "not a regular file"),
+                 (os.path.join(folder, "none", "state"), "no such file"), ("/dev/stdin", "not a regular file")]
+        for target, why in cases:
+            run = subprocess.run([self.program, "--state", target, name], capture_output=True, stdin=subprocess.DEVNULL, timeout=60)
+            self.see(f"{target} as a state file", (run.stdout, run.stderr, run.returncode), (b"", f"{REFUSED}{why}\n".encode(), 2))
+        self.see("an image as a state file", read(name), data)
+        for words in (["--state", "-", name], [b"--state", b"\xff", name], ["--verify", name], ["--state"], ["--state", state, "--state", state, name]):
+            run = subprocess.run([self.program, *words], capture_output=True, cwd=folder, timeout=60)
+            self.see(f"{words}", (run.stdout, run.returncode, os.path.exists(state)), (b"", 2, False))
+        write(state, FRONT)
+        with open(state, "rb") as held:
+            fcntl.flock(held, fcntl.LOCK_EX)
+            run = subprocess.run([self.program, "--state", state, name], capture_output=True, timeout=60)
+        self.see("a state file in use", (run.stdout, run.stderr, run.returncode, read(state)), (b"", f"{REFUSED}another run uses it\n".encode(), 2, FRONT))
+        self.check(["--state", state, "-", "/dev/stdin", os.path.join(folder, "missing"), "/dev/zero"], input=data)
+        self.see("what is not recorded", read(state), FRONT)
+
+    def kills(self, folder, data):
+        """Runs that are killed, and the next one."""
+        names, states = make_files(folder, data, 3000)
+        for number in range(10):
+            state = os.path.join(folder, f"killed-{number}")
+            with subprocess.Popen([self.program, "--state", state, *names], stdout=subprocess.PIPE, stderr=subprocess.DEVNULL) as process:
+                for _ in range(1 + 290 * number):
+                    process.stdout.readline()
+                process.send_signal(signal.SIGKILL)
+                process.communicate()
+            before = read(state)
+            recorded = sum(line.endswith(check_of(line)) for line in before.split(b"\n")[1:])
+            told = self.check(["--state", state, *names])[0].splitlines()
+            after = read(state)
+            lines = [line for line in after.split(b"\n")[1:] if line and not line.endswith(b" cut")]
+            self.see("each is told once", [line.split(b": ")[0].decode() for line in told], names)
+            self.see("those recorded are skipped", sum(b": unchanged, " in line for line in told), recorded)
+            wanted = [line_of(name, it)[:-1] for name, it in zip(names, states)]
+            self.see("each is recorded once", (sorted(lines), after.startswith(before)), (sorted(wanted), True))
+
+
+def check_of(line):
+    """The end of the line of a record."""
+    return b" %08x" % check_value(line[:-9])
+
+
+def compare(program, check, expect, data):
+    """How many comparisons there are, and how many differences."""
+    trials = Trials(program, check, expect)
+    for trial in (trials.records, trials.cuts, trials.damages, trials.refusals, trials.kills):
+        with tempfile.TemporaryDirectory() as folder:
+            trial(folder, data)
+    return sum(it[0] for it in trials.counts), sum(it[1] for it in trials.counts)
