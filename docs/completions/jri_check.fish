@@ -1,5 +1,5 @@
 # Completes the words of jri_check in fish: its options; fish itself completes the files.
-complete -c jri_check -l map -d 'Also list each damaged restart interval'
+complete -c jri_check -l map -d 'Also list damaged intervals and doubtful values'
 complete -c jri_check -l json -d 'Print each line as a JSON object'
 complete -c jri_check -s q -l quiet -d 'List no sound files and print no counts'
 complete -c jri_check -l counts -d 'Also print the counts as the last line'

@@ -1,10 +1,13 @@
 -- The MCUs of an interval are read one after the other, up to the first doubtful one.
-use Rattle.std.proofs.Common.{◌≡◌, ℕ, ◌+◌, ◌*◌, ◌<◌, ◌≤◌, List, [], ◌++◌, length, take, drop, sym, ap, subst, ◌∙◌, inl, inr, length-drop, arith}
-use Rattle.std.specs.Prelude.{ℤ}
+use Rattle.std.proofs.Common.{refl, ◌≡◌, ℕ, ◌+◌, ◌*◌, ◌<◌, ◌≤◌, List, [], ◌++◌, length, take, drop, sym, ap, subst, ◌∙◌, inl, inr, length-drop, arith}
+use Rattle.std.specs.Prelude.{ℤ, ◌↔◌, ◌||◌, Bool, true, false, IsTrue, slice_index}
 use Rattle.std.proofs.lemmas.Bool.{cases_lt}
 use Rattle.std.proofs.lemmas.List.{drop-append-le, take-append-le, take_all}
 use Rattle.std.proofs.Math.Nat.{le_of_mul-le-mul_right, mul-le-mul_right}
 use Rattle.std.proofs.Math.Seq.{drop-append_seam}
+use Rattle.jr_base.specs.Blocks.{at, AreFactors}
+use Rattle.jr_base.specs.Zigzag.{natural_index, zigzag_place}
+use Rattle.jr_base.proofs.Orders.{natural_below, place_below, place_of_natural}
 use Rattle.jr_head.specs.HeadValue.{HeadValue}
 use Rattle.jr_head.specs.Geometry.{order_of, IsLawful}
 use Rattle.jr_mcu.specs.Mcus.{no_predictions, Mcus}
@@ -14,7 +17,7 @@ use Rattle.jr_scan.specs.McuReader.{McuReaderValue, HasRead, HasEnded, HasReadOf
 use Rattle.jr_scan.specs.Run.{RunOf, start_of_interval, whole_run, run_from, left_at, IsRun}
 use Rattle.jr_scan.proofs.McuReaders.{longest_read}
 use Rattle.jr_damage.specs.Fronts.{FrontTo}
-use Rattle.jr_damage.specs.Doubtful.{HasNoDoubtful, IsDoubtfulMcu, IsFirstDoubtful, NoneDoubtful, mcu_of}
+use Rattle.jr_damage.specs.Doubtful.{HasDoubtful, HasNoDoubtful, IsDoubtful, IsDoubtfulMcu, IsFirstDoubtful, NoneDoubtful, mcu_of}
 
 -- ---- what a reader has read is a front up to where it stands
 
@@ -116,3 +119,30 @@ pub one_taken : (n per : ℕ) → 0 < n → 0 < per → n * per ≤ per → n �
 one_taken n per some units fits =
     let one : n * per ≤ 1 * per = omega (arith, fits) in
     omega (arith, some, le_of_mul-le-mul_right {m = n} {n = 1} one units)
+
+-- in natural order the values and steps are the same
+pub natural_doubt : (z natural : List ℤ) (q factors : List ℕ) → ((n : ℕ) → n < 64 → at natural n ≡ at z (zigzag_place n)) → AreFactors q factors → HasDoubtful factors natural ↔ HasDoubtful q z
+natural_doubt z natural q factors values steps = (to, from)
+  where
+    to : HasDoubtful factors natural → HasDoubtful q z
+    to d = (zigzag_place d.0, place_below d.0 d.1, subst (λ (s : ℕ). IsDoubtful (at z (zigzag_place d.0)) s) (steps d.0 d.1) (subst (λ (v : ℤ). IsDoubtful v (slice_index factors d.0)) (values d.0 d.1) d.2))
+
+    from : HasDoubtful q z → HasDoubtful factors natural
+    from d =
+        let n = natural_index d.0 in
+        let below = natural_below d.0 d.1 in
+        let place = place_of_natural d.0 d.1 in
+        let value : at z d.0 ≡ at natural n = sym (values n below ∙ ap (at z) place) in
+        let step : slice_index q d.0 ≡ slice_index factors n = sym (steps n below ∙ ap (slice_index q) place) in
+        (n, below, subst (λ (s : ℕ). IsDoubtful (at natural n) s) step (subst (λ (v : ℤ). IsDoubtful v (slice_index q d.0)) value d.2))
+
+-- one more of some numbers
+pub one_more : (P : ℕ → Type 0) (n : ℕ) (b c : Bool) → IsTrue b ↔ ((j : ℕ) × (j < n) × P j) → IsTrue c ↔ P n → IsTrue (b || c) ↔ ((j : ℕ) × (j < n + 1) × P j)
+one_more P n true c h g = (λ t. (let d = h.0 refl in (d.0, omega (arith, d.1), d.2)), λ d. refl)
+one_more P n false c h g = (
+  λ t. (n, omega arith, g.0 t),
+  λ d. elim (cases_lt d.0 n) [
+    | inl less ↦ (let none : false ≡ true = h.1 (d.0, less, d.2) in absurd cc)
+    | inr not_less ↦ (let here : d.0 ≡ n = omega (arith, d.1, not_less) in g.1 (subst P here d.2))
+  ],
+)

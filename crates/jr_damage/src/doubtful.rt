@@ -9,13 +9,13 @@ ghost use Rattle.jr_damage.specs.Doubtful.{HasDoubtful, HasNoDoubtful, IsDoubtOf
 use crate::lines::mcus_of;
 use crate::offsets::offset_of;
 use crate::segments::CodedSpan;
-use jr_base::Coefficients;
+use jr_base::{Coefficients, Quantisers};
 use jr_head::Head;
 use jr_scan::{IntervalRef, MOST_UNITS, McuReader};
 use std::array;
 
 /// The greatest coefficient of 64 samples from -128 to 127: their norm.
-const MAX_COEFFICIENT: u64 = 1024;
+const MAX_COEFFICIENT: u32 = 1024;
 
 /// The first MCU of an interval with a value that no image of 8-bit samples has.
 #[derive(Clone, Copy, Debug, PartialEq, Eq)]
@@ -37,22 +37,29 @@ struct McuBits {
 }
 
 /// Returns whether no image of 8-bit samples has this quantised value.
-fn is_doubtful(value: i32, step: u16) -> bool
+#[inline(always)]
+fn is_doubtful(value: i16, step: u16) -> bool
     ensures { IsTrue result ↔ IsDoubtful value step }
 {
-    value.unsigned_abs() as u64 * step as u64 > MAX_COEFFICIENT + step as u64
+    value.unsigned_abs() as u32 * step as u32 > MAX_COEFFICIENT + step as u32
 }
 
-/// Returns whether a data unit has a doubtful value, both in zigzag order.
-fn has_doubtful(unit: &[i32; 64], quantiser: &[u16; 64]) -> bool
-    ensures { IsTrue result ↔ HasDoubtful quantiser.now unit.now }
+/// Returns whether one of 64 values is doubtful, each by its own step. It has no early end, so that it is done by vectors.
+fn are_doubtful(values: &[i16; 64], steps: &[u16; 64]) -> bool
+    ensures { IsTrue result ↔ HasDoubtful steps.now values.now }
 {
-    for k in 0..64 {
-        if is_doubtful(unit[k], quantiser[k]) {
-            return true;
-        }
+    let mut found = false;
+    for n in 0..64 {
+        found |= is_doubtful(values[n], steps[n]);
     }
-    false
+    found
+}
+
+/// Returns whether a data unit has a doubtful value. Both are taken in natural order.
+fn has_doubtful(unit: &Coefficients, quantisers: &Quantisers) -> bool
+    ensures { IsTrue result ↔ HasDoubtful quantisers.now unit.now }
+{
+    are_doubtful(unit.natural(), quantisers.factors())
 }
 
 /// Returns whether an MCU has a doubtful value, by its data units.
@@ -62,7 +69,7 @@ fn is_doubtful_mcu(head: &Head, units: &[Coefficients]) -> bool
 {
     let order = head.order();
     for u in 0..order.len() {
-        if has_doubtful(&units[u].to_zigzag(), head.quantiser(order[u] as u32)) {
+        if has_doubtful(&units[u], head.quantisers(order[u] as u32)) {
             return true;
         }
     }

@@ -51,6 +51,12 @@ const ODD: [(&[u8], EntryKind); 2] = [
     (b"odd/\xE8", EntryKind::Unread(ReadError::NameIsNoText)),
 ];
 
+/// An interval whose first difference is 2047, one without a word, and three bytes after EOI.
+const DOUBTFUL: &str = "S Q F:0008:0010 D:0B:04:01 A I C 3F FB FF D0 E0 E 01 02 03";
+
+/// One interval, whose first difference is 2047.
+const DOUBTFUL_SOUND: &str = "S Q F:0008:0008 D:0B:04:01 A C 3F FB E";
+
 /// Ten intervals, of which two have come.
 const CUT: &str = "GW 63 FF D0 63";
 
@@ -62,6 +68,8 @@ impl Folder for Shelf {
             "progressive" => "S FF C2",
             "coloured" | "in/d/e.jfif" => COLOURED,
             "cut" => CUT,
+            "doubtful" => DOUBTFUL,
+            "doubtful sound" => DOUBTFUL_SOUND,
             "shut" => return Err(ReadError::NotAllowed),
             "fifo" => return Err(ReadError::NotRegular),
             _ => return Err(ReadError::NotFound),
@@ -229,6 +237,25 @@ fn tells_empty_intervals_at_once(rt: HostRuntime) -> Result<(), Fail> {
         "{\"file\":\"cut\",\"is\":\"damaged\",\"damaged\":8,\"first_line\":0,\"last_line\":7,\"intervals\":10,\"width\":80,\"height\":8,\"bytes\":150,\"end\":\"the end of the file\"}\n\
          {\"file\":\"cut\",\"interval\":2,\"last_interval\":9,\"first_mcu\":2,\"last_mcu\":9,\"first_line\":0,\"last_line\":7,\"decodable\":0}\n",
         1,
+    )
+}
+
+/// Quantiser steps of 16 leave no image a DC value of 2047. Such a value is no damage, and has its line even if sound files have none.
+#[test]
+fn tells_doubtful_values(rt: HostRuntime) -> Result<(), Fail> {
+    check(
+        &rt,
+        &[b"--map", b"--json", b"doubtful"],
+        "{\"file\":\"doubtful\",\"is\":\"damaged\",\"damaged\":1,\"first_line\":0,\"last_line\":7,\"intervals\":2,\"width\":16,\"height\":8,\"bytes\":156,\"after_end\":153,\"bytes_after_end\":3}\n\
+         {\"file\":\"doubtful\",\"interval\":0,\"doubtful\":0,\"first_byte\":146,\"last_byte\":147}\n\
+         {\"file\":\"doubtful\",\"interval\":1,\"first_mcu\":1,\"last_mcu\":1,\"first_line\":0,\"last_line\":7,\"first_byte\":150,\"last_byte\":150,\"decodable\":0,\"decodable_to\":150}\n",
+        1,
+    )?;
+    check(
+        &rt,
+        &[b"-q", b"--map", b"doubtful sound"],
+        "doubtful sound: interval 0, MCU 0, bytes 140 to 141, doubtful: no 8-bit image has such a value\n",
+        0,
     )
 }
 

@@ -82,7 +82,11 @@ fn files_argument<'a>(alloc: Global) -> Result<Arg<'a>, AllocError> {
 /// The words that tell what is told.
 fn with_telling_words<'a>(alloc: Global, command: Command<'a>) -> Result<Command<'a>, AllocError> {
     command
-        .arg(flag(alloc, "map", "Also list each damaged restart interval"))?
+        .arg(flag(
+            alloc,
+            "map",
+            "Also list damaged intervals and doubtful values",
+        ))?
         .arg(flag(alloc, "json", "Print each line as a JSON object"))?
         .arg(flag(alloc, "quiet", "List no sound files and print no counts").short('q'))?
         .arg(flag(alloc, "counts", "Also print the counts as the last line"))

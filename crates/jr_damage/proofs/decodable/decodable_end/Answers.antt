@@ -1,4 +1,4 @@
-use Rattle.std.proofs.Common.{◌≡◌, ◌/◌, ◌*◌, ◌≤◌, ℕ, length, ap, sym, subst, arith}
+use Rattle.std.proofs.Common.{◌≡◌, ◌/◌, ◌*◌, ◌≤◌, ℕ, length, ap, sym, subst, arith, rules}
 use Rattle.jr_scan.specs.declared.place.Place.{Place}
 use Rattle.jr_scan.specs.Run.{RunOf}
 use Rattle.jr_scan.proofs.McuReaders.{longest_read}
@@ -20,5 +20,5 @@ returns c =
       bit = c.place-bit.result.bit;
       longest = longest_read r i p.read.0 c.place-bit.ensures.lawful ((p.run, p.read.1), p.ended);
       front = subst (λ (b : ℕ). FrontTo i r.mcu p.read.0 b) bit (front_to r i p.read.0 (p.run, p.read.1));
-      begins = c.offset_of.ensures i.bytes c.requires.raw few;
+      begins = search (rules, c.offset_of.ensures, c.requires.raw, few);
     }

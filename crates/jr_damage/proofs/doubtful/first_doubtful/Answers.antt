@@ -14,5 +14,5 @@ returns-clause-some c =
       interval = search (rules, c.number-number.ensures);
       mcu = search (rules, c.mcus_of-first.ensures.first);
       start = c.offset_of.ensures i.bytes c.requires.spelled.raw first;
-      end = c.offset_of-2.ensures i.bytes c.requires.spelled.raw last;
+      end = search (rules, c.offset_of-2.ensures, c.requires.spelled.raw, last);
     }

@@ -1,4 +1,4 @@
-use Rattle.std.proofs.Common.{◌≡◌, ℕ, ◌<◌, List, IsTrue, inl, inr, length, slice_index_or, ap, sym, subst, ◌∙◌, [], arith, rules}
+use Rattle.std.proofs.Common.{◌≡◌, ℕ, ◌<◌, List, IsTrue, inl, inr, length, slice_index_or, ap, sym, subst, [], arith, rules}
 use Rattle.std.specs.Prelude.{ℤ}
 use Rattle.std.proofs.lemmas.Bool.{cases_lt}
 use Rattle.std.proofs.lemmas.List.{get_or_read_under}
@@ -13,10 +13,10 @@ loop-u-preserved c = λ j lt is. elim (cases_lt j c.loop-u.u) [
   | inr not_less ↦
       let here : j ≡ c.loop-u.u = omega (arith, lt, not_less) in
       let unit = subst (λ (k : ℕ). HasDoubtful (quantiser_of c.args.head.now (slice_index_or c.order-order.result.now k 0)) (block_of c.args.units.now k)) here is in
-      let steps = subst (λ (q : List ℕ). HasDoubtful q (block_of c.args.units.now c.loop-u.u)) (sym c.quantiser.ensures) unit in
+      let steps = subst (λ (q : List ℕ). HasDoubtful q (block_of c.args.units.now c.loop-u.u)) (sym c.quantisers.ensures) unit in
       let count : length c.order-order.result.now ≡ length c.args.units.now = omega (arith, c.requires, ap (λ (l : List ℕ). length l) c.order-order.ensures.value) in
-      let block : block_of c.args.units.now c.loop-u.u ≡ c.to_zigzag.result = sym (c.to_zigzag.ensures ∙ get_or_read_under c.args.units.now c.loop-u.u (length c.order-order.result.now) c.index-units-u.result [] c.index-units-u.is c.loop-u-test.true count) in
-      let known = subst (λ (z : List ℤ). HasDoubtful c.quantiser.result.now z) block steps in
+      let block : block_of c.args.units.now c.loop-u.u ≡ c.index-units-u.result = sym (get_or_read_under c.args.units.now c.loop-u.u (length c.order-order.result.now) c.index-units-u.result [] c.index-units-u.is c.loop-u-test.true count) in
+      let known = subst (λ (z : List ℤ). HasDoubtful c.quantisers.result.now z) block steps in
       let told : IsTrue c.has_doubtful.result = c.has_doubtful.ensures.1 known in
       absurd (search (rules, told, c.if-has_doubtful.false))
 ]

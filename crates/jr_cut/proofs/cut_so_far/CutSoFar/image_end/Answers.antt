@@ -15,4 +15,5 @@ returns c = λ start bytes h.
     let full : take n v.rest ≡ replicate n PREFIX = subst (λ (x : List ℕ). take n x ≡ replicate n PREFIX) rest c.fill_count-fill.ensures.full in
     let next : n < length v.rest → get_or v.rest n 0 ≢ PREFIX = subst (λ (x : List ℕ). n < length x → get_or x n 0 ≢ PREFIX) rest c.fill_count-fill.ensures.next in
     let at : v.at ≡ c.self.inside.segments.at = ap (λ (x : CutSoFarValue). x.at) (sym c.self.view_is) in
-    subst (λ (k : ℕ). IsImageEnd v.intervals start bytes (k + n + 1)) at (after_fill start bytes v n h ended full next).is
+    let is = subst (λ (k : ℕ). IsImageEnd v.intervals start bytes (k + n + 1)) at (after_fill start bytes v n h ended full next).is in
+    search (rules, is)
