@@ -1,5 +1,6 @@
 -- Which lines of the picture a row of MCUs has.
 use Rattle.std.proofs.Common.{◌≡◌, ℕ, ◌+◌, ◌-◌, ◌*◌, ◌/◌, ◌<◌, ◌≤◌, ◌∙◌, List, length, max, min, ap, arith}
+use Rattle.std.proofs.lemmas.Nat.{mul-le}
 use Rattle.std.specs.Int.{div_ceil}
 use Rattle.std.proofs.Math.Nat.{add-mul}
 use Rattle.std.proofs.lemmas.Grind.{div_ceil_times}
@@ -68,3 +69,9 @@ painted_lines each scan lawful first count pixels m lines counts =
       lines = lines board.0 board.1 ∙ ap (next_lines_of scan.head (samples_of board.0) first) size;
       counted = record { sound_are = counts.sound board.0 board.1; damaged_are = counts.damaged board.0 board.1 };
     }
+
+-- some lines of a row of MCUs have room where all of it have
+pub lines_fit : (count deep line size room : ℕ) → count ≤ deep → line ≡ size → deep * size ≤ room → count * line ≤ room
+lines_fit count deep line size room few is all =
+    let same : count * line ≡ count * size = ap (λ (k : ℕ). count * k) is in
+    omega (arith, same, mul-le count size deep size few (omega arith), all)

@@ -1,7 +1,7 @@
 -- Buffers whose front is filled.
 use Rattle.std.proofs.Common.{◌≡◌, ◌<◌, ◌≤◌, ℕ, List, ◌++◌, length, take, drop, None, inl, inr, sym, ap, ◌∙◌, arith}
 use Rattle.std.proofs.lemmas.Bool.{cases_lt}
-use Rattle.std.proofs.lemmas.List.{take-append-drop}
+use Rattle.std.proofs.lemmas.List.{length-take-le, take-append-drop}
 use Rattle.jri_memory.specs.Calls.{over}
 use Rattle.jri_file.specs.Files.{IsScanOfFile, IsPictureOf}
 use Rattle.jr_scan.specs.ScanValue.{ScanValue}
@@ -27,3 +27,11 @@ asked_few len count asked all none few = elim (cases_lt 0 len) [ inl some ↦ om
 -- where some are asked for, all are
 pub asked_all : (len count asked : ℕ) → (0 < len → asked ≡ count) → (len ≡ 0 → asked ≡ 0) → 0 < asked → asked ≡ count
 asked_all len count asked all none some = elim (cases_lt 0 len) [ inl more ↦ all more | inr past ↦ omega (arith, none (omega (arith, past)), some) ]
+
+-- the marks that are asked for, as a part of the buffer of all
+module _ (marks : List ℕ) (count asked : ℕ) (all : 0 < length marks → asked ≡ count) (none : length marks ≡ 0 → asked ≡ 0) (few : 0 < length marks → count ≤ length marks) where
+  pub asked_long : length (take asked marks) ≡ asked
+  asked_long = length-take-le asked marks (asked_few (length marks) count asked all none few)
+
+  pub asked_room : (n : ℕ) → count ≡ n → 0 < length (take asked marks) → length (take asked marks) ≡ n
+  asked_room n is there = asked_long ∙ asked_all (length marks) count asked all none (omega (arith, there, asked_long)) ∙ is

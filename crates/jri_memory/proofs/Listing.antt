@@ -1,5 +1,5 @@
 -- Damaged intervals that are listed one after the other.
-use Rattle.std.proofs.Common.{arith, refl, subst, sym, ap, ◌∙◌, ◌≡◌, ◌≢◌, ℕ, List, [], length, get_or, set, drop, max, min, ◌-◌, ◌+◌, ◌<◌, ◌≤◌, inl, inr}
+use Rattle.std.proofs.Common.{arith, refl, subst, sym, ap, ◌∙◌, ◌≡◌, ℕ, List, [], length, get_or, set, drop, max, min, ◌-◌, ◌+◌, ◌<◌, ◌≤◌, inl, inr}
 use Rattle.std.specs.List.{All}
 use Rattle.std.proofs.lemmas.Bool.{cases_lt}
 use Rattle.std.proofs.lemmas.List.{drop-drop, get_or_past, get_or-set_same, get_or-set_other}
@@ -13,11 +13,11 @@ use Rattle.jr_cut.proofs.EachCut.{each_scan_has_a_cut}
 use Rattle.jr_head.specs.HeadValue.{HeadValue}
 use Rattle.jr_head.specs.Heads.{HeadOf}
 use Rattle.jr_arrival.proofs.ScanIntervals.{count_is}
-use Rattle.jr_damage.specs.Coded.{BeginsAt, HasEndedBefore, IsNextAt, IsSegmentOf}
+use Rattle.jr_damage.specs.Coded.{BeginsAt, IsNextAt, IsSegmentOf}
 use Rattle.jr_damage.specs.Map.{IsDamageOf}
 use Rattle.jri_memory.specs.declared.damages.Damage.{Damage}
 use Rattle.jr_damage.specs.Verdicts.{IsFileScan}
-use Rattle.jri_memory.specs.Damages.{AreDamages, IsAt, IsListedAt, IsDamageEntry, IsPositionOf, damage_at, no_damage}
+use Rattle.jri_memory.specs.Damages.{AreDamages, IsListedAt, IsDamageEntry, IsPositionOf, damage_at, no_damage}
 
 -- nothing is listed yet
 pub damages_begin : (file : List ℕ) (s : ScanValue) (first : ℕ) (list : List Damage) → AreDamages file s first first 0 list

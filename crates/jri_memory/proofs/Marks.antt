@@ -1,5 +1,5 @@
 -- The marks of the first intervals of a scan, one more at a time.
-use Rattle.std.proofs.Common.{◌≡◌, ℕ, ◌+◌, ◌<◌, cond, Bool, true, false, List, [], ◌∷◌, ◌++◌, length, get_or, slice_index, refl, sym, ap, subst, ◌∙◌, inl, inr, length-append, arith}
+use Rattle.std.proofs.Common.{◌≡◌, ℕ, ◌+◌, ◌<◌, cond, Bool, true, false, List, [], ◌∷◌, ◌++◌, length, get_or, slice_index, refl, sym, subst, ◌∙◌, inl, inr, length-append, arith}
 use Rattle.std.specs.List.{count_by}
 use Rattle.std.proofs.lemmas.Bool.{cases_lt}
 use Rattle.std.proofs.lemmas.List.Sums.{sum_by-append}
@@ -11,7 +11,7 @@ use Rattle.jr_picture.specs.declared.mark.Mark.TheVariants.{Blank, Sound, Damage
 use Rattle.jr_picture.specs.Headline.{mark_in, is_sound, is_damaged}
 use Rattle.jr_rows.specs.MarkBytes.{mark_byte}
 use Rattle.jr_rows.specs.declared.marked.Marked.{Marked}
-use Rattle.jri_memory.specs.Checks.{IsMarkOf, AreMarksOf, ArePut}
+use Rattle.jri_memory.specs.Checks.{IsMarkOf, ArePut}
 
 pub put_none : (s : ScanValue) (m : Marked) (bytes : List ℕ) → m.sound ≡ 0 → m.damaged ≡ 0 → ArePut s 0 m bytes []
 put_none s m bytes a b = record {

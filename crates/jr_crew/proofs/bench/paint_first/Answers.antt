@@ -55,3 +55,13 @@ slice_bounds-paint-end c =
 
 pub returns-clause-room : goal.returns-clause-room
 returns-clause-room c = subst (λ (s : ScanValue). HasRowRoom s.head c.paint.new.self) c.scan-scan.ensures c.paint.ensures.room
+
+pub slice_bounds-paint-end-2 : goal.slice_bounds-paint-end-2
+slice_bounds-paint-end-2 c =
+    let t = c.args.part.now.scan in
+    let row = c.args.row in
+    let size = c.lines_of-y.result.1 * c.shape_of.result.line in
+    let count : c.lines_of-y.result.1 ≡ line_count t.head row = search rules in
+    let line : c.shape_of.result.line ≡ line_size t.head = search rules in
+    let is : size ≡ line_count t.head row * line_size t.head = ap (λ (n : ℕ). n * c.shape_of.result.line) count ∙ ap (λ (n : ℕ). line_count t.head row * n) line in
+    sym (length-take-le size c.args.pixels.now (omega (arith, row_fits t row c.args.pixels.now c.requires.pixels, is)))

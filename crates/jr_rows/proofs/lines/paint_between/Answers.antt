@@ -12,7 +12,7 @@ use Rattle.jr_picture.specs.Samples.{samples_of}
 use Rattle.jr_rows.specs.Bands.{ShowsMcus, samples_in}
 use Rattle.jr_rows.specs.FirstIntervalsValue.{FirstIntervalsValue}
 use Rattle.jr_rows.specs.Groups.{units_in}
-use Rattle.jr_rows.specs.MarkBytes.{PutsBetween, PutsRow}
+use Rattle.jr_rows.specs.MarkBytes.{HasMarkRoom, PutsBetween, PutsRow}
 use Rattle.jr_rows.specs.Rows.{CountsRow, HasFirst, coded_before}
 use Rattle.jr_rows.specs.SomeLines.{CountsBetween, row_behind, row_with}
 use Rattle.jr_rows.proofs.IntervalPlaces.{ends_few}
@@ -152,3 +152,9 @@ returns-clause-puts c =
     let end : c.rows.rows.row ≡ c.rows_of-row.result.1 = search (rules, arith) in
     let behind : c.rows.rows.row ≡ row_behind t.head c.args.end = search rules in
     subst (λ (r : ℕ). PutsBetween t (row_with t.head c.args.first) r c.args.marks.now c.rows.marks) behind c.rows.invariant.puts
+
+pub lines_in-y-requires-clause-starts : goal.lines_in-y-requires-clause-starts
+lines_in-y-requires-clause-starts c = c.rows_of-row.ensures.last c.row-row.result (omega (arith, c.row-row.ensures, c.row.ensures, c.rows-test.true))
+
+pub decode-more-requires-clause-places : goal.decode-more-requires-clause-places
+decode-more-requires-clause-places c = subst (λ (p : FirstIntervalsValue). HasMarkRoom p.scan c.rows.marks) (sym c.of-part.ensures) c.rows.invariant.places

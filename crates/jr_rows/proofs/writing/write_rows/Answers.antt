@@ -4,7 +4,7 @@ use Rattle.jr_base.specs.Tally.{Writes, WritesBeginning}
 use Rattle.jr_base.proofs.Appending.{on_err, front_first}
 use Rattle.jr_head.specs.HeadValue.{HeadValue}
 use Rattle.jr_head.specs.Geometry.{IsLawful, mcus_down, vertical_max}
-use Rattle.jr_paint.specs.Lines.{next_lines_of}
+use Rattle.jr_paint.specs.Lines.{line_size, next_lines_of}
 use Rattle.jr_paint.specs.Text.{header_of, lines_of}
 use Rattle.jr_paint.specs.Written.{WritesUpTo}
 use Rattle.jr_paint.proofs.Held.{nothing_written, written_on, held_more, begun, rest_sent}
@@ -12,6 +12,8 @@ use Rattle.jr_paint.proofs.PixelLaws.{text_none, text_more, text_begins, text_is
 use Rattle.jr_picture.specs.Samples.{samples_of}
 use Rattle.jr_rows.specs.Rows.{CountsMcus, CountsRow, ShowsLines, coded_before, first_line, line_count}
 use Rattle.jr_rows.specs.RowsValue.{RowsValue}
+use Rattle.jr_rows.proofs.Lent.{all_back}
+use Rattle.jr_rows.proofs.SomeLines.{lines_fit}
 use Rattle.jr_rows.proofs.PictureRows.{no_lines, all_lines}
 use Rattle.jr_rows.proofs.ReadRows.{counts_none, counts_both}
 use Rattle.jr_rows.proofs.writing.write_rows.Goals as goal
@@ -129,3 +131,15 @@ returns-clause-sent g c b first =
     let ready = take c.rows.filled c.rows.pixels.items in
     let ok : Writes g.W.Write.contents c.rows.out c.write_all.new.out ready = search (rules, c.in_ok-write_all.ensures.ok) in
     rest_sent g.W.Write.contents c.args.out.now c.rows.out c.write_all.new.out (Ok c.rows.marked) _ _ sent ok tt (search rules)
+
+pub make_room-requires-clause-fits : goal.make_room-requires-clause-fits
+make_room-requires-clause-fits g c =
+    let h = c.args.head.now in
+    let fit = lines_fit c.lines_of-y.result.1 (8 * vertical_max h) c.shape_of-shape.result.line (line_size h) (length c.args.pixels.now.items) c.lines_of-y.ensures.few c.shape_of-shape.ensures.line c.requires.pixels in
+    let held = c.args.pixels.now in
+    let new = c.put_header-filled.new.bytes in
+    let wide : held.len ≡ length new = search (rules, arith, c.put_header-filled.auto.bytes) in
+    let same : held.len ≡ length held.items = search rules in
+    let start = ap (λ (l : List ℕ). length l) (all_back held.len new held.items wide) ∙ sym wide ∙ same in
+    let long = ap (λ (l : List ℕ). length l) c.deref.ensures.value ∙ c.rows.invariant.pixels ∙ start in
+    subst (λ (n : ℕ). c.lines_of-y.result.1 * c.shape_of-shape.result.line ≤ n) (sym long) fit

@@ -1,9 +1,11 @@
-use Rattle.std.proofs.Common.{rules, subst, ◌≡◌, ℕ, length}
+use Rattle.std.proofs.Common.{rules, subst, sym, ap, ◌≡◌, ℕ, length}
 use Rattle.jr_head.specs.Geometry.{IsLawful}
 use Rattle.jr_picture.specs.Headline.{least}
 use Rattle.jr_rows.specs.Stream.{SendsPicture, HasCounts}
 use Rattle.jr_rows.specs.FirstIntervalsValue.{FirstIntervalsValue}
+use Rattle.jr_rows.specs.Rows.{CountsRows}
 use Rattle.jr_rows.specs.RowsValue.{RowsValue}
+use Rattle.jr_scan.specs.ScanValue.{ScanValue}
 use Rattle.jr_rows.proofs.FirstBoards.{least_few}
 use Rattle.jr_piece.proofs.ScanLaws.{outcome}
 use Rattle.jr_rows.proofs.Sendings.{painted_picture, begun_picture}
@@ -36,3 +38,11 @@ returns-in_default-vec-clause-memory g c = search rules
 
 pub write_rows-requires-clause-unfailed : goal.write_rows-requires-clause-unfailed
 write_rows-requires-clause-unfailed g c = search rules
+
+pub counts_of-requires-clause-counts : goal.counts_of-requires-clause-counts
+counts_of-requires-clause-counts g c =
+    let part = c.of-part.result in
+    let m = c.in-Ok-write_rows.marked in
+    let counts = subst (λ (r : RowsValue). CountsRows r.scan r.limit m) c.of-painter.ensures c.in-Ok-write_rows.ensures.counts in
+    let first = subst (λ (n : ℕ). CountsRows part.scan n m) (sym c.limit-limit.ensures.value) counts in
+    subst (λ (s : ScanValue). CountsRows s c.limit-limit.result m) (ap (λ (p : FirstIntervalsValue). p.scan) c.of-part.ensures) first

@@ -1,26 +1,28 @@
-use Rattle.std.proofs.Common.{◌≡◌, ◌∙◌, ◌<◌, ◌≤◌, ◌*◌, ℕ, ap, subst, sym, length, take, rules, arith}
-use Rattle.std.proofs.lemmas.List.{length-take-le}
+use Rattle.std.proofs.Common.{◌≡◌, ◌∙◌, ◌<◌, ℕ, inl, ap, subst, sym, length, take, rules, arith}
 use Rattle.std.specs.Arc.{arc_value}
+use Rattle.jr_head.specs.HeadValue.{HeadValue}
 use Rattle.jr_head.specs.Geometry.{components_of}
-use Rattle.jr_paint.specs.Lines as paint
-use Rattle.jri_canvas.specs.Layouts.{plain_line_size, sample_count}
-use Rattle.jri_memory.specs.Canvases.{HasForm, LacksLayout, LaysScan}
-use Rattle.jri_memory.proofs.Filled.{asked_all, asked_few, filled, picture_shown, unwritten}
+use Rattle.jr_scan.specs.ScanValue.{ScanValue}
+use Rattle.jri_canvas.specs.Layouts.{HavePlaces, sample_count}
+use Rattle.jri_memory.specs.Canvases.{HasForm, LaysScan}
+use Rattle.jri_memory.proofs.Filled.{asked_few, asked_long, asked_room, filled, picture_shown, unwritten}
 use Rattle.jri_memory.proofs.canvas.decode_on.Goals as goal
 
+pub slice_bounds-lay_scan-end : goal.slice_bounds-lay_scan-end
+slice_bounds-lay_scan-end c = asked_few (length c.args.marks.now) c.intervals-count.result c.asked_for-asked.result c.asked_for-asked.ensures.all c.asked_for-asked.ensures.none (c.lacks_room.ensures.room c.if-lacks_room.false)
+
 pub slice_bounds-lay_scan-end-2 : goal.slice_bounds-lay_scan-end-2
-slice_bounds-lay_scan-end-2 c =
-    let few : 0 < length c.args.marks.now → c.intervals-count.result ≤ length c.args.marks.now = search (rules, c.lacks_room.ensures.room) in
-    let fact : c.asked_for-asked.result ≤ length c.args.marks.now = asked_few (length c.args.marks.now) c.intervals-count.result c.asked_for-asked.result c.asked_for-asked.ensures.all c.asked_for-asked.ensures.none few in
-    search (rules, arith, fact)
+slice_bounds-lay_scan-end-2 c = sym (asked_long c.args.marks.now c.intervals-count.result c.asked_for-asked.result c.asked_for-asked.ensures.all c.asked_for-asked.ensures.none (c.lacks_room.ensures.room c.if-lacks_room.false))
 
 pub lay_scan-requires-clause-marks : goal.lay_scan-requires-clause-marks
 lay_scan-requires-clause-marks c there =
-    let few : 0 < length c.args.marks.now → c.intervals-count.result ≤ length c.args.marks.now = search (rules, c.lacks_room.ensures.room) in
-    let fact : c.asked_for-asked.result ≤ length c.args.marks.now = asked_few (length c.args.marks.now) c.intervals-count.result c.asked_for-asked.result c.asked_for-asked.ensures.all c.asked_for-asked.ensures.none few in
-    let long : length (take c.asked_for-asked.result c.args.marks.now) ≡ c.asked_for-asked.result = length-take-le c.asked_for-asked.result c.args.marks.now fact in
-    let is : c.intervals-count.result ≡ length c.deref-3.result.now.intervals = search rules in
-    long ∙ asked_all (length c.args.marks.now) c.intervals-count.result c.asked_for-asked.result c.asked_for-asked.ensures.all c.asked_for-asked.ensures.none (omega (arith, there, long)) ∙ is
+    let is = c.intervals-count.ensures.value ∙ ap (λ (s : ScanValue). length s.intervals) (c.deref-2.ensures ∙ sym c.deref-3.ensures) in
+    asked_room c.args.marks.now c.intervals-count.result c.asked_for-asked.result c.asked_for-asked.ensures.all c.asked_for-asked.ensures.none (c.lacks_room.ensures.room c.if-lacks_room.false) _ is there
+
+pub lay_scan-requires-clause-places : goal.lay_scan-requires-clause-places
+lay_scan-requires-clause-places c k from to =
+    let height : c.height.result ≡ c.deref-3.result.now.head.height = c.height.ensures.value ∙ ap (λ (h : HeadValue). h.height) c.head-head.ensures.value ∙ ap (λ (s : ScanValue). s.head.height) (c.deref.ensures ∙ sym c.deref-3.ensures) in
+    c.have_places.ensures.there c.if-not-have_places.false k from (omega (arith, to, height))
 
 pub returns-clause-decoded : goal.returns-clause-decoded
 returns-clause-decoded c =
@@ -30,10 +32,11 @@ returns-clause-decoded c =
     let asked = c.asked_for-asked.result in
     let marks = c.lay_scan.new.marks in
     let counts = c.in-Ok-lay_scan.counts in
-    let laid : LaysScan scan form c.args.canvas.now c.lay_scan.new.canvas (take asked c.args.marks.now) marks counts = search (rules, c.in-Ok-lay_scan.ensures.laid) in
-    let wide : c.width.result ≡ scan.head.width = search rules in
-    let components : sample_count c.pixels_in.result ≡ components_of scan.head = search (rules, c.pixels_in.ensures.components) in
-    let is : HasForm c.width.result (sample_count c.pixels_in.result) c.args.stride c.args.layout form = search (rules, c.in-Some.ensures.form) in
+    let laid : LaysScan scan form c.args.canvas.now c.lay_scan.new.canvas (take asked c.args.marks.now) marks counts = subst (λ (s : ScanValue). LaysScan s form c.args.canvas.now c.lay_scan.new.canvas (take asked c.args.marks.now) marks counts) c.deref-3.ensures c.in-Ok-lay_scan.ensures.laid in
+    let head = c.head-head.ensures.value ∙ ap (λ (s : ScanValue). s.head) c.deref.ensures in
+    let wide : c.width.result ≡ scan.head.width = c.width.ensures.value ∙ ap (λ (h : HeadValue). h.width) head in
+    let components = c.pixels_in.ensures.components ∙ ap components_of head in
+    let is : HasForm c.width.result (sample_count c.pixels_in.result) c.args.stride c.args.layout form = c.in-Some.ensures.form in
     let of = c.of.ensures in
     record {
       scan = scan;
@@ -60,3 +63,22 @@ pub returns-in_default-lay_scan-clause-marks : goal.returns-in_default-lay_scan-
 returns-in_default-lay_scan-clause-marks c =
     let same : c.lay_scan.new.marks ≡ take c.asked_for-asked.result c.args.marks.now = search rules in
     unwritten c.lay_scan.new.marks c.args.marks.now c.asked_for-asked.result same
+
+pub returns-then-not-have_places-clause-room : goal.returns-then-not-have_places-clause-room
+returns-then-not-have_places-clause-room c _ =
+    let scan = arc_value c.in-Ok.scan in
+    let form = c.in-Some.form in
+    let head = c.head-head.ensures.value ∙ ap (λ (s : ScanValue). s.head) c.deref.ensures in
+    let wide : c.width.result ≡ scan.head.width = c.width.ensures.value ∙ ap (λ (h : HeadValue). h.width) head in
+    let components = c.pixels_in.ensures.components ∙ ap components_of head in
+    let height : c.height.result ≡ scan.head.height = c.height.ensures.value ∙ ap (λ (h : HeadValue). h.height) head in
+    let is : HasForm c.width.result (sample_count c.pixels_in.result) c.args.stride c.args.layout form = c.in-Some.ensures.form in
+    record {
+      scan = scan;
+      is = c.in-Ok.ensures.scan;
+      less = inl (record {
+        form = form;
+        is = subst (λ (w : ℕ). HasForm w (components_of scan.head) c.args.stride c.args.layout form) wide (subst (λ (n : ℕ). HasForm c.width.result n c.args.stride c.args.layout form) components is);
+        less = subst (λ (n : ℕ). HavePlaces form 0 n (length c.args.canvas.now) → ⊥) height (c.have_places.ensures.not_there c.if-not-have_places.true);
+      });
+    }

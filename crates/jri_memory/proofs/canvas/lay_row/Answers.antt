@@ -1,4 +1,5 @@
-use Rattle.std.proofs.Common.{rules, arith, ap, subst, ◌∙◌, ◌≡◌, ℕ, ◌+◌, ◌-◌, ◌*◌, ◌<◌, ◌≤◌, length}
+use Rattle.std.proofs.Common.{rules, arith, ap, subst, sym, ◌∙◌, ◌≡◌, ℕ, ◌+◌, ◌*◌, ◌<◌, ◌≤◌, length}
+use Rattle.std.proofs.lemmas.List.{length-take-le}
 use Rattle.jr_head.specs.Geometry.{IsLawful, vertical_max}
 use Rattle.jr_paint.specs.Lines as paint
 use Rattle.jr_picture.specs.Samples.{samples_of}
@@ -6,7 +7,7 @@ use Rattle.jr_rows.specs.Bands.{samples_in}
 use Rattle.jr_rows.specs.Rows.{first_line, line_count}
 use Rattle.jri_canvas.specs.Layouts.{StandOn, laid_line}
 use Rattle.jri_canvas.proofs.Canvases.{stand_as}
-use Rattle.jri_memory.proofs.CanvasRows.{line_painted}
+use Rattle.jri_memory.proofs.CanvasRows.{line_painted, lines_fit}
 use Rattle.jri_memory.proofs.canvas.lay_row.Goals as goal
 
 pub returns-clause-stand : goal.returns-clause-stand
@@ -26,3 +27,19 @@ returns-clause-stand c b is shows =
     let there = stand_as form (λ k. laid_line form (paint.line_of h (samples_in (record { head = h; groups = groups })) k)) g y (y + count) c.args.canvas.now c.lay_some.new.canvas same c.lay_some.ensures.stand in
     subst (λ (n : ℕ). StandOn form (first_line h row) (first_line h row + n) g c.args.canvas.now c.lay_some.new.canvas) lines
     (subst (λ (n : ℕ). StandOn form n (n + count) g c.args.canvas.now c.lay_some.new.canvas) first there)
+
+pub slice_bounds-lay_some-end : goal.slice_bounds-lay_some-end
+slice_bounds-lay_some-end c =
+    let h = c.args.head.now in
+    lines_fit c.lines_of-y.result.1 (8 * vertical_max h) c.bytes_before.result (paint.line_size h) (length c.args.lines.now) c.lines_of-y.ensures.few (c.bytes_before.ensures.value ∙ c.requires.line) c.requires.lines
+
+pub slice_bounds-lay_some-end-2 : goal.slice_bounds-lay_some-end-2
+slice_bounds-lay_some-end-2 c =
+    let h = c.args.head.now in
+    sym (length-take-le (c.lines_of-y.result.1 * c.bytes_before.result) c.args.lines.now (lines_fit c.lines_of-y.result.1 (8 * vertical_max h) c.bytes_before.result (paint.line_size h) (length c.args.lines.now) c.lines_of-y.ensures.few (c.bytes_before.ensures.value ∙ c.requires.line) c.requires.lines))
+
+pub lay_some-requires-clause-lines : goal.lay_some-requires-clause-lines
+lay_some-requires-clause-lines c =
+    let h = c.args.head.now in
+    length-take-le (c.lines_of-y.result.1 * c.bytes_before.result) c.args.lines.now (lines_fit c.lines_of-y.result.1 (8 * vertical_max h) c.bytes_before.result (paint.line_size h) (length c.args.lines.now) c.lines_of-y.ensures.few (c.bytes_before.ensures.value ∙ c.requires.line) c.requires.lines)
+    ∙ ap (λ (k : ℕ). c.lines_of-y.result.1 * k) (c.bytes_before.ensures.value ∙ c.requires.line)

@@ -1,5 +1,4 @@
-use Rattle.std.proofs.Common.{rules, arith, sym, subst, ap, ◌∙◌, ◌≡◌, ℕ, ◌+◌, ◌-◌, ◌*◌, ◌<◌, ◌≤◌, ◌^◌, min, length}
-use Rattle.std.specs.Int.{div_ceil}
+use Rattle.std.proofs.Common.{rules, arith, refl, sym, subst, ap, ◌∙◌, ◌≡◌, ℕ, ◌+◌, ◌*◌, ◌<◌, ◌≤◌, ◌^◌, min, length}
 use Rattle.std.proofs.Math.Nat.{add-mul}
 use Rattle.std.proofs.lemmas.Grind.{div_ceil_times}
 use Rattle.jr_head.specs.HeadValue.{HeadValue}
@@ -11,14 +10,14 @@ use Rattle.jr_picture.specs.Samples.{samples_of}
 use Rattle.jr_rows.specs.Bands.{ShowsMcus}
 use Rattle.jr_rows.specs.FirstIntervalsValue.{FirstIntervalsValue}
 use Rattle.jr_rows.specs.Groups.{units_in}
-use Rattle.jr_rows.specs.MarkBytes.{PutsBetween, PutsRow}
-use Rattle.jr_rows.specs.Rows.{CountsMcus, CountsRow, HasFirst, coded_before, first_line, line_count}
+use Rattle.jr_rows.specs.MarkBytes.{HasMarkRoom, PutsBetween, PutsRow}
+use Rattle.jr_rows.specs.Rows.{CountsMcus, CountsRow, HasFirst, HasSampleRoom, coded_before, first_line, intervals_before, line_count}
 use Rattle.jr_rows.proofs.IntervalPlaces.{ends_few}
-use Rattle.jr_rows.proofs.PutMarks.{puts_both}
-use Rattle.jr_rows.proofs.ReadRows.{counts_both}
+use Rattle.jr_rows.proofs.PutMarks.{puts_both, puts_none}
+use Rattle.jr_rows.proofs.ReadRows.{counts_both, counts_none}
 use Rattle.jr_scan.specs.ScanValue.{ScanValue, intervals_of}
 use Rattle.jri_canvas.specs.Layouts.{StandOn, laid_line}
-use Rattle.jri_canvas.proofs.Canvases.{stand_both}
+use Rattle.jri_canvas.proofs.Canvases.{stand_both, stand_none}
 use Rattle.jri_memory.proofs.canvas.lay_rows.Goals as goal
 
 pub with-marked-requires : goal.with-marked-requires
@@ -102,3 +101,39 @@ returns-clause-puts c =
     let t = c.args.scan.now in
     let end : c.rows.rows.row ≡ mcus_down t.head = search (rules, arith) in
     subst (λ (k : ℕ). PutsBetween t 0 k c.args.marks.now c.rows.marks) end c.rows.invariant.puts
+
+pub rows-init : goal.rows-init
+rows-init c =
+    let t = c.args.scan.now in
+    let h = t.head in
+    let n = length t.intervals in
+    let none = sym c.of-rows.ensures.row in
+    let first : 0 ≡ min (0 * (8 * vertical_max h)) h.height = omega arith in
+    record {
+      rows = c.of-rows.ensures.rows;
+      within = omega (arith, c.of-rows.ensures.row);
+      room = c.requires.room;
+      long = refl;
+      wide = refl;
+      stand = λ b _.
+          let g = λ (k : ℕ). laid_line c.args.form.now (paint.line_of h (samples_of b) k) in
+          subst (λ (k : ℕ). StandOn c.args.form.now 0 k g c.args.canvas.now c.args.canvas.now) (first ∙ ap (λ (k : ℕ). min (k * (8 * vertical_max h)) h.height) none) (stand_none c.args.form.now g 0 c.args.canvas.now);
+      counts = counts_none t n _ _ c.none-marked.result c.none-marked.ensures.sound c.none-marked.ensures.damaged (ap (λ (k : ℕ). intervals_before h (coded_before h n k)) none);
+      places = c.requires.marks;
+      puts = puts_none t n _ _ c.args.marks.now (ap (λ (k : ℕ). intervals_before h (coded_before h n k)) none);
+    }
+
+pub decode-more-requires-clause-places : goal.decode-more-requires-clause-places
+decode-more-requires-clause-places c = subst (λ (p : FirstIntervalsValue). HasMarkRoom p.scan c.rows.marks) (sym c.of-part.ensures) c.rows.invariant.places
+
+pub lay_row-requires-clause-room : goal.lay_row-requires-clause-room
+lay_row-requires-clause-room c =
+    let work = c.decode-more.new.work in
+    subst (λ (d : HeadValue). HasSampleRoom d work) (sym c.head-head.ensures.value) (subst (λ (p : FirstIntervalsValue). HasSampleRoom p.scan.head work) c.of-part.ensures c.decode-more.ensures.room)
+
+pub lay_row-requires-clause-lines : goal.lay_row-requires-clause-lines
+lay_row-requires-clause-lines c =
+    subst (λ (d : HeadValue). 8 * vertical_max d * paint.line_size d ≤ length c.rows.lines) (sym c.head-head.ensures.value) (omega (arith, c.requires.lines, c.rows.invariant.long))
+
+pub lay_row-requires-clause-line : goal.lay_row-requires-clause-line
+lay_row-requires-clause-line c = c.requires.line ∙ ap (λ (d : HeadValue). paint.line_size d) (sym c.head-head.ensures.value)

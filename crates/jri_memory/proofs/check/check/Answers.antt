@@ -1,10 +1,10 @@
-use Rattle.std.proofs.Common.{◌≡◌, ◌∙◌, ◌+◌, ◌<◌, ◌++◌, List, length, map, take, drop, sym, rules, arith}
+use Rattle.std.proofs.Common.{◌≡◌, ◌∙◌, ◌<◌, List, ap, length, take, sym, rules, arith}
 use Rattle.std.specs.Arc.{arc_value}
 use Rattle.jr_picture.specs.declared.mark.Mark.{Mark}
-use Rattle.jr_rows.specs.MarkBytes.{mark_byte}
 use Rattle.jr_rows.proofs.PutMarks.{are_marks}
+use Rattle.jr_scan.specs.ScanValue.{ScanValue}
 use Rattle.jri_memory.specs.Checks.{ArePut}
-use Rattle.jri_memory.proofs.Filled.{filled}
+use Rattle.jri_memory.proofs.Filled.{asked_few, asked_long, asked_room, filled}
 use Rattle.jri_memory.proofs.check.check.Goals as goal
 
 pub returns-clause-checked : goal.returns-clause-checked
@@ -37,3 +37,14 @@ returns-clause-checked c =
         no_fault = of.no_fault;
       };
     }
+
+pub slice_bounds-mark_intervals-end : goal.slice_bounds-mark_intervals-end
+slice_bounds-mark_intervals-end c = asked_few (length c.args.marks.now) c.intervals-count.result c.asked_for-asked.result c.asked_for-asked.ensures.all c.asked_for-asked.ensures.none (c.lacks_room.ensures.room c.if-lacks_room.false)
+
+pub slice_bounds-mark_intervals-end-2 : goal.slice_bounds-mark_intervals-end-2
+slice_bounds-mark_intervals-end-2 c = sym (asked_long c.args.marks.now c.intervals-count.result c.asked_for-asked.result c.asked_for-asked.ensures.all c.asked_for-asked.ensures.none (c.lacks_room.ensures.room c.if-lacks_room.false))
+
+pub mark_intervals-marked-requires : goal.mark_intervals-marked-requires
+mark_intervals-marked-requires c =
+    let is = c.intervals-count.ensures.value ∙ ap (λ (s : ScanValue). length s.intervals) (c.deref.ensures ∙ sym c.deref-2.ensures) in
+    record { room = λ there. asked_room c.args.marks.now c.intervals-count.result c.asked_for-asked.result c.asked_for-asked.ensures.all c.asked_for-asked.ensures.none (c.lacks_room.ensures.room c.if-lacks_room.false) _ is there }

@@ -1,4 +1,4 @@
-use Rattle.std.proofs.Common.{rules, [], List, ℕ, get_or, take, slice_range, subst}
+use Rattle.std.proofs.Common.{rules, [], get_or, take, slice_range, subst}
 use Rattle.std.specs.Prelude.{IfSome, IfNone}
 use Rattle.jr_cut.specs.Cut.{IsRaw}
 use Rattle.jr_cut.proofs.Spellings.{same_found}

@@ -1,4 +1,4 @@
-use Rattle.std.proofs.Common.{arith, rules, sym, subst, ◌∙◌, ◌≡◌, ℕ, ◌≤◌, length}
+use Rattle.std.proofs.Common.{arith, rules, sym, subst, ◌∙◌, ℕ}
 use Rattle.jr_damage.specs.Coded.{IsNextAt}
 use Rattle.jri_memory.specs.Damages.{AreDamages}
 use Rattle.jri_memory.proofs.Listing.{damages_begin, drop_on}

@@ -1,4 +1,4 @@
-use Rattle.std.proofs.Common.{◌-◌, ◌≡◌, ℕ, ◌<◌, ◌≤◌, length, drop}
+use Rattle.std.proofs.Common.{◌-◌, ◌≡◌, ◌<◌, ◌≤◌, length, drop}
 use Rattle.std.specs.Vec.{vec_capacity}
 use Rattle.jr_scan.specs.ScanValue.{ScanValue}
 use Rattle.jr_damage.specs.Coded.{IsNextAt}

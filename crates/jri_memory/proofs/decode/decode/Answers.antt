@@ -1,11 +1,10 @@
-use Rattle.std.proofs.Common.{◌≡◌, ◌∙◌, ◌<◌, ◌≤◌, ◌++◌, ap, length, sym, take, drop, rules, arith}
-use Rattle.std.proofs.lemmas.List.{length-take-le}
+use Rattle.std.proofs.Common.{◌≡◌, ◌∙◌, ◌<◌, ◌++◌, ap, length, sym, take, drop, rules, arith}
 use Rattle.std.specs.Arc.{arc_value}
 use Rattle.jr_paint.specs.Text.{lines_of}
 use Rattle.jr_scan.specs.ScanValue.{ScanValue}
 use Rattle.jr_rows.specs.Whole.{PaintsWhole}
 use Rattle.jri_memory.specs.Calls.{over}
-use Rattle.jri_memory.proofs.Filled.{asked_all, asked_few, filled, picture_shown, unwritten}
+use Rattle.jri_memory.proofs.Filled.{asked_few, asked_long, asked_room, filled, picture_shown, unwritten}
 use Rattle.jri_memory.proofs.decode.decode.Goals as goal
 
 pub returns-clause-decoded : goal.returns-clause-decoded
@@ -39,20 +38,16 @@ returns-clause-decoded c =
       };
     }
 
+pub slice_bounds-paint_scan-end-3 : goal.slice_bounds-paint_scan-end-3
+slice_bounds-paint_scan-end-3 c = asked_few (length c.args.marks.now) c.intervals-count.result c.asked_for-asked.result c.asked_for-asked.ensures.all c.asked_for-asked.ensures.none (c.lacks_room.ensures.room c.if-lacks_room.false)
+
 pub slice_bounds-paint_scan-end-4 : goal.slice_bounds-paint_scan-end-4
-slice_bounds-paint_scan-end-4 c =
-    let few : 0 < length c.args.marks.now → c.intervals-count.result ≤ length c.args.marks.now = search (rules, c.lacks_room.ensures.room) in
-    let asked = c.asked_for-asked.ensures in
-    sym (length-take-le c.asked_for-asked.result c.args.marks.now (asked_few (length c.args.marks.now) c.intervals-count.result c.asked_for-asked.result asked.all asked.none few))
+slice_bounds-paint_scan-end-4 c = sym (asked_long c.args.marks.now c.intervals-count.result c.asked_for-asked.result c.asked_for-asked.ensures.all c.asked_for-asked.ensures.none (c.lacks_room.ensures.room c.if-lacks_room.false))
 
 pub paint_scan-requires-clause-places : goal.paint_scan-requires-clause-places
 paint_scan-requires-clause-places c there =
-    let few : 0 < length c.args.marks.now → c.intervals-count.result ≤ length c.args.marks.now = search (rules, c.lacks_room.ensures.room) in
-    let asked = c.asked_for-asked.ensures in
-    let fact = asked_few (length c.args.marks.now) c.intervals-count.result c.asked_for-asked.result asked.all asked.none few in
-    let long : length (take c.asked_for-asked.result c.args.marks.now) ≡ c.asked_for-asked.result = length-take-le c.asked_for-asked.result c.args.marks.now fact in
-    long ∙ asked_all (length c.args.marks.now) c.intervals-count.result c.asked_for-asked.result asked.all asked.none (omega (arith, there, long))
-    ∙ c.intervals-count.ensures.value ∙ ap (λ (s : ScanValue). length s.intervals) (c.deref-2.ensures ∙ sym c.deref-3.ensures)
+    let is = c.intervals-count.ensures.value ∙ ap (λ (s : ScanValue). length s.intervals) (c.deref-2.ensures ∙ sym c.deref-3.ensures) in
+    asked_room c.args.marks.now c.intervals-count.result c.asked_for-asked.result c.asked_for-asked.ensures.all c.asked_for-asked.ensures.none (c.lacks_room.ensures.room c.if-lacks_room.false) _ is there
 
 pub returns-in_default-clause-pixels : goal.returns-in_default-clause-pixels
 returns-in_default-clause-pixels c =

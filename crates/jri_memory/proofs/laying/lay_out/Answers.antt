@@ -1,4 +1,4 @@
-use Rattle.std.proofs.Common.{rules, arith, refl, sym, subst, ap, ◌∙◌, ◌≡◌, ◌+◌, ◌*◌, ◌-◌, ◌<◌, ◌≤◌, ℕ, inl, inr}
+use Rattle.std.proofs.Common.{rules, arith, subst, ap, ◌≡◌, ◌+◌, ◌-◌, ◌<◌, ◌≤◌, ℕ}
 use Rattle.jri_canvas.specs.Layouts.{StandOn, laid_line, line_in, plain_line_size, sample_count}
 use Rattle.jri_canvas.proofs.Canvases.{stand_as}
 use Rattle.jri_memory.specs.Canvases.{HasForm}

@@ -1,4 +1,4 @@
-use Rattle.std.proofs.Common.{◌≡◌, ℕ, ◌+◌, ◌*◌, take, drop, inr, sym, ap, ◌∙◌, arith}
+use Rattle.std.proofs.Common.{ℕ, ◌*◌, take, drop, inr, sym, ap, ◌∙◌, arith}
 use Rattle.jr_paint.specs.Lines.{line_size, next_lines_of}
 use Rattle.jr_arrival.specs.Places.{lines_above}
 use Rattle.jri_memory.proofs.places.decode_there.Goals as goal

@@ -1,4 +1,4 @@
-use Rattle.std.proofs.Common.{◌≡◌, ◌+◌, inr, sym, arith}
+use Rattle.std.proofs.Common.{inr, sym, arith}
 use Rattle.jri_memory.proofs.places.skip_there.Goals as goal
 
 pub returns-clause-skipped : goal.returns-clause-skipped

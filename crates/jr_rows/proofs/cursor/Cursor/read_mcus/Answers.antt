@@ -120,3 +120,14 @@ returns-clause-gives c =
     let t = c.args.part.now.scan in
     let all : c.intervals.done ≡ c.args.mcus = omega (arith, c.intervals.invariant.within, c.intervals-test.false) in
     subst (λ (n : ℕ). GivesMcus t c.args.part.now.limit (mcus_to t.head c.args.self.now) n c.intervals.blocks) all c.intervals.invariant.gives
+
+pub marked-more-requires-clause-stands : goal.marked-more-requires-clause-stands
+marked-more-requires-clause-stands c =
+    let t = c.args.part.now.scan in
+    let r = c.ready.new.self in
+    let next = c.read.new.self in
+    let interval : c.again.result ≡ interval_of t r.number = c.again.ensures ∙ c.interval_ref-interval.ensures ∙ ap (λ (s : ScanValue). interval_of s r.number) c.scan-scan.ensures in
+    record {
+      number = omega (arith, c.ready.ensures.stands.number, ap (λ (s : ScanValue). length s.intervals) c.scan-scan.ensures, c.read.ensures.number);
+      at = subst (λ (k : ℕ). IsPlaceAfter (interval_of t k) next.mcu next.place) (sym c.read.ensures.number) (subst (λ (i : IntervalValue). IsPlaceAfter i next.mcu next.place) interval c.read.ensures.at);
+    }

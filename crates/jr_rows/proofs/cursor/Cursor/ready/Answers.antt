@@ -1,4 +1,4 @@
-use Rattle.std.proofs.Common.{rules, arith, ap, ◌∙◌, ◌≡◌, ◌<◌, length}
+use Rattle.std.proofs.Common.{rules, arith, ap, ◌∙◌, ◌≡◌, ◌*◌, ◌<◌, ℕ, length}
 use Rattle.jr_head.specs.HeadValue.{HeadValue}
 use Rattle.jr_scan.specs.ScanValue.{intervals_of, interval_of, mcus_in}
 use Rattle.jr_rows.proofs.CursorSteps.{at_start}
@@ -25,3 +25,23 @@ returns-clause-stands c =
     let there = (next_there h r.number r.mcu number ended c.requires.more).0 in
     let more : c.at_start.result.number < length c.args.scan.now.intervals = omega (arith, there, c.at_start.ensures.number, c.intervals.ensures.value, c.intervals.ensures.count) in
     record { number = more; at = at_start (interval_of c.args.scan.now c.at_start.result.number) c.at_start.result.mcu c.at_start.result.place c.at_start.ensures.mcu c.at_start.ensures.place }
+
+pub returns-clause-number : goal.returns-clause-number
+returns-clause-number c =
+    let h = c.args.scan.now.head in
+    let r = c.args.self.now in
+    let number : r.number < intervals_of h = omega (arith, c.requires.stands.number, c.intervals.ensures.value, c.intervals.ensures.count) in
+    let left : c.mcus_in.result ≡ mcus_in h r.number = c.mcus_in.ensures.value ∙ ap (λ (x : HeadValue). mcus_in x r.number) c.head-2.ensures.value in
+    let ended : r.mcu ≡ mcus_in h r.number = omega (arith, left, c.requires.stands.at.few, c.if-left-gt0.false) in
+    let there = next_there h r.number r.mcu number ended c.requires.more in
+    omega (arith, there.0, c.at_start.ensures.number)
+
+pub returns-clause-to : goal.returns-clause-to
+returns-clause-to c =
+    let h = c.args.scan.now.head in
+    let r = c.args.self.now in
+    let number : r.number < intervals_of h = omega (arith, c.requires.stands.number, c.intervals.ensures.value, c.intervals.ensures.count) in
+    let left : c.mcus_in.result ≡ mcus_in h r.number = c.mcus_in.ensures.value ∙ ap (λ (x : HeadValue). mcus_in x r.number) c.head-2.ensures.value in
+    let ended : r.mcu ≡ mcus_in h r.number = omega (arith, left, c.requires.stands.at.few, c.if-left-gt0.false) in
+    let there = next_there h r.number r.mcu number ended c.requires.more in
+    omega (arith, ap (λ (k : ℕ). k * h.restart) c.at_start.ensures.number, c.at_start.ensures.mcu, there.1)

@@ -1,8 +1,10 @@
-use Rattle.std.proofs.Common.{◌≡◌, ℕ, ◌+◌, ◌-◌, ◌<◌, ◌∙◌, List, [], ◌∷◌, ◌++◌, length, inl, inr, ap, sym, subst, arith, rules, slice_index_or}
+use Rattle.std.proofs.Common.{◌≡◌, ℕ, refl, ◌+◌, ◌-◌, ◌*◌, ◌<◌, ◌∙◌, List, [], ◌∷◌, ◌++◌, length, inl, inr, ap, sym, subst, arith, rules, slice_index_or}
 use Rattle.std.proofs.lemmas.Bool.{cases_lt}
 use Rattle.std.proofs.lemmas.List.{get_or_append_left, get_or-append_right}
 use Rattle.jr_head.specs.HeadValue.{HeadValue}
 use Rattle.jr_rows.specs.declared.row_lines.UnitStart.{UnitStart}
+use Rattle.jr_head.specs.Geometry.{blocks_of}
+use Rattle.jr_rows.specs.Groups.{all_lines, groups_across}
 use Rattle.jr_rows.specs.RowLines.{IsStartOf}
 use Rattle.jr_rows.proofs.row_lines.RowLines.open.Goals as goal
 
@@ -26,4 +28,15 @@ loop-j-preserved c =
       long = search (rules, items, c.loop-j.invariant.long);
       each = subst (λ (ps : List UnitStart). (j : ℕ) (d : UnitStart) → j < c.loop-j.j + 1 → IsStartOf c.args.head.now j (slice_index_or ps j d)) (sym items)
           (one_more c.args.head.now c.loop-j.starts.items c.start_of.result c.loop-j.j c.loop-j.invariant.long c.loop-j.invariant.each next);
+    }
+
+pub returns : goal.returns
+returns c =
+    let h = c.args.head.now in
+    let all : c.loop-j.j ≡ blocks_of h = search (rules, arith) in
+    let long : length c.in_ok-vec.field-0.items ≡ all_lines h * groups_across h = search rules in
+    record {
+      room = record { across_is = refl; long = long };
+      across = c.groups_across-across.ensures.value;
+      starts = record { long = c.loop-j.invariant.long ∙ all; each = λ j d lt. c.loop-j.invariant.each j d (omega (arith, lt, all)) };
     }

@@ -1,7 +1,8 @@
-use Rattle.std.proofs.Common.{◌≡◌, ◌+◌, ◌*◌, ◌<◌, ◌∙◌, set, ap, arith, rules}
+use Rattle.std.proofs.Common.{◌≡◌, ◌+◌, ◌*◌, ◌<◌, ◌∙◌, List, ℕ, length, set, refl, ap, subst, sym, arith, rules}
 use Rattle.jr_head.specs.Geometry.{blocks_of, mcus_across}
 use Rattle.jr_rows.specs.RowLinesValue.{RowLinesValue}
 use Rattle.jr_rows.specs.Groups.{unit_in, units_in}
+use Rattle.jr_rows.specs.RowLines.{HasLines}
 use Rattle.jr_rows.proofs.GroupLists.{mcu_inside, one_put, units_long, written_back}
 use Rattle.jr_rows.proofs.row_lines.RowLinesUnitSink.put.Goals as goal
 
@@ -22,3 +23,13 @@ returns-clause-put c =
     ap (units_in h) back
     ∙ one_put h c.args.mcu c.args.j new old c.args.samples.now inside c.requires.unit here (λ n i ln li apart. c.put_unit.ensures.others n i ln li apart ∙ ap (λ g. unit_in h g n i) was)
     ∙ ap (λ g. set (units_in h g) at c.args.samples.now) before
+
+pub returns-clause-room : goal.returns-clause-room
+returns-clause-room c =
+    let had = subst (HasLines c.args.head.now) (sym c.self.view_is) c.requires.room in
+    let back = written_back c.self.inside.groups.len c.put_unit.new.groups c.self.inside.groups.items (search (rules, c.put_unit.auto.groups)) in
+    record {
+      room = record { across_is = refl; long = search (rules, ap (λ (g : List (List ℕ)). length g) back, had.room.long) };
+      starts = had.starts;
+      across = had.across;
+    }

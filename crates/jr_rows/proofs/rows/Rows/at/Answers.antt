@@ -1,10 +1,11 @@
-use Rattle.std.proofs.Common.{rules, arith, subst, sym, ◌∙◌, ◌≡◌, ◌+◌, ◌*◌, ◌<◌, ◌≤◌, length}
+use Rattle.std.proofs.Common.{rules, arith, subst, sym, ap, ℕ, ◌∙◌, ◌≡◌, ◌+◌, ◌*◌, ◌<◌, ◌≤◌, length}
 use Rattle.jr_head.specs.Geometry.{mcus_across, mcus_of}
 use Rattle.jr_scan.specs.ScanValue.{ScanValue, intervals_of}
 use Rattle.jr_picture.specs.Headline.{interval_number, within_interval}
 use Rattle.jr_rows.specs.Cursors.{IsCursorOf, mcus_to}
 use Rattle.jr_rows.proofs.RowCursors.{start_to, starts}
-use Rattle.jr_rows.proofs.RowStarts.{mcu_there, row_starts}
+use Rattle.jr_rows.specs.Rows.{coded_before}
+use Rattle.jr_rows.proofs.RowStarts.{all_before, mcu_there, row_starts}
 use Rattle.jr_rows.proofs.rows.Rows.at.Goals as goal
 
 pub skip_mcus-requires-clause-stands : goal.skip_mcus-requires-clause-stands
@@ -30,3 +31,24 @@ skip_mcus-requires-clause-few c =
     let e = c.at_start-cursor.ensures in
     let to = start_to h (interval_number h (c.args.row * mcus_across h)) c.at_start-cursor.result (e.number ∙ number) e.mcu in
     subst (λ (s : ScanValue). mcus_to s.head c.at_start-cursor.result + c.interval_with-number.result.1 ≤ mcus_of s.head) (sym c.scan-scan.ensures) (omega (arith, to, within, whole, starts))
+
+pub returns-clause-rows : goal.returns-clause-rows
+returns-clause-rows c =
+    let t = c.args.part.now.scan in
+    let h = t.head in
+    let next = c.skip_mcus.new.self in
+    let start = c.at_start-cursor.result in
+    let some : 0 < mcus_of h = search (rules, arith) in
+    let first = row_starts h c.args.row some c.requires.row in
+    let whole = (mcu_there h (c.args.row * mcus_across h) first).1 in
+    let number : c.interval_with-number.result.0 ≡ interval_number h (c.args.row * mcus_across h) = search rules in
+    let within : c.interval_with-number.result.1 ≡ within_interval h (c.args.row * mcus_across h) = search rules in
+    let count : length t.intervals ≡ intervals_of h = search (rules, arith) in
+    let e = c.at_start-cursor.ensures in
+    let to = start_to h (interval_number h (c.args.row * mcus_across h)) start (e.number ∙ number) e.mcu in
+    let moved = subst (λ (s : ScanValue). mcus_to s.head next ≡ mcus_to s.head start + c.interval_with-number.result.1) c.scan-scan.ensures c.skip_mcus.ensures.moved in
+    let at : mcus_to h next ≡ c.args.row * mcus_across h = omega (arith, moved, to, within, whole) in
+    record {
+      stands = subst (λ (s : ScanValue). IsCursorOf s next) c.scan-scan.ensures c.skip_mcus.ensures.stands;
+      at = at ∙ sym (all_before h c.args.row some c.requires.row) ∙ ap (λ (n : ℕ). coded_before h n c.args.row) (sym (c.requires.all ∙ count));
+    }

@@ -1,4 +1,4 @@
-use Rattle.std.proofs.Common.{rules, arith, sym, subst, ap, ◌∙◌, ◌≡◌, ℕ, ◌+◌, ◌*◌, ◌%◌, ◌<◌, ◌≤◌, ◌^◌, [], None, length, slice_index_or}
+use Rattle.std.proofs.Common.{rules, arith, refl, sym, subst, ap, ◌∙◌, ◌≡◌, ℕ, ◌+◌, ◌*◌, ◌%◌, ◌<◌, ◌≤◌, ◌^◌, [], None, length, slice_index_or}
 use Rattle.std.proofs.Math.Nat.{add-mul, mul-le-mul_right}
 use Rattle.jr_head.specs.HeadValue.{HeadValue}
 use Rattle.jr_head.specs.Geometry.{blocks_of, mcus_across}
@@ -14,8 +14,8 @@ use Rattle.jr_rows.proofs.GroupLists.{units_long}
 use Rattle.jr_rows.proofs.IntervalPlaces.{ends_few}
 use Rattle.jr_rows.specs.RowsValue.{SampleRowValue}
 use Rattle.jr_rows.proofs.Lent.{all_back}
-use Rattle.jr_rows.proofs.PutMarks.{puts_both}
-use Rattle.jr_rows.proofs.ReadRows.{counts_both, shown_more}
+use Rattle.jr_rows.proofs.PutMarks.{puts_both, puts_none}
+use Rattle.jr_rows.proofs.ReadRows.{counts_both, counts_none, shown_more}
 use Rattle.jr_rows.proofs.ShownUnits.{row_shown}
 use Rattle.jr_rows.proofs.rows.Rows.decode.Goals as goal
 
@@ -136,4 +136,21 @@ returns-clause-room c =
       blocks = ap length (all_back c.work.inside.blocks.len blocks c.work.inside.blocks.items long) ∙ sym long ∙ search (rules, arith);
       lines = subst (λ (x : HeadValue). HasLines x c.fill_blank.new.self) head c.fill_blank.ensures.room;
       room = ap (λ (r : SampleRowValue). r.room) c.work.view_is ∙ c.requires.room.room;
+    }
+
+pub parts-init : goal.parts-init
+parts-init c =
+    let t = c.args.part.now.scan in
+    let n = c.args.part.now.limit in
+    record {
+      within = omega arith;
+      near = refl;
+      room = subst (λ (v : SampleRowValue). HasLines t.head v.lines) (sym c.work.view_is) c.requires.room.lines;
+      row = refl;
+      stands = c.requires.rows.stands;
+      moved = omega arith;
+      shows = λ b _ k lt. absurd (omega (arith, lt));
+      counts = counts_none t n _ _ c.none-marked.result c.none-marked.ensures.sound c.none-marked.ensures.damaged refl;
+      places = c.requires.places;
+      puts = puts_none t n _ _ c.args.marks.now refl;
     }
