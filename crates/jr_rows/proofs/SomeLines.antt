@@ -70,7 +70,7 @@ painted_lines each scan lawful first count pixels m lines counts =
       counted = record { sound_are = counts.sound board.0 board.1; damaged_are = counts.damaged board.0 board.1 };
     }
 
--- some lines of a row of MCUs have room where all of it have
+-- some lines of a row of MCUs fit where all of them do
 pub lines_fit : (count deep line size room : ℕ) → count ≤ deep → line ≡ size → deep * size ≤ room → count * line ≤ room
 lines_fit count deep line size room few is all =
     let same : count * line ≡ count * size = ap (λ (k : ℕ). count * k) is in

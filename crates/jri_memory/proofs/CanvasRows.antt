@@ -2,7 +2,6 @@
 use Rattle.std.proofs.Common.{◌≡◌, ℕ, zero, suc, ◌+◌, ◌-◌, ◌*◌, ◌<◌, ◌≤◌, List, ◌++◌, length, take, drop, refl, sym, ap, ◌∙◌, arith, append-nil}
 use Rattle.std.specs.List.{flat_map, range_with_len}
 use Rattle.std.proofs.lemmas.List.{take_at, drop_at, length-append}
-use Rattle.std.proofs.lemmas.Nat.{mul-le}
 use Rattle.jr_head.specs.HeadValue.{HeadValue}
 use Rattle.jr_head.specs.Geometry.{IsLawful, mcus_across, vertical_max}
 use Rattle.jr_segments.specs.declared.kind.Kind.{Kind}
@@ -59,9 +58,3 @@ line_painted b h is lawful groups r shows k from to inside =
     let few : k - r * deep + 1 ≤ deep = omega (arith, from, to) in
     let same = row_painted b h is lawful groups r shows k 1 (k - r * deep) at few (omega (arith, inside)) in
     sym (append-nil (line_of h (samples_in (record { head = h; groups = groups })) k)) ∙ same ∙ append-nil (line_of h (samples_of b) k)
-
--- some lines of a row of MCUs have room where all of it have
-pub lines_fit : (count deep line size room : ℕ) → count ≤ deep → line ≡ size → deep * size ≤ room → count * line ≤ room
-lines_fit count deep line size room few is all =
-    let same : count * line ≡ count * size = ap (λ (k : ℕ). count * k) is in
-    omega (arith, same, mul-le count size deep size few (omega arith), all)

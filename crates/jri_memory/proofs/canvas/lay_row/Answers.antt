@@ -7,7 +7,8 @@ use Rattle.jr_rows.specs.Bands.{samples_in}
 use Rattle.jr_rows.specs.Rows.{first_line, line_count}
 use Rattle.jri_canvas.specs.Layouts.{StandOn, laid_line}
 use Rattle.jri_canvas.proofs.Canvases.{stand_as}
-use Rattle.jri_memory.proofs.CanvasRows.{line_painted, lines_fit}
+use Rattle.jr_rows.proofs.SomeLines.{lines_fit}
+use Rattle.jri_memory.proofs.CanvasRows.{line_painted}
 use Rattle.jri_memory.proofs.canvas.lay_row.Goals as goal
 
 pub returns-clause-stand : goal.returns-clause-stand
