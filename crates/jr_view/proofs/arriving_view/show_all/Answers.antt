@@ -1,4 +1,4 @@
-use Rattle.std.proofs.Common.{arith}
+use Rattle.std.proofs.Common.{rules, arith}
 use Rattle.jr_view.specs.ArrivingViews.{view_of}
 use Rattle.jr_view.proofs.ArrivingViews.{keeps_more, not_empty}
 use Rattle.jr_view.proofs.arriving_view.show_all.Goals as goal
@@ -34,3 +34,15 @@ rows-preserved c =
       lines = omega (arith, r.invariant.lines, c.in-Ok.ensures.lines);
       kept = keeps_more (view_of a.arriving.now a.pixels.now a.row.now) (view_of r.arriving r.pixels r.row) (view_of s.arriving s.pixels s.row) r.invariant.seen r.invariant.lines r.invariant.kept c.show_next.ensures.kept;
     }
+
+pub returns-in-Err-clause-settled : goal.returns-in-Err-clause-settled
+returns-in-Err-clause-settled c = search rules
+
+pub returns-in-Err-clause-stays : goal.returns-in-Err-clause-stays
+returns-in-Err-clause-stays c = search rules
+
+pub returns-then-count-eq0-clause-refusal : goal.returns-then-count-eq0-clause-refusal
+returns-then-count-eq0-clause-refusal c = search rules
+
+pub returns-then-count-eq0-clause-stays : goal.returns-then-count-eq0-clause-stays
+returns-then-count-eq0-clause-stays c = search rules

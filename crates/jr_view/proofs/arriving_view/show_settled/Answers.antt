@@ -1,5 +1,5 @@
-use Rattle.std.proofs.Common.{◌≡◌, ◌≢◌, ℕ, [], eqb, true, inl, List, length, refl, ap, ◌∙◌, arith, rules}
-use Rattle.std.proofs.lemmas.Bool.{eqb-true}
+use Rattle.std.proofs.Common.{◌≡◌, ◌≢◌, ℕ, [], eqb, true, false, inl, List, length, refl, ap, sym, subst, ◌∙◌, arith, rules}
+use Rattle.std.proofs.lemmas.Bool.{eqb-true, true≢false}
 use Rattle.std.proofs.lemmas.List.{nil_from_length}
 use Rattle.jr_view.specs.ArrivingViews.{view_of}
 use Rattle.jr_view.proofs.ArrivingViews.{keeps_as, keeps_more, keeps_open, seen_as, with_items_is}
@@ -96,3 +96,14 @@ pub returns-in-Err-show_all-clause-stays : goal.returns-in-Err-show_all-clause-s
 returns-in-Err-show_all-clause-stays c bytes seen =
     let o = c.open.new in
     c.in-Err-show_all.ensures.stays bytes (seen_as o.arriving o.pixels.items o.row.items c.as_mut_slice-2.result.now c.as_mut_slice.result.now c.as_mut_slice-2.ensures.value c.as_mut_slice.ensures.value bytes (c.open.ensures.seen bytes seen))
+
+pub returns-in-Ok-show_all-clause-wanted : goal.returns-in-Ok-show_all-clause-wanted
+returns-in-Ok-show_all-clause-wanted c empty bytes seen =
+    let o = c.open.new in
+    let s = c.show_all.new in
+    let pixels = c.as_mut_slice-2 in
+    let pixels_long : length s.pixels ≡ length o.pixels.items = c.show_all.auto.pixels ∙ ap (λ (l : List ℕ). length l) pixels.ensures.value in
+    let pixels_are = with_items_is o.pixels.len o.pixels.items s.pixels o.pixels.ok.0 pixels_long in
+    let none : length o.pixels.items ≡ 0 = sym pixels_long ∙ ap (λ (l : List ℕ). length l) (sym pixels_are ∙ empty) in
+    let some : (eqb (length o.pixels.items) 0) ≡ false = search rules in
+    absurd (true≢false (subst (λ (n : ℕ). (eqb n 0) ≡ false) none some))

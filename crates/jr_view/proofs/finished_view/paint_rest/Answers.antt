@@ -1,5 +1,7 @@
 use Rattle.std.proofs.Common.{◌≡◌, ℕ, ◌+◌, ◌-◌, ◌*◌, ◌≤◌, length, take, drop, sym, ap, subst, ◌∙◌, arith}
 use Rattle.std.proofs.Math.Nat.{add-mul}
+use Rattle.std.proofs.lemmas.List.{drop_all}
+use Rattle.std.proofs.lemmas.Nat.{mul-le}
 use borrow.Rule.Slice.PartMut.{mid_len, put_mid, take_put}
 use Rattle.jr_head.specs.HeadValue.{HeadValue}
 use Rattle.jr_paint.specs.Lines.{line_size, next_lines_of}
@@ -56,3 +58,19 @@ returns-clause-rest c marks f shows =
     let painted = put_mid from (length c.args.pixels.now - from) c.args.pixels.now tail in
     let lines : tail ≡ next_lines_of h f c.args.first (c.height.result - c.args.first) = rest_same s c.args.first (c.height.result - c.args.first) tail c.in_ok-paint_scan_lines.field-0 few c.in_ok-paint_scan_lines.ensures.painted marks f shows in
     subst (λ (k : ℕ). drop k painted ≡ tail) from_is (put_behind from c.args.pixels.now tail inside) ∙ lines ∙ ap (next_lines_of h f c.args.first) count
+
+pub returns-then-left-eq0-clause-rest : goal.returns-then-left-eq0-clause-rest
+returns-then-left-eq0-clause-rest c marks f shows =
+    let h = c.args.scan.now.head in
+    let high : c.height.result ≡ h.height = c.height.ensures.value ∙ ap (λ (g : HeadValue). g.height) c.head-head.ensures.value in
+    let none : h.height - c.args.first ≡ 0 = omega (arith, high, c.if-left-eq0.true) in
+    let last : h.height ≡ c.args.first = omega (arith, none, c.requires.few) in
+    let size : length c.args.pixels.now ≡ c.args.first * line_size h = c.requires.size ∙ ap (λ (k : ℕ). k * line_size h) last in
+    drop_all (c.args.first * line_size h) c.args.pixels.now (omega (arith, size)) ∙ ap (λ (k : ℕ). next_lines_of h f c.args.first k) (sym none)
+
+pub slice_bounds-paint_scan_lines-count : goal.slice_bounds-paint_scan_lines-count
+slice_bounds-paint_scan_lines-count c =
+    let h = c.args.scan.now.head in
+    let line : c.shape_of.result.line ≡ line_size h = c.shape_of.ensures.line ∙ ap (λ (g : HeadValue). line_size g) c.head-head.ensures.value in
+    let from_is : c.args.first * c.shape_of.result.line ≡ c.args.first * line_size h = ap (λ (k : ℕ). c.args.first * k) line in
+    omega (arith, from_is, c.requires.size, mul-le c.args.first (line_size h) h.height (line_size h) c.requires.few (omega arith))

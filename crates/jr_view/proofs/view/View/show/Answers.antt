@@ -1,4 +1,5 @@
 use Rattle.std.proofs.Common.{rules, inl, inr, ◌≡◌, ◌+◌, ◌*◌, ◌≤◌, length, refl, sym, ap, subst, arith}
+use Rattle.std.proofs.lemmas.Nat.{mul-le}
 use Rattle.jr_head.specs.Geometry.{blocks_of, mcus_of}
 use Rattle.jr_view.specs.Views.{AddsMcu, AddsMcus, has_seen, units_shown}
 use Rattle.jr_view.proofs.Showing.{show_all, show_more, show_seen, tells}
@@ -25,3 +26,8 @@ returns c =
     let mcus : c.mcus.result ≡ mcus_of old.scan.head = search rules in
     let le : c.loop-j.j ≤ c.args.count = omega (arith, c.loop-j.auto.j-end, c.min-j-end.ensures) in
     show_all old c.loop-j.self c.args.first c.args.count c.loop-j.j (units_shown c.args.shown.now) le (λ lt. omega (arith, lt, mcus, c.loop-j-test.false, c.min-j-end.ensures, c.saturating_sub-left.ensures)) c.loop-j.invariant
+
+pub show_mcu-requires-clause-from : goal.show_mcu-requires-clause-from
+show_mcu-requires-clause-from c =
+    let below : c.loop-j.j ≤ c.mcus.result = omega (arith, c.loop-j-test.true, c.min-j-end.ensures, c.saturating_sub-left.ensures) in
+    omega (arith, mul-le c.loop-j.j (length c.order-per_mcu.result.now) c.mcus.result 10 below c.order-per_mcu.ensures.few, c.mcus.ensures.few)

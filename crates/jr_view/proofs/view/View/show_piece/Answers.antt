@@ -12,48 +12,6 @@ pub returns-clause-part : goal.returns-clause-part
 returns-clause-part c part has =
     piece_part c.args.self.now c.show.new.self c.args.piece.now (shows c) (record { number = refl; interval = has; outcome = c.be_outcome.ensures }) part
 
-pub be_outcome-requires : goal.be_outcome-requires
-be_outcome-requires c = search rules
-
-pub number-requires : goal.number-requires
-number-requires c = search rules
-
-pub overflow_cast-first : goal.overflow_cast-first
-overflow_cast-first c = search rules
-
-pub deref-requires : goal.deref-requires
-deref-requires c κs = search rules
-
-pub head-requires : goal.head-requires
-head-requires c = search rules
-
-pub restart-requires : goal.restart-requires
-restart-requires c = search rules
-
-pub overflow_cast-first-2 : goal.overflow_cast-first-2
-overflow_cast-first-2 c = search rules
-
-pub overflow_mul-first : goal.overflow_mul-first
-overflow_mul-first c = search rules
-
-pub deref-requires-2 : goal.deref-requires-2
-deref-requires-2 c κs = search rules
-
-pub head-requires-2 : goal.head-requires-2
-head-requires-2 c = search rules
-
-pub interval_size-count-requires : goal.interval_size-count-requires
-interval_size-count-requires c = search rules
-
-pub show-requires-clause-first : goal.show-requires-clause-first
-show-requires-clause-first c = search rules
-
-pub show-requires-clause-count : goal.show-requires-clause-count
-show-requires-clause-count c = search rules
-
-pub returns-clause-scan : goal.returns-clause-scan
-returns-clause-scan c = search rules
-
 pub returns-clause-seen : goal.returns-clause-seen
 returns-clause-seen c = (shows c).seen
 
