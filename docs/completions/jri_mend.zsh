@@ -1,0 +1,9 @@
+#compdef jri_mend
+# Completes the arguments of jri_mend in zsh: its options, and JPEG files before others.
+_arguments -S \
+    '(- *)'{-h,--help}'[print help]' \
+    '(- *)'{-V,--version}'[print version]' \
+    '(-o --output)'{-o+,--output=}'[write the mended file to this file]:mended file:_files' \
+    '--json[print the report as a JSON object]' \
+    '--resync[first resynchronise each copy at its restart markers]' \
+    '*:JPEG file:_files -g "*.(#i)(jpg|jpeg|jpe|jfif)(-.)"'
