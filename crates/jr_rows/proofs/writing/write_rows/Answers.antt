@@ -43,7 +43,7 @@ rows-init g c =
           let nothing = nothing_written known c.args.out.now header in
           let all : WritesUpTo known c.args.out.now c.args.out.now (header_of h ++ lines_of h f (min (0 * (8 * vertical_max h)) h.height)) header = rw (no_lines h, text_none h f, ← (c.put_header-filled.ensures.front ∙ ap header_of c.requires.head)) nothing in
           let held = subst (λ (ps : List ℕ). WritesUpTo known c.args.out.now c.args.out.now (header_of h ++ lines_of h f (min (0 * (8 * vertical_max h)) h.height)) (take end ps)) (sym is) all in
-          held;
+          search (rules, held);
     }
 
 pub returns-in_err-filled-clause-sent : goal.returns-in_err-filled-clause-sent

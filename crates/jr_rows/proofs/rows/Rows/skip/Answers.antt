@@ -1,4 +1,4 @@
-use Rattle.std.proofs.Common.{rules, arith, subst, sym, ◌≡◌, ℕ, ◌+◌, ◌<◌}
+use Rattle.std.proofs.Common.{rules, arith, subst, sym, ap, ◌≡◌, ℕ, ◌+◌, ◌<◌}
 use Rattle.jr_head.specs.Geometry.{mcus_of}
 use Rattle.jr_rows.proofs.IntervalPlaces.{first_few}
 use Rattle.std.specs.Option.{IfSome}
@@ -30,8 +30,9 @@ returns-clause-rows c =
     let coded = c.coded_of_row-coded.result in
     let here = subst (λ (s : ScanValue). coded_before s.head c.limit.result row + coded ≡ coded_before s.head c.limit.result (row + 1)) c.scan-scan.ensures c.coded_of_row-coded.ensures.moved in
     let rest = subst (λ (k : ℕ). coded_before h k row + coded ≡ coded_before h k (row + 1)) c.limit.ensures.value here in
-    let moved = subst (λ (s : ScanValue). mcus_to s.head next ≡ mcus_to s.head at + coded) c.scan-scan.ensures c.skip_mcus.ensures.moved in
+    let before = ap (λ (s : ScanValue). mcus_to s.head at) c.scan-scan.ensures in
+    let behind = ap (λ (s : ScanValue). mcus_to s.head next) c.scan-scan.ensures in
     record {
       stands = subst (λ (s : ScanValue). IsCursorOf s next) c.scan-scan.ensures c.skip_mcus.ensures.stands;
-      at = omega (arith, moved, c.requires.rows.at, rest);
+      at = omega (arith, c.skip_mcus.ensures.moved, before, behind, c.requires.rows.at, rest);
     }
