@@ -7,7 +7,7 @@ use crate::tally::Tally;
 use std::io::Write;
 
 /// The writer failed: it answered an error, or took none of at least one byte.
-#[derive(Clone, Copy, PartialEq, Eq, Debug)]
+#[derive(Clone, Copy, PartialEq, Eq)]
 pub struct WriteFault;
 
 /// Writes all of these bytes, or a beginning of them.

@@ -1,7 +1,7 @@
 //! What ends a scan.
 
 /// What follows the last data of a scan. Offsets are those in the file of the marker's first FF byte.
-#[derive(Clone, Copy, Debug, PartialEq, Eq)]
+#[derive(Clone, Copy, PartialEq, Eq)]
 pub enum ScanEnd {
     /// EOI.
     EndOfImage,

@@ -1,7 +1,7 @@
 //! The range of data in the unstuffed bytes of a scan.
 
 /// From one offset up to another.
-#[derive(Clone, Copy, Debug, PartialEq, Eq)]
+#[derive(Clone, Copy)]
 pub struct Span {
     pub start: usize,
     pub end: usize,

@@ -9,7 +9,7 @@ use crate::scan_end::ScanEnd;
 use jr_base::marker::{EOI, RST0, RST7};
 
 /// The meaning of the bytes after a segment.
-#[derive(Clone, Copy, Debug, PartialEq, Eq)]
+#[derive(Clone, Copy)]
 pub enum Stop {
     /// The next segment follows a restart marker of that many bytes.
     Restart(usize),

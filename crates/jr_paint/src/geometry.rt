@@ -8,7 +8,7 @@ ghost use Rattle.jr_paint.specs.Geometry.{Place, Where, IsOnlyOne, samples_acros
 use jr_head::Head;
 
 /// A sample's MCU, its data unit in that MCU, and its row and column in that data unit.
-#[derive(Clone, Copy, PartialEq, Eq, Debug)]
+#[derive(Clone, Copy, PartialEq, Eq)]
 pub struct Spot {
     /// The MCU's number in reading order, from 0.
     pub mcu: u32,

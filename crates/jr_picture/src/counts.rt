@@ -1,7 +1,7 @@
 //! The numbers of marks.
 
 /// The numbers of sound, damaged and blank intervals of a scan.
-#[derive(Clone, Copy, Debug, PartialEq, Eq)]
+#[derive(Clone, Copy, PartialEq, Eq)]
 pub struct Counts {
     /// Number of intervals with a decoding.
     pub sound: u32,

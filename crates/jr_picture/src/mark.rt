@@ -1,7 +1,7 @@
 //! What is known of an interval.
 
 /// How far an interval of a board has come.
-#[derive(Clone, Copy, Debug, PartialEq, Eq)]
+#[derive(Clone, Copy, PartialEq, Eq)]
 pub enum Mark {
     /// No piece is posted.
     Blank,

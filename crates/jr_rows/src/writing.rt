@@ -22,7 +22,7 @@ use std::alloc::Global;
 use std::io::Write;
 
 /// The reason why an image is not written whole.
-#[derive(Clone, Copy, Debug, PartialEq, Eq)]
+#[derive(Clone, Copy, PartialEq, Eq)]
 pub enum PictureError {
     /// Memory was refused; nothing is written.
     Memory,

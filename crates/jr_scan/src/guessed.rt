@@ -3,7 +3,7 @@
 use crate::place::Place;
 
 /// An MCU that is read starting at a bit with each component predicted to be 0, and the position after it.
-#[derive(Clone, Copy, Debug, PartialEq, Eq)]
+#[derive(Clone, Copy)]
 pub(crate) struct Guessed {
     pub from: u64,
     pub to: Place,

@@ -5,7 +5,7 @@ ghost use Rattle.jr_scan.specs.Run.{start_of_interval};
 
 /// A position between two MCUs of an interval: the number of bits of its data before it, and the prediction of each
 /// component's DC coefficient there.
-#[derive(Clone, Copy, Debug, PartialEq, Eq)]
+#[derive(Clone, Copy, PartialEq, Eq)]
 pub struct Place {
     pub bit: u64,
     pub predictions: [i32; 3],
@@ -24,7 +24,7 @@ impl Place {
 }
 
 /// Why a run of MCUs ends.
-#[derive(Clone, Copy, Debug, PartialEq, Eq)]
+#[derive(Clone, Copy)]
 pub enum RunEnd {
     /// The run has as many MCUs as it may have.
     AllRead,

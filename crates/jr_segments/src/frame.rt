@@ -16,7 +16,7 @@ use jr_base::limits::MAX_PIXELS;
 use std::alloc::{AllocError, Global};
 
 /// A component's entry in a frame header.
-#[derive(Clone, Copy, Debug, PartialEq, Eq)]
+#[derive(Clone, Copy)]
 pub struct FrameComponent {
     /// Ci.
     pub id: u8,
@@ -29,7 +29,7 @@ pub struct FrameComponent {
 }
 
 /// A frame header.
-#[derive(Debug, Drop)]
+#[derive(Drop)]
 pub struct Frame {
     /// The marker's code: SOF0 or SOF1.
     pub code: u8,

@@ -8,7 +8,7 @@ ghost use Rattle.std.specs.Prelude.{◌≡◌, ◌==◌, ◌&&◌, ◌≤◌, na
 ghost use Rattle.jr_segments.specs.Marks.{has_jfif_mark, has_adobe_mark, kind_by, transform_of};
 
 /// The meaning of the samples of an image.
-#[derive(Clone, Copy, Debug, PartialEq, Eq)]
+#[derive(Clone, Copy, PartialEq, Eq)]
 pub enum Kind {
     /// One component: the intensity.
     Grey,

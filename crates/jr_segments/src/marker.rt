@@ -1,7 +1,7 @@
 //! The markers that may occur before the scan (T.81, B.1.1.3 and table B.1).
 
 /// A marker that may occur before the scan.
-#[derive(Clone, Copy, Debug, PartialEq, Eq)]
+#[derive(Clone, Copy, PartialEq, Eq)]
 pub enum Marker {
     /// Start of frame 0: baseline DCT.
     Sof0,

@@ -13,7 +13,7 @@ use byteorder::{BigEndian, ByteOrder};
 use jr_base::marker::DQT;
 
 /// A quantisation table.
-#[derive(Clone, Copy, Debug, PartialEq, Eq)]
+#[derive(Clone, Copy, PartialEq, Eq)]
 pub struct Quantiser {
     /// Whether its elements are written with two bytes each.
     pub is_wide: bool,
@@ -22,7 +22,7 @@ pub struct Quantiser {
 }
 
 /// A quantisation table and its destination.
-#[derive(Clone, Copy, Debug, PartialEq, Eq)]
+#[derive(Clone, Copy)]
 pub struct Quantisation {
     /// Tq.
     pub destination: u8,

@@ -1,6 +1,7 @@
-use Rattle.std.proofs.Common.{rules, arith, sym, subst, ap, ◌∙◌, ◌≡◌, ℕ, ◌*◌, ◌<◌, ◌≤◌, ◌++◌, length, take, drop}
+use Rattle.std.proofs.Common.{arith, sym, subst, ap, ◌∙◌, ◌≡◌, ℕ, ◌*◌, ◌<◌, ◌≤◌, ◌++◌, length, take, drop}
 use Rattle.std.proofs.lemmas.List.{length-take-le}
 use Rattle.std.proofs.Math.Seq.{take-append_seam}
+use Rattle.jr_head.specs.HeadValue.{HeadValue}
 use Rattle.jr_head.specs.Geometry.{mcus_down}
 use Rattle.jr_paint.specs.Lines.{line_room, line_size}
 use Rattle.jr_scan.specs.ScanValue.{ScanValue}
@@ -14,8 +15,8 @@ paint-requires c =
     let there : c.scan-scan.result.now ≡ t = c.scan-scan.ensures in
     let row = c.args.row in
     let size = c.lines_of-y.result.1 * c.shape_of.result.line in
-    let count : c.lines_of-y.result.1 ≡ line_count t.head row = search rules in
-    let line : c.shape_of.result.line ≡ line_size t.head = search rules in
+    let count : c.lines_of-y.result.1 ≡ line_count t.head row = c.lines_of-y.ensures.count ∙ ap (λ (h : HeadValue). line_count h row) (c.head.ensures.value ∙ ap (λ (s : ScanValue). s.head) c.scan-scan.ensures) in
+    let line : c.shape_of.result.line ≡ line_size t.head = c.shape_of.ensures.line ∙ ap (λ (h : HeadValue). line_size h) (c.head-2.ensures.value ∙ ap (λ (s : ScanValue). s.head) c.scan-scan.ensures) in
     let is : size ≡ line_count t.head row * line_size t.head = ap (λ (n : ℕ). n * c.shape_of.result.line) count ∙ ap (λ (n : ℕ). line_count t.head row * n) line in
     let fits = row_fits t row c.args.pixels.now c.requires.pixels in
     let inside : size ≤ length c.args.pixels.now = omega (arith, fits, is) in
@@ -32,8 +33,8 @@ returns-clause-lines c b first =
     let t = c.args.part.now.scan in
     let row = c.args.row in
     let size = c.lines_of-y.result.1 * c.shape_of.result.line in
-    let count : c.lines_of-y.result.1 ≡ line_count t.head row = search rules in
-    let line : c.shape_of.result.line ≡ line_size t.head = search rules in
+    let count : c.lines_of-y.result.1 ≡ line_count t.head row = c.lines_of-y.ensures.count ∙ ap (λ (h : HeadValue). line_count h row) (c.head.ensures.value ∙ ap (λ (s : ScanValue). s.head) c.scan-scan.ensures) in
+    let line : c.shape_of.result.line ≡ line_size t.head = c.shape_of.ensures.line ∙ ap (λ (h : HeadValue). line_size h) (c.head-2.ensures.value ∙ ap (λ (s : ScanValue). s.head) c.scan-scan.ensures) in
     let is : size ≡ line_count t.head row * line_size t.head = ap (λ (n : ℕ). n * c.shape_of.result.line) count ∙ ap (λ (n : ℕ). line_count t.head row * n) line in
     let fits = row_fits t row c.args.pixels.now c.requires.pixels in
     let inside : size ≤ length c.args.pixels.now = omega (arith, fits, is) in
@@ -48,8 +49,8 @@ slice_bounds-paint-end c =
     let t = c.args.part.now.scan in
     let row = c.args.row in
     let size = c.lines_of-y.result.1 * c.shape_of.result.line in
-    let count : c.lines_of-y.result.1 ≡ line_count t.head row = search rules in
-    let line : c.shape_of.result.line ≡ line_size t.head = search rules in
+    let count : c.lines_of-y.result.1 ≡ line_count t.head row = c.lines_of-y.ensures.count ∙ ap (λ (h : HeadValue). line_count h row) (c.head.ensures.value ∙ ap (λ (s : ScanValue). s.head) c.scan-scan.ensures) in
+    let line : c.shape_of.result.line ≡ line_size t.head = c.shape_of.ensures.line ∙ ap (λ (h : HeadValue). line_size h) (c.head-2.ensures.value ∙ ap (λ (s : ScanValue). s.head) c.scan-scan.ensures) in
     let is : size ≡ line_count t.head row * line_size t.head = ap (λ (n : ℕ). n * c.shape_of.result.line) count ∙ ap (λ (n : ℕ). line_count t.head row * n) line in
     omega (arith, row_fits t row c.args.pixels.now c.requires.pixels, is)
 
@@ -61,7 +62,7 @@ slice_bounds-paint-end-2 c =
     let t = c.args.part.now.scan in
     let row = c.args.row in
     let size = c.lines_of-y.result.1 * c.shape_of.result.line in
-    let count : c.lines_of-y.result.1 ≡ line_count t.head row = search rules in
-    let line : c.shape_of.result.line ≡ line_size t.head = search rules in
+    let count : c.lines_of-y.result.1 ≡ line_count t.head row = c.lines_of-y.ensures.count ∙ ap (λ (h : HeadValue). line_count h row) (c.head.ensures.value ∙ ap (λ (s : ScanValue). s.head) c.scan-scan.ensures) in
+    let line : c.shape_of.result.line ≡ line_size t.head = c.shape_of.ensures.line ∙ ap (λ (h : HeadValue). line_size h) (c.head-2.ensures.value ∙ ap (λ (s : ScanValue). s.head) c.scan-scan.ensures) in
     let is : size ≡ line_count t.head row * line_size t.head = ap (λ (n : ℕ). n * c.shape_of.result.line) count ∙ ap (λ (n : ℕ). line_count t.head row * n) line in
     sym (length-take-le size c.args.pixels.now (omega (arith, row_fits t row c.args.pixels.now c.requires.pixels, is)))

@@ -1,7 +1,7 @@
 use Rattle.std.proofs.Common.{rules, arith, refl, sym, subst, ap, ◌∙◌, ◌≡◌, ℕ, ◌+◌, ◌-◌, ◌*◌, ◌<◌, ◌≤◌, ◌++◌, ◌^◌, take_all, min, max, length, take}
 use Rattle.std.proofs.Math.Nat.{add-mul}
 use Rattle.std.proofs.lemmas.Slice.{take-put_mid}
-use borrow.Rule.Slice.PartMut.{put_mid}
+use borrow.Rule.Slice.PartMut.{mid_len, put_mid, same_len_mid}
 use Rattle.jr_head.specs.HeadValue.{HeadValue}
 use Rattle.jr_head.specs.Geometry.{IsLawful, mcus_across, vertical_max}
 use Rattle.jr_paint.specs.Lines.{line_size, next_lines_of}
@@ -13,7 +13,7 @@ use Rattle.jr_rows.specs.Bands.{ShowsMcus, samples_in}
 use Rattle.jr_rows.specs.FirstIntervalsValue.{FirstIntervalsValue}
 use Rattle.jr_rows.specs.Groups.{units_in}
 use Rattle.jr_rows.specs.MarkBytes.{HasMarkRoom, PutsBetween, PutsRow}
-use Rattle.jr_rows.specs.Rows.{CountsRow, HasFirst, coded_before}
+use Rattle.jr_rows.specs.Rows.{CountsRow, HasFirst, HasSampleRoom, coded_before}
 use Rattle.jr_rows.specs.SomeLines.{CountsBetween, row_behind, row_with}
 use Rattle.jr_rows.proofs.IntervalPlaces.{ends_few}
 use Rattle.jr_rows.proofs.PaintedRows.{row_painted}
@@ -26,16 +26,18 @@ pub rows-init : goal.rows-init
 rows-init c =
     let t = c.args.scan.now in
     let h = t.head in
-    let starts : c.rows_of-row.result.0 * (8 * vertical_max h) ≤ c.args.first = search (rules, c.rows_of-row.ensures.starts) in
+    let head : c.head-head.result.now ≡ h = c.head-head.ensures.value in
+    let starts : c.rows_of-row.result.0 * (8 * vertical_max h) ≤ c.args.first = subst (λ (g : HeadValue). c.rows_of-row.result.0 * (8 * vertical_max g) ≤ c.args.first) head c.rows_of-row.ensures.starts in
+    let reaches : c.args.first < (c.rows_of-row.result.0 + 1) * (8 * vertical_max h) = subst (λ (g : HeadValue). c.args.first < (c.rows_of-row.result.0 + 1) * (8 * vertical_max g)) head c.rows_of-row.ensures.reaches in
     let none : done_lines h c.args.first c.args.end c.rows_of-row.result.0 ≡ 0 = omega (arith, starts, c.requires.some) in
-    let at : c.at-rows.result.row ≡ c.rows_of-row.result.0 = search rules in
+    let at : c.at-rows.result.row ≡ c.rows_of-row.result.0 = c.at-rows.ensures.row in
     let none_done : done_lines h c.args.first c.args.end c.at-rows.result.row ≡ 0 = ap (done_lines h c.args.first c.args.end) at ∙ none in
-    let first_is : row_with h c.args.first ≡ c.at-rows.result.row = search rules in
+    let first_is : row_with h c.args.first ≡ c.at-rows.result.row = sym (at ∙ c.rows_of-row.ensures.first ∙ ap (λ (g : HeadValue). row_with g c.args.first) head) in
     record {
       rows = c.at-rows.ensures.rows;
-      within = search (rules, arith);
-      reaches = search (rules, arith);
-      room = search rules;
+      within = omega (arith, at, c.rows_of-row.ensures.some);
+      reaches = subst (λ (k : ℕ). c.args.first < (k + 1) * (8 * vertical_max h)) (sym at) reaches;
+      room = c.requires.room;
       long = refl;
       front = λ b first.
           let zero : 0 * line_size h ≡ 0 = omega arith in
@@ -68,39 +70,41 @@ rows-preserved c =
     let from = c.bytes_to-from.result in
     let to = c.bytes_to-to.result in
     let pix = c.paint_some.new.pixels in
-    let lawful : IsLawful h = search (rules, c.head-head.ensures.lawful) in
+    let hd = c.head-head.result.now in
+    let head : hd ≡ h = c.head-head.ensures.value in
+    let lawful : IsLawful h = subst (λ (g : HeadValue). IsLawful g) head c.head-head.ensures.lawful in
     let deep = 8 * vertical_max h in
-    let more : row < c.rows_of-row.result.1 = search (rules, arith) in
-    let starts : row * deep < c.args.end = search (rules, c.rows_of-row.ensures.last row more) in
-    let at : y ≡ max c.args.first (row * deep) = search rules in
-    let ends : y + count ≡ min c.args.end ((row + 1) * deep) = search rules in
+    let more : row < c.rows_of-row.result.1 = omega (arith, c.row.ensures, c.rows-test.true) in
+    let starts : row * deep < c.args.end = subst (λ (g : HeadValue). row * (8 * vertical_max g) < c.args.end) head (c.rows_of-row.ensures.last row more) in
+    let at : y ≡ max c.args.first (row * deep) = c.lines_in-y.ensures.first ∙ ap (λ (k : ℕ). max c.args.first (k * (8 * vertical_max hd))) c.row-row.ensures ∙ ap (λ (g : HeadValue). max c.args.first (row * (8 * vertical_max g))) head in
+    let ends : y + count ≡ min c.args.end ((row + 1) * deep) = c.lines_in-y.ensures.end ∙ ap (λ (k : ℕ). min c.args.end ((k + 1) * (8 * vertical_max hd))) c.row-row.ensures ∙ ap (λ (g : HeadValue). min c.args.end ((row + 1) * (8 * vertical_max g))) head in
     let done = next_done h c.args.first c.args.end row y count c.requires.some starts keep.reaches at ends in
-    let next_row : c.decode-more.new.self.row ≡ row + 1 = search rules in
-    let line : c.shape_of-line.result.line ≡ line_size h = search rules in
+    let next_row : c.decode-more.new.self.row ≡ row + 1 = c.decode-more.ensures.row in
+    let line : c.shape_of-line.result.line ≡ line_size h = c.shape_of-line.ensures.line ∙ ap (λ (g : HeadValue). line_size g) head in
+    let room : length c.rows.pixels ≡ (c.args.end - c.args.first) * c.shape_of-line.result.line = keep.long ∙ c.requires.pixels ∙ ap (λ (k : ℕ). (c.args.end - c.args.first) * k) (sym line) in
     let from_is : from ≡ old_done * line_size h = c.bytes_to-from.ensures.value ∙ ap (λ (k : ℕ). (y - c.args.first) * k) line ∙ ap (λ (k : ℕ). k * line_size h) {y = old_done} (omega (arith, done.0)) in
     let to_is : to ≡ (old_done + count) * line_size h = c.bytes_to-to.ensures.value ∙ ap (λ (k : ℕ). (y - c.args.first + count) * k) line ∙ ap (λ (k : ℕ). k * line_size h) {y = old_done + count} (omega (arith, done.0)) in
     let sum = add-mul old_done count (line_size h) in
     let size : to - from ≡ count * line_size h = omega (arith, from_is, to_is, sum) in
-    let long : length pix ≡ to - from = search (rules, arith, c.paint_some.auto.pixels) in
+    let long : length pix ≡ to - from = c.paint_some.auto.pixels ∙ mid_len from to c.rows.pixels (omega (arith, c.bytes_to-to.ensures.within, room)) in
     let end_is : to ≡ from + length pix = omega (arith, long, from_is, to_is, sum) in
-    let inside : from ≤ length c.rows.pixels = search (rules, arith) in
+    let inside : from ≤ length c.rows.pixels = omega (arith, c.bytes_to-from.ensures.within, room) in
     let next : done_lines h c.args.first c.args.end c.decode-more.new.self.row ≡ old_done + count = ap (done_lines h c.args.first c.args.end) next_row ∙ done.1 in
     let marks = subst (λ (p : FirstIntervalsValue). CountsRow p.scan p.limit row c.decode-more.result) c.of-part.ensures c.decode-more.ensures.counts in
     let bytes = c.decode-more.new.marks in
     let puts = subst (λ (p : FirstIntervalsValue). PutsRow p.scan p.limit row c.rows.marks bytes) c.of-part.ensures c.decode-more.ensures.puts in
     record {
       rows = c.decode-more.ensures.rows;
-      within = search (rules, arith);
+      within = omega (arith, next_row, more);
       reaches = omega (arith, keep.reaches, ap (λ (k : ℕ). (k + 1) * deep) next_row, add-mul row 1 deep, add-mul (row + 1) 1 deep);
-      room = search rules;
-      long = search (rules, arith, keep.long, long, inside);
+      room = subst (λ (g : HeadValue). HasSampleRoom g c.paint_some.new.self) head c.paint_some.ensures.room;
+      long = same_len_mid from (to - from) c.rows.pixels pix c.paint_some.auto.pixels ∙ keep.long;
       front = λ b first.
           let f = samples_of b in
           let before = next_lines_of h f c.args.first old_done in
           let start : y ≡ row * deep + (y - row * deep) = omega (arith, at) in
           let few : y - row * deep + count ≤ deep = omega (arith, at, ends, add-mul row 1 deep) in
           let down : y + count ≤ h.height = omega (arith, ends, c.requires.inside) in
-          let head : c.head-head.result.now ≡ h = search rules in
           let shows = (subst (λ (p : FirstIntervalsValue). (b : BoardValue) → HasFirst p.scan p.limit b → ShowsMcus b (row * mcus_across p.scan.head) (units_in p.scan.head work.lines.groups)) c.of-part.ensures c.decode-more.ensures.units) b first in
           let shown = ap (λ (g : HeadValue). next_lines_of g (samples_in (record { head = g; groups = work.lines.groups })) y count) head
           ∙ row_painted b h (ap (λ (s : ScanValue). s.head) first.scan_is) lawful work.lines.groups row shows y count (y - row * deep) start few down in
@@ -121,36 +125,47 @@ rows-preserved c =
 pub paint_some-requires : goal.paint_some-requires
 paint_some-requires c =
     let h = c.args.scan.now.head in
-    let line : c.shape_of-line.result.line ≡ line_size h = search rules in
+    let hd = c.head-head.result.now in
+    let head : hd ≡ h = c.head-head.ensures.value in
+    let keep = c.rows.invariant in
     let y = c.lines_in-y.result.0 in
     let count = c.lines_in-y.result.1 in
-    let part : c.bytes_to-to.result ≡ c.bytes_to-from.result + count * line_size h = c.bytes_to-to.ensures.value
-    ∙ ap (λ (k : ℕ). (y - c.args.first + count) * k) line ∙ add-mul (y - c.args.first) count (line_size h) ∙ ap (λ (k : ℕ). k + count * line_size h) (ap (λ (k : ℕ). (y - c.args.first) * k) (sym line) ∙ sym c.bytes_to-from.ensures.value) in
-    search (rules, arith, part)
+    let from = c.bytes_to-from.result in
+    let to = c.bytes_to-to.result in
+    let line = c.shape_of-line.result.line in
+    let line_is : line ≡ line_size h = c.shape_of-line.ensures.line ∙ ap (λ (g : HeadValue). line_size g) head in
+    let part : to ≡ from + count * line_size hd = c.bytes_to-to.ensures.value ∙ add-mul (y - c.args.first) count line
+    ∙ ap (λ (k : ℕ). k + count * line) (sym c.bytes_to-from.ensures.value) ∙ ap (λ (k : ℕ). from + count * k) c.shape_of-line.ensures.line in
+    let room : length c.rows.pixels ≡ (c.args.end - c.args.first) * line = keep.long ∙ c.requires.pixels ∙ ap (λ (k : ℕ). (c.args.end - c.args.first) * k) (sym line_is) in
+    record {
+      room = subst (λ (g : HeadValue). HasSampleRoom g c.decode-more.new.work) (ap (λ (p : FirstIntervalsValue). p.scan.head) c.of-part.ensures ∙ sym head) c.decode-more.ensures.room;
+      inside = omega (arith, c.lines_in-y.ensures.end, c.requires.inside, ap (λ (g : HeadValue). g.height) head);
+      pixels = mid_len from to c.rows.pixels (omega (arith, c.bytes_to-to.ensures.within, room)) ∙ omega (arith, part);
+    }
 
 pub returns-clause-lines : goal.returns-clause-lines
 returns-clause-lines c b first =
     let h = c.args.scan.now.head in
-    let end : c.rows.rows.row ≡ c.rows_of-row.result.1 = search (rules, arith) in
-    let ends : c.args.end ≤ c.rows_of-row.result.1 * (8 * vertical_max h) = search (rules, c.rows_of-row.ensures.ends) in
+    let end : c.rows.rows.row ≡ c.rows_of-row.result.1 = omega (arith, c.row.ensures, c.rows-test.false, c.rows.invariant.within) in
+    let ends : c.args.end ≤ c.rows_of-row.result.1 * (8 * vertical_max h) = subst (λ (g : HeadValue). c.args.end ≤ c.rows_of-row.result.1 * (8 * vertical_max g)) c.head-head.ensures.value c.rows_of-row.ensures.ends in
     let all : done_lines h c.args.first c.args.end c.rows.rows.row ≡ c.args.end - c.args.first =
     ap (done_lines h c.args.first c.args.end) end ∙ omega (arith, ends, c.requires.some) in
-    let long : length c.rows.pixels ≡ (c.args.end - c.args.first) * line_size h = search (rules, arith) in
+    let long : length c.rows.pixels ≡ (c.args.end - c.args.first) * line_size h = c.rows.invariant.long ∙ c.requires.pixels in
     let whole : take ((c.args.end - c.args.first) * line_size h) c.rows.pixels ≡ c.rows.pixels = take_all _ _ (omega (arith, long)) in
     sym whole ∙ ap (λ (k : ℕ). take (k * line_size h) c.rows.pixels) (sym all) ∙ c.rows.invariant.front b first ∙ ap (next_lines_of h (samples_of b) c.args.first) all
 
 pub returns-clause-counts : goal.returns-clause-counts
 returns-clause-counts c =
     let t = c.args.scan.now in
-    let end : c.rows.rows.row ≡ c.rows_of-row.result.1 = search (rules, arith) in
-    let behind : c.rows.rows.row ≡ row_behind t.head c.args.end = search rules in
+    let end : c.rows.rows.row ≡ c.rows_of-row.result.1 = omega (arith, c.row.ensures, c.rows-test.false, c.rows.invariant.within) in
+    let behind : c.rows.rows.row ≡ row_behind t.head c.args.end = end ∙ c.rows_of-row.ensures.behind ∙ ap (λ (g : HeadValue). row_behind g c.args.end) c.head-head.ensures.value in
     subst (λ (r : ℕ). CountsBetween t (row_with t.head c.args.first) r c.rows.marked) behind c.rows.invariant.counts
 
 pub returns-clause-puts : goal.returns-clause-puts
 returns-clause-puts c =
     let t = c.args.scan.now in
-    let end : c.rows.rows.row ≡ c.rows_of-row.result.1 = search (rules, arith) in
-    let behind : c.rows.rows.row ≡ row_behind t.head c.args.end = search rules in
+    let end : c.rows.rows.row ≡ c.rows_of-row.result.1 = omega (arith, c.row.ensures, c.rows-test.false, c.rows.invariant.within) in
+    let behind : c.rows.rows.row ≡ row_behind t.head c.args.end = end ∙ c.rows_of-row.ensures.behind ∙ ap (λ (g : HeadValue). row_behind g c.args.end) c.head-head.ensures.value in
     subst (λ (r : ℕ). PutsBetween t (row_with t.head c.args.first) r c.args.marks.now c.rows.marks) behind c.rows.invariant.puts
 
 pub lines_in-y-requires-clause-starts : goal.lines_in-y-requires-clause-starts
@@ -158,3 +173,18 @@ lines_in-y-requires-clause-starts c = c.rows_of-row.ensures.last c.row-row.resul
 
 pub decode-more-requires-clause-places : goal.decode-more-requires-clause-places
 decode-more-requires-clause-places c = subst (λ (p : FirstIntervalsValue). HasMarkRoom p.scan c.rows.marks) (sym c.of-part.ensures) c.rows.invariant.places
+
+pub decode-more-requires-clause-room : goal.decode-more-requires-clause-room
+decode-more-requires-clause-room c = subst (λ (p : FirstIntervalsValue). HasSampleRoom p.scan.head c.rows.work) (sym c.of-part.ensures) c.rows.invariant.room
+
+pub bytes_to-from-requires-clause-short : goal.bytes_to-from-requires-clause-short
+bytes_to-from-requires-clause-short c = c.shape_of-line.ensures.short
+
+pub bytes_to-to-requires-clause-short : goal.bytes_to-to-requires-clause-short
+bytes_to-to-requires-clause-short c = c.shape_of-line.ensures.short
+
+pub slice_bounds-paint_some-end : goal.slice_bounds-paint_some-end
+slice_bounds-paint_some-end c =
+    let line : c.shape_of-line.result.line ≡ line_size c.args.scan.now.head = c.shape_of-line.ensures.line ∙ ap (λ (g : HeadValue). line_size g) c.head-head.ensures.value in
+    let room = c.rows.invariant.long ∙ c.requires.pixels ∙ ap (λ (k : ℕ). (c.args.end - c.args.first) * k) (sym line) in
+    omega (arith, c.bytes_to-to.ensures.within, room)

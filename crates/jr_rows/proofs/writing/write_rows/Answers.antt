@@ -26,12 +26,12 @@ rows-init g c =
     let old = c.args.pixels.now in
     let new = c.put_header-filled.new.bytes in
     let end = c.put_header-filled.result in
-    let same : length new ≡ length old.items = search (rules, c.put_header-filled.auto.bytes) in
-    let long : old.len ≡ length new = search (rules, c.put_header-filled.auto.bytes) in
+    let same : length new ≡ length old.items = c.put_header-filled.auto.bytes ∙ ap (λ (l : List ℕ). length l) c.deref_mut.ensures.value in
+    let long : old.len ≡ length new = old.ok.0 ∙ sym same in
     let is : take old.len (new ++ drop (length new) old.items) ≡ new = ap (λ (n : ℕ). take n (new ++ drop (length new) old.items)) long ∙ take-append_seam new (drop (length new) old.items) in
     let inside : end ≤ length new = omega (arith, same, c.put_header-filled.ensures.end, c.requires.header) in
     record {
-      within = search (rules, arith);
+      within = omega arith;
       at_row = ap (λ n. record at { row = n }) c.requires.start;
       pixels = refl;
       filled = subst (λ (ps : List ℕ). end ≤ length ps) (sym is) inside;
@@ -82,7 +82,7 @@ rows-preserved g c =
     let lines : ShowsLines at.scan at.limit row pix = subst (λ (r : RowsValue). ShowsLines r.scan r.limit r.row pix) here c.paint-more.ensures.lines in
     let marks : CountsRow at.scan at.limit row c.paint-more.result = subst (λ (r : RowsValue). CountsRow r.scan r.limit r.row c.paint-more.result) here c.paint-more.ensures.counts in
     record {
-      within = search (rules, arith);
+      within = omega (arith, c.rows-test.true, c.shape_of-shape.ensures.down ∙ ap (λ (k : HeadValue). mcus_down k) head);
       at_row = c.paint-more.ensures.moved ∙ ap (λ (r : RowsValue). record r { row = r.row + 1 }) here;
       pixels = long ∙ c.rows.invariant.pixels;
       filled = rw long room;
@@ -106,8 +106,8 @@ rows-preserved g c =
 pub returns-in_err-write_all-clause-sent : goal.returns-in_err-write_all-clause-sent
 returns-in_err-write_all-clause-sent g c b first =
     let h = (g.P.RowPainter.at c.args.painter.now).scan.head in
-    let end : c.rows.row ≡ mcus_down h = search (rules, arith) in
-    let lawful : IsLawful h = search (rules, c.be_lawful.ensures) in
+    let end : c.rows.row ≡ mcus_down h = omega (arith, c.rows.invariant.within, c.rows-test.false, c.shape_of-shape.ensures.down ∙ ap (λ (k : HeadValue). mcus_down k) c.requires.head) in
+    let lawful : IsLawful h = subst (λ (k : HeadValue). IsLawful k) c.requires.head c.be_lawful.ensures in
     let sent = rw (end, all_lines h lawful, ← text_is h (samples_of b)) at (c.rows.invariant.sent b first) in
     let failed = subst (λ (ps : List ℕ). WritesBeginning g.W.Write.contents c.rows.out c.write_all.new.out (take c.rows.filled ps)) c.deref-2.ensures.value c.in_err-write_all.ensures.err in
     record {
@@ -119,14 +119,14 @@ returns-in_err-write_all-clause-sent g c b first =
 pub returns-clause-counts : goal.returns-clause-counts
 returns-clause-counts g c =
     let at = g.P.RowPainter.at c.args.painter.now in
-    let end : c.rows.row ≡ mcus_down at.scan.head = search (rules, arith) in
+    let end : c.rows.row ≡ mcus_down at.scan.head = omega (arith, c.rows.invariant.within, c.rows-test.false, c.shape_of-shape.ensures.down ∙ ap (λ (k : HeadValue). mcus_down k) c.requires.head) in
     subst (λ (r : ℕ). CountsMcus at.scan at.limit (coded_before at.scan.head at.limit 0) (coded_before at.scan.head at.limit r) c.rows.marked) end c.rows.invariant.counts
 
 pub returns-clause-sent : goal.returns-clause-sent
 returns-clause-sent g c b first =
     let h = (g.P.RowPainter.at c.args.painter.now).scan.head in
-    let end : c.rows.row ≡ mcus_down h = search (rules, arith) in
-    let lawful : IsLawful h = search (rules, c.be_lawful.ensures) in
+    let end : c.rows.row ≡ mcus_down h = omega (arith, c.rows.invariant.within, c.rows-test.false, c.shape_of-shape.ensures.down ∙ ap (λ (k : HeadValue). mcus_down k) c.requires.head) in
+    let lawful : IsLawful h = subst (λ (k : HeadValue). IsLawful k) c.requires.head c.be_lawful.ensures in
     let sent = rw (end, all_lines h lawful, ← text_is h (samples_of b)) at (c.rows.invariant.sent b first) in
     let ready = take c.rows.filled c.rows.pixels.items in
     let ok : Writes g.W.Write.contents c.rows.out c.write_all.new.out ready = search (rules, c.in_ok-write_all.ensures.ok) in
@@ -138,8 +138,8 @@ make_room-requires-clause-fits g c =
     let fit = lines_fit c.lines_of-y.result.1 (8 * vertical_max h) c.shape_of-shape.result.line (line_size h) (length c.args.pixels.now.items) c.lines_of-y.ensures.few c.shape_of-shape.ensures.line c.requires.pixels in
     let held = c.args.pixels.now in
     let new = c.put_header-filled.new.bytes in
-    let wide : held.len ≡ length new = search (rules, arith, c.put_header-filled.auto.bytes) in
-    let same : held.len ≡ length held.items = search rules in
+    let same : held.len ≡ length held.items = held.ok.0 in
+    let wide : held.len ≡ length new = same ∙ sym (c.put_header-filled.auto.bytes ∙ ap (λ (l : List ℕ). length l) c.deref_mut.ensures.value) in
     let start = ap (λ (l : List ℕ). length l) (all_back held.len new held.items wide) ∙ sym wide ∙ same in
     let long = ap (λ (l : List ℕ). length l) c.deref.ensures.value ∙ c.rows.invariant.pixels ∙ start in
     subst (λ (n : ℕ). c.lines_of-y.result.1 * c.shape_of-shape.result.line ≤ n) (sym long) fit

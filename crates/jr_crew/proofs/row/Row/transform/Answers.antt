@@ -1,4 +1,4 @@
-use Rattle.std.proofs.Common.{rules, arith, sym, subst, ap, ◌∙◌, length, ◌≡◌, ℕ, ◌*◌, ◌%◌, ◌<◌, ◌≤◌, [], None, slice_index_or}
+use Rattle.std.proofs.Common.{arith, sym, subst, ap, ◌∙◌, length, ◌≡◌, ℕ, ◌*◌, ◌%◌, ◌<◌, ◌≤◌, [], None, slice_index_or}
 use Rattle.std.proofs.Math.Nat.{mul-le-mul_right}
 use Rattle.jr_head.specs.HeadValue.{HeadValue}
 use Rattle.jr_head.specs.Geometry.{blocks_of, mcus_across}
@@ -21,9 +21,9 @@ returns-clause-units c =
     let per = blocks_of h in
     let us = units_in h c.decode.new.self.groups in
     let long = units_long h c.decode.new.self.groups in
-    let some : 0 < per = search (rules, arith) in
-    let head : c.head-head.result.now ≡ h = search rules in
-    let blocks : c.deref.result.now ≡ c.args.self.now.blocks = search rules in
+    let head : c.head-head.result.now ≡ h = c.head-head.ensures.value in
+    let some : 0 < per = omega (arith, c.order-some.ensures.some, c.order-some.ensures.count ∙ ap (λ (x : HeadValue). blocks_of x) head) in
+    let blocks : c.deref.result.now ≡ c.args.self.now.blocks = c.deref.ensures.value ∙ ap (λ (r : RowValue). r.blocks) c.self.view_is in
     let coded : c.coded_of_row-coded.result * per ≡ coded_in h n row * per = ap (λ (k : ℕ). k * per) c.coded_of_row-coded.ensures.value in
     let decoded : (k : ℕ) → k < c.coded_of_row-coded.result * per → slice_index_or us k [] ≡ unit_of h c.args.self.now.blocks k = rw (head, blocks) at c.decode.ensures.decoded in
     let blank : (k : ℕ) → c.coded_of_row-coded.result * per ≤ k → k < mcus_across h * per → slice_index_or us k [] ≡ unit_shown_of h (k % per) None 0 = rw head at c.decode.ensures.blank in
@@ -32,20 +32,20 @@ returns-clause-units c =
 pub decode-requires-clause-room : goal.decode-requires-clause-room
 decode-requires-clause-room c =
     let h = c.args.scan.now.head in
-    let head : c.head-head.result.now ≡ h = search rules in
+    let head : c.head-head.result.now ≡ h = c.head-head.ensures.value in
     let lines = subst (λ (r : RowValue). HasLines h r.lines) (sym c.self.view_is) c.requires.room.lines in
     subst (λ (g : HeadValue). HasLines g c.self.inside.lines) (sym head) lines
 
 pub decode-requires-clause-few : goal.decode-requires-clause-few
 decode-requires-clause-few c =
-    let head : c.head-head.result.now ≡ c.args.scan.now.head = search rules in
+    let head : c.head-head.result.now ≡ c.args.scan.now.head = c.head-head.ensures.value in
     subst (λ (g : HeadValue). c.coded_of_row-coded.result ≤ mcus_across g) (sym head) c.coded_of_row-coded.ensures.few
 
 pub decode-requires-clause-blocks : goal.decode-requires-clause-blocks
 decode-requires-clause-blocks c =
     let h = c.args.scan.now.head in
-    let head : c.head-head.result.now ≡ h = search rules in
-    let blocks : c.deref.result.now ≡ c.args.self.now.blocks = search rules in
+    let head : c.head-head.result.now ≡ h = c.head-head.ensures.value in
+    let blocks : c.deref.result.now ≡ c.args.self.now.blocks = c.deref.ensures.value ∙ ap (λ (r : RowValue). r.blocks) c.self.view_is in
     let few = mul-le-mul_right (blocks_of h) c.coded_of_row-coded.ensures.few in
     let fits : c.coded_of_row-coded.result * blocks_of h ≤ length c.deref.result.now = omega (arith, few, ap length blocks, c.requires.room.blocks) in
     subst (λ (g : HeadValue). c.coded_of_row-coded.result * blocks_of g ≤ length c.deref.result.now) (sym head) fits

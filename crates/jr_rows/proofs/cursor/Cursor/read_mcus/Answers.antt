@@ -1,6 +1,8 @@
 use Rattle.std.proofs.Common.{rules, arith, sym, subst, ap, ◌∙◌, ◌≡◌, ℕ, ◌+◌, ◌-◌, ◌*◌, ◌<◌, ◌≤◌, ◌^◌, min, [], length, slice_index_or}
 use Rattle.std.specs.Option.{IfSome}
-use borrow.Rule.Slice.PartMut.{put_mid}
+use Rattle.std.proofs.Math.Nat.{add-mul}
+use borrow.Rule.Slice.PartMut.{mid_len, put_mid, same_len_mid}
+use Rattle.jr_head.specs.HeadValue.{HeadValue}
 use Rattle.jr_head.specs.Geometry.{blocks_of, mcus_of, quantiser_of}
 use Rattle.jr_idct.specs.Transform.{samples}
 use Rattle.jr_mcu.specs.Mcus.{component}
@@ -45,7 +47,7 @@ marked-more-requires-clause-decoded c =
     let r = c.ready.new.self in
     let e = c.ready.ensures in
     let ready : IsReady t at r c.ready.result = subst (λ (s : ScanValue). IsReady s at r c.ready.result) c.scan-scan.ensures (record { number = e.number; some = e.some; left_is = e.left; to = e.to }) in
-    let least : c.min-some.result ≡ min c.ready.result (c.args.mcus - c.intervals.done) = search rules in
+    let least : c.min-some.result ≡ min c.ready.result (c.args.mcus - c.intervals.done) = c.min-some.ensures in
     let lt = decoded t c.args.part.now.limit at r c.ready.result ready c.min-some.result (omega (arith, least, e.some, c.intervals-test.true)) (omega (arith, least, c.requires.few, c.intervals.invariant.moved, c.intervals-test.true)) in
     omega (arith, lt, c.read.ensures.number)
 
@@ -75,7 +77,7 @@ intervals-preserved c =
     let r = c.ready.new.self in
     let e = c.ready.ensures in
     let ready : IsReady t at r c.ready.result = subst (λ (s : ScanValue). IsReady s at r c.ready.result) c.scan-scan.ensures (record { number = e.number; some = e.some; left_is = e.left; to = e.to }) in
-    let least : c.min-some.result ≡ min c.ready.result (c.args.mcus - done) = search rules in
+    let least : c.min-some.result ≡ min c.ready.result (c.args.mcus - done) = c.min-some.ensures in
     let mcus = c.min-some.result in
     let lt = decoded t limit at r c.ready.result ready mcus (omega (arith, least, e.some, c.intervals-test.true)) (omega (arith, least, c.requires.few, keep.moved, c.intervals-test.true)) in
     let start = c.units_to-from.result in
@@ -83,10 +85,15 @@ intervals-preserved c =
     let old = c.intervals.blocks in
     let sub = c.read.new.blocks in
     let new = put_mid start size old sub in
-    let positive : 0 < n = search (rules, arith) in
-    let start_is : start ≡ done * n = search rules in
-    let long : length sub ≡ mcus * n = search (rules, arith) in
-    let inside : start ≤ length old = search (rules, arith) in
+    let head : c.head.result.now ≡ h = c.head.ensures.value ∙ ap (λ (s : ScanValue). s.head) c.scan-scan.ensures in
+    let per_is : length c.order-per_mcu.result.now ≡ n = c.order-per_mcu.ensures.count ∙ ap (λ (x : HeadValue). blocks_of x) head in
+    let room : length old ≡ c.args.mcus * length c.order-per_mcu.result.now = keep.long ∙ c.requires.room ∙ ap (λ (k : ℕ). c.args.mcus * k) (sym per_is) in
+    let positive : 0 < n = omega (arith, c.order-per_mcu.ensures.some, per_is) in
+    let start_is : start ≡ done * n = c.units_to-from.ensures.value ∙ ap (λ (k : ℕ). done * k) per_is in
+    let end_is : c.units_to-end.result ≡ (done + mcus) * n = c.units_to-end.ensures.value ∙ ap (λ (k : ℕ). (done + mcus) * k) per_is in
+    let fits : c.units_to-end.result ≤ length old = omega (arith, c.units_to-end.ensures.within, room) in
+    let long : length sub ≡ mcus * n = c.read.auto.blocks ∙ mid_len start c.units_to-end.result old fits ∙ omega (arith, start_is, end_is, add-mul done mcus n) in
+    let inside : start ≤ length old = omega (arith, c.units_to-from.ensures.within, room) in
     let interval : c.again.result ≡ interval_of t r.number = c.again.ensures ∙ c.interval_ref-interval.ensures ∙ ap (λ (s : ScanValue). interval_of s r.number) c.scan-scan.ensures in
     let codes : (p : PieceValue) → IsOutcome p → p.interval ≡ interval_of t r.number → CodesUnits p (units_before (interval_of t r.number) r.mcu) sub =
     subst (λ (i : IntervalValue). (p : PieceValue) → IsOutcome p → p.interval ≡ i → CodesUnits p (units_before i r.mcu) sub) interval c.read.ensures.blocks in
@@ -102,7 +109,7 @@ intervals-preserved c =
     let number = ap (λ (k : ℕ). k * h.restart) c.read.ensures.number in
     record {
       within = omega (arith, least, keep.within, c.intervals-test.true);
-      long = search rules;
+      long = same_len_mid start size old sub c.read.auto.blocks ∙ keep.long;
       stands = record {
         number = omega (arith, e.stands.number, ap (λ (s : ScanValue). length s.intervals) c.scan-scan.ensures, c.read.ensures.number);
         at = subst (λ (k : ℕ). IsPlaceAfter (interval_of t k) c.read.new.self.mcu c.read.new.self.place) (sym c.read.ensures.number) (subst (λ (i : IntervalValue). IsPlaceAfter i c.read.new.self.mcu c.read.new.self.place) interval c.read.ensures.at);

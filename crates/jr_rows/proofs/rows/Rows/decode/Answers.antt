@@ -1,15 +1,16 @@
-use Rattle.std.proofs.Common.{rules, arith, refl, sym, subst, ap, ◌∙◌, ◌≡◌, ℕ, ◌+◌, ◌*◌, ◌%◌, ◌<◌, ◌≤◌, ◌^◌, [], None, length, slice_index_or}
+use Rattle.std.proofs.Common.{rules, arith, refl, sym, subst, ap, ◌∙◌, ◌≡◌, ℕ, ◌+◌, ◌*◌, ◌%◌, ◌<◌, ◌≤◌, ◌^◌, [], None, length, drop, slice_index_or, length-append, length-drop}
 use Rattle.std.proofs.Math.Nat.{add-mul, mul-le-mul_right}
+use Rattle.std.proofs.lemmas.List.{length-take-le}
 use Rattle.jr_head.specs.HeadValue.{HeadValue}
 use Rattle.jr_head.specs.Geometry.{blocks_of, mcus_across}
-use Rattle.jr_scan.specs.ScanValue.{intervals_of}
+use Rattle.jr_scan.specs.ScanValue.{ScanValue, intervals_of}
 use Rattle.jr_piece.specs.Outcome.{unit_of}
 use Rattle.jr_rows.specs.Bands.{unit_shown, unit_shown_of}
 use Rattle.jr_rows.specs.Cursors.{mcus_to}
 use Rattle.jr_rows.specs.Groups.{units_in}
 use Rattle.jr_rows.specs.MarkBytes.{PutsMarks}
 use Rattle.jr_rows.specs.RowLines.{HasLines}
-use Rattle.jr_rows.specs.Rows.{CountsMarks, ShowsBehind, ShowsFirstUnits, coded_before, coded_in, intervals_before}
+use Rattle.jr_rows.specs.Rows.{CountsMarks, ShowsBehind, ShowsFirstUnits, coded_before, coded_in, intervals_before, mcus_before}
 use Rattle.jr_rows.proofs.GroupLists.{units_long}
 use Rattle.jr_rows.proofs.IntervalPlaces.{ends_few}
 use Rattle.jr_rows.specs.RowsValue.{SampleRowValue}
@@ -23,13 +24,16 @@ pub transform_blocks-requires-clause-inside : goal.transform_blocks-requires-cla
 transform_blocks-requires-clause-inside c =
     let h = c.args.part.now.scan.head in
     let hd = c.head-head.result.now in
-    let here : hd ≡ h = search rules in
+    let here : hd ≡ h = c.head-head.ensures.value ∙ ap (λ (s : ScanValue). s.head) c.scan.ensures in
     let some = c.min-some.result in
+    let per_is : length c.order-per_mcu.result.now ≡ blocks_of h = c.order-per_mcu.ensures.count ∙ ap (λ (x : HeadValue). blocks_of x) here in
+    let inside : c.units_to.result ≤ length c.parts.blocks = search rules in
     let done = c.parts.done in
     let per : done * blocks_of hd ≡ done * blocks_of h = ap (λ (x : HeadValue). done * blocks_of x) here in
-    let long : length c.read_mcus-more.new.blocks ≡ some * blocks_of h = search (rules, arith) in
+    let long : length c.read_mcus-more.new.blocks ≡ some * blocks_of h = c.read_mcus-more.auto.blocks ∙ length-take-le c.units_to.result c.parts.blocks inside ∙ c.units_to.ensures.value ∙ ap (λ (k : ℕ). some * k) per_is in
     let whole : length (units_in hd c.parts.lines.groups) ≡ mcus_across h * blocks_of h = units_long hd c.parts.lines.groups ∙ ap (λ (x : HeadValue). mcus_across x * blocks_of x) here in
-    let within : done + some ≤ mcus_across h = search (rules, arith) in
+    let few : c.coded_of_row-coded.result ≤ mcus_across h = subst (λ (s : ScanValue). c.coded_of_row-coded.result ≤ mcus_across s.head) c.scan-3.ensures c.coded_of_row-coded.ensures.few in
+    let within : done + some ≤ mcus_across h = omega (arith, c.min-some.ensures, c.parts-test.true, few) in
     let all : (done + some) * blocks_of h ≤ mcus_across h * blocks_of h = mul-le-mul_right {m = done + some} {n = mcus_across h} (blocks_of h) within in
     omega (arith, per, long, whole, all, add-mul done some (blocks_of h))
 
@@ -52,11 +56,13 @@ parts-preserved c =
     let done = c.parts.done in
     let from = mcus_to h c.args.self.now.cursor in
     let hd = c.head-head.result.now in
-    let here : hd ≡ h = search rules in
+    let here : hd ≡ h = c.head-head.ensures.value ∙ ap (λ (s : ScanValue). s.head) c.scan.ensures in
+    let per_is : length c.order-per_mcu.result.now ≡ blocks_of h = c.order-per_mcu.ensures.count ∙ ap (λ (x : HeadValue). blocks_of x) here in
+    let inside : c.units_to.result ≤ length c.parts.blocks = search rules in
     let new = c.transform_blocks.new.units in
     let old = c.parts.lines in
-    let positive : 0 < n = search (rules, arith) in
-    let long : length read.new.blocks ≡ some * n = search (rules, arith) in
+    let positive : 0 < n = omega (arith, c.order-per_mcu.ensures.some, per_is) in
+    let long : length read.new.blocks ≡ some * n = c.read_mcus-more.auto.blocks ∙ length-take-le c.units_to.result c.parts.blocks inside ∙ c.units_to.ensures.value ∙ ap (λ (k : ℕ). some * k) per_is in
     let kept : (k : ℕ) → k < done * n → slice_index_or (units_in h new.groups) k [] ≡ slice_index_or (units_in h old.groups) k [] =
     subst (λ (x : HeadValue). (k : ℕ) → k < done * blocks_of x → slice_index_or (units_in x new.groups) k [] ≡ slice_index_or (units_in x old.groups) k []) here c.transform_blocks.ensures.kept in
     let put : (k : ℕ) → k < length read.new.blocks → slice_index_or (units_in h new.groups) (done * n + k) [] ≡ unit_of h read.new.blocks k =
@@ -65,8 +71,8 @@ parts-preserved c =
     subst (λ (m : ℕ). ShowsBehind t limit m (done * n) some (units_in h new.groups)) keep.moved (λ b first k lt. put k (omega (arith, lt, long)) ∙ read.ensures.gives b first k lt) in
     let puts = read.ensures.puts in
     record {
-      within = search (rules, arith);
-      near = search (rules, arith);
+      within = omega (arith, c.min-some.ensures, c.parts-test.true);
+      near = omega (arith, length-append read.new.blocks (drop c.units_to.result c.parts.blocks), length-drop c.units_to.result c.parts.blocks, read.auto.blocks ∙ length-take-le c.units_to.result c.parts.blocks inside, inside, keep.near);
       room = subst (λ (x : HeadValue). HasLines x new) here c.transform_blocks.ensures.room;
       row = keep.row;
       stands = read.ensures.stands;
@@ -87,14 +93,14 @@ returns-clause-units c =
     let us = units_in h c.parts.lines.groups in
     let all = units_in h c.fill_blank.new.self.groups in
     let coded = c.coded_of_row-coded.result in
-    let coded_is : coded ≡ coded_in h n row = search rules in
+    let coded_is : coded ≡ coded_in h n row = c.coded_of_row-coded.ensures.value ∙ ap (λ (s : ScanValue). coded_in s.head c.limit.result row) c.scan-3.ensures ∙ ap (λ (k : ℕ). coded_in h k row) c.limit.ensures.value in
     let done_is : c.parts.done ≡ coded = omega (arith, c.parts.invariant.within, c.parts-test.false) in
-    let few : coded ≤ mcus_across h = search rules in
-    let some : 0 < per = search (rules, arith) in
+    let few : coded ≤ mcus_across h = subst (λ (s : ScanValue). c.coded_of_row-coded.result ≤ mcus_across s.head) c.scan-3.ensures c.coded_of_row-coded.ensures.few in
+    let head : c.head-head.result.now ≡ h = c.head-head.ensures.value ∙ ap (λ (s : ScanValue). s.head) c.scan.ensures in
+    let some : 0 < per = omega (arith, c.order-per_mcu.ensures.some, c.order-per_mcu.ensures.count ∙ ap (λ (x : HeadValue). blocks_of x) head) in
     let at : mcus_to h c.args.self.now.cursor ≡ coded_before h n row = c.requires.rows.at in
     let from = subst (λ (m : ℕ). ShowsFirstUnits t n m c.parts.done us) at c.parts.invariant.shows in
     let done = subst (λ (m : ℕ). ShowsFirstUnits t n (coded_before h n row) m us) done_is from in
-    let head : c.head-head.result.now ≡ h = search rules in
     let kept : (k : ℕ) → k < coded * per → k < mcus_across h * per → slice_index_or all k [] ≡ slice_index_or us k [] = rw head at c.fill_blank.ensures.kept in
     let blank : (k : ℕ) → coded * per ≤ k → k < mcus_across h * per → slice_index_or all k [] ≡ unit_shown_of h (k % per) None 0 = rw head at c.fill_blank.ensures.blank in
     let most : coded * per ≤ mcus_across h * per = mul-le-mul_right {m = coded} {n = mcus_across h} per few in
@@ -110,7 +116,9 @@ returns-clause-counts c =
     let h = t.head in
     let n = c.args.part.now.limit in
     let row = c.args.self.now.row in
-    let moved : coded_before h n row + c.coded_of_row-coded.result ≡ coded_before h n (row + 1) = search rules in
+    let coded = c.coded_of_row-coded.result in
+    let near = subst (λ (s : ScanValue). coded_before s.head c.limit.result row + coded ≡ coded_before s.head c.limit.result (row + 1)) c.scan-3.ensures c.coded_of_row-coded.ensures.moved in
+    let moved = subst (λ (k : ℕ). coded_before h k row + coded ≡ coded_before h k (row + 1)) c.limit.ensures.value near in
     let to : mcus_to h c.parts.self.cursor ≡ coded_before h n (row + 1) = omega (arith, moved, c.requires.rows.at, c.parts.invariant.moved, c.parts.invariant.within, c.parts-test.false) in
     let here = subst (λ (m : ℕ). CountsMarks t n (intervals_before h m) (intervals_before h (mcus_to h c.parts.self.cursor)) c.parts.marked) c.requires.rows.at c.parts.invariant.counts in
     subst (λ (m : ℕ). CountsMarks t n (intervals_before h (coded_before h n row)) (intervals_before h m) c.parts.marked) to here
@@ -121,7 +129,9 @@ returns-clause-puts c =
     let h = t.head in
     let n = c.args.part.now.limit in
     let row = c.args.self.now.row in
-    let moved : coded_before h n row + c.coded_of_row-coded.result ≡ coded_before h n (row + 1) = search rules in
+    let coded = c.coded_of_row-coded.result in
+    let near = subst (λ (s : ScanValue). coded_before s.head c.limit.result row + coded ≡ coded_before s.head c.limit.result (row + 1)) c.scan-3.ensures c.coded_of_row-coded.ensures.moved in
+    let moved = subst (λ (k : ℕ). coded_before h k row + coded ≡ coded_before h k (row + 1)) c.limit.ensures.value near in
     let to : mcus_to h c.parts.self.cursor ≡ coded_before h n (row + 1) = omega (arith, moved, c.requires.rows.at, c.parts.invariant.moved, c.parts.invariant.within, c.parts-test.false) in
     let here = subst (λ (m : ℕ). PutsMarks t n (intervals_before h m) (intervals_before h (mcus_to h c.parts.self.cursor)) c.args.marks.now c.parts.marks) c.requires.rows.at c.parts.invariant.puts in
     subst (λ (m : ℕ). PutsMarks t n (intervals_before h (coded_before h n row)) (intervals_before h m) c.args.marks.now c.parts.marks) to here
@@ -129,7 +139,7 @@ returns-clause-puts c =
 pub returns-clause-room : goal.returns-clause-room
 returns-clause-room c =
     let h = c.args.part.now.scan.head in
-    let head : c.head-head.result.now ≡ h = search rules in
+    let head : c.head-head.result.now ≡ h = c.head-head.ensures.value ∙ ap (λ (s : ScanValue). s.head) c.scan.ensures in
     let blocks = c.parts.blocks in
     let long : c.work.inside.blocks.len ≡ length blocks = search (rules, arith, c.parts.invariant.near) in
     record {
@@ -154,3 +164,45 @@ parts-init c =
       places = c.requires.places;
       puts = puts_none t n _ _ c.args.marks.now refl;
     }
+
+pub read_mcus-more-requires-clause-stands : goal.read_mcus-more-requires-clause-stands
+read_mcus-more-requires-clause-stands c = c.parts.invariant.stands
+
+pub read_mcus-more-requires-clause-same : goal.read_mcus-more-requires-clause-same
+read_mcus-more-requires-clause-same c = c.requires.same
+
+pub read_mcus-more-requires-clause-few : goal.read_mcus-more-requires-clause-few
+read_mcus-more-requires-clause-few c =
+    let h = c.args.part.now.scan.head in
+    let row = c.args.self.now.row in
+    let coded = c.coded_of_row-coded.result in
+    let near = subst (λ (s : ScanValue). coded_before s.head c.limit.result row + coded ≤ mcus_before s.head c.limit.result) c.scan-3.ensures c.coded_of_row-coded.ensures.inside in
+    let inside = subst (λ (k : ℕ). coded_before h k row + coded ≤ mcus_before h k) c.limit.ensures.value near in
+    omega (arith, inside, c.requires.rows.at, c.parts.invariant.moved, c.min-some.ensures, c.parts-test.true)
+
+pub read_mcus-more-requires-clause-room : goal.read_mcus-more-requires-clause-room
+read_mcus-more-requires-clause-room c =
+    let h = c.args.part.now.scan.head in
+    let here : c.head-head.result.now ≡ h = c.head-head.ensures.value ∙ ap (λ (s : ScanValue). s.head) c.scan.ensures in
+    let per_is : length c.order-per_mcu.result.now ≡ blocks_of h = c.order-per_mcu.ensures.count ∙ ap (λ (x : HeadValue). blocks_of x) here in
+    let inside : c.units_to.result ≤ length c.parts.blocks = search rules in
+    length-take-le c.units_to.result c.parts.blocks inside ∙ c.units_to.ensures.value ∙ ap (λ (k : ℕ). c.min-some.result * k) per_is
+
+pub read_mcus-more-requires-clause-places : goal.read_mcus-more-requires-clause-places
+read_mcus-more-requires-clause-places c = c.parts.invariant.places
+
+pub transform_blocks-requires-clause-room : goal.transform_blocks-requires-clause-room
+transform_blocks-requires-clause-room c =
+    let here = c.head-head.ensures.value ∙ ap (λ (s : ScanValue). s.head) c.scan.ensures in
+    subst (λ (x : HeadValue). HasLines x c.parts.lines) (sym here) c.parts.invariant.room
+
+pub returns-clause-rows : goal.returns-clause-rows
+returns-clause-rows c =
+    let h = c.args.part.now.scan.head in
+    let n = c.args.part.now.limit in
+    let row = c.args.self.now.row in
+    let coded = c.coded_of_row-coded.result in
+    let near = subst (λ (s : ScanValue). coded_before s.head c.limit.result row + coded ≡ coded_before s.head c.limit.result (row + 1)) c.scan-3.ensures c.coded_of_row-coded.ensures.moved in
+    let moved = subst (λ (k : ℕ). coded_before h k row + coded ≡ coded_before h k (row + 1)) c.limit.ensures.value near in
+    let to : mcus_to h c.parts.self.cursor ≡ coded_before h n (row + 1) = omega (arith, moved, c.requires.rows.at, c.parts.invariant.moved, c.parts.invariant.within, c.parts-test.false) in
+    record { stands = c.parts.invariant.stands; at = to ∙ ap (λ (k : ℕ). coded_before h n (k + 1)) (sym c.parts.invariant.row) }
