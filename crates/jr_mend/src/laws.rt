@@ -1,0 +1,28 @@
+//! What holds of every file that is written of coded intervals.
+
+ghost use Rattle.std.specs.Prelude.{◌≡◌, ◌<◌, ◌≤◌, ◌++◌, ℕ, List, length, take};
+ghost use Rattle.std.specs.List.{AllZip};
+ghost use Rattle.jr_base.specs.declared.limits.TheConstants.{MAX_FILE_BYTES};
+ghost use Rattle.jr_cut.specs.declared.scan_end.ScanEnd.TheVariants.{EndOfImage};
+ghost use Rattle.jr_cut.specs.Cut.{IsCut, IsRaw};
+ghost use Rattle.jr_head.specs.HeadValue.{HeadValue};
+ghost use Rattle.jr_head.specs.Heads.{HeadOf};
+ghost use Rattle.jr_mend.specs.Splice.{coded_intervals, spliced};
+ghost use Rattle.jr_scan.specs.ScanValue.{IsScanOf, intervals_of, scan_of_segments};
+
+/// States that coded intervals, at most n of them, are cut into what each spells, and that EOI ends them.
+pub fn intervals_are_cut()
+    ensures { (n at : ℕ) (raws datas : List (List ℕ)) → AllZip IsRaw raws datas → 0 < length raws → length raws ≤ n → IsCut n at (coded_intervals raws) datas EndOfImage }
+{}
+
+/// States that a file keeps its header if other bytes replace those after the scan header.
+pub fn header_stays()
+    ensures { (file more : List ℕ) (h : HeadValue) → HeadOf file h → length (take h.scan_at file ++ more) ≤ MAX_FILE_BYTES → HeadOf (take h.scan_at file ++ more) h }
+{}
+
+/// States that a file with other coded intervals has its header, and the scan of what each interval spells.
+pub fn spliced_has_its_scan()
+    ensures head { (file : List ℕ) (h : HeadValue) (raws : List (List ℕ)) → HeadOf file h → length (spliced file h raws) ≤ MAX_FILE_BYTES → HeadOf (spliced file h raws) h }
+    ensures scan { (file : List ℕ) (h : HeadValue) (raws datas : List (List ℕ)) → HeadOf file h → AllZip IsRaw raws datas → 0 < length raws → length raws ≤ intervals_of h → IsScanOf (spliced file h raws) (scan_of_segments h datas EndOfImage) }
+    ensures whole { (h : HeadValue) (raws datas : List (List ℕ)) → AllZip IsRaw raws datas → length raws ≡ intervals_of h → (scan_of_segments h datas EndOfImage).intervals ≡ datas }
+{}

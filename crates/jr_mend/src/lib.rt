@@ -1,0 +1,9 @@
+//! Files whose scan is written anew of coded intervals: with the header that they have, and the bytes of each interval
+//! as they are in a file (T.81, B.1.1.5 and E.1.4).
+#![tactic(auto)]
+
+mod laws;
+mod splice;
+
+pub use laws::{header_stays, intervals_are_cut, spliced_has_its_scan};
+pub use splice::{write_header, write_image_end, write_interval};
