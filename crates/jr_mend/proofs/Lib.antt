@@ -1,1 +1,3 @@
 pub mod Splices
+pub mod Resyncs
+pub mod Readings

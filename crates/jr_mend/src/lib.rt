@@ -2,8 +2,15 @@
 //! as they are in a file (T.81, B.1.1.5 and E.1.4).
 #![tactic(auto)]
 
+mod breaks;
+mod following;
 mod laws;
+mod reading;
+mod resync;
 mod splice;
 
+pub use breaks::Break;
+pub use following::MAX_SKIPPED;
 pub use laws::{header_stays, intervals_are_cut, spliced_has_its_scan};
+pub use resync::{ResyncFault, Resynced, resynchronised};
 pub use splice::{write_header, write_image_end, write_interval};
