@@ -1,3 +1,5 @@
 pub mod Splices
 pub mod Resyncs
 pub mod Readings
+pub mod ResyncLaw
+pub mod InStep

@@ -4,7 +4,7 @@ use Rattle.std.specs.Prelude.{◌≡◌, ◌≢◌, ℕ, zero, suc, ◌+◌, ◌
 use Rattle.std.specs.List.{flat_map}
 use Rattle.jr_base.specs.declared.marker.TheConstants.{EOI, PREFIX, RST0}
 use Rattle.jr_cut.specs.declared.scan_end.ScanEnd.{ScanEnd}
-use Rattle.jr_cut.specs.declared.scan_end.ScanEnd.TheVariants.{EndOfImage, EndOfFile}
+use Rattle.jr_cut.specs.declared.scan_end.ScanEnd.TheVariants.{EndOfImage, OtherMarker, OutOfStep, ExtraRestart, EndOfFile}
 use Rattle.jr_cut.specs.Cut.{IsRaw, marker, IsEnding}
 use Rattle.jr_mend.specs.declared.breaks.Break.{Break}
 use Rattle.jr_mend.specs.declared.following.TheConstants.{MAX_SKIPPED}
@@ -90,3 +90,11 @@ pub record IsResync (n at : ℕ) (bytes : List ℕ) (r : Resync) : Type 0 where
   pub spelled : bytes ≡ raw ++ rest
   pub parts : PartsFrom n 0 (at + length raw) rest after
   pub is : r ≡ record { raws = raw ∷ after.raws; datas = first ∷ after.datas; breaks = after.breaks; end = after.end }
+
+-- a scan that ends so has the restart markers that are due, as far as it goes
+abbrev pub IsInStep : ScanEnd → Type 0
+IsInStep EndOfFile = Unit {0}
+IsInStep EndOfImage = Unit {0}
+IsInStep (ExtraRestart at) = Unit {0}
+IsInStep (OutOfStep found expected at) = ⊥
+IsInStep (OtherMarker code at) = ⊥
