@@ -3,3 +3,5 @@ pub mod Resyncs
 pub mod Readings
 pub mod ResyncLaw
 pub mod InStep
+pub mod EachResync
+pub mod FilesInStep

@@ -1,5 +1,5 @@
 -- A file is read marker by marker.
-use Rattle.std.proofs.Common.{◌≡◌, ℕ, suc, ◌+◌, ◌-◌, ◌<◌, ◌≤◌, List, [], ◌∷◌, ◌++◌, length, take, drop, refl, sym, ap, subst, ◌∙◌, append_assoc, length-append, length-drop, arith}
+use Rattle.std.proofs.Common.{◌≡◌, ℕ, suc, ◌+◌, ◌-◌, ◌<◌, ◌≤◌, List, [], ◌∷◌, ◌++◌, length, take, drop, sym, ap, subst, ◌∙◌, append_assoc, length-append, length-drop, arith}
 use Rattle.std.proofs.lemmas.List.{append-nil, drop-drop}
 use Rattle.jr_base.specs.declared.limits.TheConstants.{MAX_FILE_BYTES}
 use Rattle.jr_cut.specs.declared.scan_end.ScanEnd.{ScanEnd}
@@ -81,12 +81,11 @@ module _ (file : List ℕ) (h : HeadValue) (w : Reading) (len : ℕ) (s : Segmen
 
 -- ---- a marker, and the bytes after it
 
-pub takes : (file : List ℕ) (old mid v : Reading) (m : FoundMarker) (len : ℕ) → Segment file (mid.at + m.length) len
-    → mid.breaks.items ≡ old.breaks.items ++ break_at old.at old.k m.code m.missing → mid.bytes ≡ old.bytes → mid.k ≡ old.k → mid.at ≡ old.at
+pub takes : (file : List ℕ) (old mid v : Reading) (m : FoundMarker) (len : ℕ) (raw : List ℕ) → Segment file (mid.at + m.length) len → mid.breaks.items ≡ old.breaks.items ++ break_at old.at old.k m.code m.missing → mid.bytes ≡ old.bytes → mid.k ≡ old.k → mid.at ≡ old.at
     → v.at ≡ mid.at + m.length + len → v.k ≡ number_after mid.k m.missing → v.breaks ≡ mid.breaks
-    → ((front : List ℕ) (raws : List (List ℕ)) → length raws ≡ suc mid.k → mid.bytes.items ≡ front ++ joined raws → v.bytes.items ≡ front ++ joined (raws ++ new_segments m.missing (take (mid.at + m.length + len - (mid.at + m.length)) (drop (mid.at + m.length) file))))
-    → Takes file old v m
-takes file old mid v m len s noted bytes number at place next breaks written =
+    → ((front : List ℕ) (raws : List (List ℕ)) → length raws ≡ suc mid.k → mid.bytes.items ≡ front ++ joined raws → v.bytes.items ≡ front ++ joined (raws ++ new_segments m.missing raw))
+    → raw ≡ take len (drop (mid.at + m.length) file) → Takes file old v m
+takes file old mid v m len raw s noted bytes number at place next breaks written slice =
     let start : mid.at + m.length ≡ old.at + m.length = ap (λ a. a + m.length) at in
     let told = subst (λ (a : ℕ). Segment file a len) start s in
     let end : v.at ≡ old.at + m.length + len = omega (arith, place, at) in
@@ -101,7 +100,7 @@ takes file old mid v m len s noted bytes number at place next breaks written =
       breaks = ap (λ b. b.items) breaks ∙ noted;
       written = λ front raws count e.
           written front raws (count ∙ ap suc (sym number)) (ap (λ b. b.items) bytes ∙ e)
-          ∙ ap (λ (x : List ℕ). front ++ joined (raws ++ new_segments m.missing x)) (slice_is file (mid.at + m.length) (mid.at + m.length + len) len refl ∙ ap (λ (a : ℕ). take len (drop a file)) start);
+          ∙ ap (λ (x : List ℕ). front ++ joined (raws ++ new_segments m.missing x)) (slice ∙ ap (λ (a : ℕ). take len (drop a file)) start);
     }
 
 module _ (file : List ℕ) (h : HeadValue) (w v : Reading) (m : FoundMarker) (has : HasRead file h w) (meets : Meets (intervals_of h) w.k (drop w.at file) m) (t : Takes file w v m) where

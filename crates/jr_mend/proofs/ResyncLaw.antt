@@ -1,5 +1,5 @@
 -- There is one way to resynchronise the bytes of a scan.
-use Rattle.std.proofs.Common.{◌≡◌, ◌≢◌, ℕ, suc, ◌+◌, ◌%◌, ◌<◌, ◌≤◌, ◌⊎◌, inl, inr, List, [], ◌∷◌, ◌++◌, length, refl, sym, ap, subst, ◌∙◌, append_assoc, Option, Some, None, arith}
+use Rattle.std.proofs.Common.{◌≡◌, ◌≢◌, ℕ, suc, ◌+◌, ◌%◌, ◌<◌, ◌⊎◌, inl, inr, List, [], ◌∷◌, ◌++◌, length, refl, sym, ap, subst, ◌∙◌, append_assoc, Option, Some, None, arith}
 use Rattle.std.specs.List.{flat_map}
 use Rattle.std.proofs.lemmas.List.{append_cancel_right}
 use Rattle.jr_base.specs.declared.marker.TheConstants.{EOI, PREFIX}
@@ -13,14 +13,14 @@ use Rattle.jr_mend.specs.Resync.{AreParts, EndsResync, IsMeaning, IsResync, Part
 
 -- ---- what a marker means
 
-same_ahead : (k d e : ℕ) → d ≤ 4 → e ≤ 4 → (k + d) % 8 ≡ (k + e) % 8 → d ≡ e
+same_ahead : (k d e : ℕ) → d < 8 → e < 8 → (k + d) % 8 ≡ (k + e) % 8 → d ≡ e
 same_ahead k d e few less same = omega arith
 
 same_meaning : (n k code : ℕ) (a b : Option ℕ) → IsMeaning n k code a → IsMeaning n k code b → a ≡ b
 same_meaning n k code None None x y = refl
 same_meaning n k code None (Some e) x y = absurd (x.4 e y)
 same_meaning n k code (Some d) None x y = absurd (y.4 d x)
-same_meaning n k code (Some d) (Some e) x y = ap Some (same_ahead k d e x.0 y.0 (omega (arith, x.2, y.2)))
+same_meaning n k code (Some d) (Some e) x y = ap Some (same_ahead k d e (omega (arith, x.0)) (omega (arith, y.0)) (omega (arith, x.2, y.2)))
 
 -- it has a code, and is not EOI nor after the last segment
 record Means (n k code : ℕ) : Type 0 where

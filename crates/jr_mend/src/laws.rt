@@ -1,16 +1,18 @@
 //! What holds of every file that is written of coded intervals, and of every scan that is resynchronised.
 
 ghost use Rattle.std.specs.Prelude.{◌≡◌, ◌<◌, [], ◌≤◌, ◌++◌, ℕ, List, length, take};
-ghost use Rattle.std.specs.List.{AllZip};
+ghost use Rattle.std.specs.List.{All, AllZip};
 ghost use Rattle.jr_base.specs.declared.limits.TheConstants.{MAX_FILE_BYTES};
 ghost use Rattle.jr_cut.specs.declared.scan_end.ScanEnd.{ScanEnd};
 ghost use Rattle.jr_cut.specs.declared.scan_end.ScanEnd.TheVariants.{EndOfImage};
 ghost use Rattle.jr_cut.specs.Cut.{IsCut, IsRaw};
 ghost use Rattle.jr_head.specs.HeadValue.{HeadValue};
 ghost use Rattle.jr_head.specs.Heads.{HeadOf};
+ghost use Rattle.jr_mend.specs.declared.resync.Resynced.{Resynced};
+ghost use Rattle.jr_mend.specs.Reading.{IsResynced};
 ghost use Rattle.jr_mend.specs.Resync.{IsInStep, IsResync, Resync};
 ghost use Rattle.jr_mend.specs.Splice.{coded_intervals, spliced};
-ghost use Rattle.jr_scan.specs.ScanValue.{IsScanOf, intervals_of, scan_of_segments};
+ghost use Rattle.jr_scan.specs.ScanValue.{IsSameScan, IsScanOf, ScanValue, intervals_of, scan_of_segments};
 
 /// States that coded intervals, at most n of them, are cut into what each spells, and that EOI ends them.
 pub fn intervals_are_cut()
@@ -37,4 +39,14 @@ pub fn one_resync()
 /// States that a scan whose restart markers are in step is resynchronised to the segments that it is cut into.
 pub fn in_step_stays()
     ensures { (n at : ℕ) (bytes : List ℕ) (datas : List (List ℕ)) (end : ScanEnd) (r : Resync) → IsCut n at bytes datas end → IsInStep end → IsResync n at bytes r → (r.datas ≡ datas) × (r.breaks ≡ []) × (r.end ≡ end) }
+{}
+
+/// States that the bytes of each scan can be resynchronised, whatever they are, if it has intervals.
+pub fn each_scan_resyncs()
+    ensures { (n at : ℕ) (bytes : List ℕ) → 0 < n → All (λ b. b < 256) bytes → (r : Resync) × IsResync n at bytes r }
+{}
+
+/// States that a file whose restart markers are in step, once it is resynchronised, has the data that it had in each interval.
+pub fn file_in_step_stays()
+    ensures { (file : List ℕ) (h : HeadValue) (r : Resynced) (s t : ScanValue) → IsResynced file h r → s.head ≡ h → t.head ≡ h → IsScanOf file s → IsInStep s.ended → IsScanOf r.file.items t → IsSameScan s t }
 {}

@@ -11,6 +11,9 @@ mod splice;
 
 pub use breaks::Break;
 pub use following::MAX_SKIPPED;
-pub use laws::{header_stays, in_step_stays, intervals_are_cut, one_resync, spliced_has_its_scan};
+pub use laws::{
+    each_scan_resyncs, file_in_step_stays, header_stays, in_step_stays, intervals_are_cut,
+    one_resync, spliced_has_its_scan,
+};
 pub use resync::{ResyncFault, Resynced, resynchronised};
 pub use splice::{write_header, write_image_end, write_interval};
