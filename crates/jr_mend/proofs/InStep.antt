@@ -12,12 +12,12 @@ parts_of : ℕ → List CodedSegment → List Part
 parts_of k [] = []
 parts_of k (p ∷ ps) = (record { more = p.more; code = RST0 + k % 8; missing = Some 0; raw = p.raw; bytes = p.bytes }) ∷ parts_of (suc k) ps
 
-are_parts : (n j k : ℕ) (ps : List CodedSegment) → j ≡ k → AllByRecursion (λ p. IsRaw p.raw p.bytes) ps → k + length ps < n → AreParts n j (parts_of k ps)
+are_parts : (n size since j k : ℕ) (ps : List CodedSegment) → j ≡ k → AllByRecursion (λ p. IsRaw p.raw p.bytes) ps → k + length ps < n → AreParts n size since j (parts_of k ps)
 unfolding parts_of
-are_parts n j k [] same each few = tt
-are_parts n j k (p ∷ ps) same each few =
+are_parts n size since j k [] same each few = tt
+are_parts n size since j k (p ∷ ps) same each few =
     let due : k ≡ j + 0 = omega (arith, same) in
-    ((omega arith, omega (arith, same, few), ap (λ (i : ℕ). RST0 + i % 8) due), each.0, are_parts n (suc (j + 0)) (suc k) ps (omega (arith, same)) each.1 (omega (arith, few)))
+    ((omega (arith, same, few), ap (λ (i : ℕ). RST0 + i % 8) due, inl refl), each.0, are_parts n size (length p.raw) (suc (j + 0)) (suc k) ps (omega (arith, same)) each.1 (omega (arith, few)))
 
 bytes_are : (k : ℕ) (ps : List CodedSegment) → flat_map part_bytes (parts_of k ps) ≡ with_markers k ps
 unfolding parts_of
@@ -61,17 +61,17 @@ module _ (n at : ℕ) (bytes : List ℕ) (datas : List (List ℕ)) (end : ScanEn
   abbrev whole : Resync
   whole = record { raws = c.raw ∷ after.raws; datas = c.first ∷ after.datas; breaks = after.breaks; end = after.end }
 
-  follows : PartsFrom n 0 (at + length c.raw) rest after
+  follows : PartsFrom n (length bytes) (length c.raw) 0 (at + length c.raw) rest after
   unfolding after
   follows =
-      let bytes = bytes_are 0 c.segments in
-      let place : at + length (c.raw ++ with_markers 0 c.segments) ≡ at + length c.raw + length (flat_map part_bytes parts) = omega (arith, length-append c.raw (with_markers 0 c.segments), ap length bytes) in
+      let spelled = bytes_are 0 c.segments in
+      let place : at + length (c.raw ++ with_markers 0 c.segments) ≡ at + length c.raw + length (flat_map part_bytes parts) = omega (arith, length-append c.raw (with_markers 0 c.segments), ap length spelled) in
       let here = subst (λ (o : ℕ). EndsResync n (0 + length c.segments) o c.tail end) place (ends_in_step n (0 + length c.segments) (at + length (c.raw ++ with_markers 0 c.segments)) c.tail end in_step c.ends) in
       record {
         parts = parts;
         tail = c.tail;
-        are = are_parts n 0 0 c.segments refl c.each c.few;
-        spelled = ap (λ (x : List ℕ). x ++ c.tail) (sym bytes);
+        are = are_parts n (length bytes) (length c.raw) 0 0 c.segments refl c.each c.few;
+        spelled = ap (λ (x : List ℕ). x ++ c.tail) (sym spelled);
         raws = refl;
         datas = sym (datas_are 0 c.segments);
         breaks = sym (breaks_are (at + length c.raw) 0 0 c.segments);

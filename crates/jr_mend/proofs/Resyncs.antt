@@ -5,7 +5,7 @@ use Rattle.jr_cut.specs.declared.scan_end.ScanEnd.{ScanEnd}
 use Rattle.jr_cut.specs.Cut.{IsRaw}
 use Rattle.jr_cut.proofs.Cuts.{raw_none}
 use Rattle.jr_mend.specs.declared.breaks.Break.{Break}
-use Rattle.jr_mend.specs.Resync.{EndsResync, IsMeaning, Part, PartsFrom, Resync, break_at, last_number, new_segments, number_after, part_bytes}
+use Rattle.jr_mend.specs.Resync.{EndsResync, IsMeaning, Part, PartsFrom, Resync, break_at, bytes_after, last_number, max_missing, new_segments, number_after, part_bytes}
 
 -- ---- segments of a part
 
@@ -17,9 +17,9 @@ count_after k (Some d) raws raw e = omega (arith, e, length-append raws (replica
     long zero = refl
     long (suc d) = ap suc (long d)
 
-pub few_after : (n k code : ℕ) (a : Option ℕ) → IsMeaning n k code a → number_after k a < n
-few_after n k code None m = omega (arith, m.3)
-few_after n k code (Some d) m = omega (arith, m.1)
+pub few_after : (n k limit code : ℕ) (a : Option ℕ) → IsMeaning n k limit code a → number_after k a < n
+few_after n k limit code None m = omega (arith, m.3)
+few_after n k limit code (Some d) m = omega (arith, m.0)
 
 pub zip_append : (xs ys us vs : List (List ℕ)) → AllZip IsRaw xs ys → AllZip IsRaw us vs → AllZip IsRaw (xs ++ us) (ys ++ vs)
 zip_append [] [] us vs a b = b
@@ -43,8 +43,8 @@ break_some at k code (suc d) some = refl
 -- ---- parts
 
 -- nothing but the end
-pub parts_last : (n k at : ℕ) (tail : List ℕ) (end : ScanEnd) → EndsResync n k at tail end → PartsFrom n k at tail (record { raws = []; datas = []; breaks = []; end = end })
-parts_last n k at tail end ends =
+pub parts_last : (n size since k at : ℕ) (tail : List ℕ) (end : ScanEnd) → EndsResync n k at tail end → PartsFrom n size since k at tail (record { raws = []; datas = []; breaks = []; end = end })
+parts_last n size since k at tail end ends =
     let here : at ≡ at + 0 = omega arith in
     record {
       parts = [];
@@ -61,8 +61,8 @@ parts_last n k at tail end ends =
 abbrev pub with_part : (at k : ℕ) → Part → Resync → Resync
 with_part at k p r = record { raws = new_segments p.missing p.raw ++ r.raws; datas = new_segments p.missing p.bytes ++ r.datas; breaks = break_at at k p.code p.missing ++ r.breaks; end = r.end }
 
-pub parts_next : (n k at : ℕ) (p : Part) (bytes rest : List ℕ) (r : Resync) → IsMeaning n k p.code p.missing → IsRaw p.raw p.bytes → bytes ≡ part_bytes p ++ rest → PartsFrom n (number_after k p.missing) (at + length (part_bytes p)) rest r → PartsFrom n k at bytes (with_part at k p r)
-parts_next n k at p bytes rest r means raw e f =
+pub parts_next : (n size since k at : ℕ) (p : Part) (bytes rest : List ℕ) (r : Resync) → IsMeaning n k (max_missing n size since) p.code p.missing → IsRaw p.raw p.bytes → bytes ≡ part_bytes p ++ rest → PartsFrom n size (bytes_after since p.missing (length (part_bytes p)) (length p.raw)) (number_after k p.missing) (at + length (part_bytes p)) rest r → PartsFrom n size since k at bytes (with_part at k p r)
+parts_next n size since k at p bytes rest r means raw e f =
     let here = part_bytes p in
     let behind = flat_map part_bytes f.parts in
     let place : at + length here + length behind ≡ at + length (here ++ behind) = omega (arith, length-append here behind) in

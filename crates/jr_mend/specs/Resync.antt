@@ -1,22 +1,31 @@
 -- How the bytes of a scan fall into intervals if markers or data are lost: restart markers are counted modulo 8, so that a
 -- decoder can tell how many are missing before one (T.81, B.1.1.5, E.1.4 and E.2.4).
-use Rattle.std.specs.Prelude.{◌≡◌, ◌≢◌, ℕ, zero, suc, ◌+◌, ◌%◌, ◌<◌, ◌≤◌, ◌⊎◌, List, [], ◌∷◌, ◌++◌, length, replicate, Option, Some, None}
+use Rattle.std.specs.Prelude.{◌≡◌, ◌≢◌, ℕ, zero, suc, ◌+◌, ◌*◌, ◌/◌, ◌%◌, ◌<◌, ◌≤◌, ◌⊎◌, List, [], ◌∷◌, ◌++◌, length, replicate, Option, Some, None}
 use Rattle.std.specs.List.{flat_map}
 use Rattle.jr_base.specs.declared.marker.TheConstants.{EOI, PREFIX, RST0}
 use Rattle.jr_cut.specs.declared.scan_end.ScanEnd.{ScanEnd}
 use Rattle.jr_cut.specs.declared.scan_end.ScanEnd.TheVariants.{EndOfImage, OtherMarker, OutOfStep, ExtraRestart, EndOfFile}
 use Rattle.jr_cut.specs.Cut.{IsRaw, marker, IsEnding}
 use Rattle.jr_mend.specs.declared.breaks.Break.{Break}
-use Rattle.jr_mend.specs.declared.following.TheConstants.{MAX_SKIPPED}
+use Rattle.jr_mend.specs.declared.following.TheConstants.{MAX_EARLY}
 
--- after segment k of n: the restart marker d ahead of the one that is due, and the segment that follows it is one of the scan
-abbrev pub IsAhead : (n k code d : ℕ) → Type 0
-IsAhead n k code d = (d ≤ MAX_SKIPPED) × (k + d + 1 < n) × (code ≡ RST0 + (k + d) % 8)
+-- the number of segments that so many of a scan's bytes hold on average, to the nearest
+abbrev pub held : (n size bytes : ℕ) → ℕ
+held n size bytes = (2 * (bytes * n) / size + 1) / 2
+
+-- the number of segments that may be missing before a marker, by the bytes between the start of the last segment and it
+abbrev pub max_missing : (n size bytes : ℕ) → ℕ
+max_missing n size bytes = held n size bytes + MAX_EARLY
+
+-- after segment k of n: the restart marker d ahead of the one that is due, and the segment that follows it is one of the
+-- scan; of the numbers that count as this one modulo 8, the one that is due, or else the last up to the limit
+abbrev pub IsAhead : (n k limit code d : ℕ) → Type 0
+IsAhead n k limit code d = (k + d + 1 < n) × (code ≡ RST0 + (k + d) % 8) × ((d ≡ 0) ⊎ ((code ≢ RST0 + k % 8) × (d ≤ limit) × (limit < d + 8)))
 
 -- what a marker after segment k means: d segments are missing before the one that follows it, or it is passed over
-abbrev pub IsMeaning : (n k code : ℕ) → Option ℕ → Type 0
-IsMeaning n k code (Some d) = IsAhead n k code d
-IsMeaning n k code None = (0 < code) × (code < PREFIX) × (code ≢ EOI) × (k + 1 < n) × ((d : ℕ) → IsAhead n k code d → ⊥)
+abbrev pub IsMeaning : (n k limit code : ℕ) → Option ℕ → Type 0
+IsMeaning n k limit code (Some d) = IsAhead n k limit code d
+IsMeaning n k limit code None = (0 < code) × (code < PREFIX) × (code ≢ EOI) × (k + 1 < n) × ((d : ℕ) → IsAhead n k limit code d → ⊥)
 
 -- what ends the scan after segment k: the end of the file, EOI, or any marker if it was the last segment
 abbrev pub EndsResync : (n k at : ℕ) → List ℕ → ScanEnd → Type 0
@@ -39,12 +48,18 @@ abbrev pub last_number : ℕ → List Part → ℕ
 last_number k [] = k
 last_number k (p ∷ ps) = last_number (number_after k p.missing) ps
 
-abbrev pub AreParts : (n k : ℕ) → List Part → Type 0
-AreParts n k [] = Unit {0}
-AreParts n k (p ∷ ps) = IsMeaning n k p.code p.missing × IsRaw p.raw p.bytes × AreParts n (number_after k p.missing) ps
-
 abbrev pub part_bytes : Part → List ℕ
 part_bytes p = marker p.more p.code ++ p.raw
+
+-- the number of bytes from the start of the last segment up to the next marker; those that are passed over count
+abbrev pub bytes_after : ℕ → Option ℕ → (part raw : ℕ) → ℕ
+bytes_after since None part raw = since + part
+bytes_after since (Some d) part raw = raw
+
+-- parts of a scan of that size, with so many bytes between the start of segment k and the first marker
+abbrev pub AreParts : (n size since k : ℕ) → List Part → Type 0
+AreParts n size since k [] = Unit {0}
+AreParts n size since k (p ∷ ps) = IsMeaning n k (max_missing n size since) p.code p.missing × IsRaw p.raw p.bytes × AreParts n size (bytes_after since p.missing (length (part_bytes p)) (length p.raw)) (number_after k p.missing) ps
 
 -- segments without bytes for those that are missing, and these bytes; bytes after a marker that is passed over are no segment's
 abbrev pub new_segments : Option ℕ → List ℕ → List (List ℕ)
@@ -69,10 +84,10 @@ pub record Resync : Type 0 where
   pub end : ScanEnd
 
 -- the bytes at that offset, after those of segment k: markers with the bytes after them, and what ends the scan
-pub record PartsFrom (n k at : ℕ) (bytes : List ℕ) (r : Resync) : Type 0 where
+pub record PartsFrom (n size since k at : ℕ) (bytes : List ℕ) (r : Resync) : Type 0 where
   pub parts : List Part
   pub tail : List ℕ
-  pub are : AreParts n k parts
+  pub are : AreParts n size since k parts
   pub spelled : bytes ≡ flat_map part_bytes parts ++ tail
   pub raws : r.raws ≡ flat_map (λ (p : Part). new_segments p.missing p.raw) parts
   pub datas : r.datas ≡ flat_map (λ (p : Part). new_segments p.missing p.bytes) parts
@@ -88,7 +103,7 @@ pub record IsResync (n at : ℕ) (bytes : List ℕ) (r : Resync) : Type 0 where
   pub after : Resync
   pub is_raw : IsRaw raw first
   pub spelled : bytes ≡ raw ++ rest
-  pub parts : PartsFrom n 0 (at + length raw) rest after
+  pub parts : PartsFrom n (length bytes) (length raw) 0 (at + length raw) rest after
   pub is : r ≡ record { raws = raw ∷ after.raws; datas = first ∷ after.datas; breaks = after.breaks; end = after.end }
 
 -- a scan that ends so has the restart markers that are due, as far as it goes

@@ -1,17 +1,19 @@
 //! What follows the bytes of an interval in a scan that may be damaged.
 
-ghost use Rattle.std.specs.Prelude.{◌≡◌, ◌≢◌, ℕ, ◌+◌, ◌<◌, List};
+ghost use Rattle.std.specs.Prelude.{◌≡◌, ◌≢◌, ℕ, ◌+◌, ◌<◌, ◌≤◌, List, length};
+ghost use Rattle.jr_base.specs.declared.limits.TheConstants.{MAX_FILE_BYTES};
 ghost use Rattle.jr_base.specs.declared.marker.TheConstants.{EOI, PREFIX};
 ghost use Rattle.jr_cut.specs.Cut.{HasMarker, IsStop};
 ghost use Rattle.jr_mend.specs.Reading.{IsFollowing};
-ghost use Rattle.jr_mend.specs.Resync.{EndsResync, IsMeaning};
+ghost use Rattle.jr_mend.specs.Resync.{EndsResync, IsMeaning, max_missing};
 
 use jr_base::marker::{EOI, RST0, RST7};
 use jr_cut::{ScanEnd, fill_count};
 
-/// The maximum number of restart markers that are taken as missing before one. A marker that is further ahead of the one
-/// that is due is taken as stale: as one from before it, since numbers count modulo 8.
-pub const MAX_SKIPPED: u32 = 4;
+/// The maximum number of restart markers missing before one, beyond the number of intervals that the bytes before it hold on
+/// average: it is after at most three intervals more than these. With four or more the marker of the same number eight
+/// intervals before is as near, since numbers count modulo 8, and the marker is stale.
+pub const MAX_EARLY: u64 = 2;
 
 /// A marker after the bytes of an interval.
 #[derive(Clone, Copy)]
@@ -32,23 +34,41 @@ pub(crate) enum Following {
     Marker(FoundMarker),
 }
 
-/// Returns how many restart markers are missing before a marker after interval k, which is not the last; `None` if it is
-/// passed over.
-fn missing_before(code: u8, k: u32, intervals: u32) -> Option<u32>
+/// Returns how many restart markers may be missing before one, with so many bytes between the start of the last interval
+/// and it, in a scan of `size` bytes.
+fn max_missing(intervals: u32, size: usize, since: usize) -> u64
+    requires some { 0 < size }
+    requires few { since ≤ MAX_FILE_BYTES }
+    ensures { result ≡ max_missing intervals size since }
+{
+    let twice = 2 * (since as u64 * intervals as u64) / size as u64;
+    (twice + 1) / 2 + MAX_EARLY
+}
+
+/// Returns how many restart markers are missing before a marker after interval k, which is not the last, if at most
+/// `limit` are; `None` if it is passed over.
+fn missing_before(code: u8, k: u32, intervals: u32, limit: u64) -> Option<u32>
     requires further { k + 1 < intervals }
     requires not_stuffing { code ≢ 0 }
     requires not_fill { code ≢ PREFIX }
     requires not_end { code ≢ EOI }
-    ensures { IsMeaning intervals k code result }
+    ensures { IsMeaning intervals k limit code result }
 {
     if code < RST0 || code > RST7 {
         return None;
     }
-    let missing = ((code - RST0) as u32 + 8 - k % 8) % 8;
-    if missing > MAX_SKIPPED || missing >= intervals - k - 1 {
+    let ahead = (((code - RST0) as u32 + 8 - k % 8) % 8) as u64;
+    if ahead == 0 {
+        return Some(0);
+    }
+    if ahead > limit {
         return None;
     }
-    Some(missing)
+    let missing = ahead + (limit - ahead) / 8 * 8;
+    if missing >= (intervals - k - 1) as u64 {
+        return None;
+    }
+    Some(missing as u32)
 }
 
 /// Returns what a marker after the last interval ends the scan with.
@@ -64,11 +84,21 @@ fn end_after_last(code: u8, at: u64) -> ScanEnd
     ScanEnd::OtherMarker(code, at)
 }
 
-/// Returns what follows interval k, at an offset of the file.
-pub(crate) fn following_at(tail: &[u8], at: u64, k: u32, intervals: u32) -> Following
+/// Returns what follows interval k, at an offset of the file, with so many bytes since the start of the interval, in a
+/// scan of `size` bytes.
+pub(crate) fn following_at(
+    tail: &[u8],
+    at: u64,
+    k: u32,
+    intervals: u32,
+    since: usize,
+    size: usize,
+) -> Following
     requires few { k < intervals }
     requires stop { IsStop tail.now }
-    ensures { IsFollowing intervals k at tail.now result }
+    requires size { length tail.now ≤ size }
+    requires short { since ≤ MAX_FILE_BYTES }
+    ensures { IsFollowing intervals k (max_missing intervals size since) at tail.now result }
 {
     let fill = fill_count(tail);
     if fill == tail.len() {
@@ -81,9 +111,10 @@ pub(crate) fn following_at(tail: &[u8], at: u64, k: u32, intervals: u32) -> Foll
     if k + 1 == intervals {
         return Following::End(end_after_last(code, at));
     }
+    let limit = max_missing(intervals, size, since);
     Following::Marker(FoundMarker {
         code,
         length: fill + 1,
-        missing: missing_before(code, k, intervals),
+        missing: missing_before(code, k, intervals, limit),
     })
 }

@@ -10,7 +10,7 @@ mod resync;
 mod splice;
 
 pub use breaks::Break;
-pub use following::MAX_SKIPPED;
+pub use following::MAX_EARLY;
 pub use laws::{
     each_scan_resyncs, file_in_step_stays, header_stays, in_step_stays, intervals_are_cut,
     one_resync, spliced_has_its_scan,

@@ -17,4 +17,4 @@ returns c =
     let slice = slice_is file c.scan_at-start.result (c.scan_at-start.result + len) len refl ∙ ap (λ (a : ℕ). take len (drop a file)) start in
     let before : c.reserve.new.self.items ≡ front ++ joined [] = c.reserve.ensures.items ∙ c.in_ok-bytes.ensures.joined in
     let written : c.write_interval.new.bytes.items ≡ front ++ joined (raw ∷ []) = grind (arith, c.in_ok-write_interval.ensures.joined front [] refl before, slice) in
-    read_first file h _ len told some refl (ap (λ a. a + len) start) c.new.ensures.items written
+    read_first file h _ len told some refl (ap (λ a. a + len) start) c.new.ensures.items start written
