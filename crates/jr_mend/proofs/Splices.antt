@@ -1,0 +1,118 @@
+-- A scan that is written of coded intervals is cut into them.
+use Rattle.std.proofs.Common.{◌≡◌, ℕ, suc, ◌+◌, ◌-◌, ◌%◌, ◌<◌, ◌≤◌, List, [], ◌∷◌, ◌++◌, length, take, drop, replicate, refl, sym, ap, subst, ◌∙◌, append_assoc, length-append, arith}
+use Rattle.std.specs.List.{AllZip, flat_map}
+use Rattle.std.proofs.lemmas.List.{append-nil, drop_at, length-take-le, take_at}
+use Rattle.jr_base.specs.declared.limits.TheConstants.{MAX_FILE_BYTES}
+use Rattle.jr_base.specs.declared.marker.TheConstants.{EOI, RST0}
+use Rattle.jr_segments.specs.Segments.{segment_bytes}
+use Rattle.jr_cut.specs.declared.scan_end.ScanEnd.TheVariants.{EndOfImage}
+use Rattle.jr_cut.specs.Cut.{CutFrom, IsCut, IsRaw, marker}
+use Rattle.jr_cut.proofs.Cuts.{cut_last, cut_next}
+use Rattle.jr_head.specs.HeadValue.{HeadValue}
+use Rattle.jr_head.specs.Heads.{HeadOf, start_of_image}
+use Rattle.jr_scan.specs.ScanValue.{IsScanOf, intervals_of, scan_of_segments}
+use Rattle.jr_mend.specs.Splice.{after_markers, coded_intervals, joined, marker_before, spliced}
+
+-- ---- one more interval
+
+after_more : (k : ℕ) (raws : List (List ℕ)) (raw : List ℕ) → after_markers k (raws ++ raw ∷ []) ≡ after_markers k raws ++ (marker 0 (RST0 + (k + length raws) % 8) ++ raw)
+after_more k [] raw =
+    let here : k ≡ k + 0 = omega arith in
+    ap (λ (i : ℕ). marker 0 (RST0 + i % 8) ++ (raw ++ [])) here ∙ ap (λ (x : List ℕ). marker 0 (RST0 + (k + 0) % 8) ++ x) (append-nil raw)
+after_more k (r ∷ rs) raw =
+    let m = marker 0 (RST0 + k % 8) in
+    let last = λ (i : ℕ). marker 0 (RST0 + i % 8) ++ raw in
+    let number : suc k + length rs ≡ k + suc (length rs) = omega arith in
+    ap (λ (x : List ℕ). m ++ (r ++ x)) (after_more (suc k) rs raw ∙ ap (λ (i : ℕ). after_markers (suc k) rs ++ last i) number)
+    ∙ ap (λ (x : List ℕ). m ++ x) (sym (append_assoc r (after_markers (suc k) rs) (last (k + suc (length rs)))))
+    ∙ sym (append_assoc m (r ++ after_markers (suc k) rs) (last (k + suc (length rs))))
+
+pub joined_more : (raws : List (List ℕ)) (raw : List ℕ) → joined (raws ++ raw ∷ []) ≡ joined raws ++ (marker_before (length raws) ++ raw)
+joined_more [] raw = append-nil raw
+joined_more (r ∷ rs) raw =
+    let number : 0 + length rs ≡ length rs = omega arith in
+    ap (λ (x : List ℕ). r ++ x) (after_more 0 rs raw ∙ ap (λ (i : ℕ). after_markers 0 rs ++ (marker 0 (RST0 + i % 8) ++ raw)) number)
+    ∙ sym (append_assoc r (after_markers 0 rs) (marker 0 (RST0 + length rs % 8) ++ raw))
+
+pub written_more : (k : ℕ) (old new raw front : List ℕ) (raws : List (List ℕ)) → new ≡ old ++ (marker_before k ++ raw) → length raws ≡ k → old ≡ front ++ joined raws → new ≡ front ++ joined (raws ++ raw ∷ [])
+written_more k old new raw front raws is count e =
+    is ∙ ap (λ (x : List ℕ). x ++ (marker_before k ++ raw)) e ∙ append_assoc front (joined raws) (marker_before k ++ raw)
+    ∙ ap (λ (i : ℕ). front ++ (joined raws ++ (marker_before i ++ raw))) (sym count) ∙ ap (λ (x : List ℕ). front ++ x) (sym (joined_more raws raw))
+
+-- ---- the cut
+
+module _ (n : ℕ) where
+  cut_from : (k at : ℕ) (raw data' : List ℕ) (raws datas : List (List ℕ)) → IsRaw raw data' → AllZip IsRaw raws datas → k + suc (length raws) ≤ n → CutFrom n k at (raw ++ (after_markers k raws ++ marker 0 EOI)) (data' ∷ datas) EndOfImage
+  cut_from k at raw d [] [] is all few = cut_last n k at _ raw d (marker 0 EOI) EndOfImage (omega (arith, few)) is refl (0, [], refl)
+  cut_from k at raw d [] (e ∷ es) is all few = absurd all
+  cut_from k at raw d (r ∷ rs) [] is all few = absurd all
+  cut_from k at raw d (r ∷ rs) (e ∷ es) is all few =
+      let eoi = marker 0 EOI in
+      let m = marker 0 (RST0 + k % 8) in
+      cut_next n k at (at + length raw + 0 + 2) 0 _ raw d (r ++ (after_markers (suc k) rs ++ eoi)) (e ∷ es) EndOfImage is
+      (ap (λ (x : List ℕ). raw ++ x) (append_assoc m (r ++ after_markers (suc k) rs) eoi ∙ ap (λ (x : List ℕ). m ++ x) (append_assoc r (after_markers (suc k) rs) eoi))) refl
+      (cut_from (suc k) (at + length raw + 0 + 2) r e rs es all.0 all.1 (omega (arith, few)))
+
+pub coded_cut : (n at : ℕ) (raws datas : List (List ℕ)) → AllZip IsRaw raws datas → 0 < length raws → length raws ≤ n → IsCut n at (coded_intervals raws) datas EndOfImage
+coded_cut n at [] datas all some few = absurd (omega (arith, some))
+coded_cut n at (r ∷ rs) [] all some few = absurd all
+coded_cut n at (r ∷ rs) (d ∷ ds) all some few =
+    subst (λ (x : List ℕ). IsCut n at x (d ∷ ds) EndOfImage) (sym (append_assoc r (after_markers 0 rs) (marker 0 EOI))) (cut_from n 0 at r d rs ds all.0 all.1 (omega (arith, few)))
+
+-- ---- the header
+
+module _ (file more : List ℕ) (h : HeadValue) (head : HeadOf file h) where
+  abbrev segments : List ℕ
+  segments = flat_map segment_bytes head.segments
+
+  abbrev header : List ℕ
+  header = start_of_image ++ (segments ++ segment_bytes head.scan)
+
+  split : (rest : List ℕ) → start_of_image ++ (segments ++ (segment_bytes head.scan ++ rest)) ≡ header ++ rest
+  split rest = sym (append_assoc start_of_image (segments ++ segment_bytes head.scan) rest ∙ ap (λ (x : List ℕ). start_of_image ++ x) (append_assoc segments (segment_bytes head.scan) rest))
+
+  header_is : take h.scan_at file ≡ header
+  header_is =
+      let whole : file ≡ header ++ head.rest = head.is ∙ split head.rest in
+      let long : length header ≡ h.scan_at = omega (arith, ap length whole, length-append header head.rest, head.scan_at) in
+      ap (take h.scan_at) whole ∙ take_at header head.rest h.scan_at long
+
+  pub scan_within : h.scan_at ≤ length file
+  scan_within = omega (arith, head.scan_at)
+
+  pub header_stays : length (take h.scan_at file ++ more) ≤ MAX_FILE_BYTES → HeadOf (take h.scan_at file ++ more) h
+  header_stays small = record {
+    segments = head.segments;
+    scan = head.scan;
+    rest = more;
+    small = small;
+    is = ap (λ (x : List ℕ). x ++ more) header_is ∙ sym (split more);
+    chain = head.chain;
+    is_scan = head.is_scan;
+    passes = head.passes;
+    defines = head.defines;
+    scan_at = omega (arith, length-append (take h.scan_at file) more, length-take-le h.scan_at file scan_within);
+  }
+
+-- ---- the scan
+
+pub scan_is : (file : List ℕ) (h : HeadValue) (raws datas : List (List ℕ)) → HeadOf file h → AllZip IsRaw raws datas → 0 < length raws → length raws ≤ intervals_of h → IsScanOf (spliced file h raws) (scan_of_segments h datas EndOfImage)
+scan_is file h raws datas head all some few =
+    let long : length (take h.scan_at file) ≡ h.scan_at = length-take-le h.scan_at file (scan_within file [] h head) in
+    let scan : drop h.scan_at (spliced file h raws) ≡ coded_intervals raws = drop_at (take h.scan_at file) (coded_intervals raws) h.scan_at long in
+    record {
+      segments = datas;
+      cut = subst (λ (x : List ℕ). IsCut (intervals_of h) h.scan_at x datas EndOfImage) (sym scan) (coded_cut (intervals_of h) h.scan_at raws datas all some few);
+      intervals = refl;
+    }
+
+as_many : (raws datas : List (List ℕ)) → AllZip IsRaw raws datas → length raws ≡ length datas
+as_many [] [] all = refl
+as_many [] (d ∷ ds) all = absurd all
+as_many (r ∷ rs) [] all = absurd all
+as_many (r ∷ rs) (d ∷ ds) all = ap suc (as_many rs ds all.1)
+
+pub none_missing : (h : HeadValue) (raws datas : List (List ℕ)) → AllZip IsRaw raws datas → length raws ≡ intervals_of h → (scan_of_segments h datas EndOfImage).intervals ≡ datas
+none_missing h raws datas all count =
+    let none : intervals_of h - length datas ≡ 0 = omega (arith, as_many raws datas all, count) in
+    ap (λ (i : ℕ). datas ++ replicate i []) none ∙ append-nil datas

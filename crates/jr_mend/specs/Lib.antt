@@ -1,0 +1,3 @@
+pub mod Splice
+pub mod Resync
+pub mod Reading
