@@ -1,1 +1,4 @@
+pub mod Choices
+pub mod NextPositions
+pub mod ScanOfCopies
 pub mod Splices

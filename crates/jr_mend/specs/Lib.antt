@@ -1,1 +1,4 @@
+pub mod Choice
+pub mod Copies
+pub mod Mended
 pub mod Splice
