@@ -2,3 +2,9 @@ pub mod Choices
 pub mod NextPositions
 pub mod ScanOfCopies
 pub mod Splices
+pub mod Resyncs
+pub mod Readings
+pub mod ResyncLaw
+pub mod InStep
+pub mod EachResync
+pub mod FilesInStep

@@ -2,3 +2,5 @@ pub mod Choice
 pub mod Copies
 pub mod Mended
 pub mod Splice
+pub mod Resync
+pub mod Reading

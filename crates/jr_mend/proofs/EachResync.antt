@@ -1,0 +1,136 @@
+-- The bytes of each scan can be resynchronised.
+use Rattle.std.proofs.Common.{◌≡◌, ◌≢◌, ℕ, zero, suc, ◌+◌, ◌-◌, ◌%◌, ◌<◌, ◌≤◌, ◌⊎◌, inl, inr, List, [], ◌∷◌, ◌++◌, length, drop, refl, sym, ap, subst, ◌∙◌, append_assoc, length-append, Option, Some, None, arith}
+use Rattle.std.specs.List.{All}
+use Rattle.std.proofs.Math.Seq.{drop-append_seam}
+use Rattle.std.proofs.lemmas.Bool.{cases_eq, cases_lt}
+use Rattle.std.proofs.lemmas.List.{nil_from_length}
+use Rattle.std.proofs.lemmas.List.Elements.{All-drop}
+use Rattle.jr_base.specs.declared.marker.TheConstants.{EOI, PREFIX, RST0, RST7, SOI}
+use Rattle.jr_cut.specs.declared.scan_end.ScanEnd.{ScanEnd}
+use Rattle.jr_cut.specs.declared.scan_end.ScanEnd.TheVariants.{EndOfImage, OtherMarker, OutOfStep, ExtraRestart, EndOfFile}
+use Rattle.jr_cut.specs.Cut.{CodedSegment, Cutting, HasMarker, IsEnding, IsRaw, marker, with_markers}
+use Rattle.jr_cut.proofs.EachCut.{each_scan_has_a_cut}
+use Rattle.jr_cut.proofs.Segments.{length_marker}
+use Rattle.jr_mend.specs.declared.following.TheConstants.{MAX_SKIPPED}
+use Rattle.jr_mend.specs.Resync.{EndsResync, IsAhead, IsMeaning, IsResync, Part, PartsFrom, Resync, number_after, part_bytes}
+use Rattle.jr_mend.proofs.Resyncs.{few_after, parts_last, parts_next, with_part}
+
+-- ---- what a marker means
+
+record Meaning (n k code : ℕ) : Type 0 where
+  missing : Option ℕ
+  is : IsMeaning n k code missing
+
+abbrev distance : (k code : ℕ) → ℕ
+distance k code = (code - RST0 + 8 - k % 8) % 8
+
+distance_is : (k code e : ℕ) → RST0 ≤ code → code ≤ RST7 → e < 8 → code ≡ RST0 + (k + e) % 8 → e ≡ distance k code
+distance_is k code e low high few is = omega arith
+
+distance_there : (k code : ℕ) → RST0 ≤ code → code ≤ RST7 → code ≡ RST0 + (k + distance k code) % 8
+distance_there k code low high = omega arith
+
+module _ (n k code : ℕ) (some : 0 < code) (less : code < PREFIX) (goes : code ≢ EOI) (further : k + 1 < n) where
+  passed : ((d : ℕ) → IsAhead n k code d → ⊥) → Meaning n k code
+  passed none = record { missing = None; is = (some, less, goes, further, none) }
+
+  by_number : RST0 ≤ code → code ≤ RST7 → Meaning n k code
+  by_number low high =
+      let same = λ (e : ℕ) (a : IsAhead n k code e). distance_is k code e low high (omega (arith, a.0)) a.2 in
+      elim (cases_lt MAX_SKIPPED (distance k code)) [
+        | inl far ↦ passed (λ e a. omega (arith, far, a.0, same e a))
+        | inr near ↦ elim (cases_lt (k + distance k code + 1) n) [
+          | inr beyond ↦ passed (λ e a. omega (arith, beyond, a.1, same e a))
+          | inl inside ↦ record { missing = Some (distance k code); is = (near, inside, distance_there k code low high) }
+        ]
+      ]
+
+  meaning_of : Meaning n k code
+  meaning_of = elim (cases_lt code RST0) [
+    | inl low ↦ passed (λ e a. omega (arith, low, a.2))
+    | inr above ↦ elim (cases_lt RST7 code) [
+      | inl high ↦ passed (λ e a. omega (arith, high, a.2))
+      | inr within ↦ by_number above within
+    ]
+  ]
+
+-- ---- the bytes up to a marker, and the marker, as in a scan of one segment
+
+record Front (bytes : List ℕ) : Type 0 where
+  raw : List ℕ
+  found : List ℕ
+  tail : List ℕ
+  is_raw : IsRaw raw found
+  whole : bytes ≡ raw ++ tail
+  at : ℕ
+  end : ScanEnd
+  ends : IsEnding 1 0 at tail end
+
+front : (bytes : List ℕ) → All (λ b. b < 256) bytes → Front bytes
+front bytes small = go c.is.segments c.is.few c.is.spelled c.is.ends
+  where
+    c : Cutting 1 0 bytes
+    c = each_scan_has_a_cut 1 0 bytes (omega arith) small
+
+    go : (ps : List CodedSegment) → 0 + length ps < 1 → bytes ≡ c.is.raw ++ (with_markers 0 ps ++ c.is.tail) → IsEnding 1 (0 + length ps) (0 + length (c.is.raw ++ with_markers 0 ps)) c.is.tail c.end → Front bytes
+    go [] few spelled ends = record { raw = c.is.raw; found = c.is.first; tail = c.is.tail; is_raw = c.is.is_raw; whole = spelled; at = 0 + length (c.is.raw ++ []); end = c.end; ends = ends }
+    go (p ∷ ps) few spelled ends = absurd (omega (arith, few))
+
+small_behind : (bytes before rest : List ℕ) → bytes ≡ before ++ rest → All (λ b. b < 256) bytes → All (λ b. b < 256) rest
+small_behind bytes before rest e all = subst (All (λ b. b < 256)) (ap (drop (length before)) e ∙ drop-append_seam before rest) (All-drop (λ b. b < 256) (length before) bytes all)
+
+-- ---- all of them
+
+record Follows (n k at : ℕ) (bytes : List ℕ) : Type 0 where
+  r : Resync
+  is : PartsFrom n k at bytes r
+
+last : (n k at : ℕ) (tail : List ℕ) (end : ScanEnd) → EndsResync n k at tail end → Follows n k at tail
+last n k at tail end ends = record { r = record { raws = []; datas = []; breaks = []; end = end }; is = parts_last n k at tail end ends }
+
+module _ (n k at : ℕ) (tail : List ℕ) (few : k < n) (small : All (λ b. b < 256) tail)
+    (next : (k at o : ℕ) (t : List ℕ) (end : ScanEnd) → length t < length tail → k < n → IsEnding 1 0 o t end → All (λ b. b < 256) t → Follows n k at t) where
+  goes_on : (code : ℕ) → HasMarker tail code → 0 < code → code < PREFIX → code ≢ EOI → k + 1 < n → Follows n k at tail
+  goes_on code m some less goes further =
+      let mark = marker m.0 code in
+      let a = meaning_of n k code some less goes further in
+      let small_rest = small_behind tail mark m.1 m.2 small in
+      let f = front m.1 small_rest in
+      let p : Part = record { more = m.0; code = code; missing = a.missing; raw = f.raw; bytes = f.found } in
+      let spelled : tail ≡ part_bytes p ++ f.tail = m.2 ∙ ap (λ (x : List ℕ). mark ++ x) f.whole ∙ sym (append_assoc mark f.raw f.tail) in
+      let shorter : length f.tail < length tail = omega (arith, ap length spelled, length-append (part_bytes p) f.tail, length-append mark f.raw, length_marker m.0 code) in
+      let others = next (number_after k a.missing) (at + length (part_bytes p)) f.at f.tail f.end shorter (few_after n k code a.missing a.is) f.ends (small_behind m.1 f.raw f.tail f.whole small_rest) in
+      record { r = with_part at k p others.r; is = parts_next n k at p tail f.tail others.r a.is f.is_raw spelled others.is }
+
+  restart : (number : ℕ) → number < 8 → HasMarker tail (RST0 + number) → Follows n k at tail
+  restart number lt m = elim (cases_eq (k + 1) n) [
+    | inl all ↦ last n k at tail (ExtraRestart at) ((number, lt, m, all, refl), inr (inr all))
+    | inr further ↦ goes_on (RST0 + number) m (omega arith) (omega (arith, lt)) (λ e. omega (arith, lt, e)) (omega (arith, few, further))
+  ]
+
+  follows : (o : ℕ) (end : ScanEnd) → IsEnding 1 0 o tail end → Follows n k at tail
+  follows o EndOfFile h = last n k at tail EndOfFile (h, inl refl)
+  follows o EndOfImage h = last n k at tail EndOfImage (h, inr (inl refl))
+  follows o (ExtraRestart at') h = restart h.0 h.1 h.2
+  follows o (OutOfStep f x at') h = absurd (omega (arith, h.2))
+  follows o (OtherMarker c at') h = elim (cases_eq (k + 1) n) [
+    | inl all ↦ last n k at tail (OtherMarker c at) ((h.0, h.1, h.2, h.3, refl), inr (inr all))
+    | inr further ↦ goes_on c h.2 h.0 h.1 (not_end c h.3) (omega (arith, few, further))
+  ]
+    where
+      not_end : (c : ℕ) → (c < RST0) ⊎ ((c ≡ SOI) ⊎ (EOI < c)) → c ≢ EOI
+      not_end c (inl l) e = omega (arith, l, e)
+      not_end c (inr (inl q)) e = omega (arith, q, e)
+      not_end c (inr (inr g)) e = omega (arith, g, e)
+
+follows_from : (fuel n k at o : ℕ) (tail : List ℕ) (end : ScanEnd) → length tail ≤ fuel → k < n → IsEnding 1 0 o tail end → All (λ b. b < 256) tail → Follows n k at tail
+follows_from zero n k at o tail end short few ends small = last n k at tail EndOfFile ((0, nil_from_length tail (omega (arith, short))), inl refl)
+follows_from (suc fuel) n k at o tail end short few ends small =
+    follows n k at tail few small (λ k' at' o' t e shorter few' ends' small'. follows_from fuel n k' at' o' t e (omega (arith, short, shorter)) few' ends' small') o end ends
+
+pub each_scan_resyncs : (n at : ℕ) (bytes : List ℕ) → 0 < n → All (λ b. b < 256) bytes → (r : Resync) × IsResync n at bytes r
+each_scan_resyncs n at bytes some small =
+    let f = front bytes small in
+    let others = follows_from (length f.tail) n 0 (at + length f.raw) f.at f.tail f.end (omega arith) some f.ends (small_behind bytes f.raw f.tail f.whole small) in
+    let r : Resync = record { raws = f.raw ∷ others.r.raws; datas = f.found ∷ others.r.datas; breaks = others.r.breaks; end = others.r.end } in
+    (r, record { some = some; raw = f.raw; first = f.found; rest = f.tail; after = others.r; is_raw = f.is_raw; spelled = f.whole; parts = others.is; is = refl })

@@ -1,0 +1,98 @@
+-- A scan whose restart markers are in step is resynchronised to the segments that it is cut into.
+use Rattle.std.proofs.Common.{◌≡◌, ℕ, suc, ◌+◌, ◌%◌, ◌<◌, inl, inr, List, [], ◌∷◌, ◌++◌, length, map, refl, sym, ap, subst, ◌∙◌, append_assoc, length-append, Some, arith}
+use Rattle.std.specs.List.{AllByRecursion, flat_map}
+use Rattle.jr_base.specs.declared.marker.TheConstants.{RST0}
+use Rattle.jr_cut.specs.declared.scan_end.ScanEnd.{ScanEnd}
+use Rattle.jr_cut.specs.declared.scan_end.ScanEnd.TheVariants.{EndOfImage, OtherMarker, OutOfStep, ExtraRestart, EndOfFile}
+use Rattle.jr_cut.specs.Cut.{CodedSegment, IsCut, IsEnding, IsRaw, marker, with_markers}
+use Rattle.jr_mend.specs.Resync.{AreParts, EndsResync, IsInStep, IsResync, Part, PartsFrom, Resync, breaks_of, last_number, new_segments, part_bytes}
+use Rattle.jr_mend.proofs.ResyncLaw.{one_resync}
+
+parts_of : ℕ → List CodedSegment → List Part
+parts_of k [] = []
+parts_of k (p ∷ ps) = (record { more = p.more; code = RST0 + k % 8; missing = Some 0; raw = p.raw; bytes = p.bytes }) ∷ parts_of (suc k) ps
+
+are_parts : (n j k : ℕ) (ps : List CodedSegment) → j ≡ k → AllByRecursion (λ p. IsRaw p.raw p.bytes) ps → k + length ps < n → AreParts n j (parts_of k ps)
+unfolding parts_of
+are_parts n j k [] same each few = tt
+are_parts n j k (p ∷ ps) same each few =
+    let due : k ≡ j + 0 = omega (arith, same) in
+    ((omega arith, omega (arith, same, few), ap (λ (i : ℕ). RST0 + i % 8) due), each.0, are_parts n (suc (j + 0)) (suc k) ps (omega (arith, same)) each.1 (omega (arith, few)))
+
+bytes_are : (k : ℕ) (ps : List CodedSegment) → flat_map part_bytes (parts_of k ps) ≡ with_markers k ps
+unfolding parts_of
+bytes_are k [] = refl
+bytes_are k (p ∷ ps) =
+    let m = marker p.more (RST0 + k % 8) in
+    append_assoc m p.raw (flat_map part_bytes (parts_of (suc k) ps)) ∙ ap (λ (x : List ℕ). m ++ (p.raw ++ x)) (bytes_are (suc k) ps)
+
+datas_are : (k : ℕ) (ps : List CodedSegment) → flat_map (λ (p : Part). new_segments p.missing p.bytes) (parts_of k ps) ≡ map (λ (p : CodedSegment). p.bytes) ps
+unfolding parts_of
+datas_are k [] = refl
+datas_are k (p ∷ ps) = ap (λ (x : List (List ℕ)). p.bytes ∷ x) (datas_are (suc k) ps)
+
+breaks_are : (at j k : ℕ) (ps : List CodedSegment) → breaks_of at j (parts_of k ps) ≡ []
+unfolding parts_of
+breaks_are at j k [] = refl
+breaks_are at j k (p ∷ ps) = breaks_are (at + length (marker p.more (RST0 + k % 8) ++ p.raw)) (suc (j + 0)) (suc k) ps
+
+last_is : (j k : ℕ) (ps : List CodedSegment) → j ≡ k → last_number j (parts_of k ps) ≡ k + length ps
+unfolding parts_of
+last_is j k [] same = omega (arith, same)
+last_is j k (p ∷ ps) same = let e = last_is (suc (j + 0)) (suc k) ps (omega (arith, same)) in omega (arith, e)
+
+ends_in_step : (n k at : ℕ) (tail : List ℕ) (end : ScanEnd) → IsInStep end → IsEnding n k at tail end → EndsResync n k at tail end
+ends_in_step n k at tail EndOfFile in_step h = (h, inl refl)
+ends_in_step n k at tail EndOfImage in_step h = (h, inr (inl refl))
+ends_in_step n k at tail (ExtraRestart o) in_step h = (h, inr (inr h.3))
+ends_in_step n k at tail (OutOfStep f x o) in_step h = absurd in_step
+ends_in_step n k at tail (OtherMarker c o) in_step h = absurd in_step
+
+module _ (n at : ℕ) (bytes : List ℕ) (datas : List (List ℕ)) (end : ScanEnd) (c : IsCut n at bytes datas end) (in_step : IsInStep end) where
+  abbrev parts : List Part
+  parts = parts_of 0 c.segments
+
+  abbrev rest : List ℕ
+  rest = with_markers 0 c.segments ++ c.tail
+
+  after : Resync
+  after = record { raws = flat_map (λ (p : Part). new_segments p.missing p.raw) parts; datas = map (λ (p : CodedSegment). p.bytes) c.segments; breaks = []; end = end }
+
+  abbrev whole : Resync
+  whole = record { raws = c.raw ∷ after.raws; datas = c.first ∷ after.datas; breaks = after.breaks; end = after.end }
+
+  follows : PartsFrom n 0 (at + length c.raw) rest after
+  unfolding after
+  follows =
+      let bytes = bytes_are 0 c.segments in
+      let place : at + length (c.raw ++ with_markers 0 c.segments) ≡ at + length c.raw + length (flat_map part_bytes parts) = omega (arith, length-append c.raw (with_markers 0 c.segments), ap length bytes) in
+      let here = subst (λ (o : ℕ). EndsResync n (0 + length c.segments) o c.tail end) place (ends_in_step n (0 + length c.segments) (at + length (c.raw ++ with_markers 0 c.segments)) c.tail end in_step c.ends) in
+      record {
+        parts = parts;
+        tail = c.tail;
+        are = are_parts n 0 0 c.segments refl c.each c.few;
+        spelled = ap (λ (x : List ℕ). x ++ c.tail) (sym bytes);
+        raws = refl;
+        datas = sym (datas_are 0 c.segments);
+        breaks = sym (breaks_are (at + length c.raw) 0 0 c.segments);
+        ends = subst (λ (k : ℕ). EndsResync n k (at + length c.raw + length (flat_map part_bytes parts)) c.tail end) (sym (last_is 0 0 c.segments refl)) here;
+      }
+
+  resync : IsResync n at bytes whole
+  resync = record {
+    some = omega (arith, c.few);
+    raw = c.raw;
+    first = c.first;
+    rest = rest;
+    after = after;
+    is_raw = c.is_raw;
+    spelled = c.spelled;
+    parts = follows;
+    is = refl;
+  }
+
+  pub in_step_stays : (r : Resync) → IsResync n at bytes r → (r.datas ≡ datas) × (r.breaks ≡ []) × (r.end ≡ end)
+  unfolding after
+  in_step_stays r is =
+      let same = one_resync n at bytes r whole is resync in
+      (ap (λ (x : Resync). x.datas) same ∙ sym c.means, ap (λ (x : Resync). x.breaks) same, ap (λ (x : Resync). x.end) same)

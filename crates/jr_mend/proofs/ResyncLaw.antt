@@ -1,0 +1,148 @@
+-- There is one way to resynchronise the bytes of a scan.
+use Rattle.std.proofs.Common.{◌≡◌, ◌≢◌, ℕ, suc, ◌+◌, ◌%◌, ◌<◌, ◌⊎◌, inl, inr, List, [], ◌∷◌, ◌++◌, length, refl, sym, ap, subst, ◌∙◌, append_assoc, Option, Some, None, arith}
+use Rattle.std.specs.List.{flat_map}
+use Rattle.std.proofs.lemmas.List.{append_cancel_right}
+use Rattle.jr_base.specs.declared.marker.TheConstants.{EOI, PREFIX}
+use Rattle.jr_cut.specs.declared.scan_end.ScanEnd.{ScanEnd}
+use Rattle.jr_cut.specs.declared.scan_end.ScanEnd.TheVariants.{EndOfImage, OtherMarker, OutOfStep, ExtraRestart, EndOfFile}
+use Rattle.jr_cut.specs.Cut.{HasMarker, IsCut, IsEnding, IsStop, marker}
+use Rattle.jr_cut.proofs.CutLaw.{ending_stop, marker_stop, one_cut, run_of, same_marker}
+use Rattle.jr_cut.proofs.Cuts.{cut_last, raw_none, run_end, run_same}
+use Rattle.jr_cut.proofs.Spellings.{one_stop}
+use Rattle.jr_mend.specs.Resync.{AreParts, EndsResync, IsMeaning, IsResync, Part, PartsFrom, Resync, breaks_of, last_number, new_segments, number_after, part_bytes}
+
+-- ---- what a marker means
+
+same_ahead : (k d e : ℕ) → d < 8 → e < 8 → (k + d) % 8 ≡ (k + e) % 8 → d ≡ e
+same_ahead k d e few less same = omega arith
+
+same_meaning : (n k code : ℕ) (a b : Option ℕ) → IsMeaning n k code a → IsMeaning n k code b → a ≡ b
+same_meaning n k code None None x y = refl
+same_meaning n k code None (Some e) x y = absurd (x.4 e y)
+same_meaning n k code (Some d) None x y = absurd (y.4 d x)
+same_meaning n k code (Some d) (Some e) x y = ap Some (same_ahead k d e (omega (arith, x.0)) (omega (arith, y.0)) (omega (arith, x.2, y.2)))
+
+-- it has a code, and is not EOI nor after the last segment
+record Means (n k code : ℕ) : Type 0 where
+  some : 0 < code
+  less : code < PREFIX
+  goes : code ≢ EOI
+  further : k + 1 < n
+
+means : (n k code : ℕ) (a : Option ℕ) → IsMeaning n k code a → Means n k code
+means n k code None m = record { some = m.0; less = m.1; goes = m.2; further = m.3 }
+means n k code (Some d) m = record { some = omega (arith, m.2); less = omega (arith, m.2); goes = λ e. omega (arith, e, m.2); further = omega (arith, m.1) }
+
+not_ended : (n k at code : ℕ) (a : Option ℕ) (tail : List ℕ) (end : ScanEnd) → EndsResync n k at tail end → IsMeaning n k code a → HasMarker tail code → ⊥
+not_ended n k at code a tail end ends meaning m = go ends.1
+  where
+    has : Means n k code
+    has = means n k code a meaning
+
+    not_ff : code ≢ PREFIX
+    not_ff e = omega (arith, e, has.less)
+
+    go : (end ≡ EndOfFile) ⊎ ((end ≡ EndOfImage) ⊎ (k + 1 ≡ n)) → ⊥
+    go (inl e) =
+        let h = subst (λ (x : ScanEnd). IsEnding n k at tail x) e ends.0 in
+        run_end (suc m.0) h.0 code m.1 not_ff (sym (run_of m.0 code m.1) ∙ sym m.2 ∙ h.1)
+    go (inr (inl e)) =
+        let h = subst (λ (x : ScanEnd). IsEnding n k at tail x) e ends.0 in
+        has.goes (same_marker tail code EOI m h not_ff (λ z. omega arith))
+    go (inr (inr e)) = omega (arith, e, has.further)
+
+-- ---- the parts
+
+first_part : (p : Part) (ps : List Part) (tail : List ℕ) → flat_map part_bytes (p ∷ ps) ++ tail ≡ marker p.more p.code ++ (p.raw ++ (flat_map part_bytes ps ++ tail))
+first_part p ps tail = append_assoc (part_bytes p) (flat_map part_bytes ps) tail ∙ append_assoc (marker p.more p.code) p.raw (flat_map part_bytes ps ++ tail)
+
+parts_stop : (n k : ℕ) (ps : List Part) (tail : List ℕ) → AreParts n k ps → IsStop tail → IsStop (flat_map part_bytes ps ++ tail)
+parts_stop n k [] tail are stop = stop
+parts_stop n k (p ∷ ps) tail are stop =
+    let has = means n k p.code p.missing are.0 in
+    marker_stop _ p.code (p.more, p.raw ++ (flat_map part_bytes ps ++ tail), first_part p ps tail) (λ e. omega (arith, e, has.some)) (λ e. omega (arith, e, has.less))
+
+same_parts : (n k at o : ℕ) (ps qs : List Part) (s t : List ℕ) (a b : ScanEnd) → AreParts n k ps → AreParts n k qs → EndsResync n (last_number k ps) at s a → EndsResync n (last_number k qs) o t b
+    → flat_map part_bytes ps ++ s ≡ flat_map part_bytes qs ++ t → (ps ≡ qs) × (s ≡ t)
+same_parts n k at o [] [] s t a b hp hq ha hb e = (refl, e)
+same_parts n k at o [] (q ∷ qs) s t a b hp hq ha hb e = absurd (not_ended n k at q.code q.missing s a ha hq.0 (q.more, _, e ∙ first_part q qs t))
+same_parts n k at o (p ∷ ps) [] s t a b hp hq ha hb e = absurd (not_ended n k o p.code p.missing t b hb hp.0 (p.more, _, sym e ∙ first_part p ps s))
+same_parts n k at o (p ∷ ps) (q ∷ qs) s t a b hp hq ha hb e =
+    let x = p.raw ++ (flat_map part_bytes ps ++ s) in
+    let y = q.raw ++ (flat_map part_bytes qs ++ t) in
+    let has_p = means n k p.code p.missing hp.0 in
+    let has_q = means n k q.code q.missing hq.0 in
+    let mark = run_same (suc p.more) (suc q.more) p.code q.code x y (λ z. omega (arith, z, has_p.less)) (λ z. omega (arith, z, has_q.less))
+    (sym (run_of p.more p.code x) ∙ sym (first_part p ps s) ∙ e ∙ first_part q qs t ∙ run_of q.more q.code y) in
+    let more : p.more ≡ q.more = omega (arith, mark.0) in
+    let code : p.code ≡ q.code = mark.1 in
+    let missing : p.missing ≡ q.missing = same_meaning n k q.code p.missing q.missing (subst (λ (c : ℕ). IsMeaning n k c p.missing) code hp.0) hq.0 in
+    let are = subst (λ (m : Option ℕ). AreParts n (number_after k m) qs) (sym missing) hq.2 in
+    let ends = subst (λ (m : Option ℕ). EndsResync n (last_number (number_after k m) qs) o t b) (sym missing) hb in
+    let stop_s = parts_stop n (number_after k p.missing) ps s hp.2 (ending_stop n (last_number (number_after k p.missing) ps) at s a ha.0) in
+    let stop_t = parts_stop n (number_after k p.missing) qs t are (ending_stop n (last_number (number_after k p.missing) qs) o t b ends.0) in
+    let data' = one_stop p.raw p.bytes q.raw q.bytes (flat_map part_bytes ps ++ s) (flat_map part_bytes qs ++ t) hp.1 hq.1 mark.2 stop_s stop_t in
+    let bytes : p.bytes ≡ q.bytes = sym data'.0 in
+    let raw : p.raw ≡ q.raw = append_cancel_right p.raw q.raw (flat_map part_bytes qs ++ t) (ap (λ (z : List ℕ). p.raw ++ z) (sym data'.1) ∙ mark.2) in
+    let others = same_parts n (number_after k p.missing) at o ps qs s t a b hp.2 are ha ends data'.1 in
+    let one : Part = record { more = p.more; code = p.code; missing = p.missing; raw = p.raw; bytes = p.bytes } in
+    let other : Part = record { more = q.more; code = q.code; missing = q.missing; raw = q.raw; bytes = q.bytes } in
+    let here : one ≡ other = cc (more, code, missing, raw, bytes) in
+    (ap (λ (r : Part). r ∷ ps) here ∙ ap (λ (rs : List Part). q ∷ rs) others.0, others.1)
+
+-- ---- the end
+
+not_out : (n k : ℕ) (end : ScanEnd) → end ≢ EndOfFile → end ≢ EndOfImage → k + 1 < n → (end ≡ EndOfFile) ⊎ ((end ≡ EndOfImage) ⊎ (k + 1 ≡ n)) → ⊥
+not_out n k end file image less (inl e) = file e
+not_out n k end file image less (inr (inl e)) = image e
+not_out n k end file image less (inr (inr e)) = omega (arith, e, less)
+
+-- as what ends a scan of one segment
+to_one : (n k at : ℕ) (tail : List ℕ) (end : ScanEnd) → EndsResync n k at tail end → IsEnding 1 0 at tail end
+to_one n k at tail EndOfFile h = h.0
+to_one n k at tail EndOfImage h = h.0
+to_one n k at tail (ExtraRestart o) h = let e = h.0 in (e.0, e.1, e.2, refl, e.4)
+to_one n k at tail (OutOfStep f x o) h = let e = h.0 in absurd (not_out n k (OutOfStep f x o) (λ z. absurd cc) (λ z. absurd cc) e.2 h.1)
+to_one n k at tail (OtherMarker c o) h = h.0
+
+same_end : (n k at : ℕ) (tail : List ℕ) (a b : ScanEnd) → EndsResync n k at tail a → EndsResync n k at tail b → a ≡ b
+same_end n k at tail a b ha hb = (one_cut 1 at tail ([] ∷ []) ([] ∷ []) a b (cut a ha) (cut b hb)).1
+  where
+    here : at ≡ at + 0
+    here = omega arith
+
+    cut : (end : ScanEnd) → EndsResync n k at tail end → IsCut 1 at tail ([] ∷ []) end
+    cut end h = cut_last 1 0 at tail [] [] tail end (omega arith) raw_none refl (subst (λ (o : ℕ). IsEnding 1 0 o tail end) here (to_one n k at tail end h))
+
+-- ---- the whole
+
+module _ (n k at : ℕ) (bytes : List ℕ) (r s : Resync) (f : PartsFrom n k at bytes r) (g : PartsFrom n k at bytes s) where
+  same : (f.parts ≡ g.parts) × (f.tail ≡ g.tail)
+  same = same_parts n k (at + length (flat_map part_bytes f.parts)) (at + length (flat_map part_bytes g.parts)) f.parts g.parts f.tail g.tail r.end s.end f.are g.are f.ends g.ends (sym f.spelled ∙ g.spelled)
+
+  pub one_following : r ≡ s
+  one_following =
+      let raws : r.raws ≡ s.raws = f.raws ∙ ap (flat_map (λ (p : Part). new_segments p.missing p.raw)) same.0 ∙ sym g.raws in
+      let datas : r.datas ≡ s.datas = f.datas ∙ ap (flat_map (λ (p : Part). new_segments p.missing p.bytes)) same.0 ∙ sym g.datas in
+      let breaks : r.breaks ≡ s.breaks = f.breaks ∙ ap (breaks_of at k) same.0 ∙ sym g.breaks in
+      let ends = subst (λ (ps : List Part). EndsResync n (last_number k ps) (at + length (flat_map part_bytes ps)) g.tail r.end) same.0 (subst (λ (x : List ℕ). EndsResync n (last_number k f.parts) (at + length (flat_map part_bytes f.parts)) x r.end) same.1 f.ends) in
+      let end : r.end ≡ s.end = same_end n (last_number k g.parts) (at + length (flat_map part_bytes g.parts)) g.tail r.end s.end ends g.ends in
+      let one : Resync = record { raws = r.raws; datas = r.datas; breaks = r.breaks; end = r.end } in
+      let other : Resync = record { raws = s.raws; datas = s.datas; breaks = s.breaks; end = s.end } in
+      let here : one ≡ other = cc (raws, datas, breaks, end) in
+      here
+
+following_stop : (n k at : ℕ) (bytes : List ℕ) (r : Resync) → PartsFrom n k at bytes r → IsStop bytes
+following_stop n k at bytes r f = subst IsStop (sym f.spelled) (parts_stop n k f.parts f.tail f.are (ending_stop n (last_number k f.parts) (at + length (flat_map part_bytes f.parts)) f.tail r.end f.ends.0))
+
+pub one_resync : (n at : ℕ) (bytes : List ℕ) (a b : Resync) → IsResync n at bytes a → IsResync n at bytes b → a ≡ b
+one_resync n at bytes a b x y =
+    let data' = one_stop x.raw x.first y.raw y.first x.rest y.rest x.is_raw y.is_raw (sym x.spelled ∙ y.spelled) (following_stop n 0 (at + length x.raw) x.rest x.after x.parts) (following_stop n 0 (at + length y.raw) y.rest y.after y.parts) in
+    let first : x.first ≡ y.first = sym data'.0 in
+    let raw : x.raw ≡ y.raw = append_cancel_right x.raw y.raw y.rest (ap (λ (z : List ℕ). x.raw ++ z) (sym data'.1) ∙ sym x.spelled ∙ y.spelled) in
+    let moved = subst (λ (z : List ℕ). PartsFrom n 0 (at + length z) y.rest x.after) raw (subst (λ (z : List ℕ). PartsFrom n 0 (at + length x.raw) z x.after) data'.1 x.parts) in
+    let after : x.after ≡ y.after = one_following n 0 (at + length y.raw) y.rest x.after y.after moved y.parts in
+    let one : Resync = record { raws = x.raw ∷ x.after.raws; datas = x.first ∷ x.after.datas; breaks = x.after.breaks; end = x.after.end } in
+    let other : Resync = record { raws = y.raw ∷ y.after.raws; datas = y.first ∷ y.after.datas; breaks = y.after.breaks; end = y.after.end } in
+    let here : one ≡ other = cc (raw, first, after) in
+    x.is ∙ here ∙ sym y.is

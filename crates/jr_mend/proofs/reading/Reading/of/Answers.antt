@@ -1,0 +1,20 @@
+use Rattle.std.proofs.Common.{◌≡◌, ◌+◌, ◌<◌, ◌++◌, ◌∷◌, [], ℕ, take, drop, refl, ap, subst, ◌∙◌, arith}
+use Rattle.jr_mend.specs.Splice.{joined}
+use Rattle.jr_mend.proofs.Readings.{Segment, read_first, segment, slice_is}
+use Rattle.jr_mend.proofs.reading.Reading.of.Goals as goal
+
+pub returns : goal.returns
+returns c =
+    let file = c.args.file.now in
+    let h = c.args.head.now in
+    let at = h.scan_at in
+    let len = c.segment_length.result in
+    let start : c.scan_at-start.result ≡ at = c.scan_at-start.ensures.value in
+    let told = subst (λ (a : ℕ). Segment file a len) start (segment file c.scan_at-start.result len (omega (arith, c.requires.scan_at, start)) c.segment_length.ensures.within c.segment_length.ensures.data c.segment_length.ensures.stop) in
+    let front = take at file in
+    let raw = take len (drop at file) in
+    let some = subst (λ (n : ℕ). 0 < n) c.intervals-some.ensures.value c.intervals-some.ensures.some in
+    let slice = slice_is file c.scan_at-start.result (c.scan_at-start.result + len) len refl ∙ ap (λ (a : ℕ). take len (drop a file)) start in
+    let before : c.reserve.new.self.items ≡ front ++ joined [] = c.reserve.ensures.items ∙ c.in_ok-bytes.ensures.joined in
+    let written : c.write_interval.new.bytes.items ≡ front ++ joined (raw ∷ []) = grind (arith, c.in_ok-write_interval.ensures.joined front [] refl before, slice) in
+    read_first file h _ len told some refl (ap (λ a. a + len) start) c.new.ensures.items written

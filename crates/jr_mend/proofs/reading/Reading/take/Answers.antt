@@ -1,0 +1,15 @@
+use Rattle.std.proofs.Common.{◌+◌, ◌≤◌, length, refl, arith}
+use Rattle.jr_mend.proofs.Readings.{segment, slice_is, takes}
+use Rattle.jr_mend.proofs.reading.Reading.take.Goals as goal
+
+pub returns : goal.returns
+returns c =
+    let file = c.args.file.now in
+    let mid = c.note.new.self in
+    let m = c.args.marker in
+    let len = c.segment_length.result in
+    let same = c.in_ok-note.ensures.same in
+    let next = c.in_ok-begin_next.ensures in
+    let there : mid.at + m.length ≤ length file = omega (arith, same.2, c.requires.within) in
+    let told = segment file (mid.at + m.length) len there c.segment_length.ensures.within c.segment_length.ensures.data c.segment_length.ensures.stop in
+    takes file c.args.self.now mid _ m len _ told c.in_ok-note.ensures.breaks same.0 same.1 same.2 refl next.number next.same.0 next.written (grind (arith, slice_is file (mid.at + m.length) (mid.at + m.length + len) len refl))

@@ -1,0 +1,73 @@
+-- A file that is read, and written anew as it is resynchronised.
+use Rattle.std.specs.Prelude.{◌≡◌, ℕ, suc, ◌+◌, ◌<◌, ◌≤◌, List, ◌++◌, length, take, drop}
+use Rattle.std.specs.List.{AllZip}
+use Rattle.jr_base.specs.declared.limits.TheConstants.{MAX_FILE_BYTES}
+use Rattle.jr_cut.specs.declared.scan_end.ScanEnd.TheVariants.{EndOfImage}
+use Rattle.jr_cut.specs.Cut.{IsRaw, IsStop, marker}
+use Rattle.jr_head.specs.HeadValue.{HeadValue}
+use Rattle.jr_head.specs.Heads.{HeadOf}
+use Rattle.jr_scan.specs.ScanValue.{IsScanOf, intervals_of, scan_of_segments}
+use Rattle.jr_mend.specs.declared.following.Following.{Following}
+use Rattle.jr_mend.specs.declared.following.Following.TheVariants.{End, Marker}
+use Rattle.jr_mend.specs.declared.following.FoundMarker.{FoundMarker}
+use Rattle.jr_mend.specs.declared.reading.Reading.{Reading}
+use Rattle.jr_mend.specs.declared.resync.ResyncFault.{ResyncFault}
+use Rattle.jr_mend.specs.declared.resync.ResyncFault.TheVariants.{Memory, TooLong}
+use Rattle.jr_mend.specs.declared.resync.Resynced.{Resynced}
+use Rattle.jr_mend.specs.Resync.{EndsResync, IsMeaning, IsResync, PartsFrom, Resync, break_at, new_segments, number_after}
+use Rattle.jr_mend.specs.Splice.{joined, spliced}
+
+-- bytes after segment k of n begin with this marker
+pub record Meets (n k : ℕ) (tail : List ℕ) (m : FoundMarker) : Type 0 where
+  pub more : ℕ
+  pub long : m.length ≡ more + 2
+  pub spelled : tail ≡ marker more m.code ++ drop m.length tail
+  pub means : IsMeaning n k m.code m.missing
+
+abbrev pub IsFollowing : (n k at : ℕ) → List ℕ → Following → Type 0
+IsFollowing n k at tail (End end) = EndsResync n k at tail end
+IsFollowing n k at tail (Marker m) = Meets n k tail m
+
+-- the marker and the bytes after it are read, and these are written if they are a segment's
+pub record Takes (file : List ℕ) (old new : Reading) (m : FoundMarker) : Type 0 where
+  pub len : ℕ
+  pub data' : List ℕ
+  pub raw : IsRaw (take len (drop (old.at + m.length) file)) data'
+  pub within : old.at + m.length + len ≤ length file
+  pub at : new.at ≡ old.at + m.length + len
+  pub stop : IsStop (drop new.at file)
+  pub number : new.k ≡ number_after old.k m.missing
+  pub breaks : new.breaks.items ≡ old.breaks.items ++ break_at old.at old.k m.code m.missing
+  pub written : (front : List ℕ) (raws : List (List ℕ)) → length raws ≡ suc old.k → old.bytes.items ≡ front ++ joined raws → new.bytes.items ≡ front ++ joined (raws ++ new_segments m.missing (take len (drop (old.at + m.length) file)))
+
+-- what is read so far, up to a marker or the end, is written: the segments up to the last that has begun
+pub record HasRead (file : List ℕ) (h : HeadValue) (w : Reading) : Type 0 where
+  pub raws : List (List ℕ)
+  pub datas : List (List ℕ)
+  pub count : length raws ≡ suc w.k
+  pub few : w.k < intervals_of h
+  pub each : AllZip IsRaw raws datas
+  pub within : w.at ≤ length file
+  pub stop : IsStop (drop w.at file)
+  pub written : w.bytes.items ≡ take h.scan_at file ++ joined raws
+  pub on : (r : Resync) → PartsFrom (intervals_of h) w.k w.at (drop w.at file) r → IsResync (intervals_of h) h.scan_at (drop h.scan_at file) (record { raws = raws ++ r.raws; datas = datas ++ r.datas; breaks = w.breaks.items ++ r.breaks; end = r.end })
+
+-- the file is resynchronised: its scan's bytes fall into these segments, and the segments that are lost at the end have no data
+pub record IsResynced (file : List ℕ) (h : HeadValue) (r : Resynced) : Type 0 where
+  pub segments : Resync
+  pub is : IsResync (intervals_of h) h.scan_at (drop h.scan_at file) segments
+  pub bytes : r.file.items ≡ spliced file h segments.raws
+  pub breaks : r.breaks.items ≡ segments.breaks
+  pub ended : r.ended ≡ segments.end
+  pub head : HeadOf r.file.items h
+  pub scan : IsScanOf r.file.items (scan_of_segments h segments.datas EndOfImage)
+
+-- the file that it would be is too long
+pub record IsTooLong (file : List ℕ) (h : HeadValue) : Type 0 where
+  pub segments : Resync
+  pub is : IsResync (intervals_of h) h.scan_at (drop h.scan_at file) segments
+  pub long : MAX_FILE_BYTES < length (spliced file h segments.raws)
+
+abbrev pub IsResyncFault : List ℕ → HeadValue → ResyncFault → Type 0
+IsResyncFault file h Memory = Unit {0}
+IsResyncFault file h TooLong = IsTooLong file h

@@ -1,0 +1,100 @@
+-- How the bytes of a scan fall into intervals if markers or data are lost: restart markers are counted modulo 8, so that a
+-- decoder can tell how many are missing before one (T.81, B.1.1.5, E.1.4 and E.2.4).
+use Rattle.std.specs.Prelude.{◌≡◌, ◌≢◌, ℕ, zero, suc, ◌+◌, ◌%◌, ◌<◌, ◌≤◌, ◌⊎◌, List, [], ◌∷◌, ◌++◌, length, replicate, Option, Some, None}
+use Rattle.std.specs.List.{flat_map}
+use Rattle.jr_base.specs.declared.marker.TheConstants.{EOI, PREFIX, RST0}
+use Rattle.jr_cut.specs.declared.scan_end.ScanEnd.{ScanEnd}
+use Rattle.jr_cut.specs.declared.scan_end.ScanEnd.TheVariants.{EndOfImage, OtherMarker, OutOfStep, ExtraRestart, EndOfFile}
+use Rattle.jr_cut.specs.Cut.{IsRaw, marker, IsEnding}
+use Rattle.jr_mend.specs.declared.breaks.Break.{Break}
+use Rattle.jr_mend.specs.declared.following.TheConstants.{MAX_SKIPPED}
+
+-- after segment k of n: the restart marker d ahead of the one that is due, and the segment that follows it is one of the scan
+abbrev pub IsAhead : (n k code d : ℕ) → Type 0
+IsAhead n k code d = (d ≤ MAX_SKIPPED) × (k + d + 1 < n) × (code ≡ RST0 + (k + d) % 8)
+
+-- what a marker after segment k means: d segments are missing before the one that follows it, or it is passed over
+abbrev pub IsMeaning : (n k code : ℕ) → Option ℕ → Type 0
+IsMeaning n k code (Some d) = IsAhead n k code d
+IsMeaning n k code None = (0 < code) × (code < PREFIX) × (code ≢ EOI) × (k + 1 < n) × ((d : ℕ) → IsAhead n k code d → ⊥)
+
+-- what ends the scan after segment k: the end of the file, EOI, or any marker if it was the last segment
+abbrev pub EndsResync : (n k at : ℕ) → List ℕ → ScanEnd → Type 0
+EndsResync n k at tail end = IsEnding n k at tail end × ((end ≡ EndOfFile) ⊎ ((end ≡ EndOfImage) ⊎ (k + 1 ≡ n)))
+
+-- a marker, its further FF and what it means, and the bytes up to the next marker, as they stand and what they spell
+pub record Part : Type 0 where
+  pub more : ℕ
+  pub code : ℕ
+  pub missing : Option ℕ
+  pub raw : List ℕ
+  pub bytes : List ℕ
+
+-- the number of the last segment that has begun
+abbrev pub number_after : ℕ → Option ℕ → ℕ
+number_after k None = k
+number_after k (Some d) = suc (k + d)
+
+abbrev pub last_number : ℕ → List Part → ℕ
+last_number k [] = k
+last_number k (p ∷ ps) = last_number (number_after k p.missing) ps
+
+abbrev pub AreParts : (n k : ℕ) → List Part → Type 0
+AreParts n k [] = Unit {0}
+AreParts n k (p ∷ ps) = IsMeaning n k p.code p.missing × IsRaw p.raw p.bytes × AreParts n (number_after k p.missing) ps
+
+abbrev pub part_bytes : Part → List ℕ
+part_bytes p = marker p.more p.code ++ p.raw
+
+-- segments without bytes for those that are missing, and these bytes; bytes after a marker that is passed over are no segment's
+abbrev pub new_segments : Option ℕ → List ℕ → List (List ℕ)
+new_segments None bytes = []
+new_segments (Some d) bytes = replicate d [] ++ bytes ∷ []
+
+-- a marker at an offset that is not the one that is due after segment k
+abbrev pub break_at : (at k code : ℕ) → Option ℕ → List Break
+break_at at k code None = (record { at = at; code = code; due = k % 8; skipped = 0 }) ∷ []
+break_at at k code (Some zero) = []
+break_at at k code (Some (suc d)) = (record { at = at; code = code; due = k % 8; skipped = suc d }) ∷ []
+
+abbrev pub breaks_of : (at k : ℕ) → List Part → List Break
+breaks_of at k [] = []
+breaks_of at k (p ∷ ps) = break_at at k p.code p.missing ++ breaks_of (at + length (part_bytes p)) (number_after k p.missing) ps
+
+-- the segments of a scan, as they stand and what they spell, the markers that are not due, and what ends the scan
+pub record Resync : Type 0 where
+  pub raws : List (List ℕ)
+  pub datas : List (List ℕ)
+  pub breaks : List Break
+  pub end : ScanEnd
+
+-- the bytes at that offset, after those of segment k: markers with the bytes after them, and what ends the scan
+pub record PartsFrom (n k at : ℕ) (bytes : List ℕ) (r : Resync) : Type 0 where
+  pub parts : List Part
+  pub tail : List ℕ
+  pub are : AreParts n k parts
+  pub spelled : bytes ≡ flat_map part_bytes parts ++ tail
+  pub raws : r.raws ≡ flat_map (λ (p : Part). new_segments p.missing p.raw) parts
+  pub datas : r.datas ≡ flat_map (λ (p : Part). new_segments p.missing p.bytes) parts
+  pub breaks : r.breaks ≡ breaks_of at k parts
+  pub ends : EndsResync n (last_number k parts) (at + length (flat_map part_bytes parts)) tail r.end
+
+-- the scan's bytes, of which the first is at that offset of the file: segment 0, and what follows it
+pub record IsResync (n at : ℕ) (bytes : List ℕ) (r : Resync) : Type 0 where
+  pub some : 0 < n
+  pub raw : List ℕ
+  pub first : List ℕ
+  pub rest : List ℕ
+  pub after : Resync
+  pub is_raw : IsRaw raw first
+  pub spelled : bytes ≡ raw ++ rest
+  pub parts : PartsFrom n 0 (at + length raw) rest after
+  pub is : r ≡ record { raws = raw ∷ after.raws; datas = first ∷ after.datas; breaks = after.breaks; end = after.end }
+
+-- a scan that ends so has the restart markers that are due, as far as it goes
+abbrev pub IsInStep : ScanEnd → Type 0
+IsInStep EndOfFile = Unit {0}
+IsInStep EndOfImage = Unit {0}
+IsInStep (ExtraRestart at) = Unit {0}
+IsInStep (OutOfStep found expected at) = ⊥
+IsInStep (OtherMarker code at) = ⊥

@@ -1,0 +1,124 @@
+//! A file that is read marker by marker, and written anew as it is resynchronised.
+
+ghost use Rattle.std.specs.Prelude.{◌≡◌, ℕ, suc, ◌+◌, ◌<◌, ◌≤◌, ◌^◌, ◌++◌, ◌∷◌, [], List, length, drop, replicate, IfOk, IfSome};
+ghost use Rattle.jr_head.specs.Heads.{HeadOf};
+ghost use Rattle.jr_mend.specs.Reading.{HasRead, Meets, Takes};
+ghost use Rattle.jr_mend.specs.Resync.{EndsResync, break_at, new_segments, number_after};
+ghost use Rattle.jr_mend.specs.Splice.{joined};
+ghost use Rattle.jr_scan.specs.ScanValue.{intervals_of};
+
+use crate::breaks::Break;
+use crate::following::{Following, FoundMarker, following_at};
+use crate::splice::{write_header, write_interval};
+use jr_base::Memory;
+use jr_cut::{ScanEnd, segment_length};
+use jr_head::Head;
+use std::alloc::Global;
+
+/// Appends intervals without bytes after interval k, and then one of these bytes. On `Err`, part of them may be appended.
+fn write_after(bytes: &mut Vec<u8>, k: u32, missing: u32, raw: &[u8]) -> Result<(), Memory>
+    requires { k + missing + 1 < 2 ^ 32 }
+    ensures { IfOk result (λ _. (front : List ℕ) (raws : List (List ℕ)) → length raws ≡ suc k → bytes.old.items ≡ front ++ joined raws → bytes.new.items ≡ front ++ joined (raws ++ (replicate missing [] ++ raw.now ∷ []))) }
+{
+    for i in 0..missing {
+        write_interval(bytes, k + 1 + i, &[])?;
+    }
+    write_interval(bytes, k + 1 + missing, raw)
+}
+
+/// A file that is written, and how far the damaged one is read.
+#[derive(Drop)]
+pub(crate) struct Reading {
+    pub bytes: Vec<u8>,
+    pub breaks: Vec<Break>,
+    /// The number of the last interval that has begun.
+    pub k: u32,
+    /// Offset in the damaged file of what is read next: a marker, or the end.
+    pub at: usize,
+}
+
+impl Reading {
+    /// Reads the bytes of the first interval.
+    pub(crate) fn of(alloc: Global, head: &Head, file: &[u8]) -> Result<Reading, Memory>
+        requires { HeadOf file.now head.now }
+        ensures { IfOk result (λ w. HasRead file.now head.now w) }
+    {
+        // A header has at least one interval.
+        let _some = head.intervals();
+        let mut bytes = write_header(alloc, head, file)?;
+        let start = head.scan_at() as usize;
+        let end = start + segment_length(&file[start..]);
+        bytes.reserve(file.len() - start + 2)?;
+        write_interval(&mut bytes, 0, &file[start..end])?;
+        Ok(Reading {
+            bytes,
+            breaks: Vec::new(alloc),
+            k: 0,
+            at: end,
+        })
+    }
+
+    /// Records a marker, unless it is the one that is due.
+    fn note(&mut self, marker: FoundMarker) -> Result<(), Memory>
+        ensures breaks { IfOk result (λ _. self.new.breaks.items ≡ self.old.breaks.items ++ break_at self.old.at self.old.k marker.code marker.missing) }
+        ensures same { (self.new.bytes ≡ self.old.bytes) × (self.new.k ≡ self.old.k) × (self.new.at ≡ self.old.at) }
+    {
+        let skipped = match marker.missing {
+            Some(0) => return Ok(()),
+            Some(missing) => missing,
+            None => 0,
+        };
+        self.breaks.push(Break {
+            at: self.at as u64,
+            code: marker.code,
+            due: (self.k % 8) as u8,
+            skipped,
+        })?;
+        Ok(())
+    }
+
+    /// Writes the bytes after a marker as those of the next interval, unless the marker is passed over.
+    fn begin_next(&mut self, missing: Option<u32>, raw: &[u8]) -> Result<(), Memory>
+        requires { IfSome missing (λ d. self.old.k + d + 1 < 2 ^ 32) }
+        ensures number { IfOk result (λ _. self.new.k ≡ number_after self.old.k missing) }
+        ensures written { IfOk result (λ _. (front : List ℕ) (raws : List (List ℕ)) → length raws ≡ suc self.old.k → self.old.bytes.items ≡ front ++ joined raws → self.new.bytes.items ≡ front ++ joined (raws ++ new_segments missing raw.now)) }
+        ensures same { (self.new.breaks ≡ self.old.breaks) × (self.new.at ≡ self.old.at) }
+    {
+        let Some(missing) = missing else {
+            return Ok(());
+        };
+        write_after(&mut self.bytes, self.k, missing, raw)?;
+        self.k += missing + 1;
+        Ok(())
+    }
+
+    /// Reads a marker and the bytes up to the next one, and writes these if they are an interval's.
+    fn take(&mut self, file: &[u8], marker: FoundMarker) -> Result<(), Memory>
+        requires within { self.old.at + marker.length ≤ length file.now }
+        requires few { IfSome marker.missing (λ d. self.old.k + d + 1 < 2 ^ 32) }
+        ensures { IfOk result (λ _. Takes file.now self.old self.new marker) }
+    {
+        self.note(marker)?;
+        let start = self.at + marker.length;
+        let end = start + segment_length(&file[start..]);
+        self.begin_next(marker.missing, &file[start..end])?;
+        self.at = end;
+        Ok(())
+    }
+
+    /// Reads up to the end of the scan, and returns what ends it.
+    pub(crate) fn read_on(&mut self, head: &Head, file: &[u8]) -> Result<ScanEnd, Memory>
+        requires { HasRead file.now head.now self.old }
+        ensures read { IfOk result (λ _. HasRead file.now head.now self.new) }
+        ensures ends { IfOk result (λ end. EndsResync (intervals_of head.now) self.new.k self.new.at (drop self.new.at file.now) end) }
+    {
+        let intervals = head.intervals();
+        'markers: loop {
+            let tail = &file[self.at..];
+            match following_at(tail, self.at as u64, self.k, intervals) {
+                Following::End(ended) => return Ok(ended),
+                Following::Marker(marker) => self.take(file, marker)?,
+            }
+        }
+    }
+}
