@@ -13,12 +13,14 @@ use std::alloc::{AllocError, Global};
 /// A request for a mended file.
 #[derive(Drop)]
 pub(crate) struct MendRequest {
-    /// The names of the copies, 2 to 64.
+    /// The names of the copies, 2 to 64, or 1 that is resynchronised.
     pub(crate) copies: Vec<String>,
     /// The destination of the mended file.
     pub(crate) target: Target,
     /// Whether the report is a JSON object.
     pub(crate) is_json: bool,
+    /// Whether each copy is resynchronised first.
+    pub(crate) is_resync: bool,
 }
 
 /// The text of `--help` after the options.
@@ -27,6 +29,8 @@ The mended file has the header of the first COPY, and each restart interval from
 first copy in which it is sound, otherwise from the one that decodes most of it. It
 goes to standard output if -o is absent. If all of the first copy is sound nothing is
 written. A report goes to standard error; with -o, that of --json to standard output.
+With --resync each copy is first read past restart markers that are out of step, as
+after lost bytes, and one COPY is enough.
 
 Exit status:
   0  every interval is sound
@@ -35,8 +39,8 @@ Exit status:
   3  a copy cannot be read, or is refused
   4  out of memory, or the output cannot be written";
 
-/// The error of fewer than two copies, or of more than 64.
-const WRONG_COUNT: &str = "error: 2 to 64 copies are needed\n";
+/// The error of too few or too many copies.
+const WRONG_COUNT: &str = "error: 2 to 64 copies are needed, or 1 with --resync\n";
 
 /// The name of a stream in place of a file.
 const STREAM: &str = "-";
@@ -51,12 +55,12 @@ fn output_word<'a>(alloc: Global) -> Arg<'a> {
         .help("Write the mended file to FILE; - is standard output")
 }
 
-/// `--json`.
-fn json_word<'a>(alloc: Global) -> Arg<'a> {
-    Arg::new(alloc, "json")
-        .long("json")
+/// An argument without a value.
+fn flag_word<'a>(alloc: Global, name: &'a str, help: &'a str) -> Arg<'a> {
+    Arg::new(alloc, name)
+        .long(name)
         .action(ArgAction::SetTrue)
-        .help("Print the report as a JSON object")
+        .help(help)
 }
 
 /// `COPY COPY..`.
@@ -65,11 +69,11 @@ fn copies_word<'a>(alloc: Global) -> Arg<'a> {
         .action(ArgAction::Append)
         .num_args(1..)
         .value_name("COPY")
-        .help("Copies of one JPEG file, 2 to 64")
+        .help("Copies of one JPEG file, 2 to 64; 1 with --resync")
         .required(true)
 }
 
-/// `jri_mend [-o FILE] [--json] COPY COPY..`.
+/// `jri_mend [-o FILE] [--json] [--resync] COPY COPY..`.
 fn command<'a>(alloc: Global) -> Result<Command<'a>, AllocError> {
     Command::new(alloc, "jri_mend")
         .about("Mend a baseline JPEG file from damaged copies of it")
@@ -77,7 +81,12 @@ fn command<'a>(alloc: Global) -> Result<Command<'a>, AllocError> {
         .after_help(AFTER_HELP)
         .no_binary_name(true)
         .arg(output_word(alloc))?
-        .arg(json_word(alloc))?
+        .arg(flag_word(alloc, "json", "Print the report as a JSON object"))?
+        .arg(flag_word(
+            alloc,
+            "resync",
+            "Read past restart markers that are out of step",
+        ))?
         .arg(copies_word(alloc))
 }
 
@@ -126,7 +135,7 @@ pub(crate) fn wrong(alloc: Global, text: &str) -> Unasked {
 /// Returns what the arguments after the program's name ask for. `Unasked` has the text to print if they ask for help or the
 /// version or are wrong.
 pub(crate) fn asked(alloc: Global, words: &[String]) -> Result<MendRequest, Unasked>
-    ensures some { IfOk result (λ a. 2 ≤ length a.copies.items) }
+    ensures some { IfOk result (λ a. 1 ≤ length a.copies.items) }
     ensures few { IfOk result (λ a. length a.copies.items ≤ MAX_COPIES) }
 {
     let matches = match command(alloc)?.try_get_matches_from(words) {
@@ -135,12 +144,15 @@ pub(crate) fn asked(alloc: Global, words: &[String]) -> Result<MendRequest, Unas
     };
     let copies = copies_in(alloc, &matches)?;
     let target = target_in(alloc, &matches)?;
-    if copies.len() < 2 || copies.len() > MAX_COPIES {
+    let is_resync = matches.get_flag("resync");
+    let fewest = if is_resync { 1 } else { 2 };
+    if copies.len() < fewest || copies.len() > MAX_COPIES {
         return Err(wrong(alloc, WRONG_COUNT));
     }
     Ok(MendRequest {
         copies,
         target,
         is_json: matches.get_flag("json"),
+        is_resync,
     })
 }

@@ -1,8 +1,9 @@
-//! `jri_mend [-o FILE] [--json] COPY COPY..`: writes one JPEG file from damaged copies of it, each restart interval from a copy in
+//! `jri_mend [-o FILE] [--json] [--resync] COPY COPY..`: writes one JPEG file from damaged copies of it, each restart interval from a copy in
 //! which it is sound.
 #![tactic(auto)]
 
 mod asking;
+mod breaks;
 mod ended;
 mod reading;
 mod report;

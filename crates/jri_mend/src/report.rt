@@ -1,5 +1,6 @@
 //! What is reported of a mended file.
 
+use crate::breaks::{BreakObject, CopyBreak};
 use crate::runs::{RunObject, run_at};
 use jr_mend::Choice;
 use jr_scan::ScanEnd;
@@ -37,6 +38,14 @@ pub(crate) fn is_first_sound(choices: &[Choice]) -> bool {
     true
 }
 
+/// Writes a line for each break.
+pub(crate) fn write_breaks<E: Write>(errors: &mut E, breaks: &[CopyBreak]) -> IoResult<()> {
+    for found in breaks {
+        writeln!(errors, "{found}")?;
+    }
+    Ok(())
+}
+
 /// Writes a line for each run of intervals, and one if nothing is written.
 pub(crate) fn write_lines<E: Write>(
     errors: &mut E,
@@ -57,10 +66,24 @@ pub(crate) fn write_lines<E: Write>(
     Ok(())
 }
 
-/// Returns the report as a JSON object, with the line's end.
+/// Appends the breaks as the first member of an object.
+fn put_breaks(line: &mut String, breaks: &[CopyBreak]) -> Result<(), AllocError> {
+    line.push_str("\"breaks\":[")?;
+    for i in 0..breaks.len() {
+        if i > 0 {
+            line.push(',')?;
+        }
+        let found = BreakObject(breaks[i]);
+        write!(line, "{found}")?;
+    }
+    line.push_str("],")
+}
+
+/// Returns the report as a JSON object, with the line's end. It has breaks if there are some.
 pub(crate) fn object_of(
     alloc: Global,
     choices: &[Choice],
+    breaks: &[CopyBreak],
     is_written: bool,
 ) -> Result<String, AllocError> {
     let Report {
@@ -69,9 +92,13 @@ pub(crate) fn object_of(
         ..
     } = report_of(choices);
     let mut line = String::new(alloc);
+    line.push('{')?;
+    if !breaks.is_empty() {
+        put_breaks(&mut line, breaks)?;
+    }
     write!(
         line,
-        "{{\"intervals\":{intervals},\"damaged\":{damaged},\"written\":{is_written},\"runs\":["
+        "\"intervals\":{intervals},\"damaged\":{damaged},\"written\":{is_written},\"runs\":["
     )?;
     let mut next = 0;
     for _ in 0..choices.len() {

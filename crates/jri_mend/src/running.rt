@@ -5,9 +5,10 @@ ghost use Rattle.jr_mend.specs.declared.choice.TheConstants.{MAX_COPIES};
 ghost use Rattle.jri_words.specs.Steps.{LeavesFile};
 
 use crate::asking::{MendRequest, asked, wrong};
+use crate::breaks::CopyBreak;
 use crate::ended::Ended;
-use crate::reading::{CopyError, read_copies};
-use crate::report::{is_first_sound, object_of, report_of, write_lines};
+use crate::reading::{CopyError, Shown, read_copies};
+use crate::report::{is_first_sound, object_of, report_of, write_breaks, write_lines};
 use jr_base::Tally;
 use jr_mend::{FileCopy, MendError, Mended, mend};
 use jri_file::{Fault, Report};
@@ -52,7 +53,7 @@ fn requested<D: Devices>(
     devices: &D,
     words: IoResult<Vec<String>>,
 ) -> Result<MendRequest, Unasked>
-    ensures some { IfOk result (λ a. 2 ≤ length a.copies.items) }
+    ensures some { IfOk result (λ a. 1 ≤ length a.copies.items) }
     ensures few { IfOk result (λ a. length a.copies.items ≤ MAX_COPIES) }
 {
     let words = match words {
@@ -152,16 +153,18 @@ fn report_mended<D: Devices, E: Write>(
     devices: &D,
     asked: &MendRequest,
     mended: &Mended,
+    breaks: &[CopyBreak],
     is_written: bool,
     errors: &mut E,
 ) -> u8 {
     let choices = mended.choices.as_slice();
     let status = if report_of(choices).damaged > 0 { 1 } else { 0 };
     if !asked.is_json {
+        let _ = write_breaks(errors, breaks);
         let _ = write_lines(errors, choices, is_written);
         return status;
     }
-    let Ok(object) = object_of(alloc, choices, is_written) else {
+    let Ok(object) = object_of(alloc, choices, breaks, is_written) else {
         let _ = writeln!(errors, "out of memory");
         return FAILED;
     };
@@ -180,6 +183,14 @@ fn report_mended<D: Devices, E: Write>(
     status
 }
 
+/// Returns the name of a copy, for a line.
+fn shown(names: &[String], copy: usize) -> Shown<'_> {
+    match names.get(copy) {
+        Some(name) => Shown(name.as_str()),
+        None => Shown(""),
+    }
+}
+
 /// Reports why the copies are not mended, and returns the exit status.
 fn report_error<E: Write>(errors: &mut E, names: &[String], error: MendError) -> u8 {
     match error {
@@ -192,11 +203,21 @@ fn report_error<E: Write>(errors: &mut E, names: &[String], error: MendError) ->
             FAILED
         }
         MendError::OtherHead(copy) => {
-            let name = names.get(copy as usize).map_or("", |name| name.as_str());
+            let name = shown(names, copy as usize);
             let _ = writeln!(errors, "{name}: its header is not that of the first copy");
             OTHER_FILE
         }
     }
+}
+
+/// Returns whether a copy has a break.
+fn has_breaks(breaks: &[CopyBreak], copy: usize) -> bool {
+    for found in breaks {
+        if found.copy == copy {
+            return true;
+        }
+    }
+    false
 }
 
 /// Mends copies, writes the file unless the first copy is sound, and returns the exit status.
@@ -205,6 +226,7 @@ fn mend_copies<D: Devices, E: Write>(
     devices: &mut D,
     asked: &MendRequest,
     copies: &[FileCopy],
+    breaks: &[CopyBreak],
     errors: &mut E,
 ) -> u8
     requires some { 0 < length copies.now }
@@ -215,20 +237,20 @@ fn mend_copies<D: Devices, E: Write>(
         Err(error) => return report_error(errors, &asked.copies, error),
     };
     let choices = mended.choices.as_slice();
-    if is_first_sound(choices) {
-        return report_mended(alloc, devices, asked, &mended, false, errors);
+    if is_first_sound(choices) && !has_breaks(breaks, 0) {
+        return report_mended(alloc, devices, asked, &mended, breaks, false, errors);
     }
     let file = mended.file.as_slice();
     let ending = write_mended(alloc, devices, &asked.target, file, report_of(choices));
     if ending.outcome.is_err() {
         return report_unwritten(errors, &ending);
     }
-    report_mended(alloc, devices, asked, &mended, true, errors)
+    report_mended(alloc, devices, asked, &mended, breaks, true, errors)
 }
 
 /// Reports the copy that is not there, and returns the exit status.
 fn report_copy<E: Write>(errors: &mut E, names: &[String], copy: usize, error: CopyError) -> u8 {
-    let name = names.get(copy).map_or("", |name| name.as_str());
+    let name = shown(names, copy);
     let _ = writeln!(errors, "{name}: {error}");
     error.status()
 }
@@ -252,8 +274,9 @@ pub(crate) fn program<D: Devices, E: Write>(
             return Ended { status };
         }
     };
-    let status = match read_copies(alloc, devices, &asked.copies) {
-        Ok(copies) => mend_copies(alloc, devices, &asked, &copies, errors),
+    let mut breaks = Vec::new(alloc);
+    let status = match read_copies(alloc, devices, &asked.copies, asked.is_resync, &mut breaks) {
+        Ok(copies) => mend_copies(alloc, devices, &asked, &copies, &breaks, errors),
         Err((copy, error)) => report_copy(errors, &asked.copies, copy, error),
     };
     Ended { status }
