@@ -1,3 +1,6 @@
+pub mod Choices
+pub mod NextPositions
+pub mod ScanOfCopies
 pub mod Splices
 pub mod Resyncs
 pub mod Readings

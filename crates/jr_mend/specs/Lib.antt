@@ -1,3 +1,6 @@
+pub mod Choice
+pub mod Copies
+pub mod Mended
 pub mod Splice
 pub mod Resync
 pub mod Reading

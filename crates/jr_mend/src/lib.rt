@@ -1,19 +1,29 @@
 //! Files whose scan is written anew of coded intervals: with the header that they have, and the bytes of each interval
-//! as they are in a file (T.81, B.1.1.5 and E.1.4).
+//! as they are in a file (T.81, B.1.1.5 and E.1.4). The intervals are those of a damaged file, found past restart markers that
+//! are out of step, or those of copies of a file, each from a copy in which it is sound.
 #![tactic(auto)]
 
 mod breaks;
+mod choice;
+mod file_copy;
 mod following;
 mod laws;
+mod mending;
+mod positions;
 mod reading;
 mod resync;
+mod soundness;
 mod splice;
 
 pub use breaks::Break;
+pub use choice::{Choice, MAX_COPIES, choose};
+pub use file_copy::FileCopy;
 pub use following::MAX_EARLY;
 pub use laws::{
     each_scan_resyncs, file_in_step_stays, header_stays, in_step_stays, intervals_are_cut,
     one_resync, spliced_has_its_scan,
 };
+pub use mending::{MendError, Mended, mend};
 pub use resync::{ResyncFault, Resynced, resynchronised};
+pub use soundness::sound_if_any_is;
 pub use splice::{write_header, write_image_end, write_interval};

@@ -2,12 +2,10 @@
 //! `jri --output-dir DIR FILE..` decodes many, and `jri --info FILE..` prints what their headers say.
 #![tactic(auto)]
 
-mod machine;
-
-use crate::machine::{Machine, hold_streams};
 use jri_engine::{
     Ended, Mode, describe_request, many_request, program, program_for_headers, program_for_many,
 };
+use jri_machine::{Machine, hold_streams};
 use std::env;
 use std::io::Result as IoResult;
 use std::rt::Env;

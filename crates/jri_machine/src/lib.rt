@@ -1,6 +1,7 @@
-//! The machine that the program runs on.
+//! The machine that the programs run on.
+#![tactic(auto)]
 
-use jri_engine::{Destination, Devices};
+use jri_words::{Destination, Devices};
 use std::fs::{File, Metadata, OpenOptions};
 use std::io::{IsTerminal, Read, Result as IoResult, Stdin, Stdout, Write};
 use std::os::fd::AsRawFd;
@@ -37,13 +38,13 @@ fn held_stream(rt: &HostRuntime) -> Option<File> {
 }
 
 /// Takes the numbers of all standard streams that are closed, so that no file that the program opens gets one of them.
-pub(crate) fn hold_streams(rt: &HostRuntime) -> [Option<File>; 3] {
+pub fn hold_streams(rt: &HostRuntime) -> [Option<File>; 3] {
     [held_stream(rt), held_stream(rt), held_stream(rt)]
 }
 
 /// An open file, or a part of an image, which flushing writes to the disk.
 #[derive(Drop)]
-pub(crate) struct Opened {
+pub struct Opened {
     file: File,
     is_part: bool,
 }
@@ -68,10 +69,10 @@ impl Write for Opened {
     }
 }
 
-/// The machine that the program runs on.
+/// The machine that a program runs on.
 #[derive(Drop)]
-pub(crate) struct Machine<'a> {
-    pub(crate) rt: &'a HostRuntime,
+pub struct Machine<'a> {
+    pub rt: &'a HostRuntime,
 }
 
 /// Returns whether a name is in a directory of devices or of open streams.

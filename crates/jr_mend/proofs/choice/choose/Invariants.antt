@@ -1,0 +1,7 @@
+use Rattle.std.proofs.Common.{take}
+use Rattle.jr_mend.specs.Choice.{IsChoice}
+use Rattle.jr_mend.specs.Copies.{versions_of}
+use Rattle.jr_mend.proofs.choice.choose.Given as goal
+
+abbrev pub invariant-loop-number : goal.invariant-loop-number
+invariant-loop-number l = IsChoice (versions_of (take l.number l.copies) l.i) l.choice

@@ -1,0 +1,143 @@
+//! A file whose intervals are taken from copies of it.
+
+ghost use Rattle.std.specs.Prelude.{◌≡◌, ◌<◌, ◌≤◌, ◌++◌, [], ℕ, List, All, IfErr, IfNone, IfOk, IfSome, length};
+ghost use Rattle.jr_base.specs.declared.limits.TheConstants.{MAX_FILE_BYTES};
+ghost use Rattle.jr_damage.specs.Coded.{IsNextAt};
+ghost use Rattle.jr_scan.specs.ScanValue.{intervals_of};
+ghost use Rattle.jr_mend.specs.Copies.{AreAlike, AreNextAt, IsOther};
+ghost use Rattle.jr_mend.specs.Mended.{AreWritten, HasChosen, IsErrorOf, IsMended, WritesBytesIn, WritesChosen};
+ghost use Rattle.jr_mend.specs.Splice.{joined};
+
+use crate::choice::{Choice, MAX_COPIES, choose};
+use crate::file_copy::FileCopy;
+use crate::positions::{advance, starts_of};
+use crate::splice::{write_header, write_image_end, write_interval};
+use jr_base::Memory;
+use jr_base::limits::MAX_FILE_BYTES;
+use jr_damage::segment_at;
+use std::alloc::Global;
+
+/// A mended file, and the choice for each of its intervals.
+#[derive(Drop)]
+pub struct Mended {
+    pub file: Vec<u8>,
+    pub choices: Vec<Choice>,
+}
+
+/// Why copies are not mended.
+#[derive(Clone, Copy, Debug, PartialEq, Eq)]
+pub enum MendError {
+    /// Memory ran out.
+    Memory,
+    /// The copy of this number has another header than the first: it is no copy of the same file.
+    OtherHead(u32),
+    /// The mended file would be longer than a file may be.
+    TooLong,
+}
+
+/// Returns the number of the first copy with another header than the first copy.
+fn other_head(copies: &[FileCopy]) -> Option<u32>
+    requires some { 0 < length copies.now }
+    requires few { length copies.now ≤ MAX_COPIES }
+    ensures alike { IfNone result (AreAlike copies.now) }
+    ensures other { IfSome result (IsOther copies.now) }
+{
+    let first = copies[0].scan();
+    for k in 0..copies.len() {
+        let scan = copies[k].scan();
+        if !scan.head().is_same(first.head()) {
+            return Some(k as u32);
+        }
+    }
+    None
+}
+
+/// Appends the bytes of interval i in a copy, in which they are at `at`. On `Err`, part of them may be appended.
+fn write_from(bytes: &mut Vec<u8>, copy: &FileCopy, at: usize, i: u32) -> Result<(), Memory>
+    requires there { i < intervals_of copy.now.scan.head }
+    requires at { IsNextAt copy.now.file copy.now.scan i at }
+    ensures { IfOk result (λ _. WritesBytesIn copy.now i bytes.old.items bytes.new.items) }
+{
+    let count = copy.scan().intervals();
+    let file = copy.file();
+    let span = segment_at(file, at, i, count).bytes;
+    write_interval(bytes, i, &file[span.start..span.end])?;
+    Ok(())
+}
+
+/// Chooses among the copies of interval i, and appends its bytes in the chosen one. On `Err`, part of them may be appended.
+fn write_chosen(
+    bytes: &mut Vec<u8>,
+    copies: &[FileCopy],
+    positions: &[usize],
+    i: u32,
+) -> Result<Choice, Memory>
+    requires some { 0 < length copies.now }
+    requires few { length copies.now ≤ MAX_COPIES }
+    requires there { All (λ c. i < intervals_of c.scan.head) copies.now }
+    requires at { AreNextAt copies.now positions.now i }
+    ensures { IfOk result (λ c. WritesChosen copies.now i c bytes.old.items bytes.new.items) }
+{
+    let choice = choose(copies, i);
+    let number = choice.copy as usize;
+    write_from(bytes, &copies[number], positions[number], i)?;
+    Ok(choice)
+}
+
+/// Appends the bytes of the first `count` intervals, each after its restart marker, and returns the choices. On `Err`, part of
+/// them may be appended.
+fn write_all(
+    alloc: Global,
+    bytes: &mut Vec<u8>,
+    copies: &[FileCopy],
+    count: u32,
+) -> Result<Vec<Choice>, Memory>
+    requires some { 0 < length copies.now }
+    requires few { length copies.now ≤ MAX_COPIES }
+    requires there { All (λ c. count ≤ intervals_of c.scan.head) copies.now }
+    ensures { IfOk result (λ choices. (front : List ℕ) → bytes.old.items ≡ front ++ joined [] → AreWritten copies.now choices.items count front bytes.new.items) }
+{
+    let mut positions = starts_of(alloc, copies)?;
+    let mut choices = Vec::new(alloc);
+    for i in 0..count {
+        let choice = write_chosen(bytes, copies, positions.as_slice(), i)?;
+        choices.push(choice)?;
+        advance(copies, positions.as_mut_slice(), i);
+    }
+    Ok(choices)
+}
+
+/// Writes a file with the header of the first copy, in which each interval is the chosen version of it. It allocates the file, the
+/// choices, and a position for each copy; it reads each interval of each copy once.
+///
+/// # Errors
+///
+/// The first copy with another header; a file that is too long; `Memory` if allocation fails.
+pub fn mend(alloc: Global, copies: &[FileCopy]) -> Result<Mended, MendError>
+    requires some { 0 < length copies.now }
+    requires few { length copies.now ≤ MAX_COPIES }
+    ensures mended { IfOk result (λ m. IsMended copies.now m.choices.items m.file.items) }
+    ensures scan { IfOk result (λ m. HasChosen copies.now m.choices.items m.file.items) }
+    ensures small { IfOk result (λ m. length m.file.items ≤ MAX_FILE_BYTES) }
+    ensures error { IfErr result (IsErrorOf copies.now) }
+{
+    if let Some(copy) = other_head(copies) {
+        return Err(MendError::OtherHead(copy));
+    }
+    let first = &copies[0];
+    let scan = first.scan();
+    let count = scan.intervals();
+    let Ok(mut file) = write_header(alloc, scan.head(), first.file()) else {
+        return Err(MendError::Memory);
+    };
+    let Ok(choices) = write_all(alloc, &mut file, copies, count) else {
+        return Err(MendError::Memory);
+    };
+    let Ok(()) = write_image_end(&mut file) else {
+        return Err(MendError::Memory);
+    };
+    if file.len() > MAX_FILE_BYTES {
+        return Err(MendError::TooLong);
+    }
+    Ok(Mended { file, choices })
+}

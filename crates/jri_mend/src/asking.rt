@@ -1,0 +1,158 @@
+//! The arguments of the command line.
+
+ghost use Rattle.std.specs.Prelude.{◌≤◌, IfOk, length};
+ghost use Rattle.jr_mend.specs.declared.choice.TheConstants.{MAX_COPIES};
+
+use clap::error::ErrorKind;
+use clap::{Arg, ArgAction, ArgMatches, Command, Error};
+use jr_base::VERSION;
+use jr_mend::MAX_COPIES;
+use jri_words::{Target, Unasked};
+use std::alloc::{AllocError, Global};
+
+/// A request for a mended file.
+#[derive(Drop)]
+pub(crate) struct MendRequest {
+    /// The names of the copies, 2 to 64, or 1 that is resynchronised.
+    pub(crate) copies: Vec<String>,
+    /// The destination of the mended file.
+    pub(crate) target: Target,
+    /// Whether the report is a JSON object.
+    pub(crate) is_json: bool,
+    /// Whether each copy is resynchronised first.
+    pub(crate) is_resync: bool,
+}
+
+/// The text of `--help` after the options.
+const AFTER_HELP: &str = "\
+The mended file has the header of the first COPY, and each restart interval from the
+first copy in which it is sound, otherwise from the one that decodes most of it. It
+goes to standard output if -o is absent. If all of the first copy is sound nothing is
+written. A report goes to standard error; with -o, that of --json to standard output.
+With --resync each copy is first read past restart markers that are out of step, as
+after lost bytes, and one COPY is enough.
+
+Exit status:
+  0  every interval is sound
+  1  an interval is damaged in all copies
+  2  bad arguments, or a copy has another header than the first
+  3  a copy cannot be read, or is refused
+  4  out of memory, or the output cannot be written";
+
+/// The error of too few or too many copies.
+const WRONG_COUNT: &str = "error: 2 to 64 copies are needed, or 1 with --resync\n";
+
+/// The name of a stream in place of a file.
+const STREAM: &str = "-";
+
+/// `-o FILE`.
+fn output_word<'a>(alloc: Global) -> Arg<'a> {
+    Arg::new(alloc, "output")
+        .short('o')
+        .long("output")
+        .action(ArgAction::Set)
+        .value_name("FILE")
+        .help("Write the mended file to FILE; - is standard output")
+}
+
+/// An argument without a value.
+fn flag_word<'a>(alloc: Global, name: &'a str, help: &'a str) -> Arg<'a> {
+    Arg::new(alloc, name)
+        .long(name)
+        .action(ArgAction::SetTrue)
+        .help(help)
+}
+
+/// `COPY COPY..`.
+fn copies_word<'a>(alloc: Global) -> Arg<'a> {
+    Arg::new(alloc, "copies")
+        .action(ArgAction::Append)
+        .num_args(1..)
+        .value_name("COPY")
+        .help("Copies of one JPEG file, 2 to 64; 1 with --resync")
+        .required(true)
+}
+
+/// `jri_mend [-o FILE] [--json] [--resync] COPY COPY..`.
+fn command<'a>(alloc: Global) -> Result<Command<'a>, AllocError> {
+    Command::new(alloc, "jri_mend")
+        .about("Mend a baseline JPEG file from damaged copies of it")
+        .version(VERSION.trim_end())
+        .after_help(AFTER_HELP)
+        .no_binary_name(true)
+        .arg(output_word(alloc))?
+        .arg(flag_word(alloc, "json", "Print the report as a JSON object"))?
+        .arg(flag_word(
+            alloc,
+            "resync",
+            "Read past restart markers that are out of step",
+        ))?
+        .arg(copies_word(alloc))
+}
+
+/// Returns what is answered to arguments that the command line refuses.
+fn refusal(alloc: Global, error: &Error) -> Unasked {
+    if error.kind() == ErrorKind::OutOfMemory {
+        return Unasked::Memory;
+    }
+    match error.to_string(alloc) {
+        Ok(text) => match error.kind() {
+            ErrorKind::DisplayHelp | ErrorKind::DisplayVersion => Unasked::Help(text),
+            _ => Unasked::Wrong(text),
+        },
+        Err(_) => Unasked::Memory,
+    }
+}
+
+/// Returns the names of the copies.
+fn copies_in(alloc: Global, matches: &ArgMatches<'_>) -> Result<Vec<String>, AllocError> {
+    let mut copies = Vec::new(alloc);
+    if let Some(names) = matches.get_strs("copies") {
+        for name in names {
+            copies.push(String::from_str(alloc, name)?)?;
+        }
+    }
+    Ok(copies)
+}
+
+/// Returns the destination of the mended file.
+fn target_in(alloc: Global, matches: &ArgMatches<'_>) -> Result<Target, AllocError> {
+    match matches.get_str("output") {
+        Some(name) if name != STREAM => Ok(Target::File(String::from_str(alloc, name)?)),
+        Some(_) => Ok(Target::AnyOutput),
+        None => Ok(Target::Output),
+    }
+}
+
+/// Returns a text as that of wrong arguments.
+pub(crate) fn wrong(alloc: Global, text: &str) -> Unasked {
+    match String::from_str(alloc, text) {
+        Ok(text) => Unasked::Wrong(text),
+        Err(_) => Unasked::Memory,
+    }
+}
+
+/// Returns what the arguments after the program's name ask for. `Unasked` has the text to print if they ask for help or the
+/// version or are wrong.
+pub(crate) fn asked(alloc: Global, words: &[String]) -> Result<MendRequest, Unasked>
+    ensures some { IfOk result (λ a. 1 ≤ length a.copies.items) }
+    ensures few { IfOk result (λ a. length a.copies.items ≤ MAX_COPIES) }
+{
+    let matches = match command(alloc)?.try_get_matches_from(words) {
+        Ok(matches) => matches,
+        Err(error) => return Err(refusal(alloc, &error)),
+    };
+    let copies = copies_in(alloc, &matches)?;
+    let target = target_in(alloc, &matches)?;
+    let is_resync = matches.get_flag("resync");
+    let fewest = if is_resync { 1 } else { 2 };
+    if copies.len() < fewest || copies.len() > MAX_COPIES {
+        return Err(wrong(alloc, WRONG_COUNT));
+    }
+    Ok(MendRequest {
+        copies,
+        target,
+        is_json: matches.get_flag("json"),
+        is_resync,
+    })
+}

@@ -1,0 +1,164 @@
+//! The copies that are read.
+
+ghost use Rattle.std.specs.Prelude.{◌≡◌, IfOk, length};
+
+use crate::breaks::CopyBreak;
+use jr_base::limits::MAX_FILE_BYTES;
+use jr_head::{Refusal, read_head};
+use jr_mend::{FileCopy, ResyncFault, resynchronised};
+use jri_words::Devices;
+use std::alloc::Global;
+use std::fmt;
+use std::fmt::{Display, Formatter};
+use std::io::{Error, ErrorKind, Read};
+
+/// One byte more than a file may have.
+const TOO_MANY: u64 = MAX_FILE_BYTES as u64 + 1;
+
+/// The reason why a copy is not there.
+#[derive(Clone, Copy)]
+pub(crate) enum CopyError {
+    /// It cannot be opened or read.
+    Unread(Error),
+    /// It is refused.
+    Refused(Refusal),
+    /// Memory ran out.
+    Memory,
+}
+
+impl CopyError {
+    /// Returns the exit status.
+    pub(crate) fn status(&self) -> u8 {
+        match self {
+            CopyError::Memory => 4,
+            _ => 3,
+        }
+    }
+}
+
+impl Display for CopyError {
+    fn fmt<W: fmt::Write>(&self, f: &mut Formatter<W>) -> fmt::Result {
+        match self {
+            CopyError::Unread(error) => write!(f, "cannot be read: {error}"),
+            CopyError::Refused(refusal) => {
+                let number = refusal.number();
+                write!(f, "refused {number}: {refusal}")
+            }
+            CopyError::Memory => f.write_str("out of memory"),
+        }
+    }
+}
+
+/// A name of a file, with `?` for characters that would end a line, or move on a terminal.
+#[derive(Clone, Copy)]
+pub(crate) struct Shown<'a>(pub(crate) &'a str);
+
+impl Display for Shown<'_> {
+    fn fmt<W: fmt::Write>(&self, f: &mut Formatter<W>) -> fmt::Result {
+        for c in self.0.chars() {
+            f.write_char(if c.is_control() { '?' } else { c })?;
+        }
+        Ok(())
+    }
+}
+
+/// Returns why an input could not be read.
+fn unread(error: Error) -> CopyError {
+    if error.kind() == ErrorKind::OutOfMemory {
+        return CopyError::Memory;
+    }
+    CopyError::Unread(error)
+}
+
+/// Reads the bytes of the file of this name, and at most one more than a file may have.
+fn read_file<D: Devices>(alloc: Global, devices: &D, name: &str) -> Result<Vec<u8>, CopyError> {
+    let mut bytes = Vec::new(alloc);
+    let file = match devices.open(name) {
+        Ok(file) => file,
+        Err(error) => return Err(unread(error)),
+    };
+    match file.take(TOO_MANY).read_to_end(&mut bytes) {
+        Ok(_) => Ok(bytes),
+        Err(error) => Err(unread(error)),
+    }
+}
+
+/// Returns why a file is no copy.
+fn refused(refusal: Refusal) -> CopyError {
+    match refusal {
+        Refusal::Memory => CopyError::Memory,
+        _ => CopyError::Refused(refusal),
+    }
+}
+
+/// Returns a file with its restart markers in step, and appends its breaks.
+fn in_step(
+    alloc: Global,
+    file: Vec<u8>,
+    number: usize,
+    breaks: &mut Vec<CopyBreak>,
+) -> Result<Vec<u8>, CopyError> {
+    let head = match read_head(alloc, &file) {
+        Ok(head) => head,
+        Err(refusal) => return Err(refused(refusal)),
+    };
+    match resynchronised(alloc, &head, &file) {
+        Ok(resynced) => {
+            for found in &resynced.breaks {
+                let found = CopyBreak {
+                    copy: number,
+                    found: *found,
+                };
+                if breaks.push(found).is_err() {
+                    return Err(CopyError::Memory);
+                }
+            }
+            Ok(resynced.file)
+        }
+        Err(ResyncFault::Memory) => Err(CopyError::Memory),
+        Err(ResyncFault::TooLong) => Err(CopyError::Refused(Refusal::TooLong)),
+    }
+}
+
+/// Reads a copy, by its name and number. If its breaks are wanted it is resynchronised, and they are appended.
+fn read_copy<D: Devices>(
+    alloc: Global,
+    devices: &D,
+    name: &str,
+    number: usize,
+    is_resync: bool,
+    breaks: &mut Vec<CopyBreak>,
+) -> Result<FileCopy, CopyError> {
+    let mut file = read_file(alloc, devices, name)?;
+    if is_resync {
+        file = in_step(alloc, file, number, breaks)?;
+    }
+    match FileCopy::of(alloc, file) {
+        Ok(copy) => Ok(copy),
+        Err(refusal) => Err(refused(refusal)),
+    }
+}
+
+/// Reads the copies. If they are resynchronised their breaks are appended. The error has the number of the copy that is not there.
+pub(crate) fn read_copies<D: Devices>(
+    alloc: Global,
+    devices: &D,
+    names: &[String],
+    is_resync: bool,
+    breaks: &mut Vec<CopyBreak>,
+) -> Result<Vec<FileCopy>, (usize, CopyError)>
+    ensures { IfOk result (λ copies. length copies.items ≡ length names.now) }
+{
+    let mut copies = Vec::new(alloc);
+    for k in 0..names.len() {
+        match read_copy(alloc, devices, names[k].as_str(), k, is_resync, breaks) {
+            Ok(copy) => {
+                if copies.push(copy).is_err() {
+                    return Err((k, CopyError::Memory));
+                }
+            }
+            Err(error) => return Err((k, error)),
+        }
+    }
+    Ok(copies)
+}

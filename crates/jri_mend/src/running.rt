@@ -1,0 +1,283 @@
+//! What the program does with its arguments.
+
+ghost use Rattle.std.specs.Prelude.{◌≡◌, ◌<◌, ◌≤◌, IfOk, is_ok, length};
+ghost use Rattle.jr_mend.specs.declared.choice.TheConstants.{MAX_COPIES};
+ghost use Rattle.jri_words.specs.Steps.{LeavesFile};
+
+use crate::asking::{MendRequest, asked, wrong};
+use crate::breaks::CopyBreak;
+use crate::ended::Ended;
+use crate::reading::{CopyError, Shown, read_copies};
+use crate::report::{is_first_sound, object_of, report_of, write_breaks, write_lines};
+use jr_base::Tally;
+use jr_mend::{FileCopy, MendError, Mended, mend};
+use jri_file::{Fault, Report};
+use jri_words::{
+    Destination, Devices, Ending, Noted, Target, Unasked, answer, flushed, make_part, place,
+    unwritten,
+};
+use std::alloc::Global;
+use std::io::{ErrorKind, Result as IoResult, Write};
+
+/// The exit status if memory runs out or the output fails.
+const FAILED: u8 = 4;
+
+/// The exit status if a copy has another header than the first.
+const OTHER_FILE: u8 = 2;
+
+/// The text for arguments that are not text.
+const UNTOLD: &str = "an argument is not valid UTF-8\n";
+
+/// The text for a file that would go to a terminal.
+const ONTO_TERMINAL: &str = "refusing to write the file to a terminal; use -o FILE\n";
+
+/// The text for a file that would replace a copy.
+const OWN_INPUT: &str = "refusing to replace a file that is read; name another FILE\n";
+
+/// Returns whether a file of this name would replace a copy.
+fn is_copy<D: Devices>(devices: &D, copies: &[String], name: &str) -> bool {
+    for copy in copies {
+        if matches!(
+            devices.destination(name, Some(copy.as_str())),
+            Destination::Source
+        ) {
+            return true;
+        }
+    }
+    false
+}
+
+/// Returns what the arguments ask for, on a machine whose output may be a terminal.
+fn requested<D: Devices>(
+    alloc: Global,
+    devices: &D,
+    words: IoResult<Vec<String>>,
+) -> Result<MendRequest, Unasked>
+    ensures some { IfOk result (λ a. 1 ≤ length a.copies.items) }
+    ensures few { IfOk result (λ a. length a.copies.items ≤ MAX_COPIES) }
+{
+    let words = match words {
+        Ok(words) => words,
+        Err(error) if error.kind() == ErrorKind::OutOfMemory => return Err(Unasked::Memory),
+        Err(_) => return Err(wrong(alloc, UNTOLD)),
+    };
+    let asked = asked(alloc, &words)?;
+    match &asked.target {
+        Target::Output if devices.is_output_terminal() => Err(wrong(alloc, ONTO_TERMINAL)),
+        Target::File(name) if is_copy(devices, &asked.copies, name.as_str()) => {
+            Err(wrong(alloc, OWN_INPUT))
+        }
+        _ => Ok(asked),
+    }
+}
+
+/// Writes a file to an output, which is flushed and dropped.
+fn write_out<W: Write + Drop>(out: W, file: &[u8], report: Report) -> Ending {
+    let mut output = Tally::of(Noted::of(out));
+    let written = match output.write_all(file) {
+        Ok(()) => Ok(report),
+        Err(_) => Err(Fault::Write),
+    };
+    let outcome = flushed(written, &mut output);
+    let reason = match outcome {
+        Err(_) => output.into_inner().reason(),
+        Ok(_) => None,
+    };
+    Ending { outcome, reason }
+}
+
+/// Writes a part, which takes the name of a file if it is whole, and is otherwise removed.
+fn write_part<D: Devices>(
+    alloc: Global,
+    devices: &mut D,
+    file: &[u8],
+    report: Report,
+    name: &str,
+) -> Ending
+    ensures { LeavesFile (λ _. ⊥) name.now (D.steps devices.old) (D.steps devices.new) (is_ok result.outcome) }
+{
+    let part = match make_part(alloc, devices, name) {
+        Ok(part) => part,
+        Err(ending) => return ending,
+    };
+    let ending = write_out(part.file, file, report);
+    place(devices, ending, part.name.as_str(), name)
+}
+
+/// Writes a file, which is replaced once it is whole, or into a device.
+fn write_file<D: Devices>(
+    alloc: Global,
+    devices: &mut D,
+    file: &[u8],
+    report: Report,
+    name: &str,
+) -> Ending
+    ensures { LeavesFile (D.are_devices devices.old) name.now (D.steps devices.old) (D.steps devices.new) (is_ok result.outcome) }
+{
+    if let Destination::WrittenInto = devices.destination(name, None) {
+        return match devices.open_device(name) {
+            Ok(device) => write_out(device, file, report),
+            Err(error) => unwritten(error),
+        };
+    }
+    write_part(alloc, devices, file, report, name)
+}
+
+/// Writes the mended file to its destination.
+fn write_mended<D: Devices>(
+    alloc: Global,
+    devices: &mut D,
+    target: &Target,
+    file: &[u8],
+    report: Report,
+) -> Ending {
+    match target {
+        Target::Output | Target::AnyOutput => write_out(devices.output(), file, report),
+        Target::File(name) => write_file(alloc, devices, file, report, name.as_str()),
+    }
+}
+
+/// Reports why the mended file is not written, and returns the exit status.
+fn report_unwritten<E: Write>(errors: &mut E, ending: &Ending) -> u8 {
+    let _ = match (ending.outcome, ending.reason) {
+        (Err(Fault::Memory), _) => writeln!(errors, "out of memory"),
+        (_, Some(reason)) => writeln!(errors, "cannot write the file: {reason}"),
+        _ => writeln!(errors, "cannot write the file"),
+    };
+    FAILED
+}
+
+/// Writes the report, and returns the exit status: 1 if an interval is damaged in all copies.
+fn report_mended<D: Devices, E: Write>(
+    alloc: Global,
+    devices: &D,
+    asked: &MendRequest,
+    mended: &Mended,
+    breaks: &[CopyBreak],
+    is_written: bool,
+    errors: &mut E,
+) -> u8 {
+    let choices = mended.choices.as_slice();
+    let status = if report_of(choices).damaged > 0 { 1 } else { 0 };
+    if !asked.is_json {
+        let _ = write_breaks(errors, breaks);
+        let _ = write_lines(errors, choices, is_written);
+        return status;
+    }
+    let Ok(object) = object_of(alloc, choices, breaks, is_written) else {
+        let _ = writeln!(errors, "out of memory");
+        return FAILED;
+    };
+    match &asked.target {
+        Target::File(_) => {
+            let mut out = devices.output();
+            if out.write_all(object.as_bytes()).is_err() || out.flush().is_err() {
+                let _ = writeln!(errors, "cannot write to standard output");
+                return FAILED;
+            }
+        }
+        _ => {
+            let _ = errors.write_all(object.as_bytes());
+        }
+    }
+    status
+}
+
+/// Returns the name of a copy, for a line.
+fn shown(names: &[String], copy: usize) -> Shown<'_> {
+    match names.get(copy) {
+        Some(name) => Shown(name.as_str()),
+        None => Shown(""),
+    }
+}
+
+/// Reports why the copies are not mended, and returns the exit status.
+fn report_error<E: Write>(errors: &mut E, names: &[String], error: MendError) -> u8 {
+    match error {
+        MendError::Memory => {
+            let _ = writeln!(errors, "out of memory");
+            FAILED
+        }
+        MendError::TooLong => {
+            let _ = writeln!(errors, "the mended file would be too long");
+            FAILED
+        }
+        MendError::OtherHead(copy) => {
+            let name = shown(names, copy as usize);
+            let _ = writeln!(errors, "{name}: its header is not that of the first copy");
+            OTHER_FILE
+        }
+    }
+}
+
+/// Returns whether a copy has a break.
+fn has_breaks(breaks: &[CopyBreak], copy: usize) -> bool {
+    for found in breaks {
+        if found.copy == copy {
+            return true;
+        }
+    }
+    false
+}
+
+/// Mends copies, writes the file unless the first copy is sound, and returns the exit status.
+fn mend_copies<D: Devices, E: Write>(
+    alloc: Global,
+    devices: &mut D,
+    asked: &MendRequest,
+    copies: &[FileCopy],
+    breaks: &[CopyBreak],
+    errors: &mut E,
+) -> u8
+    requires some { 0 < length copies.now }
+    requires few { length copies.now ≤ MAX_COPIES }
+{
+    let mended = match mend(alloc, copies) {
+        Ok(mended) => mended,
+        Err(error) => return report_error(errors, &asked.copies, error),
+    };
+    let choices = mended.choices.as_slice();
+    if is_first_sound(choices) && !has_breaks(breaks, 0) {
+        return report_mended(alloc, devices, asked, &mended, breaks, false, errors);
+    }
+    let file = mended.file.as_slice();
+    let ending = write_mended(alloc, devices, &asked.target, file, report_of(choices));
+    if ending.outcome.is_err() {
+        return report_unwritten(errors, &ending);
+    }
+    report_mended(alloc, devices, asked, &mended, breaks, true, errors)
+}
+
+/// Reports the copy that is not there, and returns the exit status.
+fn report_copy<E: Write>(errors: &mut E, names: &[String], copy: usize, error: CopyError) -> u8 {
+    let name = shown(names, copy);
+    let _ = writeln!(errors, "{name}: {error}");
+    error.status()
+}
+
+/// Does what the program's arguments ask for on these devices, and reports it. The status is 0 if each interval is sound, 1 if one
+/// is damaged in all copies, 2 for wrong arguments and copies of another file, 3 for copies that are not read, 4 for memory and the
+/// output.
+pub(crate) fn program<D: Devices, E: Write>(
+    alloc: Global,
+    devices: &mut D,
+    words: IoResult<Vec<String>>,
+    errors: &mut E,
+) -> Ended {
+    let asked = match requested(alloc, devices, words) {
+        Ok(asked) => asked,
+        Err(unasked) => {
+            let status = match answer(&mut Tally::of(devices.output()), errors, &unasked) {
+                1 => FAILED,
+                status => status,
+            };
+            return Ended { status };
+        }
+    };
+    let mut breaks = Vec::new(alloc);
+    let status = match read_copies(alloc, devices, &asked.copies, asked.is_resync, &mut breaks) {
+        Ok(copies) => mend_copies(alloc, devices, &asked, &copies, &breaks, errors),
+        Err((copy, error)) => report_copy(errors, &asked.copies, copy, error),
+    };
+    Ended { status }
+}

@@ -1,0 +1,81 @@
+//! Consecutive intervals that are taken from one copy.
+
+use jr_mend::Choice;
+use std::fmt;
+use std::fmt::{Display, Formatter};
+
+/// Consecutive intervals with equal choices.
+#[derive(Clone, Copy)]
+pub(crate) struct Run {
+    pub(crate) first: usize,
+    pub(crate) last: usize,
+    pub(crate) choice: Choice,
+}
+
+impl Display for Run {
+    /// Writes from which copy the intervals are, counted from 1, and how far they can be decoded if they are damaged in all.
+    fn fmt<W: fmt::Write>(&self, f: &mut Formatter<W>) -> fmt::Result {
+        let (first, last) = (self.first, self.last);
+        if first == last {
+            write!(f, "interval {first}: ")?;
+        } else {
+            write!(f, "intervals {first} to {last}: ")?;
+        }
+        let copy = u64::from(self.choice.copy).saturating_add(1);
+        if let Some(mcus) = self.choice.front {
+            return write!(f, "damaged in all copies, copy {copy} decodes {mcus} MCUs");
+        }
+        write!(f, "copy {copy}")?;
+        if self.choice.differs {
+            f.write_str(", sound in copies with different data")?;
+        }
+        Ok(())
+    }
+}
+
+/// A run as a JSON object.
+#[derive(Clone, Copy)]
+pub(crate) struct RunObject(pub(crate) Run);
+
+impl Display for RunObject {
+    fn fmt<W: fmt::Write>(&self, f: &mut Formatter<W>) -> fmt::Result {
+        let Run {
+            first,
+            last,
+            choice,
+        } = self.0;
+        let copy = u64::from(choice.copy).saturating_add(1);
+        write!(
+            f,
+            "{{\"interval\":{first},\"last_interval\":{last},\"copy\":{copy}"
+        )?;
+        if let Some(mcus) = choice.front {
+            return write!(f, ",\"is\":\"damaged\",\"decodable\":{mcus}}}");
+        }
+        f.write_str(",\"is\":\"sound\"")?;
+        if choice.differs {
+            f.write_str(",\"differs\":true")?;
+        }
+        f.write_str("}")
+    }
+}
+
+/// Returns the run of intervals that begins with one of them.
+pub(crate) fn run_at(choices: &[Choice], first: usize) -> Option<Run> {
+    if first >= choices.len() {
+        return None;
+    }
+    let choice = choices[first];
+    let mut last = first;
+    for i in first..choices.len() {
+        if choices[i] != choice {
+            break;
+        }
+        last = i;
+    }
+    Some(Run {
+        first,
+        last,
+        choice,
+    })
+}
