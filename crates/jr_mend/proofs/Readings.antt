@@ -9,6 +9,7 @@ use Rattle.jr_cut.proofs.Segments.{length_marker}
 use Rattle.jr_cut.proofs.Slices.{length_front, split_at}
 use Rattle.jr_head.specs.HeadValue.{HeadValue}
 use Rattle.jr_head.specs.Heads.{HeadOf}
+use Rattle.jr_head.proofs.HeadStays.{header_stays}
 use Rattle.jr_scan.specs.ScanValue.{intervals_of}
 use Rattle.jr_mend.specs.declared.breaks.Break.{Break}
 use Rattle.jr_mend.specs.declared.following.FoundMarker.{FoundMarker}
@@ -18,7 +19,7 @@ use Rattle.jr_mend.specs.Reading.{HasRead, IsResynced, IsTooLong, Meets, Takes, 
 use Rattle.jr_mend.specs.Resync.{EndsResync, IsResync, Part, PartsFrom, Resync, break_at, bytes_after, max_missing, new_segments, number_after, part_bytes}
 use Rattle.jr_mend.specs.Splice.{coded_intervals, joined, spliced}
 use Rattle.jr_mend.proofs.Resyncs.{count_after, few_after, new_spelled, parts_last, parts_next, with_part, zip_append}
-use Rattle.jr_mend.proofs.Splices.{header_stays, scan_is}
+use Rattle.jr_mend.proofs.Splices.{scan_is}
 
 -- ---- the bytes up to a marker
 

@@ -9,7 +9,8 @@ use Rattle.jr_cut.specs.declared.scan_end.ScanEnd.TheVariants.{EndOfImage}
 use Rattle.jr_cut.specs.Cut.{CutFrom, IsCut, IsRaw, marker}
 use Rattle.jr_cut.proofs.Cuts.{cut_last, cut_next}
 use Rattle.jr_head.specs.HeadValue.{HeadValue}
-use Rattle.jr_head.specs.Heads.{HeadOf, start_of_image}
+use Rattle.jr_head.specs.Heads.{HeadOf}
+use Rattle.jr_head.proofs.HeadStays.{scan_within}
 use Rattle.jr_scan.specs.ScanValue.{IsScanOf, intervals_of, scan_of_segments}
 use Rattle.jr_mend.specs.Splice.{after_markers, coded_intervals, joined, marker_before, spliced}
 
@@ -58,41 +59,6 @@ coded_cut n at [] datas all some few = absurd (omega (arith, some))
 coded_cut n at (r ∷ rs) [] all some few = absurd all
 coded_cut n at (r ∷ rs) (d ∷ ds) all some few =
     subst (λ (x : List ℕ). IsCut n at x (d ∷ ds) EndOfImage) (sym (append_assoc r (after_markers 0 rs) (marker 0 EOI))) (cut_from n 0 at r d rs ds all.0 all.1 (omega (arith, few)))
-
--- ---- the header
-
-module _ (file more : List ℕ) (h : HeadValue) (head : HeadOf file h) where
-  abbrev segments : List ℕ
-  segments = flat_map segment_bytes head.segments
-
-  abbrev header : List ℕ
-  header = start_of_image ++ (segments ++ segment_bytes head.scan)
-
-  split : (rest : List ℕ) → start_of_image ++ (segments ++ (segment_bytes head.scan ++ rest)) ≡ header ++ rest
-  split rest = sym (append_assoc start_of_image (segments ++ segment_bytes head.scan) rest ∙ ap (λ (x : List ℕ). start_of_image ++ x) (append_assoc segments (segment_bytes head.scan) rest))
-
-  header_is : take h.scan_at file ≡ header
-  header_is =
-      let whole : file ≡ header ++ head.rest = head.is ∙ split head.rest in
-      let long : length header ≡ h.scan_at = omega (arith, ap length whole, length-append header head.rest, head.scan_at) in
-      ap (take h.scan_at) whole ∙ take_at header head.rest h.scan_at long
-
-  pub scan_within : h.scan_at ≤ length file
-  scan_within = omega (arith, head.scan_at)
-
-  pub header_stays : length (take h.scan_at file ++ more) ≤ MAX_FILE_BYTES → HeadOf (take h.scan_at file ++ more) h
-  header_stays small = record {
-    segments = head.segments;
-    scan = head.scan;
-    rest = more;
-    small = small;
-    is = ap (λ (x : List ℕ). x ++ more) header_is ∙ sym (split more);
-    chain = head.chain;
-    is_scan = head.is_scan;
-    passes = head.passes;
-    defines = head.defines;
-    scan_at = omega (arith, length-append (take h.scan_at file) more, length-take-le h.scan_at file scan_within);
-  }
 
 -- ---- the scan
 

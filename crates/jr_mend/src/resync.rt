@@ -25,7 +25,7 @@ pub struct Resynced {
 }
 
 /// The reason why no file is written.
-#[derive(Clone, Copy, Debug, PartialEq, Eq)]
+#[derive(Clone, Copy)]
 pub enum ResyncFault {
     Memory,
     /// With the markers that are missing the file would be longer than a file may be.

@@ -1,5 +1,6 @@
+use Rattle.jr_head.proofs.HeadStays.{header_stays}
 use Rattle.jr_mend.specs.Splice.{coded_intervals}
-use Rattle.jr_mend.proofs.Splices.{header_stays, none_missing, scan_is}
+use Rattle.jr_mend.proofs.Splices.{none_missing, scan_is}
 use Rattle.jr_mend.proofs.laws.spliced_has_its_scan.Goals as goal
 
 pub returns-clause-head : goal.returns-clause-head

@@ -7,7 +7,8 @@ use Rattle.jr_head.specs.Heads.{HeadOf, RefusalOf}
 use Rattle.jr_head.specs.Geometry.{IsLawful}
 use Rattle.jr_scan.specs.ScanValue.{ScanValue}
 use Rattle.jri_file.specs.Files.{IsScanOfFile}
-use Rattle.jri_file.proofs.Longer.{head_stays, is_too_long}
+use Rattle.jr_head.proofs.HeadStays.{head_stays}
+use Rattle.jri_file.proofs.Longer.{is_too_long}
 use Rattle.jri_file.proofs.InputFile.{first_and, of_file}
 use Rattle.jri_file.proofs.incoming.cut_while_read.Goals as goal
 
