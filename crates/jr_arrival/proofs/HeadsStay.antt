@@ -12,26 +12,9 @@ use Rattle.jr_segments.specs.Segments.{segment_bytes}
 use Rattle.jr_segments.specs.declared.refusal.Refusal.{Refusal}
 use Rattle.jr_head.specs.HeadValue.{HeadValue}
 use Rattle.jr_head.specs.Heads.{HeadOf, RefusalOf, start_of_image, start_tests, segment_tests}
+pub use Rattle.jr_head.proofs.HeadStays.{head_stays}
 use Rattle.jr_arrival.proofs.TestsStay.{segment_stays}
 use Rattle.jr_arrival.specs.Arrival.{CanBecome, IsFinalFault}
-
-pub head_stays : (bytes more : List ℕ) → length (bytes ++ more) ≤ MAX_FILE_BYTES → (h : HeadValue) → HeadOf bytes h → HeadOf (bytes ++ more) h
-head_stays bytes more small h head =
-    let all = flat_map segment_bytes head.segments in
-    record {
-      segments = head.segments;
-      scan = head.scan;
-      rest = head.rest ++ more;
-      small = small;
-      is = ap (λ (b : List ℕ). b ++ more) head.is
-          ∙ append_assoc start_of_image (all ++ (segment_bytes head.scan ++ head.rest)) more
-          ∙ ap (λ (b : List ℕ). start_of_image ++ b) (append_assoc all (segment_bytes head.scan ++ head.rest) more ∙ ap (λ (b : List ℕ). all ++ b) (append_assoc (segment_bytes head.scan) head.rest more));
-      chain = head.chain;
-      is_scan = head.is_scan;
-      passes = head.passes;
-      defines = head.defines;
-      scan_at = omega (arith, head.scan_at, length-append bytes more, length-append head.rest more);
-    }
 
 pub head_is_final : (bytes file : List ℕ) (h : HeadValue) → CanBecome bytes file → HeadOf bytes h → HeadOf file h
 head_is_final bytes file h can head = subst (λ (b : List ℕ). HeadOf b h) (sym can.is) (head_stays bytes can.more (subst (λ (b : List ℕ). length b ≤ MAX_FILE_BYTES) can.is can.small) h head)
