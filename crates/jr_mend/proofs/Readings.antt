@@ -15,9 +15,9 @@ use Rattle.jr_mend.specs.declared.breaks.Break.{Break}
 use Rattle.jr_mend.specs.declared.following.FoundMarker.{FoundMarker}
 use Rattle.jr_mend.specs.declared.reading.Reading.{Reading}
 use Rattle.jr_mend.specs.declared.resync.Resynced.{Resynced}
-use Rattle.jr_mend.specs.Reading.{HasRead, IsResynced, IsTooLong, Meets, Takes, begun_after}
+use Rattle.jr_mend.specs.Reading.{HasResyncedTo, IsResynced, IsTooLong, Meets, Takes, begun_after}
 use Rattle.jr_mend.specs.Resync.{EndsResync, IsResync, Part, PartsFrom, Resync, break_at, bytes_after, max_missing, new_segments, number_after, part_bytes}
-use Rattle.jr_mend.specs.Splice.{coded_intervals, joined, spliced}
+use Rattle.jr_mend.specs.Splice.{coded_intervals, joined_intervals, spliced}
 use Rattle.jr_mend.proofs.Resyncs.{count_after, few_after, new_spelled, parts_last, parts_next, with_part, zip_append}
 use Rattle.jr_mend.proofs.Splices.{scan_is}
 
@@ -69,7 +69,7 @@ module _ (file : List ℕ) (h : HeadValue) (w : Reading) (len : ℕ) (s : Segmen
         is = ap (λ (b : List Break). record { raws = first ∷ r.raws; datas = s.found ∷ r.datas; breaks = b ++ r.breaks; end = r.end }) none;
       }
 
-  pub read_first : 0 < intervals_of h → w.k ≡ 0 → w.at ≡ h.scan_at + len → w.breaks.items ≡ [] → w.begun ≡ h.scan_at → w.bytes.items ≡ take h.scan_at file ++ joined (first ∷ []) → HasRead file h w
+  pub read_first : 0 < intervals_of h → w.k ≡ 0 → w.at ≡ h.scan_at + len → w.breaks.items ≡ [] → w.begun ≡ h.scan_at → w.bytes.items ≡ take h.scan_at file ++ joined_intervals (first ∷ []) → HasResyncedTo file h w
   read_first some number at none begun written = record {
     raws = first ∷ [];
     datas = s.found ∷ [];
@@ -96,7 +96,7 @@ begun_within (Some d) low begun start l b s = (s, omega arith)
 
 pub takes : (file : List ℕ) (old mid v : Reading) (m : FoundMarker) (len : ℕ) (raw : List ℕ) → Segment file (mid.at + m.length) len → mid.breaks.items ≡ old.breaks.items ++ break_at old.at old.k m.code m.missing → mid.bytes ≡ old.bytes → mid.k ≡ old.k → mid.begun ≡ old.begun → mid.at ≡ old.at
     → v.at ≡ mid.at + m.length + len → v.k ≡ number_after mid.k m.missing → v.begun ≡ begun_after mid.begun m.missing (mid.at + m.length) → v.breaks ≡ mid.breaks
-    → ((front : List ℕ) (raws : List (List ℕ)) → length raws ≡ suc mid.k → mid.bytes.items ≡ front ++ joined raws → v.bytes.items ≡ front ++ joined (raws ++ new_segments m.missing raw))
+    → ((front : List ℕ) (raws : List (List ℕ)) → length raws ≡ suc mid.k → mid.bytes.items ≡ front ++ joined_intervals raws → v.bytes.items ≡ front ++ joined_intervals (raws ++ new_segments m.missing raw))
     → raw ≡ take len (drop (mid.at + m.length) file) → Takes file old v m
 takes file old mid v m len raw s noted bytes number begun at place next begins breaks written slice =
     let start : mid.at + m.length ≡ old.at + m.length = ap (λ a. a + m.length) at in
@@ -114,10 +114,10 @@ takes file old mid v m len raw s noted bytes number begun at place next begins b
       breaks = ap (λ b. b.items) breaks ∙ noted;
       written = λ front raws count e.
           written front raws (count ∙ ap suc (sym number)) (ap (λ b. b.items) bytes ∙ e)
-          ∙ ap (λ (x : List ℕ). front ++ joined (raws ++ new_segments m.missing x)) (slice ∙ ap (λ (a : ℕ). take len (drop a file)) start);
+          ∙ ap (λ (x : List ℕ). front ++ joined_intervals (raws ++ new_segments m.missing x)) (slice ∙ ap (λ (a : ℕ). take len (drop a file)) start);
     }
 
-module _ (file : List ℕ) (h : HeadValue) (w v : Reading) (m : FoundMarker) (has : HasRead file h w) (meets : Meets (intervals_of h) w.k (max_missing (intervals_of h) (length (drop h.scan_at file)) (w.at - w.begun)) (drop w.at file) m) (t : Takes file w v m) where
+module _ (file : List ℕ) (h : HeadValue) (w v : Reading) (m : FoundMarker) (has : HasResyncedTo file h w) (meets : Meets (intervals_of h) w.k (max_missing (intervals_of h) (length (drop h.scan_at file)) (w.at - w.begun)) (drop w.at file) m) (t : Takes file w v m) where
   abbrev raw : List ℕ
   raw = take t.len (drop (w.at + m.length) file)
 
@@ -165,7 +165,7 @@ module _ (file : List ℕ) (h : HeadValue) (w v : Reading) (m : FoundMarker) (ha
       let either = begun_within m.missing h.scan_at w.begun (w.at + m.length) has.begun.0 (omega (arith, has.begun.1)) (omega (arith, has.begun.0, has.begun.1)) in
       (omega (arith, t.begun, either.0), omega (arith, t.begun, either.1, t.at))
 
-  pub read_more : HasRead file h v
+  pub read_more : HasResyncedTo file h v
   read_more = record {
     raws = has.raws ++ new_segments m.missing raw;
     datas = has.datas ++ new_segments m.missing t.data';
@@ -181,7 +181,7 @@ module _ (file : List ℕ) (h : HeadValue) (w v : Reading) (m : FoundMarker) (ha
 
 -- ---- the end
 
-module _ (file : List ℕ) (h : HeadValue) (w : Reading) (end : ScanEnd) (has : HasRead file h w) (ends : EndsResync (intervals_of h) w.k w.at (drop w.at file) end) where
+module _ (file : List ℕ) (h : HeadValue) (w : Reading) (end : ScanEnd) (has : HasResyncedTo file h w) (ends : EndsResync (intervals_of h) w.k w.at (drop w.at file) end) where
   abbrev pub segments_read : Resync
   segments_read = record { raws = has.raws; datas = has.datas; breaks = w.breaks.items; end = end }
 

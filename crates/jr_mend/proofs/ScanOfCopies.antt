@@ -18,7 +18,7 @@ use Rattle.jr_mend.specs.declared.choice.Choice.{Choice}
 use Rattle.jr_mend.specs.Choice.{IsBest, IsChoiceOf}
 use Rattle.jr_mend.specs.Copies.{AreAlike, CopyValue, version_of, versions_of}
 use Rattle.jr_mend.specs.Mended.{AreTaken, AreWritten, HasChosen, IsMended, IsTaken, WritesChosen}
-use Rattle.jr_mend.specs.Splice.{coded_intervals, joined, spliced}
+use Rattle.jr_mend.specs.Splice.{coded_intervals, joined_intervals, spliced}
 use Rattle.jr_mend.proofs.Splices.{header_stays, none_missing, scan_is}
 
 at_last : {X : Type 0} (xs : List X) (x d : X) (i : ℕ) → i ≡ length xs → get_or (xs ++ x ∷ []) i d ≡ x
@@ -51,7 +51,7 @@ taken_more copies choices raws datas c raw bytes t is raw_is =
       ];
     }
 
-pub none_written : (copies : List CopyValue) (front bytes : List ℕ) → bytes ≡ front ++ joined [] → AreWritten copies [] 0 front bytes
+pub none_written : (copies : List CopyValue) (front bytes : List ℕ) → bytes ≡ front ++ joined_intervals [] → AreWritten copies [] 0 front bytes
 none_written copies front bytes e = record {
   raws = [];
   datas = [];
@@ -130,7 +130,7 @@ has_version copies i c (k, lt, is) =
 
 -- what is written after the first copy's header, and then ended, is the mended file
 abbrev pub mended_whole : (copies : List CopyValue) (choices : List Choice) (n : ℕ) (first : CopyValue) (h : HeadValue) (source bytes file : List ℕ) → first ≡ get_or copies 0 first → h ≡ first.scan.head → source ≡ first.file → n ≡ intervals_of h
-    → AreWritten copies choices n (take h.scan_at source) bytes → ((raws : List (List ℕ)) → bytes ≡ take h.scan_at source ++ joined raws → file ≡ take h.scan_at source ++ coded_intervals raws) → IsMended copies choices file
+    → AreWritten copies choices n (take h.scan_at source) bytes → ((raws : List (List ℕ)) → bytes ≡ take h.scan_at source ++ joined_intervals raws → file ≡ take h.scan_at source ++ coded_intervals raws) → IsMended copies choices file
 mended_whole copies choices n first h source bytes file is_first head is count w ends = record {
   raws = w.raws;
   datas = w.datas;

@@ -12,7 +12,7 @@ use Rattle.jr_head.specs.HeadValue.{HeadValue}
 use Rattle.jr_head.specs.Heads.{HeadOf}
 use Rattle.jr_head.proofs.HeadStays.{scan_within}
 use Rattle.jr_scan.specs.ScanValue.{IsScanOf, intervals_of, scan_of_segments}
-use Rattle.jr_mend.specs.Splice.{after_markers, coded_intervals, joined, marker_before, spliced}
+use Rattle.jr_mend.specs.Splice.{after_markers, coded_intervals, joined_intervals, marker_before, spliced}
 
 -- ---- one more interval
 
@@ -28,17 +28,17 @@ after_more k (r ∷ rs) raw =
     ∙ ap (λ (x : List ℕ). m ++ x) (sym (append_assoc r (after_markers (suc k) rs) (last (k + suc (length rs)))))
     ∙ sym (append_assoc m (r ++ after_markers (suc k) rs) (last (k + suc (length rs))))
 
-pub joined_more : (raws : List (List ℕ)) (raw : List ℕ) → joined (raws ++ raw ∷ []) ≡ joined raws ++ (marker_before (length raws) ++ raw)
+pub joined_more : (raws : List (List ℕ)) (raw : List ℕ) → joined_intervals (raws ++ raw ∷ []) ≡ joined_intervals raws ++ (marker_before (length raws) ++ raw)
 joined_more [] raw = append-nil raw
 joined_more (r ∷ rs) raw =
     let number : 0 + length rs ≡ length rs = omega arith in
     ap (λ (x : List ℕ). r ++ x) (after_more 0 rs raw ∙ ap (λ (i : ℕ). after_markers 0 rs ++ (marker 0 (RST0 + i % 8) ++ raw)) number)
     ∙ sym (append_assoc r (after_markers 0 rs) (marker 0 (RST0 + length rs % 8) ++ raw))
 
-pub written_more : (k : ℕ) (old new raw front : List ℕ) (raws : List (List ℕ)) → new ≡ old ++ (marker_before k ++ raw) → length raws ≡ k → old ≡ front ++ joined raws → new ≡ front ++ joined (raws ++ raw ∷ [])
+pub written_more : (k : ℕ) (old new raw front : List ℕ) (raws : List (List ℕ)) → new ≡ old ++ (marker_before k ++ raw) → length raws ≡ k → old ≡ front ++ joined_intervals raws → new ≡ front ++ joined_intervals (raws ++ raw ∷ [])
 written_more k old new raw front raws is count e =
-    is ∙ ap (λ (x : List ℕ). x ++ (marker_before k ++ raw)) e ∙ append_assoc front (joined raws) (marker_before k ++ raw)
-    ∙ ap (λ (i : ℕ). front ++ (joined raws ++ (marker_before i ++ raw))) (sym count) ∙ ap (λ (x : List ℕ). front ++ x) (sym (joined_more raws raw))
+    is ∙ ap (λ (x : List ℕ). x ++ (marker_before k ++ raw)) e ∙ append_assoc front (joined_intervals raws) (marker_before k ++ raw)
+    ∙ ap (λ (i : ℕ). front ++ (joined_intervals raws ++ (marker_before i ++ raw))) (sym count) ∙ ap (λ (x : List ℕ). front ++ x) (sym (joined_more raws raw))
 
 -- ---- the cut
 

@@ -21,7 +21,7 @@ abbrev pub AreAlike : List CopyValue → Type 0
 AreAlike copies = (k : ℕ) (c : CopyValue) → k < length copies → (slice_index_or copies k c).scan.head ≡ (slice_index_or copies 0 c).scan.head
 
 -- that of copy k is another one
-pub record IsOther (copies : List CopyValue) (k : ℕ) : Type 0 where
+pub record HasOtherHead (copies : List CopyValue) (k : ℕ) : Type 0 where
   pub there : k < length copies
   pub other : (c : CopyValue) → (slice_index_or copies k c).scan.head ≢ (slice_index_or copies 0 c).scan.head
 

@@ -12,8 +12,8 @@ use Rattle.jr_mend.specs.declared.choice.Choice.{Choice}
 use Rattle.jr_mend.specs.declared.mending.MendError.{MendError}
 use Rattle.jr_mend.specs.declared.mending.MendError.TheVariants as error
 use Rattle.jr_mend.specs.Choice.{IsChoiceOf}
-use Rattle.jr_mend.specs.Copies.{CopyValue, IsOther, version_of, versions_of}
-use Rattle.jr_mend.specs.Splice.{joined, spliced}
+use Rattle.jr_mend.specs.Copies.{CopyValue, HasOtherHead, version_of, versions_of}
+use Rattle.jr_mend.specs.Splice.{joined_intervals, spliced}
 
 -- these bytes are those of interval i in a copy
 pub record AreBytesIn (copy : CopyValue) (i : ℕ) (raw : List ℕ) : Type 0 where
@@ -56,14 +56,14 @@ pub record HasChosen (copies : List CopyValue) (choices : List Choice) (file : L
   pub chosen : (i : ℕ) (c : Choice) → i < length choices → IsChoiceOf (versions_of copies i) (interval_of scan i) (slice_index_or choices i c)
 
 -- after a header and the first i intervals these bytes are written as the next one's
-abbrev pub Writes : ℕ → List ℕ → (old new : List ℕ) → Type 0
-Writes i raw old new = (front : List ℕ) (raws : List (List ℕ)) → length raws ≡ i → old ≡ front ++ joined raws → new ≡ front ++ joined (raws ++ raw ∷ [])
+abbrev pub WritesNext : ℕ → List ℕ → (old new : List ℕ) → Type 0
+WritesNext i raw old new = (front : List ℕ) (raws : List (List ℕ)) → length raws ≡ i → old ≡ front ++ joined_intervals raws → new ≡ front ++ joined_intervals (raws ++ raw ∷ [])
 
 -- those of interval i in a copy are
 pub record WritesBytesIn (copy : CopyValue) (i : ℕ) (old new : List ℕ) : Type 0 where
   pub raw : List ℕ
   pub are : AreBytesIn copy i raw
-  pub written : Writes i raw old new
+  pub written : WritesNext i raw old new
 
 -- those of the chosen copy are
 pub record WritesChosen (copies : List CopyValue) (i : ℕ) (c : Choice) (old new : List ℕ) : Type 0 where
@@ -71,7 +71,7 @@ pub record WritesChosen (copies : List CopyValue) (i : ℕ) (c : Choice) (old ne
   pub bytes : List ℕ
   pub taken : IsTaken copies i c raw bytes
   pub spelled : IsRaw raw bytes
-  pub written : Writes i raw old new
+  pub written : WritesNext i raw old new
 
 -- the first n intervals are written after a header
 pub record AreWritten (copies : List CopyValue) (choices : List Choice) (n : ℕ) (front bytes : List ℕ) : Type 0 where
@@ -79,10 +79,10 @@ pub record AreWritten (copies : List CopyValue) (choices : List Choice) (n : ℕ
   pub datas : List (List ℕ)
   pub taken : AreTaken copies choices raws datas
   pub count : length raws ≡ n
-  pub written : bytes ≡ front ++ joined raws
+  pub written : bytes ≡ front ++ joined_intervals raws
 
 -- why there is no mended file; if allocation fails nothing is said of the copies
 abbrev pub IsErrorOf : List CopyValue → MendError → Type 0
 IsErrorOf copies error.Memory = Unit {0}
-IsErrorOf copies (error.OtherHead k) = IsOther copies k
+IsErrorOf copies (error.OtherHead k) = HasOtherHead copies k
 IsErrorOf copies error.TooLong = (choices : List Choice) × (file : List ℕ) × IsMended copies choices file × (MAX_FILE_BYTES < length file)

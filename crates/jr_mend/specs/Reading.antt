@@ -15,7 +15,7 @@ use Rattle.jr_mend.specs.declared.resync.ResyncFault.{ResyncFault}
 use Rattle.jr_mend.specs.declared.resync.ResyncFault.TheVariants.{Memory, TooLong}
 use Rattle.jr_mend.specs.declared.resync.Resynced.{Resynced}
 use Rattle.jr_mend.specs.Resync.{EndsResync, IsMeaning, IsResync, PartsFrom, Resync, break_at, new_segments, number_after}
-use Rattle.jr_mend.specs.Splice.{joined, spliced}
+use Rattle.jr_mend.specs.Splice.{joined_intervals, spliced}
 
 -- bytes after segment k of n begin with this marker, before which so many may be missing
 pub record Meets (n k limit : ℕ) (tail : List ℕ) (m : FoundMarker) : Type 0 where
@@ -44,10 +44,10 @@ pub record Takes (file : List ℕ) (old new : Reading) (m : FoundMarker) : Type 
   pub number : new.k ≡ number_after old.k m.missing
   pub begun : new.begun ≡ begun_after old.begun m.missing (old.at + m.length)
   pub breaks : new.breaks.items ≡ old.breaks.items ++ break_at old.at old.k m.code m.missing
-  pub written : (front : List ℕ) (raws : List (List ℕ)) → length raws ≡ suc old.k → old.bytes.items ≡ front ++ joined raws → new.bytes.items ≡ front ++ joined (raws ++ new_segments m.missing (take len (drop (old.at + m.length) file)))
+  pub written : (front : List ℕ) (raws : List (List ℕ)) → length raws ≡ suc old.k → old.bytes.items ≡ front ++ joined_intervals raws → new.bytes.items ≡ front ++ joined_intervals (raws ++ new_segments m.missing (take len (drop (old.at + m.length) file)))
 
 -- what is read so far, up to a marker or the end, is written: the segments up to the last that has begun
-pub record HasRead (file : List ℕ) (h : HeadValue) (w : Reading) : Type 0 where
+pub record HasResyncedTo (file : List ℕ) (h : HeadValue) (w : Reading) : Type 0 where
   pub raws : List (List ℕ)
   pub datas : List (List ℕ)
   pub count : length raws ≡ suc w.k
@@ -56,7 +56,7 @@ pub record HasRead (file : List ℕ) (h : HeadValue) (w : Reading) : Type 0 wher
   pub begun : (h.scan_at ≤ w.begun) × (w.begun ≤ w.at)
   pub within : w.at ≤ length file
   pub stop : IsStop (drop w.at file)
-  pub written : w.bytes.items ≡ take h.scan_at file ++ joined raws
+  pub written : w.bytes.items ≡ take h.scan_at file ++ joined_intervals raws
   pub on : (r : Resync) → PartsFrom (intervals_of h) (length (drop h.scan_at file)) (w.at - w.begun) w.k w.at (drop w.at file) r → IsResync (intervals_of h) h.scan_at (drop h.scan_at file) (record { raws = raws ++ r.raws; datas = datas ++ r.datas; breaks = w.breaks.items ++ r.breaks; end = r.end })
 
 -- the file is resynchronised: its scan's bytes fall into these segments, and the segments that are lost at the end have no data

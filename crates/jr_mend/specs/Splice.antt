@@ -10,13 +10,13 @@ after_markers k [] = []
 after_markers k (raw ∷ raws) = marker 0 (RST0 + k % 8) ++ (raw ++ after_markers (suc k) raws)
 
 -- the intervals of a scan, with restart markers between them
-abbrev pub joined : List (List ℕ) → List ℕ
-joined [] = []
-joined (raw ∷ raws) = raw ++ after_markers 0 raws
+abbrev pub joined_intervals : List (List ℕ) → List ℕ
+joined_intervals [] = []
+joined_intervals (raw ∷ raws) = raw ++ after_markers 0 raws
 
 -- and EOI after them
 abbrev pub coded_intervals : List (List ℕ) → List ℕ
-coded_intervals raws = joined raws ++ marker 0 EOI
+coded_intervals raws = joined_intervals raws ++ marker 0 EOI
 
 -- the marker before interval k; none before the first
 abbrev pub marker_before : ℕ → List ℕ

@@ -4,9 +4,9 @@ ghost use Rattle.std.specs.Prelude.{◌≡◌, ◌<◌, ◌≤◌, ◌++◌, [],
 ghost use Rattle.jr_base.specs.declared.limits.TheConstants.{MAX_FILE_BYTES};
 ghost use Rattle.jr_damage.specs.Coded.{IsNextAt};
 ghost use Rattle.jr_scan.specs.ScanValue.{intervals_of};
-ghost use Rattle.jr_mend.specs.Copies.{AreAlike, AreNextAt, IsOther};
+ghost use Rattle.jr_mend.specs.Copies.{AreAlike, AreNextAt, HasOtherHead};
 ghost use Rattle.jr_mend.specs.Mended.{AreWritten, HasChosen, IsErrorOf, IsMended, WritesBytesIn, WritesChosen};
-ghost use Rattle.jr_mend.specs.Splice.{joined};
+ghost use Rattle.jr_mend.specs.Splice.{joined_intervals};
 
 use crate::choice::{Choice, MAX_COPIES, choose};
 use crate::file_copy::FileCopy;
@@ -40,7 +40,7 @@ fn other_head(copies: &[FileCopy]) -> Option<u32>
     requires some { 0 < length copies.now }
     requires few { length copies.now ≤ MAX_COPIES }
     ensures alike { IfNone result (AreAlike copies.now) }
-    ensures other { IfSome result (IsOther copies.now) }
+    ensures other { IfSome result (HasOtherHead copies.now) }
 {
     let first = copies[0].scan();
     for k in 0..copies.len() {
@@ -95,7 +95,7 @@ fn write_all(
     requires some { 0 < length copies.now }
     requires few { length copies.now ≤ MAX_COPIES }
     requires there { All (λ c. count ≤ intervals_of c.scan.head) copies.now }
-    ensures { IfOk result (λ choices. (front : List ℕ) → bytes.old.items ≡ front ++ joined [] → AreWritten copies.now choices.items count front bytes.new.items) }
+    ensures { IfOk result (λ choices. (front : List ℕ) → bytes.old.items ≡ front ++ joined_intervals [] → AreWritten copies.now choices.items count front bytes.new.items) }
 {
     let mut positions = starts_of(alloc, copies)?;
     let mut choices = Vec::new(alloc);

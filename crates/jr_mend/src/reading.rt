@@ -3,9 +3,9 @@
 ghost use Rattle.std.specs.Prelude.{◌≡◌, ℕ, suc, ◌+◌, ◌<◌, ◌≤◌, ◌^◌, ◌++◌, ◌∷◌, [], List, length, drop, replicate, IfOk, IfSome};
 ghost use Rattle.jr_base.specs.declared.limits.TheConstants.{MAX_FILE_BYTES};
 ghost use Rattle.jr_head.specs.Heads.{HeadOf};
-ghost use Rattle.jr_mend.specs.Reading.{HasRead, Meets, Takes, begun_after};
+ghost use Rattle.jr_mend.specs.Reading.{HasResyncedTo, Meets, Takes, begun_after};
 ghost use Rattle.jr_mend.specs.Resync.{EndsResync, break_at, new_segments, number_after};
-ghost use Rattle.jr_mend.specs.Splice.{joined};
+ghost use Rattle.jr_mend.specs.Splice.{joined_intervals};
 ghost use Rattle.jr_scan.specs.ScanValue.{intervals_of};
 
 use crate::breaks::Break;
@@ -19,7 +19,7 @@ use std::alloc::Global;
 /// Appends intervals without bytes after interval k, and then one of these bytes. On `Err`, part of them may be appended.
 fn write_after(bytes: &mut Vec<u8>, k: u32, missing: u32, raw: &[u8]) -> Result<(), Memory>
     requires { k + missing + 1 < 2 ^ 32 }
-    ensures { IfOk result (λ _. (front : List ℕ) (raws : List (List ℕ)) → length raws ≡ suc k → bytes.old.items ≡ front ++ joined raws → bytes.new.items ≡ front ++ joined (raws ++ (replicate missing [] ++ raw.now ∷ []))) }
+    ensures { IfOk result (λ _. (front : List ℕ) (raws : List (List ℕ)) → length raws ≡ suc k → bytes.old.items ≡ front ++ joined_intervals raws → bytes.new.items ≡ front ++ joined_intervals (raws ++ (replicate missing [] ++ raw.now ∷ []))) }
 {
     for i in 0..missing {
         write_interval(bytes, k + 1 + i, &[])?;
@@ -44,7 +44,7 @@ impl Reading {
     /// Reads the bytes of the first interval.
     pub(crate) fn of(alloc: Global, head: &Head, file: &[u8]) -> Result<Reading, Memory>
         requires { HeadOf file.now head.now }
-        ensures { IfOk result (λ w. HasRead file.now head.now w) }
+        ensures { IfOk result (λ w. HasResyncedTo file.now head.now w) }
     {
         // A header has at least one interval.
         let _some = head.intervals();
@@ -86,7 +86,7 @@ impl Reading {
         requires { IfSome missing (λ d. self.old.k + d + 1 < 2 ^ 32) }
         ensures number { IfOk result (λ _. self.new.k ≡ number_after self.old.k missing) }
         ensures begun { IfOk result (λ _. self.new.begun ≡ begun_after self.old.begun missing start) }
-        ensures written { IfOk result (λ _. (front : List ℕ) (raws : List (List ℕ)) → length raws ≡ suc self.old.k → self.old.bytes.items ≡ front ++ joined raws → self.new.bytes.items ≡ front ++ joined (raws ++ new_segments missing raw.now)) }
+        ensures written { IfOk result (λ _. (front : List ℕ) (raws : List (List ℕ)) → length raws ≡ suc self.old.k → self.old.bytes.items ≡ front ++ joined_intervals raws → self.new.bytes.items ≡ front ++ joined_intervals (raws ++ new_segments missing raw.now)) }
         ensures same { (self.new.breaks ≡ self.old.breaks) × (self.new.at ≡ self.old.at) }
     {
         let Some(missing) = missing else {
@@ -114,9 +114,9 @@ impl Reading {
 
     /// Reads up to the end of the scan, and returns what ends it.
     pub(crate) fn read_on(&mut self, head: &Head, file: &[u8]) -> Result<ScanEnd, Memory>
-        requires read { HasRead file.now head.now self.old }
+        requires read { HasResyncedTo file.now head.now self.old }
         requires short { length file.now ≤ MAX_FILE_BYTES }
-        ensures read { IfOk result (λ _. HasRead file.now head.now self.new) }
+        ensures read { IfOk result (λ _. HasResyncedTo file.now head.now self.new) }
         ensures ends { IfOk result (λ end. EndsResync (intervals_of head.now) self.new.k self.new.at (drop self.new.at file.now) end) }
     {
         let intervals = head.intervals();

@@ -11,7 +11,7 @@ returns-clause-mended c =
     let source = c.file.result.now in
     let head : h ≡ first.scan.head = c.head.ensures.value ∙ ap (λ (s : ScanValue). s.head) c.scan-scan.ensures.value in
     let count = c.intervals-count.ensures.count ∙ ap intervals_of (sym c.head.ensures.value) in
-    let written = c.in-Ok-write_all.ensures (take h.scan_at source) c.in-Ok.ensures.joined in
+    let written = c.in-Ok-write_all.ensures (take h.scan_at source) c.in-Ok.ensures.joined_intervals in
     mended_whole c.args.copies.now c.in-Ok-write_all.choices.items c.intervals-count.result first h source c.write_all.new.bytes.items c.write_image_end.new.bytes.items
     c.index-copies-0.is head c.file.ensures count written (c.in-Ok-write_image_end.ensures.whole (take h.scan_at source))
 
@@ -24,7 +24,7 @@ returns-clause-scan c =
     let choices = c.in-Ok-write_all.choices.items in
     let head : h ≡ first.scan.head = c.head.ensures.value ∙ ap (λ (s : ScanValue). s.head) c.scan-scan.ensures.value in
     let count = c.intervals-count.ensures.count ∙ ap intervals_of (sym c.head.ensures.value) in
-    let written = c.in-Ok-write_all.ensures (take h.scan_at source) c.in-Ok.ensures.joined in
+    let written = c.in-Ok-write_all.ensures (take h.scan_at source) c.in-Ok.ensures.joined_intervals in
     let m =
     mended_whole c.args.copies.now choices c.intervals-count.result first h source c.write_all.new.bytes.items file
     c.index-copies-0.is head c.file.ensures count written (c.in-Ok-write_image_end.ensures.whole (take h.scan_at source)) in
@@ -41,7 +41,7 @@ returns-then-len-gt-MAX_FILE_BYTES-clause-error c =
     let choices = c.in-Ok-write_all.choices.items in
     let head : h ≡ first.scan.head = c.head.ensures.value ∙ ap (λ (s : ScanValue). s.head) c.scan-scan.ensures.value in
     let count = c.intervals-count.ensures.count ∙ ap intervals_of (sym c.head.ensures.value) in
-    let written = c.in-Ok-write_all.ensures (take h.scan_at source) c.in-Ok.ensures.joined in
+    let written = c.in-Ok-write_all.ensures (take h.scan_at source) c.in-Ok.ensures.joined_intervals in
     let m =
     mended_whole c.args.copies.now choices c.intervals-count.result first h source c.write_all.new.bytes.items file
     c.index-copies-0.is head c.file.ensures count written (c.in-Ok-write_image_end.ensures.whole (take h.scan_at source)) in

@@ -16,5 +16,5 @@ returns c =
     record {
       raw = slice_range file span.start span.end;
       are = record { span = span; segment = subst (λ (f : List ℕ). IsSegmentOf f s i span) is segment; are = ap (λ (f : List ℕ). slice_range f span.start span.end) is };
-      written = c.in_ok-write_interval.ensures.joined;
+      written = c.in_ok-write_interval.ensures.joined_intervals;
     }

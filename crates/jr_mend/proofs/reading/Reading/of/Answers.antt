@@ -1,5 +1,5 @@
 use Rattle.std.proofs.Common.{◌≡◌, ◌+◌, ◌<◌, ◌++◌, ◌∷◌, [], ℕ, take, drop, refl, ap, subst, ◌∙◌, arith}
-use Rattle.jr_mend.specs.Splice.{joined}
+use Rattle.jr_mend.specs.Splice.{joined_intervals}
 use Rattle.jr_mend.proofs.Readings.{Segment, read_first, segment, slice_is}
 use Rattle.jr_mend.proofs.reading.Reading.of.Goals as goal
 
@@ -15,6 +15,6 @@ returns c =
     let raw = take len (drop at file) in
     let some = subst (λ (n : ℕ). 0 < n) c.intervals-some.ensures.value c.intervals-some.ensures.some in
     let slice = slice_is file c.scan_at-start.result (c.scan_at-start.result + len) len refl ∙ ap (λ (a : ℕ). take len (drop a file)) start in
-    let before : c.reserve.new.self.items ≡ front ++ joined [] = c.reserve.ensures.items ∙ c.in_ok-bytes.ensures.joined in
-    let written : c.write_interval.new.bytes.items ≡ front ++ joined (raw ∷ []) = grind (arith, c.in_ok-write_interval.ensures.joined front [] refl before, slice) in
+    let before : c.reserve.new.self.items ≡ front ++ joined_intervals [] = c.reserve.ensures.items ∙ c.in_ok-bytes.ensures.joined_intervals in
+    let written : c.write_interval.new.bytes.items ≡ front ++ joined_intervals (raw ∷ []) = grind (arith, c.in_ok-write_interval.ensures.joined_intervals front [] refl before, slice) in
     read_first file h _ len told some refl (ap (λ a. a + len) start) c.new.ensures.items start written
