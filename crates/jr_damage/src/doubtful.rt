@@ -18,7 +18,7 @@ use std::array;
 const MAX_COEFFICIENT: u32 = 1024;
 
 /// The first MCU of an interval with a value that no image of 8-bit samples has.
-#[derive(Clone, Copy, Debug, PartialEq, Eq)]
+#[derive(Clone, Copy)]
 pub struct DoubtfulMcu {
     /// The number of its interval in the scan, from 0.
     pub interval: u32,

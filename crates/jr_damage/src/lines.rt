@@ -9,14 +9,14 @@ ghost use Rattle.jr_damage.specs.Lines.{first_mcu_of, AreRows, AreLinesOf};
 use jr_head::Head;
 
 /// MCUs that follow one another, the first by its number in the scan, from 0.
-#[derive(Clone, Copy, Debug, PartialEq, Eq)]
+#[derive(Clone, Copy)]
 pub struct McuRange {
     pub first: u32,
     pub count: u32,
 }
 
 /// Lines of an image, the first and the last of them counted from 0 at the top.
-#[derive(Clone, Copy, Debug, PartialEq, Eq)]
+#[derive(Clone, Copy, PartialEq, Eq)]
 pub struct Lines {
     pub first: u32,
     pub last: u32,

@@ -11,7 +11,7 @@ use crate::segments::CodedSpan;
 use jr_scan::IntervalRef;
 
 /// An interval that has no decoding.
-#[derive(Clone, Copy, Debug, PartialEq, Eq)]
+#[derive(Clone, Copy)]
 pub struct DamagedInterval {
     /// Its number in the scan, from 0.
     pub number: u32,

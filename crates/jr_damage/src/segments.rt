@@ -9,14 +9,14 @@ use jr_cut::{Stop, fill_count, segment_length, stop_at};
 
 /// The bytes of a file from one offset up to another: those that code an interval, with their stuffing and without the
 /// markers before and after them.
-#[derive(Clone, Copy, Debug, PartialEq, Eq)]
+#[derive(Clone, Copy)]
 pub struct CodedSpan {
     pub start: usize,
     pub end: usize,
 }
 
 /// The bytes that code an interval, and where those of the next one begin.
-#[derive(Clone, Copy, Debug, PartialEq, Eq)]
+#[derive(Clone, Copy)]
 pub struct Segment {
     pub bytes: CodedSpan,
     /// Offset after the restart marker that is due, or the length of the file if the scan ends before it.

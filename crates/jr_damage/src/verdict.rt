@@ -13,7 +13,7 @@ use jr_scan::Scan;
 use std::sync::Wait;
 
 /// The number of intervals of a scan without a decoding, and the first and last line of the image that they touch.
-#[derive(Clone, Copy, Debug, PartialEq, Eq)]
+#[derive(Clone, Copy, PartialEq, Eq)]
 pub struct Verdict {
     pub damaged: u32,
     pub lines: Option<Lines>,
