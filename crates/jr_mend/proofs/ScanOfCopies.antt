@@ -6,6 +6,7 @@ use Rattle.std.proofs.lemmas.List.{get_or_default, length-map}
 use Rattle.std.proofs.lemmas.List.Elements.{All-contains, AllZip-push, length_all_zip}
 use Rattle.std.proofs.Math.ListN.{get_or-append, get_or-map}
 use Rattle.std.proofs.Math.Seq.{get_or-append_seam}
+use Rattle.jr_head.proofs.HeadStays.{header_stays}
 use Rattle.jr_base.specs.declared.limits.TheConstants.{MAX_FILE_BYTES}
 use Rattle.jr_cut.specs.declared.scan_end.ScanEnd.TheVariants.{EndOfImage}
 use Rattle.jr_cut.specs.Cut.{IsRaw}
@@ -19,7 +20,7 @@ use Rattle.jr_mend.specs.Choice.{IsBest, IsChoiceOf}
 use Rattle.jr_mend.specs.Copies.{AreAlike, CopyValue, version_of, versions_of}
 use Rattle.jr_mend.specs.Mended.{AreTaken, AreWritten, HasChosen, IsMended, IsTaken, WritesChosen}
 use Rattle.jr_mend.specs.Splice.{coded_intervals, joined_intervals, spliced}
-use Rattle.jr_mend.proofs.Splices.{header_stays, none_missing, scan_is}
+use Rattle.jr_mend.proofs.Splices.{none_missing, scan_is}
 
 at_last : {X : Type 0} (xs : List X) (x d : X) (i : ℕ) → i ≡ length xs → get_or (xs ++ x ∷ []) i d ≡ x
 at_last xs x d i e = ap (λ (n : ℕ). get_or (xs ++ x ∷ []) n d) e ∙ get_or-append_seam xs x [] d
