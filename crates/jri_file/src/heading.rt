@@ -1,4 +1,4 @@
-//! The header of a file that is read, and the whole file.
+//! The header of a file that is read.
 
 ghost use Rattle.std.specs.Prelude.{◌≡◌, ◌≢◌, IfOk, IfErr, false, true};
 ghost use Rattle.jr_base.specs.Tally.{has_failed, known_in};
@@ -40,21 +40,4 @@ pub fn read_file_head<R: Read>(alloc: Global, input: &mut Tally<R>) -> Result<He
     }
     read_more(input, &mut bytes, TOO_MANY, TOO_MANY)?;
     head_of_bytes(alloc, &bytes)
-}
-
-/// Reads the whole input. Returns the bytes of the file and its header, or its fault.
-pub fn read_file<R: Read>(alloc: Global, input: &mut Tally<R>) -> Result<(Vec<u8>, Head), Fault>
-    requires { has_failed input.old ≡ false }
-    ensures file { IfOk result (λ f. OfFile (known_in R.remaining input.old) (λ file. file ≡ f.0.items)) }
-    ensures head { IfOk result (λ f. HeadOf f.0.items f.1) }
-    ensures fault { IfErr result (IsFaultOfInput (known_in R.remaining input.old)) }
-    ensures failed { result ≡ Err Fault.Read → has_failed input.new ≡ true }
-    ensures unfailed { result ≢ Err Fault.Read → has_failed input.new ≡ false }
-{
-    let mut bytes = Vec::new(alloc);
-    read_more(input, &mut bytes, TOO_MANY, TOO_MANY)?;
-    match head_of_bytes(alloc, &bytes) {
-        Ok(head) => Ok((bytes, head)),
-        Err(fault) => Err(fault),
-    }
 }

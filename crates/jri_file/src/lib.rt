@@ -9,7 +9,7 @@ mod report;
 mod scanning;
 mod status;
 
-pub use heading::{read_file, read_file_head};
+pub use heading::read_file_head;
 pub use incoming::read_scan;
 pub use laws::{each_accepted_file_has_a_picture, each_scan_has_a_picture, one_text};
 pub use report::{Fault, Report};
