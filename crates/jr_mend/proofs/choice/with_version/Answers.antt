@@ -15,15 +15,20 @@ returns-in-None-None-2 c = λ vs is long.
     cc)
 
 pub returns-in-None-Some : goal.returns-in-None-Some
-returns-in-None-Some c = λ vs is long. stays_sound vs c.args.chosen c.args.next c.args.before is c.in-None-Some.is-0 c.in-None-Some.ensures.damaged
+returns-in-None-Some c = λ vs is long.
+    let stays = stays_sound vs c.args.chosen c.args.next c.args.before is c.in-None-Some.is-0 c.in-None-Some.ensures.damaged in
+    search (stays)
 
 pub returns-in-Some-None : goal.returns-in-Some-None
-returns-in-Some-None c = λ vs is long. first_sound vs c.args.chosen c.args.next c.args.before is c.in-Some-None.field-0-0 c.in-Some-None.is-0 c.args.number long c.in-Some-None.ensures.sound
+returns-in-Some-None c = λ vs is long.
+    let first = first_sound vs c.args.chosen c.args.next c.args.before is c.in-Some-None.field-0-0 c.in-Some-None.is-0 c.args.number long c.in-Some-None.ensures.sound in
+    search (first)
 
 pub returns-in-Some-Some : goal.returns-in-Some-Some
 returns-in-Some-Some c = λ vs is long.
     let w = c.in-Some-Some in
-    longer_front vs c.args.chosen c.args.next c.args.before is w.most w.is-0 w.mcus w.ensures.damaged w.ensures.front c.args.number long c.if-most-mcus.true
+    let longer = longer_front vs c.args.chosen c.args.next c.args.before is w.most w.is-0 w.mcus w.ensures.damaged w.ensures.front c.args.number long c.if-most-mcus.true in
+    search (longer)
 
 pub returns-in-Some-Some-2 : goal.returns-in-Some-Some-2
 returns-in-Some-Some-2 c = λ vs is long.
