@@ -13,8 +13,8 @@ use jr_scan::IntervalRef;
 /// Maximum number of copies of a file.
 pub const MAX_COPIES: usize = 64;
 
-/// The copy from which an interval is taken: the first in which it has a decoding, otherwise the first of those with the longest
-/// decodable prefix.
+/// The copy from which an interval is taken: the first in which it has a decoding, otherwise the first of those with the
+/// longest decodable prefix.
 #[derive(Clone, Copy, Debug, PartialEq, Eq)]
 pub struct Choice {
     /// The number of the copy, from 0.
@@ -32,7 +32,8 @@ fn has_same_data(one: &[u8], other: &[u8]) -> bool
     one == other
 }
 
-/// Returns the choice among some copies and one more, by the choice among those. `chosen` is the interval in the copy that was chosen.
+/// Returns the choice among some copies and one more, by the choice among those. `chosen` is the interval in the copy
+/// that was chosen.
 fn with_version(
     before: Choice,
     chosen: IntervalRef<'_>,

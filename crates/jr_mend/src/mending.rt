@@ -107,8 +107,8 @@ fn write_all(
     Ok(choices)
 }
 
-/// Writes a file with the header of the first copy, in which each interval is the chosen version of it. It allocates the file, the
-/// choices, and a position for each copy; it reads each interval of each copy once.
+/// Writes a file with the header of the first copy, in which each interval is the chosen version of it. It allocates the
+/// file, the choices, and a position for each copy; it reads each interval of each copy once.
 ///
 /// # Errors
 ///

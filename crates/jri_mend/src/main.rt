@@ -1,5 +1,5 @@
-//! `jri_mend [-o FILE] [--json] [--resync] COPY COPY..`: writes one JPEG file from damaged copies of it, each restart interval from a copy in
-//! which it is sound.
+//! `jri_mend [-o FILE] [--json] [--resync] COPY COPY..`: writes one JPEG file from damaged copies of it, each restart
+//! interval from a copy in which it is sound.
 #![tactic(auto)]
 
 mod asking;

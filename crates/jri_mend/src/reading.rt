@@ -139,7 +139,8 @@ fn read_copy<D: Devices>(
     }
 }
 
-/// Reads the copies. If they are resynchronised their breaks are appended. The error has the number of the copy that is not there.
+/// Reads the copies. If they are resynchronised their breaks are appended. The error has the number of the copy that is
+/// not there.
 pub(crate) fn read_copies<D: Devices>(
     alloc: Global,
     devices: &D,

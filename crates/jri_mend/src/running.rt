@@ -255,9 +255,9 @@ fn report_copy<E: Write>(errors: &mut E, names: &[String], copy: usize, error: C
     error.status()
 }
 
-/// Does what the program's arguments ask for on these devices, and reports it. The status is 0 if each interval is sound, 1 if one
-/// is damaged in all copies, 2 for wrong arguments and copies of another file, 3 for copies that are not read, 4 for memory and the
-/// output.
+/// Does what the program's arguments ask for on these devices, and reports it. The status is 0 if each interval is
+/// sound, 1 if one is damaged in all copies, 2 for wrong arguments and copies of another file, 3 for copies that are
+/// not read, 4 for memory and the output.
 pub(crate) fn program<D: Devices, E: Write>(
     alloc: Global,
     devices: &mut D,
