@@ -138,7 +138,7 @@ versions_more copies i k c lt is = map_more (version_of i) copies k c lt ∙ ap 
 pub versions_all : (copies : List CopyValue) (i : ℕ) → versions_of (take (length copies) copies) i ≡ versions_of copies i
 versions_all copies i = ap (λ (l : List CopyValue). versions_of l i) (take-length copies)
 
--- a version that adds no difference leaves what is told of them
+-- a version that adds no difference leaves unchanged what is reported of them
 tells_more : (vs : List IntervalValue) (next : IntervalValue) (told : Bool) → TellsDiffer vs told → (Differ (vs ++ next ∷ []) → Differ vs) → TellsDiffer (vs ++ next ∷ []) told
 tells_more vs next true t back = still_differ vs next t
 tells_more vs next false t back = λ d. t (back d)

@@ -5,7 +5,7 @@ use Rattle.jr_scan.specs.IntervalValue.{IntervalValue}
 use Rattle.jr_scan.specs.Mcus.{HasDecoding, HasNoDecoding, HasLongestFront}
 use Rattle.jr_mend.specs.declared.choice.Choice.{Choice}
 
--- the decodable prefix of a version has fewer MCUs, or at most so many
+-- the decodable prefix of a version has fewer MCUs, or at most the given number
 abbrev pub HasFewer : ℕ → IntervalValue → Type 0
 HasFewer mcus v = (n : ℕ) → HasLongestFront v n → n < mcus
 

@@ -17,7 +17,7 @@ use Rattle.jr_mend.specs.declared.resync.Resynced.{Resynced}
 use Rattle.jr_mend.specs.Resync.{EndsResync, IsMeaning, IsResync, PartsFrom, Resync, break_at, new_segments, number_after}
 use Rattle.jr_mend.specs.Splice.{joined_intervals, spliced}
 
--- bytes after segment k of n begin with this marker, before which so many may be missing
+-- bytes after segment k of n begin with this marker, before which at most the given number may be missing
 pub record Meets (n k limit : ℕ) (tail : List ℕ) (m : FoundMarker) : Type 0 where
   pub more : ℕ
   pub long : m.length ≡ more + 2

@@ -9,7 +9,7 @@ use Rattle.jr_cut.specs.Cut.{IsRaw, marker, IsEnding}
 use Rattle.jr_mend.specs.declared.breaks.Break.{Break}
 use Rattle.jr_mend.specs.declared.following.TheConstants.{MAX_EARLY}
 
--- the number of segments that so many of a scan's bytes hold on average, to the nearest
+-- the number of segments that the given number of a scan's bytes holds on average, to the nearest
 abbrev pub held : (n size bytes : ℕ) → ℕ
 held n size bytes = (2 * (bytes * n) / size + 1) / 2
 
@@ -56,7 +56,7 @@ abbrev pub bytes_after : ℕ → Option ℕ → (part raw : ℕ) → ℕ
 bytes_after since None part raw = since + part
 bytes_after since (Some d) part raw = raw
 
--- parts of a scan of that size, with so many bytes between the start of segment k and the first marker
+-- parts of a scan of that size, with the given number of bytes between the start of segment k and the first marker
 abbrev pub AreParts : (n size since k : ℕ) → List Part → Type 0
 AreParts n size since k [] = Unit {0}
 AreParts n size since k (p ∷ ps) = IsMeaning n k (max_missing n size since) p.code p.missing × IsRaw p.raw p.bytes × AreParts n size (bytes_after since p.missing (length (part_bytes p)) (length p.raw)) (number_after k p.missing) ps

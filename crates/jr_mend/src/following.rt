@@ -34,7 +34,7 @@ pub(crate) enum Following {
     Marker(FoundMarker),
 }
 
-/// Returns how many restart markers may be missing before one, with so many bytes between the start of the last interval
+/// Returns how many restart markers may be missing before one, with `since` bytes between the start of the last interval
 /// and it, in a scan of `size` bytes.
 fn max_missing(intervals: u32, size: usize, since: usize) -> u64
     requires some { 0 < size }
@@ -84,7 +84,7 @@ fn end_after_last(code: u8, at: u64) -> ScanEnd
     ScanEnd::OtherMarker(code, at)
 }
 
-/// Returns what follows interval k, at an offset of the file, with so many bytes since the start of the interval, in a
+/// Returns what follows interval k, at an offset of the file, with `since` bytes after the start of the interval, in a
 /// scan of `size` bytes.
 pub(crate) fn following_at(
     tail: &[u8],
