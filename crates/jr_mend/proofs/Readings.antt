@@ -1,5 +1,5 @@
 -- A file is read marker by marker.
-use Rattle.std.proofs.Common.{◌≡◌, ℕ, suc, ◌+◌, ◌-◌, ◌<◌, ◌≤◌, List, [], ◌∷◌, ◌++◌, length, take, drop, sym, ap, subst, ◌∙◌, append_assoc, length-append, length-drop, Option, Some, None, arith}
+use Rattle.std.proofs.Common.{◌≡◌, ℕ, zero, suc, ◌+◌, ◌-◌, ◌<◌, ◌≤◌, List, [], ◌∷◌, ◌++◌, length, take, drop, sym, ap, subst, ◌∙◌, append_assoc, length-append, length-drop, Option, Some, None, arith}
 use Rattle.std.proofs.lemmas.List.{append-nil, drop-drop}
 use Rattle.jr_base.specs.declared.limits.TheConstants.{MAX_FILE_BYTES}
 use Rattle.jr_cut.specs.declared.scan_end.ScanEnd.{ScanEnd}
@@ -15,8 +15,9 @@ use Rattle.jr_mend.specs.declared.breaks.Break.{Break}
 use Rattle.jr_mend.specs.declared.following.FoundMarker.{FoundMarker}
 use Rattle.jr_mend.specs.declared.reading.Reading.{Reading}
 use Rattle.jr_mend.specs.declared.resync.Resynced.{Resynced}
-use Rattle.jr_mend.specs.Reading.{HasResyncedTo, IsResynced, IsTooLong, Meets, Takes, begun_after}
-use Rattle.jr_mend.specs.Resync.{EndsResync, IsResync, Part, PartsFrom, Resync, break_at, bytes_after, max_missing, new_segments, number_after, part_bytes}
+use Rattle.jr_mend.specs.Reading.{HasResyncedTo, IsResynced, IsTooLong, Meets, Takes}
+use Rattle.jr_mend.specs.declared.pace.Pace.{Pace}
+use Rattle.jr_mend.specs.Resync.{EndsResync, IsResync, Part, PartsFrom, Resync, after_due, break_at, first_pace, pace_after, max_missing, new_segments, number_after, part_bytes}
 use Rattle.jr_mend.specs.Splice.{coded_intervals, joined_intervals, spliced}
 use Rattle.jr_mend.proofs.Resyncs.{count_after, few_after, new_spelled, parts_last, parts_next, with_part, zip_append}
 use Rattle.jr_mend.proofs.Splices.{scan_is}
@@ -51,11 +52,11 @@ module _ (file : List ℕ) (h : HeadValue) (w : Reading) (len : ℕ) (s : Segmen
   abbrev first : List ℕ
   first = take len (drop h.scan_at file)
 
-  on_first : 0 < intervals_of h → w.k ≡ 0 → w.at ≡ h.scan_at + len → w.breaks.items ≡ [] → w.begun ≡ h.scan_at → (r : Resync) → PartsFrom (intervals_of h) (length (drop h.scan_at file)) (w.at - w.begun) w.k w.at (drop w.at file) r
+  on_first : 0 < intervals_of h → w.k ≡ 0 → w.at ≡ h.scan_at + len → w.breaks.items ≡ [] → w.pace ≡ first_pace len → (r : Resync) → PartsFrom (intervals_of h) (length (drop h.scan_at file)) w.pace w.k w.at (drop w.at file) r
       → IsResync (intervals_of h) h.scan_at (drop h.scan_at file) (record { raws = first ∷ r.raws; datas = s.found ∷ r.datas; breaks = w.breaks.items ++ r.breaks; end = r.end })
-  on_first some number at none begun r p =
+  on_first some number at none paced r p =
       let long : w.at ≡ h.scan_at + length first = omega (arith, at, length_front file h.scan_at len s.within) in
-      let since : w.at - w.begun ≡ length first = omega (arith, long, begun) in
+      let pace : w.pace ≡ first_pace (length first) = paced ∙ ap first_pace (sym (length_front file h.scan_at len s.within)) in
       let size = length (drop h.scan_at file) in
       record {
         some = some;
@@ -65,40 +66,41 @@ module _ (file : List ℕ) (h : HeadValue) (w : Reading) (len : ℕ) (s : Segmen
         after = r;
         is_raw = s.raw;
         spelled = split_at file h.scan_at len ∙ ap (λ (k : ℕ). first ++ drop k file) (sym at);
-        parts = subst (λ (o : ℕ). PartsFrom (intervals_of h) size (length first) 0 o (drop w.at file) r) long (subst (λ (k : ℕ). PartsFrom (intervals_of h) size (length first) k w.at (drop w.at file) r) number (subst (λ (b : ℕ). PartsFrom (intervals_of h) size b w.k w.at (drop w.at file) r) since p));
+        parts = subst (λ (o : ℕ). PartsFrom (intervals_of h) size (first_pace (length first)) 0 o (drop w.at file) r) long (subst (λ (k : ℕ). PartsFrom (intervals_of h) size (first_pace (length first)) k w.at (drop w.at file) r) number (subst (λ (b : Pace). PartsFrom (intervals_of h) size b w.k w.at (drop w.at file) r) pace p));
         is = ap (λ (b : List Break). record { raws = first ∷ r.raws; datas = s.found ∷ r.datas; breaks = b ++ r.breaks; end = r.end }) none;
       }
 
-  pub read_first : 0 < intervals_of h → w.k ≡ 0 → w.at ≡ h.scan_at + len → w.breaks.items ≡ [] → w.begun ≡ h.scan_at → w.bytes.items ≡ take h.scan_at file ++ joined_intervals (first ∷ []) → HasResyncedTo file h w
-  read_first some number at none begun written = record {
+  pub read_first : 0 < intervals_of h → w.k ≡ 0 → w.at ≡ h.scan_at + len → w.breaks.items ≡ [] → w.pace ≡ first_pace len → w.bytes.items ≡ take h.scan_at file ++ joined_intervals (first ∷ []) → HasResyncedTo file h w
+  read_first some number at none paced written = record {
     raws = first ∷ [];
     datas = s.found ∷ [];
     count = omega (arith, number);
     few = omega (arith, number, some);
     each = (s.raw, tt);
-    begun = (omega (arith, begun), omega (arith, begun, at));
+    near = (omega (arith, ap (λ (q : Pace). q.bytes) paced, at), omega (arith, ap (λ (q : Pace). q.intervals) paced, number));
     within = omega (arith, at, s.within);
     stop = subst (λ (k : ℕ). IsStop (drop k file)) (sym at) s.stop;
     written = written;
-    on = on_first some number at none begun;
+    on = on_first some number at none paced;
   }
 
 -- ---- a marker, and the bytes after it
 
--- the bytes since the start of a segment, by offsets
-since_is : (a : Option ℕ) (begun at start part raw : ℕ) → begun ≤ at → start + raw ≡ at + part → at + part - begun_after begun a start ≡ bytes_after (at - begun) a part raw
-since_is None begun at start part raw le e = omega (arith, le)
-since_is (Some d) begun at start part raw le e = omega (arith, e)
+-- the pace counts no byte before the scan, and no segment that is not placed
+near_after : (p : Pace) (a : Option ℕ) (low at part raw k : ℕ) → low + p.bytes ≤ at → raw ≤ part → p.intervals ≤ k → (low + (pace_after p a part raw).bytes ≤ at + part) × ((pace_after p a part raw).intervals ≤ number_after k a)
+near_after p None low at part raw k l r s = (omega (arith, l), s)
+near_after p (Some (suc d)) low at part raw k l r s = (omega (arith, l), omega (arith, s))
+near_after p (Some zero) low at part raw k l r s = due p.unsure
+  where
+    due : (unsure : ℕ) → (low + (after_due unsure p part raw).bytes ≤ at + part) × ((after_due unsure p part raw).intervals ≤ number_after k (Some 0))
+    due zero = (omega (arith, l, r), omega arith)
+    due (suc unsure) = (omega (arith, l), omega (arith, s))
 
-begun_within : (a : Option ℕ) (low begun start : ℕ) → low ≤ begun → begun ≤ start → low ≤ start → (low ≤ begun_after begun a start) × (begun_after begun a start ≤ start)
-begun_within None low begun start l b s = (l, b)
-begun_within (Some d) low begun start l b s = (s, omega arith)
-
-pub takes : (file : List ℕ) (old mid v : Reading) (m : FoundMarker) (len : ℕ) (raw : List ℕ) → Segment file (mid.at + m.length) len → mid.breaks.items ≡ old.breaks.items ++ break_at old.at old.k m.code m.missing → mid.bytes ≡ old.bytes → mid.k ≡ old.k → mid.begun ≡ old.begun → mid.at ≡ old.at
-    → v.at ≡ mid.at + m.length + len → v.k ≡ number_after mid.k m.missing → v.begun ≡ begun_after mid.begun m.missing (mid.at + m.length) → v.breaks ≡ mid.breaks
+pub takes : (file : List ℕ) (old mid v : Reading) (m : FoundMarker) (len : ℕ) (raw : List ℕ) → Segment file (mid.at + m.length) len → mid.breaks.items ≡ old.breaks.items ++ break_at old.at old.k m.code m.missing → mid.bytes ≡ old.bytes → mid.k ≡ old.k → mid.pace ≡ old.pace → mid.at ≡ old.at
+    → v.at ≡ mid.at + m.length + len → v.k ≡ number_after mid.k m.missing → v.pace ≡ pace_after mid.pace m.missing (m.length + len) len → v.breaks ≡ mid.breaks
     → ((front : List ℕ) (raws : List (List ℕ)) → length raws ≡ suc mid.k → mid.bytes.items ≡ front ++ joined_intervals raws → v.bytes.items ≡ front ++ joined_intervals (raws ++ new_segments m.missing raw))
     → raw ≡ take len (drop (mid.at + m.length) file) → Takes file old v m
-takes file old mid v m len raw s noted bytes number begun at place next begins breaks written slice =
+takes file old mid v m len raw s noted bytes number pace at place next paced breaks written slice =
     let start : mid.at + m.length ≡ old.at + m.length = ap (λ a. a + m.length) at in
     let told = subst (λ (a : ℕ). Segment file a len) start s in
     let end : v.at ≡ old.at + m.length + len = omega (arith, place, at) in
@@ -110,14 +112,14 @@ takes file old mid v m len raw s noted bytes number begun at place next begins b
       at = end;
       stop = subst (λ (k : ℕ). IsStop (drop k file)) (sym end) told.stop;
       number = next ∙ ap (λ (k : ℕ). number_after k m.missing) number;
-      begun = begins ∙ ap (λ (b : ℕ). begun_after b m.missing (mid.at + m.length)) begun ∙ ap (λ (a : ℕ). begun_after old.begun m.missing a) start;
+      pace = paced ∙ ap (λ (q : Pace). pace_after q m.missing (m.length + len) len) pace;
       breaks = ap (λ b. b.items) breaks ∙ noted;
       written = λ front raws count e.
           written front raws (count ∙ ap suc (sym number)) (ap (λ b. b.items) bytes ∙ e)
           ∙ ap (λ (x : List ℕ). front ++ joined_intervals (raws ++ new_segments m.missing x)) (slice ∙ ap (λ (a : ℕ). take len (drop a file)) start);
     }
 
-module _ (file : List ℕ) (h : HeadValue) (w v : Reading) (m : FoundMarker) (has : HasResyncedTo file h w) (meets : Meets (intervals_of h) w.k (max_missing (intervals_of h) (length (drop h.scan_at file)) (w.at - w.begun)) (drop w.at file) m) (t : Takes file w v m) where
+module _ (file : List ℕ) (h : HeadValue) (w v : Reading) (m : FoundMarker) (has : HasResyncedTo file h w) (meets : Meets (intervals_of h) w.k (max_missing (intervals_of h) (length (drop h.scan_at file)) w.pace) (drop w.at file) m) (t : Takes file w v m) where
   abbrev raw : List ℕ
   raw = take t.len (drop (w.at + m.length) file)
 
@@ -133,20 +135,23 @@ module _ (file : List ℕ) (h : HeadValue) (w v : Reading) (m : FoundMarker) (ha
   place : v.at ≡ w.at + length (part_bytes part)
   place = omega (arith, t.at, meets.long, length-append (marker meets.more m.code) raw, length_marker meets.more m.code, length_front file (w.at + m.length) t.len t.within)
 
-  since : v.at - v.begun ≡ bytes_after (w.at - w.begun) m.missing (length (part_bytes part)) (length raw)
-  since =
-      let start : w.at + m.length + length raw ≡ w.at + length (part_bytes part) = omega (arith, place, t.at, length_front file (w.at + m.length) t.len t.within) in
-      ap (λ (a : ℕ). a - v.begun) place ∙ ap (λ (b : ℕ). w.at + length (part_bytes part) - b) t.begun ∙ since_is m.missing w.begun w.at (w.at + m.length) (length (part_bytes part)) (length raw) has.begun.1 start
+  raw_long : length raw ≡ t.len
+  raw_long = length_front file (w.at + m.length) t.len t.within
+
+  pace : v.pace ≡ pace_after w.pace m.missing (length (part_bytes part)) (length raw)
+  pace =
+      let whole : m.length + t.len ≡ length (part_bytes part) = omega (arith, place, t.at) in
+      t.pace ∙ ap (λ (n : ℕ). pace_after w.pace m.missing n t.len) whole ∙ ap (pace_after w.pace m.missing (length (part_bytes part))) (sym raw_long)
 
   abbrev size : ℕ
   size = length (drop h.scan_at file)
 
-  next : (r : Resync) → PartsFrom (intervals_of h) size (v.at - v.begun) v.k v.at (drop v.at file) r → PartsFrom (intervals_of h) size (w.at - w.begun) w.k w.at (drop w.at file) (with_part w.at w.k part r)
+  next : (r : Resync) → PartsFrom (intervals_of h) size v.pace v.k v.at (drop v.at file) r → PartsFrom (intervals_of h) size w.pace w.k w.at (drop w.at file) (with_part w.at w.k part r)
   next r p =
-      let after = bytes_after (w.at - w.begun) m.missing (length (part_bytes part)) (length raw) in
-      let counted = subst (λ (b : ℕ). PartsFrom (intervals_of h) size b v.k v.at (drop v.at file) r) since p in
+      let after = pace_after w.pace m.missing (length (part_bytes part)) (length raw) in
+      let counted = subst (λ (b : Pace). PartsFrom (intervals_of h) size b v.k v.at (drop v.at file) r) pace p in
       let numbered = subst (λ (k : ℕ). PartsFrom (intervals_of h) size after k v.at (drop v.at file) r) t.number counted in
-      parts_next (intervals_of h) size (w.at - w.begun) w.k w.at part (drop w.at file) (drop v.at file) r meets.means t.raw spelled
+      parts_next (intervals_of h) size w.pace w.k w.at part (drop w.at file) (drop v.at file) r meets.means t.raw spelled
       (subst (λ (o : ℕ). PartsFrom (intervals_of h) size after (number_after w.k m.missing) o (drop v.at file) r) place numbered)
 
   joins : (r : Resync) → IsResync (intervals_of h) h.scan_at (drop h.scan_at file) (record { raws = has.raws ++ (new_segments m.missing raw ++ r.raws); datas = has.datas ++ (new_segments m.missing t.data' ++ r.datas); breaks = w.breaks.items ++ (break_at w.at w.k m.code m.missing ++ r.breaks); end = r.end })
@@ -160,19 +165,19 @@ module _ (file : List ℕ) (h : HeadValue) (w v : Reading) (m : FoundMarker) (ha
       let same : old ≡ new = cc (a, b, c) in
       subst (IsResync (intervals_of h) h.scan_at (drop h.scan_at file)) same is
 
-  begins : (h.scan_at ≤ v.begun) × (v.begun ≤ v.at)
-  begins =
-      let either = begun_within m.missing h.scan_at w.begun (w.at + m.length) has.begun.0 (omega (arith, has.begun.1)) (omega (arith, has.begun.0, has.begun.1)) in
-      (omega (arith, t.begun, either.0), omega (arith, t.begun, either.1, t.at))
+  near : (h.scan_at + v.pace.bytes ≤ v.at) × (v.pace.intervals ≤ v.k)
+  near =
+      let after = near_after w.pace m.missing h.scan_at w.at (m.length + t.len) t.len w.k has.near.0 (omega arith) has.near.1 in
+      (omega (arith, ap (λ (q : Pace). q.bytes) t.pace, after.0, t.at), omega (arith, ap (λ (q : Pace). q.intervals) t.pace, after.1, t.number))
 
   pub read_more : HasResyncedTo file h v
   read_more = record {
     raws = has.raws ++ new_segments m.missing raw;
     datas = has.datas ++ new_segments m.missing t.data';
     count = count_after w.k m.missing has.raws raw has.count ∙ ap suc (sym t.number);
-    few = omega (arith, t.number, few_after (intervals_of h) w.k (max_missing (intervals_of h) size (w.at - w.begun)) m.code m.missing meets.means);
+    few = omega (arith, t.number, few_after (intervals_of h) w.k (max_missing (intervals_of h) size w.pace) m.code m.missing meets.means);
     each = zip_append has.raws has.datas (new_segments m.missing raw) (new_segments m.missing t.data') has.each (new_spelled m.missing raw t.data' t.raw);
-    begun = begins;
+    near = near;
     within = omega (arith, t.at, t.within);
     stop = t.stop;
     written = t.written (take h.scan_at file) has.raws has.count has.written;
@@ -192,7 +197,7 @@ module _ (file : List ℕ) (h : HeadValue) (w : Reading) (end : ScanEnd) (has : 
       let c = append-nil w.breaks.items in
       let old : Resync = record { raws = has.raws ++ []; datas = has.datas ++ []; breaks = w.breaks.items ++ []; end = end } in
       let same : old ≡ segments_read = cc (a, b, c) in
-      subst (IsResync (intervals_of h) h.scan_at (drop h.scan_at file)) same (has.on (record { raws = []; datas = []; breaks = []; end = end }) (parts_last (intervals_of h) (length (drop h.scan_at file)) (w.at - w.begun) w.k w.at (drop w.at file) end ends))
+      subst (IsResync (intervals_of h) h.scan_at (drop h.scan_at file)) same (has.on (record { raws = []; datas = []; breaks = []; end = end }) (parts_last (intervals_of h) (length (drop h.scan_at file)) w.pace w.k w.at (drop w.at file) end ends))
 
   pub is_resynced : (r : Resynced) → HeadOf file h → r.file.items ≡ spliced file h has.raws → length r.file.items ≤ MAX_FILE_BYTES → r.breaks.items ≡ w.breaks.items → r.ended ≡ end → IsResynced file h r
   is_resynced r head bytes small breaks ended =

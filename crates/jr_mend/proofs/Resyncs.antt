@@ -5,7 +5,8 @@ use Rattle.jr_cut.specs.declared.scan_end.ScanEnd.{ScanEnd}
 use Rattle.jr_cut.specs.Cut.{IsRaw}
 use Rattle.jr_cut.proofs.Cuts.{raw_none}
 use Rattle.jr_mend.specs.declared.breaks.Break.{Break}
-use Rattle.jr_mend.specs.Resync.{EndsResync, IsMeaning, Part, PartsFrom, Resync, break_at, bytes_after, last_number, max_missing, new_segments, number_after, part_bytes}
+use Rattle.jr_mend.specs.declared.pace.Pace.{Pace}
+use Rattle.jr_mend.specs.Resync.{EndsResync, IsMeaning, Part, PartsFrom, Resync, break_at, pace_after, last_number, max_missing, new_segments, number_after, part_bytes}
 
 -- ---- segments of a part
 
@@ -43,8 +44,8 @@ break_some at k code (suc d) some = refl
 -- ---- parts
 
 -- nothing but the end
-pub parts_last : (n size since k at : ℕ) (tail : List ℕ) (end : ScanEnd) → EndsResync n k at tail end → PartsFrom n size since k at tail (record { raws = []; datas = []; breaks = []; end = end })
-parts_last n size since k at tail end ends =
+pub parts_last : (n size : ℕ) (pace : Pace) (k at : ℕ) (tail : List ℕ) (end : ScanEnd) → EndsResync n k at tail end → PartsFrom n size pace k at tail (record { raws = []; datas = []; breaks = []; end = end })
+parts_last n size pace k at tail end ends =
     let here : at ≡ at + 0 = omega arith in
     record {
       parts = [];
@@ -61,8 +62,8 @@ parts_last n size since k at tail end ends =
 abbrev pub with_part : (at k : ℕ) → Part → Resync → Resync
 with_part at k p r = record { raws = new_segments p.missing p.raw ++ r.raws; datas = new_segments p.missing p.bytes ++ r.datas; breaks = break_at at k p.code p.missing ++ r.breaks; end = r.end }
 
-pub parts_next : (n size since k at : ℕ) (p : Part) (bytes rest : List ℕ) (r : Resync) → IsMeaning n k (max_missing n size since) p.code p.missing → IsRaw p.raw p.bytes → bytes ≡ part_bytes p ++ rest → PartsFrom n size (bytes_after since p.missing (length (part_bytes p)) (length p.raw)) (number_after k p.missing) (at + length (part_bytes p)) rest r → PartsFrom n size since k at bytes (with_part at k p r)
-parts_next n size since k at p bytes rest r means raw e f =
+pub parts_next : (n size : ℕ) (pace : Pace) (k at : ℕ) (p : Part) (bytes rest : List ℕ) (r : Resync) → IsMeaning n k (max_missing n size pace) p.code p.missing → IsRaw p.raw p.bytes → bytes ≡ part_bytes p ++ rest → PartsFrom n size (pace_after pace p.missing (length (part_bytes p)) (length p.raw)) (number_after k p.missing) (at + length (part_bytes p)) rest r → PartsFrom n size pace k at bytes (with_part at k p r)
+parts_next n size pace k at p bytes rest r means raw e f =
     let here = part_bytes p in
     let behind = flat_map part_bytes f.parts in
     let place : at + length here + length behind ≡ at + length (here ++ behind) = omega (arith, length-append here behind) in

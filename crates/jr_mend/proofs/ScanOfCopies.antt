@@ -74,7 +74,7 @@ abbrev interval_with : ℕ → HeadValue → List ℕ → IntervalValue
 interval_with i h bytes = record { number = i; mcus = mcus_in h i; bytes = bytes; head = h }
 
 -- two scans with one header have one interval if they have its data
-same_interval : (s t : ScanValue) (i : ℕ) → s.head ≡ t.head → get_or s.intervals i [] ≡ get_or t.intervals i [] → interval_of s i ≡ interval_of t i
+pub same_interval : (s t : ScanValue) (i : ℕ) → s.head ≡ t.head → get_or s.intervals i [] ≡ get_or t.intervals i [] → interval_of s i ≡ interval_of t i
 same_interval s t i head bytes = ap (λ (h : HeadValue). interval_with i h (get_or s.intervals i [])) head ∙ ap (interval_with i t.head) bytes
 
 -- the scan of the mended file

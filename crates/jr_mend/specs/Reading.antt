@@ -1,5 +1,5 @@
 -- A file that is read, and written anew as it is resynchronised.
-use Rattle.std.specs.Prelude.{◌≡◌, ℕ, suc, ◌+◌, ◌-◌, ◌<◌, ◌≤◌, List, ◌++◌, length, take, drop, Option, Some, None}
+use Rattle.std.specs.Prelude.{◌≡◌, ℕ, suc, ◌+◌, ◌<◌, ◌≤◌, List, ◌++◌, length, take, drop, Option, Some, None}
 use Rattle.std.specs.List.{AllZip}
 use Rattle.jr_base.specs.declared.limits.TheConstants.{MAX_FILE_BYTES}
 use Rattle.jr_cut.specs.declared.scan_end.ScanEnd.TheVariants.{EndOfImage}
@@ -14,7 +14,7 @@ use Rattle.jr_mend.specs.declared.reading.Reading.{Reading}
 use Rattle.jr_mend.specs.declared.resync.ResyncFault.{ResyncFault}
 use Rattle.jr_mend.specs.declared.resync.ResyncFault.TheVariants.{Memory, TooLong}
 use Rattle.jr_mend.specs.declared.resync.Resynced.{Resynced}
-use Rattle.jr_mend.specs.Resync.{EndsResync, IsMeaning, IsResync, PartsFrom, Resync, break_at, new_segments, number_after}
+use Rattle.jr_mend.specs.Resync.{EndsResync, IsMeaning, IsResync, PartsFrom, Resync, break_at, new_segments, number_after, pace_after}
 use Rattle.jr_mend.specs.Splice.{joined_intervals, spliced}
 
 -- bytes after segment k of n begin with this marker, before which at most the given number may be missing
@@ -28,11 +28,6 @@ abbrev pub IsFollowing : (n k limit at : ℕ) → List ℕ → Following → Typ
 IsFollowing n k limit at tail (End end) = EndsResync n k at tail end
 IsFollowing n k limit at tail (Marker m) = Meets n k limit tail m
 
--- where the last segment begins: after a marker that is not passed over
-abbrev pub begun_after : ℕ → Option ℕ → ℕ → ℕ
-begun_after begun None start = begun
-begun_after begun (Some d) start = start
-
 -- the marker and the bytes after it are read, and these are written if they are a segment's
 pub record Takes (file : List ℕ) (old new : Reading) (m : FoundMarker) : Type 0 where
   pub len : ℕ
@@ -42,7 +37,7 @@ pub record Takes (file : List ℕ) (old new : Reading) (m : FoundMarker) : Type 
   pub at : new.at ≡ old.at + m.length + len
   pub stop : IsStop (drop new.at file)
   pub number : new.k ≡ number_after old.k m.missing
-  pub begun : new.begun ≡ begun_after old.begun m.missing (old.at + m.length)
+  pub pace : new.pace ≡ pace_after old.pace m.missing (m.length + len) len
   pub breaks : new.breaks.items ≡ old.breaks.items ++ break_at old.at old.k m.code m.missing
   pub written : (front : List ℕ) (raws : List (List ℕ)) → length raws ≡ suc old.k → old.bytes.items ≡ front ++ joined_intervals raws → new.bytes.items ≡ front ++ joined_intervals (raws ++ new_segments m.missing (take len (drop (old.at + m.length) file)))
 
@@ -53,11 +48,11 @@ pub record HasResyncedTo (file : List ℕ) (h : HeadValue) (w : Reading) : Type 
   pub count : length raws ≡ suc w.k
   pub few : w.k < intervals_of h
   pub each : AllZip IsRaw raws datas
-  pub begun : (h.scan_at ≤ w.begun) × (w.begun ≤ w.at)
+  pub near : (h.scan_at + w.pace.bytes ≤ w.at) × (w.pace.intervals ≤ w.k)
   pub within : w.at ≤ length file
   pub stop : IsStop (drop w.at file)
   pub written : w.bytes.items ≡ take h.scan_at file ++ joined_intervals raws
-  pub on : (r : Resync) → PartsFrom (intervals_of h) (length (drop h.scan_at file)) (w.at - w.begun) w.k w.at (drop w.at file) r → IsResync (intervals_of h) h.scan_at (drop h.scan_at file) (record { raws = raws ++ r.raws; datas = datas ++ r.datas; breaks = w.breaks.items ++ r.breaks; end = r.end })
+  pub on : (r : Resync) → PartsFrom (intervals_of h) (length (drop h.scan_at file)) w.pace w.k w.at (drop w.at file) r → IsResync (intervals_of h) h.scan_at (drop h.scan_at file) (record { raws = raws ++ r.raws; datas = datas ++ r.datas; breaks = w.breaks.items ++ r.breaks; end = r.end })
 
 -- the file is resynchronised: its scan's bytes fall into these segments, and the segments that are lost at the end have no data
 pub record IsResynced (file : List ℕ) (h : HeadValue) (r : Resynced) : Type 0 where

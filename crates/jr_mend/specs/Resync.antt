@@ -1,21 +1,23 @@
 -- How the bytes of a scan fall into intervals if markers or data are lost: restart markers are counted modulo 8, so that a
 -- decoder can tell how many are missing before one (T.81, B.1.1.5, E.1.4 and E.2.4).
-use Rattle.std.specs.Prelude.{◌≡◌, ◌≢◌, ℕ, zero, suc, ◌+◌, ◌*◌, ◌/◌, ◌%◌, ◌<◌, ◌≤◌, ◌⊎◌, List, [], ◌∷◌, ◌++◌, length, replicate, Option, Some, None}
+use Rattle.std.specs.Prelude.{◌≡◌, ◌≢◌, ℕ, zero, suc, ◌+◌, ◌-◌, ◌*◌, ◌/◌, ◌%◌, ◌<◌, ◌≤◌, ◌⊎◌, List, [], ◌∷◌, ◌++◌, length, replicate, Option, Some, None}
 use Rattle.std.specs.List.{flat_map}
 use Rattle.jr_base.specs.declared.marker.TheConstants.{EOI, PREFIX, RST0}
 use Rattle.jr_cut.specs.declared.scan_end.ScanEnd.{ScanEnd}
 use Rattle.jr_cut.specs.declared.scan_end.ScanEnd.TheVariants.{EndOfImage, OtherMarker, OutOfStep, ExtraRestart, EndOfFile}
 use Rattle.jr_cut.specs.Cut.{IsRaw, marker, IsEnding}
 use Rattle.jr_mend.specs.declared.breaks.Break.{Break}
-use Rattle.jr_mend.specs.declared.following.TheConstants.{MAX_EARLY}
+use Rattle.jr_mend.specs.declared.pace.Pace.{Pace}
+use Rattle.jr_mend.specs.declared.pace.TheConstants.{MAX_EARLY, SURE}
 
 -- the number of segments that the given number of a scan's bytes holds on average, to the nearest
 abbrev pub held : (n size bytes : ℕ) → ℕ
 held n size bytes = (2 * (bytes * n) / size + 1) / 2
 
--- the number of segments that may be missing before a marker, by the bytes between the start of the last segment and it
-abbrev pub max_missing : (n size bytes : ℕ) → ℕ
-max_missing n size bytes = held n size bytes + MAX_EARLY
+-- the number of segments that may be missing before a marker: those that the bytes since the last sure segment hold, and
+-- MAX_EARLY more, less those that are placed since then
+abbrev pub max_missing : (n size : ℕ) → Pace → ℕ
+max_missing n size pace = held n size pace.bytes + MAX_EARLY - pace.intervals
 
 -- after segment k of n: the restart marker d ahead of the one that is due, and the segment that follows it is one of the
 -- scan; of the numbers that count as this one modulo 8, the one that is due, or else the last up to the limit
@@ -51,15 +53,25 @@ last_number k (p ∷ ps) = last_number (number_after k p.missing) ps
 abbrev pub part_bytes : Part → List ℕ
 part_bytes p = marker p.more p.code ++ p.raw
 
--- the number of bytes from the start of the last segment up to the next marker; those that are passed over count
-abbrev pub bytes_after : ℕ → Option ℕ → (part raw : ℕ) → ℕ
-bytes_after since None part raw = since + part
-bytes_after since (Some d) part raw = raw
+-- up to the first marker; segment 0 is sure
+abbrev pub first_pace : (bytes : ℕ) → Pace
+first_pace bytes = record { bytes = bytes; intervals = 0; unsure = SURE - 1 }
 
--- parts of a scan of that size, with the given number of bytes between the start of segment k and the first marker
-abbrev pub AreParts : (n size since k : ℕ) → List Part → Type 0
-AreParts n size since k [] = Unit {0}
-AreParts n size since k (p ∷ ps) = IsMeaning n k (max_missing n size since) p.code p.missing × IsRaw p.raw p.bytes × AreParts n size (bytes_after since p.missing (length (part_bytes p)) (length p.raw)) (number_after k p.missing) ps
+-- after a marker that is due, with the given number of bytes from it up to the next marker, of which the segment has `raw`
+abbrev pub after_due : (unsure : ℕ) → Pace → (part raw : ℕ) → Pace
+after_due zero pace part raw = record { bytes = raw; intervals = 0; unsure = 0 }
+after_due (suc unsure) pace part raw = record { bytes = pace.bytes + part; intervals = pace.intervals + 1; unsure = unsure }
+
+-- after any marker; the bytes after one that is passed over count
+abbrev pub pace_after : Pace → Option ℕ → (part raw : ℕ) → Pace
+pace_after pace None part raw = record { bytes = pace.bytes + part; intervals = pace.intervals; unsure = pace.unsure }
+pace_after pace (Some zero) part raw = after_due pace.unsure pace part raw
+pace_after pace (Some (suc d)) part raw = record { bytes = pace.bytes + part; intervals = pace.intervals + (suc d + 1); unsure = SURE - 1 }
+
+-- parts of a scan of that size, at this pace before the first of them
+abbrev pub AreParts : (n size : ℕ) → Pace → (k : ℕ) → List Part → Type 0
+AreParts n size pace k [] = Unit {0}
+AreParts n size pace k (p ∷ ps) = IsMeaning n k (max_missing n size pace) p.code p.missing × IsRaw p.raw p.bytes × AreParts n size (pace_after pace p.missing (length (part_bytes p)) (length p.raw)) (number_after k p.missing) ps
 
 -- segments without bytes for those that are missing, and these bytes; bytes after a marker that is passed over are no segment's
 abbrev pub new_segments : Option ℕ → List ℕ → List (List ℕ)
@@ -84,10 +96,10 @@ pub record Resync : Type 0 where
   pub end : ScanEnd
 
 -- the bytes at that offset, after those of segment k: markers with the bytes after them, and what ends the scan
-pub record PartsFrom (n size since k at : ℕ) (bytes : List ℕ) (r : Resync) : Type 0 where
+pub record PartsFrom (n size : ℕ) (pace : Pace) (k at : ℕ) (bytes : List ℕ) (r : Resync) : Type 0 where
   pub parts : List Part
   pub tail : List ℕ
-  pub are : AreParts n size since k parts
+  pub are : AreParts n size pace k parts
   pub spelled : bytes ≡ flat_map part_bytes parts ++ tail
   pub raws : r.raws ≡ flat_map (λ (p : Part). new_segments p.missing p.raw) parts
   pub datas : r.datas ≡ flat_map (λ (p : Part). new_segments p.missing p.bytes) parts
@@ -103,7 +115,7 @@ pub record IsResync (n at : ℕ) (bytes : List ℕ) (r : Resync) : Type 0 where
   pub after : Resync
   pub is_raw : IsRaw raw first
   pub spelled : bytes ≡ raw ++ rest
-  pub parts : PartsFrom n (length bytes) (length raw) 0 (at + length raw) rest after
+  pub parts : PartsFrom n (length bytes) (first_pace (length raw)) 0 (at + length raw) rest after
   pub is : r ≡ record { raws = raw ∷ after.raws; datas = first ∷ after.datas; breaks = after.breaks; end = after.end }
 
 -- a scan that ends so has the restart markers that are due, as far as it goes

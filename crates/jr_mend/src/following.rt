@@ -7,13 +7,9 @@ ghost use Rattle.jr_cut.specs.Cut.{HasMarker, IsStop};
 ghost use Rattle.jr_mend.specs.Reading.{IsFollowing};
 ghost use Rattle.jr_mend.specs.Resync.{EndsResync, IsMeaning, max_missing};
 
+use crate::pace::Pace;
 use jr_base::marker::{EOI, RST0, RST7};
 use jr_cut::{ScanEnd, fill_count};
-
-/// The maximum number of restart markers missing before one, beyond the number of intervals that the bytes before it hold on
-/// average: it is after at most three intervals more than these. With four or more the marker of the same number eight
-/// intervals before is as near, since numbers count modulo 8, and the marker is stale.
-pub const MAX_EARLY: u64 = 2;
 
 /// A marker after the bytes of an interval.
 #[derive(Clone, Copy)]
@@ -32,17 +28,6 @@ pub(crate) enum Following {
     End(ScanEnd),
     /// It continues after this marker.
     Marker(FoundMarker),
-}
-
-/// Returns how many restart markers may be missing before one, with `since` bytes between the start of the last interval
-/// and it, in a scan of `size` bytes.
-fn max_missing(intervals: u32, size: usize, since: usize) -> u64
-    requires some { 0 < size }
-    requires few { since ≤ MAX_FILE_BYTES }
-    ensures { result ≡ max_missing intervals size since }
-{
-    let twice = 2 * (since as u64 * intervals as u64) / size as u64;
-    (twice + 1) / 2 + MAX_EARLY
 }
 
 /// Returns how many restart markers are missing before a marker after interval k, which is not the last, if at most
@@ -84,21 +69,20 @@ fn end_after_last(code: u8, at: u64) -> ScanEnd
     ScanEnd::OtherMarker(code, at)
 }
 
-/// Returns what follows interval k, at an offset of the file, with `since` bytes after the start of the interval, in a
-/// scan of `size` bytes.
+/// Returns what follows interval k, at an offset of the file and at this pace, in a scan of `size` bytes.
 pub(crate) fn following_at(
     tail: &[u8],
     at: u64,
     k: u32,
     intervals: u32,
-    since: usize,
+    pace: Pace,
     size: usize,
 ) -> Following
     requires few { k < intervals }
     requires stop { IsStop tail.now }
     requires size { length tail.now ≤ size }
-    requires short { since ≤ MAX_FILE_BYTES }
-    ensures { IsFollowing intervals k (max_missing intervals size since) at tail.now result }
+    requires short { pace.bytes ≤ MAX_FILE_BYTES }
+    ensures { IsFollowing intervals k (max_missing intervals size pace) at tail.now result }
 {
     let fill = fill_count(tail);
     if fill == tail.len() {
@@ -111,7 +95,7 @@ pub(crate) fn following_at(
     if k + 1 == intervals {
         return Following::End(end_after_last(code, at));
     }
-    let limit = max_missing(intervals, size, since);
+    let limit = pace.max_missing(intervals, size);
     Following::Marker(FoundMarker {
         code,
         length: fill + 1,

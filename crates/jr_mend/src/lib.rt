@@ -9,6 +9,7 @@ mod file_copy;
 mod following;
 mod laws;
 mod mending;
+mod pace;
 mod positions;
 mod reading;
 mod resync;
@@ -18,12 +19,12 @@ mod splice;
 pub use breaks::Break;
 pub use choice::{Choice, MAX_COPIES, choose};
 pub use file_copy::FileCopy;
-pub use following::MAX_EARLY;
 pub use laws::{
     each_scan_resyncs, file_in_step_stays, header_stays, in_step_stays, intervals_are_cut,
     one_resync, spliced_has_its_scan,
 };
 pub use mending::{MendError, Mended, mend};
+pub use pace::{MAX_EARLY, SURE};
 pub use resync::{ResyncFault, Resynced, resynchronised};
 pub use soundness::sound_if_any_is;
 pub use splice::{write_header, write_image_end, write_interval};

@@ -3,13 +3,14 @@
 ghost use Rattle.std.specs.Prelude.{◌≡◌, ℕ, suc, ◌+◌, ◌<◌, ◌≤◌, ◌^◌, ◌++◌, ◌∷◌, [], List, length, drop, replicate, IfOk, IfSome};
 ghost use Rattle.jr_base.specs.declared.limits.TheConstants.{MAX_FILE_BYTES};
 ghost use Rattle.jr_head.specs.Heads.{HeadOf};
-ghost use Rattle.jr_mend.specs.Reading.{HasResyncedTo, Meets, Takes, begun_after};
-ghost use Rattle.jr_mend.specs.Resync.{EndsResync, break_at, new_segments, number_after};
+ghost use Rattle.jr_mend.specs.Reading.{HasResyncedTo, Meets, Takes};
+ghost use Rattle.jr_mend.specs.Resync.{EndsResync, break_at, first_pace, new_segments, number_after, pace_after};
 ghost use Rattle.jr_mend.specs.Splice.{joined_intervals};
 ghost use Rattle.jr_scan.specs.ScanValue.{intervals_of};
 
 use crate::breaks::Break;
 use crate::following::{Following, FoundMarker, following_at};
+use crate::pace::Pace;
 use crate::splice::{write_header, write_interval};
 use jr_base::Memory;
 use jr_cut::{ScanEnd, segment_length};
@@ -34,8 +35,8 @@ pub(crate) struct Reading {
     pub breaks: Vec<Break>,
     /// The number of the last interval that has begun.
     pub k: u32,
-    /// Offset in the damaged file of the first byte of that interval.
-    pub begun: usize,
+    /// How far it is read since an interval that is sure to be in its place.
+    pub pace: Pace,
     /// Offset in the damaged file of what is read next: a marker, or the end.
     pub at: usize,
 }
@@ -57,7 +58,7 @@ impl Reading {
             bytes,
             breaks: Vec::new(alloc),
             k: 0,
-            begun: start,
+            pace: Pace::first(end - start),
             at: end,
         })
     }
@@ -65,7 +66,7 @@ impl Reading {
     /// Records a marker, unless it is the one that is due.
     fn note(&mut self, marker: FoundMarker) -> Result<(), Memory>
         ensures breaks { IfOk result (λ _. self.new.breaks.items ≡ self.old.breaks.items ++ break_at self.old.at self.old.k marker.code marker.missing) }
-        ensures same { (self.new.bytes ≡ self.old.bytes) × (self.new.k ≡ self.old.k) × (self.new.begun ≡ self.old.begun) × (self.new.at ≡ self.old.at) }
+        ensures same { (self.new.bytes ≡ self.old.bytes) × (self.new.k ≡ self.old.k) × (self.new.pace ≡ self.old.pace) × (self.new.at ≡ self.old.at) }
     {
         let skipped = match marker.missing {
             Some(0) => return Ok(()),
@@ -81,20 +82,18 @@ impl Reading {
         Ok(())
     }
 
-    /// Writes the bytes after a marker, starting at this offset, as those of the next interval, unless the marker is passed over.
-    fn begin_next(&mut self, missing: Option<u32>, start: usize, raw: &[u8]) -> Result<(), Memory>
+    /// Writes the bytes after a marker as those of the next interval, unless the marker is passed over.
+    fn begin_next(&mut self, missing: Option<u32>, raw: &[u8]) -> Result<(), Memory>
         requires { IfSome missing (λ d. self.old.k + d + 1 < 2 ^ 32) }
         ensures number { IfOk result (λ _. self.new.k ≡ number_after self.old.k missing) }
-        ensures begun { IfOk result (λ _. self.new.begun ≡ begun_after self.old.begun missing start) }
         ensures written { IfOk result (λ _. (front : List ℕ) (raws : List (List ℕ)) → length raws ≡ suc self.old.k → self.old.bytes.items ≡ front ++ joined_intervals raws → self.new.bytes.items ≡ front ++ joined_intervals (raws ++ new_segments missing raw.now)) }
-        ensures same { (self.new.breaks ≡ self.old.breaks) × (self.new.at ≡ self.old.at) }
+        ensures same { (self.new.breaks ≡ self.old.breaks) × (self.new.at ≡ self.old.at) × (self.new.pace ≡ self.old.pace) }
     {
         let Some(missing) = missing else {
             return Ok(());
         };
         write_after(&mut self.bytes, self.k, missing, raw)?;
         self.k += missing + 1;
-        self.begun = start;
         Ok(())
     }
 
@@ -102,12 +101,14 @@ impl Reading {
     fn take(&mut self, file: &[u8], marker: FoundMarker) -> Result<(), Memory>
         requires within { self.old.at + marker.length ≤ length file.now }
         requires few { IfSome marker.missing (λ d. self.old.k + d + 1 < 2 ^ 32) }
+        requires near { (self.old.pace.bytes ≤ self.old.at) × (self.old.pace.intervals ≤ self.old.k) }
         ensures { IfOk result (λ _. Takes file.now self.old self.new marker) }
     {
         self.note(marker)?;
         let start = self.at + marker.length;
         let end = start + segment_length(&file[start..]);
-        self.begin_next(marker.missing, start, &file[start..end])?;
+        self.begin_next(marker.missing, &file[start..end])?;
+        self.pace = self.pace.after(marker.missing, end - self.at, end - start);
         self.at = end;
         Ok(())
     }
@@ -123,8 +124,7 @@ impl Reading {
         let size = file.len() - head.scan_at() as usize;
         'markers: loop {
             let tail = &file[self.at..];
-            let since = self.at - self.begun;
-            match following_at(tail, self.at as u64, self.k, intervals, since, size) {
+            match following_at(tail, self.at as u64, self.k, intervals, self.pace, size) {
                 Following::End(ended) => return Ok(ended),
                 Following::Marker(marker) => self.take(file, marker)?,
             }

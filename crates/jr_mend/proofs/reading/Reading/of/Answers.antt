@@ -1,7 +1,11 @@
-use Rattle.std.proofs.Common.{◌≡◌, ◌+◌, ◌<◌, ◌++◌, ◌∷◌, [], ℕ, take, drop, refl, ap, subst, ◌∙◌, arith}
+use Rattle.std.proofs.Common.{◌≡◌, ◌+◌, ◌-◌, ◌<◌, ◌++◌, ◌∷◌, [], ℕ, take, drop, refl, ap, subst, ◌∙◌, arith}
 use Rattle.jr_mend.specs.Splice.{joined_intervals}
 use Rattle.jr_mend.proofs.Readings.{Segment, read_first, segment, slice_is}
+use Rattle.jr_mend.specs.Resync.{first_pace}
 use Rattle.jr_mend.proofs.reading.Reading.of.Goals as goal
+
+size_is : (start len : ℕ) → start + len - start ≡ len
+size_is start len = omega arith
 
 pub returns : goal.returns
 returns c =
@@ -17,4 +21,5 @@ returns c =
     let slice = slice_is file c.scan_at-start.result (c.scan_at-start.result + len) len refl ∙ ap (λ (a : ℕ). take len (drop a file)) start in
     let before : c.reserve.new.self.items ≡ front ++ joined_intervals [] = c.reserve.ensures.items ∙ c.in_ok-bytes.ensures.joined_intervals in
     let written : c.write_interval.new.bytes.items ≡ front ++ joined_intervals (raw ∷ []) = grind (arith, c.in_ok-write_interval.ensures.joined_intervals front [] refl before, slice) in
-    read_first file h _ len told some refl (ap (λ a. a + len) start) c.new.ensures.items start written
+    let paced = c.first.ensures ∙ ap first_pace (size_is c.scan_at-start.result len) in
+    read_first file h _ len told some refl (ap (λ a. a + len) start) c.new.ensures.items paced written

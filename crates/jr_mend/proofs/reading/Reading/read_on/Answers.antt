@@ -9,8 +9,7 @@ pub following_at-requires-clause-size : goal.following_at-requires-clause-size
 following_at-requires-clause-size c =
     let w = c.markers.self in
     let file = c.args.file.now in
-    let begun = c.markers.invariant.begun in
-    omega (arith, ap length (rest_is file w.at), length-drop w.at file, begun.0, begun.1, c.markers.invariant.within, c.scan_at.ensures.value)
+    omega (arith, ap length (rest_is file w.at), length-drop w.at file, c.markers.invariant.near.0, c.markers.invariant.within, c.scan_at.ensures.value)
 
 pub returns-in-End-clause-ends : goal.returns-in-End-clause-ends
 returns-in-End-clause-ends c =
@@ -23,9 +22,9 @@ markers-preserved c =
     let w = c.markers.self in
     let file = c.args.file.now in
     let h = c.args.head.now in
-    let since = w.at - w.begun in
+    let pace = w.pace in
     let size : length file - c.scan_at.result ≡ length (drop h.scan_at file) = ap (λ (a : ℕ). length file - a) c.scan_at.ensures.value ∙ sym (length-drop h.scan_at file) in
-    let whole = subst (λ (x : List ℕ). Meets c.intervals-intervals.result w.k (max_missing c.intervals-intervals.result (length file - c.scan_at.result) since) x c.in-Marker.marker) (rest_is file w.at) c.in-Marker.ensures in
-    let sized = subst (λ (s : ℕ). Meets c.intervals-intervals.result w.k (max_missing c.intervals-intervals.result s since) (drop w.at file) c.in-Marker.marker) size whole in
-    let meets = subst (λ (n : ℕ). Meets n w.k (max_missing n (length (drop h.scan_at file)) since) (drop w.at file) c.in-Marker.marker) c.intervals-intervals.ensures.value sized in
+    let whole = subst (λ (x : List ℕ). Meets c.intervals-intervals.result w.k (max_missing c.intervals-intervals.result (length file - c.scan_at.result) pace) x c.in-Marker.marker) (rest_is file w.at) c.in-Marker.ensures in
+    let sized = subst (λ (s : ℕ). Meets c.intervals-intervals.result w.k (max_missing c.intervals-intervals.result s pace) (drop w.at file) c.in-Marker.marker) size whole in
+    let meets = subst (λ (n : ℕ). Meets n w.k (max_missing n (length (drop h.scan_at file)) pace) (drop w.at file) c.in-Marker.marker) c.intervals-intervals.ensures.value sized in
     read_more file h w c.take.new.self c.in-Marker.marker c.markers.invariant meets c.in_ok-take-in-Marker.ensures

@@ -1,0 +1,78 @@
+//! How far a damaged scan is read since an interval that is sure to be in its place.
+
+ghost use Rattle.std.specs.Prelude.{◌≡◌, ◌+◌, ◌-◌, ◌<◌, ◌≤◌, ◌^◌, IfSome};
+ghost use Rattle.jr_base.specs.declared.limits.TheConstants.{MAX_FILE_BYTES};
+ghost use Rattle.jr_mend.specs.Resync.{first_pace, max_missing, pace_after};
+
+/// The maximum number of restart markers missing before one, beyond the number of intervals that the bytes before it hold
+/// on average. With a further one more sectors of other files are taken for the image's.
+pub const MAX_EARLY: u64 = 1;
+
+/// The number of markers that are due one after the other, by which an interval is sure to be in its place. Fewer are
+/// also in a sector of another file.
+pub const SURE: u32 = 3;
+
+/// How far a scan is read since the last interval that is sure to be in its place: the first one, and each after `SURE`
+/// markers in a row that were due. So the intervals that are lost between two sure ones are limited together: else
+/// several markers of another file, each a little ahead, would place what follows eight intervals too late.
+#[derive(Clone, Copy)]
+pub(crate) struct Pace {
+    /// Number of bytes since the start of the sure interval, up to the next marker.
+    pub bytes: usize,
+    /// Number of intervals that are placed since it.
+    pub intervals: u32,
+    /// Number of markers in a row that have to be due before a due one makes its interval sure.
+    pub unsure: u32,
+}
+
+impl Pace {
+    /// Returns the pace up to the first marker, which is after this number of bytes.
+    pub(crate) fn first(bytes: usize) -> Pace
+        ensures { result ≡ first_pace bytes }
+    {
+        Pace {
+            bytes,
+            intervals: 0,
+            unsure: SURE - 1,
+        }
+    }
+
+    /// Returns the pace up to the marker after the next one, before which this number of markers is missing. It is read
+    /// with the bytes after it, `part` in all, of which `raw` are after the marker.
+    pub(crate) fn after(self, missing: Option<u32>, part: usize, raw: usize) -> Pace
+        requires bytes { self.bytes + part < 2 ^ 64 }
+        requires few { IfSome missing (λ d. self.intervals + d + 1 < 2 ^ 32) }
+        ensures { result ≡ pace_after self missing part raw }
+    {
+        let bytes = self.bytes + part;
+        match missing {
+            None => Pace { bytes, ..self },
+            Some(0) if self.unsure == 0 => Pace {
+                bytes: raw,
+                intervals: 0,
+                unsure: 0,
+            },
+            Some(0) => Pace {
+                bytes,
+                intervals: self.intervals + 1,
+                unsure: self.unsure - 1,
+            },
+            Some(missing) => Pace {
+                bytes,
+                intervals: self.intervals + missing + 1,
+                unsure: SURE - 1,
+            },
+        }
+    }
+
+    /// Returns the maximum number of restart markers missing before the next one, in a scan of this number of intervals and
+    /// of `size` bytes.
+    pub(crate) fn max_missing(self, intervals: u32, size: usize) -> u64
+        requires some { 0 < size }
+        requires few { self.bytes ≤ MAX_FILE_BYTES }
+        ensures { result ≡ max_missing intervals size self }
+    {
+        let twice = 2 * (self.bytes as u64 * u64::from(intervals)) / size as u64;
+        ((twice + 1) / 2 + MAX_EARLY).saturating_sub(u64::from(self.intervals))
+    }
+}
