@@ -1,6 +1,7 @@
 //! Where the restart markers of a scan are out of step.
 
 /// A marker of a scan that is not the one that is due.
+#[repr(C)]
 #[derive(Clone, Copy)]
 pub struct Break {
     /// Offset in the file of the marker's first FF byte.

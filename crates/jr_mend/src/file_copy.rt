@@ -9,25 +9,25 @@ use jr_scan::{IntervalRef, Scan};
 use std::alloc::Global;
 use std::marker::Model;
 
-/// A copy of a JPEG file: its bytes and its scan.
+/// A copy of a JPEG file: its bytes, which it borrows, and its scan.
 #[derive(Drop)]
-pub struct FileCopy {
-    file: Vec<u8>,
+pub struct FileCopy<'a> {
+    file: &'a [u8],
     scan: Scan,
 }
 
-impl Model for FileCopy {
+impl<'a> Model for FileCopy<'a> {
     ghost use Rattle.jr_mend.specs.Copies.{CopyValue};
     ghost use Rattle.jr_damage.specs.Verdicts.{IsFileScan};
 
     ghost Value = { CopyValue };
 
-    ghost view = { λ c. record { file = c.file.items; scan = c.scan } };
+    ghost view = { λ c. record { file = c.file.now; scan = c.scan } };
 
-    ghost invariant = { λ c. IsFileScan c.file.items c.scan };
+    ghost invariant = { λ c. IsFileScan c.file.now c.scan };
 }
 
-impl FileCopy {
+impl<'a> FileCopy<'a> {
     ghost use Rattle.jr_damage.specs.Verdicts.{IsFileScan};
     ghost use Rattle.jr_scan.specs.ScanValue.{interval_of, intervals_of};
 
@@ -36,12 +36,13 @@ impl FileCopy {
     /// # Errors
     ///
     /// The copy's first fault; `Memory` if allocation fails, which says nothing of the copy.
-    pub fn of(alloc: Global, file: Vec<u8>) -> Result<FileCopy, Refusal>
-        ensures file { IfOk result (λ c. c.file ≡ file.items) }
-        ensures refused { IfErr result (λ e. e ≢ refusal.Memory → RefusalOf file.items e) }
+    pub fn of(alloc: Global, file: &'a [u8]) -> Result<FileCopy<'a>, Refusal>
+        ensures file { IfOk result (λ c. c.file ≡ file.now) }
+        ensures scan { IfOk result (λ c. IsFileScan c.file c.scan) }
+        ensures refused { IfErr result (λ e. e ≢ refusal.Memory → RefusalOf file.now e) }
     {
-        let head = read_head(alloc, &file)?;
-        let Ok(scan) = Scan::cut(alloc, head, &file) else {
+        let head = read_head(alloc, file)?;
+        let Ok(scan) = Scan::cut(alloc, head, file) else {
             return Err(Refusal::Memory);
         };
         Ok(FileCopy { file, scan })
@@ -51,7 +52,7 @@ impl FileCopy {
     pub fn file(&self) -> &[u8]
         ensures { result.now ≡ self.now.file }
     {
-        &self.file
+        self.file
     }
 
     /// Returns the scan of the copy.

@@ -120,45 +120,63 @@ fn in_step(
     }
 }
 
-/// Reads a copy, by its name and number. If its breaks are wanted it is resynchronised, and they are appended.
-fn read_copy<D: Devices>(
+/// Reads a file, by its name and number. If its breaks are wanted it is resynchronised, and they are appended.
+fn read_one<D: Devices>(
     alloc: Global,
     devices: &D,
     name: &str,
     number: usize,
     is_resync: bool,
     breaks: &mut Vec<CopyBreak>,
-) -> Result<FileCopy, CopyError> {
-    let mut file = read_file(alloc, devices, name)?;
+) -> Result<Vec<u8>, CopyError> {
+    let file = read_file(alloc, devices, name)?;
     if is_resync {
-        file = in_step(alloc, file, number, breaks)?;
+        return in_step(alloc, file, number, breaks);
     }
-    match FileCopy::of(alloc, file) {
-        Ok(copy) => Ok(copy),
-        Err(refusal) => Err(refused(refusal)),
-    }
+    Ok(file)
 }
 
-/// Reads the copies. If they are resynchronised their breaks are appended. The error has the number of the copy that is
+/// Reads the files. If they are resynchronised their breaks are appended. The error has the number of the file that is
 /// not there.
-pub(crate) fn read_copies<D: Devices>(
+pub(crate) fn read_files<D: Devices>(
     alloc: Global,
     devices: &D,
     names: &[String],
     is_resync: bool,
     breaks: &mut Vec<CopyBreak>,
-) -> Result<Vec<FileCopy>, (usize, CopyError)>
-    ensures { IfOk result (λ copies. length copies.items ≡ length names.now) }
+) -> Result<Vec<Vec<u8>>, (usize, CopyError)>
+    ensures { IfOk result (λ files. length files.items ≡ length names.now) }
+{
+    let mut files = Vec::new(alloc);
+    for k in 0..names.len() {
+        match read_one(alloc, devices, names[k].as_str(), k, is_resync, breaks) {
+            Ok(file) => {
+                if files.push(file).is_err() {
+                    return Err((k, CopyError::Memory));
+                }
+            }
+            Err(error) => return Err((k, error)),
+        }
+    }
+    Ok(files)
+}
+
+/// Reads the headers of the copies, and cuts their scans. The error has the number of the copy that is refused.
+pub(crate) fn copies_of(
+    alloc: Global,
+    files: &[Vec<u8>],
+) -> Result<Vec<FileCopy<'_>>, (usize, CopyError)>
+    ensures { IfOk result (λ copies. length copies.items ≡ length files.now) }
 {
     let mut copies = Vec::new(alloc);
-    for k in 0..names.len() {
-        match read_copy(alloc, devices, names[k].as_str(), k, is_resync, breaks) {
+    for k in 0..files.len() {
+        match FileCopy::of(alloc, &files[k]) {
             Ok(copy) => {
                 if copies.push(copy).is_err() {
                     return Err((k, CopyError::Memory));
                 }
             }
-            Err(error) => return Err((k, error)),
+            Err(refusal) => return Err((k, refused(refusal))),
         }
     }
     Ok(copies)

@@ -7,7 +7,7 @@ ghost use Rattle.jri_words.specs.Steps.{LeavesFile};
 use crate::asking::{MendRequest, asked, wrong};
 use crate::breaks::CopyBreak;
 use crate::ended::Ended;
-use crate::reading::{CopyError, Shown, read_copies};
+use crate::reading::{CopyError, Shown, copies_of, read_files};
 use crate::report::{is_first_sound, object_of, report_of, write_breaks, write_lines};
 use jr_base::Tally;
 use jr_mend::{FileCopy, MendError, Mended, mend};
@@ -255,6 +255,24 @@ fn report_copy<E: Write>(errors: &mut E, names: &[String], copy: usize, error: C
     error.status()
 }
 
+/// Mends files, writes the mended one unless the first is sound, and returns the exit status.
+fn mend_files<D: Devices, E: Write>(
+    alloc: Global,
+    devices: &mut D,
+    asked: &MendRequest,
+    files: &[Vec<u8>],
+    breaks: &[CopyBreak],
+    errors: &mut E,
+) -> u8
+    requires some { 0 < length files.now }
+    requires few { length files.now ≤ MAX_COPIES }
+{
+    match copies_of(alloc, files) {
+        Ok(copies) => mend_copies(alloc, devices, asked, &copies, breaks, errors),
+        Err((copy, error)) => report_copy(errors, &asked.copies, copy, error),
+    }
+}
+
 /// Does what the program's arguments ask for on these devices, and reports it. The status is 0 if each interval is
 /// sound, 1 if one is damaged in all copies, 2 for wrong arguments and copies of another file, 3 for copies that are
 /// not read, 4 for memory and the output.
@@ -275,8 +293,8 @@ pub(crate) fn program<D: Devices, E: Write>(
         }
     };
     let mut breaks = Vec::new(alloc);
-    let status = match read_copies(alloc, devices, &asked.copies, asked.is_resync, &mut breaks) {
-        Ok(copies) => mend_copies(alloc, devices, &asked, &copies, &breaks, errors),
+    let status = match read_files(alloc, devices, &asked.copies, asked.is_resync, &mut breaks) {
+        Ok(files) => mend_files(alloc, devices, &asked, &files, &breaks, errors),
         Err((copy, error)) => report_copy(errors, &asked.copies, copy, error),
     };
     Ended { status }
