@@ -8,3 +8,4 @@ pub mod ResyncLaw
 pub mod InStep
 pub mod EachResync
 pub mod FilesInStep
+pub mod LocalLaws

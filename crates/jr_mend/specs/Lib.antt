@@ -4,3 +4,4 @@ pub mod Mended
 pub mod Splice
 pub mod Resync
 pub mod Reading
+pub mod Locality

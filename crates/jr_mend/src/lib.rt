@@ -8,6 +8,7 @@ mod choice;
 mod file_copy;
 mod following;
 mod laws;
+mod locality;
 mod mending;
 mod pace;
 mod positions;
@@ -23,6 +24,7 @@ pub use laws::{
     each_scan_resyncs, file_in_step_stays, header_stays, in_step_stays, intervals_are_cut,
     one_resync, spliced_has_its_scan,
 };
+pub use locality::{damage_is_local, mending_is_exact};
 pub use mending::{MendError, Mended, mend};
 pub use pace::{MAX_EARLY, SURE};
 pub use resync::{ResyncFault, Resynced, resynchronised};
