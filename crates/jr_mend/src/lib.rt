@@ -7,6 +7,7 @@ mod breaks;
 mod choice;
 mod file_copy;
 mod following;
+mod headers;
 mod laws;
 mod locality;
 mod mending;
@@ -20,6 +21,7 @@ mod splice;
 pub use breaks::Break;
 pub use choice::{Choice, MAX_COPIES, choose};
 pub use file_copy::FileCopy;
+pub use headers::under_header;
 pub use laws::{
     each_scan_resyncs, file_in_step_stays, header_stays, in_step_stays, intervals_are_cut,
     one_resync, spliced_has_its_scan,

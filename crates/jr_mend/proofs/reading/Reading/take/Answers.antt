@@ -18,7 +18,7 @@ returns c =
     let part : end - c.begin_next.new.self.at ≡ m.length + len = omega (arith, next.same.1) in
     let raw : end - (mid.at + m.length) ≡ len = omega arith in
     let paced =
-        c.after-self.ensures ∙ ap (λ (q : Pace). pace_after q m.missing (end - c.begin_next.new.self.at) (end - (mid.at + m.length))) next.same.2
-        ∙ ap (λ (n : ℕ). pace_after mid.pace m.missing n (end - (mid.at + m.length))) part
-        ∙ ap (pace_after mid.pace m.missing (m.length + len)) raw in
+    c.after-self.ensures ∙ ap (λ (q : Pace). pace_after q m.missing (end - c.begin_next.new.self.at) (end - (mid.at + m.length))) next.same.2
+    ∙ ap (λ (n : ℕ). pace_after mid.pace m.missing n (end - (mid.at + m.length))) part
+    ∙ ap (pace_after mid.pace m.missing (m.length + len)) raw in
     takes file c.args.self.now mid _ m len _ told c.in_ok-note.ensures.breaks same.0 same.1 same.2 same.3 refl next.number paced next.same.0 next.written (grind (arith, slice_is file (mid.at + m.length) (mid.at + m.length + len) len refl))
