@@ -1,5 +1,6 @@
 -- A file is read marker by marker.
-use Rattle.std.proofs.Common.{◌≡◌, ℕ, zero, suc, ◌+◌, ◌-◌, ◌<◌, ◌≤◌, List, [], ◌∷◌, ◌++◌, length, take, drop, sym, ap, subst, ◌∙◌, append_assoc, length-append, length-drop, Option, Some, None, arith}
+use Rattle.std.specs.Prelude.{nat_le}
+use Rattle.std.proofs.Common.{◌≡◌, ℕ, zero, suc, Bool, true, false, ◌+◌, ◌-◌, ◌<◌, ◌≤◌, List, [], ◌∷◌, ◌++◌, length, take, drop, sym, ap, subst, ◌∙◌, append_assoc, length-append, length-drop, Option, Some, None, arith}
 use Rattle.std.proofs.lemmas.List.{append-nil, drop-drop}
 use Rattle.jr_base.specs.declared.limits.TheConstants.{MAX_FILE_BYTES}
 use Rattle.jr_cut.specs.declared.scan_end.ScanEnd.{ScanEnd}
@@ -17,6 +18,7 @@ use Rattle.jr_mend.specs.declared.reading.Reading.{Reading}
 use Rattle.jr_mend.specs.declared.resync.Resynced.{Resynced}
 use Rattle.jr_mend.specs.Reading.{HasResyncedTo, IsResynced, IsTooLong, Meets, Takes}
 use Rattle.jr_mend.specs.declared.pace.Pace.{Pace}
+use Rattle.jr_mend.specs.declared.pace.TheConstants.{SURE_BYTES}
 use Rattle.jr_mend.specs.Resync.{EndsResync, IsResync, Part, PartsFrom, Resync, after_due, break_at, first_pace, pace_after, max_missing, new_segments, number_after, part_bytes}
 use Rattle.jr_mend.specs.Splice.{coded_intervals, joined_intervals, spliced}
 use Rattle.jr_mend.proofs.Resyncs.{count_after, few_after, new_spelled, parts_last, parts_next, with_part, zip_append}
@@ -77,7 +79,7 @@ module _ (file : List ℕ) (h : HeadValue) (w : Reading) (len : ℕ) (s : Segmen
     count = omega (arith, number);
     few = omega (arith, number, some);
     each = (s.raw, tt);
-    near = (omega (arith, ap (λ (q : Pace). q.bytes) paced, at), omega (arith, ap (λ (q : Pace). q.intervals) paced, number));
+    near = (omega (arith, ap (λ (q : Pace). q.bytes) paced, at), omega (arith, ap (λ (q : Pace). q.run) paced, at), omega (arith, ap (λ (q : Pace). q.intervals) paced, number));
     within = omega (arith, at, s.within);
     stop = subst (λ (k : ℕ). IsStop (drop k file)) (sym at) s.stop;
     written = written;
@@ -87,14 +89,18 @@ module _ (file : List ℕ) (h : HeadValue) (w : Reading) (len : ℕ) (s : Segmen
 -- ---- a marker, and the bytes after it
 
 -- the pace counts no byte before the scan, and no segment that is not placed
-near_after : (p : Pace) (a : Option ℕ) (low at part raw k : ℕ) → low + p.bytes ≤ at → raw ≤ part → p.intervals ≤ k → (low + (pace_after p a part raw).bytes ≤ at + part) × ((pace_after p a part raw).intervals ≤ number_after k a)
-near_after p None low at part raw k l r s = (omega (arith, l), s)
-near_after p (Some (suc d)) low at part raw k l r s = (omega (arith, l), omega (arith, s))
-near_after p (Some zero) low at part raw k l r s = due p.unsure
+Near : Pace → (low at k : ℕ) → Type 0
+Near p low at k = (low + p.bytes ≤ at) × (p.run ≤ at) × (p.intervals ≤ k)
+
+near_after : (p : Pace) (a : Option ℕ) (low at part raw k : ℕ) → Near p low at k → raw ≤ part → Near (pace_after p a part raw) low (at + part) (number_after k a)
+unfolding Near
+near_after p None low at part raw k near r = (omega (arith, near.0), omega arith, near.2)
+near_after p (Some (suc d)) low at part raw k near r = (omega (arith, near.0), omega arith, omega (arith, near.2))
+near_after p (Some zero) low at part raw k near r = due (nat_le SURE_BYTES p.run)
   where
-    due : (unsure : ℕ) → (low + (after_due unsure p part raw).bytes ≤ at + part) × ((after_due unsure p part raw).intervals ≤ number_after k (Some 0))
-    due zero = (omega (arith, l, r), omega arith)
-    due (suc unsure) = (omega (arith, l), omega (arith, s))
+    due : (is_sure : Bool) → Near (after_due is_sure p part raw) low (at + part) (number_after k (Some 0))
+    due true = (omega (arith, near.0, r), omega (arith, near.1), omega arith)
+    due false = (omega (arith, near.0), omega (arith, near.1), omega (arith, near.2))
 
 pub takes : (file : List ℕ) (old mid v : Reading) (m : FoundMarker) (len : ℕ) (raw : List ℕ) → Segment file (mid.at + m.length) len → mid.breaks.items ≡ old.breaks.items ++ break_at old.at old.k m.code m.missing → mid.bytes ≡ old.bytes → mid.k ≡ old.k → mid.pace ≡ old.pace → mid.at ≡ old.at
     → v.at ≡ mid.at + m.length + len → v.k ≡ number_after mid.k m.missing → v.pace ≡ pace_after mid.pace m.missing (m.length + len) len → v.breaks ≡ mid.breaks
@@ -165,10 +171,11 @@ module _ (file : List ℕ) (h : HeadValue) (w v : Reading) (m : FoundMarker) (ha
       let same : old ≡ new = cc (a, b, c) in
       subst (IsResync (intervals_of h) h.scan_at (drop h.scan_at file)) same is
 
-  near : (h.scan_at + v.pace.bytes ≤ v.at) × (v.pace.intervals ≤ v.k)
+  near : (h.scan_at + v.pace.bytes ≤ v.at) × (v.pace.run ≤ v.at) × (v.pace.intervals ≤ v.k)
+  unfolding Near
   near =
-      let after = near_after w.pace m.missing h.scan_at w.at (m.length + t.len) t.len w.k has.near.0 (omega arith) has.near.1 in
-      (omega (arith, ap (λ (q : Pace). q.bytes) t.pace, after.0, t.at), omega (arith, ap (λ (q : Pace). q.intervals) t.pace, after.1, t.number))
+      let after = near_after w.pace m.missing h.scan_at w.at (m.length + t.len) t.len w.k has.near (omega arith) in
+      (omega (arith, ap (λ (q : Pace). q.bytes) t.pace, after.0, t.at), omega (arith, ap (λ (q : Pace). q.run) t.pace, after.1, t.at), omega (arith, ap (λ (q : Pace). q.intervals) t.pace, after.2, t.number))
 
   pub read_more : HasResyncedTo file h v
   read_more = record {

@@ -1,10 +1,8 @@
 -- A scan that is written of coded intervals is cut into them.
-use Rattle.std.proofs.Common.{◌≡◌, ℕ, suc, ◌+◌, ◌-◌, ◌%◌, ◌<◌, ◌≤◌, List, [], ◌∷◌, ◌++◌, length, take, drop, replicate, refl, sym, ap, subst, ◌∙◌, append_assoc, length-append, arith}
-use Rattle.std.specs.List.{AllZip, flat_map}
-use Rattle.std.proofs.lemmas.List.{append-nil, drop_at, length-take-le, take_at}
-use Rattle.jr_base.specs.declared.limits.TheConstants.{MAX_FILE_BYTES}
+use Rattle.std.proofs.Common.{◌≡◌, ℕ, suc, ◌+◌, ◌-◌, ◌%◌, ◌<◌, ◌≤◌, List, [], ◌∷◌, ◌++◌, length, take, drop, replicate, refl, sym, ap, subst, ◌∙◌, append_assoc, arith}
+use Rattle.std.specs.List.{AllZip}
+use Rattle.std.proofs.lemmas.List.{append-nil, drop_at, length-take-le}
 use Rattle.jr_base.specs.declared.marker.TheConstants.{EOI, RST0}
-use Rattle.jr_segments.specs.Segments.{segment_bytes}
 use Rattle.jr_cut.specs.declared.scan_end.ScanEnd.TheVariants.{EndOfImage}
 use Rattle.jr_cut.specs.Cut.{CutFrom, IsCut, IsRaw, marker}
 use Rattle.jr_cut.proofs.Cuts.{cut_last, cut_next}

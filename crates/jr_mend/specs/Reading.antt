@@ -1,5 +1,5 @@
 -- A file that is read, and written anew as it is resynchronised.
-use Rattle.std.specs.Prelude.{◌≡◌, ℕ, suc, ◌+◌, ◌<◌, ◌≤◌, List, ◌++◌, length, take, drop, Option, Some, None}
+use Rattle.std.specs.Prelude.{◌≡◌, ℕ, suc, ◌+◌, ◌<◌, ◌≤◌, List, ◌++◌, length, take, drop}
 use Rattle.std.specs.List.{AllZip}
 use Rattle.jr_base.specs.declared.limits.TheConstants.{MAX_FILE_BYTES}
 use Rattle.jr_cut.specs.declared.scan_end.ScanEnd.TheVariants.{EndOfImage}
@@ -48,7 +48,7 @@ pub record HasResyncedTo (file : List ℕ) (h : HeadValue) (w : Reading) : Type 
   pub count : length raws ≡ suc w.k
   pub few : w.k < intervals_of h
   pub each : AllZip IsRaw raws datas
-  pub near : (h.scan_at + w.pace.bytes ≤ w.at) × (w.pace.intervals ≤ w.k)
+  pub near : (h.scan_at + w.pace.bytes ≤ w.at) × (w.pace.run ≤ w.at) × (w.pace.intervals ≤ w.k)
   pub within : w.at ≤ length file
   pub stop : IsStop (drop w.at file)
   pub written : w.bytes.items ≡ take h.scan_at file ++ joined_intervals raws

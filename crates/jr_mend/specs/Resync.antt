@@ -1,6 +1,6 @@
 -- How the bytes of a scan fall into intervals if markers or data are lost: restart markers are counted modulo 8, so that a
 -- decoder can tell how many are missing before one (T.81, B.1.1.5, E.1.4 and E.2.4).
-use Rattle.std.specs.Prelude.{◌≡◌, ◌≢◌, ℕ, zero, suc, ◌+◌, ◌-◌, ◌*◌, ◌/◌, ◌%◌, ◌<◌, ◌≤◌, ◌⊎◌, List, [], ◌∷◌, ◌++◌, length, replicate, Option, Some, None}
+use Rattle.std.specs.Prelude.{◌≡◌, ◌≢◌, ℕ, zero, suc, ◌+◌, ◌-◌, ◌*◌, ◌/◌, ◌%◌, ◌<◌, ◌≤◌, ◌⊎◌, Bool, true, false, nat_le, List, [], ◌∷◌, ◌++◌, length, replicate, Option, Some, None}
 use Rattle.std.specs.List.{flat_map}
 use Rattle.jr_base.specs.declared.marker.TheConstants.{EOI, PREFIX, RST0}
 use Rattle.jr_cut.specs.declared.scan_end.ScanEnd.{ScanEnd}
@@ -8,7 +8,7 @@ use Rattle.jr_cut.specs.declared.scan_end.ScanEnd.TheVariants.{EndOfImage, Other
 use Rattle.jr_cut.specs.Cut.{IsRaw, marker, IsEnding}
 use Rattle.jr_mend.specs.declared.breaks.Break.{Break}
 use Rattle.jr_mend.specs.declared.pace.Pace.{Pace}
-use Rattle.jr_mend.specs.declared.pace.TheConstants.{MAX_EARLY, SURE}
+use Rattle.jr_mend.specs.declared.pace.TheConstants.{MAX_EARLY, SURE_BYTES}
 
 -- the number of segments that the given number of a scan's bytes holds on average, to the nearest
 abbrev pub held : (n size bytes : ℕ) → ℕ
@@ -55,18 +55,18 @@ part_bytes p = marker p.more p.code ++ p.raw
 
 -- up to the first marker; segment 0 is sure
 abbrev pub first_pace : (bytes : ℕ) → Pace
-first_pace bytes = record { bytes = bytes; intervals = 0; unsure = SURE - 1 }
+first_pace bytes = record { bytes = bytes; intervals = 0; run = bytes }
 
--- after a marker that is due, with the given number of bytes from it up to the next marker, of which the segment has `raw`
-abbrev pub after_due : (unsure : ℕ) → Pace → (part raw : ℕ) → Pace
-after_due zero pace part raw = record { bytes = raw; intervals = 0; unsure = 0 }
-after_due (suc unsure) pace part raw = record { bytes = pace.bytes + part; intervals = pace.intervals + 1; unsure = unsure }
+-- after a marker that is due, with `part` bytes from it up to the next marker, of which its segment has `raw`
+abbrev pub after_due : (is_sure : Bool) → Pace → (part raw : ℕ) → Pace
+after_due true pace part raw = record { bytes = raw; intervals = 0; run = pace.run + part }
+after_due false pace part raw = record { bytes = pace.bytes + part; intervals = pace.intervals + 1; run = pace.run + part }
 
 -- after any marker; the bytes after one that is passed over count
 abbrev pub pace_after : Pace → Option ℕ → (part raw : ℕ) → Pace
-pace_after pace None part raw = record { bytes = pace.bytes + part; intervals = pace.intervals; unsure = pace.unsure }
-pace_after pace (Some zero) part raw = after_due pace.unsure pace part raw
-pace_after pace (Some (suc d)) part raw = record { bytes = pace.bytes + part; intervals = pace.intervals + (suc d + 1); unsure = SURE - 1 }
+pace_after pace None part raw = record { bytes = pace.bytes + part; intervals = pace.intervals; run = part }
+pace_after pace (Some zero) part raw = after_due (nat_le SURE_BYTES pace.run) pace part raw
+pace_after pace (Some (suc d)) part raw = record { bytes = pace.bytes + part; intervals = pace.intervals + (suc d + 1); run = part }
 
 -- parts of a scan of that size, at this pace before the first of them
 abbrev pub AreParts : (n size : ℕ) → Pace → (k : ℕ) → List Part → Type 0

@@ -28,7 +28,7 @@ pub use laws::{
 };
 pub use locality::{damage_is_local, mending_is_exact};
 pub use mending::{MendError, Mended, mend};
-pub use pace::{MAX_EARLY, SURE};
+pub use pace::{MAX_EARLY, SURE_BYTES};
 pub use resync::{ResyncFault, Resynced, resynchronised};
 pub use soundness::sound_if_any_is;
 pub use splice::{write_header, write_image_end, write_interval};

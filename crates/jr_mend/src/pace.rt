@@ -1,28 +1,28 @@
 //! How far a damaged scan is read since an interval that is sure to be in its place.
 
-ghost use Rattle.std.specs.Prelude.{◌≡◌, ◌+◌, ◌-◌, ◌<◌, ◌≤◌, ◌^◌, IfSome};
+ghost use Rattle.std.specs.Prelude.{◌≡◌, ◌+◌, ◌-◌, ◌<◌, ◌≤◌, ◌^◌, IfSome, nat_le};
 ghost use Rattle.jr_base.specs.declared.limits.TheConstants.{MAX_FILE_BYTES};
-ghost use Rattle.jr_mend.specs.Resync.{first_pace, max_missing, pace_after};
+ghost use Rattle.jr_mend.specs.Resync.{after_due, first_pace, max_missing, pace_after};
 
 /// The maximum number of restart markers missing before one, beyond the number of intervals that the bytes before it hold
 /// on average. With a further one more sectors of other files are taken for the image's.
 pub const MAX_EARLY: u64 = 1;
 
-/// The number of markers that are due one after the other, by which an interval is sure to be in its place. Fewer are
-/// also in a sector of another file.
-pub const SURE: u32 = 3;
+/// The number of bytes before an interval whose markers are all due, by which it is sure to be in its place: as many as a
+/// sector has. The markers in a sector of another file never make an interval sure.
+pub const SURE_BYTES: usize = 512;
 
-/// How far a scan is read since the last interval that is sure to be in its place: the first one, and each after `SURE`
-/// markers in a row that were due. So the intervals that are lost between two sure ones are limited together: else
-/// several markers of another file, each a little ahead, would place what follows eight intervals too late.
+/// How far a scan is read since the last interval that is sure to be in its place: the first one, or one before which all
+/// markers in `SURE_BYTES` bytes were due. So the intervals that are lost after it are limited together: otherwise several
+/// markers of another file, each a little ahead, would place what follows eight intervals too late.
 #[derive(Clone, Copy)]
 pub(crate) struct Pace {
     /// Number of bytes since the start of the sure interval, up to the next marker.
     pub bytes: usize,
     /// Number of intervals that are placed since it.
     pub intervals: u32,
-    /// Number of markers in a row that have to be due before a due one makes its interval sure.
-    pub unsure: u32,
+    /// Number of bytes since the last marker that was not due, or since the start of the scan.
+    pub run: usize,
 }
 
 impl Pace {
@@ -33,7 +33,7 @@ impl Pace {
         Pace {
             bytes,
             intervals: 0,
-            unsure: SURE - 1,
+            run: bytes,
         }
     }
 
@@ -41,27 +41,45 @@ impl Pace {
     /// with the bytes after it, `part` in all, of which `raw` are after the marker.
     pub(crate) fn after(self, missing: Option<u32>, part: usize, raw: usize) -> Pace
         requires bytes { self.bytes + part < 2 ^ 64 }
+        requires run { self.run + part < 2 ^ 64 }
         requires few { IfSome missing (λ d. self.intervals + d + 1 < 2 ^ 32) }
         ensures { result ≡ pace_after self missing part raw }
     {
         let bytes = self.bytes + part;
         match missing {
-            None => Pace { bytes, ..self },
-            Some(0) if self.unsure == 0 => Pace {
-                bytes: raw,
-                intervals: 0,
-                unsure: 0,
-            },
-            Some(0) => Pace {
+            None => Pace {
                 bytes,
-                intervals: self.intervals + 1,
-                unsure: self.unsure - 1,
+                intervals: self.intervals,
+                run: part,
             },
+            Some(0) => self.after_due(part, raw),
             Some(missing) => Pace {
                 bytes,
                 intervals: self.intervals + missing + 1,
-                unsure: SURE - 1,
+                run: part,
             },
+        }
+    }
+
+    /// Returns the pace up to the marker after the next one, which is due.
+    fn after_due(self, part: usize, raw: usize) -> Pace
+        requires bytes { self.bytes + part < 2 ^ 64 }
+        requires run { self.run + part < 2 ^ 64 }
+        requires few { self.intervals + 1 < 2 ^ 32 }
+        ensures { result ≡ after_due (nat_le SURE_BYTES self.run) self part raw }
+    {
+        let run = self.run + part;
+        if self.run >= SURE_BYTES {
+            return Pace {
+                bytes: raw,
+                intervals: 0,
+                run,
+            };
+        }
+        Pace {
+            bytes: self.bytes + part,
+            intervals: self.intervals + 1,
+            run,
         }
     }
 

@@ -101,7 +101,7 @@ impl Reading {
     fn take(&mut self, file: &[u8], marker: FoundMarker) -> Result<(), Memory>
         requires within { self.old.at + marker.length ≤ length file.now }
         requires few { IfSome marker.missing (λ d. self.old.k + d + 1 < 2 ^ 32) }
-        requires near { (self.old.pace.bytes ≤ self.old.at) × (self.old.pace.intervals ≤ self.old.k) }
+        requires near { (self.old.pace.bytes ≤ self.old.at) × (self.old.pace.run ≤ self.old.at) × (self.old.pace.intervals ≤ self.old.k) }
         ensures { IfOk result (λ _. Takes file.now self.old self.new marker) }
     {
         self.note(marker)?;

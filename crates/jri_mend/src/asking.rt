@@ -21,6 +21,8 @@ pub(crate) struct MendRequest {
     pub(crate) is_json: bool,
     /// Whether each copy is resynchronised first.
     pub(crate) is_resync: bool,
+    /// Whether copies with another header are read under that of the first copy that has one.
+    pub(crate) is_borrowing: bool,
 }
 
 /// The text of `--help` after the options.
@@ -30,7 +32,8 @@ first copy in which it is sound, otherwise from the one that decodes most of it.
 goes to standard output if -o is absent. If all of the first copy is sound nothing is
 written. A report goes to standard error; with -o, that of --json to standard output.
 With --resync each copy is first read past restart markers that are out of step, as
-after lost bytes, and one COPY is enough.
+after lost bytes, and one COPY is enough. With --borrow-headers a COPY whose header is
+refused, or another one, is read under the header of the first COPY that has one.
 
 Exit status:
   0  every interval is sound
@@ -73,7 +76,7 @@ fn copies_word<'a>(alloc: Global) -> Arg<'a> {
         .required(true)
 }
 
-/// `jri_mend [-o FILE] [--json] [--resync] COPY COPY..`.
+/// `jri_mend [-o FILE] [--json] [--resync] [--borrow-headers] COPY COPY..`.
 fn command<'a>(alloc: Global) -> Result<Command<'a>, AllocError> {
     Command::new(alloc, "jri_mend")
         .about("Mend a baseline JPEG file from damaged copies of it")
@@ -86,6 +89,11 @@ fn command<'a>(alloc: Global) -> Result<Command<'a>, AllocError> {
             alloc,
             "resync",
             "Read past restart markers that are out of step",
+        ))?
+        .arg(flag_word(
+            alloc,
+            "borrow-headers",
+            "Read copies with damaged headers under the header of another copy",
         ))?
         .arg(copies_word(alloc))
 }
@@ -154,5 +162,6 @@ pub(crate) fn asked(alloc: Global, words: &[String]) -> Result<MendRequest, Unas
         target,
         is_json: matches.get_flag("json"),
         is_resync,
+        is_borrowing: matches.get_flag("borrow-headers"),
     })
 }

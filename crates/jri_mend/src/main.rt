@@ -1,10 +1,12 @@
-//! `jri_mend [-o FILE] [--json] [--resync] COPY COPY..`: writes one JPEG file from damaged copies of it, each restart
+//! `jri_mend [-o FILE] [--json] [--resync] [--borrow-headers] COPY COPY..`: writes one JPEG file from damaged copies of it, each restart
 //! interval from a copy in which it is sound.
 #![tactic(auto)]
 
 mod asking;
 mod breaks;
 mod ended;
+mod headers;
+mod preparing;
 mod reading;
 mod report;
 mod running;

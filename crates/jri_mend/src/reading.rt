@@ -84,7 +84,7 @@ fn read_file<D: Devices>(alloc: Global, devices: &D, name: &str) -> Result<Vec<u
 }
 
 /// Returns why a file is no copy.
-fn refused(refusal: Refusal) -> CopyError {
+pub(crate) fn refused(refusal: Refusal) -> CopyError {
     match refusal {
         Refusal::Memory => CopyError::Memory,
         _ => CopyError::Refused(refusal),
@@ -94,15 +94,15 @@ fn refused(refusal: Refusal) -> CopyError {
 /// Returns a file with its restart markers in step, and appends its breaks.
 fn in_step(
     alloc: Global,
-    file: Vec<u8>,
+    file: &[u8],
     number: usize,
     breaks: &mut Vec<CopyBreak>,
 ) -> Result<Vec<u8>, CopyError> {
-    let head = match read_head(alloc, &file) {
+    let head = match read_head(alloc, file) {
         Ok(head) => head,
         Err(refusal) => return Err(refused(refusal)),
     };
-    match resynchronised(alloc, &head, &file) {
+    match resynchronised(alloc, &head, file) {
         Ok(resynced) => {
             for found in &resynced.breaks {
                 let found = CopyBreak {
@@ -120,36 +120,17 @@ fn in_step(
     }
 }
 
-/// Reads a file, by its name and number. If its breaks are wanted it is resynchronised, and they are appended.
-fn read_one<D: Devices>(
-    alloc: Global,
-    devices: &D,
-    name: &str,
-    number: usize,
-    is_resync: bool,
-    breaks: &mut Vec<CopyBreak>,
-) -> Result<Vec<u8>, CopyError> {
-    let file = read_file(alloc, devices, name)?;
-    if is_resync {
-        return in_step(alloc, file, number, breaks);
-    }
-    Ok(file)
-}
-
-/// Reads the files. If they are resynchronised their breaks are appended. The error has the number of the file that is
-/// not there.
+/// Reads the files. The error has the number of the file that is not there.
 pub(crate) fn read_files<D: Devices>(
     alloc: Global,
     devices: &D,
     names: &[String],
-    is_resync: bool,
-    breaks: &mut Vec<CopyBreak>,
 ) -> Result<Vec<Vec<u8>>, (usize, CopyError)>
     ensures { IfOk result (λ files. length files.items ≡ length names.now) }
 {
     let mut files = Vec::new(alloc);
     for k in 0..names.len() {
-        match read_one(alloc, devices, names[k].as_str(), k, is_resync, breaks) {
+        match read_file(alloc, devices, names[k].as_str()) {
             Ok(file) => {
                 if files.push(file).is_err() {
                     return Err((k, CopyError::Memory));
@@ -159,6 +140,23 @@ pub(crate) fn read_files<D: Devices>(
         }
     }
     Ok(files)
+}
+
+/// Resynchronises the files, and returns their breaks. The error has the number of a file.
+pub(crate) fn resync_files(
+    alloc: Global,
+    files: &mut [Vec<u8>],
+) -> Result<Vec<CopyBreak>, (usize, CopyError)>
+    ensures { length files.new ≡ length files.old }
+{
+    let mut breaks = Vec::new(alloc);
+    for k in 0..files.len() {
+        match in_step(alloc, &files[k], k, &mut breaks) {
+            Ok(file) => files[k] = file,
+            Err(error) => return Err((k, error)),
+        }
+    }
+    Ok(breaks)
 }
 
 /// Reads the headers of the copies, and cuts their scans. The error has the number of the copy that is refused.

@@ -1,6 +1,8 @@
 //! What is reported of a mended file.
 
 use crate::breaks::{BreakObject, CopyBreak};
+use crate::headers::{Borrowed, BorrowedObject};
+use crate::preparing::Prepared;
 use crate::runs::{RunObject, run_at};
 use jr_mend::Choice;
 use jr_scan::ScanEnd;
@@ -39,11 +41,19 @@ pub(crate) fn is_first_sound(choices: &[Choice]) -> bool {
 }
 
 /// Writes a line for each break.
-pub(crate) fn write_breaks<E: Write>(errors: &mut E, breaks: &[CopyBreak]) -> IoResult<()> {
+fn write_breaks<E: Write>(errors: &mut E, breaks: &[CopyBreak]) -> IoResult<()> {
     for found in breaks {
         writeln!(errors, "{found}")?;
     }
     Ok(())
+}
+
+/// Writes a line for each copy that is read under another header, and for each break.
+pub(crate) fn write_prepared<E: Write>(errors: &mut E, prepared: &Prepared) -> IoResult<()> {
+    for found in &prepared.borrowed {
+        writeln!(errors, "{found}")?;
+    }
+    write_breaks(errors, &prepared.breaks)
 }
 
 /// Writes a line for each run of intervals, and one if nothing is written.
@@ -66,8 +76,27 @@ pub(crate) fn write_lines<E: Write>(
     Ok(())
 }
 
-/// Appends the breaks as the first member of an object.
-fn put_breaks(line: &mut String, breaks: &[CopyBreak]) -> Result<(), AllocError> {
+/// Appends the copies that are read under another header as a member of an object; nothing if there are none.
+fn write_headers(line: &mut String, borrowed: &[Borrowed]) -> Result<(), AllocError> {
+    if borrowed.is_empty() {
+        return Ok(());
+    }
+    line.push_str("\"headers\":[")?;
+    for i in 0..borrowed.len() {
+        if i > 0 {
+            line.push(',')?;
+        }
+        let found = BorrowedObject(borrowed[i]);
+        write!(line, "{found}")?;
+    }
+    line.push_str("],")
+}
+
+/// Appends the breaks as a member of an object; nothing if there are none.
+fn write_break_objects(line: &mut String, breaks: &[CopyBreak]) -> Result<(), AllocError> {
+    if breaks.is_empty() {
+        return Ok(());
+    }
     line.push_str("\"breaks\":[")?;
     for i in 0..breaks.len() {
         if i > 0 {
@@ -79,11 +108,11 @@ fn put_breaks(line: &mut String, breaks: &[CopyBreak]) -> Result<(), AllocError>
     line.push_str("],")
 }
 
-/// Returns the report as a JSON object, with the line's end. It has breaks if there are some.
+/// Returns the report as a JSON object, with the line's end.
 pub(crate) fn object_of(
     alloc: Global,
     choices: &[Choice],
-    breaks: &[CopyBreak],
+    prepared: &Prepared,
     is_written: bool,
 ) -> Result<String, AllocError> {
     let Report {
@@ -93,9 +122,8 @@ pub(crate) fn object_of(
     } = report_of(choices);
     let mut line = String::new(alloc);
     line.push('{')?;
-    if !breaks.is_empty() {
-        put_breaks(&mut line, breaks)?;
-    }
+    write_headers(&mut line, &prepared.borrowed)?;
+    write_break_objects(&mut line, &prepared.breaks)?;
     write!(
         line,
         "\"intervals\":{intervals},\"damaged\":{damaged},\"written\":{is_written},\"runs\":["

@@ -5,10 +5,10 @@ ghost use Rattle.jr_mend.specs.declared.choice.TheConstants.{MAX_COPIES};
 ghost use Rattle.jri_words.specs.Steps.{LeavesFile};
 
 use crate::asking::{MendRequest, asked, wrong};
-use crate::breaks::CopyBreak;
 use crate::ended::Ended;
+use crate::preparing::{Prepared, prepare};
 use crate::reading::{CopyError, Shown, copies_of, read_files};
-use crate::report::{is_first_sound, object_of, report_of, write_breaks, write_lines};
+use crate::report::{is_first_sound, object_of, report_of, write_lines, write_prepared};
 use jr_base::Tally;
 use jr_mend::{FileCopy, MendError, Mended, mend};
 use jri_file::{Fault, Report};
@@ -153,18 +153,18 @@ fn report_mended<D: Devices, E: Write>(
     devices: &D,
     asked: &MendRequest,
     mended: &Mended,
-    breaks: &[CopyBreak],
+    prepared: &Prepared,
     is_written: bool,
     errors: &mut E,
 ) -> u8 {
     let choices = mended.choices.as_slice();
     let status = if report_of(choices).damaged > 0 { 1 } else { 0 };
     if !asked.is_json {
-        let _ = write_breaks(errors, breaks);
+        let _ = write_prepared(errors, prepared);
         let _ = write_lines(errors, choices, is_written);
         return status;
     }
-    let Ok(object) = object_of(alloc, choices, breaks, is_written) else {
+    let Ok(object) = object_of(alloc, choices, prepared, is_written) else {
         let _ = writeln!(errors, "out of memory");
         return FAILED;
     };
@@ -210,23 +210,13 @@ fn report_error<E: Write>(errors: &mut E, names: &[String], error: MendError) ->
     }
 }
 
-/// Returns whether a copy has a break.
-fn has_breaks(breaks: &[CopyBreak], copy: usize) -> bool {
-    for found in breaks {
-        if found.copy == copy {
-            return true;
-        }
-    }
-    false
-}
-
 /// Mends copies, writes the file unless the first copy is sound, and returns the exit status.
 fn mend_copies<D: Devices, E: Write>(
     alloc: Global,
     devices: &mut D,
     asked: &MendRequest,
     copies: &[FileCopy],
-    breaks: &[CopyBreak],
+    prepared: &Prepared,
     errors: &mut E,
 ) -> u8
     requires some { 0 < length copies.now }
@@ -237,15 +227,15 @@ fn mend_copies<D: Devices, E: Write>(
         Err(error) => return report_error(errors, &asked.copies, error),
     };
     let choices = mended.choices.as_slice();
-    if is_first_sound(choices) && !has_breaks(breaks, 0) {
-        return report_mended(alloc, devices, asked, &mended, breaks, false, errors);
+    if is_first_sound(choices) && !prepared.changes_first() {
+        return report_mended(alloc, devices, asked, &mended, prepared, false, errors);
     }
     let file = mended.file.as_slice();
     let ending = write_mended(alloc, devices, &asked.target, file, report_of(choices));
     if ending.outcome.is_err() {
         return report_unwritten(errors, &ending);
     }
-    report_mended(alloc, devices, asked, &mended, breaks, true, errors)
+    report_mended(alloc, devices, asked, &mended, prepared, true, errors)
 }
 
 /// Reports the copy that is not there, and returns the exit status.
@@ -255,20 +245,23 @@ fn report_copy<E: Write>(errors: &mut E, names: &[String], copy: usize, error: C
     error.status()
 }
 
-/// Mends files, writes the mended one unless the first is sound, and returns the exit status.
+/// Prepares files, mends them, writes the mended one unless the first is sound, and returns the exit status.
 fn mend_files<D: Devices, E: Write>(
     alloc: Global,
     devices: &mut D,
     asked: &MendRequest,
-    files: &[Vec<u8>],
-    breaks: &[CopyBreak],
+    files: &mut [Vec<u8>],
     errors: &mut E,
 ) -> u8
-    requires some { 0 < length files.now }
-    requires few { length files.now ≤ MAX_COPIES }
+    requires some { 0 < length files.old }
+    requires few { length files.old ≤ MAX_COPIES }
 {
+    let prepared = match prepare(alloc, asked, files) {
+        Ok(prepared) => prepared,
+        Err((copy, error)) => return report_copy(errors, &asked.copies, copy, error),
+    };
     match copies_of(alloc, files) {
-        Ok(copies) => mend_copies(alloc, devices, asked, &copies, breaks, errors),
+        Ok(copies) => mend_copies(alloc, devices, asked, &copies, &prepared, errors),
         Err((copy, error)) => report_copy(errors, &asked.copies, copy, error),
     }
 }
@@ -292,9 +285,8 @@ pub(crate) fn program<D: Devices, E: Write>(
             return Ended { status };
         }
     };
-    let mut breaks = Vec::new(alloc);
-    let status = match read_files(alloc, devices, &asked.copies, asked.is_resync, &mut breaks) {
-        Ok(files) => mend_files(alloc, devices, &asked, &files, &breaks, errors),
+    let status = match read_files(alloc, devices, &asked.copies) {
+        Ok(mut files) => mend_files(alloc, devices, &asked, &mut files, errors),
         Err((copy, error)) => report_copy(errors, &asked.copies, copy, error),
     };
     Ended { status }
