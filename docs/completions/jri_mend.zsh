@@ -6,4 +6,5 @@ _arguments -S \
     '(-o --output)'{-o+,--output=}'[write the mended file to this file]:mended file:_files' \
     '--json[print the report as a JSON object]' \
     '--resync[first resynchronise each copy at its restart markers]' \
+    '--borrow-headers[read copies with damaged headers under the header of another copy]' \
     '*:JPEG file:_files -g "*.(#i)(jpg|jpeg|jpe|jfif)(-.)"'
