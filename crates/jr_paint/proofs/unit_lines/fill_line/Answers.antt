@@ -1,4 +1,4 @@
-use Rattle.std.proofs.Common.{◌≡◌, ℕ, ◌+◌, ◌-◌, ◌*◌, ◌/◌, ◌<◌, ◌≤◌, ap, sym, ◌∙◌, length, slice_index, arith, rules}
+use Rattle.std.proofs.Common.{◌≡◌, ℕ, ◌+◌, ◌-◌, ◌*◌, ◌/◌, ◌<◌, ◌≤◌, length, slice_index, arith, rules}
 use Rattle.std.proofs.Math.Nat.{div-mul-le_self}
 use Rattle.jr_paint.specs.Units.{sample_by_units}
 use Rattle.jr_paint.proofs.Factors.{samples_across-le}

@@ -1,4 +1,4 @@
-use Rattle.std.proofs.Common.{ℤ, List, [], ◌∷◌, ◌++◌, take, append_assoc, sym, ap, ◌∙◌, arith}
+use Rattle.std.proofs.Common.{ℤ, List, [], ◌∷◌, ◌++◌, take, append_assoc, sym, ap, ◌∙◌}
 use Rattle.std.proofs.lemmas.List.{take_more, take_all}
 use Rattle.jr_scan.proofs.interval.push_zigzag.Goals as goal
 
