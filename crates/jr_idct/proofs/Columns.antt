@@ -1,5 +1,5 @@
 -- The pass over a column in 64 bits: what its two halves come to together.
-use Rattle.std.proofs.Common.{arith, ◌≡◌, ℕ, ◌+◌, ◌-◌, ◌*◌, ◌<◌, ◌+ℤ◌, ◌-ℤ◌, ℤ, List, [], ◌∷◌, ap, ◌∙◌, w64, to_z, of_z, FitsSigned}
+use Rattle.std.proofs.Common.{arith, ◌≡◌, ℕ, ◌+◌, ◌-◌, ◌*◌, ◌<◌, ◌≤◌, ◌+ℤ◌, ◌-ℤ◌, ℤ, List, [], ◌∷◌, sym, ap, subst, ◌∙◌, w64, to_z, of_z, FitsSigned}
 use Rattle.std.proofs.lemmas.Int.{ints, to_z-of_z}
 use Rattle.jr_idct.specs.Matrix.{IsWithin, at, even_sum, odd_sum, row_sum, wide_reach, row_weight}
 use Rattle.jr_idct.proofs.Passes.{row_sum_within, sum_is_row, difference_is_row}
@@ -14,6 +14,12 @@ pub record Joined (v : ℕ → ℤ) (i : ℕ) (e o : ℤ) : Type 0 where
   pub difference : passed e -ℤ passed o ≡ row_sum (7 - i) v
   pub small_sum : IsWithin (row_weight * wide_reach) (passed e +ℤ passed o)
   pub small_difference : IsWithin (row_weight * wide_reach) (passed e -ℤ passed o)
+
+-- a number within n passes on as small
+pub passed_within : (n : ℕ) (z : ℤ) → n ≤ wide_reach → IsWithin n z → IsWithin wide_reach (passed z)
+passed_within n z few small =
+    let f : FitsSigned w64 z = omega (arith, ints) in
+    subst (IsWithin wide_reach) (sym (to_z-of_z w64 z f)) (omega (arith, ints), omega (arith, ints))
 
 module _ (t : List ℤ) (small : (k : ℕ) → k < 64 → IsWithin wide_reach (at t k)) (c : ℕ) (below : c < 8) where
   read : (i j : ℕ) → i < 64 → i ≡ 8 * j + c → passed (at t i) ≡ at t (8 * j + c)

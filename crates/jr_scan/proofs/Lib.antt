@@ -3,6 +3,7 @@ pub mod InRange
 pub mod Fronts
 pub mod FewMcus
 pub mod Scans
+pub mod CutScans
 pub mod Runs
 pub mod McuReaders
 pub mod Shifts

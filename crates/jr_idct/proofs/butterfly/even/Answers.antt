@@ -1,8 +1,21 @@
 use Rattle.std.proofs.Common.{arith, rules, ◌^◌, w64, FitsSigned, ◌∙◌}
 use Rattle.std.proofs.lemmas.Int.{ints, to_z-of_z}
 use Rattle.jr_idct.specs.Matrix.{at}
+use Rattle.jr_idct.proofs.Columns.{passed_within}
 use Rattle.jr_idct.proofs.Passes.{below_four, even_sum_within}
 use Rattle.jr_idct.proofs.butterfly.even.Goals as goal
+
+pub even_part-entry_0-requires-clause-x0_small : goal.even_part-entry_0-requires-clause-x0_small
+even_part-entry_0-requires-clause-x0_small c = passed_within (2 ^ 40) (at c.args.x.now 0) (omega arith) (c.requires 0 (omega arith))
+
+pub even_part-entry_0-requires-clause-x2_small : goal.even_part-entry_0-requires-clause-x2_small
+even_part-entry_0-requires-clause-x2_small c = passed_within (2 ^ 40) (at c.args.x.now 1) (omega arith) (c.requires 1 (omega arith))
+
+pub even_part-entry_0-requires-clause-x4_small : goal.even_part-entry_0-requires-clause-x4_small
+even_part-entry_0-requires-clause-x4_small c = passed_within (2 ^ 40) (at c.args.x.now 2) (omega arith) (c.requires 2 (omega arith))
+
+pub even_part-entry_0-requires-clause-x6_small : goal.even_part-entry_0-requires-clause-x6_small
+even_part-entry_0-requires-clause-x6_small c = passed_within (2 ^ 40) (at c.args.x.now 3) (omega arith) (c.requires 3 (omega arith))
 
 pub returns-clause-sums : goal.returns-clause-sums
 returns-clause-sums c =

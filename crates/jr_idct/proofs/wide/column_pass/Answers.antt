@@ -1,8 +1,33 @@
-use Rattle.std.proofs.Common.{arith, rules, w64, ◌∙◌}
+use Rattle.std.proofs.Common.{◌+◌, arith, rules, w64, ◌∙◌}
 use Rattle.std.proofs.lemmas.Int.{to_z-of_z}
-use Rattle.jr_idct.proofs.Columns.{joined}
+use Rattle.jr_idct.specs.Matrix.{at, wide_reach}
+use Rattle.jr_idct.proofs.Columns.{joined, passed_within}
 use Rattle.jr_idct.proofs.Passes.{below_eight, entry_from}
 use Rattle.jr_idct.proofs.wide.column_pass.Goals as goal
+
+pub even_part-e0-requires-clause-x0_small : goal.even_part-e0-requires-clause-x0_small
+even_part-e0-requires-clause-x0_small c = passed_within wide_reach (at c.args.table.now c.args.c) (omega arith) (c.requires.small c.args.c (omega (arith, c.requires.column)))
+
+pub even_part-e0-requires-clause-x2_small : goal.even_part-e0-requires-clause-x2_small
+even_part-e0-requires-clause-x2_small c = passed_within wide_reach (at c.args.table.now (c.args.c + 16)) (omega arith) (c.requires.small (c.args.c + 16) (omega (arith, c.requires.column)))
+
+pub even_part-e0-requires-clause-x4_small : goal.even_part-e0-requires-clause-x4_small
+even_part-e0-requires-clause-x4_small c = passed_within wide_reach (at c.args.table.now (c.args.c + 32)) (omega arith) (c.requires.small (c.args.c + 32) (omega (arith, c.requires.column)))
+
+pub even_part-e0-requires-clause-x6_small : goal.even_part-e0-requires-clause-x6_small
+even_part-e0-requires-clause-x6_small c = passed_within wide_reach (at c.args.table.now (c.args.c + 48)) (omega arith) (c.requires.small (c.args.c + 48) (omega (arith, c.requires.column)))
+
+pub odd_part-o0-requires-clause-x1_small : goal.odd_part-o0-requires-clause-x1_small
+odd_part-o0-requires-clause-x1_small c = passed_within wide_reach (at c.args.table.now (c.args.c + 8)) (omega arith) (c.requires.small (c.args.c + 8) (omega (arith, c.requires.column)))
+
+pub odd_part-o0-requires-clause-x3_small : goal.odd_part-o0-requires-clause-x3_small
+odd_part-o0-requires-clause-x3_small c = passed_within wide_reach (at c.args.table.now (c.args.c + 24)) (omega arith) (c.requires.small (c.args.c + 24) (omega (arith, c.requires.column)))
+
+pub odd_part-o0-requires-clause-x5_small : goal.odd_part-o0-requires-clause-x5_small
+odd_part-o0-requires-clause-x5_small c = passed_within wide_reach (at c.args.table.now (c.args.c + 40)) (omega arith) (c.requires.small (c.args.c + 40) (omega (arith, c.requires.column)))
+
+pub odd_part-o0-requires-clause-x7_small : goal.odd_part-o0-requires-clause-x7_small
+odd_part-o0-requires-clause-x7_small c = passed_within wide_reach (at c.args.table.now (c.args.c + 56)) (omega arith) (c.requires.small (c.args.c + 56) (omega (arith, c.requires.column)))
 
 pub both_descaled-y0-requires : goal.both_descaled-y0-requires
 both_descaled-y0-requires c =

@@ -1,4 +1,4 @@
-use Rattle.std.proofs.Common.{◌≡◌, ℕ, ◌+◌, ◌-◌, ◌*◌, ◌/◌, ◌<◌, ◌≤◌, ap, sym, ◌∙◌, length, slice_index, arith, rules}
+use Rattle.std.proofs.Common.{◌≡◌, ℕ, ◌+◌, ◌-◌, ◌*◌, ◌/◌, ◌<◌, ◌≤◌, length, slice_index, arith, rules}
 use Rattle.std.proofs.Math.Nat.{div-mul-le_self}
 use Rattle.jr_paint.specs.Units.{sample_by_units}
 use Rattle.jr_paint.proofs.Factors.{samples_across-le}
@@ -30,3 +30,6 @@ returns-then-whole-out g c =
     let before : (j : ℕ) → j < at → slice_index c.loop-n.out j ≡ sample_by_units c.args.head.now (g.U.Units.shown_in c.args.units.now) c.args.c j c.args.y = λ j below. c.loop-n.invariant j (omega (arith, below, c.loop-n-test.false)) in
     λ k lt. filled_more (λ j. sample_by_units c.args.head.now (g.U.Units.shown_in c.args.units.now) c.args.c j c.args.y) at (length c.loop-n.out - at) (length c.loop-n.out - at) c.loop-n.out c.fill_unit-then-whole-out.new.out within (omega (arith, long)) before
     (λ j below. c.fill_unit-then-whole-out.ensures j (omega (arith, below, long))) k (search (rules, lt))
+
+pub returns-else-whole-out : goal.returns-else-whole-out
+returns-else-whole-out g c k lt = c.loop-n.invariant k (omega (arith, lt, c.if-whole-out.false, c.loop-n-test.false, c.loop-n.auto.out))

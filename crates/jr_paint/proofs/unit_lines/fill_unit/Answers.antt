@@ -1,9 +1,6 @@
-use Rattle.std.proofs.Common.{◌≡◌, ℕ, ◌+◌, ◌*◌, ◌<◌, ap, subst, ◌∙◌, arith, rules}
-use Rattle.std.proofs.lemmas.Nat.{mul-le}
+use Rattle.std.proofs.Common.{◌+◌, ◌*◌, ◌<◌, subst, ◌∙◌, arith}
 use Rattle.jr_head.specs.HeadValue.{HeadValue}
-use Rattle.jr_head.specs.Geometry.{blocks_of, mcus_of, mcus_across, mcus_down}
-use Rattle.jr_head.proofs.SamplingLaws.{few_across}
-use Rattle.jr_base.specs.declared.limits.TheConstants.{MAX_MCUS_ACROSS}
+use Rattle.jr_head.specs.Geometry.{blocks_of, mcus_of}
 use Rattle.jr_paint.proofs.Along.{unit_inside, shown_along}
 use Rattle.jr_paint.proofs.unit_lines.fill_unit.Goals as goal
 

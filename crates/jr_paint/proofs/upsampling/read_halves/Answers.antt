@@ -1,7 +1,8 @@
-use Rattle.std.proofs.Common.{◌≡◌, ℕ, ◌*◌, ◌/◌, ◌<◌, ◌∙◌, ap₂, arith, rules}
+use Rattle.std.proofs.Common.{◌≡◌, ℕ, ◌*◌, ◌/◌, ◌<◌, ◌≤◌, refl, sym, ap, ap₂, subst, ◌∙◌, arith}
 use Rattle.jr_head.specs.HeadValue.{HeadValue}
-use Rattle.jr_head.specs.Geometry.{IsLawful, components_of, horizontal_of, horizontal_max, vertical_of, vertical_max}
-use Rattle.jr_paint.specs.Shades.{IsHalved}
+use Rattle.jr_head.specs.Geometry.{IsLawful, component_count, components_of, horizontal_of, horizontal_max, vertical_of, vertical_max}
+use Rattle.jr_paint.specs.Geometry.{samples_across, samples_down}
+use Rattle.jr_paint.specs.Shades.{HalvesChroma, IsHalved}
 use Rattle.jr_paint.specs.Text.{value_at}
 use Rattle.jr_paint.proofs.Factors.{scaled, sampled_at}
 use Rattle.jr_paint.proofs.upsampling.read_halves.Goals as goal
@@ -13,20 +14,79 @@ halved h f c y line lawful there half at k =
     let column : k / 2 ≡ k * horizontal_of h c / horizontal_max h = omega (arith, same) in
     ap₂ (f c) column at
 
+-- both chrominances are components
+chroma : (h : HeadValue) (c : ℕ) → IsLawful h → HalvesChroma h → c < 3 → c < components_of h
+chroma h c lawful halves lt = omega (arith, lt, lawful.components.count ∙ ap component_count halves.kind)
+
+-- half of a line's pixels are fewer than its samples
+half_of : (k n width count : ℕ) → k < width → width ≤ 2 * count → n ≡ count → k / 2 < n
+half_of k n width count lt enough same = omega (arith, lt, enough, same)
+
+pub half_count-count-requires-clause-halves : goal.half_count-count-requires-clause-halves
+half_count-count-requires-clause-halves g c = subst HalvesChroma (sym c.head-head.ensures.value) c.requires.halves
+
+pub sample_line-requires-clause-component : goal.sample_line-requires-clause-component
+sample_line-requires-clause-component g c = chroma c.head-head.result.now 1 c.head-head.ensures.lawful (subst HalvesChroma (sym c.head-head.ensures.value) c.requires.halves) (omega arith)
+
+pub sample_line-requires-clause-down : goal.sample_line-requires-clause-down
+sample_line-requires-clause-down g c = subst (λ (h : HeadValue). c.args.y < h.height) (sym c.head-head.ensures.value) c.requires.down
+
+pub line-cb-requires-clause-component : goal.line-cb-requires-clause-component
+line-cb-requires-clause-component g c = chroma (g.S.Samples.head_of c.args.samples.now) 1 (subst IsLawful c.head-head.ensures.value c.head-head.ensures.lawful) c.requires.halves (omega arith)
+
+pub line-cb-requires-clause-columns : goal.line-cb-requires-clause-columns
+line-cb-requires-clause-columns g c = subst (λ (h : HeadValue). c.half_count-count.result ≤ samples_across h 1) c.head-head.ensures.value c.half_count-count.ensures.inside_b
+
+pub line-cb-requires-clause-line : goal.line-cb-requires-clause-line
+line-cb-requires-clause-line g c = subst (λ (h : HeadValue). c.sample_line.result < samples_down h 1) c.head-head.ensures.value c.sample_line.ensures.inside
+
+pub line-cb-requires-clause-room : goal.line-cb-requires-clause-room
+line-cb-requires-clause-room g c =
+    let few = subst (λ (h : HeadValue). c.half_count-count.result ≤ h.width) c.head-head.ensures.value c.half_count-count.ensures.few in
+    omega (arith, few, c.requires.room_b)
+
+pub sample_line-requires-2-clause-component : goal.sample_line-requires-2-clause-component
+sample_line-requires-2-clause-component g c = chroma c.head-head.result.now 2 c.head-head.ensures.lawful (subst HalvesChroma (sym c.head-head.ensures.value) c.requires.halves) (omega arith)
+
+pub sample_line-requires-2-clause-down : goal.sample_line-requires-2-clause-down
+sample_line-requires-2-clause-down g c = subst (λ (h : HeadValue). c.args.y < h.height) (sym c.head-head.ensures.value) c.requires.down
+
+pub line-cr-requires-clause-component : goal.line-cr-requires-clause-component
+line-cr-requires-clause-component g c = chroma (g.S.Samples.head_of c.args.samples.now) 2 (subst IsLawful c.head-head.ensures.value c.head-head.ensures.lawful) c.requires.halves (omega arith)
+
+pub line-cr-requires-clause-columns : goal.line-cr-requires-clause-columns
+line-cr-requires-clause-columns g c = subst (λ (h : HeadValue). c.half_count-count.result ≤ samples_across h 2) c.head-head.ensures.value c.half_count-count.ensures.inside_c
+
+pub line-cr-requires-clause-line : goal.line-cr-requires-clause-line
+line-cr-requires-clause-line g c = subst (λ (h : HeadValue). c.sample_line-2.result < samples_down h 2) c.head-head.ensures.value c.sample_line-2.ensures.inside
+
+pub line-cr-requires-clause-room : goal.line-cr-requires-clause-room
+line-cr-requires-clause-room g c =
+    let few = subst (λ (h : HeadValue). c.half_count-count.result ≤ h.width) c.head-head.ensures.value c.half_count-count.ensures.few in
+    omega (arith, few, c.requires.room_c)
+
+pub returns-clause-enough : goal.returns-clause-enough
+returns-clause-enough g c =
+    let enough = subst (λ (h : HeadValue). h.width ≤ 2 * c.half_count-count.result) c.head-head.ensures.value c.half_count-count.ensures.enough in
+    subst (λ (n : ℕ). (g.S.Samples.head_of c.args.samples.now).width ≤ 2 * n) (sym c.line-cb.ensures.long) enough
+
+pub returns-clause-same : goal.returns-clause-same
+returns-clause-same g c = c.line-cr.ensures.long ∙ sym c.line-cb.ensures.long
+
 pub returns-clause-second : goal.returns-clause-second
 returns-clause-second g c k l =
     let h = g.S.Samples.head_of c.args.samples.now in
-    let lawful = rw c.head-head.ensures.value at c.head-head.ensures.lawful in
-    let told = rw c.head-head.ensures.value at c.sample_line.ensures.value in
-    let line : c.sample_line.result ≡ c.args.y * vertical_of h 1 / vertical_max h = search (rules, told) in
-    let near : k / 2 < c.half_count-count.result = search (rules, arith) in
-    c.line-cb.ensures.samples (k / 2) near ∙ halved h (g.S.Samples.shown c.args.samples.now) 1 c.args.y c.sample_line.result lawful (search (rules, arith)) c.requires.halves.half_b line k
+    let lawful = subst IsLawful c.head-head.ensures.value c.head-head.ensures.lawful in
+    let line = subst (λ (x : HeadValue). c.sample_line.result ≡ c.args.y * vertical_of x 1 / vertical_max x) c.head-head.ensures.value c.sample_line.ensures.value in
+    let enough = subst (λ (x : HeadValue). x.width ≤ 2 * c.half_count-count.result) c.head-head.ensures.value c.half_count-count.ensures.enough in
+    let near = half_of k c.half_count-count.result h.width c.half_count-count.result l enough refl in
+    c.line-cb.ensures.samples (k / 2) near ∙ halved h (g.S.Samples.shown c.args.samples.now) 1 c.args.y c.sample_line.result lawful (chroma h 1 lawful c.requires.halves (omega arith)) c.requires.halves.half_b line k
 
 pub returns-clause-third : goal.returns-clause-third
 returns-clause-third g c k l =
     let h = g.S.Samples.head_of c.args.samples.now in
-    let lawful = rw c.head-head.ensures.value at c.head-head.ensures.lawful in
-    let told = rw c.head-head.ensures.value at c.sample_line-2.ensures.value in
-    let line : c.sample_line-2.result ≡ c.args.y * vertical_of h 2 / vertical_max h = search (rules, told) in
-    let near : k / 2 < c.half_count-count.result = search (rules, arith) in
-    c.line-cr.ensures.samples (k / 2) near ∙ halved h (g.S.Samples.shown c.args.samples.now) 2 c.args.y c.sample_line-2.result lawful (search (rules, arith)) c.requires.halves.half_c line k
+    let lawful = subst IsLawful c.head-head.ensures.value c.head-head.ensures.lawful in
+    let line = subst (λ (x : HeadValue). c.sample_line-2.result ≡ c.args.y * vertical_of x 2 / vertical_max x) c.head-head.ensures.value c.sample_line-2.ensures.value in
+    let enough = subst (λ (x : HeadValue). x.width ≤ 2 * c.half_count-count.result) c.head-head.ensures.value c.half_count-count.ensures.enough in
+    let near = half_of k c.half_count-count.result h.width c.half_count-count.result l enough refl in
+    c.line-cr.ensures.samples (k / 2) near ∙ halved h (g.S.Samples.shown c.args.samples.now) 2 c.args.y c.sample_line-2.result lawful (chroma h 2 lawful c.requires.halves (omega arith)) c.requires.halves.half_c line k

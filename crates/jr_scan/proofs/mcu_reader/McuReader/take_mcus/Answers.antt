@@ -1,4 +1,5 @@
-use Rattle.std.proofs.Common.{◌≡◌, ◌<◌, ◌+◌, ◌*◌, ◌-◌, ◌++◌, [], ℕ, ℤ, Bool, List, length, take, refl, ap, sym, subst, ◌∙◌, rules, arith}
+use Rattle.std.proofs.Common.{◌≡◌, ◌<◌, ◌≤◌, ◌+◌, ◌*◌, ◌-◌, ◌++◌, [], ℕ, ℤ, Bool, List, length, take, refl, ap, sym, subst, ◌∙◌, rules, arith}
+use Rattle.std.proofs.Math.Nat.{mul-le-mul_right}
 use Rattle.jr_head.specs.HeadValue.{HeadValue}
 use Rattle.jr_head.specs.Geometry.{IsLawful, order_of}
 use Rattle.jr_mcu.specs.Mcus.{BeginsNoMcu, TakesMcu, predicted}
@@ -6,7 +7,7 @@ use Rattle.jr_scan.specs.declared.place.Place.{Place}
 use Rattle.jr_scan.specs.declared.place.RunEnd.TheVariants.{AllRead}
 use Rattle.jr_scan.specs.IntervalValue.{IntervalValue}
 use Rattle.jr_scan.specs.Run.{RunOf, HasNoMcu, IsRun, run_from}
-use Rattle.jr_scan.specs.McuReader.{McuReaderValue}
+use Rattle.jr_scan.specs.McuReader.{McuReaderValue, per_mcu}
 use Rattle.jr_scan.proofs.McuReaders.{next_mcu, no_run, value_of}
 use Rattle.jr_scan.proofs.Runs.{component_low, runs_meet}
 use Rattle.jr_scan.proofs.mcu_reader.McuReader.take_mcus.Goals as goal
@@ -81,3 +82,15 @@ returns-in_default-clause-ended g c = λ less.
     let kept = c.in_default.ensures.kept in
     let n3 = subst (λ (b : List Bool). HasNoMcu i (record { bit = 8 * length i.bytes - length b; predictions = ps })) (sym kept.0) n2 in
     subst (λ (qs : List ℤ). HasNoMcu i (record { bit = 8 * length i.bytes - length c.read_mcu.new.bits; predictions = qs })) (sym kept.1) n3
+
+pub read_mcu-requires-clause-room : goal.read_mcu-requires-clause-room
+read_mcu-requires-clause-room g c = λ keeps.
+    let r = c.args.self.now in
+    let k = c.loop-k.k in
+    let per = length c.order-per_mcu.result.now in
+    let per_is : per ≡ length (order_of c.head-head.result.now) = ap (λ (o : List ℕ). length o) c.order-per_mcu.ensures.value in
+    let same : per ≡ per_mcu r = per_is ∙ ap (λ (h : HeadValue). length (order_of h)) c.head-head.ensures.value ∙ ap (λ (x : McuReaderValue). per_mcu x) c.self.view_is in
+    let room = subst (λ (n : ℕ). c.args.most * n ≤ length c.args.blocks.now) (sym same) (c.requires.room keeps) in
+    let next : (k + 1) * per ≤ c.args.most * per = mul-le-mul_right {m = k + 1} {n = c.args.most} per (omega (arith, c.loop-k-test.true)) in
+    let one : (k + 1) * per ≡ k * per + per = omega arith in
+    omega (arith, room, next, one, per_is, c.loop-k.invariant.room)
