@@ -1,0 +1,17 @@
+use Rattle.std.proofs.Common.{subst}
+use Rattle.std.specs.Arc.{arc_value}
+use Rattle.jr_scan.specs.ScanValue.{IsSameScan}
+use Rattle.jr_wall.proofs.Sweeps.{new_blank, new_same}
+use Rattle.jr_wall.proofs.sweeping.usable.Goals as goal
+
+pub returns-then-is_left-clause-scan : goal.returns-then-is_left-clause-scan
+returns-then-is_left-clause-scan c = subst (IsSameScan c.args.board.scan) c.deref.ensures (c.is_left.ensures c.if-is_left.true).0
+
+pub returns-then-is_left-clause-blank : goal.returns-then-is_left-clause-blank
+returns-then-is_left-clause-blank c = (c.is_left.ensures c.if-is_left.true).1
+
+pub returns-clause-scan : goal.returns-clause-scan
+returns-clause-scan c = new_same c.new.result (arc_value c.in_ok-try_clone.field-0) (arc_value c.args.scan.now) c.in_ok-try_clone.ensures c.new.ensures.scan
+
+pub returns-clause-blank : goal.returns-clause-blank
+returns-clause-blank c = new_blank c.new.result _ c.args.n c.new.ensures.blank
