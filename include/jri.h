@@ -14,7 +14,7 @@
  * buffer of length 0 may be NULL, a struct may not.
  *
  * In what follows: JRI_REFUSED comes with the file's first fault in the refusal's two numbers, JRI_NO_MEMORY with
- * refusal 19 (tested: only if memory ran out). With these, JRI_BUFFER_TOO_SMALL and JRI_NO_LINES all buffers are
+ * refusal 19 (tested: only if memory ran out). With every status but JRI_OK, JRI_SOUND and JRI_DAMAGED all buffers are
  * unchanged. "Every file that begins with these bytes" means every one that is not too long (refusal 18).
  */
 #ifndef JRI_H
@@ -31,7 +31,7 @@ extern "C" {
 #define JRI_RELEASE "0.1.0"
 
 /* The number of this interface; jri_version() returns that of the library. */
-#define JRI_VERSION 5
+#define JRI_VERSION 6
 
 /* The status of a call. */
 enum {
@@ -43,7 +43,10 @@ enum {
     JRI_BUFFER_TOO_SMALL = 4, /* a buffer is too small */
     JRI_NO_LINES = 5,         /* the image has no such lines or rows, or none were asked for */
     JRI_NO_LAYOUT = 6,        /* there is no such layout, or a line is longer than the stride */
-    JRI_NEED_MORE = 7         /* the bytes so far end before the header does */
+    JRI_NEED_MORE = 7,        /* the bytes so far end before the header does */
+    JRI_TOO_LONG = 8,         /* the file that would be written is longer than a file may be: 1,073,741,824 bytes */
+    JRI_NO_COPIES = 9,        /* there are no copies, more than 64, or their sizes exceed their bytes */
+    JRI_OTHER_HEADER = 10     /* a copy has another header than the first */
 };
 
 /* Whether the bytes are all of the file, or more may follow. */
@@ -142,6 +145,50 @@ struct jri_damage_list {
     uint64_t next_at; /* offset of that interval's first byte; the length of the file if the scan ends before it */
     uint32_t refusal; /* the number of the refusal, 1 to 18, or 19 with JRI_NO_MEMORY; otherwise 0 */
     uint64_t detail;  /* the refusal's offset or marker code */
+};
+
+/* A marker of a scan that is not the restart marker that was due. */
+struct jri_break {
+    uint64_t at;      /* offset in the damaged file of its first FF */
+    uint8_t code;     /* its code: D0 to D7 if it is a restart marker */
+    uint8_t due;      /* the number of the restart marker that was due, 0 to 7 */
+    uint32_t skipped; /* number of restart markers missing before it; 0 if it is passed over */
+};
+
+/*
+ * The report of jri_resynchronise. Proved: unless the status is JRI_OK or JRI_BUFFER_TOO_SMALL everything but the
+ * refusal's two numbers is 0; with these statuses these two are 0.
+ */
+struct jri_resynced {
+    uint32_t ended;   /* what ended the damaged file's scan, as in jri_report */
+    uint32_t found;   /* JRI_OTHER_MARKER: the marker's code */
+    uint32_t due;     /* 0: no scan that is resynchronised ends out of step */
+    uint32_t refusal; /* the number of the refusal, 1 to 18, or 19 with JRI_NO_MEMORY; otherwise 0 */
+    uint64_t size;    /* size of the resynchronised file in bytes */
+    uint64_t breaks;  /* number of its breaks */
+    uint64_t at;      /* the offset of the marker that ended the scan; 0 with EOI and the end of the file */
+    uint64_t detail;  /* the refusal's offset or marker code */
+};
+
+/* The copy from which a restart interval is taken. */
+struct jri_choice {
+    uint32_t copy;      /* the number of the copy, from 0 */
+    uint32_t mark;      /* JRI_MARK_SOUND, or JRI_MARK_DAMAGED if the interval is damaged in all copies */
+    uint32_t decodable; /* JRI_MARK_DAMAGED: the number of its first MCUs that can be decoded; otherwise 0 */
+    uint32_t differs;   /* 1 if two copies in which it is sound have different data, otherwise 0 */
+};
+
+/*
+ * The report of jri_mend. Proved: with JRI_SOUND, JRI_DAMAGED and JRI_BUFFER_TOO_SMALL it has intervals, damaged and
+ * size, and the other numbers are 0; with any other status these three are 0.
+ */
+struct jri_mended {
+    uint32_t intervals; /* number of restart intervals */
+    uint32_t damaged;   /* number of those that are damaged in all copies */
+    uint32_t copy;      /* JRI_REFUSED, JRI_OTHER_HEADER: the number of the copy, from 0 */
+    uint32_t refusal;   /* the number of the copy's refusal, 1 to 18, or 19 with JRI_NO_MEMORY; otherwise 0 */
+    uint64_t size;      /* size of the mended file in bytes */
+    uint64_t detail;    /* the refusal's offset or marker code */
 };
 
 /* Returns the number of the library's interface (proved): JRI_VERSION if this header is its own. */
@@ -302,6 +349,47 @@ uint32_t jri_decode_canvas(const uint8_t *file, size_t file_length, uint8_t *can
  */
 uint32_t jri_lay_out(const uint8_t *lines, size_t lines_length, uint32_t width, uint32_t components, uint8_t *canvas,
                      size_t canvas_size, size_t stride, uint32_t layout);
+
+/*
+ * Writes a damaged file with its restart markers in step into the first bytes of `out`. Every other call then decodes or
+ * checks that file: an interval that is lost has no bytes, and those after it are where they belong. The markers that
+ * were out of step are listed, as many as `breaks` has entries: `breaks_count`. Allocates the file that it writes and a
+ * list of the breaks.
+ *
+ * The bytes of a scan fall into intervals by the numbers of its restart markers, which count modulo 8. A marker is at
+ * most two intervals further ahead than the bytes before it hold on average; if its number allows none, it is passed
+ * over (docs/ARCHIVES.md).
+ *
+ * Proved: with JRI_OK the first report->size bytes of `out` are the resynchronised file, and bytes after them are
+ * unchanged; the first entries of `breaks` are its breaks in order, and entries after them are unchanged. A file whose
+ * markers are in step keeps the data of each interval. JRI_BUFFER_TOO_SMALL is returned only if the file does not fit;
+ * report->size and report->breaks then say what is needed, so a first call may have no buffers. JRI_TOO_LONG is
+ * returned only if the file would be too long. The only other statuses are JRI_REFUSED and JRI_NO_MEMORY.
+ *
+ * Tested: file_length + 2 * intervals bytes suffice.
+ */
+uint32_t jri_resynchronise(const uint8_t *file, size_t file_length, uint8_t *out, size_t out_size,
+                           struct jri_break *breaks, size_t breaks_count, struct jri_resynced *report);
+
+/*
+ * Mends a file from copies of it that are damaged in different places, at most 64, which lie one after another in
+ * `files` with the given sizes. Each restart interval is taken from the first copy in which it is sound, otherwise from
+ * the first of those in which most MCUs can be decoded. The choices are listed, as many as `choices` has entries:
+ * `choices_count`. Allocates the scans of all copies, the file that it writes and the choices.
+ *
+ * Proved: with JRI_SOUND and JRI_DAMAGED the first report->size bytes of `out` are the header of the first copy and
+ * these intervals, and bytes after them are unchanged; the first entries of `choices` are the choices in order, and
+ * entries after them are unchanged. JRI_DAMAGED means that an interval is damaged in all copies. An interval that is
+ * sound in a copy is sound in the mended file. JRI_BUFFER_TOO_SMALL is returned only if the file does not fit;
+ * report->size and report->intervals then say what is needed. With JRI_REFUSED copy report->copy is refused, with
+ * JRI_OTHER_HEADER its header is not that of the first; JRI_NO_COPIES is returned only if there are no copies, more
+ * than 64, or their sizes exceed files_length; JRI_TOO_LONG only if the file would be too long. The only other status
+ * is JRI_NO_MEMORY.
+ *
+ * A copy whose restart markers are out of step is resynchronised first: jri_resynchronise.
+ */
+uint32_t jri_mend(const uint8_t *files, size_t files_length, const size_t *sizes, size_t copies, uint8_t *out,
+                  size_t out_size, struct jri_choice *choices, size_t choices_count, struct jri_mended *report);
 
 #ifdef __cplusplus
 }

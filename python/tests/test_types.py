@@ -34,7 +34,7 @@ def checked(tmp_path, *words):
 
 
 def test_the_module_has_types_throughout(tmp_path):
-    assert "no issues found in 6 source files" in checked(tmp_path, "jri")
+    assert "no issues found in 7 source files" in checked(tmp_path, "jri")
 
 
 def test_a_caller_sees_them(tmp_path):

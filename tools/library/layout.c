@@ -64,3 +64,33 @@ AT(jri_damage_list, next, 4);
 AT(jri_damage_list, next_at, 8);
 AT(jri_damage_list, refusal, 16);
 AT(jri_damage_list, detail, 24);
+
+SIZE(jri_break, 16);
+AT(jri_break, at, 0);
+AT(jri_break, code, 8);
+AT(jri_break, due, 9);
+AT(jri_break, skipped, 12);
+
+SIZE(jri_resynced, 48);
+AT(jri_resynced, ended, 0);
+AT(jri_resynced, found, 4);
+AT(jri_resynced, due, 8);
+AT(jri_resynced, refusal, 12);
+AT(jri_resynced, size, 16);
+AT(jri_resynced, breaks, 24);
+AT(jri_resynced, at, 32);
+AT(jri_resynced, detail, 40);
+
+SIZE(jri_choice, 16);
+AT(jri_choice, copy, 0);
+AT(jri_choice, mark, 4);
+AT(jri_choice, decodable, 8);
+AT(jri_choice, differs, 12);
+
+SIZE(jri_mended, 32);
+AT(jri_mended, intervals, 0);
+AT(jri_mended, damaged, 4);
+AT(jri_mended, copy, 8);
+AT(jri_mended, refusal, 12);
+AT(jri_mended, size, 16);
+AT(jri_mended, detail, 24);

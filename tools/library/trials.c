@@ -4,8 +4,9 @@
  *     trials FILE ..
  *
  * Of each file, which jri accepts, it sees that buffers with more room are left as they are behind the picture, that ones with
- * too little are not touched, that each request for memory may be refused, that lines decoded alone are those of the picture, and so
- * are rows from places, of a file that is there or arrives, that any place may be given, and that many threads may decode at once; and
+ * too little are not touched, that each request for memory may be refused, that the file may be resynchronised, and mended from
+ * itself and a copy without a scan, that lines decoded alone are those of the picture, and so are rows from places, of a file that
+ * is there or arrives, that any place may be given, and that many threads may decode at once; and
  * that pointers may be null where nothing is behind them. It ends with 1 where something else is seen, and says what.
  */
 #define _DEFAULT_SOURCE
@@ -426,6 +427,121 @@ static void work_at_once(struct trial *t) {
         pthread_join(threads[i], NULL);
 }
 
+/* Resynchronises a file into buffers of so many bytes and entries, while request k for memory is refused. Returns the number of requests. */
+static long resynchronise(const struct trial *t, size_t size, size_t count, long k, struct jri_resynced *report) {
+    size_t listed = count * sizeof(struct jri_break);
+    uint8_t *out = buffer(size), *bytes = buffer(listed + ALIGNED_MORE);
+    struct jri_break *breaks = (struct jri_break *)bytes;
+    struct jri_resynced whole = *report;
+    requests = 0;
+    refused = k;
+    uint32_t status = jri_resynchronise(t->file, t->length, out, size, breaks, count, report);
+    long made = requests;
+    refused = -1;
+    size_t found = whole.breaks < count ? whole.breaks : count;
+    if (status == JRI_OK) {
+        struct jri_report decoded;
+        see(report->size <= size && is_filled(out + report->size, size - report->size), t, "behind a resynchronised file");
+        see(is_filled(bytes + found * sizeof *breaks, listed - found * sizeof *breaks), t, "behind the breaks");
+        for (size_t i = 0; i < found; i++)
+            see(breaks[i].at < t->length && breaks[i].due < 8 && (!i || breaks[i - 1].at < breaks[i].at), t, "a break");
+        see(jri_check(out, report->size, NULL, 0, &decoded) <= JRI_DAMAGED && decoded.ended == JRI_END_OF_IMAGE, t, "a resynchronised file");
+        see(whole.breaks || decoded.damaged <= t->report.damaged, t, "a file in step");
+    } else {
+        see(status == (size < whole.size ? JRI_BUFFER_TOO_SMALL : JRI_NO_MEMORY) || (status == JRI_NO_MEMORY && made > k), t, "a status of resynchronising");
+        see(is_filled(out, size) && is_filled(bytes, listed), t, "not resynchronised, a buffer touched");
+    }
+    if (status == JRI_NO_MEMORY)
+        see(k >= 0 && made > k && report->refusal == 19 && !report->size && !report->breaks, t, "resynchronising, a request refused");
+    else
+        see(!memcmp(report, &whole, sizeof whole), t, "a report of resynchronising");
+    *report = whole;
+    release(out, size);
+    release(bytes, listed + ALIGNED_MORE);
+    return made;
+}
+
+static void try_resynchronise(const struct trial *t) {
+    struct jri_resynced report;
+    see(jri_resynchronise(t->file, t->length, NULL, 0, NULL, 0, &report) == JRI_BUFFER_TOO_SMALL, t, "no room to resynchronise");
+    see(report.size <= t->length + 2 * (size_t)t->header.intervals, t, "a resynchronised file's size");
+    resynchronise(t, report.size, report.breaks, -1, &report);
+    resynchronise(t, report.size + MORE, report.breaks + 3, -1, &report);
+    resynchronise(t, report.size, report.breaks / 2, -1, &report);
+    resynchronise(t, report.size - 1, report.breaks, -1, &report);
+    for (long k = 0; resynchronise(t, report.size, report.breaks, k, &report) > k; k++)
+        refusals += 1;
+}
+
+/* Two copies of a file that lie one after another, the second with no byte of its scan. */
+struct copies {
+    uint8_t *files;
+    size_t length, sizes[2];
+};
+
+/* Mends copies into buffers of so many bytes and entries, while request k for memory is refused. Returns the number of requests. */
+static long mend(const struct trial *t, const struct copies *it, size_t size, size_t count, long k, struct jri_mended *report) {
+    size_t listed = count * sizeof(struct jri_choice);
+    uint8_t *out = buffer(size), *bytes = buffer(listed + ALIGNED_MORE);
+    struct jri_choice *choices = (struct jri_choice *)bytes;
+    struct jri_mended whole = *report;
+    requests = 0;
+    refused = k;
+    uint32_t status = jri_mend(it->files, it->length, it->sizes, 2, out, size, choices, count, report);
+    long made = requests;
+    refused = -1;
+    size_t found = t->header.intervals < count ? t->header.intervals : count;
+    if (status == t->status) {
+        struct jri_report decoded;
+        uint8_t *marks = buffer(t->header.intervals);
+        see(is_filled(out + report->size, size - report->size), t, "behind a mended file");
+        see(is_filled(bytes + found * sizeof *choices, listed - found * sizeof *choices), t, "behind the choices");
+        for (size_t i = 0; i < found; i++)
+            see(choices[i].mark == t->marks[i] && !choices[i].differs && (choices[i].mark != JRI_MARK_SOUND || !choices[i].copy), t, "a choice");
+        see(jri_check(out, report->size, marks, t->header.intervals, &decoded) == t->status, t, "a mended file");
+        see(!memcmp(marks, t->marks, t->header.intervals) && decoded.damaged == report->damaged, t, "a mended file's marks");
+        release(marks, t->header.intervals);
+    } else {
+        see(status == JRI_NO_MEMORY || (status == JRI_BUFFER_TOO_SMALL && size < whole.size), t, "a status of mending");
+        see(is_filled(out, size) && is_filled(bytes, listed), t, "not mended, a buffer touched");
+    }
+    if (status == JRI_NO_MEMORY)
+        see(k >= 0 && made > k && report->refusal == 19 && !report->size && !report->intervals, t, "mending, a request refused");
+    else
+        see(!memcmp(report, &whole, sizeof whole), t, "a report of mending");
+    *report = whole;
+    release(out, size);
+    release(bytes, listed + ALIGNED_MORE);
+    return made;
+}
+
+/* Mends a file from itself and a copy that ends with its first byte after SOS. */
+static void try_mend(const struct trial *t) {
+    struct jri_damage_list list;
+    struct jri_damage none;
+    jri_list_damage(t->file, t->length, 0, 0, &none, 0, &list);
+    size_t scan_at = list.next_at, sizes[65];
+    struct copies it = {.length = t->length + scan_at, .sizes = {t->length, scan_at}};
+    it.files = buffer(it.length);
+    memcpy(it.files, t->file, t->length);
+    memcpy(it.files + t->length, t->file, scan_at);
+    struct jri_mended report;
+    see(jri_mend(it.files, it.length, it.sizes, 2, NULL, 0, NULL, 0, &report) == JRI_BUFFER_TOO_SMALL, t, "no room to mend");
+    see(report.intervals == t->header.intervals && report.damaged == t->report.damaged, t, "a report of mending without room");
+    mend(t, &it, report.size, report.intervals, -1, &report);
+    mend(t, &it, report.size + MORE, report.intervals + 3, -1, &report);
+    mend(t, &it, report.size, report.intervals / 2, -1, &report);
+    mend(t, &it, report.size - 1, report.intervals, -1, &report);
+    for (long k = 0; mend(t, &it, report.size, report.intervals, k, &report) > k; k++)
+        refusals += 1;
+    see(jri_mend(it.files, it.length - 1, it.sizes, 2, NULL, 0, NULL, 0, &report) == JRI_NO_COPIES, t, "copies of more bytes than there are");
+    memset(sizes, 0, sizeof sizes);
+    see(jri_mend(it.files, it.length, sizes, 65, NULL, 0, NULL, 0, &report) == JRI_NO_COPIES, t, "too many copies");
+    it.sizes[1] = 2;
+    see(jri_mend(it.files, it.length, it.sizes, 2, NULL, 0, NULL, 0, &report) == JRI_REFUSED && report.copy == 1 && report.refusal == 2, t, "a copy that is refused");
+    release(it.files, it.length);
+}
+
 /* The bytes of a pixel in a layout. How many they are. */
 static size_t lay(uint32_t layout, const uint8_t *from, uint32_t components, uint8_t *to) {
     const uint8_t *red = from, *green = from + (components == 3), *blue = from + (components == 3 ? 2 : 0);
@@ -504,6 +620,10 @@ static void try_null(void) {
     see(jri_refusal_text(1, 0, text, 5) == 5 && !memcmp(text, "not ated a marker", 17), &none, "a text without room");
     struct jri_damage_list list;
     see(jri_list_damage(NULL, 0, 0, 0, NULL, 0, &list) == JRI_REFUSED && list.refusal == 1, &none, "damage");
+    struct jri_resynced resynced;
+    see(jri_resynchronise(NULL, 0, NULL, 0, NULL, 0, &resynced) == JRI_REFUSED && resynced.refusal == 1, &none, "resynchronising");
+    struct jri_mended mended;
+    see(jri_mend(NULL, 0, NULL, 0, NULL, 0, NULL, 0, &mended) == JRI_NO_COPIES && !mended.refusal, &none, "no copies");
     see(jri_end_text(&none.report, text, OF_TEXT) == 0, &none, "a text of no end");
     none.report.ended = JRI_END_OF_IMAGE;
     see(jri_end_text(&none.report, text, OF_TEXT) == 17 && !memcmp(text, "scan ended at EOI", 17), &none, "a text of an end");
@@ -547,6 +667,8 @@ static void try_file(const char *name) {
     try_lines(&t);
     try_check(&t);
     try_damages(&t);
+    try_resynchronise(&t);
+    try_mend(&t);
     try_rows(&t);
     try_canvas(&t);
     work_at_once(&t);

@@ -9,23 +9,26 @@ ghost use Rattle.jr_arrival.specs.Settled.{WantsMore};
 ghost use Rattle.jri_memory.specs.Canvases.{DecodesCanvas, LacksCanvas, LacksLayoutOf, LacksLinesToLay, LacksRoomToLay, LaysOut};
 ghost use Rattle.jri_memory.specs.Damages.{ListsDamages, TellsNoDamage};
 ghost use Rattle.jri_memory.specs.Checks.{ChecksFile, LacksMarkRoom};
+ghost use Rattle.jri_memory.specs.Mends.{HasOtherHeader, IsTooLongMend, LackCopies, LacksMendRoom, MendsFiles, TellsCopyFault, TellsNoMend, files_of};
+ghost use Rattle.jri_memory.specs.Resyncs.{IsTooLongFile, LacksResyncRoom, ResyncsFile, TellsNoResync};
 ghost use Rattle.jri_memory.specs.Calls.{DecodesFile, DecodesLines, TellsFault, IsHeaderOf, IsNumberOfSome, LacksLines, LacksRoom, LacksRoomForLines, TellsNoHeader, TellsNoPicture, TellsNoRefusal};
 ghost use Rattle.jri_memory.specs.Rows.{GivesRows, LacksRoomForRow, LacksRows, SkipsRows, TellsFaultSoFar, TellsNoRows, TellsNothing, are_all};
 
 use jri_memory::{
-    Damage, DamageReport, DecodeReport, Header, RowPlace, RowsReport, build_text, check_marks,
-    decode_canvas, decode_file, decode_file_rows, decode_lines, end_text, lay_out, list_damages,
-    read_header, refusal_text, skip_file_rows,
+    Break, ChoiceEntry, Damage, DamageReport, DecodeReport, Header, MendReport, ResyncReport,
+    RowPlace, RowsReport, build_text, check_marks, decode_canvas, decode_file, decode_file_rows,
+    decode_lines, end_text, lay_out, list_damages, mend_files, read_header, refusal_text,
+    resynchronise_file, skip_file_rows,
 };
 use std::alloc::Global;
 
 /// The number of these calls: it is changed where one of them is.
-const VERSION: u32 = 5;
+const VERSION: u32 = 6;
 
 /// The number of these calls.
 #[unsafe(no_mangle)]
 pub extern "C" fn jri_version() -> u32
-    ensures { result ≡ 5 }
+    ensures { result ≡ 6 }
 {
     VERSION
 }
@@ -303,4 +306,62 @@ pub extern "C" fn jri_lay_out(
     ensures few { result ≢ 0 → result ≢ 4 → result ≡ 6 }
 {
     lay_out(lines, width, components, canvas, stride, layout)
+}
+
+/// Writes a damaged file with its restart markers in step into the start of `out`, and as many of its breaks as fit into
+/// that of `breaks`. Returns 0. With 1 if allocation fails, 2 if the file is refused, 4 if `out` is too small, and 8 if
+/// the file would be too long, both are unchanged; with 4 the report has its size.
+#[unsafe(no_mangle)]
+pub extern "C" fn jri_resynchronise(
+    alloc: Global,
+    file: &[u8],
+    out: &mut [u8],
+    breaks: &mut [Break],
+    report: &mut ResyncReport,
+) -> u32
+    ensures done { result ≡ 0 → ResyncsFile file.now out.old out.new breaks.old breaks.new report.new }
+    ensures refused { result ≡ 2 → TellsFault file.now report.new.refusal report.new.detail }
+    ensures memory { result ≡ 1 → report.new.refusal ≡ 19 }
+    ensures room { result ≡ 4 → LacksResyncRoom file.now (length out.old) report.new }
+    ensures long { result ≡ 8 → IsTooLongFile file.now }
+    ensures long_alone { result ≡ 8 → report.new.refusal ≡ 0 }
+    ensures nothing { result ≢ 0 → result ≢ 4 → TellsNoResync report.new }
+    ensures out { result ≢ 0 → out.new ≡ out.old }
+    ensures breaks { result ≢ 0 → breaks.new ≡ breaks.old }
+    ensures few { result ≢ 0 → result ≢ 1 → result ≢ 2 → result ≢ 4 → result ≡ 8 }
+{
+    resynchronise_file(alloc, file, out, breaks, report)
+}
+
+/// Writes the file that is mended from copies of it into the start of `out`, and as many of the choices of its intervals
+/// as fit into that of `choices`. The copies lie one after another in `files`, by their sizes. Returns 0, or 3 if an
+/// interval is damaged in all copies. With 1 if allocation fails, 2 if a copy is refused, 4 if `out` is too small, 8 if
+/// the file would be too long, 9 if there are no such copies, and 10 if a copy has another header than the first, both
+/// are unchanged; with 4 the report has the file's size, with 2 and 10 the copy's number.
+#[unsafe(no_mangle)]
+pub extern "C" fn jri_mend(
+    alloc: Global,
+    files: &[u8],
+    sizes: &[usize],
+    out: &mut [u8],
+    choices: &mut [ChoiceEntry],
+    report: &mut MendReport,
+) -> u32
+    ensures sound { result ≡ 0 → MendsFiles (files_of sizes.now files.now) out.old out.new choices.old choices.new report.new }
+    ensures damaged { result ≡ 3 → MendsFiles (files_of sizes.now files.now) out.old out.new choices.old choices.new report.new }
+    ensures undamaged { result ≡ 0 → report.new.damaged ≡ 0 }
+    ensures some_damaged { result ≡ 3 → 0 < report.new.damaged }
+    ensures refused { result ≡ 2 → TellsCopyFault (files_of sizes.now files.now) report.new }
+    ensures memory { result ≡ 1 → report.new.refusal ≡ 19 }
+    ensures room { result ≡ 4 → LacksMendRoom (files_of sizes.now files.now) (length out.old) report.new }
+    ensures long { result ≡ 8 → IsTooLongMend (files_of sizes.now files.now) }
+    ensures copies { result ≡ 9 → LackCopies sizes.now files.now }
+    ensures header { result ≡ 10 → HasOtherHeader (files_of sizes.now files.now) report.new.copy }
+    ensures no_refusal { 8 ≤ result → report.new.refusal ≡ 0 }
+    ensures nothing { result ≢ 0 → result ≢ 3 → result ≢ 4 → TellsNoMend report.new }
+    ensures out { result ≢ 0 → result ≢ 3 → out.new ≡ out.old }
+    ensures choices { result ≢ 0 → result ≢ 3 → choices.new ≡ choices.old }
+    ensures few { 4 < result → (8 ≤ result) × (result ≤ 10) }
+{
+    mend_files(alloc, files, sizes, out, choices, report)
 }

@@ -3,3 +3,4 @@ pub mod Filled
 pub mod Headers
 pub mod Listing
 pub mod Marks
+pub mod Mending

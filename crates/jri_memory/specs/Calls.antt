@@ -81,12 +81,15 @@ pub record TellsNoHeader (m : Header) : Type 0 where
   pub pixels : m.pixels ≡ 0
 
 -- what ended the scan, as numbers: 0 for what that end has not
+abbrev pub IsScanEnd : ScanEnd → (ended found due at : ℕ) → Type 0
+IsScanEnd EndOfImage ended found due at = (ended ≡ 1) × (found ≡ 0) × (due ≡ 0) × (at ≡ 0)
+IsScanEnd (OtherMarker code offset) ended found due at = (ended ≡ 2) × (found ≡ code) × (due ≡ 0) × (at ≡ offset)
+IsScanEnd (OutOfStep number expected offset) ended found due at = (ended ≡ 3) × (found ≡ number) × (due ≡ expected) × (at ≡ offset)
+IsScanEnd (ExtraRestart offset) ended found due at = (ended ≡ 4) × (found ≡ 0) × (due ≡ 0) × (at ≡ offset)
+IsScanEnd EndOfFile ended found due at = (ended ≡ 5) × (found ≡ 0) × (due ≡ 0) × (at ≡ 0)
+
 abbrev pub TellsScanEnd : ScanEnd → DecodeReport → Type 0
-TellsScanEnd EndOfImage r = (r.ended ≡ 1) × (r.found ≡ 0) × (r.due ≡ 0) × (r.at ≡ 0)
-TellsScanEnd (OtherMarker code at) r = (r.ended ≡ 2) × (r.found ≡ code) × (r.due ≡ 0) × (r.at ≡ at)
-TellsScanEnd (OutOfStep found due at) r = (r.ended ≡ 3) × (r.found ≡ found) × (r.due ≡ due) × (r.at ≡ at)
-TellsScanEnd (ExtraRestart at) r = (r.ended ≡ 4) × (r.found ≡ 0) × (r.due ≡ 0) × (r.at ≡ at)
-TellsScanEnd EndOfFile r = (r.ended ≡ 5) × (r.found ≡ 0) × (r.due ≡ 0) × (r.at ≡ 0)
+TellsScanEnd end r = IsScanEnd end r.ended r.found r.due r.at
 
 -- a report of no refusal
 pub record TellsNoRefusal (r : DecodeReport) : Type 0 where

@@ -3,4 +3,7 @@ pub mod Calls
 pub mod Canvases
 pub mod Checks
 pub mod Damages
+pub mod Filling
+pub mod Mends
+pub mod Resyncs
 pub mod Rows

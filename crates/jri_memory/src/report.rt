@@ -82,7 +82,7 @@ impl DecodeReport {
     }
 
     /// Returns a report of what ended a scan.
-    fn ended(end: ScanEnd) -> DecodeReport
+    pub(crate) fn ended(end: ScanEnd) -> DecodeReport
         ensures end { TellsScanEnd end result }
         ensures no_fault { TellsNoRefusal result }
     {

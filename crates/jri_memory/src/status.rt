@@ -26,3 +26,12 @@ pub const NO_LAYOUT: u32 = 6;
 
 /// The bytes so far end before the header does.
 pub const NEED_MORE: u32 = 7;
+
+/// The file that would be written is longer than a file may be.
+pub const TOO_LONG: u32 = 8;
+
+/// There are no copies, or more than there may be, or they have more bytes than are there.
+pub const NO_COPIES: u32 = 9;
+
+/// A copy has another header than the first.
+pub const OTHER_HEADER: u32 = 10;

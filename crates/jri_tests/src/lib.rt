@@ -21,6 +21,8 @@ mod many;
 #[cfg(test)]
 mod memory;
 #[cfg(test)]
+mod mending;
+#[cfg(test)]
 mod one_byte;
 #[cfg(test)]
 mod parts;

@@ -4,6 +4,7 @@
     for first, part in jri.lines(data, 256): ...
     stream = jri.Stream()                    # for first, pixels in stream.feed(data): ...
     tile = jri.index(data).lines(4096, 256)
+    mended = jri.mend(["one.jpg", "two.jpg"])
 
 Each call releases the interpreter's lock while libjri works, so threads use all processors.
 
@@ -35,7 +36,7 @@ from typing import (
 
 import numpy
 
-from ._library import BUFFER_TOO_SMALL, CALLS, COMPLETE, DAMAGED, LAYOUTS, NO_LINES, NO_MEMORY, OK, REFUSED, SOUND
+from ._library import BUFFER_TOO_SMALL, CALLS, COMPLETE, DAMAGED, LAYOUTS, NO_LINES, NO_MEMORY, OK, REFUSED, SOUND, TOO_LONG
 from ._loaded import ffi, library, refusal_text
 
 if TYPE_CHECKING:
@@ -45,14 +46,17 @@ __version__ = "0.1.0"
 
 __all__ = [
     "MAX_PIXELS",
+    "Break",
     "Damage",
     "DamagedError",
     "Health",
     "Index",
     "Measure",
+    "Mended",
     "Picture",
     "RefusedError",
     "Report",
+    "Resynced",
     "Stream",
     "UnsupportedError",
     "check",
@@ -63,7 +67,9 @@ __all__ = [
     "lines",
     "load_index",
     "measure",
+    "mend",
     "read",
+    "resync",
     "version",
 ]
 
@@ -77,6 +83,9 @@ Ended = Literal["EOI", "marker", "out of step", "extra restart", "end of file"]
 
 #: The most pixels that are decoded where nothing else is said: a head of 150 bytes may claim 268,435,456.
 MAX_PIXELS = 1 << 27
+
+#: The refusal of a file that is too long.
+_TOO_LONG = 18
 
 #: What ended the scan, by the number in `jri_report`.
 _ENDS: Dict[int, Ended] = {1: "EOI", 2: "marker", 3: "out of step", 4: "extra restart", 5: "end of file"}
@@ -260,6 +269,8 @@ def _raise(status: int, number: int, detail: int, name: Optional[str] = None) ->
     """Raises the error for a status without an image, of a file of this name."""
     if status == NO_MEMORY:
         raise MemoryError("out of memory")
+    if status == TOO_LONG:
+        status, number, detail = REFUSED, _TOO_LONG, 0
     if status == REFUSED:
         raise (UnsupportedError if _is_unsupported(number, detail) else RefusedError)(number, detail, name)
     text = {BUFFER_TOO_SMALL: "the buffer is too small", NO_LINES: "the image has no such lines"}[status]
@@ -333,17 +344,25 @@ def measure(source: Source) -> Measure:
 
 
 def read(
-    source: Source, *, out: Optional[Pixels] = None, layout: Optional[Layout] = None, max_pixels: int = MAX_PIXELS
+    source: Source,
+    *,
+    out: Optional[Pixels] = None,
+    layout: Optional[Layout] = None,
+    max_pixels: int = MAX_PIXELS,
+    resync: bool = False,
 ) -> Picture:
     """Returns the picture, sound or damaged, the marks of its intervals and the report.
 
     A layout, "rgb", "bgr", "rgbx" or "bgrx", has three bytes a pixel, or four of which the last is 255; grey is spread
     to three. `out`, if given, is filled. With a layout its lines may have gaps between them. It must not share memory
-    with the source (ValueError).
+    with the source (ValueError). With `resync` the file is resynchronised first, as by `jri.resync`; the report is that
+    of the resynchronised file.
 
     A source that can be written is copied first. A read-only one must not change during the call.
     """
     file = _file(source, out)
+    if resync:
+        file = _in_step(file)
     head = _measured(file)
     _within(head, max_pixels, file.name)
     pixels = _new(_shape(head, layout), file) if out is None else _accept(out, head, layout)
@@ -362,20 +381,30 @@ def decode(
     layout: Optional[Layout] = None,
     allow_damaged: bool = True,
     max_pixels: int = MAX_PIXELS,
+    resync: bool = False,
 ) -> Pixels:
     """Returns the picture's pixels; arguments as for `read`.
 
     With allow_damaged=False a damaged file raises `DamagedError`.
     """
-    picture = read(source, out=out, layout=layout, max_pixels=max_pixels)
+    picture = read(source, out=out, layout=layout, max_pixels=max_pixels, resync=resync)
     if picture.report.damaged and not allow_damaged:
         raise DamagedError(picture, _name_of(source))
     return picture.pixels
 
 
-def check(source: Source) -> Health:
-    """Returns whether a file is sound, damaged or refused; raises no `RefusedError`. Makes no picture."""
-    return _check(_file(source))
+def check(source: Source, *, resync: bool = False) -> Health:
+    """Returns whether a file is sound, damaged or refused; raises no `RefusedError`. Makes no picture.
+
+    With `resync` the file is resynchronised first, as by `jri.resync`.
+    """
+    file = _file(source)
+    if resync:
+        try:
+            file = _in_step(file)
+        except RefusedError as error:
+            return Health("refused", None, error.number, error.detail)
+    return _check(file)
 
 
 def _check(file: _File) -> Health:
@@ -388,15 +417,15 @@ def _check(file: _File) -> Health:
     return Health("damaged" if status == DAMAGED else "sound", _reported(told), None, None)
 
 
-def _checked(path: Path) -> Union[Health, OSError]:
+def _checked(path: Path, resync: bool) -> Union[Health, OSError]:
     try:
-        return check(path)
+        return check(path, resync=resync)
     except OSError as error:
         return error
 
 
 def check_many(
-    paths: Iterable[Path], *, workers: Optional[int] = None
+    paths: Iterable[Path], *, workers: Optional[int] = None, resync: bool = False
 ) -> Iterator[Tuple[Path, Union[Health, OSError]]]:
     """Yields each path with the result of its check, or with the error that reading it raised, in their order.
 
@@ -411,7 +440,7 @@ def check_many(
     with concurrent.futures.ThreadPoolExecutor(threads) as pool:
         due: Deque[Tuple[Path, "concurrent.futures.Future[Union[Health, OSError]]"]] = collections.deque()
         for path in paths:
-            due.append((path, pool.submit(_checked, path)))
+            due.append((path, pool.submit(_checked, path, resync)))
             if len(due) > 2 * threads:
                 first, checked = due.popleft()
                 yield first, checked.result()
@@ -421,4 +450,5 @@ def check_many(
 
 
 # These use what is defined above.
+from .mending import Break, Mended, Resynced, _in_step, mend, resync  # noqa: E402
 from .places import Damage, Index, Stream, damages, index, lines, load_index  # noqa: E402
