@@ -14,7 +14,7 @@ use std::alloc::Global;
 use std::io::Read;
 
 /// Returns the header of a file whose bytes are all there, or its fault.
-fn head_of_bytes(alloc: Global, file: &[u8]) -> Result<Head, Fault>
+pub(crate) fn head_of_bytes(alloc: Global, file: &[u8]) -> Result<Head, Fault>
     ensures head { IfOk result (HeadOf file.now) }
     ensures fault { IfErr result (IsFaultOf file.now) }
 {

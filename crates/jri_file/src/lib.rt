@@ -8,9 +8,11 @@ mod reading;
 mod report;
 mod scanning;
 mod status;
+mod whole;
 
 pub use heading::read_file_head;
 pub use incoming::read_scan;
 pub use laws::{each_accepted_file_has_a_picture, each_scan_has_a_picture, one_text};
 pub use report::{Fault, Report};
 pub use scanning::scan_of_file;
+pub use whole::read_file;
