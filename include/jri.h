@@ -357,7 +357,7 @@ uint32_t jri_lay_out(const uint8_t *lines, size_t lines_length, uint32_t width, 
  * list of the breaks.
  *
  * The bytes of a scan fall into intervals by the numbers of its restart markers, which count modulo 8. A marker is at
- * most two intervals further ahead than the bytes before it hold on average; if its number allows none, it is passed
+ * most one interval further ahead than the bytes before it hold on average; if its number allows none, it is passed
  * over (docs/ARCHIVES.md).
  *
  * Proved: with JRI_OK the first report->size bytes of `out` are the resynchronised file, and bytes after them are
