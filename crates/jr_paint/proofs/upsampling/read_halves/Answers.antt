@@ -1,7 +1,7 @@
-use Rattle.std.proofs.Common.{◌≡◌, ℕ, ◌*◌, ◌/◌, ◌<◌, ◌≤◌, refl, sym, ap, ap₂, subst, ◌∙◌, arith}
+use Rattle.std.proofs.Common.{◌≡◌, ℕ, ◌*◌, ◌/◌, ◌<◌, ◌≤◌, refl, sym, ap, ap₂, subst, ◌∙◌, arith, rules}
 use Rattle.jr_head.specs.HeadValue.{HeadValue}
 use Rattle.jr_head.specs.Geometry.{IsLawful, component_count, components_of, horizontal_of, horizontal_max, vertical_of, vertical_max}
-use Rattle.jr_paint.specs.Geometry.{samples_across, samples_down}
+use Rattle.jr_paint.specs.Geometry.{samples_across}
 use Rattle.jr_paint.specs.Shades.{HalvesChroma, IsHalved}
 use Rattle.jr_paint.specs.Text.{value_at}
 use Rattle.jr_paint.proofs.Factors.{scaled, sampled_at}
@@ -37,9 +37,6 @@ line-cb-requires-clause-component g c = chroma (g.S.Samples.head_of c.args.sampl
 pub line-cb-requires-clause-columns : goal.line-cb-requires-clause-columns
 line-cb-requires-clause-columns g c = subst (λ (h : HeadValue). c.half_count-count.result ≤ samples_across h 1) c.head-head.ensures.value c.half_count-count.ensures.inside_b
 
-pub line-cb-requires-clause-line : goal.line-cb-requires-clause-line
-line-cb-requires-clause-line g c = subst (λ (h : HeadValue). c.sample_line.result < samples_down h 1) c.head-head.ensures.value c.sample_line.ensures.inside
-
 pub line-cb-requires-clause-room : goal.line-cb-requires-clause-room
 line-cb-requires-clause-room g c =
     let few = subst (λ (h : HeadValue). c.half_count-count.result ≤ h.width) c.head-head.ensures.value c.half_count-count.ensures.few in
@@ -56,9 +53,6 @@ line-cr-requires-clause-component g c = chroma (g.S.Samples.head_of c.args.sampl
 
 pub line-cr-requires-clause-columns : goal.line-cr-requires-clause-columns
 line-cr-requires-clause-columns g c = subst (λ (h : HeadValue). c.half_count-count.result ≤ samples_across h 2) c.head-head.ensures.value c.half_count-count.ensures.inside_c
-
-pub line-cr-requires-clause-line : goal.line-cr-requires-clause-line
-line-cr-requires-clause-line g c = subst (λ (h : HeadValue). c.sample_line-2.result < samples_down h 2) c.head-head.ensures.value c.sample_line-2.ensures.inside
 
 pub line-cr-requires-clause-room : goal.line-cr-requires-clause-room
 line-cr-requires-clause-room g c =
@@ -77,7 +71,8 @@ pub returns-clause-second : goal.returns-clause-second
 returns-clause-second g c k l =
     let h = g.S.Samples.head_of c.args.samples.now in
     let lawful = subst IsLawful c.head-head.ensures.value c.head-head.ensures.lawful in
-    let line = subst (λ (x : HeadValue). c.sample_line.result ≡ c.args.y * vertical_of x 1 / vertical_max x) c.head-head.ensures.value c.sample_line.ensures.value in
+    let told = rw c.head-head.ensures.value at c.sample_line.ensures.value in
+    let line : c.sample_line.result ≡ c.args.y * vertical_of h 1 / vertical_max h = search (rules, told) in
     let enough = subst (λ (x : HeadValue). x.width ≤ 2 * c.half_count-count.result) c.head-head.ensures.value c.half_count-count.ensures.enough in
     let near = half_of k c.half_count-count.result h.width c.half_count-count.result l enough refl in
     c.line-cb.ensures.samples (k / 2) near ∙ halved h (g.S.Samples.shown c.args.samples.now) 1 c.args.y c.sample_line.result lawful (chroma h 1 lawful c.requires.halves (omega arith)) c.requires.halves.half_b line k
@@ -86,7 +81,8 @@ pub returns-clause-third : goal.returns-clause-third
 returns-clause-third g c k l =
     let h = g.S.Samples.head_of c.args.samples.now in
     let lawful = subst IsLawful c.head-head.ensures.value c.head-head.ensures.lawful in
-    let line = subst (λ (x : HeadValue). c.sample_line-2.result ≡ c.args.y * vertical_of x 2 / vertical_max x) c.head-head.ensures.value c.sample_line-2.ensures.value in
+    let told = rw c.head-head.ensures.value at c.sample_line-2.ensures.value in
+    let line : c.sample_line-2.result ≡ c.args.y * vertical_of h 2 / vertical_max h = search (rules, told) in
     let enough = subst (λ (x : HeadValue). x.width ≤ 2 * c.half_count-count.result) c.head-head.ensures.value c.half_count-count.ensures.enough in
     let near = half_of k c.half_count-count.result h.width c.half_count-count.result l enough refl in
     c.line-cr.ensures.samples (k / 2) near ∙ halved h (g.S.Samples.shown c.args.samples.now) 2 c.args.y c.sample_line-2.result lawful (chroma h 2 lawful c.requires.halves (omega arith)) c.requires.halves.half_c line k

@@ -1,4 +1,4 @@
-use Rattle.std.proofs.Common.{ℕ, ◌≤◌, length, map, subst, sym, arith}
+use Rattle.std.proofs.Common.{ℕ, ◌≤◌, length, map, subst, sym, arith, rules}
 use Rattle.std.proofs.lemmas.List.{length-map}
 use Rattle.jr_cut.specs.Spans.{segment_data}
 use Rattle.jr_scan.specs.ImageEnd.{IsImageEndIn}
@@ -18,7 +18,8 @@ returns-clause-image_end c = λ file is.
     let p = c.in_ok-cut.cut.segments in
     let place = c.in_ok-cut.cut.image_end in
     let segments = map (segment_data p.unstuffed.items) p.spans.items in
-    subst (λ (s : ScanValue). IsImageEndIn file s place) (sym c.in_ok-scan.ensures) (is_image_end c.args.head file c.args.scan.rest segments _ _ p.ended place c.intervals.ensures.value c.scan_at.ensures.value is c.in_ok-cut.ensures.image_end)
+    let told = subst (λ (s : ScanValue). IsImageEndIn file s place) (sym c.in_ok-scan.ensures) (is_image_end c.args.head file c.args.scan.rest segments _ _ p.ended place c.intervals.ensures.value c.scan_at.ensures.value is c.in_ok-cut.ensures.image_end) in
+    search (rules, told)
 
 pub of_segments-requires-clause-count : goal.of_segments-requires-clause-count
 of_segments-requires-clause-count c =
