@@ -1,6 +1,5 @@
 //! Markers of copies that are out of step, in lines and objects.
 
-use jr_base::marker::RST0;
 use jr_mend::Break;
 use std::fmt;
 use std::fmt::{Display, Formatter};
@@ -14,33 +13,12 @@ pub(crate) struct CopyBreak {
 }
 
 impl Display for CopyBreak {
-    /// Writes which marker is where another is due, and whether it is passed over. Copies are counted from 1.
+    /// Writes the copy, counted from 1, and the break.
     fn fmt<W: fmt::Write>(&self, f: &mut Formatter<W>) -> fmt::Result {
-        let Break {
-            at,
-            code,
-            due,
-            skipped,
-        } = self.found;
         let copy = self.copy as u64;
         let copy = copy.saturating_add(1);
-        if (RST0..RST0 + 8).contains(&code) {
-            let number = code - RST0;
-            write!(
-                f,
-                "copy {copy}: RST{number}, byte {at}, where RST{due} was due: "
-            )?;
-        } else {
-            write!(
-                f,
-                "copy {copy}: marker {code:02X}, byte {at}, where RST{due} was due: "
-            )?;
-        }
-        if skipped == 0 {
-            f.write_str("passed over")
-        } else {
-            write!(f, "{skipped} lost")
-        }
+        let found = self.found;
+        write!(f, "copy {copy}: {found}")
     }
 }
 
