@@ -39,7 +39,7 @@ _jri() {
             -o | --output | --output-dir) return ;;
         esac
         case $word in
-            -*) compopt +o default; mapfile -t COMPREPLY < <(compgen -W '--workers --first --output --output-dir --info --json --force --quiet --verbose --help --version' -- "$word"); return ;;
+            -*) compopt +o default; mapfile -t COMPREPLY < <(compgen -W '--workers --first --resync --output --output-dir --info --json --force --quiet --verbose --help --version' -- "$word"); return ;;
         esac
     fi
     _jri_names "$word"

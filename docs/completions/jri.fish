@@ -1,6 +1,7 @@
 # Completes the words of jri in fish: its options; fish itself completes the file.
 complete -c jri -l workers -x -a '1 2 4 8 16 32 64' -d 'Number of decoding threads, 1 to 64'
 complete -c jri -l first -x -d 'Decode only the first K restart intervals'
+complete -c jri -l resync -d 'Read past restart markers that are out of step'
 complete -c jri -s o -l output -r -d 'Write the image to this file'
 complete -c jri -l output-dir -x -a '(__fish_complete_directories)' -d 'Write the image of each file to this directory'
 complete -c jri -l info -d 'Print what the headers of files say'

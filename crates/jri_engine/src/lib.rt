@@ -6,6 +6,7 @@ mod ended;
 mod engine;
 mod headers;
 mod many;
+mod resync;
 mod running;
 
 pub use ended::Ended;
@@ -13,8 +14,9 @@ pub use engine::run;
 pub use headers::program_for_headers;
 pub use jri_file::{Fault, Report, one_text, scan_of_file};
 pub use jri_words::{
-    Asked, DescribeRequest, Destination, Devices, ManyRequest, Mode, Target, Telling, Unasked,
-    asked, describe_request, finish, many_request,
+    Asked, DecodeRequest, DescribeRequest, Destination, Devices, ManyRequest, Mode, Target,
+    Telling, Unasked, asked, decode_request, describe_request, finish, many_request,
 };
 pub use many::program_for_many;
+pub use resync::{ResyncReport, run_resynced};
 pub use running::program;

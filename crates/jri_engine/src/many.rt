@@ -8,10 +8,11 @@ ghost use Rattle.jri_words.specs.Steps.{DecodesEach, Follow, IsInDirectory, Leav
 use crate::ended::Ended;
 use crate::running::{Decoding, decode_to_part};
 use jr_base::Tally;
+use jr_mend::Break;
 use jri_file::Fault;
 use jri_words::{
     Destination, Devices, Ending, ManyRequest, Names, Telling, Unasked, answer, image_name, tell,
-    unwritten,
+    tell_breaks, unwritten,
 };
 use std::alloc::Global;
 use std::io::{Error, ErrorKind, Write};
@@ -41,6 +42,7 @@ fn decode_into_new<T: Threads + Wait + Sync, D: Devices>(
     decoding: Decoding,
     file: &str,
     image: &str,
+    breaks: &mut Vec<Break>,
 ) -> Ending
     requires some { 1 ≤ decoding.workers }
     requires few { decoding.workers ≤ MAX_WORKERS }
@@ -50,7 +52,7 @@ fn decode_into_new<T: Threads + Wait + Sync, D: Devices>(
         return unwritten(Error::from(ErrorKind::AlreadyExists));
     }
     match devices.open(file) {
-        Ok(source) => decode_to_part(rt, alloc, devices, decoding, source, image),
+        Ok(source) => decode_to_part(rt, alloc, devices, decoding, source, image, breaks),
         Err(error) => Ending {
             outcome: Err(Fault::NoFile),
             reason: Some(error),
@@ -78,6 +80,7 @@ fn decode_one<T: Threads + Wait + Sync, D: Devices, E: Write>(
     let decoding = Decoding {
         workers: request.workers,
         first: request.first,
+        is_resync: request.is_resync,
     };
     let Ok(image) = image_name(alloc, request.directory.as_str(), file) else {
         let ending = Ending {
@@ -94,16 +97,22 @@ fn decode_one<T: Threads + Wait + Sync, D: Devices, E: Write>(
             errors,
         );
     };
-    let ending = decode_into_new(rt, alloc, devices, decoding, file, image.as_str());
-    tell(
-        &ending,
-        &Names {
-            source: file,
-            target: image.as_str(),
-        },
-        telling,
-        errors,
-    )
+    let names = Names {
+        source: file,
+        target: image.as_str(),
+    };
+    let mut breaks = Vec::new(alloc);
+    let ending = decode_into_new(
+        rt,
+        alloc,
+        devices,
+        decoding,
+        file,
+        names.target,
+        &mut breaks,
+    );
+    tell_breaks(&breaks, &ending, &names, telling, errors);
+    tell(&ending, &names, telling, errors)
 }
 
 /// Decodes each file that a request names, and reports on each. Returns the exit status of all.

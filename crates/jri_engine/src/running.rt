@@ -1,19 +1,22 @@
 //! What the program does with its words.
 
-ghost use Rattle.std.specs.Prelude.{◌≡◌, ◌≤◌, IfOk, is_ok, map};
+ghost use Rattle.std.specs.Prelude.{◌≡◌, ◌≤◌, IfOk, false, is_ok, map};
 ghost use Rattle.std.specs.String.{string_bytes};
 ghost use Rattle.jr_base.specs.declared.limits.TheConstants.{MAX_WORKERS};
+ghost use Rattle.jr_base.specs.Tally.{has_failed};
 ghost use Rattle.jri_words.specs.CommandLine.{IsTargetOf};
 ghost use Rattle.jri_words.specs.Steps.{LeavesFile, LeavesNamed, is_picture_status};
 
 use crate::ended::Ended;
 use crate::engine::run;
+use crate::resync::run_resynced;
 use jr_base::Tally;
+use jr_mend::Break;
 use jr_wall::OpenGate;
-use jri_file::Fault;
+use jri_file::{Fault, Report};
 use jri_words::{
-    Asked, Destination, Devices, Ending, Names, Noted, Target, answer, flushed, make_part, opened,
-    place, tell, understood, unwritten, warn_of_name,
+    DecodeRequest, Destination, Devices, Ending, Names, Noted, Target, answer, flushed, make_part,
+    opened, place, tell, tell_breaks, understood, unwritten, warn_of_name,
 };
 use std::alloc::Global;
 use std::io::{Read, Result as IoResult, Write};
@@ -27,41 +30,63 @@ pub(crate) struct Decoding {
     pub(crate) workers: u32,
     /// The number of intervals that are decoded, from the first on; all if it is `None`.
     pub(crate) first: Option<u32>,
+    /// Whether the file is read past restart markers that are out of step.
+    pub(crate) is_resync: bool,
 }
 
 /// Returns how the arguments ask for a file to be decoded.
-fn decoding_of(asked: &Asked) -> Decoding
-    ensures { result.workers ≡ asked.now.workers }
+fn decoding_of(request: &DecodeRequest) -> Decoding
+    ensures { result.workers ≡ request.now.asked.workers }
 {
     Decoding {
-        workers: asked.workers,
-        first: asked.first,
+        workers: request.asked.workers,
+        first: request.asked.first,
+        is_resync: request.is_resync,
     }
 }
 
-/// Decodes a source into an output, which is flushed and dropped.
+/// Decodes an input into an output. If the file is resynchronised and its image is written, its breaks are stored.
+fn run_decoding<T: Threads + Wait + Sync, R: Read, W: Write>(
+    rt: &T,
+    alloc: Global,
+    decoding: Decoding,
+    input: &mut Tally<R>,
+    out: &mut Tally<W>,
+    breaks: &mut Vec<Break>,
+) -> Result<Report, Fault>
+    requires input { has_failed input.old ≡ false }
+    requires output { has_failed out.old ≡ false }
+    requires some { 1 ≤ decoding.workers }
+    requires few { decoding.workers ≤ MAX_WORKERS }
+{
+    let Decoding {
+        workers,
+        first,
+        is_resync,
+    } = decoding;
+    if !is_resync {
+        return run(rt, alloc, input, out, workers, first, &OpenGate);
+    }
+    let resynced = run_resynced(rt, alloc, input, out, workers, first, &OpenGate)?;
+    *breaks = resynced.breaks;
+    Ok(resynced.report)
+}
+
+/// Decodes a source into an output, which is flushed and dropped. The breaks of a resynchronised file are stored.
 fn decode<T: Threads + Wait + Sync, R: Read + Drop, W: Write + Drop>(
     rt: &T,
     alloc: Global,
     decoding: Decoding,
     source: R,
     out: W,
+    breaks: &mut Vec<Break>,
 ) -> Ending
     requires some { 1 ≤ decoding.workers }
     requires few { decoding.workers ≤ MAX_WORKERS }
 {
     let mut input = Tally::of(Noted::of(source));
     let mut output = Tally::of(Noted::of(out));
-    let Decoding { workers, first } = decoding;
-    let outcome = run(
-        rt,
-        alloc,
-        &mut input,
-        &mut output,
-        workers,
-        first,
-        &OpenGate,
-    );
+    let outcome = run_decoding(rt, alloc, decoding, &mut input, &mut output, breaks);
     let outcome = flushed(outcome, &mut output);
     let reason = match outcome {
         Err(Fault::Read) => input.into_inner().reason(),
@@ -79,6 +104,7 @@ pub(crate) fn decode_to_part<T: Threads + Wait + Sync, D: Devices, R: Read + Dro
     decoding: Decoding,
     source: R,
     name: &str,
+    breaks: &mut Vec<Break>,
 ) -> Ending
     requires some { 1 ≤ decoding.workers }
     requires few { decoding.workers ≤ MAX_WORKERS }
@@ -88,7 +114,7 @@ pub(crate) fn decode_to_part<T: Threads + Wait + Sync, D: Devices, R: Read + Dro
         Ok(part) => part,
         Err(ending) => return ending,
     };
-    let ending = decode(rt, alloc, decoding, source, part.file);
+    let ending = decode(rt, alloc, decoding, source, part.file, breaks);
     place(devices, ending, part.name.as_str(), name)
 }
 
@@ -97,22 +123,31 @@ fn decode_to_file<T: Threads + Wait + Sync, D: Devices, R: Read + Drop>(
     rt: &T,
     alloc: Global,
     devices: &mut D,
-    asked: &Asked,
+    request: &DecodeRequest,
     source: R,
     name: &str,
+    breaks: &mut Vec<Break>,
 ) -> Ending
-    requires some { 1 ≤ asked.now.workers }
-    requires few { asked.now.workers ≤ MAX_WORKERS }
+    requires some { 1 ≤ request.now.asked.workers }
+    requires few { request.now.asked.workers ≤ MAX_WORKERS }
     ensures { LeavesFile (D.are_devices devices.old) name.now (D.steps devices.old) (D.steps devices.new) (is_ok result.outcome) }
 {
-    let file = asked.file.as_ref().map(|file| file.as_str());
+    let file = request.asked.file.as_ref().map(|file| file.as_str());
     if let Destination::WrittenInto = devices.destination(name, file) {
         return match devices.open_device(name) {
-            Ok(device) => decode(rt, alloc, decoding_of(asked), source, device),
+            Ok(device) => decode(rt, alloc, decoding_of(request), source, device, breaks),
             Err(error) => unwritten(error),
         };
     }
-    decode_to_part(rt, alloc, devices, decoding_of(asked), source, name)
+    decode_to_part(
+        rt,
+        alloc,
+        devices,
+        decoding_of(request),
+        source,
+        name,
+        breaks,
+    )
 }
 
 /// Does what the program's arguments ask for on these devices, and reports it. The status is 0, or 3 if an interval is
@@ -126,27 +161,39 @@ pub fn program<T: Threads + Wait + Sync, D: Devices, E: Write>(
 ) -> Ended
     ensures { LeavesNamed (D.are_devices devices.old) (λ target. IfOk words (λ given. IsTargetOf (map string_bytes given.items) target)) (D.steps devices.old) (D.steps devices.new) (is_picture_status result.status) }
 {
-    let asked = match understood(alloc, devices, words) {
-        Ok(asked) => asked,
+    let request = match understood(alloc, devices, words) {
+        Ok(request) => request,
         Err(unasked) => {
             let status = answer(&mut Tally::of(devices.output()), errors, &unasked);
             return Ended { status };
         }
     };
-    warn_of_name(&asked, errors);
-    let ending = match opened(devices, &asked, errors) {
+    let asked = &request.asked;
+    warn_of_name(asked, errors);
+    let mut breaks = Vec::new(alloc);
+    let ending = match opened(devices, asked, errors) {
         Ok(source) => match &asked.target {
             Target::Output | Target::AnyOutput => {
                 let out = devices.output();
-                decode(rt, alloc, decoding_of(&asked), source, out)
+                decode(rt, alloc, decoding_of(&request), source, out, &mut breaks)
             }
-            Target::File(name) => decode_to_file(rt, alloc, devices, &asked, source, name.as_str()),
+            Target::File(name) => decode_to_file(
+                rt,
+                alloc,
+                devices,
+                &request,
+                source,
+                name.as_str(),
+                &mut breaks,
+            ),
         },
         Err(error) => Ending {
             outcome: Err(Fault::NoFile),
             reason: Some(error),
         },
     };
-    let status = tell(&ending, &Names::of(&asked), asked.telling, errors);
+    let names = Names::of(asked);
+    tell_breaks(&breaks, &ending, &names, asked.telling, errors);
+    let status = tell(&ending, &names, asked.telling, errors);
     Ended { status }
 }

@@ -29,6 +29,8 @@ mod parts;
 #[cfg(test)]
 mod program;
 #[cfg(test)]
+mod resync;
+#[cfg(test)]
 mod rows;
 #[cfg(test)]
 mod speculation;

@@ -11,10 +11,11 @@ use std::thread::Threads;
 use test_files::files::{COLOURED, file};
 use test_files::pictures::picture;
 
-/// The files of the machine: one interval of one data unit; two, of which the second is damaged; three components; the
-/// luminance table of T.81, K.1.
-const FILES: [(&str, &str); 4] = [
+/// The files of the machine: one interval of one data unit; two, with another marker before the restart marker; two, of
+/// which the second is damaged; three components; the luminance table of T.81, K.1.
+const FILES: [(&str, &str); 5] = [
     ("sound.jpg", "G 63 E"),
+    ("marker.jpg", "GI 63 FF C4 63 FF D0 63 E"),
     ("a/damaged.JPEG", "GI 63 FF D0 E0 E"),
     ("coloured", COLOURED),
     (
@@ -69,7 +70,17 @@ type Run = (
 const SOUND: (&str, &str) = ("out/sound.pnm", "P5 8 8 : 8*136");
 
 /// Each row is one run on a new machine.
-const RUNS: [Run; 9] = [
+const RUNS: [Run; 10] = [
+    (
+        "--output-dir out --resync marker.jpg sound.jpg",
+        Some(
+            "marker C4, byte 147, where RST0 was due: passed over: marker.jpg\n\
+            intervals 2 sound 2 damaged 0 blank 0: marker.jpg\nscan ended at EOI: marker.jpg\n\
+            intervals 1 sound 1 damaged 0 blank 0: sound.jpg\nscan ended at EOI: sound.jpg\n",
+        ),
+        0,
+        &[SOUND, ("out/marker.pnm", "P5 16 8 : 16*136")],
+    ),
     (
         "--output-dir out sound.jpg a/damaged.JPEG",
         Some(

@@ -1,6 +1,6 @@
 //! Words of a command line, through `asked`.
 
-use jri_engine::{Asked, Target, Telling, Unasked, asked};
+use jri_engine::{Asked, Target, Telling, Unasked, asked, decode_request};
 use std::alloc::Global;
 use std::test::Fail;
 
@@ -109,7 +109,25 @@ fn asks_for_an_output(rt: HostRuntime) -> Result<(), Fail> {
     Ok(())
 }
 
-const WRONG: [&str; 11] = [
+/// Lines, and whether the file is resynchronised.
+const RESYNC: [(&str, bool); 3] = [
+    ("", false),
+    ("--resync", true),
+    ("--quiet --resync photo.jpg", true),
+];
+
+#[test]
+fn asks_for_a_resynchronisation(rt: HostRuntime) -> Result<(), Fail> {
+    for (line, is_resync) in &RESYNC {
+        let words = words_of(rt.alloc(), line)?;
+        let request = decode_request(rt.alloc(), &words).ok();
+        let request = request.ok_or("words that are refused")?;
+        assert!(rt; request.is_resync == *is_resync, "{line}");
+    }
+    Ok(())
+}
+
+const WRONG: [&str; 13] = [
     "--workers 0",
     "--workers 65",
     "--workers x",
@@ -118,6 +136,8 @@ const WRONG: [&str; 11] = [
     "--first 4294967296",
     "--first x",
     "--nothing",
+    "--resync=yes",
+    "--resync --resync",
     "one two",
     "-o",
     "-o one -o two",

@@ -35,7 +35,7 @@ abbrev pub empty_app : App
 empty_app = record plain_app { top = record plain_app.top { no_binary_name = true; has_version = true } }
 
 abbrev pub decoding_app : App → App
-decoding_app a = with_rule (with_rule (with_rule a workers_rule) first_rule) file_rule
+decoding_app a = with_rule (with_rule (with_rule (with_rule a workers_rule) first_rule) (flag_rule (codes "resync"))) file_rule
 
 abbrev pub writing_app : App → App
 writing_app a = with_rule (with_rule (with_rule (with_rule a output_rule) (flag_rule (codes "force"))) (flag_rule (codes "quiet"))) (flag_rule (codes "verbose"))

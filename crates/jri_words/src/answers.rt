@@ -20,6 +20,14 @@ pub struct Asked {
     pub telling: Telling,
 }
 
+/// A request for one decoding, of a file as it is or resynchronised.
+#[derive(Drop)]
+pub struct DecodeRequest {
+    pub asked: Asked,
+    /// Whether the file is read past restart markers that are out of step.
+    pub is_resync: bool,
+}
+
 /// The destination of an image.
 #[derive(Drop)]
 pub enum Target {

@@ -6,7 +6,7 @@ ghost use Rattle.clap.specs.Words.{app_of, first_value, found_of, one_text, rule
 ghost use Rattle.jr_base.specs.declared.limits.TheConstants.{MAX_WORKERS};
 ghost use Rattle.jri_words.specs.CommandLine.{IsFlag, IsTarget, IsTargetOf, decoding_app, file_named, file_rule, first_rule, flag_rule, jri, output_rule, reading, option_value, workers_rule, writing_app};
 
-use crate::answers::{Asked, Target, Telling, Unasked};
+use crate::answers::{Asked, DecodeRequest, Target, Telling, Unasked};
 use crate::help::{ABOUT, AFTER_HELP};
 use clap::error::ErrorKind;
 use clap::{Arg, ArgAction, ArgMatches, Command, Error, value_parser};
@@ -39,6 +39,18 @@ pub(crate) fn first_word<'a>(alloc: Global) -> Arg<'a>
         .value_name("K")
         .help("Decode only the first K restart intervals")
         .value_parser(value_parser!(u32))
+}
+
+/// `--resync`.
+pub(crate) fn resync_word<'a>(alloc: Global) -> Arg<'a>
+    ensures rule { rule_of result ≡ flag_rule (codes "resync") }
+    ensures local { result.global ≡ false }
+{
+    flag_word(
+        alloc,
+        "resync",
+        "Read past restart markers that are out of step",
+    )
 }
 
 /// `FILE`.
@@ -83,6 +95,7 @@ fn with_decoding_words<'a>(alloc: Global, command: Command<'a>) -> Result<Comman
     command
         .arg(workers_word(alloc))?
         .arg(first_word(alloc))?
+        .arg(resync_word(alloc))?
         .arg(file_word(alloc))
 }
 
@@ -101,7 +114,7 @@ fn with_writing_words<'a>(alloc: Global, command: Command<'a>) -> Result<Command
         ))
 }
 
-/// `jri [--workers N] [--first K] [-o PICTURE] [--force] [--quiet] [--verbose] [FILE]`.
+/// `jri [--workers N] [--first K] [--resync] [-o PICTURE] [--force] [--quiet] [--verbose] [FILE]`.
 fn command<'a>(alloc: Global) -> Result<Command<'a>, AllocError>
     ensures { IfOk result (λ c. app_of c ≡ jri) }
 {
@@ -177,16 +190,17 @@ fn telling_of(matches: &ArgMatches) -> Telling
     }
 }
 
-/// Returns what the arguments after the program's name ask for: `--workers` from 1 to 64, 4 by default; `--first`; at
-/// most one file; and the arguments of the output and of the report. `Unasked` has the text to print if they ask for
-/// help or the version or are wrong.
-pub fn asked<'a>(alloc: Global, words: &'a [String]) -> Result<Asked, Unasked>
-    ensures some { IfOk result (λ a. 1 ≤ a.workers) }
-    ensures few { IfOk result (λ a. a.workers ≤ MAX_WORKERS) }
-    ensures file { IfOk result (λ a. option_map string_bytes a.file ≡ file_named (option_value (codes "file") (map string_bytes words.now))) }
-    ensures target { IfOk result (λ a. IsTargetOf (map string_bytes words.now) a.target) }
-    ensures quiet { IfOk result (λ a. IsFlag (reading (codes "quiet") (map string_bytes words.now)) a.telling.is_quiet) }
-    ensures verbose { IfOk result (λ a. IsFlag (reading (codes "verbose") (map string_bytes words.now)) a.telling.is_verbose) }
+/// Returns what the arguments after the program's name ask for: `--workers` from 1 to 64, 4 by default; `--first`;
+/// `--resync`; at most one file; and the arguments of the output and of the report. `Unasked` has the text to print if
+/// they ask for help or the version or are wrong.
+pub fn decode_request(alloc: Global, words: &[String]) -> Result<DecodeRequest, Unasked>
+    ensures some { IfOk result (λ r. 1 ≤ r.asked.workers) }
+    ensures few { IfOk result (λ r. r.asked.workers ≤ MAX_WORKERS) }
+    ensures file { IfOk result (λ r. option_map string_bytes r.asked.file ≡ file_named (option_value (codes "file") (map string_bytes words.now))) }
+    ensures target { IfOk result (λ r. IsTargetOf (map string_bytes words.now) r.asked.target) }
+    ensures quiet { IfOk result (λ r. IsFlag (reading (codes "quiet") (map string_bytes words.now)) r.asked.telling.is_quiet) }
+    ensures verbose { IfOk result (λ r. IsFlag (reading (codes "verbose") (map string_bytes words.now)) r.asked.telling.is_verbose) }
+    ensures resync { IfOk result (λ r. IsFlag (reading (codes "resync") (map string_bytes words.now)) r.is_resync) }
 {
     let matches = match command(alloc)?.try_get_matches_from(words) {
         Ok(matches) => matches,
@@ -195,15 +209,31 @@ pub fn asked<'a>(alloc: Global, words: &'a [String]) -> Result<Asked, Unasked>
     let file = file_of(alloc, &matches)?;
     let target = target_of(alloc, &matches)?;
     let telling = telling_of(&matches);
+    let is_resync = matches.get_flag("resync");
     match matches.get_one::<u32>("workers") {
         // the range of the argument's values, which the parser's contract does not repeat
-        Some(workers) if (1..=MAX_WORKERS).contains(&workers) => Ok(Asked {
-            workers,
-            first: matches.get_one::<u32>("first"),
-            file,
-            target,
-            telling,
+        Some(workers) if (1..=MAX_WORKERS).contains(&workers) => Ok(DecodeRequest {
+            asked: Asked {
+                workers,
+                first: matches.get_one::<u32>("first"),
+                file,
+                target,
+                telling,
+            },
+            is_resync,
         }),
         _ => Err(Unasked::Wrong(String::new(alloc))),
     }
+}
+
+/// Returns what the arguments after the program's name ask for, without `--resync`: see `decode_request`.
+pub fn asked<'a>(alloc: Global, words: &'a [String]) -> Result<Asked, Unasked>
+    ensures some { IfOk result (λ a. 1 ≤ a.workers) }
+    ensures few { IfOk result (λ a. a.workers ≤ MAX_WORKERS) }
+    ensures file { IfOk result (λ a. option_map string_bytes a.file ≡ file_named (option_value (codes "file") (map string_bytes words.now))) }
+    ensures target { IfOk result (λ a. IsTargetOf (map string_bytes words.now) a.target) }
+    ensures quiet { IfOk result (λ a. IsFlag (reading (codes "quiet") (map string_bytes words.now)) a.telling.is_quiet) }
+    ensures verbose { IfOk result (λ a. IsFlag (reading (codes "verbose") (map string_bytes words.now)) a.telling.is_verbose) }
+{
+    Ok(decode_request(alloc, words)?.asked)
 }

@@ -9,7 +9,9 @@ The image goes to standard output, as PGM if it is grey and as PPM if it has thr
 components. A report goes to standard error: how many restart intervals are sound,
 damaged and blank, and what ended the scan. A damaged interval shows what can be
 decoded from its start, then grey. A blank one is black. The image of a sound file
-is that of `djpeg -dct int -nosmooth`, byte for byte.
+is that of `djpeg -dct int -nosmooth`, byte for byte. With --resync the file is read
+past restart markers that are out of step, as after lost bytes; the report has a
+line for each.
 
 Exit status:
   0  image written, no interval damaged
@@ -19,7 +21,7 @@ Exit status:
   3  image written, an interval is damaged
 
 Many files, and headers alone:
-  jri --output-dir DIR [--workers N] [--first K] [--quiet] FILE..
+  jri --output-dir DIR [--workers N] [--first K] [--resync] [--quiet] FILE..
   jri --info [--json] FILE..
 
 PICTURE is replaced only on status 0 or 3. A file named - is ./- here. If a name

@@ -16,8 +16,8 @@ mod placing;
 mod quality;
 mod telling;
 
-pub use answers::{Asked, Target, Telling, Unasked};
-pub use asking::asked;
+pub use answers::{Asked, DecodeRequest, Target, Telling, Unasked};
+pub use asking::{asked, decode_request};
 pub use describing::{DescribeRequest, describe_request};
 pub use devices::{Destination, Devices, Noted, Source};
 pub use finishing::{finish, flushed};
@@ -27,4 +27,4 @@ pub use modes::Mode;
 pub use opening::{answer, opened, understood, warn_of_name};
 pub use placing::{Part, make_part, place, unwritten};
 pub use quality::quality_of;
-pub use telling::{Ending, Names, tell};
+pub use telling::{Ending, Names, tell, tell_breaks};

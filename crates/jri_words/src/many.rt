@@ -6,7 +6,7 @@ ghost use Rattle.jr_base.specs.declared.limits.TheConstants.{MAX_WORKERS};
 ghost use Rattle.jri_words.specs.Steps.{IsInDirectory};
 
 use crate::answers::Unasked;
-use crate::asking::{first_word, flag_word, refusal, strings_of, workers_word};
+use crate::asking::{first_word, flag_word, refusal, resync_word, strings_of, workers_word};
 use crate::describing::files_word;
 use crate::opening::wrong;
 use clap::{Arg, ArgAction, ArgMatches, Command};
@@ -21,6 +21,8 @@ pub struct ManyRequest {
     pub workers: u32,
     /// The number of intervals that are decoded of each file, from the first on; all if it is `None`.
     pub first: Option<u32>,
+    /// Whether each file is read past restart markers that are out of step.
+    pub is_resync: bool,
     /// Whether the reports are left out.
     pub is_quiet: bool,
     /// The directory of the images.
@@ -39,7 +41,7 @@ fn directory_word<'a>(alloc: Global) -> Arg<'a> {
         .required(true)
 }
 
-/// `jri --output-dir DIR [--workers N] [--first K] [--quiet] FILE..`.
+/// `jri --output-dir DIR [--workers N] [--first K] [--resync] [--quiet] FILE..`.
 fn command<'a>(alloc: Global) -> Result<Command<'a>, AllocError> {
     Command::new(alloc, "jri")
         .about("Decode baseline JPEG files to Netpbm images in a directory")
@@ -48,6 +50,7 @@ fn command<'a>(alloc: Global) -> Result<Command<'a>, AllocError> {
         .arg(directory_word(alloc))?
         .arg(workers_word(alloc))?
         .arg(first_word(alloc))?
+        .arg(resync_word(alloc))?
         .arg(flag_word(alloc, "quiet", "Do not print the reports"))?
         .arg(files_word(alloc))
 }
@@ -76,6 +79,7 @@ fn request_in(alloc: Global, matches: &ArgMatches<'_>) -> Result<ManyRequest, Un
             Ok(ManyRequest {
                 workers,
                 first: matches.get_one::<u32>("first"),
+                is_resync: matches.get_flag("resync"),
                 is_quiet: matches.get_flag("quiet"),
                 directory: String::from_str(alloc, directory)?,
                 files,

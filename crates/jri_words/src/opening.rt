@@ -7,8 +7,8 @@ ghost use Rattle.jr_base.specs.Tally.{has_failed};
 ghost use Rattle.jri_words.specs.CommandLine.{IsTargetOf};
 ghost use Rattle.jri_words.specs.Status.{answered_status};
 
-use crate::answers::{Asked, Target, Unasked};
-use crate::asking::asked;
+use crate::answers::{Asked, DecodeRequest, Target, Unasked};
+use crate::asking::decode_request;
 use crate::devices::{Destination, Devices, Source};
 use jr_base::Tally;
 use std::alloc::Global;
@@ -96,10 +96,10 @@ pub fn understood<D: Devices>(
     alloc: Global,
     devices: &D,
     words: IoResult<Vec<String>>,
-) -> Result<Asked, Unasked>
-    ensures some { IfOk result (λ a. 1 ≤ a.workers) }
-    ensures few { IfOk result (λ a. a.workers ≤ MAX_WORKERS) }
-    ensures target { IfOk result (λ a. IfOk words (λ given. IsTargetOf (map string_bytes given.items) a.target)) }
+) -> Result<DecodeRequest, Unasked>
+    ensures some { IfOk result (λ r. 1 ≤ r.asked.workers) }
+    ensures few { IfOk result (λ r. r.asked.workers ≤ MAX_WORKERS) }
+    ensures target { IfOk result (λ r. IfOk words (λ given. IsTargetOf (map string_bytes given.items) r.asked.target)) }
 {
     let words = match words {
         Ok(words) => words,
@@ -108,13 +108,13 @@ pub fn understood<D: Devices>(
     if has_outfile(&words) {
         return Err(wrong(alloc, NO_OUTFILE));
     }
-    let asked = asked(alloc, &words)?;
-    match &asked.target {
+    let request = decode_request(alloc, &words)?;
+    match &request.asked.target {
         Target::Output if devices.is_output_terminal() => Err(wrong(alloc, ONTO_TERMINAL)),
-        Target::File(name) if is_own_input(devices, &asked, name.as_str()) => {
+        Target::File(name) if is_own_input(devices, &request.asked, name.as_str()) => {
             Err(wrong(alloc, OWN_INPUT))
         }
-        _ => Ok(asked),
+        _ => Ok(request),
     }
 }
 

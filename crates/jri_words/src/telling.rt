@@ -5,6 +5,7 @@ ghost use Rattle.jri_file.specs.Status.{fault_status, report_status};
 
 use crate::answers::{Asked, Target, Telling};
 use crate::line::{Behind, write_line};
+use jr_mend::Break;
 use jr_scan::ScanEnd;
 use jri_file::{Fault, Report};
 use std::fmt;
@@ -156,5 +157,29 @@ pub fn tell<E: Write>(ending: &Ending, names: &Names<'_>, telling: Telling, erro
             }
             fault.status()
         }
+    }
+}
+
+fn write_breaks<E: Write>(errors: &mut E, breaks: &[Break], behind: Behind<'_>) -> IoResult<()> {
+    for found in breaks {
+        write_line(errors, *found, behind)?;
+    }
+    Ok(())
+}
+
+/// Writes a line for each break of a file that is resynchronised, unless there is no image or `is_quiet` is set. Errors
+/// of standard error are ignored.
+pub fn tell_breaks<E: Write>(
+    breaks: &[Break],
+    ending: &Ending,
+    names: &Names<'_>,
+    telling: Telling,
+    errors: &mut E,
+)
+    ensures quiet { telling.is_quiet ≡ true → errors.new ≡ errors.old }
+    ensures fault { IfErr ending.now.outcome (λ _. errors.new ≡ errors.old) }
+{
+    if !telling.is_quiet && ending.outcome.is_ok() {
+        let _ = write_breaks(errors, breaks, behind(ending, names, telling));
     }
 }

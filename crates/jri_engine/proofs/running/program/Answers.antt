@@ -23,7 +23,7 @@ returns g c =
     let old = steps c.args.devices.now in
     let new = steps c.match-opened.devices in
     let are_devices = g.D.Devices.are_devices c.args.devices.now in
-    let target = c.in-Ok.asked.target in
+    let target = c.in-Ok.request.asked.target in
     let told = status_tells c.match-opened.ending.outcome c.tell-status.result c.tell-status.ensures.written c.tell-status.ensures.fault in
     let left : Leaves are_devices target old new (is_ok c.match-opened.ending.outcome) = elim c.match-opened.branch [
       | in-Ok-opened+in-File w ↦ search (rules, w.decode_to_file.ensures, w.devices-is, w.ending-is)

@@ -3,7 +3,7 @@ use Rattle.std.specs.String.{string_bytes}
 use Rattle.clap.specs.Words.{Text, app_of, first_value, found_of}
 use Rattle.jri_words.specs.CommandLine.{IsFlag, IsTarget, file_named, reading}
 use Rattle.jri_words.proofs.CommandLemmas.{found_value, found_reading}
-use Rattle.jri_words.proofs.asking.asked.Goals as goal
+use Rattle.jri_words.proofs.asking.decode_request.Goals as goal
 
 pub returns-in-Some-clause-some : goal.returns-in-Some-clause-some
 returns-in-Some-clause-some c = search rules
@@ -37,3 +37,9 @@ returns-in-Some-clause-verbose c =
     subst (λ (t : Option Text). IsFlag t c.telling_of-telling.result.is_verbose)
     (found_reading c.in-Ok.matches (app_of c.in_ok-command.field-0) (map string_bytes c.args.words.now) c.in_ok-command.ensures c.in-Ok.ensures.matches (codes "verbose"))
     c.telling_of-telling.ensures.verbose
+
+pub returns-in-Some-clause-resync : goal.returns-in-Some-clause-resync
+returns-in-Some-clause-resync c =
+    subst (λ (t : Option Text). IsFlag t c.get_flag-is_resync.result)
+    (found_reading c.in-Ok.matches (app_of c.in_ok-command.field-0) (map string_bytes c.args.words.now) c.in_ok-command.ensures c.in-Ok.ensures.matches (codes "resync"))
+    (search (rules, c.get_flag-is_resync.ensures))

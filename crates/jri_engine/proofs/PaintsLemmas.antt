@@ -1,0 +1,50 @@
+-- What is written of a scan is written of its file.
+use Rattle.std.proofs.Common.{◌≡◌, ℕ, ◌+◌, List, Option, Some, None, Result, Ok, Err, IfOk, length, take}
+use Rattle.jr_base.specs.declared.limits.TheConstants.{MAX_FILE_BYTES}
+use Rattle.jr_base.specs.declared.tally.Tally.{Tally}
+use Rattle.jr_base.specs.Tally.{known_in}
+use Rattle.jr_scan.specs.ScanValue.{ScanValue}
+use Rattle.jr_picture.specs.declared.counts.Counts.{Counts}
+use Rattle.jr_picture.specs.Headline.{least}
+use Rattle.jr_rows.specs.Stream.{BeginsPicture, WritesPicture}
+use Rattle.jri_file.specs.declared.report.Report.{Report}
+use Rattle.jri_file.specs.declared.report.Fault.{Fault}
+use Rattle.jri_file.specs.Files.{IsScanOfFile, OfFile}
+use Rattle.jri_engine.specs.Files.{BeginsFile, BeginsImage, Paints, PaintsFile}
+
+module _ {T : Type 0} (known : T → Option (List ℕ)) (old new : Tally T) (scan : ScanValue) (first : Option ℕ) where
+  pub scan_paints : (counts : Counts) (report : Report) → WritesPicture known old new scan (least first (length scan.intervals)) counts → report.intervals ≡ length scan.intervals
+      → report.sound ≡ counts.sound → report.damaged ≡ counts.damaged → report.blank ≡ counts.blank → report.ended ≡ scan.ended
+      → (file : List ℕ) → IsScanOfFile file scan → PaintsFile file first report (known_in known old) (known_in known new)
+  scan_paints counts report w intervals sound damaged blank ended file is = record {
+    scan = scan;
+    marks = w.marks;
+    f = w.f;
+    is = record { is_scan = is; picture = w.shows.picture; decoded = w.shows.first };
+    appended = w.text;
+    reported = record { intervals = intervals; counts = rw sound (rw damaged (rw blank w.counted)); ended = ended };
+  }
+
+  pub scan_begins : BeginsPicture known old new scan (least first (length scan.intervals)) → (file : List ℕ) → IsScanOfFile file scan → BeginsFile file first (known_in known old) (known_in known new)
+  scan_begins w file is = record {
+    scan = scan;
+    marks = w.marks;
+    f = w.f;
+    is = record { is_scan = is; picture = w.shows.picture; decoded = w.shows.first };
+    front = w.front;
+  }
+
+-- what holds of the file if something else does
+pub of_file : (left : Option (List ℕ)) (P Q : List ℕ → Type 0) → ((file : List ℕ) → P file → Q file) → OfFile left P → OfFile left Q
+of_file None P Q f holds = tt
+of_file (Some bytes) P Q f holds = f (take (MAX_FILE_BYTES + 1) bytes) holds
+
+-- the file that is read has this scan
+pub input_paints : (left : Option (List ℕ)) (first : Option ℕ) (scan : ScanValue) (old new : Option (List ℕ)) (r : Result Report Fault) → ((file : List ℕ) → IsScanOfFile file scan → IfOk r (λ report. PaintsFile file first report old new))
+    → OfFile left (λ file. IsScanOfFile file scan) → IfOk r (λ report. Paints left first report old new)
+input_paints left first scan old new (Ok report) painted is = of_file left (λ file. IsScanOfFile file scan) (λ file. PaintsFile file first report old new) painted is
+input_paints left first scan old new (Err f) painted is = tt
+
+pub input_begins : (left : Option (List ℕ)) (first : Option ℕ) (scan : ScanValue) (old new : Option (List ℕ)) → ((file : List ℕ) → IsScanOfFile file scan → BeginsFile file first old new)
+    → OfFile left (λ file. IsScanOfFile file scan) → BeginsImage left first old new
+input_begins left first scan old new begun is = of_file left (λ file. IsScanOfFile file scan) (λ file. BeginsFile file first old new) begun is
