@@ -3,9 +3,9 @@
 
 use jr_base::Tally;
 use jri_archive::{
-    CheckEnd, CheckReport, CheckRequest, Entry, EntryKind, FileCounts, Folder, LineForm, Lists,
-    ReadError, Source, State, StateError, Streams, answer as answer_by, asked, check_all, program,
-    tell_counts, write_counts_line,
+    CheckEnd, CheckReport, CheckRequest, Entry, EntryKind, FileCounts, Folder, InStepFolder,
+    LineForm, Lists, ReadError, Source, State, StateError, Streams, answer as answer_by, asked,
+    check_all, program, tell_counts, write_counts_line,
 };
 use std::alloc::{AllocError, Global};
 use std::io::{BufReader, Cursor, Error, ErrorKind, Read, Result as IoResult, Write};
@@ -60,6 +60,9 @@ const DOUBTFUL_SOUND: &str = "S Q F:0008:0008 D:0B:04:01 A C 3F FB E";
 /// Ten intervals, of which two have come.
 const CUT: &str = "GW 63 FF D0 63";
 
+/// Two intervals, with a marker that is passed over and a byte after it before the restart marker.
+const OTHER_MARKER: &str = "GI 63 FF C4 63 FF D0 63 E";
+
 impl Folder for Shelf {
     fn read(&self, alloc: Global, name: &str) -> Result<Vec<u8>, ReadError> {
         let words = match name {
@@ -68,6 +71,7 @@ impl Folder for Shelf {
             "progressive" => "S FF C2",
             "coloured" | "in/d/e.jfif" => COLOURED,
             "cut" => CUT,
+            "marker" => OTHER_MARKER,
             "doubtful" => DOUBTFUL,
             "doubtful sound" => DOUBTFUL_SOUND,
             "shut" => return Err(ReadError::NotAllowed),
@@ -169,7 +173,10 @@ fn told_by<R: Threads + Wait + Sync + AllocGlobal, I: Read + Send + Drop, O: Wri
 ) -> Result<(CheckReport, O), Fail> {
     let asked = request_of(rt.alloc(), words, workers)?;
     let nowhere: Option<Vec<u8>> = None;
-    let source = stateless(Shelf);
+    let source = stateless(InStepFolder {
+        folder: Shelf,
+        is_resync: asked.is_resync,
+    });
     Ok(check_all(rt, rt.alloc(), source, asked, list, out, nowhere))
 }
 
@@ -236,6 +243,55 @@ fn tells_empty_intervals_at_once(rt: HostRuntime) -> Result<(), Fail> {
         &[b"--map", b"--json", b"cut"],
         "{\"file\":\"cut\",\"is\":\"damaged\",\"damaged\":8,\"first_line\":0,\"last_line\":7,\"intervals\":10,\"width\":80,\"height\":8,\"bytes\":150,\"end\":\"the end of the file\"}\n\
          {\"file\":\"cut\",\"interval\":2,\"last_interval\":9,\"first_mcu\":2,\"last_mcu\":9,\"first_line\":0,\"last_line\":7,\"decodable\":0}\n",
+        1,
+    )
+}
+
+/// With `--map=all` each interval has a line.
+#[test]
+fn tells_sound_intervals(rt: HostRuntime) -> Result<(), Fail> {
+    check(
+        &rt,
+        &[b"--map=all", b"cut"],
+        "cut: damaged, 8 of 10 intervals, lines 0 to 7, scan ended at the end of the file\n\
+         cut: interval 0, MCUs 0 to 0, lines 0 to 7, bytes 146 to 146, sound\n\
+         cut: interval 1, MCUs 1 to 1, lines 0 to 7, bytes 149 to 149, sound\n\
+         cut: intervals 2 to 9, MCUs 2 to 9, lines 0 to 7, no bytes\n",
+        1,
+    )?;
+    check(
+        &rt,
+        &[b"--map=all", b"--json", b"two"],
+        "{\"file\":\"two\",\"is\":\"sound\",\"intervals\":2,\"width\":16,\"height\":8,\"bytes\":152}\n\
+         {\"file\":\"two\",\"interval\":0,\"first_mcu\":0,\"last_mcu\":0,\"first_line\":0,\"last_line\":7,\"first_byte\":146,\"last_byte\":146,\"is\":\"sound\"}\n\
+         {\"file\":\"two\",\"interval\":1,\"first_mcu\":1,\"last_mcu\":1,\"first_line\":0,\"last_line\":7,\"first_byte\":149,\"last_byte\":149,\"is\":\"sound\"}\n",
+        0,
+    )
+}
+
+/// With `--resync` files are checked with their restart markers in step; a map has the markers that were not.
+#[test]
+fn tells_markers_out_of_step(rt: HostRuntime) -> Result<(), Fail> {
+    check(
+        &rt,
+        &[b"--map", b"--resync", b"marker", b"progressive", b"shut"],
+        "marker: sound, 2 intervals\n\
+         marker: marker C4, byte 147, where RST0 was due: passed over\n\
+         progressive: unsupported 5: progressive JPEG (SOF2) is not supported\n\
+         shut: cannot be read: permission denied\n",
+        3,
+    )?;
+    check(
+        &rt,
+        &[b"--map", b"--json", b"--resync", b"marker"],
+        "{\"file\":\"marker\",\"is\":\"sound\",\"intervals\":2,\"width\":16,\"height\":8,\"bytes\":152}\n\
+         {\"file\":\"marker\",\"at\":147,\"found\":196,\"due\":0,\"skipped\":0}\n",
+        0,
+    )?;
+    check(
+        &rt,
+        &[b"--resync", b"cut", b"marker"],
+        "cut: damaged, 8 of 10 intervals, lines 0 to 7\nmarker: sound, 2 intervals\n",
         1,
     )
 }
@@ -437,12 +493,13 @@ fn answer(alloc: Global, words: &[&[u8]]) -> Result<Answer, Fail> {
 /// What is told where nothing is asked for.
 const PLAIN: LineForm = LineForm {
     has_map: false,
+    has_sound: false,
     is_json: false,
     is_quiet: false,
 };
 
 /// Words, and what they ask for.
-const WORDS: [(&[&[u8]], Answer); 18] = [
+const WORDS: [(&[&[u8]], Answer); 23] = [
     (&[b"a"], Ok((4, PLAIN, 1))),
     (
         &[b"--map", b"a", b"b"],
@@ -455,6 +512,22 @@ const WORDS: [(&[&[u8]], Answer); 18] = [
             2,
         )),
     ),
+    (
+        &[b"--map=all", b"a"],
+        Ok((
+            4,
+            LineForm {
+                has_map: true,
+                has_sound: true,
+                ..PLAIN
+            },
+            1,
+        )),
+    ),
+    (&[b"--map=none", b"a"], Err(2)),
+    (&[b"--map", b"--map", b"a"], Err(2)),
+    (&[b"--resync", b"a"], Ok((4, PLAIN, 1))),
+    (&[b"--resync", b"--state", b"s", b"a"], Err(2)),
     (&[b"a", b"-j", b"64", b"b", b"c"], Ok((64, PLAIN, 3))),
     (&[b"-", b"--files0-from", b"list"], Ok((4, PLAIN, 1))),
     (&[b"-", b"--files0-from", b"-"], Err(2)),

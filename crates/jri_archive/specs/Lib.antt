@@ -1,4 +1,5 @@
 pub mod Escapes
+pub mod InStep
 pub mod Names
 pub mod Outcomes
 pub mod Records

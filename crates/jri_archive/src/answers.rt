@@ -10,6 +10,8 @@ use std::alloc::AllocError;
 pub struct LineForm {
     /// Whether there is a line for each damaged interval.
     pub has_map: bool,
+    /// Whether the map has a line for each sound interval.
+    pub has_sound: bool,
     /// Whether a line is a JSON object.
     pub is_json: bool,
     /// Whether nothing is told of sound files.
@@ -28,6 +30,8 @@ pub struct CheckRequest {
     pub is_recursive: bool,
     /// The file that has further names, each ended by a NUL byte; `-` is standard input.
     pub names_from: Option<String>,
+    /// Whether each file is resynchronised before it is checked.
+    pub is_resync: bool,
     /// The state file.
     pub state: Option<String>,
     /// Whether files that the state file has are read again.

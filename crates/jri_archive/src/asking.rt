@@ -50,6 +50,16 @@ fn list_argument<'a>(alloc: Global) -> Arg<'a> {
         .help("Also check the NUL-terminated names in LIST; - is standard input")
 }
 
+/// Returns the argument by which files are resynchronised; a state file is of files as they are.
+fn resync_argument<'a>(alloc: Global) -> Result<Arg<'a>, AllocError> {
+    flag(
+        alloc,
+        "resync",
+        "Check files read past restart markers that are out of step; not with --state",
+    )
+    .conflicts_with("state")
+}
+
 /// Returns the argument of the state file.
 fn state_argument<'a>(alloc: Global) -> Arg<'a> {
     Arg::new(alloc, "state")
@@ -79,14 +89,29 @@ fn files_argument<'a>(alloc: Global) -> Result<Arg<'a>, AllocError> {
         .required_unless_present("files0-from")
 }
 
+/// Returns the argument of the map, of damaged intervals alone or of all.
+fn map_argument<'a>(alloc: Global) -> Arg<'a> {
+    let values: &[&str] = &[DAMAGED_ALONE, ALL];
+    Arg::new(alloc, "map")
+        .long("map")
+        .action(ArgAction::Set)
+        .value_name("WHICH")
+        .num_args(0..=1)
+        .require_equals(true)
+        .value_parser(values)
+        .default_missing_value(DAMAGED_ALONE)
+        .help("Also list damaged intervals and doubtful values; =all also sound intervals")
+}
+
+/// The values of `--map`.
+const DAMAGED_ALONE: &str = "damaged";
+
+const ALL: &str = "all";
+
 /// The words that tell what is told.
 fn with_telling_words<'a>(alloc: Global, command: Command<'a>) -> Result<Command<'a>, AllocError> {
     command
-        .arg(flag(
-            alloc,
-            "map",
-            "Also list damaged intervals and doubtful values",
-        ))?
+        .arg(map_argument(alloc))?
         .arg(flag(alloc, "json", "Print each line as a JSON object"))?
         .arg(flag(alloc, "quiet", "List no sound files and print no counts").short('q'))?
         .arg(flag(alloc, "counts", "Also print the counts as the last line"))
@@ -98,6 +123,7 @@ fn with_finding_words<'a>(alloc: Global, command: Command<'a>) -> Result<Command
         .arg(workers_argument(alloc))?
         .arg(recursive_argument(alloc))?
         .arg(list_argument(alloc))?
+        .arg(resync_argument(alloc)?)?
         .arg(state_argument(alloc))?
         .arg(verify_argument(alloc)?)
 }
@@ -127,7 +153,7 @@ fn wordless<'a>(alloc: Global) -> Command<'a> {
         .no_binary_name(true)
 }
 
-/// `jri_check [--map] [--json] [-q] [--counts] [-j N] [-r] [--files0-from LIST] [--state STATE [--verify]] FILE..`.
+/// `jri_check [--map[=all]] [--json] [-q] [--counts] [-j N] [-r] [--files0-from LIST] [--resync] [--state STATE [--verify]] FILE..`.
 fn command<'a>(alloc: Global) -> Result<Command<'a>, AllocError> {
     let command = with_telling_words(alloc, wordless(alloc))?;
     with_file_words(alloc, with_finding_words(alloc, command)?)
@@ -207,8 +233,10 @@ const STATE_NAME: &str = "error: the name of the STATE of --state is not UTF-8\n
 
 /// What a line tells.
 fn form_in(matches: &ArgMatches<'_>) -> LineForm {
+    let map = matches.get_str("map");
     LineForm {
-        has_map: matches.get_flag("map"),
+        has_map: map.is_some(),
+        has_sound: map == Some(ALL),
         is_json: matches.get_flag("json"),
         is_quiet: matches.get_flag("quiet"),
     }
@@ -237,6 +265,7 @@ fn request_in(
             has_counts: matches.get_flag("counts"),
             is_recursive: matches.get_flag("recursive"),
             names_from,
+            is_resync: matches.get_flag("resync"),
             state,
             is_verifying: matches.get_flag("verify"),
             names,

@@ -7,12 +7,13 @@ ghost use Rattle.jri_archive.specs.Told.{AreTold, is_open};
 use crate::answers::LineForm;
 use crate::counts::{CheckEnd, CheckReport, FileCounts, FileState};
 use crate::json::{tell_counts_object, tell_object};
-use crate::map::{TellError, write_map};
+use crate::map::{TellError, write_breaks, write_map_in};
 use crate::names::NamesError;
 use crate::one_check::OneCheck;
 use crate::outcome::Outcome;
 use crate::state_record::FileRecord;
 use crate::telling::{tell, tell_counts};
+use jr_mend::Break;
 use std::alloc::Global;
 use std::io::{Error, Write};
 use std::marker::{Model, PhantomData};
@@ -22,6 +23,8 @@ use std::marker::{Model, PhantomData};
 pub(crate) struct CheckedFile {
     pub(crate) outcome: Outcome,
     pub(crate) bytes: Option<Vec<u8>>,
+    /// The markers that were out of step, if they are put in step.
+    pub(crate) breaks: Option<Vec<Break>>,
     /// What is appended to a state file.
     pub(crate) entry: Option<FileRecord>,
 }
@@ -86,10 +89,15 @@ fn write_lines<O: Write>(
     requires { IfSome file.now.bytes (λ b. IsOutcomeOf b.items (plain_outcome file.now.outcome)) }
 {
     write_file_line(alloc, out, name, &file.outcome, form)?;
+    if form.has_map
+        && let Some(breaks) = &file.breaks
+    {
+        write_breaks(alloc, out, name, breaks, form.is_json)?;
+    }
     if let Some(bytes) = &file.bytes
         && let Some(checked) = file.outcome.checked()
     {
-        write_map(alloc, out, name, bytes.as_slice(), checked, form.is_json)?;
+        write_map_in(alloc, out, name, bytes.as_slice(), checked, form)?;
     }
     Ok(())
 }

@@ -6,10 +6,12 @@ use crate::damaged_run::DamagedRun;
 use crate::escaping::put_string;
 use crate::outcome::Outcome;
 use crate::reading::ReadError;
+use crate::sound_interval::SoundInterval;
 use crate::telling::put_end;
 use crate::unsupported::{refused_word, write_reason};
 use jr_damage::{CodedSpan, DoubtfulMcu, Lines, McuRange};
 use jr_head::Refusal;
+use jr_mend::Break;
 use jr_scan::ScanEnd;
 use std::alloc::AllocError;
 
@@ -174,6 +176,38 @@ pub(crate) fn tell_interval_object(
         write!(line, ",\"decodable_to\":{}", run.decodable_to)?;
     }
     line.push_str("}\n")
+}
+
+/// Appends the object of a marker that was out of step, with the line's end.
+pub(crate) fn write_break_object(
+    line: &mut String,
+    name: &[u8],
+    found: Break,
+) -> Result<(), AllocError> {
+    put_file(line, name)?;
+    let Break {
+        at,
+        code,
+        due,
+        skipped,
+    } = found;
+    write!(line, ",\"at\":{at},\"found\":{code}")?;
+    write!(line, ",\"due\":{due},\"skipped\":{skipped}}}")?;
+    line.push_str("\n")
+}
+
+/// Appends the object of a sound interval, with the line's end.
+pub(crate) fn write_sound_object(
+    line: &mut String,
+    name: &[u8],
+    sound: &SoundInterval,
+) -> Result<(), AllocError> {
+    put_file(line, name)?;
+    write!(line, ",\"interval\":{}", sound.number)?;
+    put_mcus(line, sound.mcus)?;
+    put_lines(line, sound.lines)?;
+    put_bytes(line, Some(sound.bytes))?;
+    line.push_str(",\"is\":\"sound\"}\n")
 }
 
 /// Appends the object of a doubtful MCU, with the line's end: `doubtful` is its number in the scan.

@@ -13,6 +13,7 @@ use crate::reading::ReadError;
 use crate::source::Seal;
 use crate::state_record::{FileRecord, RecordedState};
 use jr_head::Refusal;
+use jr_mend::Break;
 use std::alloc::Global;
 use std::sync::Wait;
 use std::thread::Threads;
@@ -22,6 +23,7 @@ pub(crate) fn checked_file<R: Threads + Wait + Sync>(
     rt: &R,
     alloc: Global,
     file: Result<Vec<u8>, ReadError>,
+    breaks: Option<Vec<Break>>,
     has_map: bool,
     workers: u32,
 ) -> CheckedFile
@@ -34,6 +36,7 @@ pub(crate) fn checked_file<R: Threads + Wait + Sync>(
         return CheckedFile {
             outcome,
             bytes: None,
+            breaks,
             entry: None,
         };
     }
@@ -42,11 +45,13 @@ pub(crate) fn checked_file<R: Threads + Wait + Sync>(
         Ok(bytes) => CheckedFile {
             outcome,
             bytes: Some(bytes),
+            breaks,
             entry: None,
         },
         Err(_) => CheckedFile {
             outcome,
             bytes: None,
+            breaks,
             entry: None,
         },
     }
@@ -61,6 +66,7 @@ pub(crate) fn unread(outcome: Outcome) -> CheckedFile
     CheckedFile {
         outcome,
         bytes: None,
+        breaks: None,
         entry: None,
     }
 }
@@ -101,11 +107,17 @@ pub(crate) fn judged(
     ensures told { IsOtherSeal seal known → (c : Checked) → checked.outcome ≡ Outcome.Checked c → result.outcome ≡ Outcome.Changed c }
     ensures refused { IsOtherSeal seal known → (f : Refusal) → f ≢ refusal.Memory → checked.outcome ≡ Outcome.Refused f → result.outcome ≡ Outcome.ChangedRefused f }
 {
-    let CheckedFile { outcome, bytes, .. } = checked;
+    let CheckedFile {
+        outcome,
+        bytes,
+        breaks,
+        ..
+    } = checked;
     let Some(seal) = seal else {
         return CheckedFile {
             outcome,
             bytes,
+            breaks,
             entry: None,
         };
     };
@@ -115,17 +127,20 @@ pub(crate) fn judged(
             CheckedFile {
                 outcome,
                 bytes,
+                breaks,
                 entry,
             }
         }
         Some(known) if has_hash(&known, &seal) => CheckedFile {
             outcome,
             bytes,
+            breaks,
             entry: None,
         },
         Some(_) => CheckedFile {
             outcome: outcome.changed(),
             bytes,
+            breaks,
             entry: None,
         },
     }

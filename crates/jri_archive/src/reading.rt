@@ -3,6 +3,7 @@
 ghost use Rattle.std.specs.Prelude.{ℕ, List, IfOk, IfErr, IfSome};
 
 use crate::state_record::Stamp;
+use jr_mend::Break;
 use std::alloc::Global;
 
 /// Why the bytes of a file are not there.
@@ -22,6 +23,8 @@ pub enum ReadError {
     NameTooLong,
     /// Anything else.
     Failed,
+    /// With its restart markers in step it would be longer than a file may be.
+    TooLong,
     /// Memory ran out.
     Memory,
 }
@@ -37,6 +40,7 @@ impl ReadError {
             ReadError::NotRegular => "not a regular file",
             ReadError::NameTooLong => "its name is too long",
             ReadError::Failed => "reading failed",
+            ReadError::TooLong => "too long with its restart markers in step",
             ReadError::Memory => "out of memory",
         }
     }
@@ -59,6 +63,14 @@ pub struct Entry {
     pub kind: EntryKind,
 }
 
+/// The bytes of a file that are checked.
+#[derive(Drop)]
+pub struct FileBytes {
+    pub bytes: Vec<u8>,
+    /// The markers of the file that are out of step, if they are put in step.
+    pub breaks: Vec<Break>,
+}
+
 /// Where files come from.
 pub trait Folder {
     ghost use Rattle.jri_archive.specs.declared.reading.ReadError.{ReadError};
@@ -77,6 +89,20 @@ pub trait Folder {
     fn read(&self, alloc: Global, name: &str) -> Result<Vec<u8>, ReadError>
         ensures bytes { IfOk result (λ bytes. holds self.now name.now bytes.items) }
         ensures error { IfErr result (fails self.now name.now) };
+
+    /// Returns the bytes of the file of that name that are checked.
+    fn read_for_check(&self, alloc: Global, name: &str) -> Result<FileBytes, ReadError>
+        ensures bytes { IfOk result (λ r. holds self.now name.now r.bytes.items) }
+        ensures error { IfErr result (fails self.now name.now) }
+    {
+        match self.read(alloc, name) {
+            Ok(bytes) => Ok(FileBytes {
+                bytes,
+                breaks: Vec::new(alloc),
+            }),
+            Err(error) => Err(error),
+        }
+    }
 
     /// Returns the size and time of the regular file of that name; `None` if it is not one, or if they are not known.
     fn stamp(&self, _name: &str) -> Option<Stamp>

@@ -8,6 +8,7 @@ use crate::answering::answer;
 use crate::answers::{CheckRequest, RequestError};
 use crate::asking::asked;
 use crate::counts::{CheckEnd, CheckReport};
+use crate::in_step::InStepFolder;
 use crate::reading::{Folder, ReadError};
 use crate::sharing::check_all;
 use crate::source::Source;
@@ -219,7 +220,11 @@ pub fn program<
         Ok(opened) => opened,
         Err(status) => return Ended { status },
     };
-    let source = Source { folder, state };
+    let is_resync = asked.is_resync;
+    let source = Source {
+        folder: InStepFolder { folder, is_resync },
+        state,
+    };
     let is_quiet = asked.form.is_quiet;
     let (report, out) = check_all(rt, alloc, source, asked, list, watch(out), progress);
     if !out.is_closed {

@@ -160,9 +160,13 @@ impl<
             self.desk.lock(rt).give_back(1);
             return unread(Outcome::Unchanged(was));
         }
-        let Content { bytes, seal } = self.source.content(self.alloc, file, &glance);
+        let Content {
+            bytes,
+            seal,
+            breaks,
+        } = self.source.content(self.alloc, file, &glance);
         let workers = self.desk.lock(rt).share(self.workers);
-        let checked = checked_file(rt, self.alloc, bytes, self.has_map, workers);
+        let checked = checked_file(rt, self.alloc, bytes, breaks, self.has_map, workers);
         self.desk.lock(rt).give_back(workers);
         judged(checked, seal, self.source.known(file, &glance))
     }

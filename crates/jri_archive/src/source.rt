@@ -8,9 +8,10 @@ ghost use Rattle.jri_archive.specs.Told.{HasRecord, IsRecordOf, IsStamped};
 use crate::map::TellError;
 use crate::names::NamedFile;
 use crate::outcome::Outcome;
-use crate::reading::{Folder, ReadError};
+use crate::reading::{FileBytes, Folder, ReadError};
 use crate::state_file::State;
 use crate::state_record::{FileRecord, RecordedState, Stamp};
+use jr_mend::Break;
 use sha2::{Digest, Sha256};
 use std::alloc::Global;
 use std::io::Write;
@@ -46,20 +47,28 @@ pub(crate) struct Seal {
 pub(crate) struct Content {
     pub(crate) bytes: Result<Vec<u8>, ReadError>,
     pub(crate) seal: Option<Seal>,
+    pub(crate) breaks: Option<Vec<Break>>,
 }
 
 impl<F: Folder, W: Write + Drop> Source<F, W> {
-    /// Returns the bytes of a file.
-    fn read(&self, alloc: Global, file: &NamedFile) -> Result<Vec<u8>, ReadError>
-        ensures bytes { IfOk result (λ b. F.holds self.now.folder file.now.name.items b.items) }
-        ensures error { IfErr result (λ e. ((x : ReadError) → file.now.error ≡ Some x → IsNoText file.now.name.items x) → F.fails self.now.folder file.now.name.items e ⊎ IsNoText file.now.name.items e) }
+    /// Returns the bytes of a file that are checked, and its markers that are out of step.
+    fn read(
+        &self,
+        alloc: Global,
+        file: &NamedFile,
+    ) -> (Result<Vec<u8>, ReadError>, Option<Vec<Break>>)
+        ensures bytes { IfOk result.0 (λ b. F.holds self.now.folder file.now.name.items b.items) }
+        ensures error { IfErr result.0 (λ e. ((x : ReadError) → file.now.error ≡ Some x → IsNoText file.now.name.items x) → F.fails self.now.folder file.now.name.items e ⊎ IsNoText file.now.name.items e) }
     {
         if let Some(error) = file.error {
-            return Err(error);
+            return (Err(error), None);
         }
-        match str::from_utf8(file.name.as_slice()) {
-            Ok(name) => self.folder.read(alloc, name),
-            Err(_) => Err(ReadError::NameIsNoText),
+        let Ok(name) = str::from_utf8(file.name.as_slice()) else {
+            return (Err(ReadError::NameIsNoText), None);
+        };
+        match self.folder.read_for_check(alloc, name) {
+            Ok(FileBytes { bytes, breaks }) => (Ok(bytes), Some(breaks)),
+            Err(error) => (Err(error), None),
         }
     }
 
@@ -133,7 +142,7 @@ impl<F: Folder, W: Write + Drop> Source<F, W> {
         ensures hash { IfSome result.seal (λ s. IfOk result.bytes (λ b. s.hash ≡ sha256 b.items)) }
         ensures sealed { IfErr result.bytes (λ _. result.seal ≡ None) }
     {
-        let bytes = self.read(alloc, file);
+        let (bytes, breaks) = self.read(alloc, file);
         let mut seal = None;
         if let Some(glance) = glance
             && let Ok(read) = &bytes
@@ -145,7 +154,11 @@ impl<F: Folder, W: Write + Drop> Source<F, W> {
                 hash,
             });
         }
-        Content { bytes, seal }
+        Content {
+            bytes,
+            seal,
+            breaks,
+        }
     }
 
     /// Appends the record of a file to the state file by one write.

@@ -5,9 +5,11 @@ use crate::counts::FileCounts;
 use crate::damaged_run::DamagedRun;
 use crate::outcome::Outcome;
 use crate::reading::ReadError;
+use crate::sound_interval::SoundInterval;
 use crate::unsupported::{refused_word, write_reason};
 use jr_damage::{CodedSpan, DoubtfulMcu, Lines, McuRange};
 use jr_head::Refusal;
+use jr_mend::Break;
 use jr_scan::ScanEnd;
 use std::alloc::AllocError;
 use std::fmt;
@@ -182,6 +184,27 @@ pub(crate) fn tell_map(line: &mut String, name: &[u8], run: &DamagedRun) -> Resu
         write!(line, " up to byte {}", run.decodable_to)?;
     }
     line.push_str("\n")
+}
+
+/// Writes the line of a marker that was out of step, with its end.
+pub(crate) fn write_break(line: &mut String, name: &[u8], found: Break) -> Result<(), AllocError> {
+    put_name(line, name)?;
+    write!(line, ": {found}")?;
+    line.push_str("\n")
+}
+
+/// Writes the line of a sound interval, with its end.
+pub(crate) fn write_sound(
+    line: &mut String,
+    name: &[u8],
+    sound: &SoundInterval,
+) -> Result<(), AllocError> {
+    put_name(line, name)?;
+    write!(line, ": interval {}", sound.number)?;
+    put_mcus(line, sound.mcus)?;
+    put_lines(line, sound.lines)?;
+    put_bytes(line, Some(sound.bytes))?;
+    line.push_str(", sound\n")
 }
 
 /// Writes the line of a doubtful MCU, with its end.

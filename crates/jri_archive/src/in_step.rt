@@ -1,0 +1,88 @@
+//! Files whose restart markers are put in step before they are checked.
+
+ghost use Rattle.std.specs.Prelude.{IfErr, IfOk};
+ghost use Rattle.jr_head.specs.Heads.{HeadOf};
+ghost use Rattle.jri_archive.specs.InStep.{IsInStepError, IsInStepOf, IsPutInStep};
+
+use crate::reading::{Entry, FileBytes, Folder, ReadError};
+use crate::state_record::Stamp;
+use jr_head::{Head, Refusal, read_head};
+use jr_mend::{ResyncFault, resynchronised};
+use std::alloc::Global;
+
+/// A directory whose files are resynchronised before they are checked, if that is asked for.
+#[derive(Drop)]
+pub struct InStepFolder<F> {
+    pub folder: F,
+    pub is_resync: bool,
+}
+
+/// Returns a file that has this header with its restart markers in step.
+fn put_in_step(alloc: Global, head: &Head, file: &[u8]) -> Result<FileBytes, ReadError>
+    requires { HeadOf file.now head.now }
+    ensures bytes { IfOk result (λ r. IsPutInStep file.now r.bytes.items r.breaks.items) }
+    ensures error { IfErr result (IsInStepError file.now) }
+{
+    match resynchronised(alloc, head, file) {
+        Ok(resynced) => Ok(FileBytes {
+            bytes: resynced.file,
+            breaks: resynced.breaks,
+        }),
+        Err(ResyncFault::Memory) => Err(ReadError::Memory),
+        Err(ResyncFault::TooLong) => Err(ReadError::TooLong),
+    }
+}
+
+/// Returns a file with its restart markers in step; a refused one unchanged.
+fn in_step(alloc: Global, file: Vec<u8>) -> Result<FileBytes, ReadError>
+    ensures bytes { IfOk result (λ r. IsInStepOf file.items r.bytes.items r.breaks.items) }
+    ensures error { IfErr result (IsInStepError file.items) }
+{
+    match read_head(alloc, &file) {
+        Ok(head) => put_in_step(alloc, &head, &file),
+        Err(Refusal::Memory) => Err(ReadError::Memory),
+        Err(_) => Ok(FileBytes {
+            bytes: file,
+            breaks: Vec::new(alloc),
+        }),
+    }
+}
+
+impl<F: Folder> Folder for InStepFolder<F> {
+    ghost use Rattle.jri_archive.specs.InStep.{FailsInStep, HoldsInStep};
+
+    ghost holds = { λ s name bytes. HoldsInStep (F.holds s.folder) s.is_resync name bytes };
+
+    ghost fails = { λ s name e. FailsInStep (F.holds s.folder) (F.fails s.folder) s.is_resync name e };
+
+    ghost stamps = { λ s name stamp. F.stamps s.folder name stamp };
+
+    fn read(&self, alloc: Global, name: &str) -> Result<Vec<u8>, ReadError> {
+        match self.read_for_check(alloc, name) {
+            Ok(file) => Ok(file.bytes),
+            Err(error) => Err(error),
+        }
+    }
+
+    fn read_for_check(&self, alloc: Global, name: &str) -> Result<FileBytes, ReadError> {
+        let bytes = match self.folder.read(alloc, name) {
+            Ok(bytes) => bytes,
+            Err(error) => return Err(error),
+        };
+        if self.is_resync {
+            return in_step(alloc, bytes);
+        }
+        Ok(FileBytes {
+            bytes,
+            breaks: Vec::new(alloc),
+        })
+    }
+
+    fn stamp(&self, name: &str) -> Option<Stamp> {
+        self.folder.stamp(name)
+    }
+
+    fn entries(&self, alloc: Global, name: &str) -> Result<Option<Vec<Entry>>, ReadError> {
+        self.folder.entries(alloc, name)
+    }
+}
