@@ -285,7 +285,7 @@ fn tells_markers_out_of_step(rt: HostRuntime) -> Result<(), Fail> {
         &rt,
         &[b"--map", b"--json", b"--resync", b"marker"],
         "{\"file\":\"marker\",\"is\":\"sound\",\"intervals\":2,\"width\":16,\"height\":8,\"bytes\":152}\n\
-         {\"file\":\"marker\",\"at\":147,\"found\":196,\"due\":0,\"skipped\":0}\n",
+         {\"file\":\"marker\",\"byte\":147,\"marker\":196,\"due\":0,\"lost\":0}\n",
         0,
     )?;
     check(

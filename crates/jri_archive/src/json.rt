@@ -191,8 +191,8 @@ pub(crate) fn write_break_object(
         due,
         skipped,
     } = found;
-    write!(line, ",\"at\":{at},\"found\":{code}")?;
-    write!(line, ",\"due\":{due},\"skipped\":{skipped}}}")?;
+    write!(line, ",\"byte\":{at},\"marker\":{code}")?;
+    write!(line, ",\"due\":{due},\"lost\":{skipped}}}")?;
     line.push_str("\n")
 }
 
