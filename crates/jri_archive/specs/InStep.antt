@@ -15,8 +15,8 @@ pub record IsPutInStep (file bytes : List ℕ) (breaks : List Break) : Type 0 wh
   pub resynced : Resynced
   pub is_head : HeadOf file head
   pub is : IsResynced file head resynced
-  pub bytes : bytes ≡ resynced.file.items
-  pub breaks : breaks ≡ resynced.breaks.items
+  pub written : bytes ≡ resynced.file.items
+  pub listed : breaks ≡ resynced.breaks.items
 
 -- a refused file is checked as it is
 pub record IsLeft (file bytes : List ℕ) : Type 0 where

@@ -1,6 +1,7 @@
 //! Files whose restart markers are put in step before they are checked.
 
-ghost use Rattle.std.specs.Prelude.{IfErr, IfOk};
+ghost use Rattle.std.specs.Prelude.{◌≡◌, ◌≢◌, IfErr, IfOk};
+ghost use Rattle.jr_segments.specs.declared.refusal.Refusal.TheVariants as refusals;
 ghost use Rattle.jr_head.specs.Heads.{HeadOf};
 ghost use Rattle.jri_archive.specs.InStep.{IsInStepError, IsInStepOf, IsPutInStep};
 
@@ -33,6 +34,20 @@ fn put_in_step(alloc: Global, head: &Head, file: &[u8]) -> Result<FileBytes, Rea
     }
 }
 
+/// Returns a refused file unchanged.
+fn left(alloc: Global, refusal: Refusal, file: Vec<u8>) -> Result<FileBytes, ReadError>
+    ensures bytes { IfOk result (λ r. (refusal ≢ refusals.Memory) × (r.bytes.items ≡ file.items)) }
+    ensures error { IfErr result (λ e. e ≡ ReadError.Memory) }
+{
+    match refusal {
+        Refusal::Memory => Err(ReadError::Memory),
+        _ => Ok(FileBytes {
+            bytes: file,
+            breaks: Vec::new(alloc),
+        }),
+    }
+}
+
 /// Returns a file with its restart markers in step; a refused one unchanged.
 fn in_step(alloc: Global, file: Vec<u8>) -> Result<FileBytes, ReadError>
     ensures bytes { IfOk result (λ r. IsInStepOf file.items r.bytes.items r.breaks.items) }
@@ -40,11 +55,7 @@ fn in_step(alloc: Global, file: Vec<u8>) -> Result<FileBytes, ReadError>
 {
     match read_head(alloc, &file) {
         Ok(head) => put_in_step(alloc, &head, &file),
-        Err(Refusal::Memory) => Err(ReadError::Memory),
-        Err(_) => Ok(FileBytes {
-            bytes: file,
-            breaks: Vec::new(alloc),
-        }),
+        Err(refusal) => left(alloc, refusal, file),
     }
 }
 
