@@ -13,7 +13,7 @@ use crate::resync::run_resynced;
 use jr_base::Tally;
 use jr_mend::Break;
 use jr_wall::OpenGate;
-use jri_file::{Fault, Report};
+use jri_file::Fault;
 use jri_words::{
     DecodeRequest, Destination, Devices, Ending, Names, Noted, Target, answer, flushed, make_part,
     opened, place, tell, tell_breaks, understood, unwritten, warn_of_name,
@@ -45,33 +45,6 @@ fn decoding_of(request: &DecodeRequest) -> Decoding
     }
 }
 
-/// Decodes an input into an output. If the file is resynchronised and its image is written, its breaks are stored.
-fn run_decoding<T: Threads + Wait + Sync, R: Read, W: Write>(
-    rt: &T,
-    alloc: Global,
-    decoding: Decoding,
-    input: &mut Tally<R>,
-    out: &mut Tally<W>,
-    breaks: &mut Vec<Break>,
-) -> Result<Report, Fault>
-    requires input { has_failed input.old ≡ false }
-    requires output { has_failed out.old ≡ false }
-    requires some { 1 ≤ decoding.workers }
-    requires few { decoding.workers ≤ MAX_WORKERS }
-{
-    let Decoding {
-        workers,
-        first,
-        is_resync,
-    } = decoding;
-    if !is_resync {
-        return run(rt, alloc, input, out, workers, first, &OpenGate);
-    }
-    let resynced = run_resynced(rt, alloc, input, out, workers, first, &OpenGate)?;
-    *breaks = resynced.breaks;
-    Ok(resynced.report)
-}
-
 /// Decodes a source into an output, which is flushed and dropped. The breaks of a resynchronised file are stored.
 fn decode<T: Threads + Wait + Sync, R: Read + Drop, W: Write + Drop>(
     rt: &T,
@@ -86,7 +59,22 @@ fn decode<T: Threads + Wait + Sync, R: Read + Drop, W: Write + Drop>(
 {
     let mut input = Tally::of(Noted::of(source));
     let mut output = Tally::of(Noted::of(out));
-    let outcome = run_decoding(rt, alloc, decoding, &mut input, &mut output, breaks);
+    let Decoding {
+        workers,
+        first,
+        is_resync,
+    } = decoding;
+    let outcome = if is_resync {
+        match run_resynced(rt, alloc, &mut input, &mut output, workers, first, &OpenGate) {
+            Ok(resynced) => {
+                *breaks = resynced.breaks;
+                Ok(resynced.report)
+            }
+            Err(fault) => Err(fault),
+        }
+    } else {
+        run(rt, alloc, &mut input, &mut output, workers, first, &OpenGate)
+    };
     let outcome = flushed(outcome, &mut output);
     let reason = match outcome {
         Err(Fault::Read) => input.into_inner().reason(),
