@@ -8,6 +8,8 @@ mod archive;
 #[cfg(test)]
 mod archive_state;
 #[cfg(test)]
+mod archive_words;
+#[cfg(test)]
 mod arrival;
 #[cfg(test)]
 mod base;
