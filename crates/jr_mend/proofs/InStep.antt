@@ -9,7 +9,7 @@ use Rattle.jr_mend.specs.declared.pace.Pace.{Pace}
 use Rattle.jr_mend.specs.Resync.{AreParts, EndsResync, IsInStep, IsResync, Part, PartsFrom, Resync, breaks_of, first_pace, last_number, new_segments, pace_after, part_bytes}
 use Rattle.jr_mend.proofs.ResyncLaw.{one_resync}
 
-parts_of : ℕ → List CodedSegment → List Part
+unfoldable pub parts_of : ℕ → List CodedSegment → List Part
 parts_of k [] = []
 parts_of k (p ∷ ps) = (record { more = p.more; code = RST0 + k % 8; missing = Some 0; raw = p.raw; bytes = p.bytes }) ∷ parts_of (suc k) ps
 
@@ -50,16 +50,16 @@ ends_in_step n k at tail (OutOfStep f x o) in_step h = absurd in_step
 ends_in_step n k at tail (OtherMarker c o) in_step h = absurd in_step
 
 module _ (n at : ℕ) (bytes : List ℕ) (datas : List (List ℕ)) (end : ScanEnd) (c : IsCut n at bytes datas end) (in_step : IsInStep end) where
-  abbrev parts : List Part
+  abbrev pub parts : List Part
   parts = parts_of 0 c.segments
 
   abbrev rest : List ℕ
   rest = with_markers 0 c.segments ++ c.tail
 
-  after : Resync
+  unfoldable pub after : Resync
   after = record { raws = flat_map (λ (p : Part). new_segments p.missing p.raw) parts; datas = map (λ (p : CodedSegment). p.bytes) c.segments; breaks = []; end = end }
 
-  abbrev whole : Resync
+  abbrev pub whole : Resync
   whole = record { raws = c.raw ∷ after.raws; datas = c.first ∷ after.datas; breaks = after.breaks; end = after.end }
 
   follows : PartsFrom n (length bytes) (first_pace (length c.raw)) 0 (at + length c.raw) rest after
@@ -79,7 +79,7 @@ module _ (n at : ℕ) (bytes : List ℕ) (datas : List (List ℕ)) (end : ScanEn
         ends = subst (λ (k : ℕ). EndsResync n k (at + length c.raw + length (flat_map part_bytes parts)) c.tail end) (sym (last_is 0 0 c.segments refl)) here;
       }
 
-  resync : IsResync n at bytes whole
+  pub resync : IsResync n at bytes whole
   resync = record {
     some = omega (arith, c.few);
     raw = c.raw;

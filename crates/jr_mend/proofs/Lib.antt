@@ -9,3 +9,5 @@ pub mod InStep
 pub mod EachResync
 pub mod FilesInStep
 pub mod LocalLaws
+pub mod DueMarkers
+pub mod ResyncedInStep

@@ -3,10 +3,12 @@ use Rattle.std.specs.Prelude.{◌≡◌, ℕ, suc, ◌+◌, ◌<◌, ◌≤◌, 
 use Rattle.std.specs.List.{AllZip}
 use Rattle.jr_base.specs.declared.limits.TheConstants.{MAX_FILE_BYTES}
 use Rattle.jr_cut.specs.declared.scan_end.ScanEnd.TheVariants.{EndOfImage}
-use Rattle.jr_cut.specs.Cut.{IsRaw, IsStop, marker}
+use Rattle.jr_cut.specs.declared.scan_end.ScanEnd.{ScanEnd}
+use Rattle.jr_cut.specs.Cut.{IsCut, IsRaw, IsStop, marker}
 use Rattle.jr_head.specs.HeadValue.{HeadValue}
 use Rattle.jr_head.specs.Heads.{HeadOf}
 use Rattle.jr_scan.specs.ScanValue.{IsScanOf, intervals_of, scan_of_segments}
+use Rattle.jr_mend.specs.declared.breaks.Break.{Break}
 use Rattle.jr_mend.specs.declared.following.Following.{Following}
 use Rattle.jr_mend.specs.declared.following.Following.TheVariants.{End, Marker}
 use Rattle.jr_mend.specs.declared.following.FoundMarker.{FoundMarker}
@@ -54,15 +56,24 @@ pub record HasResyncedTo (file : List ℕ) (h : HeadValue) (w : Reading) : Type 
   pub written : w.bytes.items ≡ take h.scan_at file ++ joined_intervals raws
   pub on : (r : Resync) → PartsFrom (intervals_of h) (length (drop h.scan_at file)) w.pace w.k w.at (drop w.at file) r → IsResync (intervals_of h) h.scan_at (drop h.scan_at file) (record { raws = raws ++ r.raws; datas = datas ++ r.datas; breaks = w.breaks.items ++ r.breaks; end = r.end })
 
--- the file is resynchronised: its scan's bytes fall into these segments, and the segments that are lost at the end have no data
-pub record IsResynced (file : List ℕ) (h : HeadValue) (r : Resynced) : Type 0 where
+-- the file becomes this one, with these breaks and this end of its scan: its scan's bytes fall into these segments, and the
+-- segments that are lost at the end have no data
+pub record Becomes (file : List ℕ) (h : HeadValue) (new : List ℕ) (found : List Break) (end : ScanEnd) : Type 0 where
   pub segments : Resync
   pub is : IsResync (intervals_of h) h.scan_at (drop h.scan_at file) segments
-  pub bytes : r.file.items ≡ spliced file h segments.raws
-  pub breaks : r.breaks.items ≡ segments.breaks
-  pub ended : r.ended ≡ segments.end
-  pub head : HeadOf r.file.items h
-  pub scan : IsScanOf r.file.items (scan_of_segments h segments.datas EndOfImage)
+  pub bytes : new ≡ spliced file h segments.raws
+  pub breaks : found ≡ segments.breaks
+  pub ended : end ≡ segments.end
+  pub head : HeadOf new h
+  pub scan : IsScanOf new (scan_of_segments h segments.datas EndOfImage)
+
+-- the file is resynchronised
+abbrev pub IsResynced : (file : List ℕ) → HeadValue → Resynced → Type 0
+IsResynced file h r = Becomes file h r.file.items r.breaks.items r.ended
+
+-- the restart markers of the file are those that are due, and EOI ends its scan
+abbrev pub IsFileInStep : (file : List ℕ) → HeadValue → Type 0
+IsFileInStep file h = (datas : List (List ℕ)) × IsCut (intervals_of h) h.scan_at (drop h.scan_at file) datas EndOfImage
 
 -- the file that it would be is too long
 pub record IsTooLong (file : List ℕ) (h : HeadValue) : Type 0 where

@@ -9,7 +9,7 @@ ghost use Rattle.jr_cut.specs.Cut.{IsCut, IsRaw};
 ghost use Rattle.jr_head.specs.HeadValue.{HeadValue};
 ghost use Rattle.jr_head.specs.Heads.{HeadOf};
 ghost use Rattle.jr_mend.specs.declared.resync.Resynced.{Resynced};
-ghost use Rattle.jr_mend.specs.Reading.{IsResynced};
+ghost use Rattle.jr_mend.specs.Reading.{Becomes, IsFileInStep, IsResynced};
 ghost use Rattle.jr_mend.specs.Resync.{IsInStep, IsResync, Resync};
 ghost use Rattle.jr_mend.specs.Splice.{coded_intervals, spliced};
 ghost use Rattle.jr_scan.specs.ScanValue.{IsSameScan, IsScanOf, ScanValue, intervals_of, scan_of_segments};
@@ -49,4 +49,9 @@ pub fn each_scan_resyncs()
 /// States that a file whose restart markers are in step, once it is resynchronised, has the data that it had in each interval.
 pub fn file_in_step_stays()
     ensures { (file : List ℕ) (h : HeadValue) (r : Resynced) (s t : ScanValue) → IsResynced file h r → s.head ≡ h → t.head ≡ h → IsScanOf file s → IsInStep s.ended → IsScanOf r.file.items t → IsSameScan s t }
+{}
+
+/// States that a file whose restart markers are in step and whose scan ends with EOI becomes one with its own scan, without breaks.
+pub fn file_in_step_is_resynced()
+    ensures { (file : List ℕ) (s : ScanValue) → HeadOf file s.head → IsScanOf file s → IsFileInStep file s.head → (new : List ℕ) × Becomes file s.head new [] EndOfImage × IsScanOf new s }
 {}

@@ -8,6 +8,7 @@ mod choice;
 mod file_copy;
 mod following;
 mod headers;
+mod in_step;
 mod laws;
 mod locality;
 mod mending;
@@ -22,9 +23,10 @@ pub use breaks::Break;
 pub use choice::{Choice, MAX_COPIES, choose};
 pub use file_copy::FileCopy;
 pub use headers::under_header;
+pub use in_step::is_in_step;
 pub use laws::{
-    each_scan_resyncs, file_in_step_stays, header_stays, in_step_stays, intervals_are_cut,
-    one_resync, spliced_has_its_scan,
+    each_scan_resyncs, file_in_step_is_resynced, file_in_step_stays, header_stays, in_step_stays,
+    intervals_are_cut, one_resync, spliced_has_its_scan,
 };
 pub use locality::{damage_is_local, mending_is_exact};
 pub use mending::{MendError, Mended, mend};

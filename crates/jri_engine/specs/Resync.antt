@@ -5,40 +5,40 @@ use Rattle.jr_segments.specs.declared.refusal.Refusal.TheVariants.{TooLong}
 use Rattle.jr_head.specs.HeadValue.{HeadValue}
 use Rattle.jr_head.specs.Heads.{HeadOf, RefusalOf}
 use Rattle.jr_scan.specs.ScanValue.{ScanValue}
+use Rattle.jr_cut.specs.declared.scan_end.ScanEnd.{ScanEnd}
 use Rattle.jr_mend.specs.declared.breaks.Break.{Break}
-use Rattle.jr_mend.specs.declared.resync.Resynced.{Resynced}
-use Rattle.jr_mend.specs.Reading.{IsResynced, IsTooLong}
+use Rattle.jr_mend.specs.Reading.{Becomes, IsTooLong}
 use Rattle.jri_file.specs.declared.report.Fault.{Fault}
 use Rattle.jri_file.specs.declared.report.Fault.TheVariants as fault
 use Rattle.jri_file.specs.Files.{IsScanOfFile, OfFile}
 use Rattle.jri_engine.specs.declared.resync.ResyncReport.{ResyncReport}
 use Rattle.jri_engine.specs.Files.{BeginsFile, PaintsFile}
 
--- the file has a header, and this is what it becomes with its restart markers in step
-pub record Resyncs (file : List ℕ) (r : Resynced) : Type 0 where
+-- the file has a header, and becomes this one, with these breaks, once its restart markers are in step
+pub record Resyncs (file new : List ℕ) (breaks : List Break) : Type 0 where
   pub head : HeadValue
+  pub ended : ScanEnd
   pub is_head : HeadOf file head
-  pub is : IsResynced file head r
+  pub is : Becomes file head new breaks ended
 
 -- a picture of the resynchronised file was appended; the report is of its marks, and the breaks are the damaged file's
 pub record PaintsResynced (file : List ℕ) (first : Option ℕ) (report : ResyncReport) (old new : Option (List ℕ)) : Type 0 where
-  pub resynced : Resynced
-  pub is : Resyncs file resynced
-  pub painted : PaintsFile resynced.file.items first report.report old new
-  pub breaks : report.breaks.items ≡ resynced.breaks.items
+  pub resynced : List ℕ
+  pub is : Resyncs file resynced report.breaks.items
+  pub painted : PaintsFile resynced first report.report old new
 
 -- a beginning of it was
 pub record BeginsResynced (file : List ℕ) (first : Option ℕ) (old new : Option (List ℕ)) : Type 0 where
-  pub resynced : Resynced
-  pub is : Resyncs file resynced
-  pub begun : BeginsFile resynced.file.items first old new
+  pub resynced : List ℕ
+  pub breaks : List Break
+  pub is : Resyncs file resynced breaks
+  pub begun : BeginsFile resynced first old new
 
 -- the scan and the breaks of the resynchronised file
 pub record HasResyncedScan (file : List ℕ) (scan : ScanValue) (breaks : List Break) : Type 0 where
-  pub resynced : Resynced
-  pub is : Resyncs file resynced
-  pub is_scan : IsScanOfFile resynced.file.items scan
-  pub same : breaks ≡ resynced.breaks.items
+  pub resynced : List ℕ
+  pub is : Resyncs file resynced breaks
+  pub is_scan : IsScanOfFile resynced scan
 
 -- the file has a header, and the file that it would become is too long
 pub record BecomesTooLong (file : List ℕ) : Type 0 where

@@ -7,14 +7,14 @@ ghost use Rattle.jr_base.specs.declared.limits.TheConstants.{MAX_WORKERS};
 ghost use Rattle.jr_base.specs.Tally.{has_failed, known_in};
 ghost use Rattle.jr_head.specs.HeadValue.{HeadValue};
 ghost use Rattle.jr_head.specs.Heads.{HeadOf};
-ghost use Rattle.jr_mend.specs.Reading.{IsResyncFault};
+ghost use Rattle.jr_mend.specs.Reading.{IsFileInStep, IsResyncFault};
 ghost use Rattle.jri_file.specs.Files.{IsScanOfFile, OfFile};
 ghost use Rattle.jri_engine.specs.Resync.{BeginsResynced, HasResyncedScan, IsResyncFaultOf, IsResyncFaultOfInput, PaintsResynced, RefusesResync};
 
 use crate::engine::write_image;
 use jr_base::Tally;
 use jr_head::{Head, Refusal};
-use jr_mend::{Break, ResyncFault, Resynced, resynchronised};
+use jr_mend::{Break, ResyncFault, Resynced, is_in_step, resynchronised};
 use jr_scan::Scan;
 use jr_wall::Gate;
 use jri_file::{Fault, Report, read_file};
@@ -52,6 +52,7 @@ fn fault_of(fault: ResyncFault) -> Fault
 /// Cuts the scan of a file that has this header, for several owners.
 fn cut_file(alloc: Global, head: Head, file: Vec<u8>) -> Result<Arc<Scan>, Fault>
     requires { HeadOf file.items head }
+    ensures head { IfOk result (λ scan. (arc_value scan).head ≡ head) }
     ensures scan { IfOk result (λ scan. IsScanOfFile file.items (arc_value scan)) }
     ensures fault { IfErr result (λ f. f ≡ Fault.Memory) }
 {
@@ -79,13 +80,32 @@ fn cut_resynced(alloc: Global, head: Head, resynced: Resynced) -> Result<Resynce
     }
 }
 
-/// Resynchronises a file that has this header, and cuts its scan.
-fn resynced_scan(alloc: Global, head: Head, file: &[u8]) -> Result<ResyncedScan, Fault>
-    requires { HeadOf file.now head }
-    ensures scan { IfOk result (λ r. HasResyncedScan file.now (arc_value r.scan) r.breaks.items) }
-    ensures fault { IfErr result (IsResyncFaultOf file.now) }
+/// Cuts the scan of a file that has this header and whose restart markers are in step.
+fn cut_in_step(alloc: Global, head: Head, file: Vec<u8>) -> Result<ResyncedScan, Fault>
+    requires head { HeadOf file.items head }
+    requires in_step { IsFileInStep file.items head }
+    ensures scan { IfOk result (λ r. HasResyncedScan file.items (arc_value r.scan) r.breaks.items) }
+    ensures fault { IfErr result (λ f. f ≡ Fault.Memory) }
 {
-    match resynchronised(alloc, &head, file) {
+    match cut_file(alloc, head, file) {
+        Ok(scan) => Ok(ResyncedScan {
+            scan,
+            breaks: Vec::new(alloc),
+        }),
+        Err(fault) => Err(fault),
+    }
+}
+
+/// Resynchronises a file that has this header, and cuts its scan. A file whose restart markers are in step is cut as it is.
+fn resynced_scan(alloc: Global, head: Head, file: Vec<u8>) -> Result<ResyncedScan, Fault>
+    requires { HeadOf file.items head }
+    ensures scan { IfOk result (λ r. HasResyncedScan file.items (arc_value r.scan) r.breaks.items) }
+    ensures fault { IfErr result (IsResyncFaultOf file.items) }
+{
+    if is_in_step(&head, &file) {
+        return cut_in_step(alloc, head, file);
+    }
+    match resynchronised(alloc, &head, &file) {
         Ok(resynced) => cut_resynced(alloc, head, resynced),
         Err(fault) => Err(fault_of(fault)),
     }
@@ -100,7 +120,7 @@ fn read_resynced<R: Read>(alloc: Global, input: &mut Tally<R>) -> Result<Resynce
     ensures unfailed { result ≢ Err Fault.Read → has_failed input.new ≡ false }
 {
     let (file, head) = read_file(alloc, input)?;
-    resynced_scan(alloc, head, &file)
+    resynced_scan(alloc, head, file)
 }
 
 /// Does what `run` does for the file with its restart markers in step, and returns the markers that are out of step. A
