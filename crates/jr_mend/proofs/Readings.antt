@@ -15,8 +15,7 @@ use Rattle.jr_scan.specs.ScanValue.{intervals_of}
 use Rattle.jr_mend.specs.declared.breaks.Break.{Break}
 use Rattle.jr_mend.specs.declared.following.FoundMarker.{FoundMarker}
 use Rattle.jr_mend.specs.declared.reading.Reading.{Reading}
-use Rattle.jr_mend.specs.declared.resync.Resynced.{Resynced}
-use Rattle.jr_mend.specs.Reading.{HasResyncedTo, IsResynced, IsTooLong, Meets, Takes}
+use Rattle.jr_mend.specs.Reading.{Becomes, HasResyncedTo, IsTooLong, Meets, Takes}
 use Rattle.jr_mend.specs.declared.pace.Pace.{Pace}
 use Rattle.jr_mend.specs.declared.pace.TheConstants.{SURE_BYTES}
 use Rattle.jr_mend.specs.Resync.{EndsResync, IsResync, Part, PartsFrom, Resync, after_due, break_at, first_pace, pace_after, max_missing, new_segments, number_after, part_bytes}
@@ -206,14 +205,14 @@ module _ (file : List ℕ) (h : HeadValue) (w : Reading) (end : ScanEnd) (has : 
       let same : old ≡ segments_read = cc (a, b, c) in
       subst (IsResync (intervals_of h) h.scan_at (drop h.scan_at file)) same (has.on (record { raws = []; datas = []; breaks = []; end = end }) (parts_last (intervals_of h) (length (drop h.scan_at file)) w.pace w.k w.at (drop w.at file) end ends))
 
-  pub is_resynced : (r : Resynced) → HeadOf file h → r.file.items ≡ spliced file h has.raws → length r.file.items ≤ MAX_FILE_BYTES → r.breaks.items ≡ w.breaks.items → r.ended ≡ end → IsResynced file h r
-  is_resynced r head bytes small breaks ended =
+  pub becomes : (new : List ℕ) (breaks : List Break) (ended : ScanEnd) → HeadOf file h → new ≡ spliced file h has.raws → length new ≤ MAX_FILE_BYTES → breaks ≡ w.breaks.items → ended ≡ end → Becomes file h new breaks ended
+  becomes new breaks ended head bytes small listed ends_so =
       record {
         segments = segments_read;
         is = is_resync;
         bytes = bytes;
-        breaks = breaks;
-        ended = ended;
+        breaks = listed;
+        ended = ends_so;
         head = subst (λ (x : List ℕ). HeadOf x h) (sym bytes) (header_stays file (coded_intervals has.raws) h head (omega (arith, small, ap length bytes)));
         scan = subst (λ (x : List ℕ). Rattle.jr_scan.specs.ScanValue.IsScanOf x (Rattle.jr_scan.specs.ScanValue.scan_of_segments h has.datas Rattle.jr_cut.specs.declared.scan_end.ScanEnd.TheVariants.EndOfImage)) (sym bytes)
             (scan_is file h has.raws has.datas head has.each (omega (arith, has.count)) (omega (arith, has.count, has.few)));
