@@ -1,4 +1,5 @@
 pub mod EachPicture
+pub mod Faults
 pub mod InputFile
 pub mod Longer
 pub mod OneText

@@ -46,3 +46,13 @@ returns-clause-choice c =
 
 pub returns-clause-within : goal.returns-clause-within
 returns-clause-within c = below_all c.args.copies.now c.args.i c.loop-number.number c.loop-number.choice.copy c.loop-number.invariant.chosen c.loop-number.invariant.is.split
+
+pub interval-requires : goal.interval-requires
+interval-requires c = subst (λ (d : CopyValue). c.args.i < intervals_of d.scan.head) (sym c.index-copies-0.is) (c.requires.there 0 c.index-copies-0.result c.requires.some)
+
+pub interval-requires-in-loop-number : goal.interval-requires-in-loop-number
+interval-requires-in-loop-number c =
+    subst (λ (d : CopyValue). c.args.i < intervals_of d.scan.head) (sym c.index-copies-number.is) (c.requires.there c.loop-number.number c.index-copies-number.result c.loop-number-test.true)
+
+pub overflow_cast-number : goal.overflow_cast-number
+overflow_cast-number c = omega (arith, c.loop-number-test.true, c.requires.few)

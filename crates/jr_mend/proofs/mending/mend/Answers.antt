@@ -1,6 +1,10 @@
-use Rattle.std.proofs.Common.{◌≡◌, ◌<◌, ◌≤◌, ◌∙◌, length, take, sym, ap, arith}
+use Rattle.std.proofs.Common.{◌≡◌, ◌<◌, ◌≤◌, ◌∙◌, [], length, take, get_or, sym, ap, arith}
+use Rattle.std.proofs.lemmas.List.{get_or_default}
 use Rattle.jr_base.specs.declared.limits.TheConstants.{MAX_FILE_BYTES}
+use Rattle.jr_head.specs.HeadValue.{HeadValue}
+use Rattle.jr_head.proofs.HeadStays.{scan_within}
 use Rattle.jr_scan.specs.ScanValue.{ScanValue, intervals_of}
+use Rattle.jr_mend.specs.Copies.{CopyValue}
 use Rattle.jr_mend.proofs.ScanOfCopies.{has_chosen, mended_whole}
 use Rattle.jr_mend.proofs.mending.mend.Goals as goal
 
@@ -46,3 +50,17 @@ returns-then-len-gt-MAX_FILE_BYTES-clause-error c =
     mended_whole c.args.copies.now choices c.intervals-count.result first h source c.write_all.new.bytes.items file
     c.index-copies-0.is head c.file.ensures count written (c.in-Ok-write_image_end.ensures.whole (take h.scan_at source)) in
     (choices, file, m, omega (arith, c.if-len-gt-MAX_FILE_BYTES.true, c.len.ensures))
+
+pub write_header-requires : goal.write_header-requires
+write_header-requires c =
+    let first = c.index-copies-0.result in
+    let head : c.head.result.now ≡ first.scan.head = c.head.ensures.value ∙ ap (λ (s : ScanValue). s.head) c.scan-scan.ensures.value in
+    omega (arith, scan_within first.file [] first.scan.head c.scan-scan.ensures.is.head, ap (λ (h : HeadValue). h.scan_at) head, ap length c.file.ensures)
+
+pub write_all-requires-clause-there : goal.write_all-requires-clause-there
+write_all-requires-clause-there c = λ k d lt.
+    let copies = c.args.copies.now in
+    let first = c.index-copies-0.result in
+    let is : first ≡ get_or copies 0 d = c.index-copies-0.is ∙ get_or_default copies 0 first d c.requires.some in
+    let same = c.in_default.ensures.alike k d lt ∙ sym (ap (λ (x : CopyValue). x.scan.head) is) in
+    omega (arith, c.intervals-count.ensures.count, ap (λ (s : ScanValue). intervals_of s.head) c.scan-scan.ensures.value, ap intervals_of same)

@@ -25,3 +25,21 @@ loop-i-preserved c =
           subst (λ (l : List Choice). AreWritten copies l (i + 1) front c.write_chosen.new.bytes.items) (sym c.in_ok-push.ensures.items)
           (written_more copies c.loop-i.choices.items i front c.loop-i.bytes.items c.write_chosen.new.bytes.items c.in_ok-choice.choice (c.loop-i.invariant.1 front e) c.in_ok-choice.ensures),
     )
+
+pub write_chosen-requires-clause-there : goal.write_chosen-requires-clause-there
+write_chosen-requires-clause-there c = λ k d lt. omega (arith, c.requires.there k d lt, c.loop-i-test.true)
+
+pub write_chosen-requires-clause-at : goal.write_chosen-requires-clause-at
+write_chosen-requires-clause-at c = subst (λ (l : List ℕ). AreNextAt c.args.copies.now l c.loop-i.i) (sym c.as_slice.ensures.value) c.loop-i.invariant.0
+
+pub advance-requires-clause-there : goal.advance-requires-clause-there
+advance-requires-clause-there c = λ k d lt. omega (arith, c.requires.there k d lt, c.loop-i-test.true)
+
+pub advance-requires-clause-at : goal.advance-requires-clause-at
+advance-requires-clause-at c = subst (λ (l : List ℕ). AreNextAt c.args.copies.now l c.loop-i.i) (sym c.as_mut_slice.ensures.value) c.loop-i.invariant.0
+
+pub returns : goal.returns
+returns c = λ front e.
+    let all : c.loop-i.i ≡ c.args.count = omega (arith, c.loop-i-test.false, c.loop-i.auto.i-end) in
+    let written = subst (λ (n : ℕ). AreWritten c.args.copies.now c.loop-i.choices.items n front c.loop-i.bytes.items) all (c.loop-i.invariant.1 front e) in
+    search (rules, written)

@@ -1,9 +1,20 @@
-use Rattle.std.proofs.Common.{◌≡◌, ℕ, ◌-◌, List, length, drop, sym, ap, subst, ◌∙◌, length-drop, arith}
+use Rattle.std.proofs.Common.{◌≡◌, ℕ, ◌+◌, ◌-◌, ◌≤◌, List, length, drop, sym, ap, subst, ◌∙◌, length-append, length-drop, arith}
+use Rattle.jr_cut.specs.Cut.{IsStop, marker}
 use Rattle.jr_cut.proofs.Cuts.{rest_is}
+use Rattle.jr_cut.proofs.Segments.{length_marker}
+use Rattle.jr_mend.specs.declared.following.FoundMarker.{FoundMarker}
 use Rattle.jr_mend.specs.Reading.{Meets}
 use Rattle.jr_mend.specs.Resync.{EndsResync, max_missing}
 use Rattle.jr_mend.proofs.Readings.{read_more}
 use Rattle.jr_mend.proofs.reading.Reading.read_on.Goals as goal
+
+-- a marker lies within the file
+marker_within : (n k limit at : ℕ) (file tail : List ℕ) (m : FoundMarker) → at ≤ length file → tail ≡ drop at file → Meets n k limit tail m → at + m.length ≤ length file
+marker_within n k limit at file tail m there is meets =
+    omega (arith, there, meets.long, ap length is, length-drop at file, ap length meets.spelled, length-append (marker meets.more m.code) (drop m.length tail), length_marker meets.more m.code)
+
+pub following_at-requires-clause-stop : goal.following_at-requires-clause-stop
+following_at-requires-clause-stop c = subst IsStop (sym (rest_is c.args.file.now c.markers.self.at)) c.markers.invariant.stop
 
 pub following_at-requires-clause-size : goal.following_at-requires-clause-size
 following_at-requires-clause-size c =
@@ -16,6 +27,9 @@ returns-in-End-clause-ends c =
     let w = c.markers.self in
     let file = c.args.file.now in
     subst (λ n. EndsResync n w.k w.at (drop w.at file) c.in-End.ended) c.intervals-intervals.ensures.value (subst (λ x. EndsResync c.intervals-intervals.result w.k w.at x c.in-End.ended) (rest_is file w.at) c.in-End.ensures)
+
+pub take-requires-clause-within : goal.take-requires-clause-within
+take-requires-clause-within c = marker_within _ _ _ c.markers.self.at c.args.file.now _ c.in-Marker.marker c.markers.invariant.within (rest_is c.args.file.now c.markers.self.at) c.in-Marker.ensures
 
 pub markers-preserved : goal.markers-preserved
 markers-preserved c =
