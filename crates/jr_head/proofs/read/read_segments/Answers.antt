@@ -1,10 +1,12 @@
-use Rattle.std.proofs.Common.{rules, arith, ◌≤◌, length}
+use Rattle.std.proofs.Common.{rules, arith, ◌<◌, ◌≤◌, ◌-◌, ℕ, List, length, inr}
 use Rattle.jr_segments.specs.Marker.{code_of}
 use Rattle.jr_segments.proofs.SegmentLaws.{Framed, IsBytes, IsBytes-drop, framed_is}
+use Rattle.jr_head.specs.declared.definitions.Definitions.{Definitions}
+use Rattle.jr_head.specs.HeadReader.{ReadsHead}
 use Rattle.jr_head.proofs.HeadReaderLaws.{reached}
 use Rattle.jr_head.proofs.MarkerLaws.{no_scan, scan_code}
 use Rattle.jr_head.proofs.OneHeadLaws.{begins}
-use Rattle.jr_head.proofs.ReadLaws.{steps_on, refused_framing, refused_payload, has_frame_before, no_frame_before, rest_bytes, if_ok_head, if_err_refusal}
+use Rattle.jr_head.proofs.ReadLaws.{Reached, steps_on, refused_framing, refused_payload, has_frame_before, no_frame_before, rest_bytes, if_ok_head, if_err_refusal}
 use Rattle.jr_head.proofs.read.read_segments.Goals as goal
 
 pub segments-init : goal.segments-init
@@ -76,3 +78,46 @@ returns-then-eq-clause-refusal c =
     let framing = rw c.is_some.ensures at ok.obeys in
     if_err_refusal c.of-head.result c.args.bytes.now c.segments.rest.now c.segments.definitions (code_of c.in-Ok.segment.marker) c.in-Ok.segment.payload.now inv.starts inv.chain
     framing ok.code ok.payload (scan_code c.in-Ok.segment.marker (search (rules, c.eq.ensures, c.if-eq.true))) c.of-head.ensures.obeys
+
+-- a reader before the bytes that are left has read those before them
+reads_to : (bytes rest : List ℕ) (d : Definitions) → length rest ≤ length bytes → Reached bytes rest d → ReadsHead bytes (record { at = length bytes - length rest; definitions = d })
+reads_to bytes rest d within r = inr record { segments = r.0; rest = rest; is = r.1; offset = omega (arith, within); chain = r.2; in_force = r.3 }
+
+pub split_at-requires : goal.split_at-requires
+split_at-requires c = (reached c.args.bytes.now c.args.reader c.requires.starts c.requires.read).0
+
+pub overflow_sub-at : goal.overflow_sub-at
+overflow_sub-at c = c.segments.invariant.within
+
+pub read_segment-requires : goal.read_segment-requires
+read_segment-requires c = omega (arith, c.segments.invariant.within, c.segments.invariant.small)
+
+pub returns-in-Err-clause-on : goal.returns-in-Err-clause-on
+returns-in-Err-clause-on c =
+    let on = reads_to c.args.bytes.now c.segments.rest.now c.segments.definitions c.segments.invariant.within c.segments.invariant.chain in
+    search (rules, on)
+
+pub returns-then-eq-clause-on : goal.returns-then-eq-clause-on
+returns-then-eq-clause-on c =
+    let on = reads_to c.args.bytes.now c.segments.rest.now c.segments.definitions c.segments.invariant.within c.segments.invariant.chain in
+    search (rules, on)
+
+pub returns-in-Err-read-clause-on : goal.returns-in-Err-read-clause-on
+returns-in-Err-read-clause-on c = c.new.ensures c.args.bytes.now
+
+pub overflow_sub-scan_at : goal.overflow_sub-scan_at
+overflow_sub-scan_at c =
+    let ok = c.in-Ok.ensures in
+    let inv = c.segments.invariant in
+    let f : Framed c.is_some.result c.segments.rest.now = framed_is c.is_some.result _ c.segments.rest.now inv.are_bytes ok.obeys in
+    rw ok.rest (omega (arith, f.shorter, inv.within))
+
+pub of-head-requires-clause-behind : goal.of-head-requires-clause-behind
+of-head-requires-clause-behind c = omega (arith, c.segments.invariant.small)
+
+pub segments-smaller : goal.segments-smaller
+segments-smaller c =
+    let ok = c.in-Ok.ensures in
+    let f : Framed c.is_some.result c.segments.rest.now = framed_is c.is_some.result _ c.segments.rest.now c.segments.invariant.are_bytes ok.obeys in
+    let less : length c.in-Ok.segment.rest.now < length c.segments.rest.now = rw ok.rest (omega (arith, f.shorter)) in
+    less

@@ -1,5 +1,6 @@
-use Rattle.std.proofs.Common.{rules, ◌≡◌, ◌<◌, ℕ, ℤ, pos, List, [], length, get_or, set, sym, ap, subst, ◌∙◌, arith, inl, inr}
+use Rattle.std.proofs.Common.{rules, ◌≡◌, ◌<◌, ℕ, ℤ, pos, List, [], length, get_or, set, refl, sym, ap, subst, ◌∙◌, arith, inl, inr, w32}
 use Rattle.std.proofs.lemmas.Bool.{cases_lt}
+use Rattle.std.proofs.lemmas.Int.{to_z-of_z}
 use Rattle.std.proofs.lemmas.List.{get_or_default, get_or-set_same, get_or-set_other, length-set}
 use Rattle.jr_head.specs.Geometry.{order_of}
 use Rattle.jr_mcu.specs.Mcus.{component, block_of}
@@ -50,3 +51,27 @@ shifted-requires-clause-some c =
     let lt : k < length blocks = omega (arith, c.loop-k-test.true, ap (λ (o : List ℕ). length o) c.order-order.ensures.value, c.requires.count) in
     let is : z ≡ get_or blocks k [] = c.index-blocks-k.is ∙ get_or_default blocks k z [] lt in
     subst (λ (x : List ℤ). 0 < length x) (sym is) (c.requires.some k lt)
+
+pub loop-k-init : goal.loop-k-init
+loop-k-init c = record { room = refl; each = λ n lt. absurd (omega (arith, lt)) }
+
+pub bounds-blocks-k : goal.bounds-blocks-k
+bounds-blocks-k c = omega (arith, c.loop-k-test.true, ap (λ (o : List ℕ). length o) c.order-order.ensures.value, c.requires.count)
+
+pub bounds-others-k : goal.bounds-others-k
+bounds-others-k c = omega (arith, c.loop-k-test.true, ap (λ (o : List ℕ). length o) c.order-order.ensures.value, c.loop-k.invariant.room, c.requires.room)
+
+pub bounds-by-order : goal.bounds-by-order
+bounds-by-order c = search (rules, arith, c.order-order.ensures.within c.loop-k.k 0 c.loop-k-test.true)
+
+pub shifted-requires-clause-by : goal.shifted-requires-clause-by
+shifted-requires-clause-by c =
+    let d = get_or c.order-order.result.now c.loop-k.k 0 in
+    let small : IsSmall (get_or c.args.by.now d (pos 0)) = c.requires.by d (pos 0) (search (rules, arith, c.order-order.ensures.within c.loop-k.k 0 c.loop-k-test.true)) in
+    subst IsSmall (sym (to_z-of_z w32 (get_or c.args.by.now d (pos 0)) (search rules))) small
+
+pub returns : goal.returns
+returns c = record {
+  count = c.loop-k.invariant.room ∙ c.requires.room ∙ sym c.requires.count;
+  each = λ n lt. c.loop-k.invariant.each n (omega (arith, lt, c.loop-k-test.false, ap (λ (o : List ℕ). length o) c.order-order.ensures.value, c.requires.count));
+}

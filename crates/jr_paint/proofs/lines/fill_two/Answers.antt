@@ -100,3 +100,26 @@ read_halves-requires-clause-room_c g c =
     let wide : c.width-width.result ≡ (g.S.Samples.head_of c.args.samples.now).width = c.width-width.ensures.value ∙ ap (λ (x : HeadValue). x.width) c.head-head.ensures.value in
     let room = last_part _ _ _ _ _ _ c.split_at_mut-luma.ensures.back_len c.split_at_mut-next_luma.ensures.back_len c.split_at_mut-cb.ensures.back_len wide c.requires.room in
     omega (arith, c.upsample-next_luma.auto.near, room)
+
+pub split_at_mut-luma-requires : goal.split_at_mut-luma-requires
+split_at_mut-luma-requires g c =
+    let wide : c.width-width.result ≡ (g.S.Samples.head_of c.args.samples.now).width = c.width-width.ensures.value ∙ ap (λ (x : HeadValue). x.width) c.head-head.ensures.value in
+    omega (arith, wide, c.requires.room)
+
+pub split_at_mut-next_luma-requires : goal.split_at_mut-next_luma-requires
+split_at_mut-next_luma-requires g c =
+    let wide : c.width-width.result ≡ (g.S.Samples.head_of c.args.samples.now).width = c.width-width.ensures.value ∙ ap (λ (x : HeadValue). x.width) c.head-head.ensures.value in
+    omega (arith, wide, c.requires.room, c.split_at_mut-luma.ensures.back_len)
+
+pub split_at_mut-cb-requires : goal.split_at_mut-cb-requires
+split_at_mut-cb-requires g c =
+    let wide : c.width-width.result ≡ (g.S.Samples.head_of c.args.samples.now).width = c.width-width.ensures.value ∙ ap (λ (x : HeadValue). x.width) c.head-head.ensures.value in
+    omega (arith, wide, c.requires.room, c.split_at_mut-luma.ensures.back_len, c.split_at_mut-next_luma.ensures.back_len)
+
+pub overflow_mul-width : goal.overflow_mul-width
+overflow_mul-width g c = omega (arith, c.width-width.ensures.few)
+
+pub split_at_mut-upper-requires : goal.split_at_mut-upper-requires
+split_at_mut-upper-requires g c =
+    let wide : c.width-width.result ≡ (g.S.Samples.head_of c.args.samples.now).width = c.width-width.ensures.value ∙ ap (λ (x : HeadValue). x.width) c.head-head.ensures.value in
+    omega (arith, wide, c.requires.pixels)

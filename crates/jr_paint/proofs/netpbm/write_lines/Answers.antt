@@ -1,4 +1,9 @@
-use Rattle.std.proofs.Common.{refl, ◌≡◌, ◌+◌, ◌*◌, ◌-◌, ◌≤◌, ◌++◌, ◌∙◌, length, take, arith, rules}
+use Rattle.std.proofs.Common.{refl, ◌≡◌, ◌+◌, ◌*◌, ◌-◌, ◌≤◌, ◌++◌, ◌∙◌, ℕ, length, length-drop, take, drop, sym, ap, subst, arith, rules}
+use Rattle.std.proofs.Math.Nat.{mul-le-mul_right}
+use Rattle.std.proofs.lemmas.List.{length-take-le}
+use Rattle.jr_head.specs.HeadValue.{HeadValue}
+use Rattle.jr_paint.specs.Lines.{line_size}
+use Rattle.jr_paint.specs.Shades.{SharesChroma}
 use Rattle.jr_paint.specs.Text.{header_of, lines_of}
 use borrow.Rule.Slice.PartMut.{put_mid}
 use Rattle.jr_base.proofs.Appending.{on_err, front_first}
@@ -52,3 +57,55 @@ returns g c =
     let sent = rw (end, ← text_is _ (g.S.Samples.shown c.args.samples.now)) at c.lines.invariant.sent in
     let all = c.write_all.ensures in
     rest_sent g.W.Write.contents c.args.out.now c.lines.out c.write_all.new.out c.write_all.result _ _ sent all.ok all.err all.failed
+
+-- the lines that are painted at once have room where two have
+batch : (count line : ℕ) (h g : HeadValue) (size old : ℕ) → count ≤ 2 → line ≡ line_size h → h ≡ g → 2 * line_size g ≤ old → size ≡ old → count * line ≤ size
+batch count line h g size old few is same room long =
+    let e : line ≡ line_size g = is ∙ ap (λ (x : HeadValue). line_size x) same in
+    omega (arith, mul-le-mul_right {m = count} {n = 2} line few, e, room, long)
+
+pub overflow_mul-size : goal.overflow_mul-size
+overflow_mul-size g c = omega (arith, batch _ _ _ _ _ _ c.lines_at_once-count.ensures.few c.bytes_of_line-line.ensures.value c.head.ensures.value c.requires.pixels c.lines.invariant.long)
+
+pub make_room-requires-clause-fits : goal.make_room-requires-clause-fits
+make_room-requires-clause-fits g c = batch _ _ _ _ _ _ c.lines_at_once-count.ensures.few c.bytes_of_line-line.ensures.value c.head.ensures.value c.requires.pixels c.lines.invariant.long
+
+pub overflow_add-end : goal.overflow_add-end
+overflow_add-end g c = omega (arith, c.in_ok-filled.ensures.room)
+
+pub lines_at_once-count-requires-clause-down : goal.lines_at_once-count-requires-clause-down
+lines_at_once-count-requires-clause-down g c =
+    let high = c.height-height.ensures.value ∙ ap (λ (x : HeadValue). x.height) c.head-2.ensures.value in
+    omega (arith, c.lines-test.true, high, ap (λ (x : HeadValue). x.height) c.head-in-lines.ensures.value)
+
+pub fill_lines-requires-clause-down : goal.fill_lines-requires-clause-down
+fill_lines-requires-clause-down g c = omega (arith, c.lines_at_once-count.ensures.inside, ap (λ (x : HeadValue). x.height) c.head-in-lines.ensures.value)
+
+pub fill_lines-requires-clause-shared : goal.fill_lines-requires-clause-shared
+fill_lines-requires-clause-shared g c =
+    let shared = subst (λ (x : HeadValue). c.lines_at_once-count.result ≡ 2 → SharesChroma x c.lines.y) c.head-in-lines.ensures.value c.lines_at_once-count.ensures.shared in
+    search (rules, shared)
+
+pub fill_lines-requires-clause-room : goal.fill_lines-requires-clause-room
+fill_lines-requires-clause-room g c = omega (arith, c.requires.room, c.lines.auto.room)
+
+pub fill_lines-requires-clause-pixels : goal.fill_lines-requires-clause-pixels
+fill_lines-requires-clause-pixels g c =
+    let at = c.in_ok-filled.filled in
+    let n = c.lines_at_once-count.result * c.bytes_of_line-line.result in
+    let line : c.bytes_of_line-line.result ≡ line_size (g.S.Samples.head_of c.args.samples.now) = c.bytes_of_line-line.ensures.value ∙ ap (λ (x : HeadValue). line_size x) c.head.ensures.value in
+    let none : at + n - at ≡ n = omega arith in
+    let inside : at + n - at ≤ length (drop at c.lines.pixels) = omega (arith, length-drop at c.lines.pixels, c.in_ok-filled.ensures.room) in
+    let long = length-take-le (at + n - at) (drop at c.lines.pixels) inside ∙ none ∙ ap (λ (k : ℕ). c.lines_at_once-count.result * k) line in
+    search (rules, long)
+
+pub overflow_add-y : goal.overflow_add-y
+overflow_add-y g c =
+    let high = c.height-height.ensures.value ∙ ap (λ (x : HeadValue). x.height) c.head-2.ensures.value in
+    omega (arith, c.lines_at_once-count.ensures.inside, ap (λ (x : HeadValue). x.height) c.head-in-lines.ensures.value, high, c.height-height.ensures.few)
+
+pub lines-smaller : goal.lines-smaller
+lines-smaller g c = omega (arith, c.lines-test.true, c.lines_at_once-count.ensures.some)
+
+pub slice_bounds-write_all-end-2 : goal.slice_bounds-write_all-end-2
+slice_bounds-write_all-end-2 g c = sym (length-take-le c.lines.filled c.lines.pixels c.lines.invariant.filled)

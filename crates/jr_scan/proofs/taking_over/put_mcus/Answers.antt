@@ -1,7 +1,10 @@
-use Rattle.std.proofs.Common.{rules, ◌≡◌, ◌≤◌, ◌+◌, ◌*◌, ℕ, ◌-◌, List, length, take, refl, sym, ap, subst, ◌∙◌, arith}
+use Rattle.std.proofs.Common.{rules, ◌≡◌, ◌<◌, ◌≤◌, ◌+◌, ◌*◌, ℕ, ◌-◌, List, length, take, drop, length-drop, refl, sym, ap, subst, ◌∙◌, arith}
 use Rattle.std.specs.Prelude.{ℤ}
+use Rattle.std.proofs.lemmas.List.{length-take-le}
 use Rattle.std.proofs.lemmas.Slice.{take-put_mid_below}
+use Rattle.std.proofs.Math.Nat.{mul-le-mul_right}
 use Rattle.jr_head.specs.Geometry.{IsLawful, order_of}
+use Rattle.jr_head.specs.HeadValue.{HeadValue}
 use Rattle.jr_scan.specs.declared.place.RunEnd.TheVariants.{AllRead}
 use Rattle.jr_scan.specs.Run.{IsRun, run_from}
 use Rattle.jr_scan.proofs.McuReaders.{more_held, no_run}
@@ -47,3 +50,36 @@ returns-in_default-clause-run c =
     let kept = take-put_mid_below (k * per) (k * per + per - k * per) c.loop-k.blocks c.put.new.blocks (k * length (order_of i.head)) (omega (arith, first)) (omega (arith, room)) in
     let run = subst (λ (n : ℕ). IsRun (run_from i c.args.place.now k) (take n c.loop-k.blocks) c.loop-k.place AllRead) (sym first) c.loop-k.invariant.run in
     subst (λ (bs : List (List ℤ)). IsRun (run_from i c.args.place.now k) bs c.loop-k.place AllRead) (sym kept) run
+
+-- an MCU before the last one lies within the room for all
+fits : (h : HeadValue) (order : List ℕ) (k most size old : ℕ) → order ≡ order_of h → k < most → most * length (order_of h) ≤ old → size ≡ old → k * length order + length order ≤ size
+fits h order k most size old same lt room long =
+    let le : (k + 1) * length (order_of h) ≤ most * length (order_of h) = mul-le-mul_right {m = k + 1} {n = most} (length (order_of h)) (omega (arith, lt)) in
+    rw same (omega (arith, le, room, long))
+
+pub overflow_mul-start : goal.overflow_mul-start
+overflow_mul-start c = omega (arith, fits c.args.interval.now.head _ _ _ _ _ (c.order-per_mcu.ensures.value ∙ ap order_of c.head.ensures.value) c.loop-k-test.true c.requires.room c.loop-k.invariant.room)
+
+pub overflow_add-end : goal.overflow_add-end
+overflow_add-end c = omega (arith, fits c.args.interval.now.head _ _ _ _ _ (c.order-per_mcu.ensures.value ∙ ap order_of c.head.ensures.value) c.loop-k-test.true c.requires.room c.loop-k.invariant.room)
+
+pub offset_bounds-blocks-start : goal.offset_bounds-blocks-start
+offset_bounds-blocks-start c = omega (arith, fits c.args.interval.now.head _ _ _ _ _ (c.order-per_mcu.ensures.value ∙ ap order_of c.head.ensures.value) c.loop-k-test.true c.requires.room c.loop-k.invariant.room)
+
+pub slice_bounds-put-end : goal.slice_bounds-put-end
+slice_bounds-put-end c = fits c.args.interval.now.head _ _ _ _ _ (c.order-per_mcu.ensures.value ∙ ap order_of c.head.ensures.value) c.loop-k-test.true c.requires.room c.loop-k.invariant.room
+
+pub put-requires-clause-room : goal.put-requires-clause-room
+put-requires-clause-room c =
+    let same : c.order-per_mcu.result.now ≡ order_of c.args.interval.now.head = c.order-per_mcu.ensures.value ∙ ap order_of c.head.ensures.value in
+    let per = length c.order-per_mcu.result.now in
+    let at = c.loop-k.k * per in
+    let room = fits c.args.interval.now.head _ _ _ _ _ same c.loop-k-test.true c.requires.room c.loop-k.invariant.room in
+    length-take-le (at + per - at) (drop at c.loop-k.blocks) (omega (arith, room, length-drop at c.loop-k.blocks)) ∙ omega (arith, ap length same)
+
+pub returns-clause-run : goal.returns-clause-run
+returns-clause-run c =
+    let i = c.args.interval.now in
+    let same : c.order-per_mcu.result.now ≡ order_of i.head = c.order-per_mcu.ensures.value ∙ ap order_of c.head.ensures.value in
+    let all : c.loop-k.k ≡ c.args.most = omega arith in
+    rw all at (subst (λ (o : List ℕ). IsRun (run_from i c.args.place.now c.loop-k.k) (take (c.loop-k.k * length o) c.loop-k.blocks) c.loop-k.place AllRead) same c.loop-k.invariant.run)

@@ -24,3 +24,6 @@ returns-else-is_sound-clause-only c = search rules
 
 pub returns-else-is_sound-clause-in_range : goal.returns-else-is_sound-clause-in_range
 returns-else-is_sound-clause-in_range c = search rules
+
+pub returns-then-is_sound-clause-some : goal.returns-then-is_sound-clause-some
+returns-then-is_sound-clause-some c = c.if-is_sound.ensures.sound (search rules) c.args.self.now _ (c.in_ok-blocks.ensures.run, c.in_ok-blocks.ensures.read)
