@@ -37,7 +37,7 @@ use Rattle.jr_arrival.specs.More.{with_more}
 use Rattle.jr_arrival.proofs.LinesOfPictures.{row_of_board}
 use Rattle.jr_arrival.proofs.MoreData.{run_is_final}
 use Rattle.jr_arrival.proofs.ShownMcus.{shown_on, shown_there}
-use Rattle.jr_arrival.specs.Coming.{AreComing, Becomes, Begins, ComingRowValue, HasGiven, HasNoMore, IsComing, IsFinal, ReadsAll, ReadsTo, StandsIn, StaysLongest}
+use Rattle.jr_arrival.specs.Coming.{AreComing, GrowsInto, Begins, ComingRowValue, HasGiven, HasNoMore, IsComing, IsFinal, ReadsAll, ReadsTo, StandsIn, StaysLongest}
 use Rattle.jr_arrival.specs.Growing.{IsOver}
 use Rattle.jr_arrival.specs.declared.cursor.TheConstants.{MCU_BITS}
 use Rattle.jr_arrival.proofs.Knowing.{HasLongRest, long_rest_stays, rest_left}
@@ -48,7 +48,7 @@ use Rattle.jr_arrival.proofs.ScansGoOn.{becomes, grown_few}
 
 -- more bytes have come, with which no fewer segments have begun
 pub record Grows (old new : GrowingScanValue) : Type 0 where
-  pub becomes : Becomes old new.scan
+  pub becomes : GrowsInto old new.scan
   pub segments : old.segments ≤ new.segments
 
 pub grows : (bytes more : List ℕ) (old new : GrowingScanValue) → new.scan.head ≡ old.scan.head → HasCome old bytes → HasCome new (bytes ++ more) → Grows old new
@@ -61,14 +61,14 @@ over_stays : (old new : GrowingScanValue) (i : ℕ) → Grows old new → IsOver
 over_stays old new i b (inl n) = inl (λ e. n (sym (b.becomes.end n) ∙ e))
 over_stays old new i b (inr lt) = inr (omega (arith, lt, b.segments))
 
-pub becomes_itself : (part : GrowingScanValue) → Becomes part part.scan
+pub becomes_itself : (part : GrowingScanValue) → GrowsInto part part.scan
 becomes_itself part = record { head = refl; count = refl; so_far = λ i. ([], sym (append-nil (get_or part.scan.intervals i []))); whole = λ i over. refl; end = λ n. refl }
   where
     append-nil : (xs : List ℕ) → xs ++ [] ≡ xs
     append-nil [] = refl
     append-nil (x ∷ xs) = ap (λ (ys : List ℕ). x ∷ ys) (append-nil xs)
 
-becomes_more : (old new : GrowingScanValue) (t : ScanValue) → Grows old new → Becomes new t → Becomes old t
+becomes_more : (old new : GrowingScanValue) (t : ScanValue) → Grows old new → GrowsInto new t → GrowsInto old t
 becomes_more old new t a b = record {
   head = b.head ∙ a.becomes.head;
   count = b.count ∙ a.becomes.count;
@@ -128,12 +128,12 @@ module _ (part : GrowingScanValue) (v : ComingRowValue) (lawful : IsLawful part.
   -- further MCUs of the interval, which are the outcomes' in whatever the scan may become
   module _ (n : ℕ) (place : Option Place) (w : SampleRowValue) (within : v.done + n ≤ mcus_across part.scan.head) (few : v.mcu + n ≤ mcus_in part.scan.head v.number) (room : HasSampleRoom part.scan.head w) (reads : ReadsTo part v.number (v.mcu + n) place)
       (kept : (k : ℕ) → k < v.done * blocks_of part.scan.head → get_or (units_in part.scan.head w.lines.groups) k [] ≡ get_or (units_in part.scan.head v.samples.lines.groups) k [])
-      (codes : (t : ScanValue) → Becomes part t → (o : PieceValue) → o.interval ≡ interval_of t v.number → IsOutcome o → (k : ℕ) → k < n * blocks_of part.scan.head → get_or (units_in part.scan.head w.lines.groups) (v.done * blocks_of part.scan.head + k) [] ≡ unit_in_piece o (v.mcu * blocks_of part.scan.head + k)) where
+      (codes : (t : ScanValue) → GrowsInto part t → (o : PieceValue) → o.interval ≡ interval_of t v.number → IsOutcome o → (k : ℕ) → k < n * blocks_of part.scan.head → get_or (units_in part.scan.head w.lines.groups) (v.done * blocks_of part.scan.head + k) [] ≡ unit_in_piece o (v.mcu * blocks_of part.scan.head + k)) where
     abbrev new : ComingRowValue
     new = record { row = v.row; done = v.done + n; number = v.number; mcu = v.mcu + n; place = place; samples = w; lines = v.lines; marked = v.marked }
 
     -- by the head of whatever the scan may become
-    module _ (t : ScanValue) (b : Becomes part t) where
+    module _ (t : ScanValue) (b : GrowsInto part t) where
       abbrev KeptBy : HeadValue → Type 0
       KeptBy g = (k : ℕ) → k < v.done * blocks_of g → get_or (units_in g w.lines.groups) k [] ≡ get_or (units_in g v.samples.lines.groups) k []
 
@@ -171,7 +171,7 @@ module _ (part : GrowingScanValue) (v : ComingRowValue) (lawful : IsLawful part.
     abbrev i : IntervalValue
     i = interval_of part.scan v.number
 
-    codes_whole : (t : ScanValue) → Becomes part t → (o : PieceValue) → o.interval ≡ interval_of t v.number → IsOutcome o → (k : ℕ) → k < n * blocks_of part.scan.head → get_or (units_in part.scan.head w.lines.groups) (v.done * blocks_of part.scan.head + k) [] ≡ unit_in_piece o (v.mcu * blocks_of part.scan.head + k)
+    codes_whole : (t : ScanValue) → GrowsInto part t → (o : PieceValue) → o.interval ≡ interval_of t v.number → IsOutcome o → (k : ℕ) → k < n * blocks_of part.scan.head → get_or (units_in part.scan.head w.lines.groups) (v.done * blocks_of part.scan.head + k) [] ≡ unit_in_piece o (v.mcu * blocks_of part.scan.head + k)
     codes_whole t b o same is k lt =
         let d = b.so_far v.number in
         let longer = with_more i d.0 in
@@ -191,7 +191,7 @@ module _ (part : GrowingScanValue) (v : ComingRowValue) (lawful : IsLawful part.
       (within : v.done + n ≤ mcus_across part.scan.head) (few : v.mcu + n ≤ mcus_in part.scan.head v.number) (room : HasSampleRoom part.scan.head w)
       (kept : (k : ℕ) → k < v.done * blocks_of part.scan.head → get_or (units_in part.scan.head w.lines.groups) k [] ≡ get_or (units_in part.scan.head v.samples.lines.groups) k [])
       (grey : (k : ℕ) → k < n * blocks_of part.scan.head → get_or (units_in part.scan.head w.lines.groups) (v.done * blocks_of part.scan.head + k) [] ≡ grey_unit) where
-    codes_grey : (t : ScanValue) → Becomes part t → (o : PieceValue) → o.interval ≡ interval_of t v.number → IsOutcome o → (k : ℕ) → k < n * blocks_of part.scan.head → get_or (units_in part.scan.head w.lines.groups) (v.done * blocks_of part.scan.head + k) [] ≡ unit_in_piece o (v.mcu * blocks_of part.scan.head + k)
+    codes_grey : (t : ScanValue) → GrowsInto part t → (o : PieceValue) → o.interval ≡ interval_of t v.number → IsOutcome o → (k : ℕ) → k < n * blocks_of part.scan.head → get_or (units_in part.scan.head w.lines.groups) (v.done * blocks_of part.scan.head + k) [] ≡ unit_in_piece o (v.mcu * blocks_of part.scan.head + k)
     codes_grey t b o same is k lt =
         let i = interval_of part.scan v.number in
         let d = b.so_far v.number in
@@ -211,7 +211,7 @@ started_next part v = at_the_start (interval_of part.scan (v.number + 1))
 
 -- on to the next interval
 pub step_next : (part : GrowingScanValue) (v : ComingRowValue) (m : Marked) → IsComing part v → IsOver part.scan part.segments v.number → v.mcu ≡ mcus_in part.scan.head v.number → v.done < mcus_across part.scan.head
-    → ((t : ScanValue) → Becomes part t → interval_of t v.number ≡ interval_of part.scan v.number → CountsMarks t (length t.intervals) 0 (v.number + 1) m)
+    → ((t : ScanValue) → GrowsInto part t → interval_of t v.number ≡ interval_of part.scan v.number → CountsMarks t (length t.intervals) 0 (v.number + 1) m)
     → IsComing part (record { row = v.row; done = v.done; number = v.number + 1; mcu = 0; place = Some start_of_interval; samples = v.samples; lines = v.lines; marked = m })
 step_next part v m c over all more counts =
     let next = next_there part.scan.head v.number v.mcu c.stands.number all (omega (arith, c.stands.at, more, row_inside part.scan.head v.row c.stands.row)) in
@@ -299,7 +299,7 @@ step_lines part v n c whole few left = record {
 }
 
 -- the row's samples are painted as the picture's
-module _ (part : GrowingScanValue) (v : ComingRowValue) (lawful : IsLawful part.scan.head) (c : IsComing part v) (whole : v.done ≡ mcus_across part.scan.head) (n : ℕ) (few : v.lines + n ≤ first_line part.scan.head v.row + line_count part.scan.head v.row) (t : ScanValue) (b : Becomes part t) (board : BoardValue) (first : HasFirst t (length t.intervals) board) where
+module _ (part : GrowingScanValue) (v : ComingRowValue) (lawful : IsLawful part.scan.head) (c : IsComing part v) (whole : v.done ≡ mcus_across part.scan.head) (n : ℕ) (few : v.lines + n ≤ first_line part.scan.head v.row + line_count part.scan.head v.row) (t : ScanValue) (b : GrowsInto part t) (board : BoardValue) (first : HasFirst t (length t.intervals) board) where
   abbrev groups : List (List ℕ)
   groups = v.samples.lines.groups
 

@@ -1,7 +1,7 @@
 -- More bytes keep the head, and the data of each interval.
 use Rattle.std.proofs.Common.{◌≡◌, ◌≢◌, ℕ, zero, suc, ◌-◌, ◌<◌, ◌≤◌, ◌⊎◌, List, [], ◌∷◌, ◌++◌, length, replicate, drop, get_or, refl, sym, ap, subst, ◌∙◌, inl, inr, length-append, arith}
 use Rattle.std.proofs.lemmas.List.{append-nil, drop-append-le}
-use Rattle.jr_arrival.specs.Coming.{Becomes}
+use Rattle.jr_arrival.specs.Coming.{GrowsInto}
 use Rattle.jr_head.specs.HeadValue.{HeadValue}
 use Rattle.jr_head.specs.Heads.{HeadOf, HasOneHead, HasOneFault}
 use Rattle.jr_head.proofs.OneHeadLaws.{one_head_or_one_fault}
@@ -113,7 +113,7 @@ module _ (bytes more : List ℕ) (s t : ScanValue) (heads : t.head ≡ s.head) (
 
 -- so a scan whose file is arriving becomes the longer one
 module _ (bytes more : List ℕ) (part : GrowingScanValue) (t : ScanValue) (heads : t.head ≡ part.scan.head) (come : HasCome part bytes) (b : IsScanOf (bytes ++ more) t) where
-  pub becomes : Becomes part t
+  pub becomes : GrowsInto part t
   becomes =
       let s = part.scan in
       let keeps = kept bytes more s t heads come.starts come.scan b in
@@ -139,7 +139,7 @@ module _ (bytes file : List ℕ) (s t : ScanValue) (can : CanBecome bytes file) 
   pub scan_is_final : KeepsScan bytes s t
   scan_is_final = kept bytes can.more s t heads_are begins a.scan longer
 
-pub file_becomes : (bytes file : List ℕ) (part : GrowingScanValue) (t : ScanValue) → CanBecome bytes file → HeadOf bytes part.scan.head → HasCome part bytes → HasScan file t → Becomes part t
+pub file_becomes : (bytes file : List ℕ) (part : GrowingScanValue) (t : ScanValue) → CanBecome bytes file → HeadOf bytes part.scan.head → HasCome part bytes → HasScan file t → GrowsInto part t
 file_becomes bytes file part t can head come b =
     let has : HasScan bytes part.scan = record { head = head; scan = come.scan } in
     becomes bytes can.more part t (heads_are bytes file part.scan t can has b) come (longer bytes file part.scan t can has b)

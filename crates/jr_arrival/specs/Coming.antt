@@ -20,7 +20,7 @@ use Rattle.jr_arrival.specs.declared.cursor.TheConstants.{MCU_BITS}
 use Rattle.jr_arrival.specs.Growing.{IsOver, MayGrow}
 
 -- what a scan may become as bytes come: intervals that are over are unchanged, and data follow those of the others
-pub record Becomes (g : GrowingScanValue) (t : ScanValue) : Type 0 where
+pub record GrowsInto (g : GrowingScanValue) (t : ScanValue) : Type 0 where
   pub head : t.head ≡ g.scan.head
   pub count : length t.intervals ≡ length g.scan.intervals
   pub so_far : (i : ℕ) → (more : List ℕ) × (slice_index_or t.intervals i [] ≡ slice_index_or g.scan.intervals i [] ++ more)
@@ -95,8 +95,8 @@ pub record IsComing (g : GrowingScanValue) (v : ComingRowValue) : Type 0 where
   pub given : HasGiven g.scan.head v
   pub begun : (i : ℕ) → i < v.number → IsOver g.scan g.segments i
   pub reads : ReadsTo g v.number v.mcu v.place
-  pub shows : (t : ScanValue) → Becomes g t → ShowsFirstUnits t (length t.intervals) (v.row * mcus_across t.head) v.done (units_in t.head v.samples.lines.groups)
-  pub counts : (t : ScanValue) → Becomes g t → CountsMarks t (length t.intervals) 0 v.number v.marked
+  pub shows : (t : ScanValue) → GrowsInto g t → ShowsFirstUnits t (length t.intervals) (v.row * mcus_across t.head) v.done (units_in t.head v.samples.lines.groups)
+  pub counts : (t : ScanValue) → GrowsInto g t → CountsMarks t (length t.intervals) 0 v.number v.marked
 
 -- the interval is not over, and its MCUs are passed, or the next one is not whole and may become so
 pub record HasNoMore (g : GrowingScanValue) (v : ComingRowValue) : Type 0 where
@@ -105,4 +105,4 @@ pub record HasNoMore (g : GrowingScanValue) (v : ComingRowValue) : Type 0 where
 
 -- these are n lines of the image of every scan that this one may become, starting at this line
 abbrev pub AreComing : GrowingScanValue → (first count : ℕ) → List ℕ → Type 0
-AreComing g first count pixels = (t : ScanValue) → Becomes g t → (b : BoardValue) → HasFirst t (length t.intervals) b → pixels ≡ next_lines_of t.head (samples_of b) first count
+AreComing g first count pixels = (t : ScanValue) → GrowsInto g t → (b : BoardValue) → HasFirst t (length t.intervals) b → pixels ≡ next_lines_of t.head (samples_of b) first count

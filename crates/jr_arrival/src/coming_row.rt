@@ -8,7 +8,7 @@ ghost use Rattle.jr_scan.specs.Run.{left_at};
 ghost use Rattle.jr_scan.specs.ScanValue.{ScanValue, interval_of, mcus_in};
 ghost use Rattle.jr_piece.specs.Strips.{TellsSound};
 ghost use Rattle.jr_rows.specs.Rows.{CountsMarks, first_line, line_count};
-ghost use Rattle.jr_arrival.specs.Coming.{AreComing, Becomes, Begins, HasNoMore, IsComing, IsFinal, ReadsAll, ReadsTo};
+ghost use Rattle.jr_arrival.specs.Coming.{AreComing, GrowsInto, Begins, HasNoMore, IsComing, IsFinal, ReadsAll, ReadsTo};
 ghost use Rattle.jr_arrival.specs.Growing.{IsOver};
 
 use crate::cursor::MCU_BITS;
@@ -127,7 +127,7 @@ impl ComingRow {
     /// The marks of the intervals up to the one that is read: its own is that of its data so far.
     fn marks_so_far(&self, scan: &GrowingScan) -> Marked
         requires coming { IsComing scan.now self.now }
-        ensures counts { (t : ScanValue) → Becomes scan.now t → interval_of t self.now.number ≡ interval_of scan.now.scan self.now.number → CountsMarks t (length t.intervals) 0 (self.now.number + 1) result }
+        ensures counts { (t : ScanValue) → GrowsInto scan.now t → interval_of t self.now.number ≡ interval_of scan.now.scan self.now.number → CountsMarks t (length t.intervals) 0 (self.now.number + 1) result }
     {
         // By its contract the numbers of all intervals fit.
         let _most = scan.intervals();

@@ -5,7 +5,7 @@ use Rattle.jr_scan.specs.GrowingScan.{GrowingScanValue}
 use Rattle.jr_scan.specs.ScanValue.{ScanValue, interval_of, mcus_in}
 use Rattle.jr_scan.specs.declared.place.Place.{Place}
 use Rattle.jr_rows.specs.Rows.{CountsMarks}
-use Rattle.jr_arrival.specs.Coming.{Becomes, ComingRowValue, IsComing}
+use Rattle.jr_arrival.specs.Coming.{GrowsInto, ComingRowValue, IsComing}
 use Rattle.jr_arrival.specs.Growing.{IsOver}
 use Rattle.jr_arrival.proofs.Readings.{next_inside, step_next}
 use Rattle.jr_arrival.proofs.coming_row.ComingRow.advance.Goals as goal
@@ -29,7 +29,7 @@ returns-clause-coming c =
     let coming : IsComing c.args.scan.now v = subst (IsComing c.args.scan.now) (sym c.self.view_is) c.requires.coming in
     let more : i.done < mcus_across s.head = subst (λ (r : ComingRowValue). r.done < mcus_across s.head) (sym c.self.view_is) c.requires.more in
     let all : c.mcus_in.result ≡ mcus_in s.head i.number = c.mcus_in.ensures.value ∙ ap (λ (h : HeadValue). mcus_in h i.number) c.head.ensures.value in
-    let counts = subst (λ (r : ComingRowValue). (t : ScanValue) → Becomes c.args.scan.now t → interval_of t r.number ≡ interval_of s r.number → CountsMarks t (length t.intervals) 0 (r.number + 1) c.marks_so_far-self-inside.result) (sym c.self.view_is) c.marks_so_far-self-inside.ensures.counts in
+    let counts = subst (λ (r : ComingRowValue). (t : ScanValue) → GrowsInto c.args.scan.now t → interval_of t r.number ≡ interval_of s r.number → CountsMarks t (length t.intervals) 0 (r.number + 1) c.marks_so_far-self-inside.result) (sym c.self.view_is) c.marks_so_far-self-inside.ensures.counts in
     subst (λ (p : Place). IsComing c.args.scan.now (record { row = i.row; done = i.done; number = i.number + 1; mcu = 0; place = Some p; samples = i.samples; lines = i.lines; marked = c.marks_so_far-self-inside.result })) (sym c.start.ensures)
     (step_next c.args.scan.now v c.marks_so_far-self-inside.result coming (c.is_over.ensures.over c.if-not-is_over.false) (omega (arith, coming.stands.few, all, c.if-self-mcus_in.false)) more counts)
 
