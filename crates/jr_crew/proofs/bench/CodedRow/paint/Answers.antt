@@ -1,9 +1,9 @@
 use Rattle.std.proofs.Common.{rules, arith, sym, subst, ◌≡◌, ℕ, ◌*◌, ◌≤◌, Option, List, length}
 use Rattle.jr_head.specs.Geometry.{vertical_max}
-use Rattle.jr_paint.specs.Lines.{line_size}
+use Rattle.jr_paint.specs.Lines.{line_room, line_size}
 use Rattle.jr_rows.specs.FirstIntervalsValue.{FirstIntervalsValue}
 use Rattle.jr_rows.proofs.Lent.{all_back}
-use Rattle.jr_crew.specs.Bench.{HasRoom, HasWork, IsPainted, IsRead}
+use Rattle.jr_crew.specs.Bench.{HasLineRoom, HasRoom, HasSamples, HasWork, IsPainted, IsRead}
 use Rattle.jr_crew.proofs.bench.CodedRow.paint.Goals as goal
 
 pub invariant_of-result : goal.invariant_of-result
@@ -22,3 +22,36 @@ invariant_of-result g c =
     subst (λ (ps : List ℕ). HasWork g.S.OneFirstIntervals.part work × HasRoom g.S.OneFirstIntervals.part ps × IsPainted g.S.OneFirstIntervals.part (record { row = row; marked = marked; pixels = ps })) (sym is)
     (subst (λ (k : Option FirstIntervalsValue). HasWork k work × HasRoom k new × IsPainted k (record { row = row; marked = marked; pixels = new })) (sym c.requires)
     (c.paint_first.ensures.room, omega (arith, room, same), record { row = read.row; lines = c.paint_first.ensures.lines; counts = read.counts }))
+
+pub invariant_of-room : goal.invariant_of-room
+invariant_of-room g c =
+    let old = c.room.inside.bytes in
+    let new = c.paint_first.new.room in
+    let same : length new ≡ length old.items = search (rules, c.paint_first.auto.room) in
+    let long : old.len ≡ length new = search (rules, c.paint_first.auto.room) in
+    let is = all_back old.len new old.items long in
+    subst (λ (bs : List ℕ). HasLineRoom g.S.OneFirstIntervals.part (length bs) × HasSamples g.S.OneFirstIntervals.part c.room.inside.work) (sym is)
+    (subst (HasLineRoom g.S.OneFirstIntervals.part) (sym same) c.room.invariant.0, c.room.invariant.1)
+
+pub paint_first-requires-clause-lines : goal.paint_first-requires-clause-lines
+paint_first-requires-clause-lines g c =
+    let room = subst (λ (k : Option FirstIntervalsValue). HasLineRoom k (length c.room.inside.bytes.items)) c.requires c.room.invariant.0 in
+    subst (λ (bs : List ℕ). line_room c.args.part.now.scan.head ≤ length bs) (sym c.deref_mut.ensures.value) room
+
+pub paint_first-requires-clause-row : goal.paint_first-requires-clause-row
+paint_first-requires-clause-row g c =
+    let read = subst (λ (k : Option FirstIntervalsValue). IsRead k (record { row = c.self.inside.row; marked = c.self.inside.marked; work = c.self.inside.work })) c.requires c.self.invariant.2 in
+    omega (arith, read.row)
+
+pub paint_first-requires-clause-room : goal.paint_first-requires-clause-room
+paint_first-requires-clause-room g c = subst (λ (k : Option FirstIntervalsValue). HasWork k c.self.inside.work) c.requires c.self.invariant.0
+
+pub paint_first-requires-clause-read : goal.paint_first-requires-clause-read
+paint_first-requires-clause-read g c =
+    let read = subst (λ (k : Option FirstIntervalsValue). IsRead k (record { row = c.self.inside.row; marked = c.self.inside.marked; work = c.self.inside.work })) c.requires c.self.invariant.2 in
+    search read
+
+pub paint_first-requires-clause-pixels : goal.paint_first-requires-clause-pixels
+paint_first-requires-clause-pixels g c =
+    let room = subst (λ (k : Option FirstIntervalsValue). HasRoom k c.self.inside.pixels.items) c.requires c.self.invariant.1 in
+    subst (λ (ps : List ℕ). 8 * vertical_max c.args.part.now.scan.head * line_size c.args.part.now.scan.head ≤ length ps) (sym c.deref_mut-2.ensures.value) room
