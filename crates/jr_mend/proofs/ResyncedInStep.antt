@@ -1,5 +1,5 @@
 -- A file whose restart markers are in step and whose scan ends with EOI becomes one with its own scan.
-use Rattle.std.proofs.Common.{◌≡◌, ℕ, suc, ◌+◌, ◌-◌, ◌%◌, ◌<◌, ◌≤◌, List, [], ◌∷◌, ◌++◌, length, map, take, drop, replicate, refl, sym, ap, subst, ◌∙◌, length-append, Some, arith}
+use Rattle.std.proofs.Common.{◌≡◌, ℕ, suc, ◌+◌, ◌-◌, ◌%◌, ◌≤◌, List, [], ◌∷◌, ◌++◌, length, map, take, drop, replicate, refl, sym, ap, subst, ◌∙◌, length-append, arith}
 use Rattle.std.specs.List.{AllByRecursion, AllZip, flat_map}
 use Rattle.std.proofs.lemmas.List.{drop_at, length-take-le}
 use Rattle.std.proofs.Math.ListN.{length-drop}
@@ -13,7 +13,7 @@ use Rattle.jr_cut.proofs.Segments.{length_marker}
 use Rattle.jr_head.specs.HeadValue.{HeadValue}
 use Rattle.jr_head.specs.Heads.{HeadOf}
 use Rattle.jr_head.proofs.HeadStays.{header_stays, scan_within}
-use Rattle.jr_scan.specs.ScanValue.{IsScanOf, ScanValue, intervals_of, scan_of_segments}
+use Rattle.jr_scan.specs.ScanValue.{IsScanOf, ScanValue, intervals_of}
 use Rattle.jr_mend.specs.Reading.{Becomes, IsFileInStep}
 use Rattle.jr_mend.specs.Resync.{Part, Resync, new_segments}
 use Rattle.jr_mend.specs.Splice.{after_markers, coded_intervals, spliced}

@@ -1,4 +1,4 @@
-use Rattle.std.proofs.Common.{List, ℕ, drop, rules, subst}
+use Rattle.std.proofs.Common.{List, ℕ, drop, subst}
 use Rattle.jr_cut.specs.declared.scan_end.ScanEnd.TheVariants.{EndOfImage}
 use Rattle.jr_cut.specs.Cut.{IsCut}
 use Rattle.jr_cut.proofs.Cuts.{rest_is}
