@@ -30,8 +30,8 @@ fn ends_with_image(bytes: &[u8], intervals: u32) -> bool
     }
 }
 
-/// Returns whether the restart markers of a file with this header are those that are due, and EOI ends its scan. Resynchronised,
-/// such a file has its own scan, and no break.
+/// Returns whether the restart markers of a file with this header are those that are due, and EOI ends its scan. Once it is
+/// resynchronised such a file has its own scan, and no break.
 pub fn is_in_step(head: &Head, file: &[u8]) -> bool
     requires { HeadOf file.now head.now }
     ensures { result ≡ true → IsFileInStep file.now head.now }

@@ -96,7 +96,8 @@ fn cut_in_step(alloc: Global, head: Head, file: Vec<u8>) -> Result<ResyncedScan,
     }
 }
 
-/// Resynchronises a file that has this header, and cuts its scan. A file whose restart markers are in step is cut as it is.
+/// Resynchronises a file that has this header, and cuts its scan. A file whose restart markers are in step is not written
+/// anew.
 fn resynced_scan(alloc: Global, head: Head, file: Vec<u8>) -> Result<ResyncedScan, Fault>
     requires { HeadOf file.items head }
     ensures scan { IfOk result (λ r. HasResyncedScan file.items (arc_value r.scan) r.breaks.items) }
