@@ -1,22 +1,20 @@
 -- Which bytes of a file are checked.
 use Rattle.std.specs.Prelude.{◌≡◌, ◌⊎◌, ℕ, Bool, true, false, List}
 use Rattle.jr_segments.specs.declared.refusal.Refusal.{Refusal}
+use Rattle.jr_cut.specs.declared.scan_end.ScanEnd.{ScanEnd}
 use Rattle.jr_head.specs.HeadValue.{HeadValue}
 use Rattle.jr_head.specs.Heads.{HeadOf, RefusalOf}
 use Rattle.jr_mend.specs.declared.breaks.Break.{Break}
-use Rattle.jr_mend.specs.declared.resync.Resynced.{Resynced}
-use Rattle.jr_mend.specs.Reading.{IsResynced, IsTooLong}
+use Rattle.jr_mend.specs.Reading.{Becomes, IsTooLong}
 use Rattle.jri_archive.specs.declared.reading.ReadError.{ReadError}
 use Rattle.jri_archive.specs.declared.reading.ReadError.TheVariants.{Memory, TooLong}
 
 -- the file with its restart markers in step, and the markers that are not
 pub record IsPutInStep (file bytes : List ℕ) (breaks : List Break) : Type 0 where
   pub head : HeadValue
-  pub resynced : Resynced
+  pub ended : ScanEnd
   pub is_head : HeadOf file head
-  pub is : IsResynced file head resynced
-  pub written : bytes ≡ resynced.file.items
-  pub listed : breaks ≡ resynced.breaks.items
+  pub is : Becomes file head bytes breaks ended
 
 -- a refused file is checked as it is
 pub record IsLeft (file bytes : List ℕ) : Type 0 where
