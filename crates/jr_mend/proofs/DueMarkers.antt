@@ -47,7 +47,7 @@ pub due_end : (n : ℕ) (bytes : List ℕ) (at k : ℕ) → AreDueTo n bytes at 
 due_end n bytes at k due m start = (
   due.datas,
   subst (λ (x : List ℕ). IsCut n start x due.datas EndOfImage) (take-append-drop at bytes)
-  (segments_end n 0 k start due.datas (take at bytes) (drop at bytes) EndOfImage due.are (omega (arith, due.count)) due.few m),
+      (segments_end n 0 k start due.datas (take at bytes) (drop at bytes) EndOfImage due.are (omega (arith, due.count)) due.few m),
 )
 
 pub marker_within : (n : ℕ) (bytes : List ℕ) (at k count : ℕ) → at ≤ length bytes → IsStopOf n k 0 (drop at bytes) (Restart count) → at + count ≤ length bytes

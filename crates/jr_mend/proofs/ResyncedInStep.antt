@@ -82,9 +82,21 @@ module _ (file : List ℕ) (s : ScanValue) (head : HeadOf file s.head) (is : IsS
       let eoi = marker 0 EOI in
       let end = ap length tail.2 ∙ length-append (marker tail.0 EOI) tail.1 in
       omega (
-        arith, head.small, scan_within file [] h head, length-append (take h.scan_at file) (coded_intervals segments.raws), length-take-le h.scan_at file (scan_within file [] h head), length-drop h.scan_at file,
-        length-append (c.raw ++ rest) eoi, length-append c.raw rest, length_marker 0 EOI, no_longer 0 0 c.segments, ap length c.spelled, length-append c.raw (with_markers 0 c.segments ++ c.tail),
-        length-append (with_markers 0 c.segments) c.tail, end, length_marker tail.0 EOI,
+        arith,
+        head.small,
+        scan_within file [] h head,
+        length-append (take h.scan_at file) (coded_intervals segments.raws),
+        length-take-le h.scan_at file (scan_within file [] h head),
+        length-drop h.scan_at file,
+        length-append (c.raw ++ rest) eoi,
+        length-append c.raw rest,
+        length_marker 0 EOI,
+        no_longer 0 0 c.segments,
+        ap length c.spelled,
+        length-append c.raw (with_markers 0 c.segments ++ c.tail),
+        length-append (with_markers 0 c.segments) c.tail,
+        end,
+        length_marker tail.0 EOI,
       )
 
   become : Becomes file h new [] EndOfImage

@@ -2,7 +2,9 @@
 
 use crate::archive::owned;
 use jr_base::Tally;
-use jri_archive::{FileCounts, LineForm, answer as answer_by, asked, tell_counts, write_counts_line};
+use jri_archive::{
+    FileCounts, LineForm, answer as answer_by, asked, tell_counts, write_counts_line,
+};
 use std::alloc::Global;
 use std::io::{Cursor, Error, ErrorKind, Result as IoResult, Write};
 use std::test::Fail;

@@ -65,7 +65,15 @@ fn decode<T: Threads + Wait + Sync, R: Read + Drop, W: Write + Drop>(
         is_resync,
     } = decoding;
     let outcome = if is_resync {
-        match run_resynced(rt, alloc, &mut input, &mut output, workers, first, &OpenGate) {
+        match run_resynced(
+            rt,
+            alloc,
+            &mut input,
+            &mut output,
+            workers,
+            first,
+            &OpenGate,
+        ) {
             Ok(resynced) => {
                 *breaks = resynced.breaks;
                 Ok(resynced.report)
@@ -73,7 +81,15 @@ fn decode<T: Threads + Wait + Sync, R: Read + Drop, W: Write + Drop>(
             Err(fault) => Err(fault),
         }
     } else {
-        run(rt, alloc, &mut input, &mut output, workers, first, &OpenGate)
+        run(
+            rt,
+            alloc,
+            &mut input,
+            &mut output,
+            workers,
+            first,
+            &OpenGate,
+        )
     };
     let outcome = flushed(outcome, &mut output);
     let reason = match outcome {
