@@ -5,7 +5,7 @@ ghost use Rattle.std.specs.Prelude.{◌≡◌};
 use crate::crew::Crew;
 use crate::one_first_intervals::OneFirstIntervals;
 use crate::paint_room::PaintRoom;
-use jr_guesses::tuning::MAX_TASKS;
+use jr_work::tuning::MAX_TASKS;
 use jr_picture::Gate;
 use jr_rows::{Marked, RowPainter, shape_of};
 use std::marker::Model;

@@ -2,7 +2,7 @@
 
 ghost use Rattle.std.specs.Prelude.{◌≤◌};
 
-use jr_guesses::tuning::MAX_COUNTED;
+use jr_work::tuning::MAX_COUNTED;
 use jr_head::Head;
 use jr_rows::{FirstIntervals, bytes_of_row, shape_of};
 

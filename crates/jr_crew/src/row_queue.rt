@@ -8,7 +8,7 @@ use crate::bench::{Bench, CodedRow, Painted};
 use crate::one_first_intervals::OneFirstIntervals;
 use crate::scan_of::ScanOf;
 use jr_base::Memory;
-use jr_guesses::{GuessQueue, GuessTask};
+use jr_work::{GuessQueue, GuessTask};
 use jr_rows::{FirstIntervals, intervals_of_row};
 use jr_scan::Scan;
 use std::alloc::Global;

@@ -3,7 +3,7 @@
 ghost use Rattle.jr_crew.specs.Crew.{scan_of};
 
 use crate::one_first_intervals::OneFirstIntervals;
-use jr_guesses::OneScan;
+use jr_work::OneScan;
 use std::marker::PhantomData;
 
 /// The scan of the part that is decoded, as the type by which speculative reads know it.

@@ -12,7 +12,7 @@ use crate::caller_room::CallerRoom;
 use crate::crew::Crew;
 use crate::one_first_intervals::OneFirstIntervals;
 use jr_base::{Tally, WriteFault};
-use jr_guesses::{Beside, Help};
+use jr_work::{Beside, Help};
 use jr_picture::Gate;
 use jr_rows::{Marked, write_rows};
 use std::io::Write;

@@ -15,11 +15,11 @@ use crate::row_queue::RowQueue;
 use crate::scan_of::ScanOf;
 use crate::sending::{Helping, Sending};
 use jr_base::{Memory, Tally, WriteFault};
-use jr_guesses::tuning::{
+use jr_work::tuning::{
     MAX_COUNTED, MIN_MCUS_OF_BUFFER, MIN_READERS, MIN_READS, READS_OF_ROW_WORKER,
     ROW_BUFFERS_OF_WORKER,
 };
-use jr_guesses::{GuessQueue, run_beside, windows_of};
+use jr_work::{GuessQueue, run_beside, windows_of};
 use jr_picture::{Counts, Gate};
 use jr_rows::{
     FirstIntervals, Marked, PictureError, counts_of, intervals_of_row, shape_of, write_scan,

@@ -7,8 +7,8 @@ ghost use Rattle.jr_scan.specs.McuReader.{HasRead, HasEnded};
 ghost use Rattle.jr_scan.specs.ScanValue.{interval_of};
 
 use crate::shared_scan::SharedScan;
-use jr_guesses::OneScan;
-use jr_guesses::tuning::UNITS_OF_CHECK_STEP;
+use jr_work::OneScan;
+use jr_work::tuning::UNITS_OF_CHECK_STEP;
 use jr_head::Head;
 use jr_scan::{IntervalRef, McuReader};
 use std::sync::Wait;

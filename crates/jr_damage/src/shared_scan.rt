@@ -4,8 +4,8 @@ ghost use Rattle.std.specs.Prelude.{◌≡◌, Some};
 ghost use Rattle.jr_scan.specs.Guesses.{AreGuessesOf};
 ghost use Rattle.jr_scan.specs.ScanValue.{interval_of};
 
-use jr_guesses::tuning::MAX_TASKS;
-use jr_guesses::{GuessQueue, GuessTask, OneScan, ScanGuess};
+use jr_work::tuning::MAX_TASKS;
+use jr_work::{GuessQueue, GuessTask, OneScan, ScanGuess};
 use jr_scan::{Guesses, Scan};
 use std::alloc::Global;
 use std::marker::Model;

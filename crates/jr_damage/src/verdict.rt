@@ -8,7 +8,7 @@ ghost use Rattle.jr_damage.specs.Verdicts.{IsVerdictOf};
 use crate::damage::{damaged_front, damaged_front_by};
 use crate::lines::{Lines, lines_of};
 use crate::shared_scan::SharedScan;
-use jr_guesses::OneScan;
+use jr_work::OneScan;
 use jr_scan::Scan;
 use std::sync::Wait;
 

@@ -1,6 +1,6 @@
-//! Tests of what needs no piece of a picture, through the crates' public calls: devices, bits and code tables, heads,
-//! scans and blocks, the transform, painting, desks, archives, files that arrive in parts; against answers worked out by
-//! hand from T.81, and beside plain readers and painters.
+//! Tests through the crates' public calls: devices, bits and code tables, heads, scans and blocks, the transform,
+//! painting, desks, archives, files that arrive in parts, boards and whole runs; against answers worked out by hand from
+//! T.81, and beside plain readers and painters.
 #![tactic(auto)]
 
 #[cfg(test)]
@@ -30,4 +30,8 @@ mod places;
 #[cfg(test)]
 mod plain;
 #[cfg(test)]
+mod runs;
+#[cfg(test)]
 mod scan;
+#[cfg(test)]
+mod wall;

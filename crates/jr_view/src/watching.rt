@@ -9,7 +9,7 @@ ghost use Rattle.jr_view.specs.Told.{IsTold};
 use crate::looker::Looker;
 use crate::screen::Screen;
 use jr_code::Memory;
-use jr_guesses::Beside;
+use jr_work::Beside;
 use jr_scan::Scan;
 use jr_wall::{Decoding, Gate, Seat};
 use std::alloc::Global;

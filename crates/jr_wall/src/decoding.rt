@@ -18,7 +18,7 @@ use crate::sweeping::{sweep, usable};
 use crate::workers::{hang, make_piece};
 use jr_cells::{Cells, Desk, Seat, Sight, StripCells};
 use jr_code::Memory;
-use jr_job::{Job, OneScan};
+use jr_work::{Job, OneScan};
 use jr_picture::Gate;
 use jr_piece::Piece;
 use jr_scan::Scan;

@@ -3,7 +3,7 @@
 ghost use Rattle.std.specs.Prelude.{◌≡◌, ◌<◌, ◌≤◌, length, Some};
 
 use jr_cells::StripCells;
-use jr_job::{Job, OneScan};
+use jr_work::{Job, OneScan};
 use jr_scan::Scan;
 use std::alloc::Global;
 use std::sync::Arc;

@@ -6,7 +6,7 @@ ghost use Rattle.jr_wall.specs.DecodingValue.{AreNumbered};
 
 use jr_cells::{StripCells, StripSight};
 use jr_code::Memory;
-use jr_job::strip_mcus;
+use jr_work::strip_mcus;
 use jr_piece::Strip;
 use jr_scan::Scan;
 use std::alloc::Global;

@@ -3,7 +3,7 @@
 ghost use Rattle.std.specs.Prelude.{◌≡◌, ◌<◌, length};
 ghost use Rattle.jr_scan.specs.Guess.{IsGuessOf};
 
-use jr_guesses::windows_of;
+use jr_work::windows_of;
 use jr_scan::{Guess, McuReader, Scan};
 use std::alloc::Global;
 use std::io::Write;

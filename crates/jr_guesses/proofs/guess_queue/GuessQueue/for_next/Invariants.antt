@@ -1,5 +1,0 @@
-use Rattle.jr_guesses.specs.Guessing.{AreGuesses}
-use Rattle.jr_guesses.proofs.guess_queue.GuessQueue.for_next.Given as goal
-
-abbrev pub invariant-loop-slot : goal.invariant-loop-slot
-invariant-loop-slot g l = AreGuesses g.S.OneScan.scan l.number l.guesses

@@ -1,0 +1,181 @@
+//! Threads that hang pieces into cells, and viewers that look.
+
+ghost use Rattle.std.specs.Prelude.{◌≡◌};
+
+use crate::wall::shown::piece;
+use crate::wall::views::{
+    Content, content_of, contents_now, contents_of, is_kept, look, watch_twice,
+};
+use jr_cells::{Cells, Sight};
+use jr_piece::Piece;
+use std::alloc::Global;
+use std::process::Abort;
+use std::sync::Arc;
+use std::test::Fail;
+use std::thread;
+use std::thread::Threads;
+use test_files::files::file;
+use test_files::scans::scan_of;
+
+/// Ten restart intervals, each of one grey data unit.
+const RISING: &str =
+    "GW 43 FF D0 4B FF D1 53 FF D2 5B FF D3 63 FF D4 6B FF D5 73 FF D6 7B FF D7 1F FF D0 A0 E";
+
+/// Its greys by djpeg.
+const RISING_GREYS: [u8; 10] = [114, 116, 118, 120, 136, 138, 140, 142, 128, 160];
+
+/// The same values in the other order: no interval looks as in the file above.
+const FALLING: &str =
+    "GW A0 FF D0 1F FF D1 7B FF D2 73 FF D3 6B FF D4 63 FF D5 5B FF D6 53 FF D7 4B FF D0 43 E";
+
+const FALLING_GREYS: [u8; 10] = [160, 128, 142, 140, 138, 136, 120, 118, 116, 114];
+
+/// The pieces of a file, in the order of their numbers.
+fn pieces_of(alloc: Global, words: &str) -> Result<Vec<Arc<Piece>>, Fail> {
+    let bytes = file(alloc, words)?;
+    let scan = scan_of(alloc, bytes.as_slice())?;
+    let mut pieces = Vec::new(alloc);
+    for i in 0..scan.intervals() {
+        pieces.push(piece(alloc, &scan, i)?)?;
+    }
+    Ok(pieces)
+}
+
+/// The last piece of a file.
+fn last_piece_of(alloc: Global, words: &str) -> Result<Arc<Piece>, Fail> {
+    Ok(pieces_of(alloc, words)?.pop().ok_or("ten pieces")?)
+}
+
+/// Hangs a piece into the cell of its number.
+fn hang(cells: &Cells, piece: Arc<Piece>, sight: &mut Sight) -> Result<(), Arc<Piece>>
+    requires { sight.old.cells ≡ cells.now }
+    ensures { sight.new.cells ≡ sight.old.cells }
+{
+    let number = piece.number();
+    if number >= cells.count() {
+        return Err(piece);
+    }
+    cells.hang(number, piece, sight)
+}
+
+/// Hangs these pieces by a sight of its own, and says how many found their cells empty.
+fn hang_all(cells: &Cells, pieces: Vec<Arc<Piece>>) -> u32 {
+    let Ok(mut sight) = cells.sight() else {
+        return 0;
+    };
+    let mut count = 0u32;
+    for piece in pieces {
+        if hang(cells, piece, &mut sight).is_ok() {
+            count = count.saturating_add(1);
+        }
+    }
+    count
+}
+
+/// Two threads hang pieces, and this says how many found their cells empty.
+fn hang_twice<R: Threads + Sync>(
+    rt: &R,
+    cells: &Cells,
+    one: Vec<Arc<Piece>>,
+    two: Vec<Arc<Piece>>,
+) -> u32 {
+    let (first, second) = thread::join(
+        rt,
+        move || hang_all(cells, one),
+        move || hang_all(cells, two),
+    );
+    first.saturating_add(second)
+}
+
+/// Whether each cell tells of a piece of one of the two files.
+fn is_full(contents: &[Option<Content>; 10]) -> bool {
+    let (rising, falling) = (contents_of(&RISING_GREYS), contents_of(&FALLING_GREYS));
+    contents.iter().zip(rising.iter().zip(falling.iter())).all(|(found, (rising, falling))| found
+        == rising
+        || found == falling)
+}
+
+#[test]
+fn pieces_of_another_thread_are_found(rt: HostRuntime) -> Result<(), Fail> {
+    let cells = Cells::open(rt.alloc(), 10)?;
+    let pieces = pieces_of(rt.alloc(), RISING)?;
+    let shared = &cells;
+    let (count, ()) = thread::join(&rt, move || hang_all(shared, pieces), || ());
+    assert!(rt; count == 10);
+    assert!(rt; contents_now(&cells)? == contents_of(&RISING_GREYS));
+    Ok(())
+}
+
+/// What comes back where a piece is hung, and whether it is this very piece; none where its cell takes it.
+fn back_of(
+    cells: &Cells,
+    piece: Arc<Piece>,
+    sight: &mut Sight,
+) -> Result<Option<(Content, bool)>, Fail>
+    requires { sight.old.cells ≡ cells.now }
+    ensures { sight.new.cells ≡ sight.old.cells }
+{
+    let kept = Arc::try_clone(&piece)?;
+    let Err(back) = hang(cells, piece, sight) else {
+        return Ok(None);
+    };
+    let content = content_of(&back).ok_or("a data unit")?;
+    Ok(Some((content, Arc::strong_count(&kept) == 2)))
+}
+
+#[test]
+fn a_full_cell_gives_the_second_piece_back(rt: HostRuntime) -> Result<(), Fail> {
+    let cells = Cells::open(rt.alloc(), 10)?;
+    let mut sight = cells.sight()?;
+    assert!(rt; hang(&cells, last_piece_of(rt.alloc(), RISING)?, &mut sight).is_ok());
+    let back = back_of(&cells, last_piece_of(rt.alloc(), FALLING)?, &mut sight)?;
+    assert!(rt; back == Some(((9, true, [114; 64]), true)));
+    assert!(rt; look(&cells, 9, &mut sight) == Some((9, true, [160; 64])));
+    Ok(())
+}
+
+#[test]
+fn an_empty_cell_is_empty_until_a_piece_is_hung(rt: HostRuntime) -> Result<(), Fail> {
+    let cells = Cells::open(rt.alloc(), 10)?;
+    assert!(rt; cells.count() == 10);
+    let mut one = cells.sight()?;
+    let mut two = cells.sight()?;
+    let last = last_piece_of(rt.alloc(), RISING)?;
+    assert!(rt; look(&cells, 9, &mut one).is_none());
+    assert!(rt; look(&cells, 9, &mut one).is_none());
+    assert!(rt; hang(&cells, last, &mut two).is_ok());
+    assert!(rt; look(&cells, 9, &mut one) == Some((9, true, [160; 64])));
+    assert!(rt; look(&cells, 9, &mut two) == Some((9, true, [160; 64])));
+    assert!(rt; look(&cells, 8, &mut one).is_none());
+    cells.agree(&mut one, &mut two);
+    assert!(rt; Cells::open(rt.alloc(), 0)?.count() == 0);
+    Ok(())
+}
+
+/// Two threads hang pieces of the same numbers, while two viewers look.
+fn hang_and_watch<R: Threads + Abort + Sync>(rt: &R, alloc: Global) -> Result<(), Fail> {
+    let cells = Cells::open(alloc, 10)?;
+    let (rising, mut falling) = (pieces_of(alloc, RISING)?, pieces_of(alloc, FALLING)?);
+    falling.reverse();
+    let shared = &cells;
+    let ((one, two), count) = thread::join(
+        rt,
+        || watch_twice(rt, shared),
+        move || hang_twice(rt, shared, rising, falling),
+    );
+    assert!(rt; count == 10);
+    let (mut one, mut two) = (one?, two?);
+    let last = contents_now(&cells)?;
+    assert!(rt; is_full(&last));
+    assert!(rt; is_kept(&one, &last) && is_kept(&two, &last));
+    cells.agree(&mut one.sight, &mut two.sight);
+    Ok(())
+}
+
+#[test]
+fn viewers_agree_while_two_threads_hang(rt: HostRuntime) -> Result<(), Fail> {
+    for _ in 0..20u32 {
+        hang_and_watch(&rt, rt.alloc())?;
+    }
+    Ok(())
+}

@@ -1,0 +1,15 @@
+use Rattle.std.proofs.Common.{rules, sym, subst}
+use Rattle.jr_scan.specs.Guesses.{AreGuessesOf}
+use Rattle.jr_scan.specs.IntervalValue.{IntervalValue}
+use Rattle.jr_work.specs.Sharing.{IsOneOf}
+use Rattle.jr_work.proofs.Gathering.{its_interval}
+use Rattle.jr_work.proofs.progress.Progress.begin.Goals as goal
+
+pub guide-requires : goal.guide-requires
+guide-requires g c =
+    let own : IsOneOf g.S.OneScan.scan c.in-Some.reading = search rules in
+    let it = its_interval g.S.OneScan.scan c.args.scan.now c.in-Some.reading c.number.result c.requires own c.number.ensures in
+    subst (λ (i : IntervalValue). AreGuessesOf i c.guesses_for-guesses.result) (sym it.1) c.guesses_for-guesses.ensures
+
+pub guide-requires-else-passes : goal.guide-requires-else-passes
+guide-requires-else-passes g c = c.none.ensures c.in-Some.reading

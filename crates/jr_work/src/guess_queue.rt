@@ -1,0 +1,255 @@
+//! Speculative reads ahead of a reader of a scan, and buffers for them.
+
+ghost use Rattle.std.specs.Prelude.{◌≡◌, ◌*◌, ◌/◌, ◌<◌, Some, IfOk, length};
+ghost use Rattle.jr_work.specs.declared.tuning.TheConstants.{MIN_BITS_OF_READ};
+ghost use Rattle.jr_scan.specs.ScanValue.{interval_of};
+ghost use Rattle.jr_scan.specs.Guesses.{AreGuessesOf};
+
+use crate::guess_slot::GuessSlot;
+use crate::guess_task::GuessTask;
+use crate::one_scan::OneScan;
+use crate::scan_guess::ScanGuess;
+use crate::tuning::MIN_BITS_OF_READ;
+use crate::window::{Window, bits_of};
+use jr_base::Memory;
+use jr_scan::{Guesses, Scan};
+use std::alloc::Global;
+
+/// Returns the number of speculative reads for which an interval's data have bits.
+pub fn windows_of(scan: &Scan, number: u32) -> u64
+    requires { number < length scan.now.intervals }
+    ensures { result ≡ 8 * length (interval_of scan.now number).bytes / MIN_BITS_OF_READ }
+{
+    scan.interval_ref(number).bytes().len() as u64 * 8 / MIN_BITS_OF_READ
+}
+
+/// Returns the number of bits of `mcus` MCUs of the scan's first interval, if all have equally many; at least one.
+fn bits_of_step(scan: &Scan, mcus: u32) -> u64 {
+    // By its contract a scan has an interval.
+    let _some = scan.intervals();
+    let steps = u64::from(scan.interval_ref(0).mcus() / mcus.max(1));
+    (bits_of(scan, 0) / steps.max(1)).max(MIN_BITS_OF_READ)
+}
+
+/// Speculative reads ahead of a reader that reads the scan's intervals one after the other, some MCUs at a step.
+/// Threads make them outside of the lock that guards the queue.
+#[derive(Drop)]
+pub struct GuessQueue<S: OneScan> {
+    /// Number of intervals that are read.
+    limit: u32,
+    slots: Vec<GuessSlot<S>>,
+    /// Number of buffers that no thread brings yet.
+    lacking: u32,
+    /// Number of MCUs that fit into a buffer.
+    most: u32,
+    /// Position of the reader: its interval and bit.
+    at: (u32, u64),
+    /// Start of the next speculative read.
+    next: (u32, u64),
+    /// Number of bits of the reader's last step, if it ended in the interval in which it began, or was all of it.
+    step_bits: u64,
+}
+
+impl<S: OneScan> GuessQueue<S> {
+    /// Opens a queue of at most `guesses` speculative reads of the first `limit` intervals, for which threads bring
+    /// buffers of `most` MCUs each. The reader is at the start, and its steps are of `step` MCUs. A speculative read
+    /// has about the bits of one step, so its buffer holds more.
+    ///
+    /// # Errors
+    ///
+    /// `Memory` if allocation fails.
+    pub fn open(
+        alloc: Global,
+        scan: &Scan,
+        limit: u32,
+        guesses: u32,
+        step: u32,
+        most: u32,
+    ) -> Result<GuessQueue<S>, Memory>
+        ensures { IfOk result (λ q. q.at ≡ (0, 0)) }
+    {
+        Ok(GuessQueue {
+            limit,
+            slots: Vec::with_capacity(alloc, guesses as usize)?,
+            lacking: guesses,
+            most,
+            at: (0, 0),
+            next: (0, 0),
+            step_bits: bits_of_step(scan, step),
+        })
+    }
+
+    /// Returns a queue of no speculative reads.
+    pub fn none(alloc: Global) -> GuessQueue<S>
+        ensures { result.at ≡ (0, 0) }
+    {
+        let start = (0, 0);
+        GuessQueue {
+            limit: 0,
+            slots: Vec::new(alloc),
+            lacking: 0,
+            most: 0,
+            at: start,
+            next: start,
+            step_bits: MIN_BITS_OF_READ,
+        }
+    }
+
+    /// Returns whether one more buffer is of use: no thread brings one yet, and there are bits to read ahead.
+    pub fn wants_room(&self, scan: &Scan) -> bool {
+        self.lacking > 0 && self.next_window(scan).is_some()
+    }
+
+    /// Returns the number of MCUs of a buffer that a thread is to bring; `None` if there are all buffers, or others
+    /// bring them.
+    pub fn lacks_room(&mut self) -> Option<u32>
+        ensures { self.new.at ≡ self.old.at }
+    {
+        if self.lacking == 0 {
+            return None;
+        }
+        self.lacking -= 1;
+        Some(self.most)
+    }
+
+    /// Takes one more buffer, which a thread brings.
+    pub fn bring(&mut self, room: ScanGuess<S>)
+        ensures { self.new.at ≡ self.old.at }
+    {
+        drop(self.slots.push(GuessSlot::of(room)));
+    }
+
+    /// Notes that the reader is at this bit of an interval.
+    pub fn reach(&mut self, scan: &Scan, number: u32, bit: u64)
+        ensures { self.new.at ≡ (number, bit) }
+    {
+        let bits = if number == self.at.0 {
+            bit.saturating_sub(self.at.1)
+        } else if self.at.1 == 0 {
+            bits_of(scan, self.at.0)
+        } else {
+            0
+        };
+        if bits > 0 {
+            self.step_bits = bits.max(MIN_BITS_OF_READ);
+        }
+        self.at = (number, bit);
+    }
+
+    /// Returns the number of the interval in which the reader is.
+    pub fn number(&self) -> u32
+        ensures { result ≡ self.now.at.0 }
+    {
+        self.at.0
+    }
+
+    /// A bit near the end of the next step, if it is as long as the last one; none where the data end before.
+    fn next_end(&self, scan: &Scan) -> Option<u64> {
+        let end = self.at.1.saturating_add(self.step_bits);
+        if end < bits_of(scan, self.at.0) {
+            Some(end)
+        } else {
+            None
+        }
+    }
+
+    /// Returns whether a speculative read has an MCU that starts where the reader is, and one covers the end of its
+    /// next step: then the step needs no reading.
+    pub fn has_next(&self, scan: &Scan) -> bool {
+        let (number, bit) = self.at;
+        let has_end = match self.next_end(scan) {
+            Some(end) => self.slots.iter().any(|slot| slot.is_ready(number, end)),
+            None => true,
+        };
+        has_end && self.slots.iter().any(|slot| slot.has(number, bit))
+    }
+
+    /// Returns whether a thread makes a speculative read that can serve the reader's next step.
+    pub fn makes_next(&self, scan: &Scan) -> bool {
+        let (number, bit) = self.at;
+        let end = self.next_end(scan).unwrap_or(bit);
+        self.slots.iter().any(|slot| slot.is_made(number, bit) || slot.is_made(number, end))
+    }
+
+    /// Returns a slot that is free for another speculative read.
+    fn free_slot(&self) -> Option<usize> {
+        let (number, bit) = self.at;
+        self.slots.iter().position(|slot| slot.is_free(number, bit))
+    }
+
+    /// Returns the bits of the next speculative read: past those of the others, and past the reader's next step, which
+    /// it makes meanwhile; as many as the last step had, and up to half as many more if the interval ends there.
+    fn next_window(&self, scan: &Scan) -> Option<Window> {
+        let (number, bit) = self
+            .next
+            .max((self.at.0, self.at.1.saturating_add(self.step_bits)));
+        let (number, from) = if bit < bits_of(scan, number) {
+            (number, bit)
+        } else {
+            (number.saturating_add(1), 0)
+        };
+        if number >= self.limit {
+            return None;
+        }
+        let all = bits_of(scan, number);
+        let to = from.saturating_add(self.step_bits);
+        let is_last = to.saturating_add(self.step_bits / 2) >= all;
+        Some(Window {
+            number,
+            from,
+            to: if is_last { all } else { to },
+        })
+    }
+
+    /// Returns whether another speculative read can be made.
+    pub fn can_guess(&self, scan: &Scan) -> bool {
+        self.free_slot().is_some() && self.next_window(scan).is_some()
+    }
+
+    /// Takes the next speculative read, for a thread to make.
+    pub fn take(&mut self, scan: &Scan) -> Option<GuessTask<S>>
+        ensures { self.new.at ≡ self.old.at }
+    {
+        let (Some(place), Some(window)) = (self.free_slot(), self.next_window(scan)) else {
+            return None;
+        };
+        self.next = (window.number, window.to);
+        let Some(slot) = self.slots.get_mut(place) else {
+            return None;
+        };
+        let Some(guess) = slot.take(window) else {
+            return None;
+        };
+        Some(GuessTask {
+            place,
+            window,
+            guess,
+        })
+    }
+
+    /// Keeps a speculative read that is made.
+    pub fn put(&mut self, made: GuessTask<S>)
+        ensures { self.new.at ≡ self.old.at }
+    {
+        let GuessTask { place, guess, .. } = made;
+        if let Some(slot) = self.slots.get_mut(place) {
+            slot.put(guess);
+        }
+    }
+
+    /// Returns the speculative reads for the reader's next step, if it is not much longer than the last one.
+    pub fn for_next(&self, scan: &Scan) -> Guesses
+        requires { S.scan ≡ Some scan.now }
+        ensures { AreGuessesOf (interval_of scan.now self.now.at.0) result }
+    {
+        let (number, bit) = self.at;
+        let to = bit.saturating_add(self.step_bits.saturating_add(self.step_bits / 2));
+        let mut guesses = Guesses::none();
+        for slot in &self.slots {
+            if slot.is_between(number, bit, to) {
+                guesses = slot.put_into(number, guesses);
+            }
+        }
+        guesses
+    }
+}

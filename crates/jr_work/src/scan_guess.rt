@@ -1,0 +1,91 @@
+//! A speculative read of an interval of the scan.
+
+ghost use Rattle.std.specs.Prelude.{◌≡◌, Some};
+ghost use Rattle.jr_work.specs.Guessing.{AreGuesses};
+
+use crate::one_scan::OneScan;
+use crate::window::Window;
+use jr_base::Memory;
+use jr_scan::{Guess, Guesses, Scan};
+use std::alloc::Global;
+use std::marker::{Model, PhantomData};
+use std::sync::Arc;
+
+/// A speculative read of an interval of the scan, or a buffer for one. Several threads may read it.
+#[derive(Drop)]
+pub struct ScanGuess<S: OneScan> {
+    guess: Arc<Guess>,
+    of: PhantomData<S>,
+}
+
+impl<S: OneScan> Model for ScanGuess<S> {
+    ghost use Rattle.std.specs.Arc.{arc_value};
+    ghost use Rattle.jr_work.specs.Guessing.{HasGuessOf};
+    ghost use Rattle.jr_scan.specs.Guess.{GuessValue};
+
+    ghost Value = { GuessValue };
+
+    ghost view = { λ g. arc_value g.guess };
+
+    ghost invariant = { λ g. HasGuessOf S.scan (arc_value g.guess) };
+}
+
+impl<S: OneScan> ScanGuess<S> {
+    /// Allocates a buffer for a speculative read of at most `most` MCUs.
+    pub fn open(alloc: Global, scan: &Scan, most: u32) -> Result<ScanGuess<S>, Memory>
+        requires { S.scan ≡ Some scan.now }
+    {
+        // By its contract a scan has an interval.
+        let _some = scan.intervals();
+        let Ok(guess) = Guess::open(alloc, &scan.interval_ref(0), most) else {
+            return Err(Memory);
+        };
+        let Ok(guess) = Arc::new(alloc, guess) else {
+            return Err(Memory);
+        };
+        Ok(ScanGuess {
+            guess,
+            of: PhantomData,
+        })
+    }
+
+    /// Returns whether no other thread reads it.
+    pub(crate) fn is_unused(&self) -> bool {
+        Arc::strong_count(&self.guess) == 1
+    }
+
+    /// Returns whether one of its MCUs starts at this bit of an interval.
+    pub(crate) fn has(&self, number: u32, bit: u64) -> bool {
+        self.guess.number() == number && self.guess.find(bit).is_some()
+    }
+
+    /// Makes the speculative read of these bits.
+    pub(crate) fn read(self, scan: &Scan, window: Window) -> ScanGuess<S>
+        requires { S.scan ≡ Some scan.now }
+    {
+        let mut guess = self.guess;
+        if window.number < scan.intervals()
+            && let Some(room) = Arc::get_mut(&mut guess)
+        {
+            room.read(&scan.interval_ref(window.number), window.from, window.to);
+        }
+        ScanGuess {
+            guess,
+            of: PhantomData,
+        }
+    }
+
+    /// Adds this speculative read, if it is of the interval, to those of the interval.
+    pub(crate) fn put_into(&self, number: u32, guesses: Guesses) -> Guesses
+        requires { AreGuesses S.scan number guesses }
+        ensures { AreGuesses S.scan number result }
+    {
+        if self.guess.number() != number {
+            return guesses;
+        }
+        match Arc::try_clone(&self.guess) {
+            Ok(guess) => guesses.with(guess),
+            Err(_) => guesses,
+        }
+    }
+}
