@@ -7,7 +7,7 @@ use crate::differences::Differences;
 use crate::failure::Failure;
 use crate::runs::compare_outcome;
 use crate::scans::report_of;
-use jr_arrival::{Arriving, Finished};
+use jr_arrival::{Finished, PartialFile};
 use jr_base::Memory;
 use jr_head::Refusal;
 use jr_rows::{paint_scan_lines, shape_of};
@@ -26,8 +26,8 @@ struct Pace {
 }
 
 /// Returns the size of a line of the picture in bytes, and its height, once the header has come.
-fn size_of(arriving: &Arriving) -> Option<(usize, u32)> {
-    let head = arriving.head()?;
+fn size_of(partial_file: &PartialFile) -> Option<(usize, u32)> {
+    let head = partial_file.head()?;
     Some((shape_of(head).line, head.height()))
 }
 
@@ -35,12 +35,12 @@ fn size_of(arriving: &Arriving) -> Option<(usize, u32)> {
 /// there are any.
 fn take_next(
     alloc: Global,
-    arriving: &mut Arriving,
+    partial_file: &mut PartialFile,
     line: usize,
     room: &mut [u8],
     shown: &mut Vec<u8>,
 ) -> Result<bool, Refusal> {
-    let count = arriving.next_lines(alloc, room)?;
+    let count = partial_file.next_lines(alloc, room)?;
     let length = usize::saturating_mul(count as usize, line).min(room.len());
     shown.extend_from_slice(&room[..length])?;
     Ok(count > 0)
@@ -49,17 +49,17 @@ fn take_next(
 /// Appends the lines that the bytes so far make final, at most the given number at once.
 fn take_lines(
     alloc: Global,
-    arriving: &mut Arriving,
+    partial_file: &mut PartialFile,
     most: u32,
     shown: &mut Vec<u8>,
 ) -> Result<(), Refusal> {
-    arriving.begin(alloc)?;
-    let Some((line, height)) = size_of(arriving) else {
+    partial_file.begin(alloc)?;
+    let Some((line, height)) = size_of(partial_file) else {
         return Ok(());
     };
     let mut room = vec![in alloc; 0; usize::saturating_mul(most.min(height) as usize, line)]?;
     for _ in 0..height {
-        if !take_next(alloc, arriving, line, room.as_mut_slice(), shown)? {
+        if !take_next(alloc, partial_file, line, room.as_mut_slice(), shown)? {
             break;
         }
     }
@@ -69,7 +69,7 @@ fn take_lines(
 /// Pushes a file in parts, and appends the lines as they are settled.
 fn push_parts(
     alloc: Global,
-    arriving: &mut Arriving,
+    partial_file: &mut PartialFile,
     bytes: &[u8],
     pace: Pace,
     shown: &mut Vec<u8>,
@@ -77,10 +77,10 @@ fn push_parts(
     requires { 0 < pace.part }
 {
     for more in bytes.chunks(pace.part) {
-        if arriving.push(more).is_err() {
+        if partial_file.push(more).is_err() {
             return Err(Refusal::Memory);
         }
-        take_lines(alloc, arriving, pace.lines, shown)?;
+        take_lines(alloc, partial_file, pace.lines, shown)?;
     }
     Ok(())
 }
@@ -105,9 +105,13 @@ fn put_missing(alloc: Global, scan: &Scan, first: u32, shown: &mut Vec<u8>) -> R
 }
 
 /// Appends the lines that are missing when no further byte comes.
-fn finish(alloc: Global, arriving: Arriving, shown: &mut Vec<u8>) -> Result<Report, Refusal> {
-    let lines = arriving.lines();
-    let Finished { scan, counts } = arriving.finish(alloc)?;
+fn finish(
+    alloc: Global,
+    partial_file: PartialFile,
+    shown: &mut Vec<u8>,
+) -> Result<Report, Refusal> {
+    let lines = partial_file.lines();
+    let Finished { scan, counts } = partial_file.finish(alloc)?;
     put_missing(alloc, &scan, lines, shown)?;
     Ok(report_of(&scan, counts))
 }
@@ -116,9 +120,9 @@ fn finish(alloc: Global, arriving: Arriving, shown: &mut Vec<u8>) -> Result<Repo
 fn arrive(alloc: Global, bytes: &[u8], pace: Pace, shown: &mut Vec<u8>) -> Result<Report, Refusal>
     requires { 0 < pace.part }
 {
-    let mut arriving = Arriving::new(alloc);
-    match push_parts(alloc, &mut arriving, bytes, pace, shown) {
-        Ok(()) => finish(alloc, arriving, shown),
+    let mut partial_file = PartialFile::new(alloc);
+    match push_parts(alloc, &mut partial_file, bytes, pace, shown) {
+        Ok(()) => finish(alloc, partial_file, shown),
         Err(refusal) => Err(refusal),
     }
 }

@@ -6,10 +6,10 @@ use Rattle.jr_cut.specs.declared.scan_end.ScanEnd.{ScanEnd}
 use Rattle.jr_cut.specs.declared.scan_end.ScanEnd.TheVariants.{EndOfFile}
 use Rattle.jr_cut.specs.Cut.{IsRaw, CodedSegment, with_markers, HasMarker, IsEnding, CutFrom, Cutting}
 use Rattle.jr_cut.proofs.CutLaw.{ending_not_next, ending_stop, markers_stop, one_cut}
-use Rattle.jr_cut.proofs.OpenSegments.{ending_more}
+use Rattle.jr_cut.proofs.PartialSegments.{ending_more}
 use Rattle.jr_cut.proofs.Endings.{behind_marker, bytes_of, next_marker, next_stop}
 use Rattle.jr_cut.proofs.Spellings.{begins_stopped, one_stop}
-use Rattle.jr_arrival.specs.Growing.{GrowsTo}
+use Rattle.jr_arrival.specs.LongerFile.{GrowsTo}
 
 goes_on_first : (first first' : List ℕ) (ds es : List (List ℕ)) → first ≡ first' → GrowsTo ds es → GrowsTo (first ∷ ds) (first' ∷ es)
 goes_on_first first first' ds es e g = record {

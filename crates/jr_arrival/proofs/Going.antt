@@ -5,7 +5,7 @@ use Rattle.jr_base.specs.declared.marker.TheConstants.{PREFIX, RST0}
 use Rattle.jr_cut.specs.declared.scan_end.ScanEnd.{ScanEnd}
 use Rattle.jr_cut.specs.declared.scan_end.ScanEnd.TheVariants.{EndOfFile}
 use Rattle.jr_cut.specs.Cut.{IsRaw, marker, IsEnding, CutFrom, IsStop}
-use Rattle.jr_cut.proofs.OpenSegments.{ending_more as marked_more}
+use Rattle.jr_cut.proofs.PartialSegments.{ending_more as marked_more}
 use Rattle.jr_scan.specs.ScanValue.{ScanValue, IsScanOf, intervals_of}
 use Rattle.jr_cut.proofs.Following.{last_cut, next_cut, only_fill}
 use Rattle.jr_cut.proofs.Slices.{length_front, split_at}

@@ -20,7 +20,7 @@ use Rattle.jr_scan.proofs.LongestFronts.{longest_front}
 use Rattle.jr_scan.proofs.McuReaders.{front_of_run, run_of_front, stopped}
 use Rattle.jr_piece.proofs.ScanLaws.{one_run, runs_meet, shorter_front}
 use Rattle.jr_arrival.specs.declared.cursor.TheConstants.{MCU_BITS}
-use Rattle.jr_arrival.specs.Growing.{IsKnown, IsNeverWhole, MayGrow}
+use Rattle.jr_arrival.specs.LongerFile.{IsKnown, IsNeverWhole, MayGrow}
 use Rattle.jr_arrival.specs.More.{with_more}
 use Rattle.jr_arrival.proofs.Longest.{none_in_long}
 use Rattle.jr_arrival.proofs.MoreData.{bits_more, run_is_final}

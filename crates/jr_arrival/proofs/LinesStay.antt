@@ -29,7 +29,7 @@ use Rattle.jr_rows.proofs.PictureLines.{row_of}
 use Rattle.jr_arrival.specs.More.{with_more}
 use Rattle.jr_arrival.proofs.MoreData.{front_is_final}
 use Rattle.jr_arrival.specs.Arrival.{CanBecome}
-use Rattle.jr_arrival.specs.Growing.{HasScan, HasEndedAt, IsNeverWhole, KeepsScan, IsSettled, RowIsSettled, lines_of_row}
+use Rattle.jr_arrival.specs.LongerFile.{HasScan, HasEndedAt, IsNeverWhole, KeepsScan, IsSettled, RowIsSettled, lines_of_row}
 use Rattle.jr_arrival.proofs.Knowing.{never_stays, same_longest, same_rest}
 use Rattle.jr_arrival.proofs.ScansGoOn.{interval_is, scan_is_final}
 

@@ -12,13 +12,13 @@ use Rattle.jr_paint.proofs.Places.{below_div_ceil, in_div_ceil}
 use Rattle.jr_cut.specs.declared.scan_end.ScanEnd.{ScanEnd}
 use Rattle.jr_cut.specs.declared.scan_end.ScanEnd.TheVariants.{EndOfFile, EndOfImage, OtherMarker, OutOfStep, ExtraRestart}
 use Rattle.jr_scan.specs.declared.place.Place.{Place}
-use Rattle.jr_scan.specs.GrowingScan.{GrowingScanValue, HasCome}
+use Rattle.jr_scan.specs.PartialScan.{PartialScanValue, HasCome}
 use Rattle.jr_scan.specs.ScanValue.{ScanValue, interval_of, intervals_of, mcus_in}
 use Rattle.jr_scan.proofs.McuReaders.{front_of_run}
 use Rattle.jr_rows.specs.Rows.{first_line}
 use Rattle.jr_rows.proofs.PictureRows.{row_inside}
-use Rattle.jr_arrival.specs.Coming.{ComingRowValue, HasNoMore, IsComing, ReadsTo}
-use Rattle.jr_arrival.specs.Growing.{IsOver}
+use Rattle.jr_arrival.specs.PartialRows.{PartialRowValue, HasNoMore, IsPartialRow, ReadsTo}
+use Rattle.jr_arrival.specs.LongerFile.{IsOver}
 use Rattle.jr_arrival.specs.Settled.{GivesSettled, HasRows}
 use Rattle.jr_arrival.proofs.Knowing.{IsLimit, front_few, limit_of, never_few, not_known}
 use Rattle.jr_arrival.proofs.SettledRows.{before_later, has_rows}
@@ -26,18 +26,18 @@ use Rattle.jr_arrival.proofs.SettledRows.{before_later, has_rows}
 -- ---- no MCU is read past those that are settled of the interval that has begun last
 
 -- which is not over
-is_open : (part : GrowingScanValue) (i : ℕ) → part.scan.ended ≡ EndOfFile → i + 1 ≡ part.segments → IsOver part.scan part.segments i → ⊥
+is_open : (part : PartialScanValue) (i : ℕ) → part.scan.ended ≡ EndOfFile → i + 1 ≡ part.segments → IsOver part.scan part.segments i → ⊥
 is_open part i end last (inl n) = n end
 is_open part i end last (inr lt) = absurd (omega (arith, lt, last))
 
-read_few : (part : GrowingScanValue) (number mcu limit : ℕ) (place : Option Place) → (IsOver part.scan part.segments number → ⊥) → mcu ≤ mcus_in part.scan.head number → ReadsTo part number mcu place → IsLimit (interval_of part.scan number) limit → mcu ≤ limit
+read_few : (part : PartialScanValue) (number mcu limit : ℕ) (place : Option Place) → (IsOver part.scan part.segments number → ⊥) → mcu ≤ mcus_in part.scan.head number → ReadsTo part number mcu place → IsLimit (interval_of part.scan number) limit → mcu ≤ limit
 read_few part number mcu limit (Some p) going few r l = front_few (interval_of part.scan number) limit mcu r.0 l (front_of_run (interval_of part.scan number) mcu r.0 p r.1.run few)
 read_few part number mcu limit None going few r l = elim r.3.final [
   | inl over ↦ absurd (going over)
   | inr long ↦ never_few (interval_of part.scan number) limit mcu l few r.0 r.1 r.3.longest long
 ]
 
-module _ (part : GrowingScanValue) (v : ComingRowValue) (i limit : ℕ) (c : IsComing part v) (end : part.scan.ended ≡ EndOfFile) (last : i + 1 ≡ part.segments) (far : IsLimit (interval_of part.scan i) limit) where
+module _ (part : PartialScanValue) (v : PartialRowValue) (i limit : ℕ) (c : IsPartialRow part v) (end : part.scan.ended ≡ EndOfFile) (last : i + 1 ≡ part.segments) (far : IsLimit (interval_of part.scan i) limit) where
   abbrev h : HeadValue
   h = part.scan.head
 
@@ -76,12 +76,12 @@ ended_or_not (OutOfStep found expected at) = inr (λ e. absurd cc)
 ended_or_not (ExtraRestart at) = inr (λ e. absurd cc)
 
 -- a look has given lines up to those of a row, all that have room or all that are there
-pub record HasLooked (part : GrowingScanValue) (v : ComingRowValue) (first n most : ℕ) : Type 0 where
+pub record HasLooked (part : PartialScanValue) (v : PartialRowValue) (first n most : ℕ) : Type 0 where
   pub lines : v.lines ≡ first + n
   pub few : n ≤ min most (part.scan.head.height - first)
   pub all : n < min most (part.scan.head.height - first) → HasNoMore part v × (v.done < mcus_across part.scan.head)
 
-module _ (part : GrowingScanValue) (v : ComingRowValue) (lawful : IsLawful part.scan.head) (c : IsComing part v) (first n most : ℕ) (looked : HasLooked part v first n most) where
+module _ (part : PartialScanValue) (v : PartialRowValue) (lawful : IsLawful part.scan.head) (c : IsPartialRow part v) (first n most : ℕ) (looked : HasLooked part v first n most) where
   abbrev s : ScanValue
   s = part.scan
 
@@ -123,8 +123,8 @@ module _ (part : GrowingScanValue) (v : ComingRowValue) (lawful : IsLawful part.
   }
 
   module _ (bytes : List ℕ) (come : HasCome part bytes) (room : ℕ) (some : 0 < mcus_across s.head) (is : most ≡ room / line_size s.head) where
-    settled_coming : (i limit : ℕ) → s.ended ≡ EndOfFile → i + 1 ≡ part.segments → i < intervals_of s.head → IsLimit (interval_of s i) limit → GivesSettled bytes s first n room
-    settled_coming i limit end last inside far =
+    settled_partial : (i limit : ℕ) → s.ended ≡ EndOfFile → i + 1 ≡ part.segments → i < intervals_of s.head → IsLimit (interval_of s i) limit → GivesSettled bytes s first n room
+    settled_partial i limit end last inside far =
         let across = mcus_across s.head in
         let place = v.row * across + v.done in
         let all = first_mcu_of s.head i + limit in
@@ -151,6 +151,6 @@ module _ (part : GrowingScanValue) (v : ComingRowValue) (lawful : IsLawful part.
 
     pub gives_settled : (i : ℕ) → i + 1 ≡ part.segments → i < intervals_of s.head → GivesSettled bytes s first n room
     gives_settled i last inside = elim (ended_or_not s.ended) [
-      | inl end ↦ let far = limit_of (interval_of s i) in settled_coming i far.0 end last inside far.1
+      | inl end ↦ let far = limit_of (interval_of s i) in settled_partial i far.0 end last inside far.1
       | inr ended ↦ settled_ended ended
     ]

@@ -28,7 +28,7 @@ use Rattle.jr_arrival.specs.Meaning.{GoesOnAt, HasNoFurtherMcu, ReadsAt, behind}
 use Rattle.jr_arrival.proofs.Behind.{left_behind, none_behind, run_behind}
 use Rattle.jr_arrival.proofs.Going.{its_data}
 use Rattle.jr_arrival.specs.declared.cursor.TheConstants.{MCU_BITS}
-use Rattle.jr_arrival.specs.Growing.{MayGrow}
+use Rattle.jr_arrival.specs.LongerFile.{MayGrow}
 use Rattle.jr_arrival.proofs.Knowing.{rest_left}
 use Rattle.jr_arrival.proofs.Longest.{none_in_long}
 

@@ -8,7 +8,7 @@ use Rattle.jr_head.specs.Geometry.{IsLawful, blocks_of, order_of, mcus_across, m
 use Rattle.jr_head.proofs.SamplingLaws.{length-order}
 use Rattle.jr_scan.specs.declared.place.Place.{Place}
 use Rattle.jr_scan.specs.declared.place.RunEnd.TheVariants.{AllRead}
-use Rattle.jr_scan.specs.GrowingScan.{GrowingScanValue, HasCome}
+use Rattle.jr_scan.specs.PartialScan.{PartialScanValue, HasCome}
 use Rattle.jr_scan.specs.IntervalValue.{IntervalValue}
 use Rattle.jr_paint.specs.Lines.{next_lines_of}
 use Rattle.jr_paint.proofs.Places.{in_div_ceil}
@@ -37,8 +37,8 @@ use Rattle.jr_arrival.specs.More.{with_more}
 use Rattle.jr_arrival.proofs.LinesOfPictures.{row_of_board}
 use Rattle.jr_arrival.proofs.MoreData.{run_is_final}
 use Rattle.jr_arrival.proofs.ShownMcus.{shown_on, shown_there}
-use Rattle.jr_arrival.specs.Coming.{AreComing, GrowsInto, Begins, ComingRowValue, HasGiven, HasNoMore, IsComing, IsFinal, ReadsAll, ReadsTo, StandsIn, StaysLongest}
-use Rattle.jr_arrival.specs.Growing.{IsOver}
+use Rattle.jr_arrival.specs.PartialRows.{AreFinalLines, GrowsInto, Begins, PartialRowValue, HasGiven, HasNoMore, IsPartialRow, IsFinal, ReadsAll, ReadsTo, StandsIn, StaysLongest}
+use Rattle.jr_arrival.specs.LongerFile.{IsOver}
 use Rattle.jr_arrival.specs.declared.cursor.TheConstants.{MCU_BITS}
 use Rattle.jr_arrival.proofs.Knowing.{HasLongRest, long_rest_stays, rest_left}
 use Rattle.jr_arrival.proofs.LinesStay.{interval_more}
@@ -47,28 +47,28 @@ use Rattle.jr_arrival.proofs.ScansGoOn.{becomes, grown_few}
 -- ---- what a scan may become
 
 -- more bytes have come, with which no fewer segments have begun
-pub record Grows (old new : GrowingScanValue) : Type 0 where
+pub record Grows (old new : PartialScanValue) : Type 0 where
   pub becomes : GrowsInto old new.scan
   pub segments : old.segments ≤ new.segments
 
-pub grows : (bytes more : List ℕ) (old new : GrowingScanValue) → new.scan.head ≡ old.scan.head → HasCome old bytes → HasCome new (bytes ++ more) → Grows old new
+pub grows : (bytes more : List ℕ) (old new : PartialScanValue) → new.scan.head ≡ old.scan.head → HasCome old bytes → HasCome new (bytes ++ more) → Grows old new
 grows bytes more old new heads was is = record {
   becomes = becomes bytes more old new.scan heads was is.scan;
   segments = omega (arith, grown_few bytes more old.scan new.scan heads was.starts was.scan is.scan, was.segments, is.segments);
 }
 
-over_stays : (old new : GrowingScanValue) (i : ℕ) → Grows old new → IsOver old.scan old.segments i → IsOver new.scan new.segments i
+over_stays : (old new : PartialScanValue) (i : ℕ) → Grows old new → IsOver old.scan old.segments i → IsOver new.scan new.segments i
 over_stays old new i b (inl n) = inl (λ e. n (sym (b.becomes.end n) ∙ e))
 over_stays old new i b (inr lt) = inr (omega (arith, lt, b.segments))
 
-pub becomes_itself : (part : GrowingScanValue) → GrowsInto part part.scan
+pub becomes_itself : (part : PartialScanValue) → GrowsInto part part.scan
 becomes_itself part = record { head = refl; count = refl; so_far = λ i. ([], sym (append-nil (get_or part.scan.intervals i []))); whole = λ i over. refl; end = λ n. refl }
   where
     append-nil : (xs : List ℕ) → xs ++ [] ≡ xs
     append-nil [] = refl
     append-nil (x ∷ xs) = ap (λ (ys : List ℕ). x ∷ ys) (append-nil xs)
 
-becomes_more : (old new : GrowingScanValue) (t : ScanValue) → Grows old new → GrowsInto new t → GrowsInto old t
+becomes_more : (old new : PartialScanValue) (t : ScanValue) → Grows old new → GrowsInto new t → GrowsInto old t
 becomes_more old new t a b = record {
   head = b.head ∙ a.becomes.head;
   count = b.count ∙ a.becomes.count;
@@ -89,7 +89,7 @@ next_stays i more first zs p n = record {
 }
 
 -- a longest front that stays it is that of whatever the scan may become, and stays it there
-stays_longest : (old new : GrowingScanValue) (number front : ℕ) (zs : List (List ℤ)) → IsLawful old.scan.head → Grows old new → StaysLongest old number front zs → StaysLongest new number front zs
+stays_longest : (old new : PartialScanValue) (number front : ℕ) (zs : List (List ℤ)) → IsLawful old.scan.head → Grows old new → StaysLongest old number front zs → StaysLongest new number front zs
 stays_longest old new number front zs lawful b l = elim l.final [
   | inl over ↦ record { longest = subst (λ (i : IntervalValue). LongestFront i front zs) (sym (b.becomes.whole number over)) l.longest; final = inl (over_stays old new number b over) }
   | inr long ↦
@@ -99,14 +99,14 @@ stays_longest old new number front zs lawful b l = elim l.final [
       record { longest = here.0; final = inr here.1 }
 ]
 
-reads_stays : (old new : GrowingScanValue) (number mcu : ℕ) (place : Option Place) → IsLawful old.scan.head → Grows old new → ReadsTo old number mcu place → ReadsTo new number mcu place
+reads_stays : (old new : PartialScanValue) (number mcu : ℕ) (place : Option Place) → IsLawful old.scan.head → Grows old new → ReadsTo old number mcu place → ReadsTo new number mcu place
 reads_stays old new number mcu (Some p) lawful b r =
     let d = b.becomes.so_far number in
     (r.0, subst (λ (i : IntervalValue). IsNext i mcu r.0 p) (sym (interval_more old.scan new.scan number d.0 b.becomes.head d.1)) (next_stays (interval_of old.scan number) d.0 mcu r.0 p r.1))
 reads_stays old new number mcu None lawful b r = (r.0, r.1, r.2, stays_longest old new number r.0 r.1 lawful b r.3)
 
-pub coming_stays : (old new : GrowingScanValue) (v : ComingRowValue) → IsLawful old.scan.head → Grows old new → IsComing old v → IsComing new v
-coming_stays old new v lawful b c = record {
+pub partial_stays : (old new : PartialScanValue) (v : PartialRowValue) → IsLawful old.scan.head → Grows old new → IsPartialRow old v → IsPartialRow new v
+partial_stays old new v lawful b c = record {
   stands = subst (λ (h : HeadValue). StandsIn h v) (sym b.becomes.head) c.stands;
   given = subst (λ (h : HeadValue). HasGiven h v) (sym b.becomes.head) c.given;
   begun = λ i lt. over_stays old new i b (c.begun i lt);
@@ -121,7 +121,7 @@ at_the_start i = let start = runs.at_start i in (start.blocks, start.next start_
 
 -- ---- one step
 
-module _ (part : GrowingScanValue) (v : ComingRowValue) (lawful : IsLawful part.scan.head) (some : 0 < blocks_of part.scan.head) (count : length part.scan.intervals ≡ intervals_of part.scan.head) (c : IsComing part v) where
+module _ (part : PartialScanValue) (v : PartialRowValue) (lawful : IsLawful part.scan.head) (some : 0 < blocks_of part.scan.head) (count : length part.scan.intervals ≡ intervals_of part.scan.head) (c : IsPartialRow part v) where
   per_mcu : length (order_of part.scan.head) ≡ blocks_of part.scan.head
   per_mcu = length-order 0 part.scan.head.components
 
@@ -129,7 +129,7 @@ module _ (part : GrowingScanValue) (v : ComingRowValue) (lawful : IsLawful part.
   module _ (n : ℕ) (place : Option Place) (w : SampleRowValue) (within : v.done + n ≤ mcus_across part.scan.head) (few : v.mcu + n ≤ mcus_in part.scan.head v.number) (room : HasSampleRoom part.scan.head w) (reads : ReadsTo part v.number (v.mcu + n) place)
       (kept : (k : ℕ) → k < v.done * blocks_of part.scan.head → get_or (units_in part.scan.head w.lines.groups) k [] ≡ get_or (units_in part.scan.head v.samples.lines.groups) k [])
       (codes : (t : ScanValue) → GrowsInto part t → (o : PieceValue) → o.interval ≡ interval_of t v.number → IsOutcome o → (k : ℕ) → k < n * blocks_of part.scan.head → get_or (units_in part.scan.head w.lines.groups) (v.done * blocks_of part.scan.head + k) [] ≡ unit_in_piece o (v.mcu * blocks_of part.scan.head + k)) where
-    abbrev new : ComingRowValue
+    abbrev new : PartialRowValue
     new = record { row = v.row; done = v.done + n; number = v.number; mcu = v.mcu + n; place = place; samples = w; lines = v.lines; marked = v.marked }
 
     -- by the head of whatever the scan may become
@@ -153,7 +153,7 @@ module _ (part : GrowingScanValue) (v : ComingRowValue) (lawful : IsLawful part.
           (c.shows t b) (subst KeptBy e kept)
           (shown_there t (length t.intervals) v.number v.mcu n (v.done * blocks_of t.head) (units_in t.head w.lines.groups) positive here.number (omega (arith, here.number, all)) there (subst CodesBy e (codes t b)))
 
-    pub step : IsComing part new
+    pub step : IsPartialRow part new
     step = record {
       stands = record { row = c.stands.row; within = within; number = c.stands.number; few = few; at = omega (arith, c.stands.at); room = room };
       given = record { from = c.given.from; to = c.given.to; none = λ lt. c.given.none (omega (arith, lt)); left = c.given.left };
@@ -181,7 +181,7 @@ module _ (part : GrowingScanValue) (v : ComingRowValue) (lawful : IsLawful part.
         units k lt ∙ whole_codes longer lawful v.mcu zs p (next_stays i d.0 v.mcu zs p next) n ys q goes_on few o of_longer is k there
         ∙ ap (λ (m : ℕ). unit_in_piece o (v.mcu * m + k)) per_mcu
 
-    pub step_whole : IsComing part (record { row = v.row; done = v.done + n; number = v.number; mcu = v.mcu + n; place = Some q; samples = w; lines = v.lines; marked = v.marked })
+    pub step_whole : IsPartialRow part (record { row = v.row; done = v.done + n; number = v.number; mcu = v.mcu + n; place = Some q; samples = w; lines = v.lines; marked = v.marked })
     step_whole =
         let first : FirstMcus (run_from i p n) n ys = record { to = q; run = run; none = λ lt. absurd (omega (arith, lt)) } in
         step n (Some q) w within few room (zs ++ ys, runs.going one_run runs_meet shorter_front i lawful v.mcu zs p next n n ys first few q run can) kept codes_whole
@@ -203,16 +203,16 @@ module _ (part : GrowingScanValue) (v : ComingRowValue) (lawful : IsLawful part.
         ] in
         grey k lt ∙ codes ∙ ap (λ (m : ℕ). unit_in_piece o (v.mcu * m + k)) per_mcu
 
-    pub step_grey : IsComing part (record { row = v.row; done = v.done + n; number = v.number; mcu = v.mcu + n; place = None; samples = w; lines = v.lines; marked = v.marked })
+    pub step_grey : IsPartialRow part (record { row = v.row; done = v.done + n; number = v.number; mcu = v.mcu + n; place = None; samples = w; lines = v.lines; marked = v.marked })
     step_grey = step n None w within few room (front, zs, omega (arith, far, more), longest) kept codes_grey
 
-started_next : (part : GrowingScanValue) (v : ComingRowValue) → ReadsTo part (v.number + 1) 0 (Some start_of_interval)
+started_next : (part : PartialScanValue) (v : PartialRowValue) → ReadsTo part (v.number + 1) 0 (Some start_of_interval)
 started_next part v = at_the_start (interval_of part.scan (v.number + 1))
 
 -- on to the next interval
-pub step_next : (part : GrowingScanValue) (v : ComingRowValue) (m : Marked) → IsComing part v → IsOver part.scan part.segments v.number → v.mcu ≡ mcus_in part.scan.head v.number → v.done < mcus_across part.scan.head
+pub step_next : (part : PartialScanValue) (v : PartialRowValue) (m : Marked) → IsPartialRow part v → IsOver part.scan part.segments v.number → v.mcu ≡ mcus_in part.scan.head v.number → v.done < mcus_across part.scan.head
     → ((t : ScanValue) → GrowsInto part t → interval_of t v.number ≡ interval_of part.scan v.number → CountsMarks t (length t.intervals) 0 (v.number + 1) m)
-    → IsComing part (record { row = v.row; done = v.done; number = v.number + 1; mcu = 0; place = Some start_of_interval; samples = v.samples; lines = v.lines; marked = m })
+    → IsPartialRow part (record { row = v.row; done = v.done; number = v.number + 1; mcu = 0; place = Some start_of_interval; samples = v.samples; lines = v.lines; marked = m })
 step_next part v m c over all more counts =
     let next = next_there part.scan.head v.number v.mcu c.stands.number all (omega (arith, c.stands.at, more, row_inside part.scan.head v.row c.stands.row)) in
     record {
@@ -225,7 +225,7 @@ step_next part v m c over all more counts =
     }
 
 -- which has an MCU
-pub next_inside : (part : GrowingScanValue) (v : ComingRowValue) → IsComing part v → v.mcu ≡ mcus_in part.scan.head v.number → v.done < mcus_across part.scan.head → 0 < mcus_in part.scan.head (v.number + 1)
+pub next_inside : (part : PartialScanValue) (v : PartialRowValue) → IsPartialRow part v → v.mcu ≡ mcus_in part.scan.head v.number → v.done < mcus_across part.scan.head → 0 < mcus_in part.scan.head (v.number + 1)
 next_inside part v c all more =
     let inside = row_inside part.scan.head v.row c.stands.row in
     let next = next_there part.scan.head v.number v.mcu c.stands.number all (omega (arith, c.stands.at, more, inside)) in
@@ -239,14 +239,14 @@ nothing_follows i first left zs ys p lawful next here some few =
     (zs ++ ys, runs.longest one_run runs_meet shorter_front i lawful first zs p next 0 left ys here (omega (arith, few)) some)
 
 -- the grey MCUs of an interval are past a longest front that stays it
-pub far_front : (part : GrowingScanValue) (number mcu : ℕ) (place : Option Place) → ReadsTo part number mcu place → ReadsAll part.scan number mcu place → IsFinal part number place → (front : ℕ) × (zs : List (List ℤ)) × (front ≤ mcu) × StaysLongest part number front zs
+pub far_front : (part : PartialScanValue) (number mcu : ℕ) (place : Option Place) → ReadsTo part number mcu place → ReadsAll part.scan number mcu place → IsFinal part number place → (front : ℕ) × (zs : List (List ℤ)) × (front ≤ mcu) × StaysLongest part number front zs
 far_front part number mcu (Some p) r all (inl over) = (mcu, all.0, omega arith, record { longest = all.1; final = inl over })
 far_front part number mcu (Some p) r all (inr long) =
     (mcu, all.0, omega arith, record { longest = all.1; final = inr (omega (arith, long, ap length (rest_left (interval_of part.scan number) mcu all.0 r.0 p all.1.front r.1.run))) })
 far_front part number mcu None r all final = (r.0, r.1, omega (arith, r.2), r.3)
 
 -- where it may become longer, no further MCU is settled
-pub no_more : (part : GrowingScanValue) (v : ComingRowValue) → ReadsTo part v.number v.mcu v.place → ReadsAll part.scan v.number v.mcu v.place → (IsFinal part v.number v.place → ⊥) → HasNoMore part v
+pub no_more : (part : PartialScanValue) (v : PartialRowValue) → ReadsTo part v.number v.mcu v.place → ReadsAll part.scan v.number v.mcu v.place → (IsFinal part v.number v.place → ⊥) → HasNoMore part v
 no_more part v = go v.place
   where
     go : (place : Option Place) → ReadsTo part v.number v.mcu place → ReadsAll part.scan v.number v.mcu place → (IsFinal part v.number place → ⊥) → HasNoMore part v
@@ -262,8 +262,8 @@ no_more part v = go v.place
 -- ---- a row of MCUs
 
 -- on to the next one
-pub step_row : (part : GrowingScanValue) (v : ComingRowValue) → IsComing part v → 0 < vertical_max part.scan.head → v.done ≡ mcus_across part.scan.head → (lines : ℕ) → lines ≡ first_line part.scan.head v.row + line_count part.scan.head v.row → lines < part.scan.head.height
-    → IsComing part (record { row = v.row + 1; done = 0; number = v.number; mcu = v.mcu; place = v.place; samples = v.samples; lines = lines; marked = v.marked })
+pub step_row : (part : PartialScanValue) (v : PartialRowValue) → IsPartialRow part v → 0 < vertical_max part.scan.head → v.done ≡ mcus_across part.scan.head → (lines : ℕ) → lines ≡ first_line part.scan.head v.row + line_count part.scan.head v.row → lines < part.scan.head.height
+    → IsPartialRow part (record { row = v.row + 1; done = 0; number = v.number; mcu = v.mcu; place = v.place; samples = v.samples; lines = lines; marked = v.marked })
 step_row part v c some whole lines given more =
     let deep = 8 * vertical_max part.scan.head in
     let positive : 0 < deep = omega (arith, some) in
@@ -287,8 +287,8 @@ step_row part v c some whole lines given more =
     }
 
 -- lines that are given of it
-pub step_lines : (part : GrowingScanValue) (v : ComingRowValue) (n : ℕ) → IsComing part v → v.done ≡ mcus_across part.scan.head → v.lines + n ≤ first_line part.scan.head v.row + line_count part.scan.head v.row → (v.lines + n < part.scan.head.height → v.lines + n < first_line part.scan.head v.row + line_count part.scan.head v.row)
-    → IsComing part (record { row = v.row; done = v.done; number = v.number; mcu = v.mcu; place = v.place; samples = v.samples; lines = v.lines + n; marked = v.marked })
+pub step_lines : (part : PartialScanValue) (v : PartialRowValue) (n : ℕ) → IsPartialRow part v → v.done ≡ mcus_across part.scan.head → v.lines + n ≤ first_line part.scan.head v.row + line_count part.scan.head v.row → (v.lines + n < part.scan.head.height → v.lines + n < first_line part.scan.head v.row + line_count part.scan.head v.row)
+    → IsPartialRow part (record { row = v.row; done = v.done; number = v.number; mcu = v.mcu; place = v.place; samples = v.samples; lines = v.lines + n; marked = v.marked })
 step_lines part v n c whole few left = record {
   stands = record { row = c.stands.row; within = c.stands.within; number = c.stands.number; few = c.stands.few; at = c.stands.at; room = c.stands.room };
   given = record { from = omega (arith, c.given.from); to = few; none = λ lt. absurd (omega (arith, lt, whole)); left = left };
@@ -299,7 +299,7 @@ step_lines part v n c whole few left = record {
 }
 
 -- the row's samples are painted as the picture's
-module _ (part : GrowingScanValue) (v : ComingRowValue) (lawful : IsLawful part.scan.head) (c : IsComing part v) (whole : v.done ≡ mcus_across part.scan.head) (n : ℕ) (few : v.lines + n ≤ first_line part.scan.head v.row + line_count part.scan.head v.row) (t : ScanValue) (b : GrowsInto part t) (board : BoardValue) (first : HasFirst t (length t.intervals) board) where
+module _ (part : PartialScanValue) (v : PartialRowValue) (lawful : IsLawful part.scan.head) (c : IsPartialRow part v) (whole : v.done ≡ mcus_across part.scan.head) (n : ℕ) (few : v.lines + n ≤ first_line part.scan.head v.row + line_count part.scan.head v.row) (t : ScanValue) (b : GrowsInto part t) (board : BoardValue) (first : HasFirst t (length t.intervals) board) where
   abbrev groups : List (List ℕ)
   groups = v.samples.lines.groups
 
@@ -317,14 +317,14 @@ module _ (part : GrowingScanValue) (v : ComingRowValue) (lawful : IsLawful part.
   pub lines_are : PaintedBy part.scan.head
   lines_are = subst PaintedBy b.head painted_there
 
-pub row_coming : (part : GrowingScanValue) (v : ComingRowValue) → IsLawful part.scan.head → IsComing part v → v.done ≡ mcus_across part.scan.head → (n : ℕ) → v.lines + n ≤ first_line part.scan.head v.row + line_count part.scan.head v.row
-    → (pixels : List ℕ) → pixels ≡ next_lines_of part.scan.head (samples_in (record { head = part.scan.head; groups = v.samples.lines.groups })) v.lines n → AreComing part v.lines n pixels
-row_coming part v lawful c whole n few pixels are t b board first = are ∙ lines_are part v lawful c whole n few t b board first
+pub row_partial : (part : PartialScanValue) (v : PartialRowValue) → IsLawful part.scan.head → IsPartialRow part v → v.done ≡ mcus_across part.scan.head → (n : ℕ) → v.lines + n ≤ first_line part.scan.head v.row + line_count part.scan.head v.row
+    → (pixels : List ℕ) → pixels ≡ next_lines_of part.scan.head (samples_in (record { head = part.scan.head; groups = v.samples.lines.groups })) v.lines n → AreFinalLines part v.lines n pixels
+row_partial part v lawful c whole n few pixels are t b board first = are ∙ lines_are part v lawful c whole n few t b board first
 
 -- ---- the beginning
 
-pub begins_coming : (part : GrowingScanValue) (v : ComingRowValue) → Begins part.scan.head v → 0 < mcus_down part.scan.head → 0 < intervals_of part.scan.head → 0 < part.scan.head.height → 0 < vertical_max part.scan.head → IsComing part v
-begins_coming part v b down some high deep =
+pub begins_partial : (part : PartialScanValue) (v : PartialRowValue) → Begins part.scan.head v → 0 < mcus_down part.scan.head → 0 < intervals_of part.scan.head → 0 < part.scan.head.height → 0 < vertical_max part.scan.head → IsPartialRow part v
+begins_partial part v b down some high deep =
     let none : v.row * mcus_across part.scan.head ≡ 0 * mcus_across part.scan.head = ap (λ (n : ℕ). n * mcus_across part.scan.head) b.row in
     let before : v.number * part.scan.head.restart ≡ 0 * part.scan.head.restart = ap (λ (n : ℕ). n * part.scan.head.restart) b.number in
     let top : first_line part.scan.head v.row ≡ 0 * (8 * vertical_max part.scan.head) = ap (λ (n : ℕ). n * (8 * vertical_max part.scan.head)) b.row in
@@ -341,8 +341,8 @@ begins_coming part v b down some high deep =
     started = at_the_start (interval_of part.scan v.number)
 
 -- what is read of a row does not hang on what else its memory holds
-pub same_lines : (part : GrowingScanValue) (v : ComingRowValue) (w : SampleRowValue) → IsComing part v → w.lines ≡ v.samples.lines → HasSampleRoom part.scan.head w
-    → IsComing part (record { row = v.row; done = v.done; number = v.number; mcu = v.mcu; place = v.place; samples = w; lines = v.lines; marked = v.marked })
+pub same_lines : (part : PartialScanValue) (v : PartialRowValue) (w : SampleRowValue) → IsPartialRow part v → w.lines ≡ v.samples.lines → HasSampleRoom part.scan.head w
+    → IsPartialRow part (record { row = v.row; done = v.done; number = v.number; mcu = v.mcu; place = v.place; samples = w; lines = v.lines; marked = v.marked })
 same_lines part v w c same room = record {
   stands = record { row = c.stands.row; within = c.stands.within; number = c.stands.number; few = c.stands.few; at = c.stands.at; room = room };
   given = record { from = c.given.from; to = c.given.to; none = c.given.none; left = c.given.left };

@@ -1,18 +1,18 @@
 -- More bytes keep the head, and the data of each interval.
 use Rattle.std.proofs.Common.{◌≡◌, ◌≢◌, ℕ, zero, suc, ◌-◌, ◌<◌, ◌≤◌, ◌⊎◌, List, [], ◌∷◌, ◌++◌, length, replicate, drop, get_or, refl, sym, ap, subst, ◌∙◌, inl, inr, length-append, arith}
 use Rattle.std.proofs.lemmas.List.{append-nil, drop-append-le}
-use Rattle.jr_arrival.specs.Coming.{GrowsInto}
+use Rattle.jr_arrival.specs.PartialRows.{GrowsInto}
 use Rattle.jr_head.specs.HeadValue.{HeadValue}
 use Rattle.jr_head.specs.Heads.{HeadOf, HasOneHead, HasOneFault}
 use Rattle.jr_head.proofs.OneHeadLaws.{one_head_or_one_fault}
 use Rattle.jr_cut.specs.declared.scan_end.ScanEnd.TheVariants.{EndOfFile}
 use Rattle.jr_cut.specs.Cut.{IsCut, Cutting}
-use Rattle.jr_scan.specs.GrowingScan.{GrowingScanValue, HasCome}
+use Rattle.jr_scan.specs.PartialScan.{PartialScanValue, HasCome}
 use Rattle.jr_scan.specs.IntervalValue.{IntervalValue}
 use Rattle.jr_scan.specs.ScanValue.{ScanValue, IsScanOf, interval_of, intervals_of, mcus_in}
 use Rattle.jr_arrival.proofs.ScanIntervals.{count_is, none_in}
 use Rattle.jr_arrival.specs.Arrival.{CanBecome}
-use Rattle.jr_arrival.specs.Growing.{GrowsTo, HasScan, IsOver, KeepsScan}
+use Rattle.jr_arrival.specs.LongerFile.{GrowsTo, HasScan, IsOver, KeepsScan}
 use Rattle.jr_arrival.proofs.HeadsStay.{head_is_final}
 use Rattle.jr_arrival.proofs.CutsGoOn.{cut_is_final}
 
@@ -112,7 +112,7 @@ module _ (bytes more : List ℕ) (s t : ScanValue) (heads : t.head ≡ s.head) (
   grown_few = let g = grown a in omega (arith, ap length g.is, length-append g.ended (g.last ∷ []), ap length g.longer_is, length-append g.ended ((g.last ++ g.more) ∷ g.others))
 
 -- so a scan whose file is arriving becomes the longer one
-module _ (bytes more : List ℕ) (part : GrowingScanValue) (t : ScanValue) (heads : t.head ≡ part.scan.head) (come : HasCome part bytes) (b : IsScanOf (bytes ++ more) t) where
+module _ (bytes more : List ℕ) (part : PartialScanValue) (t : ScanValue) (heads : t.head ≡ part.scan.head) (come : HasCome part bytes) (b : IsScanOf (bytes ++ more) t) where
   pub becomes : GrowsInto part t
   becomes =
       let s = part.scan in
@@ -139,7 +139,7 @@ module _ (bytes file : List ℕ) (s t : ScanValue) (can : CanBecome bytes file) 
   pub scan_is_final : KeepsScan bytes s t
   scan_is_final = kept bytes can.more s t heads_are begins a.scan longer
 
-pub file_becomes : (bytes file : List ℕ) (part : GrowingScanValue) (t : ScanValue) → CanBecome bytes file → HeadOf bytes part.scan.head → HasCome part bytes → HasScan file t → GrowsInto part t
+pub file_becomes : (bytes file : List ℕ) (part : PartialScanValue) (t : ScanValue) → CanBecome bytes file → HeadOf bytes part.scan.head → HasCome part bytes → HasScan file t → GrowsInto part t
 file_becomes bytes file part t can head come b =
     let has : HasScan bytes part.scan = record { head = head; scan = come.scan } in
     becomes bytes can.more part t (heads_are bytes file part.scan t can has b) come (longer bytes file part.scan t can has b)

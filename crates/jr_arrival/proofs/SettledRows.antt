@@ -17,7 +17,7 @@ use Rattle.jr_scan.specs.ScanValue.{ScanValue, IsScanOf, interval_of, intervals_
 use Rattle.jr_rows.proofs.IntervalPlaces.{inside, interval_at, mcus_in_some, next_there}
 use Rattle.jr_rows.proofs.PictureRows.{all_rows}
 use Rattle.jr_rows.proofs.RowStarts.{mcu_there}
-use Rattle.jr_arrival.specs.Growing.{HasEndedAt, IsKnown, IsSettled}
+use Rattle.jr_arrival.specs.LongerFile.{HasEndedAt, IsKnown, IsSettled}
 use Rattle.jr_arrival.specs.Settled.{HasRows}
 use Rattle.jr_arrival.proofs.Knowing.{IsLimit}
 use Rattle.jr_arrival.proofs.ReadOn.{nothing_whole}

@@ -29,7 +29,7 @@ use Rattle.jr_arrival.specs.declared.file_bytes.FileBytes.{FileBytes}
 use Rattle.jr_arrival.specs.Meaning.{GoesOnAt, HasNoData, HasNoFurtherMcu, IsStuckAt, MayBe, MeansAt, ReadsAt, behind}
 use Rattle.jr_arrival.specs.Places.{IsIn}
 use Rattle.jr_arrival.specs.declared.cursor.TheConstants.{MCU_BITS}
-use Rattle.jr_arrival.specs.Growing.{MayGrow}
+use Rattle.jr_arrival.specs.LongerFile.{MayGrow}
 use Rattle.jr_arrival.specs.Cursors.{HasWindow, IsCursor, IsOffset, NoneFollows, IsCursorIn, StaysTrue, in_window, reading_number, window}
 use Rattle.jr_arrival.proofs.Going.{ended_on, ending_more, next_on, on_by}
 use Rattle.jr_arrival.proofs.ReadOn.{grows_on, none_on, reads_first, reads_on}

@@ -15,7 +15,7 @@ use Rattle.jr_arrival.specs.declared.cursor.ScanCursor.{ScanCursor}
 use Rattle.jr_arrival.specs.declared.file_bytes.FileBytes.{FileBytes}
 use Rattle.jr_arrival.specs.declared.cursor.TheConstants.{MCU_BITS}
 use Rattle.jr_arrival.specs.Cursors.{IsCursor, IsCursorIn, IsOpen, LeavesRow, NoneFollows, StaysTrue, Waits, in_window}
-use Rattle.jr_arrival.specs.Growing.{IsKnown, IsSettled}
+use Rattle.jr_arrival.specs.LongerFile.{IsKnown, IsSettled}
 use Rattle.jr_arrival.specs.Meaning.{MayBe}
 use Rattle.jr_arrival.specs.Places.{mcus_before_place}
 use Rattle.jr_arrival.proofs.Going.{waits_on}

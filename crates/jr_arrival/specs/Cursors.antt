@@ -15,7 +15,7 @@ use Rattle.jr_arrival.specs.declared.cursor.Reading.{Reading}
 use Rattle.jr_arrival.specs.declared.cursor.Reading.TheVariants.{GoesOn, IsStuck, HasEnded}
 use Rattle.jr_arrival.specs.declared.cursor.ScanCursor.{ScanCursor}
 use Rattle.jr_arrival.specs.declared.cursor.TheConstants.{MCU_BITS, WINDOW}
-use Rattle.jr_arrival.specs.Growing.{IsSettled, RowIsSettled}
+use Rattle.jr_arrival.specs.LongerFile.{IsSettled, RowIsSettled}
 use Rattle.jr_arrival.specs.Meaning.{MayBe, MeansAt}
 use Rattle.jr_arrival.specs.Places.{IsIn, mcus_before_place}
 

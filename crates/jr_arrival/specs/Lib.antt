@@ -1,8 +1,8 @@
 pub mod Arrival
-pub mod Arriving
-pub mod Coming
+pub mod PartialFile
+pub mod PartialRows
 pub mod Cursors
-pub mod Growing
+pub mod LongerFile
 pub mod Meaning
 pub mod More
 pub mod Places

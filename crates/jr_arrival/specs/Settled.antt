@@ -8,7 +8,7 @@ use Rattle.jr_scan.specs.ScanValue.{ScanValue}
 use Rattle.jr_picture.specs.declared.mark.Mark.{Mark}
 use Rattle.jr_picture.specs.Headline.{ShowsFirst}
 use Rattle.jr_arrival.specs.Arrival.{CanBecome}
-use Rattle.jr_arrival.specs.Growing.{HasScan, RowIsSettled}
+use Rattle.jr_arrival.specs.LongerFile.{HasScan, RowIsSettled}
 
 -- the bytes' refusal says that some are missing
 abbrev pub WantsMore : List ℕ → Type 0
@@ -21,12 +21,12 @@ pub record HasRows (bytes : List ℕ) (s : ScanValue) (rows : ℕ) : Type 0 wher
   pub next : rows < mcus_down s.head → RowIsSettled bytes s rows → ⊥
 
 -- what the bytes so far make final: the scan into which they are cut, and a number of rows of MCUs
-pub record SoFarValue : Type 0 where
+pub record FinalRows : Type 0 where
   pub scan : ScanValue
   pub rows : ℕ
 
 -- how many lines of pixels these rows have
-abbrev pub lines_in : SoFarValue → ℕ
+abbrev pub lines_in : FinalRows → ℕ
 lines_in s = min s.scan.head.height (s.rows * (8 * vertical_max s.scan.head))
 
 -- these are n lines of the image of every file that the bytes can become, starting at this one
@@ -42,7 +42,7 @@ pub record GivesSettled (bytes : List ℕ) (s : ScanValue) (first n room : ℕ) 
 
 -- the next lines that the bytes make final, as many as fit: n starting at this one
 pub record NextLines (bytes : List ℕ) (first n : ℕ) (pixels : List ℕ) : Type 0 where
-  pub settled : SoFarValue
+  pub settled : FinalRows
   pub scan : HasScan bytes settled.scan
   pub rows : HasRows bytes settled.scan settled.rows
   pub count : n ≡ min (lines_in settled - first) (length pixels / line_size settled.scan.head)

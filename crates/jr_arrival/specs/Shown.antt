@@ -11,7 +11,7 @@ use Rattle.jr_rows.specs.Rows.{ShowsFirstUnits}
 use Rattle.jr_arrival.specs.declared.cursor.ScanCursor.{ScanCursor}
 use Rattle.jr_arrival.specs.declared.place.RowPlace.{RowPlace}
 use Rattle.jr_arrival.specs.Cursors.{IsCursorIn}
-use Rattle.jr_arrival.specs.Growing.{RowIsSettled}
+use Rattle.jr_arrival.specs.LongerFile.{RowIsSettled}
 use Rattle.jr_arrival.specs.Meaning.{IsPlaceIn, MayBe}
 use Rattle.jr_arrival.specs.Places.{mcus_before_place}
 

@@ -4,7 +4,7 @@ ghost use Rattle.std.specs.List.{All};
 ghost use Rattle.std.specs.Prelude.{◌≡◌, ◌≢◌, ◌⊎◌, ◌≤◌, ◌<◌, ◌+◌, ◌-◌, ◌*◌, ◌/◌, ◌%◌, ◌^◌, ℕ, List, [], ◌++◌, length, replicate, take, drop, min, max, true, false, IfOk};
 ghost use Rattle.jr_base.specs.declared.marker.TheConstants.{PREFIX};
 ghost use Rattle.jr_cut.specs.Cut.{IsRaw, IsStop};
-ghost use Rattle.jr_cut.specs.OpenSegments.{IsStopOf};
+ghost use Rattle.jr_cut.specs.PartialSegments.{IsStopOf};
 ghost use Rattle.jr_head.specs.Geometry.{mcus_across, mcus_down, mcus_of};
 ghost use Rattle.jr_head.specs.Intervals.{intervals_of, mcus_in};
 ghost use Rattle.jr_mcu.specs.Block.{IsInDcRange};

@@ -37,7 +37,7 @@ pub(crate) fn head_of(bytes: &[u8], read: Result<Head, Refusal>) -> Result<Optio
 /// # Errors
 ///
 /// The refusal of every such file. `Memory` if allocation fails; it says nothing of the bytes.
-pub fn head_so_far(alloc: Global, bytes: &[u8]) -> Result<Option<Head>, Refusal>
+pub fn read_partial_head(alloc: Global, bytes: &[u8]) -> Result<Option<Head>, Refusal>
     ensures head { IfOk result (λ o. IfSome o (HeadOf bytes.now)) }
     ensures wanted { IfOk result (λ o. IfNone o (WantsMore bytes.now)) }
     ensures refusal { IfErr result (λ f. f ≢ Memory → RefusalOf bytes.now f) }

@@ -17,7 +17,7 @@ ghost use Rattle.jr_picture.specs.declared.mark.Mark.{Mark};
 ghost use Rattle.jr_picture.specs.Headline.{ShowsFirst, mark_in};
 ghost use Rattle.jr_arrival.specs.More.{run_with_more, with_more};
 ghost use Rattle.jr_arrival.specs.Arrival.{CanBecome, IsFinalFault};
-ghost use Rattle.jr_arrival.specs.Growing.{GrowsTo, HasScan, HasEndedAt, KeepsScan, RowIsSettled, lines_of_row};
+ghost use Rattle.jr_arrival.specs.LongerFile.{GrowsTo, HasScan, HasEndedAt, KeepsScan, RowIsSettled, lines_of_row};
 
 /// States that a header that is accepted of the bytes so far is the header of every file that they can become (T.81,
 /// B.2).

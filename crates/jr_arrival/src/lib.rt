@@ -2,9 +2,9 @@
 //! they can become, the lines, and the positions from which its rows are decoded or skipped.
 //!
 //! What was shown of a file that is still arriving is shown by every file that it can become. `laws.rt` says so of
-//! headers, refusals, restart intervals, whole MCUs, lines and marks, and `Arriving` returns each line once as bytes
+//! headers, refusals, restart intervals, whole MCUs, lines and marks, and `PartialFile` returns each line once as bytes
 //! are pushed. An interval is final up to its last whole MCU; all of it is once the marker that ends it is whole, code
-//! included (`IsOver` in specs/Growing.antt), or once its data have more bits without a code than an MCU has
+//! included (`IsOver` in specs/LongerFile.antt), or once its data have more bits without a code than an MCU has
 //! (`IsNeverWhole`).
 //!
 //! Nothing is read twice: the cut continues where it was, each MCU is decoded once into the row of MCUs that comes
@@ -15,16 +15,16 @@
 //! only what follows the position is read, a window of it at a time, as far as the rows reach.
 #![tactic(auto)]
 
-mod arriving;
-mod arriving_head;
-mod coming;
-mod coming_row;
 mod cursor;
 mod decoding;
 mod file_bytes;
 mod finished;
 mod head;
 mod laws;
+mod partial_file;
+mod partial_head;
+mod partial_image;
+mod partial_row;
 mod place;
 mod place_laws;
 mod rows;
@@ -32,14 +32,14 @@ mod same_lines;
 mod skipping;
 mod unstuffing;
 
-pub use arriving::Arriving;
 pub use file_bytes::FileBytes;
 pub use finished::Finished;
-pub use head::head_so_far;
+pub use head::read_partial_head;
 pub use laws::{
     cut_is_final, fault_is_final, front_is_final, head_is_final, lines_are_final, mark_is_final,
     run_is_final, scan_is_final, too_long_is_final,
 };
+pub use partial_file::PartialFile;
 pub use place::{RowPlace, stands_at};
 pub use place_laws::{no_mcu_in_long_data, place_stays, run_behind, split_segment, top_is_place};
 pub use rows::{decode_rows, lines_before, lines_between, rows_with_room, skip_rows};

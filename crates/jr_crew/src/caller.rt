@@ -5,9 +5,9 @@ ghost use Rattle.std.specs.Prelude.{◌≡◌};
 use crate::crew::Crew;
 use crate::one_first_intervals::OneFirstIntervals;
 use crate::paint_room::PaintRoom;
-use jr_work::tuning::MAX_TASKS;
 use jr_picture::Gate;
 use jr_rows::{Marked, RowPainter, shape_of};
+use jr_work::tuning::MAX_TASKS;
 use std::marker::Model;
 use std::sync::Wait;
 

@@ -2,9 +2,9 @@
 
 ghost use Rattle.std.specs.Prelude.{◌≤◌};
 
-use jr_work::tuning::MAX_COUNTED;
 use jr_head::Head;
 use jr_rows::{FirstIntervals, bytes_of_row, shape_of};
+use jr_work::tuning::MAX_COUNTED;
 
 /// Size in bytes of the memory that workers may use for rows, however few data a scan has.
 const FREE_BYTES: u64 = 32 << 20;

@@ -12,9 +12,9 @@ use crate::caller_room::CallerRoom;
 use crate::crew::Crew;
 use crate::one_first_intervals::OneFirstIntervals;
 use jr_base::{Tally, WriteFault};
-use jr_work::{Beside, Help};
 use jr_picture::Gate;
 use jr_rows::{Marked, write_rows};
+use jr_work::{Beside, Help};
 use std::io::Write;
 use std::sync::Wait;
 

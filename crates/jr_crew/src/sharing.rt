@@ -15,16 +15,16 @@ use crate::row_queue::RowQueue;
 use crate::scan_of::ScanOf;
 use crate::sending::{Helping, Sending};
 use jr_base::{Memory, Tally, WriteFault};
-use jr_work::tuning::{
-    MAX_COUNTED, MIN_MCUS_OF_BUFFER, MIN_READERS, MIN_READS, READS_OF_ROW_WORKER,
-    ROW_BUFFERS_OF_WORKER,
-};
-use jr_work::{GuessQueue, run_beside, windows_of};
 use jr_picture::{Counts, Gate};
 use jr_rows::{
     FirstIntervals, Marked, PictureError, counts_of, intervals_of_row, shape_of, write_scan,
 };
 use jr_scan::Scan;
+use jr_work::tuning::{
+    MAX_COUNTED, MIN_MCUS_OF_BUFFER, MIN_READERS, MIN_READS, READS_OF_ROW_WORKER,
+    ROW_BUFFERS_OF_WORKER,
+};
+use jr_work::{GuessQueue, run_beside, windows_of};
 use std::alloc::Global;
 use std::io::Write;
 use std::marker::Brand;

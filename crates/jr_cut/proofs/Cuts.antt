@@ -78,13 +78,13 @@ unfolding cut_next
 cut_next_tail n k at at' more bytes raw found rest datas end is e next c = refl
 
 -- how far the cutter has come: it stands at segment k
-pub record CutSoFar (n start : ℕ) (bytes : List ℕ) (segments : List (List ℕ)) (at k : ℕ) : Type 0 where
+pub record PartialCut (n start : ℕ) (bytes : List ℕ) (segments : List (List ℕ)) (at k : ℕ) : Type 0 where
   pub few : k < n
   pub within : at ≤ length bytes
   pub on : (datas : List (List ℕ)) (end : ScanEnd) → CutFrom n k (start + at) (drop at bytes) datas end → CutFrom n 0 start bytes (segments ++ datas) end
 
-pub so_far_first : (n start : ℕ) (bytes : List ℕ) → 0 < n → CutSoFar n start bytes [] 0 0
-so_far_first n start bytes some = record {
+pub partial_first : (n start : ℕ) (bytes : List ℕ) → 0 < n → PartialCut n start bytes [] 0 0
+partial_first n start bytes some = record {
   few = some;
   within = omega arith;
   on = λ datas end c. let e : start + 0 ≡ start = omega arith in subst (λ (a : ℕ). CutFrom n 0 a bytes datas end) e c;
@@ -188,7 +188,7 @@ marker_read bytes at n stop full h not_ff =
 pub has_marker : (bytes : List ℕ) (at n code : ℕ) → MarkerRead bytes at n → get_or bytes (at + n) 0 ≡ code → HasMarker (drop at bytes) code
 has_marker bytes at n code m e = (m.more, drop (at + n + 1) bytes, m.spelled ∙ ap (λ (c : ℕ). marker m.more c ++ drop (at + n + 1) bytes) e)
 
-pub cut_returns : (n start : ℕ) (bytes found : List ℕ) (segments new : List (List ℕ)) (at k len : ℕ) (end : ScanEnd) → CutSoFar n start bytes segments at k → SegmentRead bytes found at len → new ≡ segments ++ found ∷ []
+pub cut_returns : (n start : ℕ) (bytes found : List ℕ) (segments new : List (List ℕ)) (at k len : ℕ) (end : ScanEnd) → PartialCut n start bytes segments at k → SegmentRead bytes found at len → new ≡ segments ++ found ∷ []
     → IsEnding n k (start + (at + len)) (drop (at + len) bytes) end → IsCut n start bytes new end
 cut_returns n start bytes found segments new at k len end s p e ends =
     let count : length (take len (drop at bytes)) ≡ len = length-take-le len (drop at bytes) (omega (arith, p.within, length-drop at bytes)) in
@@ -197,8 +197,8 @@ cut_returns n start bytes found segments new at k len end s p e ends =
     subst (λ (x : List (List ℕ)). IsCut n start bytes x end) (sym e)
     (s.on (found ∷ []) end (cut_last n k (start + at) (drop at bytes) (take len (drop at bytes)) found (drop (at + len) bytes) end s.few p.raw split (subst (λ (j : ℕ). IsEnding n k j (drop (at + len) bytes) end) place ends)))
 
-pub cut_more : (n start : ℕ) (bytes found : List ℕ) (segments new : List (List ℕ)) (at k len fill at' k' : ℕ) → CutSoFar n start bytes segments at k → SegmentRead bytes found at len → new ≡ segments ++ found ∷ []
-    → MarkerRead bytes (at + len) fill → get_or bytes (at + len + fill) 0 ≡ RST0 + k % 8 → at' ≡ at + len + fill + 1 → k' ≡ k + 1 → k' < n → at' ≤ length bytes → CutSoFar n start bytes new at' k'
+pub cut_more : (n start : ℕ) (bytes found : List ℕ) (segments new : List (List ℕ)) (at k len fill at' k' : ℕ) → PartialCut n start bytes segments at k → SegmentRead bytes found at len → new ≡ segments ++ found ∷ []
+    → MarkerRead bytes (at + len) fill → get_or bytes (at + len + fill) 0 ≡ RST0 + k % 8 → at' ≡ at + len + fill + 1 → k' ≡ k + 1 → k' < n → at' ≤ length bytes → PartialCut n start bytes new at' k'
 cut_more n start bytes found segments new at k len fill at' k' s p e m code next number few within =
     let count : length (take len (drop at bytes)) ≡ len = length-take-le len (drop at bytes) (omega (arith, p.within, length-drop at bytes)) in
     let split : drop at bytes ≡ take len (drop at bytes) ++ (marker m.more (RST0 + k % 8) ++ drop at' bytes)

@@ -5,7 +5,7 @@ use Rattle.jr_base.specs.declared.marker.TheConstants.{EOI, PREFIX, RST0}
 use Rattle.jr_cut.specs.declared.scan_end.ScanEnd.{ScanEnd}
 use Rattle.jr_cut.specs.declared.scan_end.ScanEnd.TheVariants.{EndOfFile, EndOfImage, ExtraRestart, OtherMarker, OutOfStep}
 use Rattle.jr_cut.specs.Cut.{IsRaw, marker, CodedSegment, with_markers, HasMarker, IsEnding, CutFrom}
-use Rattle.jr_cut.specs.OpenSegments.{BeginsWithRestart}
+use Rattle.jr_cut.specs.PartialSegments.{BeginsWithRestart}
 use Rattle.jr_cut.proofs.CutLaw.{ending_not_next}
 use Rattle.jr_cut.proofs.Endings.{behind_marker, bytes_of, next_marker}
 use Rattle.jr_cut.proofs.Segments.{length_marker}

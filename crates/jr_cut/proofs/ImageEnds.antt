@@ -4,7 +4,7 @@ use Rattle.jr_base.specs.declared.marker.TheConstants.{EOI, PREFIX, RST0}
 use Rattle.jr_cut.specs.declared.scan_end.ScanEnd.{ScanEnd}
 use Rattle.jr_cut.specs.declared.scan_end.ScanEnd.TheVariants.{EndOfImage}
 use Rattle.jr_cut.specs.Cut.{marker, IsEnding, CutFrom}
-use Rattle.jr_cut.specs.CutSoFar.{AreSegments, CutSoFarValue, HasCut}
+use Rattle.jr_cut.specs.PartialCut.{AreSegments, PartialCutValue, HasCut}
 use Rattle.jr_cut.specs.ImageEnd.{HasCutToRest, IsImageEnd}
 use Rattle.jr_cut.proofs.Cuts.{cut_last, cut_last_tail, cut_next, cut_next_tail}
 use Rattle.jr_cut.proofs.Segments.{length_marker, longer}
@@ -33,7 +33,7 @@ cut_to n k j at (d ∷ f ∷ ds) read tail end (raw, more, others, is, first, a)
       behind = cut_next_tail n k at next more (read ++ tail) raw d (others ++ tail) (f ∷ ds) end first whole refl rest.cut ∙ rest.behind;
     }
 
-all_cut : (start : ℕ) (bytes : List ℕ) (c : CutSoFarValue) (h : HasCut start bytes c) → CutTo c.intervals 0 start bytes c.segments c.ended h.tail
+all_cut : (start : ℕ) (bytes : List ℕ) (c : PartialCutValue) (h : HasCut start bytes c) → CutTo c.intervals 0 start bytes c.segments c.ended h.tail
 all_cut start bytes c h =
     let j : suc (length c.segments - 1) ≡ 0 + length c.segments = omega (arith, some c.segments h.read h.are) in
     subst (λ (x : List ℕ). CutTo c.intervals 0 start x c.segments c.ended h.tail) (sym h.spelled) (cut_to c.intervals 0 (length c.segments - 1) start c.segments h.read h.tail c.ended h.are j (omega (arith, h.count, j)) h.ends)
@@ -59,11 +59,11 @@ fill_of_marker (suc (suc n)) (suc more) code (x ∷ xs) after not_ff full next e
     omega (arith, fill_of_marker (suc n) more code xs after not_ff f (λ lt. next (omega (arith, lt))) r)
 
 -- so many FF bytes and EOI are not read yet, and then comes what is behind the image
-pub record AfterFill (c : CutSoFarValue) (start : ℕ) (bytes : List ℕ) (fill : ℕ) : Type 0 where
+pub record AfterFill (c : PartialCutValue) (start : ℕ) (bytes : List ℕ) (fill : ℕ) : Type 0 where
   pub within : fill < length c.rest
   pub is : IsImageEnd c.intervals start bytes (c.at + fill + 1)
 
-pub after_fill : (start : ℕ) (bytes : List ℕ) (c : CutSoFarValue) (fill : ℕ) → HasCutToRest start bytes c → c.ended ≡ EndOfImage → take fill c.rest ≡ replicate fill PREFIX → (fill < length c.rest → get_or c.rest fill 0 ≢ PREFIX) → AfterFill c start bytes fill
+pub after_fill : (start : ℕ) (bytes : List ℕ) (c : PartialCutValue) (fill : ℕ) → HasCutToRest start bytes c → c.ended ≡ EndOfImage → take fill c.rest ≡ replicate fill PREFIX → (fill < length c.rest → get_or c.rest fill 0 ≢ PREFIX) → AfterFill c start bytes fill
 after_fill start bytes c fill h ended full next =
     let m = subst (λ (end : ScanEnd). IsEnding c.intervals (length c.segments - 1) (start + length h.cut.read) h.cut.tail end) ended h.cut.ends in
     let at_rest : c.rest ≡ marker m.0 EOI ++ m.1 = sym h.rest ∙ m.2 in

@@ -3,7 +3,7 @@ pub mod Slices
 pub mod Unstuffed
 pub mod CutLaw
 pub mod Segments
-pub mod OpenSegments
+pub mod PartialSegments
 pub mod EachCut
 pub mod Spellings
 pub mod Endings

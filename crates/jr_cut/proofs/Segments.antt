@@ -7,7 +7,7 @@ use Rattle.std.proofs.lemmas.List.Concat.{flat_map-append}
 use Rattle.jr_base.specs.declared.marker.TheConstants.{PREFIX, RST0}
 use Rattle.jr_cut.specs.declared.scan_end.ScanEnd.{ScanEnd}
 use Rattle.jr_cut.specs.Cut.{Spelling, IsSpelling, spelling, byte_spelled, IsRaw, marker, IsEnding, CutFrom}
-use Rattle.jr_cut.specs.CutSoFar.{AreSegments}
+use Rattle.jr_cut.specs.PartialCut.{AreSegments}
 use Rattle.jr_cut.proofs.Cuts.{raw_none, cut_last, cut_next}
 
 all_append : (ps qs : List Spelling) → AllByRecursion IsSpelling ps → AllByRecursion IsSpelling qs → AllByRecursion IsSpelling (ps ++ qs)

@@ -1,6 +1,6 @@
 pub mod Cut
-pub mod CutSoFar
+pub mod PartialCut
 pub mod ImageEnd
-pub mod OpenSegments
+pub mod PartialSegments
 pub mod Spans
 pub mod UnstuffingValue

@@ -6,7 +6,7 @@ ghost use Rattle.jr_cut.specs.Cut.{IsCut};
 ghost use Rattle.jr_cut.specs.ImageEnd.{IsImageEndOf};
 ghost use Rattle.jr_cut.specs.Spans.{segment_data, IsSpanOf};
 
-use crate::cut_so_far::CutSoFar;
+use crate::partial_cut::PartialCut;
 use crate::scan_end::ScanEnd;
 use crate::span::Span;
 use crate::unstuff::Unstuffing;
@@ -35,7 +35,7 @@ pub fn cut(
     ensures within { IfOk result (λ p. All (IsSpanOf p.unstuffed.items) p.spans.items) }
     ensures few { IfOk result (λ p. length p.unstuffed.items ≤ length scan.rest) }
 {
-    CutSoFar::of(alloc, intervals, start, scan)?.into_segments()
+    PartialCut::of(alloc, intervals, start, scan)?.into_segments()
 }
 
 /// The segments of a scan, and where the bytes after the end of the image begin.
@@ -61,7 +61,7 @@ pub fn cut_to_end(
     ensures few { IfOk result (λ p. length p.segments.unstuffed.items ≤ length scan.rest) }
     ensures image_end { IfOk result (λ p. IsImageEndOf intervals start scan.rest p.segments.ended p.image_end) }
 {
-    let cut = CutSoFar::of(alloc, intervals, start, scan)?;
+    let cut = PartialCut::of(alloc, intervals, start, scan)?;
     let image_end = cut.image_end();
     let segments = cut.into_segments()?;
     Ok(SegmentsToEnd {

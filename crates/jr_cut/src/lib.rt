@@ -2,21 +2,21 @@
 #![tactic(auto)]
 
 mod coded_segments;
-mod cut_so_far;
 mod front;
 mod into_buffer;
 mod laws;
-mod open_segments;
+mod partial_cut;
+mod partial_segments;
 mod scan_end;
 mod span;
 mod stop;
 mod unstuff;
 
 pub use coded_segments::{CodedSegments, SegmentsToEnd, cut, cut_to_end};
-pub use cut_so_far::CutSoFar;
 pub use front::{fill_count, plain_count, segment_length};
 pub use into_buffer::{Spelled, unstuff_into, unstuff_segment};
 pub use laws::{each_scan_has_a_cut, one_cut};
+pub use partial_cut::PartialCut;
 pub use scan_end::ScanEnd;
 pub use span::Span;
 pub use stop::{Stop, stop_at};

@@ -3,7 +3,7 @@
 ghost use Rattle.std.specs.Prelude.{◌≡◌, ◌≢◌, ℕ, ◌+◌, ◌%◌, ◌<◌, ◌≤◌, List, length, take, replicate, slice_index, IfSome, IfNone};
 ghost use Rattle.jr_base.specs.declared.marker.TheConstants.{PREFIX, RST0};
 ghost use Rattle.jr_cut.specs.Cut.{HasMarker, IsEnding, IsStop};
-ghost use Rattle.jr_cut.specs.OpenSegments.{IsStopOf};
+ghost use Rattle.jr_cut.specs.PartialSegments.{IsStopOf};
 
 use crate::scan_end::ScanEnd;
 use jr_base::marker::{EOI, RST0, RST7};

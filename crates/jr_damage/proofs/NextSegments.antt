@@ -4,7 +4,7 @@ use Rattle.std.proofs.lemmas.List.{append-nil, drop-drop, get_or-drop}
 use Rattle.jr_base.specs.declared.marker.TheConstants.{RST0}
 use Rattle.jr_cut.specs.declared.scan_end.ScanEnd.{ScanEnd}
 use Rattle.jr_cut.specs.Cut.{IsRaw, IsStop, IsEnding, CutFrom, marker}
-use Rattle.jr_cut.specs.OpenSegments.{BeginsWithRestart}
+use Rattle.jr_cut.specs.PartialSegments.{BeginsWithRestart}
 use Rattle.jr_cut.proofs.Following.{last_cut, next_cut, restart_within}
 use Rattle.jr_cut.proofs.Segments.{length_marker}
 use Rattle.jr_cut.proofs.Slices.{length_front, split_at}

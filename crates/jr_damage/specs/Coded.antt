@@ -2,7 +2,7 @@
 use Rattle.std.specs.Prelude.{◌≡◌, ℕ, ◌+◌, ◌<◌, ◌≤◌, ◌⊎◌, List, [], ◌++◌, length, drop, replicate, slice_index_or, slice_range}
 use Rattle.jr_cut.specs.declared.scan_end.ScanEnd.{ScanEnd}
 use Rattle.jr_cut.specs.Cut.{CutFrom, IsEnding, IsRaw, IsStop}
-use Rattle.jr_cut.specs.OpenSegments.{BeginsWithRestart}
+use Rattle.jr_cut.specs.PartialSegments.{BeginsWithRestart}
 use Rattle.jr_scan.specs.ScanValue.{ScanValue, intervals_of}
 use Rattle.jr_damage.specs.declared.segments.CodedSpan.{CodedSpan}
 

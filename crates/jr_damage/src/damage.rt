@@ -7,10 +7,10 @@ ghost use Rattle.jr_scan.specs.McuReader.{HasRead, HasEnded};
 ghost use Rattle.jr_scan.specs.ScanValue.{interval_of};
 
 use crate::shared_scan::SharedScan;
-use jr_work::OneScan;
-use jr_work::tuning::UNITS_OF_CHECK_STEP;
 use jr_head::Head;
 use jr_scan::{IntervalRef, McuReader};
+use jr_work::OneScan;
+use jr_work::tuning::UNITS_OF_CHECK_STEP;
 use std::sync::Wait;
 
 /// A reader that has passed over all whole MCUs of an interval, up to its end or to where none follows.

@@ -4,9 +4,9 @@ ghost use Rattle.std.specs.Prelude.{◌≡◌, Some};
 ghost use Rattle.jr_scan.specs.Guesses.{AreGuessesOf};
 ghost use Rattle.jr_scan.specs.ScanValue.{interval_of};
 
+use jr_scan::{Guesses, Scan};
 use jr_work::tuning::MAX_TASKS;
 use jr_work::{GuessQueue, GuessTask, OneScan, ScanGuess};
-use jr_scan::{Guesses, Scan};
 use std::alloc::Global;
 use std::marker::Model;
 use std::sync::{Condvar, Mutex, Wait};

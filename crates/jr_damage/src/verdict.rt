@@ -8,8 +8,8 @@ ghost use Rattle.jr_damage.specs.Verdicts.{IsVerdictOf};
 use crate::damage::{damaged_front, damaged_front_by};
 use crate::lines::{Lines, lines_of};
 use crate::shared_scan::SharedScan;
-use jr_work::OneScan;
 use jr_scan::Scan;
+use jr_work::OneScan;
 use std::sync::Wait;
 
 /// The number of intervals of a scan without a decoding, and the first and last line of the image that they touch.

@@ -9,7 +9,7 @@ use Rattle.jr_mcu.specs.Step.{TakesAcCode, TakesEnd, HasNoStep, TakesDifference,
 use Rattle.jr_mcu.proofs.Words.{IsPrefixFree}
 use Rattle.jr_mcu.proofs.FirstWords.{FirstExtended, first_extended}
 use Rattle.jr_mcu.proofs.Steps.{word_of, word_alone, extra_of, takes_end, takes_zeros, takes_coef, takes_difference_of, no_difference_far, no_difference_extended, no_step_past, no_step_size, no_step_extended}
-use Rattle.jr_mcu.proofs.Rest.{IsSoFar, entries_some, so_far_none, so_far_more, so_far_all, so_far_end, so_far_stuck, so_far_over}
+use Rattle.jr_mcu.proofs.Rest.{IsPartialCut, entries_some, partial_none, partial_more, partial_all, partial_end, partial_stuck, partial_over}
 use Rattle.jr_mcu.proofs.Predicted.{takes_block, no_block_first, no_block_far, no_block_others}
 
 -- ---- the first coefficient's difference
@@ -91,35 +91,35 @@ record Further (ac : Table) (old : List Bool) : Type 0 where
   pub left : List Bool
   pub block : List ℤ
   pub index : ℕ
-  pub so_far : IsSoFar ac (pos 0) old left block index
+  pub so_far : IsPartialCut ac (pos 0) old left block index
   pub room : index < 64
 
-behind_code : (ac : Table) → IsPrefixFree ac → (old left : List Bool) (block : List ℤ) (index : ℕ) (s : IsSoFar ac (pos 0) old left block index) → index < 64 → (x : FirstCode ac left)
+behind_code : (ac : Table) → IsPrefixFree ac → (old left : List Bool) (block : List ℤ) (index : ℕ) (s : IsPartialCut ac (pos 0) old left block index) → index < 64 → (x : FirstCode ac left)
     → (FirstOthers ac old ⊎ HasNoOthers ac old) ⊎ ((f : Further ac old) × (index < f.index))
 behind_code ac free old left block index s room x =
     let next = index + length x.made in
     let some : 0 < length x.made = omega (arith, entries_some ac x.takes.code x.takes.is, ap length x.takes.gives) in
     elim (cases_lt 64 (index + length x.made)) [
-      | inl over ↦ inl (inr (so_far_over ac free (pos 0) old left x.left block x.made index s room x.takes over))
+      | inl over ↦ inl (inr (partial_over ac free (pos 0) old left x.left block x.made index s room x.takes over))
       | inr fits ↦
-          let more : IsSoFar ac (pos 0) old x.left (pos 0 ∷ ((s.done ++ x.made) ++ replicate (64 - (index + length x.made)) (pos 0))) (index + length x.made)
-          = so_far_more ac free (pos 0) old left x.left block (pos 0 ∷ ((s.done ++ x.made) ++ replicate (64 - (index + length x.made)) (pos 0))) x.made index (index + length x.made) s room x.takes refl fits refl in
+          let more : IsPartialCut ac (pos 0) old x.left (pos 0 ∷ ((s.done ++ x.made) ++ replicate (64 - (index + length x.made)) (pos 0))) (index + length x.made)
+          = partial_more ac free (pos 0) old left x.left block (pos 0 ∷ ((s.done ++ x.made) ++ replicate (64 - (index + length x.made)) (pos 0))) x.made index (index + length x.made) s room x.takes refl fits refl in
           elim (cases_lt (index + length x.made) 64) [
             | inr all ↦
-                let made = so_far_all ac (pos 0) old x.left (pos 0 ∷ ((s.done ++ x.made) ++ replicate (64 - (index + length x.made)) (pos 0))) (index + length x.made) more all in
+                let made = partial_all ac (pos 0) old x.left (pos 0 ∷ ((s.done ++ x.made) ++ replicate (64 - (index + length x.made)) (pos 0))) (index + length x.made) more all in
                 inl (inl (record { others = made.0; left = x.left; takes = made.2 }))
             | inl short ↦ inr (record { left = x.left; block = pos 0 ∷ ((s.done ++ x.made) ++ replicate (64 - (index + length x.made)) (pos 0)); index = index + length x.made; so_far = more; room = short }, omega (arith, some))
           ]
     ]
 
 -- at most so many steps more
-others_behind : (ac : Table) → IsPrefixFree ac → (old left : List Bool) (block : List ℤ) (index steps : ℕ) → IsSoFar ac (pos 0) old left block index → index < 64 → 64 ≤ index + steps → FirstOthers ac old ⊎ HasNoOthers ac old
+others_behind : (ac : Table) → IsPrefixFree ac → (old left : List Bool) (block : List ℤ) (index steps : ℕ) → IsPartialCut ac (pos 0) old left block index → index < 64 → 64 ≤ index + steps → FirstOthers ac old ⊎ HasNoOthers ac old
 others_behind ac free old left block index zero s room enough = absurd (omega (arith, room, enough))
 others_behind ac free old left block index (suc steps) s room enough = elim (first_step ac free left) [
   | inl end ↦
-      let made = so_far_end ac (pos 0) old left end.left block index s room end.takes in
+      let made = partial_end ac (pos 0) old left end.left block index s room end.takes in
       inl (record { others = made.0; left = end.left; takes = made.2 })
-  | inr (inr none) ↦ inr (so_far_stuck ac (pos 0) old left block index s room none)
+  | inr (inr none) ↦ inr (partial_stuck ac (pos 0) old left block index s room none)
   | inr (inl code) ↦ elim (behind_code ac free old left block index s room code) [
     | inl settled ↦ settled
     | inr more ↦ others_behind ac free old more.0.left more.0.block more.0.index steps more.0.so_far more.0.room (omega (arith, more.1, enough))
@@ -127,7 +127,7 @@ others_behind ac free old left block index (suc steps) s room enough = elim (fir
 ]
 
 pub first_others : (ac : Table) → IsPrefixFree ac → (old : List Bool) → FirstOthers ac old ⊎ HasNoOthers ac old
-first_others ac free old = others_behind ac free old old (pos 0 ∷ replicate 63 (pos 0)) 1 63 (so_far_none ac (pos 0) old) (omega arith) (omega arith)
+first_others ac free old = others_behind ac free old old (pos 0 ∷ replicate 63 (pos 0)) 1 63 (partial_none ac (pos 0) old) (omega arith) (omega arith)
 
 -- ---- the block, with its prediction
 

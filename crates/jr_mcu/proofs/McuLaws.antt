@@ -51,12 +51,12 @@ pub all_bits_at : (parts : List (List Bool)) (n : ℕ) (x : List Bool) → n < l
 all_bits_at parts n x h = ap (λ (ps : List (List Bool)). all_bits ps ++ x) (drop-cons parts n [] h) ∙ append_assoc (get_or parts n []) (all_bits (drop (suc n) parts)) x
 
 -- two lists of blocks at the front of the same bits have the same blocks as far as both go
-pub same_so_far : (h : HeadValue) (start : List ℤ) (zs ys : List (List ℤ)) (u v x y : List Bool) → (b : Blocks h start zs u) → (d : Blocks h start ys v) → u ++ x ≡ v ++ y
+pub same_partial : (h : HeadValue) (start : List ℤ) (zs ys : List (List ℤ)) (u v x y : List Bool) → (b : Blocks h start zs u) → (d : Blocks h start ys v) → u ++ x ≡ v ++ y
     → OneWord → (n : ℕ) → n ≤ length zs → n ≤ length ys
     → SameBelow zs ys n × (all_bits (drop n b.parts) ++ x ≡ all_bits (drop n d.parts) ++ y)
-same_so_far h start zs ys u v x y b d e one zero hz hy = (λ k lt. absurd (omega arith), ap (λ (w : List Bool). w ++ x) (sym b.spelled) ∙ e ∙ ap (λ (w : List Bool). w ++ y) d.spelled)
-same_so_far h start zs ys u v x y b d e one (suc n) hz hy =
-    let before = same_so_far h start zs ys u v x y b d e one n (omega arith) (omega arith) in
+same_partial h start zs ys u v x y b d e one zero hz hy = (λ k lt. absurd (omega arith), ap (λ (w : List Bool). w ++ x) (sym b.spelled) ∙ e ∙ ap (λ (w : List Bool). w ++ y) d.spelled)
+same_partial h start zs ys u v x y b d e one (suc n) hz hy =
+    let before = same_partial h start zs ys u v x y b d e one n (omega arith) (omega arith) in
     let c = component h n in
     let whole = sym (all_bits_at b.parts n x (omega (arith, b.count))) ∙ before.1 ∙ all_bits_at d.parts n y (omega (arith, d.count)) in
     let p = prediction_same h start zs ys c n before.0 in
@@ -133,7 +133,7 @@ pub reads_stuck : (h : HeadValue) (start : List ℤ) (all left : List Bool) (zs 
 reads_stuck h start all left zs one r none ys v y d e past =
     let n = length zs in
     let c = component h n in
-    let s = same_so_far h start zs ys r.taken v left y r.blocks d (sym r.split ∙ e) one n (omega arith) (omega arith) in
+    let s = same_partial h start zs ys r.taken v left y r.blocks d (sym r.split ∙ e) one n (omega arith) (omega arith) in
     let all_read : drop n r.blocks.parts ≡ [] = drop_all n r.blocks.parts (omega (arith, r.blocks.count)) in
     let next : left ≡ get_or d.parts n [] ++ (all_bits (drop (suc n) d.parts) ++ y)
     = ap (λ (ps : List (List Bool)). all_bits ps ++ left) (sym all_read) ∙ s.1 ∙ all_bits_at d.parts n y (omega (arith, d.count)) in
@@ -145,7 +145,7 @@ reads_stuck h start all left zs one r none ys v y d e past =
 pub reads_all : (h : HeadValue) (start : List ℤ) (all left : List Bool) (zs : List (List ℤ)) → OneWord → Reads h start all left zs
     → (ys : List (List ℤ)) (v y : List Bool) → Blocks h start ys v → all ≡ v ++ y → length zs ≡ length ys → (zs ≡ ys) × (left ≡ y)
 reads_all h start all left zs one r ys v y d e l =
-    let s = same_so_far h start zs ys r.taken v left y r.blocks d (sym r.split ∙ e) one (length zs) (omega arith) (omega arith) in
+    let s = same_partial h start zs ys r.taken v left y r.blocks d (sym r.split ∙ e) one (length zs) (omega arith) (omega arith) in
     let none : drop (length zs) r.blocks.parts ≡ [] = drop_all (length zs) r.blocks.parts (omega (arith, r.blocks.count)) in
     let none' : drop (length zs) d.parts ≡ [] = drop_all (length zs) d.parts (omega (arith, d.count)) in (
       same_list zs ys l s.0,

@@ -92,7 +92,7 @@ to_others ac others old rest g =
     }
 
 -- how far the reader has come
-pub record IsSoFar (ac : Table) (first : ℤ) (old bits : List Bool) (block : List ℤ) (index : ℕ) : Type 0 where
+pub record IsPartialCut (ac : Table) (first : ℤ) (old bits : List Bool) (block : List ℤ) (index : ℕ) : Type 0 where
   pub done : List ℤ
   pub count : length done + 1 ≡ index
   pub within : index ≤ 64
@@ -100,16 +100,16 @@ pub record IsSoFar (ac : Table) (first : ℤ) (old bits : List Bool) (block : Li
   pub on : (others : List ℤ) (rest : List Bool) → Goes ac [] others old rest → Goes ac done others bits rest
   pub back : (others : List ℤ) (rest : List Bool) → Goes ac done others bits rest → Goes ac [] others old rest
 
-pub so_far_none : (ac : Table) (first : ℤ) (bits : List Bool) → IsSoFar ac first bits bits (first ∷ replicate 63 (pos 0)) 1
-so_far_none ac first bits = record { done = []; count = refl; within = omega arith; blocks = refl; on = λ others rest g. g; back = λ others rest g. g }
+pub partial_none : (ac : Table) (first : ℤ) (bits : List Bool) → IsPartialCut ac first bits bits (first ∷ replicate 63 (pos 0)) 1
+partial_none ac first bits = record { done = []; count = refl; within = omega arith; blocks = refl; on = λ others rest g. g; back = λ others rest g. g }
 
 -- one more code
-pub so_far_more : (ac : Table) → IsPrefixFree ac → (first : ℤ) (old bits new : List Bool) (block block' made : List ℤ) (index place' : ℕ)
-    → (s : IsSoFar ac first old bits block index) → index < 64 → TakesAcCode ac made bits new
+pub partial_more : (ac : Table) → IsPrefixFree ac → (first : ℤ) (old bits new : List Bool) (block block' made : List ℤ) (index place' : ℕ)
+    → (s : IsPartialCut ac first old bits block index) → index < 64 → TakesAcCode ac made bits new
     → place' ≡ index + length made → place' ≤ 64
     → block' ≡ first ∷ ((s.done ++ made) ++ replicate (64 - place') (pos 0))
-    → IsSoFar ac first old new block' place'
-so_far_more ac free first old bits new block block' made index place' s room t next fits written =
+    → IsPartialCut ac first old new block' place'
+partial_more ac free first old bits new block block' made index place' s room t next fits written =
     let e = t.gives in
     record {
       done = s.done ++ made;
@@ -121,9 +121,9 @@ so_far_more ac free first old bits new block block' made index place' s room t n
     }
 
 -- all places are there
-pub so_far_all : (ac : Table) (first : ℤ) (old bits : List Bool) (block : List ℤ) (index : ℕ) → IsSoFar ac first old bits block index → 64 ≤ index
+pub partial_all : (ac : Table) (first : ℤ) (old bits : List Bool) (block : List ℤ) (index : ℕ) → IsPartialCut ac first old bits block index → 64 ≤ index
     → (others : List ℤ) × (block ≡ first ∷ others) × TakesOthers ac others old bits
-so_far_all ac first old bits block index s all =
+partial_all ac first old bits block index s all =
     let n : 64 - index ≡ 0 = omega arith in
     let m : length s.done + 0 ≡ 63 = omega (arith, s.count, s.within) in
     let k : 63 - (length s.done + 0) ≡ 0 = omega arith in
@@ -132,9 +132,9 @@ so_far_all ac first old bits block index s all =
     (s.done, b, to_others ac s.done old bits (s.back s.done bits g))
 
 -- a word says that the rest is 0
-pub so_far_end : (ac : Table) (first : ℤ) (old bits new : List Bool) (block : List ℤ) (index : ℕ) → IsSoFar ac first old bits block index → index < 64 → TakesEnd ac bits new
+pub partial_end : (ac : Table) (first : ℤ) (old bits new : List Bool) (block : List ℤ) (index : ℕ) → IsPartialCut ac first old bits block index → index < 64 → TakesEnd ac bits new
     → (others : List ℤ) × (block ≡ first ∷ others) × TakesOthers ac others old new
-so_far_end ac first old bits new block index s room t =
+partial_end ac first old bits new block index s room t =
     let others = s.done ++ replicate (64 - index) (pos 0) in
     let k : 63 - (length s.done + 0) ≡ 64 - index = omega (arith, s.count) in
     let g : Goes ac s.done others bits new = record { items = []; tail = t.word; each = tt; end = inr (omega (arith, s.count), t.is); spelled = t.split; values = ap (λ (q : ℕ). s.done ++ replicate q (pos 0)) (sym k) } in
@@ -146,8 +146,8 @@ no_goes_at ac done others bits rest room none [] tail each (inr end) spelled = n
 no_goes_at ac done others bits rest room none (i ∷ is) tail each end spelled = none.no_code i (flat_map code_bits is ++ (tail ++ rest)) each.0 (spelled ∙ append_assoc (code_bits i) (flat_map code_bits is) (tail ++ rest))
 
 -- where no step begins what is left, no block began
-pub so_far_stuck : (ac : Table) (first : ℤ) (old bits : List Bool) (block : List ℤ) (index : ℕ) → IsSoFar ac first old bits block index → index < 64 → HasNoStep ac bits → HasNoOthers ac old
-so_far_stuck ac first old bits block index s room none others b rest o split =
+pub partial_stuck : (ac : Table) (first : ℤ) (old bits : List Bool) (block : List ℤ) (index : ℕ) → IsPartialCut ac first old bits block index → index < 64 → HasNoStep ac bits → HasNoOthers ac old
+partial_stuck ac first old bits block index s room none others b rest o split =
     let g = s.on others rest (of_others ac others old b rest o split) in
     no_goes_at ac s.done others bits rest (omega (arith, s.count)) none g.items g.tail g.each g.end g.spelled
 
@@ -156,8 +156,8 @@ end_within ac n tail (inl full) = omega (arith, full.0)
 end_within ac n tail (inr end) = omega (arith, end.0)
 
 -- where the next code goes past the last place, no block began
-pub so_far_over : (ac : Table) → IsPrefixFree ac → (first : ℤ) (old bits new : List Bool) (block made : List ℤ) (index : ℕ) → IsSoFar ac first old bits block index → index < 64 → TakesAcCode ac made bits new → 64 < index + length made → HasNoOthers ac old
-so_far_over ac free first old bits new block made index s room t over others b rest o split =
+pub partial_over : (ac : Table) → IsPrefixFree ac → (first : ℤ) (old bits new : List Bool) (block made : List ℤ) (index : ℕ) → IsPartialCut ac first old bits block index → index < 64 → TakesAcCode ac made bits new → 64 < index + length made → HasNoOthers ac old
+partial_over ac free first old bits new block made index s room t over others b rest o split =
     let g = s.on others rest (of_others ac others old b rest o split) in
     let h = step_on ac free t.code s.done others new rest t.is (omega (arith, s.count)) (subst (λ (x : List Bool). Goes ac s.done others x rest) t.split g) in
     omega (arith, end_within ac _ h.tail h.end, length-append s.done (entries t.code), ap length t.gives, s.count)
@@ -184,10 +184,10 @@ block_written first v done block index run at is count e h =
     let lt : run < 64 - index = omega arith in
     ap (λ (b : List ℤ). set b at v) is ∙ ap (λ (q : ℕ). set (first ∷ (done ++ replicate (64 - index) (pos 0))) q v) a ∙ ap (λ (x : List ℤ). first ∷ x) (set_at done (64 - index) run v lt) ∙ ap (λ (q : ℕ). first ∷ ((done ++ (replicate run (pos 0) ++ v ∷ [])) ++ replicate q (pos 0))) k
 
-pub so_far_coef : (ac : Table) → IsPrefixFree ac → (first v : ℤ) (old bits new : List Bool) (block block' : List ℤ) (index run at place' : ℕ)
-    → IsSoFar ac first old bits block index → index < 64 → TakesAcCode ac (replicate run (pos 0) ++ v ∷ []) bits new → at ≡ index + run → at ≤ 63 → block' ≡ set block at v → place' ≡ at + 1 → IsSoFar ac first old new block' place'
-so_far_coef ac free first v old bits new block block' index run at place' s room t is fits wrote next =
+pub partial_coef : (ac : Table) → IsPrefixFree ac → (first v : ℤ) (old bits new : List Bool) (block block' : List ℤ) (index run at place' : ℕ)
+    → IsPartialCut ac first old bits block index → index < 64 → TakesAcCode ac (replicate run (pos 0) ++ v ∷ []) bits new → at ≡ index + run → at ≤ 63 → block' ≡ set block at v → place' ≡ at + 1 → IsPartialCut ac first old new block' place'
+partial_coef ac free first v old bits new block block' index run at place' s room t is fits wrote next =
     let n : length (replicate run (pos 0) ++ v ∷ []) ≡ run + 1 = omega (arith, length-append (replicate run (pos 0)) (v ∷ []), length-replicate run (pos 0)) in
     let written : block' ≡ first ∷ ((s.done ++ (replicate run (pos 0) ++ v ∷ [])) ++ replicate (64 - place') (pos 0))
     = wrote ∙ block_written first v s.done block index run at s.blocks s.count is (omega (arith, fits)) ∙ ap (λ (q : ℕ). first ∷ ((s.done ++ (replicate run (pos 0) ++ v ∷ [])) ++ replicate (64 - q) (pos 0))) (sym next) in
-    so_far_more ac free first old bits new block block' (replicate run (pos 0) ++ v ∷ []) index place' s room t (omega (arith, n, is, next)) (omega (arith, next, fits)) written
+    partial_more ac free first old bits new block block' (replicate run (pos 0) ++ v ∷ []) index place' s room t (omega (arith, n, is, next)) (omega (arith, next, fits)) written

@@ -7,8 +7,8 @@ use Rattle.jr_base.specs.declared.marker.TheConstants.{EOI, RST0}
 use Rattle.jr_cut.specs.declared.scan_end.ScanEnd.TheVariants.{EndOfImage}
 use Rattle.jr_cut.specs.declared.stop.Stop.TheVariants.{Restart}
 use Rattle.jr_cut.specs.Cut.{HasMarker, IsCut, IsRaw, IsStop, marker}
-use Rattle.jr_cut.specs.CutSoFar.{AreSegments}
-use Rattle.jr_cut.specs.OpenSegments.{IsStopOf}
+use Rattle.jr_cut.specs.PartialCut.{AreSegments}
+use Rattle.jr_cut.specs.PartialSegments.{IsStopOf}
 use Rattle.jr_cut.proofs.Segments.{length_marker, segments_end, segments_grow, segments_next}
 use Rattle.jr_mend.proofs.Readings.{Segment}
 

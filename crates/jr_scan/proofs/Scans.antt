@@ -9,9 +9,9 @@ use Rattle.jr_cut.specs.declared.span.Span.{Span}
 use Rattle.jr_cut.specs.Spans.{segment_data, IsSpanOf}
 use Rattle.jr_scan.specs.IntervalValue.{IntervalValue}
 use Rattle.jr_scan.specs.ScanValue.{ScanValue, intervals_of, scan_of_segments, IsScanOf}
-use Rattle.jr_scan.specs.GrowingScan.{HasCome, growing_scan}
-use Rattle.jr_cut.specs.CutSoFar.{CutSoFarValue, HasCut}
-use Rattle.jr_cut.proofs.OpenSegments.{has_cut_is_cut}
+use Rattle.jr_scan.specs.PartialScan.{HasCome, partial_scan}
+use Rattle.jr_cut.specs.PartialCut.{PartialCutValue, HasCut}
+use Rattle.jr_cut.proofs.PartialSegments.{has_cut_is_cut}
 
 pub cut_few : (n at : ℕ) (bytes : List ℕ) (datas : List (List ℕ)) (end : ScanEnd) → IsCut n at bytes datas end → length datas ≤ n
 cut_few n at bytes datas end c = omega (arith, ap length c.means, length-map c.segments (λ (p : CodedSegment). p.bytes), c.few)
@@ -47,7 +47,7 @@ padded_at (s ∷ ss) n zero = refl
 padded_at (s ∷ ss) n (suc i) = padded_at ss n i
 
 -- bytes are cut so
-pub has_come : (h : HeadValue) (c : CutSoFarValue) (bytes : List ℕ) → c.intervals ≡ intervals_of h → h.scan_at ≤ length bytes → c.at + length c.rest ≤ length bytes → HasCut h.scan_at (drop h.scan_at bytes) c → HasCome (growing_scan h c) bytes
+pub has_come : (h : HeadValue) (c : PartialCutValue) (bytes : List ℕ) → c.intervals ≡ intervals_of h → h.scan_at ≤ length bytes → c.at + length c.rest ≤ length bytes → HasCut h.scan_at (drop h.scan_at bytes) c → HasCome (partial_scan h c) bytes
 unfolding is_scan
 has_come h c bytes en starts few cut = record {
   starts = starts;
@@ -58,8 +58,8 @@ has_come h c bytes en starts few cut = record {
 }
 
 -- more bytes have come
-pub come_more : (h : HeadValue) (old new : CutSoFarValue) (bytes more : List ℕ) → new.intervals ≡ intervals_of h → new.at + length new.rest ≤ old.at + length old.rest + length more
-    → ((start : ℕ) (xs : List ℕ) → HasCut start xs old → HasCut start (xs ++ more) new) → HasCome (growing_scan h old) bytes → HasCome (growing_scan h new) (bytes ++ more)
+pub come_more : (h : HeadValue) (old new : PartialCutValue) (bytes more : List ℕ) → new.intervals ≡ intervals_of h → new.at + length new.rest ≤ old.at + length old.rest + length more
+    → ((start : ℕ) (xs : List ℕ) → HasCut start xs old → HasCut start (xs ++ more) new) → HasCome (partial_scan h old) bytes → HasCome (partial_scan h new) (bytes ++ more)
 come_more h old new bytes more en few on come =
     let behind : drop h.scan_at (bytes ++ more) ≡ drop h.scan_at bytes ++ more = drop-append-le h.scan_at bytes more come.starts in
     has_come h new (bytes ++ more) en (omega (arith, come.starts, length-append bytes more)) (omega (arith, come.few, few, length-append bytes more))

@@ -2,7 +2,7 @@ pub mod IntervalValue
 pub mod FrontValue
 pub mod Mcus
 pub mod ScanValue
-pub mod GrowingScan
+pub mod PartialScan
 pub mod ImageEnd
 pub mod Run
 pub mod McuReader

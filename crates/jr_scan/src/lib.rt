@@ -3,7 +3,6 @@
 
 mod cut_scan;
 mod front;
-mod growing_scan;
 mod guess;
 mod guessed;
 mod guesses;
@@ -11,13 +10,13 @@ mod interval;
 mod interval_ref;
 mod laws;
 mod mcu_reader;
+mod partial_scan;
 mod place;
 mod scan;
 mod taking_over;
 
 pub use cut_scan::CutScan;
 pub use front::FrontBlocks;
-pub use growing_scan::GrowingScan;
 pub use guess::Guess;
 pub use guesses::Guesses;
 pub use interval::{Block, Interval};
@@ -28,5 +27,6 @@ pub use laws::{
     no_front, one_decoding, one_front, one_run, runs_meet, shorter_front,
 };
 pub use mcu_reader::{MOST_UNITS, McuReader};
+pub use partial_scan::PartialScan;
 pub use place::{Place, RunEnd};
 pub use scan::Scan;

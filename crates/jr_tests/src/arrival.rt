@@ -1,6 +1,6 @@
 //! Files that arrive in parts: which lines are returned when, and which refusals.
 
-use jr_arrival::Arriving;
+use jr_arrival::PartialFile;
 use jr_head::Refusal;
 use jr_rows::shape_of;
 use std::alloc::Global;
@@ -8,22 +8,22 @@ use std::test::Fail;
 use test_files::files::{file, put_parts};
 
 /// How many bytes a line of the picture has, and how many lines: none where the head has not come.
-fn size_of(arriving: &Arriving) -> Option<(usize, u32)> {
-    let head = arriving.head()?;
+fn size_of(partial_file: &PartialFile) -> Option<(usize, u32)> {
+    let head = partial_file.head()?;
     Some((shape_of(head).line, head.height()))
 }
 
 /// Puts the lines of so many bytes that the bytes so far settle behind those that are there, as many at a look as there is room for.
 fn put_lines(
     alloc: Global,
-    arriving: &mut Arriving,
+    partial_file: &mut PartialFile,
     line: usize,
     height: u32,
     room: &mut [u8],
     shown: &mut Vec<u8>,
 ) -> Result<(), Fail> {
     for _ in 0..height {
-        let count = arriving.next_lines(alloc, room)?;
+        let count = partial_file.next_lines(alloc, room)?;
         let length = usize::saturating_mul(count as usize, line);
         shown.extend_from_slice(room.get(..length).ok_or("too many lines")?)?;
         if count == 0 {
@@ -37,17 +37,17 @@ fn put_lines(
 /// None where the file is refused.
 fn take_lines(
     alloc: Global,
-    arriving: &mut Arriving,
+    partial_file: &mut PartialFile,
     most: u32,
     shown: &mut Vec<u8>,
 ) -> Result<Option<()>, Fail> {
-    if arriving.begin(alloc).is_err() {
+    if partial_file.begin(alloc).is_err() {
         return Ok(None);
     }
-    if let Some((line, height)) = size_of(arriving) {
+    if let Some((line, height)) = size_of(partial_file) {
         let lines = u32::min(most, height) as usize;
         let mut room = vec![in alloc; 0; usize::saturating_mul(lines, line)]?;
-        put_lines(alloc, arriving, line, height, &mut room, shown)?;
+        put_lines(alloc, partial_file, line, height, &mut room, shown)?;
     }
     Ok(Some(()))
 }
@@ -55,12 +55,12 @@ fn take_lines(
 /// Pushes bytes, and gives the lines that they settle; none where the file is refused.
 fn push_and_take(
     alloc: Global,
-    arriving: &mut Arriving,
+    partial_file: &mut PartialFile,
     bytes: &[u8],
 ) -> Result<Option<Vec<u8>>, Fail> {
     let mut shown = Vec::new(alloc);
-    arriving.push(bytes)?;
-    if take_lines(alloc, arriving, u32::MAX, &mut shown)?.is_none() {
+    partial_file.push(bytes)?;
+    if take_lines(alloc, partial_file, u32::MAX, &mut shown)?.is_none() {
         return Ok(None);
     }
     Ok(Some(shown))
@@ -68,8 +68,8 @@ fn push_and_take(
 
 /// The lines that a file's first bytes settle; none where it is refused.
 fn given_of(alloc: Global, bytes: &[u8]) -> Result<Option<Vec<u8>>, Fail> {
-    let mut arriving = Arriving::new(alloc);
-    push_and_take(alloc, &mut arriving, bytes)
+    let mut partial_file = PartialFile::new(alloc);
+    push_and_take(alloc, &mut partial_file, bytes)
 }
 
 /// The restart interval of an image of 8 by 24 pixels, the bytes of its scan that have arrived, and the number of its lines that are
@@ -182,18 +182,18 @@ const HEADS: [(&str, Option<Refusal>); 14] = [
 /// Why a file is refused once bytes are pushed: at a look, and where lines are wanted.
 fn push_and_begin(
     alloc: Global,
-    arriving: &mut Arriving,
+    partial_file: &mut PartialFile,
     bytes: &[u8],
 ) -> Result<[Option<Refusal>; 2], Fail> {
-    arriving.push(bytes)?;
-    let begun = arriving.begin(alloc).err();
-    Ok([begun, arriving.next_lines(alloc, &mut []).err()])
+    partial_file.push(bytes)?;
+    let begun = partial_file.begin(alloc).err();
+    Ok([begun, partial_file.next_lines(alloc, &mut []).err()])
 }
 
 /// Why a file is refused that begins so: at a look, and where lines are wanted.
 fn refusals_of(alloc: Global, bytes: &[u8]) -> Result<[Option<Refusal>; 2], Fail> {
-    let mut arriving = Arriving::new(alloc);
-    push_and_begin(alloc, &mut arriving, bytes)
+    let mut partial_file = PartialFile::new(alloc);
+    push_and_begin(alloc, &mut partial_file, bytes)
 }
 
 /// The same of a file in the notation of files.

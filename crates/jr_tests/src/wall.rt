@@ -1,11 +1,11 @@
 //! Tests of cells, boards and views through public calls: what workers leave in them, and what viewers see of them.
 
-mod arriving_views;
 mod cells;
 mod damage;
 mod glances;
 mod helping;
 mod long_views;
+mod partial_views;
 mod seen_views;
 mod shown;
 mod views;

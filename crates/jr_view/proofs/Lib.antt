@@ -1,4 +1,4 @@
-pub mod ArrivingViews
+pub mod PartialViews
 pub mod Parts
 pub mod Rows
 pub mod Samples

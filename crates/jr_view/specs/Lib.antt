@@ -3,4 +3,4 @@ pub mod Views
 pub mod Parts
 pub mod Told
 pub mod Lookers
-pub mod ArrivingViews
+pub mod PartialViews

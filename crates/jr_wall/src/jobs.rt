@@ -3,8 +3,8 @@
 ghost use Rattle.std.specs.Prelude.{◌≡◌, ◌<◌, ◌≤◌, length, Some};
 
 use jr_cells::StripCells;
-use jr_work::{Job, OneScan};
 use jr_scan::Scan;
+use jr_work::{Job, OneScan};
 use std::alloc::Global;
 use std::sync::Arc;
 

@@ -6,9 +6,9 @@ ghost use Rattle.jr_wall.specs.DecodingValue.{AreNumbered};
 
 use jr_cells::{StripCells, StripSight};
 use jr_code::Memory;
-use jr_work::strip_mcus;
 use jr_piece::Strip;
 use jr_scan::Scan;
+use jr_work::strip_mcus;
 use std::alloc::Global;
 use std::sync::Arc;
 

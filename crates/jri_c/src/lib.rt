@@ -12,7 +12,7 @@ ghost use Rattle.jri_memory.specs.Checks.{ChecksFile, LacksMarkRoom};
 ghost use Rattle.jri_memory.specs.Mends.{HasOtherHeader, IsTooLongMend, LackCopies, LacksMendRoom, MendsFiles, TellsCopyFault, TellsNoMend, files_of};
 ghost use Rattle.jri_memory.specs.Resyncs.{IsTooLongFile, LacksResyncRoom, ResyncsFile, TellsNoResync};
 ghost use Rattle.jri_memory.specs.Calls.{DecodesFile, DecodesLines, TellsFault, IsHeaderOf, IsNumberOfSome, LacksLines, LacksRoom, LacksRoomForLines, TellsNoHeader, TellsNoPicture, TellsNoRefusal};
-ghost use Rattle.jri_memory.specs.Rows.{GivesRows, LacksRoomForRow, LacksRows, SkipsRows, TellsFaultSoFar, TellsNoRows, TellsNothing, are_all};
+ghost use Rattle.jri_memory.specs.Rows.{GivesRows, LacksRoomForRow, LacksRows, SkipsRows, TellsPartialFault, TellsNoRows, TellsNothing, are_all};
 
 use jri_memory::{
     Break, ChoiceEntry, Damage, DamageReport, DecodeReport, Header, MendReport, ResyncReport,
@@ -162,7 +162,7 @@ pub extern "C" fn jri_decode_rows(
     report: &mut RowsReport,
 ) -> u32
     ensures given { result ≡ 0 → GivesRows file.now (are_all more) rows place.old place.new pixels.old pixels.new report.new }
-    ensures refused { result ≡ 2 → TellsFaultSoFar file.now (are_all more) report.new }
+    ensures refused { result ≡ 2 → TellsPartialFault file.now (are_all more) report.new }
     ensures memory { result ≡ 1 → report.new.refusal ≡ 19 }
     ensures room { result ≡ 4 → LacksRoomForRow file.now place.old (length pixels.old) }
     ensures room_alone { result ≡ 4 → TellsNothing report.new }
@@ -191,7 +191,7 @@ pub extern "C" fn jri_skip_rows(
     report: &mut RowsReport,
 ) -> u32
     ensures skipped { result ≡ 0 → SkipsRows file.now (are_all more) rows place.old place.new report.new }
-    ensures refused { result ≡ 2 → TellsFaultSoFar file.now (are_all more) report.new }
+    ensures refused { result ≡ 2 → TellsPartialFault file.now (are_all more) report.new }
     ensures memory { result ≡ 1 → report.new.refusal ≡ 19 }
     ensures rows { result ≡ 5 → LacksRows file.now place.old rows }
     ensures rows_alone { result ≡ 5 → TellsNothing report.new }

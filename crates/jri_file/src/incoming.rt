@@ -14,7 +14,7 @@ use crate::scanning::{scan_in_place, share};
 use jr_base::Tally;
 use jr_base::limits::MAX_FILE_BYTES;
 use jr_head::{Head, Refusal, read_head};
-use jr_scan::{GrowingScan, Scan};
+use jr_scan::{PartialScan, Scan};
 use std::alloc::Global;
 use std::io::Read;
 use std::sync::Arc;
@@ -56,7 +56,7 @@ fn cut_while_read<R: Read>(
 {
     head.be_lawful();
     let before = first.len();
-    let Ok(mut scan) = GrowingScan::of(alloc, head, first) else {
+    let Ok(mut scan) = PartialScan::of(alloc, head, first) else {
         return Err(Fault::Memory);
     };
     if cut_on(input, &mut scan, before)? > MAX_FILE_BYTES {

@@ -4,14 +4,14 @@ ghost use Rattle.std.specs.Prelude.{◌≡◌, ◌≢◌, ◌≤◌, ◌<◌, �
 ghost use Rattle.std.specs.Io.{ReadsAtMost};
 ghost use Rattle.std.specs.Io.KnownBytes.{Consumes, IsAtEnd, ReadConsumes, prepend_known};
 ghost use Rattle.jr_base.specs.Tally.{has_failed, known_in};
-ghost use Rattle.jr_scan.specs.GrowingScan.{HasCome};
+ghost use Rattle.jr_scan.specs.PartialScan.{HasCome};
 ghost use Rattle.jri_file.specs.Files.{IsUnread};
 ghost use Rattle.jri_file.specs.Reading.{CutsOn};
 
 use crate::report::Fault;
 use jr_base::Tally;
 use jr_base::limits::MAX_FILE_BYTES;
-use jr_scan::GrowingScan;
+use jr_scan::PartialScan;
 use std::io::Read;
 
 /// One byte more than a file may have.
@@ -77,7 +77,7 @@ pub(crate) fn read_more<R: Read>(
 /// they are one more than a file may have. Returns the number of bytes that have come.
 pub(crate) fn cut_on<R: Read>(
     input: &mut Tally<R>,
-    scan: &mut GrowingScan,
+    scan: &mut PartialScan,
     before: usize,
 ) -> Result<usize, Fault>
     requires unfailed { has_failed input.old ≡ false }

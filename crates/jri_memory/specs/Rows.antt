@@ -36,14 +36,14 @@ pub record TellsNothing (r : RowsReport) : Type 0 where
   pub detail : r.detail ≡ 0
 
 -- the bytes' first fault; if more bytes may come it is that of each longer file
-pub record IsFaultSoFar (bytes : List ℕ) (all : Bool) (fault : Refusal) : Type 0 where
+pub record IsPartialFault (bytes : List ℕ) (all : Bool) (fault : Refusal) : Type 0 where
   pub is : RefusalOf bytes fault
   pub stays : all ≡ false → IsFinalFault bytes fault
 
 -- it has this number and this detail
-pub record TellsFaultSoFar (bytes : List ℕ) (all : Bool) (r : RowsReport) : Type 0 where
+pub record TellsPartialFault (bytes : List ℕ) (all : Bool) (r : RowsReport) : Type 0 where
   pub fault : Refusal
-  pub is : IsFaultSoFar bytes all fault
+  pub is : IsPartialFault bytes all fault
   pub number_is : r.refusal ≡ number_of fault
   pub detail_is : r.detail ≡ detail_of fault
 
@@ -114,7 +114,7 @@ pub record LacksRoomForRow (bytes : List ℕ) (p : RowPlace) (room : ℕ) : Type
 
 -- why a place is not moved
 abbrev pub IsWhy : (bytes : List ℕ) (all : Bool) (p : RowPlace) (rows room : ℕ) → PlaceError → Type 0
-IsWhy bytes all p rows room (Refused fault) = fault ≢ Memory → IsFaultSoFar bytes all fault
+IsWhy bytes all p rows room (Refused fault) = fault ≢ Memory → IsPartialFault bytes all fault
 IsWhy bytes all p rows room NoRows = LacksRows bytes p rows
 IsWhy bytes all p rows room NoRoom = LacksRoomForRow bytes p room
 

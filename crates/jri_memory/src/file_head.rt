@@ -4,9 +4,9 @@ ghost use Rattle.std.specs.Prelude.{◌≡◌, ◌≢◌, false, IfOk, IfErr, If
 ghost use Rattle.jr_segments.specs.declared.refusal.Refusal.TheVariants.{Memory};
 ghost use Rattle.jr_head.specs.Heads.{HeadOf};
 ghost use Rattle.jr_arrival.specs.Settled.{WantsMore};
-ghost use Rattle.jri_memory.specs.Rows.{IsFaultSoFar};
+ghost use Rattle.jri_memory.specs.Rows.{IsPartialFault};
 
-use jr_arrival::{FileBytes, head_so_far};
+use jr_arrival::{FileBytes, read_partial_head};
 use jr_head::{Head, Refusal, read_head};
 use std::alloc::Global;
 
@@ -20,10 +20,10 @@ pub(crate) fn head_of(alloc: Global, file: FileBytes<'_>) -> Result<Option<Head>
     ensures head { IfOk result (λ o. IfSome o (HeadOf file.entry.bytes.now)) }
     ensures wanted { IfOk result (λ o. IfNone o (WantsMore file.entry.bytes.now)) }
     ensures more { IfOk result (λ o. IfNone o (file.entry.are_all ≡ false)) }
-    ensures refusal { IfErr result (λ f. f ≢ Memory → IsFaultSoFar file.entry.bytes.now file.entry.are_all f) }
+    ensures refusal { IfErr result (λ f. f ≢ Memory → IsPartialFault file.entry.bytes.now file.entry.are_all f) }
 {
     if !file.are_all {
-        return head_so_far(alloc, file.bytes);
+        return read_partial_head(alloc, file.bytes);
     }
     match read_head(alloc, file.bytes) {
         Ok(head) => Ok(Some(head)),

@@ -1,7 +1,7 @@
 //! The calls that continue from a position: rows of MCUs that are decoded, or skipped.
 
 ghost use Rattle.std.specs.Prelude.{◌≡◌, ◌≢◌, ◌≤◌, length};
-ghost use Rattle.jri_memory.specs.Rows.{GivesRows, IsRefusedPlace, LacksRoomForRow, LacksRows, SkipsRows, TellsFaultSoFar, TellsNoRows, TellsNothing, are_all};
+ghost use Rattle.jri_memory.specs.Rows.{GivesRows, IsRefusedPlace, LacksRoomForRow, LacksRows, SkipsRows, TellsPartialFault, TellsNoRows, TellsNothing, are_all};
 
 use crate::answers::status_of;
 use crate::places::{PlaceError, decode_from, skip_from};
@@ -53,7 +53,7 @@ pub fn decode_file_rows(
     report: &mut RowsReport,
 ) -> u32
     ensures given { result ≡ 0 → GivesRows file.now (are_all more) rows place.old place.new pixels.old pixels.new report.new }
-    ensures refused { result ≡ 2 → TellsFaultSoFar file.now (are_all more) report.new }
+    ensures refused { result ≡ 2 → TellsPartialFault file.now (are_all more) report.new }
     ensures memory { result ≡ 1 → report.new.refusal ≡ 19 }
     ensures room { result ≡ 4 → LacksRoomForRow file.now place.old (length pixels.old) }
     ensures room_alone { result ≡ 4 → TellsNothing report.new }
@@ -91,7 +91,7 @@ pub fn skip_file_rows(
     report: &mut RowsReport,
 ) -> u32
     ensures skipped { result ≡ 0 → SkipsRows file.now (are_all more) rows place.old place.new report.new }
-    ensures refused { result ≡ 2 → TellsFaultSoFar file.now (are_all more) report.new }
+    ensures refused { result ≡ 2 → TellsPartialFault file.now (are_all more) report.new }
     ensures memory { result ≡ 1 → report.new.refusal ≡ 19 }
     ensures rows { result ≡ 5 → LacksRows file.now place.old rows }
     ensures rows_alone { result ≡ 5 → TellsNothing report.new }

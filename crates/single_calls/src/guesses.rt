@@ -3,8 +3,8 @@
 ghost use Rattle.std.specs.Prelude.{◌≡◌, ◌<◌, length};
 ghost use Rattle.jr_scan.specs.Guess.{IsGuessOf};
 
-use jr_work::windows_of;
 use jr_scan::{Guess, McuReader, Scan};
+use jr_work::windows_of;
 use std::alloc::Global;
 use std::io::Write;
 

@@ -16,11 +16,11 @@
 //! `tools/compare-arriving`.
 #![tactic(auto)]
 
-mod arriving;
 mod caller;
 mod guesses;
 mod intervals;
 mod keeping;
+mod partial_file;
 mod strips;
 mod times;
 mod writing;
@@ -83,7 +83,7 @@ enum Task {
     Times,
     Guesses,
     Calls,
-    Arriving,
+    PartialFile,
 }
 
 /// Returns the task that a word names, if it names one.
@@ -91,7 +91,7 @@ fn task_of(word: &str) -> Option<Task> {
     match word {
         "--guesses" => Some(Task::Guesses),
         "--calls" => Some(Task::Calls),
-        "--arriving" => Some(Task::Arriving),
+        "--partial_file" => Some(Task::PartialFile),
         _ => None,
     }
 }
@@ -140,7 +140,7 @@ fn run<R: Threads + Wait + Clock + Sync>(
         Task::Times => tell_times_of(rt, threads, word),
         Task::Guesses => tell_guesses_of(rt, word),
         Task::Calls => tell_calls_on(rt, threads, word),
-        Task::Arriving => return arriving::show_input(rt, word),
+        Task::PartialFile => return partial_file::show_input(rt, word),
     };
     if done.is_some() { 0 } else { 1 }
 }

@@ -6,9 +6,9 @@
 //! last one is finished. `-` is standard input: a file that comes in parts, as through a pipe that stalls.
 #![tactic(auto)]
 
-mod coming;
 mod counting;
 mod frames;
+mod partial_image;
 
 use crate::counting::Counter;
 use crate::frames::{Frames, write};
@@ -120,7 +120,7 @@ fn show_word<R: Threads + Wait + Clock + Sync, W: Write, E: Write>(
     errors: &mut E,
 ) -> Result<(), u8> {
     if word == "-" {
-        return match coming::show(rt.alloc(), &mut rt.stdin(), has_frames, out) {
+        return match partial_image::show(rt.alloc(), &mut rt.stdin(), has_frames, out) {
             Ok(()) => Ok(()),
             Err(failure) => Err(failure.tell(errors)),
         };

@@ -10,7 +10,7 @@ use Rattle.jr_arrival.proofs.PaintedLines.{no_lines}
 use Rattle.jr_arrival.proofs.RowLines.{before_more, next_row}
 use Rattle.jr_arrival.specs.declared.file_bytes.FileBytes.{FileBytes}
 use Rattle.jr_arrival.specs.Cursors.{IsCursorIn}
-use Rattle.jr_arrival.specs.Growing.{RowIsSettled}
+use Rattle.jr_arrival.specs.LongerFile.{RowIsSettled}
 use Rattle.jr_arrival.specs.Meaning.{IsPlaceIn, MayBe}
 use Rattle.jr_scan.specs.ScanValue.{ScanValue}
 use Rattle.jr_arrival.specs.Places.{IsIn, lines_above, lines_between, mcus_before_place}

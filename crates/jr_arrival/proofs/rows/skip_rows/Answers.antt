@@ -2,7 +2,7 @@ use Rattle.std.proofs.Common.{◌≡◌, ℕ, ◌+◌, ◌-◌, ◌*◌, ◌≤�
 use Rattle.jr_head.specs.Geometry.{mcus_across}
 use Rattle.jr_arrival.specs.declared.file_bytes.FileBytes.{FileBytes}
 use Rattle.jr_arrival.specs.Cursors.{IsCursorIn}
-use Rattle.jr_arrival.specs.Growing.{RowIsSettled}
+use Rattle.jr_arrival.specs.LongerFile.{RowIsSettled}
 use Rattle.jr_arrival.specs.Meaning.{IsPlaceIn, MayBe}
 use Rattle.jr_scan.specs.ScanValue.{ScanValue}
 use Rattle.jr_arrival.specs.Places.{IsIn, mcus_before_place}

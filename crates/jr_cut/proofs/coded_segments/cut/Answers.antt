@@ -1,5 +1,5 @@
 use Rattle.std.proofs.Common.{rules}
-use Rattle.jr_cut.proofs.OpenSegments.{has_cut_is_cut}
+use Rattle.jr_cut.proofs.PartialSegments.{has_cut_is_cut}
 use Rattle.jr_cut.proofs.coded_segments.cut.Goals as goal
 
 pub returns-clause-cut : goal.returns-clause-cut

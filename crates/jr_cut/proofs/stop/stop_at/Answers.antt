@@ -1,5 +1,5 @@
 use Rattle.std.proofs.Common.{rules, ◌<◌, length, arith}
-use Rattle.jr_cut.proofs.OpenSegments.{marker_begins, has_this_marker, is_restart}
+use Rattle.jr_cut.proofs.PartialSegments.{marker_begins, has_this_marker, is_restart}
 use Rattle.jr_cut.proofs.stop.stop_at.Goals as goal
 
 pub end_at-requires-clause-not_stuffing : goal.end_at-requires-clause-not_stuffing

@@ -1,9 +1,9 @@
 use Rattle.std.proofs.Common.{◌+◌, ◌-◌, ◌≤◌}
-use Rattle.jr_mcu.proofs.Rest.{IsSoFar}
+use Rattle.jr_mcu.proofs.Rest.{IsPartialCut}
 use Rattle.jr_mcu.proofs.block.read_others.Given as goal
 
 abbrev pub invariant-codes : goal.invariant-codes
-invariant-codes l = (l.place ≤ 62) × IsSoFar l.ac l.first l.fn.bits l.bits l.block (l.place + 1)
+invariant-codes l = (l.place ≤ 62) × IsPartialCut l.ac l.first l.fn.bits l.bits l.block (l.place + 1)
 
 abbrev pub decreases-codes : goal.decreases-codes
 decreases-codes l = 63 - l.place

@@ -1,15 +1,15 @@
 use Rattle.std.proofs.Common.{◌+◌, ◌∷◌, pos, replicate, arith, ap}
 use Rattle.jr_code.proofs.CodeLemmas.{one_word}
-use Rattle.jr_mcu.proofs.Rest.{so_far_none, so_far_stuck}
+use Rattle.jr_mcu.proofs.Rest.{partial_none, partial_stuck}
 use Rattle.jr_mcu.proofs.Places.{ended_none, no_step_places, skipped_on, skipped_some}
 use Rattle.jr_mcu.proofs.block.skip_others.Goals as goal
 
 pub codes-init : goal.codes-init
-codes-init c = (omega arith, (pos 0 ∷ replicate 63 (pos 0), so_far_none _ _ _))
+codes-init c = (omega arith, (pos 0 ∷ replicate 63 (pos 0), partial_none _ _ _))
 
 pub returns-in_err-code-clause-none : goal.returns-in_err-code-clause-none
 returns-in_err-code-clause-none c =
-    rw c.from_residual.ensures (so_far_stuck _ _ _ _ _ _ c.codes.invariant.1.1 (omega (arith, c.codes.invariant.0)) (no_step_places _ _ c.in_err-code.ensures.none))
+    rw c.from_residual.ensures (partial_stuck _ _ _ _ _ _ c.codes.invariant.1.1 (omega (arith, c.codes.invariant.0)) (no_step_places _ _ c.in_err-code.ensures.none))
 
 pub returns-then-place-gt62-clause-some : goal.returns-then-place-gt62-clause-some
 returns-then-place-gt62-clause-some c =
@@ -27,7 +27,7 @@ returns-in_err-next-clause-none c =
     let place = ap (λ n. c.codes.place + n) c.places-place.ensures.value in
     let at = c.codes.place + c.places-place.result in
     let s = skipped_on c.args.ac.now (one_word _) c.args.bits.now c.codes.bits c.read_places.new.bits c.codes.place at c.in_ok-code.code c.codes.invariant.1 c.codes.invariant.0 c.in_ok-code.ensures.found place (omega (arith, c.if-place-gt62.false)) in
-    rw c.from_residual-in_err-next.ensures (so_far_stuck _ _ _ _ _ _ s.1 (omega (arith, c.if-place-gt62.false)) (no_step_places _ _ c.in_err-next.ensures.none))
+    rw c.from_residual-in_err-next.ensures (partial_stuck _ _ _ _ _ _ s.1 (omega (arith, c.if-place-gt62.false)) (no_step_places _ _ c.in_err-next.ensures.none))
 
 pub returns-then-place-gt62-2-clause-some : goal.returns-then-place-gt62-2-clause-some
 returns-then-place-gt62-2-clause-some c =

@@ -1,6 +1,6 @@
 use Rattle.std.proofs.Common.{◌<◌, ℕ, length, get_or, refl, subst, inl, inr, arith}
 use Rattle.jr_cut.specs.Cut.{HasMarker}
-use Rattle.jr_cut.proofs.OpenSegments.{has_this_marker, marker_begins}
+use Rattle.jr_cut.proofs.PartialSegments.{has_this_marker, marker_begins}
 use Rattle.jr_mend.specs.Resync.{IsMeaning}
 use Rattle.jr_mend.proofs.following.following_at.Goals as goal
 

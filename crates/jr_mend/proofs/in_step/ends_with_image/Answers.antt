@@ -2,7 +2,7 @@ use Rattle.std.proofs.Common.{◌+◌, ◌≤◌, List, ℕ, length, rules, subs
 use Rattle.jr_base.specs.declared.marker.TheConstants.{EOI}
 use Rattle.jr_cut.specs.declared.stop.Stop.TheVariants.{Restart}
 use Rattle.jr_cut.specs.Cut.{HasMarker}
-use Rattle.jr_cut.specs.OpenSegments.{IsStopOf}
+use Rattle.jr_cut.specs.PartialSegments.{IsStopOf}
 use Rattle.jr_cut.proofs.Cuts.{rest_is}
 use Rattle.jr_mend.proofs.DueMarkers.{due_end, due_first, due_next, marker_within}
 use Rattle.jr_mend.proofs.Readings.{segment}

@@ -5,7 +5,7 @@ use Rattle.std.proofs.lemmas.Nat.{mul-le}
 use borrow.Rule.Slice.PartMut.{mid_len, put_mid, take_put}
 use Rattle.jr_head.specs.HeadValue.{HeadValue}
 use Rattle.jr_paint.specs.Lines.{line_size, next_lines_of}
-use Rattle.jr_view.proofs.ArrivingViews.{put_behind, rest_same}
+use Rattle.jr_view.proofs.PartialViews.{put_behind, rest_same}
 use Rattle.jr_view.proofs.finished_view.paint_rest.Goals as goal
 
 pub paint_scan_lines-requires-clause-room : goal.paint_scan_lines-requires-clause-room

@@ -2,7 +2,7 @@ use Rattle.std.proofs.Common.{◌≡◌, ◌≤◌, ◌-◌, ◌+◌, ◌++◌, 
 use Rattle.std.specs.Io.KnownBytes.{Consumes}
 use Rattle.jr_base.specs.Tally.{has_failed, known_in}
 use Rattle.jr_base.specs.declared.limits.TheConstants.{MAX_FILE_BYTES}
-use Rattle.jr_scan.specs.GrowingScan.{HasCome}
+use Rattle.jr_scan.specs.PartialScan.{HasCome}
 use Rattle.jri_file.proofs.reading.cut_on.Given as goal
 
 abbrev pub invariant-parts : goal.invariant-parts

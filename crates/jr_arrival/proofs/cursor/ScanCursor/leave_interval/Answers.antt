@@ -1,6 +1,6 @@
 use Rattle.std.proofs.Common.{◌≡◌, ◌≤◌, ◌+◌, ◌%◌, ◌++◌, ◌∙◌, ℕ, length, drop, refl, sym, ap, subst, arith, rules}
 use Rattle.jr_cut.specs.declared.stop.Stop.TheVariants.{End, Restart}
-use Rattle.jr_cut.specs.OpenSegments.{IsStopOf}
+use Rattle.jr_cut.specs.PartialSegments.{IsStopOf}
 use Rattle.jr_base.specs.declared.marker.TheConstants.{RST0}
 use Rattle.jr_cut.specs.Cut.{IsEnding, marker}
 use Rattle.jr_mcu.specs.Mcus.{no_predictions}

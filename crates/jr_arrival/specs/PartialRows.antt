@@ -1,0 +1,108 @@
+-- The row of MCUs that comes next of a scan whose file is still arriving.
+use Rattle.std.specs.Prelude.{◌≡◌, ◌≢◌, ℕ, ◌+◌, ◌*◌, ◌<◌, ◌≤◌, ◌⊎◌, ⊤, List, [], ◌++◌, length, ℤ, Option, Some, None, slice_index_or}
+use Rattle.jr_head.specs.HeadValue.{HeadValue}
+use Rattle.jr_head.specs.Geometry.{mcus_across, mcus_down}
+use Rattle.jr_cut.specs.declared.scan_end.ScanEnd.TheVariants.{EndOfFile}
+use Rattle.jr_scan.specs.declared.place.Place.{Place}
+use Rattle.jr_scan.specs.PartialScan.{PartialScanValue}
+use Rattle.jr_scan.specs.Mcus.{HasLongestFront, LongestFront}
+use Rattle.jr_scan.specs.ScanValue.{ScanValue, interval_of, intervals_of, mcus_in}
+use Rattle.jr_scan.specs.Run.{left_at, start_of_interval}
+use Rattle.jr_piece.specs.Strips.{IsNext}
+use Rattle.jr_paint.specs.Lines.{next_lines_of}
+use Rattle.jr_picture.specs.BoardValue.{BoardValue}
+use Rattle.jr_picture.specs.Samples.{samples_of}
+use Rattle.jr_rows.specs.Groups.{units_in}
+use Rattle.jr_rows.specs.Rows.{CountsMarks, HasFirst, HasSampleRoom, ShowsFirstUnits, first_line, line_count}
+use Rattle.jr_rows.specs.RowsValue.{SampleRowValue}
+use Rattle.jr_rows.specs.declared.marked.Marked.{Marked}
+use Rattle.jr_arrival.specs.declared.cursor.TheConstants.{MCU_BITS}
+use Rattle.jr_arrival.specs.LongerFile.{IsOver, MayGrow}
+
+-- what a scan may become as bytes come: intervals that are over are unchanged, and data follow those of the others
+pub record GrowsInto (g : PartialScanValue) (t : ScanValue) : Type 0 where
+  pub head : t.head ≡ g.scan.head
+  pub count : length t.intervals ≡ length g.scan.intervals
+  pub so_far : (i : ℕ) → (more : List ℕ) × (slice_index_or t.intervals i [] ≡ slice_index_or g.scan.intervals i [] ++ more)
+  pub whole : (i : ℕ) → IsOver g.scan g.segments i → interval_of t i ≡ interval_of g.scan i
+  pub end : g.scan.ended ≢ EndOfFile → t.ended ≡ g.scan.ended
+
+-- a row of MCUs, its samples and the number of its MCUs; the interval of the next MCU, the number of that interval's MCUs before it, and
+-- where it starts: nowhere, if no further one of the interval becomes whole; the number of lines that were returned; and the marks of the
+-- intervals before that one
+pub record PartialRowValue : Type 0 where
+  pub row : ℕ
+  pub done : ℕ
+  pub number : ℕ
+  pub mcu : ℕ
+  pub place : Option Place
+  pub samples : SampleRowValue
+  pub lines : ℕ
+  pub marked : Marked
+
+-- these whole MCUs are the longest prefix of an interval, and stay so: the interval is over, or at least as many bits are left after
+-- them as an MCU has at most
+pub record StaysLongest (g : PartialScanValue) (number front : ℕ) (zs : List (List ℤ)) : Type 0 where
+  pub longest : LongestFront (interval_of g.scan number) front zs
+  pub final : IsOver g.scan g.segments number ⊎ (MCU_BITS ≤ length longest.front.rest)
+
+-- this is the position after that number of MCUs of an interval; without a position no more of them become whole
+abbrev pub ReadsTo : PartialScanValue → (number mcu : ℕ) → Option Place → Type 0
+ReadsTo g number mcu (Some p) = (zs : List (List ℤ)) × IsNext (interval_of g.scan number) mcu zs p
+ReadsTo g number mcu None = (front : ℕ) × (zs : List (List ℤ)) × (front < mcu) × StaysLongest g number front zs
+
+-- no further MCU of the interval is whole
+abbrev pub ReadsAll : ScanValue → (number mcu : ℕ) → Option Place → Type 0
+ReadsAll s number mcu (Some p) = HasLongestFront (interval_of s number) mcu
+ReadsAll s number mcu None = ⊤
+
+-- no MCU becomes whole at that place: the interval is over, or at least as many bits are left there as an MCU has at most
+abbrev pub IsFinal : PartialScanValue → (number : ℕ) → Option Place → Type 0
+IsFinal g number (Some p) = IsOver g.scan g.segments number ⊎ (MCU_BITS ≤ length (left_at (interval_of g.scan number) p))
+IsFinal g number None = ⊤
+
+-- it is at an MCU of an image with this header
+pub record StandsIn (h : HeadValue) (v : PartialRowValue) : Type 0 where
+  pub row : v.row < mcus_down h
+  pub within : v.done ≤ mcus_across h
+  pub number : v.number < intervals_of h
+  pub few : v.mcu ≤ mcus_in h v.number
+  pub at : v.number * h.restart + v.mcu ≡ v.row * mcus_across h + v.done
+  pub room : HasSampleRoom h v.samples
+
+-- lines are returned in order, those of a row of MCUs once the row is whole
+pub record HasGiven (h : HeadValue) (v : PartialRowValue) : Type 0 where
+  pub from : first_line h v.row ≤ v.lines
+  pub to : v.lines ≤ first_line h v.row + line_count h v.row
+  pub none : v.done < mcus_across h → v.lines ≡ first_line h v.row
+  pub left : v.lines < h.height → v.lines < first_line h v.row + line_count h v.row
+
+-- nothing is read or returned yet
+pub record Begins (h : HeadValue) (v : PartialRowValue) : Type 0 where
+  pub row : v.row ≡ 0
+  pub done : v.done ≡ 0
+  pub number : v.number ≡ 0
+  pub mcu : v.mcu ≡ 0
+  pub place : v.place ≡ Some start_of_interval
+  pub room : HasSampleRoom h v.samples
+  pub lines : v.lines ≡ 0
+  pub sound : v.marked.sound ≡ 0
+  pub damaged : v.marked.damaged ≡ 0
+
+-- the row is that of every scan that this one may become
+pub record IsPartialRow (g : PartialScanValue) (v : PartialRowValue) : Type 0 where
+  pub stands : StandsIn g.scan.head v
+  pub given : HasGiven g.scan.head v
+  pub begun : (i : ℕ) → i < v.number → IsOver g.scan g.segments i
+  pub reads : ReadsTo g v.number v.mcu v.place
+  pub shows : (t : ScanValue) → GrowsInto g t → ShowsFirstUnits t (length t.intervals) (v.row * mcus_across t.head) v.done (units_in t.head v.samples.lines.groups)
+  pub counts : (t : ScanValue) → GrowsInto g t → CountsMarks t (length t.intervals) 0 v.number v.marked
+
+-- the interval is not over, and its MCUs are passed, or the next one is not whole and may become so
+pub record HasNoMore (g : PartialScanValue) (v : PartialRowValue) : Type 0 where
+  pub going : IsOver g.scan g.segments v.number → ⊥
+  pub next : (v.mcu ≡ mcus_in g.scan.head v.number) ⊎ MayGrow (interval_of g.scan v.number) v.mcu
+
+-- these are n lines of the image of every scan that this one may become, starting at this line
+abbrev pub AreFinalLines : PartialScanValue → (first count : ℕ) → List ℕ → Type 0
+AreFinalLines g first count pixels = (t : ScanValue) → GrowsInto g t → (b : BoardValue) → HasFirst t (length t.intervals) b → pixels ≡ next_lines_of t.head (samples_of b) first count

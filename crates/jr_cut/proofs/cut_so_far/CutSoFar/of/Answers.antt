@@ -1,9 +1,0 @@
-use Rattle.std.proofs.Common.{refl}
-use Rattle.jr_cut.proofs.OpenSegments.{few_datas, read_none}
-use Rattle.jr_cut.proofs.cut_so_far.CutSoFar.of.Goals as goal
-
-pub returns-clause-count : goal.returns-clause-count
-returns-clause-count c = few_datas c.read_on.new.self c.read_on.ensures.is
-
-pub returns-clause-rest : goal.returns-clause-rest
-returns-clause-rest c = c.in_ok-ended.ensures.rest _ _ (read_none c.args.start _ c.new.ensures.items refl refl c.requires.unread)
