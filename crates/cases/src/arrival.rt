@@ -1,4 +1,4 @@
-//! Files that arrive in parts: the lines that are given while they come, and behind them the lines that are missing at the end.
+//! Files that arrive in parts: the lines that are returned meanwhile, and the missing lines at the end.
 
 ghost use Rattle.std.specs.Prelude.{◌<◌};
 

@@ -40,7 +40,7 @@ impl<'a> Case<'a> {
         self.row.status == 2
     }
 
-    /// Returns the samples of the picture: what is behind its header.
+    /// Returns the samples of the picture: what follows its header.
     pub(crate) fn samples(&self) -> &'a [u8] {
         let size = (self.header.pixels as usize).min(self.picture.len());
         let (_header, samples) = self.picture.split_at(self.picture.len() - size);

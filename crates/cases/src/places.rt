@@ -23,7 +23,7 @@ const TOP: RowPlace = RowPlace {
     state: 0,
 };
 
-/// The position behind the rows that are decoded, and what the last call reported.
+/// The position after the rows that are decoded, and what the last call reported.
 #[derive(Clone, Copy)]
 struct Reading {
     place: RowPlace,
@@ -60,7 +60,7 @@ impl Reading {
         answer
     }
 
-    /// Returns the line behind those of the last call.
+    /// Returns the line after those of the last call.
     fn next_line(&self) -> u32 {
         self.report.first_line.saturating_add(self.report.lines)
     }
@@ -98,7 +98,7 @@ fn in_parts(case: &Case<'_>, part: usize, pixels: &mut [u8])
     reading.decode(alloc, bytes, 0, u32::MAX, first_line, pixels);
 }
 
-/// A position, and the first line behind it.
+/// A position, and the first line after it.
 #[derive(Clone, Copy)]
 struct IndexEntry {
     place: RowPlace,

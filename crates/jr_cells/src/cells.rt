@@ -50,7 +50,7 @@ impl Model for Sight {
 }
 
 impl Cells {
-    /// Cells for n intervals, all empty. `Err` where memory is refused.
+    /// Cells for n intervals, all empty. `Err` if allocation fails.
     pub fn open(alloc: Global, n: u32) -> Result<Cells, Memory>
         ensures { IfOk result (λ c. length c ≡ n) }
     {
@@ -65,7 +65,7 @@ impl Cells {
         self.cells.len() as u32
     }
 
-    /// A sight of these cells that knows nothing. `Err` where memory is refused.
+    /// A sight of these cells that knows nothing. `Err` if allocation fails.
     pub fn sight(&self) -> Result<Sight, Memory>
         ensures cells { IfOk result (λ s. s.cells ≡ self.now) }
         ensures nothing { IfOk result (λ s. s.pieces ≡ replicate (length self.now) None) }

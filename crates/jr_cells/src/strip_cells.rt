@@ -101,7 +101,7 @@ impl StripCells {
         self.cells.len() as u32
     }
 
-    /// A sight of these cells that knows nothing. `Err` where memory is refused.
+    /// A sight of these cells that knows nothing. `Err` if allocation fails.
     pub fn sight(&self) -> Result<StripSight, Memory>
         ensures cells { IfOk result (λ s. s.cells ≡ self.now) }
         ensures nothing { IfOk result (λ s. s.strips ≡ replicate (length self.now.cells) None) }

@@ -185,7 +185,7 @@ impl CodeBook {
         Some(next)
     }
 
-    /// Looks up the next eleven bits, zeros in place of those that the register lacks. Returns the word that comes next
+    /// Looks up the next eleven bits, zeros instead of those that the register lacks. Returns the word that comes next
     /// and its additional bits if the register has them all.
     #[inline(always)]
     fn pair(&self, register: Register) -> Packed

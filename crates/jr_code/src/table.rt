@@ -19,7 +19,7 @@ pub enum CodeFault {
     /// The sum of `2 ^ (16 - length)` over all words is over 65536.
     #[error("the words have no room")]
     Overfull,
-    /// A request for memory was refused.
+    /// Allocation failed.
     #[error("out of memory")]
     Memory,
 }

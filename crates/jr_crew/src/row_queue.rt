@@ -22,7 +22,7 @@ pub(crate) enum RowTask<S: OneFirstIntervals> {
     Read(BegunRow<S>),
     /// Skips the next row, so that another thread can read it while the rows after it are skipped.
     Pass(BegunRow<S>),
-    /// Reads and paints a row that was passed over.
+    /// Reads and paints a row that was skipped.
     Finish(BegunRow<S>),
     /// Paints a row that is read.
     Paint(CodedRow<S>),
@@ -208,7 +208,7 @@ impl<S: OneFirstIntervals> RowQueue<S> {
             return None;
         };
         self.start(baton.behind(part));
-        // Where rows are whole intervals, this was the last one that could be begun.
+        // If rows are whole intervals, this was the last one that could be begun.
         if self.baton.is_none() && intervals_of_row(part.scan().head()).is_some() {
             self.is_begun = true;
         }

@@ -1,4 +1,4 @@
-//! Where in a file the bytes of an interval's data are.
+//! The positions of an interval's data in its file.
 
 ghost use Rattle.std.specs.Prelude.{◌≡◌, ◌<◌, ◌≤◌, ℕ, List, length, take, drop, slice_range};
 ghost use Rattle.jr_cut.specs.Cut.{IsRaw, IsStop};

@@ -1,4 +1,4 @@
-//! Where the coded bytes of a scan's intervals are in its file.
+//! The positions of the coded bytes of a scan's intervals in its file.
 
 ghost use Rattle.std.specs.Prelude.{◌≡◌, ◌<◌, ◌≤◌, ◌+◌, ◌⊎◌, ℕ, List, length, drop};
 ghost use Rattle.jr_cut.specs.Cut.{IsStop};

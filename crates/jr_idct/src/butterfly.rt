@@ -1,4 +1,4 @@
-//! The two halves of a pass by butterflies, in place of the matrix (the IJG's slow-but-accurate integer method).
+//! The two halves of a pass by butterflies, instead of the matrix (the IJG's slow-but-accurate integer method).
 
 ghost use Rattle.std.specs.Prelude.{◌≡◌, ℕ, ◌^◌, ◌<◌, ◌+ℤ◌, [], ◌∷◌};
 ghost use Rattle.std.proofs.Math.IntN.{◌*ℤ◌};
@@ -6,7 +6,7 @@ ghost use Rattle.jr_idct.specs.Matrix.{at, even_sum, odd_sum, weight, IsWithin};
 
 use crate::number::Number;
 
-// What numbers are multiplied by, with 13 bits after the point. ck stands for sqrt(2) * cos(k * pi / 16), so
+// What numbers are multiplied by, with 13 bits after the point. ck is sqrt(2) * cos(k * pi / 16), so
 // that c4 is 1; libjpeg calls each by its value, as FIX_1_175875602 for c3.
 
 /// c4.

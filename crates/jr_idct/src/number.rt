@@ -15,7 +15,7 @@ pub(crate) const ROW_BITS: u32 = 18;
 ///
 /// It is a trait, though one type has it, since a proof over any `Number` meets no step from bits to numbers and back.
 pub(crate) trait Number: Copy {
-    // the whole number it stands for
+    // the whole number that it encodes
     ghost value: { Self → ℤ };
 
     // how large the numbers may be that a pass is given

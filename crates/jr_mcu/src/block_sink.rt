@@ -1,4 +1,4 @@
-//! Where the blocks of an MCU go.
+//! The destination of the blocks of an MCU.
 
 ghost use Rattle.std.specs.Prelude.{◌≡◌, ◌<◌, ℤ, List, Bool, true, false, IsTrue, length, take, pos, IfSome, IfNone, slice_index_or, slice_set};
 ghost use Rattle.jr_mcu.specs.Block.{IsInDcRange};

@@ -1,4 +1,4 @@
-//! Where an interval begins in each of several copies.
+//! The start of an interval in each of several copies.
 
 ghost use Rattle.std.specs.Prelude.{◌≡◌, ◌+◌, ◌<◌, All, IfOk, length};
 ghost use Rattle.jr_damage.specs.Coded.{IsNextAt};

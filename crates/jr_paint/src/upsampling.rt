@@ -83,7 +83,7 @@ fn sample_line(head: &Head, c: u32, y: u32) -> u32
     y * head.vertical(c) / head.vertical_max()
 }
 
-/// Returns the number of pixels of a line for which each sample of component c stands.
+/// Returns the number of pixels of a line that each sample of component c covers.
 fn pixels_per_sample(head: &Head, c: u32) -> u32
     requires lawful { IsLawful head.now }
     requires component { c < components_of head.now }
@@ -159,7 +159,7 @@ pub(crate) fn read_halves<'a, S: Samples>(
     (cb, cr)
 }
 
-/// Returns whether a sample of component c stands for two pixels of a line.
+/// Returns whether a sample of component c covers two pixels of a line.
 fn is_halved(head: &Head, c: u32) -> bool
     requires lawful { IsLawful head.now }
     requires component { c < components_of head.now }
@@ -178,7 +178,7 @@ fn is_shared(head: &Head, c: u32, y: u32) -> bool
     sample_line(head, c, y + 1) == sample_line(head, c, y)
 }
 
-/// Returns whether a sample of both chrominances stands for two pixels of a line.
+/// Returns whether a sample of both chrominances covers two pixels of a line.
 pub(crate) fn halves_chroma(head: &Head) -> bool
     requires { IsLawful head.now }
     ensures { OnTrue result (HalvesChroma head.now) }

@@ -1,4 +1,4 @@
-//! Where a caller meets the workers.
+//! What workers call between intervals.
 
 use jr_piece::Piece;
 

@@ -1,4 +1,4 @@
-//! Strips that are passed over, and decoded from the places where they start.
+//! Strips that are skipped, and decoded from the positions where they start.
 
 ghost use Rattle.std.specs.Prelude.{◌≡◌, IfOk};
 ghost use Rattle.std.specs.Arc.{arc_value};

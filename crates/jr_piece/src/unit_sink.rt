@@ -1,4 +1,4 @@
-//! Where the samples of data units go.
+//! The destination of the samples of data units.
 
 ghost use Rattle.std.specs.Prelude.{◌≡◌, ℕ, ◌+◌, ◌*◌, ◌<◌, List, length, set, ⊤};
 ghost use Rattle.jr_head.specs.Geometry.{blocks_of};

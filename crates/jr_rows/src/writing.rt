@@ -24,7 +24,7 @@ use std::io::Write;
 /// The reason why an image is not written whole.
 #[derive(Clone, Copy, PartialEq, Eq)]
 pub enum PictureError {
-    /// Memory was refused; nothing is written.
+    /// Allocation failed; nothing is written.
     Memory,
     /// The writer failed after a beginning of the image.
     Write,

@@ -47,7 +47,7 @@ impl PartialScan {
         Ok(PartialScan { head, cut })
     }
 
-    /// More bytes have come. Where memory is refused none of them is taken.
+    /// Appends bytes of the file. On `Err`, none is taken.
     pub fn push(&mut self, more: &[u8]) -> Result<(), Memory>
         requires few { self.old.come + length more.now < 2 ^ 61 }
         ensures head { self.new.scan.head ≡ self.old.scan.head }

@@ -1,4 +1,4 @@
-//! Where a run of MCUs starts, and how it ends.
+//! The start and the end of a run of MCUs.
 
 ghost use Rattle.std.specs.Prelude.{◌≡◌};
 ghost use Rattle.jr_scan.specs.Run.{start_of_interval};

@@ -236,7 +236,7 @@ fn read_sizes(code: u8, payload: &[u8]) -> Result<(u16, u16), Refusal>
 ///
 /// # Errors
 ///
-/// Those of `read_sizes`, then those of `check_components`; `Memory` where memory was refused.
+/// Those of `read_sizes`, then those of `check_components`; `Memory` if allocation fails.
 #[tactic(auto, unfolding(crate::specs::Frames::frame_tests), using(crate::proofs::TestLaws::test_laws))]
 pub fn read_frame(alloc: Global, code: u8, payload: &[u8]) -> Result<Frame, Refusal>
     ensures obeys { Obeys result (frame_tests code payload.now) }

@@ -63,7 +63,7 @@ pub enum Refusal {
     /// The file is longer than 1,073,741,824 bytes, a limit of this decoder.
     #[error("the file is too long")]
     TooLong,
-    /// Memory was refused; nothing is said of the file.
+    /// Allocation failed; this says nothing of the file.
     #[error("out of memory")]
     Memory,
 }

@@ -1,5 +1,5 @@
-//! Files that are checked by several workers, lists of names and folders, lines that can't be written, and the
-//! program. What lines a file gets is seen in the stored run of jri_check.
+//! Checks of files with several workers, lists of names, directories, lines that cannot be written, and the program.
+//! The stored run of jri_check shows which lines a file gets.
 
 use jri_archive::{
     CheckEnd, CheckReport, CheckRequest, Entry, EntryKind, FileCounts, Folder, InStepFolder, Lists,

@@ -233,7 +233,7 @@ impl PartialView {
         }
     }
 
-    /// More bytes have come; `show` shows the lines that they settle. Where memory is refused none of them is taken.
+    /// Appends bytes of the file; `show` shows the lines that they make final. On `Err`, none is taken.
     pub fn push(&mut self, more: &[u8]) -> Result<(), Memory>
         ensures seen { IfOk result (λ _. (bytes : List ℕ) → IsSeen self.old bytes → IsSeen self.new (bytes ++ more.now)) }
         ensures lines { lines_shown self.new ≡ lines_shown self.old }
@@ -271,7 +271,7 @@ impl PartialView {
     ///
     /// # Errors
     ///
-    /// The refusal of every file that the bytes can become. `Memory` where memory was refused; then it may be called again.
+    /// The refusal of every file that the bytes can become. `Memory` if allocation fails; then it may be called again.
     pub fn show(&mut self, alloc: Global) -> Result<(), Refusal>
         ensures seen { (bytes : List ℕ) → IsSeen self.old bytes → IsSeen self.new bytes }
         ensures lines { lines_shown self.old ≤ lines_shown self.new }

@@ -1,4 +1,4 @@
--- What posting the piece of a blank interval to a board of its scan does, and what a sweep has marked.
+-- Posting the piece of a blank interval to a board of its scan, and the marks of a sweep.
 use Rattle.std.proofs.Common.{◌≡◌, ◌≢◌, ℕ, ◌+◌, ◌<◌, ◌≤◌, Bool, refl, subst, true, false, cond, List, Option, Some, None, Result, Ok, Err, IfOk, replicate, length, get_or, length-set, get_or-set_same, get_or-set_other, sym, ap, ◌∙◌, arith}
 use Rattle.std.specs.declared.sync.Arc.{Arc}
 use Rattle.std.specs.declared.alloc.Global.{Global}

@@ -56,8 +56,8 @@ impl Model for Decoding {
 }
 
 impl Decoding {
-    /// A decoding of a scan's first intervals, or of all, and a seat for each of its workers (1 to 64). `Err` where
-    /// memory is refused.
+    /// Opens a decoding of a scan's first intervals, or of all, and a seat for each of its workers (1 to 64). `Err` if
+    /// allocation fails.
     pub fn open(
         alloc: Global,
         scan: Arc<Scan>,
@@ -302,7 +302,7 @@ impl Decoding {
         let _ = self.board.lock(rt).post(piece);
     }
 
-    /// The board, after what is still blank of the first intervals has been decoded. `Err` where memory is refused.
+    /// Decodes what is still blank of the first intervals, and returns the board. `Err` if allocation fails.
     pub fn finish(self) -> Result<Board, Memory>
         ensures { IfOk result (λ b. IsDecoded self.scan self.desk.limit b) }
     {

@@ -1,4 +1,4 @@
-//! The headline: what every board shows, whenever somebody looks.
+//! The headline: what every board shows, whenever a thread looks.
 
 ghost use Rattle.std.specs.Prelude.{ℕ, List};
 ghost use Rattle.jr_scan.specs.ScanValue.{IsSameScan, ScanValue};

@@ -18,9 +18,9 @@ use std::alloc::Global;
 use std::sync::{Arc, Mutex, Wait};
 use std::thread::Threads;
 
-/// Claims intervals until the seat has ended: for each it passes the gate, makes the piece, shows it to the gate, hangs
-/// it into its cell, and posts it under the lock. An interval whose piece can't be made for want of memory stays blank;
-/// a piece that can't be hung is posted all the same.
+/// Claims intervals until the seat has ended. For each it passes the gate, makes the piece, shows it to the gate,
+/// publishes it in its cell (`hang`), and posts it under the lock. An interval for whose piece allocation fails stays
+/// blank; a piece that cannot be published is still posted.
 pub fn work<R: Wait, G: Gate>(
     rt: &R,
     alloc: Global,
@@ -49,7 +49,7 @@ pub fn work<R: Wait, G: Gate>(
     }
 }
 
-/// The piece of an interval, which the gate has seen; none for want of memory.
+/// The piece of an interval, which the gate has seen; `None` if allocation fails.
 pub(crate) fn make_piece<G: Gate>(
     alloc: Global,
     scan: &Scan,

@@ -192,14 +192,14 @@ impl<S: OneScan> Job<S> {
         Ok(strip)
     }
 
-    /// Ends the work of all workers, since memory is refused.
+    /// Ends the work of all workers, since allocation failed.
     fn give_up<R: Wait>(&self, rt: &R) {
         self.progress.lock(rt).give_up();
         self.has_read.notify_all();
     }
 
-    /// Decodes a strip, as other workers may do at the same time. None where nothing is left to do for this one, and
-    /// where memory is refused.
+    /// Decodes a strip, as other workers may do at the same time. `None` if nothing is left to do for this one, or if
+    /// allocation fails.
     pub fn step<R: Wait>(&self, rt: &R, alloc: Global, scan: &Scan) -> Option<Arc<Strip>>
         requires { S.scan ≡ Some scan.now }
         ensures { IfSome result (λ s. (arc_value s).interval ≡ self.now) }

@@ -306,7 +306,7 @@ impl<S: OneScan> Progress<S> {
         kept
     }
 
-    /// Ends the work, since memory is refused.
+    /// Ends the work, since allocation failed.
     pub(crate) fn give_up(&mut self) {
         self.is_over = true;
         drop(self.reading.take());

@@ -76,7 +76,7 @@ fn next_strip(
 pub(crate) struct Reading<S: OneScan> {
     reader: StripReader,
     each: u32,
-    /// By which the next strip is passed over; where there are none it is read.
+    /// The reads by which the next strip is skipped; if there are none, it is read.
     guesses: Guesses,
     of: PhantomData<S>,
 }

@@ -108,7 +108,7 @@ const DAMAGED_ALONE: &str = "damaged";
 
 const ALL: &str = "all";
 
-/// The words that tell what is told.
+/// The arguments that select what is reported.
 fn with_telling_words<'a>(alloc: Global, command: Command<'a>) -> Result<Command<'a>, AllocError> {
     command
         .arg(map_argument(alloc))?
@@ -274,9 +274,9 @@ fn request_in(
     }
 }
 
-/// What the words after the program's name ask for: `--workers` from 1 to 64, 4 where it isn't there; one name or more, or
-/// `--files0-from`; and what is told. `RequestError` has the text to print where they ask for help or
-/// the version or are wrong.
+/// Returns what the arguments after the program's name ask for: `--workers` from 1 to 64, by default 4; one name or more,
+/// or `--files0-from`; and what is reported. `RequestError` has the text to print if they ask for help or the version, or
+/// are wrong.
 pub fn asked(alloc: Global, words: &[Vec<u8>]) -> Result<CheckRequest, RequestError>
     ensures some { IfOk result (λ a. 1 ≤ a.workers) }
     ensures few { IfOk result (λ a. a.workers ≤ MAX_WORKERS) }

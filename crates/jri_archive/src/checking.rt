@@ -29,7 +29,7 @@ pub struct Checked {
 ///
 /// # Errors
 ///
-/// The file's first fault; `Memory` where memory was refused, which says nothing of the file.
+/// The file's first fault; `Memory` if allocation fails, which says nothing of the file.
 pub fn check_file<R: Threads + Wait + Sync>(
     rt: &R,
     alloc: Global,

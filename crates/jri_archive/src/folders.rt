@@ -29,7 +29,7 @@ fn is_unknown(entry: &Entry) -> bool {
 /// Folders that are being gone through.
 #[derive(Drop)]
 pub(crate) struct FolderWalk {
-    /// What stands in them, the next one last.
+    /// The entries of the directories, the next one last.
     waiting: Vec<Entry>,
 }
 

@@ -21,7 +21,7 @@ use std::thread::Threads;
 pub enum Outcome {
     /// Its scan was read.
     Checked(Checked),
-    /// It is refused, or memory was.
+    /// It is refused, or allocation failed.
     Refused(Refusal),
     /// It cannot be opened or read.
     Unread(ReadError),

@@ -1,4 +1,4 @@
-//! Where the bytes of files come from, and why they may not.
+//! The sources of files' bytes, and the reasons why they fail.
 
 ghost use Rattle.std.specs.Prelude.{ℕ, List, IfOk, IfErr, IfSome};
 
@@ -55,7 +55,7 @@ pub enum EntryKind {
     Unread(ReadError),
 }
 
-/// What stands in a folder.
+/// The entries of a directory.
 #[derive(Drop)]
 pub struct Entry {
     /// Its name after that of its directory, of any bytes.
@@ -71,7 +71,7 @@ pub struct FileBytes {
     pub breaks: Vec<Break>,
 }
 
-/// Where files come from.
+/// The source of files.
 pub trait Folder {
     ghost use Rattle.jri_archive.specs.declared.reading.ReadError.{ReadError};
     ghost use Rattle.jri_archive.specs.declared.state_record.Stamp.{Stamp};

@@ -22,7 +22,7 @@ use std::sync::{Condvar, Mutex, Wait};
 use std::thread;
 use std::thread::Threads;
 
-/// The names that nobody has claimed yet.
+/// The names that no worker has claimed yet.
 #[derive(Drop)]
 struct NameQueue<S: OneCheck, I: Read + Drop> {
     names: FileNames<I>,
@@ -86,7 +86,7 @@ impl<S: OneCheck, I: Read + Drop> NameQueue<S, I> {
         self.claimed
     }
 
-    /// The number of a file that nobody has claimed, and its name.
+    /// Returns the number of a file that no worker has claimed, and its name.
     fn claim<F: Folder>(
         &mut self,
         alloc: Global,
@@ -128,7 +128,7 @@ impl<
         (file, names.claimed())
     }
 
-    /// A file that nobody has claimed; none where there is none, and where lines can no longer be told.
+    /// Returns a file that no worker has claimed; `None` if there is none, or if lines can no longer be written.
     fn claim<R: Wait>(&self, rt: &R) -> Option<(u64, NamedFile)>
         ensures { IfSome result (λ c. IsClaimOf S.names c.0 c.1) }
     {
@@ -190,7 +190,7 @@ impl<
         self.has_told.notify_all();
     }
 
-    /// Records a file that is told of, unless lines can no longer be told.
+    /// Records a file that is reported, unless lines can no longer be written.
     fn record<R: Wait>(
         &self,
         rt: &R,
@@ -210,7 +210,7 @@ impl<
         }
     }
 
-    /// Claims and checks files until none is left, and tells of each when its line is due.
+    /// Claims and checks files until none is left, and reports each when its line is due.
     fn work<R: Threads + Wait + Sync>(&self, rt: &R) {
         for _ in 0..u64::MAX {
             let Some((number, file)) = self.claim(rt) else {
@@ -221,7 +221,7 @@ impl<
         }
     }
 
-    /// Starts the other workers, one for each further file at most, and works beside them.
+    /// Starts the other workers, one for each further file at most, and works with them.
     fn run<R: Threads + Wait + Sync>(&self, rt: &R, files: Option<u64>) {
         let workers = u64::from(self.workers).min(files.unwrap_or(u64::MAX));
         thread::scope(thread::scope_env(), rt, |scope| {
@@ -258,7 +258,7 @@ fn with_counts<O: Write>(
     }
 }
 
-/// `check_all`, where a type stands for the files, so that what workers share under locks is known to be of them.
+/// Does what `check_all` does, with a type for the files, so that what workers share under locks is known to be of them.
 fn check_as<
     S: OneCheck + Send,
     R: Threads + Wait + Sync,
@@ -296,14 +296,14 @@ fn check_as<
     sharing.desk.into_inner().close()
 }
 
-/// Checks each file, so many at once, and writes a line for each, in their order, each by one write; with `has_map` one
-/// for each damaged interval, too. `list` has further names, each ended by a NUL byte, and is read as files are checked.
-/// `progress` is told how far it is, where there is one. With a state file, files that it has as they are are not read, unless it is
-/// verified, and others are recorded in it once their lines are written.
+/// Checks each file, `workers` at once, and writes a line for each, in their order, each by one write; with `has_map`
+/// also one for each damaged interval. `list` has further names, each ended by a NUL byte, and is read as files are
+/// checked. `progress` gets the number of files so far, if there is one. With a state file, files whose records are
+/// unchanged are not read, unless it is verified; the others are recorded in it once their lines are written.
 ///
-/// For each worker it takes about the memory of the file that it checks, in which its scan is cut; with `has_map` about twice
-/// that, its bytes and those of its scan without their stuffing, and 16 bytes more for each restart marker, of a file that is
-/// told. Where several check one large file it takes what `check_scan_by` does. It gives `out` back.
+/// For each worker it allocates about the size of the file that it checks, in which its scan is cut; with `has_map` about
+/// twice that, its bytes and those of its scan without their stuffing, and 16 bytes more for each restart marker of a file
+/// that is reported. If several check one large file, it allocates what `check_scan_by` does. Returns `out`.
 pub fn check_all<
     R: Threads + Wait + Sync,
     F: Folder + Sync + Drop,

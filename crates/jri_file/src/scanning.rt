@@ -26,7 +26,7 @@ pub(crate) fn share(alloc: Global, scan: Scan) -> Result<Arc<Scan>, Refusal>
 ///
 /// # Errors
 ///
-/// The file's first fault; `Memory` where memory was refused, which says nothing of the file.
+/// The file's first fault; `Memory` if allocation fails, which says nothing of the file.
 pub fn scan_of_file(alloc: Global, file: &[u8]) -> Result<Arc<Scan>, Refusal>
     ensures scan { IfOk result (λ scan. IsScanOfFile file.now (arc_value scan)) }
     ensures refused { IfErr result (λ f. f ≢ refusal.Memory → RefusalOf file.now f) }

@@ -15,7 +15,7 @@ use std::alloc::Global;
 /// Why nothing is decoded.
 #[derive(Clone, Copy)]
 pub(crate) enum DecodeError {
-    /// The file is refused, or memory is.
+    /// The file is refused, or allocation failed.
     Refused(Refusal),
     /// A buffer is too small.
     NoRoom,
