@@ -45,7 +45,7 @@ impl Coefficients {
         self.natural[natural_at(index)] = value;
     }
 
-    /// The first coefficient, that of the mean.
+    /// Returns the first coefficient, that of the mean.
     #[inline(always)]
     pub fn first(&self) -> i16
         ensures { result ≡ at self.now 0 }
@@ -53,7 +53,7 @@ impl Coefficients {
         self.natural[0]
     }
 
-    /// The coefficients in natural order, `8 row + column`.
+    /// Returns the coefficients in natural order, `8 row + column`.
     #[inline(always)]
     pub fn natural(&self) -> &[i16; 64]
         ensures count { length result.now ≡ 64 }
@@ -62,7 +62,7 @@ impl Coefficients {
         &self.natural
     }
 
-    /// The coefficients in zigzag order.
+    /// Returns the coefficients in zigzag order.
     pub fn to_zigzag(&self) -> [i32; 64]
         ensures { result ≡ self.now }
     {

@@ -36,7 +36,7 @@ impl Model for Quantisers {
     ghost invariant = { λ q. AreFactors q.elements q.factors × AreLimits q.factors q.limits × (length q.elements ≡ 64) × (length q.factors ≡ 64) × (length q.limits ≡ 64) };
 }
 
-/// The elements in natural order.
+/// Returns the elements in natural order.
 fn factors_of(elements: &[u16; 64]) -> [u16; 64]
     ensures count { length result ≡ 64 }
     ensures factors { AreFactors elements.now result }
@@ -48,7 +48,7 @@ fn factors_of(elements: &[u16; 64]) -> [u16; 64]
     factors
 }
 
-/// How large a coefficient may be whose product with this factor is at most `MOST_PRODUCT`.
+/// Returns the maximum of a coefficient whose product with this factor is at most `MOST_PRODUCT`.
 fn limit_of(factor: u16) -> u16
     ensures { result * factor ≤ MOST_PRODUCT }
 {
@@ -84,14 +84,14 @@ impl Quantisers {
         }
     }
 
-    /// The elements, in zigzag order.
+    /// Returns the elements, in zigzag order.
     pub fn elements(&self) -> &[u16; 64]
         ensures { result.now ≡ self.now }
     {
         &self.elements
     }
 
-    /// The elements in natural order, `8 row + column`.
+    /// Returns the elements in natural order, `8 row + column`.
     pub fn factors(&self) -> &[u16; 64]
         ensures count { length result.now ≡ 64 }
         ensures factors { AreFactors self.now result.now }

@@ -16,7 +16,7 @@ pub struct Tally<T> {
 }
 
 impl<T> Tally<T> {
-    /// Over this reader or writer, of which no call has failed yet.
+    /// Returns a tally of this reader or writer, of which no call has failed yet.
     pub fn of(inner: T) -> Self
         ensures inner { inner_of result ≡ inner }
         ensures unfailed { has_failed result ≡ false }

@@ -10,7 +10,7 @@ static NATURAL_INDEXES: [u8; 64] = [
     52, 45, 38, 31, 39, 46, 53, 60, 61, 54, 47, 55, 62, 63,
 ];
 
-/// The natural index of a zigzag index.
+/// Returns the natural index of a zigzag index.
 #[inline(always)]
 pub(crate) fn natural_at(index: usize) -> usize
     requires { index < 64 }
@@ -27,7 +27,7 @@ static PLACES: [u8; 64] = [
     37, 47, 50, 56, 59, 61, 35, 36, 48, 49, 57, 58, 62, 63,
 ];
 
-/// The zigzag index of natural index n.
+/// Returns the zigzag index of natural index n.
 pub fn place_at(n: usize) -> usize
     requires { n < 64 }
     ensures value { result ≡ zigzag_place n }

@@ -65,7 +65,7 @@ impl Cells {
         self.cells.len() as u32
     }
 
-    /// A sight of these cells that knows nothing. `Err` if allocation fails.
+    /// Returns a sight of these cells that knows nothing. `Err` if allocation fails.
     pub fn sight(&self) -> Result<Sight, Memory>
         ensures cells { IfOk result (λ s. s.cells ≡ self.now) }
         ensures nothing { IfOk result (λ s. s.pieces ≡ replicate (length self.now) None) }

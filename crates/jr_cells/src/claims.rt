@@ -209,7 +209,7 @@ fn merged(table: &SharedTable, mut seats: Vec<Seat>) -> Option<Pass>
 }
 
 impl Desk {
-    /// A desk that hands out the numbers below `limit`, and its seats.
+    /// Returns a desk that hands out the numbers below `limit`, and its seats.
     pub fn open(alloc: Global, limit: u32, seats: u32) -> Result<(Desk, Vec<Seat>), Memory>
         requires { (1 ≤ seats) × (seats ≤ MAX_WORKERS) }
         ensures desk { IfOk result (λ r. (r.0.limit ≡ limit) × (r.0.seats ≡ seats)) }

@@ -79,7 +79,7 @@ impl StripCells {
         })
     }
 
-    /// The number of the interval.
+    /// Returns the number of the interval.
     pub fn number(&self) -> u32
         ensures { result ≡ self.now.number }
     {
@@ -101,7 +101,7 @@ impl StripCells {
         self.cells.len() as u32
     }
 
-    /// A sight of these cells that knows nothing. `Err` if allocation fails.
+    /// Returns a sight of these cells that knows nothing. `Err` if allocation fails.
     pub fn sight(&self) -> Result<StripSight, Memory>
         ensures cells { IfOk result (λ s. s.cells ≡ self.now) }
         ensures nothing { IfOk result (λ s. s.strips ≡ replicate (length self.now.cells) None) }

@@ -69,7 +69,7 @@ impl CodeBook {
         CodeBook::with_symbols(alloc, counts, symbols)
     }
 
-    /// The table of these counts and of one symbol for each word, for callers that have added up the counts.
+    /// Returns the table of these counts and of one symbol for each word, for callers that have added up the counts.
     pub fn with_symbols(
         alloc: Global,
         counts: &[u8; 16],
@@ -102,7 +102,7 @@ impl CodeBook {
         })
     }
 
-    /// The book of a table.
+    /// Returns the book of a table.
     pub(crate) fn of(table: CodeTable) -> CodeBook
         ensures { result ≡ table }
     {

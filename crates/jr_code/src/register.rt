@@ -17,7 +17,7 @@ pub(crate) struct Register<'a> {
 impl<'a> Register<'a> {
     ghost use Rattle.jr_code.specs.Register.{bits_in};
 
-    /// All bits of the bytes.
+    /// Returns a register of all bits of the bytes.
     pub(crate) fn over(rest: &'a [u8]) -> Register<'a>
         requires { length rest.now < 2 ^ 61 }
         ensures { bits_in result ≡ bits rest.now }
@@ -95,7 +95,7 @@ impl<'a> Register<'a> {
         }
     }
 
-    /// The number of the first n bits of `held`.
+    /// Returns the number of the first n bits of `held`.
     #[inline(always)]
     pub(crate) fn upper(self, n: u32) -> u64
         requires { n ≤ 16 }
@@ -105,7 +105,7 @@ impl<'a> Register<'a> {
         self.held >> 32 >> (32 - n)
     }
 
-    /// The number of the next n bits.
+    /// Returns the number of the next n bits.
     #[inline(always)]
     pub(crate) fn first_bits(self, n: u32) -> u64
         requires short { n ≤ 16 }
@@ -154,7 +154,7 @@ fn with_word(held: u64, count: u32, word: u32) -> u64
     held | u64::from(word) << 32 >> count
 }
 
-/// The number of four bytes, the first counting most.
+/// Returns the number of four bytes, the first counting most.
 #[inline(always)]
 fn word(a: u8, b: u8, c: u8, d: u8) -> u32
     ensures { bits_of 32 result ≡ bits (a ∷ b ∷ c ∷ d ∷ []) }

@@ -43,8 +43,8 @@ impl Model for CodeTable {
 }
 
 impl CodeTable {
-    /// The table of these counts, `counts[i]` of words of i + 1 bits, and of one symbol for each word in order (T.81, B.2.4.2 and
-    /// Annex C), for callers that have added up the counts.
+    /// Returns the table of these counts, `counts[i]` of words of i + 1 bits, and of one symbol for each word in order
+    /// (T.81, B.2.4.2 and Annex C), for callers that have added up the counts.
     pub fn with_symbols(
         alloc: Global,
         counts: &[u8; 16],
@@ -68,14 +68,14 @@ impl CodeTable {
         })
     }
 
-    /// The book that words of this table are read by where they are those of other coefficients.
+    /// Returns the book that words of this table are read by where they are those of other coefficients.
     pub fn book(&self) -> Result<CodeBook, Memory>
         ensures { IfOk result (λ b. b ≡ self.now) }
     {
         Ok(CodeBook::of(self.try_clone()?))
     }
 
-    /// The book that words of this table are read by where they are those of first coefficients.
+    /// Returns the book that words of this table are read by where they are those of first coefficients.
     pub fn word_book(&self) -> Result<WordBook, Memory>
         ensures { IfOk result (λ b. b ≡ self.now) }
     {
@@ -120,7 +120,7 @@ pub fn word_count(counts: &[u8; 16]) -> u32
     total
 }
 
-/// The rooms of all words together.
+/// Returns the rooms of all words together.
 fn space_of(counts: &[u8; 16]) -> u32
     ensures { result ≡ space (lengths counts.now) }
 {

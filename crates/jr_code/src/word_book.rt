@@ -72,7 +72,7 @@ impl WordBook {
         })
     }
 
-    /// The book of a table.
+    /// Returns the book of a table.
     pub(crate) fn of(table: CodeTable) -> WordBook
         ensures { result ≡ table }
     {

@@ -65,7 +65,8 @@ impl CodeTable {
         }
     }
 
-    /// The words of i + 1 bits: the number of the first, which the others count on from, and the symbols of all.
+    /// Returns the words of i + 1 bits: the number of the first, which the others count on from, and the symbols of
+    /// all.
     fn words_of(&self, i: usize) -> (u32, &[u8])
         requires { i < 16 }
         ensures each { (k s : ℕ) → slice_get result.1.now k ≡ Some s → IsWord self.now (bits_of (i + 1) (result.0 + k)) s }
@@ -159,7 +160,7 @@ fn enter_pair(pairs: &mut [Packed; WINDOWS], code: usize, symbol: u8, long: u8)
     }
 }
 
-/// The word of that symbol and length that eleven bits begin with, and its extra bits.
+/// Returns the word of that symbol and length that eleven bits begin with, and its extra bits.
 #[inline(always)]
 fn pair(window: u64, symbol: u8, long: u8) -> Extended
     requires held { long + symbol % 16 ≤ LOOKED_UP }

@@ -88,7 +88,7 @@ impl<S: OneFirstIntervals> Model for Bench<S> {
 }
 
 impl<S: OneFirstIntervals> Bench<S> {
-    /// An empty bench.
+    /// Returns an empty bench.
     pub fn open(alloc: Global, part: &FirstIntervals<'_>) -> Result<Bench<S>, Memory>
         requires { S.part ≡ Some part.now }
     {
@@ -269,7 +269,7 @@ impl<S: OneFirstIntervals> Model for Painted<S> {
 }
 
 impl<S: OneFirstIntervals> Painted<S> {
-    /// The row's number.
+    /// Returns the row's number.
     pub fn row(&self) -> u32
         ensures { result ≡ self.now.row }
     {
@@ -285,7 +285,7 @@ impl<S: OneFirstIntervals> Painted<S> {
         pixels.copy_from_slice(&self.pixels[..pixels.len()]);
     }
 
-    /// The bench, to be used again.
+    /// Returns the bench, to be used again.
     fn into_bench(self) -> Bench<S> {
         Bench {
             work: self.work,

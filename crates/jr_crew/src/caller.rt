@@ -34,7 +34,7 @@ impl<'a, 'b, R: Wait, G: Gate, S: OneFirstIntervals> Model for Caller<'a, 'b, R,
 }
 
 impl<'a, 'b, R: Wait, G: Gate, S: OneFirstIntervals> Caller<'a, 'b, R, G, S> {
-    /// Nothing is written yet.
+    /// Returns a caller that has written nothing yet.
     pub(crate) fn of(
         crew: &'b Crew<'a, S>,
         rt: &'b R,

@@ -56,7 +56,7 @@ impl<'a, S: OneFirstIntervals> Model for Crew<'a, S> {
 }
 
 impl<'a, S: OneFirstIntervals> Crew<'a, S> {
-    /// Nothing is done yet.
+    /// Returns a crew that has done nothing yet.
     pub(crate) fn of(alloc: Global, part: FirstIntervals<'a>, queue: RowQueue<S>) -> Crew<'a, S>
         requires { S.part ≡ Some part }
         ensures { result ≡ part.entry }
@@ -283,7 +283,7 @@ impl<'a, S: OneFirstIntervals> Crew<'a, S> {
         }
     }
 
-    /// A row, once it is painted.
+    /// Waits until a row is painted, and returns it.
     pub(crate) fn painted<R: Wait>(&self, rt: &R, row: u32) -> Painted<S>
         ensures { result.row ≡ row }
     {

@@ -117,7 +117,7 @@ impl PartialCut {
         self.segments.spans.len() as u32
     }
 
-    /// The data of segment i, without stuffing; none where it has not begun.
+    /// Returns the data of segment i, without stuffing; none where it has not begun.
     pub fn data(&self, i: u32) -> &[u8]
         ensures bytes { result.now ≡ slice_index_or self.now.segments i [] }
         ensures few { length result.now ≤ length self.now.unstuffed }
@@ -144,7 +144,7 @@ impl PartialCut {
         Span { start, end }
     }
 
-    /// The segments; nothing more comes.
+    /// Returns the segments; nothing more comes.
     pub fn into_segments(self) -> Result<CodedSegments, Memory>
         ensures segments { IfOk result (λ p. map (segment_data p.unstuffed.items) p.spans.items ≡ self.segments) }
         ensures within { IfOk result (λ p. All (IsSpanOf p.unstuffed.items) p.spans.items) }

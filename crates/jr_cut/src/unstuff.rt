@@ -64,7 +64,7 @@ impl Unstuffing {
         }
     }
 
-    /// A copy of them.
+    /// Returns a copy of them.
     pub fn copy_of(alloc: Global, bytes: &[u8], offset: u64) -> Result<Unstuffing, Memory>
         ensures data { IfOk result (λ u. u.unstuffed ≡ []) }
         ensures rest { IfOk result (λ u. u.rest ≡ drop offset bytes.now) }
@@ -80,7 +80,7 @@ impl Unstuffing {
         self.found
     }
 
-    /// The bytes that are not read yet.
+    /// Returns the bytes that are not read yet.
     pub(crate) fn rest(&self) -> &[u8]
         ensures { result.now ≡ self.now.rest }
     {
@@ -171,14 +171,14 @@ impl Unstuffing {
         Ok(())
     }
 
-    /// The data.
+    /// Returns the data.
     pub(crate) fn data(&self) -> &[u8]
         ensures { result.now ≡ self.now.unstuffed }
     {
         &self.bytes[..self.found]
     }
 
-    /// The data, in the memory of the bytes.
+    /// Returns the data, in the memory of the bytes.
     pub(crate) fn into_data(self) -> Vec<u8>
         ensures { result.items ≡ self.unstuffed }
     {

@@ -13,7 +13,7 @@ use jr_work::OneScan;
 use jr_work::tuning::UNITS_OF_CHECK_STEP;
 use std::sync::Wait;
 
-/// A reader that has skipped all whole MCUs of an interval, up to its end or to where none follows.
+/// Returns a reader that has skipped all whole MCUs of an interval, up to its end or to where none follows.
 pub(crate) fn pass_all(interval: IntervalRef<'_>) -> McuReader<'_>
     ensures run { result.run ≡ whole_run interval.entry }
     ensures read { (zs : List (List ℤ)) × HasRead result zs }

@@ -22,7 +22,7 @@ pub struct Lines {
     pub last: u32,
 }
 
-/// The MCUs of interval i (T.81, E.1.4).
+/// Returns the MCUs of interval i (T.81, E.1.4).
 pub fn mcus_of(head: &Head, i: u32) -> McuRange
     requires { i < intervals_of head.now }
     ensures first { result.first ≡ first_mcu_of head.now i }

@@ -59,7 +59,7 @@ impl<'a, S: OneScan> Model for SharedScan<'a, S> {
 }
 
 impl<'a, S: OneScan> SharedScan<'a, S> {
-    /// Nothing is read yet.
+    /// Returns a shared scan of which nothing is read yet.
     pub(crate) fn of(scan: &'a Scan, guesses: GuessQueue<S>) -> SharedScan<'a, S>
         requires { S.scan ≡ Some scan.now }
         ensures { result ≡ scan.now }
@@ -77,7 +77,7 @@ impl<'a, S: OneScan> SharedScan<'a, S> {
         }
     }
 
-    /// The scan.
+    /// Returns the scan.
     pub(crate) fn scan(&self) -> &'a Scan
         ensures { result.now ≡ self.now }
     {
@@ -189,7 +189,7 @@ impl<'a, S: OneScan> SharedScan<'a, S> {
         guessing.guesses.for_next(self.scan)
     }
 
-    /// All is read.
+    /// Notes that all is read.
     pub(crate) fn end<R: Wait>(&self, rt: &R) {
         let mut guessing = self.guessing.lock(rt);
         guessing.is_over = true;

@@ -47,7 +47,7 @@ impl Head {
         self.mcus().div_ceil(restart)
     }
 
-    /// The number in the scan of an interval's first MCU.
+    /// Returns the number in the scan of an interval's first MCU.
     pub fn first_mcu(&self, interval: u32) -> u32
         requires { interval < intervals_of self.now }
         ensures value { result ≡ first_mcu_of self.now interval }
@@ -72,7 +72,7 @@ impl Head {
         restart.min(self.mcus() - self.first_mcu(interval))
     }
 
-    /// The interval that holds an MCU, and the MCU's number in it.
+    /// Returns the interval that holds an MCU, and the MCU's number in it.
     pub fn interval_with(&self, mcu: u32) -> (u32, u32)
         ensures interval { result.0 ≡ interval_number self.now mcu }
         ensures within { result.1 ≡ within_interval self.now mcu }

@@ -17,7 +17,7 @@ fn push_units(order: &mut Vec<u8>, component: u8, count: u8) -> Result<(), Alloc
     Ok(())
 }
 
-/// The component of each data unit of an MCU, in order.
+/// Returns the component of each data unit of an MCU, in order.
 pub(crate) fn block_order(alloc: Global, components: &[Component]) -> Result<Vec<u8>, AllocError>
     requires few { length components.now ≤ 3 }
     requires sampled { All IsSampled components.now }

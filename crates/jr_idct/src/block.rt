@@ -27,7 +27,7 @@ pub fn transform(coefficients: &[i32; 64], quantisers: &[u16; 64]) -> [u8; 64]
     wide_samples(&dequantised(coefficients, quantisers))
 }
 
-/// The products of coefficients and quantisers, both in natural order.
+/// Returns the products of coefficients and quantisers, both in natural order.
 fn products(natural: &[i16; 64], factors: &[u16; 64]) -> [i64; 64]
     ensures values { (n : ℕ) → n < 64 → at result n ≡ at natural.now n *ℤ pos (slice_index factors.now n) }
     ensures small { (n : ℕ) → n < 64 → IsWithin (32768 * 65535) (at result n) }
@@ -39,7 +39,7 @@ fn products(natural: &[i16; 64], factors: &[u16; 64]) -> [i64; 64]
     table
 }
 
-/// The samples of a block of any size, at index `8 row + column`.
+/// Returns the samples of a block of any size, at index `8 row + column`.
 #[inline(never)]
 #[cold]
 fn any_block(block: &Coefficients, quantisers: &Quantisers) -> [u8; 64]
@@ -48,7 +48,7 @@ fn any_block(block: &Coefficients, quantisers: &Quantisers) -> [u8; 64]
     wide_samples(&products(block.natural(), quantisers.factors()))
 }
 
-/// The samples of two blocks with small products, at index `8 row + column`.
+/// Returns the samples of two blocks with small products, at index `8 row + column`.
 #[inline(always)]
 fn small_blocks(a: &Coefficients, b: &Coefficients, quantisers: &Quantisers) -> ([u8; 64], [u8; 64])
     requires small_a { (n : ℕ) → n < 64 → IsWithin MOST_PRODUCT (product_at a.now quantisers.now n) }
@@ -59,7 +59,8 @@ fn small_blocks(a: &Coefficients, b: &Coefficients, quantisers: &Quantisers) -> 
     pair_samples(a.natural(), b.natural(), quantisers.factors())
 }
 
-/// The samples of a block, at index `8 row + column`: dequantised, transformed and shifted (T.81, A.3.1, A.3.3, A.3.4 and A.3.6).
+/// Returns the samples of a block, at index `8 row + column`: dequantised, transformed and shifted (T.81, A.3.1, A.3.3,
+/// A.3.4 and A.3.6).
 #[inline(never)]
 pub fn transform_one(block: &Coefficients, quantisers: &Quantisers) -> [u8; 64]
     ensures { result ≡ samples block.now quantisers.now }
@@ -74,8 +75,8 @@ pub fn transform_one(block: &Coefficients, quantisers: &Quantisers) -> [u8; 64]
     any_block(block, quantisers)
 }
 
-/// The samples of two blocks of one component. Where it is called its results stay in registers, so that each row of samples
-/// can be stored where it belongs.
+/// Returns the samples of two blocks of one component. Where it is called its results stay in registers, so that each
+/// row of samples can be stored where it belongs.
 #[inline(always)]
 pub fn transform_two(
     a: &Coefficients,

@@ -51,7 +51,7 @@ fn rotated<T: Number>(x2: T, x6: T) -> (T, T)
     )
 }
 
-/// The part of entries 0 to 3 of a pass that numbers 0, 2, 4 and 6 make, before descaling.
+/// Returns the part of entries 0 to 3 of a pass that numbers 0, 2, 4 and 6 make, before descaling.
 #[inline]
 pub(crate) fn even_part<T: Number>(x0: T, x2: T, x4: T, x6: T) -> (T, T, T, T)
     requires x0_small { IsWithin T.reach (T.value x0) }
@@ -73,7 +73,7 @@ pub(crate) fn even_part<T: Number>(x0: T, x2: T, x4: T, x6: T) -> (T, T, T, T)
     (entry_0, entry_1, entry_2, entry_3)
 }
 
-/// The terms of the odd part that entries 1 and 3 share, and those that entries 0 and 2 share.
+/// Returns the terms of the odd part that entries 1 and 3 share, and those that entries 0 and 2 share.
 #[inline]
 fn shared<T: Number>(x1: T, x3: T, x5: T, x7: T) -> (T, T)
     requires x1_small { IsWithin T.reach (T.value x1) }
@@ -92,7 +92,7 @@ fn shared<T: Number>(x1: T, x3: T, x5: T, x7: T) -> (T, T)
     )
 }
 
-/// The part of entries 0 to 3 of a pass that numbers 1, 3, 5 and 7 make, before descaling.
+/// Returns the part of entries 0 to 3 of a pass that numbers 1, 3, 5 and 7 make, before descaling.
 #[inline]
 pub(crate) fn odd_part<T: Number>(x1: T, x3: T, x5: T, x7: T) -> (T, T, T, T)
     requires x1_small { IsWithin T.reach (T.value x1) }

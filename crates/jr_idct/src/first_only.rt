@@ -16,7 +16,7 @@ fn flat_samples(product: i64) -> [u8; 64]
     [clamped((product + 4) >> 3); 64]
 }
 
-/// The samples of such a block.
+/// Returns the samples of such a block.
 #[inline(always)]
 pub(crate) fn flat_block(block: &Coefficients, quantisers: &Quantisers) -> [u8; 64]
     requires { (k : ℕ) → 0 < k → k < 64 → at block.now k ≡ pos 0 }

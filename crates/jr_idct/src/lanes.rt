@@ -26,7 +26,7 @@ pub(crate) fn by_words(a: i16x16, b: i16x16, upper: bool) -> i16x16
     )
 }
 
-/// The products of the lanes of a half of two rows with a constant each, summed in pairs.
+/// Returns the products of the lanes of a half of two rows with a constant each, summed in pairs.
 #[inline(always)]
 pub(crate) fn pair_sum(a: i16x16, b: i16x16, x: i16, y: i16, upper: bool) -> i32x8
     requires x { IsWithin (2 ^ 14) x }
@@ -41,7 +41,7 @@ pub(crate) fn pair_sum(a: i16x16, b: i16x16, x: i16, y: i16, upper: bool) -> i32
     first + second
 }
 
-/// The lanes of a half of a row.
+/// Returns the lanes of a half of a row.
 #[inline(always)]
 fn half_of(a: i16x16, upper: bool) -> i16x8
     ensures { (j : ℕ) → j < 8 → at result j ≡ at a (half_lane upper j) }
@@ -52,7 +52,7 @@ fn half_of(a: i16x16, upper: bool) -> i16x8
     a.swizzle([0, 1, 2, 3, 8, 9, 10, 11])
 }
 
-/// The lanes of a half of a row, times c4, which is 8192.
+/// Returns the lanes of a half of a row, times c4, which is 8192.
 #[inline(always)]
 pub(crate) fn scaled(a: i16x16, upper: bool) -> i32x8
     ensures { (j : ℕ) → j < 8 → at result j ≡ pos 8192 *ℤ at a (half_lane upper j) }
@@ -61,7 +61,7 @@ pub(crate) fn scaled(a: i16x16, upper: bool) -> i32x8
     half.cast::<i32>() * Simd::splat(8192)
 }
 
-/// Both halves of a row that fits in 16 bits.
+/// Returns both halves of a row that fits in 16 bits.
 #[inline(always)]
 pub(crate) fn narrowed(lower: i32x8, upper: i32x8) -> i16x16
     requires lower { (j : ℕ) → j < 8 → IsWithin 32767 (at lower j) }

@@ -3,18 +3,18 @@
 ghost use Rattle.std.specs.Prelude.{◌≡◌, ℕ, List, pos, replicate};
 ghost use Rattle.jr_idct.specs.Transform.{FloorsAgree, TablesAgree, samples};
 
-/// A law of the definitions: the two zigzag tables undo each other.
+/// States that the two zigzag tables undo each other.
 pub fn tables_agree()
     ensures { TablesAgree }
 {}
 
-/// A law of the definitions: the rounded quotient is the greatest that is not above the exact one, and
+/// States that the rounded quotient is the greatest that is not above the exact one, and
 /// there is no other.
 pub fn floors()
     ensures { FloorsAgree }
 {}
 
-/// A law of the definitions: a block of zeros is grey, whatever its quantisers.
+/// States that a block of zeros is grey, whatever its quantisers.
 pub fn zeros_are_grey()
     ensures { (q : List ℕ) → samples (replicate 64 (pos 0)) q ≡ replicate 64 128 }
 {}

@@ -26,7 +26,7 @@ static MATRIX: [[i16; 8]; 8] = [
     [8192, -11363, 10703, -9633, 8192, -6437, 4433, -2260],
 ];
 
-/// The zigzag place of natural index n.
+/// Returns the zigzag place of natural index n.
 fn place_at(n: usize) -> usize
     requires { n < 64 }
     ensures value { result ≡ zigzag_place n }
@@ -35,7 +35,7 @@ fn place_at(n: usize) -> usize
     PLACES[n] as usize
 }
 
-/// How much of number k is in entry i.
+/// Returns the weight of number k in entry i.
 fn weight_at(i: usize, k: usize) -> i16
     requires row { i < 8 }
     requires column { k < 8 }
@@ -45,7 +45,7 @@ fn weight_at(i: usize, k: usize) -> i16
     MATRIX[i][k]
 }
 
-/// The products of a block in natural order, where both come in zigzag order.
+/// Returns the products of a block in natural order, where both come in zigzag order.
 pub(crate) fn dequantised(coefficients: &[i32; 64], quantisers: &[u16; 64]) -> [i64; 64]
     ensures { (n : ℕ) → n < 64 → at result n ≡ product_at coefficients.now quantisers.now n }
 {

@@ -21,17 +21,17 @@ pub(crate) trait Number: Copy {
     // how large the numbers may be that a pass is given
     ghost reach: { ℕ };
 
-    /// The sum of the two.
+    /// Returns the sum of the two.
     fn plus(self, other: Self) -> Self
         requires { IsInRoom reach (value self +ℤ value other) }
         ensures { value result ≡ value self +ℤ value other };
 
-    /// The difference of the two.
+    /// Returns the difference of the two.
     fn minus(self, other: Self) -> Self
         requires { IsInRoom reach (value self -ℤ value other) }
         ensures { value result ≡ value self -ℤ value other };
 
-    /// The product with a constant.
+    /// Returns the product with a constant.
     fn times(self, constant: i16) -> Self
         requires { IsInRoom reach (constant *ℤ value self) }
         ensures { value result ≡ constant *ℤ value self };
@@ -58,7 +58,7 @@ impl Number for i64 {
     }
 }
 
-/// The number without its last bits, rounded; halves go up.
+/// Returns the number without its last bits, rounded; halves go up.
 #[inline]
 pub(crate) fn descaled(number: i64, bits: u32) -> i64
     requires positive { 0 < bits }
@@ -69,7 +69,7 @@ pub(crate) fn descaled(number: i64, bits: u32) -> i64
     (number + (1_i64 << (bits - 1))) >> bits
 }
 
-/// The sample of a value: the level shift of T.81, A.3.1, and the nearest number of eight bits.
+/// Returns the sample of a value: the level shift of T.81, A.3.1, and the nearest number of eight bits.
 #[inline]
 pub(crate) fn clamped(value: i64) -> u8
     requires { IsInRoom wide_reach value }

@@ -13,7 +13,7 @@ use crate::turned::turned;
 use crate::turned_bytes::{Bytes, turned_bytes};
 use std::simd::prelude::*;
 
-/// The product of a coefficient and its quantiser.
+/// Returns the product of a coefficient and its quantiser.
 #[inline(always)]
 fn product(coefficient: i16, factor: u16) -> i16
     requires { IsWithin MOST_PRODUCT (coefficient *ℤ pos factor) }
@@ -35,7 +35,7 @@ fn small_products(block: &[i16; 64], factors: &[u16; 64]) -> [i16; 64]
     table
 }
 
-/// Row r of a block.
+/// Returns row r of a block.
 #[inline(always)]
 fn load(block: &[i16; 64], r: usize) -> i16x8
     requires row { r < 8 }
@@ -45,7 +45,7 @@ fn load(block: &[i16; 64], r: usize) -> i16x8
     i16x8::from_slice(&block[8 * r..])
 }
 
-/// Row r of both blocks.
+/// Returns row r of both blocks.
 #[inline(always)]
 fn row(a: &[i16; 64], b: &[i16; 64], r: usize) -> i16x16
     requires row { r < 8 }
@@ -85,7 +85,7 @@ fn two_columns(first: i16x16, second: i16x16) -> u8x32
     ])
 }
 
-/// The first or the second halves of two vectors.
+/// Returns the first or the second halves of two vectors.
 #[inline(always)]
 fn halves(a: u8x32, b: u8x32, second: bool) -> u8x32
     ensures { (k : ℕ) → k < 32 → slice_index result k ≡ slice_index (slice_index_or (a ∷ b ∷ []) (k / 16) []) (k % 16 + cond second 16 0) }
@@ -108,7 +108,7 @@ fn halves(a: u8x32, b: u8x32, second: bool) -> u8x32
     )
 }
 
-/// The samples of a block of four times two rows of both: of the first, or of the second.
+/// Returns the samples of a block of four times two rows of both: of the first, or of the second.
 #[inline(always)]
 fn gathered(q0: u8x32, q1: u8x32, q2: u8x32, q3: u8x32, second: bool) -> [u8; 64]
     ensures { (k : ℕ) → k < 64 → slice_index result k ≡ slice_index (slice_index_or (q0 ∷ q1 ∷ q2 ∷ q3 ∷ []) (k / 16) []) (k % 16 + cond second 16 0) }
@@ -126,7 +126,7 @@ fn gathered(q0: u8x32, q1: u8x32, q2: u8x32, q3: u8x32, second: bool) -> [u8; 64
     all.to_array()
 }
 
-/// The rows of two blocks side by side.
+/// Returns the rows of two blocks side by side.
 #[inline(always)]
 fn rows_of(a: &[i16; 64], b: &[i16; 64]) -> Rows
     requires small_a { (n : ℕ) → n < 64 → IsWithin MOST_PRODUCT (at a.now n) }
@@ -151,7 +151,7 @@ const COLUMN_CONSTANT: i32 = 1024;
 /// Added before the second pass drops its bits: a half, and the level shift of 128 (T.81, A.3.1).
 const ROW_CONSTANT: i32 = 33_685_504;
 
-/// Both passes and the level shift: column c of both blocks is row c of these.
+/// Makes both passes and the level shift: column c of both blocks is row c of the result.
 #[inline(always)]
 fn values(x: Rows) -> Rows
     requires { (k p : ℕ) → k < 8 → p < 16 → IsWithin MOST_PRODUCT (lane (x.0 ∷ x.1 ∷ x.2 ∷ x.3 ∷ x.4 ∷ x.5 ∷ x.6 ∷ x.7 ∷ []) k p) }
@@ -164,7 +164,8 @@ fn values(x: Rows) -> Rows
     sums
 }
 
-/// The nearest bytes to the columns of both blocks, row by row. They are made bytes first, of which half as many vectors are turned.
+/// Returns the nearest bytes to the columns of both blocks, row by row. They are made bytes first, of which half as
+/// many vectors are turned.
 #[inline(always)]
 fn byte_rows(t: Rows) -> Bytes
     ensures first { (r c : ℕ) → r < 8 → c < 8 → slice_index (slice_index_or (result.0 ∷ result.1 ∷ result.2 ∷ result.3 ∷ []) ((8 * r + c) / 16) []) ((8 * r + c) % 16) ≡ byte_of (lane (t.0 ∷ t.1 ∷ t.2 ∷ t.3 ∷ t.4 ∷ t.5 ∷ t.6 ∷ t.7 ∷ []) c r) }
@@ -177,8 +178,8 @@ fn byte_rows(t: Rows) -> Bytes
     turned_bytes((c0, c1, c2, c3))
 }
 
-/// The samples of two blocks side by side, two rows of each a vector. It is no part of its callers: there its rows would be taken
-/// apart byte by byte.
+/// Returns the samples of two blocks side by side, two rows of each a vector. It is no part of its callers: there its
+/// rows would be taken apart byte by byte.
 #[inline(never)]
 fn sample_rows(x: Rows) -> Bytes
     requires { (k p : ℕ) → k < 8 → p < 16 → IsWithin MOST_PRODUCT (lane (x.0 ∷ x.1 ∷ x.2 ∷ x.3 ∷ x.4 ∷ x.5 ∷ x.6 ∷ x.7 ∷ []) k p) }

@@ -19,7 +19,7 @@ pub(crate) type Rows = (
     i16x16,
 );
 
-/// The part of entries 0 to 3 that numbers 0, 2, 4 and 6 of the columns of a half make, and a constant.
+/// Returns the part of entries 0 to 3 that numbers 0, 2, 4 and 6 of the columns of a half make, and a constant.
 #[inline(always)]
 fn even_lanes(
     x0: i16x16,
@@ -50,7 +50,7 @@ fn even_lanes(
     )
 }
 
-/// The part of entries 0 to 3 that numbers 1, 3, 5 and 7 of the columns of a half make.
+/// Returns the part of entries 0 to 3 that numbers 1, 3, 5 and 7 of the columns of a half make.
 #[inline(always)]
 fn odd_lanes(
     x1: i16x16,
@@ -75,7 +75,7 @@ fn odd_lanes(
     (a0 + b0, a1 + b1, a2 + b2, a3 + b3)
 }
 
-/// The sums and the differences of the parts of an entry, without their last bits.
+/// Returns the sums and the differences of the parts of an entry, without their last bits.
 #[inline(always)]
 fn shifted(even: i32x8, odd: i32x8, bits: u32) -> (i32x8, i32x8)
     requires few { bits < 19 }

@@ -7,7 +7,7 @@ ghost use Rattle.jr_idct.specs.Transform.{byte_of, sample_of};
 use crate::butterfly::{even_part, odd_part};
 use crate::number::{COLUMN_BITS, ROW_BITS, clamped, descaled};
 
-/// The sum and the difference of the two halves, each descaled.
+/// Returns the sum and the difference of the two halves, each descaled.
 #[inline]
 fn both_descaled(even: i64, odd: i64, bits: u32) -> (i64, i64)
     requires positive { 0 < bits }
@@ -74,7 +74,7 @@ fn sample_rows(columns: &[i64; 64]) -> [u8; 64]
     rows
 }
 
-/// The samples of a table of products in natural order.
+/// Returns the samples of a table of products in natural order.
 #[inline]
 pub(crate) fn wide_samples(table: &[i64; 64]) -> [u8; 64]
     requires { (k : ℕ) → k < 64 → IsWithin (2 ^ 31) (at table.now k) }

@@ -29,7 +29,7 @@ pub fn all_small(predictions: &[i32; 3]) -> bool
     is_small(predictions[0]) && is_small(predictions[1]) && is_small(predictions[2])
 }
 
-/// The sum of two small numbers.
+/// Returns the sum of two small numbers.
 #[inline(always)]
 fn sum(a: i32, b: i32) -> i32
     requires a { IsSmall a }
@@ -40,7 +40,7 @@ fn sum(a: i32, b: i32) -> i32
     a + b
 }
 
-/// The sums of small predictions, component by component.
+/// Returns the sums of small predictions, component by component.
 #[inline(always)]
 pub fn sums(a: &[i32; 3], b: &[i32; 3]) -> [i32; 3]
     requires a { All IsSmall a.now }
@@ -86,7 +86,7 @@ pub fn read_unpredicted(
     Some(predictions)
 }
 
-/// A block whose first coefficient is greater by so much.
+/// Returns a block whose first coefficient is greater by so much.
 #[inline(always)]
 fn shifted(block: &Coefficients, by: i32) -> Option<Coefficients>
     requires some { 0 < length block.now }

@@ -6,7 +6,7 @@ ghost use Rattle.jr_paint.specs.Colours.{colour_of, floor_div, byte_of, off, sha
 
 use jr_head::Kind;
 
-/// A weighted sum over 65536, rounded.
+/// Returns a weighted sum over 65536, rounded.
 fn rounded(weighted: i32) -> i32
     requires { IsWithin (2 ^ 30) weighted }
     ensures value { result ≡ floor_div (weighted +ℤ pos 32768) 65536 }
@@ -15,7 +15,7 @@ fn rounded(weighted: i32) -> i32
     (weighted + 32768) >> 16
 }
 
-/// The nearest number from 0 to 255.
+/// Returns the nearest number from 0 to 255.
 fn nearest_byte(value: i32) -> u8
     requires { IsWithin (2 ^ 20) value }
     ensures { result ≡ byte_of value }
@@ -31,7 +31,7 @@ fn channel(y: u8, weighted: i32) -> u8
     nearest_byte(i32::from(y) + rounded(weighted))
 }
 
-/// How far a sample of chrominance is from the middle.
+/// Returns the difference of a sample of chrominance from the middle.
 fn off_of(c: u8) -> i32
     ensures value { result ≡ off c }
     ensures small { IsWithin 128 result }
@@ -39,7 +39,7 @@ fn off_of(c: u8) -> i32
     i32::from(c) - 128
 }
 
-/// The colour of a pixel of luminance y and chrominance cb and cr.
+/// Returns the colour of a pixel of luminance y and chrominance cb and cr.
 pub(crate) fn mixed(y: u8, cb: u8, cr: u8) -> [u8; 3]
     ensures { result ≡ colour_of Ycc y cb cr }
 {
@@ -51,7 +51,7 @@ pub(crate) fn mixed(y: u8, cb: u8, cr: u8) -> [u8; 3]
     [red, green, blue]
 }
 
-/// The colour of a pixel of these three values.
+/// Returns the colour of a pixel of these three values.
 pub fn colour(kind: Kind, a: u8, b: u8, c: u8) -> [u8; 3]
     ensures { result ≡ colour_of kind a b c }
 {

@@ -20,7 +20,7 @@ pub struct Spot {
     pub col: u32,
 }
 
-/// There is exactly one place for each sample of a component with these sampling factors.
+/// States that there is exactly one place for each sample of a component with these sampling factors.
 pub fn exactly_one_place()
     ensures { (across down x y : ℕ) → 0 < across → 0 < down → IsOnlyOne (Where across down x y) }
 {}

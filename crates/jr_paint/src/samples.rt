@@ -20,7 +20,7 @@ pub trait Samples {
         ensures value { result.now ≡ head_of self.now }
         ensures lawful { IsLawful result.now };
 
-    /// The sample in column x and line y of component c.
+    /// Returns the sample in column x and line y of component c.
     fn sample(&self, c: u32, x: u32, y: u32) -> u8
         requires component { c < components_of (head_of self.now) }
         requires column { x < samples_across (head_of self.now) c }

@@ -61,7 +61,7 @@ fn put(unit: &Unit<'_>, from: usize, out: &mut [u8])
     }
 }
 
-/// The sample of a data unit at a place.
+/// Returns the sample of a data unit at a place.
 fn sample_at(unit: &Unit<'_>, at: usize) -> u8
     requires { at < 64 }
     ensures { result ≡ sample_in_unit unit.now at }
@@ -72,7 +72,7 @@ fn sample_at(unit: &Unit<'_>, at: usize) -> u8
     }
 }
 
-/// The MCU of a data unit of a line of a component, and the unit's column in it.
+/// Returns the MCU of a data unit of a line of a component, and the unit's column in it.
 fn in_mcu(number: u32, across: u32) -> (u32, u32)
     requires some { 0 < across }
     requires few { across ≤ 4 }
@@ -87,7 +87,7 @@ fn in_mcu(number: u32, across: u32) -> (u32, u32)
     }
 }
 
-/// The sample in column x and line y of component c.
+/// Returns the sample in column x and line y of component c.
 pub fn sample_of_units<U: Units>(head: &Head, units: &U, c: u32, x: u32, y: u32) -> u8
     requires head { head.now ≡ U.head_of units.now }
     requires component { c < components_of head.now }

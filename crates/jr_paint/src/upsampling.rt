@@ -72,7 +72,7 @@ fn repeat(near: &[u8], factor: u32, out: &mut [u8])
     }
 }
 
-/// The line of component c that pixels of line y take their samples from.
+/// Returns the line of component c that pixels of line y take their samples from.
 fn sample_line(head: &Head, c: u32, y: u32) -> u32
     requires lawful { IsLawful head.now }
     requires component { c < components_of head.now }

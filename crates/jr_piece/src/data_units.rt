@@ -50,7 +50,7 @@ fn get_of(strips: &[Arc<Strip>], each: usize, k: usize) -> Option<&[u8; 64]>
 }
 
 impl DataUnits {
-    /// The data units of one list.
+    /// Returns the data units of one list.
     pub(crate) fn of_list(units: Vec<[u8; 64]>) -> DataUnits
         ensures { result ≡ units.items }
     {

@@ -100,7 +100,7 @@ impl Piece {
         let _ = &self.samples;
     }
 
-    /// The number of its interval.
+    /// Returns the number of its interval.
     pub fn number(&self) -> u32
         ensures { result ≡ self.now.interval.number }
     {

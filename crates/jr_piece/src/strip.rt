@@ -57,7 +57,7 @@ impl Model for Strip {
     ghost invariant = { λ s. IsStrip (record { interval = arc_value s.interval; first = s.first; mcus = s.mcus; samples = s.samples.items }) };
 }
 
-/// The samples of blocks that begin with an MCU.
+/// Returns the samples of blocks that begin with an MCU.
 fn samples_of(alloc: Global, head: &Head, blocks: &[Coefficients]) -> Result<Vec<[u8; 64]>, Memory>
     ensures { IfOk result (λ v. AreSamples head.now blocks.now v.items) }
 {
@@ -84,14 +84,14 @@ impl CodedStrip {
         }
     }
 
-    /// The memory of its blocks, to be used again.
+    /// Returns the memory of its blocks, to be used again.
     pub fn into_blocks(self) -> Vec<Coefficients>
         ensures { result.items ≡ self.blocks }
     {
         self.blocks
     }
 
-    /// The strip's samples. Any thread may ask for them, at any time.
+    /// Returns the strip's samples. Any thread may ask for them, at any time.
     pub fn decode(&self, alloc: Global) -> Result<Strip, Memory>
         ensures interval { IfOk result (λ s. s.interval ≡ self.now.interval) }
         ensures first { IfOk result (λ s. s.first ≡ self.now.first) }
@@ -129,14 +129,14 @@ impl Strip {
         let _ = &self.samples;
     }
 
-    /// The number of its interval.
+    /// Returns the number of its interval.
     pub fn number(&self) -> u32
         ensures { result ≡ self.now.interval.number }
     {
         self.interval.number()
     }
 
-    /// The number in its interval of the first MCU.
+    /// Returns the number in its interval of the first MCU.
     pub fn first(&self) -> u32
         ensures { result ≡ self.now.first }
     {
@@ -150,7 +150,7 @@ impl Strip {
         self.mcus
     }
 
-    /// The samples of data unit k of the strip, `8 row + column`; none past the last.
+    /// Returns the samples of data unit k of the strip, `8 row + column`; none past the last.
     pub fn block(&self, k: u32) -> Option<&[u8; 64]>
         ensures { option_copied result ≡ slice_get self.now.samples k }
     {

@@ -122,7 +122,7 @@ impl Model for StripReader {
 }
 
 impl StripReader {
-    /// A reader that has read nothing of an interval.
+    /// Returns a reader that has read nothing of an interval.
     pub fn over(interval: Arc<Interval>) -> StripReader
         ensures { result ≡ record { interval = arc_value interval; first = 0; next = Some start_of_interval } }
     {
@@ -141,7 +141,7 @@ impl StripReader {
         self.spare = Some(blocks);
     }
 
-    /// The number of its interval.
+    /// Returns the number of its interval.
     pub fn number(&self) -> u32
         ensures { result ≡ self.now.interval.number }
     {
@@ -155,7 +155,7 @@ impl StripReader {
         self.first
     }
 
-    /// The bit at which the next MCU starts; where no further one follows it is of no use.
+    /// Returns the bit at which the next MCU starts; where no further one follows it is of no use.
     pub fn bit(&self) -> u64
         ensures { IfSome self.now.next (λ p. result ≡ p.bit) }
     {

@@ -30,7 +30,7 @@ impl<'a, G: Gate> Model for Alone<'a, G> {
 }
 
 impl<'a, G: Gate> Alone<'a, G> {
-    /// Nothing is painted yet of the part of a scan that is decoded.
+    /// Returns a painter that has painted nothing yet of the part of a scan that is decoded.
     pub(crate) fn of(part: FirstIntervals<'a>, work: SampleRow, gate: &'a G) -> Alone<'a, G>
         requires room { HasSampleRoom part.scan.head work }
         ensures { result ≡ record { scan = part.entry.scan; limit = part.entry.limit; row = 0 } }

@@ -40,7 +40,7 @@ fn samples_of(groups: &[[u8; 8]]) -> &[u8]
     groups.as_flattened()
 }
 
-/// A sample of groups of eight.
+/// Returns a sample of groups of eight.
 fn sample_at(groups: &[[u8; 8]], at: usize) -> u8
     requires { at < 8 * length groups.now }
     ensures { result ≡ sample_in_groups groups.now at }
@@ -59,7 +59,7 @@ impl<'a> Band<'a> {
         Band { head, lines }
     }
 
-    /// Which sample of the groups begins the line that line y of component c is in a row of MCUs.
+    /// Returns the index in the groups of the first sample of line y of component c.
     fn start(&self, c: u32, y: u32) -> usize
         requires component { c < components_of self.now.head }
         requires line { y < samples_down self.now.head c }

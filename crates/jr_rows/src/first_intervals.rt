@@ -26,7 +26,7 @@ impl<'a> Model for FirstIntervals<'a> {
 }
 
 impl<'a> FirstIntervals<'a> {
-    /// The first intervals of a scan, or all.
+    /// Returns the first intervals of a scan, or all.
     pub fn of(scan: &'a Scan, first: Option<u32>) -> FirstIntervals<'a>
         ensures { result ≡ record { scan = scan.now; limit = least first (length scan.now.intervals) } }
     {
@@ -38,7 +38,7 @@ impl<'a> FirstIntervals<'a> {
         FirstIntervals { scan, limit }
     }
 
-    /// The scan.
+    /// Returns the scan.
     pub fn scan(&self) -> &'a Scan
         ensures { result.now ≡ self.now.scan }
     {

@@ -32,7 +32,7 @@ fn rows_of(head: &Head, first: u32, end: u32) -> (u32, u32)
     (first / deep, end.div_ceil(deep))
 }
 
-/// Which of lines `first` to `end` a row of MCUs has: the first one, and how many.
+/// Returns those of lines `first` to `end` that a row of MCUs has: the first one, and their number.
 fn lines_in(head: &Head, row: u32, first: u32, end: u32) -> (u32, u32)
     requires row { row < mcus_down head.now }
     requires starts { row * (8 * vertical_max head.now) < end }

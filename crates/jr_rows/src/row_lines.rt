@@ -43,7 +43,7 @@ impl Model for RowLines {
     ghost view = { λ r. record { groups = r.groups.items; starts = r.starts.items; across = r.across } };
 }
 
-/// A row of samples of a data unit.
+/// Returns a row of samples of a data unit.
 #[inline(always)]
 fn row_of(unit: &[u8; 64], row: usize) -> [u8; 8]
     requires { row < 8 }
@@ -192,7 +192,7 @@ impl RowLines {
         })
     }
 
-    /// The groups of eight samples.
+    /// Returns the groups of eight samples.
     pub(crate) fn groups(&self) -> &[[u8; 8]]
         ensures { result.now ≡ self.now.groups }
     {

@@ -80,7 +80,7 @@ pub(crate) fn mcus_at_once(head: &Head) -> u32
     (BLOCKS_AT_ONCE / head.order().len()) as u32
 }
 
-/// The first line of pixels of a row of MCUs, and how many lines it has.
+/// Returns the first line of pixels of a row of MCUs, and how many lines it has.
 pub fn lines_of(head: &Head, row: u32) -> (u32, u32)
     requires { row < mcus_down head.now }
     ensures first { result.0 ≡ first_line head.now row }
@@ -96,7 +96,7 @@ pub fn lines_of(head: &Head, row: u32) -> (u32, u32)
     (first, deep.min(height - first))
 }
 
-/// The bytes that the lines of a row of MCUs take.
+/// Returns the bytes that the lines of a row of MCUs take.
 pub fn bytes_of_row(head: &Head) -> usize
     ensures { result ≡ 8 * vertical_max head.now * line_size head.now }
 {
@@ -104,7 +104,7 @@ pub fn bytes_of_row(head: &Head) -> usize
     shape.deep as usize * shape.line
 }
 
-/// The bytes that the lines of a row of MCUs take, and enough of them for a write.
+/// Returns the bytes that the lines of a row of MCUs take, and enough of them for a write.
 pub fn room_for(head: &Head) -> usize
     ensures value { result ≡ max BATCH (8 * vertical_max head.now * line_size head.now) }
     ensures lines { 8 * vertical_max head.now * line_size head.now ≤ result }

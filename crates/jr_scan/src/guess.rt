@@ -63,7 +63,7 @@ impl Guess {
         })
     }
 
-    /// The number of the interval that it is of.
+    /// Returns the number of the interval that it is of.
     pub fn number(&self) -> u32
         ensures { result ≡ self.now.number }
     {
@@ -143,7 +143,7 @@ impl Guess {
         self.mcus.push(Guessed { from, to }).ok()
     }
 
-    /// Which of its MCUs starts at a bit.
+    /// Returns the index of its MCU that starts at a bit.
     pub fn find(&self, bit: u64) -> Option<usize>
         ensures { IfSome result (λ k. k < length self.now.mcus) }
     {

@@ -96,7 +96,7 @@ impl Interval {
         self.mcus
     }
 
-    /// The interval's data, without stuffing.
+    /// Returns the interval's data, without stuffing.
     pub fn bytes(&self) -> &[u8]
         ensures bytes { result.now ≡ self.now.bytes }
         ensures few { length result.now < 2 ^ 61 }
@@ -143,7 +143,7 @@ impl Interval {
             && self.head.is_same(&other.head)
     }
 
-    /// The blocks of the interval's one decoding, or that it has none.
+    /// Returns the blocks of the interval's one decoding, or that it has none.
     pub fn read(&self, alloc: Global) -> Result<Option<Vec<Block>>, Memory>
         ensures some { IfOk result (λ answer. IfSome answer (λ v. Decodes self.now v.items)) }
         ensures only { IfOk result (λ answer. IfSome answer (λ v. (ys : List (List ℤ)) → Decodes self.now ys → ys ≡ v.items)) }
@@ -158,7 +158,7 @@ impl Interval {
         }
     }
 
-    /// The blocks of the greatest number of whole MCUs that the interval's bits begin with.
+    /// Returns the blocks of the greatest number of whole MCUs that the interval's bits begin with.
     pub fn read_front(&self, alloc: Global) -> Result<FrontBlocks, Memory>
         ensures front { IfOk result (λ f. LongestFront self.now f.mcus f.blocks) }
         ensures sound { IfOk result (λ f. IsTrue f.is_sound ↔ Decodes self.now f.blocks) }
@@ -169,7 +169,7 @@ impl Interval {
         Ok(FrontBlocks::of(reader.mcus(), blocks, reader.is_sound()))
     }
 
-    /// The blocks of all MCUs up to the last, or up to where no whole one follows.
+    /// Returns the blocks of all MCUs up to the last, or up to where no whole one follows.
     fn read_blocks(&self, alloc: Global) -> Result<(Vec<Block>, McuReader<'_>), Memory>
         ensures run { IfOk result (λ r. r.1.run ≡ whole_run self.now) }
         ensures read { IfOk result (λ r. HasRead r.1 r.0.items) }

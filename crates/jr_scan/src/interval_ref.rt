@@ -67,7 +67,7 @@ impl<'a> IntervalRef<'a> {
         self.mcus
     }
 
-    /// The interval's data, without stuffing.
+    /// Returns the interval's data, without stuffing.
     pub fn bytes(&self) -> &'a [u8]
         ensures bytes { result.now ≡ self.now.bytes }
         ensures few { length result.now < 2 ^ 61 }

@@ -34,7 +34,7 @@ pub fn each_interval_has_a_longest_front()
     ensures { (i : IntervalValue) → (k : ℕ) × (zs : List (List ℤ)) × LongestFront i k zs }
 {}
 
-/// Each interval has a decoding, or has none.
+/// States that each interval has a decoding, or has none.
 pub fn each_interval_decodes_or_not()
     ensures { (i : IntervalValue) → ((zs : List (List ℤ)) × Decodes i zs) ⊎ HasNoDecoding i }
 {}

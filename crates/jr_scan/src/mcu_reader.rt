@@ -60,7 +60,7 @@ impl<'a> McuReader<'a> {
     ghost use Rattle.jr_scan.specs.declared.mcu_reader.TheConstants.{MOST_UNITS};
     ghost use Rattle.jr_scan.specs.McuReader.{HasRead, HasReadOf, HasReadAll, HasEnded, per_mcu};
 
-    /// A reader of all MCUs of an interval.
+    /// Returns a reader of all MCUs of an interval.
     pub fn over(interval: IntervalRef<'a>) -> McuReader<'a>
         ensures run { result.run ≡ whole_run interval.entry }
         ensures mcu { result.mcu ≡ 0 }
@@ -125,7 +125,7 @@ impl<'a> McuReader<'a> {
         self.mcu += mcus;
     }
 
-    /// The interval that it reads.
+    /// Returns the interval that it reads.
     pub fn interval(&self) -> &IntervalRef<'a>
         ensures { result.now ≡ self.now.run.interval }
     {

@@ -90,7 +90,7 @@ impl PartialScan {
         self.cut.last_begun()
     }
 
-    /// Interval i, as far as its data have come.
+    /// Returns interval i, as far as its data have come.
     pub fn interval_ref(&self, i: u32) -> IntervalRef<'_>
         requires { i < length self.now.scan.intervals }
         ensures { result ≡ interval_of self.now.scan i }
@@ -98,7 +98,7 @@ impl PartialScan {
         IntervalRef::of(&self.head, self.cut.data(i), i, self.head.mcus_in(i))
     }
 
-    /// Nothing more comes.
+    /// Ends the scan, and returns it.
     pub fn into_scan(self, alloc: Global) -> Result<Scan, Memory>
         ensures { IfOk result (λ s. s ≡ self.scan) }
     {

@@ -12,7 +12,7 @@ pub struct Place {
 }
 
 impl Place {
-    /// The start of an interval, where each component is predicted to be 0 (T.81, F.1.1.5.1).
+    /// Returns the start of an interval, where each component is predicted to be 0 (T.81, F.1.1.5.1).
     pub fn start() -> Place
         ensures { result ≡ start_of_interval }
     {

@@ -118,7 +118,7 @@ impl Scan {
         self.ended
     }
 
-    /// Interval i, which shares its data with the scan.
+    /// Returns interval i, which shares its data with the scan.
     pub fn interval(&self, i: u32) -> Result<Interval, Memory>
         requires { i < length self.now.intervals }
         ensures { IfOk result (λ v. v ≡ interval_of self.now i) }
@@ -132,7 +132,7 @@ impl Scan {
         Ok(Interval::of(head, unstuffed, span, i, self.head.mcus_in(i)))
     }
 
-    /// Interval i, borrowed from the scan. It takes no memory.
+    /// Returns interval i, borrowed from the scan. It takes no memory.
     pub fn interval_ref(&self, i: u32) -> IntervalRef<'_>
         requires { i < length self.now.intervals }
         ensures { result ≡ interval_of self.now i }
@@ -140,7 +140,7 @@ impl Scan {
         IntervalRef::of(&self.head, self.data(i), i, self.head.mcus_in(i))
     }
 
-    /// The data of interval i, without stuffing.
+    /// Returns the data of interval i, without stuffing.
     fn data(&self, i: u32) -> &[u8]
         requires { i < length self.now.intervals }
         ensures bytes { result.now ≡ slice_index_or self.now.intervals i [] }

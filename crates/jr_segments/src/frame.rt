@@ -52,7 +52,7 @@ impl Frame {
     }
 }
 
-/// The entries of components, three bytes each.
+/// Returns the entries of components, three bytes each.
 fn read_components(alloc: Global, bytes: &[u8]) -> Result<Vec<FrameComponent>, AllocError>
     ensures { IfOk result (λ v. v.items ≡ components_in bytes.now) }
 {
@@ -163,12 +163,12 @@ fn is_ill_sampled(components: &[FrameComponent]) -> bool
     components.len() == 3 && (!divide_greatest(components) || block_count(components) > 10)
 }
 
-/// The tests of the components. Each is made of all of them before the next.
+/// Makes the tests of the components, each for all of them before the next.
 ///
 /// # Errors
 ///
 /// `BadComponents` for equal identifiers or a destination over 3; `BadSampling` for a sampling factor that is not from 1
-/// to 4, or three components that don't fit together.
+/// to 4, or three components that do not fit together.
 #[tactic(auto, unfolding(crate::specs::Frames::component_tests))]
 fn check_components(components: &[FrameComponent]) -> Result<(), Refusal>
     ensures obeys { Obeys result (component_tests components.now) }
@@ -232,7 +232,7 @@ fn read_sizes(code: u8, payload: &[u8]) -> Result<(u16, u16), Refusal>
     Ok((width, height))
 }
 
-/// The frame header of a payload. `code` is its marker's, SOF0 or SOF1.
+/// Returns the frame header of a payload. `code` is its marker's, SOF0 or SOF1.
 ///
 /// # Errors
 ///

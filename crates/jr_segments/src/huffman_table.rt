@@ -24,7 +24,7 @@ pub struct HuffmanTable {
     pub table: CodeTable,
 }
 
-/// The sixteen counts.
+/// Returns the sixteen counts.
 fn counts_of(bytes: &[u8]) -> [u8; 16]
     requires { 16 ≤ length bytes.now }
     ensures { result ≡ take 16 bytes.now }

@@ -25,7 +25,7 @@ pub fn is_jfif_mark(payload: &[u8]) -> bool
     payload.starts_with(b"JFIF\0")
 }
 
-/// The transform byte of an APP14 segment's payload, at offset 11, where it is an Adobe mark.
+/// Returns the transform byte of an APP14 segment's payload, at offset 11, where it is an Adobe mark.
 ///
 /// An Adobe mark has at least twelve bytes and begins with `Adobe`.
 pub fn adobe_transform(payload: &[u8]) -> Option<u8>
@@ -38,7 +38,7 @@ pub fn adobe_transform(payload: &[u8]) -> Option<u8>
     }
 }
 
-/// The kind, by the number of components and the marks.
+/// Returns the kind, by the number of components and the marks.
 pub fn kind_from(is_single: bool, is_jfif: bool, transform: Option<u8>) -> Kind
     ensures { result ≡ kind_by is_single is_jfif transform }
 {

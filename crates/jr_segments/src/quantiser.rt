@@ -32,7 +32,7 @@ pub struct Quantisation {
 impl Quantiser {
     ghost use Rattle.std.specs.Prelude.{◌≡◌, length};
 
-    /// A copy of the elements.
+    /// Returns a copy of the elements.
     pub fn to_elements(&self) -> [u16; 64]
         ensures value { result ≡ self.now.elements }
         ensures count { length result ≡ 64 }

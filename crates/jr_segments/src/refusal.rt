@@ -24,13 +24,13 @@ pub enum Refusal {
     /// A frame of this marker is not decoded: progressive, lossless, hierarchical or arithmetic.
     #[error("frame {0:02X} is not baseline")]
     NotBaseline(u8),
-    /// A segment of this marker has a length that doesn't fit its payload (B.1.1.4).
+    /// A segment of this marker has a length that does not fit its payload (B.1.1.4).
     #[error("bad length of segment {0:02X}")]
     BadLength(u8),
     /// Pq is over 1 or Tq over 3 (B.2.4.1), or a baseline frame uses elements of two bytes.
     #[error("bad quantisation table")]
     BadQuantTable,
-    /// Tc is over 1 or Th over 3 (B.2.4.2), or the words are more than 256 or don't fit into a tree.
+    /// Tc is over 1 or Th over 3 (B.2.4.2), or the words are more than 256 or do not fit into a tree.
     #[error("bad code table")]
     BadCodeTable,
     /// There are two frame headers.
@@ -71,7 +71,7 @@ pub enum Refusal {
 impl Refusal {
     ghost use Rattle.jr_segments.specs.Refusal.{number_of};
 
-    /// The number of the refusal, from 1 to 19, which the program prints.
+    /// Returns the number of the refusal, from 1 to 19, which the program prints.
     pub fn number(&self) -> u8
         ensures { result ≡ number_of self.now }
     {

@@ -66,7 +66,7 @@ fn push_and_take(
     Ok(Some(shown))
 }
 
-/// The lines that a file's first bytes settle; none where it is refused.
+/// Returns the lines that a file's first bytes settle; none where it is refused.
 fn given_of(alloc: Global, bytes: &[u8]) -> Result<Option<Vec<u8>>, Fail> {
     let mut partial_file = PartialFile::new(alloc);
     push_and_take(alloc, &mut partial_file, bytes)
@@ -196,7 +196,7 @@ fn refusals_of(alloc: Global, bytes: &[u8]) -> Result<[Option<Refusal>; 2], Fail
     push_and_begin(alloc, &mut partial_file, bytes)
 }
 
-/// The same of a file in the notation of files.
+/// Returns the same of a file in the notation of files.
 fn refusals_in(alloc: Global, words: &str) -> Result<[Option<Refusal>; 2], Fail> {
     let bytes = file(alloc, words)?;
     refusals_of(alloc, bytes.as_slice())

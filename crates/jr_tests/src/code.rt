@@ -14,7 +14,7 @@ const EACH_LENGTH: [u8; 16] = [1; 16];
 /// The same with a second word of sixteen bits, so that no room is left.
 const FULL: [u8; 16] = [1, 1, 1, 1, 1, 1, 1, 1, 1, 1, 1, 1, 1, 1, 1, 2];
 
-/// The symbols 0, 1, 2 and so on up to 255.
+/// Returns the symbols 0, 1, 2 and so on up to 255.
 fn symbols_up_to_255() -> [u8; 256] {
     let mut symbols = [0; 256];
     for i in 0..256usize {
@@ -23,7 +23,7 @@ fn symbols_up_to_255() -> [u8; 256] {
     symbols
 }
 
-/// The book of these counts, whose words have the symbols 0, 1, 2 and so on.
+/// Returns the book of these counts, whose words have the symbols 0, 1, 2 and so on.
 fn book_of(alloc: Global, counts: &[u8; 16]) -> Result<CodeBook, Fail> {
     let mut words: usize = 0;
     for count in counts {
@@ -46,7 +46,7 @@ fn read_extended(book: &CodeBook, bits: &mut Bits<'_>) -> (Option<(u8, i32)>, u6
     (found, bits.left())
 }
 
-/// The bits of at most seventeen bytes.
+/// Returns the bits of at most seventeen bytes.
 fn bits_of(bytes: &[u8]) -> Result<Bits<'_>, Fail> {
     if bytes.len() > 17 {
         return Err(Fail::from("at most seventeen bytes"));

@@ -8,7 +8,7 @@ use std::alloc::Global;
 use std::process::Abort;
 use std::test::Fail;
 
-/// The head of a file that is accepted.
+/// Returns the head of a file that is accepted.
 pub(crate) fn head_in(alloc: Global, bytes: &[u8]) -> Result<Head, Fail> {
     Ok(read_head(alloc, bytes)?)
 }

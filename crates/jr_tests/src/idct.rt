@@ -9,7 +9,7 @@ use jr_idct::{
 };
 use std::process::Abort;
 
-/// A block with two coefficients, the second one at a zigzag place.
+/// Returns a block with two coefficients, the second one at a zigzag place.
 fn block_with(first: i32, place: usize, value: i32) -> [i32; 64]
     requires place_in { place < 64 }
     requires first_small { IsWithin 32768 first }

@@ -1,6 +1,6 @@
 //! Words and extra bits as T.81 defines them (Annex C, F.2.2.1), bit by bit and by no code of jri.
 
-/// The number of the next n bits, from the most significant bit of each byte.
+/// Returns the number of the next n bits, from the most significant bit of each byte.
 pub(crate) fn number(bytes: &[u8], at: usize, n: usize) -> Option<u32> {
     let mut v: u32 = 0;
     for i in 0..n {
@@ -13,7 +13,8 @@ pub(crate) fn number(bytes: &[u8], at: usize, n: usize) -> Option<u32> {
     Some(v)
 }
 
-/// The word in front: its symbol, and how many bits it has. A word is the room of all words before it, over its own.
+/// Returns the word in front: its symbol, and how many bits it has. A word is the room of all words before it, over its
+/// own.
 pub(crate) fn word(counts: &[u8], symbols: &[u8], bytes: &[u8], at: usize) -> Option<(u8, usize)> {
     let mut room: u32 = 0;
     let mut place: usize = 0;

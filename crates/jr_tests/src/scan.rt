@@ -12,7 +12,7 @@ fn front_of(alloc: Global, interval: &Interval) -> Result<FrontBlocks, Fail> {
     Ok(interval.read_front(alloc)?)
 }
 
-/// The blocks of an interval; none where it has no decoding.
+/// Returns the blocks of an interval; none where it has no decoding.
 fn blocks_of(alloc: Global, interval: &Interval) -> Result<Option<Vec<Block>>, Fail> {
     Ok(interval.read(alloc)?)
 }

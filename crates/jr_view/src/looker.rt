@@ -116,7 +116,7 @@ impl Looker {
         }
     }
 
-    /// The place of the next strip of an interval.
+    /// Returns the place of the next strip of an interval.
     fn next_place(&self, cells: &StripCells) -> u32 {
         match self.strips.get(cells.number() as usize) {
             Some(next) => next.div_ceil(cells.each()),

@@ -222,7 +222,7 @@ fn show_settled(
 }
 
 impl PartialView {
-    /// Nothing has come yet.
+    /// Returns a view of a file of which nothing has come yet.
     pub fn new(alloc: Global) -> PartialView
         ensures { IsSeen result [] }
     {

@@ -7,7 +7,7 @@ ghost use Rattle.jr_view.specs.Views.{units_shown};
 
 use jr_piece::{Piece, Strip};
 
-/// The sample of what can't be seen: mid-grey.
+/// The sample of what is not visible: mid-grey.
 pub(crate) const GREY: u8 = 128;
 
 /// Whose data units are shown.

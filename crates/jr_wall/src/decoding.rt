@@ -93,27 +93,27 @@ impl Decoding {
         Ok((decoding, seats))
     }
 
-    /// The scan that is decoded.
+    /// Returns the scan that is decoded.
     pub fn scan(&self) -> &Scan
         ensures { result.now ≡ self.now.scan }
     {
         &self.scan
     }
 
-    /// The board that the workers post on.
+    /// Returns the board that the workers post on.
     pub fn board(&self) -> &Mutex<Board> {
         &self.board
     }
 
-    /// The cells that the workers hang their pieces into.
+    /// Returns the cells that the workers hang their pieces into.
     pub fn cells(&self) -> &Cells
         ensures { result.now ≡ self.now.cells }
     {
         &self.cells
     }
 
-    /// The cells that the workers hang the strips of interval i into; none where it is decoded as a whole, being short
-    /// or without the data.
+    /// Returns the cells that the workers hang the strips of interval i into; none where it is decoded as a whole,
+    /// being short or without the data.
     pub fn strips(&self, i: u32) -> Option<&StripCells>
         ensures cells { option_copied result ≡ strips_at self.now i }
         ensures number { IfSome result (λ c. c.now.number ≡ i) }

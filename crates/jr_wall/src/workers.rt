@@ -49,7 +49,7 @@ pub fn work<R: Wait, G: Gate>(
     }
 }
 
-/// The piece of an interval, which the gate has seen; `None` if allocation fails.
+/// Returns the piece of an interval, which the gate has seen; `None` if allocation fails.
 pub(crate) fn make_piece<G: Gate>(
     alloc: Global,
     scan: &Scan,

@@ -43,7 +43,7 @@ impl<S: OneScan> Model for Gathered<S> {
     ghost invariant = { λ g. (0 < g.each) × IsOneOf S.scan (arc_value g.interval) × All (IsEmptyOrOf (arc_value g.interval)) g.strips.items × IfSome g.end (λ e. TellsEnd (arc_value g.interval) e.front e.is_sound) };
 }
 
-/// The strips of all places; none where a place is empty.
+/// Returns the strips of all places; none where a place is empty.
 fn all_of(alloc: Global, places: &[Option<Arc<Strip>>]) -> Option<Vec<Arc<Strip>>>
     ensures { IfSome result (λ v. (i : IntervalValue) → All (IsEmptyOrOf i) places.now → AreOf i (shared_strips v.items)) }
 {
@@ -67,7 +67,7 @@ fn put(places: &mut Vec<Option<Arc<Strip>>>, place: usize, strip: Arc<Strip>) ->
 }
 
 impl<S: OneScan> Gathered<S> {
-    /// Nothing is decoded of an interval yet.
+    /// Returns the strips of an interval of which none is decoded yet.
     pub(crate) fn of(alloc: Global, interval: Arc<Interval>) -> Gathered<S>
         requires { IsOneOf S.scan (arc_value interval) }
         ensures { result ≡ arc_value interval }

@@ -104,7 +104,7 @@ impl<S: OneScan> Job<S> {
         })
     }
 
-    /// The interval that is decoded.
+    /// Returns the interval that is decoded.
     pub fn interval(&self) -> &Interval
         ensures { result.now ≡ self.now }
     {
@@ -156,7 +156,7 @@ impl<S: OneScan> Job<S> {
         self.has_read.notify_one();
     }
 
-    /// The samples of a strip.
+    /// Returns the samples of a strip.
     fn transform(&self, alloc: Global, waiting: &ScanStrip<S>) -> Result<Arc<Strip>, Memory>
         ensures interval { IfOk result (λ s. (arc_value s).interval ≡ self.now) }
         ensures own { IfOk result (λ s. IsOneOf S.scan (arc_value s).interval) }

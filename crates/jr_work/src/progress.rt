@@ -51,7 +51,7 @@ impl<S: OneScan> ScanStrip<S> {
         }
     }
 
-    /// The strip's samples.
+    /// Returns the strip's samples.
     pub(crate) fn decode(&self, alloc: Global) -> Result<Strip, Memory>
         ensures interval { IfOk result (λ s. s.interval ≡ self.now) }
         ensures own { IfOk result (λ s. IsOneOf S.scan s.interval) }
@@ -59,7 +59,7 @@ impl<S: OneScan> ScanStrip<S> {
         self.strip.decode(alloc)
     }
 
-    /// The memory of its blocks, to be used again; none where it has none.
+    /// Returns the memory of its blocks, to be used again; none where it has none.
     pub(crate) fn into_blocks(self) -> Option<Vec<Coefficients>> {
         self.strip.into_blocks()
     }
@@ -109,7 +109,7 @@ pub(crate) struct Progress<S: OneScan> {
 }
 
 impl<S: OneScan> Progress<S> {
-    /// Nothing is done yet.
+    /// Returns the progress of an interval of which nothing is read yet.
     pub(crate) fn of(
         alloc: Global,
         reading: Reading<S>,

@@ -95,7 +95,7 @@ impl<S: OneScan> Model for Reading<S> {
 }
 
 impl<S: OneScan> Reading<S> {
-    /// Nothing is read of an interval yet.
+    /// Returns a reader of an interval of which nothing is read yet.
     pub(crate) fn of(interval: Arc<Interval>) -> Reading<S>
         requires { IsOneOf S.scan (arc_value interval) }
         ensures { result ≡ arc_value interval }
@@ -116,14 +116,14 @@ impl<S: OneScan> Reading<S> {
         self.reader.lend(blocks);
     }
 
-    /// The number of its interval.
+    /// Returns the number of its interval.
     pub(crate) fn number(&self) -> u32
         ensures { result ≡ self.now.number }
     {
         self.reader.number()
     }
 
-    /// The bit at which the next strip starts.
+    /// Returns the bit at which the next strip starts.
     pub(crate) fn bit(&self) -> u64 {
         self.reader.bit()
     }

@@ -18,7 +18,7 @@ pub(crate) enum WaitingStrip {
 }
 
 impl WaitingStrip {
-    /// The strip's samples.
+    /// Returns the strip's samples.
     pub(crate) fn decode(&self, alloc: Global) -> Result<Strip, Memory>
         requires { HasItsGuesses self.now }
         ensures { IfOk result (λ s. s.interval ≡ interval_of_strip self.now) }
@@ -29,7 +29,7 @@ impl WaitingStrip {
         }
     }
 
-    /// The memory of its blocks, to be used again; none where it has none.
+    /// Returns the memory of its blocks, to be used again; none where it has none.
     pub(crate) fn into_blocks(self) -> Option<Vec<Coefficients>> {
         match self {
             WaitingStrip::Coded(strip) => Some(strip.into_blocks()),

@@ -52,7 +52,7 @@ pub enum RequestError {
 }
 
 impl RequestError {
-    /// The exit status: 0 for help and the version, 2 for wrong words, 4 for want of memory.
+    /// Returns the exit status: 0 for help and the version, 2 for wrong words, 4 for want of memory.
     pub fn status(&self) -> u8
         ensures { result ≡ request_error_status self.now }
     {

@@ -11,7 +11,7 @@ use jr_base::VERSION;
 use jr_base::limits::MAX_WORKERS;
 use std::alloc::{AllocError, Global};
 
-/// A word that is there or not.
+/// Returns a word that is there or not.
 fn flag<'a>(alloc: Global, name: &'a str, help: &'a str) -> Arg<'a> {
     Arg::new(alloc, name)
         .long(name)
@@ -19,7 +19,7 @@ fn flag<'a>(alloc: Global, name: &'a str, help: &'a str) -> Arg<'a> {
         .help(help)
 }
 
-/// How many files are checked at once.
+/// Returns the argument for the number of files that are checked at once.
 fn workers_argument<'a>(alloc: Global) -> Arg<'a> {
     Arg::new(alloc, "workers")
         .long("workers")
@@ -31,7 +31,7 @@ fn workers_argument<'a>(alloc: Global) -> Arg<'a> {
         .default_value("4")
 }
 
-/// Whether folders are gone through.
+/// Returns whether folders are gone through.
 fn recursive_argument<'a>(alloc: Global) -> Arg<'a> {
     flag(
         alloc,
@@ -41,7 +41,7 @@ fn recursive_argument<'a>(alloc: Global) -> Arg<'a> {
     .short('r')
 }
 
-/// A list of names.
+/// Returns a list of names.
 fn list_argument<'a>(alloc: Global) -> Arg<'a> {
     Arg::new(alloc, "files0-from")
         .long("files0-from")
@@ -79,7 +79,7 @@ fn verify_argument<'a>(alloc: Global) -> Result<Arg<'a>, AllocError> {
     .requires_arg("state")
 }
 
-/// The files.
+/// Returns the files.
 fn files_argument<'a>(alloc: Global) -> Result<Arg<'a>, AllocError> {
     Arg::new(alloc, "files")
         .action(ArgAction::Append)
@@ -108,7 +108,7 @@ const DAMAGED_ALONE: &str = "damaged";
 
 const ALL: &str = "all";
 
-/// The arguments that select what is reported.
+/// Returns the arguments that select what is reported.
 fn with_telling_words<'a>(alloc: Global, command: Command<'a>) -> Result<Command<'a>, AllocError> {
     command
         .arg(map_argument(alloc))?
@@ -117,7 +117,7 @@ fn with_telling_words<'a>(alloc: Global, command: Command<'a>) -> Result<Command
         .arg(flag(alloc, "counts", "Also print the counts as the last line"))
 }
 
-/// The words that tell how many files are checked at once, and where further ones are found.
+/// Returns the words that tell how many files are checked at once, and where further ones are found.
 fn with_finding_words<'a>(alloc: Global, command: Command<'a>) -> Result<Command<'a>, AllocError> {
     command
         .arg(workers_argument(alloc))?
@@ -128,7 +128,7 @@ fn with_finding_words<'a>(alloc: Global, command: Command<'a>) -> Result<Command
         .arg(verify_argument(alloc)?)
 }
 
-/// The words that tell which files are checked.
+/// Returns the words that tell which files are checked.
 fn with_file_words<'a>(alloc: Global, command: Command<'a>) -> Result<Command<'a>, AllocError> {
     command.arg(files_argument(alloc)?)
 }
@@ -144,7 +144,7 @@ Exit status, the first that applies:
   0  every file is sound
 The statuses 1 and 3 of jri mean other things.";
 
-/// The program, without its words.
+/// Returns the program, without its words.
 fn wordless<'a>(alloc: Global) -> Command<'a> {
     Command::new(alloc, "jri_check")
         .about("Check baseline JPEG files for damage")
@@ -187,7 +187,7 @@ fn names_in(
     Ok(names)
 }
 
-/// The name of the list of names.
+/// Returns the name of the list of names.
 fn list_in(alloc: Global, matches: &ArgMatches<'_>) -> Result<Option<String>, AllocError> {
     match matches.get_str("files0-from") {
         Some(name) => Ok(Some(String::from_str(alloc, name)?)),
@@ -231,7 +231,7 @@ const STATE_INPUT: &str = "error: the STATE of --state cannot be standard input\
 
 const STATE_NAME: &str = "error: the name of the STATE of --state is not UTF-8\n";
 
-/// What a line tells.
+/// Returns what a line reports.
 fn form_in(matches: &ArgMatches<'_>) -> LineForm {
     let map = matches.get_str("map");
     LineForm {
@@ -242,7 +242,7 @@ fn form_in(matches: &ArgMatches<'_>) -> LineForm {
     }
 }
 
-/// What words that are right ask for.
+/// Returns what valid arguments ask for.
 fn request_in(
     alloc: Global,
     words: &[Vec<u8>],

@@ -38,7 +38,7 @@ pub struct FileCounts {
 }
 
 impl FileCounts {
-    /// No file.
+    /// Returns the counts of no file.
     pub fn none() -> FileCounts
         ensures { files_in result ≡ 0 }
     {

@@ -10,14 +10,14 @@ use std::alloc::AllocError;
 /// What escapes a character of a JSON string.
 const BACKSLASH: u8 = b'\\';
 
-/// Whether a byte of text can't stand in a JSON string as it is, or may move on a terminal.
+/// Returns whether a byte of text is escaped in a JSON string, or may move the cursor of a terminal.
 fn is_special(byte: u8) -> bool
     ensures { result ≡ false → byte ≢ 92 }
 {
     byte < b' ' || byte == b'"' || byte == BACKSLASH || byte == 0x7F
 }
 
-/// How many bytes at the front are not special.
+/// Returns the number of bytes at the start that are not special.
 fn plain_count(bytes: &[u8]) -> usize
     ensures within { result ≤ length bytes.now }
     ensures plain { (k : ℕ) → k < result → slice_index bytes.now k ≢ 92 }
@@ -32,7 +32,7 @@ fn plain_count(bytes: &[u8]) -> usize
     count
 }
 
-/// The text that bytes begin with.
+/// Returns the text that bytes begin with.
 fn text_of(bytes: &[u8]) -> &str
     ensures within { length result.now ≤ length bytes.now }
     ensures text { result.now ≡ take (length result.now) bytes.now }
@@ -47,7 +47,7 @@ fn text_of(bytes: &[u8]) -> &str
     }
 }
 
-/// A digit to base 16.
+/// Returns a digit to base 16.
 fn digit(number: u8) -> u8
     requires { number < 16 }
     ensures { result ≡ digit_of number }

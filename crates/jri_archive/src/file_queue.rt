@@ -136,7 +136,7 @@ fn write_progress<E: Write>(
 }
 
 impl<S: OneCheck, O: Write, E: Write + Drop> FileQueue<S, O, E> {
-    /// No file is told of yet. There are so many, where that is known.
+    /// Returns a queue of which no file is reported yet. `files` is their number, if it is known.
     pub(crate) fn of(
         form: LineForm,
         files: Option<u64>,
@@ -162,7 +162,7 @@ impl<S: OneCheck, O: Write, E: Write + Drop> FileQueue<S, O, E> {
         }
     }
 
-    /// Whether lines can no longer be told.
+    /// Returns whether lines can no longer be told.
     pub(crate) fn is_over(&self) -> bool
         ensures { result ≡ not (is_open self.now.report.end) }
     {
@@ -176,15 +176,15 @@ impl<S: OneCheck, O: Write, E: Write + Drop> FileQueue<S, O, E> {
         }
     }
 
-    /// Whether the line of a file is due.
+    /// Returns whether the line of a file is due.
     pub(crate) fn is_due(&self, number: u64) -> bool
         ensures { result ≡ true → self.now.told ≡ number }
     {
         self.told == number
     }
 
-    /// How many of so many workers check a file that somebody begins: where fewer files are left than there are workers, those
-    /// that are free help, as many with each file.
+    /// Returns how many of `workers` workers check a file that a worker begins: if fewer files are left than workers, the
+    /// free ones help, an equal number with each file.
     pub(crate) fn share(&mut self, workers: u32) -> u32 {
         let files = self.files.unwrap_or(u64::MAX);
         let left = files.saturating_sub(self.checked).max(1);
@@ -225,7 +225,7 @@ impl<S: OneCheck, O: Write, E: Write + Drop> FileQueue<S, O, E> {
         }
     }
 
-    /// No further name is claimed, after so many: there is none, or it could not be read.
+    /// Notes that no name is claimed after the first `claimed`: there is none, or it could not be read.
     pub(crate) fn end_names(&mut self, error: Option<NamesError>, claimed: u64) {
         match error {
             None => self.set_files(claimed),
@@ -242,7 +242,7 @@ impl<S: OneCheck, O: Write, E: Write + Drop> FileQueue<S, O, E> {
         });
     }
 
-    /// Whether all files are told of, where it is known how many there are.
+    /// Returns whether all files are told of, where it is known how many there are.
     fn has_told_all(&self) -> bool
         ensures { result ≡ true → (names : List (List ℕ)) → S.names ≡ Some names → self.now.told ≡ length names }
     {

@@ -34,7 +34,7 @@ pub(crate) struct FolderWalk {
 }
 
 impl FolderWalk {
-    /// No folder is entered yet.
+    /// Returns a walk that has entered no directory yet.
     pub(crate) fn of(alloc: Global) -> FolderWalk {
         FolderWalk {
             waiting: Vec::new(alloc),

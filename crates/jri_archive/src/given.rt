@@ -40,7 +40,7 @@ impl<I: Read + Drop> GivenNames<I> {
         }
     }
 
-    /// How many there are behind those that are taken, where that is known.
+    /// Returns the number of names that are left, if it is known.
     pub(crate) fn left(&self) -> Option<u64>
         ensures { (names : List (List ℕ)) → self.now ≡ Some names → result ≡ Some (length names) }
     {

@@ -43,7 +43,7 @@ fn put_file(line: &mut String, name: &[u8]) -> Result<(), AllocError> {
     put_string(line, name)
 }
 
-/// Puts what ended the scan, where it isn't EOI, in the words of the other lines.
+/// Writes what ended the scan, if it is not EOI, in the words of the other lines.
 fn put_scan_end(line: &mut String, ended: ScanEnd) -> Result<(), AllocError> {
     if ended == ScanEnd::EndOfImage {
         return Ok(());

@@ -49,7 +49,7 @@ impl<I: Read + Drop> Model for FileNames<I> {
     ghost view = { λ n. known_names n.given n.walk };
 }
 
-/// Why a file is not opened by this name: that it is no text.
+/// Returns the reason why a file is not opened by this name: it is not UTF-8.
 fn refused_name(name: &[u8]) -> Option<ReadError>
     ensures { (e : ReadError) → result ≡ Some e → IsNoText name.now e }
 {
@@ -59,7 +59,7 @@ fn refused_name(name: &[u8]) -> Option<ReadError>
     }
 }
 
-/// The file of a name, if there is one.
+/// Returns the file of a name, if there is one.
 fn file_of(name: Option<Vec<u8>>) -> Option<NamedFile>
     ensures none { IfNone name (result ≡ None) }
     ensures some { IfSome name (λ n. (file : NamedFile) × (result ≡ Some file) × IsNamed file n.items) }
@@ -97,7 +97,7 @@ impl<I: Read + Drop> FileNames<I> {
         }
     }
 
-    /// How many there are behind those that are taken, where that is known.
+    /// Returns the number of names that are left, if it is known.
     pub fn left(&self) -> Option<u64>
         ensures { (names : List (List ℕ)) → self.now ≡ Some names → result ≡ Some (length names) }
     {

@@ -54,7 +54,7 @@ pub fn outcome_of<R: Threads + Wait + Sync>(
     }
 }
 
-/// The same in the memory of the file's bytes, which are gone then.
+/// Returns the same in the memory of the file's bytes, which are gone then.
 pub fn outcome_in_place<R: Threads + Wait + Sync>(
     rt: &R,
     alloc: Global,
@@ -74,7 +74,7 @@ pub fn outcome_in_place<R: Threads + Wait + Sync>(
 }
 
 impl Outcome {
-    /// What became of the file.
+    /// Returns the state of the file.
     pub fn state(&self) -> FileState
         ensures { result ≡ state_of self.now }
     {

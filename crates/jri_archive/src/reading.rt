@@ -30,7 +30,7 @@ pub enum ReadError {
 }
 
 impl ReadError {
-    /// The reason in words.
+    /// Returns the reason in words.
     pub fn text(&self) -> &'static str {
         match self {
             ReadError::NotFound => "no such file",
@@ -51,7 +51,7 @@ impl ReadError {
 pub enum EntryKind {
     File,
     Folder,
-    /// That can't be said.
+    /// Its kind cannot be read.
     Unread(ReadError),
 }
 
@@ -85,7 +85,7 @@ pub trait Folder {
     // The size and time that a file of that name may have.
     ghost stamps: { Self → List ℕ → Stamp → Type 0 } = { λ _ _ _. Unit {0} };
 
-    /// The bytes of the file of that name, or one more than a file may have.
+    /// Returns the bytes of the file of that name, or one more than a file may have.
     fn read(&self, alloc: Global, name: &str) -> Result<Vec<u8>, ReadError>
         ensures bytes { IfOk result (λ bytes. holds self.now name.now bytes.items) }
         ensures error { IfErr result (fails self.now name.now) };

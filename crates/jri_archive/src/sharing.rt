@@ -81,7 +81,7 @@ impl<S: OneCheck, I: Read + Drop> NameQueue<S, I> {
         }
     }
 
-    /// How many are claimed.
+    /// Returns the number of claimed names.
     fn claimed(&self) -> u64 {
         self.claimed
     }
@@ -119,7 +119,7 @@ impl<
     E: Write + Send + Drop,
     W: Write + Send + Drop,
 > Sharing<S, F, I, O, E, W> {
-    /// The next name, where there is one, and how many are claimed then.
+    /// Returns the next name, where there is one, and how many are claimed then.
     fn next_name<R: Wait>(&self, rt: &R) -> (Result<Option<(u64, NamedFile)>, NamesError>, u64)
         ensures { IfOk result.0 (λ o. IfSome o (λ c. IsClaimOf S.names c.0 c.1)) }
     {

@@ -84,7 +84,7 @@ fn put_damage(line: &mut String, checked: &Checked) -> Result<(), AllocError> {
     put_lines(line, lines)
 }
 
-/// Puts what ended the scan, where it isn't EOI.
+/// Writes what ended the scan, if it is not EOI.
 fn put_scan_end(line: &mut String, ended: ScanEnd) -> Result<(), AllocError> {
     if ended == ScanEnd::EndOfImage {
         return Ok(());

@@ -13,7 +13,7 @@ const USUAL_WORD: usize = 4096;
 /// What begins the text of a word that is no text: no word of a system has a NUL byte.
 const NO_TEXT: char = '\0';
 
-/// A word by its number, none behind the last.
+/// Returns a word by its number, none behind the last.
 fn word<E: Env>(env: &E, alloc: Global, number: usize) -> Result<Option<Vec<u8>>, AllocError> {
     let mut room = USUAL_WORD;
     for _ in 0..usize::BITS {
@@ -31,7 +31,7 @@ fn word<E: Env>(env: &E, alloc: Global, number: usize) -> Result<Option<Vec<u8>>
     Err(AllocError)
 }
 
-/// The words behind the program's name.
+/// Returns the words behind the program's name.
 pub fn words_of<E: Env>(env: &E, alloc: Global) -> Result<Vec<Vec<u8>>, AllocError> {
     let mut words = Vec::new(alloc);
     for number in 1..usize::MAX {
@@ -43,7 +43,7 @@ pub fn words_of<E: Env>(env: &E, alloc: Global) -> Result<Vec<Vec<u8>>, AllocErr
     Ok(words)
 }
 
-/// The words as text. In place of one that is no text stands its number, behind a byte that no word has.
+/// Returns the words as text. In place of one that is no text stands its number, behind a byte that no word has.
 pub fn texts(alloc: Global, words: &[Vec<u8>]) -> Result<Vec<String>, AllocError> {
     let mut texts = Vec::new(alloc);
     for number in 0..words.len() {
@@ -62,7 +62,7 @@ pub fn is_no_text(text: &str) -> bool {
     text.starts_with(NO_TEXT)
 }
 
-/// The bytes of the word whose text this is.
+/// Returns the bytes of the word whose text this is.
 pub fn bytes_of(alloc: Global, words: &[Vec<u8>], text: &str) -> Result<Vec<u8>, AllocError> {
     if let Some(number) = text.strip_prefix(NO_TEXT)
         && let Ok(number) = number.parse::<usize>()

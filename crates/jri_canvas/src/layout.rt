@@ -49,7 +49,7 @@ impl Pixels {
 }
 
 impl Layout {
-    /// The layout of this number, 0 to 4.
+    /// Returns the layout of this number, 0 to 4.
     pub fn of_number(number: u32) -> Option<Layout>
         ensures number { IfSome result (λ l. number ≡ layout_number l) }
         ensures none { result ≡ None → 4 < number }

@@ -26,7 +26,7 @@ struct Disk<'a> {
     rt: &'a HostRuntime,
 }
 
-/// Why bytes are not there.
+/// Returns the reason why a file is not read.
 fn unread(error: &Error) -> ReadError {
     match error.kind() {
         ErrorKind::OutOfMemory => ReadError::Memory,

@@ -29,7 +29,7 @@ pub(crate) fn fault_of(refusal: Refusal) -> Fault
     }
 }
 
-/// The scan of a file that is there whole, or the file's fault.
+/// Returns the scan of a file that is there whole, or the file's fault.
 fn scan_of_bytes(alloc: Global, file: Vec<u8>) -> Result<Arc<Scan>, Fault>
     ensures scan { IfOk result (λ scan. IsScanOfFile file.items (arc_value scan)) }
     ensures fault { IfErr result (IsFaultOf file.items) }

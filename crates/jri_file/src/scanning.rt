@@ -11,7 +11,7 @@ use jr_scan::Scan;
 use std::alloc::Global;
 use std::sync::Arc;
 
-/// A scan for several owners.
+/// Returns a scan for several owners.
 pub(crate) fn share(alloc: Global, scan: Scan) -> Result<Arc<Scan>, Refusal>
     ensures scan { IfOk result (λ shared. arc_value shared ≡ scan) }
     ensures memory { IfErr result (λ f. f ≡ refusal.Memory) }
@@ -22,7 +22,7 @@ pub(crate) fn share(alloc: Global, scan: Scan) -> Result<Arc<Scan>, Refusal>
     }
 }
 
-/// The scan of a file, cut into its intervals, of which none is decoded.
+/// Returns the scan of a file, cut into its intervals, of which none is decoded.
 ///
 /// # Errors
 ///

@@ -6,7 +6,7 @@ ghost use Rattle.jri_file.specs.Status.{fault_status, report_status};
 use crate::report::{Fault, Report};
 
 impl Fault {
-    /// The exit status: 2 for a refused file, 1 for devices and memory.
+    /// Returns the exit status: 2 for a refused file, 1 for devices and memory.
     pub fn status(self) -> u8
         ensures { result ≡ fault_status self }
     {

@@ -56,7 +56,7 @@ pub struct DamageReport {
 }
 
 impl DamageReport {
-    /// A refusal.
+    /// Returns a refusal.
     fn refused(refusal: Refusal) -> DamageReport
         ensures nothing { TellsNoDamage result }
         ensures number { result.refusal ≡ number_of refusal }
@@ -73,7 +73,7 @@ impl DamageReport {
 }
 
 impl Damage {
-    /// A damaged interval as numbers.
+    /// Returns a damaged interval as numbers.
     fn of(damaged: &DamagedInterval) -> Damage
         ensures { IsDamageEntry damaged.now result }
     {

@@ -33,7 +33,7 @@ pub struct Header {
     pub detail: u64,
 }
 
-/// The number of a kind.
+/// Returns the number of a kind.
 fn number_of_kind(kind: Kind) -> u32
     ensures { result ≡ kind_number kind }
 {
@@ -63,7 +63,7 @@ impl Header {
         }
     }
 
-    /// A refusal.
+    /// Returns a refusal.
     pub(crate) fn refused(refusal: Refusal) -> Header
         ensures no_header { TellsNoHeader result }
         ensures number { result.refusal ≡ number_of refusal }

@@ -102,7 +102,7 @@ impl MendReport {
         }
     }
 
-    /// A refusal of a copy.
+    /// Returns a refusal of a copy.
     pub(crate) fn refused(copy: u32, refusal: Refusal) -> MendReport
         ensures nothing { TellsNoMend result }
         ensures copy { result.copy ≡ copy }

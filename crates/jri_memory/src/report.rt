@@ -68,7 +68,7 @@ impl DecodeReport {
         }
     }
 
-    /// A refusal.
+    /// Returns a refusal.
     pub(crate) fn refused(refusal: Refusal) -> DecodeReport
         ensures no_picture { TellsNoPicture result }
         ensures number { result.refusal ≡ number_of refusal }

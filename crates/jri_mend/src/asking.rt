@@ -58,7 +58,7 @@ fn output_word<'a>(alloc: Global) -> Arg<'a> {
         .help("Write the mended file to FILE; - is standard output")
 }
 
-/// An argument without a value.
+/// Returns an argument without a value.
 fn flag_word<'a>(alloc: Global, name: &'a str, help: &'a str) -> Arg<'a> {
     Arg::new(alloc, name)
         .long(name)

@@ -77,7 +77,7 @@ fn output_word<'a>(alloc: Global) -> Arg<'a>
         .help("Write the image to PICTURE; - is standard output")
 }
 
-/// An argument without a value.
+/// Returns an argument without a value.
 pub(crate) fn flag_word<'a>(alloc: Global, name: &'a str, help: &'a str) -> Arg<'a>
     ensures rule { rule_of result ≡ flag_rule name.now }
     ensures local { result.global ≡ false }
@@ -157,7 +157,7 @@ pub(crate) fn strings_of(
 /// The name of a stream in place of a file.
 const STREAM: &str = "-";
 
-/// The file that is decoded.
+/// Returns the file that is decoded.
 fn file_of(alloc: Global, matches: &ArgMatches) -> Result<Option<String>, AllocError>
     ensures { IfOk result (λ file. option_map string_bytes file ≡ file_named (first_value (found_of matches.now) (codes "file"))) }
 {

@@ -101,7 +101,7 @@ pub struct Noted<T> {
 }
 
 impl<T> Noted<T> {
-    /// Over this reader or writer, of which no call has failed yet.
+    /// Returns a device over this reader or writer, of which no call has failed yet.
     pub fn of(inner: T) -> Self {
         Noted {
             inner,
@@ -109,7 +109,7 @@ impl<T> Noted<T> {
         }
     }
 
-    /// Why the last call failed that did.
+    /// Returns the reason of the last failure.
     pub fn reason(&self) -> Option<Error> {
         self.reason
     }

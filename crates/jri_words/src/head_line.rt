@@ -5,7 +5,7 @@ use jr_head::{Head, Kind};
 use jri_file::Fault;
 use std::alloc::{AllocError, Global};
 
-/// The name of the components' meaning.
+/// Returns the name of the components' meaning.
 fn kind_name(kind: Kind) -> &'static str {
     match kind {
         Kind::Grey => "grey",

@@ -92,7 +92,7 @@ impl<'a> Caller<'a> {
         judge(answer, &out.into_inner(), picture.len())
     }
 
-    /// By three threads. A thread that can't be started is left out.
+    /// Writes with three threads. A thread that cannot be started is left out.
     pub(crate) fn write_by<R: Threads + Wait + Sync>(&mut self, rt: &R) -> Option<bool> {
         let picture = self.picture()?;
         let mut out = Tally::of(Reader {

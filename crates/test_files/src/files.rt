@@ -166,7 +166,7 @@ fn put_units(bytes: &mut Vec<u8>, number: u32, units: u32) -> Result<(), Notatio
     Ok(())
 }
 
-/// The number that hexadecimal digits write.
+/// Returns the number that hexadecimal digits write.
 fn next_number(digits: Option<&str>) -> Result<u32, NotationError> {
     Ok(u32::from_str_radix(digits.ok_or(NotationError::Malformed)?, 16)?)
 }
@@ -234,7 +234,7 @@ pub fn put_parts(bytes: &mut Vec<u8>, words: &str) -> Result<(), NotationError> 
     Ok(())
 }
 
-/// The bytes of a file in the notation above.
+/// Returns the bytes of a file in the notation above.
 pub fn file(alloc: Global, words: &str) -> Result<Vec<u8>, NotationError> {
     let mut bytes = Vec::new(alloc);
     for word in words.split_whitespace() {

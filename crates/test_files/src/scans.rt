@@ -7,7 +7,7 @@ use std::alloc::Global;
 use std::sync::Arc;
 use std::test::Fail;
 
-/// The scan of a file.
+/// Returns the scan of a file.
 pub fn scan_of(alloc: Global, bytes: &[u8]) -> Result<Scan, Fail> {
     if bytes.len() > 100_000 {
         return Err(Fail::from("a file that is too long"));
@@ -16,7 +16,7 @@ pub fn scan_of(alloc: Global, bytes: &[u8]) -> Result<Scan, Fail> {
     Ok(Scan::cut(alloc, head, bytes)?)
 }
 
-/// The scan of a file in the notation of files.
+/// Returns the scan of a file in the notation of files.
 pub fn scan(alloc: Global, words: &str) -> Result<Arc<Scan>, Fail> {
     let bytes = file(alloc, words)?;
     let scan = scan_of(alloc, bytes.as_slice())?;

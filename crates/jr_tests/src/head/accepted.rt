@@ -6,7 +6,7 @@ use std::alloc::Global;
 use std::test::Fail;
 use test_files::files::file;
 
-/// The head of a file in the notation of files.
+/// Returns the head of a file in the notation of files.
 pub(crate) fn head_of(alloc: Global, words: &str) -> Result<Head, Fail> {
     let bytes = file(alloc, words)?;
     head_in(alloc, bytes.as_slice())
@@ -21,7 +21,7 @@ fn accepts_the_largest_head(rt: HostRuntime) -> Result<(), Fail> {
     Ok(())
 }
 
-/// Whether both heads have one DC table and one AC table for their first component.
+/// Returns whether both heads have one DC table and one AC table for their first component.
 pub(super) fn have_same_books(a: &Head, b: &Head) -> bool {
     0 < a.components()
         && 0 < b.components()

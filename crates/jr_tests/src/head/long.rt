@@ -37,7 +37,7 @@ fn put_comments(bytes: &mut Vec<u8>, length: usize) -> Result<(), Fail> {
     Ok(())
 }
 
-/// A file of so many bytes: these parts, COM segments, and the last part.
+/// Returns a file of so many bytes: these parts, COM segments, and the last part.
 fn file_of_length(alloc: Global, words: &str, last: &str, length: usize) -> Result<Vec<u8>, Fail> {
     let mut bytes = file(alloc, words)?;
     let last = file(alloc, last)?;
@@ -59,7 +59,7 @@ fn accepts_heads_of_many_bytes(rt: HostRuntime) -> Result<(), Fail> {
     Ok(())
 }
 
-/// The file of a part so many times, and then the others.
+/// Returns the file of a part so many times, and then the others.
 fn repeated_part(alloc: Global, part: &str, times: u32) -> Result<Vec<u8>, Fail> {
     let part = file(alloc, part)?;
     let mut bytes = file(alloc, "S")?;
@@ -70,7 +70,7 @@ fn repeated_part(alloc: Global, part: &str, times: u32) -> Result<Vec<u8>, Fail>
     Ok(bytes)
 }
 
-/// The head of such a file.
+/// Returns the head of such a file.
 fn repeated_head(alloc: Global, part: &str, times: u32) -> Result<Head, Fail> {
     let bytes = repeated_part(alloc, part, times)?;
     head_in(alloc, bytes.as_slice())
@@ -89,7 +89,7 @@ const SEGMENTS: [(&str, u32, u64); 9] = [
     ("A", 200, 4540),
 ];
 
-/// Whether both heads have one quantiser for their first component.
+/// Returns whether both heads have one quantiser for their first component.
 fn have_same_quantiser(a: &Head, b: &Head) -> bool {
     0 < a.components() && 0 < b.components() && a.quantiser(0) == b.quantiser(0)
 }
@@ -127,7 +127,7 @@ fn accepts_millions_of_code_tables(rt: HostRuntime) -> Result<(), Fail> {
     Ok(())
 }
 
-/// A file with one segment of sixty-three tables of sixty-five bytes each, before the table in force.
+/// Returns a file with one segment of sixty-three tables of sixty-five bytes each, before the table in force.
 fn file_of_quantisers(alloc: Global) -> Result<Vec<u8>, Fail> {
     let mut bytes = file(alloc, "S FF DB 10 01")?;
     for i in 0..63u8 {

@@ -107,7 +107,7 @@ fn runs_by<R: Threads + Wait + Sync + AllocGlobal>(rt: &R, workers: u32) -> Resu
     Ok(outcome.is_ok() && gate.is_exact())
 }
 
-/// The same of `decode_all`.
+/// Returns the same of `decode_all`.
 fn decodes_by<R: Threads + Wait + Sync + AllocGlobal>(rt: &R, workers: u32) -> Result<bool, Fail>
     requires some { 1 ≤ workers }
     requires few { workers ≤ MAX_WORKERS }

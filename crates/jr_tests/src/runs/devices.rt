@@ -59,7 +59,7 @@ impl Read for Unreadable {
     }
 }
 
-/// The lines and the exit status of an outcome, over a writer that takes everything.
+/// Returns the lines and the exit status of an outcome, over a writer that takes everything.
 fn lines_and_status(alloc: Global, outcome: Result<Report, Fault>) -> (Vec<u8>, u8) {
     let mut out = Tally::of(Vec::new(alloc));
     let mut lines = Vec::new(alloc);

@@ -86,7 +86,7 @@ fn shared(alloc: Global, bytes: &[u8]) -> Result<Bytes, AllocError> {
     }
 }
 
-/// The bytes that handles share.
+/// Returns the bytes that handles share.
 fn copied(alloc: Global, bytes: &Bytes) -> Result<Vec<u8>, AllocError> {
     match bytes.try_borrow() {
         Ok(bytes) => Vec::from_slice(alloc, bytes.as_slice()),

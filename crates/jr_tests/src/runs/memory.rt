@@ -62,7 +62,7 @@ fn counted(intervals: u32, sound: u32, damaged: u32) -> DecodeReport {
 /// A file of two sound intervals.
 const TWO: &str = "GI 63 FF D0 63 E";
 
-/// A file, the sizes of its buffers for pixels and marks, the answer, and the report.
+/// Returns a file, the sizes of its buffers for pixels and marks, the answer, and the report.
 fn decodings() -> [(&'static str, usize, usize, u32, DecodeReport); 8] {
     [
         ("G 63 E", 65, 2, SOUND, counted(1, 1, 0)),
@@ -79,7 +79,7 @@ fn decodings() -> [(&'static str, usize, usize, u32, DecodeReport); 8] {
 /// A file of three rows of MCUs of 8 lines, of which the second is damaged.
 const THREE_ROWS: &str = "S Q F:0018:0008 D A I C 63 FF D0 E0 FF D1 63 E";
 
-/// The first line of that file, the number of lines, the size of their buffer, the answer, and the report.
+/// Returns the first line of that file, the number of lines, the size of their buffer, the answer, and the report.
 fn lines() -> [(u32, u32, usize, u32, DecodeReport); 13] {
     [
         (0, 24, 192, DAMAGED, counted(3, 2, 1)),

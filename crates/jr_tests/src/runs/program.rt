@@ -50,7 +50,7 @@ fn put_files(alloc: Global, machine: &mut Machine, sound: &[u8]) -> Result<(), F
     Ok(())
 }
 
-/// A machine with a file on standard input, as `sound.jpg` and as `x.ppm`, and damaged and refused ones.
+/// Returns a machine with a file on standard input, as `sound.jpg` and as `x.ppm`, and damaged and refused ones.
 fn machine(alloc: Global) -> Result<Machine, Fail> {
     let sound = file(alloc, SOUND)?;
     let mut machine = Machine::new(alloc, sound.as_slice())?;

@@ -70,7 +70,8 @@ const SECOND: RowPlace = RowPlace {
     ..TOP
 };
 
-/// A file, whether more of it comes, the place, how many rows are asked for, the room, the answer and the report.
+/// Returns a file, whether more of it comes, the place, how many rows are asked for, the room, the answer and the
+/// report.
 fn calls() -> [(&'static str, u32, RowPlace, u32, usize, u32, RowsReport); 16] {
     [
         (THREE, 0, TOP, 1, 64, OK, rows_of(1, 0)),
@@ -121,8 +122,8 @@ fn calls() -> [(&'static str, u32, RowPlace, u32, usize, u32, RowsReport); 16] {
     ]
 }
 
-/// Whether the rows' lines are those of the picture, of which row 1 is grey and the others are lighter, and the bytes behind them
-/// as they were. Where the third interval has not come it is grey, too.
+/// Returns whether the rows' lines are those of the picture, of which row 1 is grey and the others are lighter, and the
+/// bytes behind them as they were. Where the third interval has not come it is grey, too.
 fn is_painted(words: &str, pixels: &[u8], report: &RowsReport) -> bool {
     let mut is_right = true;
     for (i, pixel) in pixels.iter().enumerate() {

@@ -4,7 +4,7 @@ use jri_engine::{Asked, Target, Telling, Unasked, asked, decode_request};
 use std::alloc::Global;
 use std::test::Fail;
 
-/// The words of a line.
+/// Returns the words of a line.
 pub(crate) fn words_of(alloc: Global, line: &str) -> Result<Vec<String>, Fail> {
     let mut words = Vec::new(alloc);
     for word in line.split_whitespace() {
@@ -27,7 +27,7 @@ fn unasked_by(alloc: Global, line: &str) -> Result<Unasked, Fail> {
     Ok(found.err().ok_or("words that are taken")?)
 }
 
-/// Whether a file of this name is asked for, or none.
+/// Returns whether a file of this name is asked for, or none.
 fn is_named(asked: &Asked, name: Option<&str>) -> bool {
     match (&asked.file, name) {
         (Some(found), Some(name)) => found.as_str() == name,
@@ -86,7 +86,7 @@ const WRITING: [(&str, &str, bool, bool); 7] = [
     ("--verbose --quiet", "output", true, true),
 ];
 
-/// The name of a target.
+/// Returns the name of a target.
 fn target(asked: &Asked) -> &str {
     match &asked.target {
         Target::Output => "output",

@@ -49,7 +49,7 @@ impl Meeting {
         self.count_wrong();
     }
 
-    /// Whether each call came once for each interval, in time.
+    /// Returns whether each call came once for each interval, in time.
     fn is_met(&self) -> bool {
         let once = |calls: &AtomicU64| calls.load(Ordering::SeqCst) == 1;
         once(&self.passed[0])

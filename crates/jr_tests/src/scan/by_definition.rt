@@ -61,7 +61,7 @@ fn block(picture: &Picture<'_>, bytes: &[u8], start: usize, z: &mut Block) -> Op
     if place == 64 { Some(at) } else { None }
 }
 
-/// The data of the segments in front, how the scan ends and where.
+/// Returns the data of the segments in front, how the scan ends and where.
 fn segments(alloc: Global, bytes: &[u8], intervals: usize) -> Result<(Vec<Vec<u8>>, u8), Fail> {
     let mut segments = Vec::new(alloc);
     let mut segment = Vec::new(alloc);
@@ -134,7 +134,7 @@ fn read_mcu(
     Ok(true)
 }
 
-/// The blocks of the whole MCUs in front, and whether these are all and fewer than eight bits are left.
+/// Returns the blocks of the whole MCUs in front, and whether these are all and fewer than eight bits are left.
 fn front(alloc: Global, picture: &Picture<'_>, bytes: &[u8]) -> Result<(Vec<Block>, bool), Fail> {
     let mut whole = Vec::new(alloc);
     let mut mcu = Vec::new(alloc);
@@ -153,7 +153,7 @@ fn front(alloc: Global, picture: &Picture<'_>, bytes: &[u8]) -> Result<(Vec<Bloc
     Ok((whole, left < 8))
 }
 
-/// The code that the end of a scan stands for.
+/// Returns the code that the end of a scan stands for.
 fn code(ended: ScanEnd) -> Option<u8> {
     match ended {
         ScanEnd::EndOfFile => Some(0),
@@ -164,7 +164,7 @@ fn code(ended: ScanEnd) -> Option<u8> {
     }
 }
 
-/// The next of a row of numbers that look random.
+/// Returns the next of a row of numbers that look random.
 fn random(state: u64) -> u64 {
     state
         .wrapping_mul(6364136223846793005)

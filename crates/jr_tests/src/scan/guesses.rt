@@ -13,7 +13,7 @@ use std::test::Fail;
 use test_files::files::file;
 use test_files::scans::scan_of;
 
-/// Whether these are the same blocks.
+/// Returns whether these are the same blocks.
 fn are_same(some: &[Coefficients], others: &[Coefficients]) -> bool {
     if some.len() != others.len() {
         return false;
@@ -44,7 +44,7 @@ fn guess_of(alloc: Global, interval: &IntervalRef<'_>, chunk: Chunk) -> Result<G
     Ok(guess)
 }
 
-/// The guess that this chunk makes, which finds what it says.
+/// Returns the guess that this chunk makes, which finds what it says.
 fn guesses_of(
     rt: &impl Abort,
     alloc: Global,

@@ -30,7 +30,7 @@ const FALLING: &str =
 
 const FALLING_GREYS: [u8; 10] = [160, 128, 142, 140, 138, 136, 120, 118, 116, 114];
 
-/// The pieces of a file, in the order of their numbers.
+/// Returns the pieces of a file, in the order of their numbers.
 fn pieces_of(alloc: Global, words: &str) -> Result<Vec<Arc<Piece>>, Fail> {
     let bytes = file(alloc, words)?;
     let scan = scan_of(alloc, bytes.as_slice())?;
@@ -41,7 +41,7 @@ fn pieces_of(alloc: Global, words: &str) -> Result<Vec<Arc<Piece>>, Fail> {
     Ok(pieces)
 }
 
-/// The last piece of a file.
+/// Returns the last piece of a file.
 fn last_piece_of(alloc: Global, words: &str) -> Result<Arc<Piece>, Fail> {
     Ok(pieces_of(alloc, words)?.pop().ok_or("ten pieces")?)
 }
@@ -72,7 +72,7 @@ fn hang_all(cells: &Cells, pieces: Vec<Arc<Piece>>) -> u32 {
     count
 }
 
-/// Two threads hang pieces, and this says how many found their cells empty.
+/// States that two threads hang pieces, and this says how many found their cells empty.
 fn hang_twice<R: Threads + Sync>(
     rt: &R,
     cells: &Cells,
@@ -87,7 +87,7 @@ fn hang_twice<R: Threads + Sync>(
     first.saturating_add(second)
 }
 
-/// Whether each cell tells of a piece of one of the two files.
+/// Returns whether each cell tells of a piece of one of the two files.
 fn is_full(contents: &[Option<Content>; 10]) -> bool {
     let (rising, falling) = (contents_of(&RISING_GREYS), contents_of(&FALLING_GREYS));
     contents.iter().zip(rising.iter().zip(falling.iter())).all(|(found, (rising, falling))| found

@@ -52,7 +52,7 @@ impl Notes {
         })
     }
 
-    /// A letter for each interval, as those of marks, and `?` where the calls are not one of each kind.
+    /// Returns a letter for each interval, as those of marks, and `?` where the calls are not one of each kind.
     fn letters(&self, alloc: Global) -> Result<String, Fail> {
         let mut letters = String::new(alloc);
         for calls in &self.calls {
@@ -71,7 +71,7 @@ impl Notes {
         Ok(letters)
     }
 
-    /// Whether just the calls of these letters came.
+    /// Returns whether just the calls of these letters came.
     fn has_letters(&self, alloc: Global, letters: &str) -> Result<bool, Fail> {
         let told = self.letters(alloc)?;
         Ok(told.as_str() == letters && number_of(&self.wrong) == 0)
@@ -98,7 +98,7 @@ impl Gate for Notes {
     }
 }
 
-/// Whether the pieces in the cells have these letters.
+/// Returns whether the pieces in the cells have these letters.
 fn has_in_cells(alloc: Global, decoding: &Decoding, letters: &str) -> Result<bool, Fail> {
     let found = letters_in_cells(alloc, decoding.cells())?;
     Ok(found.as_str() == letters)
@@ -147,8 +147,8 @@ fn check_decoding<R: Wait + Abort>(
     Ok(())
 }
 
-/// Two workers decode the first intervals of a scan, as many as there are letters: the board, the cells and the gate
-/// tell these.
+/// States that two workers decode the first intervals of a scan, as many as there are letters: the board, the cells and
+/// the gate tell these.
 fn check_scan<R: Threads + Wait + Sync + Abort>(
     rt: &R,
     alloc: Global,

@@ -9,7 +9,7 @@ use std::thread;
 use test_files::files::{MIXED, TEN};
 use test_files::scans::scan;
 
-/// Whether each sound interval shows 136, each blank one 0, and the counts are those of the marks.
+/// Returns whether each sound interval shows 136, each blank one 0, and the counts are those of the marks.
 fn is_as_marked(scan: &Scan, board: &Board) -> bool {
     if !board.is_of(scan) {
         return false;
@@ -34,7 +34,7 @@ fn is_as_marked(scan: &Scan, board: &Board) -> bool {
     sound == board.sound() && blank == board.blank() && board.damaged() == 0
 }
 
-/// Whether a glance sees 136 in a sound interval, 0 in a blank one, and ten marks.
+/// Returns whether a glance sees 136 in a sound interval, 0 in a blank one, and ten marks.
 fn is_as_seen(seen: &Glimpse) -> bool {
     let value = match seen.mark {
         Mark::Sound => 136,

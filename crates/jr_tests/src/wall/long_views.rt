@@ -20,7 +20,7 @@ const CUT: &str = "S Q F:0108:0100 D A C 30*618618618618618618596596596596596596
 const COLOURED_CUT: &str = "S Q F3:01E0:0240:22 D:00:03:06 A \
     C3 60*6000C06000C06000C06000C06000C05800B05800B05800B05800B05800B0 E";
 
-/// Whether a strip shows what the piece shows of its MCUs, each of so many data units.
+/// Returns whether a strip shows what the piece shows of its MCUs, each of so many data units.
 fn is_shown(strip: &Strip, piece: &Piece, units: u32) -> bool {
     let first = strip.first().wrapping_mul(units);
     let count = strip.mcus().wrapping_mul(units);
@@ -109,7 +109,7 @@ fn check_watched<R: Threads + Wait + Sync + AllocGlobal + Abort>(
     Ok(())
 }
 
-/// Two threads of the caller's own work at the seats of a decoding.
+/// States that two threads of the caller's own work at the seats of a decoding.
 fn work_twice<R: Threads + Wait + Sync>(rt: &R, decoding: &Decoding, mut one: Seat, mut two: Seat)
     requires { (one.desk ≡ decoding.now.desk) × (two.desk ≡ decoding.now.desk) }
 {

@@ -28,7 +28,7 @@ const SHOWN: [(&str, u32, usize); 10] = [
     ("S Q F:0018:0008 D:00:03:0B A I C E0 FF D0", 8, 192),
 ];
 
-/// Whether all bytes of a view behind its lines of 8 pixels are mid-grey.
+/// Returns whether all bytes of a view behind its lines of 8 pixels are mid-grey.
 fn is_grey_behind(view: &PartialView) -> bool {
     let shown = (view.lines() as usize).saturating_mul(8);
     for (i, sample) in view.pixels().iter().enumerate() {
@@ -39,7 +39,7 @@ fn is_grey_behind(view: &PartialView) -> bool {
     true
 }
 
-/// Whether so many lines are shown of these words, and so many bytes are there, mid-grey behind the lines.
+/// Returns whether so many lines are shown of these words, and so many bytes are there, mid-grey behind the lines.
 fn shows(alloc: Global, words: &str, lines: u32, size: usize) -> Result<bool, Fail> {
     let bytes = file(alloc, words)?;
     let mut view = PartialView::new(alloc);

@@ -14,21 +14,21 @@ use test_files::scans::scan;
 /// One interval of four rows of 64 MCUs, all of one grey that is not that of an MCU that was not seen.
 const FOUR_ROWS: &str = "S Q F:0020:0200 D A C 60 96*00 E";
 
-/// The text of a picture.
+/// Returns the text of a picture.
 fn text_of<S: Samples>(alloc: Global, picture: &S) -> Result<Vec<u8>, Fail> {
     let mut text = Tally::of(Vec::new(alloc));
     write_netpbm(picture, &mut text).ok().ok_or("no memory")?;
     Ok(text.into_inner())
 }
 
-/// Whether a view shows what a board of all intervals does, and all rows of MCUs.
+/// Returns whether a view shows what a board of all intervals does, and all rows of MCUs.
 pub(crate) fn shows_all(alloc: Global, view: &View, scan: &Arc<Scan>) -> Result<bool, Fail> {
     let board = decode_alone(alloc, scan, None)?;
     let is_same = text_of(alloc, view)?.as_slice() == text_of(alloc, &board)?.as_slice();
     Ok(is_same && view.rows() == view.mcu_rows())
 }
 
-/// The strips of the one interval of a scan, of so many MCUs each.
+/// Returns the strips of the one interval of a scan, of so many MCUs each.
 fn strips_of(alloc: Global, scan: &Scan, each: u32) -> Result<Vec<Strip>, Fail> {
     if scan.intervals() != 1 {
         return Err(Fail::from("an interval beside the first"));

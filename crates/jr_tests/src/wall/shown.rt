@@ -16,7 +16,7 @@ use std::sync::{Arc, Mutex, Wait};
 use std::test::Fail;
 use std::thread::Threads;
 
-/// The piece of an interval.
+/// Returns the piece of an interval.
 pub(crate) fn piece(alloc: Global, scan: &Scan, number: u32) -> Result<Arc<Piece>, Fail> {
     if number >= scan.intervals() {
         return Err(Fail::from("no such interval"));
@@ -26,7 +26,7 @@ pub(crate) fn piece(alloc: Global, scan: &Scan, number: u32) -> Result<Arc<Piece
     Ok(Arc::new(alloc, piece)?)
 }
 
-/// Whether the piece shows one value at a data unit.
+/// Returns whether the piece shows one value at a data unit.
 pub(crate) fn is_flat(piece: &Piece, k: u32, value: u8) -> bool {
     piece.block(k) == Some(&[value; 64])
 }
@@ -44,7 +44,7 @@ pub(crate) fn decoded(alloc: Global, coded: &CodedStrip) -> Result<Strip, Fail> 
     Ok(coded.decode(alloc)?)
 }
 
-/// The board of a scan's first intervals, or of all, by so many workers.
+/// Returns the board of a scan's first intervals, or of all, by so many workers.
 pub(crate) fn decode<R: Threads + Wait + Sync + AllocGlobal>(
     rt: &R,
     scan: &Arc<Scan>,
@@ -58,7 +58,7 @@ pub(crate) fn decode<R: Threads + Wait + Sync + AllocGlobal>(
     Ok(decode_all(rt, rt.alloc(), shared, workers, first, &OpenGate)?)
 }
 
-/// A decoding of a scan's first intervals, or of all, and its seats for so many workers.
+/// Returns a decoding of a scan's first intervals, or of all, and its seats for so many workers.
 pub(crate) fn open(
     alloc: Global,
     scan: &Arc<Scan>,
@@ -73,7 +73,7 @@ pub(crate) fn open(
     Ok(Decoding::open(alloc, shared, workers, first)?)
 }
 
-/// The marks of a board of this scan: a letter for each interval.
+/// Returns the marks of a board of this scan: a letter for each interval.
 fn marks_of(alloc: Global, scan: &Scan, board: &Board) -> Result<String, Fail> {
     let mut letters = String::new(alloc);
     if !board.is_of(scan) {
@@ -115,7 +115,7 @@ pub(crate) fn letters_in_cells(alloc: Global, cells: &Cells) -> Result<String, F
     Ok(letters)
 }
 
-/// Whether component c has a sample in column x and line y.
+/// Returns whether component c has a sample in column x and line y.
 fn has_sample(head: &Head, c: u32, x: u32, y: u32) -> bool
     ensures component { IsTrue result → c < components_of head.now }
     ensures column { IsTrue result → x < samples_across head.now c }
@@ -129,7 +129,7 @@ fn has_sample(head: &Head, c: u32, x: u32, y: u32) -> bool
     x < across && y < down
 }
 
-/// The sample of the first component in column x and line y; none outside the picture.
+/// Returns the sample of the first component in column x and line y; none outside the picture.
 fn sample_at(board: &Board, x: u32, y: u32) -> Option<u8> {
     if has_sample(board.head(), 0, x, y) {
         Some(board.sample(0, x, y))
@@ -138,7 +138,7 @@ fn sample_at(board: &Board, x: u32, y: u32) -> Option<u8> {
     }
 }
 
-/// A look at the sample of component c in column x and line y; none outside the picture.
+/// Returns a look at the sample of component c in column x and line y; none outside the picture.
 pub(crate) fn look(board: &Board, c: u32, x: u32, y: u32) -> Option<Glimpse> {
     if has_sample(board.head(), c, x, y) {
         Some(board.look(c, x, y))
@@ -163,7 +163,7 @@ pub(crate) fn glimpse<R: Wait>(
     }
 }
 
-/// Whether the 8 by 8 samples from column x on have one value.
+/// Returns whether the 8 by 8 samples from column x on have one value.
 pub(crate) fn shows(board: &Board, x: u32, value: u8) -> bool {
     for y in 0..8 {
         for column in 0..8 {

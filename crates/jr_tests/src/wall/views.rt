@@ -43,7 +43,7 @@ pub(crate) struct View {
     pub is_steady: bool,
 }
 
-/// The view of someone who has not looked.
+/// Returns the view of someone who has not looked.
 fn blank_view(cells: &Cells) -> Result<View, Memory>
     ensures { IfOk result (λ v. v.sight.cells ≡ cells.now) }
 {
@@ -105,7 +105,7 @@ pub(crate) fn watch_twice<R: Threads + Sync>(
     )
 }
 
-/// Whether the viewer saw each piece ever after its first look at it, and each as it is last.
+/// Returns whether the viewer saw each piece ever after its first look at it, and each as it is last.
 pub(crate) fn is_kept(view: &View, last: &[Option<Content>; 10]) -> bool {
     view.is_steady
         && view

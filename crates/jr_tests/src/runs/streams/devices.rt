@@ -56,7 +56,8 @@ impl Write for Sink {
     }
 }
 
-/// The fault of a run by so many workers whose output fails at a call, or at none where that is 0; and the output.
+/// Returns the fault of a run by so many workers whose output fails at a call, or at none where that is 0; and the
+/// output.
 fn written<R: Threads + Wait + Sync + AllocGlobal>(
     rt: &R,
     bytes: &[u8],
@@ -77,7 +78,8 @@ fn written<R: Threads + Wait + Sync + AllocGlobal>(
     (outcome.err(), out.into_inner())
 }
 
-/// The whole picture is written where no call fails; else what stands before that call, and none is made behind it.
+/// Asserts that the whole image is written if no call fails; otherwise what precedes that call, and none is made after
+/// it.
 fn check<R: Threads + Wait + Sync + AllocGlobal + Abort>(
     rt: &R,
     words: &str,

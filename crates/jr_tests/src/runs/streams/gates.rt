@@ -33,7 +33,7 @@ impl Passage {
         }
     }
 
-    /// Whether just the first so many passed, in their order.
+    /// Returns whether just the first so many passed, in their order.
     fn has_passed(&self, number: u32) -> bool {
         self.passed.load(Ordering::SeqCst) == number && self.wrong.load(Ordering::SeqCst) == 0
     }
@@ -111,7 +111,7 @@ fn is_written(
     Ok(write_scan(alloc, &scan, first, gate, &mut out).is_ok())
 }
 
-/// Whether `run` writes the picture of a file.
+/// Returns whether `run` writes the picture of a file.
 fn is_run<R: Threads + Wait + Sync + AllocGlobal, G: Gate + Sync>(
     rt: &R,
     words: &str,

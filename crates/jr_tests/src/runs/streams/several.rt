@@ -35,7 +35,7 @@ impl Pair {
         }
     }
 
-    /// Whether both have come, and the first has not waited in vain.
+    /// Returns whether both have come, and the first has not waited in vain.
     fn is_met(&self) -> bool {
         self.come.load(Ordering::SeqCst) == 2 && self.vain.load(Ordering::SeqCst) == 0
     }
