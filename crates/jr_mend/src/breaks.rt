@@ -13,12 +13,12 @@ pub struct Break {
     pub code: u8,
     /// The number, 0 to 7, of the restart marker that is due.
     pub due: u8,
-    /// The number of restart markers that are missing before this one; 0 if it is skipped.
+    /// The number of restart markers that are missing before this one; 0 if it is passed over.
     pub skipped: u32,
 }
 
 impl Display for Break {
-    /// Writes which marker is where another is due, and how many intervals are lost before it or that it is skipped.
+    /// Writes which marker is where another is due, and how many intervals are lost before it or that it is passed over.
     fn fmt<W: fmt::Write>(&self, f: &mut Formatter<W>) -> fmt::Result {
         let Break {
             at,

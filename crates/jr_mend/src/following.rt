@@ -17,7 +17,7 @@ pub(crate) struct FoundMarker {
     pub code: u8,
     /// The number of its bytes, with fill.
     pub length: usize,
-    /// The number of restart markers that are missing before it; `None` if it is skipped.
+    /// The number of restart markers that are missing before it; `None` if it is passed over.
     pub missing: Option<u32>,
 }
 
@@ -31,7 +31,7 @@ pub(crate) enum Following {
 }
 
 /// Returns how many restart markers are missing before a marker after interval k, which is not the last, if at most
-/// `limit` are; `None` if it is skipped.
+/// `limit` are; `None` if it is passed over.
 fn missing_before(code: u8, k: u32, intervals: u32, limit: u64) -> Option<u32>
     requires further { k + 1 < intervals }
     requires not_stuffing { code ≢ 0 }

@@ -82,7 +82,7 @@ impl Reading {
         Ok(())
     }
 
-    /// Writes the bytes after a marker as those of the next interval, unless the marker is skipped.
+    /// Writes the bytes after a marker as those of the next interval, unless the marker is passed over.
     fn begin_next(&mut self, missing: Option<u32>, raw: &[u8]) -> Result<(), Memory>
         requires { IfSome missing (λ d. self.old.k + d + 1 < 2 ^ 32) }
         ensures number { IfOk result (λ _. self.new.k ≡ number_after self.old.k missing) }
