@@ -13,8 +13,8 @@ use Rattle.jr_scan.specs.IntervalValue.{IntervalValue}
 use Rattle.jr_scan.specs.Mcus.{Decodes, HasNoDecoding, LongestFront}
 use Rattle.jr_scan.specs.McuReader.{HasEnded, HasRead, McuReaderValue, per_mcu}
 use Rattle.jr_scan.specs.ScanValue.{ScanValue, intervals_of, mcus_in}
-use Rattle.jr_scan.specs.Run.{IsRun, RunOf, left_at, run_from, start_of_interval, whole_run}
-use Rattle.jr_scan.proofs.McuReaders.{front_of_run, left_is}
+use Rattle.jr_scan.specs.Run.{HasNoMcu, IsRun, RunOf, left_at, run_from, start_of_interval, whole_run}
+use Rattle.jr_scan.proofs.McuReaders.{front_of_run, left_is, read_on}
 use Rattle.jr_piece.specs.PieceValue.{PieceValue}
 use Rattle.jr_piece.specs.Outcome.{IsOutcome, unit_of}
 use Rattle.jr_piece.specs.Strips.{CanReadFrom, FirstMcus, IsNext, units_before}
@@ -45,6 +45,20 @@ pub record HasReadInto (r r' : McuReaderValue) (n : ℕ) (blocks : List (List �
   pub few : r'.mcu ≤ r'.run.mcus
   pub read : (zs : List (List ℤ)) → HasRead r zs → HasRead r' (zs ++ take (n * per_mcu r) blocks)
   pub ended : (n + 1) * per_mcu r ≤ length blocks → HasEnded r'
+
+-- a reader that has taken n of at most `most` MCUs, all that its run has left, has read them into these blocks
+pub taken_into : (r r' : McuReaderValue) (n most : ℕ) (blocks ys : List (List ℤ)) → IsLawful r.run.interval.head → r'.run ≡ r.run → r'.mcu ≡ r.mcu + n → r'.mcu ≤ r'.run.mcus → n ≤ most → r.mcu + most ≡ r.run.mcus
+    → IsRun (run_from r.run.interval r.place n) ys r'.place AllRead → take (n * per_mcu r) blocks ≡ ys → (n < most → HasNoMcu r'.run.interval r'.place) → HasReadInto r r' n blocks
+taken_into r r' n most blocks ys lawful run mcus few le all is same none = record {
+  run = run;
+  mcus = mcus;
+  few = few;
+  read = λ zs s. subst (λ (xs : List (List ℤ)). HasRead r' (zs ++ xs)) (sym same) (read_on r r' n zs ys lawful run mcus few is s);
+  ended = λ _. elim (cases_lt n most) [
+    | inl less ↦ inr (none less)
+    | inr full ↦ inl (omega (arith, full, le, all, mcus, ap (λ (o : RunOf). o.mcus) run))
+  ];
+}
 
 -- or has skipped n of at most `most`
 pub record HasSkipped (r r' : McuReaderValue) (most n : ℕ) : Type 0 where

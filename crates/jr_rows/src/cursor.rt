@@ -12,6 +12,7 @@ ghost use Rattle.jr_piece.specs.Units.{CodesUnits, zero_block};
 ghost use Rattle.jr_rows.specs.Cursors.{IsPlaceAfter};
 
 use jr_base::Coefficients;
+use jr_mcu::Kept;
 use jr_scan::{Guesses, IntervalRef, McuReader, Place};
 
 /// A position between two MCUs of a scan.
@@ -93,7 +94,7 @@ impl Cursor {
         let mut reader = McuReader::at(interval, place, mcus);
         let whole = match guesses {
             Some(guesses) => reader.read_by(guesses, blocks),
-            None => reader.read(blocks),
+            None => reader.take_mcus::<Kept>(mcus, blocks),
         };
         self.place = place_after(&reader, whole, mcus);
         zero_from(blocks, whole as usize * per_mcu);

@@ -132,8 +132,9 @@ impl<'a> McuReader<'a> {
         &self.interval
     }
 
-    /// Takes the next MCUs, at most `most`, as many whole ones as follow. Returns their number.
-    fn take_mcus<S: BlockSink>(&mut self, most: u32, blocks: &mut [Coefficients]) -> u32
+    /// Takes the next MCUs: all whole ones that follow, at most `most`. Blocks that are kept fill the start of `blocks`.
+    /// Returns the number of MCUs.
+    pub fn take_mcus<S: BlockSink>(&mut self, most: u32, blocks: &mut [Coefficients]) -> u32
         requires few { self.old.mcu + most ≤ self.old.run.mcus }
         requires room { IsTrue S.keeps → most * per_mcu self.old ≤ length blocks.old }
         ensures run { self.new.run ≡ self.old.run }

@@ -1,11 +1,11 @@
-use Rattle.std.proofs.Common.{rules, arith, sym, subst, ap, ◌∙◌, ◌≡◌, ℕ, ◌+◌, ◌*◌, ◌<◌, ◌≤◌, None, List, [], length, get_or, take}
+use Rattle.std.proofs.Common.{rules, arith, refl, sym, subst, ap, ◌∙◌, ◌≡◌, ℕ, ◌+◌, ◌*◌, ◌<◌, ◌≤◌, None, List, [], length, get_or, take}
 use Rattle.std.specs.Prelude.{ℤ}
 use Rattle.std.proofs.lemmas.List.{get_or-take}
 use Rattle.std.proofs.Math.Nat.{mul-le-mul_right}
 use Rattle.jr_head.specs.Geometry.{IsLawful, order_of}
 use Rattle.jr_scan.specs.McuReader.{McuReaderValue, per_mcu}
 use Rattle.jr_scan.specs.Run.{RunOf}
-use Rattle.jr_rows.proofs.CursorSteps.{GoesOn, HasReadInto, all_grey, codes, moved}
+use Rattle.jr_rows.proofs.CursorSteps.{GoesOn, HasReadInto, all_grey, codes, moved, taken_into}
 use Rattle.jr_rows.proofs.cursor.Cursor.read.Goals as goal
 use Rattle.jr_rows.proofs.cursor.Cursor.read.Goals.{in-Some-guesses, in-None}
 
@@ -23,6 +23,9 @@ per_is c = ap (λ (o : RunOf). length (order_of o.interval.head)) c.at-reader.en
 len_is : (c : Told) → length c.order-per_mcu.result.now ≡ length (order_of c.args.interval.head)
 len_is c = search rules
 
+lawful : (c : Told) → IsLawful c.args.interval.head
+lawful c = subst IsLawful c.head.ensures.value c.head.ensures.lawful
+
 into : (c : Told) → HasReadInto c.at-reader.result c.match-guesses.reader c.match-guesses.whole c.match-guesses.blocks
 into c =
     let r = c.at-reader.result in
@@ -34,9 +37,13 @@ into c =
           let here : HasReadInto r w.read_by-whole.new.self w.read_by-whole.result w.read_by-whole.new.blocks = record { run = e.run; mcus = e.mcus; few = e.few; read = e.read; ended = e.ended } in
           subst (HasReadInto r r' n) (sym w.blocks-is) (subst (λ (k : ℕ). HasReadInto r r' k w.read_by-whole.new.blocks) (sym w.whole-is) (subst (λ (x : McuReaderValue). HasReadInto r x w.read_by-whole.result w.read_by-whole.new.blocks) (sym w.reader-is) here))
       | in-None w ↦
-          let e = w.read-whole.ensures in
-          let here : HasReadInto r w.read-whole.new.self w.read-whole.result w.read-whole.new.blocks = record { run = e.run; mcus = e.mcus; few = e.few; read = e.read; ended = e.ended } in
-          subst (HasReadInto r r' n) (sym w.blocks-is) (subst (λ (k : ℕ). HasReadInto r r' k w.read-whole.new.blocks) (sym w.whole-is) (subst (λ (x : McuReaderValue). HasReadInto r x w.read-whole.result w.read-whole.new.blocks) (sym w.reader-is) here))
+          let e = w.take_mcus-whole.ensures in
+          let all : r.mcu + c.args.mcus ≡ r.run.mcus = omega (arith, c.at-reader.ensures.mcu, ap (λ (o : RunOf). o.mcus) c.at-reader.ensures.run) in
+          let here : HasReadInto r w.take_mcus-whole.new.self w.take_mcus-whole.result w.take_mcus-whole.new.blocks =
+          taken_into r w.take_mcus-whole.new.self w.take_mcus-whole.result c.args.mcus w.take_mcus-whole.new.blocks e.taken.0
+          (subst (λ (o : RunOf). IsLawful o.interval.head) (sym c.at-reader.ensures.run) (lawful c)) e.run e.mcus e.few e.most all e.taken.1 (e.taken.2 refl) e.ended
+          in
+          subst (HasReadInto r r' n) (sym w.blocks-is) (subst (λ (k : ℕ). HasReadInto r r' k w.take_mcus-whole.new.blocks) (sym w.whole-is) (subst (λ (x : McuReaderValue). HasReadInto r x w.take_mcus-whole.result w.take_mcus-whole.new.blocks) (sym w.reader-is) here))
     ]
 
 long : (c : Told) → length c.match-guesses.blocks ≡ c.args.mcus * length (order_of c.args.interval.head)
@@ -61,9 +68,6 @@ on c = record {
       let more : (n + 1) * per ≤ c.args.mcus * per = mul-le-mul_right {m = n + 1} {n = c.args.mcus} per (omega (arith, lt)) in
       (into c).ended (omega (arith, more, long c, ap (λ (k : ℕ). (n + 1) * k) (per_is c)));
 }
-
-lawful : (c : Told) → IsLawful c.args.interval.head
-lawful c = subst IsLawful c.head.ensures.value c.head.ensures.lawful
 
 pub returns-clause-at : goal.returns-clause-at
 returns-clause-at c =
