@@ -1,5 +1,5 @@
 -- What is written of a scan is written of its file.
-use Rattle.std.proofs.Common.{◌≡◌, ℕ, ◌+◌, List, Option, Some, None, Result, Ok, Err, IfOk, length, take}
+use Rattle.std.proofs.Common.{◌≡◌, ℕ, ◌+◌, subst, sym, List, Option, Some, None, Result, Ok, Err, IfOk, length, take}
 use Rattle.jr_base.specs.declared.limits.TheConstants.{MAX_FILE_BYTES}
 use Rattle.jr_base.specs.declared.tally.Tally.{Tally}
 use Rattle.jr_base.specs.Tally.{known_in}
@@ -7,6 +7,8 @@ use Rattle.jr_scan.specs.ScanValue.{ScanValue}
 use Rattle.jr_picture.specs.declared.counts.Counts.{Counts}
 use Rattle.jr_picture.specs.Headline.{least}
 use Rattle.jr_rows.specs.Stream.{BeginsPicture, WritesPicture}
+use Rattle.jr_rows.specs.declared.writing.PictureError.{PictureError}
+use Rattle.jr_rows.specs.declared.writing.PictureError.TheVariants.{Write as Stopped}
 use Rattle.jri_file.specs.declared.report.Report.{Report}
 use Rattle.jri_file.specs.declared.report.Fault.{Fault}
 use Rattle.jri_file.specs.Files.{IsScanOfFile, OfFile}
@@ -33,6 +35,15 @@ module _ {T : Type 0} (known : T → Option (List ℕ)) (old new : Tally T) (sca
     is = record { is_scan = is; picture = w.shows.picture; decoded = w.shows.first };
     front = w.front;
   }
+
+-- a scan's image is written, or begun, by this result
+abbrev pub Wrote : {T : Type 0} (known : T → Option (List ℕ)) (old : Tally T) (first : Option ℕ) → ScanValue → Tally T → Result Counts PictureError → Type 0
+Wrote known old first scan new w = let n = least first (length scan.intervals) in
+    IfOk w (λ c. WritesPicture known old new scan n c) × (w ≡ Err Stopped → BeginsPicture known old new scan n)
+
+pub wrote : {T : Type 0} (known : T → Option (List ℕ)) (old : Tally T) (first : Option ℕ) (scan s : ScanValue) (new n : Tally T) (w v : Result Counts PictureError) → s ≡ scan → new ≡ n → w ≡ v → Wrote known old first s n v → Wrote known old first scan new w
+wrote known old first scan s new n w v e f g h =
+    subst (λ (t : ScanValue). Wrote known old first t new w) e (subst (λ (o : Tally _). Wrote known old first s o w) (sym f) (subst (Wrote known old first s n) (sym g) h))
 
 -- what holds of the file if something else does
 pub of_file : (left : Option (List ℕ)) (P Q : List ℕ → Type 0) → ((file : List ℕ) → P file → Q file) → OfFile left P → OfFile left Q

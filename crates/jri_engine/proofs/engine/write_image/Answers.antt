@@ -1,12 +1,41 @@
-use Rattle.std.proofs.Common.{rules, refl}
+use Rattle.std.proofs.Common.{◌≡◌, ◌∙◌, Result, IfOk, ap, refl, rules, subst, length}
 use Rattle.std.specs.Arc.{arc_value}
-use Rattle.jri_engine.proofs.PaintsLemmas.{scan_begins, scan_paints}
+use Rattle.jr_picture.specs.declared.counts.Counts.{Counts}
+use Rattle.jr_picture.specs.Headline.{least}
+use Rattle.jr_rows.specs.Stream.{WritesPicture}
+use Rattle.jr_rows.specs.declared.writing.PictureError.{PictureError}
+use Rattle.jr_scan.specs.ScanValue.{ScanValue}
+use Rattle.jri_engine.proofs.PaintsLemmas.{Wrote, scan_begins, scan_paints, wrote}
 use Rattle.jri_engine.proofs.engine.write_image.Goals as goal
+use Rattle.jri_engine.proofs.engine.write_image.Goals.{then-is_by_rows, else-is_by_rows+then-is_by_intervals, else-is_by_rows+else-is_by_intervals}
 
 pub returns-in-Ok-clause-painted : goal.returns-in-Ok-clause-painted
 returns-in-Ok-clause-painted g c =
-    scan_paints g.W.Write.contents c.args.out.now c.write_counted.new.out (arc_value c.args.scan.now) c.args.first c.in-Ok.counts _ c.in-Ok.ensures.painted (search (rules, c.intervals.ensures.count)) refl refl refl (search rules)
+    let K = g.W.Write.contents in
+    let old = c.args.out.now in
+    let s = arc_value c.args.scan.now in
+    let new = c.if-is_by_rows.out in
+    let w = c.if-is_by_rows.written in
+    let told : Wrote K old c.args.first s new w = elim c.if-is_by_rows.branch [
+      | then-is_by_rows b ↦ let e = b.write_scan_by-written.ensures in wrote K old c.args.first s _ new _ w _ b.deref-then-is_by_rows.ensures b.out-is b.written-is (e.painted, e.begun)
+      | else-is_by_rows+then-is_by_intervals b ↦ let e = b.write_board.ensures in wrote K old c.args.first s s new _ w _ refl b.out-is b.written-is (e.painted, e.begun)
+      | else-is_by_rows+else-is_by_intervals b ↦ let e = b.write_scan.ensures in wrote K old c.args.first s _ new _ w _ b.deref-else-is_by_intervals.ensures b.out-is b.written-is (e.painted, e.begun)
+    ] in
+    let painted : WritesPicture K old new s (least c.args.first (length s.intervals)) c.in-Ok.counts =
+    subst (λ (x : Result Counts PictureError). IfOk x (λ k. WritesPicture K old new s (least c.args.first (length s.intervals)) k)) c.in-Ok.is told.0
+    in
+    scan_paints K old new s c.args.first c.in-Ok.counts _ painted (c.intervals.ensures.value ∙ ap (λ (t : ScanValue). length t.intervals) c.deref-in-Ok.ensures) refl refl refl (c.ended.ensures ∙ ap (λ (t : ScanValue). t.ended) c.deref-in-Ok-2.ensures)
 
 pub returns-in-Err-Write-clause-begun : goal.returns-in-Err-Write-clause-begun
 returns-in-Err-Write-clause-begun g c file is _ =
-    scan_begins g.W.Write.contents c.args.out.now c.write_counted.new.out (arc_value c.args.scan.now) c.args.first (c.write_counted.ensures.begun (search rules)) file is
+    let K = g.W.Write.contents in
+    let old = c.args.out.now in
+    let s = arc_value c.args.scan.now in
+    let new = c.if-is_by_rows.out in
+    let w = c.if-is_by_rows.written in
+    let told : Wrote K old c.args.first s new w = elim c.if-is_by_rows.branch [
+      | then-is_by_rows b ↦ let e = b.write_scan_by-written.ensures in wrote K old c.args.first s _ new _ w _ b.deref-then-is_by_rows.ensures b.out-is b.written-is (e.painted, e.begun)
+      | else-is_by_rows+then-is_by_intervals b ↦ let e = b.write_board.ensures in wrote K old c.args.first s s new _ w _ refl b.out-is b.written-is (e.painted, e.begun)
+      | else-is_by_rows+else-is_by_intervals b ↦ let e = b.write_scan.ensures in wrote K old c.args.first s _ new _ w _ b.deref-else-is_by_intervals.ensures b.out-is b.written-is (e.painted, e.begun)
+    ] in
+    scan_begins K old new s c.args.first (told.1 (search (rules, c.in-Err-Write.is, c.in-Err-Write.field-0-is))) file is
