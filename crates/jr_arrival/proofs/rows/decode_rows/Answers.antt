@@ -25,14 +25,14 @@ rows-preserved c =
     let keep = c.rows.invariant in
     let row = c.rows.next.row in
     let new = c.row_place-next.result in
-    let d = c.decode_row.new.cursor in
+    let d = c.walk_row.new.cursor in
     let n = c.row_place-next.new.self in
     let stays = c.row_place-next.ensures.stays in
     let next : new.row ≡ row + 1 = c.row_place-next.ensures.row in
-    let is_in : IsIn h d.interval d.mcu = c.decode_row.ensures.cursor.is_in in
+    let is_in : IsIn h d.interval d.mcu = c.walk_row.ensures.cursor.is_in in
     let interval : new.interval ≡ d.interval = c.row_place-next.ensures.interval in
     let mcu : new.mcu ≡ d.mcu = c.row_place-next.ensures.mcu in
-    let whole : mcus_before_place h d.interval d.mcu ≡ new.row * mcus_across h = c.decode_row.ensures.whole c.if-not-decode_row.false ∙ ap (λ (k : ℕ). k * mcus_across h) (sym next) in
+    let whole : mcus_before_place h d.interval d.mcu ≡ new.row * mcus_across h = c.walk_row.ensures.whole c.if-not-walk_row.false ∙ ap (λ (k : ℕ). k * mcus_across h) (sym next) in
     let from = c.bytes_of_row-from.result.0 in
     let to = c.bytes_of_row-from.result.1 in
     let pix = c.paint_row.new.pixels in
@@ -46,8 +46,8 @@ rows-preserved c =
     let behind : drop to (put_mid from (to - from) old pix) ≡ drop to c.args.pixels.now =
     drop-put_mid from (to - from) old pix to (omega (arith, order)) (omega (arith, order, within)) long ∙ kept_more old c.args.pixels.now from to order before in
     record {
-      cursor = cursor_stays h d n c.decode_row.ensures.cursor stays;
-      file = stays.file ∙ c.decode_row.ensures.file ∙ keep.file;
+      cursor = cursor_stays h d n c.walk_row.ensures.cursor stays;
+      file = stays.file ∙ c.walk_row.ensures.file ∙ keep.file;
       room = c.paint_row.ensures.samples;
       at = ap (λ (k : ℕ). mcus_before_place h k n.mcu) stays.interval ∙ ap (mcus_before_place h d.interval) stays.mcu ∙ whole;
       stands = record {
@@ -61,8 +61,8 @@ rows-preserved c =
       place = λ whole t may is.
           let before = keep.place whole t may is in
           let here : MayBe c.rows.cursor.file.bytes.now c.rows.cursor.file.are_all h whole t = subst (λ (f : FileBytes). MayBe f.bytes.now f.are_all h whole t) (sym keep.file) may in
-          let stands = c.decode_row.ensures.stands whole t here before.0 in
-          let file : d.file ≡ c.args.file = c.decode_row.ensures.file ∙ keep.file in
+          let stands = c.walk_row.ensures.stands whole t here before.0 in
+          let file : d.file ≡ c.args.file = c.walk_row.ensures.file ∙ keep.file in
           let there : MayBe d.file.bytes.now d.file.are_all h whole t = subst (λ (f : FileBytes). MayBe f.bytes.now f.are_all h whole t) (sym file) may in
           (c.row_place-next.ensures.stands h whole t there stands, subst (λ (f : FileBytes). IsPlaceIn f.bytes.now whole t new) file (c.row_place-next.ensures.place h whole t there stands));
       long = search (rules, arith, keep.long, long, order, within);
@@ -72,7 +72,7 @@ rows-preserved c =
           let m = line_count h row in
           let before = keep.lines whole t marks f may is shows in
           let here : MayBe c.rows.cursor.file.bytes.now c.rows.cursor.file.are_all h whole t = subst (λ (f : FileBytes). MayBe f.bytes.now f.are_all h whole t) (sym keep.file) may in
-          let shown = c.decode_row.ensures.shows c.if-not-decode_row.false whole t here (keep.place whole t may is).0 in
+          let shown = c.walk_row.ensures.shows refl c.if-not-walk_row.false whole t here (keep.place whole t may is).0 in
           let some = c.be_lawful.ensures.components.down in
           let there : y + n ≡ lines_above h row = omega (arith, before_more h some p.row row keep.on) in
           let sum : n + m ≡ lines_between h p.row new.row = sym (next_row h some p.row row keep.on (omega (arith, c.rows-test.true, c.end_of_rows-end.ensures.few))) ∙ ap (lines_between h p.row) (sym next) in
@@ -84,22 +84,22 @@ rows-preserved c =
       kept = ap (λ (k : ℕ). drop k (put_mid from (to - from) old pix)) (sym to_is) ∙ behind ∙ ap (λ (k : ℕ). drop k c.args.pixels.now) to_is;
     }
 
-pub returns-then-not-decode_row-clause-place : goal.returns-then-not-decode_row-clause-place
-returns-then-not-decode_row-clause-place c whole t may is = (c.rows.invariant.place whole t may is).1
+pub returns-then-not-walk_row-clause-place : goal.returns-then-not-walk_row-clause-place
+returns-then-not-walk_row-clause-place c whole t may is = (c.rows.invariant.place whole t may is).1
 
 pub returns-clause-place : goal.returns-clause-place
 returns-clause-place c whole t may is = (c.rows.invariant.place whole t may is).1
 
-pub returns-then-not-decode_row-clause-lines : goal.returns-then-not-decode_row-clause-lines
-returns-then-not-decode_row-clause-lines c = c.rows.invariant.lines
+pub returns-then-not-walk_row-clause-lines : goal.returns-then-not-walk_row-clause-lines
+returns-then-not-walk_row-clause-lines c = c.rows.invariant.lines
 
 pub returns-clause-lines : goal.returns-clause-lines
 returns-clause-lines c = c.rows.invariant.lines
 
-pub returns-then-not-decode_row-clause-all : goal.returns-then-not-decode_row-clause-all
-returns-then-not-decode_row-clause-all c all =
-    let told : c.decode_row.result ≡ true = c.decode_row.ensures.all (ap (λ (f : FileBytes). f.are_all) c.rows.invariant.file ∙ all) in
-    absurd (let wrong : true ≡ false = sym told ∙ c.if-not-decode_row.true in cc)
+pub returns-then-not-walk_row-clause-all : goal.returns-then-not-walk_row-clause-all
+returns-then-not-walk_row-clause-all c all =
+    let told : c.walk_row.result ≡ true = c.walk_row.ensures.all (ap (λ (f : FileBytes). f.are_all) c.rows.invariant.file ∙ all) in
+    absurd (let wrong : true ≡ false = sym told ∙ c.if-not-walk_row.true in cc)
 
 pub bytes_of_row-from-requires-clause-room : goal.bytes_of_row-from-requires-clause-room
 bytes_of_row-from-requires-clause-room c = omega (arith, c.end_of_rows-end.ensures.fits (c.rows.next.row + 1) (omega (arith, c.rows-test.true)), c.rows.invariant.long)
@@ -123,11 +123,11 @@ rows-init c =
       kept = refl;
     }
 
-pub returns-then-not-decode_row-clause-most : goal.returns-then-not-decode_row-clause-most
-returns-then-not-decode_row-clause-most c lt s may is =
+pub returns-then-not-walk_row-clause-most : goal.returns-then-not-walk_row-clause-most
+returns-then-not-walk_row-clause-most c lt s may is =
     let h = c.args.head.now in
     let k = c.rows.invariant in
-    let leaves = subst (λ (f : FileBytes). (s : ScanValue) → MayBe f.bytes.now f.are_all h f.bytes.now s → IsCursorIn f.bytes.now s c.rows.cursor → RowIsSettled f.bytes.now s c.rows.next.row → ⊥) k.file (c.decode_row.ensures.waits c.if-not-decode_row.true) in
+    let leaves = subst (λ (f : FileBytes). (s : ScanValue) → MayBe f.bytes.now f.are_all h f.bytes.now s → IsCursorIn f.bytes.now s c.rows.cursor → RowIsSettled f.bytes.now s c.rows.next.row → ⊥) k.file (c.walk_row.ensures.waits c.if-not-walk_row.true) in
     leaves s may (k.place c.args.file.bytes.now s may is).0
 
 pub returns-clause-most : goal.returns-clause-most

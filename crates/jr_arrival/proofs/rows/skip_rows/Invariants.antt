@@ -11,6 +11,7 @@ invariant-rows l =
     let h = l.head in record {
       cursor : IsCursor h l.cursor;
       file : l.cursor.file ≡ l.file;
+      room : l.skipped.across ≡ mcus_across h;
       at : mcus_before_place h l.cursor.interval l.cursor.mcu ≡ l.next.row * mcus_across h;
       stands : IsPlaceOf h l.next;
       on : l.place.row ≤ l.next.row;
