@@ -23,10 +23,10 @@ use Rattle.jr_arrival.specs.declared.cursor.ScanCursor.{ScanCursor}
 use Rattle.jr_arrival.specs.declared.file_bytes.FileBytes.{FileBytes}
 use Rattle.jr_arrival.specs.Meaning.{HasNoFurtherMcu, MayBe, MeansAt, ReadsAt, behind}
 use Rattle.jr_arrival.specs.Places.{mcus_before_place}
-use Rattle.jr_arrival.specs.Cursors.{IsCursor, StaysIn, StaysTrue, in_window, reading_number, window}
+use Rattle.jr_arrival.specs.Cursors.{IsCursor, PassesOver, StaysIn, StaysTrue, in_window, reading_number, window}
 use Rattle.jr_arrival.specs.RowMcus.{AddsMcus}
 use Rattle.jr_arrival.specs.Shown.{ShowsMore, Walks}
-use Rattle.jr_arrival.proofs.CursorSteps.{goes_after, goes_nowhere, goes_to}
+use Rattle.jr_arrival.proofs.CursorSteps.{passes_after, stays_over}
 use Rattle.jr_arrival.proofs.Going.{on_by}
 use Rattle.jr_arrival.proofs.ReadOn.{nothing_whole, run_on}
 use Rattle.jr_arrival.proofs.Steps.{true_on}
@@ -88,47 +88,34 @@ module _ (keeps : Bool) (h : HeadValue) (c : ScanCursor) (lawful : IsLawful h) (
 
 -- ---- steps one behind the other
 
--- over a step of the cursor alone
-pub shows_moved : (keeps : Bool) (h : HeadValue) (a b : ScanCursor) (done n : ℕ) (old new : List (List ℕ)) → b.file ≡ a.file → mcus_before_place h b.interval b.mcu ≡ mcus_before_place h a.interval a.mcu → StaysTrue h a b → ShowsMore keeps h b done n old new → ShowsMore keeps h a done n old new
-shows_moved keeps h a b done n old new same passed stays second keep from at whole t may s before =
-    second keep from (passed ∙ at) whole t (subst (λ (f : FileBytes). MayBe f.bytes.now f.are_all h whole t) (sym same) may) (stays whole t may s) before
-
--- over no step
-pub shows_none : (keeps : Bool) (h : HeadValue) (c : ScanCursor) (done : ℕ) (groups : List (List ℕ)) → ShowsMore keeps h c done 0 groups groups
-shows_none keeps h c done groups keep from at whole t may s before =
-    let here : done ≡ done + 0 = omega arith in
-    subst (λ (k : ℕ). ShowsFirstUnits t (length t.intervals) from k (units_in t.head groups)) here before
-
--- over a step that decodes nothing
-pub shows_after : (keeps : Bool) (h : HeadValue) (a b : ScanCursor) (done n m : ℕ) (old mid new : List (List ℕ)) → n ≡ 0 → b.file ≡ a.file → mcus_before_place h b.interval b.mcu ≡ mcus_before_place h a.interval a.mcu → StaysTrue h a b → ShowsMore keeps h a done n old mid → ShowsMore keeps h b done m mid new → ShowsMore keeps h a done m old new
-shows_after keeps h a b done n m old mid new none same passed stays first second keep from at whole t may s before =
-    let here : done + n ≡ done = omega (arith, none) in
-    second keep from (passed ∙ at) whole t (subst (λ (f : FileBytes). MayBe f.bytes.now f.are_all h whole t) (sym same) may) (stays whole t may s)
-    (subst (λ (k : ℕ). ShowsFirstUnits t (length t.intervals) from k (units_in t.head mid)) here (first keep from at whole t may s before))
-
--- steps in one interval
-pub walks_nowhere : (keeps : Bool) (h : HeadValue) (c : ScanCursor) (done : ℕ) (groups : List (List ℕ)) → IsCursor h c → done ≤ mcus_across h → Walks keeps h c c done 0 groups groups
-walks_nowhere keeps h c done groups is few = record { passes = goes_nowhere h c is; stands = λ whole t may s. s; shows = shows_none keeps h c done groups; few = omega (arith, few) }
-
--- over no MCU, and then over some
-pub walks_after : (keeps : Bool) (h : HeadValue) (a b c : ScanCursor) (done n : ℕ) (old mid new : List (List ℕ)) → Walks keeps h a b done 0 old mid → Walks keeps h b c done n mid new → Walks keeps h a c done n old new
-walks_after keeps h a b c done n old mid new first second =
-    let passed : mcus_before_place h b.interval b.mcu ≡ mcus_before_place h a.interval a.mcu = omega (arith, ap (λ (k : ℕ). k * h.restart) first.passes.interval, first.passes.mcu) in
-    record {
-      passes = goes_after h a b c n first.passes second.passes;
-      stands = true_on h a b c first.passes.file first.stands second.stands;
-      shows = shows_after keeps h a b done 0 n old mid new (omega arith) first.passes.file passed first.stands first.shows second.shows;
-      few = second.few;
-    }
-
--- over no MCU, and then to another window
-pub walks_to : (keeps : Bool) (h : HeadValue) (a b c : ScanCursor) (done n : ℕ) (old new : List (List ℕ)) → n ≡ 0 → Walks keeps h a b done n old new → StaysIn b c → StaysTrue h b c → Walks keeps h a c done 0 old new
-walks_to keeps h a b c done n old new none first stays there = record {
-  passes = goes_to h a b c n none first.passes stays;
-  stands = true_on h a b c first.passes.file first.stands there;
-  shows = subst (λ (k : ℕ). ShowsMore keeps h a done k old new) none first.shows;
-  few = omega (arith, none, first.few);
+-- a step of the cursor alone
+pub walks_by : (keeps : Bool) (h : HeadValue) (a b : ScanCursor) (done : ℕ) (groups : List (List ℕ)) → PassesOver h a b 0 → StaysTrue h a b → done ≤ mcus_across h → Walks keeps h a b done 0 groups groups
+walks_by keeps h a b done groups over there few = record {
+  passes = over;
+  stands = there;
+  shows = λ keep from at whole t may s before.
+      let here : done ≡ done + 0 = omega arith in
+      subst (λ (k : ℕ). ShowsFirstUnits t (length t.intervals) from k (units_in t.head groups)) here before;
+  few = omega (arith, few);
 }
+
+-- a step over no MCU, and then one over some
+pub walks_after : (keeps : Bool) (h : HeadValue) (a b c : ScanCursor) (done n : ℕ) (old mid new : List (List ℕ)) → Walks keeps h a b done 0 old mid → Walks keeps h b c done n mid new → Walks keeps h a c done n old new
+walks_after keeps h a b c done n old mid new first second = record {
+  passes = passes_after h a b c n first.passes second.passes;
+  stands = true_on h a b c first.passes.file first.stands second.stands;
+  shows = λ keep from at whole t may s before.
+      let here : done + 0 ≡ done = omega arith in
+      second.shows keep from (omega (arith, first.passes.passed, at)) whole t (subst (λ (f : FileBytes). MayBe f.bytes.now f.are_all h whole t) (sym first.passes.file) may) (first.stands whole t may s)
+      (subst (λ (k : ℕ). ShowsFirstUnits t (length t.intervals) from k (units_in t.head mid)) here (first.shows keep from at whole t may s before));
+  few = second.few;
+}
+
+-- a step over no MCU, and then one to another window
+pub walks_to : (keeps : Bool) (h : HeadValue) (a b c : ScanCursor) (done n : ℕ) (old new : List (List ℕ)) → n ≡ 0 → Walks keeps h a b done n old new → StaysIn b c → StaysTrue h b c → Walks keeps h a c done 0 old new
+walks_to keeps h a b c done n old new none first stays there =
+    let still = subst (λ (k : ℕ). Walks keeps h a b done k old new) none first in
+    walks_after keeps h a b c done 0 old new new still (walks_by keeps h b c done new (stays_over h b c first.passes.is stays) there (omega (arith, first.few)))
 
 pub row_shown : (t : ScanValue) (h : HeadValue) (n row done : ℕ) (units : List (List ℕ)) → t.head ≡ h → done ≡ mcus_across h → ShowsFirstUnits t n (row * mcus_across h) done units → ShowsFirstUnits t n (row * mcus_across t.head) (mcus_across t.head) units
 row_shown t h n row done units e all shown =

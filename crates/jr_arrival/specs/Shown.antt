@@ -10,7 +10,7 @@ use Rattle.jr_rows.specs.Groups.{units_in}
 use Rattle.jr_rows.specs.Rows.{ShowsFirstUnits}
 use Rattle.jr_arrival.specs.declared.cursor.ScanCursor.{ScanCursor}
 use Rattle.jr_arrival.specs.declared.place.RowPlace.{RowPlace}
-use Rattle.jr_arrival.specs.Cursors.{IsCursorIn, PassesIn, StaysTrue}
+use Rattle.jr_arrival.specs.Cursors.{IsCursorIn, PassesOver, StaysTrue}
 use Rattle.jr_arrival.specs.LongerFile.{RowIsSettled}
 use Rattle.jr_arrival.specs.Meaning.{IsPlaceIn, MayBe}
 use Rattle.jr_arrival.specs.Places.{mcus_before_place}
@@ -20,9 +20,9 @@ abbrev pub ShowsMore : (keeps : Bool) → HeadValue → ScanCursor → (done mor
 ShowsMore keeps h c done more old new = IsTrue keeps → (from : ℕ) → mcus_before_place h c.interval c.mcu ≡ from + done → (whole : List ℕ) (t : ScanValue) → MayBe c.file.bytes.now c.file.are_all h whole t → IsCursorIn whole t c
     → ShowsFirstUnits t (length t.intervals) from done (units_in t.head old) → ShowsFirstUnits t (length t.intervals) from (done + more) (units_in t.head new)
 
--- the cursor has moved past that number of MCUs of its interval, which the row has after its first `done` ones if it keeps them
+-- the cursor has moved past that number of MCUs, which the row has after its first `done` ones if it keeps them
 pub record Walks (keeps : Bool) (h : HeadValue) (old new : ScanCursor) (done more : ℕ) (before after : List (List ℕ)) : Type 0 where
-  pub passes : PassesIn h old new more
+  pub passes : PassesOver h old new more
   pub stands : StaysTrue h old new
   pub shows : ShowsMore keeps h old done more before after
   pub few : done + more ≤ mcus_across h

@@ -5,10 +5,10 @@ ghost use Rattle.jr_head.specs.Geometry.{mcus_across, mcus_down, mcus_of};
 ghost use Rattle.jr_head.specs.Intervals.{mcus_in};
 ghost use Rattle.jr_arrival.specs.Places.{mcus_before_place};
 ghost use Rattle.jr_arrival.specs.declared.cursor.Reading.TheVariants.{GoesOn};
-ghost use Rattle.jr_arrival.specs.Cursors.{IsCursor, NoneFollows, PassesOver, IsCursorIn, LeavesRow, StaysTrue, Waits, in_window};
+ghost use Rattle.jr_arrival.specs.Cursors.{IsCursor, NoneFollows, IsCursorIn, LeavesRow, StaysTrue, Waits, in_window};
 ghost use Rattle.jr_scan.specs.ScanValue.{ScanValue};
 ghost use Rattle.jr_arrival.specs.Meaning.{MayBe};
-ghost use Rattle.jr_arrival.specs.Shown.{ShowsMore, ShowsRow, Walks};
+ghost use Rattle.jr_arrival.specs.Shown.{ShowsRow, Walks};
 ghost use Rattle.jr_scan.specs.Run.{HasNoMcu};
 
 use crate::cursor::{Reading, ScanCursor};
@@ -45,6 +45,7 @@ fn walk_whole<S: McuSink>(cursor: &mut ScanCursor<'_>, head: &Head, sink: &mut S
     requires room { S.has_room head.now sink.old }
     ensures room { S.has_room head.now sink.new }
     ensures walks { Walks S.keeps head.now cursor.old cursor.new done result (S.groups sink.old) (S.groups sink.new) }
+    ensures interval { cursor.new.interval ≡ cursor.old.interval }
     ensures none { result ≡ 0 → cursor.old.mcu < mcus_in head.now cursor.old.interval → cursor.new.reading ≡ GoesOn → NoneFollows head.now cursor.new }
 {
     if cursor.reading != Reading::GoesOn {
@@ -86,10 +87,7 @@ fn walk_some<S: McuSink>(cursor: &mut ScanCursor<'_>, head: &Head, sink: &mut S,
     requires room { S.has_room head.now sink.old }
     requires more { mcus_before_place head.now cursor.old.interval cursor.old.mcu < mcus_of head.now }
     ensures room { S.has_room head.now sink.new }
-    ensures passes { PassesOver head.now cursor.old cursor.new result }
-    ensures stands { StaysTrue head.now cursor.old cursor.new }
-    ensures shows { 0 < result → ShowsMore S.keeps head.now cursor.old done result (S.groups sink.old) (S.groups sink.new) }
-    ensures few { done + result ≤ mcus_across head.now }
+    ensures walks { Walks S.keeps head.now cursor.old cursor.new done result (S.groups sink.old) (S.groups sink.new) }
     ensures all { cursor.old.file.are_all ≡ true → 0 < result }
     ensures waits { result ≡ 0 → Waits head.now cursor.new }
 {

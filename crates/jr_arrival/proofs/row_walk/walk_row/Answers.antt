@@ -1,4 +1,4 @@
-use Rattle.std.proofs.Common.{◌≡◌, ◌+◌, ◌*◌, ◌<◌, length, sym, ap, subst, ◌∙◌, arith, rules}
+use Rattle.std.proofs.Common.{◌≡◌, ◌+◌, ◌*◌, length, sym, ap, subst, ◌∙◌, arith}
 use Rattle.jr_head.specs.Geometry.{mcus_across}
 use Rattle.jr_rows.specs.Groups.{units_in}
 use Rattle.jr_arrival.specs.declared.file_bytes.FileBytes.{FileBytes}
@@ -20,17 +20,16 @@ mcus-preserved g c =
     let h = c.args.head.now in
     let k = c.mcus.invariant in
     let e = c.walk_some-some.ensures in
-    let some : 0 < c.walk_some-some.result = search (rules, arith) in
     record {
-      cursor = e.passes.is;
-      file = e.passes.file ∙ k.file;
-      stands = true_on h c.args.cursor.now c.mcus.cursor c.walk_some-some.new.cursor k.file k.stands e.stands;
+      cursor = e.walks.passes.is;
+      file = e.walks.passes.file ∙ k.file;
+      stands = true_on h c.args.cursor.now c.mcus.cursor c.walk_some-some.new.cursor k.file k.stands e.walks.stands;
       room = e.room;
       shows = λ keep whole t may s.
           let here : MayBe c.mcus.cursor.file.bytes.now c.mcus.cursor.file.are_all h whole t = subst (λ (f : FileBytes). MayBe f.bytes.now f.are_all h whole t) (sym k.file) may in
-          e.shows some keep (c.args.row * mcus_across h) k.at whole t here (k.stands whole t may s) (k.shows keep whole t may s);
-      few = e.few;
-      at = omega (arith, e.passes.passed, k.at);
+          e.walks.shows keep (c.args.row * mcus_across h) k.at whole t here (k.stands whole t may s) (k.shows keep whole t may s);
+      few = e.walks.few;
+      at = omega (arith, e.walks.passes.passed, k.at);
     }
 
 pub returns-clause-shows : goal.returns-clause-shows
@@ -44,13 +43,13 @@ pub walk_some-some-requires-clause-cursor : goal.walk_some-some-requires-clause-
 walk_some-some-requires-clause-cursor g c = c.mcus.invariant.cursor
 
 pub returns-then-some-eq0-clause-cursor : goal.returns-then-some-eq0-clause-cursor
-returns-then-some-eq0-clause-cursor g c = c.walk_some-some.ensures.passes.is
+returns-then-some-eq0-clause-cursor g c = c.walk_some-some.ensures.walks.passes.is
 
 pub returns-then-some-eq0-clause-file : goal.returns-then-some-eq0-clause-file
-returns-then-some-eq0-clause-file g c = c.walk_some-some.ensures.passes.file ∙ c.mcus.invariant.file
+returns-then-some-eq0-clause-file g c = c.walk_some-some.ensures.walks.passes.file ∙ c.mcus.invariant.file
 
 pub returns-then-some-eq0-clause-stands : goal.returns-then-some-eq0-clause-stands
-returns-then-some-eq0-clause-stands g c = true_on c.args.head.now c.args.cursor.now c.mcus.cursor c.walk_some-some.new.cursor c.mcus.invariant.file c.mcus.invariant.stands c.walk_some-some.ensures.stands
+returns-then-some-eq0-clause-stands g c = true_on c.args.head.now c.args.cursor.now c.mcus.cursor c.walk_some-some.new.cursor c.mcus.invariant.file c.mcus.invariant.stands c.walk_some-some.ensures.walks.stands
 
 pub returns-then-some-eq0-clause-whole : goal.returns-then-some-eq0-clause-whole
 returns-then-some-eq0-clause-whole g c told = cc
@@ -90,8 +89,8 @@ returns-then-some-eq0-clause-waits g c told =
     let k = c.mcus.invariant in
     let e = c.walk_some-some.ensures in
     let d = c.walk_some-some.new.cursor in
-    let at : mcus_before_place h d.interval d.mcu ≡ c.args.row * mcus_across h + c.mcus.done = omega (arith, e.passes.passed, k.at, c.if-some-eq0.true) in
-    row_waits h c.args.cursor.now d c.args.row c.mcus.done (e.passes.file ∙ k.file) (true_on h c.args.cursor.now c.mcus.cursor d k.file k.stands e.stands) at (omega (arith, c.mcus-test.true, c.shape_of-across.ensures.across)) c.requires.row (e.waits c.if-some-eq0.true)
+    let at : mcus_before_place h d.interval d.mcu ≡ c.args.row * mcus_across h + c.mcus.done = omega (arith, e.walks.passes.passed, k.at, c.if-some-eq0.true) in
+    row_waits h c.args.cursor.now d c.args.row c.mcus.done (e.walks.passes.file ∙ k.file) (true_on h c.args.cursor.now c.mcus.cursor d k.file k.stands e.walks.stands) at (omega (arith, c.mcus-test.true, c.shape_of-across.ensures.across)) c.requires.row (e.waits c.if-some-eq0.true)
 
 pub returns-clause-waits : goal.returns-clause-waits
 returns-clause-waits g c told = cc

@@ -1,22 +1,26 @@
-use Rattle.std.proofs.Common.{◌≡◌, ◌<◌, ℕ, sym, ap, subst, ◌∙◌, arith, rules}
+use Rattle.std.proofs.Common.{◌≡◌, ◌<◌, refl, sym, ap, subst, ◌∙◌, arith, rules}
 use Rattle.jr_head.specs.Intervals.{mcus_in}
 use Rattle.jr_arrival.specs.declared.cursor.ScanCursor.{ScanCursor}
 use Rattle.jr_arrival.specs.Cursors.{NoneFollows, to_read}
 use Rattle.jr_arrival.specs.Shown.{Walks}
-use Rattle.jr_arrival.proofs.ShownSteps.{walks_after, walks_nowhere, walks_to}
+use Rattle.jr_arrival.proofs.CursorSteps.{left_in, nowhere}
+use Rattle.jr_arrival.proofs.ShownSteps.{walks_after, walks_by, walks_to}
 use Rattle.jr_arrival.proofs.Steps.{none_follows}
 use Rattle.jr_arrival.proofs.row_walk.walk_whole.Goals as goal
 use Rattle.jr_arrival.proofs.row_walk.walk_whole.Goals.{then-some-gt0-via-then-some-gt0, then-some-gt0-via-else-some-gt0+then-not-slide}
 
 pub returns-then-ne-clause-walks : goal.returns-then-ne-clause-walks
-returns-then-ne-clause-walks g c = walks_nowhere g.S.McuSink.keeps c.args.head.now c.args.cursor.now c.args.done (g.S.McuSink.groups c.args.sink.now) c.requires.cursor (omega (arith, c.requires.within))
+returns-then-ne-clause-walks g c = let i = c.args.cursor.now in walks_by g.S.McuSink.keeps c.args.head.now i i c.args.done (g.S.McuSink.groups c.args.sink.now) (nowhere c.args.head.now i c.requires.cursor) (λ whole t may s. s) (omega (arith, c.requires.within))
 
 pub windows-init : goal.windows-init
-windows-init g c = record {
-  walks = walks_nowhere g.S.McuSink.keeps c.args.head.now c.args.cursor.now c.args.done (g.S.McuSink.groups c.args.sink.now) c.requires.cursor (omega (arith, c.requires.within));
-  room = c.requires.room;
-  going = search rules;
-}
+windows-init g c =
+    let i = c.args.cursor.now in
+    record {
+      walks = walks_by g.S.McuSink.keeps c.args.head.now i i c.args.done (g.S.McuSink.groups c.args.sink.now) (nowhere c.args.head.now i c.requires.cursor) (λ whole t may s. s) (omega (arith, c.requires.within));
+      interval = refl;
+      room = c.requires.room;
+      going = search rules;
+    }
 
 pub windows-preserved : goal.windows-preserved
 windows-preserved g c =
@@ -34,6 +38,7 @@ windows-preserved g c =
     let near = walks_after keeps h i c.windows.cursor d c.args.done n old (groups c.windows.sink) new k.walks e.walks in
     record {
       walks = walks_to keeps h i d c.slide.new.self c.args.done n old new (omega (arith, c.if-some-gt0.false)) near s.stays (s.stands h);
+      interval = s.stays.interval ∙ ap (λ (x : ScanCursor). x.interval) e.near ∙ k.interval;
       room = e.room;
       going = s.reading ∙ ap (λ (x : ScanCursor). x.reading) e.near ∙ k.going;
     }
@@ -55,16 +60,17 @@ slide-requires g c = c.walk_near-some.ensures.walks.passes.is.window
 pub returns-then-some-gt0-clause-none : goal.returns-then-some-gt0-clause-none
 returns-then-some-gt0-clause-none g c none more going =
     let h = c.args.head.now in
+    let i = c.args.cursor.now in
+    let b = c.windows.cursor in
     let d = c.walk_near-some.new.cursor in
     let e = c.walk_near-some.ensures in
-    let near = e.walks.passes in
-    let k = c.windows.invariant.walks.passes in
+    let k = c.windows.invariant in
     elim c.then-some-gt0.branch [
       | then-some-gt0-via-then-some-gt0 w ↦ absurd (omega (arith, w.if-some-gt0.true, none))
       | then-some-gt0-via-else-some-gt0+then-not-slide w ↦
           let kept = w.slide.ensures.kept w.if-not-slide.true in
-          let left : d.mcu < mcus_in h d.interval = subst (λ (n : ℕ). d.mcu < mcus_in h n) (sym (near.interval ∙ k.interval)) (omega (arith, near.mcu, k.mcu, none, more)) in
-          subst (NoneFollows h) (sym (w.cursor-is ∙ kept.0)) (none_follows h d near.is.window (e.none none left) kept.1)
+          let left : d.mcu < mcus_in h d.interval = left_in h b d c.walk_near-some.result none e.walks.passes (ap (λ (x : ScanCursor). x.interval) e.near) (left_in h i b 0 refl k.walks.passes k.interval more) in
+          subst (NoneFollows h) (sym (w.cursor-is ∙ kept.0)) (none_follows h d e.walks.passes.is.window (e.none none left) kept.1)
     ]
 
 pub returns-then-some-gt0-clause-walks : goal.returns-then-some-gt0-clause-walks
@@ -80,6 +86,14 @@ returns-then-some-gt0-clause-walks g c =
     elim c.then-some-gt0.branch [
       | then-some-gt0-via-then-some-gt0 w ↦ subst (λ (d : ScanCursor). Walks keeps h i d c.args.done n old new) (sym w.cursor-is) walks
       | then-some-gt0-via-else-some-gt0+then-not-slide w ↦ subst (λ (d : ScanCursor). Walks keeps h i d c.args.done n old new) (sym (w.cursor-is ∙ (w.slide.ensures.kept w.if-not-slide.true).0)) walks
+    ]
+
+pub returns-then-some-gt0-clause-interval : goal.returns-then-some-gt0-clause-interval
+returns-then-some-gt0-clause-interval g c =
+    let interval = ap (λ (x : ScanCursor). x.interval) c.walk_near-some.ensures.near ∙ c.windows.invariant.interval in
+    elim c.then-some-gt0.branch [
+      | then-some-gt0-via-then-some-gt0 w ↦ ap (λ (x : ScanCursor). x.interval) w.cursor-is ∙ interval
+      | then-some-gt0-via-else-some-gt0+then-not-slide w ↦ ap (λ (x : ScanCursor). x.interval) (w.cursor-is ∙ (w.slide.ensures.kept w.if-not-slide.true).0) ∙ interval
     ]
 
 pub returns-then-some-gt0-clause-room : goal.returns-then-some-gt0-clause-room
