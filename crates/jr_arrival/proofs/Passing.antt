@@ -13,7 +13,7 @@ use Rattle.jr_arrival.specs.Cursors.{HasWindow, IsCursor, PassesOver, in_window,
 use Rattle.jr_arrival.specs.Places.{IsIn}
 use Rattle.jr_arrival.proofs.Windows.{window_long}
 
--- it stands behind so many further MCUs, at a place in its window
+-- it is after the given number of further MCUs, at a place in its window
 pub passes_by : (h : HeadValue) (c : ScanCursor) (n : ℕ) (p : Place) → IsCursor h c → c.mcu + n ≤ mcus_in h c.interval → p.bit ≤ 8 * (c.found - c.from) → All IsInDcRange p.predictions → PassesOver h c (record c { mcu = c.mcu + n; place = p }) n
 passes_by h c n p is few within in_range = record {
   is = record {
@@ -30,7 +30,7 @@ module _ (h : HeadValue) (c : ScanCursor) (r r' : McuReaderValue) (n : ℕ) (is 
   pub passed_few : c.mcu + n ≤ mcus_in h c.interval
   passed_few = omega (arith, ap (λ (o : RunOf). o.mcus) (same ∙ run), zero, mcu, few, is.is_in.few)
 
-  -- it stands behind so many further MCUs of its interval
+  -- and so is one that a reader has gone on
   pub passes_in : (p : Place) → p.bit ≤ 8 * length r'.run.interval.bytes → All IsInDcRange p.predictions → PassesOver h c (record c { mcu = c.mcu + n; place = p }) n
   passes_in p within in_range =
       let bytes : length r'.run.interval.bytes ≡ length (window c) = ap (λ (o : RunOf). length o.interval.bytes) (same ∙ run) in

@@ -62,9 +62,10 @@ impl McuSink for SampleRow {
     }
 }
 
-/// Skips each MCU of rows of so many.
+/// Skips each MCU of a row.
 #[derive(Drop)]
 pub(crate) struct Skipped {
+    /// Number of MCUs of a row.
     pub across: u32,
 }
 
