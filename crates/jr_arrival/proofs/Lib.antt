@@ -1,5 +1,6 @@
 pub mod Arrivals
 pub mod Behind
+pub mod BetweenRows
 pub mod CursorSteps
 pub mod CutsGoOn
 pub mod GivenPlaces

@@ -9,9 +9,20 @@ use Rattle.std.specs.List.{All}
 use Rattle.std.proofs.lemmas.List.{drop-drop}
 use Rattle.jr_mcu.specs.Block.{IsInDcRange}
 use Rattle.jr_arrival.specs.declared.cursor.ScanCursor.{ScanCursor}
-use Rattle.jr_arrival.specs.Cursors.{HasWindow, IsCursor, PassesIn, in_window, window}
+use Rattle.jr_arrival.specs.Cursors.{HasWindow, IsCursor, PassesOver, in_window, window}
 use Rattle.jr_arrival.specs.Places.{IsIn}
 use Rattle.jr_arrival.proofs.Windows.{window_long}
+
+-- it is after the given number of further MCUs, at a place in its window
+pub passes_by : (h : HeadValue) (c : ScanCursor) (n : ℕ) (p : Place) → IsCursor h c → c.mcu + n ≤ mcus_in h c.interval → p.bit ≤ 8 * (c.found - c.from) → All IsInDcRange p.predictions → PassesOver h c (record c { mcu = c.mcu + n; place = p }) n
+passes_by h c n p is few within in_range = record {
+  is = record {
+    window = record { room = is.window.room; from = is.window.from; found = is.window.found; at = is.window.at; bit = within; in_range = in_range; spells = is.window.spells; full = is.window.full };
+    is_in = record { number = is.is_in.number; few = few };
+  };
+  file = refl;
+  passed = omega arith;
+}
 
 module _ (h : HeadValue) (c : ScanCursor) (r r' : McuReaderValue) (n : ℕ) (is : IsCursor h c)
     (run : r.run ≡ run_from (in_window h c) c.place (mcus_in h c.interval - c.mcu)) (zero : r.mcu ≡ 0)
@@ -19,20 +30,11 @@ module _ (h : HeadValue) (c : ScanCursor) (r r' : McuReaderValue) (n : ℕ) (is 
   pub passed_few : c.mcu + n ≤ mcus_in h c.interval
   passed_few = omega (arith, ap (λ (o : RunOf). o.mcus) (same ∙ run), zero, mcu, few, is.is_in.few)
 
-  -- it stands behind so many further MCUs of its interval
-  pub passes_in : (p : Place) → p.bit ≤ 8 * length r'.run.interval.bytes → All IsInDcRange p.predictions → PassesIn h c (record c { mcu = c.mcu + n; place = p }) n
+  -- and so is one that a reader has gone on
+  pub passes_in : (p : Place) → p.bit ≤ 8 * length r'.run.interval.bytes → All IsInDcRange p.predictions → PassesOver h c (record c { mcu = c.mcu + n; place = p }) n
   passes_in p within in_range =
-      let long = window_long c is.window in
       let bytes : length r'.run.interval.bytes ≡ length (window c) = ap (λ (o : RunOf). length o.interval.bytes) (same ∙ run) in
-      record {
-        is = record {
-          window = record { room = is.window.room; from = is.window.from; found = is.window.found; at = is.window.at; bit = omega (arith, within, bytes, long); in_range = in_range; spells = is.window.spells; full = is.window.full };
-          is_in = record { number = is.is_in.number; few = passed_few };
-        };
-        file = refl;
-        interval = refl;
-        mcu = refl;
-      }
+      passes_by h c n p is passed_few (omega (arith, within, bytes, window_long c is.window)) in_range
 
 -- it stands where it stood, in the numbers of the picture
 pub is_kept : (h : HeadValue) (i m : ℕ) (d : ScanCursor) → HasWindow d → d.interval ≡ i → d.mcu ≡ m → IsIn h i m → IsCursor h d

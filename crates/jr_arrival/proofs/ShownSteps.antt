@@ -1,6 +1,6 @@
 -- What the steps of decoding a row show.
-use Rattle.std.proofs.Common.{◌≡◌, ◌≢◌, ℕ, ◌+◌, ◌-◌, ◌*◌, ◌<◌, ◌≤◌, List, [], length, get_or, refl, sym, ap, subst, ◌∙◌, arith}
-use Rattle.std.specs.Prelude.{ℤ}
+use Rattle.std.proofs.Common.{◌≡◌, ◌≢◌, ℕ, ◌+◌, ◌-◌, ◌*◌, ◌<◌, ◌≤◌, List, length, refl, sym, ap, subst, ◌∙◌, arith}
+use Rattle.std.specs.Prelude.{ℤ, Bool, IsTrue}
 use Rattle.jr_head.specs.HeadValue.{HeadValue}
 use Rattle.jr_head.specs.Geometry.{IsLawful, blocks_of, mcus_across, order_of}
 use Rattle.jr_head.specs.Intervals.{intervals_of, mcus_in}
@@ -23,21 +23,18 @@ use Rattle.jr_arrival.specs.declared.cursor.ScanCursor.{ScanCursor}
 use Rattle.jr_arrival.specs.declared.file_bytes.FileBytes.{FileBytes}
 use Rattle.jr_arrival.specs.Meaning.{HasNoFurtherMcu, MayBe, MeansAt, ReadsAt, behind}
 use Rattle.jr_arrival.specs.Places.{mcus_before_place}
-use Rattle.jr_arrival.specs.Cursors.{IsCursor, StaysTrue, in_window, reading_number, window}
-use Rattle.jr_arrival.specs.Shown.{ShowsMore}
+use Rattle.jr_arrival.specs.Cursors.{IsCursor, PassesOver, StaysIn, StaysTrue, in_window, reading_number, window}
+use Rattle.jr_arrival.specs.RowMcus.{AddsMcus}
+use Rattle.jr_arrival.specs.Shown.{ShowsMore, Walks}
+use Rattle.jr_arrival.proofs.CursorSteps.{passes_after, stays_over}
 use Rattle.jr_arrival.proofs.Going.{on_by}
 use Rattle.jr_arrival.proofs.ReadOn.{nothing_whole, run_on}
+use Rattle.jr_arrival.proofs.Steps.{true_on}
 use Rattle.jr_arrival.proofs.Windows.{window_long}
-
-abbrev Kept : HeadValue → ℕ → (old new : List (List ℕ)) → Type 0
-Kept h done old new = (k : ℕ) → k < done * blocks_of h → get_or (units_in h new) k [] ≡ get_or (units_in h old) k []
-
-abbrev Are : HeadValue → (done n : ℕ) → List (List ℕ) → (ℕ → List ℕ) → Type 0
-Are h done n new unit = (k : ℕ) → k < n * blocks_of h → get_or (units_in h new) (done * blocks_of h + k) [] ≡ unit k
 
 -- ---- MCUs of the interval
 
-module _ (h : HeadValue) (c : ScanCursor) (lawful : IsLawful h) (some : 0 < blocks_of h) (is : IsCursor h c) (n done : ℕ) (few : c.mcu + n ≤ mcus_in h c.interval) (old new : List (List ℕ)) (kept : Kept h done old new) where
+module _ (keeps : Bool) (h : HeadValue) (c : ScanCursor) (lawful : IsLawful h) (some : 0 < blocks_of h) (is : IsCursor h c) (n done : ℕ) (few : c.mcu + n ≤ mcus_in h c.interval) (old new : List (List ℕ)) where
   module _ (from : ℕ) (at : mcus_before_place h c.interval c.mcu ≡ from + done) (whole : List ℕ) (t : ScanValue) (may : MayBe c.file.bytes.now c.file.are_all h whole t) (before : ShowsFirstUnits t (length t.intervals) from done (units_in t.head old)) where
     some_t : 0 < blocks_of t.head
     some_t = subst (λ (g : HeadValue). 0 < blocks_of g) (sym may.head) some
@@ -51,18 +48,18 @@ module _ (h : HeadValue) (c : ScanCursor) (lawful : IsLawful h) (some : 0 < bloc
     at_t : mcus_before_place t.head c.interval c.mcu ≡ from + done
     at_t = subst (λ (g : HeadValue). mcus_before_place g c.interval c.mcu ≡ from + done) (sym may.head) at
 
-    step : ((o : PieceValue) → o.interval ≡ interval_of t c.interval → IsOutcome o → (k : ℕ) → k < n * blocks_of t.head → get_or (units_in t.head new) (done * blocks_of t.head + k) [] ≡ unit_in_piece o (c.mcu * blocks_of t.head + k))
+    step : (unit : ℕ → List ℕ) → AddsMcus t.head done n unit old new → ((o : PieceValue) → o.interval ≡ interval_of t c.interval → IsOutcome o → (k : ℕ) → k < n * blocks_of t.head → unit k ≡ unit_in_piece o (c.mcu * blocks_of t.head + k))
         → ShowsFirstUnits t (length t.intervals) from (done + n) (units_in t.head new)
-    step codes =
-        shown_on t (length t.intervals) from done n (mcus_before_place t.head c.interval c.mcu) (units_in t.head old) (units_in t.head new) some_t at_t before (subst (λ (g : HeadValue). Kept g done old new) (sym may.head) kept)
-        (shown_there t (length t.intervals) c.interval c.mcu n (done * blocks_of t.head) (units_in t.head new) some_t number_t (omega (arith, number_t, count_is whole t may.scan)) few_t codes)
+    step unit adds codes =
+        shown_on t (length t.intervals) from done n (mcus_before_place t.head c.interval c.mcu) (units_in t.head old) (units_in t.head new) some_t at_t before adds.kept
+        (shown_there t (length t.intervals) c.interval c.mcu n (done * blocks_of t.head) (units_in t.head new) some_t number_t (omega (arith, number_t, count_is whole t may.scan)) few_t (λ o same out k lt. adds.each k lt ∙ codes o same out k lt))
 
   per_of : (t : ScanValue) → length (order_of t.head) ≡ blocks_of t.head
   per_of t = length-order 0 t.head.components
 
   -- whole ones
-  pub whole_shows : c.reading ≡ GoesOn → (ys : List (List ℤ)) (q : Place) → IsRun (run_from (in_window h c) c.place n) ys q AllRead → q.bit ≤ 8 * (c.found - c.from) → Are h done n new (unit_of h ys) → ShowsMore h c done n old new
-  whole_shows going ys q run to units from at whole t may s before =
+  pub whole_shows : c.reading ≡ GoesOn → (ys : List (List ℤ)) (q : Place) → IsRun (run_from (in_window h c) c.place n) ys q AllRead → q.bit ≤ 8 * (c.found - c.from) → (IsTrue keeps → AddsMcus h done n (unit_of h ys) old new) → ShowsMore keeps h c done n old new
+  whole_shows going ys q run to adds keep from at whole t may s before =
       let w = is.window.spells in
       let found = window c in
       let long : length found ≡ c.found - c.from = window_long c is.window in
@@ -72,18 +69,16 @@ module _ (h : HeadValue) (c : ScanCursor) (lawful : IsLawful h) (some : 0 < bloc
       let lawful_t : IsLawful t.head = subst IsLawful (sym e) lawful in
       let there = run_on whole t c.interval c.mcu c.at (mcus_in h c.interval - c.mcu) found o.on.rest c.place lawful_t means o.is n ys q (omega (arith, is.window.bit, long)) (omega (arith, to, long))
       (subst (λ (g : HeadValue). IsRun (run_from (record { number = c.interval; mcus = mcus_in h c.interval - c.mcu; bytes = found; head = g }) c.place n) ys q AllRead) (sym e) run) in
-      let units_t : Are t.head done n new (unit_of t.head ys) = subst (λ (g : HeadValue). Are g done n new (unit_of g ys)) (sym e) units in
-      step from at whole t may before (λ p same out k lt.
-      units_t k lt ∙ whole_codes (interval_of t c.interval) lawful_t c.mcu means.blocks (behind means.before c.place) means.next n ys (behind means.before q) there (few_t from at whole t may before) p same out k (omega (arith, lt, ap (λ (m : ℕ). n * m) (per_of t)))
+      step from at whole t may before (unit_of t.head ys) (subst (λ (g : HeadValue). AddsMcus g done n (unit_of g ys) old new) (sym e) (adds keep)) (λ p same out k lt.
+      whole_codes (interval_of t c.interval) lawful_t c.mcu means.blocks (behind means.before c.place) means.next n ys (behind means.before q) there (few_t from at whole t may before) p same out k (omega (arith, lt, ap (λ (m : ℕ). n * m) (per_of t)))
       ∙ ap (λ (m : ℕ). unit_in_piece p (c.mcu * m + k)) (per_of t))
 
   -- grey ones
-  pub grey_shows : c.reading ≢ GoesOn → Are h done n new (λ k. grey_unit) → ShowsMore h c done n old new
-  grey_shows over units from at whole t may s before =
-      let units_t : Are t.head done n new (λ k. grey_unit) = subst (λ (g : HeadValue). Are g done n new (λ k. grey_unit)) (sym may.head) units in
+  pub grey_shows : c.reading ≢ GoesOn → (IsTrue keeps → AddsMcus h done n (λ _. grey_unit) old new) → ShowsMore keeps h c done n old new
+  grey_shows over adds keep from at whole t may s before =
       let none : HasNoFurtherMcu t c.interval c.mcu = go c.reading over s.means in
-      step from at whole t may before (λ p same out k lt.
-      units_t k lt ∙ grey_codes (interval_of t c.interval) none.front c.mcu none.blocks none.few none.longest p same out k
+      step from at whole t may before (λ _. grey_unit) (subst (λ (g : HeadValue). AddsMcus g done n (λ _. grey_unit) old new) (sym may.head) (adds keep)) (λ p same out k lt.
+      grey_codes (interval_of t c.interval) none.front c.mcu none.blocks none.few none.longest p same out k
       ∙ ap (λ (m : ℕ). unit_in_piece p (c.mcu * m + k)) (per_of t))
     where
       go : (r : Reading) → r ≢ GoesOn → MeansAt whole t (reading_number r) c.interval c.mcu c.at c.place → HasNoFurtherMcu t c.interval c.mcu
@@ -93,23 +88,34 @@ module _ (h : HeadValue) (c : ScanCursor) (lawful : IsLawful h) (some : 0 < bloc
 
 -- ---- steps one behind the other
 
--- over a step of the cursor alone
-pub shows_moved : (h : HeadValue) (a b : ScanCursor) (done n : ℕ) (old new : List (List ℕ)) → b.file ≡ a.file → mcus_before_place h b.interval b.mcu ≡ mcus_before_place h a.interval a.mcu → StaysTrue h a b → ShowsMore h b done n old new → ShowsMore h a done n old new
-shows_moved h a b done n old new same passed stays second from at whole t may s before =
-    second from (passed ∙ at) whole t (subst (λ (f : FileBytes). MayBe f.bytes.now f.are_all h whole t) (sym same) may) (stays whole t may s) before
+-- a step of the cursor alone
+pub walks_by : (keeps : Bool) (h : HeadValue) (a b : ScanCursor) (done : ℕ) (groups : List (List ℕ)) → PassesOver h a b 0 → StaysTrue h a b → done ≤ mcus_across h → Walks keeps h a b done 0 groups groups
+walks_by keeps h a b done groups over there few = record {
+  passes = over;
+  stands = there;
+  shows = λ keep from at whole t may s before.
+      let here : done ≡ done + 0 = omega arith in
+      subst (λ (k : ℕ). ShowsFirstUnits t (length t.intervals) from k (units_in t.head groups)) here before;
+  few = omega (arith, few);
+}
 
--- over no step
-pub shows_none : (h : HeadValue) (c : ScanCursor) (done : ℕ) (groups : List (List ℕ)) → ShowsMore h c done 0 groups groups
-shows_none h c done groups from at whole t may s before =
-    let here : done ≡ done + 0 = omega arith in
-    subst (λ (k : ℕ). ShowsFirstUnits t (length t.intervals) from k (units_in t.head groups)) here before
+-- a step over no MCU, and then one over some
+pub walks_after : (keeps : Bool) (h : HeadValue) (a b c : ScanCursor) (done n : ℕ) (old mid new : List (List ℕ)) → Walks keeps h a b done 0 old mid → Walks keeps h b c done n mid new → Walks keeps h a c done n old new
+walks_after keeps h a b c done n old mid new first second = record {
+  passes = passes_after h a b c n first.passes second.passes;
+  stands = true_on h a b c first.passes.file first.stands second.stands;
+  shows = λ keep from at whole t may s before.
+      let here : done + 0 ≡ done = omega arith in
+      second.shows keep from (omega (arith, first.passes.passed, at)) whole t (subst (λ (f : FileBytes). MayBe f.bytes.now f.are_all h whole t) (sym first.passes.file) may) (first.stands whole t may s)
+      (subst (λ (k : ℕ). ShowsFirstUnits t (length t.intervals) from k (units_in t.head mid)) here (first.shows keep from at whole t may s before));
+  few = second.few;
+}
 
--- over a step that decodes nothing
-pub shows_after : (h : HeadValue) (a b : ScanCursor) (done n m : ℕ) (old mid new : List (List ℕ)) → n ≡ 0 → b.file ≡ a.file → mcus_before_place h b.interval b.mcu ≡ mcus_before_place h a.interval a.mcu → StaysTrue h a b → ShowsMore h a done n old mid → ShowsMore h b done m mid new → ShowsMore h a done m old new
-shows_after h a b done n m old mid new none same passed stays first second from at whole t may s before =
-    let here : done + n ≡ done = omega (arith, none) in
-    second from (passed ∙ at) whole t (subst (λ (f : FileBytes). MayBe f.bytes.now f.are_all h whole t) (sym same) may) (stays whole t may s)
-    (subst (λ (k : ℕ). ShowsFirstUnits t (length t.intervals) from k (units_in t.head mid)) here (first from at whole t may s before))
+-- a step over no MCU, and then one to another window
+pub walks_to : (keeps : Bool) (h : HeadValue) (a b c : ScanCursor) (done n : ℕ) (old new : List (List ℕ)) → n ≡ 0 → Walks keeps h a b done n old new → StaysIn b c → StaysTrue h b c → Walks keeps h a c done 0 old new
+walks_to keeps h a b c done n old new none first stays there =
+    let still = subst (λ (k : ℕ). Walks keeps h a b done k old new) none first in
+    walks_after keeps h a b c done 0 old new new still (walks_by keeps h b c done new (stays_over h b c first.passes.is stays) there (omega (arith, first.few)))
 
 pub row_shown : (t : ScanValue) (h : HeadValue) (n row done : ℕ) (units : List (List ℕ)) → t.head ≡ h → done ≡ mcus_across h → ShowsFirstUnits t n (row * mcus_across h) done units → ShowsFirstUnits t n (row * mcus_across t.head) (mcus_across t.head) units
 row_shown t h n row done units e all shown =

@@ -43,6 +43,10 @@ true_on h a b c same ab bc whole t may s = bc whole t (subst (λ (f : FileBytes)
 
 -- ---- over MCUs of its interval
 
+-- over those that no whole one follows
+stuck_on : (whole : List ℕ) (t : ScanValue) (i m at n : ℕ) → IsStuckAt whole t i m at → IsStuckAt whole t i (m + n) at
+stuck_on whole t i m at n stuck = record { before = stuck.before; on = stuck.on; no_more = record { front = stuck.no_more.front; blocks = stuck.no_more.blocks; few = omega (arith, stuck.no_more.few); longest = stuck.no_more.longest } }
+
 module _ (h : HeadValue) (c : ScanCursor) (lawful : IsLawful h) (is : IsCursor h c) (n : ℕ) (q : Place) (few : c.mcu + n ≤ mcus_in h c.interval) where
   abbrev passed : ScanCursor
   passed = record c { mcu = c.mcu + n; place = q }
@@ -63,8 +67,17 @@ module _ (h : HeadValue) (c : ScanCursor) (lawful : IsLawful h) (is : IsCursor h
           reads_on whole t c.interval c.mcu c.at (mcus_in h c.interval - c.mcu) found o.on.rest c.place (subst IsLawful (sym e) lawful) means o.is n ys q (omega (arith, is.window.bit, found_long)) (omega (arith, to, found_long)) in_range
           (subst (λ (g : HeadValue). c.mcu + n ≤ mcus_in g c.interval) (sym e) few)
           (subst (λ (g : HeadValue). IsRun (run_from (record { number = c.interval; mcus = mcus_in h c.interval - c.mcu; bytes = found; head = g }) c.place n) ys q AllRead) (sym e) run)
-      go IsStuck means = record { before = means.before; on = means.on; no_more = record { front = means.no_more.front; blocks = means.no_more.blocks; few = omega (arith, means.no_more.few); longest = means.no_more.longest } }
+      go IsStuck means = stuck_on whole t c.interval c.mcu c.at n means
       go HasEnded means = means
+
+-- over grey ones
+pub passes_grey : (h : HeadValue) (c : ScanCursor) (n : ℕ) → c.reading ≢ GoesOn → StaysTrue h c (record c { mcu = c.mcu + n; place = c.place })
+passes_grey h c n over whole t may s = record { from = s.from; means = go c.reading over s.means }
+  where
+    go : (r : Reading) → r ≢ GoesOn → MeansAt whole t (reading_number r) c.interval c.mcu c.at c.place → MeansAt whole t (reading_number r) c.interval (c.mcu + n) c.at c.place
+    go GoesOn out means = absurd (out refl)
+    go IsStuck out means = stuck_on whole t c.interval c.mcu c.at n means
+    go HasEnded out means = means
 
 -- ---- to a later byte of its data
 

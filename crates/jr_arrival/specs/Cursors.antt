@@ -54,14 +54,7 @@ pub record StaysIn (old new : ScanCursor) : Type 0 where
   pub interval : new.interval ≡ old.interval
   pub mcu : new.mcu ≡ old.mcu
 
--- it has moved past that number of MCUs of its interval
-pub record PassesIn (h : HeadValue) (old new : ScanCursor) (mcus : ℕ) : Type 0 where
-  pub is : IsCursor h new
-  pub file : new.file ≡ old.file
-  pub interval : new.interval ≡ old.interval
-  pub mcu : new.mcu ≡ old.mcu + mcus
-
--- or also into the next one
+-- it has moved past that number of MCUs
 pub record PassesOver (h : HeadValue) (old new : ScanCursor) (mcus : ℕ) : Type 0 where
   pub is : IsCursor h new
   pub file : new.file ≡ old.file

@@ -6,5 +6,6 @@ pub mod LongerFile
 pub mod Meaning
 pub mod More
 pub mod Places
+pub mod RowMcus
 pub mod Settled
 pub mod Shown

@@ -1,5 +1,5 @@
 -- What a row of MCUs shows as it is decoded, in each file that the bytes may be.
-use Rattle.std.specs.Prelude.{◌≡◌, ℕ, ◌+◌, ◌*◌, Bool, List, length}
+use Rattle.std.specs.Prelude.{◌≡◌, ℕ, ◌+◌, ◌*◌, ◌≤◌, Bool, List, length, IsTrue}
 use Rattle.jr_head.specs.HeadValue.{HeadValue}
 use Rattle.jr_head.specs.Geometry.{mcus_across}
 use Rattle.jr_paint.specs.Lines.{next_lines_of}
@@ -10,17 +10,24 @@ use Rattle.jr_rows.specs.Groups.{units_in}
 use Rattle.jr_rows.specs.Rows.{ShowsFirstUnits}
 use Rattle.jr_arrival.specs.declared.cursor.ScanCursor.{ScanCursor}
 use Rattle.jr_arrival.specs.declared.place.RowPlace.{RowPlace}
-use Rattle.jr_arrival.specs.Cursors.{IsCursorIn}
+use Rattle.jr_arrival.specs.Cursors.{IsCursorIn, PassesOver, StaysTrue}
 use Rattle.jr_arrival.specs.LongerFile.{RowIsSettled}
 use Rattle.jr_arrival.specs.Meaning.{IsPlaceIn, MayBe}
 use Rattle.jr_arrival.specs.Places.{mcus_before_place}
 
--- a step from the cursor's position: if the first `done` MCUs of a row are those of the image, the given number more are
-abbrev pub ShowsMore : HeadValue → ScanCursor → (done more : ℕ) → (old new : List (List ℕ)) → Type 0
-ShowsMore h c done more old new = (from : ℕ) → mcus_before_place h c.interval c.mcu ≡ from + done → (whole : List ℕ) (t : ScanValue) → MayBe c.file.bytes.now c.file.are_all h whole t → IsCursorIn whole t c
+-- a step from the cursor's position of a row that keeps its MCUs: if its first `done` ones are those of the image, the given number more are
+abbrev pub ShowsMore : (keeps : Bool) → HeadValue → ScanCursor → (done more : ℕ) → (old new : List (List ℕ)) → Type 0
+ShowsMore keeps h c done more old new = IsTrue keeps → (from : ℕ) → mcus_before_place h c.interval c.mcu ≡ from + done → (whole : List ℕ) (t : ScanValue) → MayBe c.file.bytes.now c.file.are_all h whole t → IsCursorIn whole t c
     → ShowsFirstUnits t (length t.intervals) from done (units_in t.head old) → ShowsFirstUnits t (length t.intervals) from (done + more) (units_in t.head new)
 
--- all MCUs of the row are
+-- the cursor has moved past that number of MCUs, which the row has after its first `done` ones if it keeps them
+pub record Walks (keeps : Bool) (h : HeadValue) (old new : ScanCursor) (done more : ℕ) (before after : List (List ℕ)) : Type 0 where
+  pub passes : PassesOver h old new more
+  pub stands : StaysTrue h old new
+  pub shows : ShowsMore keeps h old done more before after
+  pub few : done + more ≤ mcus_across h
+
+-- all MCUs of the row are those of the image
 abbrev pub ShowsRow : ScanValue → (row : ℕ) → List (List ℕ) → Type 0
 ShowsRow t row groups = ShowsFirstUnits t (length t.intervals) (row * mcus_across t.head) (mcus_across t.head) (units_in t.head groups)
 

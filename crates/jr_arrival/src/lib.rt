@@ -16,20 +16,20 @@
 #![tactic(auto)]
 
 mod cursor;
-mod decoding;
 mod file_bytes;
 mod finished;
 mod head;
 mod laws;
+mod mcu_sink;
 mod partial_file;
 mod partial_head;
 mod partial_image;
 mod partial_row;
 mod place;
 mod place_laws;
+mod row_walk;
 mod rows;
 mod same_lines;
-mod skipping;
 mod unstuffing;
 
 pub use file_bytes::FileBytes;

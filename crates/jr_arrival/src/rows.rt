@@ -12,10 +12,10 @@ ghost use Rattle.jr_arrival.specs.Meaning.{IsPlaceIn, MayBe};
 ghost use Rattle.jr_arrival.specs.Places.{IsPlaceOf, lines_above, lines_between, rows_to_give, rows_with_room};
 
 use crate::cursor::ScanCursor;
-use crate::decoding::decode_row;
 use crate::file_bytes::FileBytes;
+use crate::mcu_sink::Skipped;
 use crate::place::RowPlace;
-use crate::skipping::skip_row;
+use crate::row_walk::walk_row;
 use jr_base::Memory;
 use jr_head::Head;
 use jr_rows::{SampleRow, lines_of, shape_of};
@@ -136,7 +136,7 @@ pub fn decode_rows(
     let end = end_of_rows(head, place.row, rows, pixels.len());
     let mut next = *place;
     'rows: while next.row < end {
-        if !decode_row(&mut cursor, head, &mut samples, next.row) {
+        if !walk_row(&mut cursor, head, &mut samples, next.row) {
             return Ok(next);
         }
         let (from, to) = bytes_of_row(head, place.row, next.row, pixels.len());
@@ -166,10 +166,14 @@ pub fn skip_rows(
     ensures place { (whole : List ℕ) (t : ScanValue) → MayBe file.entry.bytes.now file.entry.are_all head.now whole t → IsPlaceIn file.entry.bytes.now whole t place.now → IfOk result (IsPlaceIn file.entry.bytes.now whole t) }
 {
     let mut cursor = ScanCursor::open(alloc, head, file, place)?;
-    let most = rows.min(shape_of(head).down - place.row);
+    let shape = shape_of(head);
+    let most = rows.min(shape.down - place.row);
+    let mut skipped = Skipped {
+        across: shape.across,
+    };
     let mut next = *place;
     'rows: while next.row < place.row + most {
-        if !skip_row(&mut cursor, head, next.row) {
+        if !walk_row(&mut cursor, head, &mut skipped, next.row) {
             return Ok(next);
         }
         next = cursor.row_place(next.row + 1);

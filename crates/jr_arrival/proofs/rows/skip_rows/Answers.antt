@@ -1,64 +1,44 @@
-use Rattle.std.proofs.Common.{◌≡◌, ℕ, ◌+◌, ◌-◌, ◌*◌, ◌≤◌, min, sym, ap, subst, ◌∙◌, arith, rules}
-use Rattle.jr_head.specs.Geometry.{mcus_across}
-use Rattle.jr_arrival.specs.declared.file_bytes.FileBytes.{FileBytes}
-use Rattle.jr_arrival.specs.Cursors.{IsCursorIn}
-use Rattle.jr_arrival.specs.LongerFile.{RowIsSettled}
-use Rattle.jr_arrival.specs.Meaning.{IsPlaceIn, MayBe}
-use Rattle.jr_scan.specs.ScanValue.{ScanValue}
-use Rattle.jr_arrival.specs.Places.{IsIn, mcus_before_place}
-use Rattle.jr_arrival.proofs.CursorSteps.{cursor_stays}
+use Rattle.std.proofs.Common.{◌≡◌, ◌-◌, ◌<◌, ◌≤◌, min, arith, rules}
+use Rattle.jr_head.specs.Geometry.{mcus_down}
+use Rattle.jr_arrival.proofs.BetweenRows.{comes_first, comes_on, leaves_at}
 use Rattle.jr_arrival.proofs.rows.skip_rows.Goals as goal
+
+pub rows-init : goal.rows-init
+rows-init c =
+    let e = c.in_ok-cursor.ensures in
+    record {
+      come = comes_first c.args.head.now c.args.file c.args.place.now c.in_ok-cursor.cursor c.requires.stands e.cursor e.file e.at e.stands;
+      room = c.shape_of-shape.ensures.across;
+      few = omega arith;
+    }
 
 pub rows-preserved : goal.rows-preserved
 rows-preserved c =
-    let h = c.args.head.now in
-    let keep = c.rows.invariant in
-    let row = c.rows.next.row in
-    let new = c.row_place-next.result in
-    let d = c.skip_row.new.cursor in
-    let n = c.row_place-next.new.self in
-    let stays = c.row_place-next.ensures.stays in
-    let next : new.row ≡ row + 1 = c.row_place-next.ensures.row in
-    let is_in : IsIn h d.interval d.mcu = c.skip_row.ensures.cursor.is_in in
-    let interval : new.interval ≡ d.interval = c.row_place-next.ensures.interval in
-    let mcu : new.mcu ≡ d.mcu = c.row_place-next.ensures.mcu in
-    let whole : mcus_before_place h d.interval d.mcu ≡ new.row * mcus_across h = c.skip_row.ensures.whole c.if-not-skip_row.false ∙ ap (λ (k : ℕ). k * mcus_across h) (sym next) in
-    let most : c.min-most.result ≤ c.shape_of.result.down - c.args.place.now.row = search (rules, arith) in
+    let come = c.rows.invariant.come in
+    let walk = c.walk_row.ensures in
+    let next = c.row_place-next.ensures in
+    let most : c.min-most.result ≤ c.shape_of-shape.result.down - c.args.place.now.row = search (rules, arith) in
+    let inside : c.rows.next.row < mcus_down c.args.head.now = omega (arith, c.rows-test.true, most, c.shape_of-shape.ensures.down, c.requires.stands.row) in
     record {
-      cursor = cursor_stays h d n c.skip_row.ensures.cursor stays;
-      file = stays.file ∙ c.skip_row.ensures.file ∙ keep.file;
-      at = ap (λ (k : ℕ). mcus_before_place h k n.mcu) stays.interval ∙ ap (mcus_before_place h d.interval) stays.mcu ∙ whole;
-      stands = record {
-        row = omega (arith, next, c.rows-test.true, most, c.shape_of.ensures.down, c.requires.stands.row);
-        is_in = subst (λ (k : ℕ). IsIn h k new.mcu) (sym interval) (subst (IsIn h d.interval) (sym mcu) is_in);
-        at = ap (λ (k : ℕ). mcus_before_place h k new.mcu) interval ∙ ap (mcus_before_place h d.interval) mcu ∙ whole;
-      };
-      on = omega (arith, next, keep.on);
-      few = omega (arith, next, c.rows-test.true);
-      none = λ e. absurd (omega (arith, next, e, keep.on));
-      place = λ whole t may is.
-          let before = keep.place whole t may is in
-          let here : MayBe c.rows.cursor.file.bytes.now c.rows.cursor.file.are_all h whole t = subst (λ (f : FileBytes). MayBe f.bytes.now f.are_all h whole t) (sym keep.file) may in
-          let stands = c.skip_row.ensures.stands whole t here before.0 in
-          let file : d.file ≡ c.args.file = c.skip_row.ensures.file ∙ keep.file in
-          let there : MayBe d.file.bytes.now d.file.are_all h whole t = subst (λ (f : FileBytes). MayBe f.bytes.now f.are_all h whole t) (sym file) may in
-          (c.row_place-next.ensures.stands h whole t there stands, subst (λ (f : FileBytes). IsPlaceIn f.bytes.now whole t new) file (c.row_place-next.ensures.place h whole t there stands));
+      come = comes_on c.args.head.now c.args.file c.args.place.now c.rows.next c.rows.cursor come c.walk_row.new.cursor c.row_place-next.new.self c.row_place-next.result inside walk.cursor walk.file walk.stands
+          (walk.whole c.if-not-walk_row.false) next.stays (next.stands c.args.head.now) next.row next.interval next.mcu (next.place c.args.head.now);
+      room = walk.room;
+      few = omega (arith, next.row, c.rows-test.true);
     }
 
-pub returns-then-not-skip_row-clause-place : goal.returns-then-not-skip_row-clause-place
-returns-then-not-skip_row-clause-place c whole t may is = (c.rows.invariant.place whole t may is).1
+pub walk_row-requires-clause-room : goal.walk_row-requires-clause-room
+walk_row-requires-clause-room c = c.rows.invariant.room
+
+pub returns-then-not-walk_row-clause-place : goal.returns-then-not-walk_row-clause-place
+returns-then-not-walk_row-clause-place c whole t may is = (c.rows.invariant.come.place whole t may is).1
 
 pub returns-clause-place : goal.returns-clause-place
-returns-clause-place c whole t may is = (c.rows.invariant.place whole t may is).1
+returns-clause-place c whole t may is = (c.rows.invariant.come.place whole t may is).1
 
-pub returns-then-not-skip_row-clause-most : goal.returns-then-not-skip_row-clause-most
-returns-then-not-skip_row-clause-most c lt s may is =
-    let h = c.args.head.now in
-    let k = c.rows.invariant in
-    let leaves = subst (λ (f : FileBytes). (s : ScanValue) → MayBe f.bytes.now f.are_all h f.bytes.now s → IsCursorIn f.bytes.now s c.rows.cursor → RowIsSettled f.bytes.now s c.rows.next.row → ⊥) k.file (c.skip_row.ensures.waits c.if-not-skip_row.true) in
-    leaves s may (k.place c.args.file.bytes.now s may is).0
+pub returns-then-not-walk_row-clause-most : goal.returns-then-not-walk_row-clause-most
+returns-then-not-walk_row-clause-most c lt = leaves_at c.args.head.now c.args.file c.args.place.now c.rows.next c.rows.cursor c.rows.invariant.come (c.walk_row.ensures.waits c.if-not-walk_row.true)
 
 pub returns-clause-most : goal.returns-clause-most
 returns-clause-most c lt =
-    let most : c.min-most.result ≡ min c.args.rows (c.shape_of.result.down - c.args.place.now.row) = search rules in
-    absurd (omega (arith, lt, c.rows-test.false, most, c.shape_of.ensures.down))
+    let most : c.min-most.result ≡ min c.args.rows (c.shape_of-shape.result.down - c.args.place.now.row) = search rules in
+    absurd (omega (arith, lt, c.rows-test.false, most, c.shape_of-shape.ensures.down))

@@ -1,63 +1,58 @@
-//! A row of MCUs, decoded.
+//! A cursor's walk over a row of MCUs, which go into a sink.
 
-ghost use Rattle.std.specs.Prelude.{◌≡◌, ◌≢◌, ◌+◌, ◌*◌, ◌<◌, ◌≤◌, ℕ, List, true, false};
+ghost use Rattle.std.specs.Prelude.{◌≡◌, ◌≢◌, ◌+◌, ◌*◌, ◌<◌, ◌≤◌, ℕ, List, IsTrue, true, false};
 ghost use Rattle.jr_head.specs.Geometry.{mcus_across, mcus_down, mcus_of};
 ghost use Rattle.jr_head.specs.Intervals.{mcus_in};
-ghost use Rattle.jr_rows.specs.Rows.{HasSampleRoom};
 ghost use Rattle.jr_arrival.specs.Places.{mcus_before_place};
 ghost use Rattle.jr_arrival.specs.declared.cursor.Reading.TheVariants.{GoesOn};
-ghost use Rattle.jr_arrival.specs.Cursors.{IsCursor, NoneFollows, PassesOver, PassesIn, IsCursorIn, LeavesRow, StaysTrue, Waits, in_window};
+ghost use Rattle.jr_arrival.specs.Cursors.{IsCursor, NoneFollows, IsCursorIn, LeavesRow, StaysTrue, Waits, in_window};
 ghost use Rattle.jr_scan.specs.ScanValue.{ScanValue};
 ghost use Rattle.jr_arrival.specs.Meaning.{MayBe};
-ghost use Rattle.jr_arrival.specs.Shown.{ShowsMore, ShowsRow};
+ghost use Rattle.jr_arrival.specs.Shown.{ShowsRow, Walks};
 ghost use Rattle.jr_scan.specs.Run.{HasNoMcu};
 
 use crate::cursor::{Reading, ScanCursor};
+use crate::mcu_sink::McuSink;
 use jr_head::Head;
-use jr_rows::{SampleRow, shape_of};
+use jr_rows::shape_of;
 
-/// Decodes whole MCUs of the window after the first `done` of a row, and returns their number.
-fn decode_near(cursor: &mut ScanCursor<'_>, head: &Head, samples: &mut SampleRow, done: u32) -> u32
+/// Takes whole MCUs of the window after the first `done` of a row, and returns their number.
+fn walk_near<S: McuSink>(cursor: &mut ScanCursor<'_>, head: &Head, sink: &mut S, done: u32) -> u32
     requires cursor { IsCursor head.now cursor.old }
     requires within { done < mcus_across head.now }
-    requires room { HasSampleRoom head.now samples.old }
+    requires room { S.has_room head.now sink.old }
     requires going { cursor.old.reading ≡ GoesOn }
-    ensures room { HasSampleRoom head.now samples.new }
-    ensures passes { PassesIn head.now cursor.old cursor.new result }
-    ensures stands { StaysTrue head.now cursor.old cursor.new }
-    ensures shows { ShowsMore head.now cursor.old done result samples.old.lines.groups samples.new.lines.groups }
+    ensures room { S.has_room head.now sink.new }
+    ensures walks { Walks S.keeps head.now cursor.old cursor.new done result (S.groups sink.old) (S.groups sink.new) }
     ensures near { cursor.new ≡ record cursor.old { mcu = cursor.old.mcu + result; place = cursor.new.place } }
     ensures bit { result ≡ 0 → cursor.new.place.bit ≡ cursor.old.place.bit }
     ensures none { result ≡ 0 → cursor.new.mcu < mcus_in head.now cursor.new.interval → HasNoMcu (in_window head.now cursor.new) cursor.new.place }
-    ensures few { done + result ≤ mcus_across head.now }
 {
     // By their contracts the numbers of the interval's MCUs fit, and an MCU has a data unit.
     let _most = head.mcus_in(cursor.interval);
     let _some = head.order().len();
     let mut reader = cursor.reader(head);
-    let whole = samples.decode_whole(head, &mut reader, done);
+    let whole = sink.take(head, &mut reader, done);
     let place = reader.place();
     cursor.pass(whole, place);
     whole
 }
 
-/// Decodes the next whole MCUs of the interval, and returns their number, 0 if no further one is whole.
-fn decode_whole(cursor: &mut ScanCursor<'_>, head: &Head, samples: &mut SampleRow, done: u32) -> u32
+/// Takes the next whole MCUs of the interval, and returns their number, 0 if no further one is whole.
+fn walk_whole<S: McuSink>(cursor: &mut ScanCursor<'_>, head: &Head, sink: &mut S, done: u32) -> u32
     requires cursor { IsCursor head.now cursor.old }
     requires within { done < mcus_across head.now }
-    requires room { HasSampleRoom head.now samples.old }
-    ensures room { HasSampleRoom head.now samples.new }
-    ensures passes { PassesIn head.now cursor.old cursor.new result }
-    ensures stands { StaysTrue head.now cursor.old cursor.new }
-    ensures shows { ShowsMore head.now cursor.old done result samples.old.lines.groups samples.new.lines.groups }
+    requires room { S.has_room head.now sink.old }
+    ensures room { S.has_room head.now sink.new }
+    ensures walks { Walks S.keeps head.now cursor.old cursor.new done result (S.groups sink.old) (S.groups sink.new) }
+    ensures interval { cursor.new.interval ≡ cursor.old.interval }
     ensures none { result ≡ 0 → cursor.old.mcu < mcus_in head.now cursor.old.interval → cursor.new.reading ≡ GoesOn → NoneFollows head.now cursor.new }
-    ensures few { done + result ≤ mcus_across head.now }
 {
     if cursor.reading != Reading::GoesOn {
         return 0;
     }
     'windows: loop {
-        let some = decode_near(cursor, head, samples, done);
+        let some = walk_near(cursor, head, sink, done);
         if some > 0 || !cursor.slide() {
             return some;
         }
@@ -65,17 +60,14 @@ fn decode_whole(cursor: &mut ScanCursor<'_>, head: &Head, samples: &mut SampleRo
 }
 
 /// Makes MCUs of the row grey, of an interval of which no further one is whole, and returns their number.
-fn decode_grey(cursor: &mut ScanCursor<'_>, head: &Head, samples: &mut SampleRow, done: u32) -> u32
+fn walk_grey<S: McuSink>(cursor: &mut ScanCursor<'_>, head: &Head, sink: &mut S, done: u32) -> u32
     requires cursor { IsCursor head.now cursor.old }
     requires within { done < mcus_across head.now }
-    requires room { HasSampleRoom head.now samples.old }
+    requires room { S.has_room head.now sink.old }
     requires some { cursor.old.mcu < mcus_in head.now cursor.old.interval }
     requires over { cursor.old.reading ≢ GoesOn }
-    ensures room { HasSampleRoom head.now samples.new }
-    ensures passes { PassesIn head.now cursor.old cursor.new result }
-    ensures stands { StaysTrue head.now cursor.old cursor.new }
-    ensures shows { ShowsMore head.now cursor.old done result samples.old.lines.groups samples.new.lines.groups }
-    ensures few { done + result ≤ mcus_across head.now }
+    ensures room { S.has_room head.now sink.new }
+    ensures walks { Walks S.keeps head.now cursor.old cursor.new done result (S.groups sink.old) (S.groups sink.new) }
     ensures some { 0 < result }
 {
     head.be_lawful();
@@ -83,54 +75,51 @@ fn decode_grey(cursor: &mut ScanCursor<'_>, head: &Head, samples: &mut SampleRow
     let _some = head.order().len();
     let left = head.mcus_in(cursor.interval) - cursor.mcu;
     let some = left.min(shape_of(head).across - done);
-    let grey = samples.put_grey(head, done, some);
+    let grey = sink.fill_grey(head, done, some);
     cursor.pass(grey, cursor.place);
     grey
 }
 
-/// Decodes some further MCUs of the row, and returns their number, 0 if the next one is not final.
-fn decode_some(cursor: &mut ScanCursor<'_>, head: &Head, samples: &mut SampleRow, done: u32) -> u32
+/// Takes some further MCUs of the row, and returns their number, 0 if the next one is not final.
+fn walk_some<S: McuSink>(cursor: &mut ScanCursor<'_>, head: &Head, sink: &mut S, done: u32) -> u32
     requires cursor { IsCursor head.now cursor.old }
     requires within { done < mcus_across head.now }
-    requires room { HasSampleRoom head.now samples.old }
+    requires room { S.has_room head.now sink.old }
     requires more { mcus_before_place head.now cursor.old.interval cursor.old.mcu < mcus_of head.now }
-    ensures room { HasSampleRoom head.now samples.new }
-    ensures passes { PassesOver head.now cursor.old cursor.new result }
-    ensures stands { StaysTrue head.now cursor.old cursor.new }
-    ensures shows { 0 < result → ShowsMore head.now cursor.old done result samples.old.lines.groups samples.new.lines.groups }
-    ensures few { done + result ≤ mcus_across head.now }
+    ensures room { S.has_room head.now sink.new }
+    ensures walks { Walks S.keeps head.now cursor.old cursor.new done result (S.groups sink.old) (S.groups sink.new) }
     ensures all { cursor.old.file.are_all ≡ true → 0 < result }
     ensures waits { result ≡ 0 → Waits head.now cursor.new }
 {
     if !cursor.advance(head) {
         return 0;
     }
-    let whole = decode_whole(cursor, head, samples, done);
+    let whole = walk_whole(cursor, head, sink, done);
     if whole > 0 {
         return whole;
     }
     if !cursor.give_up(head) {
         return 0;
     }
-    decode_grey(cursor, head, samples, done)
+    walk_grey(cursor, head, sink, done)
 }
 
-/// Decodes a row of MCUs, and returns whether it is final.
-pub(crate) fn decode_row(
+/// Takes a row of MCUs, and returns whether it is final.
+pub(crate) fn walk_row<S: McuSink>(
     cursor: &mut ScanCursor<'_>,
     head: &Head,
-    samples: &mut SampleRow,
+    sink: &mut S,
     row: u32,
 ) -> bool
     requires cursor { IsCursor head.now cursor.old }
     requires row { row < mcus_down head.now }
     requires at { mcus_before_place head.now cursor.old.interval cursor.old.mcu ≡ row * mcus_across head.now }
-    requires room { HasSampleRoom head.now samples.old }
-    ensures room { HasSampleRoom head.now samples.new }
+    requires room { S.has_room head.now sink.old }
+    ensures room { S.has_room head.now sink.new }
     ensures cursor { IsCursor head.now cursor.new }
     ensures file { cursor.new.file ≡ cursor.old.file }
     ensures stands { StaysTrue head.now cursor.old cursor.new }
-    ensures shows { result ≡ true → (whole : List ℕ) (t : ScanValue) → MayBe cursor.old.file.bytes.now cursor.old.file.are_all head.now whole t → IsCursorIn whole t cursor.old → ShowsRow t row samples.new.lines.groups }
+    ensures shows { IsTrue S.keeps → result ≡ true → (whole : List ℕ) (t : ScanValue) → MayBe cursor.old.file.bytes.now cursor.old.file.are_all head.now whole t → IsCursorIn whole t cursor.old → ShowsRow t row (S.groups sink.new) }
     ensures whole { result ≡ true → mcus_before_place head.now cursor.new.interval cursor.new.mcu ≡ (row + 1) * mcus_across head.now }
     ensures all { cursor.old.file.are_all ≡ true → result ≡ true }
     ensures waits { result ≡ false → LeavesRow head.now cursor.old row }
@@ -138,7 +127,7 @@ pub(crate) fn decode_row(
     let across = shape_of(head).across;
     let mut done = 0;
     'mcus: while done < across {
-        let some = decode_some(cursor, head, samples, done);
+        let some = walk_some(cursor, head, sink, done);
         if some == 0 {
             return false;
         }
