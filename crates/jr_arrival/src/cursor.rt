@@ -58,13 +58,13 @@ pub(crate) struct ScanCursor<'a> {
     pub room: Vec<u8>,
     pub from: usize,
     pub found: usize,
-    /// Offset in the file of the window's first byte of data; after the interval's data where none follow.
+    /// Offset in the file of the window's first byte of data; after the interval's data if none follow.
     pub at: usize,
     /// Offset in the file before which the window's bytes were read.
     pub reach: usize,
     /// Whether the interval's data end with the window's.
     pub ends: bool,
-    /// Where in the window the next MCU begins.
+    /// Position in the window of the next MCU.
     pub place: Place,
     pub interval: u32,
     /// Number of MCUs of the interval before it.
@@ -89,7 +89,7 @@ fn in_range(predictions: [i32; 3]) -> [i32; 3]
     [in_sixteen_bits(a), in_sixteen_bits(b), in_sixteen_bits(c)]
 }
 
-/// The number of a reading.
+/// Returns the number of a reading.
 fn number_of(reading: Reading) -> u32
     ensures { result ≡ reading_number reading }
 {
@@ -100,7 +100,7 @@ fn number_of(reading: Reading) -> u32
     }
 }
 
-/// The reading of a number.
+/// Returns the reading of a number.
 fn reading_of(number: u32) -> Reading
     ensures { reading_number result ≡ min number 2 }
 {
@@ -119,7 +119,7 @@ fn offset_of(place: &RowPlace, scan_at: u64, file: &[u8]) -> usize
     offset_in(file, place.at.max(scan_at))
 }
 
-/// Returns how far a window that begins at an offset may reach: twice as far where it began there before.
+/// Returns how far a window that begins at an offset may reach: twice as far if it began there before.
 fn next_reach(at: usize, reach: usize, passed: usize) -> usize
     ensures on { reach ≤ result }
     ensures further { passed ≡ 0 → reach + 1 < 2 ^ 64 → reach < result }
@@ -233,7 +233,7 @@ impl<'a> ScanCursor<'a> {
         }
     }
 
-    /// Moves the window to the next MCU, or makes it reach further where it is there. Returns false, and does nothing, where
+    /// Moves the window to the next MCU, or makes it reach further if it is there. Returns `false`, and does nothing, if
     /// no whole MCU can follow if the window has none.
     pub(crate) fn slide(&mut self) -> bool
         requires { HasWindow self.old }
@@ -253,7 +253,7 @@ impl<'a> ScanCursor<'a> {
         true
     }
 
-    /// A reader of the interval's further MCUs in the window.
+    /// Returns a reader of the interval's further MCUs in the window.
     pub(crate) fn reader<'s>(&'s self, head: &'s Head) -> McuReader<'s>
         requires { IsCursor head.now self.now }
         ensures run { result.run ≡ run_from (in_window head.now self.now) self.now.place (mcus_in head.now self.now.interval - self.now.mcu) }
@@ -383,7 +383,7 @@ impl<'a> ScanCursor<'a> {
         }
     }
 
-    /// Goes to what follows the interval: the next one's data, or the scan's end. False where neither has come.
+    /// Goes to what follows the interval: the next one's data, or the scan's end. Returns `false` if neither has arrived.
     fn leave_interval(&mut self, head: &Head) -> bool
         requires window { HasWindow self.old }
         requires number { self.old.interval < intervals_of head.now }

@@ -3,7 +3,7 @@
 use jr_picture::Counts;
 use jr_scan::Scan;
 
-/// A file that has come: its scan, and how many of its restart intervals are sound and damaged.
+/// A file that has arrived: its scan, and the numbers of its sound and damaged intervals.
 #[derive(Drop)]
 pub struct Finished {
     pub scan: Scan,

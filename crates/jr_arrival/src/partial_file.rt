@@ -80,7 +80,8 @@ fn give(partial_image: &mut Option<PartialImage>, pixels: &mut [u8]) -> u32
     }
 }
 
-/// The scan of a file of which all bytes have come: the one that has begun, or else that of the bytes that are kept, which it copies.
+/// Returns the scan of a file of which all bytes have come: the one that has begun, or else that of the bytes that are
+/// kept, which it copies.
 fn begun(
     alloc: Global,
     kept: &[u8],
@@ -104,7 +105,7 @@ fn begun(
 }
 
 impl PartialFile {
-    /// Nothing has come yet.
+    /// Returns a file of which nothing has arrived yet.
     pub fn new(alloc: Global) -> PartialFile
         ensures partial_file { IsPartialFile result [] }
         ensures lines { given_of result.partial_image ≡ 0 }
@@ -116,7 +117,7 @@ impl PartialFile {
         }
     }
 
-    /// More bytes have come. Where memory is refused none of them is taken.
+    /// Appends bytes of the file. On `Err`, none is taken.
     pub fn push(&mut self, more: &[u8]) -> Result<(), Memory>
         ensures pushed { IfOk result (λ _. (bytes : List ℕ) → IsPartialFile self.old bytes → IsPartialFile self.new (bytes ++ more.now)) }
         ensures lines { given_of self.new.partial_image ≡ given_of self.old.partial_image }

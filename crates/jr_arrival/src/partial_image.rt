@@ -47,7 +47,7 @@ impl Model for PartialImage {
 }
 
 impl PartialImage {
-    /// The scan of the bytes so far of a file, of which nothing is read yet. It copies them.
+    /// Returns the scan of the bytes so far of a file, of which nothing is read yet. It copies them.
     pub(crate) fn open(alloc: Global, head: Head, bytes: &[u8]) -> Result<PartialImage, Memory>
         requires starts { head.scan_at ≤ length bytes.now }
         requires small { length bytes.now ≤ MAX_FILE_BYTES }

@@ -124,7 +124,7 @@ impl PartialRow {
         self.lines
     }
 
-    /// The marks of the intervals up to the one that is read: its own is that of its data so far.
+    /// Returns the marks of the intervals up to the one that is read: its own is that of its data so far.
     fn partial_marks(&self, scan: &PartialScan) -> Marked
         requires partial_row { IsPartialRow scan.now self.now }
         ensures counts { (t : ScanValue) → GrowsInto scan.now t → interval_of t self.now.number ≡ interval_of scan.now.scan self.now.number → CountsMarks t (length t.intervals) 0 (self.now.number + 1) result }
@@ -135,7 +135,7 @@ impl PartialRow {
         self.marked.with(Marked::one(is_sound))
     }
 
-    /// The marks of all intervals, where nothing more comes.
+    /// Returns the marks of all intervals, if nothing more comes.
     pub(crate) fn marks(&self, scan: &PartialScan) -> Marked
         requires { IsPartialRow scan.now self.now }
         ensures { CountsMarks scan.now.scan (length scan.now.scan.intervals) 0 (length scan.now.scan.intervals) result }
@@ -246,7 +246,7 @@ impl PartialRow {
         self.place = None;
     }
 
-    /// Decodes some further MCUs of the row, and returns false if the bytes do not settle the next one.
+    /// Decodes some further MCUs of the row. Returns `false` if the bytes do not make the next one final.
     fn decode_some(&mut self, scan: &PartialScan) -> bool
         requires partial_row { IsPartialRow scan.now self.old }
         requires more { self.old.done < mcus_across scan.now.scan.head }
