@@ -33,16 +33,3 @@ returns-then-whole-out g c =
 
 pub returns-else-whole-out : goal.returns-else-whole-out
 returns-else-whole-out g c k lt = c.loop-n.invariant k (omega (arith, lt, c.if-whole-out.false, c.loop-n-test.false, c.loop-n.auto.out))
-
-pub fill_unit-requires-clause-lawful : goal.fill_unit-requires-clause-lawful
-fill_unit-requires-clause-lawful g c = c.be_lawful.ensures
-
-pub place-start-requires-clause-column : goal.place-start-requires-clause-column
-place-start-requires-clause-column g c =
-    let some : 0 < length c.args.out.now = search (rules, arith, c.if-is_empty.ensures) in
-    omega (arith, some, c.requires.across)
-
-pub returns-then-is_empty : goal.returns-then-is_empty
-returns-then-is_empty g c k lt =
-    let none : length c.args.out.now ≡ 0 = search (rules, arith, c.if-is_empty.ensures) in
-    absurd (omega (arith, none, lt))
