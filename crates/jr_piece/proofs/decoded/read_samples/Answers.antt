@@ -1,4 +1,5 @@
-use Rattle.std.proofs.Common.{◌≡◌, ◌+◌, ◌*◌, ◌++◌, ℕ, List, [], length, get_or, take, replicate, refl, sym, ap, subst, ◌∙◌, arith, rules}
+use Rattle.std.proofs.Common.{◌≡◌, ◌≢◌, ◌≤◌, Result, Ok, Err, OnOk, ◌+◌, ◌*◌, ◌++◌, ℕ, List, [], length, get_or, take, replicate, refl, sym, ap, subst, ◌∙◌, arith, rules}
+use Rattle.std.proofs.Math.Nat.{le-mul_of_pos_right, zero-mul}
 use Rattle.std.proofs.lemmas.List.{append-nil, get_or_append_left, length-take}
 use Rattle.jr_head.specs.HeadValue.{HeadValue}
 use Rattle.jr_head.specs.Geometry.{blocks_of, order_of}
@@ -56,3 +57,20 @@ mcus-preserved c =
       empty = refl;
       read = (zs ++ ys, read, all);
     }
+
+on_ok : {T E P : Type 0} (r : Result T E) → P → OnOk r P
+on_ok (Ok x) p = p
+on_ok (Err e) p = tt
+
+pub returns-in_err-extend_from_slice-clause-run : goal.returns-in_err-extend_from_slice-clause-run
+returns-in_err-extend_from_slice-clause-run c = on_ok c.from_residual-in_err-extend_from_slice.result (c.read_by.ensures.run ∙ c.mcus.invariant.run)
+
+pub returns-then-count-eq0-clause-ended : goal.returns-then-count-eq0-clause-ended
+returns-then-count-eq0-clause-ended c =
+    let few : c.read_by.result ≤ c.read_by.result * length c.order-per_mcu.result.now = le-mul_of_pos_right c.read_by.result c.order-per_mcu.ensures.some in
+    c.read_by.ensures.none (omega (arith, c.read_by.auto.blocks, c.mcus.invariant.room)) (omega (arith, few, c.if-count-eq0.true))
+
+pub mcus-smaller : goal.mcus-smaller
+mcus-smaller c =
+    let some : c.read_by.result ≢ 0 = λ z. c.if-count-eq0.false (ap (λ (k : ℕ). k * length c.order-per_mcu.result.now) z ∙ zero-mul (length c.order-per_mcu.result.now)) in
+    omega (arith, some, c.read_by.ensures.few, c.read_by.ensures.mcus, ap (λ (r : RunOf). r.mcus) c.read_by.ensures.run)
