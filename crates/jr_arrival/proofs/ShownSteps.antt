@@ -24,7 +24,7 @@ use Rattle.jr_arrival.specs.declared.file_bytes.FileBytes.{FileBytes}
 use Rattle.jr_arrival.specs.Meaning.{HasNoFurtherMcu, MayBe, MeansAt, ReadsAt, behind}
 use Rattle.jr_arrival.specs.Places.{mcus_before_place}
 use Rattle.jr_arrival.specs.Cursors.{IsCursor, PassesOver, StaysIn, StaysTrue, in_window, reading_number, window}
-use Rattle.jr_arrival.specs.RowMcus.{AddsMcus}
+use Rattle.jr_arrival.specs.RowMcus.{ExtendsRow}
 use Rattle.jr_arrival.specs.Shown.{ShowsMore, Walks}
 use Rattle.jr_arrival.proofs.CursorSteps.{passes_after, stays_over}
 use Rattle.jr_arrival.proofs.Going.{on_by}
@@ -48,7 +48,7 @@ module _ (keeps : Bool) (h : HeadValue) (c : ScanCursor) (lawful : IsLawful h) (
     at_t : mcus_before_place t.head c.interval c.mcu ≡ from + done
     at_t = subst (λ (g : HeadValue). mcus_before_place g c.interval c.mcu ≡ from + done) (sym may.head) at
 
-    step : (unit : ℕ → List ℕ) → AddsMcus t.head done n unit old new → ((o : PieceValue) → o.interval ≡ interval_of t c.interval → IsOutcome o → (k : ℕ) → k < n * blocks_of t.head → unit k ≡ unit_in_piece o (c.mcu * blocks_of t.head + k))
+    step : (unit : ℕ → List ℕ) → ExtendsRow t.head done n unit old new → ((o : PieceValue) → o.interval ≡ interval_of t c.interval → IsOutcome o → (k : ℕ) → k < n * blocks_of t.head → unit k ≡ unit_in_piece o (c.mcu * blocks_of t.head + k))
         → ShowsFirstUnits t (length t.intervals) from (done + n) (units_in t.head new)
     step unit adds codes =
         shown_on t (length t.intervals) from done n (mcus_before_place t.head c.interval c.mcu) (units_in t.head old) (units_in t.head new) some_t at_t before adds.kept
@@ -58,7 +58,7 @@ module _ (keeps : Bool) (h : HeadValue) (c : ScanCursor) (lawful : IsLawful h) (
   per_of t = length-order 0 t.head.components
 
   -- whole ones
-  pub whole_shows : c.reading ≡ GoesOn → (ys : List (List ℤ)) (q : Place) → IsRun (run_from (in_window h c) c.place n) ys q AllRead → q.bit ≤ 8 * (c.found - c.from) → (IsTrue keeps → AddsMcus h done n (unit_of h ys) old new) → ShowsMore keeps h c done n old new
+  pub whole_shows : c.reading ≡ GoesOn → (ys : List (List ℤ)) (q : Place) → IsRun (run_from (in_window h c) c.place n) ys q AllRead → q.bit ≤ 8 * (c.found - c.from) → (IsTrue keeps → ExtendsRow h done n (unit_of h ys) old new) → ShowsMore keeps h c done n old new
   whole_shows going ys q run to adds keep from at whole t may s before =
       let w = is.window.spells in
       let found = window c in
@@ -69,15 +69,15 @@ module _ (keeps : Bool) (h : HeadValue) (c : ScanCursor) (lawful : IsLawful h) (
       let lawful_t : IsLawful t.head = subst IsLawful (sym e) lawful in
       let there = run_on whole t c.interval c.mcu c.at (mcus_in h c.interval - c.mcu) found o.on.rest c.place lawful_t means o.is n ys q (omega (arith, is.window.bit, long)) (omega (arith, to, long))
       (subst (λ (g : HeadValue). IsRun (run_from (record { number = c.interval; mcus = mcus_in h c.interval - c.mcu; bytes = found; head = g }) c.place n) ys q AllRead) (sym e) run) in
-      step from at whole t may before (unit_of t.head ys) (subst (λ (g : HeadValue). AddsMcus g done n (unit_of g ys) old new) (sym e) (adds keep)) (λ p same out k lt.
+      step from at whole t may before (unit_of t.head ys) (subst (λ (g : HeadValue). ExtendsRow g done n (unit_of g ys) old new) (sym e) (adds keep)) (λ p same out k lt.
       whole_codes (interval_of t c.interval) lawful_t c.mcu means.blocks (behind means.before c.place) means.next n ys (behind means.before q) there (few_t from at whole t may before) p same out k (omega (arith, lt, ap (λ (m : ℕ). n * m) (per_of t)))
       ∙ ap (λ (m : ℕ). unit_in_piece p (c.mcu * m + k)) (per_of t))
 
   -- grey ones
-  pub grey_shows : c.reading ≢ GoesOn → (IsTrue keeps → AddsMcus h done n (λ _. grey_unit) old new) → ShowsMore keeps h c done n old new
+  pub grey_shows : c.reading ≢ GoesOn → (IsTrue keeps → ExtendsRow h done n (λ _. grey_unit) old new) → ShowsMore keeps h c done n old new
   grey_shows over adds keep from at whole t may s before =
       let none : HasNoFurtherMcu t c.interval c.mcu = go c.reading over s.means in
-      step from at whole t may before (λ _. grey_unit) (subst (λ (g : HeadValue). AddsMcus g done n (λ _. grey_unit) old new) (sym may.head) (adds keep)) (λ p same out k lt.
+      step from at whole t may before (λ _. grey_unit) (subst (λ (g : HeadValue). ExtendsRow g done n (λ _. grey_unit) old new) (sym may.head) (adds keep)) (λ p same out k lt.
       grey_codes (interval_of t c.interval) none.front c.mcu none.blocks none.few none.longest p same out k
       ∙ ap (λ (m : ℕ). unit_in_piece p (c.mcu * m + k)) (per_of t))
     where

@@ -1,4 +1,4 @@
-//! Where the MCUs of a row go.
+//! The destination of the MCUs of a row.
 
 ghost use Rattle.std.specs.Prelude.{◌≡◌, ◌+◌, ◌<◌, ◌≤◌, ℕ, List, [], Bool, true, false, IsTrue, ⊤};
 ghost use Rattle.jr_head.specs.HeadValue.{HeadValue};
@@ -6,7 +6,7 @@ ghost use Rattle.jr_head.specs.Geometry.{mcus_across};
 ghost use Rattle.jr_scan.specs.McuReader.{HasEnded, HasRead};
 ghost use Rattle.jr_piece.specs.Units.{grey_unit};
 ghost use Rattle.jr_rows.specs.Rows.{HasSampleRoom};
-ghost use Rattle.jr_arrival.specs.RowMcus.{AddsMcus, TakesMcus};
+ghost use Rattle.jr_arrival.specs.RowMcus.{ExtendsRow, TakesMcus};
 
 use jr_head::Head;
 use jr_rows::SampleRow;
@@ -43,7 +43,7 @@ pub(crate) trait McuSink {
         ensures room { has_room head.now self.new }
         ensures some { 0 < result }
         ensures few { result ≤ mcus }
-        ensures grey { IsTrue keeps → AddsMcus head.now done result (λ _. grey_unit) (groups self.old) (groups self.new) };
+        ensures grey { IsTrue keeps → ExtendsRow head.now done result (λ _. grey_unit) (groups self.old) (groups self.new) };
 }
 
 impl McuSink for SampleRow {
