@@ -1,6 +1,6 @@
 //! Tests through the crates' public calls: devices, bits and code tables, heads, scans and blocks, the transform,
-//! painting, desks, archives, files that arrive in parts, boards and whole runs; against answers worked out by hand from
-//! T.81, and beside plain readers and painters.
+//! painting, desks, archives, files that arrive in parts, and boards; against answers worked out by hand from T.81, and
+//! beside plain readers and painters.
 #![tactic(auto)]
 
 #[cfg(test)]
@@ -29,8 +29,6 @@ mod paint;
 mod places;
 #[cfg(test)]
 mod plain;
-#[cfg(test)]
-mod runs;
 #[cfg(test)]
 mod scan;
 #[cfg(test)]

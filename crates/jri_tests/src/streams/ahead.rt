@@ -3,7 +3,7 @@
 ghost use Rattle.std.specs.Prelude.{◌≤◌};
 ghost use Rattle.jr_base.specs.declared.limits.TheConstants.{MAX_WORKERS};
 
-use crate::runs::workers::TURNS;
+use crate::workers::TURNS;
 use jr_crew::write_scan_by;
 use jr_paint::Tally;
 use jr_wall::{Gate, Piece};

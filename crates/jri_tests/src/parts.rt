@@ -1,6 +1,6 @@
 //! Inputs of more bytes than are read at once, 65,536: one that fails, and one of packets.
 
-use crate::runs::decoding::outcome_of;
+use crate::decoding::outcome_of;
 use jr_scan::ScanEnd;
 use jr_wall::OpenGate;
 use jri_engine::Fault;

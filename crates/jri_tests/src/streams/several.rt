@@ -3,8 +3,8 @@
 ghost use Rattle.std.specs.Prelude.{◌≤◌};
 ghost use Rattle.jr_base.specs.declared.limits.TheConstants.{MAX_WORKERS};
 
-use crate::runs::decoding::outcome_of;
-use crate::runs::workers::TURNS;
+use crate::decoding::outcome_of;
+use crate::workers::TURNS;
 use jr_crew::write_scan_by;
 use jr_paint::Tally;
 use jr_wall::{Gate, Piece};

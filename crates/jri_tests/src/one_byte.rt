@@ -1,6 +1,6 @@
 //! Devices that move one byte a call and fail at one call, through `run`.
 
-use crate::runs::decoding::outcome_of;
+use crate::decoding::outcome_of;
 use jr_wall::OpenGate;
 use jri_engine::Fault;
 use std::alloc::Global;

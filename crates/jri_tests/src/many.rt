@@ -1,7 +1,7 @@
 //! Many files in one run, over a machine of memory: their images in a directory, and what their headers say.
 
-use crate::runs::machine::Machine;
-use crate::runs::words::words_of;
+use crate::machine::Machine;
+use crate::words::words_of;
 use jri_engine::{Mode, describe_request, many_request, program_for_headers, program_for_many};
 use std::alloc::Global;
 use std::process::Abort;

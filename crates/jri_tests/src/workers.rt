@@ -1,6 +1,6 @@
 //! Two workers that meet at a gate.
 
-use crate::runs::decoding::outcome_of;
+use crate::decoding::outcome_of;
 use jr_wall::{Gate, Piece};
 use std::sync::atomic::{AtomicU64, Ordering};
 use std::test::Fail;

@@ -1,6 +1,6 @@
 //! Devices that fail, through `run` and `finish`: what was written, the line, and the exit status.
 
-use crate::runs::decoding::finished;
+use crate::decoding::finished;
 use jr_head::Refusal;
 use jr_paint::Tally;
 use jr_scan::ScanEnd;

@@ -1,8 +1,8 @@
 //! `jri --resync` over a machine of memory: the image of a file past restart markers that are out of step, its lines and
 //! its exit status.
 
-use crate::runs::machine::Machine;
-use crate::runs::words::words_of;
+use crate::machine::Machine;
+use crate::words::words_of;
 use jri_engine::program;
 use std::alloc::Global;
 use std::sync::Wait;

@@ -3,7 +3,7 @@
 ghost use Rattle.std.specs.Prelude.{◌≤◌};
 ghost use Rattle.jr_base.specs.declared.limits.TheConstants.{MAX_WORKERS};
 
-use crate::runs::decoding::outcome_of;
+use crate::decoding::outcome_of;
 use jr_wall::OpenGate;
 use jri_engine::Fault;
 use std::alloc::Global;

@@ -1,7 +1,7 @@
 //! The program over a machine of memory: each word, what it writes, tells and leaves in the folder, and each exit status.
 
-use crate::runs::machine::Machine;
-use crate::runs::words::words_of;
+use crate::machine::Machine;
+use crate::words::words_of;
 use jri_engine::program;
 use std::alloc::Global;
 use std::io::{Error, ErrorKind};

@@ -1,6 +1,6 @@
 //! Lines laid out on a canvas, and a file decoded onto one, in each layout; what stands behind lines stays.
 
-use crate::runs::memory::NONE;
+use crate::memory::NONE;
 use jri_memory::status::{BUFFER_TOO_SMALL, NO_LAYOUT, OK, SOUND};
 use jri_memory::{decode_canvas, lay_out};
 use std::test::Fail;
