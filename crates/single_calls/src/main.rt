@@ -91,7 +91,7 @@ fn task_of(word: &str) -> Option<Task> {
     match word {
         "--guesses" => Some(Task::Guesses),
         "--calls" => Some(Task::Calls),
-        "--partial_file" => Some(Task::PartialFile),
+        "--arriving" => Some(Task::PartialFile),
         _ => None,
     }
 }
