@@ -6,7 +6,7 @@ use crate::case::Case;
 use crate::differences::{Differences, compare_texts};
 use crate::failure::Failure;
 use crate::texts::put_check_lines;
-use jri_archive::{Checked, Outcome, check_file, tell, write_map};
+use jri_archive::{Checked, Outcome, check_file, append_file_line, write_map};
 use std::sync::Wait;
 use std::thread::Threads;
 
@@ -37,7 +37,7 @@ fn put_check<R: Threads + Wait + Sync>(
         }
         Err(refusal) => Outcome::Refused(refusal),
     };
-    out.note(tell(found, case.row.name.as_bytes(), &outcome));
+    out.note(append_file_line(found, case.row.name.as_bytes(), &outcome));
 }
 
 /// Checks a case's file with this number of workers.

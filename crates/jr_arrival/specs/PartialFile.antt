@@ -7,7 +7,7 @@ use Rattle.jr_scan.specs.PartialScan.{PartialScanValue, HasCome}
 use Rattle.jr_arrival.specs.PartialRows.{AreFinalLines, PartialRowValue}
 use Rattle.jr_arrival.specs.Settled.{GivesSettled}
 
--- the scan, how many bytes of its file have come, and the row of MCUs that comes next
+-- the scan, the number of bytes of its file that have come, and the row of MCUs that comes next
 pub record PartialImageValue : Type 0 where
   pub partial_scan : PartialScanValue
   pub bytes : ℕ
@@ -17,8 +17,8 @@ pub record PartialImageValue : Type 0 where
 abbrev pub HasBegun : PartialImageValue → List ℕ → Type 0
 HasBegun c bytes = HeadOf bytes c.partial_scan.scan.head × HasCome c.partial_scan bytes × (c.bytes ≡ length bytes)
 
--- what contracts see of a file that is still arriving: its bytes until they have a head, or its scan from then on; and how many bytes
--- have come, of which those that are too many are not kept
+-- what contracts see of a file that is still arriving: its bytes until they have a header, then its scan; and the number of bytes
+-- that have come, of which those beyond the limit are not kept
 pub record PartialFileValue : Type 0 where
   pub bytes : List ℕ
   pub partial_image : Option PartialImageValue

@@ -25,7 +25,7 @@ pub record IsPlaceOf (h : HeadValue) (p : RowPlace) : Type 0 where
 abbrev pub lines_above : HeadValue → ℕ → ℕ
 lines_above h row = min (row * (8 * vertical_max h)) h.height
 
--- how many the rows of MCUs from one on and before another have
+-- the number of lines in the rows of MCUs from one to before another
 abbrev pub lines_between : HeadValue → (from to : ℕ) → ℕ
 lines_between h from to = lines_above h to - lines_above h from
 

@@ -25,7 +25,7 @@ pub record FinalRows : Type 0 where
   pub scan : ScanValue
   pub rows : ℕ
 
--- how many lines of pixels these rows have
+-- the number of lines of pixels in these rows
 abbrev pub lines_in : FinalRows → ℕ
 lines_in s = min s.scan.head.height (s.rows * (8 * vertical_max s.scan.head))
 

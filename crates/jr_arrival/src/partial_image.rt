@@ -24,7 +24,7 @@ use jr_segments::Refusal;
 use std::alloc::Global;
 use std::marker::Model;
 
-/// A scan whose file is still arriving, how many bytes of the file have come, and the row of MCUs that comes next.
+/// A scan whose file is still arriving, the number of bytes of the file that have come, and the row of MCUs that comes next.
 #[derive(Drop)]
 pub(crate) struct PartialImage {
     scan: PartialScan,
@@ -57,7 +57,7 @@ impl PartialImage {
         let mut kept = Vec::new(alloc);
         kept.extend_from_slice(bytes)?;
         let scan = PartialScan::of(alloc, head, kept)?;
-        // By their contracts there is an interval, and the head is lawful.
+        // By their contracts there is an interval, and the header is valid.
         let _some = scan.intervals();
         let _lawful = scan.head();
         Ok(PartialImage {
@@ -100,7 +100,7 @@ impl PartialImage {
         ensures row { IfOk result (λ _. self.new.row ≡ self.old.row) }
         ensures memory { IfErr result (λ _. self.new ≡ self.old) }
     {
-        // By its contract the head is lawful.
+        // By its contract the header is valid.
         let _lawful = self.scan.head();
         self.scan.push(more)?;
         self.bytes += more.len();
@@ -138,7 +138,7 @@ impl PartialImage {
         ensures given { AreFinalLines self.old.partial_scan self.old.row.lines result (take (result * line_size self.old.partial_scan.scan.head) pixels.new) }
         ensures long { length pixels.new ≡ length pixels.old }
     {
-        // By their contracts one of the intervals is the last that has begun, and the head is lawful.
+        // By their contracts one of the intervals is the last that has begun, and the header is valid.
         let _last = self.scan.last_begun();
         let _most = self.scan.intervals();
         let _across = shape_of(self.scan.head());

@@ -65,7 +65,7 @@ fn is_sound(scan: &PartialScan, i: u32, mcu: u32, place: Option<Place>) -> bool
     whole == left && bits - end.bit < 8
 }
 
-/// Returns how many lines of an image starting at `first` fit into `bytes` bytes.
+/// Returns the number of lines of an image starting at `first` that fit into `bytes` bytes.
 fn lines_with_room(head: &Head, first: u32, bytes: usize) -> u32
     ensures value { result ≡ min (bytes / line_size head.now) (head.now.height - first) }
     ensures fits { result * line_size head.now ≤ bytes }
@@ -82,7 +82,7 @@ pub(crate) struct PartialRow {
     row: u32,
     /// Number of its MCUs that are decoded.
     done: u32,
-    /// The interval that is read, and how many of its MCUs are, or are grey.
+    /// The interval that is read, and the number of its MCUs that are read or grey.
     number: u32,
     mcu: u32,
     /// Start of its next MCU; `None` if no further one becomes whole.
@@ -269,7 +269,7 @@ impl PartialRow {
         true
     }
 
-    /// Decodes the MCUs of the row, as many as are there: whether it is whole then.
+    /// Decodes the MCUs of the row that are there, and returns whether it is whole then.
     fn decode(&mut self, scan: &PartialScan) -> bool
         requires partial_row { IsPartialRow scan.now self.old }
         ensures partial_row { IsPartialRow scan.now self.new }

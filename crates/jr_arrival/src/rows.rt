@@ -40,7 +40,7 @@ pub fn lines_between(head: &Head, from: u32, to: u32) -> u32
     lines_before(head, to) - lines_before(head, from)
 }
 
-/// Returns how many rows of MCUs starting at `row` fit with their lines into `bytes` bytes.
+/// Returns the number of rows of MCUs starting at `row` that fit with their lines into `bytes` bytes.
 pub fn rows_with_room(head: &Head, row: u32, bytes: usize) -> u32
     requires { row ≤ mcus_down head.now }
     ensures value { result ≡ rows_with_room head.now row bytes }

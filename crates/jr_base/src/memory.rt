@@ -1,4 +1,4 @@
-//! Want of memory.
+//! The failure of an allocation.
 
 use std::alloc::{AllocError, AllocFailed};
 use thiserror::Error;

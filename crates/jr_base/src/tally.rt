@@ -27,7 +27,7 @@ impl<T> Tally<T> {
         }
     }
 
-    /// Returns the device that it holds.
+    /// Returns the reader or writer that it holds.
     pub fn into_inner(self) -> T
         ensures { result ≡ inner_of self }
     {

@@ -2,7 +2,7 @@
 use Rattle.std.specs.Prelude.{ℕ, List, Option}
 use Rattle.jr_piece.specs.StripValue.{StripValue}
 
--- the interval's number, how many MCUs each strip has but for the last, and the cells' names
+-- the interval's number, the number of MCUs of each strip but the last, and the cells' names
 pub record StripCellsValue : Type 0 where
   pub number : ℕ
   pub each : ℕ

@@ -13,9 +13,10 @@ use std::alloc::Global;
 use std::marker::Model;
 use std::sync::Arc;
 
-/// A cell for the piece of each interval. Each is empty until a piece is hung into it, and holds that piece ever after.
+/// A cell for the piece of each interval. Each is empty until a piece is published in it (`hang`), and then holds that
+/// piece for good.
 ///
-/// Threads hang and look through a shared `&Cells`, and none ever waits for another.
+/// Threads publish and look through a shared `&Cells`, and none waits for another.
 #[derive(Drop)]
 pub struct Cells {
     cells: Vec<OnceBox<Arc<Piece>>>,

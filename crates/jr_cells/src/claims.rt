@@ -12,7 +12,7 @@ use std::alloc::Global;
 use std::collections::LinkedList;
 use std::marker::Model;
 
-// What a seat of the table knows. No value of it is made.
+// What a seat of the table knows. It has no values at run time.
 pub struct SeatView {
     pub limit: u64,
     pub all: u64,
@@ -21,7 +21,7 @@ pub struct SeatView {
     pub ended: u64,
 }
 
-// How many numbers and seats the desk has.
+// The rule for the numbers and seats of the desk.
 pub struct Rules;
 
 impl TableRule<(), SeatView, (u64, u64)> for Rules {

@@ -11,7 +11,7 @@ pub(crate) const LOOKED_UP: u8 = 11;
 /// Number of values that these bits have.
 pub(crate) const WINDOWS: usize = 2048;
 
-/// The number of places that means the end of a block: no block has as many.
+/// The number of coefficients that means the end of a block: more than a block has.
 const TO_THE_END: u8 = 128;
 
 /// The symbol of a run of sixteen zeros.

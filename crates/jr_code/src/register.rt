@@ -38,7 +38,7 @@ impl<'a> Register<'a> {
     }
 
     /// Returns the same bits with at least 32 of them, or all that are left, in the register, and no fewer than before.
-    /// It does not branch on how many the register holds, which no processor predicts.
+    /// It does not branch on the number of bits in the register, which no processor predicts.
     #[inline(always)]
     pub(crate) fn refilled(self) -> Register<'a>
         ensures same { bits_in result ≡ bits_in self.entry }

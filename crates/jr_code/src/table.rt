@@ -24,8 +24,8 @@ pub enum CodeFault {
     Memory,
 }
 
-/// A code table (T.81, Annex C) as it is defined: counts of words by length, and a symbol for each word. What is read
-/// by is a book of it, which takes a hundred times longer to make.
+/// A code table (T.81, Annex C) as it is defined: counts of words by length, and a symbol for each word. Decoding uses a
+/// book of it, which takes a hundred times longer to make.
 #[derive(Drop)]
 pub struct CodeTable {
     pub(crate) counts: [u8; 16],

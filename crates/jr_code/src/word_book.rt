@@ -1,4 +1,4 @@
-//! The words of a code table, read with their extra bits in line.
+//! The words of a code table, read with their additional bits, for functions that are inlined.
 
 ghost use Rattle.std.specs.Prelude.{◌≡◌, ◌≢◌, ◌<◌, ◌≤◌, ◌-◌, ◌%◌, ◌^◌, ◌↔◌, ◌++◌, ℕ, List, Bool, IsTrue, [], IfSome, IfNone, IfOk, take};
 ghost use Rattle.std.proofs.Common.{rules};
@@ -21,7 +21,7 @@ pub struct WordBook {
     table: CodeTable,
     /// By eight bits: the symbol and length of the word of at most eight bits that they begin with.
     entries: [Option<(u8, u8)>; 256],
-    /// For each length from nine to sixteen bits: the least word, and how many words are shorter.
+    /// For each length from nine to sixteen bits: the least word, and the number of shorter words.
     long: [(u32, u32); 8],
 }
 

@@ -8,7 +8,7 @@ use crate::bits::extend;
 use crate::packed::{LOOKED_UP, Packed, WINDOWS, places_of};
 use crate::table::CodeTable;
 
-/// A word and its extra bits together.
+/// A word and its additional bits.
 #[derive(Clone, Copy)]
 pub(crate) struct Extended {
     pub(crate) symbol: u8,
@@ -53,7 +53,7 @@ impl CodeTable {
         pairs
     }
 
-    /// Enters the words of i + 1 bits, each with all its extra bits.
+    /// Enters the words of i + 1 bits, each with all values of its additional bits.
     fn enter_pairs(&self, pairs: &mut [Packed; WINDOWS], i: u8)
         requires short { i < LOOKED_UP }
         requires entered { ArePairs self.now pairs.old }
@@ -97,7 +97,7 @@ impl CodeTable {
         None
     }
 
-    /// For each length from nine to sixteen bits: the least word, and how many words are shorter.
+    /// For each length from nine to sixteen bits: the least word, and the number of shorter words.
     pub(crate) fn long(&self) -> [(u32, u32); 8]
         ensures { AreLong self.now result }
     {
@@ -109,7 +109,7 @@ impl CodeTable {
         long
     }
 
-    /// Past the greatest word of that length, and how many words are no longer.
+    /// Returns what follows the greatest word of that length, and the number of words that are not longer.
     fn up_to(&self, length: usize) -> (u32, u32)
         requires { length ≤ 16 }
         ensures end { result.0 * room length ≡ space (lengths (take length self.now.counts)) }
@@ -141,7 +141,7 @@ fn enter_word(entries: &mut [Option<(u8, u8)>; 256], code: usize, symbol: u8, lo
     }
 }
 
-/// Enters the word of an AC code: the eleven bits that begin with it look up the word and its extra bits, where they hold both.
+/// Enters the word of an AC code: the eleven bits that begin with it look up the word and its additional bits if they hold both.
 fn enter_pair(pairs: &mut [Packed; WINDOWS], code: usize, symbol: u8, long: u8)
     requires short { long ≤ LOOKED_UP }
     requires fits { code < 2 ^ long }
@@ -160,7 +160,7 @@ fn enter_pair(pairs: &mut [Packed; WINDOWS], code: usize, symbol: u8, long: u8)
     }
 }
 
-/// Returns the word of that symbol and length that eleven bits begin with, and its extra bits.
+/// Returns the word of that symbol and length that eleven bits begin with, and its additional bits.
 #[inline(always)]
 fn pair(window: u64, symbol: u8, long: u8) -> Extended
     requires held { long + symbol % 16 ≤ LOOKED_UP }

@@ -30,6 +30,6 @@ HoldsRow None row = ⊥
 HoldsRow (Some None) row = ⊥
 HoldsRow (Some (Some p)) row = p.row ≡ row
 
--- the slot of a row holds it: each row's slot is its number modulo how many slots there are
+-- the slot of a row holds it: each row's slot is its number modulo the number of slots
 abbrev pub HasRow : List (Option PaintedValue) → ℕ → Type 0
 HasRow slots row = HoldsRow (slice_get slots (row % length slots)) row

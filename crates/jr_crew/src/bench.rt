@@ -88,7 +88,7 @@ impl<S: OneFirstIntervals> Model for Bench<S> {
 }
 
 impl<S: OneFirstIntervals> Bench<S> {
-    /// Returns an empty bench.
+    /// Returns an empty row buffer.
     pub fn open(alloc: Global, part: &FirstIntervals<'_>) -> Result<Bench<S>, Memory>
         requires { S.part ≡ Some part.now }
     {
@@ -134,7 +134,7 @@ impl<S: OneFirstIntervals> Bench<S> {
         }
     }
 
-    /// Allocates memory for a row's blocks and samples. If allocation fails, returns the bench unchanged.
+    /// Allocates memory for a row's blocks and samples. If allocation fails, returns the row buffer unchanged.
     pub fn with_work(
         self,
         alloc: Global,
@@ -285,7 +285,7 @@ impl<S: OneFirstIntervals> Painted<S> {
         pixels.copy_from_slice(&self.pixels[..pixels.len()]);
     }
 
-    /// Returns the bench, to be used again.
+    /// Returns the row buffer, to be used again.
     fn into_bench(self) -> Bench<S> {
         Bench {
             work: self.work,

@@ -24,20 +24,20 @@ use std::sync::{Condvar, Mutex, Wait};
 /// What the threads share.
 ///
 /// A thread takes its next task from the queue, and does it outside of the lock. No row begins before the calling thread has
-/// all memory that it needs. A row is begun with a bench, so there are no more rows in work than benches. Each thread allocates
-/// its benches as it starts; a bench gets memory for blocks when a row first waits on it to be painted.
+/// all memory that it needs. A row is begun with a row buffer (`Bench`), so at most as many rows are in work. Each thread
+/// allocates its row buffers as it starts; one gets memory for blocks when a row first waits in it to be painted.
 ///
 /// If rows are whole intervals, each thread decodes and paints rows by itself. Otherwise one thread at a time has the reader. If
 /// speculative reads that others have made ahead of it cover the next row, it skips the row. The row then waits, with a copy of
-/// the reader at its start and its bench, for a free thread, which decodes and paints it some MCUs at a time. If none covers it,
-/// the thread reads the row, and its blocks wait on the bench to be painted by a free thread. Painted rows wait for their turn
+/// the reader at its start and its row buffer, for a free thread, which decodes and paints it some MCUs at a time. If none covers it,
+/// the thread reads the row, and its blocks wait in the row buffer for a free thread that paints them. Painted rows wait for their turn
 /// to be written.
 #[derive(Drop)]
 pub(crate) struct Crew<'a, S: OneFirstIntervals> {
     alloc: Global,
     part: FirstIntervals<'a>,
     queue: Mutex<RowQueue<S>>,
-    /// Signalled when a thread has read a row or returned a bench, or all is over, if a thread waits.
+    /// Signalled when a thread has read a row or returned a row buffer, or all is over, if a thread waits.
     has_task: Condvar,
     /// Signalled when the row is painted for which the calling thread waits, or one is read and no other thread waits
     /// for it.
@@ -234,7 +234,7 @@ impl<'a, S: OneFirstIntervals> Crew<'a, S> {
         }
     }
 
-    /// Brings a bench if one is lacking.
+    /// Allocates a row buffer if one is lacking.
     fn bring_bench<R: Wait>(&self, rt: &R) {
         let is_lacking = self.queue.lock(rt).lacks_bench();
         if is_lacking && let Ok(bench) = Bench::open(self.alloc, &self.part) {
@@ -294,7 +294,7 @@ impl<'a, S: OneFirstIntervals> Crew<'a, S> {
         queue.take(row)
     }
 
-    /// Returns a bench, so that another row can be read.
+    /// Returns a row buffer to the queue, so that another row can be read.
     pub(crate) fn give_back<R: Wait>(&self, rt: &R, bench: Bench<S>) {
         let is_waited_for = self.queue.lock(rt).give_back(bench);
         if is_waited_for {

@@ -18,7 +18,7 @@ const SAMPLE_BYTES: u64 = 64;
 /// Size in bytes of a data unit's coefficients and samples in a row buffer.
 const UNIT_BYTES: u64 = 128 + SAMPLE_BYTES;
 
-/// Returns about how many bytes of data the intervals to decode have.
+/// Returns the approximate size of the data of the intervals to decode, in bytes.
 fn data_bytes(part: &FirstIntervals<'_>) -> u64 {
     let counted = part.limit().min(MAX_COUNTED);
     let mut bytes: u64 = 0;
@@ -40,7 +40,7 @@ fn bytes_of_worker(head: &Head, buffers: u32) -> u64 {
         .saturating_add(lines)
 }
 
-/// Returns how many of `workers` workers, each with `buffers` row buffers, may use their memory for the data of a scan: at least one.
+/// Returns the number of workers, each with `buffers` row buffers, that the data of a scan justify: 1 to `workers`.
 pub(crate) fn crew_size(part: &FirstIntervals<'_>, workers: u32, buffers: u32) -> u32
     requires some { 1 ≤ workers }
     ensures some { 1 ≤ result }

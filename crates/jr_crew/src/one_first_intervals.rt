@@ -6,7 +6,7 @@ ghost use Rattle.jr_rows.specs.FirstIntervalsValue.{FirstIntervalsValue};
 use std::marker::Brand;
 
 /// The part that a proof knows of, as a type: what lies under a lock is known by its type alone, so the type says of which
-/// scan it is, and how much of it is decoded.
+/// scan it is, and how many of its intervals are decoded.
 pub trait OneFirstIntervals {
     ghost part: { Option FirstIntervalsValue };
 }

@@ -12,7 +12,7 @@ use std::marker::{Model, PhantomData};
 /// Memory for the samples of a row of MCUs of the scan, and for painting its lines. Each thread has its own.
 #[derive(Drop)]
 pub struct PaintRoom<S: OneFirstIntervals> {
-    /// For a row that is read before, and that has its samples on its bench.
+    /// For a row that is already read, and that has its samples in its row buffer.
     pub(crate) bytes: Vec<u8>,
     /// For a row that is read, transformed and painted at once.
     pub(crate) work: SampleRow,

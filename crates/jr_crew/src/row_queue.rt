@@ -1,4 +1,4 @@
-//! What the threads of a crew do next, and what of it is done.
+//! The tasks of the threads of a crew, and which of them are done.
 
 ghost use Rattle.std.specs.Prelude.{◌≡◌, ◌<◌, Some, IsTrue, length};
 ghost use Rattle.jr_crew.specs.Crew.{HasRow};
@@ -80,20 +80,20 @@ pub(crate) struct RowQueue<S: OneFirstIntervals> {
     baton: Option<Baton<S>>,
     /// Whether no row is left to begin.
     is_begun: bool,
-    /// Nothing is read or painted any more.
+    /// Whether nothing more is read or painted.
     is_over: bool,
     /// Those with memory for a row's blocks come last.
     free: VecDeque<Bench<S>>,
-    /// Number of benches that no thread brings yet.
+    /// Number of row buffers that no thread allocates yet.
     lacking: u32,
     pub(crate) guesses: GuessQueue<ScanOf<S>>,
     /// Whether their memory is freed.
     has_given_back: bool,
-    /// In their order.
+    /// Skipped rows, in their order.
     passed: VecDeque<BegunRow<S>>,
-    /// In their order.
+    /// Rows that are read, in their order.
     coded: VecDeque<CodedRow<S>>,
-    /// The slot of a row is its number modulo how many slots there are: as many as benches.
+    /// Painted rows. The slot of a row is its number modulo the number of slots, which is that of the row buffers.
     painted: Vec<Option<Painted<S>>>,
     /// Number of threads that wait for something to do.
     pub(crate) waiting: u32,
@@ -145,7 +145,7 @@ impl<S: OneFirstIntervals> RowQueue<S> {
         drop(replace(&mut self.baton, baton));
     }
 
-    /// Returns whether a thread is to bring a bench.
+    /// Returns whether a thread is to allocate a row buffer.
     pub(crate) fn lacks_bench(&mut self) -> bool {
         let is_lacking = self.lacking > 0;
         self.lacking = self.lacking.saturating_sub(1);
@@ -195,8 +195,8 @@ impl<S: OneFirstIntervals> RowQueue<S> {
         self.choice(scan) == Choice::Wait
     }
 
-    /// Takes the rows that come next, with the speculative reads for the first of them, and the bench on which it is
-    /// read.
+    /// Takes the rows that come next, with the speculative reads for the first of them, and the row buffer into which it
+    /// is read.
     fn begin(&mut self, part: &FirstIntervals<'_>, bench: Option<Bench<S>>) -> Option<BegunRow<S>>
         requires { S.part ≡ Some part.now }
     {
@@ -266,7 +266,7 @@ impl<S: OneFirstIntervals> RowQueue<S> {
     }
 
     /// Takes memory that no thread needs any more, if there is some, for a thread that has nothing else to do: buffers
-    /// for speculative reads first, since they are larger than a bench.
+    /// for speculative reads first, since they are larger than a row buffer.
     pub(crate) fn spare(&mut self, alloc: Global) -> Option<RowTask<S>> {
         if !self.is_begun {
             return None;
@@ -387,7 +387,7 @@ impl<S: OneFirstIntervals> RowQueue<S> {
         self.painted[slot].take().unwrap()
     }
 
-    /// Keeps a bench, to be used again. It fits, since it came from here. Returns whether a thread waits.
+    /// Keeps a row buffer, to be used again. It fits, since it came from here. Returns whether a thread waits.
     pub(crate) fn give_back(&mut self, bench: Bench<S>) -> bool {
         let kept = if bench.has_work() {
             self.free.push_back(bench)

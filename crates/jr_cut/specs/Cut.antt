@@ -5,7 +5,7 @@ use Rattle.jr_base.specs.declared.marker.TheConstants.{EOI, PREFIX, RST0, SOI}
 use Rattle.jr_cut.specs.declared.scan_end.ScanEnd.{ScanEnd}
 use Rattle.jr_cut.specs.declared.scan_end.ScanEnd.TheVariants.{EndOfImage, OtherMarker, OutOfStep, ExtraRestart, EndOfFile}
 
--- how a data byte is spelled: by itself, or FF by so many more FF and 00
+-- how a data byte is spelled: by itself, or FF by the given number of further FF and 00
 pub data Spelling : Type 0 where
   Plain : ℕ → Spelling
   Stuffed : ℕ → Spelling
@@ -33,7 +33,7 @@ pub record IsRaw (raw bytes : List ℕ) : Type 0 where
 abbrev pub marker : ℕ → ℕ → List ℕ
 marker more code = PREFIX ∷ (replicate more PREFIX ++ code ∷ [])
 
--- a segment behind a restart marker: the marker's further FF, the segment's bytes as they stand and what they spell
+-- a segment after a restart marker: the marker's further FF, the segment's bytes as they are and the data that they spell
 pub record CodedSegment : Type 0 where
   pub more : ℕ
   pub raw : List ℕ
@@ -47,7 +47,7 @@ with_markers k (p ∷ ps) = marker p.more (RST0 + k % 8) ++ (p.raw ++ with_marke
 abbrev pub HasMarker : List ℕ → ℕ → Type 0
 HasMarker tail code = (more : ℕ) × (rest : List ℕ) × (tail ≡ marker more code ++ rest)
 
--- what ends the scan: n intervals, the last segment is number k, and tail stands at that offset
+-- what ends the scan: n intervals, the last segment is number k, and tail is at that offset
 abbrev pub IsEnding : (n k at : ℕ) → List ℕ → ScanEnd → Type 0
 IsEnding n k at tail EndOfFile = (more : ℕ) × (tail ≡ replicate more PREFIX)
 IsEnding n k at tail EndOfImage = HasMarker tail EOI
@@ -68,7 +68,7 @@ pub record CutFrom (n k at : ℕ) (bytes : List ℕ) (datas : List (List ℕ)) (
   pub means : datas ≡ first ∷ map (λ p. p.bytes) segments
   pub ends : IsEnding n (k + length segments) (at + length (raw ++ with_markers k segments)) tail end
 
--- the scan's bytes, of which the first stands at that offset of the file
+-- the scan's bytes, of which the first is at that offset of the file
 abbrev pub IsCut : (n at : ℕ) → List ℕ → List (List ℕ) → ScanEnd → Type 0
 IsCut n at bytes datas end = CutFrom n 0 at bytes datas end
 

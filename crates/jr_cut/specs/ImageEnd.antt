@@ -6,7 +6,7 @@ use Rattle.jr_cut.specs.declared.scan_end.ScanEnd.TheVariants.{EndOfImage}
 use Rattle.jr_cut.specs.Cut.{marker, IsCut}
 use Rattle.jr_cut.specs.PartialCut.{PartialCutValue, HasCut}
 
--- the scan's bytes, of which the first stands at offset start, are ended by EOI, and the bytes after this marker begin at that offset
+-- the scan's bytes, of which the first is at offset start, are ended by EOI, and the bytes after this marker begin at that offset
 pub record IsImageEnd (n start : ℕ) (bytes : List ℕ) (at : ℕ) : Type 0 where
   pub datas : List (List ℕ)
   pub cut : IsCut n start bytes datas EndOfImage
@@ -20,7 +20,7 @@ abbrev pub IsImageEndOf : (n start : ℕ) → List ℕ → ScanEnd → Option �
 IsImageEndOf n start bytes end None = end ≢ EndOfImage
 IsImageEndOf n start bytes end (Some at) = IsImageEnd n start bytes at
 
--- these bytes of the scan have come, and those behind its segments are not read yet
+-- these bytes of the scan have come, and those after its segments are not read yet
 pub record HasCutToRest (start : ℕ) (bytes : List ℕ) (c : PartialCutValue) : Type 0 where
   pub cut : HasCut start bytes c
   pub rest : cut.tail ≡ c.rest

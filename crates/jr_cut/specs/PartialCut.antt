@@ -21,8 +21,8 @@ AreSegments k read [] = ⊥
 AreSegments k read (d ∷ []) = IsRaw read d
 AreSegments k read (d ∷ e ∷ ds) = (raw : List ℕ) × (more : ℕ) × (others : List ℕ) × (read ≡ raw ++ (marker more (RST0 + k % 8) ++ others)) × IsRaw raw d × AreSegments (suc k) others (e ∷ ds)
 
--- these bytes of the scan have come, the first of which stands at that offset of the file: those that are read are segments, and behind
--- them stands what has ended the scan; while no marker has, that is what is not read yet
+-- these bytes of the scan have come, the first of which is at that offset of the file: those that are read are segments, and after
+-- them is what has ended the scan; while no marker has, that is what is not read yet
 pub record HasCut (start : ℕ) (bytes : List ℕ) (c : PartialCutValue) : Type 0 where
   pub read : List ℕ
   pub tail : List ℕ

@@ -39,13 +39,13 @@ pub record HaveAll (old new : PartialSegments) : Type 0 where
   pub data_few : length new.bytes.unstuffed + old.at ≤ length old.bytes.unstuffed + new.at
   pub read : (start : ℕ) (bytes : List ℕ) → HaveRead start bytes old → HaveRead start bytes new
 
--- behind segment k stands the restart marker of its number, of that many bytes
+-- after segment k is the restart marker of its number, of the given number of bytes
 pub record BeginsWithRestart (k : ℕ) (tail : List ℕ) (count : ℕ) : Type 0 where
   pub more : ℕ
   pub long : count ≡ more + 2
   pub spelled : tail ≡ marker more (RST0 + k % 8) ++ drop count tail
 
--- what stands behind segment k: n segments at most, the tail at that offset
+-- what follows segment k: n segments at most, the tail at that offset
 abbrev pub IsStopOf : (n k at : ℕ) → List ℕ → Stop → Type 0
 IsStopOf n k at tail (Restart count) = (k + 1 < n) × BeginsWithRestart k tail count
 IsStopOf n k at tail (End end) = IsEnding n k at tail end

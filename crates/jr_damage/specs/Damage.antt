@@ -9,7 +9,7 @@ abbrev pub TellsDamage : IntervalValue → Bool → Type 0
 TellsDamage i true = HasNoDecoding i
 TellsDamage i false = HasDecoding i
 
--- of the first n intervals of a scan so many are damaged; marks tells for each whether it is
+-- the number of damaged intervals among the first n of a scan; marks has for each whether it is damaged
 pub record CountsDamaged (s : ScanValue) (n count : ℕ) : Type 0 where
   pub marks : List Bool
   pub long : length marks ≡ n

@@ -6,7 +6,7 @@ use Rattle.jr_head.specs.Geometry.{vertical_max, mcus_across}
 pub use Rattle.jr_head.specs.Intervals.{first_mcu_of, mcus_in}
 use Rattle.jr_damage.specs.declared.lines.Lines.{Lines}
 
--- an MCU covers a line of the picture: it stands in the row of MCUs, each 8 Vmax lines high, that the line is in
+-- an MCU covers a line of the picture: it is in the row of MCUs, each 8 Vmax lines high, that the line is in
 pub record Covers (h : HeadValue) (mcu line : ℕ) : Type 0 where
   pub row : mcu / mcus_across h ≡ line / (8 * vertical_max h)
   pub within : line < h.height
@@ -28,7 +28,7 @@ pub record AreLinesOf (h : HeadValue) (i : ℕ) (l : Lines) : Type 0 where
   pub touched : (line : ℕ) → HasLine l line → Touches h i line
   pub some : l.first ≤ l.last
 
--- some MCUs that follow one another stand in rows of so many MCUs, each so many lines high, which cover a picture
+-- consecutive MCUs are in rows of the given number of MCUs, each of the given height in lines, which cover an image
 pub record AreRows (across high height first count : ℕ) : Type 0 where
   pub across_some : 0 < across
   pub high_some : 0 < high

@@ -1,4 +1,4 @@
--- What a check tells of the first intervals of a scan.
+-- What a check reports of the first intervals of a scan.
 use Rattle.std.specs.Prelude.{ℕ, ◌<◌, ◌≤◌, List, Option, Some, None}
 use Rattle.jr_head.specs.Heads.{HeadOf}
 use Rattle.jr_scan.specs.Mcus.{HasNoDecoding}
@@ -26,7 +26,7 @@ abbrev pub IsTouched : ScanValue → ℕ → Option Lines → Type 0
 IsTouched s n None = (line : ℕ) → DamageTouches s n line → ⊥
 IsTouched s n (Some l) = IsHull s n l
 
--- how many of the first n intervals are damaged, and which lines these touch
+-- the number of damaged intervals among the first n, and the lines that these touch
 pub record IsVerdictOf (s : ScanValue) (n : ℕ) (v : Verdict) : Type 0 where
   pub damaged : CountsDamaged s n v.damaged
   pub lines : IsTouched s n v.lines

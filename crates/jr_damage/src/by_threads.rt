@@ -16,7 +16,7 @@ use std::marker::Brand;
 use std::sync::Wait;
 use std::thread::Threads;
 
-/// Returns how many of `threads` threads are worth their start next to the one that reads.
+/// Returns the number of threads, at most `threads`, that are worth starting next to the one that reads.
 fn helpers_of(scan: &Scan, threads: u32) -> u32 {
     let mut windows: u64 = 0;
     for i in 0..scan.intervals().min(MAX_COUNTED) {

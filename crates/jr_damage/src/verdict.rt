@@ -53,7 +53,7 @@ fn with_front(scan: &Scan, i: u32, front: Option<u32>, before: Verdict) -> Verdi
     }
 }
 
-/// Reads each interval of a scan once, and returns how many have no decoding (T.81, Annex F). It transforms nothing and
+/// Reads each interval of a scan once, and returns the number without a decoding (T.81, Annex F). It transforms nothing and
 /// allocates nothing.
 pub fn check_scan(scan: &Scan) -> Verdict
     ensures { IsVerdictOf scan.now (length scan.now.intervals) result }

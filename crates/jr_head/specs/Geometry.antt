@@ -10,7 +10,7 @@ use Rattle.jr_segments.specs.declared.kind.Kind.{Kind}
 use Rattle.jr_segments.specs.declared.kind.Kind.TheVariants.{Grey, Rgb, Ycc}
 use Rattle.jr_head.specs.HeadValue.{HeadValue}
 
--- how many components a picture of this kind has
+-- the number of components of an image of this kind
 abbrev pub component_count : Kind → ℕ
 component_count Grey = 1
 component_count Rgb = 3
@@ -55,7 +55,7 @@ horizontal_max h = greatest_across h.components
 abbrev pub vertical_max : HeadValue → ℕ
 vertical_max h = greatest_down h.components
 
--- how many data units of a component an MCU holds
+-- the number of data units of a component in an MCU
 abbrev pub units_of : Component → ℕ
 units_of c = c.horizontal * c.vertical
 
@@ -99,7 +99,7 @@ pub record IsSubsampled (across down : ℕ) (c : Component) : Type 0 where
   pub across_divides : across % c.horizontal ≡ 0
   pub down_divides : down % c.vertical ≡ 0
 
--- both code tables are lawful (Annex C)
+-- both code tables are valid (Annex C)
 pub record IsCoded (c : Component) : Type 0 where
   pub dc : codes.IsLawfulTable c.dc.counts c.dc.symbols
   pub ac : codes.IsLawfulTable c.ac.counts c.ac.symbols

@@ -12,7 +12,7 @@ intervals_of h = if h.restart == 0 then 1 else div_ceil (mcus_of h) h.restart
 abbrev pub first_mcu_of : HeadValue → ℕ → ℕ
 first_mcu_of h i = i * h.restart
 
--- how many MCUs interval i has: the restart interval, or the rest
+-- the number of MCUs of interval i: the restart interval, or the rest
 abbrev pub mcus_in : HeadValue → ℕ → ℕ
 mcus_in h i = if h.restart == 0 then mcus_of h else min h.restart (mcus_of h - i * h.restart)
 

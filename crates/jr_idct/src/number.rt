@@ -1,4 +1,4 @@
-//! Numbers of 64 bits that a pass reckons in.
+//! The 64-bit numbers of a pass.
 
 ghost use Rattle.std.specs.Prelude.{◌≡◌, ℕ, ℤ, ◌+◌, ◌*◌, ◌<◌, pos, ◌+ℤ◌, ◌-ℤ◌};
 ghost use Rattle.std.proofs.Math.IntN.{◌*ℤ◌};
@@ -11,14 +11,14 @@ pub(crate) const COLUMN_BITS: u32 = 11;
 /// Number of bits that the pass over rows drops: those 13, the two, and three for the sum's scale of 8.
 pub(crate) const ROW_BITS: u32 = 18;
 
-/// A signed number. What a pass makes of numbers within its reach is exact.
+/// A signed number. A pass over numbers within its reach is exact.
 ///
-/// It is a trait, though one type has it, since a proof over any `Number` meets no step from bits to numbers and back.
+/// It is a trait, though one type implements it: a proof over any `Number` has no conversion between bits and numbers.
 pub(crate) trait Number: Copy {
     // the whole number that it encodes
     ghost value: { Self → ℤ };
 
-    // how large the numbers may be that a pass is given
+    // the bound on the inputs of a pass
     ghost reach: { ℕ };
 
     /// Returns the sum of the two.

@@ -178,8 +178,8 @@ fn byte_rows(t: Rows) -> Bytes
     turned_bytes((c0, c1, c2, c3))
 }
 
-/// Returns the samples of two blocks side by side, two rows of each a vector. It is no part of its callers: there its
-/// rows would be taken apart byte by byte.
+/// Returns the samples of two blocks side by side, two rows of each in a vector. It is not inlined: in its callers the rows
+/// would be taken apart byte by byte.
 #[inline(never)]
 fn sample_rows(x: Rows) -> Bytes
     requires { (k p : ℕ) → k < 8 → p < 16 → IsWithin MOST_PRODUCT (lane (x.0 ∷ x.1 ∷ x.2 ∷ x.3 ∷ x.4 ∷ x.5 ∷ x.6 ∷ x.7 ∷ []) k p) }

@@ -1,4 +1,4 @@
-//! Columns of bytes of two blocks put together to rows, in lanes.
+//! Columns of bytes of two blocks transposed to rows, in lanes.
 
 ghost use Rattle.std.specs.Prelude.{◌≡◌, ℕ, ◌+◌, ◌*◌, ◌/◌, ◌%◌, ◌<◌, [], ◌∷◌, ◌++◌, slice_index, slice_index_or};
 ghost use Rattle.std.specs.Simd.Lanes.{pick_l};

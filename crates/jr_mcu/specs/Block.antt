@@ -5,7 +5,7 @@ use Rattle.jr_code.specs.Bits.{value}
 use Rattle.jr_code.specs.Code.{Table, IsWord}
 
 -- what follows the first coefficient: sixteen zeros by a word of F0, or a run of zeros and a value by the word of
--- their numbers and as many extra bits as the size says
+-- their numbers and as many additional bits as the size says
 pub data AcCode : Type 0 where
   ZeroRun : List Bool → AcCode
   RunAndSize : ℕ → ℕ → List Bool → List Bool → AcCode
@@ -60,7 +60,7 @@ pub record CodedAt (dc ac : Table) (difference : ℤ) (others : List ℤ) (bits 
 abbrev pub IsInDcRange : ℤ → Type 0
 IsInDcRange z = (neg_ℤ (pos 32768) ≤ℤ z) × (z ≤ℤ pos 32767)
 
--- what the others can be: at most ten extra bits give them
+-- what the others can be: at most ten additional bits give them
 abbrev pub IsInAcRange : ℤ → Type 0
 IsInAcRange z = (neg_ℤ (pos 1023) ≤ℤ z) × (z ≤ℤ pos 1023)
 

@@ -5,7 +5,7 @@ use Rattle.jr_head.specs.HeadValue.{HeadValue}
 use Rattle.jr_paint.specs.declared.geometry.Spot.{Spot}
 use Rattle.jr_head.specs.Geometry.{horizontal_of, vertical_of, horizontal_max, vertical_max, mcus_across, blocks_before}
 
--- how many columns and lines of samples component c has (T.81, A.1.1)
+-- the number of columns and lines of samples of component c (T.81, A.1.1)
 abbrev pub samples_across : HeadValue → ℕ → ℕ
 samples_across h c = div_ceil (h.width * horizontal_of h c) (horizontal_max h)
 

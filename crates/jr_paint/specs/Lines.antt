@@ -64,7 +64,7 @@ two_lines_of h f y = line_of h f y ++ line_of h f (y + 1)
 abbrev pub next_lines_of : HeadValue → (ℕ → ℕ → ℕ → ℕ) → ℕ → ℕ → List ℕ
 next_lines_of h f y n = flat_map (line_of h f) (range_with_len y n)
 
--- how many bytes a line has
+-- the size of a line in bytes
 abbrev pub line_size : HeadValue → ℕ
 line_size h = pixel_size h.kind * h.width
 

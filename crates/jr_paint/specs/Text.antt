@@ -25,7 +25,7 @@ bytes_of Grey v = v 0 ∷ []
 bytes_of Rgb v = colour_of Rgb (v 0) (v 1) (v 2)
 bytes_of Ycc v = colour_of Ycc (v 0) (v 1) (v 2)
 
--- how many bytes a pixel has
+-- the size of a pixel in bytes
 abbrev pub pixel_size : Kind → ℕ
 pixel_size Grey = 1
 pixel_size Rgb = 3

@@ -1,4 +1,4 @@
-//! The meaning of an image of a scan: the marks of its intervals, and the samples that each shows.
+//! The meaning of an image of a scan: the marks of its intervals, and the samples of each.
 //!
 //! The headline, that each interval of an image shows what its mark says, is `IsPicture` in specs/Headline.antt.
 #![tactic(auto)]

@@ -1,4 +1,4 @@
--- What contracts see of a piece: its interval, whether it has a decoding, how many MCUs are shown, and the samples of
+-- What contracts see of a piece: its interval, whether it has a decoding, the number of MCUs shown, and the samples of
 -- each of their data units.
 use Rattle.std.specs.Prelude.{ℕ, Bool, List}
 use Rattle.jr_scan.specs.IntervalValue.{IntervalValue}

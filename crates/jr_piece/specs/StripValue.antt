@@ -24,7 +24,7 @@ pub record StripValue : Type 0 where
   pub mcus : ℕ
   pub samples : List (List ℕ)
 
--- how many MCUs are read, and where the next one starts; no place where no whole MCU follows
+-- the number of MCUs read, and where the next one starts; no position if no whole MCU follows
 pub record ReadingValue : Type 0 where
   pub interval : IntervalValue
   pub first : ℕ

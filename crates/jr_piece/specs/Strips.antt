@@ -100,7 +100,7 @@ shared_strips strips = map arc_value strips
 abbrev pub AreOf : IntervalValue → List StripValue → Type 0
 AreOf i strips = All (λ s. s.interval ≡ i) strips
 
--- how many MCUs each strip has but for the last: as many as the first one
+-- the number of MCUs of each strip but the last: that of the first one
 abbrev pub mcus_of_each : List StripValue → ℕ
 mcus_of_each [] = 1
 mcus_of_each (s ∷ more) = s.mcus

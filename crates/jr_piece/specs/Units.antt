@@ -7,7 +7,7 @@ use Rattle.jr_piece.specs.Outcome.{unit_of}
 abbrev pub zero_block : List ℤ
 zero_block = replicate 64 (pos 0)
 
--- a data unit that is shown in place of a missing one: its samples are those of a block of zeros (T.81, A.3.1)
+-- a data unit that is shown instead of a missing one: its samples are those of a block of zeros (T.81, A.3.1)
 abbrev pub grey_unit : List ℕ
 grey_unit = replicate 64 128
 

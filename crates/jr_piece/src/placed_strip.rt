@@ -13,7 +13,7 @@ use std::alloc::Global;
 use std::marker::Model;
 use std::sync::Arc;
 
-/// Whole MCUs of an interval that follow one another, and the place where the first of them starts: they are passed over,
+/// Whole MCUs of an interval that follow one another, and the position at which the first of them starts: they are skipped,
 /// and none of their blocks is kept.
 #[derive(Drop)]
 pub struct PlacedStrip {
@@ -68,7 +68,7 @@ impl PlacedStrip {
         ensures strip { IfOk result IsStrip }
     {
         let coded: &Interval = &self.interval;
-        // By its contract an interval's head is lawful.
+        // By its contract an interval's header is valid.
         let _lawful = coded.head();
         let mut reader = McuReader::at(coded.as_ref(), self.from, self.mcus);
         let samples = read_samples(alloc, &mut reader, guesses, self.mcus as usize)?;

@@ -26,7 +26,7 @@ struct Run {
     next: Option<Place>,
 }
 
-/// Returns how many of `mcus` MCUs the bits after a position can code, if each data unit takes two bits or more.
+/// Returns the number of MCUs, at most `mcus`, that the bits after a position can code, if each data unit takes two bits or more.
 fn most_mcus(interval: &Interval, from: Place, mcus: u32) -> u32
     ensures claimed { result ≤ mcus }
     ensures enough { (k : ℕ) (zs : List (List ℤ)) (to : Place) → IsRun (run_from interval.now from k) zs to AllRead → k ≤ mcus → k ≤ result }
@@ -87,7 +87,7 @@ fn pass_run(interval: &Interval, from: Place, guesses: &Guesses, mcus: u32) -> P
     ensures can { IfSome result.next (CanReadFrom interval.now) }
     ensures none { IfNone result.next (result.mcus < mcus) }
 {
-    // By its contract an interval's head is lawful.
+    // By its contract an interval's header is valid.
     let _lawful = interval.head();
     let mut reader = McuReader::at(interval.as_ref(), from, mcus);
     let passed = reader.skip_by(guesses, mcus);
@@ -134,7 +134,7 @@ impl StripReader {
         }
     }
 
-    /// Lends the reader blocks whose memory the next strip takes.
+    /// Gives the reader blocks whose memory the next strip reuses.
     pub fn lend(&mut self, blocks: Vec<Coefficients>)
         ensures { self.new ≡ self.old }
     {
@@ -252,7 +252,7 @@ impl StripReader {
         ensures sound { IsTrue result → (zs : List (List ℤ)) → Front self.now.interval self.now.first zs → Decodes self.now.interval zs }
         ensures damaged { result ≡ false → HasLongestFront self.now.interval self.now.first → HasNoDecoding self.now.interval }
     {
-        // By its contract an interval's head is lawful.
+        // By its contract an interval's header is valid.
         let _lawful = self.interval.head();
         let Some(place) = self.next else {
             return false;

@@ -8,7 +8,7 @@ use jr_head::Head;
 
 /// A destination of the samples of data units, MCU after MCU.
 pub trait UnitSink {
-    // whether it has room for MCUs of a picture with this head
+    // whether it has space for MCUs of an image with this header
     ghost has_room: { HeadValue → Self → Type 0 };
 
     // the samples of the data units, in the order of their MCUs

@@ -2,7 +2,7 @@
 use Rattle.std.specs.Prelude.{ℕ}
 use Rattle.jr_scan.specs.ScanValue.{ScanValue}
 
--- a scan, and how many of its intervals are decoded, from the first on
+-- a scan, and the number of its first intervals that are decoded
 pub record FirstIntervalsValue : Type 0 where
   pub scan : ScanValue
   pub limit : ℕ

@@ -8,7 +8,7 @@ use Rattle.jr_rows.specs.Groups.{all_lines, group_of, groups_across}
 use Rattle.jr_rows.specs.RowLinesValue.{RowLinesValue}
 use Rattle.jr_rows.specs.declared.shape.TheConstants.{BLOCKS_AT_ONCE}
 
--- how many MCUs are read before they are transformed
+-- the number of MCUs that are read before they are transformed
 abbrev pub mcus_at_once : HeadValue → ℕ
 mcus_at_once h = BLOCKS_AT_ONCE / blocks_of h
 

@@ -36,7 +36,7 @@ intervals_before h m = if nat_le (mcus_of h) m then intervals_of h else interval
 abbrev pub coded_before : HeadValue → (n row : ℕ) → ℕ
 coded_before h n row = min (row * mcus_across h) (mcus_before h n)
 
--- how many of a row's MCUs are decoded: its first ones
+-- the number of a row's first MCUs that are decoded
 abbrev pub coded_in : HeadValue → (n row : ℕ) → ℕ
 coded_in h n row = coded_before h n (row + 1) - coded_before h n row
 
@@ -98,7 +98,7 @@ pub record HasSampleRoom (h : HeadValue) (r : SampleRowValue) : Type 0 where
   pub lines : HasLines h r.lines
   pub room : r.room ≡ line_room h
 
--- the first line of pixels of a row of MCUs, and how many it has
+-- the first line of pixels of a row of MCUs, and the number of its lines
 abbrev pub first_line : HeadValue → ℕ → ℕ
 first_line h row = row * (8 * vertical_max h)
 

@@ -22,7 +22,7 @@ abbrev pub CountsBetween : ScanValue → (from to : ℕ) → Marked → Type 0
 CountsBetween scan from to m =
     let n = length scan.intervals in CountsMcus scan n (coded_before scan.head n from) (coded_before scan.head n to) m
 
--- how many intervals end before a row of MCUs
+-- the number of intervals that end before a row of MCUs
 abbrev pub ended_before : ScanValue → ℕ → ℕ
 ended_before scan row = intervals_before scan.head (coded_before scan.head (length scan.intervals) row)
 

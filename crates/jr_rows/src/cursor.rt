@@ -109,7 +109,7 @@ impl Cursor {
         ensures number { self.new.number ≡ self.old.number }
         ensures mcu { self.new.mcu ≡ self.old.mcu + mcus }
     {
-        // By its contract an interval's head is lawful.
+        // By its contract an interval's header is valid.
         let _lawful = interval.head();
         self.mcu += mcus;
         let Some(place) = self.place else {
@@ -129,7 +129,7 @@ impl Cursor {
         requires all { self.now.mcu ≡ interval.now.mcus }
         ensures { (p : PieceValue) → IsOutcome p → p.interval ≡ interval.now → p.is_sound ≡ result }
     {
-        // By its contract an interval's head is lawful.
+        // By its contract an interval's header is valid.
         let _lawful = interval.head();
         let Some(place) = self.place else {
             return false;

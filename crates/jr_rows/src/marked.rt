@@ -1,4 +1,4 @@
-//! How many intervals are sound and damaged.
+//! The numbers of sound and damaged intervals.
 
 ghost use Rattle.std.specs.Prelude.{◌≡◌, ◌+◌, ◌<◌, ◌^◌, cond};
 

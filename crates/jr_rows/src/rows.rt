@@ -18,7 +18,7 @@ use crate::shape::{coded_of_row, mcus_at_once, shape_of, units_to};
 use jr_base::Coefficients;
 use jr_piece::transform_blocks;
 
-/// The rows of MCUs of a scan starting at one of them. Each call takes the scan, and what of it is decoded.
+/// The rows of MCUs of a scan starting at one of them. Each call takes the scan and the part of it that is decoded.
 #[derive(Clone, Copy)]
 pub struct Rows {
     /// The row that comes next.

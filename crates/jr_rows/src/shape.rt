@@ -80,7 +80,7 @@ pub(crate) fn mcus_at_once(head: &Head) -> u32
     (BLOCKS_AT_ONCE / head.order().len()) as u32
 }
 
-/// Returns the first line of pixels of a row of MCUs, and how many lines it has.
+/// Returns the first line of pixels of a row of MCUs, and the number of its lines.
 pub fn lines_of(head: &Head, row: u32) -> (u32, u32)
     requires { row < mcus_down head.now }
     ensures first { result.0 ≡ first_line head.now row }

@@ -1,4 +1,4 @@
--- What an interval is: its number, how many MCUs it codes, its bytes without stuffing, and the head that it is read by.
+-- What an interval is: its number, the number of MCUs that it codes, its bytes without stuffing, and the header by which it is read.
 use Rattle.std.specs.Prelude.{ℕ, ◌<◌, ◌^◌, List, length}
 use Rattle.jr_head.specs.Geometry.{IsLawful}
 use Rattle.jr_head.specs.HeadValue.{HeadValue}
@@ -9,7 +9,7 @@ pub record IntervalValue : Type 0 where
   pub bytes : List ℕ
   pub head : HeadValue
 
--- the invariant of a borrowed interval: its header is lawful, and the number of its bits fits
+-- the invariant of a borrowed interval: its header is valid, and the number of its bits fits
 pub record IsIntervalRef (i : IntervalValue) : Type 0 where
   pub lawful : IsLawful i.head
   pub few : length i.bytes < 2 ^ 61

@@ -14,7 +14,7 @@ pub record McuReaderValue : Type 0 where
   pub mcu : ℕ
   pub place : Place
 
--- how many blocks an MCU has
+-- the number of blocks of an MCU
 abbrev pub per_mcu : McuReaderValue → ℕ
 per_mcu r = length (order_of r.run.interval.head)
 

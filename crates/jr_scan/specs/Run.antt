@@ -7,7 +7,7 @@ use Rattle.jr_scan.specs.declared.place.RunEnd.TheVariants.{AllRead, NoMcu}
 use Rattle.jr_scan.specs.IntervalValue.{IntervalValue}
 use Rattle.jr_mcu.specs.Mcus.{no_predictions, Mcus, predicted, BeginsNoMcu}
 
--- a run of MCUs of an interval: where it starts, and how many MCUs it has at most
+-- a run of MCUs of an interval: where it starts, and the maximum number of its MCUs
 pub record RunOf : Type 0 where
   pub interval : IntervalValue
   pub from : Place

@@ -177,7 +177,7 @@ impl Guess {
         ensures within { IfSome result (λ to. to.bit ≤ 8 * length interval.now.bytes) }
         ensures in_range { IfSome result (λ to. All IsInDcRange to.predictions) }
     {
-        // By its contract the head is lawful.
+        // By its contract the header is valid.
         let _head = interval.head();
         if k >= self.mcus.len() {
             return None;

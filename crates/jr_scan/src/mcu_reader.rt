@@ -78,7 +78,7 @@ impl<'a> McuReader<'a> {
         ensures mcu { result.mcu ≡ 0 }
         ensures read { HasRead result [] }
     {
-        // By its contract the head is lawful.
+        // By its contract the header is valid.
         let _head = interval.head();
         let bits = bits_from(interval.bytes(), from.bit);
         let predictions = from.predictions;

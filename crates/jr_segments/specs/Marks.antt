@@ -1,4 +1,4 @@
--- Marks that tell the colours: a rule of this project, after JFIF and Adobe's APP14.
+-- Marks that determine the colours: a rule of this project, after JFIF and Adobe's APP14.
 use Rattle.std.specs.Prelude.{ℕ, ◌==◌, Bool, false, ◌&&◌, not, nat_le, nat_eq, List, [], ◌∷◌, length, codes, ◌++◌, Option, Some, None, is_some, if◌then◌else◌}
 use Rattle.std.specs.List.{starts_with}
 use Rattle.std.specs.Option.{option_and_then, option_map_or}

@@ -10,7 +10,7 @@ use Rattle.jr_segments.specs.Bytes.{high, low}
 use Rattle.jr_segments.specs.Tests.{Test, ◌when◌}
 use Rattle.jr_segments.specs.Tables.{tables, last_where}
 
--- how many bytes the elements take
+-- the size of the elements in bytes
 abbrev pub elements_len : ℕ → ℕ
 elements_len b = if high b == 1 then 128 else 64
 

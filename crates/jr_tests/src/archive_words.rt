@@ -3,7 +3,7 @@
 use crate::archive::owned;
 use jr_base::Tally;
 use jri_archive::{
-    FileCounts, LineForm, answer as answer_by, asked, tell_counts, write_counts_line,
+    FileCounts, LineForm, answer as answer_by, asked, append_counts_line, write_counts_line,
 };
 use std::alloc::Global;
 use std::io::{Cursor, Error, ErrorKind, Result as IoResult, Write};
@@ -135,7 +135,7 @@ fn counts_are_written_whole(rt: HostRuntime) -> Result<(), Fail> {
     };
     let (mut line, mut wanted) = (Vec::new(rt.alloc()), String::new(rt.alloc()));
     write_counts_line(&mut line, counts)?;
-    tell_counts(&mut wanted, counts)?;
+    append_counts_line(&mut wanted, counts)?;
     assert!(rt; line.as_slice() == wanted.as_bytes());
     Ok(())
 }

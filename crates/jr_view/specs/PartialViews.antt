@@ -22,7 +22,7 @@ pub record PartialViewValue : Type 0 where
 abbrev pub view_of : PartialFileValue → (pixels row : List ℕ) → PartialViewValue
 view_of partial_file pixels row = record { partial_file = partial_file; pixels = pixels; room = length row }
 
--- how many lines are shown
+-- the number of lines shown
 abbrev pub lines_shown : PartialViewValue → ℕ
 lines_shown v = given_of v.partial_file.partial_image
 

@@ -32,7 +32,7 @@ sample_in_view v = sample_by_units v.scan.head (sample_seen v)
 abbrev pub has_seen_row : HeadValue → List Bool → ℕ → Bool
 has_seen_row h seen row = list_all (λ b. b) (slice_range seen (row * mcus_across h) ((row + 1) * mcus_across h))
 
--- how many rows of MCUs were seen whole
+-- the number of rows of MCUs that were seen whole
 unfoldable pub whole_rows : ViewValue → ℕ
 whole_rows v = count_by (has_seen_row v.scan.head v.seen) (range_with_len 0 (mcus_down v.scan.head))
 

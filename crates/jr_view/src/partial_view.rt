@@ -267,7 +267,7 @@ impl PartialView {
         &self.pixels
     }
 
-    /// Shows the lines that the bytes so far settle.
+    /// Shows the lines that the bytes so far make final.
     ///
     /// # Errors
     ///

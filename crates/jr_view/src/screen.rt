@@ -1,4 +1,4 @@
-//! What shows a decoding.
+//! A screen on which a decoding is shown.
 
 ghost use Rattle.jr_view.specs.Told.{Notice, Asked, PieceOf, StripOf};
 
@@ -8,7 +8,7 @@ use jr_piece::{Piece, Strip};
 pub trait Screen {
     ghost use Rattle.jr_view.specs.Told.{Notice};
 
-    // How it changes by what it is told.
+    // How it changes by what is reported to it.
     ghost becomes: { Self → Notice → Self → Type 0 } = { λ _ _ _. Unit {0} };
 
     /// Shows a strip of a long interval, which can be seen from now on.

@@ -105,14 +105,14 @@ impl Decoding {
         &self.board
     }
 
-    /// Returns the cells that the workers hang their pieces into.
+    /// Returns the cells in which the workers publish their pieces.
     pub fn cells(&self) -> &Cells
         ensures { result.now ≡ self.now.cells }
     {
         &self.cells
     }
 
-    /// Returns the cells that the workers hang the strips of interval i into; none where it is decoded as a whole,
+    /// Returns the cells in which the workers publish the strips of interval i; none if it is decoded as a whole,
     /// being short or without the data.
     pub fn strips(&self, i: u32) -> Option<&StripCells>
         ensures cells { option_copied result ≡ strips_at self.now i }

@@ -20,7 +20,7 @@ impl Board {
         ensures counts { AreCounts (marks_of self.now) result.sound result.damaged result.blank }
     {
         self.be_lawful();
-        // By its contract a head is lawful.
+        // By its contract a header is valid.
         let _lawful = self.head();
         Counts {
             sound: self.sound(),

@@ -109,7 +109,7 @@ impl<S: OneScan> Reading<S> {
         }
     }
 
-    /// Lends it blocks whose memory the next strip takes.
+    /// Gives it blocks whose memory the next strip reuses.
     pub(crate) fn lend(&mut self, blocks: Vec<Coefficients>)
         ensures { self.new ≡ self.old }
     {

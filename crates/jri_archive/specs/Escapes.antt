@@ -2,7 +2,7 @@
 use Rattle.std.specs.Prelude.{◌≡◌, ◌≢◌, ℕ, ◌+◌, ◌/◌, ◌%◌, ◌<◌, List, [], ◌∷◌, map, nat_lt, if◌then◌else◌}
 use Rattle.std.specs.List.{flat_map, AllByRecursion}
 
--- a byte as it stands, or by its number
+-- a byte as it is, or by its number
 pub data NamePart : Type 0 where
   Plain : ℕ → NamePart
   Number : ℕ → NamePart
@@ -11,14 +11,14 @@ pub data NamePart : Type 0 where
 abbrev pub digit_of : ℕ → ℕ
 digit_of n = if nat_lt n 10 then 48 + n else 87 + n
 
--- the first digits: 00 for a byte of ASCII, dc for another, which is no text
+-- the first digits: 00 for a byte of ASCII, dc for another, which is not UTF-8
 abbrev pub first_of : ℕ → ℕ
 first_of b = if nat_lt b 128 then 48 else 100
 
 abbrev pub second_of : ℕ → ℕ
 second_of b = if nat_lt b 128 then 48 else 99
 
--- a backslash stands by its number alone
+-- a backslash is written by its number alone
 abbrev pub IsNamePart : NamePart → Type 0
 IsNamePart (Plain b) = b ≢ 92
 IsNamePart (Number b) = b < 256

@@ -6,7 +6,7 @@ use Rattle.jri_archive.specs.declared.names.NamedFile.{NamedFile}
 use Rattle.jri_archive.specs.declared.reading.ReadError.{ReadError}
 use Rattle.jri_archive.specs.declared.reading.ReadError.TheVariants.{NameIsNoText}
 
--- the names that words give behind the first ones; where a list follows it is not known how many there are
+-- the names among the arguments after the first ones; if a list follows, their number is not known
 abbrev pub names_left : {L : Type 0} → List (Vec ℕ) → ℕ → Option L → Option (List (List ℕ))
 names_left words taken None = Some (drop taken (map (λ w. w.items) words))
 names_left words taken (Some list) = None
@@ -21,11 +21,11 @@ abbrev pub IsNextGiven : List (List ℕ) → Option (Vec ℕ) → Option (List (
 IsNextGiven [] name left = (name ≡ None) × (left ≡ Some [])
 IsNextGiven (n ∷ ns) name left = (left ≡ Some ns) × ((taken : Vec ℕ) × (name ≡ Some taken) × (taken.items ≡ n))
 
--- a file is not opened since its name is no text
+-- a file is not opened since its name is not UTF-8
 abbrev pub IsNoText : List ℕ → ReadError → Type 0
 IsNoText name e = (e ≡ NameIsNoText) × (IsUtf8 name → ⊥)
 
--- a file has that name, is not opened only if the name is no text, and is not skipped
+-- a file has that name, is not opened only if the name is not UTF-8, and is not skipped
 pub record IsNamed (file : NamedFile) (name : List ℕ) : Type 0 where
   pub name_is : file.name.items ≡ name
   pub error : (e : ReadError) → file.error ≡ Some e → IsNoText file.name.items e

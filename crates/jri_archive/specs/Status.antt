@@ -1,4 +1,4 @@
--- What becomes of files, how many are what, and exit statuses.
+-- The states of files, the number of files in each, and exit statuses.
 use Rattle.std.specs.Prelude.{ℕ, Bool, ◌+◌, ◌-◌, ◌^◌, min, nat_lt, if◌then◌else◌}
 use Rattle.jri_archive.specs.declared.answers.RequestError.{RequestError}
 use Rattle.jri_archive.specs.declared.answers.RequestError.TheVariants.{Help, Wrong, Memory}

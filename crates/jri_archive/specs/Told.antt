@@ -1,4 +1,4 @@
--- What is told of files that have names.
+-- What is reported of files that have names.
 use Rattle.std.specs.Prelude.{◌≡◌, ◌≢◌, ℕ, ◌-◌, ◌^◌, ◌<◌, ◌≤◌, ◌⊎◌, Bool, true, false, List, [], Option, Some, None, drop, length, map, min, sum_by, slice_get, slice_index_or}
 use Rattle.std.specs.Global.{Vec}
 use Rattle.jri_archive.specs.declared.reading.ReadError.{ReadError}
@@ -27,7 +27,7 @@ IsStamped stamps knows name r = knows name r × stamps name r.stamp
 abbrev pub IsOther : (stamps : List ℕ → Stamp → Type 0) (knows : List ℕ → FileRecord → Type 0) → List ℕ → List ℕ → Type 0
 IsOther stamps knows name bytes = (r : FileRecord) × IsStamped stamps knows name r × (r.hash ≢ sha256 bytes)
 
--- a check of the file of that name may come to this: the file has such bytes, cannot be read for such a reason or has a name that is no text; an unchanged one has a record of its size and time
+-- a check of the file of that name may come to this: the file has such bytes, cannot be read for such a reason or has a name that is not UTF-8; an unchanged one has a record of its size and time
 abbrev pub IsCheckOf : (holds : List ℕ → List ℕ → Type 0) (fails : List ℕ → ReadError → Type 0) (stamps : List ℕ → Stamp → Type 0) (knows : List ℕ → FileRecord → Type 0) → List ℕ → Outcome → Type 0
 IsCheckOf holds fails stamps knows name (outcome.Checked c) = (bytes : List ℕ) × holds name bytes × IsOutcomeOf bytes (outcome.Checked c)
 IsCheckOf holds fails stamps knows name (outcome.Refused f) = (bytes : List ℕ) × holds name bytes × IsOutcomeOf bytes (outcome.Refused f)
@@ -61,7 +61,7 @@ pub record IsRecordOf (holds : List ℕ → List ℕ → Type 0) (stamps : List 
   pub state : file_state r.state ≡ state_of o
   pub stamp : stamps name r.stamp
 
--- further files can be told of
+-- further files can be reported
 abbrev pub is_open : CheckEnd → Bool
 is_open AllTold = true
 is_open NamesUnread = true
@@ -81,11 +81,11 @@ same_state Skipped Skipped = 1
 same_state Changed Changed = 1
 same_state a b = 0
 
--- how many files have that state, in 64 bits
+-- the number of files in that state, in 64 bits
 abbrev pub count_of : FileState → List FileState → ℕ
 count_of s states = min (sum_by (same_state s) states) (2 ^ 64 - 1)
 
--- how many files have which state
+-- the number of files in each state
 pub record AreCounted (c : FileCounts) (states : List FileState) : Type 0 where
   pub sound : c.sound ≡ count_of Sound states
   pub damaged : c.damaged ≡ count_of Damaged states
@@ -101,25 +101,25 @@ pub record IsToldOf (may_be : List ℕ → Outcome → Type 0) (names : List (Li
   pub is : may_be (slice_index_or names k []) outcome
   pub state : slice_index_or states k OutOfMemory ≡ state_of outcome
 
--- the first files of these names are told of, each once, and counted
+-- the first files of these names are reported, each once, and counted
 pub record AreTold (may_be : List ℕ → Outcome → Type 0) (names : List (List ℕ)) (told : ℕ) (c : FileCounts) : Type 0 where
   pub states : List FileState
   pub long : length states ≡ told
   pub counted : AreCounted c states
   pub each : (k : ℕ) → k < told → IsToldOf may_be names states k
 
--- the names that words give, where no list follows them and no folder is gone through
+-- the names among the arguments, if no list follows them and no directory is searched
 abbrev pub given_names : {L : Type 0} → Option L → Bool → List (Vec ℕ) → Option (List (List ℕ))
 given_names None false words = Some (map (λ w. w.items) words)
 given_names list is_recursive words = None
 
--- so many files are told of, of so many where that is known, and what they came to
+-- the number of reported files, of all files if that is known, and what they came to
 pub record QueueValue : Type 0 where
   pub told : ℕ
   pub files : Option ℕ
   pub report : CheckReport
 
--- what is told so far is told of the files that a proof knows
+-- what is reported so far is about the files that a proof knows
 pub record IsQueueOf (names : Option (List (List ℕ))) (may_be : List ℕ → Outcome → Type 0) (q : QueueValue) : Type 0 where
   pub few : (all : List (List ℕ)) → names ≡ Some all → length all < 2 ^ 64
   pub files : (all : List (List ℕ)) → names ≡ Some all → q.files ≡ Some (length all)

@@ -1,4 +1,4 @@
-//! What the words get instead of a check.
+//! The answer to arguments that ask for no check.
 
 ghost use Rattle.std.specs.Prelude.{◌≡◌};
 ghost use Rattle.jr_base.specs.Tally.{has_failed};
@@ -24,7 +24,7 @@ fn write_text<W: Write, E: Write>(out: &mut Tally<W>, errors: &mut E, text: &str
     }
 }
 
-/// Writes what the words get instead of a check, and returns the exit status. Faults of standard error are ignored.
+/// Writes the answer to arguments that ask for no check, and returns the exit status. Errors of standard error are ignored.
 pub fn answer<W: Write, E: Write>(out: &mut Tally<W>, errors: &mut E, unasked: &RequestError) -> u8
     ensures { result ≡ request_status unasked.now (has_failed out.new) }
 {

@@ -1,11 +1,11 @@
-//! What the words of a command line ask for, or why they ask for nothing.
+//! The request of a command line, or why there is none.
 
 ghost use Rattle.std.specs.Prelude.{◌≡◌};
 ghost use Rattle.jri_archive.specs.Status.{request_error_status};
 
 use std::alloc::AllocError;
 
-/// What is told of each file.
+/// What is reported of each file.
 #[derive(Clone, Copy, PartialEq, Eq)]
 pub struct LineForm {
     /// Whether there is a line for each damaged interval.
@@ -14,19 +14,19 @@ pub struct LineForm {
     pub has_sound: bool,
     /// Whether a line is a JSON object.
     pub is_json: bool,
-    /// Whether nothing is told of sound files.
+    /// Whether sound files have no line.
     pub is_quiet: bool,
 }
 
-/// What the words ask for.
+/// What the arguments ask for.
 #[derive(Drop)]
 pub struct CheckRequest {
-    /// How many files are checked at once: 1 to 64.
+    /// The number of files that are checked at once: 1 to 64.
     pub workers: u32,
     pub form: LineForm,
     /// Whether the counts are the last line of the output.
     pub has_counts: bool,
-    /// Whether of a folder that is named the JPEG files are checked, and those of its folders.
+    /// Whether the JPEG files in a directory of the arguments are checked, with those in its directories.
     pub is_recursive: bool,
     /// The file that has further names, each ended by a NUL byte; `-` is standard input.
     pub names_from: Option<String>,
@@ -36,11 +36,11 @@ pub struct CheckRequest {
     pub state: Option<String>,
     /// Whether files that the state file has are read again.
     pub is_verifying: bool,
-    /// The names that the words give, of whatever bytes the system has.
+    /// The names among the arguments, of any bytes that the system allows.
     pub names: Vec<Vec<u8>>,
 }
 
-/// Why the words ask for no check.
+/// Why the arguments ask for no check.
 #[derive(Debug, Drop)]
 pub enum RequestError {
     /// They ask for help or for the version, which is this text.
@@ -52,7 +52,7 @@ pub enum RequestError {
 }
 
 impl RequestError {
-    /// Returns the exit status: 0 for help and the version, 2 for wrong words, 4 for want of memory.
+    /// Returns the exit status: 0 for help and the version, 2 for invalid arguments, 4 if memory ran out.
     pub fn status(&self) -> u8
         ensures { result ≡ request_error_status self.now }
     {

@@ -1,4 +1,4 @@
-//! The words of a command line.
+//! The arguments of a command line.
 
 ghost use Rattle.std.specs.Prelude.{◌≤◌, IfOk};
 ghost use Rattle.jr_base.specs.declared.limits.TheConstants.{MAX_WORKERS};
@@ -11,7 +11,7 @@ use jr_base::VERSION;
 use jr_base::limits::MAX_WORKERS;
 use std::alloc::{AllocError, Global};
 
-/// Returns a word that is there or not.
+/// Returns an argument without a value.
 fn flag<'a>(alloc: Global, name: &'a str, help: &'a str) -> Arg<'a> {
     Arg::new(alloc, name)
         .long(name)
@@ -31,7 +31,7 @@ fn workers_argument<'a>(alloc: Global) -> Arg<'a> {
         .default_value("4")
 }
 
-/// Returns whether folders are gone through.
+/// Returns the argument by which directories are searched.
 fn recursive_argument<'a>(alloc: Global) -> Arg<'a> {
     flag(
         alloc,
@@ -41,7 +41,7 @@ fn recursive_argument<'a>(alloc: Global) -> Arg<'a> {
     .short('r')
 }
 
-/// Returns a list of names.
+/// Returns the argument of the list of names.
 fn list_argument<'a>(alloc: Global) -> Arg<'a> {
     Arg::new(alloc, "files0-from")
         .long("files0-from")
@@ -79,7 +79,7 @@ fn verify_argument<'a>(alloc: Global) -> Result<Arg<'a>, AllocError> {
     .requires_arg("state")
 }
 
-/// Returns the files.
+/// Returns the arguments that are names of files.
 fn files_argument<'a>(alloc: Global) -> Result<Arg<'a>, AllocError> {
     Arg::new(alloc, "files")
         .action(ArgAction::Append)
@@ -108,7 +108,7 @@ const DAMAGED_ALONE: &str = "damaged";
 
 const ALL: &str = "all";
 
-/// Returns the arguments that select what is reported.
+/// Adds the arguments that select what is reported.
 fn with_telling_words<'a>(alloc: Global, command: Command<'a>) -> Result<Command<'a>, AllocError> {
     command
         .arg(map_argument(alloc))?
@@ -117,7 +117,7 @@ fn with_telling_words<'a>(alloc: Global, command: Command<'a>) -> Result<Command
         .arg(flag(alloc, "counts", "Also print the counts as the last line"))
 }
 
-/// Returns the words that tell how many files are checked at once, and where further ones are found.
+/// Adds the arguments for the number of files that are checked at once, and for where further ones are found.
 fn with_finding_words<'a>(alloc: Global, command: Command<'a>) -> Result<Command<'a>, AllocError> {
     command
         .arg(workers_argument(alloc))?
@@ -128,7 +128,7 @@ fn with_finding_words<'a>(alloc: Global, command: Command<'a>) -> Result<Command
         .arg(verify_argument(alloc)?)
 }
 
-/// Returns the words that tell which files are checked.
+/// Adds the arguments that name files.
 fn with_file_words<'a>(alloc: Global, command: Command<'a>) -> Result<Command<'a>, AllocError> {
     command.arg(files_argument(alloc)?)
 }
@@ -144,7 +144,7 @@ Exit status, the first that applies:
   0  every file is sound
 The statuses 1 and 3 of jri mean other things.";
 
-/// Returns the program, without its words.
+/// Returns the program, without its arguments.
 fn wordless<'a>(alloc: Global) -> Command<'a> {
     Command::new(alloc, "jri_check")
         .about("Check baseline JPEG files for damage")
@@ -172,7 +172,7 @@ fn refusal(alloc: Global, error: &Error) -> RequestError {
     }
 }
 
-/// The names among the words.
+/// Returns the names among the arguments.
 fn names_in(
     alloc: Global,
     words: &[Vec<u8>],
@@ -195,7 +195,7 @@ fn list_in(alloc: Global, matches: &ArgMatches<'_>) -> Result<Option<String>, Al
     }
 }
 
-/// Returns whether standard input is to be both a file and the list of names.
+/// Returns whether standard input is both a file and the list of names.
 fn is_read_twice(names: &[Vec<u8>], names_from: &Option<String>) -> bool {
     let from_input = match names_from {
         Some(list) => list.as_str() == "-",
@@ -204,7 +204,7 @@ fn is_read_twice(names: &[Vec<u8>], names_from: &Option<String>) -> bool {
     from_input && names.iter().any(|name| name.as_slice() == b"-".as_slice())
 }
 
-/// The error of words by which standard input is to be both a file and the list of names.
+/// The error of arguments by which standard input is both a file and the list of names.
 const READ_TWICE: &str =
     "error: standard input cannot be both a FILE and the LIST of --files0-from\n";
 
@@ -226,7 +226,7 @@ fn state_in(alloc: Global, matches: &ArgMatches<'_>) -> Result<Option<String>, R
     Ok(Some(String::from_str(alloc, name)?))
 }
 
-/// The errors of names that no state file has.
+/// The errors of names that a state file cannot have.
 const STATE_INPUT: &str = "error: the STATE of --state cannot be standard input\n";
 
 const STATE_NAME: &str = "error: the name of the STATE of --state is not UTF-8\n";

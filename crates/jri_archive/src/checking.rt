@@ -1,4 +1,4 @@
-//! What is damaged of a file.
+//! The check of a file.
 
 ghost use Rattle.std.specs.Prelude.{◌≡◌, ◌≢◌, length, IfOk, IfErr};
 ghost use Rattle.jr_segments.specs.declared.refusal.Refusal.TheVariants as refusal;
@@ -13,7 +13,7 @@ use std::alloc::Global;
 use std::sync::Wait;
 use std::thread::Threads;
 
-/// A file's size and scan, and what is damaged of it.
+/// A file's size and scan, and which of its intervals are damaged.
 #[derive(Drop)]
 pub struct Checked {
     /// The size of the file in bytes.
@@ -24,8 +24,8 @@ pub struct Checked {
     pub verdict: Verdict,
 }
 
-/// Reads a file's head, cuts its scan, and reads each of its intervals once: a large scan by so many threads, of which the
-/// calling one is the first.
+/// Reads a file's header, cuts its scan, and reads each of its intervals once: a large scan with `threads` threads, of which
+/// the calling one is the first.
 ///
 /// # Errors
 ///
@@ -55,7 +55,7 @@ pub fn check_file<R: Threads + Wait + Sync>(
     })
 }
 
-/// `check_file` in the memory of the file's bytes, which are gone then.
+/// Checks a file as `check_file` does, and reuses the memory of its bytes.
 ///
 /// # Errors
 ///

@@ -1,19 +1,19 @@
-//! How many files are what, and the exit status.
+//! The number of files in each state, and the exit status.
 
 ghost use Rattle.std.specs.Prelude.{◌≡◌, not};
 ghost use Rattle.jri_archive.specs.Status.{counts_with, files_in, check_status};
 ghost use Rattle.jri_archive.specs.Told.{is_open};
 
-/// What became of a file.
+/// The state of a file.
 #[derive(Clone, Copy, PartialEq, Eq)]
 pub enum FileState {
     /// No interval of its scan is damaged.
     Sound,
     /// Some are.
     Damaged,
-    /// It has no head that is decoded, and is damaged or no JPEG file.
+    /// Its header is refused, and it is damaged or not a JPEG file.
     Refused,
-    /// It has no head that is decoded, and may be a valid JPEG file.
+    /// Its header is refused, and it may be a valid JPEG file.
     Unsupported,
     /// It cannot be read.
     Unread,
@@ -25,7 +25,7 @@ pub enum FileState {
     Changed,
 }
 
-/// How many files are what.
+/// The number of files in each state.
 #[derive(Clone, Copy, PartialEq, Eq)]
 pub struct FileCounts {
     pub sound: u64,
@@ -53,7 +53,7 @@ impl FileCounts {
         }
     }
 
-    /// These and one more.
+    /// Returns these counts with one more file.
     pub fn with(self, state: FileState) -> FileCounts
         ensures { result ≡ counts_with self state }
     {
@@ -74,14 +74,14 @@ impl FileCounts {
     }
 }
 
-/// Why no further file is told of.
+/// Why no further file is reported.
 #[derive(Clone, Copy, PartialEq, Eq)]
 pub enum CheckEnd {
     /// Each file has its line.
     AllTold,
     /// Further names could not be read.
     NamesUnread,
-    /// The lines could not be written; a beginning of them was.
+    /// The lines could not be written to their end.
     Unwritten,
     /// Memory ran out for a name or a line.
     Memory,
@@ -101,10 +101,10 @@ impl CheckEnd {
     }
 }
 
-/// What became of all files.
+/// What all files came to.
 #[derive(Clone, Copy)]
 pub struct CheckReport {
-    /// Of those whose lines are written.
+    /// The counts of those whose lines are written.
     pub counts: FileCounts,
     pub end: CheckEnd,
 }

@@ -47,7 +47,7 @@ fn text_of(bytes: &[u8]) -> &str
     }
 }
 
-/// Returns a digit to base 16.
+/// Returns a hexadecimal digit.
 fn digit(number: u8) -> u8
     requires { number < 16 }
     ensures { result ≡ digit_of number }
@@ -59,9 +59,9 @@ fn digit(number: u8) -> u8
     }
 }
 
-/// Puts a byte by its number: `\u00` and two digits, and `\udc` and two digits where it is none of ASCII, as Python has bytes
-/// that are no text.
-fn put_number(line: &mut String, byte: u8) -> Result<(), AllocError>
+/// Appends a byte by its number: `\u00` and two digits, or `\udc` and two digits if it is not ASCII, as Python writes bytes
+/// that are not UTF-8.
+fn write_number(line: &mut String, byte: u8) -> Result<(), AllocError>
     ensures { IfOk result (λ _. string_bytes line.new ≡ string_bytes line.old ++ spelt (Number byte)) }
 {
     let bytes = [
@@ -79,9 +79,9 @@ fn put_number(line: &mut String, byte: u8) -> Result<(), AllocError>
     }
 }
 
-/// Puts the text of a JSON string from which a name comes back: its text as it stands, and by their numbers controls, quotation
-/// marks, backslashes, and bytes that are no text.
-fn put_escaped(line: &mut String, name: &[u8]) -> Result<(), AllocError>
+/// Appends the text of a JSON string from which a name comes back: its text, with controls, quotation marks, backslashes, and
+/// bytes that are not UTF-8 by their numbers.
+fn write_escaped(line: &mut String, name: &[u8]) -> Result<(), AllocError>
     ensures { IfOk result (λ _. (text : List ℕ) × (string_bytes line.new ≡ string_bytes line.old ++ text) × IsEscaped text name.now) }
 {
     let mut at: usize = 0;
@@ -91,18 +91,18 @@ fn put_escaped(line: &mut String, name: &[u8]) -> Result<(), AllocError>
         line.push_str(text)?;
         at += text.len();
         if at < name.len() {
-            put_number(line, name[at])?;
+            write_number(line, name[at])?;
             at += 1;
         }
     }
     Ok(())
 }
 
-/// Puts a name as a JSON string.
-pub fn put_string(line: &mut String, name: &[u8]) -> Result<(), AllocError>
+/// Appends a name as a JSON string.
+pub fn write_string(line: &mut String, name: &[u8]) -> Result<(), AllocError>
     ensures { IfOk result (λ _. (text : List ℕ) × (string_bytes line.new ≡ string_bytes line.old ++ (34 ∷ (text ++ 34 ∷ []))) × IsEscaped text name.now) }
 {
     line.push_str("\"")?;
-    put_escaped(line, name)?;
+    write_escaped(line, name)?;
     line.push_str("\"")
 }

@@ -1,4 +1,4 @@
-//! Whose file is checked next, whose line is due, and where lines go.
+//! The queue of files whose lines are due, and the output of these lines.
 
 ghost use Rattle.std.specs.Prelude.{◌≡◌, ℕ, ◌<◌, ◌^◌, not, List, [], Some, None, true, false, length, slice_get, slice_index_or, IfSome};
 ghost use Rattle.jri_archive.specs.Outcomes.{IsOutcomeOf, plain_outcome, state_of};
@@ -6,40 +6,40 @@ ghost use Rattle.jri_archive.specs.Told.{AreTold, is_open};
 
 use crate::answers::LineForm;
 use crate::counts::{CheckEnd, CheckReport, FileCounts, FileState};
-use crate::json::{tell_counts_object, tell_object};
+use crate::json_lines::{write_counts_object, write_file_object};
 use crate::map::{TellError, write_breaks, write_map_in};
 use crate::names::NamesError;
 use crate::one_check::OneCheck;
 use crate::outcome::Outcome;
 use crate::state_record::FileRecord;
-use crate::telling::{tell, tell_counts};
+use crate::text_lines::{append_counts_line, append_file_line};
 use jr_mend::Break;
 use std::alloc::Global;
 use std::io::{Error, Write};
 use std::marker::{Model, PhantomData};
 
-/// What a check of a file came to, and its bytes where a map of the damage needs them.
+/// What the check of a file came to, and its bytes if a map of the damage needs them.
 #[derive(Drop)]
 pub(crate) struct CheckedFile {
     pub(crate) outcome: Outcome,
     pub(crate) bytes: Option<Vec<u8>>,
-    /// The markers that were out of step, if they are put in step.
+    /// The markers that were out of step, if the file was resynchronised.
     pub(crate) breaks: Option<Vec<Break>>,
     /// What is appended to a state file.
     pub(crate) entry: Option<FileRecord>,
 }
 
-/// Which line is due, and where lines go.
+/// The next line that is due, and the output of the lines.
 #[derive(Drop)]
 pub(crate) struct FileQueue<S: OneCheck, O, E> {
     form: LineForm,
-    /// How many files there are, where that is known.
+    /// The number of files, if it is known.
     files: Option<u64>,
-    /// Of so many files it is known what became of them.
+    /// The number of files that are checked.
     checked: u64,
-    /// So many workers have no file of their own, and help with one that is large.
+    /// The number of workers that have no file of their own and help with a large one.
     helping: u32,
-    /// So many are told of.
+    /// The number of files that are reported.
     told: u64,
     out: O,
     progress: Option<E>,
@@ -70,9 +70,9 @@ fn write_file_line<O: Write>(
     }
     let mut line = String::new(alloc);
     if form.is_json {
-        tell_object(&mut line, name, outcome)?;
+        write_file_object(&mut line, name, outcome)?;
     } else {
-        tell(&mut line, name, outcome)?;
+        append_file_line(&mut line, name, outcome)?;
     }
     out.write_all(line.as_bytes())?;
     Ok(())
@@ -111,15 +111,15 @@ pub(crate) fn write_counts<O: Write>(
 ) -> Result<(), TellError> {
     let mut line = String::new(alloc);
     if is_json {
-        tell_counts_object(&mut line, counts)?;
+        write_counts_object(&mut line, counts)?;
     } else {
-        tell_counts(&mut line, counts)?;
+        append_counts_line(&mut line, counts)?;
     }
     out.write_all(line.as_bytes())?;
     Ok(())
 }
 
-/// Erases how far it is, on a terminal, or writes it.
+/// Writes the progress, or erases it on a terminal.
 fn write_progress<E: Write>(
     errors: &mut E,
     told: u64,
@@ -162,14 +162,14 @@ impl<S: OneCheck, O: Write, E: Write + Drop> FileQueue<S, O, E> {
         }
     }
 
-    /// Returns whether lines can no longer be told.
+    /// Returns whether lines can no longer be written.
     pub(crate) fn is_over(&self) -> bool
         ensures { result ≡ not (is_open self.now.report.end) }
     {
         self.report.end.is_last()
     }
 
-    /// It is known by now how many files there are, if it was not known before.
+    /// Stores the number of files, if it was not known before.
     fn set_files(&mut self, files: u64) {
         if self.files.is_none() {
             self.files = Some(files);
@@ -198,13 +198,13 @@ impl<S: OneCheck, O: Write, E: Write + Drop> FileQueue<S, O, E> {
         helping.saturating_add(1)
     }
 
-    /// So many workers have checked a file.
+    /// Notes that a file was checked with `workers` workers.
     pub(crate) fn give_back(&mut self, workers: u32) {
         self.helping = self.helping.saturating_sub(workers.saturating_sub(1));
         self.checked = self.checked.saturating_add(1);
     }
 
-    /// Erases how far it is, on a terminal, or shows it.
+    /// Shows the progress, or erases it on a terminal.
     fn show_progress(&mut self, is_shown: bool)
         ensures { self.new ≡ self.old }
     {
@@ -215,7 +215,7 @@ impl<S: OneCheck, O: Write, E: Write + Drop> FileQueue<S, O, E> {
         }
     }
 
-    /// Notes why no further file is told of.
+    /// Notes why no further file is reported.
     fn end(&mut self, end: CheckEnd)
         ensures told { self.new.told ≡ self.old.told }
         ensures end { is_open self.old.report.end ≡ true → self.new.report.end ≡ end }
@@ -242,7 +242,7 @@ impl<S: OneCheck, O: Write, E: Write + Drop> FileQueue<S, O, E> {
         });
     }
 
-    /// Returns whether all files are told of, where it is known how many there are.
+    /// Returns whether all files are reported, if their number is known.
     fn has_told_all(&self) -> bool
         ensures { result ≡ true → (names : List (List ℕ)) → S.names ≡ Some names → self.now.told ≡ length names }
     {
@@ -252,8 +252,8 @@ impl<S: OneCheck, O: Write, E: Write + Drop> FileQueue<S, O, E> {
         }
     }
 
-    /// Nobody tells of a further file: what the files came to, and the output. A file that nobody has told of is as one that there was
-    /// no memory for.
+    /// Ends the reports, and returns what the files came to and the output. Allocation failed for a file that was not
+    /// reported.
     pub(crate) fn close(self) -> (CheckReport, O)
         ensures { result.0.end ≡ CheckEnd.AllTold → (names : List (List ℕ)) → S.names ≡ Some names → AreTold S.may_be names (length names) result.0.counts }
     {
@@ -265,7 +265,7 @@ impl<S: OneCheck, O: Write, E: Write + Drop> FileQueue<S, O, E> {
         (queue.report, queue.out)
     }
 
-    /// Notes what became of the next file.
+    /// Notes the state of the next file.
     fn note(&mut self, state: FileState)
         requires next { (names : List (List ℕ)) → S.names ≡ Some names → (self.old.told < length names) × ((o : Outcome) × S.may_be (slice_index_or names self.old.told []) o × (state ≡ state_of o)) }
     {
@@ -273,15 +273,15 @@ impl<S: OneCheck, O: Write, E: Write + Drop> FileQueue<S, O, E> {
         self.told = self.told.saturating_add(1);
     }
 
-    /// Where lines can no longer be told, the next one is passed over, so that nobody waits for it.
+    /// Skips the next line if lines can no longer be written, so that no worker waits for it.
     fn pass_over(&mut self) {
         if self.is_over() {
             self.told = self.told.saturating_add(1);
         }
     }
 
-    /// Tells of the file whose line is due.
-    pub(crate) fn tell(&mut self, alloc: Global, name: &[u8], file: &CheckedFile)
+    /// Writes the lines of the file that is due.
+    pub(crate) fn write_due(&mut self, alloc: Global, name: &[u8], file: &CheckedFile)
         requires bytes { IfSome file.now.bytes (λ b. IsOutcomeOf b.items (plain_outcome file.now.outcome)) }
         requires next { (names : List (List ℕ)) → S.names ≡ Some names → (slice_get names self.old.told ≡ Some name.now) × S.may_be name.now file.now.outcome }
     {

@@ -1,4 +1,4 @@
-//! The JPEG files that stand in folders.
+//! The JPEG files in directories.
 
 use crate::given::GivenNames;
 use crate::names::{NamedFile, NamesError};
@@ -6,7 +6,7 @@ use crate::reading::{Entry, EntryKind, Folder, ReadError};
 use std::alloc::{AllocError, Global};
 use std::io::Read;
 
-/// What ends the names of JPEG files in folders.
+/// What ends the names of JPEG files in directories.
 const ENDINGS: [&str; 4] = [".jpg", ".jpeg", ".jpe", ".jfif"];
 
 /// Returns whether the name is that of a JPEG file.
@@ -26,7 +26,7 @@ fn is_unknown(entry: &Entry) -> bool {
         && !is_jpeg(entry.name.as_slice())
 }
 
-/// Folders that are being gone through.
+/// A search of directories.
 #[derive(Drop)]
 pub(crate) struct FolderWalk {
     /// The entries of the directories, the next one last.
@@ -62,7 +62,7 @@ impl FolderWalk {
         }
     }
 
-    /// The next JPEG file in the folders that are being gone through.
+    /// Returns the next JPEG file in the directories that are being searched.
     fn next_waiting<F: Folder>(
         &mut self,
         alloc: Global,
@@ -89,7 +89,7 @@ impl FolderWalk {
         Ok(None)
     }
 
-    /// The next file: of a folder that is given those that stand in it, none behind the last.
+    /// Returns the next file, where a directory stands for the files in it; `None` after the last.
     pub(crate) fn next<F: Folder, I: Read + Drop>(
         &mut self,
         alloc: Global,

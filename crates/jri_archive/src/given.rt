@@ -1,4 +1,4 @@
-//! The names that words give, and those of a list.
+//! The names among the arguments, and those of a list.
 
 ghost use Rattle.std.specs.Prelude.{◌≡◌, ℕ, List, Some, None, Ok, length, map, IfOk, IfNone};
 ghost use Rattle.jri_archive.specs.Names.{IsNextGiven};
@@ -8,11 +8,11 @@ use std::alloc::Global;
 use std::io::{BufRead, BufReader, ErrorKind, Read};
 use std::marker::Model;
 
-/// The names that words give, and behind them those of a list, each of which ends at a NUL byte.
+/// The names among the arguments, and after them those of a list, each of which ends at a NUL byte.
 #[derive(Drop)]
 pub(crate) struct GivenNames<I: Read + Drop> {
     words: Vec<Vec<u8>>,
-    /// So many of them are taken.
+    /// The number of arguments that are taken.
     taken: usize,
     list: Option<BufReader<I>>,
 }
@@ -29,7 +29,7 @@ impl<I: Read + Drop> Model for GivenNames<I> {
 }
 
 impl<I: Read + Drop> GivenNames<I> {
-    /// None is taken yet.
+    /// Returns the names of which none is taken yet.
     pub(crate) fn of(words: Vec<Vec<u8>>, list: Option<BufReader<I>>) -> GivenNames<I>
         ensures { IfNone list (result ≡ Some (map (λ w. w.items) words.items)) }
     {
@@ -50,7 +50,7 @@ impl<I: Read + Drop> GivenNames<I> {
         Some((self.words.len() - self.taken) as u64)
     }
 
-    /// The next name of the list. It ends at a NUL byte, or with the list.
+    /// Returns the next name of the list. It ends at a NUL byte, or with the list.
     fn next_of_list(&mut self, alloc: Global) -> Result<Option<Vec<u8>>, NamesError>
         ensures none { (names : List (List ℕ)) → self.old ≡ Some names → result ≡ Ok None }
         ensures same { (names : List (List ℕ)) → self.old ≡ Some names → self.new ≡ self.old }
@@ -75,7 +75,7 @@ impl<I: Read + Drop> GivenNames<I> {
         }
     }
 
-    /// The next name of the words, then of the list.
+    /// Returns the next name among the arguments, then of the list.
     pub(crate) fn next(&mut self, alloc: Global) -> Result<Option<Vec<u8>>, NamesError>
         ensures { (names : List (List ℕ)) → self.old ≡ Some names → IfOk result (λ name. IsNextGiven names name self.new) }
     {

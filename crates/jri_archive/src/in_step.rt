@@ -1,4 +1,4 @@
-//! Files whose restart markers are put in step before they are checked.
+//! Files that are resynchronised before they are checked.
 
 ghost use Rattle.std.specs.Prelude.{◌≡◌, ◌≢◌, IfErr, IfOk};
 ghost use Rattle.jr_segments.specs.declared.refusal.Refusal.TheVariants as refusals;

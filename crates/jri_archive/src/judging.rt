@@ -1,4 +1,4 @@
-//! What becomes of one file by its bytes and its record.
+//! The verdict of one file by its bytes and its record.
 
 ghost use Rattle.std.specs.Prelude.{◌≡◌, ◌≢◌, ◌⊎◌, ◌↔◌, ℕ, List, Some, None, IsTrue, IfOk, IfErr, IfSome};
 ghost use Rattle.jr_segments.specs.declared.refusal.Refusal.TheVariants as refusal;
@@ -18,7 +18,7 @@ use std::alloc::Global;
 use std::sync::Wait;
 use std::thread::Threads;
 
-/// Checks a file, for a map or for its line alone, which takes half the memory.
+/// Checks a file, for a map or for its line alone, which uses half the memory.
 pub(crate) fn checked_file<R: Threads + Wait + Sync>(
     rt: &R,
     alloc: Global,
@@ -71,7 +71,7 @@ pub(crate) fn unread(outcome: Outcome) -> CheckedFile
     }
 }
 
-/// Returns what is recorded of a file; `None` if its state is not one of those that are.
+/// Returns the record of a file; `None` if its state is not recorded.
 fn record_of(seal: &Seal, outcome: &Outcome) -> Option<FileRecord>
     ensures hash { IfSome result (λ r. r.hash ≡ seal.now.hash) }
     ensures stamp { IfSome result (λ r. r.stamp ≡ seal.now.stamp) }
@@ -85,7 +85,7 @@ fn record_of(seal: &Seal, outcome: &Outcome) -> Option<FileRecord>
     })
 }
 
-/// Returns whether a record is of such bytes.
+/// Returns whether a record has the hash of these bytes.
 fn has_hash(known: &FileRecord, seal: &Seal) -> bool
     ensures { IsTrue result ↔ (known.now.hash ≡ seal.now.hash) }
 {
@@ -93,7 +93,7 @@ fn has_hash(known: &FileRecord, seal: &Seal) -> bool
     a.as_slice() == b.as_slice()
 }
 
-/// Returns the check of a file with what is recorded of it: a file without a record gets one, and one with that of other bytes is
+/// Returns the check of a file by its record: a file without a record gets one, and a file whose record has other bytes is
 /// changed.
 pub(crate) fn judged(
     checked: CheckedFile,

@@ -1,9 +1,9 @@
-//! What holds of every line.
+//! Laws of lines.
 
 ghost use Rattle.std.specs.Prelude.{◌≡◌, ℕ, List};
 ghost use Rattle.jri_archive.specs.Escapes.{IsEscaped};
 
-/// A name comes back from its text: no other name has that text.
+/// States that a name comes back from its text: no other name has that text.
 pub fn names_come_back()
     ensures { (text a b : List ℕ) → IsEscaped text a → IsEscaped text b → a ≡ b }
 {}

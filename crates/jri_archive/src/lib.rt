@@ -1,5 +1,5 @@
-//! What is damaged of JPEG files: a line for each, and an exit status. No picture is made. The names of files: among the words of
-//! a command line, in lists, in folders, and as JSON strings from which they come back.
+//! The check of JPEG files for damage: a line for each, and an exit status. No image is made. The names of files: among the
+//! arguments of a command line, in lists, in directories, and as JSON strings from which they come back.
 #![tactic(auto)]
 
 mod answering;
@@ -13,7 +13,7 @@ mod file_queue;
 mod folders;
 mod given;
 mod in_step;
-mod json;
+mod json_lines;
 mod judging;
 mod laws;
 mod map;
@@ -28,7 +28,7 @@ mod source;
 mod state_file;
 mod state_line;
 mod state_record;
-mod telling;
+mod text_lines;
 mod unsupported;
 mod words;
 
@@ -48,6 +48,6 @@ pub use source::Source;
 pub use state_file::{Records, State, StateError, read_state};
 pub use state_line::{parse_record, record_line};
 pub use state_record::{FileRecord, RecordedState, Stamp};
-pub use telling::{tell, tell_counts, write_counts_line};
+pub use text_lines::{append_counts_line, append_file_line, write_counts_line};
 pub use unsupported::is_unsupported;
 pub use words::words_of;

@@ -8,12 +8,12 @@ ghost use Rattle.jr_damage.specs.Verdicts.{IsFileScan};
 use crate::answers::LineForm;
 use crate::checking::Checked;
 use crate::damaged_run::DamagedRun;
-use crate::json::{
-    tell_empty_object, tell_interval_object, write_break_object, write_doubtful_object,
+use crate::json_lines::{
+    write_break_object, write_doubtful_object, write_empty_object, write_interval_object,
     write_sound_object,
 };
 use crate::sound_interval::SoundInterval;
-use crate::telling::{tell_empty, tell_map, write_break, write_doubtful, write_sound};
+use crate::text_lines::{write_break, write_doubtful, write_empty, write_interval, write_sound};
 use jr_damage::{
     CodedSpan, DoubtfulMcu, Segment, damaged_interval, decodable_end, first_doubtful, segment_at,
 };
@@ -56,10 +56,10 @@ fn write_run<O: Write>(
     };
     line.clear();
     match (run.is_single(), is_json) {
-        (true, true) => tell_interval_object(line, name, &run)?,
-        (true, false) => tell_map(line, name, &run)?,
-        (false, true) => tell_empty_object(line, name, &run)?,
-        (false, false) => tell_empty(line, name, &run)?,
+        (true, true) => write_interval_object(line, name, &run)?,
+        (true, false) => write_interval(line, name, &run)?,
+        (false, true) => write_empty_object(line, name, &run)?,
+        (false, false) => write_empty(line, name, &run)?,
     }
     out.write_all(line.as_bytes())?;
     Ok(())
@@ -104,7 +104,7 @@ pub(crate) fn write_breaks<O: Write>(
     Ok(())
 }
 
-/// Returns what is damaged of an interval, whose segment is at `span`; `None` if it has a decoding.
+/// Returns the run of one interval, whose segment is at `span`; `None` if it has a decoding.
 fn damaged_run(file: &[u8], span: CodedSpan, interval: IntervalRef<'_>) -> Option<DamagedRun>
     requires there { interval.number < intervals_of interval.head }
     requires spelled { IsSpelledAt file.now span interval.bytes }

@@ -1,4 +1,4 @@
-//! The names of the files that are to be checked, one after the other.
+//! The names of the files that are checked, in order.
 
 ghost use Rattle.std.specs.Prelude.{◌≡◌, ℕ, List, Some, None, false, length, map, IfOk, IfSome, IfNone};
 ghost use Rattle.jri_archive.specs.Names.{IsNamed, IsNextFile, IsNoText};
@@ -10,7 +10,7 @@ use std::alloc::{AllocError, Global};
 use std::io::{BufReader, Read};
 use std::marker::Model;
 
-/// A file that is to be checked, or why there is none.
+/// A file that is to be checked, or why it is not opened.
 #[derive(Drop)]
 pub struct NamedFile {
     pub name: Vec<u8>,
@@ -32,11 +32,11 @@ impl From<AllocError> for NamesError {
     }
 }
 
-/// The names that words give, those of a list, and those of what stands in folders.
+/// The names among the arguments, those of a list, and those of the files in directories.
 #[derive(Drop)]
 pub struct FileNames<I: Read + Drop> {
     given: GivenNames<I>,
-    /// Where folders are gone through.
+    /// The search of directories, if they are searched.
     walk: Option<FolderWalk>,
 }
 
@@ -78,7 +78,7 @@ fn file_of(name: Option<Vec<u8>>) -> Option<NamedFile>
 }
 
 impl<I: Read + Drop> FileNames<I> {
-    /// None is taken yet.
+    /// Returns the names of which none is taken yet.
     pub fn of(
         alloc: Global,
         given: Vec<Vec<u8>>,
@@ -107,7 +107,7 @@ impl<I: Read + Drop> FileNames<I> {
         }
     }
 
-    /// The next file, none behind the last.
+    /// Returns the next file; `None` after the last.
     pub fn next<F: Folder>(
         &mut self,
         alloc: Global,

@@ -1,4 +1,4 @@
-//! What becomes of one file of many.
+//! The verdict of one file.
 
 ghost use Rattle.std.specs.Prelude.{◌≡◌, ◌≢◌, ℕ, List, length, IfOk, IfErr, IfSome};
 ghost use Rattle.jr_head.specs.Heads.{RefusalOf};
@@ -16,7 +16,7 @@ use std::alloc::Global;
 use std::sync::Wait;
 use std::thread::Threads;
 
-/// What a check of a file came to.
+/// What the check of a file came to.
 #[derive(Drop)]
 pub enum Outcome {
     /// Its scan was read.
@@ -35,7 +35,7 @@ pub enum Outcome {
     ChangedRefused(Refusal),
 }
 
-/// Checks a file whose bytes are there, or are not, by so many threads where it is large.
+/// Checks a file, or returns why its bytes are not there. A large file is checked with `threads` threads.
 pub fn outcome_of<R: Threads + Wait + Sync>(
     rt: &R,
     alloc: Global,
@@ -54,7 +54,7 @@ pub fn outcome_of<R: Threads + Wait + Sync>(
     }
 }
 
-/// Returns the same in the memory of the file's bytes, which are gone then.
+/// Checks a file as `outcome_of` does, and reuses the memory of its bytes.
 pub fn outcome_in_place<R: Threads + Wait + Sync>(
     rt: &R,
     alloc: Global,
@@ -92,7 +92,7 @@ impl Outcome {
         }
     }
 
-    /// Returns the check of a file whose bytes are not those of its record. If memory ran out nothing is said of it.
+    /// Returns the check of a file whose bytes are not those of its record. If memory ran out, its verdict is unchanged.
     pub(crate) fn changed(self) -> Outcome
         ensures same { (file : List ℕ) → IsOutcomeOf file self → IsOutcomeOf file (plain_outcome result) }
         ensures checked { (c : Checked) → self ≡ Outcome.Checked c → result ≡ Outcome.Changed c }

@@ -13,15 +13,15 @@ pub enum ReadError {
     NotFound,
     /// It may not be read.
     NotAllowed,
-    /// It is a folder.
+    /// It is a directory.
     Folder,
     /// Its name is not UTF-8: the toolchain opens files by text alone.
     NameIsNoText,
     /// It is a FIFO, a socket or a device.
     NotRegular,
-    /// The system takes no name of this length.
+    /// The system allows no name of this length.
     NameTooLong,
-    /// Anything else.
+    /// Another reason.
     Failed,
     /// With its restart markers in step it would be longer than a file may be.
     TooLong,
@@ -46,7 +46,7 @@ impl ReadError {
     }
 }
 
-/// What kind an entry of a folder is of.
+/// The kind of an entry of a directory.
 #[derive(Clone, Copy)]
 pub enum EntryKind {
     File,
@@ -67,7 +67,7 @@ pub struct Entry {
 #[derive(Drop)]
 pub struct FileBytes {
     pub bytes: Vec<u8>,
-    /// The markers of the file that are out of step, if they are put in step.
+    /// The markers that were out of step, if the file was resynchronised.
     pub breaks: Vec<Break>,
 }
 

@@ -13,7 +13,7 @@ use crate::reading::{Folder, ReadError};
 use crate::sharing::check_all;
 use crate::source::Source;
 use crate::state_file::{State, StateError};
-use crate::telling::write_counts_line;
+use crate::text_lines::write_counts_line;
 use jr_base::Tally;
 use std::alloc::{AllocError, Global};
 use std::io::{BufReader, Eprint, ErrorKind, Read, Result as IoResult, Write};

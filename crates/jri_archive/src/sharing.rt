@@ -1,4 +1,4 @@
-//! Many files, checked by several workers and told in their order.
+//! Many files, checked with several workers and reported in their order.
 
 ghost use Rattle.std.specs.Prelude.{◌≡◌, ◌≤◌, ◌<◌, ◌^◌, ℕ, List, Some, None, false, length, map, drop, slice_get, IfOk, IfSome, IfNone};
 ghost use Rattle.jri_archive.specs.Names.{IsNamed, IsNoText};
@@ -27,7 +27,7 @@ use std::thread::Threads;
 struct NameQueue<S: OneCheck, I: Read + Drop> {
     names: FileNames<I>,
     claimed: u64,
-    /// There is no further name.
+    /// Whether there is no further name.
     is_over: bool,
     _of: PhantomData<S>,
 }
@@ -52,7 +52,7 @@ struct Sharing<S: OneCheck, F: Folder, I: Read + Drop, O, E, W> {
     has_map: bool,
     names: Mutex<NameQueue<S, I>>,
     desk: Mutex<FileQueue<S, O, E>>,
-    /// Somebody has told of a file.
+    /// Signalled when a file is reported.
     has_told: Condvar,
 }
 
@@ -69,7 +69,7 @@ impl<S: OneCheck, F: Folder, I: Read + Drop, O, E, W> Model for Sharing<S, F, I,
 }
 
 impl<S: OneCheck, I: Read + Drop> NameQueue<S, I> {
-    /// None is claimed yet.
+    /// Returns the queue of names of which none is claimed yet.
     fn of(names: FileNames<I>) -> NameQueue<S, I>
         requires { (all : List (List ℕ)) → S.names ≡ Some all → (names ≡ Some all) × (length all < 2 ^ 64) }
     {
@@ -119,7 +119,7 @@ impl<
     E: Write + Send + Drop,
     W: Write + Send + Drop,
 > Sharing<S, F, I, O, E, W> {
-    /// Returns the next name, where there is one, and how many are claimed then.
+    /// Returns the next name, if there is one, and the number of claimed names then.
     fn next_name<R: Wait>(&self, rt: &R) -> (Result<Option<(u64, NamedFile)>, NamesError>, u64)
         ensures { IfOk result.0 (λ o. IfSome o (λ c. IsClaimOf S.names c.0 c.1)) }
     {
@@ -145,7 +145,7 @@ impl<
         None
     }
 
-    /// Checks a file, by several workers where others have none; one that is recorded is not read, unless it is verified.
+    /// Checks a file, with several workers if others have none. A recorded file is read only if it is verified.
     fn check<R: Threads + Wait + Sync>(&self, rt: &R, file: &NamedFile) -> CheckedFile
         ensures map { IfSome result.bytes (λ b. IsOutcomeOf b.items (plain_outcome result.outcome)) }
         ensures outcome { ((x : ReadError) → file.now.error ≡ Some x → IsNoText file.now.name.items x) → file.now.is_skipped ≡ false → S.may_be file.now.name.items result.outcome }
@@ -171,8 +171,8 @@ impl<
         judged(checked, seal, self.source.known(file, &glance))
     }
 
-    /// Tells of a file once its line is due, and records it then.
-    fn tell<R: Wait>(&self, rt: &R, number: u64, name: &[u8], file: &CheckedFile)
+    /// Writes the lines of a file once they are due, and then records it.
+    fn report<R: Wait>(&self, rt: &R, number: u64, name: &[u8], file: &CheckedFile)
         requires bytes { IfSome file.now.bytes (λ b. IsOutcomeOf b.items (plain_outcome file.now.outcome)) }
         requires next { (all : List (List ℕ)) → S.names ≡ Some all → (slice_get all number ≡ Some name.now) × S.may_be name.now file.now.outcome }
         requires entry { IfSome file.now.entry (λ r. IsRecordOf (F.holds self.now.folder) (F.stamps self.now.folder) name.now r file.now.outcome) }
@@ -181,9 +181,9 @@ impl<
         let mut desk = self
             .has_told
             .wait_while(rt, desk, |desk| !desk.is_due(number));
-        // It is, as the wait is over then.
+        // The wait is over, so it is due.
         if desk.is_due(number) {
-            desk.tell(self.alloc, name, file);
+            desk.write_due(self.alloc, name, file);
             self.record(rt, &mut desk, name, file);
         }
         drop(desk);
@@ -217,7 +217,7 @@ impl<
                 return;
             };
             let checked = self.check(rt, &file);
-            self.tell(rt, number, file.name.as_slice(), &checked);
+            self.report(rt, number, file.name.as_slice(), &checked);
         }
     }
 
@@ -233,7 +233,7 @@ impl<
     }
 }
 
-/// Writes the counts where they are asked for and lines can still be told, and notes whether they could be written.
+/// Writes the counts if they are asked for and lines can still be written, and notes whether that failed.
 fn with_counts<O: Write>(
     alloc: Global,
     out: &mut O,
@@ -258,7 +258,7 @@ fn with_counts<O: Write>(
     }
 }
 
-/// Does what `check_all` does, with a type for the files, so that what workers share under locks is known to be of them.
+/// Does what `check_all` does, with a type for the files, by which contracts know that what is under locks is about them.
 fn check_as<
     S: OneCheck + Send,
     R: Threads + Wait + Sync,

@@ -1,4 +1,4 @@
-//! The bytes of files, and what a state file has of them.
+//! The bytes of files, and their records in a state file.
 
 ghost use Rattle.std.specs.Prelude.{◌≡◌, ◌⊎◌, IfOk, IfErr, IfSome, None, Some};
 ghost use Rattle.sha2.specs.Sha256.{sha256};
@@ -24,7 +24,7 @@ pub struct Source<F, W> {
     pub state: Option<State<W>>,
 }
 
-/// What is known of a file before it is read.
+/// The stamp and the record of a file before it is read.
 #[derive(Clone, Copy)]
 pub(crate) struct Glance {
     /// Its size and time.
@@ -33,7 +33,7 @@ pub(crate) struct Glance {
     pub(crate) known: Option<FileRecord>,
 }
 
-/// What tells the bytes of a file from others.
+/// The stamp and the hash of a file's bytes.
 #[derive(Clone, Copy)]
 pub(crate) struct Seal {
     /// The size and time of the file before and after it was read.
@@ -42,7 +42,7 @@ pub(crate) struct Seal {
     pub(crate) hash: [u8; 32],
 }
 
-/// The bytes of a file, and what tells them from others if a state is kept.
+/// The bytes of a file, with their stamp and hash if a state file is kept.
 #[derive(Drop)]
 pub(crate) struct Content {
     pub(crate) bytes: Result<Vec<u8>, ReadError>,
@@ -82,7 +82,8 @@ impl<F: Folder, W: Write + Drop> Source<F, W> {
         }
     }
 
-    /// Returns what is known of a file before it is read; `None` if no state is kept, or if it is not a regular file.
+    /// Returns the stamp and the record of a file before it is read; `None` if no state file is kept, or if it is not a regular
+    /// file.
     pub(crate) fn look(&self, file: &NamedFile) -> Option<Glance>
         ensures stamp { IfSome result (λ g. F.stamps self.now.folder file.now.name.items g.stamp) }
         ensures known { IfSome result (λ g. IfSome g.known (IsStamped (F.stamps self.now.folder) (HasRecord self.now.state) file.now.name.items)) }
@@ -98,7 +99,7 @@ impl<F: Folder, W: Write + Drop> Source<F, W> {
         }
     }
 
-    /// Returns what a file was that is not read again; `None` if it is read.
+    /// Returns the recorded verdict of a file that is not read again; `None` if it is read.
     pub(crate) fn unchanged(
         &self,
         _file: &NamedFile,

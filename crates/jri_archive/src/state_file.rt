@@ -1,4 +1,4 @@
-//! What earlier runs recorded of files, and the state file that has it.
+//! The records of earlier runs, and the state file that has them.
 
 ghost use Rattle.std.specs.Prelude.{◌≡◌};
 ghost use Rattle.jri_archive.specs.Records.{recorded};
@@ -70,7 +70,7 @@ impl Model for Records {
 }
 
 impl Records {
-    /// Returns what is recorded of the file of that name.
+    /// Returns the record of the file of that name.
     pub fn find(&self, name: &[u8]) -> Option<FileRecord>
         ensures { result ≡ recorded self.now name.now }
     {
@@ -125,8 +125,8 @@ fn records_of(alloc: Global, lines: &[u8]) -> Result<(Records, &'static [u8]), S
     Ok((records, missing))
 }
 
-/// Returns the records of a state file, and what has to be appended to it before a further one: all of it if it is empty, and what
-/// ends a line that was cut off.
+/// Returns the records of a state file, and what has to be appended to it before a further one: its first line if it is
+/// empty, and the end of a line that was cut off.
 ///
 /// # Errors
 ///
@@ -142,7 +142,7 @@ pub fn read_state(alloc: Global, bytes: &[u8]) -> Result<(Records, &'static [u8]
     Ok((records, &HEADER[bytes.len()..]))
 }
 
-/// What earlier runs recorded, and where this one appends its records.
+/// The records of earlier runs, and the file to which this run appends its own.
 #[derive(Drop)]
 pub struct State<W> {
     records: Records,
@@ -193,7 +193,7 @@ impl<W: Write> State<W> {
         self.is_verifying
     }
 
-    /// Returns what earlier runs recorded of the file of that name.
+    /// Returns the record of the file of that name by earlier runs.
     pub(crate) fn find(&self, name: &[u8]) -> Option<FileRecord>
         ensures { result ≡ recorded self.now name.now }
     {

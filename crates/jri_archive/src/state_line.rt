@@ -2,7 +2,7 @@
 
 ghost use Rattle.std.specs.Prelude.{◌≤◌, length, IfSome};
 
-use crate::escaping::put_string;
+use crate::escaping::write_string;
 use crate::state_record::{FileRecord, RecordedState, Stamp};
 use hex::{decode_to_slice, encode_to_slice};
 use std::alloc::{AllocError, Global};
@@ -48,18 +48,18 @@ pub fn record_line(alloc: Global, name: &[u8], record: &FileRecord) -> Result<St
     } = record.stamp;
     let state = record.state.text();
     write!(line, " {size} {seconds}.{nanos:09} {state} ")?;
-    put_string(&mut line, name)?;
+    write_string(&mut line, name)?;
     let check = check_value(line.as_bytes());
     writeln!(line, " {check:08x}")?;
     Ok(line)
 }
 
-/// Returns whether a byte is a digit to base 16 as lines have them.
+/// Returns whether a byte is a lower-case hexadecimal digit.
 fn is_digit(byte: u8) -> bool {
     byte.is_ascii_digit() || (b'a'..=b'f').contains(&byte)
 }
 
-/// Returns what stands before the check value of a line, if that is right.
+/// Returns the line before its check value, if that is right.
 fn checked_part(line: &str) -> Option<&str> {
     let (part, check) = line.split_at_checked(line.len().checked_sub(CHECK_SIZE)?)?;
     let check = check.strip_prefix(' ')?;
@@ -73,7 +73,7 @@ fn checked_part(line: &str) -> Option<&str> {
     }
 }
 
-/// Returns the byte that is told by its number at the start of a JSON string's rest: `\u00` or `\udc` and two digits.
+/// Returns the byte whose number is at the start of a JSON string's rest: `\u00` or `\udc` and two digits.
 fn numbered_byte(rest: &[u8]) -> Option<u8>
     ensures { IfSome result (λ _. 6 ≤ length rest.now) }
 {
@@ -97,7 +97,7 @@ fn plain_size(bytes: &[u8]) -> usize
     }
 }
 
-/// Returns the name whose JSON string this is; `None` if it is none.
+/// Returns the name whose JSON string this is; `None` if it is not one.
 fn name_of(alloc: Global, text: &str) -> Result<Option<Vec<u8>>, AllocError> {
     let mut name = Vec::new(alloc);
     let Some(text) = text.strip_prefix('"').and_then(|t| t.strip_suffix('"')) else {
@@ -130,7 +130,7 @@ fn stamp_of(size: &str, time: &str) -> Option<Stamp> {
     })
 }
 
-/// Returns what is recorded before the name, and the text of the name.
+/// Returns the record before the name, and the text of the name.
 fn fields_of(part: &str) -> Option<(FileRecord, &str)> {
     let (digits, rest) = part.split_once(' ')?;
     let (size, rest) = rest.split_once(' ')?;

@@ -1,11 +1,11 @@
-//! What a state file has of a file.
+//! The record of a file in a state file.
 
 ghost use Rattle.std.specs.Prelude.{◌≡◌, IfSome};
 ghost use Rattle.jri_archive.specs.Records.{file_state};
 
 use crate::counts::FileState;
 
-/// What tells one version of a file from another without reading it.
+/// The size and time of a file, by which a change is seen without reading it.
 #[derive(Clone, Copy, PartialEq, Eq)]
 pub struct Stamp {
     /// The size of the file in bytes.
@@ -16,7 +16,7 @@ pub struct Stamp {
     pub nanos: u32,
 }
 
-/// What the check of a recorded file came to.
+/// The recorded verdict of a file.
 #[derive(Clone, Copy, PartialEq, Eq)]
 pub enum RecordedState {
     Sound,
@@ -25,7 +25,7 @@ pub enum RecordedState {
     Unsupported,
 }
 
-/// What is recorded of a file.
+/// The record of a file.
 #[derive(Clone, Copy)]
 pub struct FileRecord {
     /// The SHA-256 of its bytes.
@@ -35,7 +35,7 @@ pub struct FileRecord {
 }
 
 impl RecordedState {
-    /// Returns what became of the file.
+    /// Returns the state of the file.
     pub fn file_state(self) -> FileState
         ensures { result ≡ file_state self }
     {
@@ -47,7 +47,7 @@ impl RecordedState {
         }
     }
 
-    /// Returns what is recorded of a file that became this; `None` if nothing is.
+    /// Returns the recorded verdict of a file in this state; `None` if it is not recorded.
     pub(crate) fn of(state: FileState) -> Option<RecordedState>
         ensures { IfSome result (λ s. file_state s ≡ state) }
     {
@@ -60,7 +60,7 @@ impl RecordedState {
         }
     }
 
-    /// Returns its word.
+    /// Returns its text.
     pub fn text(self) -> &'static str {
         match self {
             RecordedState::Sound => "sound",
@@ -70,7 +70,7 @@ impl RecordedState {
         }
     }
 
-    /// Returns the one that has this word.
+    /// Returns the verdict of this text.
     pub(crate) fn of_text(text: &str) -> Option<RecordedState> {
         match text {
             "sound" => Some(RecordedState::Sound),

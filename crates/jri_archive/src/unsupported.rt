@@ -1,4 +1,4 @@
-//! Files that other decoders may read: which refusals a valid file may have, and why a file is refused, in words.
+//! Files that other decoders may read: the refusals that a valid file may have, and their texts.
 
 ghost use Rattle.std.specs.Prelude.{◌≡◌};
 ghost use Rattle.jri_archive.specs.Unsupported.{may_be_valid};
@@ -33,7 +33,7 @@ pub fn is_unsupported(refusal: &Refusal) -> bool
     }
 }
 
-/// Returns what a refused file is.
+/// Returns the verdict of a refused file.
 pub(crate) fn refused_word(refusal: &Refusal) -> &'static str {
     if is_unsupported(refusal) {
         "unsupported"

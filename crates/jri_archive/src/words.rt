@@ -1,19 +1,19 @@
-//! The words of a command line as the system has them, and as text.
+//! The arguments of a command line as the system has them, and as text.
 
 use std::alloc::{AllocError, Global};
 use std::env::FillError;
 use std::rt::Env;
 
-/// So many bytes has a word at most: more than systems let one have.
+/// Maximum size of an argument in bytes: more than systems allow.
 const LONGEST_WORD: usize = 1 << 24;
 
-/// Room for most words.
+/// Size in bytes that suffices for most arguments.
 const USUAL_WORD: usize = 4096;
 
-/// What begins the text of a word that is no text: no word of a system has a NUL byte.
+/// What begins the text of an argument that is not UTF-8: no argument of a system has a NUL byte.
 const NO_TEXT: char = '\0';
 
-/// Returns a word by its number, none behind the last.
+/// Returns an argument by its number; `None` after the last.
 fn word<E: Env>(env: &E, alloc: Global, number: usize) -> Result<Option<Vec<u8>>, AllocError> {
     let mut room = USUAL_WORD;
     for _ in 0..usize::BITS {
@@ -31,7 +31,7 @@ fn word<E: Env>(env: &E, alloc: Global, number: usize) -> Result<Option<Vec<u8>>
     Err(AllocError)
 }
 
-/// Returns the words behind the program's name.
+/// Returns the arguments after the program's name.
 pub fn words_of<E: Env>(env: &E, alloc: Global) -> Result<Vec<Vec<u8>>, AllocError> {
     let mut words = Vec::new(alloc);
     for number in 1..usize::MAX {
@@ -43,7 +43,7 @@ pub fn words_of<E: Env>(env: &E, alloc: Global) -> Result<Vec<Vec<u8>>, AllocErr
     Ok(words)
 }
 
-/// Returns the words as text. In place of one that is no text stands its number, behind a byte that no word has.
+/// Returns the arguments as text. One that is not UTF-8 is its number after a byte that no argument has.
 pub fn texts(alloc: Global, words: &[Vec<u8>]) -> Result<Vec<String>, AllocError> {
     let mut texts = Vec::new(alloc);
     for number in 0..words.len() {
@@ -57,12 +57,12 @@ pub fn texts(alloc: Global, words: &[Vec<u8>]) -> Result<Vec<String>, AllocError
     Ok(texts)
 }
 
-/// Returns whether the word whose text this is is not UTF-8.
+/// Returns whether this is the text of an argument that is not UTF-8.
 pub fn is_no_text(text: &str) -> bool {
     text.starts_with(NO_TEXT)
 }
 
-/// Returns the bytes of the word whose text this is.
+/// Returns the bytes of the argument whose text this is.
 pub fn bytes_of(alloc: Global, words: &[Vec<u8>], text: &str) -> Result<Vec<u8>, AllocError> {
     if let Some(number) = text.strip_prefix(NO_TEXT)
         && let Ok(number) = number.parse::<usize>()

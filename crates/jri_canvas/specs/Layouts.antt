@@ -9,7 +9,7 @@ use Rattle.jri_canvas.specs.declared.lines.CanvasLines.{CanvasLines}
 use Rattle.jri_canvas.specs.declared.layout.Pixels.{Pixels}
 use Rattle.jri_canvas.specs.declared.layout.Pixels.TheVariants.{Grey, Colour}
 
--- how many bytes a pixel has
+-- the size of a pixel in bytes
 abbrev pub sample_count : Pixels → ℕ
 sample_count Grey = 1
 sample_count Colour = 3

@@ -27,7 +27,7 @@ pub enum Fault {
     Refused(Refusal),
     /// Memory ran out.
     Memory,
-    /// The image could not be written; a beginning of it was.
+    /// The image could not be written to its end.
     Write,
     /// The file could not be opened.
     NoFile,

@@ -154,7 +154,7 @@ pub(crate) fn strings_of(
     Ok(strings)
 }
 
-/// The name of a stream in place of a file.
+/// The name of a stream instead of a file.
 const STREAM: &str = "-";
 
 /// Returns the file that is decoded.

@@ -65,7 +65,7 @@ pub trait Devices {
         ensures created { OnOk result (Follow (steps self.old) (steps self.new) (Created name.now ∷ [])) }
         ensures failed { OnErr result (Follow (steps self.old) (steps self.new) []) };
 
-    /// Gives a file another name, in place of what has that name.
+    /// Gives a file another name, and replaces what has that name.
     fn rename(&mut self, from: &str, to: &str) -> IoResult<()>
         ensures renamed { OnOk result (Follow (steps self.old) (steps self.new) (Renamed from.now to.now ∷ [])) }
         ensures failed { OnErr result (Follow (steps self.old) (steps self.new) []) };

@@ -13,7 +13,7 @@ use std::io::{Error, ErrorKind};
 /// Maximum number of names that are tried for a part.
 const MAX_PARTS: u32 = 1000;
 
-/// A new file in the folder of another.
+/// A new file in the directory of another.
 #[derive(Drop)]
 pub struct Part<F> {
     /// The open file.

@@ -12,7 +12,7 @@ use std::fmt;
 use std::fmt::{Display, Formatter};
 use std::io::{Error, ErrorKind, Result as IoResult, Write};
 
-/// The end of a run, and the system's reason if a device failed.
+/// The end of a run, and the system's reason if a reader or writer failed.
 #[derive(Clone, Copy)]
 pub struct Ending {
     /// The report of an image that was written, or the fault.

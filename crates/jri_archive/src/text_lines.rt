@@ -1,4 +1,4 @@
-//! The lines that are told of a file, in words.
+//! The lines of a file as text.
 
 use crate::checking::Checked;
 use crate::counts::FileCounts;
@@ -16,24 +16,24 @@ use std::fmt;
 use std::fmt::{Display, Formatter};
 use std::io::{Cursor, Result as IoResult, Write};
 
-/// Puts text in which characters that would end the line, or move on a terminal, are told as `?`.
-fn put_plain(line: &mut String, text: &str) -> Result<(), AllocError> {
+/// Appends text in which characters that would end the line, or move on a terminal, are written as `?`.
+fn write_plain(line: &mut String, text: &str) -> Result<(), AllocError> {
     for c in text.chars() {
         line.push(if c.is_control() { '?' } else { c })?;
     }
     Ok(())
 }
 
-/// Puts a file's name, in which bytes that are no text are told as `?`, too.
-fn put_name(line: &mut String, name: &[u8]) -> Result<(), AllocError> {
+/// Appends a file's name, in which bytes that are not UTF-8 are also written as `?`.
+fn write_name(line: &mut String, name: &[u8]) -> Result<(), AllocError> {
     let mut rest = name;
     for _ in 0..=name.len() {
         let end = match str::from_utf8(rest) {
-            Ok(text) => return put_plain(line, text),
+            Ok(text) => return write_plain(line, text),
             Err(error) => error.valid_up_to(),
         };
         if let Ok(text) = str::from_utf8(&rest[..end]) {
-            put_plain(line, text)?;
+            write_plain(line, text)?;
         }
         line.push('?')?;
         rest = &rest[end + 1..];
@@ -41,8 +41,8 @@ fn put_name(line: &mut String, name: &[u8]) -> Result<(), AllocError> {
     Ok(())
 }
 
-/// Puts what ended the scan.
-pub(crate) fn put_end(line: &mut String, ended: ScanEnd) -> Result<(), AllocError> {
+/// Appends what ended the scan.
+pub(crate) fn write_end(line: &mut String, ended: ScanEnd) -> Result<(), AllocError> {
     match ended {
         ScanEnd::EndOfImage => line.push_str("EOI"),
         ScanEnd::OtherMarker(code, at) => { write!(line, "marker {code:02X}, byte {at}") }
@@ -58,42 +58,42 @@ pub(crate) fn put_end(line: &mut String, ended: ScanEnd) -> Result<(), AllocErro
     }
 }
 
-/// Puts how many intervals there are.
-fn put_intervals(line: &mut String, intervals: u32) -> Result<(), AllocError> {
+/// Appends the number of intervals.
+fn write_intervals(line: &mut String, intervals: u32) -> Result<(), AllocError> {
     match intervals {
         1 => line.push_str("1 interval"),
         _ => write!(line, "{intervals} intervals"),
     }
 }
 
-/// Puts the lines of the picture that are not as they were.
-fn put_lines(line: &mut String, lines: Lines) -> Result<(), AllocError> {
+/// Appends the damaged lines of the image.
+fn write_lines(line: &mut String, lines: Lines) -> Result<(), AllocError> {
     let Lines { first, last } = lines;
     write!(line, ", lines {first} to {last}")
 }
 
-/// Puts what is damaged of a scan.
-fn put_damage(line: &mut String, checked: &Checked) -> Result<(), AllocError> {
+/// Appends the damage of a scan.
+fn write_damage(line: &mut String, checked: &Checked) -> Result<(), AllocError> {
     let intervals = checked.scan.intervals();
     let Some(lines) = checked.verdict.lines else {
         line.push_str("sound, ")?;
-        return put_intervals(line, intervals);
+        return write_intervals(line, intervals);
     };
     write!(line, "damaged, {} of ", checked.verdict.damaged)?;
-    put_intervals(line, intervals)?;
-    put_lines(line, lines)
+    write_intervals(line, intervals)?;
+    write_lines(line, lines)
 }
 
 /// Writes what ended the scan, if it is not EOI.
-fn put_scan_end(line: &mut String, ended: ScanEnd) -> Result<(), AllocError> {
+fn write_scan_end(line: &mut String, ended: ScanEnd) -> Result<(), AllocError> {
     if ended == ScanEnd::EndOfImage {
         return Ok(());
     }
     line.push_str(", scan ended at ")?;
-    put_end(line, ended)
+    write_end(line, ended)
 }
 
-/// Writes how many bytes follow the end of the image, and where they begin, if some do.
+/// Appends the number and the offset of the bytes after the end of the image, if there are some.
 fn write_after_end(line: &mut String, checked: &Checked) -> Result<(), AllocError> {
     let Some(end) = checked.image_end else {
         return Ok(());
@@ -108,10 +108,10 @@ fn write_after_end(line: &mut String, checked: &Checked) -> Result<(), AllocErro
     }
 }
 
-/// Writes what the check of a file's scan came to.
-fn put_checked(line: &mut String, checked: &Checked) -> Result<(), AllocError> {
-    put_damage(line, checked)?;
-    put_scan_end(line, checked.scan.ended())?;
+/// Appends what the check of a file's scan came to.
+fn write_checked(line: &mut String, checked: &Checked) -> Result<(), AllocError> {
+    write_damage(line, checked)?;
+    write_scan_end(line, checked.scan.ended())?;
     write_after_end(line, checked)
 }
 
@@ -121,13 +121,13 @@ fn write_refusal(line: &mut String, refusal: &Refusal) -> Result<(), AllocError>
     write_reason(line, refusal)
 }
 
-/// What precedes the check of a file whose bytes are not those of its record.
+/// The text before the check of a file whose bytes are not those of its record.
 const CHANGED: &str = "changed, ";
 
-/// Puts what became of a file.
-fn put_outcome(line: &mut String, outcome: &Outcome) -> Result<(), AllocError> {
+/// Appends the verdict of a file.
+fn write_outcome(line: &mut String, outcome: &Outcome) -> Result<(), AllocError> {
     match outcome {
-        Outcome::Checked(checked) => put_checked(line, checked),
+        Outcome::Checked(checked) => write_checked(line, checked),
         Outcome::Refused(Refusal::Memory) | Outcome::Unread(ReadError::Memory) => {
             line.push_str("out of memory")
         }
@@ -135,7 +135,7 @@ fn put_outcome(line: &mut String, outcome: &Outcome) -> Result<(), AllocError> {
         Outcome::Unchanged(was) => write!(line, "unchanged, {}", was.text()),
         Outcome::Changed(checked) => {
             line.push_str(CHANGED)?;
-            put_checked(line, checked)
+            write_checked(line, checked)
         }
         Outcome::ChangedRefused(refusal) => {
             line.push_str(CHANGED)?;
@@ -146,23 +146,27 @@ fn put_outcome(line: &mut String, outcome: &Outcome) -> Result<(), AllocError> {
     }
 }
 
-/// Puts the line of a file, with its end.
-pub fn tell(line: &mut String, name: &[u8], outcome: &Outcome) -> Result<(), AllocError> {
-    put_name(line, name)?;
+/// Appends the line of a file, with its end.
+pub fn append_file_line(
+    line: &mut String,
+    name: &[u8],
+    outcome: &Outcome,
+) -> Result<(), AllocError> {
+    write_name(line, name)?;
     line.push_str(": ")?;
-    put_outcome(line, outcome)?;
+    write_outcome(line, outcome)?;
     line.push_str("\n")
 }
 
-/// Puts which MCUs an interval has.
-fn put_mcus(line: &mut String, mcus: McuRange) -> Result<(), AllocError> {
+/// Appends the MCUs of an interval.
+fn write_mcus(line: &mut String, mcus: McuRange) -> Result<(), AllocError> {
     let McuRange { first, count } = mcus;
     let last = first.saturating_add(count.saturating_sub(1));
     write!(line, ", MCUs {first} to {last}")
 }
 
-/// Puts where an interval's bytes are.
-fn put_bytes(line: &mut String, bytes: Option<CodedSpan>) -> Result<(), AllocError> {
+/// Appends where an interval's bytes are.
+fn write_bytes(line: &mut String, bytes: Option<CodedSpan>) -> Result<(), AllocError> {
     let Some(CodedSpan { start, end }) = bytes else {
         return line.push_str(", no bytes");
     };
@@ -170,14 +174,18 @@ fn put_bytes(line: &mut String, bytes: Option<CodedSpan>) -> Result<(), AllocErr
     write!(line, ", bytes {start} to {last}")
 }
 
-/// Puts the line of a damaged interval, with its end. All is counted from 0, and ranges are told with their last one.
-pub(crate) fn tell_map(line: &mut String, name: &[u8], run: &DamagedRun) -> Result<(), AllocError> {
+/// Appends the line of a damaged interval, with its end. Numbers start at 0, and a range has its last one.
+pub(crate) fn write_interval(
+    line: &mut String,
+    name: &[u8],
+    run: &DamagedRun,
+) -> Result<(), AllocError> {
     let damaged = &run.first;
-    put_name(line, name)?;
+    write_name(line, name)?;
     write!(line, ": interval {}", damaged.number)?;
-    put_mcus(line, damaged.mcus)?;
-    put_lines(line, damaged.lines)?;
-    put_bytes(line, damaged.bytes)?;
+    write_mcus(line, damaged.mcus)?;
+    write_lines(line, damaged.lines)?;
+    write_bytes(line, damaged.bytes)?;
     let (decodable, count) = (damaged.decodable, damaged.mcus.count);
     write!(line, ", {decodable} of {count} MCUs decodable")?;
     if damaged.bytes.is_some() {
@@ -188,7 +196,7 @@ pub(crate) fn tell_map(line: &mut String, name: &[u8], run: &DamagedRun) -> Resu
 
 /// Writes the line of a marker that was out of step, with its end.
 pub(crate) fn write_break(line: &mut String, name: &[u8], found: Break) -> Result<(), AllocError> {
-    put_name(line, name)?;
+    write_name(line, name)?;
     write!(line, ": {found}")?;
     line.push_str("\n")
 }
@@ -199,11 +207,11 @@ pub(crate) fn write_sound(
     name: &[u8],
     sound: &SoundInterval,
 ) -> Result<(), AllocError> {
-    put_name(line, name)?;
+    write_name(line, name)?;
     write!(line, ": interval {}", sound.number)?;
-    put_mcus(line, sound.mcus)?;
-    put_lines(line, sound.lines)?;
-    put_bytes(line, Some(sound.bytes))?;
+    write_mcus(line, sound.mcus)?;
+    write_lines(line, sound.lines)?;
+    write_bytes(line, Some(sound.bytes))?;
     line.push_str(", sound\n")
 }
 
@@ -213,28 +221,28 @@ pub(crate) fn write_doubtful(
     name: &[u8],
     doubtful: &DoubtfulMcu,
 ) -> Result<(), AllocError> {
-    put_name(line, name)?;
+    write_name(line, name)?;
     let DoubtfulMcu {
         interval,
         mcu,
         bytes,
     } = *doubtful;
     write!(line, ": interval {interval}, MCU {mcu}")?;
-    put_bytes(line, Some(bytes))?;
+    write_bytes(line, Some(bytes))?;
     line.push_str(", doubtful: no 8-bit image has such a value\n")
 }
 
 /// Appends the line of consecutive damaged intervals without bytes, with its end.
-pub(crate) fn tell_empty(
+pub(crate) fn write_empty(
     line: &mut String,
     name: &[u8],
     run: &DamagedRun,
 ) -> Result<(), AllocError> {
-    put_name(line, name)?;
+    write_name(line, name)?;
     let (first, last) = (run.first.number, run.last.number);
     write!(line, ": intervals {first} to {last}")?;
-    put_mcus(line, run.mcus())?;
-    put_lines(line, run.lines())?;
+    write_mcus(line, run.mcus())?;
+    write_lines(line, run.lines())?;
     line.push_str(", no bytes\n")
 }
 
@@ -260,7 +268,7 @@ impl Display for FileCounts {
 }
 
 /// Appends the line of the counts, with its end.
-pub fn tell_counts(line: &mut String, counts: FileCounts) -> Result<(), AllocError> {
+pub fn append_counts_line(line: &mut String, counts: FileCounts) -> Result<(), AllocError> {
     writeln!(line, "{counts}")
 }
 

@@ -1,7 +1,7 @@
 use Rattle.std.proofs.Common.{ap, rules, subst, sym, ◌∙◌, ◌≡◌, ℕ, List, [], Some, slice_get}
 use Rattle.std.proofs.lemmas.Option.{get_or_from_slice_get, slice_get_within}
 use Rattle.jri_archive.specs.Told.{QueueValue}
-use Rattle.jri_archive.proofs.file_queue.FileQueue.tell.Goals as goal
+use Rattle.jri_archive.proofs.file_queue.FileQueue.write_due.Goals as goal
 
 pub note-requires : goal.note-requires
 note-requires g c = record {

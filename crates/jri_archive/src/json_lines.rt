@@ -1,13 +1,13 @@
-//! The lines that are told of a file, as JSON objects.
+//! The lines of a file as JSON objects.
 
 use crate::checking::Checked;
 use crate::counts::FileCounts;
 use crate::damaged_run::DamagedRun;
-use crate::escaping::put_string;
+use crate::escaping::write_string;
 use crate::outcome::Outcome;
 use crate::reading::ReadError;
 use crate::sound_interval::SoundInterval;
-use crate::telling::put_end;
+use crate::text_lines::write_end;
 use crate::unsupported::{refused_word, write_reason};
 use jr_damage::{CodedSpan, DoubtfulMcu, Lines, McuRange};
 use jr_head::Refusal;
@@ -15,21 +15,21 @@ use jr_mend::Break;
 use jr_scan::ScanEnd;
 use std::alloc::AllocError;
 
-/// Puts the lines of the picture that are not as they were.
-fn put_lines(line: &mut String, lines: Lines) -> Result<(), AllocError> {
+/// Appends the damaged lines of the image.
+fn write_lines(line: &mut String, lines: Lines) -> Result<(), AllocError> {
     let Lines { first, last } = lines;
     write!(line, ",\"first_line\":{first},\"last_line\":{last}")
 }
 
-/// Puts which MCUs an interval has.
-fn put_mcus(line: &mut String, mcus: McuRange) -> Result<(), AllocError> {
+/// Appends the MCUs of an interval.
+fn write_mcus(line: &mut String, mcus: McuRange) -> Result<(), AllocError> {
     let McuRange { first, count } = mcus;
     let last = first.saturating_add(count.saturating_sub(1));
     write!(line, ",\"first_mcu\":{first},\"last_mcu\":{last}")
 }
 
-/// Puts where an interval's bytes are, where it has some.
-fn put_bytes(line: &mut String, bytes: Option<CodedSpan>) -> Result<(), AllocError> {
+/// Appends where an interval's bytes are, if it has some.
+fn write_bytes(line: &mut String, bytes: Option<CodedSpan>) -> Result<(), AllocError> {
     let Some(CodedSpan { start, end }) = bytes else {
         return Ok(());
     };
@@ -37,23 +37,23 @@ fn put_bytes(line: &mut String, bytes: Option<CodedSpan>) -> Result<(), AllocErr
     write!(line, ",\"first_byte\":{start},\"last_byte\":{last}")
 }
 
-/// Puts the first member, the file's name.
-fn put_file(line: &mut String, name: &[u8]) -> Result<(), AllocError> {
+/// Appends the first member, the file's name.
+fn write_file(line: &mut String, name: &[u8]) -> Result<(), AllocError> {
     line.push_str("{\"file\":")?;
-    put_string(line, name)
+    write_string(line, name)
 }
 
 /// Writes what ended the scan, if it is not EOI, in the words of the other lines.
-fn put_scan_end(line: &mut String, ended: ScanEnd) -> Result<(), AllocError> {
+fn write_scan_end(line: &mut String, ended: ScanEnd) -> Result<(), AllocError> {
     if ended == ScanEnd::EndOfImage {
         return Ok(());
     }
     line.push_str(",\"end\":\"")?;
-    put_end(line, ended)?;
+    write_end(line, ended)?;
     line.push_str("\"")
 }
 
-/// Writes where bytes after the end of the image begin and how many they are, if there are some.
+/// Appends the offset and the number of bytes after the end of the image, if there are some.
 fn write_after_end(line: &mut String, checked: &Checked) -> Result<(), AllocError> {
     let Some(end) = checked.image_end else {
         return Ok(());
@@ -64,8 +64,8 @@ fn write_after_end(line: &mut String, checked: &Checked) -> Result<(), AllocErro
     }
 }
 
-/// Puts what is damaged of a scan; the first member has the name `key`.
-fn put_damage(
+/// Appends the damage of a scan; the first member has the name `key`.
+fn write_damage(
     line: &mut String,
     key: &str,
     damaged: u32,
@@ -75,12 +75,12 @@ fn put_damage(
         return write!(line, ",\"{key}\":\"sound\"");
     };
     write!(line, ",\"{key}\":\"damaged\",\"damaged\":{damaged}")?;
-    put_lines(line, lines)
+    write_lines(line, lines)
 }
 
-/// Puts what the check of a file's scan came to.
-fn put_checked(line: &mut String, key: &str, checked: &Checked) -> Result<(), AllocError> {
-    put_damage(line, key, checked.verdict.damaged, checked.verdict.lines)?;
+/// Appends what the check of a file's scan came to.
+fn write_checked(line: &mut String, key: &str, checked: &Checked) -> Result<(), AllocError> {
+    write_damage(line, key, checked.verdict.damaged, checked.verdict.lines)?;
     write!(line, ",\"intervals\":{}", checked.scan.intervals())?;
     let head = checked.scan.head();
     let (width, height, size) = (head.width(), head.height(), checked.size);
@@ -88,7 +88,7 @@ fn put_checked(line: &mut String, key: &str, checked: &Checked) -> Result<(), Al
         line,
         ",\"width\":{width},\"height\":{height},\"bytes\":{size}"
     )?;
-    put_scan_end(line, checked.scan.ended())?;
+    write_scan_end(line, checked.scan.ended())?;
     write_after_end(line, checked)
 }
 
@@ -115,13 +115,13 @@ fn write_refusal(line: &mut String, key: &str, refusal: &Refusal) -> Result<(), 
     line.push_str("\"")
 }
 
-/// What a file is whose bytes are not those of its record.
+/// The verdict of a file whose bytes are not those of its record.
 const CHANGED: &str = ",\"is\":\"changed\"";
 
-/// Puts what became of a file.
-fn put_outcome(line: &mut String, outcome: &Outcome) -> Result<(), AllocError> {
+/// Appends the verdict of a file.
+fn write_outcome(line: &mut String, outcome: &Outcome) -> Result<(), AllocError> {
     match outcome {
-        Outcome::Checked(checked) => put_checked(line, "is", checked),
+        Outcome::Checked(checked) => write_checked(line, "is", checked),
         Outcome::Refused(Refusal::Memory) | Outcome::Unread(ReadError::Memory) => {
             line.push_str(",\"is\":\"out of memory\"")
         }
@@ -131,7 +131,7 @@ fn put_outcome(line: &mut String, outcome: &Outcome) -> Result<(), AllocError> {
         }
         Outcome::Changed(checked) => {
             line.push_str(CHANGED)?;
-            put_checked(line, "now", checked)
+            write_checked(line, "now", checked)
         }
         Outcome::ChangedRefused(refusal) => {
             line.push_str(CHANGED)?;
@@ -148,29 +148,29 @@ fn put_outcome(line: &mut String, outcome: &Outcome) -> Result<(), AllocError> {
 
 /// Appends the object of a file, with the line's end: `is` is `sound`, `damaged`, `refused`, `unsupported`, `unread`, `skipped`,
 /// `unchanged`, `changed` or `out of memory`.
-pub(crate) fn tell_object(
+pub(crate) fn write_file_object(
     line: &mut String,
     name: &[u8],
     outcome: &Outcome,
 ) -> Result<(), AllocError> {
-    put_file(line, name)?;
-    put_outcome(line, outcome)?;
+    write_file(line, name)?;
+    write_outcome(line, outcome)?;
     line.push_str("}\n")
 }
 
-/// Puts the object of a damaged interval, with the line's end. All is counted from 0, and ranges are told with their last one; an
-/// interval without bytes has none.
-pub(crate) fn tell_interval_object(
+/// Appends the object of a damaged interval, with the line's end. Numbers start at 0, and a range has its last one; an
+/// interval without bytes has no offsets.
+pub(crate) fn write_interval_object(
     line: &mut String,
     name: &[u8],
     run: &DamagedRun,
 ) -> Result<(), AllocError> {
     let damaged = &run.first;
-    put_file(line, name)?;
+    write_file(line, name)?;
     write!(line, ",\"interval\":{}", damaged.number)?;
-    put_mcus(line, damaged.mcus)?;
-    put_lines(line, damaged.lines)?;
-    put_bytes(line, damaged.bytes)?;
+    write_mcus(line, damaged.mcus)?;
+    write_lines(line, damaged.lines)?;
+    write_bytes(line, damaged.bytes)?;
     write!(line, ",\"decodable\":{}", damaged.decodable)?;
     if damaged.bytes.is_some() {
         write!(line, ",\"decodable_to\":{}", run.decodable_to)?;
@@ -184,7 +184,7 @@ pub(crate) fn write_break_object(
     name: &[u8],
     found: Break,
 ) -> Result<(), AllocError> {
-    put_file(line, name)?;
+    write_file(line, name)?;
     let Break {
         at,
         code,
@@ -202,11 +202,11 @@ pub(crate) fn write_sound_object(
     name: &[u8],
     sound: &SoundInterval,
 ) -> Result<(), AllocError> {
-    put_file(line, name)?;
+    write_file(line, name)?;
     write!(line, ",\"interval\":{}", sound.number)?;
-    put_mcus(line, sound.mcus)?;
-    put_lines(line, sound.lines)?;
-    put_bytes(line, Some(sound.bytes))?;
+    write_mcus(line, sound.mcus)?;
+    write_lines(line, sound.lines)?;
+    write_bytes(line, Some(sound.bytes))?;
     line.push_str(",\"is\":\"sound\"}\n")
 }
 
@@ -216,29 +216,29 @@ pub(crate) fn write_doubtful_object(
     name: &[u8],
     doubtful: &DoubtfulMcu,
 ) -> Result<(), AllocError> {
-    put_file(line, name)?;
+    write_file(line, name)?;
     write!(line, ",\"interval\":{}", doubtful.interval)?;
     write!(line, ",\"doubtful\":{}", doubtful.mcu)?;
-    put_bytes(line, Some(doubtful.bytes))?;
+    write_bytes(line, Some(doubtful.bytes))?;
     line.push_str("}\n")
 }
 
 /// Appends the object of consecutive damaged intervals without bytes, with the line's end.
-pub(crate) fn tell_empty_object(
+pub(crate) fn write_empty_object(
     line: &mut String,
     name: &[u8],
     run: &DamagedRun,
 ) -> Result<(), AllocError> {
-    put_file(line, name)?;
+    write_file(line, name)?;
     let (first, last) = (run.first.number, run.last.number);
     write!(line, ",\"interval\":{first},\"last_interval\":{last}")?;
-    put_mcus(line, run.mcus())?;
-    put_lines(line, run.lines())?;
+    write_mcus(line, run.mcus())?;
+    write_lines(line, run.lines())?;
     line.push_str(",\"decodable\":0}\n")
 }
 
-/// Puts the object of the counts, with the line's end.
-pub(crate) fn tell_counts_object(line: &mut String, counts: FileCounts) -> Result<(), AllocError> {
+/// Appends the object of the counts, with the line's end.
+pub(crate) fn write_counts_object(line: &mut String, counts: FileCounts) -> Result<(), AllocError> {
     let FileCounts {
         sound,
         damaged,
