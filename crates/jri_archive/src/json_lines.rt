@@ -7,7 +7,6 @@ use crate::escaping::write_string;
 use crate::outcome::Outcome;
 use crate::reading::ReadError;
 use crate::sound_interval::SoundInterval;
-use crate::text_lines::write_end;
 use crate::unsupported::{refused_word, write_reason};
 use jr_damage::{CodedSpan, DoubtfulMcu, Lines, McuRange};
 use jr_head::Refusal;
@@ -48,9 +47,7 @@ fn write_scan_end(line: &mut String, ended: ScanEnd) -> Result<(), AllocError> {
     if ended == ScanEnd::EndOfImage {
         return Ok(());
     }
-    line.push_str(",\"end\":\"")?;
-    write_end(line, ended)?;
-    line.push_str("\"")
+    write!(line, ",\"end\":\"{ended}\"")
 }
 
 /// Appends the offset and the number of bytes after the end of the image, if there are some.

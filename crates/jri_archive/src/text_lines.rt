@@ -41,23 +41,6 @@ fn write_name(line: &mut String, name: &[u8]) -> Result<(), AllocError> {
     Ok(())
 }
 
-/// Appends what ended the scan.
-pub(crate) fn write_end(line: &mut String, ended: ScanEnd) -> Result<(), AllocError> {
-    match ended {
-        ScanEnd::EndOfImage => line.push_str("EOI"),
-        ScanEnd::OtherMarker(code, at) => { write!(line, "marker {code:02X}, byte {at}") }
-        ScanEnd::OutOfStep {
-            found,
-            expected,
-            at,
-        } => write!(line, "RST{found} where RST{expected} was due, byte {at}"),
-        ScanEnd::ExtraRestart(at) => {
-            write!(line, "a restart marker past the last interval, byte {at}")
-        }
-        ScanEnd::EndOfFile => line.push_str("the end of the file"),
-    }
-}
-
 /// Appends the number of intervals.
 fn write_intervals(line: &mut String, intervals: u32) -> Result<(), AllocError> {
     match intervals {
@@ -89,8 +72,7 @@ fn write_scan_end(line: &mut String, ended: ScanEnd) -> Result<(), AllocError> {
     if ended == ScanEnd::EndOfImage {
         return Ok(());
     }
-    line.push_str(", scan ended at ")?;
-    write_end(line, ended)
+    write!(line, ", scan ended at {ended}")
 }
 
 /// Appends the number and the offset of the bytes after the end of the image, if there are some.

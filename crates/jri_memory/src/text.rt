@@ -7,6 +7,7 @@ ghost use Rattle.jri_memory.specs.Calls.{IsNumberOfSome};
 use crate::report::DecodeReport;
 use jr_base::VERSION;
 use jr_head::Refusal;
+use jr_scan::ScanEnd;
 use std::io::{Cursor, Write};
 
 /// Maximum length in bytes of the text of a refusal.
@@ -89,22 +90,21 @@ pub fn end_text(report: &DecodeReport, text: &mut [u8]) -> usize
     ensures most { result ≤ 96 }
     ensures kept { drop result text.new ≡ drop result text.old }
 {
-    let mut line = Cursor::new([0; LONG_ROOM]);
-    let (found, due, at) = (report.found, report.due, report.at);
-    let _ = match report.ended {
-        1 => write!(line, "scan ended at EOI"),
-        2 => write!(line, "scan ended at marker {found:02X}, byte {at}"),
-        3 => write!(
-            line,
-            "scan ended at RST{found} where RST{due} was due, byte {at}"
-        ),
-        4 => write!(
-            line,
-            "scan ended at a restart marker past the last interval, byte {at}"
-        ),
-        5 => write!(line, "scan ended at the end of the file"),
+    let (found, due, at) = (report.found as u8, report.due as u8, report.at);
+    let ended = match report.ended {
+        1 => ScanEnd::EndOfImage,
+        2 => ScanEnd::OtherMarker(found, at),
+        3 => ScanEnd::OutOfStep {
+            found,
+            expected: due,
+            at,
+        },
+        4 => ScanEnd::ExtraRestart(at),
+        5 => ScanEnd::EndOfFile,
         _ => return 0,
     };
+    let mut line = Cursor::new([0; LONG_ROOM]);
+    let _ = write!(line, "scan ended at {ended}");
     put_line(&line, text)
 }
 

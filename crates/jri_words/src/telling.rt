@@ -6,10 +6,7 @@ ghost use Rattle.jri_file.specs.Status.{fault_status, report_status};
 use crate::answers::{Asked, Target, Telling};
 use crate::line::{Behind, write_line};
 use jr_mend::Break;
-use jr_scan::ScanEnd;
 use jri_file::{Fault, Report};
-use std::fmt;
-use std::fmt::{Display, Formatter};
 use std::io::{Error, ErrorKind, Result as IoResult, Write};
 
 /// The end of a run, and the system's reason if a reader or writer failed.
@@ -64,28 +61,6 @@ impl Ending {
     }
 }
 
-/// The name of what ended a scan, for the report.
-#[derive(Clone, Copy)]
-struct EndName(ScanEnd);
-
-impl Display for EndName {
-    fn fmt<W: fmt::Write>(&self, f: &mut Formatter<W>) -> fmt::Result {
-        match self.0 {
-            ScanEnd::EndOfImage => f.write_str("EOI"),
-            ScanEnd::OtherMarker(code, at) => write!(f, "marker {code:02X}, byte {at}"),
-            ScanEnd::OutOfStep {
-                found,
-                expected,
-                at,
-            } => write!(f, "RST{found} where RST{expected} was due, byte {at}"),
-            ScanEnd::ExtraRestart(at) => {
-                write!(f, "a restart marker past the last interval, byte {at}")
-            }
-            ScanEnd::EndOfFile => f.write_str("the end of the file"),
-        }
-    }
-}
-
 fn write_report<E: Write>(errors: &mut E, report: &Report, behind: Behind<'_>) -> IoResult<()> {
     let Report {
         intervals,
@@ -99,8 +74,7 @@ fn write_report<E: Write>(errors: &mut E, report: &Report, behind: Behind<'_>) -
         format_args!("intervals {intervals} sound {sound} damaged {damaged} blank {blank}"),
         behind,
     )?;
-    let end = EndName(ended);
-    write_line(errors, format_args!("scan ended at {end}"), behind)
+    write_line(errors, format_args!("scan ended at {ended}"), behind)
 }
 
 fn write_fault<E: Write>(errors: &mut E, fault: Fault, behind: Behind<'_>) -> IoResult<()> {
