@@ -7,6 +7,7 @@ use crate::outcome::Outcome;
 use crate::reading::ReadError;
 use crate::sound_interval::SoundInterval;
 use crate::unsupported::{refused_word, write_reason};
+use jr_base::Printable;
 use jr_damage::{CodedSpan, DoubtfulMcu, Lines, McuRange};
 use jr_head::Refusal;
 use jr_mend::Break;
@@ -16,24 +17,16 @@ use std::fmt;
 use std::fmt::{Display, Formatter};
 use std::io::{Cursor, Result as IoResult, Write};
 
-/// Appends text in which characters that would end the line, or move on a terminal, are written as `?`.
-fn write_plain(line: &mut String, text: &str) -> Result<(), AllocError> {
-    for c in text.chars() {
-        line.push(if c.is_control() { '?' } else { c })?;
-    }
-    Ok(())
-}
-
 /// Appends a file's name, in which bytes that are not UTF-8 are also written as `?`.
 fn write_name(line: &mut String, name: &[u8]) -> Result<(), AllocError> {
     let mut rest = name;
     for _ in 0..=name.len() {
         let end = match str::from_utf8(rest) {
-            Ok(text) => return write_plain(line, text),
+            Ok(text) => return write!(line, "{}", Printable(text)),
             Err(error) => error.valid_up_to(),
         };
         if let Ok(text) = str::from_utf8(&rest[..end]) {
-            write_plain(line, text)?;
+            write!(line, "{}", Printable(text))?;
         }
         line.push('?')?;
         rest = &rest[end + 1..];

@@ -15,7 +15,7 @@ pub use headers::program_for_headers;
 pub use jri_file::{Fault, Report, one_text, scan_of_file};
 pub use jri_words::{
     Asked, DecodeRequest, DescribeRequest, Destination, Devices, ManyRequest, Mode, Target,
-    Telling, Unasked, asked, decode_request, describe_request, finish, many_request,
+    Unasked, Verbosity, asked, decode_request, describe_request, finish, many_request,
 };
 pub use many::program_for_many;
 pub use resync::{ResyncReport, run_resynced};

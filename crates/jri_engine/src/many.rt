@@ -11,8 +11,8 @@ use jr_base::Tally;
 use jr_mend::Break;
 use jri_file::Fault;
 use jri_words::{
-    Destination, Devices, Ending, ManyRequest, Names, Telling, Unasked, answer, image_name, tell,
-    tell_breaks, unwritten,
+    Destination, Devices, Ending, ManyRequest, Names, Unasked, Verbosity, answer, image_name,
+    report_breaks, report_ending, unwritten,
 };
 use std::alloc::Global;
 use std::io::{Error, ErrorKind, Write};
@@ -73,7 +73,7 @@ fn decode_one<T: Threads + Wait + Sync, D: Devices, E: Write>(
     requires few { request.now.workers ≤ MAX_WORKERS }
     ensures { (name : List ℕ) × IsInDirectory (string_bytes request.now.directory) name × LeavesFile (λ _. ⊥) name (D.steps devices.old) (D.steps devices.new) (is_picture_status result) }
 {
-    let telling = Telling {
+    let verbosity = Verbosity {
         is_quiet: request.is_quiet,
         is_verbose: true,
     };
@@ -87,13 +87,13 @@ fn decode_one<T: Threads + Wait + Sync, D: Devices, E: Write>(
             outcome: Err(Fault::Memory),
             reason: None,
         };
-        return tell(
+        return report_ending(
             &ending,
             &Names {
                 source: file,
                 target: "",
             },
-            telling,
+            verbosity,
             errors,
         );
     };
@@ -111,8 +111,8 @@ fn decode_one<T: Threads + Wait + Sync, D: Devices, E: Write>(
         names.target,
         &mut breaks,
     );
-    tell_breaks(&breaks, &ending, &names, telling, errors);
-    tell(&ending, &names, telling, errors)
+    report_breaks(&breaks, &ending, &names, verbosity, errors);
+    report_ending(&ending, &names, verbosity, errors)
 }
 
 /// Decodes each file that a request names, and reports on each. Returns the exit status of all.

@@ -16,7 +16,7 @@ use jr_wall::OpenGate;
 use jri_file::Fault;
 use jri_words::{
     DecodeRequest, Destination, Devices, Ending, Names, Noted, Target, answer, flushed, make_part,
-    opened, place, tell, tell_breaks, understood, unwritten, warn_of_name,
+    opened, place, report_breaks, report_ending, understood, unwritten, warn_of_name,
 };
 use std::alloc::Global;
 use std::io::{Read, Result as IoResult, Write};
@@ -197,7 +197,7 @@ pub fn program<T: Threads + Wait + Sync, D: Devices, E: Write>(
         },
     };
     let names = Names::of(asked);
-    tell_breaks(&breaks, &ending, &names, asked.telling, errors);
-    let status = tell(&ending, &names, asked.telling, errors);
+    report_breaks(&breaks, &ending, &names, asked.verbosity, errors);
+    let status = report_ending(&ending, &names, asked.verbosity, errors);
     Ended { status }
 }

@@ -49,19 +49,6 @@ impl Display for CopyError {
     }
 }
 
-/// A name of a file, with `?` for characters that would end a line, or move on a terminal.
-#[derive(Clone, Copy)]
-pub(crate) struct Shown<'a>(pub(crate) &'a str);
-
-impl Display for Shown<'_> {
-    fn fmt<W: fmt::Write>(&self, f: &mut Formatter<W>) -> fmt::Result {
-        for c in self.0.chars() {
-            f.write_char(if c.is_control() { '?' } else { c })?;
-        }
-        Ok(())
-    }
-}
-
 /// Returns why an input could not be read.
 fn unread(error: Error) -> CopyError {
     if error.kind() == ErrorKind::OutOfMemory {

@@ -7,9 +7,9 @@ ghost use Rattle.jri_words.specs.Steps.{LeavesFile};
 use crate::asking::{MendRequest, asked, wrong};
 use crate::ended::Ended;
 use crate::preparing::{Prepared, prepare};
-use crate::reading::{CopyError, Shown, copies_of, read_files};
+use crate::reading::{CopyError, copies_of, read_files};
 use crate::report::{is_first_sound, object_of, report_of, write_lines, write_prepared};
-use jr_base::Tally;
+use jr_base::{Printable, Tally};
 use jr_mend::{FileCopy, MendError, Mended, mend};
 use jri_file::{Fault, Report};
 use jri_words::{
@@ -184,10 +184,10 @@ fn report_mended<D: Devices, E: Write>(
 }
 
 /// Returns the name of a copy, for a line.
-fn shown(names: &[String], copy: usize) -> Shown<'_> {
+fn shown(names: &[String], copy: usize) -> Printable<'_> {
     match names.get(copy) {
-        Some(name) => Shown(name.as_str()),
-        None => Shown(""),
+        Some(name) => Printable(name.as_str()),
+        None => Printable(""),
     }
 }
 

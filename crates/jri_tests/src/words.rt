@@ -1,6 +1,6 @@
 //! Words of a command line, through `asked`.
 
-use jri_engine::{Asked, Target, Telling, Unasked, asked, decode_request};
+use jri_engine::{Asked, Target, Unasked, Verbosity, asked, decode_request};
 use std::alloc::Global;
 use std::test::Fail;
 
@@ -100,11 +100,11 @@ fn asks_for_an_output(rt: HostRuntime) -> Result<(), Fail> {
     for (line, name, is_quiet, is_verbose) in &WRITING {
         let found = asked_by(rt.alloc(), line)?;
         assert!(rt; target(&found) == *name, "target of {line}");
-        let telling = Telling {
+        let verbosity = Verbosity {
             is_quiet: *is_quiet,
             is_verbose: *is_verbose,
         };
-        assert!(rt; found.telling == telling, "telling of {line}");
+        assert!(rt; found.verbosity == verbosity, "verbosity of {line}");
     }
     Ok(())
 }

@@ -17,7 +17,7 @@ pub struct Asked {
     /// The destination of the image.
     pub target: Target,
     /// What is reported on standard error.
-    pub telling: Telling,
+    pub verbosity: Verbosity,
 }
 
 /// A request for one decoding, of a file as it is or resynchronised.
@@ -41,16 +41,16 @@ pub enum Target {
 
 /// What is reported on standard error.
 #[derive(Clone, Copy, PartialEq, Eq)]
-pub struct Telling {
+pub struct Verbosity {
     /// No report, and no line of a reader that has gone away.
     pub is_quiet: bool,
     /// Whether the lines end with names and the system's reasons.
     pub is_verbose: bool,
 }
 
-impl Telling {
+impl Verbosity {
     /// What is reported without any argument about it.
-    pub(crate) const PLAIN: Telling = Telling {
+    pub(crate) const PLAIN: Verbosity = Verbosity {
         is_quiet: false,
         is_verbose: false,
     };

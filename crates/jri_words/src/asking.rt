@@ -6,7 +6,7 @@ ghost use Rattle.clap.specs.Words.{app_of, first_value, found_of, one_text, rule
 ghost use Rattle.jr_base.specs.declared.limits.TheConstants.{MAX_WORKERS};
 ghost use Rattle.jri_words.specs.CommandLine.{IsFlag, IsTarget, IsTargetOf, decoding_app, file_named, file_rule, first_rule, flag_rule, jri, output_rule, reading, option_value, workers_rule, writing_app};
 
-use crate::answers::{Asked, DecodeRequest, Target, Telling, Unasked};
+use crate::answers::{Asked, DecodeRequest, Target, Unasked, Verbosity};
 use crate::help::{ABOUT, AFTER_HELP};
 use clap::error::ErrorKind;
 use clap::{Arg, ArgAction, ArgMatches, Command, Error, value_parser};
@@ -180,11 +180,11 @@ fn target_of(alloc: Global, matches: &ArgMatches) -> Result<Target, AllocError>
 }
 
 /// Returns what is reported.
-fn telling_of(matches: &ArgMatches) -> Telling
+fn verbosity_of(matches: &ArgMatches) -> Verbosity
     ensures quiet { IsFlag (one_text (found_of matches.now) (codes "quiet")) result.is_quiet }
     ensures verbose { IsFlag (one_text (found_of matches.now) (codes "verbose")) result.is_verbose }
 {
-    Telling {
+    Verbosity {
         is_quiet: matches.get_flag("quiet"),
         is_verbose: matches.get_flag("verbose"),
     }
@@ -198,8 +198,8 @@ pub fn decode_request(alloc: Global, words: &[String]) -> Result<DecodeRequest, 
     ensures few { IfOk result (λ r. r.asked.workers ≤ MAX_WORKERS) }
     ensures file { IfOk result (λ r. option_map string_bytes r.asked.file ≡ file_named (option_value (codes "file") (map string_bytes words.now))) }
     ensures target { IfOk result (λ r. IsTargetOf (map string_bytes words.now) r.asked.target) }
-    ensures quiet { IfOk result (λ r. IsFlag (reading (codes "quiet") (map string_bytes words.now)) r.asked.telling.is_quiet) }
-    ensures verbose { IfOk result (λ r. IsFlag (reading (codes "verbose") (map string_bytes words.now)) r.asked.telling.is_verbose) }
+    ensures quiet { IfOk result (λ r. IsFlag (reading (codes "quiet") (map string_bytes words.now)) r.asked.verbosity.is_quiet) }
+    ensures verbose { IfOk result (λ r. IsFlag (reading (codes "verbose") (map string_bytes words.now)) r.asked.verbosity.is_verbose) }
     ensures resync { IfOk result (λ r. IsFlag (reading (codes "resync") (map string_bytes words.now)) r.is_resync) }
 {
     let matches = match command(alloc)?.try_get_matches_from(words) {
@@ -208,7 +208,7 @@ pub fn decode_request(alloc: Global, words: &[String]) -> Result<DecodeRequest, 
     };
     let file = file_of(alloc, &matches)?;
     let target = target_of(alloc, &matches)?;
-    let telling = telling_of(&matches);
+    let verbosity = verbosity_of(&matches);
     let is_resync = matches.get_flag("resync");
     match matches.get_one::<u32>("workers") {
         // the range of the argument's values, which the parser's contract does not repeat
@@ -218,7 +218,7 @@ pub fn decode_request(alloc: Global, words: &[String]) -> Result<DecodeRequest, 
                 first: matches.get_one::<u32>("first"),
                 file,
                 target,
-                telling,
+                verbosity,
             },
             is_resync,
         }),
@@ -232,8 +232,8 @@ pub fn asked<'a>(alloc: Global, words: &'a [String]) -> Result<Asked, Unasked>
     ensures few { IfOk result (λ a. a.workers ≤ MAX_WORKERS) }
     ensures file { IfOk result (λ a. option_map string_bytes a.file ≡ file_named (option_value (codes "file") (map string_bytes words.now))) }
     ensures target { IfOk result (λ a. IsTargetOf (map string_bytes words.now) a.target) }
-    ensures quiet { IfOk result (λ a. IsFlag (reading (codes "quiet") (map string_bytes words.now)) a.telling.is_quiet) }
-    ensures verbose { IfOk result (λ a. IsFlag (reading (codes "verbose") (map string_bytes words.now)) a.telling.is_verbose) }
+    ensures quiet { IfOk result (λ a. IsFlag (reading (codes "quiet") (map string_bytes words.now)) a.verbosity.is_quiet) }
+    ensures verbose { IfOk result (λ a. IsFlag (reading (codes "verbose") (map string_bytes words.now)) a.verbosity.is_verbose) }
 {
     Ok(decode_request(alloc, words)?.asked)
 }

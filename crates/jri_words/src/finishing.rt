@@ -5,8 +5,8 @@ ghost use Rattle.std.specs.Io.KnownBytes.{Keeps};
 ghost use Rattle.jr_base.specs.Tally.{has_failed, known_in};
 ghost use Rattle.jri_file.specs.Status.{fault_status, report_status};
 
-use crate::answers::Telling;
-use crate::telling::{Ending, Names, tell};
+use crate::answers::Verbosity;
+use crate::ending::{Ending, Names, report_ending};
 use jr_base::Tally;
 use jri_file::{Fault, Report};
 use std::io::Write;
@@ -47,5 +47,5 @@ pub fn finish<W: Write, E: Write>(
         outcome,
         reason: None,
     };
-    tell(&ending, &Names::NONE, Telling::PLAIN, errors)
+    report_ending(&ending, &Names::NONE, Verbosity::PLAIN, errors)
 }

@@ -1,6 +1,7 @@
 //! What a file's header says, as a line.
 
 use crate::quality::quality_of;
+use jr_base::Printable;
 use jr_head::{Head, Kind};
 use jri_file::Fault;
 use std::alloc::{AllocError, Global};
@@ -20,14 +21,6 @@ fn write_string(alloc: Global, line: &mut String, text: &str) -> Result<(), Allo
         Ok(string) => line.push_str(string.as_str()),
         Err(_) => Err(AllocError),
     }
-}
-
-/// Appends a name, each control character of it as `?`.
-fn write_name(line: &mut String, name: &str) -> Result<(), AllocError> {
-    for c in name.chars() {
-        line.push(if c.is_control() { '?' } else { c })?;
-    }
-    Ok(())
 }
 
 /// Appends the sampling factors of each component (T.81, A.1.1): horizontal, `x`, vertical.
@@ -93,7 +86,8 @@ fn fault_text(fault: Fault) -> &'static str {
 /// Returns the line of a file.
 fn text_line(alloc: Global, name: &str, head: &Result<Head, Fault>) -> Result<String, AllocError> {
     let mut line = String::new(alloc);
-    write_name(&mut line, name)?;
+    let name = Printable(name);
+    write!(line, "{name}")?;
     match head {
         Ok(head) => write_head(&mut line, head)?,
         Err(Fault::Refused(refusal)) => {

@@ -1,30 +1,28 @@
 //! Lines on standard error.
 
+use jr_base::Printable;
 use std::fmt;
 use std::fmt::{Display, Formatter};
 use std::io::{Cursor, Error, Result as IoResult, Write};
 
-/// More bytes than the longest line has: text of 61 letters, a number of 20 digits, a name of 4,095 bytes, a reason of
+/// Size in bytes of the longest line, rounded up: text of 61 letters, a number of 20 digits, a name of 4,095 bytes, a reason of
 /// 256 and the line's end.
 const LINE_ROOM: usize = 4608;
 
-/// What follows the text of a line: nothing, or a name and the system's reason.
+/// The context of a line, written after its text: nothing, or a name and the system's reason.
 #[derive(Clone, Copy)]
-pub(crate) struct Behind<'a> {
+pub(crate) struct LineContext<'a> {
     pub(crate) name: Option<&'a str>,
     pub(crate) reason: Option<Error>,
 }
 
-impl Display for Behind<'_> {
-    /// Writes characters of a name that would end the line, or move on a terminal, as `?`.
+impl Display for LineContext<'_> {
     fn fmt<W: fmt::Write>(&self, f: &mut Formatter<W>) -> fmt::Result {
         let Some(name) = self.name else {
             return Ok(());
         };
-        f.write_str(": ")?;
-        for c in name.chars() {
-            f.write_char(if c.is_control() { '?' } else { c })?;
-        }
+        let name = Printable(name);
+        write!(f, ": {name}")?;
         match self.reason {
             Some(reason) => write!(f, ": {reason}"),
             None => Ok(()),
@@ -32,16 +30,16 @@ impl Display for Behind<'_> {
     }
 }
 
-/// Writes a line by one write, so that the lines of several programs on one terminal stay whole. It takes no memory, since
-/// it also says that there is none.
+/// Writes a line by one write, so that the lines of several programs on one terminal stay whole. It allocates
+/// nothing, since it also reports that memory ran out.
 pub(crate) fn write_line<E: Write, T: Display + Drop>(
     errors: &mut E,
     text: T,
-    behind: Behind<'_>,
+    context: LineContext<'_>,
 ) -> IoResult<()> {
     let mut line = Cursor::new([0; LINE_ROOM]);
     // a longer name is cut
-    let _ = write!(line, "{text}{behind}");
+    let _ = write!(line, "{text}{context}");
     let length = (line.position() as usize).min(LINE_ROOM - 1);
     let mut bytes = line.into_inner();
     bytes[length] = b'\n';

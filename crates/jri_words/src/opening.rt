@@ -84,7 +84,7 @@ fn has_other_ending(name: &str) -> bool {
 /// Writes a warning if the image's name ends like that of another format, unless `--quiet` is given.
 pub fn warn_of_name<E: Write>(asked: &Asked, errors: &mut E) {
     if let Target::File(name) = &asked.target {
-        if !asked.telling.is_quiet && has_other_ending(name.as_str()) {
+        if !asked.verbosity.is_quiet && has_other_ending(name.as_str()) {
             let _ = errors.write_all(OTHER_ENDING.as_bytes());
         }
     }
@@ -162,7 +162,7 @@ pub fn opened<D: Devices, E: Write>(
     if let Some(name) = &asked.file {
         return Ok(Source::File(devices.open(name.as_str())?));
     }
-    if devices.is_input_terminal() && !asked.telling.is_quiet {
+    if devices.is_input_terminal() && !asked.verbosity.is_quiet {
         let _ = errors.write_all(WAITING.as_bytes());
     }
     Ok(Source::Input(devices.input()))

@@ -5,7 +5,7 @@ ghost use Rattle.std.specs.String.{string_bytes};
 ghost use Rattle.jri_words.specs.Steps.{Step, Created, Renamed, Removed, Follow};
 
 use crate::devices::Devices;
-use crate::telling::Ending;
+use crate::ending::Ending;
 use jri_file::Fault;
 use std::alloc::{AllocError, Global};
 use std::io::{Error, ErrorKind};

@@ -12,7 +12,7 @@ returns-in_default g c =
     let old = g.D.Devices.steps c.args.devices.now in
     let directory = string_bytes c.args.request.now.directory in
     let outcome : Result Report Fault = Err fault.Memory in
-    let told = status_tells outcome c.tell.result c.tell.ensures.written c.tell.ensures.fault in
+    let told = status_tells outcome c.report_ending.result c.report_ending.ensures.written c.report_ending.ensures.fault in
     let left = undone (λ _. ⊥) (directory ++ 47 ∷ []) old old outcome (none_yet old) refl in
     (directory ++ 47 ∷ [], ([], refl), subst (λ (b : Bool). LeavesFile (λ _. ⊥) (directory ++ 47 ∷ []) old old b) (sym told) left)
 
@@ -24,5 +24,5 @@ returns g c =
     let is_in : IsInDirectory (string_bytes c.args.request.now.directory) name =
     subst (λ (n : List ℕ). IsInDirectory (string_bytes c.args.request.now.directory) n) (sym c.as_str-2.ensures.value)
     (subst (λ (d : List ℕ). IsInDirectory d (string_bytes c.in-Ok.image)) c.as_str.ensures.value c.in-Ok.ensures) in
-    let told = status_tells c.decode_into_new-ending.result.outcome c.tell-2.result c.tell-2.ensures.written c.tell-2.ensures.fault in
+    let told = status_tells c.decode_into_new-ending.result.outcome c.report_ending-2.result c.report_ending-2.ensures.written c.report_ending-2.ensures.fault in
     (name, is_in, subst (λ (b : Bool). LeavesFile (λ _. ⊥) name old new b) (sym told) c.decode_into_new-ending.ensures)

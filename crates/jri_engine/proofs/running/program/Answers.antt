@@ -1,7 +1,7 @@
 use Rattle.std.proofs.Common.{rules, ◌≡◌, ◌⊎◌, inl, inr, Bool, false, List, [], ℕ, Option, is_ok, subst, sym}
 use Rattle.jri_words.specs.declared.answers.Target.{Target}
 use Rattle.jri_words.specs.declared.answers.Target.TheVariants as target
-use Rattle.jri_words.specs.declared.telling.Ending.{Ending}
+use Rattle.jri_words.specs.declared.ending.Ending.{Ending}
 use Rattle.jri_words.specs.Steps.{Follow, Leaves, Step}
 use Rattle.jri_words.proofs.StepLemmas.{none_yet, status_tells}
 use Rattle.jri_engine.proofs.running.program.Goals as goal
@@ -24,7 +24,7 @@ returns g c =
     let new = steps c.match-opened.devices in
     let are_devices = g.D.Devices.are_devices c.args.devices.now in
     let target = c.in-Ok.request.asked.target in
-    let told = status_tells c.match-opened.ending.outcome c.tell-status.result c.tell-status.ensures.written c.tell-status.ensures.fault in
+    let told = status_tells c.match-opened.ending.outcome c.report_ending-status.result c.report_ending-status.ensures.written c.report_ending-status.ensures.fault in
     let left : Leaves are_devices target old new (is_ok c.match-opened.ending.outcome) = elim c.match-opened.branch [
       | in-Ok-opened+in-File w ↦ search (rules, w.decode_to_file.ensures, w.devices-is, w.ending-is)
       | in-Ok-opened+in-Output w ↦ to_output are_devices target old new (is_ok c.match-opened.ending.outcome) w.in-Output.is (rw w.devices-is (none_yet old))

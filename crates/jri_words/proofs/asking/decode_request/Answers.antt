@@ -28,15 +28,15 @@ returns-in-Some-clause-target c =
 
 pub returns-in-Some-clause-quiet : goal.returns-in-Some-clause-quiet
 returns-in-Some-clause-quiet c =
-    subst (λ (t : Option Text). IsFlag t c.telling_of-telling.result.is_quiet)
+    subst (λ (t : Option Text). IsFlag t c.verbosity_of-verbosity.result.is_quiet)
     (found_reading c.in-Ok.matches (app_of c.in_ok-command.field-0) (map string_bytes c.args.words.now) c.in_ok-command.ensures c.in-Ok.ensures.matches (codes "quiet"))
-    c.telling_of-telling.ensures.quiet
+    c.verbosity_of-verbosity.ensures.quiet
 
 pub returns-in-Some-clause-verbose : goal.returns-in-Some-clause-verbose
 returns-in-Some-clause-verbose c =
-    subst (λ (t : Option Text). IsFlag t c.telling_of-telling.result.is_verbose)
+    subst (λ (t : Option Text). IsFlag t c.verbosity_of-verbosity.result.is_verbose)
     (found_reading c.in-Ok.matches (app_of c.in_ok-command.field-0) (map string_bytes c.args.words.now) c.in_ok-command.ensures c.in-Ok.ensures.matches (codes "verbose"))
-    c.telling_of-telling.ensures.verbose
+    c.verbosity_of-verbosity.ensures.verbose
 
 pub returns-in-Some-clause-resync : goal.returns-in-Some-clause-resync
 returns-in-Some-clause-resync c =

@@ -3,8 +3,8 @@
 ghost use Rattle.std.specs.Prelude.{◌≡◌, IfOk, IfErr, true, false};
 ghost use Rattle.jri_file.specs.Status.{fault_status, report_status};
 
-use crate::answers::{Asked, Target, Telling};
-use crate::line::{Behind, write_line};
+use crate::answers::{Asked, Target, Verbosity};
+use crate::line::{LineContext, write_line};
 use jr_mend::Break;
 use jri_file::{Fault, Report};
 use std::io::{Error, ErrorKind, Result as IoResult, Write};
@@ -61,7 +61,11 @@ impl Ending {
     }
 }
 
-fn write_report<E: Write>(errors: &mut E, report: &Report, behind: Behind<'_>) -> IoResult<()> {
+fn write_report<E: Write>(
+    errors: &mut E,
+    report: &Report,
+    context: LineContext<'_>,
+) -> IoResult<()> {
     let Report {
         intervals,
         sound,
@@ -72,12 +76,12 @@ fn write_report<E: Write>(errors: &mut E, report: &Report, behind: Behind<'_>) -
     write_line(
         errors,
         format_args!("intervals {intervals} sound {sound} damaged {damaged} blank {blank}"),
-        behind,
+        context,
     )?;
-    write_line(errors, format_args!("scan ended at {ended}"), behind)
+    write_line(errors, format_args!("scan ended at {ended}"), context)
 }
 
-fn write_fault<E: Write>(errors: &mut E, fault: Fault, behind: Behind<'_>) -> IoResult<()> {
+fn write_fault<E: Write>(errors: &mut E, fault: Fault, context: LineContext<'_>) -> IoResult<()> {
     let text = match fault {
         Fault::NoFile => "cannot open the file",
         Fault::Read => "cannot read the input",
@@ -85,25 +89,25 @@ fn write_fault<E: Write>(errors: &mut E, fault: Fault, behind: Behind<'_>) -> Io
         Fault::Memory => "out of memory",
         Fault::Refused(refusal) => {
             let number = refusal.number();
-            return write_line(errors, format_args!("refused {number}: {refusal}"), behind);
+            return write_line(errors, format_args!("refused {number}: {refusal}"), context);
         }
     };
-    write_line(errors, text, behind)
+    write_line(errors, text, context)
 }
 
 /// Returns what follows the lines of an ending.
-fn behind<'a>(ending: &Ending, names: &Names<'a>, telling: Telling) -> Behind<'a> {
+fn line_context<'a>(ending: &Ending, names: &Names<'a>, verbosity: Verbosity) -> LineContext<'a> {
     let name = match ending.outcome {
         Err(Fault::Write) => names.target,
         _ => names.source,
     };
-    if telling.is_verbose {
-        Behind {
+    if verbosity.is_verbose {
+        LineContext {
             name: Some(name),
             reason: ending.reason,
         }
     } else {
-        Behind {
+        LineContext {
             name: None,
             reason: None,
         }
@@ -112,48 +116,57 @@ fn behind<'a>(ending: &Ending, names: &Names<'a>, telling: Telling) -> Behind<'a
 
 /// Writes the report's two lines, or the fault's one, and returns the exit status. With `is_quiet` it writes neither
 /// the report nor that the image's reader has gone away. Errors of standard error are ignored.
-pub fn tell<E: Write>(ending: &Ending, names: &Names<'_>, telling: Telling, errors: &mut E) -> u8
+pub fn report_ending<E: Write>(
+    ending: &Ending,
+    names: &Names<'_>,
+    verbosity: Verbosity,
+    errors: &mut E,
+) -> u8
     ensures written { IfOk ending.now.outcome (λ report. result ≡ report_status report false) }
     ensures fault { IfErr ending.now.outcome (λ fault. result ≡ fault_status fault) }
-    ensures quiet { IfOk ending.now.outcome (λ _. telling.is_quiet ≡ true → errors.new ≡ errors.old) }
+    ensures quiet { IfOk ending.now.outcome (λ _. verbosity.is_quiet ≡ true → errors.new ≡ errors.old) }
 {
-    let behind = behind(ending, names, telling);
+    let context = line_context(ending, names, verbosity);
     match ending.outcome {
         Ok(report) => {
-            if !telling.is_quiet {
-                let _ = write_report(errors, &report, behind);
+            if !verbosity.is_quiet {
+                let _ = write_report(errors, &report, context);
             }
             report.status()
         }
         Err(fault) => {
-            if !(telling.is_quiet && ending.is_left()) {
-                let _ = write_fault(errors, fault, behind);
+            if !(verbosity.is_quiet && ending.is_left()) {
+                let _ = write_fault(errors, fault, context);
             }
             fault.status()
         }
     }
 }
 
-fn write_breaks<E: Write>(errors: &mut E, breaks: &[Break], behind: Behind<'_>) -> IoResult<()> {
+fn write_breaks<E: Write>(
+    errors: &mut E,
+    breaks: &[Break],
+    context: LineContext<'_>,
+) -> IoResult<()> {
     for found in breaks {
-        write_line(errors, *found, behind)?;
+        write_line(errors, *found, context)?;
     }
     Ok(())
 }
 
 /// Writes a line for each break of a file that is resynchronised, unless there is no image or `is_quiet` is set. Errors
 /// of standard error are ignored.
-pub fn tell_breaks<E: Write>(
+pub fn report_breaks<E: Write>(
     breaks: &[Break],
     ending: &Ending,
     names: &Names<'_>,
-    telling: Telling,
+    verbosity: Verbosity,
     errors: &mut E,
 )
-    ensures quiet { telling.is_quiet ≡ true → errors.new ≡ errors.old }
+    ensures quiet { verbosity.is_quiet ≡ true → errors.new ≡ errors.old }
     ensures fault { IfErr ending.now.outcome (λ _. errors.new ≡ errors.old) }
 {
-    if !telling.is_quiet && ending.outcome.is_ok() {
-        let _ = write_breaks(errors, breaks, behind(ending, names, telling));
+    if !verbosity.is_quiet && ending.outcome.is_ok() {
+        let _ = write_breaks(errors, breaks, line_context(ending, names, verbosity));
     }
 }
